@@ -1,0 +1,14 @@
+pub mod BagLemmas
+pub mod Change
+pub mod Hole
+pub mod IndexLemmas
+pub mod Line
+pub mod Rows
+pub mod Size
+pub mod SlotLemmas
+pub mod Stretch
+pub mod Theorem
+pub mod Turned
+pub mod Walk
+pub mod Walks
+pub mod Within

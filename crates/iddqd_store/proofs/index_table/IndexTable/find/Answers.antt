@@ -1,0 +1,130 @@
+use Rattle.std.proofs.Common.{List, Option, subst, rules, arith, ℕ, ◌≡◌, ◌+◌, ◌-◌, ◌%◌, ◌<◌, ◌≤◌, length, sym, ap, ◌∙◌, refl, false, true, Some, None, cond}
+use Rattle.std.proofs.lemmas.Bool.{eq-eqb}
+use Rattle.std.proofs.lemmas.Bool.Decides.{nat_tests}
+use Rattle.std.specs.Prelude.{◌≢◌, ◌==◌, nat_lt, if◌then◌else◌}
+use Rattle.std.specs.List.{Contains, count_by}
+use Rattle.iddqd_store.specs.Table.{Table, table_of}
+use Rattle.iddqd_store.specs.Ring.{cell, held, stretch}
+use Rattle.iddqd_store.specs.Table.{under, hashes}
+use Rattle.iddqd_store.proofs.Stretch.{place}
+use Rattle.iddqd_store.proofs.Within.{stretch_within}
+use Rattle.iddqd_store.proofs.Walk.{Walk, Refused, met, walk_more, walk_below, walk_end, walk_meets, refused_more, met_under, met_grows, met_within, found_there, walk_found}
+use Rattle.iddqd_store.proofs.index_table.IndexTable.find.Goals as goal
+use Rattle.iddqd_store.proofs.index_table.IndexTable.find.Goals.{else-stored-hash-via-then-stored-hash+else-matches, else-stored-hash-via-else-stored-hash}
+
+pub loop-pair-preserved : goal.loop-pair-preserved
+loop-pair-preserved g c =
+    let row = c.self.inside.cells in
+    let hash = c.args.hash in
+    let home = hash % length row in
+    let i = c.loop-pair.invariant in
+    let s : ℕ = c.loop-pair.meter - c.args.meter.now in
+    let t : ℕ = c.cell_at.new.meter - c.args.meter.now in
+    let look : c.cell_at.new.meter ≡ c.loop-pair.meter + 1 = c.cell_at.ensures.look in
+    let more : t ≡ s + 1 = omega (arith, i.looked, look) in
+    let w : Walk row home c.loop-pair.at s = i.walk in
+    let lh : home < length row = omega (arith, c.if-count-eq0.false, c.len-count.ensures, w.within) in
+    let x : ℕ × ℕ = c.in-Some.pair in
+    let at_x : cell row c.loop-pair.at ≡ Some x = sym c.cell_at.ensures.value ∙ c.in-Some.is in
+    let there : cell row c.loop-pair.at ≢ None = λ e. cc (e, at_x) in
+    let placed : cell row (place (length row) home s) ≡ Some x = sym (ap (cell row) w.at_is) ∙ at_x in
+    let asked = g.M.Matcher.asked in
+    let e' : c.after-at.result ≡ (if nat_lt (c.loop-pair.at + 1) (length row) then c.loop-pair.at + 1 else 0) = rw c.len-count.ensures at c.after-at.ensures in
+    let walk' : Walk row home c.after-at.result t = walk_more row home c.loop-pair.at s c.self.invariant.0 lh w there c.after-at.result t e' more in
+    elim c.else-stored-hash.branch [
+      | else-stored-hash-via-then-stored-hash+else-matches w' ↦
+          let q : met (under hash) row home t ≡ met (under hash) row home s + 1 = met_under hash row home s x lh w.within placed w'.if-stored-hash.true t more in
+          let no' : g.M.Matcher.accepts c.args.matcher.now c.in-Some.pair.1 ≡ false = sym (i.answers c.in-Some.pair.1) ∙ (sym w'.matches.ensures.answer ∙ w'.if-matches.false) in
+          record {
+            looked = omega arith;
+            walk = walk';
+            refused = refused_more row hash (g.M.Matcher.accepts c.args.matcher.now) s t c.loop-pair.at x more w at_x i.refused (λ _. no');
+            count = rw w'.matcher-is (omega (arith, i.count, q, w'.matches.ensures.at_most_one));
+            alike = rw w'.matcher-is (g.met.M.Matcher.alike_along _ _ _ i.alike w'.matches.ensures.alike);
+            answers = λ k. ap (λ z. g.M.Matcher.accepts z k) w'.matcher-is ∙ (w'.matches.ensures.same_answers k ∙ i.answers k);
+          }
+      | else-stored-hash-via-else-stored-hash w' ↦
+          record {
+            looked = omega arith;
+            walk = walk';
+            refused = refused_more row hash (g.M.Matcher.accepts c.args.matcher.now) s t c.loop-pair.at x more w at_x i.refused (λ e. absurd (w'.if-stored-hash.false e));
+            count = rw w'.matcher-is (omega (arith, i.count, met_grows hash row home s x lh w.within placed t more));
+            alike = rw w'.matcher-is i.alike;
+            answers = λ k. ap (λ z. g.M.Matcher.accepts z k) w'.matcher-is ∙ i.answers k;
+          }
+    ]
+
+pub returns-then-matches-clause-found : goal.returns-then-matches-clause-found
+returns-then-matches-clause-found g c =
+    let row = c.self.inside.cells in
+    let x : ℕ × ℕ = c.in-Some.pair in
+    let i = c.loop-pair.invariant in
+    let at_x : cell row c.loop-pair.at ≡ Some x = sym c.cell_at.ensures.value ∙ c.in-Some.is in (
+      subst (λ (r : Table). Contains r.pairs (c.args.hash, x.1)) c.self.view_is (found_there row c.loop-pair.at c.args.hash x at_x c.if-stored-hash.true),
+      sym (i.answers x.1) ∙ (sym c.matches.ensures.answer ∙ c.if-matches.true),
+    )
+
+pub returns-then-matches-clause-asked : goal.returns-then-matches-clause-asked
+returns-then-matches-clause-asked g c =
+    let row = c.self.inside.cells in
+    let hash = c.args.hash in
+    let home = hash % length row in
+    let i = c.loop-pair.invariant in
+    let s : ℕ = c.loop-pair.meter - c.args.meter.now in
+    let w : Walk row home c.loop-pair.at s = i.walk in
+    let lh : home < length row = omega (arith, w.within) in
+    let x : ℕ × ℕ = c.in-Some.pair in
+    let at_x : cell row c.loop-pair.at ≡ Some x = sym c.cell_at.ensures.value ∙ c.in-Some.is in
+    let placed : cell row (place (length row) home s) ≡ Some x = sym (ap (cell row) w.at_is) ∙ at_x in
+    let q : met (under hash) row home (s + 1) ≡ met (under hash) row home s + 1 = met_under hash row home s x lh w.within placed c.if-stored-hash.true (s + 1) refl in
+    let m : met (under hash) row home (s + 1) ≤ count_by (under hash) (held row) = met_within (under hash) row home (s + 1) in
+    let all : g.M.Matcher.asked c.matches.new.self ≤ g.M.Matcher.asked c.args.matcher.now + count_by (under hash) (held row) = omega (arith, i.count, c.matches.ensures.at_most_one) in
+    subst (λ (r : Table). g.M.Matcher.asked c.matches.new.self ≤ g.M.Matcher.asked c.args.matcher.now + count_by (under hash) r.pairs) c.self.view_is all
+
+pub returns-then-matches-clause-looks_most : goal.returns-then-matches-clause-looks_most
+returns-then-matches-clause-looks_most g c =
+    let row = c.self.inside.cells in
+    let i = c.loop-pair.invariant in
+    let s : ℕ = c.loop-pair.meter - c.args.meter.now in
+    let t : ℕ = c.cell_at.new.meter - c.args.meter.now in
+    let look : c.cell_at.new.meter ≡ c.loop-pair.meter + 1 = c.cell_at.ensures.look in
+    let x : ℕ × ℕ = c.in-Some.pair in
+    let at_x : cell row c.loop-pair.at ≡ Some x = sym c.cell_at.ensures.value ∙ c.in-Some.is in
+    let there : cell row c.loop-pair.at ≢ None = λ e. cc (e, at_x) in
+    let l : t ≤ stretch (hashes row) (length row) c.args.hash = walk_found row c.args.hash c.loop-pair.at s t c.self.invariant.0 i.walk there (omega (arith, i.looked, look)) in
+    subst (λ (r : Table). c.cell_at.new.meter ≤ c.args.meter.now + stretch (hashes r.row) (length r.row) c.args.hash) c.self.view_is (omega (arith, i.looked, look, l))
+
+pub returns-clause-none : goal.returns-clause-none
+returns-clause-none g c index h =
+    let row = c.self.inside.cells in
+    let i = c.loop-pair.invariant in
+    let s : ℕ = c.loop-pair.meter - c.args.meter.now in
+    let none : cell row c.loop-pair.at ≡ None = sym c.cell_at.ensures.value ∙ c.in_default.is in
+    let k = walk_meets row c.args.hash c.loop-pair.at s index c.self.invariant.0 i.walk none (subst (λ (r : Table). Contains r.pairs (c.args.hash, index)) (sym c.self.view_is) h) in
+    i.refused k.0 k.1 index k.2
+
+pub returns-clause-asked : goal.returns-clause-asked
+returns-clause-asked g c =
+    let row = c.self.inside.cells in
+    let i = c.loop-pair.invariant in
+    let m = met_within (under c.args.hash) row (c.args.hash % length row) (c.loop-pair.meter - c.args.meter.now) in
+    let all : g.M.Matcher.asked c.loop-pair.matcher ≤ g.M.Matcher.asked c.args.matcher.now + count_by (under c.args.hash) (held row) = omega (arith, i.count, m) in
+    subst (λ (r : Table). g.M.Matcher.asked c.loop-pair.matcher ≤ g.M.Matcher.asked c.args.matcher.now + count_by (under c.args.hash) r.pairs) c.self.view_is all
+
+pub returns-clause-looks_none : goal.returns-clause-looks_none
+returns-clause-looks_none g c _ =
+    let row = c.self.inside.cells in
+    let i = c.loop-pair.invariant in
+    let s : ℕ = c.loop-pair.meter - c.args.meter.now in
+    let look : c.cell_at.new.meter ≡ c.loop-pair.meter + 1 = c.cell_at.ensures.look in
+    let none : cell row c.loop-pair.at ≡ None = sym c.cell_at.ensures.value ∙ c.in_default.is in
+    let e : stretch (hashes row) (length row) c.args.hash ≡ s = walk_end row c.args.hash c.loop-pair.at s c.self.invariant.0 i.walk none in
+    subst (λ (r : Table). c.cell_at.new.meter ≡ c.args.meter.now + stretch (hashes r.row) (length r.row) c.args.hash + 1) c.self.view_is (omega (arith, i.looked, look, e))
+
+pub returns-then-matches-clause-within : goal.returns-then-matches-clause-within
+returns-then-matches-clause-within g c =
+    subst (λ (r : Table). 0 < length r.row → stretch (hashes r.row) (length r.row) c.args.hash ≤ length r.pairs) c.self.view_is (stretch_within c.self.inside.cells c.args.hash c.self.invariant.0)
+
+pub returns-clause-within : goal.returns-clause-within
+returns-clause-within g c =
+    subst (λ (r : Table). 0 < length r.row → stretch (hashes r.row) (length r.row) c.args.hash ≤ length r.pairs) c.self.view_is (stretch_within c.self.inside.cells c.args.hash c.self.invariant.0)

@@ -1,0 +1,11 @@
+use Rattle.std.proofs.lemmas.List.{map-set}
+use Rattle.iddqd_store.proofs.SlotLemmas.{occupied_at, IsChained-vacate}
+use Rattle.iddqd_store.proofs.item_set.ItemSet.take.Goals as goal
+
+pub invariant_of-self : goal.invariant_of-self
+invariant_of-self g c =
+    let found = occupied_at c.self.inside.slots.items c.args.at (rw (← c.self.view_is) at c.requires) in
+    rw c.replace.ensures.after (IsChained-vacate _ _ _ c.args.at found.0 c.self.invariant found.1)
+
+pub returns-clause-slots : goal.returns-clause-slots
+returns-clause-slots g c = rw (← c.self.view_is, c.replace.ensures.after, map-set)

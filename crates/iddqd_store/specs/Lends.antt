@@ -1,0 +1,16 @@
+-- What an `ItemSet` ends as, where a `&mut` to one of its items is returned.
+use Rattle.std.specs.Prelude.{ℕ, Option, Some, slice_set}
+use Rattle.std.specs.Borrow.{Lends, LendsIf, Fml, RattleType, MutBor}
+use Rattle.iddqd_store.specs.Slots.{Slots}
+use Rattle.iddqd_store.specs.contracts.item_set.ItemSet.{the_row}
+
+-- the slots after a write of this item
+abbrev pub with_item : {T : Type 0} → Slots T → ℕ → T → Slots T
+with_item s at item = record s { slots = slice_set s.slots at (Some item) }
+
+module _ (T : RattleType) (s : MutBor (Slots T.Denot)) (at : ℕ) where
+  abbrev pub lends_item : MutBor T.Denot → Fml
+  lends_item r = Lends (the_row T) T s r (with_item s.now at)
+
+  abbrev pub lends_get : Option (MutBor T.Denot) → Fml
+  lends_get r = LendsIf (the_row T) T s r (with_item s.now at) s.now

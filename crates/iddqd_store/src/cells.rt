@@ -1,0 +1,73 @@
+//! The cells of a table. One call reads a cell, and it ticks a meter.
+ghost use Rattle.std.specs.Prelude.{◌≡◌, ℕ, ◌+◌, ◌<◌, List, [], Option, None, Some, length, slice_set, replicate, IfOk};
+ghost use Rattle.iddqd_store.specs.Ring.{cell};
+
+use crate::item_index::ItemIndex;
+use crate::meter::Meter;
+use std::alloc::{AllocError, Global};
+use std::marker::Model;
+
+/// Cells in a row, each empty or with a hash and a slot's number.
+#[derive(Drop)]
+pub struct Cells {
+    row: Vec<Option<(u64, ItemIndex)>>,
+}
+
+impl Model for Cells {
+    ghost Value = { List (Option (ℕ × ℕ)) };
+
+    ghost view = { λ c. c.row.items };
+}
+
+impl Cells {
+    /// No cells.
+    pub fn new(alloc: Global) -> Cells
+        ensures { result ≡ [] }
+    {
+        Cells {
+            row: Vec::new(alloc),
+        }
+    }
+
+    /// So many empty cells.
+    pub fn with_len(alloc: Global, count: usize) -> Result<Cells, AllocError>
+        ensures { IfOk result (λ c. c ≡ replicate count None) }
+    {
+        Ok(Cells {
+            row: Vec::from_elem(alloc, None, count)?,
+        })
+    }
+
+    /// How many there are.
+    pub fn len(&self) -> usize
+        ensures { result ≡ length self.now }
+    {
+        self.row.len()
+    }
+
+    /// What cell `i` has. The one call that reads a cell.
+    pub fn cell_at(&self, i: usize, meter: &mut Meter) -> Option<(u64, ItemIndex)>
+        requires { i < length self.now }
+        ensures value { result ≡ cell self.now i }
+        ensures look { meter.new ≡ meter.old + 1 }
+    {
+        meter.tick();
+        self.row[i]
+    }
+
+    /// Writes a pair into cell `i`.
+    pub fn put(&mut self, i: usize, hash: u64, index: ItemIndex)
+        requires { i < length self.old }
+        ensures { self.new ≡ slice_set self.old i (Some (hash, index)) }
+    {
+        self.row[i] = Some((hash, index));
+    }
+
+    /// Empties cell `i`.
+    pub fn empty(&mut self, i: usize)
+        requires { i < length self.old }
+        ensures { self.new ≡ slice_set self.old i None }
+    {
+        self.row[i] = None;
+    }
+}

@@ -1,0 +1,236 @@
+//! Items in slots. A freed slot is used again.
+ghost use Rattle.std.specs.Prelude.{◌≡◌, ◌+◌, ◌-◌, ◌<◌, ◌≤◌, [], ◌∷◌, IsSome, OnSome, IfNone, IfSome, is_some, MatchOption, OnOk, OnErr, Some, IsPermutation, option_copied, length, ℕ, None, slice_set};
+ghost use Rattle.std.specs.Option.{option_copied_mut};
+ghost use Rattle.std.specs.Borrow.{Lends, sem};
+ghost use Rattle.iddqd_store.specs.Slots.{get, IsLive, live_count, members, Updates, NextLive};
+ghost use Rattle.iddqd_store.specs.SlotChain.{item_of};
+
+use crate::item_index::ItemIndex;
+use std::alloc::Global;
+use std::marker::Model;
+use std::mem;
+
+/// No memory.
+#[derive(Drop, Debug)]
+pub struct TryReserveError;
+
+/// Items in slots.
+#[derive(Drop)]
+pub struct ItemSet<T> {
+    slots: Vec<Slot<T>>,
+    // How many slots are live.
+    live: usize,
+    // The first free slot, or `slots.len()` where there is none.
+    head: usize,
+}
+
+#[derive(Drop)]
+enum Slot<T> {
+    Live(T),
+    Free(usize),
+}
+
+impl<T> Model for ItemSet<T> {
+    ghost use Rattle.std.specs.Prelude.{map, vec_capacity};
+    ghost use Rattle.iddqd_store.specs.Slots.{Slots, slots_code};
+
+    ghost Value = { Slots T };
+
+    ghost coded = { slots_code T.code };
+
+    ghost use Rattle.iddqd_store.specs.SlotChain.{item_of, IsChained};
+
+    ghost view = { λ s. record { slots = map item_of s.slots.items; capacity = vec_capacity s.slots } };
+
+    ghost invariant = { λ s. IsChained s.slots.items s.live s.head };
+}
+
+impl<T> Slot<T> {
+    ghost use Rattle.iddqd_store.specs.contracts.item_set.Slot.{the_row};
+
+    fn item_mut(&mut self) -> &mut T
+        requires { IsSome (item_of self.old) }
+        ensures* lends { sem 𝓛 (Lends (the_row T.row) T.row self.entry result Slot.Live) }
+        ensures value { item_of self.old ≡ Some result.now }
+    {
+        match self {
+            Slot::Live(item) => item,
+            Slot::Free(_) => unreachable!(),
+        }
+    }
+}
+
+impl<T> ItemSet<T> {
+    ghost use Rattle.iddqd_store.specs.Lends.{lends_get, lends_item};
+
+    /// An empty set, which takes no memory.
+    pub fn new(alloc: Global) -> Self
+        ensures slots { result.slots ≡ [] }
+        ensures capacity { result.capacity ≡ 0 }
+    {
+        ItemSet {
+            slots: Vec::new(alloc),
+            live: 0,
+            head: 0,
+        }
+    }
+
+    /// The number of live slots.
+    pub fn len(&self) -> usize
+        ensures value { result ≡ live_count self.now.slots }
+        ensures fits { result ≤ self.now.capacity }
+    {
+        self.live
+    }
+
+    /// How many items fit without growing.
+    pub fn capacity(&self) -> usize
+        ensures { result ≡ self.now.capacity }
+    {
+        self.slots.capacity()
+    }
+
+    /// The item of a live slot.
+    pub fn get(&self, ix: ItemIndex) -> Option<&T>
+        ensures { option_copied result ≡ get self.now.slots ix }
+    {
+        match self.slots.get(ix.number()) {
+            Some(Slot::Live(item)) => Some(item),
+            _ => None,
+        }
+    }
+
+    /// Whether a slot is live.
+    pub fn is_live(&self, ix: ItemIndex) -> bool
+        ensures { result ≡ is_some (get self.now.slots ix) }
+    {
+        self.get(ix).is_some()
+    }
+
+    /// The item of a live slot, for writing.
+    pub fn get_mut(&mut self, ix: ItemIndex) -> Option<&mut T>
+        ensures* writes_back { sem 𝓛 (lends_get T.row self.entry ix result) }
+        ensures value { option_copied_mut result ≡ get self.old.slots ix }
+    {
+        if self.is_live(ix) {
+            Some(self.item_mut(ix.number()))
+        } else {
+            None
+        }
+    }
+
+    fn item_mut(&mut self, at: usize) -> &mut T
+        requires { IsLive self.old.slots at }
+        ensures* writes_back { sem 𝓛 (lends_item T.row self.entry at result) }
+        ensures value { get self.old.slots at ≡ Some result.now }
+    {
+        self.slots[at].item_mut()
+    }
+
+    /// The first live slot from this number on.
+    pub fn next_live(&self, from: usize) -> Option<ItemIndex>
+        ensures { NextLive self.now.slots from result }
+    {
+        for at in from..self.slots.len() {
+            let ix = ItemIndex::new(at);
+            if self.is_live(ix) {
+                return Some(ix);
+            }
+        }
+        None
+    }
+
+    /// Makes room for so many more items.
+    pub fn try_reserve(&mut self, more: usize) -> Result<(), TryReserveError>
+        ensures slots { self.new.slots ≡ self.old.slots }
+        ensures capacity { self.old.capacity ≤ self.new.capacity }
+        ensures ok { OnOk result (live_count self.old.slots + more ≤ self.new.capacity) }
+        ensures err { OnErr result (self.old.capacity < live_count self.old.slots + more) }
+    {
+        if self.slots.capacity() - self.live >= more {
+            return Ok(());
+        }
+        let missing = more - (self.slots.len() - self.live);
+        match self.slots.reserve(missing) {
+            Ok(()) => Ok(()),
+            Err(_) => Err(TryReserveError),
+        }
+    }
+
+    /// Puts an item into a free slot.
+    pub fn insert_reserved(&mut self, item: T) -> ItemIndex
+        requires { live_count self.old.slots < self.old.capacity }
+        ensures free { get self.old.slots result ≡ None }
+        ensures updates { Updates self.old.slots self.new.slots result (Some item) }
+        ensures members { IsPermutation (members self.new.slots) ((result, item) ∷ members self.old.slots) }
+        ensures count { live_count self.new.slots ≡ live_count self.old.slots + 1 }
+        ensures capacity { self.new.capacity ≡ self.old.capacity }
+    {
+        let at = self.head;
+        self.live += 1;
+        if at == self.slots.len() {
+            self.slots.push_reserved(Slot::Live(item));
+            self.head = at + 1;
+            return ItemIndex::new(at);
+        }
+        match mem::replace(&mut self.slots[at], Slot::Live(item)) {
+            Slot::Free(next) => self.head = next,
+            Slot::Live(_) => unreachable!(),
+        }
+        ItemIndex::new(at)
+    }
+
+    /// Takes an item out and frees its slot.
+    pub fn remove(&mut self, ix: ItemIndex) -> Option<T>
+        ensures value { result ≡ get self.old.slots ix }
+        ensures updates { Updates self.old.slots self.new.slots ix None }
+        ensures members { IfSome result (λ x. IsPermutation (members self.old.slots) ((ix, x) ∷ members self.new.slots)) }
+        ensures absent { IfNone result (self.new ≡ self.old) }
+        ensures capacity { self.new.capacity ≡ self.old.capacity }
+    {
+        if self.is_live(ix) {
+            Some(self.take(ix.number()))
+        } else {
+            None
+        }
+    }
+
+    fn take(&mut self, at: usize) -> T
+        requires { IsLive self.old.slots at }
+        ensures value { get self.old.slots at ≡ Some result }
+        ensures slots { self.new.slots ≡ slice_set self.old.slots at None }
+        ensures capacity { self.new.capacity ≡ self.old.capacity }
+    {
+        let free = Slot::Free(self.head);
+        match mem::replace(&mut self.slots[at], free) {
+            Slot::Live(item) => {
+                self.live -= 1;
+                self.head = at;
+                item
+            }
+            Slot::Free(_) => unreachable!(),
+        }
+    }
+
+    /// Puts an item in the place of another.
+    pub fn replace(&mut self, ix: ItemIndex, item: T) -> T
+        requires { IsLive self.old.slots ix }
+        ensures value { get self.old.slots ix ≡ Some result }
+        ensures slots { self.new.slots ≡ slice_set self.old.slots ix (Some item) }
+        ensures capacity { self.new.capacity ≡ self.old.capacity }
+    {
+        mem::replace(self.item_mut(ix.number()), item)
+    }
+
+    /// Takes every item out.
+    pub fn clear(&mut self)
+    where
+        T: Drop,
+        ensures slots { self.new.slots ≡ [] }
+        ensures capacity { self.new.capacity ≡ self.old.capacity }
+    {
+        self.slots.clear();
+        self.live = 0;
+        self.head = 0;
+    }
+}

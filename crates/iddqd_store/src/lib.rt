@@ -1,0 +1,19 @@
+//! The parts of the multi-key maps: slots for items, tables of hashes, and the words that their contracts share.
+#![tactic(auto)]
+
+mod cells;
+mod equivalent;
+mod index_table;
+mod item_index;
+mod item_set;
+mod key_matcher;
+mod matcher;
+mod meter;
+
+pub use equivalent::Equivalent;
+pub use index_table::IndexTable;
+pub use item_index::ItemIndex;
+pub use item_set::{ItemSet, TryReserveError};
+pub use key_matcher::KeyMatcher;
+pub use matcher::Matcher;
+pub use crate::meter::Meter;

@@ -1,0 +1,33 @@
+//! What a search asks about the slots that it meets.
+ghost use Rattle.std.specs.Prelude.{◌≡◌, ◌+◌, ◌≤◌, ℕ, Bool, if◌then◌else◌};
+
+use crate::item_index::ItemIndex;
+
+/// What a search by hash asks of each index under that hash.
+pub trait Matcher {
+    // What `matches` answers.
+    ghost accepts: { Self → ℕ → Bool };
+
+    // Whether a question about this index is counted. So a caller can count the questions about one index alone.
+    ghost counts: { Self → ℕ → Bool };
+
+    // How many of the counted questions were passed on so far.
+    ghost asked: { Self → ℕ };
+
+    // What a call keeps.
+    ghost IsKept: { Self → Self → Type 0 };
+
+    /// Whether the item of this index is the one that is sought.
+    fn matches(&mut self, ix: ItemIndex) -> bool
+        ensures value { result ≡ accepts self.old ix }
+        ensures kept { IsKept self.old self.new }
+        ensures asked { asked self.new ≤ asked self.old + (if counts self.old ix then 1 else 0) };
+
+    ghost accepts_kept: { (m n : Self) (ix : ℕ) → IsKept m n → accepts n ix ≡ accepts m ix };
+
+    ghost counts_kept: { (m n : Self) (ix : ℕ) → IsKept m n → counts n ix ≡ counts m ix };
+
+    ghost kept_refl: { (m : Self) → IsKept m m };
+
+    ghost kept_trans: { (m n o : Self) → IsKept m n → IsKept n o → IsKept m o };
+}

@@ -1,0 +1,69 @@
+//! A count of looks, which only contracts see.
+
+ghost use Rattle.std.specs.Prelude.{◌≡◌, ℕ, ◌+◌};
+ghost use Rattle.std.specs.Borrow.{ftrue};
+
+use std::marker::Model;
+
+/// A number that only proofs read. It takes no memory.
+#[derive(Drop)]
+struct Count {
+    ghost number: { ℕ },
+}
+
+impl Model for Count {
+    ghost also_owns = { λ _. ftrue };
+}
+
+impl Count {
+    fn new() -> Count
+        ensures { result.number ≡ 0 }
+    {
+        Count {}
+    }
+
+    fn more(_before: &Count) -> Count
+        ensures { result.number ≡ _before.now.number + 1 }
+    {
+        Count {}
+    }
+}
+
+/// How many looks were taken. It takes no bytes, and only `tick` changes it.
+#[derive(Drop)]
+pub struct Meter {
+    count: Count,
+}
+
+impl Model for Meter {
+    ghost Value = { ℕ };
+
+    ghost view = { λ m. m.count.number };
+}
+
+impl Meter {
+    pub fn new() -> Meter
+        ensures { result ≡ 0 }
+    {
+        Meter {
+            count: Count::new(),
+        }
+    }
+
+    pub fn tick(&mut self)
+        ensures { self.new ≡ self.old + 1 }
+    {
+        self.count = Count::more(&self.count);
+    }
+}
+
+#[cfg(test)]
+mod tests {
+    use super::*;
+    use std::mem::size_of;
+
+    #[test]
+    fn takes_no_bytes(rt: HostRuntime) {
+        assert_eq!(rt; size_of::<Meter>(), 0);
+    }
+}
