@@ -1,7 +1,9 @@
+pub mod Asking
 pub mod Bag
 pub mod Indexed
 pub mod Lends
 pub mod Limit
+pub mod Map
 pub mod Ring
 pub mod SlotChain
 pub mod Slots

@@ -1,6 +1,7 @@
 //! The parts of the multi-key maps: slots for items, tables of hashes, and the words that their contracts share.
 #![tactic(auto)]
 
+mod by_query;
 mod cells;
 mod equivalent;
 mod index_table;
@@ -10,6 +11,7 @@ mod key_matcher;
 mod matcher;
 mod meter;
 
+pub use by_query::ByQuery;
 pub use equivalent::Equivalent;
 pub use index_table::IndexTable;
 pub use item_index::ItemIndex;
