@@ -1,5 +1,5 @@
 -- What a table that indexes slots finds, and how it stays an index.
-use Rattle.std.specs.Prelude.{◌≡◌, ℕ, zero, suc, ◌+◌, ◌≤◌, ◌<◌, ◌==◌, Bool, true, false, cond, List, [], ◌∷◌, length, map, filter, IsPermutation, Contains, Option, Some, None, is_some, count_by, ◌⊎◌}
+use Rattle.std.specs.Prelude.{◌≡◌, ℕ, zero, suc, ◌+◌, ◌≤◌, ◌<◌, ◌==◌, Bool, true, false, cond, not, List, [], ◌∷◌, ◌++◌, length, map, filter, IsPermutation, Contains, Option, Some, None, is_some, count_by, slice_index_or, ◌⊎◌}
 use Rattle.std.specs.List.{IsDistinct, AllByRecursion, sum_by}
 use Rattle.std.specs.Option.{option_map_or, option_to_list, option_and_then, IfSome, IfNone}
 use Rattle.std.proofs.Common.{refl, sym, ap, subst, ◌∙◌, arith, inl, inr, get_or, set, zero-add, add-zero}
@@ -8,12 +8,12 @@ use Rattle.std.proofs.lemmas.List.{get_or-set_other}
 use Rattle.iddqd_store.proofs.SlotLemmas.{members-take}
 use Rattle.std.proofs.lemmas.Bool.Decides.{nat_tests}
 use Rattle.std.proofs.lemmas.List.Sums.{sum_by-cons}
-use Rattle.std.proofs.lemmas.Map.Keys.{IsDistinct-head, IsDistinct-cons, IsDistinct-IsPermutation}
-use Rattle.std.proofs.lemmas.List.Sorted.{IsPermutation-sym, IsPermutation-cons, IsPermutation-trans, IsPermutation-map, length_permutation, Contains-permutation, sum_by-IsPermutation}
+use Rattle.std.proofs.lemmas.Map.Keys.{IsDistinct-head, IsDistinct-tail, IsDistinct-cons, IsDistinct-IsPermutation}
+use Rattle.std.proofs.lemmas.List.Sorted.{IsPermutation-refl, IsPermutation-sym, IsPermutation-cons, IsPermutation-trans, IsPermutation-map, length_permutation, Contains-permutation, sum_by-IsPermutation}
 use Rattle.iddqd_store.specs.Slots.{get, live_count, members_from, members, live_items}
 use Rattle.iddqd_store.specs.Indexed.{pair_of, IsIndex, passes_at}
 use Rattle.iddqd_store.specs.Bag.{NamesOne}
-use Rattle.iddqd_store.proofs.BagLemmas.{each_weaker, named_is, without_named, IsDistinct-nil, split}
+use Rattle.iddqd_store.proofs.BagLemmas.{each_weaker, none_pass, named_is, without_named, IsDistinct-nil, split}
 
 pub Contains-cons : {X : Type 0} (head x : X) (rest : List X) → Contains rest x → Contains (head ∷ rest) x
 Contains-cons head x rest p = (suc p.0, omega (arith, p.1), p.2)
@@ -109,15 +109,15 @@ module _ {T : Type 0} where
   pub none_is : (hash : T → ℕ) (test : T → Bool) (h : ℕ) (slots : List (Option T)) (pairs : List (ℕ × ℕ)) → IsIndex hash slots pairs → ((x : T) → Contains (live_items slots) x → test x ≡ true → hash x ≡ h) → ((at : ℕ) → Contains pairs (h, at) → passes_at test slots at ≡ false) → filter test (live_items slots) ≡ []
   none_is hash test h slots pairs index alike none =
       none_of_map (λ m. m.1) test (members slots) (each_from_Contains (λ m. test m.1 ≡ false) (members slots) (λ m listed.
-      let stands = at_member slots m.0 m.1 listed in
-      let paired : Contains pairs (hash m.1, m.0) = Contains-permutation _ _ _ (IsPermutation-sym _ _ index) (Contains-map (pair_of hash) (members slots) m listed) in
-      split (λ b. b ≡ false) (test m.1)
-      (λ yes.
-      let same = alike m.1 (item_at slots m.0 m.1 stands) yes in
-      let refused : passes_at test slots m.0 ≡ false = none m.0 (subst (λ k. Contains pairs (k, m.0)) same paired) in
-      let is : passes_at test slots m.0 ≡ test m.1 = ap (λ o. option_map_or test o false) stands in
-      sym yes ∙ sym is ∙ refused)
-      (λ _. refl)))
+          let stands = at_member slots m.0 m.1 listed in
+          let paired : Contains pairs (hash m.1, m.0) = Contains-permutation _ _ _ (IsPermutation-sym _ _ index) (Contains-map (pair_of hash) (members slots) m listed) in
+          split (λ b. b ≡ false) (test m.1)
+          (λ yes.
+              let same = alike m.1 (item_at slots m.0 m.1 stands) yes in
+              let refused : passes_at test slots m.0 ≡ false = none m.0 (subst (λ k. Contains pairs (k, m.0)) same paired) in
+              let is : passes_at test slots m.0 ≡ test m.1 = ap (λ o. option_map_or test o false) stands in
+              sym yes ∙ sym is ∙ refused)
+          (λ _. refl)))
 
   pub IsIndex-insert : (hash : T → ℕ) (old new : List (Option T)) (pairs more : List (ℕ × ℕ)) (at : ℕ) (x : T) → IsIndex hash old pairs → IsPermutation (members new) ((at, x) ∷ members old) → IsPermutation more ((hash x, at) ∷ pairs) → IsIndex hash new more
   IsIndex-insert hash old new pairs more at x index added paired =
