@@ -1,7 +1,7 @@
 -- Cells on a line, where cell 0 is the place in question and the others lie behind it.
-use Rattle.std.proofs.Common.{◌≡◌, ℕ, suc, zero, ◌+◌, ◌-◌, ◌<◌, ◌≤◌, Bool, true, false, ltb, List, [], ◌∷◌, Option, None, Some, length, get_or, refl, sym, ap, ◌∙◌, inl, inr, ⊎_elim, arith, rules, add-one}
-use Rattle.std.specs.List.{count_by, filter_map}
-use Rattle.std.specs.Prelude.{◌≢◌, ◌⊎◌, cond}
+use Rattle.std.proofs.Common.{◌≡◌, ℕ, suc, zero, ◌+◌, ◌-◌, ◌<◌, ◌≤◌, ltb, List, [], ◌∷◌, Option, None, Some, refl, inl, inr, arith, rules}
+use Rattle.std.specs.List.{count_by}
+use Rattle.std.specs.Prelude.{◌⊎◌, cond}
 use Rattle.std.proofs.lemmas.List.Sums.{sum_by-cons}
 use Rattle.std.proofs.lemmas.Bool.Decides.{nat_tests}
 use Rattle.iddqd_store.specs.Ring.{held, cell}

@@ -1,11 +1,10 @@
 -- Limits, and a row of empty cells.
-use Rattle.std.proofs.Common.{◌≡◌, ℕ, suc, zero, ◌+◌, ◌-◌, ◌*◌, ◌/◌, ◌^◌, ◌<◌, ◌≤◌, ◌%◌, List, [], ◌∷◌, Option, None, Some, length, replicate, refl, sym, ap, ◌∙◌, subst, inl, inr, ⊎_elim, arith, rules}
-use Rattle.std.specs.Prelude.{◌≢◌, ◌⊎◌, ◌↔◌, IsSome}
+use Rattle.std.proofs.Common.{◌≡◌, ℕ, suc, zero, ◌+◌, ◌*◌, ◌/◌, ◌^◌, ◌<◌, ◌≤◌, [], Option, None, Some, length, replicate, refl, sym, ap, inl, inr, ⊎_elim, arith, rules}
+use Rattle.std.specs.Prelude.{◌≢◌, ◌↔◌, IsSome}
 use Rattle.std.proofs.lemmas.Bool.{cases_lt}
-use Rattle.std.proofs.lemmas.Nat.{pow-add, pow_pos, pow_below}
-use Rattle.std.proofs.lemmas.List.{get_or-replicate, length-replicate}
-use Rattle.iddqd_store.specs.Ring.{held, cell, IsReached}
-use Rattle.iddqd_store.specs.Limit.{IsLimit, IsLeast}
+use Rattle.std.proofs.lemmas.Nat.{pow-add, pow_below}
+use Rattle.iddqd_store.specs.Ring.{held, cell}
+use Rattle.iddqd_store.specs.Limit.{IsLeast}
 use Rattle.iddqd_store.specs.Table.{IsTable}
 
 pub doubled : (k : ℕ) → 2 ^ (k + 1) ≡ 2 * 2 ^ k

@@ -1,12 +1,12 @@
 -- The full places from a home on are the occupied cells from there on.
-use Rattle.std.proofs.Common.{◌≡◌, ℕ, suc, zero, ◌+◌, ◌-◌, ◌<◌, ◌≤◌, ◌%◌, Bool, true, false, ltb, leb, List, [], ◌∷◌, ◌++◌, Option, None, Some, length, get_or, map, refl, sym, ap, ◌∙◌, subst, inl, inr, ⊎_elim, arith, rules, cond}
-use Rattle.std.specs.List.{count_by, sum_by, prefix_len, range_with_len}
-use Rattle.std.specs.Prelude.{◌≢◌, ◌⊎◌, ◌↔◌, nat_le, nat_lt, if◌then◌else◌, ◌||◌}
+use Rattle.std.proofs.Common.{◌≡◌, ℕ, suc, zero, ◌+◌, ◌-◌, ◌<◌, ◌≤◌, ◌%◌, true, false, leb, List, Option, None, length, get_or, map, refl, ◌∙◌, ⊎_elim, arith}
+use Rattle.std.specs.List.{range_with_len}
+use Rattle.std.specs.Prelude.{◌≢◌, nat_lt, if◌then◌else◌}
 use Rattle.std.specs.Bool.{Decides}
 use Rattle.std.proofs.lemmas.List.{length-append, get_or_append_left, get_or-append_right}
 use Rattle.std.proofs.lemmas.List.FromFn.{length-range_with_len, get_or-range_with_len}
-use Rattle.std.proofs.lemmas.List.Sums.{prefix_len_is, prefix_len_stops, prefix_len-le-length}
-use Rattle.std.proofs.lemmas.Bool.{cases_lt, cases_Bool, both_ways, leb-true, le-leb, false_from_ne_true}
+use Rattle.std.proofs.lemmas.List.Sums.{prefix_len_is, prefix_len_stops}
+use Rattle.std.proofs.lemmas.Bool.{cases_lt, both_ways, leb-true, le-leb, false_from_ne_true}
 use Rattle.std.proofs.lemmas.Bool.Decides.{nat_tests, Decides-below_or}
 use Rattle.iddqd_store.specs.Ring.{gap, ending, IsFull, is_full, is_full_within, round, stretch, held, cell, IsReached}
 use Rattle.iddqd_store.proofs.Theorem.{occupied_exactly_full}

@@ -1,11 +1,11 @@
 -- A cell is occupied exactly if its place is full.
-use Rattle.std.proofs.Common.{◌≡◌, ℕ, suc, zero, ◌+◌, ◌-◌, ◌<◌, ◌≤◌, ◌%◌, Bool, true, false, ltb, leb, List, [], ◌∷◌, ◌++◌, Option, None, Some, length, get_or, map, refl, sym, ap, ◌∙◌, subst, inl, inr, ⊎_elim, arith, rules, cond}
-use Rattle.std.specs.List.{count_by, sum_by}
-use Rattle.std.specs.Prelude.{◌≢◌, ◌⊎◌, ◌↔◌, nat_le, nat_lt}
+use Rattle.std.proofs.Common.{◌≡◌, ℕ, suc, zero, ◌+◌, ◌-◌, ◌<◌, ◌≤◌, ◌%◌, Bool, ltb, List, [], ◌∷◌, Option, None, Some, length, map, refl, sym, ap, ◌∙◌, subst, ⊎_elim, arith, cond}
+use Rattle.std.specs.List.{count_by}
+use Rattle.std.specs.Prelude.{◌≢◌, ◌↔◌}
 use Rattle.std.proofs.lemmas.List.Sums.{sum_by-cons}
 use Rattle.std.proofs.lemmas.Bool.{cases_lt}
 use Rattle.std.proofs.lemmas.List.{get_or_past}
-use Rattle.iddqd_store.specs.Ring.{gap, ending, IsFull, held, cell, IsReached}
+use Rattle.iddqd_store.specs.Ring.{gap, IsFull, held, cell, IsReached}
 use Rattle.iddqd_store.proofs.Line.{cases_option, few, many}
 use Rattle.iddqd_store.proofs.Turned.{turn, turn_below, turn_none, turn_gap, gap_below, far, near, back, length-back, back_at, count-back}
 

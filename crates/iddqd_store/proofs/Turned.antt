@@ -1,9 +1,9 @@
 -- The cells of a ring in the order of their distance before a place.
-use Rattle.std.proofs.Common.{◌≡◌, ℕ, suc, zero, ◌+◌, ◌-◌, ◌<◌, ◌≤◌, Bool, true, false, ltb, leb, List, [], ◌∷◌, ◌++◌, Option, None, Some, length, get_or, take, drop, refl, sym, ap, ◌∙◌, subst, inl, inr, ⊎_elim, arith, rules, cond}
+use Rattle.std.proofs.Common.{◌≡◌, ℕ, ◌+◌, ◌-◌, ◌<◌, ◌≤◌, Bool, List, [], ◌∷◌, ◌++◌, Option, None, Some, length, take, drop, refl, sym, ap, ◌∙◌, subst, ⊎_elim, arith, cond}
 use Rattle.std.specs.List.{count_by, sum_by}
-use Rattle.std.specs.Prelude.{◌≢◌, ◌⊎◌, nat_le, nat_lt, if◌then◌else◌, reverse}
+use Rattle.std.specs.Prelude.{nat_le, if◌then◌else◌, reverse}
 use Rattle.std.specs.List.Sorted.{IsPermutation}
-use Rattle.std.proofs.lemmas.List.{length-take-le, length-drop, length-append, length-reverse, get_or-reverse, get_or-take, get_or-drop, get_or_append_left, get_or-append_right, take-append-drop, get_or_past}
+use Rattle.std.proofs.lemmas.List.{length-take-le, length-drop, length-append, length-reverse, get_or-reverse, get_or-take, get_or-drop, get_or_append_left, get_or-append_right, take-append-drop}
 use Rattle.std.proofs.lemmas.List.Sums.{sum_by-cons}
 use Rattle.std.proofs.lemmas.List.Sorted.{IsPermutation-reverse, IsPermutation-append, sum_by-IsPermutation}
 use Rattle.std.proofs.lemmas.Bool.Decides.{nat_tests}

@@ -1,5 +1,5 @@
 -- What holds of the cells of a table.
-use Rattle.std.specs.Prelude.{ℕ, ◌+◌, ◌*◌, ◌/◌, ◌%◌, ◌≡◌, ◌<◌, ◌≤◌, ◌==◌, Bool, List, Option, None, ◌≢◌, length, map}
+use Rattle.std.specs.Prelude.{ℕ, ◌*◌, ◌/◌, ◌%◌, ◌≡◌, ◌<◌, ◌≤◌, ◌==◌, Bool, List, Option, None, ◌≢◌, length, map}
 use Rattle.iddqd_store.specs.Ring.{held, cell, gap, IsReached}
 
 -- the hashes of what the cells hold

@@ -1,5 +1,5 @@
 //! Pairs of a hash and a slot, found by the hash.
-ghost use Rattle.std.specs.Prelude.{◌≡◌, ◌≢◌, ℕ, ◌+◌, ◌-◌, ◌*◌, ◌/◌, ◌%◌, ◌^◌, ◌∷◌, ◌<◌, ◌≤◌, ◌==◌, if◌then◌else◌, nat_lt, List, [], Option, None, Some, true, false, length, IsSome, ◌↔◌, IfOk, OnOk, OnErr, IfSome, IfNone, OnSome, Contains, count_by};
+ghost use Rattle.std.specs.Prelude.{◌≡◌, ◌≢◌, ℕ, ◌+◌, ◌-◌, ◌*◌, ◌/◌, ◌%◌, ◌^◌, ◌∷◌, ◌<◌, ◌≤◌, ◌&&◌, ◌==◌, if◌then◌else◌, nat_lt, List, [], Option, None, Some, true, false, length, IsSome, ◌↔◌, IfOk, OnOk, OnErr, IfSome, IfNone, OnSome, Contains, count_by};
 ghost use Rattle.std.specs.List.Sorted.{IsPermutation};
 ghost use Rattle.iddqd_store.specs.Ring.{cell, gap, held, stretch, IsFull};
 ghost use Rattle.iddqd_store.specs.Limit.{IsLeast, IsSize};
@@ -179,10 +179,11 @@ impl IndexTable {
         matcher: &mut M,
         meter: &mut Meter,
     ) -> Option<ItemIndex>
-        ensures found { IfSome result (λ index. Contains self.now.pairs (hash, index) × (M.accepts matcher.old index ≡ true)) }
-        ensures none { IfNone result ((index : ℕ) → Contains self.now.pairs (hash, index) → M.accepts matcher.old index ≡ false) }
-        ensures asked { M.asked matcher.new ≤ M.asked matcher.old + count_by (under hash) self.now.pairs }
-        ensures alike { M.IsAlike matcher.old matcher.new }
+        ensures found { IfSome result (λ ix. Contains self.now.pairs (hash, ix)) }
+        ensures accepted { IfSome result (λ ix. M.accepts matcher.old ix ≡ true) }
+        ensures none { IfNone result ((ix : ℕ) → Contains self.now.pairs (hash, ix) → M.accepts matcher.old ix ≡ false) }
+        ensures asked { M.asked matcher.new ≤ M.asked matcher.old + count_by (λ p. under hash p && M.counts matcher.old p.1) self.now.pairs }
+        ensures kept { M.IsKept matcher.old matcher.new }
         ensures no_cells { length self.now.row ≡ 0 → meter.new ≡ meter.old }
         ensures looks_none { 0 < length self.now.row → IfNone result (meter.new ≡ meter.old + stretch (hashes self.now.row) (length self.now.row) hash + 1) }
         ensures within { 0 < length self.now.row → stretch (hashes self.now.row) (length self.now.row) hash ≤ length self.now.pairs }

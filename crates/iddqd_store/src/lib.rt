@@ -12,10 +12,10 @@ mod matcher;
 mod meter;
 
 pub use by_query::ByQuery;
+pub use meter::Meter;
 pub use equivalent::Equivalent;
 pub use index_table::IndexTable;
 pub use item_index::ItemIndex;
 pub use item_set::{ItemSet, TryReserveError};
 pub use key_matcher::KeyMatcher;
 pub use matcher::Matcher;
-pub use crate::meter::Meter;
