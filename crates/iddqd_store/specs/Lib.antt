@@ -1,4 +1,5 @@
 pub mod Bag
+pub mod Errors
 pub mod Indexed
 pub mod Lends
 pub mod Limit
