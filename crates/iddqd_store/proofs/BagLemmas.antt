@@ -12,7 +12,6 @@ pub or-false : (a b : Bool) → (a || b) ≡ false → (a ≡ false) × (b ≡ f
 or-false true b h = absurd (false≢true (sym h))
 or-false false b h = (refl, h)
 
-
 -- a test is true or false
 pub split : (P : Bool → Type 0) (b : Bool) → (b ≡ true → P true) → (b ≡ false → P false) → P b
 split P true one other = one refl
@@ -68,8 +67,8 @@ module _ {T : Type 0} where
       let rest = length-named agree test names xs (IsDistinct-tail agree x xs h) in
       split (λ s. length (cond s (x ∷ filter test xs) (filter test xs)) ≤ 1) (test x)
       (λ passes.
-          let none = none_pass test xs (each_weaker _ _ (λ y apart. NamesOne-apart agree test names x y passes apart) xs (IsDistinct-head agree x xs h)) in
-          omega (arith, ap length none))
+      let none = none_pass test xs (each_weaker _ _ (λ y apart. NamesOne-apart agree test names x y passes apart) xs (IsDistinct-head agree x xs h)) in
+      omega (arith, ap length none))
       (λ _. rest)
 
   -- a sound bag is distinct at each rank
@@ -77,9 +76,10 @@ module _ {T : Type 0} where
   IsSound-rank agree ranks [] h = (IsDistinct-nil agree, IsDistinct-nil (conflicts ranks))
   IsSound-rank agree ranks (x ∷ xs) h =
       let head = IsDistinct-head (conflicts (agree ∷ ranks)) x xs h in
-      let rest = IsSound-rank agree ranks xs (IsDistinct-tail (conflicts (agree ∷ ranks)) x xs h) in
-      (IsDistinct-cons agree x xs (each_weaker _ _ (λ y e. (or-false (agree x y) (conflicts ranks x y) e).0) xs head) rest.0,
-       IsDistinct-cons (conflicts ranks) x xs (each_weaker _ _ (λ y e. (or-false (agree x y) (conflicts ranks x y) e).1) xs head) rest.1)
+      let rest = IsSound-rank agree ranks xs (IsDistinct-tail (conflicts (agree ∷ ranks)) x xs h) in (
+        IsDistinct-cons agree x xs (each_weaker _ _ (λ y e. (or-false (agree x y) (conflicts ranks x y) e).0) xs head) rest.0,
+        IsDistinct-cons (conflicts ranks) x xs (each_weaker _ _ (λ y e. (or-false (agree x y) (conflicts ranks x y) e).1) xs head) rest.1,
+      )
 
   pub length-append : (xs ys : List T) → length (xs ++ ys) ≡ length xs + length ys
   length-append [] ys = omega arith
@@ -120,8 +120,8 @@ module _ {T : Type 0} where
       split (λ s. IsPermutation (cond s (x ∷ us) us ++ filter q (cond (not s) (x ∷ vs) vs)) (cond (s || q x) (x ∷ ws) ws)) (p x)
       (λ _. IsPermutation-cons x _ _ rest)
       (λ _. split (λ s. IsPermutation (us ++ cond s (x ∷ filter q vs) (filter q vs)) (cond s (x ∷ ws) ws)) (q x)
-          (λ _. IsPermutation-trans _ _ _ (IsPermutation-middle us x (filter q vs)) (IsPermutation-cons x _ _ rest))
-          (λ _. rest))
+      (λ _. IsPermutation-trans _ _ _ (IsPermutation-middle us x (filter q vs)) (IsPermutation-cons x _ _ rest))
+      (λ _. rest))
 
   -- a listing has the members that pass some test
   pub IsPermutation-listing : (tests : List (T → Bool)) (xs : List T) → IsPermutation (listing tests xs) (filter (some_of tests) xs)
@@ -155,6 +155,7 @@ module _ {T : Type 0} where
   pub conflicts-symm : (ranks : Ranks T) → AreLawful ranks → (x y : T) → conflicts ranks x y ≡ conflicts ranks y x
   conflicts-symm [] h x y = refl
   conflicts-symm (agree ∷ ranks) h x y = rw (h.0.symm x y, conflicts-symm ranks h.1 x y)
+
   pub IsSound-IsPermutation : (ranks : Ranks T) → AreLawful ranks → (xs ys : List T) → IsPermutation xs ys → IsSound ranks xs → IsSound ranks ys
   IsSound-IsPermutation ranks laws = IsDistinct-IsPermutation (conflicts ranks) (conflicts-symm ranks laws)
 

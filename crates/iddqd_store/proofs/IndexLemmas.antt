@@ -109,15 +109,15 @@ module _ {T : Type 0} where
   pub none_is : (hash : T → ℕ) (test : T → Bool) (h : ℕ) (slots : List (Option T)) (pairs : List (ℕ × ℕ)) → IsIndex hash slots pairs → ((x : T) → Contains (live_items slots) x → test x ≡ true → hash x ≡ h) → ((at : ℕ) → Contains pairs (h, at) → passes_at test slots at ≡ false) → filter test (live_items slots) ≡ []
   none_is hash test h slots pairs index alike none =
       none_of_map (λ m. m.1) test (members slots) (each_from_Contains (λ m. test m.1 ≡ false) (members slots) (λ m listed.
-          let stands = at_member slots m.0 m.1 listed in
-          let paired : Contains pairs (hash m.1, m.0) = Contains-permutation _ _ _ (IsPermutation-sym _ _ index) (Contains-map (pair_of hash) (members slots) m listed) in
-          split (λ b. b ≡ false) (test m.1)
-          (λ yes.
-              let same = alike m.1 (item_at slots m.0 m.1 stands) yes in
-              let refused : passes_at test slots m.0 ≡ false = none m.0 (subst (λ k. Contains pairs (k, m.0)) same paired) in
-              let is : passes_at test slots m.0 ≡ test m.1 = ap (λ o. option_map_or test o false) stands in
-              sym yes ∙ sym is ∙ refused)
-          (λ _. refl)))
+      let stands = at_member slots m.0 m.1 listed in
+      let paired : Contains pairs (hash m.1, m.0) = Contains-permutation _ _ _ (IsPermutation-sym _ _ index) (Contains-map (pair_of hash) (members slots) m listed) in
+      split (λ b. b ≡ false) (test m.1)
+      (λ yes.
+      let same = alike m.1 (item_at slots m.0 m.1 stands) yes in
+      let refused : passes_at test slots m.0 ≡ false = none m.0 (subst (λ k. Contains pairs (k, m.0)) same paired) in
+      let is : passes_at test slots m.0 ≡ test m.1 = ap (λ o. option_map_or test o false) stands in
+      sym yes ∙ sym is ∙ refused)
+      (λ _. refl)))
 
   pub IsIndex-insert : (hash : T → ℕ) (old new : List (Option T)) (pairs more : List (ℕ × ℕ)) (at : ℕ) (x : T) → IsIndex hash old pairs → IsPermutation (members new) ((at, x) ∷ members old) → IsPermutation more ((hash x, at) ∷ pairs) → IsIndex hash new more
   IsIndex-insert hash old new pairs more at x index added paired =

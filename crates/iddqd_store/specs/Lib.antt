@@ -1,5 +1,6 @@
 pub mod Asking
 pub mod Bag
+pub mod Errors
 pub mod Indexed
 pub mod Lends
 pub mod Limit

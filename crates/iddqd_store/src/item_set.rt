@@ -5,14 +5,11 @@ ghost use Rattle.std.specs.Borrow.{Lends, sem};
 ghost use Rattle.iddqd_store.specs.Slots.{get, IsLive, live_count, members, Updates, NextLive};
 ghost use Rattle.iddqd_store.specs.SlotChain.{item_of};
 
+use crate::TryReserveError;
 use crate::item_index::ItemIndex;
 use std::alloc::Global;
 use std::marker::Model;
 use std::mem;
-
-/// No memory.
-#[derive(Drop, Debug)]
-pub struct TryReserveError;
 
 /// Items in slots.
 #[derive(Drop)]

@@ -4,18 +4,25 @@
 mod by_query;
 mod cells;
 mod equivalent;
+mod error;
 mod index_table;
 mod item_index;
 mod item_set;
 mod key_matcher;
 mod matcher;
 mod meter;
+mod up_to_three;
+mod up_to_two;
 
 pub use by_query::ByQuery;
 pub use meter::Meter;
+pub use crate::meter::Meter;
 pub use equivalent::Equivalent;
+pub use error::{DuplicateItem, MemoryRefused, TryReserveError};
 pub use index_table::IndexTable;
 pub use item_index::ItemIndex;
-pub use item_set::{ItemSet, TryReserveError};
+pub use item_set::ItemSet;
 pub use key_matcher::KeyMatcher;
 pub use matcher::Matcher;
+pub use up_to_three::UpToThree;
+pub use up_to_two::UpToTwo;

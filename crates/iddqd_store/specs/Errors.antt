@@ -1,0 +1,13 @@
+-- What a contract sees of a `DuplicateItem`.
+use Rattle.std.specs.Prelude.{refl}
+use Rattle.std.specs.Coded.{Coded, code_by, coded×}
+
+-- the item that was refused, and those in its way
+pub record Duplicates (T L : Type 0) : Type 0 where
+  pub new_item : T
+  pub duplicates : L
+
+abbrev pub duplicates_code : {T L : Type 0} → Coded T → Coded L → Coded (Duplicates T L)
+duplicates_code {T} {L} item list =
+    code_by (T × L) (coded× item list)
+    (λ d. (d.new_item, d.duplicates)) (λ p. record { new_item = p.0; duplicates = p.1 }) (λ _. refl)

@@ -1,0 +1,68 @@
+//! Refusals.
+ghost use Rattle.std.specs.Prelude.{◌≡◌};
+
+use std::marker::Model;
+
+/// A growth was refused: there is no memory for it, or its size is past `usize`.
+#[derive(Clone, Copy, Debug, PartialEq, Eq)]
+pub struct TryReserveError;
+
+/// The same, with the value for which there was no room.
+#[derive(Drop)]
+pub struct MemoryRefused<T> {
+    pub value: T,
+}
+
+/// An item that was refused, and the items in its way: a short list of them, in the order of the keys.
+#[derive(Drop)]
+pub struct DuplicateItem<T, L> {
+    new_item: T,
+    duplicates: L,
+}
+
+impl<T, L> Model for DuplicateItem<T, L> {
+    ghost use Rattle.iddqd_store.specs.Errors.{Duplicates, duplicates_code};
+
+    ghost Value = { Duplicates T L };
+
+    ghost coded = { duplicates_code T.code L.code };
+
+    ghost view = { λ d. record { new_item = d.new_item; duplicates = d.duplicates } };
+}
+
+impl<T, L> DuplicateItem<T, L> {
+    /// An item with those in its way.
+    pub fn new(new_item: T, duplicates: L) -> Self
+        ensures { result ≡ record { new_item = new_item; duplicates = duplicates } }
+    {
+        DuplicateItem {
+            new_item,
+            duplicates,
+        }
+    }
+
+    /// The item that was refused.
+    pub fn new_item(&self) -> &T
+        ensures { result.now ≡ self.now.new_item }
+    {
+        &self.new_item
+    }
+
+    /// The items in its way, in the order of the keys.
+    pub fn duplicates(&self) -> &L
+        ensures { result.now ≡ self.now.duplicates }
+    {
+        &self.duplicates
+    }
+
+    /// Both.
+    pub fn into_parts(self) -> (T, L)
+        ensures { result ≡ (self.new_item, self.duplicates) }
+    {
+        let DuplicateItem {
+            new_item,
+            duplicates,
+        } = self;
+        (new_item, duplicates)
+    }
+}

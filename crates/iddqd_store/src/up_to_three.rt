@@ -1,0 +1,98 @@
+//! A list of at most three items, in place.
+ghost use Rattle.std.specs.Prelude.{◌≡◌, ◌<◌, ◌≤◌, ◌++◌, ◌∷◌, ◌==◌, [], length, option_copied, slice_get};
+ghost use Rattle.std.specs.Option.{option_to_list};
+
+use std::marker::Model;
+use std::mem;
+
+/// A list of at most three items, which takes no memory of its own.
+#[derive(Drop)]
+pub struct UpToThree<T> {
+    first: Option<T>,
+    second: Option<T>,
+    third: Option<T>,
+}
+
+impl<T> Model for UpToThree<T> {
+    ghost use Rattle.std.specs.Prelude.{List, ◌≡◌, ◌++◌, None};
+    ghost use Rattle.std.specs.Option.{option_to_list};
+
+    ghost Value = { List T };
+
+    ghost view = { λ s. option_to_list s.first ++ option_to_list s.second ++ option_to_list s.third };
+
+    ghost invariant = { λ s. (s.first ≡ None → s.second ≡ None) × (s.second ≡ None → s.third ≡ None) };
+}
+
+impl<T> UpToThree<T> {
+    /// No items.
+    pub fn new() -> Self
+        ensures { result ≡ [] }
+    {
+        UpToThree {
+            first: None,
+            second: None,
+            third: None,
+        }
+    }
+
+    /// The number of items, at most three.
+    pub fn len(&self) -> usize
+        ensures value { result ≡ length self.now }
+        ensures short { result ≤ 3 }
+    {
+        match (&self.first, &self.second, &self.third) {
+            (None, _, _) => 0,
+            (Some(_), None, _) => 1,
+            (Some(_), Some(_), None) => 2,
+            (Some(_), Some(_), Some(_)) => 3,
+        }
+    }
+
+    /// Whether there is no item.
+    pub fn is_empty(&self) -> bool
+        ensures { result ≡ (length self.now == 0) }
+    {
+        self.len() == 0
+    }
+
+    /// The item at this place, counted from 0.
+    pub fn get(&self, at: usize) -> Option<&T>
+        ensures { option_copied result ≡ slice_get self.now at }
+    {
+        match at {
+            0 => self.first.as_ref(),
+            1 => self.second.as_ref(),
+            2 => self.third.as_ref(),
+            _ => None,
+        }
+    }
+
+    /// Puts an item behind the others.
+    pub fn push(&mut self, item: T)
+        requires { length self.old < 3 }
+        ensures { self.new ≡ self.old ++ item ∷ [] }
+    {
+        let place = if self.first.is_none() {
+            mem::replace(&mut self.first, Some(item))
+        } else if self.second.is_none() {
+            mem::replace(&mut self.second, Some(item))
+        } else {
+            mem::replace(&mut self.third, Some(item))
+        };
+        match place {
+            None => {}
+            Some(_) => unreachable!(),
+        }
+    }
+
+    /// Takes the first item out.
+    pub fn pop_front(&mut self) -> Option<T>
+        ensures first { result ≡ slice_get self.old 0 }
+        ensures rest { self.old ≡ option_to_list result ++ self.new }
+    {
+        let third = self.third.take();
+        let second = mem::replace(&mut self.second, third);
+        mem::replace(&mut self.first, second)
+    }
+}

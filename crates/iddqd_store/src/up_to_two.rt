@@ -1,0 +1,91 @@
+//! A list of at most two items, in place.
+ghost use Rattle.std.specs.Prelude.{◌≡◌, ◌<◌, ◌≤◌, ◌++◌, ◌∷◌, ◌==◌, [], length, option_copied, slice_get};
+ghost use Rattle.std.specs.Option.{option_to_list};
+
+use std::marker::Model;
+use std::mem;
+
+/// A list of at most two items, which takes no memory of its own.
+#[derive(Drop)]
+pub struct UpToTwo<T> {
+    first: Option<T>,
+    second: Option<T>,
+}
+
+impl<T> Model for UpToTwo<T> {
+    ghost use Rattle.std.specs.Prelude.{List, ◌≡◌, ◌++◌, None};
+    ghost use Rattle.std.specs.Option.{option_to_list};
+
+    ghost Value = { List T };
+
+    ghost view = { λ s. option_to_list s.first ++ option_to_list s.second };
+
+    ghost invariant = { λ s. s.first ≡ None → s.second ≡ None };
+}
+
+impl<T> UpToTwo<T> {
+    /// No items.
+    pub fn new() -> Self
+        ensures { result ≡ [] }
+    {
+        UpToTwo {
+            first: None,
+            second: None,
+        }
+    }
+
+    /// The number of items, at most two.
+    pub fn len(&self) -> usize
+        ensures value { result ≡ length self.now }
+        ensures short { result ≤ 2 }
+    {
+        match (&self.first, &self.second) {
+            (None, _) => 0,
+            (Some(_), None) => 1,
+            (Some(_), Some(_)) => 2,
+        }
+    }
+
+    /// Whether there is no item.
+    pub fn is_empty(&self) -> bool
+        ensures { result ≡ (length self.now == 0) }
+    {
+        self.len() == 0
+    }
+
+    /// The item at this place, counted from 0.
+    pub fn get(&self, at: usize) -> Option<&T>
+        ensures { option_copied result ≡ slice_get self.now at }
+    {
+        match at {
+            0 => self.first.as_ref(),
+            1 => self.second.as_ref(),
+            _ => None,
+        }
+    }
+
+    /// Puts an item behind the others.
+    pub fn push(&mut self, item: T)
+        requires { length self.old < 2 }
+        ensures { self.new ≡ self.old ++ item ∷ [] }
+    {
+        let place = if self.first.is_none() {
+            mem::replace(&mut self.first, Some(item))
+        } else {
+            mem::replace(&mut self.second, Some(item))
+        };
+        match place {
+            None => {}
+            Some(_) => unreachable!(),
+        }
+    }
+
+    /// Takes the first item out.
+    pub fn pop_front(&mut self) -> Option<T>
+        ensures first { result ≡ slice_get self.old 0 }
+        ensures rest { self.old ≡ option_to_list result ++ self.new }
+    {
+        let second = self.second.take();
+        mem::replace(&mut self.first, second)
+    }
+}
