@@ -15,8 +15,6 @@ mod up_to_three;
 mod up_to_two;
 
 pub use by_query::ByQuery;
-pub use meter::Meter;
-pub use crate::meter::Meter;
 pub use equivalent::Equivalent;
 pub use error::{DuplicateItem, MemoryRefused, TryReserveError};
 pub use index_table::IndexTable;
@@ -24,5 +22,6 @@ pub use item_index::ItemIndex;
 pub use item_set::ItemSet;
 pub use key_matcher::KeyMatcher;
 pub use matcher::Matcher;
+pub use meter::Meter;
 pub use up_to_three::UpToThree;
 pub use up_to_two::UpToTwo;
