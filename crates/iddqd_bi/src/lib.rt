@@ -3,6 +3,7 @@
 
 mod item;
 mod map;
+mod matchers;
 mod pointers;
 
 pub use item::{BiHashItem, BiHashItemMut};

@@ -4,6 +4,7 @@ pub mod FoundLemmas
 pub mod Hole
 pub mod IndexLemmas
 pub mod Line
+pub mod MapLemmas
 pub mod Rows
 pub mod SearchLemmas
 pub mod Size
