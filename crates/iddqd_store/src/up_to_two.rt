@@ -2,6 +2,7 @@
 ghost use Rattle.std.specs.Prelude.{◌≡◌, ◌<◌, ◌≤◌, ◌++◌, ◌∷◌, ◌==◌, [], length, option_copied, slice_get};
 ghost use Rattle.std.specs.Option.{option_to_list};
 
+use crate::item_index::ItemIndex;
 use std::marker::Model;
 use std::mem;
 
@@ -87,5 +88,32 @@ impl<T> UpToTwo<T> {
     {
         let second = self.second.take();
         mem::replace(&mut self.first, second)
+    }
+}
+
+impl UpToTwo<ItemIndex> {
+    ghost use Rattle.iddqd_store.specs.Searched.{lists, with_found};
+
+    /// Whether this slot is among them.
+    pub fn lists(&self, ix: ItemIndex) -> bool
+        ensures { result ≡ lists self.now ix }
+    {
+        match (&self.first, &self.second) {
+            (None, _) => false,
+            (Some(first), None) => ix == *first,
+            (Some(first), Some(second)) => ix == *first || ix == *second,
+        }
+    }
+
+    /// Puts the slot that a search found behind the others, unless it is among them.
+    pub fn push_found(&mut self, found: Option<ItemIndex>)
+        requires { length self.old < 2 }
+        ensures { self.new ≡ with_found self.old found }
+    {
+        if let Some(ix) = found {
+            if !self.lists(ix) {
+                self.push(ix);
+            }
+        }
     }
 }

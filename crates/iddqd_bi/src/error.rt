@@ -1,0 +1,43 @@
+//! Why an insert is refused.
+ghost use Rattle.std.specs.Prelude.{◌≡◌};
+ghost use Rattle.iddqd_store.specs.Map.{bag};
+ghost use Rattle.iddqd_store.specs.Bag.{order};
+ghost use Rattle.iddqd_store.specs.Searched.{items_at};
+ghost use Rattle.iddqd_bi.specs.Keys.{ranks};
+
+use crate::item::BiHashItem;
+use crate::map::BiHashMap;
+use iddqd_store::{ItemIndex, UpToTwo};
+use std::hash::{BuildHasher, Hash};
+
+/// An item that an insert refused, and why, with no hold on the map.
+#[derive(Drop)]
+pub(crate) enum Refusal<T> {
+    /// These slots have items that conflict with it, in the order of the keys.
+    Duplicate(T, UpToTwo<ItemIndex>),
+    /// There was no memory for it.
+    Memory(T),
+}
+
+/// Why an insert was refused. It holds the map, so that the caller knows the map exactly.
+#[derive(Drop)]
+pub enum InsertError<'a, T: BiHashItem, S: BuildHasher> {
+    /// Items of the map conflict with the new one.
+    Duplicate(DuplicateError<'a, T, S>),
+    /// Nothing conflicts with the new item, but the map is full and there was no memory to grow.
+    Memory(MemoryError<'a, T, S>),
+}
+
+/// An item that was refused since others have its keys, with the map that has them.
+pub struct DuplicateError<'a, T: BiHashItem, S: BuildHasher> {
+    pub(crate) map: &'a mut BiHashMap<T, S>,
+    pub(crate) new_item: T,
+    pub(crate) found: UpToTwo<ItemIndex>,
+    ghost found_is: { ∥ items_at map.now.slots found ≡ order (ranks T.BiHashItem T.K1.Hash T.K2.Hash) (bag map.now) new_item ∥₁ },
+}
+
+/// An item that was refused for want of memory, with the map that has no room for it.
+pub struct MemoryError<'a, T: BiHashItem, S: BuildHasher> {
+    pub(crate) map: &'a mut BiHashMap<T, S>,
+    pub(crate) new_item: T,
+}
