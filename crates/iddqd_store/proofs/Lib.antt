@@ -1,8 +1,10 @@
 pub mod BagLemmas
 pub mod Change
+pub mod Copy
 pub mod Hole
 pub mod IndexLemmas
 pub mod Line
+pub mod Looks
 pub mod Rows
 pub mod Size
 pub mod SlotLemmas

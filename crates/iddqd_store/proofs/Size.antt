@@ -3,8 +3,9 @@ use Rattle.std.proofs.Common.{◌≡◌, ℕ, suc, zero, ◌+◌, ◌*◌, ◌/�
 use Rattle.std.specs.Prelude.{◌≢◌, ◌↔◌, IsSome}
 use Rattle.std.proofs.lemmas.Bool.{cases_lt}
 use Rattle.std.proofs.lemmas.Nat.{pow-add, pow_below}
+use Rattle.std.proofs.lemmas.List.{length-replicate}
 use Rattle.iddqd_store.specs.Ring.{held, cell}
-use Rattle.iddqd_store.specs.Limit.{IsLeast}
+use Rattle.iddqd_store.specs.Limit.{IsLeast, IsSize}
 use Rattle.iddqd_store.specs.Table.{IsTable}
 
 pub doubled : (k : ℕ) → 2 ^ (k + 1) ≡ 2 * 2 ^ k
@@ -34,13 +35,14 @@ pub held-empty : {X : Type 0} (n : ℕ) → held {X = X} (replicate n None) ≡ 
 held-empty zero = refl
 held-empty (suc n) = held-empty n
 
-cell-empty : {X : Type 0} (n k : ℕ) → cell {X = X} (replicate n None) k ≡ None
+pub cell-empty : {X : Type 0} (n k : ℕ) → cell {X = X} (replicate n None) k ≡ None
 cell-empty zero k = refl
 cell-empty (suc n) zero = refl
 cell-empty (suc n) (suc k) = cell-empty n k
 
-pub table_empty : (n : ℕ) → IsTable (replicate n None)
-table_empty n = record {
+pub table_empty : (n : ℕ) → IsSize n → IsTable (replicate n None)
+table_empty n size = record {
+  size = rw length-replicate size;
   fits = rw held-empty (omega arith);
   reached = λ q x l is i li way z. let e : cell {X = ℕ × ℕ} (replicate n None) q ≡ None = cell-empty n q in cc (e, is);
 }
