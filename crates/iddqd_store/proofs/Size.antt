@@ -1,8 +1,9 @@
 -- Limits, and a row of empty cells.
-use Rattle.std.proofs.Common.{◌≡◌, ℕ, suc, zero, ◌+◌, ◌*◌, ◌/◌, ◌^◌, ◌<◌, ◌≤◌, [], Option, None, Some, length, replicate, refl, sym, ap, inl, inr, ⊎_elim, arith, rules}
+use Rattle.std.proofs.Common.{◌≡◌, ℕ, suc, zero, ◌+◌, ◌-◌, ◌%◌, ◌*◌, ◌/◌, ◌^◌, ◌<◌, ◌≤◌, [], Option, None, Some, length, replicate, refl, sym, ap, subst, inl, inr, ⊎_elim, arith, rules}
 use Rattle.std.specs.Prelude.{◌≢◌, ◌↔◌, IsSome}
+use Rattle.std.specs.Int.Bits.{bit_and}
 use Rattle.std.proofs.lemmas.Bool.{cases_lt}
-use Rattle.std.proofs.lemmas.Nat.{pow-add, pow_below}
+use Rattle.std.proofs.lemmas.Nat.{and_mask, pow-add, pow_below}
 use Rattle.std.proofs.lemmas.List.{length-replicate}
 use Rattle.iddqd_store.specs.Ring.{held, cell}
 use Rattle.iddqd_store.specs.Limit.{IsLeast, IsSize}
@@ -53,3 +54,13 @@ length_held_empty n = sym (ap length (held-empty {X = ℕ × ℕ} n))
 pub some_not_none : {X : Type 0} (o : Option X) → IsSome o ↔ (o ≢ None)
 some_not_none None = (λ s. search rules, λ n. absurd (n refl))
 some_not_none (Some x) = (λ s e. cc e, λ n. search rules)
+
+-- a mask in place of a division
+pub mask_home : (hash count : ℕ) → IsSize count → 0 < count → bit_and hash (count - 1) ≡ hash % count
+mask_home hash count size some =
+    ⊎_elim (λ (none : count ≡ 0). absurd (omega arith))
+    (λ (p : (k : ℕ) × (count ≡ 8 * 2 ^ k)).
+    let e : 2 ^ (3 + p.0) ≡ 2 ^ 3 * 2 ^ p.0 = pow-add 2 3 p.0 in
+    let f : 2 ^ (3 + p.0) ≡ count = omega (arith, e, p.1) in
+    subst (λ (n : ℕ). bit_and hash (n - 1) ≡ hash % n) f (and_mask hash (3 + p.0)))
+    size

@@ -32,12 +32,13 @@ pub(super) fn cells_for(pairs: usize) -> Option<usize>
     Some(count)
 }
 
-/// The home of a hash.
+/// The home of a hash: its lowest bits, since the number of cells is a power of two. So no division is made.
 pub(super) fn home_of(hash: u64, count: usize) -> usize
-    requires { 0 < count }
+    requires size { IsSize count }
+    requires some { 0 < count }
     ensures { result ≡ hash % count }
 {
-    (hash % count as u64) as usize
+    (hash & (count as u64 - 1)) as usize
 }
 
 /// The first empty cell from the home of a hash on.
