@@ -5,6 +5,11 @@ pub mod Hole
 pub mod IndexLemmas
 pub mod Line
 pub mod MapLemmas
+pub mod Copy
+pub mod Hole
+pub mod IndexLemmas
+pub mod Line
+pub mod Looks
 pub mod Rows
 pub mod SearchLemmas
 pub mod Size

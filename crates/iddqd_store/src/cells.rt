@@ -70,4 +70,11 @@ impl Cells {
     {
         self.row[i] = None;
     }
+
+    /// Empties all cells.
+    pub fn clear(&mut self)
+        ensures { self.new ≡ replicate (length self.old) None }
+    {
+        self.row.fill(None);
+    }
 }

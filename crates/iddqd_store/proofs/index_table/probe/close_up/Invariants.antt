@@ -3,7 +3,7 @@ use Rattle.std.specs.List.Sorted.{IsPermutation}
 use Rattle.iddqd_store.specs.Ring.{cell, gap, held}
 use Rattle.iddqd_store.proofs.Walk.{Walk}
 use Rattle.iddqd_store.proofs.Hole.{Holed}
-use Rattle.iddqd_store.proofs.index_table.close_up.Given as goal
+use Rattle.iddqd_store.proofs.index_table.probe.close_up.Given as goal
 
 abbrev pub invariant-loop-pair : goal.invariant-loop-pair
 invariant-loop-pair l =

@@ -3,7 +3,7 @@ use Rattle.std.specs.Prelude.{◌≢◌, ◌&&◌, nat_lt, if◌then◌else◌}
 use Rattle.std.proofs.lemmas.Bool.{eq-eqb, both_ways}
 use Rattle.iddqd_store.specs.Ring.{cell}
 use Rattle.iddqd_store.proofs.Walk.{walk_more, unmet_more, seek_on}
-use Rattle.iddqd_store.proofs.index_table.seek.Goals as goal
+use Rattle.iddqd_store.proofs.index_table.probe.seek.Goals as goal
 
 pub loop-index-preserved : goal.loop-index-preserved
 loop-index-preserved c =

@@ -1,5 +1,5 @@
 use Rattle.std.proofs.Common.{ℕ, ◌≡◌, ◌-◌, ◌*◌, ◌/◌, ◌^◌, ◌<◌}
-use Rattle.iddqd_store.proofs.index_table.cells_for.Given as goal
+use Rattle.iddqd_store.proofs.index_table.probe.cells_for.Given as goal
 
 abbrev pub invariant-loop-count : goal.invariant-loop-count
 invariant-loop-count l = (k : ℕ) × (l.count ≡ 8 * 2 ^ k) × ((j : ℕ) → j < k → 7 * 2 ^ j < l.pairs)

@@ -1,6 +1,6 @@
 use Rattle.std.proofs.Common.{◌-◌, ◌%◌, ◌≤◌, length}
 use Rattle.iddqd_store.proofs.Walk.{Walk}
-use Rattle.iddqd_store.proofs.index_table.first_empty.Given as goal
+use Rattle.iddqd_store.proofs.index_table.probe.first_empty.Given as goal
 
 abbrev pub invariant-loop-at : goal.invariant-loop-at
 invariant-loop-at l = record {

@@ -1,7 +1,7 @@
 use Rattle.std.proofs.Common.{rules, arith, ℕ, ◌≡◌, ◌+◌, ◌*◌, ◌/◌, ◌^◌, ◌<◌, ◌≤◌, subst, ⊎_elim}
 use Rattle.std.proofs.lemmas.Bool.{cases_lt}
 use Rattle.iddqd_store.proofs.Size.{doubled, least_found}
-use Rattle.iddqd_store.proofs.index_table.cells_for.Goals as goal
+use Rattle.iddqd_store.proofs.index_table.probe.cells_for.Goals as goal
 
 step : (k m count twice : ℕ) → count ≡ 8 * 2 ^ k → twice ≡ count * 2 → count / 8 * 7 < m → ((j : ℕ) → j < k → 7 * 2 ^ j < m) → (x : ℕ) × (twice ≡ 8 * 2 ^ x) × ((j : ℕ) → j < x → 7 * 2 ^ j < m)
 step k m count twice e t l before =

@@ -8,8 +8,8 @@ use Rattle.iddqd_store.proofs.Line.{cases_option}
 use Rattle.iddqd_store.proofs.Change.{held_take, held_move, same_gap}
 use Rattle.iddqd_store.proofs.Hole.{Holed, holed_start, holed_pass, holed_move, holed_end}
 use Rattle.iddqd_store.proofs.Walk.{Walk, walk_more, walk_to, walk_below, walk_gap, walk_end, beyond}
-use Rattle.iddqd_store.proofs.index_table.close_up.Goals as goal
-use Rattle.iddqd_store.proofs.index_table.close_up.Goals.{then-steps, else-steps}
+use Rattle.iddqd_store.proofs.index_table.probe.close_up.Goals as goal
+use Rattle.iddqd_store.proofs.index_table.probe.close_up.Goals.{then-steps, else-steps}
 
 pub loop-pair-init : goal.loop-pair-init
 loop-pair-init c =
@@ -102,6 +102,7 @@ returns-clause-table c =
     (λ (z : (x : ℕ × ℕ) × (cell row c.args.emptied ≡ Some x)).
     let p : length (z.0 ∷ held c.loop-pair.cells) ≡ length (held row) = length_permutation _ _ (i.taken z.0 z.1) in
     record {
+      size = rw h.len c.requires.table.size;
       fits = let f : length (held row) ≤ n / 8 * 7 = c.requires.table.fits in rw h.len (omega (arith, p, f));
       reached = subst (λ (m : ℕ). IsReached (λ p. p.0 % m) m c.loop-pair.cells) (sym h.len) r;
     })
@@ -119,5 +120,5 @@ returns-clause-looks c =
     let lat : at < n = walk_below row home at s lh i.walk in
     let ga : gap n home at ≡ s = walk_gap row home at s lh i.walk in
     let none : cell row at ≡ None = sym (i.holed.ahead at lat (omega (arith, ga))) ∙ (sym c.cell_at.ensures.value ∙ c.in_default.is) in
-    let e : stretch (hashes row) n c.args.hash ≡ s = walk_end row c.args.hash at s c.requires.table i.walk none in
+    let e : stretch (hashes (held row)) n c.args.hash ≡ s = walk_end row c.args.hash at s c.requires.table i.walk none in
     omega (arith, e, i.looked, c.cell_at.ensures.look)

@@ -3,7 +3,7 @@ use Rattle.std.specs.Prelude.{◌≢◌}
 use Rattle.iddqd_store.specs.Ring.{cell}
 use Rattle.iddqd_store.proofs.Stretch.{place}
 use Rattle.iddqd_store.proofs.Walk.{Walk}
-use Rattle.iddqd_store.proofs.index_table.seek.Given as goal
+use Rattle.iddqd_store.proofs.index_table.probe.seek.Given as goal
 
 abbrev pub invariant-loop-index : goal.invariant-loop-index
 invariant-loop-index l = record {
