@@ -1,10 +1,14 @@
 pub mod BagLemmas
+pub mod BagSteps
 pub mod Change
+pub mod EntryLemmas
 pub mod Hole
 pub mod IndexLemmas
 pub mod Line
 pub mod Rows
+pub mod SameBag
 pub mod Size
+pub mod Shuffled
 pub mod SlotLemmas
 pub mod Stretch
 pub mod Theorem
