@@ -13,7 +13,8 @@ use Rattle.std.proofs.lemmas.List.Sorted.{IsPermutation-refl, IsPermutation-sym,
 use Rattle.iddqd_store.specs.Slots.{get, live_count, members_from, members, live_items}
 use Rattle.iddqd_store.specs.Indexed.{pair_of, IsIndex, passes_at}
 use Rattle.iddqd_store.specs.Bag.{NamesOne}
-use Rattle.iddqd_store.proofs.BagLemmas.{each_weaker, none_pass, named_is, without_named, IsDistinct-nil, split}
+use Rattle.iddqd_store.proofs.BagLemmas.{each_weaker, none_pass, named_is, without_named, IsDistinct-nil}
+use Rattle.iddqd_store.proofs.Shuffled.{split}
 
 pub Contains-cons : {X : Type 0} (head x : X) (rest : List X) → Contains rest x → Contains (head ∷ rest) x
 Contains-cons head x rest p = (suc p.0, omega (arith, p.1), p.2)

@@ -1,6 +1,8 @@
 pub mod BagLemmas
+pub mod BagSteps
 pub mod Change
 pub mod FoundLemmas
+pub mod EntryLemmas
 pub mod Hole
 pub mod IndexLemmas
 pub mod Line
@@ -12,7 +14,9 @@ pub mod Line
 pub mod Looks
 pub mod Rows
 pub mod SearchLemmas
+pub mod SameBag
 pub mod Size
+pub mod Shuffled
 pub mod SlotLemmas
 pub mod Stretch
 pub mod Theorem
