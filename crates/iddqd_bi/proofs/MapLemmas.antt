@@ -13,7 +13,7 @@ use Rattle.iddqd_store.specs.Bag.{Ranks, AreLawful, IsSound, conflicts, clash}
 use Rattle.iddqd_store.proofs.IndexLemmas.{IsIndex-insert, IsIndex-remove, length-index, length-live_items, pair_in}
 use Rattle.iddqd_store.proofs.BagLemmas.{IsSound-IsPermutation, IsSound-rank, IsDistinct-nil}
 use Rattle.iddqd_store.proofs.SearchLemmas.{search_among, crowd_among}
-use Rattle.iddqd_store.proofs.MapLemmas.{live_items-moves, free_sound}
+use Rattle.iddqd_store.proofs.MapLemmas.{live_items-moves, free_sound, IsEquivalence-key}
 use Rattle.iddqd_bi.specs.Keys.{ranks, agree1, agree2}
 use Rattle.iddqd_bi.specs.Indexed.{IsIndexed}
 
@@ -74,3 +74,6 @@ module _ {T : Type 0} {agree1 agree2 : T → T → Bool} {hash1 hash2 : T → �
 
   pub search2 : (test : T → Bool) (h : ℕ) (r : Option ℕ) → NamesOneOf agree2 test (live_items slots) → ((x : T) → Contains (live_items slots) x → test x ≡ true → hash2 x ≡ h) → IfSome r (λ at. passes_at test slots at ≡ true) → IfNone r ((at : ℕ) → Contains pairs2 (h, at) → passes_at test slots at ≡ false) → option_to_list (option_and_then (get slots) r) ≡ filter test (live_items slots)
   search2 test h r names = search_among agree2 test hash2 h slots pairs2 r names apart2 indexed.second
+
+pub two_lawful : {T K1 K2 : Type 0} (eq1 : K1 → K1 → Bool) (key1 : T → K1) (eq2 : K2 → K2 → Bool) (key2 : T → K2) → IsEquivalence eq1 → IsEquivalence eq2 → AreLawful {T = T} ((λ x y. eq1 (key1 x) (key1 y)) ∷ (λ x y. eq2 (key2 x) (key2 y)) ∷ [])
+two_lawful eq1 key1 eq2 key2 laws1 laws2 = (IsEquivalence-key eq1 key1 laws1, (IsEquivalence-key eq2 key2 laws2, tt))

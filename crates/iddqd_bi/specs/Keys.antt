@@ -26,8 +26,8 @@ module _ {T K1 K2 : Type 0} where
 
 module _ {T K1 K2 S H : Type 0} where
   -- the hash of an item's key of a rank
-  abbrev pub hash1 : item.Ghosts T K1 K2 → HashMembers K1 → builder.Ghosts S H → hasher.Ghosts H → S → T → ℕ
-  hash1 of keys build hash s x = hash_of build hash s (keys.hash_input (of.key1 x))
+  abbrev pub key1_hash : item.Ghosts T K1 K2 → HashMembers K1 → builder.Ghosts S H → hasher.Ghosts H → S → T → ℕ
+  key1_hash of keys build hash s x = hash_of build hash s (keys.hash_input (of.key1 x))
 
-  abbrev pub hash2 : item.Ghosts T K1 K2 → HashMembers K2 → builder.Ghosts S H → hasher.Ghosts H → S → T → ℕ
-  hash2 of keys build hash s x = hash_of build hash s (keys.hash_input (of.key2 x))
+  abbrev pub key2_hash : item.Ghosts T K1 K2 → HashMembers K2 → builder.Ghosts S H → hasher.Ghosts H → S → T → ℕ
+  key2_hash of keys build hash s x = hash_of build hash s (keys.hash_input (of.key2 x))

@@ -3,7 +3,7 @@ ghost use Rattle.std.specs.Prelude.{◌≡◌};
 ghost use Rattle.iddqd_store.specs.Map.{bag};
 ghost use Rattle.iddqd_store.specs.Bag.{order};
 ghost use Rattle.iddqd_store.specs.Searched.{items_at};
-ghost use Rattle.iddqd_bi.specs.Keys.{ranks};
+ghost use Rattle.iddqd_bi.specs.Keys.{keys, ranks};
 
 use crate::item::BiHashItem;
 use crate::map::BiHashMap;
@@ -33,11 +33,73 @@ pub struct DuplicateError<'a, T: BiHashItem, S: BuildHasher> {
     pub(crate) map: &'a mut BiHashMap<T, S>,
     pub(crate) new_item: T,
     pub(crate) found: UpToTwo<ItemIndex>,
-    ghost found_is: { ∥ items_at map.now.slots found ≡ order (ranks T.BiHashItem T.K1.Hash T.K2.Hash) (bag map.now) new_item ∥₁ },
+    ghost found_is: { ∥ items_at map.now.slots found ≡ order (ranks T.BiHashItem (keys T.K1.eq T.K1.hash_input) (keys T.K2.eq T.K2.hash_input)) (bag map.now) new_item ∥₁ },
 }
 
 /// An item that was refused for want of memory, with the map that has no room for it.
 pub struct MemoryError<'a, T: BiHashItem, S: BuildHasher> {
     pub(crate) map: &'a mut BiHashMap<T, S>,
     pub(crate) new_item: T,
+}
+
+impl<T: BiHashItem, S: BuildHasher> DuplicateError<'_, T, S> {
+    /// The item that was refused.
+    pub fn new_item(&self) -> &T
+        ensures { result.now ≡ self.now.new_item }
+    {
+        &self.new_item
+    }
+
+    /// The item that was refused, by value.
+    pub fn into_item(self) -> T
+        ensures item { result ≡ self.entry.new_item }
+        ensures map { self.exit.0.now ≡ self.entry.map.now }
+    {
+        let DuplicateError {
+            map: _,
+            new_item,
+            found: _,
+        } = self;
+        new_item
+    }
+}
+
+impl<T: BiHashItem, S: BuildHasher> MemoryError<'_, T, S> {
+    /// The item that was refused.
+    pub fn new_item(&self) -> &T
+        ensures { result.now ≡ self.now.new_item }
+    {
+        &self.new_item
+    }
+
+    /// The item that was refused, by value.
+    pub fn into_item(self) -> T
+        ensures item { result ≡ self.entry.new_item }
+        ensures map { self.exit.0.now ≡ self.entry.map.now }
+    {
+        let MemoryError { map: _, new_item } = self;
+        new_item
+    }
+}
+
+impl<T: BiHashItem + Drop, S: BuildHasher> Drop for DuplicateError<'_, T, S> {
+    fn drop(self)
+        ensures { self.exit.0.now ≡ self.entry.map.now }
+    {
+        let DuplicateError {
+            map: _,
+            new_item,
+            found: _,
+        } = self;
+        drop(new_item);
+    }
+}
+
+impl<T: BiHashItem + Drop, S: BuildHasher> Drop for MemoryError<'_, T, S> {
+    fn drop(self)
+        ensures { self.exit.0.now ≡ self.entry.map.now }
+    {
+        let MemoryError { map: _, new_item } = self;
+        drop(new_item);
+    }
 }

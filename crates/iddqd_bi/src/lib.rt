@@ -1,10 +1,12 @@
 //! A hash map of items with two keys.
 #![tactic(auto)]
 
+mod error;
 mod item;
 mod map;
 mod matchers;
 mod pointers;
 
+pub use error::{DuplicateError, InsertError, MemoryError};
 pub use item::{BiHashItem, BiHashItemMut};
 pub use map::BiHashMap;

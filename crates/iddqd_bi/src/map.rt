@@ -21,7 +21,7 @@ pub struct BiHashMap<T: BiHashItem, S: BuildHasher> {
 impl<T: BiHashItem, S: BuildHasher> Model for BiHashMap<T, S> {
     ghost use Rattle.std.specs.Prelude.{min};
     ghost use Rattle.iddqd_store.specs.Map.{Map, map_code};
-    ghost use Rattle.iddqd_bi.specs.Keys.{keys, ranks, hash1, hash2};
+    ghost use Rattle.iddqd_bi.specs.Keys.{keys, ranks, key1_hash, key2_hash};
     ghost use Rattle.iddqd_bi.specs.Indexed.{IsIndexed};
 
     ghost Value = { Map T S };
@@ -32,6 +32,6 @@ impl<T: BiHashItem, S: BuildHasher> Model for BiHashMap<T, S> {
 
     ghost invariant = {
         λ m. let keys1 = keys T.K1.eq T.K1.hash_input in let keys2 = keys T.K2.eq T.K2.hash_input in
-            IsIndexed (ranks T.BiHashItem keys1 keys2) (hash1 T.BiHashItem keys1 S.BuildHasher S.Hasher.Hasher m.hash_builder) (hash2 T.BiHashItem keys2 S.BuildHasher S.Hasher.Hasher m.hash_builder) m.items.slots m.first.pairs m.second.pairs
+            IsIndexed (ranks T.BiHashItem keys1 keys2) (key1_hash T.BiHashItem keys1 S.BuildHasher S.Hasher.Hasher m.hash_builder) (key2_hash T.BiHashItem keys2 S.BuildHasher S.Hasher.Hasher m.hash_builder) m.items.slots m.first.pairs m.second.pairs
     };
 }

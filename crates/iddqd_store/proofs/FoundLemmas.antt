@@ -9,7 +9,8 @@ use Rattle.std.proofs.lemmas.List.Sorted.{Contains-permutation, IsPermutation-sy
 use Rattle.iddqd_store.specs.Bag.{some_of, listing, without}
 use Rattle.iddqd_store.specs.Slots.{get, IsLive, live_items}
 use Rattle.iddqd_store.specs.Searched.{items_at, lists, with_found}
-use Rattle.iddqd_store.proofs.BagLemmas.{split, each_passes, each-filter, Contains-filter, filter_twice, filter_swap, IsPermutation-listing}
+use Rattle.iddqd_store.proofs.Shuffled.{split}
+use Rattle.iddqd_store.proofs.BagLemmas.{each_passes, each-filter, Contains-filter, filter_twice, filter_swap, IsPermutation-listing}
 use Rattle.iddqd_store.proofs.IndexLemmas.{Contains-cons, Contains-cons_cases, Contains-here, item_at, same_slot}
 use Rattle.iddqd_store.proofs.SearchLemmas.{each_at}
 

@@ -12,7 +12,8 @@ use Rattle.iddqd_store.specs.Bag.{some_of, listing, without}
 use Rattle.iddqd_store.specs.Slots.{get, IsLive, live_items, members}
 use Rattle.iddqd_store.specs.Indexed.{IsIndex, passes_at}
 use Rattle.iddqd_store.specs.Searched.{NamesOneOf, items_at, lists, with_found}
-use Rattle.iddqd_store.proofs.BagLemmas.{split, none_pass, each_passes, Contains-filter, filter_twice, filter_swap, length-append}
+use Rattle.iddqd_store.proofs.Shuffled.{split}
+use Rattle.iddqd_store.proofs.BagLemmas.{none_pass, each_passes, Contains-filter, filter_twice, filter_swap, length-append}
 use Rattle.iddqd_store.proofs.IndexLemmas.{Contains-cons, Contains-cons_cases, Contains-here, each_from_Contains, item_at, none_is, same_slot, crowd_is}
 
 module _ {T : Type 0} where

@@ -6,7 +6,7 @@ pub mod Lends
 pub mod Limit
 pub mod Map
 pub mod Ring
-pub mod SlotChain
 pub mod Searched
+pub mod SlotChain
 pub mod Slots
 pub mod Table

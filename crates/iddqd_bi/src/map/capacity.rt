@@ -41,7 +41,7 @@ impl<T: BiHashItem, S: BuildHasher> BiHashMap<T, S> {
         ensures slots { self.new.slots ≡ self.old.slots }
         ensures builder { self.new.builder ≡ self.old.builder }
         ensures no_less_room { self.old.capacity ≤ self.new.capacity }
-        ensures same { length (bag self.old) + more ≤ self.old.capacity → self.new ≡ self.old }
+        ensures same_room { length (bag self.old) + more ≤ self.old.capacity → self.new.capacity ≡ self.old.capacity }
         ensures granted { OnOk result (length (bag self.old) + more ≤ self.new.capacity) }
         ensures refused { OnErr result (self.old.capacity < length (bag self.old) + more) }
     {

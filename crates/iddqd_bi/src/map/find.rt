@@ -4,7 +4,7 @@ ghost use Rattle.std.specs.Option.{option_to_list, option_and_then};
 ghost use Rattle.iddqd_store.specs.Map.{bag, hash_of};
 ghost use Rattle.iddqd_store.specs.Slots.{get, IsLive};
 ghost use Rattle.iddqd_store.specs.Searched.{NamesOneOf};
-ghost use Rattle.iddqd_bi.specs.Keys.{agree1, agree2, hash1, hash2};
+ghost use Rattle.iddqd_bi.specs.Keys.{agree1, agree2, key1_hash, key2_hash};
 
 use super::BiHashMap;
 use crate::item::BiHashItem;
@@ -61,11 +61,11 @@ impl<T: BiHashItem, S: BuildHasher> BiHashMap<T, S> {
         meter: &mut Meter,
     ) -> Option<ItemIndex>
         requires one { NamesOneOf (agree1 T.BiHashItem T.K1.Hash) (λ x. M.accepts matcher.old (T.key1 x)) (bag self.now) }
-        requires hashed { (x : T) → Contains (bag self.now) x → M.accepts matcher.old (T.key1 x) ≡ true → hash1 T.BiHashItem T.K1.Hash S.BuildHasher S.Hasher.Hasher self.now.builder x ≡ hash }
+        requires hashed { (x : T) → Contains (bag self.now) x → M.accepts matcher.old (T.key1 x) ≡ true → key1_hash T.BiHashItem T.K1.Hash S.BuildHasher S.Hasher.Hasher self.now.builder x ≡ hash }
         ensures found { option_to_list (option_and_then (get self.now.slots) result) ≡ filter (λ x. M.accepts matcher.old (T.key1 x)) (bag self.now) }
         ensures live { IfSome result (IsLive self.now.slots) }
         ensures kept { M.IsKept matcher.old matcher.new }
-        ensures asked { M.asked matcher.new ≤ M.asked matcher.old + count_by (λ x. hash1 T.BiHashItem T.K1.Hash S.BuildHasher S.Hasher.Hasher self.now.builder x == hash) (bag self.now) }
+        ensures asked { M.asked matcher.new ≤ M.asked matcher.old + count_by (λ x. key1_hash T.BiHashItem T.K1.Hash S.BuildHasher S.Hasher.Hasher self.now.builder x == hash) (bag self.now) }
     {
         let mut keys = ByKey1 {
             items: &self.items,
@@ -82,11 +82,11 @@ impl<T: BiHashItem, S: BuildHasher> BiHashMap<T, S> {
         meter: &mut Meter,
     ) -> Option<ItemIndex>
         requires one { NamesOneOf (agree2 T.BiHashItem T.K2.Hash) (λ x. M.accepts matcher.old (T.key2 x)) (bag self.now) }
-        requires hashed { (x : T) → Contains (bag self.now) x → M.accepts matcher.old (T.key2 x) ≡ true → hash2 T.BiHashItem T.K2.Hash S.BuildHasher S.Hasher.Hasher self.now.builder x ≡ hash }
+        requires hashed { (x : T) → Contains (bag self.now) x → M.accepts matcher.old (T.key2 x) ≡ true → key2_hash T.BiHashItem T.K2.Hash S.BuildHasher S.Hasher.Hasher self.now.builder x ≡ hash }
         ensures found { option_to_list (option_and_then (get self.now.slots) result) ≡ filter (λ x. M.accepts matcher.old (T.key2 x)) (bag self.now) }
         ensures live { IfSome result (IsLive self.now.slots) }
         ensures kept { M.IsKept matcher.old matcher.new }
-        ensures asked { M.asked matcher.new ≤ M.asked matcher.old + count_by (λ x. hash2 T.BiHashItem T.K2.Hash S.BuildHasher S.Hasher.Hasher self.now.builder x == hash) (bag self.now) }
+        ensures asked { M.asked matcher.new ≤ M.asked matcher.old + count_by (λ x. key2_hash T.BiHashItem T.K2.Hash S.BuildHasher S.Hasher.Hasher self.now.builder x == hash) (bag self.now) }
     {
         let mut keys = ByKey2 {
             items: &self.items,
