@@ -2,13 +2,13 @@
 use Rattle.std.proofs.Common.{◌≡◌, ◌≢◌, ◌⊎◌, ℕ, zero, suc, ◌+◌, ◌-◌, ◌^◌, ◌<◌, ◌≤◌, List, [], ◌∷◌, ◌++◌, map, length, get_or, set, Some, None, is_some, IsSome, count_by, slice_get, refl, sym, ap, subst, ◌∙◌, inl, inr, arith, length-set, append-nil, true≢false, Option, zero-add, add-zero, Bool, true, false, cond}
 use Rattle.std.specs.Prelude.{IsPermutation}
 use Rattle.std.proofs.lemmas.List.Sorted.{IsPermutation-refl, IsPermutation-cons, IsPermutation-trans, IsPermutation-middle, IsPermutation-to_front}
-use Rattle.std.proofs.lemmas.List.{map-set, map_push, length-map, length_push, get_or-map, get_or-set_same, get_or-set_other, get_or_past}
-use Rattle.std.proofs.lemmas.List.Sums.{sum_by-set, sum_by_push}
+use Rattle.std.proofs.lemmas.List.{set-set, map-set, map_push, length-map, length_push, get_or-map, get_or-set_same, get_or-set_other, get_or_past}
+use Rattle.std.proofs.lemmas.List.Sums.{sum_by-set, sum_by_push, sum_by-cons}
 use Rattle.std.proofs.lemmas.Option.{slice_get_within, slice_get-get_or, slice_get_read, get_or_from_slice_get}
 use Rattle.iddqd_store.specs.declared.item_set.Slot.{Slot}
 use Rattle.iddqd_store.specs.declared.item_set.Slot.TheVariants.{Free, Live}
 use Rattle.iddqd_store.specs.SlotChain.{item_of, IsChain, IsChained}
-use Rattle.iddqd_store.specs.Slots.{get, IsLive, Updates, members_from}
+use Rattle.iddqd_store.specs.Slots.{get, IsLive, live_count, Updates, Exchanges, members_from, live_items, items_in}
 
 module _ {T : Type 0} where
   -- a key starts one list of vacant entries at most
@@ -210,6 +210,33 @@ module _ {T : Type 0} where
         others = λ other differs. rw written (get_or-set_other old key other slot None differs);
       }
 
+  -- a write in a live slot exchanges its member
+  pub Exchanges-set : (slots : List (Option T)) (at : ℕ) (x y : T) → get_or slots at None ≡ Some x → Exchanges slots (set slots at (Some y)) at x y
+  Exchanges-set slots at x y found =
+      let within : at < length slots = grind (arith, get_or_past) in
+      let emptied : get_or (set slots at None) at None ≡ None = get_or-set_same slots at None None within in
+      let put = members-put (set slots at None) at y (omega (arith, length-set slots at None)) emptied in
+      record {
+        others = members_from 0 (set slots at None);
+        had = members-take slots at x found;
+        has = subst (λ l. IsPermutation (members_from 0 l) ((at, y) ∷ members_from 0 (set slots at None))) (set-set slots at None (Some y)) put;
+      }
+
   -- a live slot is among the slots
   pub IsLive-within : (slots : List (Option T)) (key : ℕ) → IsLive slots key → key < length slots
   IsLive-within slots key present = grind (arith, get_or_past)
+
+module _ {T : Type 0} where
+  pub items_of-members_from : (first : ℕ) (slots : List (Option T)) → map (λ m. m.1) (members_from first slots) ≡ items_in slots
+  items_of-members_from first [] = refl
+  items_of-members_from first (None ∷ rest) = items_of-members_from (first + 1) rest
+  items_of-members_from first (Some x ∷ rest) = ap (λ l. x ∷ l) (items_of-members_from (first + 1) rest)
+
+  -- the live items, without their numbers
+  pub live_items-items_in : (slots : List (Option T)) → live_items slots ≡ items_in slots
+  live_items-items_in slots = items_of-members_from 0 slots
+
+  pub length-items_in : (slots : List (Option T)) → length (items_in slots) ≡ live_count slots
+  length-items_in [] = refl
+  length-items_in (None ∷ rest) = omega (arith, length-items_in rest, sum_by-cons (λ o. cond (is_some o) 1 0) None rest)
+  length-items_in (Some x ∷ rest) = omega (arith, length-items_in rest, sum_by-cons (λ o. cond (is_some o) 1 0) (Some x) rest)

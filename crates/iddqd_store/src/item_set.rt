@@ -2,14 +2,17 @@
 ghost use Rattle.std.specs.Prelude.{◌≡◌, ◌+◌, ◌-◌, ◌<◌, ◌≤◌, [], ◌∷◌, IsSome, OnSome, IfNone, IfSome, is_some, MatchOption, OnOk, OnErr, Some, IsPermutation, option_copied, length, ℕ, None, slice_set};
 ghost use Rattle.std.specs.Option.{option_copied_mut};
 ghost use Rattle.std.specs.Borrow.{Lends, sem};
-ghost use Rattle.iddqd_store.specs.Slots.{get, IsLive, live_count, members, Updates, NextLive};
+ghost use Rattle.iddqd_store.specs.Slots.{get, IsLive, live_count, members, Updates, Exchanges, NextLive};
 ghost use Rattle.iddqd_store.specs.SlotChain.{item_of};
+
+mod values;
 
 use crate::TryReserveError;
 use crate::item_index::ItemIndex;
 use std::alloc::Global;
 use std::marker::Model;
 use std::mem;
+pub use values::{IntoValues, Values};
 
 /// Items in slots.
 #[derive(Drop)]
@@ -60,7 +63,7 @@ impl<T> Slot<T> {
 impl<T> ItemSet<T> {
     ghost use Rattle.iddqd_store.specs.Lends.{lends_get, lends_item};
 
-    /// An empty set, which takes no memory.
+    /// An empty set, which takes no memory until room is made in it.
     pub fn new(alloc: Global) -> Self
         ensures slots { result.slots ≡ [] }
         ensures capacity { result.capacity ≡ 0 }
@@ -82,12 +85,13 @@ impl<T> ItemSet<T> {
 
     /// How many items fit without growing.
     pub fn capacity(&self) -> usize
-        ensures { result ≡ self.now.capacity }
+        ensures value { result ≡ self.now.capacity }
+        ensures fits { live_count self.now.slots ≤ result }
     {
         self.slots.capacity()
     }
 
-    /// The item of a live slot.
+    /// The item of a live slot, and `None` for any other number.
     pub fn get(&self, ix: ItemIndex) -> Option<&T>
         ensures { option_copied result ≡ get self.now.slots ix }
     {
@@ -97,14 +101,13 @@ impl<T> ItemSet<T> {
         }
     }
 
-    /// Whether a slot is live.
-    pub fn is_live(&self, ix: ItemIndex) -> bool
+    fn is_live(&self, ix: ItemIndex) -> bool
         ensures { result ≡ is_some (get self.now.slots ix) }
     {
         self.get(ix).is_some()
     }
 
-    /// The item of a live slot, for writing.
+    /// The item of a live slot, for writing, and `None` for any other number.
     pub fn get_mut(&mut self, ix: ItemIndex) -> Option<&mut T>
         ensures* writes_back { sem 𝓛 (lends_get T.row self.entry ix result) }
         ensures value { option_copied_mut result ≡ get self.old.slots ix }
@@ -137,11 +140,12 @@ impl<T> ItemSet<T> {
         None
     }
 
-    /// Makes room for so many more items.
+    /// Makes room for so many more items. It takes no memory where they fit already, and is refused only where memory for more slots is.
     pub fn try_reserve(&mut self, more: usize) -> Result<(), TryReserveError>
         ensures slots { self.new.slots ≡ self.old.slots }
         ensures capacity { self.old.capacity ≤ self.new.capacity }
         ensures ok { OnOk result (live_count self.old.slots + more ≤ self.new.capacity) }
+        ensures had_room { live_count self.old.slots + more ≤ self.old.capacity → self.new.capacity ≡ self.old.capacity }
         ensures err { OnErr result (self.old.capacity < live_count self.old.slots + more) }
     {
         if self.slots.capacity() - self.live >= more {
@@ -154,13 +158,14 @@ impl<T> ItemSet<T> {
         }
     }
 
-    /// Puts an item into a free slot.
+    /// Puts an item into a free slot: the one that was freed last, or a new one where every slot is live.
     pub fn insert_reserved(&mut self, item: T) -> ItemIndex
         requires { live_count self.old.slots < self.old.capacity }
         ensures free { get self.old.slots result ≡ None }
         ensures updates { Updates self.old.slots self.new.slots result (Some item) }
         ensures members { IsPermutation (members self.new.slots) ((result, item) ∷ members self.old.slots) }
         ensures count { live_count self.new.slots ≡ live_count self.old.slots + 1 }
+        ensures reused { live_count self.old.slots < length self.old.slots → length self.new.slots ≡ length self.old.slots }
         ensures capacity { self.new.capacity ≡ self.old.capacity }
     {
         let at = self.head;
@@ -177,9 +182,10 @@ impl<T> ItemSet<T> {
         ItemIndex::new(at)
     }
 
-    /// Takes an item out and frees its slot.
+    /// Takes an item out and frees its slot, which is the next to be used.
     pub fn remove(&mut self, ix: ItemIndex) -> Option<T>
         ensures value { result ≡ get self.old.slots ix }
+        ensures slots { OnSome result (self.new.slots ≡ slice_set self.old.slots ix None) }
         ensures updates { Updates self.old.slots self.new.slots ix None }
         ensures members { IfSome result (λ x. IsPermutation (members self.old.slots) ((ix, x) ∷ members self.new.slots)) }
         ensures absent { IfNone result (self.new ≡ self.old) }
@@ -209,17 +215,18 @@ impl<T> ItemSet<T> {
         }
     }
 
-    /// Puts an item in the place of another.
+    /// Puts an item in the place of another, which it gives back.
     pub fn replace(&mut self, ix: ItemIndex, item: T) -> T
         requires { IsLive self.old.slots ix }
         ensures value { get self.old.slots ix ≡ Some result }
         ensures slots { self.new.slots ≡ slice_set self.old.slots ix (Some item) }
+        ensures members { Exchanges self.old.slots self.new.slots ix result item }
         ensures capacity { self.new.capacity ≡ self.old.capacity }
     {
         mem::replace(self.item_mut(ix.number()), item)
     }
 
-    /// Takes every item out.
+    /// Drops every item, and keeps the room for them.
     pub fn clear(&mut self)
     where
         T: Drop,
