@@ -56,4 +56,19 @@ impl<T: BiHashItem, S: BuildHasher> BiHashMap<T, S> {
         }
         Ok(())
     }
+
+    /// Makes room for one more item, where the map is full.
+    pub(crate) fn make_room(&mut self) -> Result<(), TryReserveError>
+        ensures slots { self.new.slots ≡ self.old.slots }
+        ensures builder { self.new.builder ≡ self.old.builder }
+        ensures no_less_room { self.old.capacity ≤ self.new.capacity }
+        ensures had_room { length (bag self.old) < self.old.capacity → self.new ≡ self.old }
+        ensures granted { OnOk result (length (bag self.old) < self.new.capacity) }
+        ensures refused { OnErr result (length (bag self.old) ≡ self.old.capacity) }
+    {
+        if self.len() == self.capacity() {
+            return self.grow(1);
+        }
+        Ok(())
+    }
 }

@@ -56,7 +56,7 @@ impl<T: BiHashItem, S: BuildHasher> BiHashMap<T, S> {
         if !found.is_empty() {
             return Err(Refusal::Duplicate(item, found));
         }
-        if let Err(_) = self.grow(1) {
+        if let Err(_) = self.make_room() {
             return Err(Refusal::Memory(item));
         }
         Ok(self.put(item, hash1, hash2))
