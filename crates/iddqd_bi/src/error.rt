@@ -1,5 +1,5 @@
 //! Why an insert is refused.
-ghost use Rattle.std.specs.Prelude.{◌≡◌};
+ghost use Rattle.std.specs.Prelude.{◌≡◌, map};
 ghost use Rattle.iddqd_store.specs.Map.{bag};
 ghost use Rattle.iddqd_store.specs.Bag.{order};
 ghost use Rattle.iddqd_store.specs.Searched.{items_at};
@@ -33,7 +33,7 @@ pub struct DuplicateError<'a, T: BiHashItem, S: BuildHasher> {
     pub(crate) map: &'a mut BiHashMap<T, S>,
     pub(crate) new_item: T,
     pub(crate) found: UpToTwo<ItemIndex>,
-    ghost found_is: { ∥ items_at map.now.slots found ≡ order (ranks T.BiHashItem (keys T.K1.eq T.K1.hash_input) (keys T.K2.eq T.K2.hash_input)) (bag map.now) new_item ∥₁ },
+    ghost found_is: { items_at map.now.slots found ≡ order (ranks T.BiHashItem (keys T.K1.eq T.K1.hash_input) (keys T.K2.eq T.K2.hash_input)) (bag map.now) new_item },
 }
 
 /// An item that was refused for want of memory, with the map that has no room for it.
@@ -48,6 +48,14 @@ impl<T: BiHashItem, S: BuildHasher> DuplicateError<'_, T, S> {
         ensures { result.now ≡ self.now.new_item }
     {
         &self.new_item
+    }
+
+    /// The items of the map that conflict with it, in the order of the keys. Nothing is searched again.
+    pub fn duplicates(&self) -> UpToTwo<&T>
+        ensures { map (λ item. item.now) result ≡ order (ranks T.BiHashItem T.K1.Hash T.K2.Hash) (bag self.now.map.now) self.now.new_item }
+    {
+        let map = &*self.map;
+        map.items_of(&self.found)
     }
 
     /// The item that was refused, by value.

@@ -9,6 +9,7 @@ mod capacity;
 mod find;
 mod insert;
 mod remove;
+mod run;
 
 /// A hash map of items with two keys. No two of its items have an equal key of the same rank.
 pub struct BiHashMap<T: BiHashItem, S: BuildHasher> {
@@ -30,8 +31,6 @@ impl<T: BiHashItem, S: BuildHasher> Model for BiHashMap<T, S> {
 
     ghost view = { λ m. record { slots = m.items.slots; capacity = min m.items.capacity (min m.first.limit m.second.limit); builder = m.hash_builder } };
 
-    ghost invariant = {
-        λ m. let keys1 = keys T.K1.eq T.K1.hash_input in let keys2 = keys T.K2.eq T.K2.hash_input in
-            IsIndexed (ranks T.BiHashItem keys1 keys2) (key1_hash T.BiHashItem keys1 S.BuildHasher S.Hasher.Hasher m.hash_builder) (key2_hash T.BiHashItem keys2 S.BuildHasher S.Hasher.Hasher m.hash_builder) m.items.slots m.first.pairs m.second.pairs
-    };
+    ghost invariant = { λ m. let keys1 = keys T.K1.eq T.K1.hash_input in let keys2 = keys T.K2.eq T.K2.hash_input in
+        IsIndexed (ranks T.BiHashItem keys1 keys2) (key1_hash T.BiHashItem keys1 S.BuildHasher S.Hasher.Hasher m.hash_builder) (key2_hash T.BiHashItem keys2 S.BuildHasher S.Hasher.Hasher m.hash_builder) m.items.slots m.first.pairs m.second.pairs };
 }

@@ -120,17 +120,17 @@ module _ {T : Type 0} where
           let goal : listing (tests ++ test ∷ []) bag ≡ listing tests bag ++ filter (λ x. not (some_of tests x)) (y ∷ []) = listing-push tests test bag ∙ ap (λ l. listing tests bag ++ l) rest in
           split (λ t. items_at slots (cond t ixs (ixs ++ b ∷ [])) ≡ listing (tests ++ test ∷ []) bag) (lists ixs b)
           (λ yes.
-              let passes : some_of tests y ≡ true = some_passes tests bag y (subst (λ l. Contains l y) before (item_listed slots ixs b y yes at)) in
-              before ∙ sym (append-nil _) ∙ sym (goal ∙ ap (λ t. listing tests bag ++ cond (not t) (y ∷ []) []) passes))
+          let passes : some_of tests y ≡ true = some_passes tests bag y (subst (λ l. Contains l y) before (item_listed slots ixs b y yes at)) in
+          before ∙ sym (append-nil _) ∙ sym (goal ∙ ap (λ t. listing tests bag ++ cond (not t) (y ∷ []) []) passes))
           (λ no.
-              let fails : some_of tests y ≡ false = split (λ t. t ≡ false) (some_of tests y)
-                  (λ yes.
-                      let other = slot_of slots ixs y (subst (λ l. Contains l y) (sym before) (passer_listed tests bag y yes (item_at slots b y at))) in
-                      let one : other.0 ≡ b = same_slot agree slots other.0 b y y apart symm other.2 at (itself_alike y) in
-                      absurd (false≢true (sym no ∙ ap (lists ixs) (sym one) ∙ other.1)))
-                  (λ _. refl) in
-              items_at-push slots ixs b ∙ ap (λ o. items_at slots ixs ++ option_to_list o) at ∙ ap (λ l. l ++ y ∷ []) before
-              ∙ sym (goal ∙ ap (λ t. listing tests bag ++ cond (not t) (y ∷ []) []) fails))
+          let fails : some_of tests y ≡ false = split (λ t. t ≡ false) (some_of tests y)
+          (λ yes.
+          let other = slot_of slots ixs y (subst (λ l. Contains l y) (sym before) (passer_listed tests bag y yes (item_at slots b y at))) in
+          let one : other.0 ≡ b = same_slot agree slots other.0 b y y apart symm other.2 at (itself_alike y) in
+          absurd (false≢true (sym no ∙ ap (lists ixs) (sym one) ∙ other.1)))
+          (λ _. refl) in
+          items_at-push slots ixs b ∙ ap (λ o. items_at slots ixs ++ option_to_list o) at ∙ ap (λ l. l ++ y ∷ []) before
+          ∙ sym (goal ∙ ap (λ t. listing tests bag ++ cond (not t) (y ∷ []) []) fails))
 
 module _ {T : Type 0} where
   -- where no conflicting slot is found, nothing conflicts

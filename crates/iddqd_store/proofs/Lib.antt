@@ -10,6 +10,7 @@ pub mod Line
 pub mod Looks
 pub mod MapLemmas
 pub mod Rows
+pub mod RunLemmas
 pub mod SameBag
 pub mod SearchLemmas
 pub mod Shuffled

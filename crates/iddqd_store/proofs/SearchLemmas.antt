@@ -26,9 +26,9 @@ module _ {T : Type 0} where
   none_behind : (agree : T → T → Bool) (test : T → Bool) (x : T) (xs : List T) → NamesOneOf agree test (x ∷ xs) → IsDistinct agree (x ∷ xs) → test x ≡ true → filter test xs ≡ []
   none_behind agree test x xs names apart passes =
       none_pass test xs (each_from_Contains (λ y. test y ≡ false) xs (λ y found.
-          split (λ b. b ≡ false) (test y)
-          (λ yes. absurd (false≢true (sym (each_at (λ z. agree x z ≡ false) xs y (IsDistinct-head agree x xs apart) found) ∙ names x y (Contains-here x xs) (Contains-cons x y xs found) passes yes)))
-          (λ _. refl)))
+      split (λ b. b ≡ false) (test y)
+      (λ yes. absurd (false≢true (sym (each_at (λ z. agree x z ≡ false) xs y (IsDistinct-head agree x xs apart) found) ∙ names x y (Contains-here x xs) (Contains-cons x y xs found) passes yes)))
+      (λ _. refl)))
 
   -- the one member that is named
   pub named_among : (agree : T → T → Bool) (test : T → Bool) (xs : List T) (x : T) → NamesOneOf agree test xs → IsDistinct agree xs → test x ≡ true → Contains xs x → filter test xs ≡ x ∷ []
@@ -38,9 +38,9 @@ module _ {T : Type 0} where
       let later : Contains ys x → filter test ys ≡ x ∷ [] = named_among agree test ys x rest (IsDistinct-tail agree y ys apart) passes in
       split (λ b. cond b (y ∷ filter test ys) (filter test ys) ≡ x ∷ []) (test y)
       (λ yes.
-          let none : filter test ys ≡ [] = none_behind agree test y ys names apart yes in
-          let same : (y ≡ x) = first y ys x found none later in
-          ap (λ l. y ∷ l) none ∙ ap (λ z. z ∷ []) same)
+      let none : filter test ys ≡ [] = none_behind agree test y ys names apart yes in
+      let same : (y ≡ x) = first y ys x found none later in
+      ap (λ l. y ∷ l) none ∙ ap (λ z. z ∷ []) same)
       (λ no. elim (Contains-cons_cases y x ys found) [
         | inl is ↦ absurd (false≢true (sym no ∙ ap test is ∙ passes))
         | inr there ↦ later there

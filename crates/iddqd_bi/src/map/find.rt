@@ -1,15 +1,15 @@
 //! Lookups. Each goes through the search of its rank, which gives the slot.
-ghost use Rattle.std.specs.Prelude.{◌≡◌, ◌+◌, ◌≤◌, ◌==◌, filter, option_copied, IfSome, true, Contains, count_by};
+ghost use Rattle.std.specs.Prelude.{◌≡◌, ◌+◌, ◌≤◌, ◌==◌, filter, map, option_copied, IfSome, true, Contains, count_by};
 ghost use Rattle.std.specs.Option.{option_to_list, option_and_then};
 ghost use Rattle.iddqd_store.specs.Map.{bag, hash_of};
 ghost use Rattle.iddqd_store.specs.Slots.{get, IsLive};
-ghost use Rattle.iddqd_store.specs.Searched.{NamesOneOf};
+ghost use Rattle.iddqd_store.specs.Searched.{NamesOneOf, items_at};
 ghost use Rattle.iddqd_bi.specs.Keys.{agree1, agree2, key1_hash, key2_hash};
 
 use super::BiHashMap;
 use crate::item::BiHashItem;
 use crate::matchers::{ByKey1, ByKey2};
-use iddqd_store::{ByQuery, Equivalent, ItemIndex, KeyMatcher, Meter};
+use iddqd_store::{ByQuery, Equivalent, ItemIndex, KeyMatcher, Meter, UpToTwo};
 use std::hash::{BuildHasher, Hash};
 
 impl<T: BiHashItem, S: BuildHasher> BiHashMap<T, S> {
@@ -93,5 +93,20 @@ impl<T: BiHashItem, S: BuildHasher> BiHashMap<T, S> {
             keys: matcher,
         };
         self.second.find(hash, &mut keys, meter)
+    }
+
+    /// The items of these slots, lent.
+    pub(crate) fn items_of(&self, found: &UpToTwo<ItemIndex>) -> UpToTwo<&T>
+        ensures { map (λ item. item.now) result ≡ items_at self.now.slots found.now }
+    {
+        let mut items = UpToTwo::new();
+        for at in 0..found.len() {
+            if let Some(ix) = found.get(at) {
+                if let Some(item) = self.items.get(*ix) {
+                    items.push(item);
+                }
+            }
+        }
+        items
     }
 }

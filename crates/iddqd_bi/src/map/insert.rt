@@ -27,11 +27,13 @@ impl<T: BiHashItem, S: BuildHasher> BiHashMap<T, S> {
     {
         match self.try_insert(item) {
             Ok(_) => Ok(()),
-            Err(Refusal::Duplicate(new_item, found)) => Err(InsertError::Duplicate(DuplicateError {
-                map: self,
-                new_item,
-                found,
-            })),
+            Err(Refusal::Duplicate(new_item, found)) => Err(InsertError::Duplicate(
+                DuplicateError {
+                    map: self,
+                    new_item,
+                    found,
+                },
+            )),
             Err(Refusal::Memory(new_item)) => Err(InsertError::Memory(MemoryError {
                 map: self,
                 new_item,
@@ -44,11 +46,9 @@ impl<T: BiHashItem, S: BuildHasher> BiHashMap<T, S> {
         ensures gains { OnOk result (Gains self.old item self.new) }
         ensures at { IfOk result (λ ix. get self.new.slots ix ≡ Some item) }
         ensures free { OnOk result (clash (ranks T.BiHashItem T.K1.Hash T.K2.Hash) (bag self.old) item ≡ []) }
-        ensures refused {
-            IfErr result (λ e. MatchRefusal e
-                (λ x found. (x ≡ item) × (self.new ≡ self.old) × (clash (ranks T.BiHashItem T.K1.Hash T.K2.Hash) (bag self.old) item ≢ []) × (items_at self.old.slots found ≡ order (ranks T.BiHashItem T.K1.Hash T.K2.Hash) (bag self.old) item))
-                (λ x. (x ≡ item) × Keeps self.old self.new × (clash (ranks T.BiHashItem T.K1.Hash T.K2.Hash) (bag self.old) item ≡ []) × (length (bag self.old) ≡ self.old.capacity)))
-        }
+        ensures refused { IfErr result (λ e. MatchRefusal e
+            (λ x found. (x ≡ item) × (self.new ≡ self.old) × (clash (ranks T.BiHashItem T.K1.Hash T.K2.Hash) (bag self.old) item ≢ []) × (items_at self.old.slots found ≡ order (ranks T.BiHashItem T.K1.Hash T.K2.Hash) (bag self.old) item))
+            (λ x. (x ≡ item) × Keeps self.old self.new × (clash (ranks T.BiHashItem T.K1.Hash T.K2.Hash) (bag self.old) item ≡ []) × (length (bag self.old) ≡ self.old.capacity))) }
     {
         let hash1 = self.hash_builder.hash_one(item.key1());
         let hash2 = self.hash_builder.hash_one(item.key2());

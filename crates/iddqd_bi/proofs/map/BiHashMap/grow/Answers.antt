@@ -37,9 +37,9 @@ invariant_of-self-2 g c =
 pub returns-clause-same_room : goal.returns-clause-same_room
 returns-clause-same_room g c =
     rw (← c.self.view_is) (λ room. same_least _ _ _ _ _ _
-        (c.try_reserve.ensures.had_room (omega (arith, length-live_items c.self.inside.items.slots)))
-        (ap (λ t. t.limit) (c.try_reserve-2.ensures.same (omega (arith, length1 c.self.invariant))))
-        (ap (λ t. t.limit) (c.try_reserve-3.ensures.same (omega (arith, length2 c.self.invariant)))))
+    (c.try_reserve.ensures.had_room (omega (arith, length-live_items c.self.inside.items.slots)))
+    (ap (λ t. t.limit) (c.try_reserve-2.ensures.same (omega (arith, length1 c.self.invariant))))
+    (ap (λ t. t.limit) (c.try_reserve-3.ensures.same (omega (arith, length2 c.self.invariant)))))
 
 pub returns-clause-granted : goal.returns-clause-granted
 returns-clause-granted g c =
