@@ -9,6 +9,7 @@ pub mod Rows
 pub mod Size
 pub mod SlotLemmas
 pub mod Stretch
+pub mod TableRows
 pub mod Theorem
 pub mod Turned
 pub mod Walk

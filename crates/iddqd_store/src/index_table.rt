@@ -14,6 +14,8 @@ use std::alloc::Global;
 use std::marker::Model;
 
 mod probe;
+#[cfg(test)]
+mod tests;
 
 /// A set of pairs.
 #[derive(Drop)]
