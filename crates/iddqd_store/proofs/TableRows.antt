@@ -1,5 +1,5 @@
 -- Worked rows of full places and stretches. A call that finds nothing looks at one cell more than the stretch.
-use Rattle.std.proofs.Common.{◌≡◌, List, [], ◌∷◌, Bool, true, false, refl}
+use Rattle.std.proofs.Common.{◌≡◌, [], ◌∷◌, true, false, refl}
 use Rattle.std.specs.Prelude.{map}
 use Rattle.std.specs.List.{range_with_len}
 use Rattle.iddqd_store.specs.Ring.{is_full, stretch}
