@@ -17,6 +17,7 @@ pub mod Shuffled
 pub mod Size
 pub mod SlotLemmas
 pub mod Stretch
+pub mod TableRows
 pub mod Theorem
 pub mod Turned
 pub mod Walk

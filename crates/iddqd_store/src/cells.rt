@@ -2,9 +2,10 @@
 ghost use Rattle.std.specs.Prelude.{◌≡◌, ℕ, ◌+◌, ◌<◌, List, [], Option, None, Some, length, slice_set, replicate, IfOk};
 ghost use Rattle.iddqd_store.specs.Ring.{cell};
 
+use crate::TryReserveError;
 use crate::item_index::ItemIndex;
 use crate::meter::Meter;
-use std::alloc::{AllocError, Global};
+use std::alloc::Global;
 use std::marker::Model;
 
 /// Cells in a row, each empty or with a hash and a slot's number.
@@ -30,12 +31,13 @@ impl Cells {
     }
 
     /// So many empty cells.
-    pub fn with_len(alloc: Global, count: usize) -> Result<Cells, AllocError>
+    pub fn with_len(alloc: Global, count: usize) -> Result<Cells, TryReserveError>
         ensures { IfOk result (λ c. c ≡ replicate count None) }
     {
-        Ok(Cells {
-            row: Vec::from_elem(alloc, None, count)?,
-        })
+        match Vec::from_elem(alloc, None, count) {
+            Ok(row) => Ok(Cells { row }),
+            Err(_) => Err(TryReserveError),
+        }
     }
 
     /// How many there are.

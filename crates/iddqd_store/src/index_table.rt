@@ -14,6 +14,8 @@ use std::alloc::Global;
 use std::marker::Model;
 
 mod probe;
+#[cfg(test)]
+mod tests;
 
 /// A set of pairs.
 #[derive(Drop)]
@@ -38,14 +40,9 @@ fn with_cells(alloc: Global, count: usize) -> Result<IndexTable, TryReserveError
     ensures cells { IfOk result (λ t. length t.row ≡ count) }
     ensures limit { IfOk result (λ t. t.limit ≡ count / 8 * 7) }
 {
-    match Cells::with_len(alloc, count) {
-        Ok(cells) => Ok(IndexTable {
-            alloc,
-            cells,
-            count: 0,
-        }),
-        Err(_) => Err(TryReserveError),
-    }
+    let mut table = IndexTable::new(alloc);
+    table.cells = Cells::with_len(alloc, count)?;
+    Ok(table)
 }
 
 /// A table of so many cells with the pairs of these, which are entered in order by their hashes.
@@ -104,6 +101,7 @@ impl IndexTable {
         ensures value { result ≡ length self.now.pairs }
         ensures fits { result ≤ self.now.limit }
     {
+        // It is kept beside the cells, so that none is looked at.
         self.count
     }
 
@@ -133,7 +131,7 @@ impl IndexTable {
         ensures refused { OnErr result (self.old.limit < length self.old.pairs + more) }
         ensures unchanged { OnErr result (self.new ≡ self.old) }
     {
-        let limit = self.cells.len() / 8 * 7;
+        let limit = self.capacity();
         let Some(wanted) = self.count.checked_add(more) else {
             return Err(TryReserveError);
         };
@@ -238,10 +236,7 @@ impl IndexTable {
     {
         let count = self.cells.len();
         let mut meter = Meter::new();
-        let mut cells = match Cells::with_len(self.alloc, count) {
-            Ok(cells) => cells,
-            Err(_) => return Err(TryReserveError),
-        };
+        let mut cells = Cells::with_len(self.alloc, count)?;
         for i in 0..count {
             if let Some(pair) = self.cells.cell_at(i, &mut meter) {
                 let (hash, ix) = pair;

@@ -56,14 +56,3 @@ impl Meter {
         self.count = Count::more(&self.count);
     }
 }
-
-#[cfg(test)]
-mod tests {
-    use super::*;
-    use std::mem::size_of;
-
-    #[test]
-    fn takes_no_bytes(rt: HostRuntime) {
-        assert_eq!(rt; size_of::<Meter>(), 0);
-    }
-}
