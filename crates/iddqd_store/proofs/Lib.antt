@@ -1,6 +1,7 @@
 pub mod BagLemmas
 pub mod BagSteps
 pub mod Change
+pub mod CloneLemmas
 pub mod EntryLemmas
 pub mod Hole
 pub mod IndexLemmas
