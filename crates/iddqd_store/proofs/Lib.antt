@@ -2,6 +2,7 @@ pub mod BagLemmas
 pub mod BagSteps
 pub mod Change
 pub mod Copy
+pub mod CloneLemmas
 pub mod EntryLemmas
 pub mod FoundLemmas
 pub mod Hole

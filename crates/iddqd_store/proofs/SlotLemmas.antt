@@ -7,7 +7,7 @@ use Rattle.std.proofs.lemmas.List.Sums.{sum_by-set, sum_by_push, sum_by-cons}
 use Rattle.std.proofs.lemmas.Option.{slice_get_within, slice_get-get_or, slice_get_read, get_or_from_slice_get}
 use Rattle.iddqd_store.specs.declared.item_set.Slot.{Slot}
 use Rattle.iddqd_store.specs.declared.item_set.Slot.TheVariants.{Free, Live}
-use Rattle.iddqd_store.specs.SlotChain.{item_of, IsChain, IsChained}
+use Rattle.iddqd_store.specs.SlotChain.{item_of, live_slots, IsChain, IsChained}
 use Rattle.iddqd_store.specs.Slots.{get, IsLive, live_count, Updates, Exchanges, members_from, live_items, items_in}
 
 module _ {T : Type 0} where
@@ -240,3 +240,38 @@ module _ {T : Type 0} where
   length-items_in [] = refl
   length-items_in (None ∷ rest) = omega (arith, length-items_in rest, sum_by-cons (λ o. cond (is_some o) 1 0) None rest)
   length-items_in (Some x ∷ rest) = omega (arith, length-items_in rest, sum_by-cons (λ o. cond (is_some o) 1 0) (Some x) rest)
+
+-- sets without free slots
+module _ {T : Type 0} where
+  pub length-live_slots : (slots : List (Slot T)) → length (live_slots slots) ≡ count_by is_some (map item_of slots)
+  length-live_slots [] = refl
+  length-live_slots (Free next ∷ slots) = omega (arith, length-live_slots slots, sum_by-cons (λ o. cond (is_some o) 1 0) (item_of (Free next)) (map item_of slots))
+  length-live_slots (Live x ∷ slots) = omega (arith, length-live_slots slots, sum_by-cons (λ o. cond (is_some o) 1 0) (Some x) (map item_of slots))
+
+  items_of-live_slots : (slots : List (Slot T)) → map item_of (live_slots slots) ≡ map Some (items_in (map item_of slots))
+  items_of-live_slots [] = refl
+  items_of-live_slots (Free next ∷ slots) = items_of-live_slots slots
+  items_of-live_slots (Live x ∷ slots) = ap (λ l. Some x ∷ l) (items_of-live_slots slots)
+
+  -- what is left of the slots are their items, in order
+  pub view-live_slots : (slots : List (Slot T)) → map item_of (live_slots slots) ≡ map Some (live_items (map item_of slots))
+  view-live_slots slots = items_of-live_slots slots ∙ ap (map Some) (sym (live_items-items_in (map item_of slots)))
+
+  live_slots-twice : (slots : List (Slot T)) → live_slots (live_slots slots) ≡ live_slots slots
+  live_slots-twice [] = refl
+  live_slots-twice (Free next ∷ slots) = live_slots-twice slots
+  live_slots-twice (Live x ∷ slots) = ap (λ l. Live x ∷ l) (live_slots-twice slots)
+
+  IsChained-live_slots : (slots : List (Slot T)) (live head : ℕ) → IsChained slots live head → IsChained (live_slots slots) live (length (live_slots slots))
+  IsChained-live_slots slots live head sound =
+      let all : count_by is_some (map item_of (live_slots slots)) ≡ length (live_slots slots) =
+      sym (length-live_slots (live_slots slots)) ∙ ap length (live_slots-twice slots) in
+      record {
+        counted = omega (arith, sound.counted, length-live_slots slots, all);
+        free = 0;
+        total = omega (arith, sound.counted, length-live_slots slots);
+        linked = refl;
+      }
+
+  pub IsChained-compact : (slots kept : List (Slot T)) (live head end : ℕ) → IsChained slots live head → kept ≡ live_slots slots → end ≡ length kept → IsChained kept live end
+  IsChained-compact slots kept live head end sound is at_end = rw (at_end, is) (IsChained-live_slots slots live head sound)

@@ -5,6 +5,8 @@ ghost use Rattle.std.specs.Borrow.{Lends, sem};
 ghost use Rattle.iddqd_store.specs.Slots.{get, IsLive, live_count, members, Updates, Exchanges, NextLive};
 ghost use Rattle.iddqd_store.specs.SlotChain.{item_of};
 
+mod clone;
+mod compact;
 mod values;
 
 use crate::TryReserveError;
@@ -47,6 +49,12 @@ impl<T> Model for ItemSet<T> {
 
 impl<T> Slot<T> {
     ghost use Rattle.iddqd_store.specs.contracts.item_set.Slot.{the_row};
+
+    fn is_live(&self) -> bool
+        ensures { result ≡ is_some (item_of self.now) }
+    {
+        matches!(self, Slot::Live(_))
+    }
 
     fn item_mut(&mut self) -> &mut T
         requires { IsSome (item_of self.old) }
