@@ -1,8 +1,8 @@
 pub mod BagLemmas
 pub mod BagSteps
 pub mod Change
-pub mod Copy
 pub mod CloneLemmas
+pub mod Copy
 pub mod EntryLemmas
 pub mod FoundLemmas
 pub mod Hole
