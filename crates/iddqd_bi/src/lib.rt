@@ -11,4 +11,4 @@ mod pointers;
 pub use command::{BiCommand, BiReply, BiSink};
 pub use error::{DuplicateError, InsertError, MemoryError};
 pub use item::{BiHashItem, BiHashItemMut};
-pub use map::BiHashMap;
+pub use map::{BiHashMap, DefaultHashBuilder};

@@ -1,7 +1,7 @@
 //! The map.
 use crate::item::BiHashItem;
 use iddqd_store::{IndexTable, ItemSet};
-use std::hash::{BuildHasher, Hash};
+use std::hash::{BuildHasher, BuildHasherDefault, FoldHasher, Hash};
 use std::marker::Model;
 
 mod build;
@@ -11,8 +11,12 @@ mod insert;
 mod remove;
 mod run;
 
+/// The builder of hashers that a map has where none is named: std's, with its fixed seed. It gives no protection where
+/// strangers choose the keys.
+pub type DefaultHashBuilder = BuildHasherDefault<FoldHasher>;
+
 /// A hash map of items with two keys. No two of its items have an equal key of the same rank.
-pub struct BiHashMap<T: BiHashItem, S: BuildHasher> {
+pub struct BiHashMap<T: BiHashItem, S: BuildHasher = DefaultHashBuilder> {
     items: ItemSet<T>,
     first: IndexTable,
     second: IndexTable,
