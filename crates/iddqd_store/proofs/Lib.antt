@@ -8,6 +8,7 @@ pub mod IndexLemmas
 pub mod Line
 pub mod Rows
 pub mod SameBag
+pub mod SameTest
 pub mod Size
 pub mod Shuffled
 pub mod SlotLemmas
