@@ -14,6 +14,8 @@ pub mod Rows
 pub mod RunLemmas
 pub mod SameBag
 pub mod SearchLemmas
+pub mod SameTest
+pub mod Size
 pub mod Shuffled
 pub mod Size
 pub mod SlotLemmas
