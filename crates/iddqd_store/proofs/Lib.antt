@@ -13,9 +13,8 @@ pub mod MapLemmas
 pub mod Rows
 pub mod RunLemmas
 pub mod SameBag
-pub mod SearchLemmas
 pub mod SameTest
-pub mod Size
+pub mod SearchLemmas
 pub mod Shuffled
 pub mod Size
 pub mod SlotLemmas
