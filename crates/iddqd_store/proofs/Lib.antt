@@ -5,6 +5,7 @@ pub mod CloneLemmas
 pub mod EntryLemmas
 pub mod Hole
 pub mod IndexLemmas
+pub mod IndexSteps
 pub mod Line
 pub mod Rows
 pub mod SameBag

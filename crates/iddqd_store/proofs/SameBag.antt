@@ -1,16 +1,16 @@
 -- When two bags are the same.
-use Rattle.std.specs.Prelude.{◌≡◌, ◌≢◌, ℕ, zero, suc, ◌+◌, ◌≤◌, ◌<◌, Bool, true, false, ◌&&◌, List, [], ◌∷◌, length, IsPermutation, Contains}
-use Rattle.std.specs.Cmp.{IsEquivalence, IsPartialEquivalence, per_alike}
-use Rattle.std.specs.List.{IsDistinct, AllByRecursion, AllZip}
-use Rattle.std.proofs.Common.{refl, sym, ap, subst, ◌∙◌, arith}
+use Rattle.std.specs.Prelude.{◌≡◌, zero, suc, ◌<◌, Bool, true, false, ◌&&◌, List, [], ◌∷◌, length, IsPermutation, Contains}
+use Rattle.std.specs.Cmp.{IsEquivalence, IsPartialEquivalence}
+use Rattle.std.specs.List.{AllByRecursion, AllZip}
+use Rattle.std.proofs.Common.{refl, sym, subst, ◌∙◌, arith}
 use Rattle.std.proofs.lemmas.Bool.{false≢true}
 use Rattle.std.proofs.lemmas.Map.Keys.{IsDistinct-head, IsDistinct-tail, IsDistinct-cons}
 use Rattle.std.proofs.lemmas.List.Sorted.{IsPermutation-refl, IsPermutation-sym, IsPermutation-cons, IsPermutation-trans, length_permutation, Contains-permutation}
 use Rattle.std.proofs.lemmas.List.Elements.{length_all_zip}
 use Rattle.iddqd_store.proofs.Shuffled.{AllZip-follow, AllZip-flip, IsPermutation-flip}
-use Rattle.iddqd_store.proofs.BagLemmas.{each_weaker, IsSound-IsPermutation, conflicts-symm}
+use Rattle.iddqd_store.proofs.BagLemmas.{IsSound-IsPermutation, conflicts-symm}
 use Rattle.iddqd_store.proofs.BagSteps.{agrees-conflicts}
-use Rattle.iddqd_store.specs.Bag.{Ranks, some_of, every_of, like, conflicts, agrees, pairs, IsSound, AreLawful, IsSameBag, IsCopy}
+use Rattle.iddqd_store.specs.Bag.{Ranks, conflicts, agrees, pairs, IsSound, AreLawful, IsSameBag, IsCopy}
 
 pub and-true : (a b : Bool) → (a && b) ≡ true → (a ≡ true) × (b ≡ true)
 and-true true b h = (refl, h)

@@ -1,15 +1,14 @@
 -- The test whether two bags are the same: it says so exactly where their members pair off, and it is an equivalence.
-use Rattle.std.specs.Prelude.{◌≡◌, ℕ, zero, suc, ◌+◌, ◌≤◌, ◌<◌, ◌==◌, ◌⊎◌, Bool, true, false, cond, ◌&&◌, List, [], ◌∷◌, ◌++◌, length, IsPermutation, Contains, count_by}
+use Rattle.std.specs.Prelude.{◌≡◌, ℕ, zero, suc, ◌+◌, ◌<◌, ◌==◌, ◌⊎◌, Bool, true, cond, ◌&&◌, List, [], ◌∷◌, ◌++◌, IsPermutation, Contains, count_by}
 use Rattle.std.specs.Cmp.{IsEquivalence, IsPartialEquivalence, per_alike, equiv, both_ways, partial_equiv_from_equiv}
 use Rattle.std.specs.List.{AllZip, list_all}
 use Rattle.std.proofs.Common.{refl, sym, ap, subst, ◌∙◌, arith, inl, inr}
-use Rattle.std.proofs.lemmas.Bool.{false≢true}
 use Rattle.std.proofs.lemmas.Bool.Decides.{nat_tests}
 use Rattle.std.proofs.lemmas.List.Sums.{sum_by-cons}
 use Rattle.std.proofs.lemmas.List.Sorted.{IsPermutation-refl, IsPermutation-sym, IsPermutation-cons, IsPermutation-trans, Contains-permutation, sum_by-IsPermutation}
 use Rattle.iddqd_store.proofs.Shuffled.{split}
 use Rattle.iddqd_store.proofs.SameBag.{and-true, agrees-refl, pairs-equivalence, taken_out}
-use Rattle.iddqd_store.specs.Bag.{Ranks, agrees, pairs, AreLawful, IsSameBag, is_same}
+use Rattle.iddqd_store.specs.Bag.{Ranks, pairs, AreLawful, IsSameBag, is_same}
 
 equal_from : (a b : ℕ) → (a == b) ≡ true → a ≡ b
 equal_from a b h = grind (arith, nat_tests)
