@@ -5,7 +5,7 @@ ghost use Rattle.std.specs.Option.{option_to_list};
 use std::marker::Model;
 use std::mem;
 
-/// A list of at most three items, which takes no memory of its own.
+/// A list of at most three items, kept in place: no call takes memory. Contracts see a list.
 #[derive(Drop)]
 pub struct UpToThree<T> {
     first: Option<T>,
@@ -68,7 +68,7 @@ impl<T> UpToThree<T> {
         }
     }
 
-    /// Puts an item behind the others.
+    /// Puts an item behind the others, of which there are fewer than three.
     pub fn push(&mut self, item: T)
         requires { length self.old < 3 }
         ensures { self.new ≡ self.old ++ item ∷ [] }
@@ -86,7 +86,7 @@ impl<T> UpToThree<T> {
         }
     }
 
-    /// Takes the first item out.
+    /// Takes the first item out. The others move up.
     pub fn pop_front(&mut self) -> Option<T>
         ensures first { result ≡ slice_get self.old 0 }
         ensures rest { self.old ≡ option_to_list result ++ self.new }
