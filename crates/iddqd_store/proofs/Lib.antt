@@ -6,6 +6,7 @@ pub mod EntryLemmas
 pub mod Hole
 pub mod IndexLemmas
 pub mod IndexSteps
+pub mod KeepLemmas
 pub mod Line
 pub mod Rows
 pub mod SameBag
