@@ -16,6 +16,7 @@ mod run;
 pub type DefaultHashBuilder = BuildHasherDefault<FoldHasher>;
 
 /// A hash map of items with two keys. No two of its items have an equal key of the same rank.
+#[derive(Drop)]
 pub struct BiHashMap<T: BiHashItem, S: BuildHasher = DefaultHashBuilder> {
     items: ItemSet<T>,
     first: IndexTable,
