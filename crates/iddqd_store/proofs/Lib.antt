@@ -7,6 +7,8 @@ pub mod EntryLemmas
 pub mod FoundLemmas
 pub mod Hole
 pub mod IndexLemmas
+pub mod IndexSteps
+pub mod KeepLemmas
 pub mod Line
 pub mod Looks
 pub mod MapLemmas

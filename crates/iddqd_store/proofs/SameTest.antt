@@ -1,15 +1,14 @@
 -- The test whether two bags are the same: it says so exactly where their members pair off, and it is an equivalence.
-use Rattle.std.specs.Prelude.{◌≡◌, ℕ, zero, suc, ◌+◌, ◌≤◌, ◌<◌, ◌==◌, ◌⊎◌, Bool, true, false, cond, ◌&&◌, List, [], ◌∷◌, ◌++◌, length, IsPermutation, Contains, count_by}
+use Rattle.std.specs.Prelude.{◌≡◌, ℕ, zero, suc, ◌+◌, ◌<◌, ◌==◌, ◌⊎◌, Bool, true, cond, ◌&&◌, List, [], ◌∷◌, ◌++◌, IsPermutation, Contains, count_by}
 use Rattle.std.specs.Cmp.{IsEquivalence, IsPartialEquivalence, per_alike, equiv, both_ways, partial_equiv_from_equiv}
 use Rattle.std.specs.List.{AllZip, list_all}
 use Rattle.std.proofs.Common.{refl, sym, ap, subst, ◌∙◌, arith, inl, inr}
-use Rattle.std.proofs.lemmas.Bool.{false≢true}
 use Rattle.std.proofs.lemmas.Bool.Decides.{nat_tests}
 use Rattle.std.proofs.lemmas.List.Sums.{sum_by-cons}
 use Rattle.std.proofs.lemmas.List.Sorted.{IsPermutation-refl, IsPermutation-sym, IsPermutation-cons, IsPermutation-trans, Contains-permutation, sum_by-IsPermutation}
 use Rattle.iddqd_store.proofs.Shuffled.{split}
-use Rattle.iddqd_store.proofs.SameBag.{and-true, agrees-refl, pairs-equivalence, taken_out}
-use Rattle.iddqd_store.specs.Bag.{Ranks, agrees, pairs, AreLawful, IsSameBag, is_same}
+use Rattle.iddqd_store.proofs.SameBag.{and-true, agrees-refl, same_item-equivalence, taken_out}
+use Rattle.iddqd_store.specs.Bag.{Ranks, same_item, AreLawful, IsSameBag, is_same}
 
 equal_from : (a b : ℕ) → (a == b) ≡ true → a ≡ b
 equal_from a b h = grind (arith, nat_tests)
@@ -205,18 +204,18 @@ module _ {T : Type 0} where
 
   pub is_same-IsSameBag : (ranks : Ranks T) (eq : T → T → Bool) → AreLawful ranks → IsPartialEquivalence eq → (bag other : List T) → is_same ranks eq bag other ≡ true → IsSameBag ranks eq bag other
   is_same-IsSameBag ranks eq laws same bag other h =
-      let per = pairs-equivalence ranks eq laws same in
-      pairs-from_balanced (pairs ranks eq) per bag other (balanced (pairs ranks eq) per bag other h)
+      let per = same_item-equivalence ranks eq laws same in
+      pairs-from_balanced (same_item ranks eq) per bag other (balanced (same_item ranks eq) per bag other h)
 
   pub IsSameBag-is_same : (ranks : Ranks T) (eq : T → T → Bool) → AreLawful ranks → IsPartialEquivalence eq → (bag other : List T) → IsSameBag ranks eq bag other → is_same ranks eq bag other ≡ true
   IsSameBag-is_same ranks eq laws same bag other h =
-      test-from_pairs (pairs ranks eq) (pairs-equivalence ranks eq laws same) bag other h.0 h.1 h.2
+      test-from_pairs (same_item ranks eq) (same_item-equivalence ranks eq laws same) bag other h.0 h.1 h.2
 
   pub is_same-partial : (ranks : Ranks T) (eq : T → T → Bool) → AreLawful ranks → IsPartialEquivalence eq → IsPartialEquivalence (is_same ranks eq)
-  is_same-partial ranks eq laws same = test-equivalence (pairs ranks eq) (pairs-equivalence ranks eq laws same)
+  is_same-partial ranks eq laws same = test-equivalence (same_item ranks eq) (same_item-equivalence ranks eq laws same)
 
   pub is_same-equivalence : (ranks : Ranks T) (eq : T → T → Bool) → AreLawful ranks → IsEquivalence eq → IsEquivalence (is_same ranks eq)
   is_same-equivalence ranks eq laws same =
       let partial = partial_equiv_from_equiv same in
       equiv (is_same-partial ranks eq laws partial)
-      (test-refl (pairs ranks eq) (pairs-equivalence ranks eq laws partial) (λ x. rw (agrees-refl ranks laws x, same.refl x) refl))
+      (test-refl (same_item ranks eq) (same_item-equivalence ranks eq laws partial) (λ x. rw (agrees-refl ranks laws x, same.refl x) refl))

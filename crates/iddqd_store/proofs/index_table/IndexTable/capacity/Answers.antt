@@ -1,4 +1,4 @@
-use Rattle.std.proofs.Common.{arith, ℕ, ◌≡◌, length}
+use Rattle.std.proofs.Common.{arith, length}
 use Rattle.iddqd_store.proofs.Size.{size_most}
 use Rattle.iddqd_store.proofs.index_table.IndexTable.capacity.Goals as goal
 
