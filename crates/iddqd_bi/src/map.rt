@@ -10,6 +10,7 @@ mod find;
 mod insert;
 mod remove;
 mod run;
+mod shrink;
 
 /// The builder of hashers that a map has where none is named: std's, with its fixed seed. It gives no protection where
 /// strangers choose the keys.

@@ -3,9 +3,10 @@ use Rattle.std.specs.Prelude.{◌≡◌, ℕ, suc, ◌+◌, ◌<◌, ◌≤◌, 
 use Rattle.std.proofs.Common.{refl, sym, ap, subst, ◌∙◌, arith}
 use Rattle.std.proofs.lemmas.List.{drop_more, append-nil, length-append, length-map, drop_all}
 use Rattle.std.proofs.lemmas.List.Sorted.{IsPermutation-refl, IsPermutation-sym, IsPermutation-trans, IsPermutation-middle, IsPermutation-append_left, length_permutation}
-use Rattle.iddqd_store.specs.Slots.{get, live_count, members_from, members}
+use Rattle.iddqd_store.specs.Slots.{get, live_count, live_items, items_in, members_from, members}
 use Rattle.iddqd_store.specs.Indexed.{pair_of, IsIndex}
 use Rattle.iddqd_store.proofs.IndexLemmas.{length-members_from}
+use Rattle.iddqd_store.proofs.SlotLemmas.{live_items-items_in}
 
 module _ {T : Type 0} (hash : T → ℕ) (slots : List (Option T)) where
   -- the pairs of the slots from a number on
@@ -52,3 +53,16 @@ module _ {T : Type 0} (hash : T → ℕ) (slots : List (Option T)) where
   IsFilling-end at pairs past filling =
       let none : pairs_from at ≡ [] = rw (drop_all at slots past) refl in
       subst (λ all. IsPermutation all (map (pair_of hash) (members slots))) (ap (λ rest. pairs ++ rest) none ∙ append-nil pairs) filling
+
+module _ {T : Type 0} where
+  items_in-all : (xs : List T) → items_in (map Some xs) ≡ xs
+  items_in-all [] = refl
+  items_in-all (x ∷ xs) = ap (λ rest. x ∷ rest) (items_in-all xs)
+
+  -- where no slot is free, the items are all that the slots have
+  pub live_items-all : (xs : List T) → live_items (map Some xs) ≡ xs
+  live_items-all xs = live_items-items_in (map Some xs) ∙ items_in-all xs
+
+  -- the same items, moved to the first slots
+  pub live_items-compact : (old new : List (Option T)) → new ≡ map Some (live_items old) → live_items new ≡ live_items old
+  live_items-compact old new is = ap live_items is ∙ live_items-all (live_items old)
