@@ -8,12 +8,15 @@ pub mod FillLemmas
 pub mod FoundLemmas
 pub mod Hole
 pub mod IndexLemmas
+pub mod IndexSteps
+pub mod KeepLemmas
 pub mod Line
 pub mod Looks
 pub mod MapLemmas
 pub mod Rows
 pub mod RunLemmas
 pub mod SameBag
+pub mod SameTest
 pub mod SearchLemmas
 pub mod Shuffled
 pub mod Size
