@@ -1,4 +1,5 @@
 pub mod Bag
+pub mod Cell
 pub mod Indexed
 pub mod Lends
 pub mod Limit
