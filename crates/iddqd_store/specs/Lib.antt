@@ -1,7 +1,7 @@
 pub mod Asking
 pub mod Bag
-pub mod Errors
 pub mod Cell
+pub mod Errors
 pub mod Indexed
 pub mod Lends
 pub mod Limit
