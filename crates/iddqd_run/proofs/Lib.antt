@@ -1,0 +1,3 @@
+pub mod Cutting
+pub mod Moving
+pub mod Numbering
