@@ -1,3 +1,5 @@
+pub mod Counting
 pub mod Cutting
 pub mod Moving
 pub mod Numbering
+pub mod Parsing

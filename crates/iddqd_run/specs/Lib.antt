@@ -1,6 +1,10 @@
+pub mod Commands
 pub mod Ends
 pub mod Faults
 pub mod Lines
 pub mod Numbers
 pub mod Outcome
+pub mod Parsed
+pub mod Printed
 pub mod Texts
+pub mod Words

@@ -21,7 +21,7 @@ pub fn lines<'t>(alloc: Global, text: &'t [u8]) -> Result<Vec<&'t [u8]>, AllocEr
 
 /// The first line, and what follows its end.
 #[tactic(auto, using(crate::proofs::Cutting::first_line, crate::proofs::Cutting::last_line))]
-fn cut(rest: &[u8]) -> (&[u8], &[u8])
+pub fn cut(rest: &[u8]) -> (&[u8], &[u8])
     requires { 0 < length rest.now }
     ensures lines { lines_of rest.now ≡ result.0.now ∷ lines_of result.1.now }
     ensures shorter { length result.1.now < length rest.now }

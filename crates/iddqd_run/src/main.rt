@@ -2,10 +2,14 @@
 #![tactic(auto)]
 
 mod ends;
+mod item;
 mod lines;
 mod numbers;
 mod outcome;
+mod parse;
 mod read;
+mod standin;
+mod words;
 mod write;
 
 use std::io;
