@@ -2,7 +2,8 @@
 #![tactic(auto)]
 
 mod item;
+mod map;
 mod pointers;
-mod probe;
 
 pub use item::{BiHashItem, BiHashItemMut};
+pub use map::BiHashMap;

@@ -1,9 +1,11 @@
 pub mod BagLemmas
 pub mod Change
+pub mod FoundLemmas
 pub mod Hole
 pub mod IndexLemmas
 pub mod Line
 pub mod Rows
+pub mod SearchLemmas
 pub mod Size
 pub mod SlotLemmas
 pub mod Stretch

@@ -7,5 +7,6 @@ pub mod Limit
 pub mod Map
 pub mod Ring
 pub mod SlotChain
+pub mod Searched
 pub mod Slots
 pub mod Table
