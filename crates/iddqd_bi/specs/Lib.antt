@@ -1,2 +1,5 @@
 pub mod Indexed
 pub mod Keys
+pub mod Refused
+pub mod Step
+pub mod Values

@@ -1,9 +1,14 @@
 //! A hash map of items with two keys.
 #![tactic(auto)]
 
+mod command;
+mod error;
 mod item;
 mod map;
+mod matchers;
 mod pointers;
 
+pub use command::{BiCommand, BiReply, BiSink};
+pub use error::{DuplicateError, InsertError, MemoryError};
 pub use item::{BiHashItem, BiHashItemMut};
-pub use map::BiHashMap;
+pub use map::{BiHashMap, DefaultHashBuilder};

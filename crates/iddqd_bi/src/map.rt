@@ -1,7 +1,7 @@
 //! The map.
 use crate::item::BiHashItem;
 use iddqd_store::{IndexTable, ItemSet};
-use std::hash::{BuildHasher, Hash};
+use std::hash::{BuildHasher, BuildHasherDefault, FoldHasher, Hash};
 use std::marker::Model;
 
 mod build;
@@ -9,9 +9,15 @@ mod capacity;
 mod find;
 mod insert;
 mod remove;
+mod run;
+
+/// The builder of hashers that a map has where none is named: std's, with its fixed seed. It gives no protection where
+/// strangers choose the keys.
+pub type DefaultHashBuilder = BuildHasherDefault<FoldHasher>;
 
 /// A hash map of items with two keys. No two of its items have an equal key of the same rank.
-pub struct BiHashMap<T: BiHashItem, S: BuildHasher> {
+#[derive(Drop)]
+pub struct BiHashMap<T: BiHashItem, S: BuildHasher = DefaultHashBuilder> {
     items: ItemSet<T>,
     first: IndexTable,
     second: IndexTable,
@@ -21,7 +27,7 @@ pub struct BiHashMap<T: BiHashItem, S: BuildHasher> {
 impl<T: BiHashItem, S: BuildHasher> Model for BiHashMap<T, S> {
     ghost use Rattle.std.specs.Prelude.{min};
     ghost use Rattle.iddqd_store.specs.Map.{Map, map_code};
-    ghost use Rattle.iddqd_bi.specs.Keys.{ranks, hash1, hash2};
+    ghost use Rattle.iddqd_bi.specs.Keys.{keys, ranks, key1_hash, key2_hash};
     ghost use Rattle.iddqd_bi.specs.Indexed.{IsIndexed};
 
     ghost Value = { Map T S };
@@ -30,10 +36,6 @@ impl<T: BiHashItem, S: BuildHasher> Model for BiHashMap<T, S> {
 
     ghost view = { λ m. record { slots = m.items.slots; capacity = min m.items.capacity (min m.first.limit m.second.limit); builder = m.hash_builder } };
 
-    ghost invariant = {
-        λ m. IsIndexed (ranks T.BiHashItem T.K1.Hash T.K2.Hash)
-            (hash1 T.BiHashItem T.K1.Hash S.BuildHasher S.Hasher.Hasher m.hash_builder)
-            (hash2 T.BiHashItem T.K2.Hash S.BuildHasher S.Hasher.Hasher m.hash_builder)
-            m.items.slots m.first.pairs m.second.pairs
-    };
+    ghost invariant = { λ m. let keys1 = keys T.K1.eq T.K1.hash_input in let keys2 = keys T.K2.eq T.K2.hash_input in
+        IsIndexed (ranks T.BiHashItem keys1 keys2) (key1_hash T.BiHashItem keys1 S.BuildHasher S.Hasher.Hasher m.hash_builder) (key2_hash T.BiHashItem keys2 S.BuildHasher S.Hasher.Hasher m.hash_builder) m.items.slots m.first.pairs m.second.pairs };
 }

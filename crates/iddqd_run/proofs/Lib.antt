@@ -3,3 +3,5 @@ pub mod Cutting
 pub mod Moving
 pub mod Numbering
 pub mod Parsing
+pub mod Printing
+pub mod Replying

@@ -1,10 +1,10 @@
 -- A number from the digits that were read.
-use Rattle.std.proofs.Common.{◌≡◌, refl, ap, sym, ◌∙◌, ℕ, suc, ◌+◌, ◌*◌, ◌-◌, ◌^◌, ◌≤◌, ◌<◌, List, [], ◌∷◌, length, get_or, drop, Bool, true, false, cond, Option, Some, None, arith, subst, add-one, drop-cons}
-use Rattle.std.specs.Prelude.{◌&&◌, nat_lt, if◌then◌else◌}
+use Rattle.std.proofs.Common.{◌≡◌, refl, ap, sym, ◌∙◌, ℕ, suc, ◌+◌, ◌*◌, ◌-◌, ◌^◌, ◌≤◌, ◌<◌, List, [], ◌∷◌, length, get_or, drop, Bool, true, false, cond, Option, Some, None, arith, add-one, drop-cons}
+use Rattle.std.specs.Prelude.{◌&&◌, nat_lt}
 use Rattle.std.proofs.Math.Nat.{pow-succ', one-le-pow, mul_assoc, add-mul, le-mul_of_pos_right}
 use Rattle.std.proofs.Math.ListN.{drop_of_length-le}
 use Rattle.std.proofs.lemmas.Bool.Decides.{nat_tests}
-use Rattle.iddqd_run.specs.Numbers.{is_digit, all_digits, value, number_of, pushed}
+use Rattle.iddqd_run.specs.Numbers.{is_digit, all_digits, value, pushed}
 
 -- the number, if the digits are digits and it fits
 abbrev pub kept : Bool → ℕ → Option ℕ

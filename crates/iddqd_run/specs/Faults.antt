@@ -1,7 +1,7 @@
 -- Which faults count as a read or a write that failed.
-use Rattle.std.specs.Prelude.{◌+◌, ℕ, Result, Ok, Err}
+use Rattle.std.specs.Prelude.{◌+◌, ℕ, Result, Err}
 use Rattle.iddqd_run.specs.declared.outcome.RunFault.{RunFault}
-use Rattle.iddqd_run.specs.declared.outcome.RunFault.TheVariants.{Read, Write, Memory}
+use Rattle.iddqd_run.specs.declared.outcome.RunFault.TheVariants.{Read, Write}
 
 -- the number of reads that failed, after a run: one more at `Read` alone
 abbrev pub reads_failed : {A : Type 0} → Result A RunFault → ℕ → ℕ

@@ -1,23 +1,7 @@
 //! Lines of a text.
-ghost use Rattle.std.specs.Prelude.{◌≡◌, ◌<◌, ◌≤◌, length, IfOk, map, ◌==◌, not, ◌∷◌};
+ghost use Rattle.std.specs.Prelude.{◌≡◌, ◌<◌, ◌≤◌, ◌∷◌, ◌==◌, length, not};
 ghost use Rattle.std.specs.List.{prefix_len};
 ghost use Rattle.iddqd_run.specs.Lines.{lines_of};
-
-use std::alloc::{AllocError, Global};
-
-/// The lines of a text, cut at each byte 10.
-pub fn lines<'t>(alloc: Global, text: &'t [u8]) -> Result<Vec<&'t [u8]>, AllocError>
-    ensures { IfOk result (λ v. map (λ line. line.now) v.items ≡ lines_of text.now) }
-{
-    let mut found = Vec::new(alloc);
-    let mut rest = text;
-    while !rest.is_empty() {
-        let (line, after) = cut(rest);
-        found.push(line)?;
-        rest = after;
-    }
-    Ok(found)
-}
 
 /// The first line, and what follows its end.
 #[tactic(auto, using(crate::proofs::Cutting::first_line, crate::proofs::Cutting::last_line))]

@@ -5,17 +5,18 @@ ghost use Rattle.std.specs.Option.{option_map};
 ghost use Rattle.iddqd_run.specs.Commands.{numbers_of, command_of_fields, command_of_line};
 ghost use Rattle.iddqd_run.specs.Parsed.{IsParse};
 
+use crate::item::BiItem;
 use crate::lines::cut;
 use crate::numbers::number;
-use crate::standin::BiCommand;
 use crate::words::{command_of, word_of};
+use iddqd_bi::BiCommand;
 use std::alloc::{AllocError, Global};
 
 /// What a text spells.
 #[derive(Drop)]
 pub enum Parsed {
     /// A command in each line.
-    Commands(Vec<BiCommand>),
+    Commands(Vec<BiCommand<BiItem>>),
     /// The line with this number is the first that spells none. The first line is line 1.
     BadLine(u64),
 }
@@ -29,7 +30,7 @@ pub fn parse(alloc: Global, text: &[u8]) -> Result<Parsed, AllocError>
 {
     let mut commands = Vec::new(alloc);
     let mut rest = text;
-    let mut number = 0;
+    let mut number = 0u64;
     while !rest.is_empty() {
         let (line, after) = cut(rest);
         number += 1;
@@ -43,7 +44,7 @@ pub fn parse(alloc: Global, text: &[u8]) -> Result<Parsed, AllocError>
 }
 
 /// The command that a line spells, if it spells one.
-pub fn command_of_line(alloc: Global, line: &[u8]) -> Result<Option<BiCommand>, AllocError>
+pub fn command_of_line(alloc: Global, line: &[u8]) -> Result<Option<BiCommand<BiItem>>, AllocError>
     ensures { IfOk result (λ found. found ≡ command_of_line line.now) }
 {
     let fields = fields(alloc, line)?;
@@ -58,7 +59,10 @@ fn fields<'t>(alloc: Global, line: &'t [u8]) -> Result<Vec<&'t [u8]>, AllocError
 }
 
 /// The command of a word and of the numbers behind it.
-fn command_of_fields(alloc: Global, fields: &[&[u8]]) -> Result<Option<BiCommand>, AllocError>
+fn command_of_fields(
+    alloc: Global,
+    fields: &[&[u8]],
+) -> Result<Option<BiCommand<BiItem>>, AllocError>
     ensures { IfOk result (λ found. found ≡ command_of_fields (map (λ field. field.now) fields.now)) }
 {
     let [name, digits @ ..] = fields else {

@@ -3,7 +3,7 @@ ghost use Rattle.std.specs.Prelude.{◌≡◌};
 ghost use Rattle.iddqd_run.specs.Words.{word_of, command_of};
 
 use crate::item::BiItem;
-use crate::standin::BiCommand;
+use iddqd_bi::BiCommand;
 
 /// The first word of a line.
 #[derive(Clone, Copy, Debug, PartialEq, Eq, Drop)]
@@ -28,7 +28,7 @@ pub fn word_of(bytes: &[u8]) -> Option<Word>
 }
 
 /// The command of a word with these numbers, if they are as many as it takes.
-pub fn command_of(word: Word, numbers: &[u64]) -> Option<BiCommand>
+pub fn command_of(word: Word, numbers: &[u64]) -> Option<BiCommand<BiItem>>
     ensures { result ≡ command_of word numbers.now }
 {
     match (word, numbers) {

@@ -46,6 +46,7 @@ table_put row at hash index t l f =
     let p : length (held (set row at (Some (hash, index)))) ≡ length (held row) + 1 = length_permutation _ _ (held_put row at (hash, index) f.below f.empty) ∙ omega arith in
     let len : length (set row at (Some (hash, index))) ≡ n = length-set row at (Some (hash, index)) in
     record {
+      size = rw len t.size;
       fits = rw (p, len) (omega arith);
       reached = subst (λ (m : ℕ). IsReached (λ (p : ℕ × ℕ). p.0 % m) m (set row at (Some (hash, index)))) (sym len) (reached_put (λ (p : ℕ × ℕ). p.0 % n) n row at (hash, index) refl (λ y. omega arith) f.below f.empty f.first t.reached);
     }

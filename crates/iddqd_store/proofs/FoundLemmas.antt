@@ -1,5 +1,5 @@
 -- The slots that searches find, rank by rank, are those of a listing.
-use Rattle.std.specs.Prelude.{◌≡◌, ℕ, zero, suc, Bool, true, false, cond, not, ◌||◌, ◌&&◌, List, [], ◌∷◌, ◌++◌, length, filter, filter_map, IsPermutation, Contains, Option, Some, None, nat_eq, if◌then◌else◌, ◌⊎◌}
+use Rattle.std.specs.Prelude.{◌≡◌, ℕ, zero, suc, Bool, true, false, cond, not, ◌||◌, ◌&&◌, List, [], ◌∷◌, ◌++◌, length, filter, filter_map, IsPermutation, Contains, Option, Some, None, nat_eq, if◌then◌else◌, ◌⊎◌, ◌≢◌, All}
 use Rattle.std.specs.List.{IsDistinct, AllByRecursion, list_any}
 use Rattle.std.specs.Option.{option_to_list, option_and_then, IfSome}
 use Rattle.std.proofs.Common.{IsSome, inl, inr, refl, sym, ap, subst, ◌∙◌, arith, append-nil, append_assoc}
@@ -9,7 +9,11 @@ use Rattle.std.proofs.lemmas.List.Sorted.{Contains-permutation, IsPermutation-sy
 use Rattle.iddqd_store.specs.Bag.{some_of, listing, without}
 use Rattle.iddqd_store.specs.Slots.{get, IsLive, live_items}
 use Rattle.iddqd_store.specs.Searched.{items_at, lists, with_found}
-use Rattle.iddqd_store.proofs.BagLemmas.{split, each_passes, each-filter, Contains-filter, filter_twice, filter_swap, IsPermutation-listing}
+use Rattle.iddqd_store.specs.Bag.{Ranks, order, clash}
+use Rattle.std.proofs.lemmas.List.Elements.{All-head}
+use Rattle.std.proofs.lemmas.List.Sorted.{length_permutation}
+use Rattle.iddqd_store.proofs.Shuffled.{split}
+use Rattle.iddqd_store.proofs.BagLemmas.{each_passes, each-filter, Contains-filter, filter_twice, filter_swap, IsPermutation-listing, IsPermutation-order, same_from_short}
 use Rattle.iddqd_store.proofs.IndexLemmas.{Contains-cons, Contains-cons_cases, Contains-here, item_at, same_slot}
 use Rattle.iddqd_store.proofs.SearchLemmas.{each_at}
 
@@ -116,14 +120,34 @@ module _ {T : Type 0} where
           let goal : listing (tests ++ test ∷ []) bag ≡ listing tests bag ++ filter (λ x. not (some_of tests x)) (y ∷ []) = listing-push tests test bag ∙ ap (λ l. listing tests bag ++ l) rest in
           split (λ t. items_at slots (cond t ixs (ixs ++ b ∷ [])) ≡ listing (tests ++ test ∷ []) bag) (lists ixs b)
           (λ yes.
-              let passes : some_of tests y ≡ true = some_passes tests bag y (subst (λ l. Contains l y) before (item_listed slots ixs b y yes at)) in
-              before ∙ sym (append-nil _) ∙ sym (goal ∙ ap (λ t. listing tests bag ++ cond (not t) (y ∷ []) []) passes))
+          let passes : some_of tests y ≡ true = some_passes tests bag y (subst (λ l. Contains l y) before (item_listed slots ixs b y yes at)) in
+          before ∙ sym (append-nil _) ∙ sym (goal ∙ ap (λ t. listing tests bag ++ cond (not t) (y ∷ []) []) passes))
           (λ no.
-              let fails : some_of tests y ≡ false = split (λ t. t ≡ false) (some_of tests y)
-                  (λ yes.
-                      let other = slot_of slots ixs y (subst (λ l. Contains l y) (sym before) (passer_listed tests bag y yes (item_at slots b y at))) in
-                      let one : other.0 ≡ b = same_slot agree slots other.0 b y y apart symm other.2 at (itself_alike y) in
-                      absurd (false≢true (sym no ∙ ap (lists ixs) (sym one) ∙ other.1)))
-                  (λ _. refl) in
-              items_at-push slots ixs b ∙ ap (λ o. items_at slots ixs ++ option_to_list o) at ∙ ap (λ l. l ++ y ∷ []) before
-              ∙ sym (goal ∙ ap (λ t. listing tests bag ++ cond (not t) (y ∷ []) []) fails))
+          let fails : some_of tests y ≡ false = split (λ t. t ≡ false) (some_of tests y)
+          (λ yes.
+          let other = slot_of slots ixs y (subst (λ l. Contains l y) (sym before) (passer_listed tests bag y yes (item_at slots b y at))) in
+          let one : other.0 ≡ b = same_slot agree slots other.0 b y y apart symm other.2 at (itself_alike y) in
+          absurd (false≢true (sym no ∙ ap (lists ixs) (sym one) ∙ other.1)))
+          (λ _. refl) in
+          items_at-push slots ixs b ∙ ap (λ o. items_at slots ixs ++ option_to_list o) at ∙ ap (λ l. l ++ y ∷ []) before
+          ∙ sym (goal ∙ ap (λ t. listing tests bag ++ cond (not t) (y ∷ []) []) fails))
+
+module _ {T : Type 0} where
+  -- where no conflicting slot is found, nothing conflicts
+  pub clash_none : (ranks : Ranks T) (slots : List (Option T)) (x : T) (ixs : List ℕ) → items_at slots ixs ≡ order ranks (live_items slots) x → length ixs ≡ 0 → clash ranks (live_items slots) x ≡ []
+  clash_none ranks slots x [] is short = sym (same_from_short [] _ (subst (λ l. IsPermutation l (clash ranks (live_items slots) x)) (sym is) (IsPermutation-order ranks (live_items slots) x)) (omega arith))
+  clash_none ranks slots x (a ∷ ixs) is short = absurd (omega arith)
+
+  -- and where one is found, something does
+  pub clash_some : (ranks : Ranks T) (slots : List (Option T)) (x : T) (ixs : List ℕ) → items_at slots ixs ≡ order ranks (live_items slots) x → All (IsLive slots) ixs → length ixs ≢ 0 → clash ranks (live_items slots) x ≢ []
+  clash_some ranks slots x [] is live some none = some refl
+  clash_some ranks slots x (a ∷ ixs) is live some none = by_slot (get slots a) refl (All-head (IsLive slots) a ixs live)
+    where
+      same : IsPermutation (items_at slots (a ∷ ixs)) []
+      same = subst (λ l. IsPermutation (items_at slots (a ∷ ixs)) l) none (subst (λ l. IsPermutation l (clash ranks (live_items slots) x)) (sym is) (IsPermutation-order ranks (live_items slots) x))
+
+      by_slot : (o : Option T) → get slots a ≡ o → IsSome o → ⊥
+      by_slot None at some = absurd (cc)
+      by_slot (Some y) at some =
+          let long : length (y ∷ items_at slots ixs) ≡ 0 = sym (length_permutation _ _ (rw at at same)) in
+          omega arith

@@ -1,18 +1,20 @@
 -- What searches find among the members of a sound bag.
-use Rattle.std.specs.Prelude.{◌≡◌, ℕ, zero, suc, ◌+◌, ◌≤◌, ◌<◌, Bool, true, false, cond, not, ◌||◌, List, [], ◌∷◌, ◌++◌, length, filter, map, filter_map, IsPermutation, Contains, Option, Some, None, nat_eq, if◌then◌else◌}
-use Rattle.std.specs.List.{IsDistinct, AllByRecursion, list_any}
+use Rattle.std.specs.Prelude.{◌≡◌, ℕ, zero, suc, ◌+◌, ◌≤◌, ◌<◌, Bool, true, false, cond, not, ◌||◌, List, [], ◌∷◌, ◌++◌, length, filter, map, filter_map, IsPermutation, Contains, Option, Some, None, nat_eq, if◌then◌else◌, ◌==◌, ◌&&◌}
+use Rattle.std.specs.List.{IsDistinct, AllByRecursion, list_any, sum_by, count_by}
 use Rattle.std.specs.Option.{option_map_or, option_to_list, option_and_then, IfSome, IfNone}
 use Rattle.std.specs.Cmp.{IsEquivalence}
 use Rattle.std.proofs.Common.{IsSome, inl, inr, refl, sym, ap, subst, ◌∙◌, arith, append-nil, append_assoc}
 use Rattle.std.proofs.lemmas.Bool.{false≢true}
 use Rattle.std.proofs.lemmas.Bool.Decides.{nat_tests}
+use Rattle.std.proofs.lemmas.List.Sums.{sum_by-cons}
 use Rattle.std.proofs.lemmas.Map.Keys.{IsDistinct-head, IsDistinct-tail}
 use Rattle.iddqd_store.specs.Bag.{some_of, listing, without}
 use Rattle.iddqd_store.specs.Slots.{get, IsLive, live_items, members}
 use Rattle.iddqd_store.specs.Indexed.{IsIndex, passes_at}
 use Rattle.iddqd_store.specs.Searched.{NamesOneOf, items_at, lists, with_found}
-use Rattle.iddqd_store.proofs.BagLemmas.{split, none_pass, each_passes, Contains-filter, filter_twice, filter_swap, length-append}
-use Rattle.iddqd_store.proofs.IndexLemmas.{Contains-cons, Contains-cons_cases, Contains-here, each_from_Contains, item_at, none_is, same_slot}
+use Rattle.iddqd_store.proofs.Shuffled.{split}
+use Rattle.iddqd_store.proofs.BagLemmas.{none_pass, each_passes, Contains-filter, filter_twice, filter_swap, length-append}
+use Rattle.iddqd_store.proofs.IndexLemmas.{Contains-cons, Contains-cons_cases, Contains-here, each_from_Contains, item_at, none_is, same_slot, crowd_is}
 
 module _ {T : Type 0} where
   pub each_at : (P : T → Type 0) (xs : List T) (y : T) → AllByRecursion P xs → Contains xs y → P y
@@ -24,9 +26,9 @@ module _ {T : Type 0} where
   none_behind : (agree : T → T → Bool) (test : T → Bool) (x : T) (xs : List T) → NamesOneOf agree test (x ∷ xs) → IsDistinct agree (x ∷ xs) → test x ≡ true → filter test xs ≡ []
   none_behind agree test x xs names apart passes =
       none_pass test xs (each_from_Contains (λ y. test y ≡ false) xs (λ y found.
-          split (λ b. b ≡ false) (test y)
-          (λ yes. absurd (false≢true (sym (each_at (λ z. agree x z ≡ false) xs y (IsDistinct-head agree x xs apart) found) ∙ names x y (Contains-here x xs) (Contains-cons x y xs found) passes yes)))
-          (λ _. refl)))
+      split (λ b. b ≡ false) (test y)
+      (λ yes. absurd (false≢true (sym (each_at (λ z. agree x z ≡ false) xs y (IsDistinct-head agree x xs apart) found) ∙ names x y (Contains-here x xs) (Contains-cons x y xs found) passes yes)))
+      (λ _. refl)))
 
   -- the one member that is named
   pub named_among : (agree : T → T → Bool) (test : T → Bool) (xs : List T) (x : T) → NamesOneOf agree test xs → IsDistinct agree xs → test x ≡ true → Contains xs x → filter test xs ≡ x ∷ []
@@ -36,9 +38,9 @@ module _ {T : Type 0} where
       let later : Contains ys x → filter test ys ≡ x ∷ [] = named_among agree test ys x rest (IsDistinct-tail agree y ys apart) passes in
       split (λ b. cond b (y ∷ filter test ys) (filter test ys) ≡ x ∷ []) (test y)
       (λ yes.
-          let none : filter test ys ≡ [] = none_behind agree test y ys names apart yes in
-          let same : (y ≡ x) = first y ys x found none later in
-          ap (λ l. y ∷ l) none ∙ ap (λ z. z ∷ []) same)
+      let none : filter test ys ≡ [] = none_behind agree test y ys names apart yes in
+      let same : (y ≡ x) = first y ys x found none later in
+      ap (λ l. y ∷ l) none ∙ ap (λ z. z ∷ []) same)
       (λ no. elim (Contains-cons_cases y x ys found) [
         | inl is ↦ absurd (false≢true (sym no ∙ ap test is ∙ passes))
         | inr there ↦ later there
@@ -71,3 +73,17 @@ module _ {T : Type 0} where
       by_slot : (o : Option T) → option_map_or test o false ≡ true → IsSome o
       by_slot None h = absurd (false≢true h)
       by_slot (Some x) h = refl
+
+pub sum_by-alike : {X : Type 0} (f h : X → ℕ) → ((x : X) → f x ≡ h x) → (xs : List X) → sum_by f xs ≡ sum_by h xs
+sum_by-alike f h same [] = refl
+sum_by-alike f h same (x ∷ xs) = omega (arith, sum_by-alike f h same xs, same x, sum_by-cons f x xs, sum_by-cons h x xs)
+
+and_true : (b : Bool) → (b && true) ≡ b
+and_true true = refl
+and_true false = refl
+
+-- as many pairs under a hash are counted as members have it
+pub crowd_among : {T : Type 0} (hash : T → ℕ) (h : ℕ) (slots : List (Option T)) (pairs : List (ℕ × ℕ)) → IsIndex hash slots pairs → count_by (λ p. p.0 == h && true) pairs ≡ count_by (λ x. hash x == h) (live_items slots)
+crowd_among hash h slots pairs index =
+    sum_by-alike (λ (p : ℕ × ℕ). cond (p.0 == h && true) 1 0) (λ p. cond (p.0 == h) 1 0) (λ p. ap (λ b. cond b 1 0) (and_true (p.0 == h))) pairs
+    ∙ crowd_is hash h slots pairs index

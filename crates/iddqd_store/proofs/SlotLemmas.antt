@@ -1,14 +1,14 @@
 -- How each change of the entries keeps the count and the list of vacant entries.
-use Rattle.std.proofs.Common.{◌≡◌, ◌≢◌, ◌⊎◌, ℕ, zero, suc, ◌+◌, ◌-◌, ◌^◌, ◌<◌, ◌≤◌, List, [], ◌∷◌, ◌++◌, map, length, get_or, set, Some, None, is_some, IsSome, count_by, slice_get, refl, sym, ap, subst, ◌∙◌, inl, inr, arith, length-set, append-nil, true≢false, Option, zero-add, add-zero, Bool, true, false, cond}
+use Rattle.std.proofs.Common.{◌≡◌, ◌≢◌, ◌⊎◌, ℕ, zero, suc, ◌+◌, ◌-◌, ◌<◌, List, [], ◌∷◌, ◌++◌, map, length, get_or, set, Some, None, is_some, IsSome, count_by, slice_get, refl, sym, ap, subst, ◌∙◌, inl, inr, arith, length-set, true≢false, Option, zero-add, add-zero, cond}
 use Rattle.std.specs.Prelude.{IsPermutation}
 use Rattle.std.proofs.lemmas.List.Sorted.{IsPermutation-refl, IsPermutation-cons, IsPermutation-trans, IsPermutation-middle, IsPermutation-to_front}
-use Rattle.std.proofs.lemmas.List.{map-set, map_push, length-map, length_push, get_or-map, get_or-set_same, get_or-set_other, get_or_past}
-use Rattle.std.proofs.lemmas.List.Sums.{sum_by-set, sum_by_push}
+use Rattle.std.proofs.lemmas.List.{set-set, map-set, map_push, length-map, length_push, get_or-map, get_or-set_same, get_or-set_other, get_or_past}
+use Rattle.std.proofs.lemmas.List.Sums.{sum_by-set, sum_by_push, sum_by-cons}
 use Rattle.std.proofs.lemmas.Option.{slice_get_within, slice_get-get_or, slice_get_read, get_or_from_slice_get}
 use Rattle.iddqd_store.specs.declared.item_set.Slot.{Slot}
 use Rattle.iddqd_store.specs.declared.item_set.Slot.TheVariants.{Free, Live}
-use Rattle.iddqd_store.specs.SlotChain.{item_of, IsChain, IsChained}
-use Rattle.iddqd_store.specs.Slots.{get, IsLive, Updates, members_from}
+use Rattle.iddqd_store.specs.SlotChain.{item_of, live_slots, IsChain, IsChained}
+use Rattle.iddqd_store.specs.Slots.{IsLive, live_count, Updates, Exchanges, members_from, live_items, items_in}
 
 module _ {T : Type 0} where
   -- a key starts one list of vacant entries at most
@@ -152,7 +152,7 @@ module _ {T : Type 0} where
 
 module _ {T : Type 0} where
   -- one more item in a new slot is one more member
-  members_from-push : (at : ℕ) (slots : List (Option T)) (x : T) → members_from at (slots ++ Some x ∷ []) ≡ members_from at slots ++ (at + length slots, x) ∷ []
+  pub members_from-push : (at : ℕ) (slots : List (Option T)) (x : T) → members_from at (slots ++ Some x ∷ []) ≡ members_from at slots ++ (at + length slots, x) ∷ []
   members_from-push at [] x = let e : at ≡ at + 0 = omega arith in ap (λ n. (n, x) ∷ []) e
   members_from-push at (None ∷ rest) x =
       let e : at + 1 + length rest ≡ at + suc (length rest) = omega arith in
@@ -210,6 +210,68 @@ module _ {T : Type 0} where
         others = λ other differs. rw written (get_or-set_other old key other slot None differs);
       }
 
+  -- a write in a live slot exchanges its member
+  pub Exchanges-set : (slots : List (Option T)) (at : ℕ) (x y : T) → get_or slots at None ≡ Some x → Exchanges slots (set slots at (Some y)) at x y
+  Exchanges-set slots at x y found =
+      let within : at < length slots = grind (arith, get_or_past) in
+      let emptied : get_or (set slots at None) at None ≡ None = get_or-set_same slots at None None within in
+      let put = members-put (set slots at None) at y (omega (arith, length-set slots at None)) emptied in
+      record {
+        others = members_from 0 (set slots at None);
+        had = members-take slots at x found;
+        has = subst (λ l. IsPermutation (members_from 0 l) ((at, y) ∷ members_from 0 (set slots at None))) (set-set slots at None (Some y)) put;
+      }
+
   -- a live slot is among the slots
   pub IsLive-within : (slots : List (Option T)) (key : ℕ) → IsLive slots key → key < length slots
   IsLive-within slots key present = grind (arith, get_or_past)
+
+module _ {T : Type 0} where
+  pub items_of-members_from : (first : ℕ) (slots : List (Option T)) → map (λ m. m.1) (members_from first slots) ≡ items_in slots
+  items_of-members_from first [] = refl
+  items_of-members_from first (None ∷ rest) = items_of-members_from (first + 1) rest
+  items_of-members_from first (Some x ∷ rest) = ap (λ l. x ∷ l) (items_of-members_from (first + 1) rest)
+
+  -- the live items, without their numbers
+  pub live_items-items_in : (slots : List (Option T)) → live_items slots ≡ items_in slots
+  live_items-items_in slots = items_of-members_from 0 slots
+
+  pub length-items_in : (slots : List (Option T)) → length (items_in slots) ≡ live_count slots
+  length-items_in [] = refl
+  length-items_in (None ∷ rest) = omega (arith, length-items_in rest, sum_by-cons (λ o. cond (is_some o) 1 0) None rest)
+  length-items_in (Some x ∷ rest) = omega (arith, length-items_in rest, sum_by-cons (λ o. cond (is_some o) 1 0) (Some x) rest)
+
+-- sets without free slots
+module _ {T : Type 0} where
+  pub length-live_slots : (slots : List (Slot T)) → length (live_slots slots) ≡ count_by is_some (map item_of slots)
+  length-live_slots [] = refl
+  length-live_slots (Free next ∷ slots) = omega (arith, length-live_slots slots, sum_by-cons (λ o. cond (is_some o) 1 0) (item_of (Free next)) (map item_of slots))
+  length-live_slots (Live x ∷ slots) = omega (arith, length-live_slots slots, sum_by-cons (λ o. cond (is_some o) 1 0) (Some x) (map item_of slots))
+
+  items_of-live_slots : (slots : List (Slot T)) → map item_of (live_slots slots) ≡ map Some (items_in (map item_of slots))
+  items_of-live_slots [] = refl
+  items_of-live_slots (Free next ∷ slots) = items_of-live_slots slots
+  items_of-live_slots (Live x ∷ slots) = ap (λ l. Some x ∷ l) (items_of-live_slots slots)
+
+  -- what is left of the slots are their items, in order
+  pub view-live_slots : (slots : List (Slot T)) → map item_of (live_slots slots) ≡ map Some (live_items (map item_of slots))
+  view-live_slots slots = items_of-live_slots slots ∙ ap (map Some) (sym (live_items-items_in (map item_of slots)))
+
+  live_slots-twice : (slots : List (Slot T)) → live_slots (live_slots slots) ≡ live_slots slots
+  live_slots-twice [] = refl
+  live_slots-twice (Free next ∷ slots) = live_slots-twice slots
+  live_slots-twice (Live x ∷ slots) = ap (λ l. Live x ∷ l) (live_slots-twice slots)
+
+  IsChained-live_slots : (slots : List (Slot T)) (live head : ℕ) → IsChained slots live head → IsChained (live_slots slots) live (length (live_slots slots))
+  IsChained-live_slots slots live head sound =
+      let all : count_by is_some (map item_of (live_slots slots)) ≡ length (live_slots slots) =
+      sym (length-live_slots (live_slots slots)) ∙ ap length (live_slots-twice slots) in
+      record {
+        counted = omega (arith, sound.counted, length-live_slots slots, all);
+        free = 0;
+        total = omega (arith, sound.counted, length-live_slots slots);
+        linked = refl;
+      }
+
+  pub IsChained-compact : (slots kept : List (Slot T)) (live head end : ℕ) → IsChained slots live head → kept ≡ live_slots slots → end ≡ length kept → IsChained kept live end
+  IsChained-compact slots kept live head end sound is at_end = rw (at_end, is) (IsChained-live_slots slots live head sound)

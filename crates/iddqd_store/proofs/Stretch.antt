@@ -1,8 +1,11 @@
 -- The full places from a home on are the occupied cells from there on.
-use Rattle.std.proofs.Common.{◌≡◌, ℕ, suc, zero, ◌+◌, ◌-◌, ◌<◌, ◌≤◌, ◌%◌, true, false, leb, List, Option, None, length, get_or, map, refl, ◌∙◌, ⊎_elim, arith}
-use Rattle.std.specs.List.{range_with_len}
-use Rattle.std.specs.Prelude.{◌≢◌, nat_lt, if◌then◌else◌}
+use Rattle.std.proofs.Common.{◌≡◌, ℕ, suc, zero, ◌+◌, ◌-◌, ◌<◌, ◌≤◌, ◌%◌, Bool, true, false, leb, ltb, List, Option, None, length, get_or, map, refl, sym, ap, cond, ◌∙◌, ⊎_elim, arith}
+use Rattle.std.specs.List.{prefix_len, range_with_len}
+use Rattle.std.specs.Prelude.{◌≢◌, ◌||◌, nat_lt, if◌then◌else◌}
 use Rattle.std.specs.Bool.{Decides}
+use Rattle.std.specs.List.Sorted.{IsPermutation}
+use Rattle.std.proofs.Math.Path.{fun_ext}
+use Rattle.std.proofs.lemmas.List.Sorted.{sum_by-IsPermutation}
 use Rattle.std.proofs.lemmas.List.{length-append, get_or_append_left, get_or-append_right}
 use Rattle.std.proofs.lemmas.List.FromFn.{length-range_with_len, get_or-range_with_len}
 use Rattle.std.proofs.lemmas.List.Sums.{prefix_len_is, prefix_len_stops}
@@ -81,3 +84,17 @@ module _ {X : Type 0} (key : X → ℕ) (n : ℕ) (cs : List (Option X)) (len : 
       rw (get_or-round n (h % n) s a (omega arith)) (full_at e le none (place n (h % n) s) (place_below n (h % n) s a (omega arith)) (some s l)) in
       absurd (both_ways _ f t))
       (λ (l : m ≤ s). l) (cases_lt s m)
+
+-- the order of the hashes plays no part
+ending_permutation : (xs ys : List ℕ) (n p j : ℕ) → IsPermutation xs ys → ending xs n p j ≡ ending ys n p j
+ending_permutation xs ys n p j same = sym (sum_by-IsPermutation (λ h. cond (ltb (gap n (h % n) p) j) 1 0) xs ys same)
+
+full_permutation : (xs ys : List ℕ) (n p j : ℕ) → IsPermutation xs ys → is_full_within xs n p j ≡ is_full_within ys n p j
+full_permutation xs ys n p zero same = refl
+full_permutation xs ys n p (suc j) same =
+    ap (λ (m : ℕ). leb (suc j) m || is_full_within xs n p j) (ending_permutation xs ys n p (suc j) same)
+    ∙ ap (λ (b : Bool). leb (suc j) (ending ys n p (suc j)) || b) (full_permutation xs ys n p j same)
+
+pub stretch_permutation : (xs ys : List ℕ) (n hash : ℕ) → IsPermutation xs ys → stretch xs n hash ≡ stretch ys n hash
+stretch_permutation xs ys n hash same =
+    ap (λ (f : ℕ → Bool). prefix_len f (round n (hash % n))) (fun_ext (λ p. full_permutation xs ys n p n same))

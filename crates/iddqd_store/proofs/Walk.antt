@@ -13,7 +13,7 @@ use Rattle.iddqd_store.specs.Table.{hashes, under, IsTable, IsFirstEmpty, IsWayT
 use Rattle.iddqd_store.proofs.Turned.{weight, count-held, gap_below}
 use Rattle.iddqd_store.proofs.Stretch.{place, place_below, gap_place, place_gap, place_more, stretch_is, stretch_at_least}
 
-abbrev Empty : {X : Type 0} → List (Option X) → Type 0
+abbrev pub Empty : {X : Type 0} → List (Option X) → Type 0
 Empty cs = (e : ℕ) × (e < length cs) × (cell cs e ≡ None)
 
 -- where not all cells are occupied, one is empty
@@ -71,7 +71,7 @@ walk_more row home at s t l w some at' s' ea es =
     }
 
 -- the walk ends at an empty cell
-pub walk_end : (row : List (Option (ℕ × ℕ))) (hash at s : ℕ) → IsTable row → Walk row (hash % length row) at s → cell row at ≡ None → stretch (hashes row) (length row) hash ≡ s
+pub walk_end : (row : List (Option (ℕ × ℕ))) (hash at s : ℕ) → IsTable row → Walk row (hash % length row) at s → cell row at ≡ None → stretch (hashes (held row)) (length row) hash ≡ s
 walk_end row hash at s t w none = stretch_is (λ (p : ℕ × ℕ). p.0) (length row) row refl (let l = w.within in omega arith) t.reached hash s w.within w.passed (rw w.at_is at none)
 
 -- what stands under a hash is met before the first empty cell
@@ -115,7 +115,7 @@ ahead cs a = drop a cs ++ take a cs
 length-ahead : {X : Type 0} (cs : List (Option X)) (a : ℕ) → a < length cs → length (ahead cs a) ≡ length cs
 length-ahead cs a l = simp (length-append, length-drop) (let t : length (take a cs) ≡ a = length-take-le a cs (omega arith) in omega arith)
 
-ahead_at : {X : Type 0} (cs : List (Option X)) (a k : ℕ) → a < length cs → k < length cs → cell (ahead cs a) k ≡ cell cs (place (length cs) a k)
+pub ahead_at : {X : Type 0} (cs : List (Option X)) (a k : ℕ) → a < length cs → k < length cs → cell (ahead cs a) k ≡ cell cs (place (length cs) a k)
 ahead_at cs a k l m =
     let d : length (drop a cs) ≡ length cs - a = length-drop a cs in
     ⊎_elim (λ (h : k < length cs - a).
@@ -160,7 +160,7 @@ pub met_grows : (hash : ℕ) (counts : ℕ → Bool) (row : List (Option (ℕ ×
 met_grows hash counts row a s x l m e t et = let f = met_more (counted hash counts) row a s x l m e t et in omega arith
 
 -- the looks of a search that finds
-pub walk_found : (row : List (Option (ℕ × ℕ))) (hash at s t : ℕ) → IsTable row → Walk row (hash % length row) at s → cell row at ≢ None → t ≡ s + 1 → t ≤ stretch (hashes row) (length row) hash
+pub walk_found : (row : List (Option (ℕ × ℕ))) (hash at s t : ℕ) → IsTable row → Walk row (hash % length row) at s → cell row at ≢ None → t ≡ s + 1 → t ≤ stretch (hashes (held row)) (length row) hash
 walk_found row hash at s t table w some e =
     let within : s < length row = w.within in
     let r : Empty row = room row table (omega arith) in

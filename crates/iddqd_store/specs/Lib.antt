@@ -5,8 +5,11 @@ pub mod Indexed
 pub mod Lends
 pub mod Limit
 pub mod Map
+pub mod Reply
 pub mod Ring
-pub mod SlotChain
+pub mod Run
 pub mod Searched
+pub mod SlotChain
 pub mod Slots
+pub mod Step
 pub mod Table

@@ -1,5 +1,5 @@
 -- What a contract sees of a map, with any number of ranks.
-use Rattle.std.specs.Prelude.{ℕ, List, Option, fold, refl}
+use Rattle.std.specs.Prelude.{◌≡◌, ◌≤◌, ◌<◌, ℕ, List, ◌∷◌, Option, length, fold, refl, IsPermutation}
 use Rattle.std.specs.Coded.{Coded, code_by, coded×, coded_ℕ, coded_list, coded_option}
 use Rattle.std.specs.Hash.{HashWrites}
 use Rattle.std.specs.declared.hash.Hasher as hasher
@@ -24,3 +24,16 @@ bag m = live_items m.slots
 -- what `hash_one` gives
 abbrev pub hash_of : {S H : Type 0} → builder.Ghosts S H → hasher.Ghosts H → S → HashWrites → ℕ
 hash_of b h s writes = h.finish (fold h.write (b.build_hasher s) writes)
+
+-- the map with one more item. It grows only where it is full
+pub record Gains {T S : Type 0} (old : Map T S) (item : T) (new : Map T S) : Type 0 where
+  pub items : IsPermutation (bag new) (item ∷ bag old)
+  pub no_less_room : old.capacity ≤ new.capacity
+  pub same_room : length (bag old) < old.capacity → new.capacity ≡ old.capacity
+  pub same_builder : new.builder ≡ old.builder
+
+-- the map with the same items, and perhaps more room
+pub record Keeps {T S : Type 0} (old new : Map T S) : Type 0 where
+  pub items : bag new ≡ bag old
+  pub no_less_room : old.capacity ≤ new.capacity
+  pub same_builder : new.builder ≡ old.builder

@@ -1,17 +1,26 @@
 -- What holds of the cells of a table.
-use Rattle.std.specs.Prelude.{ℕ, ◌*◌, ◌/◌, ◌%◌, ◌≡◌, ◌<◌, ◌≤◌, ◌==◌, Bool, List, Option, None, ◌≢◌, length, map}
-use Rattle.iddqd_store.specs.Ring.{held, cell, gap, IsReached}
+use Rattle.std.specs.Prelude.{ℕ, ◌+◌, ◌*◌, ◌/◌, ◌%◌, ◌≡◌, ◌<◌, ◌≤◌, ◌==◌, Bool, List, Option, None, ◌≢◌, length, map, IfNone, OnSome}
+use Rattle.iddqd_store.specs.Limit.{IsSize}
+use Rattle.iddqd_store.specs.Ring.{held, cell, gap, stretch, IsReached}
 
--- the hashes of what the cells hold
-abbrev pub hashes : List (Option (ℕ × ℕ)) → List ℕ
-hashes row = map (λ p. p.0) (held row)
+-- the hashes of the pairs
+abbrev pub hashes : List (ℕ × ℕ) → List ℕ
+hashes pairs = map (λ p. p.0) pairs
 
 -- whether a pair stands under a hash
 abbrev pub under : ℕ → ℕ × ℕ → Bool
 under hash p = p.0 == hash
 
+-- how many cells a search for a hash looks at, by whether it answers something
+pub record LooksUp {A : Type 0} (hashes : List ℕ) (cells hash : ℕ) (answer : Option A) (before after : ℕ) : Type 0 where
+  pub no_cells : cells ≡ 0 → after ≡ before
+  pub miss : 0 < cells → IfNone answer (after ≡ before + stretch hashes cells hash + 1)
+  pub hit_least : OnSome answer (before + 1 ≤ after)
+  pub hit_most : OnSome answer (after ≤ before + stretch hashes cells hash)
+
 -- each pair is found from its home on, and an eighth of the cells is empty
 pub record IsTable (row : List (Option (ℕ × ℕ))) : Type 0 where
+  pub size : IsSize (length row)
   pub fits : length (held row) ≤ length row / 8 * 7
   pub reached : IsReached (λ p. p.0 % length row) (length row) row
 

@@ -1,10 +1,11 @@
-//! The cells of a table. One call reads a cell, and it ticks a meter.
+//! The cells of a table. One call reads a cell, and it ticks the meter that it is handed.
 ghost use Rattle.std.specs.Prelude.{◌≡◌, ℕ, ◌+◌, ◌<◌, List, [], Option, None, Some, length, slice_set, replicate, IfOk};
 ghost use Rattle.iddqd_store.specs.Ring.{cell};
 
+use crate::TryReserveError;
 use crate::item_index::ItemIndex;
 use crate::meter::Meter;
-use std::alloc::{AllocError, Global};
+use std::alloc::Global;
 use std::marker::Model;
 
 /// Cells in a row, each empty or with a hash and a slot's number.
@@ -20,7 +21,7 @@ impl Model for Cells {
 }
 
 impl Cells {
-    /// No cells.
+    /// No cells. It takes no memory.
     pub fn new(alloc: Global) -> Cells
         ensures { result ≡ [] }
     {
@@ -29,13 +30,14 @@ impl Cells {
         }
     }
 
-    /// So many empty cells.
-    pub fn with_len(alloc: Global, count: usize) -> Result<Cells, AllocError>
+    /// So many empty cells. It is refused where their bytes cannot be had, or are more than memory can count.
+    pub fn with_len(alloc: Global, count: usize) -> Result<Cells, TryReserveError>
         ensures { IfOk result (λ c. c ≡ replicate count None) }
     {
-        Ok(Cells {
-            row: Vec::from_elem(alloc, None, count)?,
-        })
+        match Vec::from_elem(alloc, None, count) {
+            Ok(row) => Ok(Cells { row }),
+            Err(_) => Err(TryReserveError),
+        }
     }
 
     /// How many there are.
@@ -56,11 +58,11 @@ impl Cells {
     }
 
     /// Writes a pair into cell `i`.
-    pub fn put(&mut self, i: usize, hash: u64, index: ItemIndex)
+    pub fn put(&mut self, i: usize, hash: u64, ix: ItemIndex)
         requires { i < length self.old }
-        ensures { self.new ≡ slice_set self.old i (Some (hash, index)) }
+        ensures { self.new ≡ slice_set self.old i (Some (hash, ix)) }
     {
-        self.row[i] = Some((hash, index));
+        self.row[i] = Some((hash, ix));
     }
 
     /// Empties cell `i`.
@@ -69,5 +71,12 @@ impl Cells {
         ensures { self.new ≡ slice_set self.old i None }
     {
         self.row[i] = None;
+    }
+
+    /// Empties all cells.
+    pub fn clear(&mut self)
+        ensures { self.new ≡ replicate (length self.old) None }
+    {
+        self.row.fill(None);
     }
 }

@@ -1,20 +1,36 @@
-//! Pairs of a hash and a slot, found by the hash.
-ghost use Rattle.std.specs.Prelude.{◌≡◌, ◌≢◌, ℕ, ◌+◌, ◌-◌, ◌*◌, ◌/◌, ◌%◌, ◌^◌, ◌∷◌, ◌<◌, ◌≤◌, ◌&&◌, ◌==◌, if◌then◌else◌, nat_lt, List, [], Option, None, Some, true, false, length, IsSome, ◌↔◌, IfOk, OnOk, OnErr, IfSome, IfNone, OnSome, Contains, count_by};
+//! Pairs of a hash and a slot's index, found by the hash, in cells with open addressing and no marks of deleted pairs.
+ghost use Rattle.std.specs.Prelude.{◌≡◌, ℕ, ◌+◌, ◌*◌, ◌/◌, ◌^◌, ◌∷◌, ◌<◌, ◌≤◌, ◌&&◌, [], true, false, length, IsSome, IsOk, IsErr, ◌↔◌, IfOk, OnOk, OnErr, IfSome, IfNone, Contains, count_by};
 ghost use Rattle.std.specs.List.Sorted.{IsPermutation};
-ghost use Rattle.iddqd_store.specs.Ring.{cell, gap, held, stretch, IsFull};
+ghost use Rattle.iddqd_store.specs.Ring.{cell, held, stretch, IsFull};
 ghost use Rattle.iddqd_store.specs.Limit.{IsLeast, IsSize};
-ghost use Rattle.iddqd_store.specs.Table.{hashes, under, IsTable, IsFirstEmpty, IsWayTo, Table, table_of};
+ghost use Rattle.iddqd_store.specs.Table.{hashes, under, IsTable, LooksUp, Table, table_of};
 
+use crate::TryReserveError;
 use crate::cells::Cells;
 use crate::item_index::ItemIndex;
 use crate::matcher::Matcher;
 use crate::meter::Meter;
-use std::alloc::{AllocError, Global};
+use std::alloc::Global;
 use std::marker::Model;
 
-/// A set of pairs.
+mod probe;
+#[cfg(test)]
+mod tests;
+
+/// Pairs of a hash and a slot's index, found by the hash.
+///
+/// The home of a hash among `n` cells is the cell `hash % n`. A pair stands in the first cell from its home on that
+/// was empty, going round from the last cell to cell 0. The number of cells is 0 or a power of two from 8 on, and
+/// an eighth of the cells stays empty, so each search ends.
+///
+/// Contracts see its `pairs` in some order, its `limit`, which is how many fit, and its `row` of cells. Which cells
+/// are occupied is a function of the pairs' hashes and the number of cells (`cell_at`), whatever came before.
+///
+/// A cell is looked at by one call alone, which ticks the meter that it is handed. No call but `try_reserve` and
+/// `clone` makes a meter of its own.
 #[derive(Drop)]
 pub struct IndexTable {
+    alloc: Global,
     cells: Cells,
     count: usize,
 }
@@ -27,152 +43,133 @@ impl Model for IndexTable {
     ghost invariant = { λ t. IsTable t.cells × (t.count ≡ length (held t.cells)) };
 }
 
-/// The place after `at`.
-fn after(at: usize, count: usize) -> usize
-    requires { at < count }
-    ensures { result ≡ (if nat_lt (at + 1) count then at + 1 else 0) }
+// A table of so many empty cells.
+fn with_cells(alloc: Global, count: usize) -> Result<IndexTable, TryReserveError>
+    requires { IsSize count }
+    ensures empty { IfOk result (λ t. t.pairs ≡ []) }
+    ensures cells { IfOk result (λ t. length t.row ≡ count) }
+    ensures limit { IfOk result (λ t. t.limit ≡ count / 8 * 7) }
 {
-    if at + 1 < count { at + 1 } else { 0 }
+    let mut table = IndexTable::new(alloc);
+    table.cells = Cells::with_len(alloc, count)?;
+    Ok(table)
 }
 
-/// How many cells hold so many pairs.
-fn cells_for(pairs: usize) -> Option<usize>
-    ensures least { IfSome result (λ count. IsLeast pairs (count / 8 * 7)) }
-    ensures size { IfSome result IsSize }
-{
-    if pairs == 0 {
-        return Some(0);
-    }
-    let mut count: usize = 8;
-    while count / 8 * 7 < pairs {
-        count = count.checked_mul(2)?;
-    }
-    Some(count)
-}
-
-/// The home of a hash.
-fn home_of(hash: u64, count: usize) -> usize
-    requires { 0 < count }
-    ensures { result ≡ hash % count }
-{
-    (hash % count as u64) as usize
-}
-
-/// The first empty cell from the home of a hash on.
-fn first_empty(cells: &Cells, hash: u64, meter: &mut Meter) -> usize
-    requires table { IsTable cells.now }
-    requires some { 0 < length cells.now }
-    ensures first { IsFirstEmpty cells.now (hash % length cells.now) result }
-    ensures small { length cells.now < 2 ^ 64 }
-    ensures looks { meter.new ≡ meter.old + stretch (hashes cells.now) (length cells.now) hash + 1 }
-{
-    let count = cells.len();
-    let mut at = home_of(hash, count);
-    while cells.cell_at(at, meter).is_some() {
-        at = after(at, count);
-    }
-    at
-}
-
-/// How many steps lead from one place to another.
-fn steps(from: usize, to: usize, count: usize) -> usize
-    requires from { from < count }
-    requires to { to < count }
-    ensures { result ≡ gap count from to }
-{
-    if from <= to {
-        to - from
-    } else {
-        to + (count - from)
-    }
-}
-
-/// The cell of a pair that is there.
-fn seek(cells: &Cells, hash: u64, index: ItemIndex, meter: &mut Meter) -> usize
-    requires table { IsTable cells.now }
-    requires there { Contains (held cells.now) (hash, index) }
-    ensures pair { cell cells.now result ≡ Some (hash, index) }
-    ensures way { IsWayTo cells.now (hash % length cells.now) result }
-    ensures looks { meter.new ≡ meter.old + gap (length cells.now) (hash % length cells.now) result + 1 }
-{
-    let count = cells.len();
-    let mut at = home_of(hash, count);
-    while cells.cell_at(at, meter) != Some((hash, index)) {
-        at = after(at, count);
-    }
-    at
-}
-
-/// Empties a cell, and moves what stands behind it up.
-fn close_up(cells: &mut Cells, hash: u64, emptied: usize, meter: &mut Meter)
-    requires table { IsTable cells.old }
-    requires pair { cell cells.old emptied ≢ None }
-    requires way { IsWayTo cells.old (hash % length cells.old) emptied }
-    ensures table { IsTable cells.new }
-    ensures len { length cells.new ≡ length cells.old }
-    ensures taken { (pair : ℕ × ℕ) → cell cells.old emptied ≡ Some pair → IsPermutation (held cells.old) (pair ∷ held cells.new) }
-    ensures looks { meter.new + gap (length cells.old) (hash % length cells.old) emptied ≡ meter.old + stretch (hashes cells.old) (length cells.old) hash }
-{
-    let count = cells.len();
-    cells.empty(emptied);
-    let mut hole = emptied;
-    let mut at = after(emptied, count);
-    while let Some(pair) = cells.cell_at(at, meter) {
-        let (stored, index) = pair;
-        let home = home_of(stored, count);
-        if steps(home, hole, count) < steps(home, at, count) {
-            cells.empty(at);
-            cells.put(hole, stored, index);
-            hole = at;
-        }
-        at = after(at, count);
-    }
-}
-
-/// A table of so many cells with the pairs of these, which are entered in order by their hashes.
-fn regrown(alloc: Global, cells: &Cells, count: usize) -> Result<IndexTable, AllocError>
-    requires { length (held cells.now) ≤ count / 8 * 7 }
+// A table of so many cells with the pairs of these, which are entered in order by the hashes that the cells hold.
+fn regrown(
+    alloc: Global,
+    cells: &Cells,
+    count: usize,
+    meter: &mut Meter,
+) -> Result<IndexTable, TryReserveError>
+    requires size { IsSize count }
+    requires fits { length (held cells.now) ≤ count / 8 * 7 }
     ensures pairs { IfOk result (λ t. IsPermutation (held cells.now) t.pairs) }
-    ensures size { IfOk result (λ t. t.limit ≡ count / 8 * 7) }
+    ensures limit { IfOk result (λ t. t.limit ≡ count / 8 * 7) }
 {
-    let mut grown = IndexTable {
-        cells: Cells::with_len(alloc, count)?,
-        count: 0,
-    };
-    let mut meter = Meter::new();
+    let mut grown = with_cells(alloc, count)?;
     for i in 0..cells.len() {
-        if let Some(pair) = cells.cell_at(i, &mut meter) {
-            let (hash, index) = pair;
-            grown.insert_reserved(hash, index, &mut meter);
+        if let Some(pair) = cells.cell_at(i, meter) {
+            let (hash, ix) = pair;
+            grown.insert_reserved(hash, ix, meter);
         }
     }
     Ok(grown)
 }
 
 impl IndexTable {
+    /// A table without pairs and without cells. It takes no memory.
     pub fn new(alloc: Global) -> IndexTable
-        ensures { result.pairs ≡ [] }
+        ensures pairs { result.pairs ≡ [] }
+        ensures cells { length result.row ≡ 0 }
+        ensures limit { result.limit ≡ 0 }
     {
         IndexTable {
+            alloc,
             cells: Cells::new(alloc),
             count: 0,
         }
     }
 
-    /// No pairs, and room for so many.
-    pub fn with_capacity(alloc: Global, pairs: usize) -> Result<IndexTable, AllocError>
+    /// A table without pairs that has room for so many: `with_capacity(alloc, 8)` has 16 cells, in which 14 fit.
+    ///
+    /// It is refused where the cells cannot be had, or are more than `usize` or memory can count, and never for 0.
+    pub fn with_capacity(alloc: Global, pairs: usize) -> Result<IndexTable, TryReserveError>
         ensures empty { IfOk result (λ t. t.pairs ≡ []) }
         ensures limit { IfOk result (λ t. IsLeast pairs t.limit) }
+        ensures never_refused { pairs ≡ 0 → IsOk result }
+        ensures past { 7 * 2 ^ 60 < pairs → IsErr result }
     {
-        let Some(count) = cells_for(pairs) else {
-            return Err(AllocError);
-        };
-        Ok(IndexTable {
-            cells: Cells::with_len(alloc, count)?,
-            count: 0,
-        })
+        if pairs == 0 {
+            return Ok(IndexTable::new(alloc));
+        }
+        match probe::cells_for(pairs) {
+            Some(count) => with_cells(alloc, count),
+            None => Err(TryReserveError),
+        }
     }
 
+    /// How many pairs it has. No cell is looked at.
+    pub fn len(&self) -> usize
+        ensures value { result ≡ length self.now.pairs }
+        ensures fits { result ≤ self.now.limit }
+    {
+        // The count is kept beside the cells.
+        self.count
+    }
+
+    /// How many pairs fit without growing: seven eighths of the cells.
+    pub fn capacity(&self) -> usize
+        ensures value { result ≡ self.now.limit }
+        ensures most { result ≤ 7 * 2 ^ 60 }
+    {
+        self.cells.len() / 8 * 7
+    }
+
+    /// How many cells there are: none, or a power of two from 8 on.
+    pub fn cells(&self) -> usize
+        ensures value { result ≡ length self.now.row }
+        ensures size { IsSize result }
+        ensures limit { self.now.limit ≡ result / 8 * 7 }
+    {
+        self.cells.len()
+    }
+
+    /// Makes room for so many more pairs. Where they fit already nothing is done.
+    ///
+    /// It is refused only where they don't fit yet and larger cells cannot be had, and then nothing has changed.
+    /// All cells are made before the first pair moves. Pairs move by the hashes in their cells: no matcher is asked,
+    /// and no item is seen.
+    pub fn try_reserve(&mut self, more: usize) -> Result<(), TryReserveError>
+        ensures pairs { IsPermutation self.old.pairs self.new.pairs }
+        ensures limit { self.old.limit ≤ self.new.limit }
+        ensures granted { OnOk result (length self.old.pairs + more ≤ self.new.limit) }
+        ensures grown { OnOk result (self.old.limit < length self.old.pairs + more
+            → IsLeast (length self.old.pairs + more) self.new.limit) }
+        ensures same { length self.old.pairs + more ≤ self.old.limit → self.new ≡ self.old }
+        ensures refused { OnErr result (self.old.limit < length self.old.pairs + more) }
+        ensures unchanged { OnErr result (self.new ≡ self.old) }
+        ensures past { 7 * 2 ^ 60 < length self.old.pairs + more → IsErr result }
+    {
+        let limit = self.capacity();
+        let Some(wanted) = self.count.checked_add(more) else {
+            return Err(TryReserveError);
+        };
+        if wanted <= limit {
+            return Ok(());
+        }
+        let Some(count) = probe::cells_for(wanted) else {
+            return Err(TryReserveError);
+        };
+        let mut meter = Meter::new();
+        *self = regrown(self.alloc, &self.cells, count, &mut meter)?;
+        Ok(())
+    }
+
+    /// An index that stands under the hash and for which the matcher says yes, or `None` if there is none.
+    ///
+    /// It takes no memory. It looks at the cells from the home of the hash on, up to the one with the answer or to the
+    /// first empty one, so at no more than there are pairs, and one. Where there are no cells it looks at none.
     pub fn find<M: Matcher>(
         &self,
         hash: u64,
@@ -181,61 +178,78 @@ impl IndexTable {
     ) -> Option<ItemIndex>
         ensures found { IfSome result (λ ix. Contains self.now.pairs (hash, ix)) }
         ensures accepted { IfSome result (λ ix. M.accepts matcher.old ix ≡ true) }
-        ensures none { IfNone result ((ix : ℕ) → Contains self.now.pairs (hash, ix) → M.accepts matcher.old ix ≡ false) }
-        ensures asked { M.asked matcher.new ≤ M.asked matcher.old + count_by (λ p. under hash p && M.counts matcher.old p.1) self.now.pairs }
+        ensures none { IfNone result ((ix : ℕ) → Contains self.now.pairs (hash, ix)
+            → M.accepts matcher.old ix ≡ false) }
         ensures kept { M.IsKept matcher.old matcher.new }
-        ensures no_cells { length self.now.row ≡ 0 → meter.new ≡ meter.old }
-        ensures looks_none { 0 < length self.now.row → IfNone result (meter.new ≡ meter.old + stretch (hashes self.now.row) (length self.now.row) hash + 1) }
-        ensures within { 0 < length self.now.row → stretch (hashes self.now.row) (length self.now.row) hash ≤ length self.now.pairs }
-        ensures looks_some { OnSome result (meter.old + 1 ≤ meter.new) }
-        ensures looks_most { OnSome result (meter.new ≤ meter.old + stretch (hashes self.now.row) (length self.now.row) hash) }
+
+        // Only pairs under the hash are asked about, each at most once.
+        ensures asked { M.asked matcher.new ≤ M.asked matcher.old
+            + count_by (λ p. under hash p && M.counts matcher.old p.1) self.now.pairs }
+
+        ensures looks { LooksUp (hashes self.now.pairs) (length self.now.row) hash
+            result meter.old meter.new }
+        ensures within { stretch (hashes self.now.pairs) (length self.now.row) hash
+            ≤ length self.now.pairs }
+        ensures size { IsSize (length self.now.row) }
+        ensures limit { self.now.limit ≡ length self.now.row / 8 * 7 }
+        ensures fits { length self.now.pairs ≤ self.now.limit }
     {
         let count = self.cells.len();
         if count == 0 {
             return None;
         }
-        let mut at = home_of(hash, count);
+        let mut at = probe::home_of(hash, count);
         while let Some(pair) = self.cells.cell_at(at, meter) {
-            let (stored, index) = pair;
-            if stored == hash && matcher.matches(index) {
-                return Some(index);
+            let (stored, ix) = pair;
+            if stored == hash && matcher.matches(ix) {
+                return Some(ix);
             }
-            at = after(at, count);
+            at = probe::after(at, count);
         }
         None
     }
 
-    /// Adds a pair.
-    pub fn insert_reserved(&mut self, hash: u64, index: ItemIndex, meter: &mut Meter)
+    /// Adds a pair where there is room. It takes no memory, and looks at the cells up to the first empty one.
+    pub fn insert_reserved(&mut self, hash: u64, ix: ItemIndex, meter: &mut Meter)
         requires { length self.old.pairs < self.old.limit }
-        ensures added { IsPermutation ((hash, index) ∷ self.old.pairs) self.new.pairs }
+        ensures added { IsPermutation ((hash, ix) ∷ self.old.pairs) self.new.pairs }
         ensures cells { length self.new.row ≡ length self.old.row }
         ensures limit { self.new.limit ≡ self.old.limit }
-        ensures looks { meter.new ≡ meter.old + stretch (hashes self.old.row) (length self.old.row) hash + 1 }
+        ensures looks { meter.new
+            ≡ meter.old + stretch (hashes self.old.pairs) (length self.old.row) hash + 1 }
+        ensures within { stretch (hashes self.old.pairs) (length self.old.row) hash
+            ≤ length self.old.pairs }
     {
-        let at = first_empty(&self.cells, hash, meter);
-        self.cells.put(at, hash, index);
+        let at = probe::first_empty(&self.cells, hash, meter);
+        self.cells.put(at, hash, ix);
         self.count += 1;
     }
 
-    /// Takes a pair out.
-    pub fn remove(&mut self, hash: u64, index: ItemIndex, meter: &mut Meter)
-        requires { Contains self.old.pairs (hash, index) }
-        ensures taken { IsPermutation self.old.pairs ((hash, index) ∷ self.new.pairs) }
+    /// Takes a pair out. It takes no memory, and looks at the cells from the home of the hash on up to the first empty
+    /// one. No mark is left: each pair behind the hole moves into it, where the hole lies on the way from its home.
+    pub fn remove(&mut self, hash: u64, ix: ItemIndex, meter: &mut Meter)
+        requires { Contains self.old.pairs (hash, ix) }
+        ensures taken { IsPermutation self.old.pairs ((hash, ix) ∷ self.new.pairs) }
         ensures cells { length self.new.row ≡ length self.old.row }
         ensures limit { self.new.limit ≡ self.old.limit }
-        ensures looks { meter.new ≡ meter.old + stretch (hashes self.old.row) (length self.old.row) hash + 1 }
+        ensures looks { meter.new
+            ≡ meter.old + stretch (hashes self.old.pairs) (length self.old.row) hash + 1 }
+        ensures within { stretch (hashes self.old.pairs) (length self.old.row) hash
+            ≤ length self.old.pairs }
     {
-        let at = seek(&self.cells, hash, index, meter);
-        close_up(&mut self.cells, hash, at, meter);
+        let at = probe::seek(&self.cells, hash, ix, meter);
+        probe::close_up(&mut self.cells, hash, at, meter);
         self.count -= 1;
     }
 
-    /// How many cells there are.
-    pub fn cells(&self) -> usize
-        ensures { result ≡ length self.now.row }
+    /// Takes all pairs out. The cells stay, and none is looked at.
+    pub fn clear(&mut self)
+        ensures pairs { self.new.pairs ≡ [] }
+        ensures cells { length self.new.row ≡ length self.old.row }
+        ensures limit { self.new.limit ≡ self.old.limit }
     {
-        self.cells.len()
+        self.cells.clear();
+        self.count = 0;
     }
 
     /// What cell `i` has. It has something exactly where its place is full.
@@ -243,44 +257,28 @@ impl IndexTable {
         requires { i < length self.now.row }
         ensures value { result ≡ cell self.now.row i }
         ensures look { meter.new ≡ meter.old + 1 }
-        ensures full { IsSome result ↔ IsFull (hashes self.now.row) (length self.now.row) i }
+        ensures full { IsSome result ↔ IsFull (hashes self.now.pairs) (length self.now.row) i }
     {
         self.cells.cell_at(i, meter)
     }
 
-    /// How many pairs it has.
-    pub fn len(&self) -> usize
-        ensures { result ≡ length self.now.pairs }
+    /// A table with the same pairs in the same cells. It is refused where its memory cannot be had.
+    pub fn clone(&self) -> Result<IndexTable, TryReserveError>
+        ensures { IfOk result (λ t. t ≡ self.now) }
     {
-        self.count
-    }
-
-    /// How many pairs fit.
-    pub fn capacity(&self) -> usize
-        ensures { result ≡ self.now.limit }
-    {
-        self.cells.len() / 8 * 7
-    }
-
-    /// Makes room for so many more pairs.
-    pub fn try_reserve(&mut self, alloc: Global, more: usize) -> Result<(), AllocError>
-        ensures pairs { IsPermutation self.old.pairs self.new.pairs }
-        ensures same { length self.old.pairs + more ≤ self.old.limit → self.new ≡ self.old }
-        ensures granted { OnOk result (self.old.limit < length self.old.pairs + more → IsLeast (length self.old.pairs + more) self.new.limit) }
-        ensures refused { OnErr result (self.new ≡ self.old) }
-        ensures only { OnErr result (self.old.limit < length self.old.pairs + more) }
-    {
-        let limit = self.cells.len() / 8 * 7;
-        let Some(wanted) = self.count.checked_add(more) else {
-            return Err(AllocError);
-        };
-        if wanted <= limit {
-            return Ok(());
+        let count = self.cells.len();
+        let mut meter = Meter::new();
+        let mut cells = Cells::with_len(self.alloc, count)?;
+        for i in 0..count {
+            if let Some(pair) = self.cells.cell_at(i, &mut meter) {
+                let (hash, ix) = pair;
+                cells.put(i, hash, ix);
+            }
         }
-        let Some(count) = cells_for(wanted) else {
-            return Err(AllocError);
-        };
-        *self = regrown(alloc, &self.cells, count)?;
-        Ok(())
+        Ok(IndexTable {
+            alloc: self.alloc,
+            cells,
+            count: self.count,
+        })
     }
 }

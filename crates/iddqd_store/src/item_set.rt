@@ -1,17 +1,33 @@
-//! Items in slots. A freed slot is used again.
+//! Items in slots.
 ghost use Rattle.std.specs.Prelude.{◌≡◌, ◌+◌, ◌-◌, ◌<◌, ◌≤◌, [], ◌∷◌, IsSome, OnSome, IfNone, IfSome, is_some, MatchOption, OnOk, OnErr, Some, IsPermutation, option_copied, length, ℕ, None, slice_set};
 ghost use Rattle.std.specs.Option.{option_copied_mut};
 ghost use Rattle.std.specs.Borrow.{Lends, sem};
-ghost use Rattle.iddqd_store.specs.Slots.{get, IsLive, live_count, members, Updates, NextLive};
+ghost use Rattle.iddqd_store.specs.Slots.{get, IsLive, live_count, members, Updates, Exchanges, NextLive};
 ghost use Rattle.iddqd_store.specs.SlotChain.{item_of};
+
+mod clone;
+mod compact;
+#[cfg(test)]
+mod tests;
+mod values;
 
 use crate::TryReserveError;
 use crate::item_index::ItemIndex;
 use std::alloc::Global;
 use std::marker::Model;
 use std::mem;
+pub use values::{IntoValues, Values};
 
-/// Items in slots.
+/// Items in slots, each found by the number of its slot. Contracts see the slots, each with its item or free, and how many items fit.
+///
+/// A slot keeps its number until `compact` or `shrink_to`, and a freed slot is used again before a new one. Only `try_reserve`, `shrink_to` and `clone` take memory, and only the first two change how many items fit:
+///
+/// ```
+/// let mut set = ItemSet::new(alloc);
+/// set.try_reserve(1)?;
+/// let ix = set.insert_reserved("a");
+/// set.remove(ix);
+/// ```
 #[derive(Drop)]
 pub struct ItemSet<T> {
     slots: Vec<Slot<T>>,
@@ -24,6 +40,7 @@ pub struct ItemSet<T> {
 #[derive(Drop)]
 enum Slot<T> {
     Live(T),
+    // The next free slot, or the number of slots where there is none.
     Free(usize),
 }
 
@@ -45,6 +62,12 @@ impl<T> Model for ItemSet<T> {
 impl<T> Slot<T> {
     ghost use Rattle.iddqd_store.specs.contracts.item_set.Slot.{the_row};
 
+    fn is_live(&self) -> bool
+        ensures { result ≡ is_some (item_of self.now) }
+    {
+        matches!(self, Slot::Live(_))
+    }
+
     fn item_mut(&mut self) -> &mut T
         requires { IsSome (item_of self.old) }
         ensures* lends { sem 𝓛 (Lends (the_row T.row) T.row self.entry result Slot.Live) }
@@ -60,7 +83,7 @@ impl<T> Slot<T> {
 impl<T> ItemSet<T> {
     ghost use Rattle.iddqd_store.specs.Lends.{lends_get, lends_item};
 
-    /// An empty set, which takes no memory.
+    /// An empty set, which takes no memory until room is made in it.
     pub fn new(alloc: Global) -> Self
         ensures slots { result.slots ≡ [] }
         ensures capacity { result.capacity ≡ 0 }
@@ -72,7 +95,7 @@ impl<T> ItemSet<T> {
         }
     }
 
-    /// The number of live slots.
+    /// The number of live slots. It takes one step.
     pub fn len(&self) -> usize
         ensures value { result ≡ live_count self.now.slots }
         ensures fits { result ≤ self.now.capacity }
@@ -82,12 +105,13 @@ impl<T> ItemSet<T> {
 
     /// How many items fit without growing.
     pub fn capacity(&self) -> usize
-        ensures { result ≡ self.now.capacity }
+        ensures value { result ≡ self.now.capacity }
+        ensures fits { live_count self.now.slots ≤ result }
     {
         self.slots.capacity()
     }
 
-    /// The item of a live slot.
+    /// The item of a live slot, and `None` for any other number.
     pub fn get(&self, ix: ItemIndex) -> Option<&T>
         ensures { option_copied result ≡ get self.now.slots ix }
     {
@@ -97,14 +121,13 @@ impl<T> ItemSet<T> {
         }
     }
 
-    /// Whether a slot is live.
-    pub fn is_live(&self, ix: ItemIndex) -> bool
+    fn is_live(&self, ix: ItemIndex) -> bool
         ensures { result ≡ is_some (get self.now.slots ix) }
     {
         self.get(ix).is_some()
     }
 
-    /// The item of a live slot, for writing.
+    /// The item of a live slot, for writing, and `None` for any other number.
     pub fn get_mut(&mut self, ix: ItemIndex) -> Option<&mut T>
         ensures* writes_back { sem 𝓛 (lends_get T.row self.entry ix result) }
         ensures value { option_copied_mut result ≡ get self.old.slots ix }
@@ -124,7 +147,7 @@ impl<T> ItemSet<T> {
         self.slots[at].item_mut()
     }
 
-    /// The first live slot from this number on.
+    /// The first live slot from this number on. It looks at each slot up to that one.
     pub fn next_live(&self, from: usize) -> Option<ItemIndex>
         ensures { NextLive self.now.slots from result }
     {
@@ -137,11 +160,12 @@ impl<T> ItemSet<T> {
         None
     }
 
-    /// Makes room for so many more items.
+    /// Makes room for so many more items. It takes no memory where they fit already, and is refused only where memory for more slots is.
     pub fn try_reserve(&mut self, more: usize) -> Result<(), TryReserveError>
         ensures slots { self.new.slots ≡ self.old.slots }
         ensures capacity { self.old.capacity ≤ self.new.capacity }
         ensures ok { OnOk result (live_count self.old.slots + more ≤ self.new.capacity) }
+        ensures had_room { live_count self.old.slots + more ≤ self.old.capacity → self.new.capacity ≡ self.old.capacity }
         ensures err { OnErr result (self.old.capacity < live_count self.old.slots + more) }
     {
         if self.slots.capacity() - self.live >= more {
@@ -154,13 +178,14 @@ impl<T> ItemSet<T> {
         }
     }
 
-    /// Puts an item into a free slot.
+    /// Puts an item into a free slot: the one that was freed last, or a new one where every slot is live.
     pub fn insert_reserved(&mut self, item: T) -> ItemIndex
         requires { live_count self.old.slots < self.old.capacity }
         ensures free { get self.old.slots result ≡ None }
         ensures updates { Updates self.old.slots self.new.slots result (Some item) }
         ensures members { IsPermutation (members self.new.slots) ((result, item) ∷ members self.old.slots) }
         ensures count { live_count self.new.slots ≡ live_count self.old.slots + 1 }
+        ensures reused { live_count self.old.slots < length self.old.slots → length self.new.slots ≡ length self.old.slots }
         ensures capacity { self.new.capacity ≡ self.old.capacity }
     {
         let at = self.head;
@@ -177,9 +202,10 @@ impl<T> ItemSet<T> {
         ItemIndex::new(at)
     }
 
-    /// Takes an item out and frees its slot.
+    /// Takes an item out and frees its slot, which is the next to be used.
     pub fn remove(&mut self, ix: ItemIndex) -> Option<T>
         ensures value { result ≡ get self.old.slots ix }
+        ensures slots { OnSome result (self.new.slots ≡ slice_set self.old.slots ix None) }
         ensures updates { Updates self.old.slots self.new.slots ix None }
         ensures members { IfSome result (λ x. IsPermutation (members self.old.slots) ((ix, x) ∷ members self.new.slots)) }
         ensures absent { IfNone result (self.new ≡ self.old) }
@@ -209,17 +235,18 @@ impl<T> ItemSet<T> {
         }
     }
 
-    /// Puts an item in the place of another.
+    /// Puts an item in the place of another, which it gives back.
     pub fn replace(&mut self, ix: ItemIndex, item: T) -> T
         requires { IsLive self.old.slots ix }
         ensures value { get self.old.slots ix ≡ Some result }
         ensures slots { self.new.slots ≡ slice_set self.old.slots ix (Some item) }
+        ensures members { Exchanges self.old.slots self.new.slots ix result item }
         ensures capacity { self.new.capacity ≡ self.old.capacity }
     {
         mem::replace(self.item_mut(ix.number()), item)
     }
 
-    /// Takes every item out.
+    /// Drops every item, and keeps the room for them.
     pub fn clear(&mut self)
     where
         T: Drop,

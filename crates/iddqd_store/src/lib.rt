@@ -19,7 +19,7 @@ pub use equivalent::Equivalent;
 pub use error::{DuplicateItem, MemoryRefused, TryReserveError};
 pub use index_table::IndexTable;
 pub use item_index::ItemIndex;
-pub use item_set::ItemSet;
+pub use item_set::{IntoValues, ItemSet, Values};
 pub use key_matcher::KeyMatcher;
 pub use matcher::Matcher;
 pub use meter::Meter;

@@ -2,10 +2,11 @@
 ghost use Rattle.std.specs.Prelude.{◌≡◌, ◌<◌, ◌≤◌, ◌++◌, ◌∷◌, ◌==◌, [], length, option_copied, slice_get};
 ghost use Rattle.std.specs.Option.{option_to_list};
 
+use crate::item_index::ItemIndex;
 use std::marker::Model;
 use std::mem;
 
-/// A list of at most two items, which takes no memory of its own.
+/// A list of at most two items, kept in place: no call takes memory. Contracts see a list.
 #[derive(Drop)]
 pub struct UpToTwo<T> {
     first: Option<T>,
@@ -64,7 +65,7 @@ impl<T> UpToTwo<T> {
         }
     }
 
-    /// Puts an item behind the others.
+    /// Puts an item behind the others, of which there are fewer than two.
     pub fn push(&mut self, item: T)
         requires { length self.old < 2 }
         ensures { self.new ≡ self.old ++ item ∷ [] }
@@ -80,12 +81,39 @@ impl<T> UpToTwo<T> {
         }
     }
 
-    /// Takes the first item out.
+    /// Takes the first item out. The others move up.
     pub fn pop_front(&mut self) -> Option<T>
         ensures first { result ≡ slice_get self.old 0 }
         ensures rest { self.old ≡ option_to_list result ++ self.new }
     {
         let second = self.second.take();
         mem::replace(&mut self.first, second)
+    }
+}
+
+impl UpToTwo<ItemIndex> {
+    ghost use Rattle.iddqd_store.specs.Searched.{lists, with_found};
+
+    /// Whether this slot is among them.
+    pub fn lists(&self, ix: ItemIndex) -> bool
+        ensures { result ≡ lists self.now ix }
+    {
+        match (&self.first, &self.second) {
+            (None, _) => false,
+            (Some(first), None) => ix == *first,
+            (Some(first), Some(second)) => ix == *first || ix == *second,
+        }
+    }
+
+    /// Puts the slot that a search found behind the others, unless it is among them.
+    pub fn push_found(&mut self, found: Option<ItemIndex>)
+        requires { length self.old < 2 }
+        ensures { self.new ≡ with_found self.old found }
+    {
+        if let Some(ix) = found {
+            if !self.lists(ix) {
+                self.push(ix);
+            }
+        }
     }
 }

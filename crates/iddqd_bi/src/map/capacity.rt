@@ -1,1 +1,74 @@
-//! capacity
+//! Room for items.
+ghost use Rattle.std.specs.Prelude.{◌≡◌, ◌+◌, ◌<◌, ◌≤◌, length, ◌==◌, OnOk, OnErr};
+ghost use Rattle.iddqd_store.specs.Map.{bag, Keeps};
+ghost use Rattle.iddqd_store.specs.Bag.{IsSound};
+ghost use Rattle.iddqd_bi.specs.Keys.{ranks};
+
+use super::BiHashMap;
+use crate::item::BiHashItem;
+use iddqd_store::TryReserveError;
+use std::hash::{BuildHasher, Hash};
+
+impl<T: BiHashItem, S: BuildHasher> BiHashMap<T, S> {
+    /// The number of items.
+    pub fn len(&self) -> usize
+        ensures value { result ≡ length (bag self.now) }
+        ensures sound { IsSound (ranks T.BiHashItem T.K1.Hash T.K2.Hash) (bag self.now) }
+    {
+        self.items.len()
+    }
+
+    /// Whether there are no items.
+    pub fn is_empty(&self) -> bool
+        ensures { result ≡ (length (bag self.now) == 0) }
+    {
+        self.len() == 0
+    }
+
+    /// How many items fit without growing: the least of what the slots and each table hold.
+    pub fn capacity(&self) -> usize
+        ensures value { result ≡ self.now.capacity }
+        ensures holds { length (bag self.now) ≤ result }
+    {
+        let _ = (self.items.len(), self.first.len(), self.second.len());
+        self.items
+            .capacity()
+            .min(self.first.capacity().min(self.second.capacity()))
+    }
+
+    /// Makes room for so many more items.
+    pub(crate) fn grow(&mut self, more: usize) -> Result<(), TryReserveError>
+        ensures slots { self.new.slots ≡ self.old.slots }
+        ensures builder { self.new.builder ≡ self.old.builder }
+        ensures no_less_room { self.old.capacity ≤ self.new.capacity }
+        ensures same_room { length (bag self.old) + more ≤ self.old.capacity → self.new.capacity ≡ self.old.capacity }
+        ensures granted { OnOk result (length (bag self.old) + more ≤ self.new.capacity) }
+        ensures refused { OnErr result (self.old.capacity < length (bag self.old) + more) }
+    {
+        if let Err(refusal) = self.items.try_reserve(more) {
+            return Err(refusal);
+        }
+        if let Err(refusal) = self.first.try_reserve(more) {
+            return Err(refusal);
+        }
+        if let Err(refusal) = self.second.try_reserve(more) {
+            return Err(refusal);
+        }
+        Ok(())
+    }
+
+    /// Makes room for one more item, where the map is full.
+    pub(crate) fn make_room(&mut self) -> Result<(), TryReserveError>
+        ensures slots { self.new.slots ≡ self.old.slots }
+        ensures builder { self.new.builder ≡ self.old.builder }
+        ensures no_less_room { self.old.capacity ≤ self.new.capacity }
+        ensures had_room { length (bag self.old) < self.old.capacity → self.new ≡ self.old }
+        ensures granted { OnOk result (length (bag self.old) < self.new.capacity) }
+        ensures refused { OnErr result (length (bag self.old) ≡ self.old.capacity) }
+    {
+        if self.len() == self.capacity() {
+            return self.grow(1);
+        }
+        Ok(())
+    }
+}

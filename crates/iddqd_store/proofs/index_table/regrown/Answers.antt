@@ -1,17 +1,13 @@
-use Rattle.std.proofs.Common.{arith, ℕ, ◌≡◌, ◌+◌, ◌<◌, [], length, take, None, Some, sym, ◌∙◌, ap, refl}
+use Rattle.std.proofs.Common.{arith, ℕ, ◌≡◌, ◌+◌, ◌<◌, [], length, take, None, Some, sym, ◌∙◌, ap}
 use Rattle.std.proofs.lemmas.List.Sorted.{IsPermutation-refl, IsPermutation-push_more, length_permutation}
-use Rattle.std.proofs.lemmas.List.{length-replicate, length_push}
+use Rattle.std.proofs.lemmas.List.{length_push}
 use Rattle.iddqd_store.specs.Ring.{held, cell}
 use Rattle.iddqd_store.proofs.Change.{held_more, held_no_more, held_front}
-use Rattle.iddqd_store.proofs.Size.{table_empty, length_held_empty, held-empty}
 use Rattle.iddqd_store.proofs.index_table.regrown.Goals as goal
 use Rattle.iddqd_store.proofs.index_table.regrown.Goals.{in-Some, in_default}
 
-pub invariant_of-grown : goal.invariant_of-grown
-invariant_of-grown c = rw c.in_ok-with_len.ensures (table_empty c.args.count, length_held_empty c.args.count)
-
 pub loop-i-init : goal.loop-i-init
-loop-i-init c = rw c.in_ok-with_len.ensures record { pairs = rw held-empty (IsPermutation-refl []); size = rw length-replicate refl }
+loop-i-init c = record { pairs = rw c.in_ok-grown.ensures.empty (IsPermutation-refl []); size = c.in_ok-grown.ensures.limit }
 
 pub insert_reserved-requires : goal.insert_reserved-requires
 insert_reserved-requires c =
@@ -23,7 +19,7 @@ insert_reserved-requires c =
     let m : length (held (take (c.loop-i.i + 1) cs)) ≡ length (held (take c.loop-i.i cs)) + 1 = ap length (held_more cs c.loop-i.i x l is) ∙ length_push (held (take c.loop-i.i cs)) x in
     let f = held_front cs (c.loop-i.i + 1) in
     let p : length c.loop-i.grown.pairs ≡ length (held (take c.loop-i.i cs)) = length_permutation _ _ i.pairs in
-    rw i.size (omega (arith, c.requires))
+    rw i.size (omega (arith, c.requires.fits))
 
 pub loop-i-preserved : goal.loop-i-preserved
 loop-i-preserved c =

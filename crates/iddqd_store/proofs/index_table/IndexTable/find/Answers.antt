@@ -3,9 +3,9 @@ use Rattle.std.specs.Prelude.{◌≢◌, nat_lt, if◌then◌else◌}
 use Rattle.std.specs.List.{Contains, count_by}
 use Rattle.iddqd_store.specs.Table.{Table}
 use Rattle.iddqd_store.specs.Ring.{cell, held, stretch}
-use Rattle.iddqd_store.specs.Table.{hashes}
+use Rattle.iddqd_store.specs.Table.{LooksUp, hashes}
 use Rattle.iddqd_store.proofs.Stretch.{place}
-use Rattle.iddqd_store.proofs.Within.{stretch_within}
+use Rattle.iddqd_store.proofs.Within.{stretch_le_pairs}
 use Rattle.iddqd_store.proofs.Walk.{Walk, met, counted, walk_more, walk_end, walk_meets, refused_more, met_under, met_grows, met_within, found_there, walk_found}
 use Rattle.iddqd_store.proofs.index_table.IndexTable.find.Goals as goal
 use Rattle.iddqd_store.proofs.index_table.IndexTable.find.Goals.{else-stored-hash-via-then-stored-hash+else-matches, else-stored-hash-via-else-stored-hash}
@@ -85,8 +85,8 @@ returns-then-matches-clause-asked g c =
 pub returns-then-matches-clause-kept : goal.returns-then-matches-clause-kept
 returns-then-matches-clause-kept g c = g.met.M.Matcher.kept_trans _ _ _ c.loop-pair.invariant.kept c.matches.ensures.kept
 
-pub returns-then-matches-clause-looks_most : goal.returns-then-matches-clause-looks_most
-returns-then-matches-clause-looks_most g c =
+pub returns-then-matches-clause-looks : goal.returns-then-matches-clause-looks
+returns-then-matches-clause-looks g c =
     let row = c.self.inside.cells in
     let i = c.loop-pair.invariant in
     let s : ℕ = c.loop-pair.meter - c.args.meter.now in
@@ -95,8 +95,15 @@ returns-then-matches-clause-looks_most g c =
     let x : ℕ × ℕ = c.in-Some.pair in
     let at_x : cell row c.loop-pair.at ≡ Some x = sym c.cell_at.ensures.value ∙ c.in-Some.is in
     let there : cell row c.loop-pair.at ≢ None = λ e. cc (e, at_x) in
-    let l : t ≤ stretch (hashes row) (length row) c.args.hash = walk_found row c.args.hash c.loop-pair.at s t c.self.invariant.0 i.walk there (omega (arith, i.looked, look)) in
-    subst (λ (r : Table). c.cell_at.new.meter ≤ c.args.meter.now + stretch (hashes r.row) (length r.row) c.args.hash) c.self.view_is (omega (arith, i.looked, look, l))
+    let l : t ≤ stretch (hashes (held row)) (length row) c.args.hash = walk_found row c.args.hash c.loop-pair.at s t c.self.invariant.0 i.walk there (omega (arith, i.looked, look)) in
+    let within : s < length row = i.walk.within in
+    let all : LooksUp (hashes (held row)) (length row) c.args.hash (Some x.1) c.args.meter.now c.cell_at.new.meter = record {
+      no_cells = λ z. absurd (omega arith);
+      miss = λ _. tt;
+      hit_least = omega (arith, i.looked, look);
+      hit_most = omega (arith, i.looked, look, l);
+    } in
+    subst (λ (r : Table). LooksUp (hashes r.pairs) (length r.row) c.args.hash (Some x.1) c.args.meter.now c.cell_at.new.meter) c.self.view_is all
 
 pub returns-clause-none : goal.returns-clause-none
 returns-clause-none g c index h =
@@ -116,20 +123,25 @@ returns-clause-asked g c =
     let all : g.M.Matcher.asked c.loop-pair.matcher ≤ g.M.Matcher.asked c.args.matcher.now + count_by (counted c.args.hash counts) (held row) = omega (arith, i.count, m) in
     subst (λ (r : Table). g.M.Matcher.asked c.loop-pair.matcher ≤ g.M.Matcher.asked c.args.matcher.now + count_by (counted c.args.hash counts) r.pairs) c.self.view_is all
 
-pub returns-clause-looks_none : goal.returns-clause-looks_none
-returns-clause-looks_none g c _ =
+pub returns-clause-looks : goal.returns-clause-looks
+returns-clause-looks g c =
     let row = c.self.inside.cells in
     let i = c.loop-pair.invariant in
     let s : ℕ = c.loop-pair.meter - c.args.meter.now in
     let look : c.cell_at.new.meter ≡ c.loop-pair.meter + 1 = c.cell_at.ensures.look in
     let none : cell row c.loop-pair.at ≡ None = sym c.cell_at.ensures.value ∙ c.in_default.is in
-    let e : stretch (hashes row) (length row) c.args.hash ≡ s = walk_end row c.args.hash c.loop-pair.at s c.self.invariant.0 i.walk none in
-    subst (λ (r : Table). c.cell_at.new.meter ≡ c.args.meter.now + stretch (hashes r.row) (length r.row) c.args.hash + 1) c.self.view_is (omega (arith, i.looked, look, e))
+    let e : stretch (hashes (held row)) (length row) c.args.hash ≡ s = walk_end row c.args.hash c.loop-pair.at s c.self.invariant.0 i.walk none in
+    let within : s < length row = i.walk.within in
+    let all : LooksUp {A = ℕ} (hashes (held row)) (length row) c.args.hash None c.args.meter.now c.cell_at.new.meter = record {
+      no_cells = λ z. absurd (omega arith);
+      miss = λ _. omega (arith, i.looked, look, e);
+      hit_least = tt;
+      hit_most = tt;
+    } in
+    subst (λ (r : Table). LooksUp {A = ℕ} (hashes r.pairs) (length r.row) c.args.hash None c.args.meter.now c.cell_at.new.meter) c.self.view_is all
 
 pub returns-then-matches-clause-within : goal.returns-then-matches-clause-within
-returns-then-matches-clause-within g c =
-    subst (λ (r : Table). 0 < length r.row → stretch (hashes r.row) (length r.row) c.args.hash ≤ length r.pairs) c.self.view_is (stretch_within c.self.inside.cells c.args.hash c.self.invariant.0)
+returns-then-matches-clause-within g c = stretch_le_pairs c.args.self.now.pairs (length c.args.self.now.row) c.args.hash
 
 pub returns-clause-within : goal.returns-clause-within
-returns-clause-within g c =
-    subst (λ (r : Table). 0 < length r.row → stretch (hashes r.row) (length r.row) c.args.hash ≤ length r.pairs) c.self.view_is (stretch_within c.self.inside.cells c.args.hash c.self.invariant.0)
+returns-clause-within g c = stretch_le_pairs c.args.self.now.pairs (length c.args.self.now.row) c.args.hash

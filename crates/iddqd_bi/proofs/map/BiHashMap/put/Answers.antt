@@ -1,0 +1,33 @@
+use Rattle.std.proofs.Common.{arith, subst, IsPermutation, ◌∷◌, ℕ, List}
+use Rattle.std.proofs.lemmas.List.Sorted.{IsPermutation-map, IsPermutation-sym}
+use Rattle.iddqd_store.proofs.IndexLemmas.{length-live_items}
+use Rattle.iddqd_bi.proofs.MapLemmas.{length1, length2, two_lawful, IsIndexed-insert}
+use Rattle.iddqd_bi.proofs.map.BiHashMap.put.Goals as goal
+
+pub insert_reserved-ix-requires : goal.insert_reserved-ix-requires
+insert_reserved-ix-requires g c =
+    let room = rw (← c.self.view_is) at c.requires.room in
+    omega (arith, length-live_items c.self.inside.items.slots)
+
+pub insert_reserved-requires : goal.insert_reserved-requires
+insert_reserved-requires g c =
+    let room = rw (← c.self.view_is) at c.requires.room in
+    omega (arith, length1 c.self.invariant)
+
+pub insert_reserved-requires-2 : goal.insert_reserved-requires-2
+insert_reserved-requires-2 g c =
+    let room = rw (← c.self.view_is) at c.requires.room in
+    omega (arith, length2 c.self.invariant)
+
+pub invariant_of-self : goal.invariant_of-self
+invariant_of-self g c =
+    IsIndexed-insert (two_lawful _ g.T.BiHashItem.key1 _ g.T.BiHashItem.key2 g.met.T.K1.Eq.laws g.met.T.K2.Eq.laws) c.self.invariant _ _ _ _ c.args.item _ _
+    (rw (← c.self.view_is) at c.requires.hash1)
+    (rw (← c.self.view_is) at c.requires.hash2)
+    (rw (← c.self.view_is) at c.requires.free)
+    c.insert_reserved-ix.ensures.members
+    (IsPermutation-sym _ _ c.insert_reserved.ensures.added)
+    (IsPermutation-sym _ _ c.insert_reserved-2.ensures.added)
+
+pub returns-clause-items : goal.returns-clause-items
+returns-clause-items g c = rw (← c.self.view_is) (IsPermutation-map (λ m. m.1) _ _ c.insert_reserved-ix.ensures.members)

@@ -1,0 +1,13 @@
+use Rattle.std.proofs.Common.{rules}
+use borrow.Author.Rules.{lives}
+use Rattle.iddqd_bi.proofs.MapLemmas.{search1, crowd1}
+use Rattle.iddqd_bi.proofs.map.BiHashMap.slot1_with.Goals as goal
+
+pub returns-clause-found : goal.returns-clause-found
+returns-clause-found g c =
+    rw (← c.self.view_is) (search1 c.self.invariant _ c.args.hash c.find.result (rw (← c.self.view_is) at c.requires.one) (rw (← c.self.view_is) at c.requires.hashed) c.find.ensures.accepted c.find.ensures.none)
+
+pub returns-clause-asked : goal.returns-clause-asked
+returns-clause-asked g c =
+    let crowd = crowd1 c.self.invariant c.args.hash in
+    rw (← c.self.view_is, ← crowd) (search (rules, lives, c.find.ensures.asked))

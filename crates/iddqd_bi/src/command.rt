@@ -1,0 +1,47 @@
+//! Commands on a map, as values, and what takes their replies.
+ghost use Rattle.std.specs.Prelude.{Result};
+ghost use Rattle.iddqd_store.specs.Reply.{Reply};
+ghost use Rattle.iddqd_bi.specs.Values.{value_of};
+
+use crate::item::BiHashItemMut;
+use iddqd_store::{DuplicateItem, UpToTwo};
+
+/// A call of the map, as a value.
+#[derive(Drop)]
+pub enum BiCommand<T: BiHashItemMut> {
+    /// `insert_unique`.
+    InsertUnique(T),
+    /// `get1`.
+    Get1(T::K1),
+    /// `get2`.
+    Get2(T::K2),
+    /// `remove1`.
+    Remove1(T::K1),
+}
+
+/// What a command answers. It may lend items of the map.
+#[derive(Drop)]
+pub enum BiReply<'m, T: BiHashItemMut> {
+    /// The command was carried out.
+    Done,
+    /// The item was refused since these items of the map conflict with it, in the order of the keys.
+    Duplicate(DuplicateItem<T, UpToTwo<&'m T>>),
+    /// The item that was looked up, if there is one.
+    Found(Option<&'m T>),
+    /// The item that was taken out, if there was one.
+    Taken(Option<T>),
+    /// The item was refused for want of memory.
+    Memory(T),
+}
+
+/// What takes the replies of a run, one by one.
+pub trait BiSink<T: BiHashItemMut> {
+    type Fault;
+
+    // From before, the sink may take the reply with this answer, and is after it then.
+    ghost took: { Self → Reply T T.Data → Result (Unit {0}) Self.Fault → Self → Type 0 };
+
+    /// Takes a reply, or answers a fault, at which the run ends.
+    fn take(&mut self, reply: BiReply<'_, T>) -> Result<(), Self::Fault>
+        ensures { took self.old (value_of reply.entry) result self.new };
+}

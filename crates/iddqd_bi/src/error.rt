@@ -1,0 +1,129 @@
+//! Why an insert is refused.
+ghost use Rattle.std.specs.Prelude.{◌≡◌, map};
+ghost use Rattle.iddqd_store.specs.Map.{bag};
+ghost use Rattle.iddqd_store.specs.Bag.{order};
+ghost use Rattle.iddqd_store.specs.Searched.{items_at};
+ghost use Rattle.iddqd_bi.specs.Keys.{keys, ranks};
+
+use crate::item::BiHashItem;
+use crate::map::BiHashMap;
+use iddqd_store::{ItemIndex, UpToTwo};
+use std::hash::{BuildHasher, Hash};
+
+/// An item that an insert refused, and why, with no hold on the map.
+#[derive(Drop)]
+pub(crate) enum Refusal<T> {
+    /// These slots have items that conflict with it, in the order of the keys.
+    Duplicate(T, UpToTwo<ItemIndex>),
+    /// There was no memory for it.
+    Memory(T),
+}
+
+/// Why an insert was refused. It holds the map, so that the caller knows the map exactly.
+#[derive(Drop)]
+pub enum InsertError<'a, T: BiHashItem, S: BuildHasher> {
+    /// Items of the map conflict with the new one.
+    Duplicate(DuplicateError<'a, T, S>),
+    /// Nothing conflicts with the new item, but the map is full and there was no memory to grow.
+    Memory(MemoryError<'a, T, S>),
+}
+
+/// An item that was refused since others have its keys, with the map that has them.
+pub struct DuplicateError<'a, T: BiHashItem, S: BuildHasher> {
+    pub(crate) map: &'a mut BiHashMap<T, S>,
+    pub(crate) new_item: T,
+    pub(crate) found: UpToTwo<ItemIndex>,
+    ghost found_is: { items_at map.now.slots found ≡ order (ranks T.BiHashItem (keys T.K1.eq T.K1.hash_input) (keys T.K2.eq T.K2.hash_input)) (bag map.now) new_item },
+}
+
+/// An item that was refused for want of memory, with the map that has no room for it.
+pub struct MemoryError<'a, T: BiHashItem, S: BuildHasher> {
+    pub(crate) map: &'a mut BiHashMap<T, S>,
+    pub(crate) new_item: T,
+}
+
+impl<T: BiHashItem, S: BuildHasher> DuplicateError<'_, T, S> {
+    /// The item that was refused.
+    pub fn new_item(&self) -> &T
+        ensures { result.now ≡ self.now.new_item }
+    {
+        &self.new_item
+    }
+
+    /// The items of the map that conflict with it, in the order of the keys. Nothing is searched again.
+    pub fn duplicates(&self) -> UpToTwo<&T>
+        ensures { map (λ item. item.now) result ≡ order (ranks T.BiHashItem T.K1.Hash T.K2.Hash) (bag self.now.map.now) self.now.new_item }
+    {
+        let map = &*self.map;
+        map.items_of(&self.found)
+    }
+
+    /// The item that was refused, by value.
+    pub fn into_item(self) -> T
+        ensures item { result ≡ self.entry.new_item }
+        ensures map { self.exit.0.now ≡ self.entry.map.now }
+    {
+        let DuplicateError {
+            map: _,
+            new_item,
+            found: _,
+        } = self;
+        new_item
+    }
+}
+
+impl<'a, T: BiHashItem, S: BuildHasher> DuplicateError<'a, T, S> {
+    /// The item that was refused, by value, with the items of the map that conflict with it, in the order of the keys.
+    pub fn into_parts(self) -> (T, UpToTwo<&'a T>)
+        ensures item { result.0 ≡ self.entry.new_item }
+        ensures duplicates { map (λ item. item.now) result.1 ≡ order (ranks T.BiHashItem T.K1.Hash T.K2.Hash) (bag self.entry.map.now) self.entry.new_item }
+    {
+        let DuplicateError {
+            map,
+            new_item,
+            found,
+        } = self;
+        let map: &'a BiHashMap<T, S> = map;
+        (new_item, map.items_of(&found))
+    }
+}
+
+impl<T: BiHashItem, S: BuildHasher> MemoryError<'_, T, S> {
+    /// The item that was refused.
+    pub fn new_item(&self) -> &T
+        ensures { result.now ≡ self.now.new_item }
+    {
+        &self.new_item
+    }
+
+    /// The item that was refused, by value.
+    pub fn into_item(self) -> T
+        ensures item { result ≡ self.entry.new_item }
+        ensures map { self.exit.0.now ≡ self.entry.map.now }
+    {
+        let MemoryError { map: _, new_item } = self;
+        new_item
+    }
+}
+
+impl<T: BiHashItem + Drop, S: BuildHasher> Drop for DuplicateError<'_, T, S> {
+    fn drop(self)
+        ensures { self.exit.0.now ≡ self.entry.map.now }
+    {
+        let DuplicateError {
+            map: _,
+            new_item,
+            found: _,
+        } = self;
+        drop(new_item);
+    }
+}
+
+impl<T: BiHashItem + Drop, S: BuildHasher> Drop for MemoryError<'_, T, S> {
+    fn drop(self)
+        ensures { self.exit.0.now ≡ self.entry.map.now }
+    {
+        let MemoryError { map: _, new_item } = self;
+        drop(new_item);
+    }
+}

@@ -1,0 +1,106 @@
+//! Commands carried out on the map.
+ghost use Rattle.std.specs.Prelude.{◌≡◌, ◌≢◌, [], map, filter};
+ghost use Rattle.std.specs.Option.{option_to_list};
+ghost use Rattle.iddqd_store.specs.Bag.{clash, order};
+ghost use Rattle.iddqd_store.specs.Map.{bag};
+ghost use Rattle.iddqd_store.specs.Reply.{Reply, found, duplicate};
+ghost use Rattle.iddqd_store.specs.Step.{state_of, InsertsUnique};
+ghost use Rattle.iddqd_store.specs.Run.{Applies, Run};
+ghost use Rattle.iddqd_store.specs.Searched.{items_at};
+ghost use Rattle.iddqd_bi.specs.Keys.{ranks};
+ghost use Rattle.iddqd_bi.specs.Step.{Step};
+ghost use Rattle.iddqd_bi.specs.Values.{value_of};
+
+use super::BiHashMap;
+use crate::command::{BiCommand, BiReply, BiSink};
+use crate::error::Refusal;
+use crate::item::BiHashItemMut;
+use iddqd_store::{DuplicateItem, ItemIndex, UpToTwo};
+use std::hash::{BuildHasher, Hash};
+
+impl<T: BiHashItemMut + Drop, S: BuildHasher> BiHashMap<T, S>
+where
+    T::K1: Drop,
+    T::K2: Drop,
+    T::Data: Drop,
+{
+    /// Carries out the commands in order, and hands each reply to the sink. It ends at the sink's first fault, after
+    /// the command whose reply the sink did not take well.
+    pub fn run<K: BiSink<T>>(
+        &mut self,
+        commands: Vec<BiCommand<T>>,
+        sink: &mut K,
+    ) -> Result<(), K::Fault>
+        ensures run { Run (Step T.BiHashItem T.K1.Hash T.K2.Hash) K.took (state_of self.old) sink.old commands.items result (state_of self.new) sink.new }
+        ensures builder { self.new.builder ≡ self.old.builder }
+    {
+        for command in commands {
+            self.apply(command, sink)?;
+        }
+        Ok(())
+    }
+
+    /// Carries out one command, and hands its reply to the sink.
+    pub fn apply<K: BiSink<T>>(
+        &mut self,
+        command: BiCommand<T>,
+        sink: &mut K,
+    ) -> Result<(), K::Fault>
+        ensures step { Applies (Step T.BiHashItem T.K1.Hash T.K2.Hash) K.took (state_of self.old) sink.old command result (state_of self.new) sink.new }
+        ensures builder { self.new.builder ≡ self.old.builder }
+    {
+        match command {
+            BiCommand::InsertUnique(item) => self.apply_insert_unique(item, sink),
+            BiCommand::Get1(key) => self.tell_found1(&key, sink),
+            BiCommand::Get2(key) => self.tell_found2(&key, sink),
+            BiCommand::Remove1(key) => {
+                let taken = self.remove1(&key);
+                self.tell(BiReply::Taken(taken), sink)
+            }
+        }
+    }
+
+    fn apply_insert_unique<K: BiSink<T>>(&mut self, item: T, sink: &mut K) -> Result<(), K::Fault>
+        ensures step { Applies (λ old x reply new. InsertsUnique (ranks T.BiHashItem T.K1.Hash T.K2.Hash) old x reply new) K.took (state_of self.old) sink.old item result (state_of self.new) sink.new }
+        ensures builder { self.new.builder ≡ self.old.builder }
+    {
+        match self.try_insert(item) {
+            Ok(_) => self.tell(BiReply::Done, sink),
+            Err(Refusal::Duplicate(item, found)) => self.tell_duplicate(item, &found, sink),
+            Err(Refusal::Memory(item)) => self.tell(BiReply::Memory(item), sink),
+        }
+    }
+
+    // A reply that lends nothing has a free lifetime, so each reply goes to the sink from a borrow of the map.
+    fn tell<'m, K: BiSink<T>>(&'m self, reply: BiReply<'m, T>, sink: &mut K) -> Result<(), K::Fault>
+        ensures { K.took sink.old (value_of reply.entry) result sink.new }
+    {
+        sink.take(reply)
+    }
+
+    fn tell_found1<K: BiSink<T>>(&self, key: &T::K1, sink: &mut K) -> Result<(), K::Fault>
+        ensures { (o : _) × (option_to_list o ≡ filter (λ x. T.K1.eq key.now (T.key1 x)) (bag self.now)) × K.took sink.old (found o) result sink.new }
+    {
+        let found = self.get1(key);
+        sink.take(BiReply::Found(found))
+    }
+
+    fn tell_found2<K: BiSink<T>>(&self, key: &T::K2, sink: &mut K) -> Result<(), K::Fault>
+        ensures { (o : _) × (option_to_list o ≡ filter (λ x. T.K2.eq key.now (T.key2 x)) (bag self.now)) × K.took sink.old (found o) result sink.new }
+    {
+        let found = self.get2(key);
+        sink.take(BiReply::Found(found))
+    }
+
+    fn tell_duplicate<K: BiSink<T>>(
+        &self,
+        item: T,
+        found: &UpToTwo<ItemIndex>,
+        sink: &mut K,
+    ) -> Result<(), K::Fault>
+        ensures { K.took sink.old (duplicate item (items_at self.now.slots found.now)) result sink.new }
+    {
+        let duplicates = self.items_of(found);
+        sink.take(BiReply::Duplicate(DuplicateItem::new(item, duplicates)))
+    }
+}

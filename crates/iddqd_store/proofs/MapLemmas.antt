@@ -1,0 +1,36 @@
+-- What the maps' invariants share, with any number of ranks.
+use Rattle.std.specs.Prelude.{◌≡◌, ℕ, Bool, true, false, cond, List, [], ◌∷◌, filter, IsPermutation, Option, Some, Contains}
+use Rattle.std.specs.List.{IsDistinct, AllByRecursion}
+use Rattle.std.specs.Cmp.{IsEquivalence}
+use Rattle.std.proofs.Common.{refl, sym, ap, ◌∙◌}
+use Rattle.std.proofs.lemmas.Map.Keys.{IsDistinct-cons}
+use Rattle.std.proofs.lemmas.List.Sorted.{IsPermutation-sym, IsPermutation-map}
+use Rattle.iddqd_store.specs.Slots.{members, live_items}
+use Rattle.iddqd_store.specs.Bag.{Ranks, AreLawful, IsSound, conflicts, clash}
+use Rattle.iddqd_store.proofs.BagLemmas.{IsSound-IsPermutation}
+
+-- keys tell items apart by an equivalence
+pub IsEquivalence-key : {T K : Type 0} (eq : K → K → Bool) (key : T → K) → IsEquivalence eq → IsEquivalence (λ (x y : T). eq (key x) (key y))
+IsEquivalence-key eq key laws = record {
+  refl = λ x. laws.refl (key x);
+  symm = λ x y. laws.symm (key x) (key y);
+  congr = λ x y z. laws.congr (key x) (key y) (key z);
+}
+
+pub none_from_filter : {T : Type 0} (p : T → Bool) (xs : List T) → filter p xs ≡ [] → AllByRecursion (λ x. p x ≡ false) xs
+none_from_filter p [] h = tt
+none_from_filter p (x ∷ xs) h = by_test (p x) refl h (λ e. none_from_filter p xs e)
+  where
+    by_test : (s : Bool) → p x ≡ s → (cond s (x ∷ filter p xs) (filter p xs)) ≡ [] → (filter p xs ≡ [] → AllByRecursion (λ x. p x ≡ false) xs) → (p x ≡ false) × AllByRecursion (λ x. p x ≡ false) xs
+    by_test true is h f = absurd (cc)
+    by_test false is h f = (is, f h)
+
+module _ {T : Type 0} where
+  pub live_items-moves : (old new : List (Option T)) (at : ℕ) (x : T) → IsPermutation (members old) ((at, x) ∷ members new) → IsPermutation (live_items old) (x ∷ live_items new)
+  live_items-moves old new at x moved = IsPermutation-map (λ m. m.1) _ _ moved
+
+  -- a sound bag with an item that nothing conflicts with is sound
+  pub free_sound : (ranks : Ranks T) → AreLawful ranks → (old new : List (Option T)) (at : ℕ) (x : T) → IsSound ranks (live_items old) → clash ranks (live_items old) x ≡ [] → IsPermutation (members new) ((at, x) ∷ members old) → IsSound ranks (live_items new)
+  free_sound ranks laws old new at x sound free moved =
+      IsSound-IsPermutation ranks laws _ _ (IsPermutation-sym _ _ (IsPermutation-map (λ m. m.1) _ _ moved))
+      (IsDistinct-cons (conflicts ranks) x (live_items old) (none_from_filter (conflicts ranks x) (live_items old) free) sound)

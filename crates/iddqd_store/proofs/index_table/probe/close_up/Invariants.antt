@@ -1,0 +1,22 @@
+use Rattle.std.proofs.Common.{◌≡◌, ℕ, ◌+◌, ◌-◌, ◌%◌, ◌≤◌, ◌∷◌, length, Some}
+use Rattle.std.specs.List.Sorted.{IsPermutation}
+use Rattle.iddqd_store.specs.Ring.{cell, gap, held}
+use Rattle.iddqd_store.proofs.Walk.{Walk}
+use Rattle.iddqd_store.proofs.Hole.{Holed}
+use Rattle.iddqd_store.proofs.index_table.probe.close_up.Given as goal
+
+abbrev pub invariant-loop-pair : goal.invariant-loop-pair
+invariant-loop-pair l =
+    let row = l.fn.cells in
+    let n = length row in
+    let home = l.hash % n in
+    let s = (gap n home l.emptied + 1) + (l.meter - l.initial.meter) in
+    record {
+      looked : l.initial.meter ≤ l.meter;
+      walk : Walk row home l.at s;
+      holed : Holed (λ p. p.0 % n) n home l.hole s row l.cells;
+      taken : (pair : ℕ × ℕ) → cell row l.emptied ≡ Some pair → IsPermutation (held row) (pair ∷ held l.cells);
+    }
+
+abbrev pub decreases-loop-pair : goal.decreases-loop-pair
+decreases-loop-pair l = length l.fn.cells - (l.meter - l.initial.meter)

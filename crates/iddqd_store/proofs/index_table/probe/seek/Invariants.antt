@@ -1,0 +1,16 @@
+use Rattle.std.proofs.Common.{ℕ, ◌-◌, ◌%◌, ◌<◌, ◌≤◌, length, Some}
+use Rattle.std.specs.Prelude.{◌≢◌}
+use Rattle.iddqd_store.specs.Ring.{cell}
+use Rattle.iddqd_store.proofs.Stretch.{place}
+use Rattle.iddqd_store.proofs.Walk.{Walk}
+use Rattle.iddqd_store.proofs.index_table.probe.seek.Given as goal
+
+abbrev pub invariant-loop-index : goal.invariant-loop-index
+invariant-loop-index l = record {
+  looked : l.initial.meter ≤ l.meter;
+  walk : Walk l.cells (l.hash % length l.cells) l.at (l.meter - l.initial.meter);
+  unmet : (k : ℕ) → k < l.meter - l.initial.meter → cell l.cells (place (length l.cells) (l.hash % length l.cells) k) ≢ Some (l.hash, l.index);
+}
+
+abbrev pub decreases-loop-index : goal.decreases-loop-index
+decreases-loop-index l = length l.cells - (l.meter - l.initial.meter)

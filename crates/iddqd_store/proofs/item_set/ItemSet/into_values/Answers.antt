@@ -1,0 +1,15 @@
+use Rattle.std.proofs.Common.{sym, map, ◌∙◌}
+use Rattle.iddqd_store.specs.SlotChain.{item_of}
+use Rattle.iddqd_store.proofs.SlotLemmas.{live_items-items_in, length-items_in}
+use Rattle.iddqd_store.proofs.item_set.ItemSet.into_values.Goals as goal
+
+pub invariant_of-result : goal.invariant_of-result
+invariant_of-result g c = rw c.into_iter.ensures.rest (c.self.invariant.counted ∙ sym (length-items_in (map item_of c.self.inside.slots.items)))
+
+pub returns : goal.returns
+returns g c =
+    rw (← c.self.view_is, c.into_iter.ensures.rest)
+    (record {
+      items = sym (live_items-items_in (map item_of c.self.inside.slots.items));
+      len = length-items_in (map item_of c.self.inside.slots.items);
+    })

@@ -1,0 +1,117 @@
+//! Ways in a table: from the home of a hash on, from cell to cell and round.
+ghost use Rattle.std.specs.Prelude.{◌≡◌, ◌≢◌, ℕ, ◌+◌, ◌-◌, ◌*◌, ◌/◌, ◌%◌, ◌^◌, ◌∷◌, ◌<◌, ◌≤◌, if◌then◌else◌, nat_lt, None, Some, length, IfSome, IsNone, ◌↔◌, Contains};
+ghost use Rattle.std.specs.List.Sorted.{IsPermutation};
+ghost use Rattle.iddqd_store.specs.Ring.{cell, gap, held, stretch};
+ghost use Rattle.iddqd_store.specs.Limit.{IsLeast, IsSize};
+ghost use Rattle.iddqd_store.specs.Table.{hashes, IsTable, IsFirstEmpty, IsWayTo};
+
+use crate::cells::Cells;
+use crate::item_index::ItemIndex;
+use crate::meter::Meter;
+
+// The place after `at`.
+pub(super) fn after(at: usize, count: usize) -> usize
+    requires { at < count }
+    ensures { result ≡ (if nat_lt (at + 1) count then at + 1 else 0) }
+{
+    if at + 1 < count { at + 1 } else { 0 }
+}
+
+// How many cells hold so many pairs, if `usize` holds that number.
+pub(super) fn cells_for(pairs: usize) -> Option<usize>
+    ensures past { IsNone result ↔ (7 * 2 ^ 60 < pairs) }
+    ensures least { IfSome result (λ count. IsLeast pairs (count / 8 * 7)) }
+    ensures size { IfSome result IsSize }
+{
+    if pairs == 0 {
+        return Some(0);
+    }
+    let mut count: usize = 8;
+    while count / 8 * 7 < pairs {
+        count = count.checked_mul(2)?;
+    }
+    Some(count)
+}
+
+// The home of a hash: its lowest bits, since the number of cells is a power of two. So no division is made.
+pub(super) fn home_of(hash: u64, count: usize) -> usize
+    requires size { IsSize count }
+    requires some { 0 < count }
+    ensures { result ≡ hash % count }
+{
+    (hash & (count as u64 - 1)) as usize
+}
+
+// The first empty cell from the home of a hash on.
+pub(super) fn first_empty(cells: &Cells, hash: u64, meter: &mut Meter) -> usize
+    requires table { IsTable cells.now }
+    requires some { 0 < length cells.now }
+    ensures first { IsFirstEmpty cells.now (hash % length cells.now) result }
+    ensures small { length cells.now < 2 ^ 64 }
+    ensures looks { meter.new
+        ≡ meter.old + stretch (hashes (held cells.now)) (length cells.now) hash + 1 }
+{
+    let count = cells.len();
+    let mut at = home_of(hash, count);
+    while cells.cell_at(at, meter).is_some() {
+        at = after(at, count);
+    }
+    at
+}
+
+// How many steps lead from one place to another.
+pub(super) fn steps(from: usize, to: usize, count: usize) -> usize
+    requires from { from < count }
+    requires to { to < count }
+    ensures { result ≡ gap count from to }
+{
+    if from <= to {
+        to - from
+    } else {
+        to + (count - from)
+    }
+}
+
+// The cell of a pair that is there.
+pub(super) fn seek(cells: &Cells, hash: u64, index: ItemIndex, meter: &mut Meter) -> usize
+    requires table { IsTable cells.now }
+    requires there { Contains (held cells.now) (hash, index) }
+    ensures pair { cell cells.now result ≡ Some (hash, index) }
+    ensures way { IsWayTo cells.now (hash % length cells.now) result }
+    ensures looks { meter.new ≡ meter.old + gap (length cells.now) (hash % length cells.now) result + 1 }
+{
+    let count = cells.len();
+    let mut at = home_of(hash, count);
+    while cells.cell_at(at, meter) != Some((hash, index)) {
+        at = after(at, count);
+    }
+    at
+}
+
+// Empties a cell, and moves what stands behind it up.
+pub(super) fn close_up(cells: &mut Cells, hash: u64, emptied: usize, meter: &mut Meter)
+    requires table { IsTable cells.old }
+    requires pair { cell cells.old emptied ≢ None }
+    requires way { IsWayTo cells.old (hash % length cells.old) emptied }
+    ensures table { IsTable cells.new }
+    ensures len { length cells.new ≡ length cells.old }
+    ensures taken { (pair : ℕ × ℕ) → cell cells.old emptied ≡ Some pair
+        → IsPermutation (held cells.old) (pair ∷ held cells.new) }
+    ensures looks { meter.new + gap (length cells.old) (hash % length cells.old) emptied
+        ≡ meter.old + stretch (hashes (held cells.old)) (length cells.old) hash }
+{
+    let count = cells.len();
+    cells.empty(emptied);
+    let mut hole = emptied;
+    let mut at = after(emptied, count);
+    while let Some(pair) = cells.cell_at(at, meter) {
+        let (stored, index) = pair;
+        let home = home_of(stored, count);
+        if steps(home, hole, count) < steps(home, at, count) {
+            cells.empty(at);
+            cells.put(hole, stored, index);
+            hole = at;
+        }
+        at = after(at, count);
+    }
+}

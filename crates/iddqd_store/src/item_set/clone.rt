@@ -1,0 +1,38 @@
+//! Copies of a set.
+ghost use Rattle.std.specs.Prelude.{◌≡◌, IfOk};
+ghost use Rattle.std.specs.List.{AllZip};
+ghost use Rattle.iddqd_store.specs.Slots.{live_items, IsSlotClone};
+
+use super::{ItemSet, Slot};
+use crate::TryReserveError;
+use std::alloc::AllocError;
+
+impl<T: Clone> Clone for Slot<T> {
+    ghost use Rattle.iddqd_store.specs.SlotChain.{IsCloneOf};
+
+    ghost is_clone = { IsCloneOf T.is_clone };
+
+    fn clone(&self) -> Result<Self, AllocError> {
+        match self {
+            Slot::Free(next) => Ok(Slot::Free(*next)),
+            Slot::Live(item) => Ok(Slot::Live(item.clone()?)),
+        }
+    }
+}
+
+impl<T: Clone> ItemSet<T> {
+    /// The same slots, each with a clone of its item. It takes memory where there is a slot, and is refused where this or an item's clone is refused.
+    pub fn clone(&self) -> Result<Self, TryReserveError>
+        ensures slots { IfOk result (λ copy. AllZip (IsSlotClone T.is_clone) self.now.slots copy.slots) }
+        ensures items { IfOk result (λ copy. AllZip T.is_clone (live_items self.now.slots) (live_items copy.slots)) }
+    {
+        match self.slots.clone() {
+            Ok(slots) => Ok(ItemSet {
+                slots,
+                live: self.live,
+                head: self.head,
+            }),
+            Err(_) => Err(TryReserveError),
+        }
+    }
+}

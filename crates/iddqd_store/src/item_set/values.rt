@@ -1,0 +1,170 @@
+//! The items of a set, one after another by slot.
+ghost use Rattle.std.specs.Prelude.{◌≡◌, [], length, Some, IfSome};
+ghost use Rattle.std.specs.Iterator.{YieldsFirst, YieldsFirstRef, UpTo, item_count};
+ghost use Rattle.std.specs.Iterator.SizeHint.{IsWithinCount};
+ghost use Rattle.iddqd_store.specs.Slots.{live_items, live_count};
+
+use super::{ItemSet, Slot};
+use std::iter::FusedIterator;
+use std::marker::Model;
+use std::vec;
+
+/// The items of a set, lent. Contracts see those that are left, as a list.
+#[derive(Drop)]
+pub struct Values<'a, T> {
+    slots: &'a [Slot<T>],
+    // How many of the slots are live.
+    len: usize,
+}
+
+impl<'a, T> Model for Values<'a, T> {
+    ghost use Rattle.std.specs.Prelude.{List, map, ◌≡◌, length};
+    ghost use Rattle.iddqd_store.specs.Slots.{items_in};
+    ghost use Rattle.iddqd_store.specs.SlotChain.{item_of};
+
+    ghost Value = { List T };
+
+    ghost view = { λ it. items_in (map item_of it.slots.now) };
+
+    ghost invariant = { λ it. it.len ≡ length (items_in (map item_of it.slots.now)) };
+}
+
+impl<'a, T> Values<'a, T> {
+    /// The items that are left, a second time.
+    pub fn clone(&self) -> Self
+        ensures { result ≡ self.now }
+    {
+        Values {
+            slots: self.slots,
+            len: self.len,
+        }
+    }
+
+    /// No items.
+    pub fn default() -> Self
+        ensures { result ≡ [] }
+    {
+        Values { slots: &[], len: 0 }
+    }
+}
+
+impl<'a, T> Iterator for Values<'a, T> {
+    type Item = &'a T;
+
+    ghost next_gives = { YieldsFirstRef (λ rest. rest) };
+
+    ghost remaining = { item_count (λ rest. rest) };
+
+    fn next(&mut self) -> Option<&'a T> {
+        while let Some((slot, rest)) = self.slots.split_first() {
+            self.slots = rest;
+            if let Slot::Live(item) = slot {
+                self.len -= 1;
+                return Some(item);
+            }
+        }
+        None
+    }
+
+    fn size_hint(&self) -> (usize, Option<usize>)
+        ensures lower { IsWithinCount result.0 (item_count (λ rest. rest) self.now) }
+        ensures upper { IfSome result.1 (UpTo (item_count (λ rest. rest) self.now)) }
+        ensures exact { result ≡ (length self.now, Some (length self.now)) }
+    {
+        (self.len, Some(self.len))
+    }
+}
+
+impl<'a, T> ExactSizeIterator for Values<'a, T> {
+    fn len(&self) -> usize {
+        self.len
+    }
+}
+
+impl<'a, T> FusedIterator for Values<'a, T> {}
+
+/// The items of a set that was given up. Contracts see those that are left, as a list.
+#[derive(Drop)]
+pub struct IntoValues<T> {
+    slots: vec::IntoIter<Slot<T>>,
+    // How many of the slots are live.
+    len: usize,
+}
+
+impl<T> Model for IntoValues<T> {
+    ghost use Rattle.std.specs.Prelude.{List, map, ◌≡◌, length};
+    ghost use Rattle.std.specs.Vec.Iter.{into_iter_items};
+    ghost use Rattle.iddqd_store.specs.Slots.{items_in};
+    ghost use Rattle.iddqd_store.specs.SlotChain.{item_of};
+
+    ghost Value = { List T };
+
+    ghost view = { λ it. items_in (map item_of (into_iter_items it.slots)) };
+
+    ghost invariant = { λ it. it.len ≡ length (items_in (map item_of (into_iter_items it.slots))) };
+}
+
+impl<T: Drop> Iterator for IntoValues<T> {
+    type Item = T;
+
+    ghost next_gives = { YieldsFirst (λ rest. rest) };
+
+    ghost remaining = { item_count (λ rest. rest) };
+
+    fn next(&mut self) -> Option<T> {
+        while let Some(slot) = self.slots.next() {
+            if let Slot::Live(item) = slot {
+                self.len -= 1;
+                return Some(item);
+            }
+        }
+        None
+    }
+
+    fn size_hint(&self) -> (usize, Option<usize>)
+        ensures lower { IsWithinCount result.0 (item_count (λ rest. rest) self.now) }
+        ensures upper { IfSome result.1 (UpTo (item_count (λ rest. rest) self.now)) }
+        ensures exact { result ≡ (length self.now, Some (length self.now)) }
+    {
+        (self.len, Some(self.len))
+    }
+}
+
+impl<T: Drop> ExactSizeIterator for IntoValues<T> {
+    fn len(&self) -> usize {
+        self.len
+    }
+}
+
+impl<T: Drop> FusedIterator for IntoValues<T> {}
+
+impl<T> ItemSet<T> {
+    /// Each item once, by slot. It takes no memory.
+    pub fn values(&self) -> Values<'_, T>
+        ensures items { result ≡ live_items self.now.slots }
+        ensures len { length result ≡ live_count self.now.slots }
+    {
+        Values {
+            slots: self.slots.as_slice(),
+            len: self.live,
+        }
+    }
+
+    /// Each item once, by slot, given away. Those that are never asked for are dropped with the iterator.
+    pub fn into_values(self) -> IntoValues<T>
+    where
+        T: Drop,
+        ensures items { result ≡ live_items self.slots }
+        ensures len { length result ≡ live_count self.slots }
+    {
+        let ItemSet {
+            slots,
+            live,
+            head: _,
+        } = self;
+        IntoValues {
+            slots: slots.into_iter(),
+            len: live,
+        }
+    }
+}
