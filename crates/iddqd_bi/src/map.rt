@@ -10,6 +10,9 @@ mod find;
 mod insert;
 mod remove;
 mod run;
+mod shrink;
+#[cfg(test)]
+mod tests_capacity;
 
 /// The builder of hashers that a map has where none is named: std's, with its fixed seed. It gives no protection where
 /// strangers choose the keys.

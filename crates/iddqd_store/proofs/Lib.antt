@@ -4,6 +4,7 @@ pub mod Change
 pub mod CloneLemmas
 pub mod Copy
 pub mod EntryLemmas
+pub mod FillLemmas
 pub mod FoundLemmas
 pub mod Hole
 pub mod IndexLemmas

@@ -109,6 +109,15 @@ impl IndexTable {
         }
     }
 
+    /// A table without pairs that has room for so many, on the memory that this one is on.
+    pub fn fresh(&self, pairs: usize) -> Result<IndexTable, TryReserveError>
+        ensures empty { IfOk result (λ t. t.pairs ≡ []) }
+        ensures limit { IfOk result (λ t. IsLeast pairs t.limit) }
+        ensures never_refused { pairs ≡ 0 → IsOk result }
+    {
+        IndexTable::with_capacity(self.alloc, pairs)
+    }
+
     /// How many pairs it has. No cell is looked at.
     pub fn len(&self) -> usize
         ensures value { result ≡ length self.now.pairs }

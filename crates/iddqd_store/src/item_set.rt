@@ -5,8 +5,10 @@ ghost use Rattle.std.specs.Borrow.{Lends, sem};
 ghost use Rattle.iddqd_store.specs.Slots.{get, IsLive, live_count, members, Updates, Exchanges, NextLive};
 ghost use Rattle.iddqd_store.specs.SlotChain.{item_of};
 
+mod build;
 mod clone;
 mod compact;
+mod fill;
 #[cfg(test)]
 mod tests;
 mod values;
