@@ -10,6 +10,8 @@ pub mod IndexLemmas
 pub mod Line
 pub mod Looks
 pub mod MapLemmas
+pub mod MapLooks
+pub mod OverLemmas
 pub mod Rows
 pub mod RunLemmas
 pub mod SameBag
@@ -21,6 +23,7 @@ pub mod Stretch
 pub mod TableRows
 pub mod Theorem
 pub mod Turned
+pub mod UniqueLemmas
 pub mod Walk
 pub mod Walks
 pub mod Within
