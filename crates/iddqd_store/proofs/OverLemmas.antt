@@ -1,8 +1,10 @@
 -- How items leave their slots in turn, and what is left where those that conflict left.
-use Rattle.std.specs.Prelude.{◌≡◌, ◌≢◌, ℕ, ◌+◌, Bool, true, false, not, List, [], ◌∷◌, ◌++◌, length, filter, IsPermutation, Option, Some, None, nat_eq, All, if◌then◌else◌}
+use Rattle.std.specs.Prelude.{◌≡◌, ◌≢◌, ℕ, ◌+◌, ◌<◌, slice_get, drop, Bool, true, false, not, List, [], ◌∷◌, ◌++◌, length, filter, IsPermutation, Option, Some, None, nat_eq, All, if◌then◌else◌}
 use Rattle.std.specs.List.{IsDistinct, AllByRecursion, list_any}
 use Rattle.std.specs.Option.{option_to_list, IfSome}
-use Rattle.std.proofs.Common.{IsSome, refl, sym, ap, subst, ◌∙◌, arith, append-nil, append_assoc, length-append}
+use Rattle.std.proofs.Common.{IsSome, refl, sym, ap, subst, ◌∙◌, arith, add-one, append_assoc, length-append}
+use Rattle.std.proofs.Math.Seq.{drop-cons}
+use Rattle.std.proofs.lemmas.Option.{slice_get_within, get_or_from_slice_get}
 use Rattle.std.proofs.lemmas.Bool.{false≢true}
 use Rattle.std.proofs.lemmas.Bool.Decides.{nat_tests}
 use Rattle.std.proofs.lemmas.List.Elements.{All-nil, All-cons, All-head, All-tail, filter-append}
@@ -38,6 +40,13 @@ pub IsDistinct-with_found : (ixs : List ℕ) (found : Option ℕ) → IsDistinct
 IsDistinct-with_found ixs None apart = apart
 IsDistinct-with_found ixs (Some ix) apart =
     split (λ b. IsDistinct nat_eq (if b then ixs else ixs ++ ix ∷ [])) (lists ixs ix) (λ _. apart) (λ no. IsDistinct-push ixs ix apart no)
+
+-- the slots from this place on, by their first
+pub drop-found : (ixs : List ℕ) (at ix : ℕ) → slice_get ixs at ≡ Some ix → drop at ixs ≡ ix ∷ drop (at + 1) ixs
+drop-found ixs at ix is =
+    let within = slice_get_within ixs at ix is in
+    let first = get_or_from_slice_get ixs at ix 0 is in
+    rw (add-one, drop-cons ixs at 0, first) refl
 
 module _ {T : Type 0} where
   -- a change of one slot leaves the items of the others
