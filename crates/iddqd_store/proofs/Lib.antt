@@ -4,9 +4,12 @@ pub mod Change
 pub mod CloneLemmas
 pub mod Copy
 pub mod EntryLemmas
+pub mod FillLemmas
 pub mod FoundLemmas
 pub mod Hole
 pub mod IndexLemmas
+pub mod IndexSteps
+pub mod KeepLemmas
 pub mod Line
 pub mod Looks
 pub mod MapLemmas
@@ -15,6 +18,7 @@ pub mod OverLemmas
 pub mod Rows
 pub mod RunLemmas
 pub mod SameBag
+pub mod SameTest
 pub mod SearchLemmas
 pub mod Shuffled
 pub mod Size

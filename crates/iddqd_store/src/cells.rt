@@ -1,4 +1,4 @@
-//! The cells of a table. One call reads a cell, and it ticks a meter.
+//! The cells of a table. One call reads a cell, and it ticks the meter that it is handed.
 ghost use Rattle.std.specs.Prelude.{◌≡◌, ℕ, ◌+◌, ◌<◌, List, [], Option, None, Some, length, slice_set, replicate, IfOk};
 ghost use Rattle.iddqd_store.specs.Ring.{cell};
 
@@ -21,7 +21,7 @@ impl Model for Cells {
 }
 
 impl Cells {
-    /// No cells.
+    /// No cells. It takes no memory.
     pub fn new(alloc: Global) -> Cells
         ensures { result ≡ [] }
     {
@@ -30,7 +30,7 @@ impl Cells {
         }
     }
 
-    /// So many empty cells.
+    /// So many empty cells. It is refused where their bytes cannot be had, or are more than memory can count.
     pub fn with_len(alloc: Global, count: usize) -> Result<Cells, TryReserveError>
         ensures { IfOk result (λ c. c ≡ replicate count None) }
     {
@@ -58,11 +58,11 @@ impl Cells {
     }
 
     /// Writes a pair into cell `i`.
-    pub fn put(&mut self, i: usize, hash: u64, index: ItemIndex)
+    pub fn put(&mut self, i: usize, hash: u64, ix: ItemIndex)
         requires { i < length self.old }
-        ensures { self.new ≡ slice_set self.old i (Some (hash, index)) }
+        ensures { self.new ≡ slice_set self.old i (Some (hash, ix)) }
     {
-        self.row[i] = Some((hash, index));
+        self.row[i] = Some((hash, ix));
     }
 
     /// Empties cell `i`.
