@@ -61,7 +61,7 @@ impl<T: BiHashItem, S: BuildHasher> BiHashMap<T, S> {
         ensures refused { OnErr result (self.old.capacity < length (bag self.old) + more) }
         ensures past { 7 * 2 ^ 60 < length (bag self.old) + more → IsErr result }
     {
-        self.grow(more)
+        self.reserve(more)
     }
 
     /// Drops every item. The builder and the capacity stay, and it takes no memory.
