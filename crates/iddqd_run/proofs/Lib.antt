@@ -1,3 +1,4 @@
+mod Rows
 pub mod Counting
 pub mod Cutting
 pub mod Moving

@@ -25,7 +25,8 @@ use crate::to_write::ToWrite;
 use std::process::ExitCode;
 use std::{env, io};
 
-/// The exit status is 0 where each line was run, 1 at a fault, and 2 at a bad line or at arguments other than one kind.
+/// The exit status is 0 where each line was run, 1 at a fault, and 2 at a bad line or at arguments
+/// other than one kind.
 fn main(rt: HostRuntime) -> ExitCode {
     let (status, message) = match arguments(&rt) {
         Err(_) => ending(&Err(RunFault::Memory)),

@@ -53,7 +53,8 @@ pub fn command_of_line(alloc: Global, line: &[u8]) -> Result<Option<BiCommand<Bi
 
 /// The parts of a line, cut at each space.
 fn fields<'t>(alloc: Global, line: &'t [u8]) -> Result<Vec<&'t [u8]>, AllocError>
-    ensures { IfOk result (λ found. map (λ field. field.now) found.items ≡ slice_split (λ b. b == 32) line.now) }
+    ensures { IfOk result (λ found.
+        map (λ field. field.now) found.items ≡ slice_split (λ b. b == 32) line.now) }
 {
     line.split(|b| *b == b' ').collect(alloc)
 }
@@ -80,7 +81,8 @@ fn command_of_fields(
 /// The numbers that the fields spell, if each spells one.
 #[tactic(auto, using(crate::proofs::Counting::numbers_more, crate::proofs::Counting::numbers_none))]
 fn numbers_of(alloc: Global, fields: &[&[u8]]) -> Result<Option<Vec<u64>>, AllocError>
-    ensures { IfOk result (λ found. option_map (λ v. v.items) found ≡ numbers_of (map (λ field. field.now) fields.now)) }
+    ensures { IfOk result (λ found.
+        option_map (λ v. v.items) found ≡ numbers_of (map (λ field. field.now) fields.now)) }
 {
     let mut numbers = Vec::new(alloc);
     for field in fields {

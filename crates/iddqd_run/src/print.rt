@@ -28,7 +28,8 @@ pub fn line_of(alloc: Global, reply: BiReply<'_, BiItem>) -> Result<String, Allo
 
 /// The line of the items in the way of a new one.
 fn duplicates_line(alloc: Global, duplicates: UpToTwo<&BiItem>) -> Result<String, AllocError>
-    ensures { IfOk result (λ line. string_bytes line ≡ codes "dup" ++ items_text (map (λ item. item.now) duplicates.entry) ++ codes "\n") }
+    ensures { IfOk result (λ line.
+        string_bytes line ≡ codes "dup" ++ items_text (map (λ item. item.now) duplicates.entry) ++ codes "\n") }
 {
     let mut line = String::from_str(alloc, "dup")?;
     let mut left = duplicates;

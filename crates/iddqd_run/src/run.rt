@@ -16,7 +16,8 @@ use crate::write::write_all;
 use iddqd_bi::{BiCommand, BiHashMap};
 use std::alloc::{AllocError, Global};
 
-/// Reads to the end, reads all lines, then runs them on a new map of this kind, and writes the line of each reply.
+/// Reads to the end, reads all lines, then runs them on a new map of this kind, and writes the line
+/// of each reply.
 ///
 /// Where a line is bad, no line is run, and one message that names the first bad line is written.
 ///
@@ -29,8 +30,10 @@ pub fn run_text<R: Source, W: Out>(
     source: &mut R,
     out: &mut W,
 ) -> Result<RunEnd, RunFault>
-    ensures ended { IfOk result (λ end. IfSome (R.left source.old) (λ input. Writes kind input end (W.held out.old) (W.held out.new))) }
-    ensures front_at_write { result ≡ Err RunFault.Write → IfSome (R.left source.old) (λ input. WritesFront kind input (W.held out.old) (W.held out.new)) }
+    ensures ended { IfOk result (λ end. IfSome (R.left source.old) (λ input.
+        Writes kind input end (W.held out.old) (W.held out.new))) }
+    ensures front_at_write { result ≡ Err RunFault.Write → IfSome (R.left source.old) (λ input.
+        WritesFront kind input (W.held out.old) (W.held out.new)) }
     ensures nothing_at_read { result ≡ Err RunFault.Read → Keeps (W.held out.old) (W.held out.new) }
     ensures nothing_at_memory { result ≡ Err RunFault.Memory → Keeps (W.held out.old) (W.held out.new) }
     ensures to_the_end { OnOk result (IsAtEnd (R.left source.new)) }

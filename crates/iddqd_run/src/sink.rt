@@ -33,18 +33,21 @@ impl LineSink {
     pub fn into_text(self) -> String
         ensures { result ≡ self.text }
     {
-        self.text
+        let LineSink { alloc: _, text } = self;
+        text
     }
 }
 
 impl BiSink<BiItem> for LineSink {
     type Fault = AllocError;
 
-    ghost took = { λ old reply answer new. GrowsByLine line_of (string_bytes old.text) reply answer (string_bytes new.text) };
+    ghost took = { λ old reply answer new.
+        GrowsByLine line_of (string_bytes old.text) reply answer (string_bytes new.text) };
 
     /// Puts the line of the reply behind the others, or leaves them where memory is refused.
     fn take(&mut self, reply: BiReply<'_, BiItem>) -> Result<(), AllocError>
-        ensures { GrowsByLine line_of (string_bytes self.old.text) (value_of reply.entry) result (string_bytes self.new.text) }
+        ensures { GrowsByLine line_of (string_bytes self.old.text) (value_of reply.entry) result
+            (string_bytes self.new.text) }
     {
         let line = line_of(self.alloc, reply)?;
         self.text.push_str(line.as_str())?;
