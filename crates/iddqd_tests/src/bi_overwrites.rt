@@ -61,14 +61,17 @@ fn a_full_map_takes_an_item_for_others(rt: HostRuntime) {
     assert_eq!(rt; put(&mut map, row_of(2, 20, 200)), Ok([None, None]));
     let capacity = map.capacity();
     for k in 3..=capacity as u64 {
-        assert_eq!(rt; put(&mut map, row_of(k, 10 * k, 0)), Ok([None, None]));
+        assert_eq!(rt;
+            put(&mut map, row_of(k, k.saturating_mul(10), 0)),
+            Ok([None, None])
+        );
     }
     assert_eq!(rt; map.len(), capacity);
     assert_eq!(rt;
         put(&mut map, row_of(1, 20, 0)),
         Ok([Some(row_of(1, 10, 100)), Some(row_of(2, 20, 200))])
     );
-    assert_eq!(rt; map.len(), capacity - 1);
+    assert_eq!(rt; map.len(), capacity.saturating_sub(1));
     assert_eq!(rt; put(&mut map, row_of(0, 0, 0)), Ok([None, None]));
     assert_eq!(rt; (map.len(), map.capacity()), (capacity, capacity));
     drop(map);

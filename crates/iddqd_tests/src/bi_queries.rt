@@ -1,6 +1,8 @@
 //! Lookups of the two-key map: worked rows, and how many keys a search asks about.
-ghost use Rattle.std.specs.Prelude.{◌≡◌, ◌==◌, true, refl};
+ghost use Rattle.std.specs.Prelude.{◌≡◌, ◌==◌, nat_eq, refl};
 ghost use Rattle.std.proofs.Common.{rules, ◌∙◌, ap};
+ghost use Rattle.std.specs.Cmp.Rules.{comparing, hashing};
+ghost use Rattle.std.specs.Cmp.Lexicographic.{pointwise};
 
 use crate::own_hash::OwnHash;
 use crate::row::{Row, row_of};
@@ -144,11 +146,11 @@ struct Text<'a> {
 }
 
 impl<'a> Equivalent<&'static str> for Text<'a> {
-    ghost equivalent = { λ q k. q.text.now == k.now };
+    ghost equivalent = { λ q k. pointwise nat_eq q.text.now k.now };
 
-    ghost respects_hash = { Prim.search rules };
+    ghost respects_hash = { Prim.search (hashing, rules) };
 
-    ghost respects_eq = { Prim.search rules };
+    ghost respects_eq = { Prim.search (comparing, rules) };
 
     fn equivalent(&self, key: &&'static str) -> bool {
         self.text == *key
@@ -159,7 +161,7 @@ impl<'a> Equivalent<&'static str> for Text<'a> {
 fn a_text_is_found_by_a_query(rt: HostRuntime) -> Result<(), Fail> {
     let mut map = BiHashMap::new(rt.alloc());
     for (text, number) in [("ab", 1), ("cd", 2)] {
-        assert!(rt; map.insert_unique(Word { text, number }).is_ok());
+        assert!(rt; map.insert_overwrite(Word { text, number }).is_ok());
     }
     for (text, number) in [("cd", Some(2)), ("ab", Some(1)), ("c", None), ("", None)] {
         let found = map.get1(&Text { text }).map(|word| word.number);
