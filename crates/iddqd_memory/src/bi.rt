@@ -132,6 +132,70 @@ fn refuse_a_duplicate_when_full(rt: &impl Abort, alloc: Global) -> bool {
     true
 }
 
+fn overwrite_when_full(rt: &impl Abort, alloc: Global) -> bool {
+    let Some(mut map) = full(alloc) else {
+        return false;
+    };
+    let capacity = map.capacity();
+    let next = capacity as u64 + 1;
+    let item = row_of(next, 10 * next, 0);
+    let granted = match map.insert_overwrite(item) {
+        Ok(displaced) => {
+            assert!(rt; displaced.is_empty());
+            true
+        }
+        Err(refusal) => {
+            assert_eq!(rt; refusal.value, item);
+            false
+        }
+    };
+    if !granted {
+        assert_eq!(rt; map.len(), capacity);
+        assert!(rt; map.insert_overwrite(item).is_ok());
+    }
+    assert_eq!(rt; map.len(), capacity + 1);
+    assert_eq!(rt; map.get1(&next).copied(), Some(item));
+    drop(map);
+    granted
+}
+
+// Where items are displaced no memory is asked for, and the room that they leave takes the next item.
+fn overwrite_that_displaces_when_full(rt: &impl Abort, alloc: Global) -> bool {
+    let Some(mut map) = full(alloc) else {
+        return false;
+    };
+    let capacity = map.capacity();
+    let next = capacity as u64 + 1;
+    match map.insert_overwrite(row_of(1, 20, 0)) {
+        Ok(displaced) => {
+            assert_eq!(rt; displaced.get(0).copied(), Some(row_of(1, 10, 100)));
+            assert_eq!(rt; displaced.get(1).copied(), Some(row_of(2, 20, 200)));
+        }
+        Err(_) => assert!(rt; false, "no memory is asked for"),
+    }
+    assert_eq!(rt; map.len(), capacity - 1);
+    assert!(rt; put(&mut map, row_of(next, 10 * next, 0)));
+    assert_eq!(rt; map.len(), capacity);
+    assert_eq!(rt; map.capacity(), capacity);
+    drop(map);
+    true
+}
+
+// Inserts and removals below the capacity ask for no memory, however many there were.
+fn insert_and_remove_often(rt: &impl Abort, alloc: Global) -> bool {
+    let Ok(mut map) = BiHashMap::with_capacity(alloc, 7) else {
+        return false;
+    };
+    let capacity = map.capacity();
+    for _ in 0..1000 {
+        assert!(rt; put(&mut map, row_of(5, 50, 0)));
+        assert_eq!(rt; map.remove1(&5), Some(row_of(5, 50, 0)));
+    }
+    assert_eq!(rt; map.capacity(), capacity);
+    drop(map);
+    true
+}
+
 fn shrink_to_fit(rt: &impl Abort, alloc: Global) -> bool {
     let Ok(mut map) = BiHashMap::with_capacity(alloc, 100) else {
         return false;
@@ -219,4 +283,34 @@ fn allows_shrink_to_fit_when_empty(rt: HostRuntime) {
 #[test]
 fn grants_shrink_to_fit_when_empty(rt: HostRuntime) {
     assert!(rt; shrink_to_fit_when_empty(&rt, rt.alloc()));
+}
+
+#[test]
+fn allows_overwrite_when_full(rt: HostRuntime) {
+    let _ = overwrite_when_full(&rt, rt.alloc());
+}
+
+#[test]
+fn grants_overwrite_when_full(rt: HostRuntime) {
+    assert!(rt; overwrite_when_full(&rt, rt.alloc()));
+}
+
+#[test]
+fn allows_overwrite_that_displaces_when_full(rt: HostRuntime) {
+    let _ = overwrite_that_displaces_when_full(&rt, rt.alloc());
+}
+
+#[test]
+fn grants_overwrite_that_displaces_when_full(rt: HostRuntime) {
+    assert!(rt; overwrite_that_displaces_when_full(&rt, rt.alloc()));
+}
+
+#[test]
+fn allows_insert_and_remove_often(rt: HostRuntime) {
+    let _ = insert_and_remove_often(&rt, rt.alloc());
+}
+
+#[test]
+fn grants_insert_and_remove_often(rt: HostRuntime) {
+    assert!(rt; insert_and_remove_often(&rt, rt.alloc()));
 }
