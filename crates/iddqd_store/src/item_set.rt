@@ -7,6 +7,8 @@ ghost use Rattle.iddqd_store.specs.SlotChain.{item_of};
 
 mod clone;
 mod compact;
+#[cfg(test)]
+mod tests;
 mod values;
 
 use crate::TryReserveError;
