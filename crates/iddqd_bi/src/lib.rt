@@ -4,6 +4,7 @@
 mod command;
 mod error;
 mod item;
+mod iter;
 mod map;
 mod matchers;
 mod pointers;
@@ -11,4 +12,5 @@ mod pointers;
 pub use command::{BiCommand, BiReply, BiSink};
 pub use error::{DuplicateError, InsertError, MemoryError};
 pub use item::{BiHashItem, BiHashItemMut};
+pub use iter::{IntoIter, Iter};
 pub use map::{BiHashMap, DefaultHashBuilder};

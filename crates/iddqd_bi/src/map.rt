@@ -8,6 +8,7 @@ mod build;
 mod capacity;
 mod find;
 mod insert;
+mod iterate;
 mod remove;
 mod run;
 
