@@ -10,6 +10,7 @@ mod find;
 mod insert;
 mod iterate;
 mod remove;
+mod retain;
 mod run;
 
 /// The builder of hashers that a map has where none is named: std's, with its fixed seed. It gives no protection where

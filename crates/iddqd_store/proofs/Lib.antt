@@ -22,5 +22,6 @@ pub mod TableRows
 pub mod Theorem
 pub mod Turned
 pub mod Walk
+pub mod Walked
 pub mod Walks
 pub mod Within

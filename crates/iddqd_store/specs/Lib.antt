@@ -13,3 +13,4 @@ pub mod SlotChain
 pub mod Slots
 pub mod Step
 pub mod Table
+pub mod Walked

@@ -1,5 +1,5 @@
 //! Removals.
-ghost use Rattle.std.specs.Prelude.{◌≡◌, ◌∷◌, ◌++◌, filter, IsPermutation, Some};
+ghost use Rattle.std.specs.Prelude.{◌≡◌, ◌∷◌, ◌++◌, filter, IsPermutation, Some, None, slice_set};
 ghost use Rattle.std.specs.Option.{option_to_list};
 ghost use Rattle.iddqd_store.specs.Map.{bag};
 ghost use Rattle.iddqd_store.specs.Slots.{get, IsLive};
@@ -26,6 +26,7 @@ impl<T: BiHashItem, S: BuildHasher> BiHashMap<T, S> {
     pub(crate) fn take(&mut self, ix: ItemIndex) -> T
         requires { IsLive self.old.slots ix }
         ensures value { get self.old.slots ix ≡ Some result }
+        ensures slots { self.new.slots ≡ slice_set self.old.slots ix None }
         ensures items { IsPermutation (bag self.old) (result ∷ bag self.new) }
         ensures capacity { self.new.capacity ≡ self.old.capacity }
         ensures builder { self.new.builder ≡ self.old.builder }
