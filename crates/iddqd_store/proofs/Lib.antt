@@ -13,6 +13,7 @@ pub mod MapLemmas
 pub mod Rows
 pub mod RunLemmas
 pub mod SameBag
+pub mod SameTest
 pub mod SearchLemmas
 pub mod Shuffled
 pub mod Size

@@ -1,6 +1,6 @@
 -- When two bags are the same.
 use Rattle.std.specs.Prelude.{◌≡◌, ◌≢◌, ℕ, zero, suc, ◌+◌, ◌≤◌, ◌<◌, Bool, true, false, ◌&&◌, List, [], ◌∷◌, length, IsPermutation, Contains}
-use Rattle.std.specs.Cmp.{IsEquivalence}
+use Rattle.std.specs.Cmp.{IsEquivalence, IsPartialEquivalence}
 use Rattle.std.specs.List.{IsDistinct, AllByRecursion, AllZip}
 use Rattle.std.proofs.Common.{refl, sym, ap, subst, ◌∙◌, arith}
 use Rattle.std.proofs.lemmas.Bool.{false≢true}
@@ -57,14 +57,14 @@ module _ {T : Type 0} where
   pairs-refl : (ranks : Ranks T) (eq : T → T → Bool) → AreLawful ranks → IsEquivalence eq → (x : T) → Pairs ranks eq x x
   pairs-refl ranks eq laws same x = rw (agrees-refl ranks laws x, same.refl x) refl
 
-  pairs-symm : (ranks : Ranks T) (eq : T → T → Bool) → AreLawful ranks → IsEquivalence eq → (x y : T) → Pairs ranks eq x y → Pairs ranks eq y x
+  pairs-symm : (ranks : Ranks T) (eq : T → T → Bool) → AreLawful ranks → IsPartialEquivalence eq → (x y : T) → Pairs ranks eq x y → Pairs ranks eq y x
   pairs-symm ranks eq laws same x y h = rw (agrees-symm ranks laws y x, same.symm y x) h
 
-  pairs-trans : (ranks : Ranks T) (eq : T → T → Bool) → AreLawful ranks → IsEquivalence eq → (x y z : T) → Pairs ranks eq x y → Pairs ranks eq y z → Pairs ranks eq x z
+  pairs-trans : (ranks : Ranks T) (eq : T → T → Bool) → AreLawful ranks → IsPartialEquivalence eq → (x y z : T) → Pairs ranks eq x y → Pairs ranks eq y z → Pairs ranks eq x z
   pairs-trans ranks eq laws same x y z p q =
       let first = and-true (agrees ranks x y) (eq x y) p in
       let second = and-true (agrees ranks y z) (eq y z) q in
-      rw (agrees-trans ranks laws x y z first.0 second.0, same.congr x y z first.1 ∙ second.1) refl
+      rw (agrees-trans ranks laws x y z first.0 second.0, same.trans x y z first.1 second.1) refl
 
   pub IsSameBag-refl : (ranks : Ranks T) (eq : T → T → Bool) → AreLawful ranks → IsEquivalence eq → (bag : List T) → IsSameBag ranks eq bag bag
   IsSameBag-refl ranks eq laws same bag = (bag, IsPermutation-refl bag, AllZip-refl (Pairs ranks eq) (pairs-refl ranks eq laws same) bag)
@@ -78,13 +78,13 @@ module _ {T : Type 0} where
   pub IsSameBag-right : (ranks : Ranks T) (eq : T → T → Bool) (bag other held : List T) → IsPermutation other held → IsSameBag ranks eq bag other → IsSameBag ranks eq bag held
   IsSameBag-right ranks eq bag other held p h = (h.0, IsPermutation-trans _ _ _ (IsPermutation-sym _ _ p) h.1, h.2)
 
-  pub IsSameBag-symm : (ranks : Ranks T) (eq : T → T → Bool) → AreLawful ranks → IsEquivalence eq → (bag other : List T) → IsSameBag ranks eq bag other → IsSameBag ranks eq other bag
+  pub IsSameBag-symm : (ranks : Ranks T) (eq : T → T → Bool) → AreLawful ranks → IsPartialEquivalence eq → (bag other : List T) → IsSameBag ranks eq bag other → IsSameBag ranks eq other bag
   IsSameBag-symm ranks eq laws same bag other h =
       let back : AllZip (Pairs ranks eq) h.0 bag =
       AllZip-weaker (λ y x. Pairs ranks eq x y) (Pairs ranks eq) (λ y x k. pairs-symm ranks eq laws same x y k) h.0 bag (AllZip-flip (Pairs ranks eq) bag h.0 h.2) in
       IsSameBag-left ranks eq h.0 bag other (IsPermutation-sym _ _ h.1) (bag, IsPermutation-refl bag, back)
 
-  pub IsSameBag-trans : (ranks : Ranks T) (eq : T → T → Bool) → AreLawful ranks → IsEquivalence eq → (bag other third : List T) → IsSameBag ranks eq bag other → IsSameBag ranks eq other third → IsSameBag ranks eq bag third
+  pub IsSameBag-trans : (ranks : Ranks T) (eq : T → T → Bool) → AreLawful ranks → IsPartialEquivalence eq → (bag other third : List T) → IsSameBag ranks eq bag other → IsSameBag ranks eq other third → IsSameBag ranks eq bag third
   IsSameBag-trans ranks eq laws same bag other third h k =
       let moved = IsSameBag-left ranks eq other third h.0 h.1 k in
       (moved.0, moved.1, AllZip-trans (Pairs ranks eq) (pairs-trans ranks eq laws same) bag h.0 moved.0 h.2 moved.2)

@@ -8,6 +8,7 @@ pub mod Map
 pub mod Reply
 pub mod Ring
 pub mod Run
+pub mod SameBag
 pub mod Searched
 pub mod SlotChain
 pub mod Slots
