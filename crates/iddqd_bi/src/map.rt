@@ -6,6 +6,7 @@ use std::marker::Model;
 
 mod build;
 mod capacity;
+mod clone;
 mod compare;
 mod find;
 mod insert;

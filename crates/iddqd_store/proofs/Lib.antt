@@ -2,6 +2,7 @@ pub mod BagLemmas
 pub mod BagSteps
 pub mod Change
 pub mod CloneLemmas
+pub mod Copied
 pub mod Copy
 pub mod EntryLemmas
 pub mod FoundLemmas
