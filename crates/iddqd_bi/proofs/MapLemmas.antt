@@ -33,6 +33,10 @@ module _ {T : Type 0} {ranks : Ranks T} {hash1 hash2 : T → ℕ} {old : List (O
     second = IsPermutation-trans _ _ _ (IsPermutation-sym _ _ same2) indexed.second;
   }
 
+  -- the same items in other slots, and tables that index those
+  pub IsIndexed-moved : (new : List (Option T)) (q1 q2 : List (ℕ × ℕ)) → live_items new ≡ live_items old → IsIndex hash1 new q1 → IsIndex hash2 new q2 → IsIndexed ranks hash1 hash2 new q1 q2
+  IsIndexed-moved new q1 q2 same first second = record { sound = rw same indexed.sound; first = first; second = second }
+
   pub IsIndexed-remove : (new : List (Option T)) (q1 q2 : List (ℕ × ℕ)) (at : ℕ) (x : T) (h1 h2 : ℕ) → h1 ≡ hash1 x → h2 ≡ hash2 x → IsPermutation (members old) ((at, x) ∷ members new) → IsPermutation p1 ((h1, at) ∷ q1) → IsPermutation p2 ((h2, at) ∷ q2) → IsIndexed ranks hash1 hash2 new q1 q2
   IsIndexed-remove new q1 q2 at x h1 h2 is1 is2 moved paired1 paired2 = record {
     sound = IsDistinct-tail (conflicts ranks) x (live_items new) (IsSound-IsPermutation ranks laws _ _ (live_items-moves old new at x moved) indexed.sound);

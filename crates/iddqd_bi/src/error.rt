@@ -72,6 +72,22 @@ impl<T: BiHashItem, S: BuildHasher> DuplicateError<'_, T, S> {
     }
 }
 
+impl<'a, T: BiHashItem, S: BuildHasher> DuplicateError<'a, T, S> {
+    /// The item that was refused, by value, with the items of the map that conflict with it, in the order of the keys.
+    pub fn into_parts(self) -> (T, UpToTwo<&'a T>)
+        ensures item { result.0 ≡ self.entry.new_item }
+        ensures duplicates { map (λ item. item.now) result.1 ≡ order (ranks T.BiHashItem T.K1.Hash T.K2.Hash) (bag self.entry.map.now) self.entry.new_item }
+    {
+        let DuplicateError {
+            map,
+            new_item,
+            found,
+        } = self;
+        let map: &'a BiHashMap<T, S> = map;
+        (new_item, map.items_of(&found))
+    }
+}
+
 impl<T: BiHashItem, S: BuildHasher> MemoryError<'_, T, S> {
     /// The item that was refused.
     pub fn new_item(&self) -> &T

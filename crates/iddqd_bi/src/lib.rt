@@ -3,6 +3,7 @@
 
 mod command;
 mod error;
+mod hashes;
 mod item;
 mod iter;
 mod map;

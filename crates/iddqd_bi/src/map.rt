@@ -11,15 +11,20 @@ mod compare;
 mod find;
 mod insert;
 mod iterate;
+mod overwrite;
 mod remove;
 mod retain;
 mod run;
+mod shrink;
+#[cfg(test)]
+mod tests_capacity;
 
 /// The builder of hashers that a map has where none is named: std's, with its fixed seed. It gives no protection where
 /// strangers choose the keys.
 pub type DefaultHashBuilder = BuildHasherDefault<FoldHasher>;
 
 /// A hash map of items with two keys. No two of its items have an equal key of the same rank.
+#[derive(Drop)]
 pub struct BiHashMap<T: BiHashItem, S: BuildHasher = DefaultHashBuilder> {
     items: ItemSet<T>,
     first: IndexTable,

@@ -1,18 +1,16 @@
 -- How a bag changes: one item more, one in the place of others, one in the place of another, some taken away.
-use Rattle.std.specs.Prelude.{◌≡◌, ◌≢◌, ℕ, zero, suc, ◌+◌, ◌≤◌, ◌<◌, ◌==◌, Bool, true, false, cond, not, ◌&&◌, ◌||◌, List, [], ◌∷◌, ◌++◌, length, map, filter, fold, Result, Ok, Err, IsPermutation, Contains, count_by, ⊤}
-use Rattle.std.specs.Cmp.{IsEquivalence}
+use Rattle.std.specs.Prelude.{◌≡◌, ◌≢◌, ℕ, ◌<◌, ◌==◌, Bool, true, false, cond, not, ◌&&◌, List, [], ◌∷◌, ◌++◌, length, filter, fold, Result, Ok, Err, IsPermutation}
 use Rattle.std.specs.List.{IsDistinct, AllByRecursion, items_where_true}
-use Rattle.std.specs.List.Retain.{IsFiltered}
 use Rattle.std.proofs.Common.{refl, sym, ap, subst, ◌∙◌, arith}
 use Rattle.std.proofs.lemmas.Map.Keys.{IsDistinct-head, IsDistinct-tail, IsDistinct-cons}
 use Rattle.std.proofs.lemmas.Bool.{false≢true}
 use Rattle.std.proofs.lemmas.Bool.Decides.{nat_tests}
-use Rattle.std.proofs.lemmas.List.Sorted.{IsPermutation-refl, IsPermutation-sym, IsPermutation-cons, IsPermutation-trans, length_permutation, sum_by-IsPermutation}
+use Rattle.std.proofs.lemmas.List.Sorted.{IsPermutation-sym, IsPermutation-cons, IsPermutation-trans, length_permutation, sum_by-IsPermutation}
 use Rattle.std.proofs.lemmas.List.Sums.{fold-append, fold_push}
 use Rattle.std.proofs.lemmas.List.Folds.{fold_stays}
 use Rattle.iddqd_store.proofs.Shuffled.{split, IsPermutation-filter}
-use Rattle.iddqd_store.proofs.BagLemmas.{each_weaker, each_passes, none_pass, all_pass, not-true, IsDistinct-nil, IsDistinct-filter, IsPermutation-order, IsSound-over, IsSound-IsPermutation, over-IsPermutation, order-IsPermutation, listing-IsPermutation}
-use Rattle.iddqd_store.specs.Bag.{Ranks, some_of, every_of, listing, all_of, without, like, conflicts, agrees, IsSound, clash, order, over, overs, add, add_next, adds, swap, Keeps, crowd, entry, entry_of, AreLawful, AreNames}
+use Rattle.iddqd_store.proofs.BagLemmas.{each_weaker, each_passes, all_pass, not-true, IsDistinct-nil, IsDistinct-filter, IsPermutation-order, IsSound-over, IsSound-IsPermutation, over-IsPermutation, order-IsPermutation}
+use Rattle.iddqd_store.specs.Bag.{Ranks, some_of, without, like, conflicts, agrees, IsSound, clash, order, over, overs, add, add_next, adds, swap, Keeps, crowd, AreLawful}
 
 more_than_none : (n : ℕ) → n ≢ 0 → (n == 0) ≡ false
 more_than_none n h = grind (arith, nat_tests)

@@ -1,7 +1,6 @@
 -- A clone of the slots has their shape.
-use Rattle.std.proofs.Common.{◌≡◌, ℕ, zero, suc, ◌+◌, List, [], ◌∷◌, map, Option, Some, None, is_some, count_by, cond, slice_get, refl, ◌∙◌, sym, ap, subst, arith}
+use Rattle.std.proofs.Common.{◌≡◌, ℕ, zero, suc, List, [], ◌∷◌, map, Some, slice_get, refl, ◌∙◌, sym}
 use Rattle.std.proofs.lemmas.List.Elements.{length_all_zip}
-use Rattle.std.proofs.lemmas.List.Sums.{sum_by-cons}
 use Rattle.std.specs.List.{AllZip}
 use Rattle.iddqd_store.specs.Slots.{IsSlotClone, items_in, live_items, live_count}
 use Rattle.iddqd_store.specs.declared.item_set.Slot.{Slot}

@@ -1,11 +1,10 @@
 -- What the keys of an entry find in a sound bag.
-use Rattle.std.specs.Prelude.{◌≡◌, ℕ, zero, suc, ◌+◌, ◌≤◌, ◌<◌, Bool, true, false, not, ◌&&◌, List, [], ◌∷◌, ◌++◌, length, filter, IsPermutation}
-use Rattle.std.specs.List.{IsDistinct, AllByRecursion}
+use Rattle.std.specs.Prelude.{◌≡◌, ◌≤◌, ◌<◌, Bool, true, not, List, [], ◌∷◌, ◌++◌, length, filter, IsPermutation}
+use Rattle.std.specs.List.{AllByRecursion}
 use Rattle.std.proofs.Common.{refl, sym, ap, subst, ◌∙◌, arith}
-use Rattle.std.proofs.lemmas.Bool.{false≢true}
 use Rattle.iddqd_store.proofs.BagLemmas.{each_passes, filter_twice, filter_swap, named-IsPermutation, listing-IsPermutation, length-named, IsSound-rank}
 use Rattle.iddqd_store.proofs.SameBag.{and-true}
-use Rattle.iddqd_store.specs.Bag.{Ranks, every_of, listing, all_of, IsSound, Entry, vacant, unique, non_unique, entry, entry_of, NamesOne, AreNames}
+use Rattle.iddqd_store.specs.Bag.{Ranks, every_of, listing, all_of, IsSound, vacant, unique, non_unique, entry, entry_of, NamesOne, AreNames}
 
 module _ {T : Type 0} where
   -- the members that pass every test, from those that pass the first

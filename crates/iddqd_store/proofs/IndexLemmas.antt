@@ -1,5 +1,5 @@
 -- What a table that indexes slots finds, and how it stays an index.
-use Rattle.std.specs.Prelude.{◌≡◌, ℕ, zero, suc, ◌+◌, ◌≤◌, ◌<◌, ◌==◌, Bool, true, false, cond, not, List, [], ◌∷◌, ◌++◌, length, map, filter, IsPermutation, Contains, Option, Some, None, is_some, count_by, slice_index_or, ◌⊎◌}
+use Rattle.std.specs.Prelude.{◌≡◌, ℕ, zero, suc, ◌+◌, ◌≤◌, ◌<◌, ◌==◌, Bool, true, false, cond, List, [], ◌∷◌, length, map, filter, IsPermutation, Contains, Option, Some, None, is_some, count_by, ◌⊎◌}
 use Rattle.std.specs.List.{IsDistinct, AllByRecursion, sum_by}
 use Rattle.std.specs.Option.{option_map_or, option_to_list, option_and_then, IfSome, IfNone}
 use Rattle.std.proofs.Common.{refl, sym, ap, subst, ◌∙◌, arith, inl, inr, get_or, set, zero-add, add-zero}
@@ -8,12 +8,12 @@ use Rattle.std.proofs.lemmas.List.{get_or-set_other}
 use Rattle.iddqd_store.proofs.SlotLemmas.{members-take}
 use Rattle.std.proofs.lemmas.Bool.Decides.{nat_tests}
 use Rattle.std.proofs.lemmas.List.Sums.{sum_by-cons}
-use Rattle.std.proofs.lemmas.Map.Keys.{IsDistinct-head, IsDistinct-tail, IsDistinct-cons, IsDistinct-IsPermutation}
-use Rattle.std.proofs.lemmas.List.Sorted.{IsPermutation-refl, IsPermutation-sym, IsPermutation-cons, IsPermutation-trans, IsPermutation-map, length_permutation, Contains-permutation, sum_by-IsPermutation}
+use Rattle.std.proofs.lemmas.Map.Keys.{IsDistinct-head, IsDistinct-cons, IsDistinct-IsPermutation}
+use Rattle.std.proofs.lemmas.List.Sorted.{IsPermutation-sym, IsPermutation-cons, IsPermutation-trans, IsPermutation-map, length_permutation, Contains-permutation, sum_by-IsPermutation}
 use Rattle.iddqd_store.specs.Slots.{get, live_count, members_from, members, live_items}
 use Rattle.iddqd_store.specs.Indexed.{pair_of, IsIndex, passes_at}
 use Rattle.iddqd_store.specs.Bag.{NamesOne}
-use Rattle.iddqd_store.proofs.BagLemmas.{each_weaker, none_pass, named_is, without_named, IsDistinct-nil}
+use Rattle.iddqd_store.proofs.BagLemmas.{each_weaker, named_is, without_named, IsDistinct-nil}
 use Rattle.iddqd_store.proofs.Shuffled.{split}
 
 pub Contains-cons : {X : Type 0} (head x : X) (rest : List X) → Contains rest x → Contains (head ∷ rest) x

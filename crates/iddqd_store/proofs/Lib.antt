@@ -5,12 +5,18 @@ pub mod CloneLemmas
 pub mod Copied
 pub mod Copy
 pub mod EntryLemmas
+pub mod FillLemmas
 pub mod FoundLemmas
 pub mod Hole
 pub mod IndexLemmas
+pub mod IndexSteps
+pub mod KeepLemmas
 pub mod Line
 pub mod Looks
 pub mod MapLemmas
+pub mod MapLooks
+pub mod OverLemmas
+pub mod Partners
 pub mod Rows
 pub mod RunLemmas
 pub mod SameBag
@@ -23,6 +29,7 @@ pub mod Stretch
 pub mod TableRows
 pub mod Theorem
 pub mod Turned
+pub mod UniqueLemmas
 pub mod Walk
 pub mod Walked
 pub mod Walks

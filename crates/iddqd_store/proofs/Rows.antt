@@ -1,6 +1,5 @@
 -- worked rows, by computation
-use Rattle.std.specs.Prelude.{◌≡◌, ℕ, ◌+◌, ◌<◌, ◌==◌, ◌&&◌, zero, suc, Bool, true, filter, length, map, List, [], ◌∷◌, Some, Ok, Err}
-use Rattle.std.proofs.lemmas.List.Sorted.{IsPermutation-refl}
+use Rattle.std.specs.Prelude.{◌≡◌, ℕ, ◌<◌, ◌==◌, ◌&&◌, zero, suc, Bool, true, filter, List, [], ◌∷◌, Some, Ok, Err}
 use Rattle.iddqd_store.proofs.Shuffled.{IsPermutation-flip}
 use Rattle.std.proofs.Common.{refl, arith, get_or}
 use Rattle.std.proofs.lemmas.Bool.{false≢true}

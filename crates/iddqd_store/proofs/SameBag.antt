@@ -1,16 +1,16 @@
 -- When two bags are the same.
-use Rattle.std.specs.Prelude.{◌≡◌, ◌≢◌, ℕ, zero, suc, ◌+◌, ◌≤◌, ◌<◌, Bool, true, false, ◌&&◌, List, [], ◌∷◌, length, IsPermutation, Contains}
+use Rattle.std.specs.Prelude.{◌≡◌, zero, suc, ◌<◌, Bool, true, false, ◌&&◌, List, [], ◌∷◌, length, IsPermutation, Contains}
 use Rattle.std.specs.Cmp.{IsEquivalence, IsPartialEquivalence}
-use Rattle.std.specs.List.{IsDistinct, AllByRecursion, AllZip}
-use Rattle.std.proofs.Common.{refl, sym, ap, subst, ◌∙◌, arith}
+use Rattle.std.specs.List.{AllByRecursion, AllZip}
+use Rattle.std.proofs.Common.{refl, sym, subst, ◌∙◌, arith}
 use Rattle.std.proofs.lemmas.Bool.{false≢true}
 use Rattle.std.proofs.lemmas.Map.Keys.{IsDistinct-head, IsDistinct-tail, IsDistinct-cons}
 use Rattle.std.proofs.lemmas.List.Sorted.{IsPermutation-refl, IsPermutation-sym, IsPermutation-cons, IsPermutation-trans, length_permutation, Contains-permutation}
 use Rattle.std.proofs.lemmas.List.Elements.{length_all_zip}
 use Rattle.iddqd_store.proofs.Shuffled.{AllZip-follow, AllZip-flip, IsPermutation-flip}
-use Rattle.iddqd_store.proofs.BagLemmas.{each_weaker, IsSound-IsPermutation, conflicts-symm}
+use Rattle.iddqd_store.proofs.BagLemmas.{IsSound-IsPermutation, conflicts-symm}
 use Rattle.iddqd_store.proofs.BagSteps.{agrees-conflicts}
-use Rattle.iddqd_store.specs.Bag.{Ranks, some_of, every_of, like, conflicts, agrees, IsSound, AreLawful, IsSameBag, IsCopy}
+use Rattle.iddqd_store.specs.Bag.{Ranks, conflicts, agrees, same_item, IsSound, AreLawful, IsSameBag, IsCopy}
 
 pub and-true : (a b : Bool) → (a && b) ≡ true → (a ≡ true) × (b ≡ true)
 and-true true b h = (refl, h)
@@ -50,61 +50,58 @@ module _ {T : Type 0} where
       let second = and-true (agree y z) (agrees ranks y z) q in
       rw (h.0.congr x y z first.0 ∙ second.0, agrees-trans ranks h.1 x y z first.1 second.1) refl
 
-  -- a pair of members that are the same
-  abbrev Pairs : Ranks T → (T → T → Bool) → T → T → Type 0
-  Pairs ranks eq x y = (agrees ranks x y && eq x y) ≡ true
+  same_item-refl : (ranks : Ranks T) (eq : T → T → Bool) → AreLawful ranks → IsEquivalence eq → (x : T) → same_item ranks eq x x ≡ true
+  same_item-refl ranks eq laws same x = rw (agrees-refl ranks laws x, same.refl x) refl
 
-  pairs-refl : (ranks : Ranks T) (eq : T → T → Bool) → AreLawful ranks → IsEquivalence eq → (x : T) → Pairs ranks eq x x
-  pairs-refl ranks eq laws same x = rw (agrees-refl ranks laws x, same.refl x) refl
-
-  pairs-symm : (ranks : Ranks T) (eq : T → T → Bool) → AreLawful ranks → IsPartialEquivalence eq → (x y : T) → Pairs ranks eq x y → Pairs ranks eq y x
-  pairs-symm ranks eq laws same x y h = rw (agrees-symm ranks laws y x, same.symm y x) h
-
-  pairs-trans : (ranks : Ranks T) (eq : T → T → Bool) → AreLawful ranks → IsPartialEquivalence eq → (x y z : T) → Pairs ranks eq x y → Pairs ranks eq y z → Pairs ranks eq x z
-  pairs-trans ranks eq laws same x y z p q =
-      let first = and-true (agrees ranks x y) (eq x y) p in
-      let second = and-true (agrees ranks y z) (eq y z) q in
-      rw (agrees-trans ranks laws x y z first.0 second.0, same.trans x y z first.1 second.1) refl
+  pub same_item-equivalence : (ranks : Ranks T) (eq : T → T → Bool) → AreLawful ranks → IsPartialEquivalence eq → IsPartialEquivalence (same_item ranks eq)
+  same_item-equivalence ranks eq laws same =
+      record {
+        symm = λ x y. rw (agrees-symm ranks laws x y, same.symm x y) refl;
+        trans = λ x y z p q.
+            let first = and-true (agrees ranks x y) (eq x y) p in
+            let second = and-true (agrees ranks y z) (eq y z) q in
+            rw (agrees-trans ranks laws x y z first.0 second.0, same.trans x y z first.1 second.1) refl;
+      }
 
   pub IsSameBag-refl : (ranks : Ranks T) (eq : T → T → Bool) → AreLawful ranks → IsEquivalence eq → (bag : List T) → IsSameBag ranks eq bag bag
-  IsSameBag-refl ranks eq laws same bag = (bag, IsPermutation-refl bag, AllZip-refl (Pairs ranks eq) (pairs-refl ranks eq laws same) bag)
+  IsSameBag-refl ranks eq laws same bag = (bag, IsPermutation-refl bag, AllZip-refl (λ x y. same_item ranks eq x y ≡ true) (same_item-refl ranks eq laws same) bag)
 
   -- a bag is the same in another order
   pub IsSameBag-left : (ranks : Ranks T) (eq : T → T → Bool) (bag other held : List T) → IsPermutation bag held → IsSameBag ranks eq bag other → IsSameBag ranks eq held other
   IsSameBag-left ranks eq bag other held p h =
-      let moved = AllZip-follow (λ y x. Pairs ranks eq x y) h.0 bag held (AllZip-flip (Pairs ranks eq) bag h.0 h.2) p in
-      (moved.0, IsPermutation-trans _ _ _ h.1 moved.1, AllZip-flip (λ y x. Pairs ranks eq x y) moved.0 held moved.2)
+      let moved = AllZip-follow (λ y x. same_item ranks eq x y ≡ true) h.0 bag held (AllZip-flip (λ x y. same_item ranks eq x y ≡ true) bag h.0 h.2) p in
+      (moved.0, IsPermutation-trans _ _ _ h.1 moved.1, AllZip-flip (λ y x. same_item ranks eq x y ≡ true) moved.0 held moved.2)
 
   pub IsSameBag-right : (ranks : Ranks T) (eq : T → T → Bool) (bag other held : List T) → IsPermutation other held → IsSameBag ranks eq bag other → IsSameBag ranks eq bag held
   IsSameBag-right ranks eq bag other held p h = (h.0, IsPermutation-trans _ _ _ (IsPermutation-sym _ _ p) h.1, h.2)
 
   pub IsSameBag-symm : (ranks : Ranks T) (eq : T → T → Bool) → AreLawful ranks → IsPartialEquivalence eq → (bag other : List T) → IsSameBag ranks eq bag other → IsSameBag ranks eq other bag
   IsSameBag-symm ranks eq laws same bag other h =
-      let back : AllZip (Pairs ranks eq) h.0 bag =
-      AllZip-weaker (λ y x. Pairs ranks eq x y) (Pairs ranks eq) (λ y x k. pairs-symm ranks eq laws same x y k) h.0 bag (AllZip-flip (Pairs ranks eq) bag h.0 h.2) in
+      let back : AllZip (λ x y. same_item ranks eq x y ≡ true) h.0 bag =
+      AllZip-weaker (λ y x. same_item ranks eq x y ≡ true) (λ x y. same_item ranks eq x y ≡ true) (λ y x k. (same_item-equivalence ranks eq laws same).symm y x ∙ k) h.0 bag (AllZip-flip (λ x y. same_item ranks eq x y ≡ true) bag h.0 h.2) in
       IsSameBag-left ranks eq h.0 bag other (IsPermutation-sym _ _ h.1) (bag, IsPermutation-refl bag, back)
 
   pub IsSameBag-trans : (ranks : Ranks T) (eq : T → T → Bool) → AreLawful ranks → IsPartialEquivalence eq → (bag other third : List T) → IsSameBag ranks eq bag other → IsSameBag ranks eq other third → IsSameBag ranks eq bag third
   IsSameBag-trans ranks eq laws same bag other third h k =
       let moved = IsSameBag-left ranks eq other third h.0 h.1 k in
-      (moved.0, moved.1, AllZip-trans (Pairs ranks eq) (pairs-trans ranks eq laws same) bag h.0 moved.0 h.2 moved.2)
+      (moved.0, moved.1, AllZip-trans (λ x y. same_item ranks eq x y ≡ true) (λ x y z p q. (same_item-equivalence ranks eq laws same).trans x y z p q) bag h.0 moved.0 h.2 moved.2)
 
   pub IsSameBag-length : (ranks : Ranks T) (eq : T → T → Bool) (bag other : List T) → IsSameBag ranks eq bag other → length bag ≡ length other
-  IsSameBag-length ranks eq bag other h = length_all_zip (Pairs ranks eq) bag h.0 h.2 ∙ length_permutation _ _ h.1
+  IsSameBag-length ranks eq bag other h = length_all_zip (λ x y. same_item ranks eq x y ≡ true) bag h.0 h.2 ∙ length_permutation _ _ h.1
 
   -- a member has its partner among the other members
   abbrev pub HasPair : Ranks T → (T → T → Bool) → List T → T → Type 0
-  HasPair ranks eq other x = (y : T) × Contains other y × ((agrees ranks x y && eq x y) ≡ true)
+  HasPair ranks eq other x = (y : T) × Contains other y × (same_item ranks eq x y ≡ true)
 
   pub IsSameBag-pair : (ranks : Ranks T) (eq : T → T → Bool) (bag other : List T) → IsSameBag ranks eq bag other → (x : T) → Contains bag x → HasPair ranks eq other x
   IsSameBag-pair ranks eq bag other h x found =
       let pair = partner bag h.0 h.2 found in
       (pair.0, Contains-permutation h.0 other pair.0 (IsPermutation-sym _ _ h.1) pair.1, pair.2)
     where
-      partner : (xs ys : List T) → AllZip (Pairs ranks eq) xs ys → Contains xs x → (y : T) × Contains ys y × Pairs ranks eq x y
+      partner : (xs ys : List T) → AllZip (λ x y. same_item ranks eq x y ≡ true) xs ys → Contains xs x → (y : T) × Contains ys y × same_item ranks eq x y ≡ true
       partner [] ys all found = absurd (omega (arith, found.1))
       partner (z ∷ xs) [] all found = absurd all
-      partner (z ∷ xs) (y ∷ ys) all (zero, lt, is) = (y, (0, omega arith, refl), subst (λ z. Pairs ranks eq z y) is all.0)
+      partner (z ∷ xs) (y ∷ ys) all (zero, lt, is) = (y, (0, omega arith, refl), subst (λ z. same_item ranks eq z y ≡ true) is all.0)
       partner (z ∷ xs) (y ∷ ys) all (suc k, lt, is) =
           let rest = partner xs ys all.1 (k, omega arith, is) in
           (rest.0, (suc rest.1.0, omega (arith, rest.1.1), rest.1.2), rest.2)

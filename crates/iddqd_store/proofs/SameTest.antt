@@ -1,162 +1,221 @@
--- The test of whether two bags are the same.
-use Rattle.std.specs.Prelude.{◌≡◌, ◌≢◌, ℕ, zero, suc, ◌<◌, Bool, true, false, ◌&&◌, ◌||◌, ◌==◌, List, [], ◌∷◌, length, Option, Some, None, filter, Contains}
-use Rattle.std.specs.Bool.{Decides}
-use Rattle.std.specs.Cmp.{IsEquivalence, IsPartialEquivalence, both_ways, equiv, partial_equiv_from_equiv}
-use Rattle.std.specs.List.{list_all, list_any}
-use Rattle.std.specs.Option.{option_to_list}
-use Rattle.std.proofs.Common.{refl, sym, ap, subst, ◌∙◌, arith}
-use Rattle.std.proofs.lemmas.Bool.{false≢true}
-use Rattle.std.proofs.lemmas.Bool.Decides.{Decides-eqb}
-use Rattle.iddqd_store.specs.Bag.{Ranks, agrees, IsSound, AreLawful, IsSameBag}
-use Rattle.iddqd_store.specs.SameBag.{has_partner, same_bag}
-use Rattle.iddqd_store.proofs.IndexLemmas.{Contains-cons, Contains-here, each_from_Contains}
-use Rattle.iddqd_store.proofs.SameBag.{and-true, agrees-refl, agrees-symm, agrees-trans, IsSameBag-symm, IsSameBag-length, IsSameBag-pair, IsSameBag-from_pairs}
+-- The test whether two bags are the same: it says so exactly where their members pair off, and it is an equivalence.
+use Rattle.std.specs.Prelude.{◌≡◌, ℕ, zero, suc, ◌+◌, ◌<◌, ◌==◌, ◌⊎◌, Bool, true, cond, ◌&&◌, List, [], ◌∷◌, ◌++◌, IsPermutation, Contains, count_by}
+use Rattle.std.specs.Cmp.{IsEquivalence, IsPartialEquivalence, per_alike, equiv, both_ways, partial_equiv_from_equiv}
+use Rattle.std.specs.List.{AllZip, list_all}
+use Rattle.std.proofs.Common.{refl, sym, ap, subst, ◌∙◌, arith, inl, inr}
+use Rattle.std.proofs.lemmas.Bool.Decides.{nat_tests}
+use Rattle.std.proofs.lemmas.List.Sums.{sum_by-cons}
+use Rattle.std.proofs.lemmas.List.Sorted.{IsPermutation-refl, IsPermutation-sym, IsPermutation-cons, IsPermutation-trans, Contains-permutation, sum_by-IsPermutation}
+use Rattle.iddqd_store.proofs.Shuffled.{split}
+use Rattle.iddqd_store.proofs.SameBag.{and-true, agrees-refl, same_item-equivalence, taken_out}
+use Rattle.iddqd_store.specs.Bag.{Ranks, same_item, AreLawful, IsSameBag, is_same}
 
-and-both : (a b : Bool) → a ≡ true → b ≡ true → (a && b) ≡ true
-and-both true b p q = q
-and-both false b p q = p
+equal_from : (a b : ℕ) → (a == b) ≡ true → a ≡ b
+equal_from a b h = grind (arith, nat_tests)
 
-or-second : (a b : Bool) → b ≡ true → (a || b) ≡ true
-or-second true b p = refl
-or-second false b p = p
+equal_test : (a b : ℕ) → a ≡ b → (a == b) ≡ true
+equal_test a b h = grind (arith, nat_tests)
 
 module _ {T : Type 0} where
-  pub any_in : (p : T → Bool) (xs : List T) (y : T) → Contains xs y → p y ≡ true → list_any p xs ≡ true
-  any_in p [] y found passes = absurd (omega (arith, found.1))
-  any_in p (z ∷ zs) y (zero, lt, is) passes =
-      let here : p z ≡ true = ap p is ∙ passes in
-      rw here refl
-  any_in p (z ∷ zs) y (suc k, lt, is) passes = or-second (p z) _ (any_in p zs y (k, omega arith, is) passes)
+  -- in one list or the other
+  abbrev Either : List T → List T → T → Type 0
+  Either xs ys x = Contains xs x ⊎ Contains ys x
 
-  pub any_out : (p : T → Bool) (xs : List T) → list_any p xs ≡ true → (y : T) × Contains xs y × (p y ≡ true)
-  any_out p [] h = absurd (false≢true h)
-  any_out p (z ∷ zs) h = by_head (p z) refl h (λ k. any_out p zs k)
-    where
-      by_head : (b : Bool) → p z ≡ b → (b || list_any p zs) ≡ true → (list_any p zs ≡ true → (y : T) × Contains zs y × (p y ≡ true)) → (y : T) × Contains (z ∷ zs) y × (p y ≡ true)
-      by_head true is h on = (z, Contains-here z zs, is)
-      by_head false is h on =
-          let rest = on h in
-          (rest.0, Contains-cons z rest.0 zs rest.1, rest.2)
+  append-left : (xs ys : List T) (x : T) → Contains xs x → Contains (xs ++ ys) x
+  append-left [] ys x h = absurd (omega (arith, h.1))
+  append-left (y ∷ xs) ys x (zero, lt, is) = (0, omega arith, is)
+  append-left (y ∷ xs) ys x (suc k, lt, is) =
+      let rest = append-left xs ys x (k, omega arith, is) in
+      (suc rest.0, omega (arith, rest.1), rest.2)
 
-  pub all_in : (p : T → Bool) (xs : List T) (x : T) → list_all p xs ≡ true → Contains xs x → p x ≡ true
-  all_in p [] x h found = absurd (omega (arith, found.1))
-  all_in p (z ∷ zs) x h (zero, lt, is) = ap p (sym is) ∙ (and-true (p z) (list_all p zs) h).0
-  all_in p (z ∷ zs) x h (suc k, lt, is) = all_in p zs x (and-true (p z) (list_all p zs) h).1 (k, omega arith, is)
+  append-right : (xs ys : List T) (x : T) → Contains ys x → Contains (xs ++ ys) x
+  append-right [] ys x h = h
+  append-right (y ∷ xs) ys x h =
+      let rest = append-right xs ys x h in
+      (suc rest.0, omega (arith, rest.1), rest.2)
 
-  pub all_out : (p : T → Bool) (xs : List T) → ((x : T) → Contains xs x → p x ≡ true) → list_all p xs ≡ true
-  all_out p [] h = refl
-  all_out p (z ∷ zs) h = and-both (p z) (list_all p zs) (h z (Contains-here z zs)) (all_out p zs (λ x found. h x (Contains-cons z x zs found)))
+  behind : (xs : List T) (y x : T) → Contains xs x → Contains (y ∷ xs) x
+  behind xs y x h = (suc h.0, omega (arith, h.1), h.2)
 
-module _ {T : Type 0} (ranks : Ranks T) (eq : T → T → Bool) where
-  -- what the test says, part by part
-  record Same (bag other : List T) : Type 0 where
-    as_many : length bag ≡ length other
-    there : (x : T) → Contains bag x → has_partner ranks eq other x ≡ true
-    back : (y : T) → Contains other y → has_partner ranks eq bag y ≡ true
+  from_append : (xs ys : List T) (x : T) → Contains (xs ++ ys) x → Either xs ys x
+  from_append [] ys x h = inr h
+  from_append (y ∷ xs) ys x (zero, lt, is) = inl (0, omega arith, is)
+  from_append (y ∷ xs) ys x (suc k, lt, is) =
+      elim (from_append xs ys x (k, omega arith, is)) [ inl h ↦ inl (behind xs y x h) | inr h ↦ inr h ]
 
-  opened : (bag other : List T) → same_bag ranks eq bag other ≡ true → Same bag other
-  opened bag other h =
-      let outer = and-true (length bag == length other) _ h in
-      let inner = and-true (list_all (has_partner ranks eq other) bag) _ outer.1 in
-      record {
-        as_many = (Decides-eqb (length bag) (length other)).0 outer.0;
-        there = λ x found. all_in (has_partner ranks eq other) bag x inner.0 found;
-        back = λ y found. all_in (has_partner ranks eq bag) other y inner.1 found;
-      }
+  each_tested : (test : T → Bool) (xs : List T) → list_all test xs ≡ true → (x : T) → Contains xs x → test x ≡ true
+  each_tested test [] h x found = absurd (omega (arith, found.1))
+  each_tested test (y ∷ xs) h x (zero, lt, is) = subst (λ z. test z ≡ true) is (and-true (test y) (list_all test xs) h).0
+  each_tested test (y ∷ xs) h x (suc k, lt, is) = each_tested test xs (and-true (test y) (list_all test xs) h).1 x (k, omega arith, is)
 
-  shut : (bag other : List T) → Same bag other → same_bag ranks eq bag other ≡ true
-  shut bag other s =
-      and-both (length bag == length other) _ ((Decides-eqb (length bag) (length other)).1 s.as_many)
-      (and-both (list_all (has_partner ranks eq other) bag) _ (all_out (has_partner ranks eq other) bag s.there) (all_out (has_partner ranks eq bag) other s.back))
+  test_each : (test : T → Bool) (xs : List T) → ((x : T) → Contains xs x → test x ≡ true) → list_all test xs ≡ true
+  test_each test [] h = refl
+  test_each test (y ∷ xs) h = rw (h y (0, omega arith, refl), test_each test xs (λ x found. h x (behind xs y x found))) refl
 
-  turned : (bag other : List T) → same_bag ranks eq bag other ≡ true → same_bag ranks eq other bag ≡ true
-  turned bag other h =
-      let s = opened bag other h in
-      shut other bag (record { as_many = sym s.as_many; there = s.back; back = s.there })
+  count-cons : (p : T → Bool) (y : T) (xs : List T) → count_by p (y ∷ xs) ≡ cond (p y) 1 0 + count_by p xs
+  count-cons p y xs = omega (arith, sum_by-cons (λ x. cond (p x) 1 0) y xs)
 
-  module _ (laws : AreLawful ranks) where
-    through : IsPartialEquivalence eq → (x : T) (other third : List T) → has_partner ranks eq other x ≡ true → ((y : T) → Contains other y → has_partner ranks eq third y ≡ true) → has_partner ranks eq third x ≡ true
-    through same x other third h on =
-        let first = any_out (λ y. agrees ranks x y && eq x y) other h in
-        let second = any_out (λ z. agrees ranks first.0 z && eq first.0 z) third (on first.0 first.1) in
-        let p = and-true (agrees ranks x first.0) (eq x first.0) first.2 in
-        let q = and-true (agrees ranks first.0 second.0) (eq first.0 second.0) second.2 in
-        any_in (λ z. agrees ranks x z && eq x z) third second.0 second.1
-        (and-both (agrees ranks x second.0) (eq x second.0) (agrees-trans ranks laws x first.0 second.0 p.0 q.0) (same.trans x first.0 second.0 p.1 q.1))
+  count-alike : (p q : T → Bool) → ((x : T) → p x ≡ q x) → (xs : List T) → count_by p xs ≡ count_by q xs
+  count-alike p q h [] = refl
+  count-alike p q h (x ∷ xs) = count-cons p x xs ∙ rw (h x, count-alike p q h xs) (sym (count-cons q x xs))
 
-    pub same_bag-partial : IsPartialEquivalence eq → IsPartialEquivalence (same_bag ranks eq)
-    same_bag-partial same = record {
-      symm = λ xs ys. both_ways _ _ (turned xs ys) (turned ys xs);
-      trans = λ xs ys zs p q.
-          let s = opened xs ys p in
-          let t = opened ys zs q in
-          shut xs zs (record { as_many = s.as_many ∙ t.as_many; there = λ x found. through same x ys zs (s.there x found) t.there; back = λ z found. through same z ys xs (t.back z found) s.back });
-    }
+  count-IsPermutation : (p : T → Bool) (xs ys : List T) → IsPermutation xs ys → count_by p xs ≡ count_by p ys
+  count-IsPermutation p xs ys h = sym (sum_by-IsPermutation (λ x. cond (p x) 1 0) xs ys h)
 
-    pub same_bag-equivalence : IsEquivalence eq → IsEquivalence (same_bag ranks eq)
-    same_bag-equivalence same = equiv (same_bag-partial (partial_equiv_from_equiv same)) (λ xs. shut xs xs (record { as_many = refl; there = itself xs; back = itself xs }))
-      where
-        itself : (xs : List T) (x : T) → Contains xs x → has_partner ranks eq xs x ≡ true
-        itself xs x found = any_in (λ y. agrees ranks x y && eq x y) xs x found (and-both (agrees ranks x x) (eq x x) (agrees-refl ranks laws x) (same.refl x))
+  counted : (p : T → Bool) (xs : List T) (x : T) → Contains xs x → p x ≡ true → 0 < count_by p xs
+  counted p [] x found h = absurd (omega (arith, found.1))
+  counted p (y ∷ xs) x (zero, lt, is) h =
+      let here : p y ≡ true = ap p is ∙ h in
+      rw (count-cons p y xs, here) (omega arith)
+  counted p (y ∷ xs) x (suc k, lt, is) h =
+      let rest = counted p xs x (k, omega arith, is) h in
+      omega (arith, count-cons p y xs)
 
-    -- of a sound bag the test says `true` exactly if the members pair off; then the partners of the second bag's members need not be looked for
-    pub paired_off : IsPartialEquivalence eq → 0 < length ranks → (bag other : List T) → IsSound ranks bag → length bag ≡ length other → list_all (has_partner ranks eq other) bag ≡ true → IsSameBag ranks eq bag other
-    paired_off same some bag other sound long all =
-        IsSameBag-from_pairs ranks eq laws some bag other sound long
-        (each_from_Contains _ bag (λ x found. any_out (λ y. agrees ranks x y && eq x y) other (all_in (has_partner ranks eq other) bag x all found)))
+  -- what is counted stands in the list
+  standing : (p : T → Bool) (xs : List T) → 0 < count_by p xs → (y : T) × Contains xs y × (p y ≡ true)
+  standing p [] h = absurd (omega arith)
+  standing p (x ∷ xs) h =
+      split (λ b. 0 < cond b 1 0 + count_by p xs → (y : T) × Contains (x ∷ xs) y × (p y ≡ true)) (p x)
+      (λ yes _. (x, (0, omega arith, refl), yes))
+      (λ _ some. let rest = standing p xs (omega arith) in (rest.0, behind xs x rest.0 rest.1, rest.2))
+      (subst (λ n. 0 < n) (count-cons p x xs) h)
 
-    pub same_from_pairs : IsPartialEquivalence eq → (bag other : List T) → IsSameBag ranks eq bag other → same_bag ranks eq bag other ≡ true
-    same_from_pairs same bag other h =
-        let back = IsSameBag-symm ranks eq laws same bag other h in
-        shut bag other (record {
-          as_many = IsSameBag-length ranks eq bag other h;
-          there = λ x found. let pair = IsSameBag-pair ranks eq bag other h x found in any_in (λ y. agrees ranks x y && eq x y) other pair.0 pair.1 pair.2;
-          back = λ y found. let pair = IsSameBag-pair ranks eq other bag back y found in any_in (λ z. agrees ranks y z && eq y z) bag pair.0 pair.1 pair.2;
-        })
+  module _ (P : T → T → Bool) (per : IsPartialEquivalence P) where
+    -- each member pairs with itself, and with as many members of one bag as of the other
+    abbrev Balanced : List T → List T → Type 0
+    Balanced bag other = (x : T) → Either bag other x → (P x x ≡ true) × (count_by (P x) bag ≡ count_by (P x) other)
 
-    -- so says whatever answers as the test does
-    pub same_bag-decides : IsPartialEquivalence eq → 0 < length ranks → (bag other : List T) (r : Bool) → IsSound ranks bag → r ≡ same_bag ranks eq bag other → Decides r (IsSameBag ranks eq bag other)
-    same_bag-decides same some bag other r sound is =
-        (λ h. let s = opened bag other (sym is ∙ h) in paired_off same some bag other sound s.as_many (all_out (has_partner ranks eq other) bag s.there), λ h. is ∙ same_from_pairs same bag other h)
+    abbrev test_of : List T → List T → Bool
+    test_of bag other = list_all (λ x. P x x && (count_by (P x) bag == count_by (P x) other)) (bag ++ other)
 
-    -- what a search of the partners comes to
-    pub told_same : IsPartialEquivalence eq → 0 < length ranks → (bag other : List T) → IsSound ranks bag → length bag ≡ length other → list_all (has_partner ranks eq other) bag ≡ true → same_bag ranks eq bag other ≡ true
-    told_same same some bag other sound long all = same_from_pairs same bag other (paired_off same some bag other sound long all)
+    balanced : (bag other : List T) → test_of bag other ≡ true → Balanced bag other
+    balanced bag other h x found =
+        let there : Contains (bag ++ other) x = elim found [ inl f ↦ append-left bag other x f | inr f ↦ append-right bag other x f ] in
+        let both = and-true (P x x) (count_by (P x) bag == count_by (P x) other) (each_tested (λ x. P x x && (count_by (P x) bag == count_by (P x) other)) (bag ++ other) h x there) in
+        (both.0, equal_from _ _ both.1)
 
-  pub told_longer : (bag other : List T) → length bag ≢ length other → same_bag ranks eq bag other ≡ false
-  told_longer bag other differs = by_answer (same_bag ranks eq bag other) refl
-    where
-      by_answer : (b : Bool) → same_bag ranks eq bag other ≡ b → same_bag ranks eq bag other ≡ false
-      by_answer false is = is
-      by_answer true is = absurd (differs (opened bag other is).as_many)
+    tested : (bag other : List T) → Balanced bag other → test_of bag other ≡ true
+    tested bag other h =
+        test_each (λ x. P x x && (count_by (P x) bag == count_by (P x) other)) (bag ++ other)
+        (λ x found. let both = h x (from_append bag other x found) in rw (both.0, equal_test _ _ both.1) refl)
 
-  pub told_alone : (bag other : List T) → list_all (has_partner ranks eq other) bag ≡ false → same_bag ranks eq bag other ≡ false
-  told_alone bag other none = by_answer (same_bag ranks eq bag other) refl
-    where
-      by_answer : (b : Bool) → same_bag ranks eq bag other ≡ b → same_bag ranks eq bag other ≡ false
-      by_answer false is = is
-      by_answer true is = absurd (false≢true (sym none ∙ all_out (has_partner ranks eq other) bag (opened bag other is).there))
+    alike : (x y : T) (xs : List T) → P x y ≡ true → count_by (P x) xs ≡ count_by (P y) xs
+    alike x y xs h = count-alike (P x) (P y) (λ z. per_alike per x y z h) xs
 
-or-none : (b : Bool) → (b || false) ≡ b
-or-none true = refl
-or-none false = refl
+    balanced-symm : (bag other : List T) → Balanced bag other → Balanced other bag
+    balanced-symm bag other h x found =
+        let both = h x (elim found [ inl f ↦ inr f | inr f ↦ inl f ]) in
+        (both.0, sym both.1)
 
--- the partner of an item is among those with its key of the first rank
-among_named : {T : Type 0} (a r e : T → Bool) (xs : List T) → list_any (λ y. (a y && r y) && e y) xs ≡ list_any (λ y. r y && e y) (filter a xs)
-among_named a r e [] = refl
-among_named a r e (x ∷ xs) = by_head (a x) refl (among_named a r e xs)
-  where
-    by_head : (b : Bool) → a x ≡ b → list_any (λ y. (a y && r y) && e y) xs ≡ list_any (λ y. r y && e y) (filter a xs) → list_any (λ y. (a y && r y) && e y) (x ∷ xs) ≡ list_any (λ y. r y && e y) (filter a (x ∷ xs))
-    by_head true is rest = rw is (ap (λ b. (r x && e x) || b) rest)
-    by_head false is rest = rw is rest
+    -- a member of the first bag has as many partners in the third
+    carried : (bag other third : List T) → Balanced bag other → Balanced other third → (x : T) → Contains bag x → (P x x ≡ true) × (count_by (P x) bag ≡ count_by (P x) third)
+    carried bag other third h k x found =
+        let first = h x (inl found) in
+        let some : 0 < count_by (P x) other = omega (arith, counted (P x) bag x found first.0, first.1) in
+        let y = standing (P x) other some in
+        let second = k y.0 (inl y.1) in
+        (first.0, first.1 ∙ alike x y.0 other y.2 ∙ second.1 ∙ sym (alike x y.0 third y.2))
 
-module _ {T : Type 0} (agree : T → T → Bool) (ranks : Ranks T) (eq : T → T → Bool) (bag : List T) (x : T) where
-  pub partner_none : (o : Option T) → option_to_list o ≡ filter (agree x) bag → o ≡ None → has_partner (agree ∷ ranks) eq bag x ≡ false
-  partner_none None is none = among_named (agree x) (agrees ranks x) (eq x) bag ∙ ap (list_any (λ y. agrees ranks x y && eq x y)) (sym is)
-  partner_none (Some y) is none = absurd (cc none)
+    balanced-trans : (bag other third : List T) → Balanced bag other → Balanced other third → Balanced bag third
+    balanced-trans bag other third h k x found =
+        elim found [
+          | inl f ↦ carried bag other third h k x f
+          | inr f ↦
+              let back = carried third other bag (balanced-symm other third k) (balanced-symm bag other h) x f in
+              (back.0, sym back.1)
+        ]
 
-  pub partner_some : (o : Option T) (y : T) → option_to_list o ≡ filter (agree x) bag → o ≡ Some y → has_partner (agree ∷ ranks) eq bag x ≡ (agrees ranks x y && eq x y)
-  partner_some None y is found = absurd (cc found)
-  partner_some (Some z) y is found =
-      let same : z ≡ y = cc found in
-      rw (← same) (among_named (agree x) (agrees ranks x) (eq x) bag ∙ ap (list_any (λ y. agrees ranks x y && eq x y)) (sym is) ∙ or-none (agrees ranks x z && eq x z))
+    pub test-equivalence : IsPartialEquivalence test_of
+    test-equivalence =
+        record {
+          symm = λ b c. both_ways (test_of b c) (test_of c b) (λ h. tested c b (balanced-symm b c (balanced b c h))) (λ h. tested b c (balanced-symm c b (balanced c b h)));
+          trans = λ b c d h k. tested b d (balanced-trans b c d (balanced b c h) (balanced c d k));
+        }
+
+    pub test-refl : ((x : T) → P x x ≡ true) → (bag : List T) → test_of bag bag ≡ true
+    test-refl h bag = tested bag bag (λ x found. (h x, refl))
+
+    -- members that pair off are counted alike
+    counted_pairs : (xs ys : List T) → AllZip (λ x y. P x y ≡ true) xs ys → (x : T) → count_by (P x) xs ≡ count_by (P x) ys
+    counted_pairs [] [] all x = refl
+    counted_pairs [] (y ∷ ys) all x = absurd all
+    counted_pairs (z ∷ xs) [] all x = absurd all
+    counted_pairs (z ∷ xs) (y ∷ ys) all x =
+        let same : P x z ≡ P x y = per.symm x z ∙ per_alike per z y x all.0 ∙ per.symm y x in
+        count-cons (P x) z xs ∙ rw (same, counted_pairs xs ys all.1 x) (sym (count-cons (P x) y ys))
+
+    left_partner : (xs ys : List T) → AllZip (λ x y. P x y ≡ true) xs ys → (x : T) → Contains xs x → P x x ≡ true
+    left_partner [] ys all x found = absurd (omega (arith, found.1))
+    left_partner (z ∷ xs) [] all x found = absurd all
+    left_partner (z ∷ xs) (y ∷ ys) all x (zero, lt, is) =
+        let here : P z z ≡ true = per.trans z y z all.0 (per.symm y z ∙ all.0) in
+        subst (λ w. P w w ≡ true) is here
+    left_partner (z ∷ xs) (y ∷ ys) all x (suc k, lt, is) = left_partner xs ys all.1 x (k, omega arith, is)
+
+    right_partner : (xs ys : List T) → AllZip (λ x y. P x y ≡ true) xs ys → (y : T) → Contains ys y → P y y ≡ true
+    right_partner [] [] all y found = absurd (omega (arith, found.1))
+    right_partner [] (z ∷ ys) all y found = absurd all
+    right_partner (x ∷ xs) [] all y found = absurd all
+    right_partner (x ∷ xs) (z ∷ ys) all y (zero, lt, is) =
+        let here : P z z ≡ true = per.trans z x z (per.symm z x ∙ all.0) all.0 in
+        subst (λ w. P w w ≡ true) is here
+    right_partner (x ∷ xs) (z ∷ ys) all y (suc k, lt, is) = right_partner xs ys all.1 y (k, omega arith, is)
+
+    -- members of two bags pair off exactly where the test says so
+    pub test-from_pairs : (bag other matched : List T) → IsPermutation other matched → AllZip (λ x y. P x y ≡ true) bag matched → test_of bag other ≡ true
+    test-from_pairs bag other matched p all =
+        tested bag other (λ x found.
+        let itself : P x x ≡ true = elim found [ inl f ↦ left_partner bag matched all x f | inr f ↦ right_partner bag matched all x (Contains-permutation other matched x p f) ] in
+        (itself, counted_pairs bag matched all x ∙ sym (count-IsPermutation (P x) other matched p)))
+
+    nothing : (other : List T) → Balanced [] other → other ≡ []
+    nothing [] h = refl
+    nothing (y ∷ other) h =
+        let found : Contains (y ∷ other) y = (0, omega arith, refl) in
+        let both = h y (inr found) in
+        absurd (omega (arith, counted (P y) (y ∷ other) y found both.0, both.1))
+
+    -- y goes back in front of what was matched without it
+    put_back : (other rest matched : List T) (y : T) → IsPermutation other (y ∷ rest) → IsPermutation rest matched → IsPermutation other (y ∷ matched)
+    put_back other rest matched y p q = IsPermutation-trans other (y ∷ rest) (y ∷ matched) p (IsPermutation-cons y rest matched q)
+
+    pub pairs-from_balanced : (bag other : List T) → Balanced bag other → (matched : List T) × IsPermutation other matched × AllZip (λ x y. P x y ≡ true) bag matched
+    pairs-from_balanced [] other h = ([], subst (λ l. IsPermutation l []) (sym (nothing other h)) (IsPermutation-refl []), tt)
+    pairs-from_balanced (x ∷ bag) other h =
+        let here : Contains (x ∷ bag) x = (0, omega arith, refl) in
+        let first = h x (inl here) in
+        let some : 0 < count_by (P x) other = omega (arith, counted (P x) (x ∷ bag) x here first.0, first.1) in
+        let y = standing (P x) other some in
+        let out = taken_out other y.0 y.1 in
+        let left : Balanced bag out.0 = λ z found.
+        let there : Either (x ∷ bag) other z = elim found [
+          | inl f ↦ inl (behind bag x z f)
+          | inr f ↦ inr (Contains-permutation (y.0 ∷ out.0) other z (IsPermutation-sym other (y.0 ∷ out.0) out.1) (behind out.0 y.0 z f))
+        ] in
+        let both = h z there in
+        let same : P z x ≡ P z y.0 = per.symm z x ∙ per_alike per x y.0 z y.2 ∙ per.symm y.0 z in
+        let one = count-cons (P z) x bag in
+        let two = count-cons (P z) y.0 out.0 in
+        let moved = count-IsPermutation (P z) other (y.0 ∷ out.0) out.1 in
+        let alike : cond {A = ℕ} (P z x) 1 0 ≡ cond {A = ℕ} (P z y.0) 1 0 = ap (λ b. cond b 1 0) same in
+        (both.0, omega (arith, both.1)) in
+        let rest = pairs-from_balanced bag out.0 left in
+        (y.0 ∷ rest.0, put_back other out.0 rest.0 y.0 out.1 rest.1, (y.2, rest.2))
+
+  pub is_same-IsSameBag : (ranks : Ranks T) (eq : T → T → Bool) → AreLawful ranks → IsPartialEquivalence eq → (bag other : List T) → is_same ranks eq bag other ≡ true → IsSameBag ranks eq bag other
+  is_same-IsSameBag ranks eq laws same bag other h =
+      let per = same_item-equivalence ranks eq laws same in
+      pairs-from_balanced (same_item ranks eq) per bag other (balanced (same_item ranks eq) per bag other h)
+
+  pub IsSameBag-is_same : (ranks : Ranks T) (eq : T → T → Bool) → AreLawful ranks → IsPartialEquivalence eq → (bag other : List T) → IsSameBag ranks eq bag other → is_same ranks eq bag other ≡ true
+  IsSameBag-is_same ranks eq laws same bag other h =
+      test-from_pairs (same_item ranks eq) (same_item-equivalence ranks eq laws same) bag other h.0 h.1 h.2
+
+  pub is_same-partial : (ranks : Ranks T) (eq : T → T → Bool) → AreLawful ranks → IsPartialEquivalence eq → IsPartialEquivalence (is_same ranks eq)
+  is_same-partial ranks eq laws same = test-equivalence (same_item ranks eq) (same_item-equivalence ranks eq laws same)
+
+  pub is_same-equivalence : (ranks : Ranks T) (eq : T → T → Bool) → AreLawful ranks → IsEquivalence eq → IsEquivalence (is_same ranks eq)
+  is_same-equivalence ranks eq laws same =
+      let partial = partial_equiv_from_equiv same in
+      equiv (is_same-partial ranks eq laws partial)
+      (test-refl (same_item ranks eq) (same_item-equivalence ranks eq laws partial) (λ x. rw (agrees-refl ranks laws x, same.refl x) refl))

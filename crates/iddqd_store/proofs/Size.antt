@@ -3,6 +3,7 @@ use Rattle.std.proofs.Common.{◌≡◌, ℕ, suc, zero, ◌+◌, ◌-◌, ◌%�
 use Rattle.std.specs.Prelude.{◌≢◌, ◌↔◌, IsSome}
 use Rattle.std.specs.Int.Bits.{bit_and}
 use Rattle.std.proofs.lemmas.Bool.{cases_lt}
+use Rattle.std.proofs.Math.Pow.{pow_mono}
 use Rattle.std.proofs.lemmas.Nat.{and_mask, pow-add, pow_below}
 use Rattle.std.proofs.lemmas.List.{length-replicate}
 use Rattle.iddqd_store.specs.Ring.{held, cell}
@@ -63,4 +64,14 @@ mask_home hash count size some =
     let e : 2 ^ (3 + p.0) ≡ 2 ^ 3 * 2 ^ p.0 = pow-add 2 3 p.0 in
     let f : 2 ^ (3 + p.0) ≡ count = omega (arith, e, p.1) in
     subst (λ (n : ℕ). bit_and hash (n - 1) ≡ hash % n) f (and_mask hash (3 + p.0)))
+    size
+
+-- no more pairs than these fit into cells that a `usize` counts
+pub size_most : (n : ℕ) → IsSize n → n < 2 ^ 64 → n / 8 * 7 ≤ 7 * 2 ^ 60
+size_most n size fits =
+    ⊎_elim (λ (none : n ≡ 0). omega arith)
+    (λ (p : (k : ℕ) × (n ≡ 8 * 2 ^ k)).
+    ⊎_elim (λ (few : p.0 < 61). let l : p.0 ≤ 60 = omega arith in let b : 2 ^ p.0 ≤ 2 ^ 60 = pow_mono l in omega (arith, b, p.1))
+    (λ (many : 61 ≤ p.0). let b : 2 ^ 61 ≤ 2 ^ p.0 = pow_mono many in absurd (omega (arith, b, p.1)))
+    (cases_lt p.0 61))
     size

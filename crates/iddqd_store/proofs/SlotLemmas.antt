@@ -1,5 +1,5 @@
 -- How each change of the entries keeps the count and the list of vacant entries.
-use Rattle.std.proofs.Common.{◌≡◌, ◌≢◌, ◌⊎◌, ℕ, zero, suc, ◌+◌, ◌-◌, ◌^◌, ◌<◌, ◌≤◌, List, [], ◌∷◌, ◌++◌, map, length, get_or, set, Some, None, is_some, IsSome, count_by, slice_get, refl, sym, ap, subst, ◌∙◌, inl, inr, arith, length-set, append-nil, true≢false, Option, zero-add, add-zero, Bool, true, false, cond}
+use Rattle.std.proofs.Common.{◌≡◌, ◌≢◌, ◌⊎◌, ℕ, zero, suc, ◌+◌, ◌-◌, ◌<◌, List, [], ◌∷◌, ◌++◌, map, length, get_or, set, Some, None, is_some, IsSome, count_by, slice_get, refl, sym, ap, subst, ◌∙◌, inl, inr, arith, length-set, true≢false, Option, zero-add, add-zero, cond}
 use Rattle.std.specs.Prelude.{IsPermutation}
 use Rattle.std.proofs.lemmas.List.Sorted.{IsPermutation-refl, IsPermutation-cons, IsPermutation-trans, IsPermutation-middle, IsPermutation-to_front}
 use Rattle.std.proofs.lemmas.List.{set-set, map-set, map_push, length-map, length_push, get_or-map, get_or-set_same, get_or-set_other, get_or_past}
@@ -8,7 +8,7 @@ use Rattle.std.proofs.lemmas.Option.{slice_get_within, slice_get-get_or, slice_g
 use Rattle.iddqd_store.specs.declared.item_set.Slot.{Slot}
 use Rattle.iddqd_store.specs.declared.item_set.Slot.TheVariants.{Free, Live}
 use Rattle.iddqd_store.specs.SlotChain.{item_of, live_slots, IsChain, IsChained}
-use Rattle.iddqd_store.specs.Slots.{get, IsLive, live_count, Updates, Exchanges, members_from, live_items, items_in}
+use Rattle.iddqd_store.specs.Slots.{IsLive, live_count, Updates, Exchanges, members_from, live_items, items_in}
 
 module _ {T : Type 0} where
   -- a key starts one list of vacant entries at most
@@ -152,7 +152,7 @@ module _ {T : Type 0} where
 
 module _ {T : Type 0} where
   -- one more item in a new slot is one more member
-  members_from-push : (at : ℕ) (slots : List (Option T)) (x : T) → members_from at (slots ++ Some x ∷ []) ≡ members_from at slots ++ (at + length slots, x) ∷ []
+  pub members_from-push : (at : ℕ) (slots : List (Option T)) (x : T) → members_from at (slots ++ Some x ∷ []) ≡ members_from at slots ++ (at + length slots, x) ∷ []
   members_from-push at [] x = let e : at ≡ at + 0 = omega arith in ap (λ n. (n, x) ∷ []) e
   members_from-push at (None ∷ rest) x =
       let e : at + 1 + length rest ≡ at + suc (length rest) = omega arith in

@@ -1,5 +1,6 @@
 pub mod Asking
 pub mod Bag
+pub mod Cell
 pub mod Errors
 pub mod Indexed
 pub mod Lends
@@ -8,7 +9,6 @@ pub mod Map
 pub mod Reply
 pub mod Ring
 pub mod Run
-pub mod SameBag
 pub mod Searched
 pub mod SlotChain
 pub mod Slots

@@ -7,13 +7,14 @@ use std::marker::Model;
 #[derive(Clone, Copy, Debug, PartialEq, Eq)]
 pub struct TryReserveError;
 
-/// The same, with the value for which there was no room.
+/// A growth was refused for this value, which comes back.
 #[derive(Drop)]
 pub struct MemoryRefused<T> {
+    /// The value for which there was no room.
     pub value: T,
 }
 
-/// An item that was refused, and the items in its way: a short list of them, in the order of the keys.
+/// An item that was refused, and the items in its way: a short list `L` of them or of references to them, in the order of the keys.
 #[derive(Drop)]
 pub struct DuplicateItem<T, L> {
     new_item: T,

@@ -1,5 +1,5 @@
-//! Pairs of a hash and a slot, found by the hash.
-ghost use Rattle.std.specs.Prelude.{◌≡◌, ℕ, ◌+◌, ◌*◌, ◌/◌, ◌∷◌, ◌<◌, ◌≤◌, ◌&&◌, [], true, false, length, IsSome, IsOk, ◌↔◌, IfOk, OnOk, OnErr, IfSome, IfNone, Contains, count_by};
+//! Pairs of a hash and a slot's index, found by the hash, in cells with open addressing and no marks of deleted pairs.
+ghost use Rattle.std.specs.Prelude.{◌≡◌, ℕ, ◌+◌, ◌*◌, ◌/◌, ◌^◌, ◌∷◌, ◌<◌, ◌≤◌, ◌&&◌, [], true, false, length, IsSome, IsOk, IsErr, ◌↔◌, IfOk, OnOk, OnErr, IfSome, IfNone, Contains, count_by};
 ghost use Rattle.std.specs.List.Sorted.{IsPermutation};
 ghost use Rattle.iddqd_store.specs.Ring.{cell, held, stretch, IsFull};
 ghost use Rattle.iddqd_store.specs.Limit.{IsLeast, IsSize};
@@ -17,7 +17,17 @@ mod probe;
 #[cfg(test)]
 mod tests;
 
-/// A set of pairs.
+/// Pairs of a hash and a slot's index, found by the hash.
+///
+/// The home of a hash among `n` cells is the cell `hash % n`. A pair stands in the first cell from its home on that
+/// was empty, going round from the last cell to cell 0. The number of cells is 0 or a power of two from 8 on, and
+/// an eighth of the cells stays empty, so each search ends.
+///
+/// Contracts see its `pairs` in some order, its `limit`, which is how many fit, and its `row` of cells. Which cells
+/// are occupied is a function of the pairs' hashes and the number of cells (`cell_at`), whatever came before.
+///
+/// A cell is looked at by one call alone, which ticks the meter that it is handed. No call but `try_reserve` and
+/// `clone` makes a meter of its own.
 #[derive(Drop)]
 pub struct IndexTable {
     alloc: Global,
@@ -33,7 +43,7 @@ impl Model for IndexTable {
     ghost invariant = { λ t. IsTable t.cells × (t.count ≡ length (held t.cells)) };
 }
 
-/// A table of so many empty cells.
+// A table of so many empty cells.
 fn with_cells(alloc: Global, count: usize) -> Result<IndexTable, TryReserveError>
     requires { IsSize count }
     ensures empty { IfOk result (λ t. t.pairs ≡ []) }
@@ -45,7 +55,7 @@ fn with_cells(alloc: Global, count: usize) -> Result<IndexTable, TryReserveError
     Ok(table)
 }
 
-/// A table of so many cells with the pairs of these, which are entered in order by their hashes.
+// A table of so many cells with the pairs of these, which are entered in order by the hashes that the cells hold.
 fn regrown(
     alloc: Global,
     cells: &Cells,
@@ -81,11 +91,14 @@ impl IndexTable {
         }
     }
 
-    /// A table without pairs that has room for so many.
+    /// A table without pairs that has room for so many: `with_capacity(alloc, 8)` has 16 cells, in which 14 fit.
+    ///
+    /// It is refused where the cells cannot be had, or are more than `usize` or memory can count, and never for 0.
     pub fn with_capacity(alloc: Global, pairs: usize) -> Result<IndexTable, TryReserveError>
         ensures empty { IfOk result (λ t. t.pairs ≡ []) }
         ensures limit { IfOk result (λ t. IsLeast pairs t.limit) }
         ensures never_refused { pairs ≡ 0 → IsOk result }
+        ensures past { 7 * 2 ^ 60 < pairs → IsErr result }
     {
         if pairs == 0 {
             return Ok(IndexTable::new(alloc));
@@ -96,18 +109,29 @@ impl IndexTable {
         }
     }
 
-    /// How many pairs it has.
+    /// A table without pairs that has room for so many, on the memory that this one is on.
+    pub fn fresh(&self, pairs: usize) -> Result<IndexTable, TryReserveError>
+        ensures empty { IfOk result (λ t. t.pairs ≡ []) }
+        ensures limit { IfOk result (λ t. IsLeast pairs t.limit) }
+        ensures never_refused { pairs ≡ 0 → IsOk result }
+        ensures past { 7 * 2 ^ 60 < pairs → IsErr result }
+    {
+        IndexTable::with_capacity(self.alloc, pairs)
+    }
+
+    /// How many pairs it has. No cell is looked at.
     pub fn len(&self) -> usize
         ensures value { result ≡ length self.now.pairs }
         ensures fits { result ≤ self.now.limit }
     {
-        // It is kept beside the cells, so that none is looked at.
+        // The count is kept beside the cells.
         self.count
     }
 
-    /// How many pairs fit without growing.
+    /// How many pairs fit without growing: seven eighths of the cells.
     pub fn capacity(&self) -> usize
-        ensures { result ≡ self.now.limit }
+        ensures value { result ≡ self.now.limit }
+        ensures most { result ≤ 7 * 2 ^ 60 }
     {
         self.cells.len() / 8 * 7
     }
@@ -121,15 +145,21 @@ impl IndexTable {
         self.cells.len()
     }
 
-    /// Makes room for so many more pairs. It is refused only where they don't fit yet.
+    /// Makes room for so many more pairs. Where they fit already nothing is done.
+    ///
+    /// It is refused only where they don't fit yet and larger cells cannot be had, and then nothing has changed.
+    /// All cells are made before the first pair moves. Pairs move by the hashes in their cells: no matcher is asked,
+    /// and no item is seen.
     pub fn try_reserve(&mut self, more: usize) -> Result<(), TryReserveError>
         ensures pairs { IsPermutation self.old.pairs self.new.pairs }
         ensures limit { self.old.limit ≤ self.new.limit }
         ensures granted { OnOk result (length self.old.pairs + more ≤ self.new.limit) }
-        ensures grown { OnOk result (self.old.limit < length self.old.pairs + more → IsLeast (length self.old.pairs + more) self.new.limit) }
+        ensures grown { OnOk result (self.old.limit < length self.old.pairs + more
+            → IsLeast (length self.old.pairs + more) self.new.limit) }
         ensures same { length self.old.pairs + more ≤ self.old.limit → self.new ≡ self.old }
         ensures refused { OnErr result (self.old.limit < length self.old.pairs + more) }
         ensures unchanged { OnErr result (self.new ≡ self.old) }
+        ensures past { 7 * 2 ^ 60 < length self.old.pairs + more → IsErr result }
     {
         let limit = self.capacity();
         let Some(wanted) = self.count.checked_add(more) else {
@@ -146,7 +176,10 @@ impl IndexTable {
         Ok(())
     }
 
-    /// An index that stands under the hash and for which the matcher says yes.
+    /// An index that stands under the hash and for which the matcher says yes, or `None` if there is none.
+    ///
+    /// It takes no memory. It looks at the cells from the home of the hash on, up to the one with the answer or to the
+    /// first empty one, so at no more than there are pairs, and one. Where there are no cells it looks at none.
     pub fn find<M: Matcher>(
         &self,
         hash: u64,
@@ -155,14 +188,18 @@ impl IndexTable {
     ) -> Option<ItemIndex>
         ensures found { IfSome result (λ ix. Contains self.now.pairs (hash, ix)) }
         ensures accepted { IfSome result (λ ix. M.accepts matcher.old ix ≡ true) }
-        ensures none { IfNone result ((ix : ℕ) → Contains self.now.pairs (hash, ix) → M.accepts matcher.old ix ≡ false) }
+        ensures none { IfNone result ((ix : ℕ) → Contains self.now.pairs (hash, ix)
+            → M.accepts matcher.old ix ≡ false) }
         ensures kept { M.IsKept matcher.old matcher.new }
 
-        // Only indexes under the hash are asked, each of its pairs at most once.
-        ensures asked { M.asked matcher.new ≤ M.asked matcher.old + count_by (λ p. under hash p && M.counts matcher.old p.1) self.now.pairs }
+        // Only pairs under the hash are asked about, each at most once.
+        ensures asked { M.asked matcher.new ≤ M.asked matcher.old
+            + count_by (λ p. under hash p && M.counts matcher.old p.1) self.now.pairs }
 
-        ensures looks { LooksUp (hashes self.now.pairs) (length self.now.row) hash result meter.old meter.new }
-        ensures within { stretch (hashes self.now.pairs) (length self.now.row) hash ≤ length self.now.pairs }
+        ensures looks { LooksUp (hashes self.now.pairs) (length self.now.row) hash
+            result meter.old meter.new }
+        ensures within { stretch (hashes self.now.pairs) (length self.now.row) hash
+            ≤ length self.now.pairs }
         ensures size { IsSize (length self.now.row) }
         ensures limit { self.now.limit ≡ length self.now.row / 8 * 7 }
         ensures fits { length self.now.pairs ≤ self.now.limit }
@@ -182,35 +219,40 @@ impl IndexTable {
         None
     }
 
-    /// Adds a pair. It takes no memory.
+    /// Adds a pair where there is room. It takes no memory, and looks at the cells up to the first empty one.
     pub fn insert_reserved(&mut self, hash: u64, ix: ItemIndex, meter: &mut Meter)
         requires { length self.old.pairs < self.old.limit }
         ensures added { IsPermutation ((hash, ix) ∷ self.old.pairs) self.new.pairs }
         ensures cells { length self.new.row ≡ length self.old.row }
         ensures limit { self.new.limit ≡ self.old.limit }
-        ensures looks { meter.new ≡ meter.old + stretch (hashes self.old.pairs) (length self.old.row) hash + 1 }
-        ensures within { stretch (hashes self.old.pairs) (length self.old.row) hash ≤ length self.old.pairs }
+        ensures looks { meter.new
+            ≡ meter.old + stretch (hashes self.old.pairs) (length self.old.row) hash + 1 }
+        ensures within { stretch (hashes self.old.pairs) (length self.old.row) hash
+            ≤ length self.old.pairs }
     {
         let at = probe::first_empty(&self.cells, hash, meter);
         self.cells.put(at, hash, ix);
         self.count += 1;
     }
 
-    /// Takes a pair out. No mark is left: what stands behind it moves up.
+    /// Takes a pair out. It takes no memory, and looks at the cells from the home of the hash on up to the first empty
+    /// one. No mark is left: each pair behind the hole moves into it, where the hole lies on the way from its home.
     pub fn remove(&mut self, hash: u64, ix: ItemIndex, meter: &mut Meter)
         requires { Contains self.old.pairs (hash, ix) }
         ensures taken { IsPermutation self.old.pairs ((hash, ix) ∷ self.new.pairs) }
         ensures cells { length self.new.row ≡ length self.old.row }
         ensures limit { self.new.limit ≡ self.old.limit }
-        ensures looks { meter.new ≡ meter.old + stretch (hashes self.old.pairs) (length self.old.row) hash + 1 }
-        ensures within { stretch (hashes self.old.pairs) (length self.old.row) hash ≤ length self.old.pairs }
+        ensures looks { meter.new
+            ≡ meter.old + stretch (hashes self.old.pairs) (length self.old.row) hash + 1 }
+        ensures within { stretch (hashes self.old.pairs) (length self.old.row) hash
+            ≤ length self.old.pairs }
     {
         let at = probe::seek(&self.cells, hash, ix, meter);
         probe::close_up(&mut self.cells, hash, at, meter);
         self.count -= 1;
     }
 
-    /// Takes all pairs out. The cells stay.
+    /// Takes all pairs out. The cells stay, and none is looked at.
     pub fn clear(&mut self)
         ensures pairs { self.new.pairs ≡ [] }
         ensures cells { length self.new.row ≡ length self.old.row }
@@ -230,7 +272,7 @@ impl IndexTable {
         self.cells.cell_at(i, meter)
     }
 
-    /// A table with the same pairs in as many cells.
+    /// A table with the same pairs in the same cells. It is refused where its memory cannot be had.
     pub fn clone(&self) -> Result<IndexTable, TryReserveError>
         ensures { IfOk result (λ t. t ≡ self.now) }
     {

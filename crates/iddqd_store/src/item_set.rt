@@ -1,12 +1,14 @@
-//! Items in slots. A freed slot is used again.
+//! Items in slots.
 ghost use Rattle.std.specs.Prelude.{◌≡◌, ◌+◌, ◌-◌, ◌<◌, ◌≤◌, ◌^◌, [], ◌∷◌, IsSome, OnSome, IfNone, IfSome, is_some, MatchOption, OnOk, OnErr, Some, IsPermutation, option_copied, length, ℕ, None, slice_set};
 ghost use Rattle.std.specs.Option.{option_copied_mut};
 ghost use Rattle.std.specs.Borrow.{Lends, sem};
 ghost use Rattle.iddqd_store.specs.Slots.{get, IsLive, live_count, members, Updates, Exchanges, NextLive};
 ghost use Rattle.iddqd_store.specs.SlotChain.{item_of};
 
+mod build;
 mod clone;
 mod compact;
+mod fill;
 #[cfg(test)]
 mod tests;
 mod values;
@@ -18,7 +20,16 @@ use std::marker::Model;
 use std::mem;
 pub use values::{IntoValues, Values};
 
-/// Items in slots.
+/// Items in slots, each found by the number of its slot. Contracts see the slots, each with its item or free, and how many items fit.
+///
+/// A slot keeps its number until `compact` or `shrink_to`, and a freed slot is used again before a new one. Only `try_reserve`, `shrink_to` and `clone` take memory, and only the first two change how many items fit:
+///
+/// ```
+/// let mut set = ItemSet::new(alloc);
+/// set.try_reserve(1)?;
+/// let ix = set.insert_reserved("a");
+/// set.remove(ix);
+/// ```
 #[derive(Drop)]
 pub struct ItemSet<T> {
     slots: Vec<Slot<T>>,
@@ -31,6 +42,7 @@ pub struct ItemSet<T> {
 #[derive(Drop)]
 enum Slot<T> {
     Live(T),
+    // The next free slot, or the number of slots where there is none.
     Free(usize),
 }
 
@@ -85,7 +97,7 @@ impl<T> ItemSet<T> {
         }
     }
 
-    /// The number of live slots.
+    /// The number of live slots. It takes one step.
     pub fn len(&self) -> usize
         ensures value { result ≡ live_count self.now.slots }
         ensures fits { result ≤ self.now.capacity }
@@ -137,7 +149,7 @@ impl<T> ItemSet<T> {
         self.slots[at].item_mut()
     }
 
-    /// The first live slot from this number on.
+    /// The first live slot from this number on. It looks at each slot up to that one.
     pub fn next_live(&self, from: usize) -> Option<ItemIndex>
         ensures next { NextLive self.now.slots from result }
         ensures fits { length self.now.slots < 2 ^ 64 }

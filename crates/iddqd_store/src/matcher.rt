@@ -3,12 +3,14 @@ ghost use Rattle.std.specs.Prelude.{◌≡◌, ◌+◌, ◌≤◌, ℕ, Bool, if
 
 use crate::item_index::ItemIndex;
 
-/// What a search by hash asks of each index under that hash.
+/// What a search by hash asks of the indexes under that hash: whether an index is the one that is sought.
+///
+/// The answer for each index is fixed, whatever was asked before.
 pub trait Matcher {
     // What `matches` answers.
     ghost accepts: { Self → ℕ → Bool };
 
-    // Whether a question about this index is counted. So a caller can count the questions about one index alone.
+    // Whether a question about this index is counted. So a caller can count the questions about some indexes alone.
     ghost counts: { Self → ℕ → Bool };
 
     // How many of the counted questions were passed on so far.

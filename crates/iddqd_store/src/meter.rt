@@ -1,4 +1,4 @@
-//! A count of looks, which only contracts see.
+//! A count that only contracts see.
 
 ghost use Rattle.std.specs.Prelude.{◌≡◌, ℕ, ◌+◌};
 ghost use Rattle.std.specs.Borrow.{ftrue};
@@ -29,7 +29,8 @@ impl Count {
     }
 }
 
-/// How many looks were taken. It takes no bytes, and only `tick` changes it.
+/// How many looks were taken, or questions asked. Contracts see a number; at run time it takes no bytes. Only `tick`
+/// changes it.
 #[derive(Drop)]
 pub struct Meter {
     count: Count,
@@ -42,6 +43,7 @@ impl Model for Meter {
 }
 
 impl Meter {
+    /// A meter at 0.
     pub fn new() -> Meter
         ensures { result ≡ 0 }
     {
@@ -50,6 +52,7 @@ impl Meter {
         }
     }
 
+    /// Adds one.
     pub fn tick(&mut self)
         ensures { self.new ≡ self.old + 1 }
     {

@@ -5,7 +5,7 @@ ghost use Rattle.std.specs.Option.{option_to_list};
 use std::marker::Model;
 use std::mem;
 
-/// A list of at most three items, which takes no memory of its own.
+/// A list of at most three items, kept in place: no call takes memory. Contracts see a list.
 #[derive(Drop)]
 pub struct UpToThree<T> {
     first: Option<T>,
@@ -68,7 +68,7 @@ impl<T> UpToThree<T> {
         }
     }
 
-    /// Puts an item behind the others.
+    /// Puts an item behind the others, of which there are fewer than three.
     pub fn push(&mut self, item: T)
         requires { length self.old < 3 }
         ensures { self.new ≡ self.old ++ item ∷ [] }
@@ -86,7 +86,7 @@ impl<T> UpToThree<T> {
         }
     }
 
-    /// Takes the first item out.
+    /// Takes the first item out. The others move up.
     pub fn pop_front(&mut self) -> Option<T>
         ensures first { result ≡ slice_get self.old 0 }
         ensures rest { self.old ≡ option_to_list result ++ self.new }
@@ -94,5 +94,41 @@ impl<T> UpToThree<T> {
         let third = self.third.take();
         let second = mem::replace(&mut self.second, third);
         mem::replace(&mut self.first, second)
+    }
+}
+
+#[cfg(test)]
+mod tests {
+    use super::*;
+    use crate::{DuplicateItem, MemoryRefused, UpToTwo};
+
+    #[test]
+    fn short_lists_keep_their_order(rt: HostRuntime) {
+        let mut two = UpToTwo::new();
+        two.push(10);
+        two.push(20);
+        let mut three = UpToThree::new();
+        assert!(rt; three.is_empty());
+        for x in [10, 20, 30] {
+            assert!(rt; three.len() < 3);
+            three.push(x);
+        }
+        let refused = DuplicateItem::new(MemoryRefused { value: 5 }, two);
+        assert_eq!(rt; refused.duplicates().get(1).copied(), Some(20));
+        assert_eq!(rt; refused.new_item().value, 5);
+        let (_, mut two) = refused.into_parts();
+        for x in [10, 20] {
+            assert_eq!(rt; three.pop_front(), Some(x));
+            assert_eq!(rt; two.pop_front(), Some(x));
+        }
+        assert_eq!(rt; (two.len(), three.len()), (0, 1));
+        assert_eq!(rt;
+            (
+                two.pop_front(),
+                three.get(0).copied(),
+                three.get(1).copied()
+            ),
+            (None, Some(30), None)
+        );
     }
 }

@@ -6,7 +6,7 @@ use crate::item_index::ItemIndex;
 use std::marker::Model;
 use std::mem;
 
-/// A list of at most two items, which takes no memory of its own.
+/// A list of at most two items, kept in place: no call takes memory. Contracts see a list.
 #[derive(Drop)]
 pub struct UpToTwo<T> {
     first: Option<T>,
@@ -65,7 +65,7 @@ impl<T> UpToTwo<T> {
         }
     }
 
-    /// Puts an item behind the others.
+    /// Puts an item behind the others, of which there are fewer than two.
     pub fn push(&mut self, item: T)
         requires { length self.old < 2 }
         ensures { self.new ≡ self.old ++ item ∷ [] }
@@ -81,7 +81,7 @@ impl<T> UpToTwo<T> {
         }
     }
 
-    /// Takes the first item out.
+    /// Takes the first item out. The others move up.
     pub fn pop_front(&mut self) -> Option<T>
         ensures first { result ≡ slice_get self.old 0 }
         ensures rest { self.old ≡ option_to_list result ++ self.new }

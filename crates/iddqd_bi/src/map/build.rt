@@ -1,10 +1,10 @@
 //! New maps.
-ghost use Rattle.std.specs.Prelude.{◌≡◌, []};
+ghost use Rattle.std.specs.Prelude.{◌≡◌, ◌*◌, ◌^◌, ◌<◌, [], IfOk, IsOk, IsErr};
 ghost use Rattle.iddqd_store.specs.Map.{bag};
 
 use super::{BiHashMap, DefaultHashBuilder};
 use crate::item::BiHashItem;
-use iddqd_store::{IndexTable, ItemSet};
+use iddqd_store::{IndexTable, ItemSet, TryReserveError};
 use std::alloc::Global;
 use std::hash::{BuildHasher, Hash};
 
@@ -15,6 +15,18 @@ impl<T: BiHashItem> BiHashMap<T, DefaultHashBuilder> {
         ensures capacity { result.capacity ≡ 0 }
     {
         BiHashMap::with_hasher(alloc, DefaultHashBuilder::default())
+    }
+
+    /// An empty map with the default builder and with room for so many items.
+    ///
+    /// It takes memory for the slots and for each table. It is refused where there is none and where so many items are more than memory can count, and never for 0 items, which take none.
+    pub fn with_capacity(alloc: Global, items: usize) -> Result<Self, TryReserveError>
+        ensures empty { IfOk result (λ map. bag map ≡ []) }
+        ensures capacity { IfOk result (λ map. map.capacity ≡ items) }
+        ensures never_refused { items ≡ 0 → IsOk result }
+        ensures past { 7 * 2 ^ 60 < items → IsErr result }
+    {
+        BiHashMap::with_capacity_and_hasher(alloc, items, DefaultHashBuilder::default())
     }
 }
 
@@ -31,5 +43,42 @@ impl<T: BiHashItem, S: BuildHasher> BiHashMap<T, S> {
             second: IndexTable::new(alloc),
             hash_builder,
         }
+    }
+
+    /// An empty map of capacity 0 whose hashes come from the default value of the builder's type. It takes no memory.
+    pub fn default(alloc: Global) -> Self
+    where
+        S: Default,
+        ensures empty { bag result ≡ [] }
+        ensures capacity { result.capacity ≡ 0 }
+        ensures builder { S.is_default result.builder }
+    {
+        BiHashMap::with_hasher(alloc, S::default())
+    }
+
+    /// An empty map with room for so many items, whose hashes come from this builder.
+    ///
+    /// It takes memory for the slots and for each table. It is refused where there is none and where so many items are more than memory can count, and never for 0 items, which take none.
+    pub fn with_capacity_and_hasher(
+        alloc: Global,
+        items: usize,
+        hash_builder: S,
+    ) -> Result<Self, TryReserveError>
+    where
+        S: Drop,
+        ensures empty { IfOk result (λ map. bag map ≡ []) }
+        ensures capacity { IfOk result (λ map. map.capacity ≡ items) }
+        ensures builder { IfOk result (λ map. map.builder ≡ hash_builder) }
+        ensures never_refused { items ≡ 0 → IsOk result }
+        ensures past { 7 * 2 ^ 60 < items → IsErr result }
+    {
+        let first = IndexTable::with_capacity(alloc, items)?;
+        let second = IndexTable::with_capacity(alloc, items)?;
+        Ok(BiHashMap {
+            items: ItemSet::with_capacity(alloc, items)?,
+            first,
+            second,
+            hash_builder,
+        })
     }
 }

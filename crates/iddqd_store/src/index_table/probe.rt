@@ -1,5 +1,5 @@
-//! The ways of a table: from the home of a hash on, from cell to cell and round.
-ghost use Rattle.std.specs.Prelude.{◌≡◌, ◌≢◌, ℕ, ◌+◌, ◌-◌, ◌*◌, ◌/◌, ◌%◌, ◌^◌, ◌∷◌, ◌<◌, ◌≤◌, if◌then◌else◌, nat_lt, None, Some, length, IfSome, Contains};
+//! Ways in a table: from the home of a hash on, from cell to cell and round.
+ghost use Rattle.std.specs.Prelude.{◌≡◌, ◌≢◌, ℕ, ◌+◌, ◌-◌, ◌*◌, ◌/◌, ◌%◌, ◌^◌, ◌∷◌, ◌<◌, ◌≤◌, if◌then◌else◌, nat_lt, None, Some, length, IfSome, IsNone, ◌↔◌, Contains};
 ghost use Rattle.std.specs.List.Sorted.{IsPermutation};
 ghost use Rattle.iddqd_store.specs.Ring.{cell, gap, held, stretch};
 ghost use Rattle.iddqd_store.specs.Limit.{IsLeast, IsSize};
@@ -9,7 +9,7 @@ use crate::cells::Cells;
 use crate::item_index::ItemIndex;
 use crate::meter::Meter;
 
-/// The place after `at`.
+// The place after `at`.
 pub(super) fn after(at: usize, count: usize) -> usize
     requires { at < count }
     ensures { result ≡ (if nat_lt (at + 1) count then at + 1 else 0) }
@@ -17,8 +17,9 @@ pub(super) fn after(at: usize, count: usize) -> usize
     if at + 1 < count { at + 1 } else { 0 }
 }
 
-/// How many cells hold so many pairs.
+// How many cells hold so many pairs, if `usize` holds that number.
 pub(super) fn cells_for(pairs: usize) -> Option<usize>
+    ensures past { IsNone result ↔ (7 * 2 ^ 60 < pairs) }
     ensures least { IfSome result (λ count. IsLeast pairs (count / 8 * 7)) }
     ensures size { IfSome result IsSize }
 {
@@ -32,7 +33,7 @@ pub(super) fn cells_for(pairs: usize) -> Option<usize>
     Some(count)
 }
 
-/// The home of a hash: its lowest bits, since the number of cells is a power of two. So no division is made.
+// The home of a hash: its lowest bits, since the number of cells is a power of two. So no division is made.
 pub(super) fn home_of(hash: u64, count: usize) -> usize
     requires size { IsSize count }
     requires some { 0 < count }
@@ -41,13 +42,14 @@ pub(super) fn home_of(hash: u64, count: usize) -> usize
     (hash & (count as u64 - 1)) as usize
 }
 
-/// The first empty cell from the home of a hash on.
+// The first empty cell from the home of a hash on.
 pub(super) fn first_empty(cells: &Cells, hash: u64, meter: &mut Meter) -> usize
     requires table { IsTable cells.now }
     requires some { 0 < length cells.now }
     ensures first { IsFirstEmpty cells.now (hash % length cells.now) result }
     ensures small { length cells.now < 2 ^ 64 }
-    ensures looks { meter.new ≡ meter.old + stretch (hashes (held cells.now)) (length cells.now) hash + 1 }
+    ensures looks { meter.new
+        ≡ meter.old + stretch (hashes (held cells.now)) (length cells.now) hash + 1 }
 {
     let count = cells.len();
     let mut at = home_of(hash, count);
@@ -57,7 +59,7 @@ pub(super) fn first_empty(cells: &Cells, hash: u64, meter: &mut Meter) -> usize
     at
 }
 
-/// How many steps lead from one place to another.
+// How many steps lead from one place to another.
 pub(super) fn steps(from: usize, to: usize, count: usize) -> usize
     requires from { from < count }
     requires to { to < count }
@@ -70,7 +72,7 @@ pub(super) fn steps(from: usize, to: usize, count: usize) -> usize
     }
 }
 
-/// The cell of a pair that is there.
+// The cell of a pair that is there.
 pub(super) fn seek(cells: &Cells, hash: u64, index: ItemIndex, meter: &mut Meter) -> usize
     requires table { IsTable cells.now }
     requires there { Contains (held cells.now) (hash, index) }
@@ -86,15 +88,17 @@ pub(super) fn seek(cells: &Cells, hash: u64, index: ItemIndex, meter: &mut Meter
     at
 }
 
-/// Empties a cell, and moves what stands behind it up.
+// Empties a cell, and moves what stands behind it up.
 pub(super) fn close_up(cells: &mut Cells, hash: u64, emptied: usize, meter: &mut Meter)
     requires table { IsTable cells.old }
     requires pair { cell cells.old emptied ≢ None }
     requires way { IsWayTo cells.old (hash % length cells.old) emptied }
     ensures table { IsTable cells.new }
     ensures len { length cells.new ≡ length cells.old }
-    ensures taken { (pair : ℕ × ℕ) → cell cells.old emptied ≡ Some pair → IsPermutation (held cells.old) (pair ∷ held cells.new) }
-    ensures looks { meter.new + gap (length cells.old) (hash % length cells.old) emptied ≡ meter.old + stretch (hashes (held cells.old)) (length cells.old) hash }
+    ensures taken { (pair : ℕ × ℕ) → cell cells.old emptied ≡ Some pair
+        → IsPermutation (held cells.old) (pair ∷ held cells.new) }
+    ensures looks { meter.new + gap (length cells.old) (hash % length cells.old) emptied
+        ≡ meter.old + stretch (hashes (held cells.old)) (length cells.old) hash }
 {
     let count = cells.len();
     cells.empty(emptied);

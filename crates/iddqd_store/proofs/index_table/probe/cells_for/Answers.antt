@@ -1,6 +1,6 @@
-use Rattle.std.proofs.Common.{rules, arith, ℕ, ◌≡◌, ◌+◌, ◌*◌, ◌/◌, ◌^◌, ◌<◌, ◌≤◌, subst, ⊎_elim}
+use Rattle.std.proofs.Common.{rules, arith, ℕ, ◌≡◌, ◌+◌, ◌*◌, ◌/◌, ◌^◌, ◌<◌, ◌≤◌, subst, inr, ⊎_elim}
 use Rattle.std.proofs.lemmas.Bool.{cases_lt}
-use Rattle.iddqd_store.proofs.Size.{doubled, least_found}
+use Rattle.iddqd_store.proofs.Size.{doubled, least_found, size_most}
 use Rattle.iddqd_store.proofs.index_table.probe.cells_for.Goals as goal
 
 step : (k m count twice : ℕ) → count ≡ 8 * 2 ^ k → twice ≡ count * 2 → count / 8 * 7 < m → ((j : ℕ) → j < k → 7 * 2 ^ j < m) → (x : ℕ) × (twice ≡ 8 * 2 ^ x) × ((j : ℕ) → j < x → 7 * 2 ^ j < m)
@@ -22,3 +22,9 @@ returns-clause-least c =
     let i = c.loop-count.invariant in
     let e : c.loop-count.count ≡ 8 * 2 ^ i.0 = i.1 in
     least_found c.args.pairs i.0 c.loop-count.count (omega (arith, c.if-pairs-eq0.false)) e (omega (arith, e, c.loop-count-test.false)) i.2
+
+pub returns-clause-past : goal.returns-clause-past
+returns-clause-past c =
+    let i = c.loop-count.invariant in
+    let most = size_most c.loop-count.count (inr (i.0, i.1)) (omega (arith, c.loop-count.auto.count-fits)) in
+    (λ e. absurd (cc e), λ l. absurd (omega (arith, l, most, c.loop-count-test.false)))

@@ -1,4 +1,4 @@
-use Rattle.std.proofs.Common.{◌≡◌, rules, arith, is_some, map}
+use Rattle.std.proofs.Common.{◌≡◌, rules, arith, is_some}
 use Rattle.std.proofs.lemmas.List.Elements.{filter_from_retain}
 use Rattle.iddqd_store.specs.SlotChain.{item_of, live_slots}
 use Rattle.iddqd_store.proofs.SlotLemmas.{view-live_slots, IsChained-compact}

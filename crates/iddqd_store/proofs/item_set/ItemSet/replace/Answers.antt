@@ -1,4 +1,3 @@
-use Rattle.std.proofs.Common.{sym, ap, ◌∙◌, Some}
 use Rattle.iddqd_store.proofs.SlotLemmas.{Exchanges-set}
 use Rattle.iddqd_store.proofs.item_set.ItemSet.replace.Goals as goal
 

@@ -1,4 +1,4 @@
-use Rattle.std.proofs.Common.{◌≡◌, ◌≤◌, arith, max, min, ap, ◌∙◌, vec_capacity}
+use Rattle.std.proofs.Common.{◌≡◌, arith, ap, ◌∙◌}
 use Rattle.iddqd_store.specs.SlotChain.{live_slots}
 use Rattle.iddqd_store.proofs.SlotLemmas.{length-live_slots, view-live_slots, IsChained-compact}
 use Rattle.iddqd_store.proofs.item_set.ItemSet.shrink_to.Goals as goal

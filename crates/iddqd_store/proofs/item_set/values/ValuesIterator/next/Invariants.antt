@@ -1,4 +1,4 @@
-use Rattle.std.proofs.Common.{◌≡◌, ℕ, map, length}
+use Rattle.std.proofs.Common.{◌≡◌, map, length}
 use Rattle.iddqd_store.specs.Slots.{items_in}
 use Rattle.iddqd_store.specs.SlotChain.{item_of}
 use Rattle.iddqd_store.proofs.item_set.values.ValuesIterator.next.Given as goal

@@ -1,0 +1,44 @@
+use Rattle.std.proofs.Common.{arith, ◌≡◌, ◌≤◌, ◌<◌, length, refl, ℕ, Result, Ok, Err}
+use Rattle.std.specs.Prelude.{min, max, OnErr}
+use Rattle.iddqd_store.proofs.FillLemmas.{live_items-compact}
+use Rattle.iddqd_store.proofs.IndexLemmas.{length-live_items}
+use Rattle.iddqd_store.specs.Map.{bag}
+use Rattle.iddqd_store.specs.Slots.{live_count}
+use Rattle.iddqd_bi.proofs.MapLemmas.{two_lawful, IsIndexed-moved}
+use Rattle.iddqd_bi.proofs.map.BiHashMap.shrink_to.Goals as goal
+
+on_err : {A E P : Type 0} (r : Result A E) → P → OnErr r P
+on_err (Ok _) p = tt
+on_err (Err _) p = p
+
+something : (count len slots kept wanted : ℕ) → len ≡ count → wanted ≡ max len kept → 0 < max count (min wanted slots) → 0 < max len kept
+something count len slots kept wanted all is taken = omega arith
+
+exact : (count len slots room least wanted new first second : ℕ) → len ≡ count → len ≤ room → room ≤ slots → wanted ≡ max len (min least room) → new ≡ max count (min wanted slots) → wanted ≤ first → wanted ≤ second → min new (min first second) ≡ max len (min least room)
+exact count len slots room least wanted new first second all holds within is made enough1 enough2 = omega arith
+
+pub returns-in_err-shrink_to-clause-refused : goal.returns-in_err-shrink_to-clause-refused
+returns-in_err-shrink_to-clause-refused g c =
+    let all : length (bag c.args.self.now) ≡ live_count c.self.inside.items.slots = rw (← c.self.view_is) (length-live_items c.self.inside.items.slots) in
+    let is : c.max-wanted.result ≡ max (length (bag c.args.self.now)) (min c.args.least c.args.self.now.capacity) =
+    rw (c.max-wanted.ensures, c.min.ensures, c.len.ensures.value, c.capacity.ensures.value) refl in
+    on_err _ (something _ _ _ _ _ all is c.in_err-shrink_to.ensures.taken)
+
+pub invariant_of-self-2 : goal.invariant_of-self-2
+invariant_of-self-2 g c =
+    IsIndexed-moved (two_lawful _ g.T.BiHashItem.key1 _ g.T.BiHashItem.key2 g.met.T.K1.Eq.laws g.met.T.K2.Eq.laws) c.self.invariant _ _ _
+    (live_items-compact c.self.inside.items.slots c.shrink_to.new.self.slots c.in_ok-shrink_to.ensures.slots) c.fill.ensures.index c.fill-2.ensures.index
+
+pub returns-clause-items : goal.returns-clause-items
+returns-clause-items g c = rw (← c.self.view_is) (live_items-compact c.self.inside.items.slots c.shrink_to.new.self.slots c.in_ok-shrink_to.ensures.slots)
+
+pub returns-clause-granted : goal.returns-clause-granted
+returns-clause-granted g c =
+    let all : length (bag c.args.self.now) ≡ live_count c.self.inside.items.slots = rw (← c.self.view_is) (length-live_items c.self.inside.items.slots) in
+    let is : c.max-wanted.result ≡ max (length (bag c.args.self.now)) (min c.args.least c.args.self.now.capacity) =
+    rw (c.max-wanted.ensures, c.min.ensures, c.len.ensures.value, c.capacity.ensures.value) refl in
+    let holds : length (bag c.args.self.now) ≤ c.args.self.now.capacity = rw c.capacity.ensures.value at c.capacity.ensures.holds in
+    let within : c.args.self.now.capacity ≤ c.self.inside.items.capacity = rw (← c.self.view_is) (omega arith) in
+    exact _ _ _ _ _ _ _ _ _ all holds within is c.in_ok-shrink_to.ensures.capacity
+    (rw c.fill.ensures.limit c.in_ok-first.ensures.limit.enough)
+    (rw c.fill-2.ensures.limit c.in_ok-second.ensures.limit.enough)

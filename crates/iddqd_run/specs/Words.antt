@@ -1,0 +1,29 @@
+-- Words, and the commands that they stand for.
+use Rattle.std.specs.Prelude.{ℕ, List, [], ◌∷◌, codes, Option, Some, None, if◌then◌else◌}
+use Rattle.iddqd_run.specs.Texts.{is_text}
+use Rattle.iddqd_run.specs.declared.item.BiItem.{BiItem}
+use Rattle.iddqd_run.specs.declared.words.Word.{Word}
+use Rattle.iddqd_run.specs.declared.words.Word.TheVariants.{New, Get1, Get2, Del1}
+use Rattle.iddqd_bi.specs.declared.command.BiCommand.{BiCommand}
+use Rattle.iddqd_bi.specs.declared.command.BiCommand.TheVariants as command
+
+-- the commands of a map of the program's items
+abbrev pub Command : Type 0
+Command = BiCommand BiItem ℕ ℕ ℕ
+
+-- the word that the bytes spell
+abbrev pub word_of : List ℕ → Option Word
+word_of bytes =
+    if is_text bytes (codes "new") then Some New else
+    if is_text bytes (codes "get1") then Some Get1 else
+    if is_text bytes (codes "get2") then Some Get2 else
+    if is_text bytes (codes "del1") then Some Del1 else
+    None
+
+-- the command of a word with its numbers
+abbrev pub command_of : Word → List ℕ → Option Command
+command_of New (k1 ∷ k2 ∷ v ∷ []) = Some (command.InsertUnique (record { key1 = k1; key2 = k2; value = v }))
+command_of Get1 (k ∷ []) = Some (command.Get1 k)
+command_of Get2 (k ∷ []) = Some (command.Get2 k)
+command_of Del1 (k ∷ []) = Some (command.Remove1 k)
+command_of word numbers = None

@@ -1,0 +1,24 @@
+//! New sets with room.
+ghost use Rattle.std.specs.Prelude.{◌≡◌, [], IfOk, IsOk};
+
+use super::ItemSet;
+use crate::TryReserveError;
+use std::alloc::Global;
+
+impl<T> ItemSet<T> {
+    /// An empty set with room for so many items. It is never refused for none.
+    pub fn with_capacity(alloc: Global, items: usize) -> Result<Self, TryReserveError>
+        ensures slots { IfOk result (λ s. s.slots ≡ []) }
+        ensures capacity { IfOk result (λ s. s.capacity ≡ items) }
+        ensures never_refused { items ≡ 0 → IsOk result }
+    {
+        match Vec::with_capacity(alloc, items) {
+            Ok(slots) => Ok(ItemSet {
+                slots,
+                live: 0,
+                head: 0,
+            }),
+            Err(_) => Err(TryReserveError),
+        }
+    }
+}

@@ -1,0 +1,11 @@
+//! Tests of the maps that would make their own crates' proofs longer: worked rows, and what no clause says.
+#![tactic(auto)]
+
+mod alike;
+mod row;
+
+pub use alike::{Alike, AlikeHasher};
+pub use row::{Row, row_of};
+
+#[cfg(test)]
+mod bi_rows;

@@ -1,0 +1,58 @@
+//! Items with two numbers as keys.
+ghost use Rattle.std.proofs.Common.{rules};
+ghost use Rattle.iddqd_tests.specs.Row.{with_value};
+
+use iddqd_bi::{BiHashItem, BiHashItemMut};
+
+/// Two keys and a value.
+#[derive(Clone, Copy, Debug, PartialEq, Eq)]
+pub struct Row {
+    pub first: u64,
+    pub second: u64,
+    pub value: u64,
+}
+
+impl BiHashItem for Row {
+    type K1 = u64;
+
+    type K2 = u64;
+
+    ghost key1 = { λ x. x.first };
+
+    ghost key2 = { λ x. x.second };
+
+    fn key1(&self) -> &u64 {
+        &self.first
+    }
+
+    fn key2(&self) -> &u64 {
+        &self.second
+    }
+}
+
+impl BiHashItemMut for Row {
+    type Data = u64;
+
+    ghost payload = { λ x. x.value };
+
+    ghost put = { with_value };
+
+    ghost keeps_key1 = { Prim.search rules };
+
+    ghost keeps_key2 = { Prim.search rules };
+
+    ghost put_shows = { Prim.search rules };
+
+    fn data_mut(&mut self) -> &mut u64 {
+        &mut self.value
+    }
+}
+
+/// A row of these numbers.
+pub fn row_of(first: u64, second: u64, value: u64) -> Row {
+    Row {
+        first,
+        second,
+        value,
+    }
+}

@@ -1,0 +1,101 @@
+//! What a caller knows of a map after an insert, granted or refused.
+ghost use Rattle.std.specs.Prelude.{◌≡◌, ◌≢◌, ◌≤◌, ◌∷◌, [], length, IsPermutation, OnOk, OnErr, IfErr};
+ghost use Rattle.std.specs.Bool.{OnTrue, OnFalse};
+ghost use Rattle.iddqd_store.specs.Bag.{clash, order};
+ghost use Rattle.iddqd_store.specs.Map.{bag};
+ghost use Rattle.iddqd_bi.specs.Keys.{ranks};
+ghost use Rattle.iddqd_uses.specs.Inserting.{GainsBoth};
+
+use iddqd_bi::{BiHashItem, BiHashMap, InsertError};
+use std::hash::{BuildHasher, Hash};
+
+/// Inserts an item, and drops it where it is refused. Says whether it went in.
+pub fn insert_or_drop<T: BiHashItem + Drop, S: BuildHasher>(
+    map: &mut BiHashMap<T, S>,
+    item: T,
+) -> bool
+    ensures went_in { OnTrue result (IsPermutation (bag map.new) (item ∷ bag map.old)) }
+    ensures refused { OnFalse result (bag map.new ≡ bag map.old) }
+{
+    match map.insert_unique(item) {
+        Ok(()) => true,
+        Err(InsertError::Duplicate(refusal)) => {
+            drop(refusal);
+            false
+        }
+        Err(InsertError::Memory(refusal)) => {
+            drop(refusal);
+            false
+        }
+    }
+}
+
+/// Inserts an item, or hands it back.
+pub fn insert_or_back<T: BiHashItem, S: BuildHasher>(
+    map: &mut BiHashMap<T, S>,
+    item: T,
+) -> Result<(), T>
+    ensures went_in { OnOk result (IsPermutation (bag map.new) (item ∷ bag map.old)) }
+    ensures back { IfErr result (λ x. x ≡ item) }
+    ensures refused { OnErr result (bag map.new ≡ bag map.old) }
+{
+    match map.insert_unique(item) {
+        Ok(()) => Ok(()),
+        Err(InsertError::Duplicate(refusal)) => Err(refusal.into_item()),
+        Err(InsertError::Memory(refusal)) => Err(refusal.into_item()),
+    }
+}
+
+/// Inserts two items, one after the other, and says whether both went in.
+pub fn insert_both<T: BiHashItem + Drop, S: BuildHasher>(
+    map: &mut BiHashMap<T, S>,
+    a: T,
+    b: T,
+) -> bool
+    ensures both { OnTrue result (GainsBoth (bag map.old) a b (bag map.new)) }
+{
+    let first = match map.insert_unique(a) {
+        Ok(()) => true,
+        Err(InsertError::Duplicate(refusal)) => {
+            drop(refusal);
+            false
+        }
+        Err(InsertError::Memory(refusal)) => {
+            drop(refusal);
+            false
+        }
+    };
+    let second = match map.insert_unique(b) {
+        Ok(()) => true,
+        Err(InsertError::Duplicate(refusal)) => {
+            drop(refusal);
+            false
+        }
+        Err(InsertError::Memory(refusal)) => {
+            drop(refusal);
+            false
+        }
+    };
+    first && second
+}
+
+/// Inserts an item. Where others conflict with it, it drops it and says how many, and the map is as before.
+pub fn count_conflicts<T: BiHashItem + Drop, S: BuildHasher>(
+    map: &mut BiHashMap<T, S>,
+    item: T,
+) -> usize
+    ensures some { result ≢ 0 → (result ≡ length (order (ranks T.BiHashItem T.K1.Hash T.K2.Hash) (bag map.old) item)) × (map.new ≡ map.old) }
+{
+    match map.insert_unique(item) {
+        Ok(()) => 0,
+        Err(InsertError::Duplicate(refusal)) => {
+            let count = refusal.duplicates().len();
+            drop(refusal);
+            count
+        }
+        Err(InsertError::Memory(refusal)) => {
+            drop(refusal);
+            0
+        }
+    }
+}

@@ -1,0 +1,6 @@
+//! Callers of the maps, proved from the maps' public contracts alone.
+#![tactic(auto)]
+
+mod inserting;
+
+pub use inserting::{count_conflicts, insert_both, insert_or_back, insert_or_drop};
