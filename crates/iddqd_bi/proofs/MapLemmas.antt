@@ -6,7 +6,8 @@ use Rattle.std.specs.Cmp.{IsEquivalence}
 use Rattle.std.proofs.Common.{refl, sym, ap, ◌∙◌, subst}
 use Rattle.std.proofs.lemmas.Map.Keys.{IsDistinct-tail, IsDistinct-cons}
 use Rattle.std.proofs.lemmas.List.Sorted.{IsPermutation-sym, IsPermutation-trans, IsPermutation-map, IsPermutation-refl}
-use Rattle.iddqd_store.specs.Slots.{members, live_items, get}
+use Rattle.std.specs.List.{AllZip}
+use Rattle.iddqd_store.specs.Slots.{members, live_items, get, IsSlotClone}
 use Rattle.iddqd_store.specs.Indexed.{IsIndex, passes_at}
 use Rattle.iddqd_store.specs.Searched.{NamesOneOf}
 use Rattle.iddqd_store.specs.Bag.{Ranks, AreLawful, IsSound, conflicts, clash}
@@ -14,6 +15,8 @@ use Rattle.iddqd_store.proofs.IndexLemmas.{IsIndex-insert, IsIndex-remove, lengt
 use Rattle.iddqd_store.proofs.BagLemmas.{IsSound-IsPermutation, IsSound-rank, IsDistinct-nil}
 use Rattle.iddqd_store.proofs.SearchLemmas.{search_among, crowd_among}
 use Rattle.iddqd_store.proofs.MapLemmas.{live_items-moves, free_sound, IsEquivalence-key}
+use Rattle.iddqd_store.proofs.Copied.{is_copy, IsIndex-copy}
+use Rattle.iddqd_store.proofs.SameBag.{IsSound-copy}
 use Rattle.iddqd_bi.specs.Keys.{ranks, agree1, agree2}
 use Rattle.iddqd_bi.specs.Indexed.{IsIndexed}
 
@@ -81,3 +84,11 @@ module _ {T : Type 0} {agree1 agree2 : T → T → Bool} {hash1 hash2 : T → �
 
 pub two_lawful : {T K1 K2 : Type 0} (eq1 : K1 → K1 → Bool) (key1 : T → K1) (eq2 : K2 → K2 → Bool) (key2 : T → K2) → IsEquivalence eq1 → IsEquivalence eq2 → AreLawful {T = T} ((λ x y. eq1 (key1 x) (key1 y)) ∷ (λ x y. eq2 (key2 x) (key2 y)) ∷ [])
 two_lawful eq1 key1 eq2 key2 laws1 laws2 = (IsEquivalence-key eq1 key1 laws1, (IsEquivalence-key eq2 key2 laws2, tt))
+
+-- tables index a copy of the slots, where clones have the keys and the hashes of their sources
+pub IsIndexed-copy : {T : Type 0} {agree1 agree2 : T → T → Bool} {hash1 hash2 : T → ℕ} (other1 other2 : T → ℕ) {slots copy : List (Option T)} {pairs1 pairs2 : List (ℕ × ℕ)} (is_clone : T → T → Type 0) → AreLawful (agree1 ∷ agree2 ∷ []) → IsIndexed (agree1 ∷ agree2 ∷ []) hash1 hash2 slots pairs1 pairs2 → ((x c : T) → Contains (live_items slots) x → is_clone x c → agree1 x c ≡ true) → ((x c : T) → Contains (live_items slots) x → is_clone x c → agree2 x c ≡ true) → ((x c : T) → Contains (live_items slots) x → is_clone x c → other1 c ≡ hash1 x) → ((x c : T) → Contains (live_items slots) x → is_clone x c → other2 c ≡ hash2 x) → AllZip (IsSlotClone is_clone) slots copy → AllZip is_clone (live_items slots) (live_items copy) → IsIndexed (agree1 ∷ agree2 ∷ []) other1 other2 copy pairs1 pairs2
+IsIndexed-copy {agree1 = agree1} {agree2 = agree2} {hash1 = hash1} {hash2 = hash2} other1 other2 {slots = slots} {copy = copy} {pairs1 = pairs1} {pairs2 = pairs2} is_clone laws indexed same1 same2 alike1 alike2 all items = record {
+  sound = IsSound-copy is_clone (agree1 ∷ agree2 ∷ []) laws (live_items slots) (live_items copy) (λ x c found is. rw (same1 x c found is, same2 x c found is) refl) (is_copy is_clone _ _ items) indexed.sound;
+  first = IsIndex-copy is_clone hash1 other1 slots copy pairs1 alike1 all indexed.first;
+  second = IsIndex-copy is_clone hash2 other2 slots copy pairs2 alike2 all indexed.second;
+}

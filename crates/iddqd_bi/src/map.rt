@@ -6,10 +6,14 @@ use std::marker::Model;
 
 mod build;
 mod capacity;
+mod clone;
+mod compare;
 mod find;
 mod insert;
+mod iterate;
 mod overwrite;
 mod remove;
+mod retain;
 mod run;
 mod shrink;
 #[cfg(test)]

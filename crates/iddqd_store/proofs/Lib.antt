@@ -2,6 +2,7 @@ pub mod BagLemmas
 pub mod BagSteps
 pub mod Change
 pub mod CloneLemmas
+pub mod Copied
 pub mod Copy
 pub mod EntryLemmas
 pub mod FillLemmas
@@ -15,6 +16,7 @@ pub mod Looks
 pub mod MapLemmas
 pub mod MapLooks
 pub mod OverLemmas
+pub mod Partners
 pub mod Rows
 pub mod RunLemmas
 pub mod SameBag
@@ -29,5 +31,6 @@ pub mod Theorem
 pub mod Turned
 pub mod UniqueLemmas
 pub mod Walk
+pub mod Walked
 pub mod Walks
 pub mod Within

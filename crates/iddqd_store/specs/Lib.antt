@@ -14,3 +14,4 @@ pub mod SlotChain
 pub mod Slots
 pub mod Step
 pub mod Table
+pub mod Walked

@@ -1,5 +1,5 @@
 //! Items in slots.
-ghost use Rattle.std.specs.Prelude.{◌≡◌, ◌+◌, ◌-◌, ◌<◌, ◌≤◌, [], ◌∷◌, IsSome, OnSome, IfNone, IfSome, is_some, MatchOption, OnOk, OnErr, Some, IsPermutation, option_copied, length, ℕ, None, slice_set};
+ghost use Rattle.std.specs.Prelude.{◌≡◌, ◌+◌, ◌-◌, ◌<◌, ◌≤◌, ◌^◌, [], ◌∷◌, IsSome, OnSome, IfNone, IfSome, is_some, MatchOption, OnOk, OnErr, Some, IsPermutation, option_copied, length, ℕ, None, slice_set};
 ghost use Rattle.std.specs.Option.{option_copied_mut};
 ghost use Rattle.std.specs.Borrow.{Lends, sem};
 ghost use Rattle.iddqd_store.specs.Slots.{get, IsLive, live_count, members, Updates, Exchanges, NextLive};
@@ -151,7 +151,8 @@ impl<T> ItemSet<T> {
 
     /// The first live slot from this number on. It looks at each slot up to that one.
     pub fn next_live(&self, from: usize) -> Option<ItemIndex>
-        ensures { NextLive self.now.slots from result }
+        ensures next { NextLive self.now.slots from result }
+        ensures fits { length self.now.slots < 2 ^ 64 }
     {
         for at in from..self.slots.len() {
             let ix = ItemIndex::new(at);

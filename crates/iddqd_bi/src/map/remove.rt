@@ -1,5 +1,5 @@
 //! Removals.
-ghost use Rattle.std.specs.Prelude.{◌≡◌, ◌≢◌, ◌<◌, [], ◌∷◌, ◌++◌, All, length, filter, IsPermutation, Some, None, nat_eq};
+ghost use Rattle.std.specs.Prelude.{◌≡◌, ◌≢◌, ◌<◌, [], ◌∷◌, ◌++◌, All, length, filter, IsPermutation, Some, None, nat_eq, slice_set};
 ghost use Rattle.std.specs.List.{IsDistinct};
 ghost use Rattle.std.specs.Option.{option_to_list};
 ghost use Rattle.iddqd_store.specs.Bag.{all_of};
@@ -72,6 +72,7 @@ impl<T: BiHashItem, S: BuildHasher> BiHashMap<T, S> {
     pub(crate) fn take(&mut self, ix: ItemIndex) -> T
         requires { IsLive self.old.slots ix }
         ensures value { get self.old.slots ix ≡ Some result }
+        ensures slots { self.new.slots ≡ slice_set self.old.slots ix None }
         ensures items { IsPermutation (bag self.old) (result ∷ bag self.new) }
         ensures capacity { self.new.capacity ≡ self.old.capacity }
         ensures builder { self.new.builder ≡ self.old.builder }

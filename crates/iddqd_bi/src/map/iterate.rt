@@ -1,0 +1,53 @@
+//! Walks over the items.
+ghost use Rattle.std.specs.Prelude.{◌≡◌, ◌<◌, ◌^◌, length};
+ghost use Rattle.std.specs.Map.Iter.{ShowsInOrder, GivesInOrder, deref};
+ghost use Rattle.iddqd_store.specs.Map.{bag};
+
+use super::BiHashMap;
+use crate::item::BiHashItem;
+use crate::iter::{IntoIter, Iter};
+use std::hash::{BuildHasher, Hash};
+
+impl<T: BiHashItem, S: BuildHasher> BiHashMap<T, S> {
+    /// Each item once, in no promised order. It takes no memory.
+    pub fn iter(&self) -> Iter<'_, T>
+        ensures items { result ≡ bag self.now }
+        ensures runs { ShowsInOrder (deref {X = T}) }
+        ensures fits { length (bag self.now) < 2 ^ 64 }
+    {
+        // The length is a number of this size, which a caller who counts the items has to know.
+        let _ = self.len();
+        Iter::new(self.items.values())
+    }
+}
+
+impl<'a, T: BiHashItem, S: BuildHasher> IntoIterator for &'a BiHashMap<T, S> {
+    type Item = &'a T;
+
+    type IntoIter = Iter<'a, T>;
+
+    ghost into_iter_gives = { λ m it. (it ≡ bag m.now) × ShowsInOrder (deref {X = T}) × (length (bag m.now) < 2 ^ 64) };
+
+    fn into_iter(self) -> Iter<'a, T> {
+        self.iter()
+    }
+}
+
+impl<T: BiHashItem + Drop, S: BuildHasher + Drop> IntoIterator for BiHashMap<T, S> {
+    type Item = T;
+
+    type IntoIter = IntoIter<T>;
+
+    ghost into_iter_gives = { λ m it. (it ≡ bag m) × GivesInOrder T × (length (bag m) < 2 ^ 64) };
+
+    fn into_iter(self) -> IntoIter<T> {
+        let _ = self.len();
+        let BiHashMap {
+            items,
+            first: _,
+            second: _,
+            hash_builder: _,
+        } = self;
+        IntoIter::new(items.into_values())
+    }
+}

@@ -1,0 +1,10 @@
+-- A walk over the slots by their numbers.
+use Rattle.std.specs.Prelude.{◌≡◌, ◌≤◌, ℕ, ◌+◌, List, [], ◌∷◌, ◌++◌, take, drop, Option, Some}
+use Rattle.iddqd_store.specs.Slots.{get, items_in}
+
+-- of the slots from a number on, this is the first that is live, with its item
+pub record ComesNext {T : Type 0} (slots : List (Option T)) (from at : ℕ) (item : T) : Type 0 where
+  pub ahead : from ≤ at
+  pub value : get slots at ≡ Some item
+  pub rest : items_in (drop from slots) ≡ item ∷ items_in (drop (at + 1) slots)
+  pub before : items_in (take at slots) ≡ items_in (take from slots)
