@@ -109,8 +109,3 @@ module _ {T : Type 0} where
       let left : IsPermutation (filter p bag) rest =
       subst (IsPermutation (filter p bag)) (ap (λ l. l ++ filter p rest) gone ∙ kept) (filter-taken p ranks bag rest x out) in
       IsPermutation-trans _ _ _ put (IsPermutation-cons x _ _ (IsPermutation-sym _ _ left))
-
-  -- where slots are found, they have the items that conflict; where none is, nothing conflicts
-  pub order-none : (ranks : Ranks T) (slots : List (Option T)) (x : T) (ixs : List ℕ) → items_at slots ixs ≡ order ranks (live_items slots) x → length ixs ≡ 0 → order ranks (live_items slots) x ≡ []
-  order-none ranks slots x [] is short = sym is
-  order-none ranks slots x (a ∷ ixs) is short = absurd (omega arith)

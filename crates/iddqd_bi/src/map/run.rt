@@ -3,7 +3,7 @@ ghost use Rattle.std.specs.Prelude.{◌≡◌, ◌≢◌, [], map, filter};
 ghost use Rattle.std.specs.Option.{option_to_list};
 ghost use Rattle.iddqd_store.specs.Bag.{clash, order};
 ghost use Rattle.iddqd_store.specs.Map.{bag};
-ghost use Rattle.iddqd_store.specs.Reply.{Reply, found, duplicate};
+ghost use Rattle.iddqd_store.specs.Reply.{Reply, found, present, duplicate};
 ghost use Rattle.iddqd_store.specs.Step.{state_of, InsertsUnique, InsertsOverwrite, Reserves, ShrinksTo};
 ghost use Rattle.iddqd_store.specs.Run.{Applies, Run};
 ghost use Rattle.iddqd_store.specs.Searched.{items_at};
@@ -55,18 +55,12 @@ where
             BiCommand::Get1(key) => self.tell_found1(&key, sink),
             BiCommand::Get2(key) => self.tell_found2(&key, sink),
             BiCommand::GetUnique(key1, key2) => self.tell_found_unique(&key1, &key2, sink),
-            BiCommand::Contains1(key) => {
-                let present = self.contains_key1(&key);
-                self.tell(BiReply::Present(present), sink)
-            }
-            BiCommand::Contains2(key) => {
-                let present = self.contains_key2(&key);
-                self.tell(BiReply::Present(present), sink)
-            }
-            BiCommand::ContainsUnique(key1, key2) => {
-                let present = self.contains_key_unique(&key1, &key2);
-                self.tell(BiReply::Present(present), sink)
-            }
+            BiCommand::Contains1(key) => self.tell_present(self.contains_key1(&key), sink),
+            BiCommand::Contains2(key) => self.tell_present(self.contains_key2(&key), sink),
+            BiCommand::ContainsUnique(key1, key2) => self.tell_present(
+                self.contains_key_unique(&key1, &key2),
+                sink,
+            ),
             BiCommand::Remove1(key) => {
                 let taken = self.remove1(&key);
                 self.tell(BiReply::Taken(taken), sink)
@@ -86,10 +80,7 @@ where
                 self.clear();
                 self.tell(BiReply::Done, sink)
             }
-            BiCommand::Len => {
-                let items = self.len();
-                self.tell(BiReply::Length(items), sink)
-            }
+            BiCommand::Len => self.tell(BiReply::Length(self.len()), sink),
         }
     }
 
@@ -143,6 +134,12 @@ where
         ensures { K.took sink.old (value_of reply.entry) result sink.new }
     {
         sink.take(reply)
+    }
+
+    fn tell_present<K: BiSink<T>>(&self, answer: bool, sink: &mut K) -> Result<(), K::Fault>
+        ensures { K.took sink.old (present answer) result sink.new }
+    {
+        self.tell(BiReply::Present(answer), sink)
     }
 
     fn tell_found1<K: BiSink<T>>(&self, key: &T::K1, sink: &mut K) -> Result<(), K::Fault>
