@@ -1,0 +1,12 @@
+pub mod Commands
+pub mod Ends
+pub mod Faults
+pub mod Lines
+pub mod Numbers
+pub mod Outcome
+pub mod Outputs
+pub mod Parsed
+pub mod Printed
+pub mod RunText
+pub mod Texts
+pub mod Words

@@ -1,0 +1,56 @@
+//! Runs the lines of commands of standard input on a map, and writes the line of each reply to standard output.
+#![tactic(auto)]
+
+mod ends;
+mod from_read;
+mod item;
+mod lines;
+mod numbers;
+mod outcome;
+mod parse;
+mod print;
+mod read;
+mod run;
+mod sink;
+#[cfg(test)]
+mod tests;
+mod to_write;
+mod words;
+mod write;
+
+use crate::from_read::FromRead;
+use crate::outcome::{RunFault, ending, kind_of};
+use crate::run::run_text;
+use crate::to_write::ToWrite;
+use std::process::ExitCode;
+use std::{env, io};
+
+/// The exit status is 0 where each line was run, 1 at a fault, and 2 at a bad line or at arguments
+/// other than one kind.
+fn main(rt: HostRuntime) -> ExitCode {
+    let (status, message) = match arguments(&rt) {
+        Err(_) => ending(&Err(RunFault::Memory)),
+        Ok(arguments) => match kind_of(&arguments) {
+            None => (2, "usage: iddqd_run bi|tri"),
+            Some(kind) => {
+                let mut source = FromRead::new(rt.stdin());
+                let mut out = ToWrite::new(rt.stdout());
+                ending(&run_text(rt.alloc(), kind, &mut source, &mut out))
+            }
+        },
+    };
+    if !message.is_empty() {
+        // Where standard error fails too, the exit status is all that is left to say.
+        let _ = eprintln!(rt; "{message}");
+    }
+    ExitCode::from(status)
+}
+
+/// The arguments after the program's name.
+fn arguments(rt: &HostRuntime) -> io::Result<Vec<String>> {
+    let mut arguments = Vec::new(rt.alloc());
+    for argument in env::args(rt)?.skip(1) {
+        arguments.push(argument)?;
+    }
+    Ok(arguments)
+}
