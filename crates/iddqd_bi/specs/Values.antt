@@ -1,12 +1,16 @@
 -- The value of a reply.
 use Rattle.std.specs.Prelude.{map, option_copied}
-use Rattle.iddqd_store.specs.Reply.{Reply, done, duplicate, found, taken, memory}
+use Rattle.iddqd_store.specs.Reply.{Reply, done, duplicate, displaced, found, present, taken, memory, refused, size}
 use Rattle.iddqd_bi.specs.declared.command.BiReply.{BiReply}
-use Rattle.iddqd_bi.specs.declared.command.BiReply.TheVariants.{Done, Duplicate, Found, Taken, Memory}
+use Rattle.iddqd_bi.specs.declared.command.BiReply.TheVariants.{Done, Duplicate, Displaced, Found, Present, Taken, Memory, Refused, Length}
 
 abbrev pub value_of : {T D K1 K2 : Type 0} → BiReply T D K1 K2 → Reply T D
 value_of Done = done
 value_of (Duplicate d) = duplicate d.new_item (map (λ b. b.now) d.duplicates)
+value_of (Displaced ys) = displaced ys
 value_of (Found o) = found (option_copied o)
+value_of (Present b) = present b
 value_of (Taken o) = taken o
 value_of (Memory x) = memory x
+value_of Refused = refused
+value_of (Length n) = size n

@@ -11,12 +11,36 @@ use iddqd_store::{DuplicateItem, UpToTwo};
 pub enum BiCommand<T: BiHashItemMut> {
     /// `insert_unique`.
     InsertUnique(T),
+    /// `insert_overwrite`.
+    InsertOverwrite(T),
     /// `get1`.
     Get1(T::K1),
     /// `get2`.
     Get2(T::K2),
+    /// `get_unique`.
+    GetUnique(T::K1, T::K2),
+    /// `contains_key1`.
+    Contains1(T::K1),
+    /// `contains_key2`.
+    Contains2(T::K2),
+    /// `contains_key_unique`.
+    ContainsUnique(T::K1, T::K2),
     /// `remove1`.
     Remove1(T::K1),
+    /// `remove2`.
+    Remove2(T::K2),
+    /// `remove_unique`.
+    RemoveUnique(T::K1, T::K2),
+    /// `reserve`.
+    Reserve(usize),
+    /// `shrink_to`.
+    ShrinkTo(usize),
+    /// `shrink_to_fit`.
+    ShrinkToFit,
+    /// `clear`.
+    Clear,
+    /// `len`.
+    Len,
 }
 
 /// What a command answers. It may lend items of the map.
@@ -26,12 +50,20 @@ pub enum BiReply<'m, T: BiHashItemMut> {
     Done,
     /// The item was refused since these items of the map conflict with it, in the order of the keys.
     Duplicate(DuplicateItem<T, UpToTwo<&'m T>>),
+    /// The item went in for these, which had its keys, in the order of the keys.
+    Displaced(UpToTwo<T>),
     /// The item that was looked up, if there is one.
     Found(Option<&'m T>),
+    /// Whether there is such an item.
+    Present(bool),
     /// The item that was taken out, if there was one.
     Taken(Option<T>),
     /// The item was refused for want of memory.
     Memory(T),
+    /// The command was refused for want of memory.
+    Refused,
+    /// How many items there are.
+    Length(usize),
 }
 
 /// What takes the replies of a run, one by one.

@@ -8,6 +8,7 @@ mod build;
 mod capacity;
 mod find;
 mod insert;
+mod overwrite;
 mod remove;
 mod run;
 mod shrink;

@@ -1,8 +1,8 @@
 -- What is printed of items and replies.
-use Rattle.std.specs.Prelude.{ℕ, List, ◌++◌, codes, Option, Some, None}
+use Rattle.std.specs.Prelude.{ℕ, List, ◌++◌, codes, Option, Some, None, true, false}
 use Rattle.std.specs.Fmt.{decimal}
 use Rattle.std.specs.List.{flat_map}
-use Rattle.iddqd_store.specs.Reply.{Reply, done, duplicate, found, taken, memory}
+use Rattle.iddqd_store.specs.Reply.{Reply, done, duplicate, found, taken, memory, displaced, present, refused, size}
 use Rattle.iddqd_run.specs.declared.item.BiItem.{BiItem}
 
 -- the numbers in brackets, with a space between each two
@@ -23,7 +23,13 @@ line_of done = codes "ok\n"
 line_of (duplicate item duplicates) = codes "dup" ++ items_text duplicates ++ codes "\n"
 line_of (found item) = found_line item
 line_of (taken item) = found_line item
+line_of (displaced items) = codes "out" ++ items_text items ++ codes "\n"
 line_of (memory item) = codes "memory " ++ printed item ++ codes "\n"
+line_of refused = codes "memory\n"
+line_of (size count) = codes "len " ++ decimal count ++ codes "\n"
+-- no word of the program asks for these
+line_of (present true) = codes "yes\n"
+line_of (present false) = codes "no\n"
 
 -- what is printed where a line is bad
 abbrev pub bad_line_message : ℕ → List ℕ

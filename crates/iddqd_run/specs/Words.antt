@@ -3,7 +3,7 @@ use Rattle.std.specs.Prelude.{ℕ, List, [], ◌∷◌, codes, Option, Some, Non
 use Rattle.iddqd_run.specs.Texts.{is_text}
 use Rattle.iddqd_run.specs.declared.item.BiItem.{BiItem}
 use Rattle.iddqd_run.specs.declared.words.Word.{Word}
-use Rattle.iddqd_run.specs.declared.words.Word.TheVariants.{New, Get1, Get2, Del1}
+use Rattle.iddqd_run.specs.declared.words.Word.TheVariants.{New, Get1, Get2, Del1, Both, Del2, DelBoth, Len, Put, Reserve, Fit, Clear}
 use Rattle.iddqd_bi.specs.declared.command.BiCommand.{BiCommand}
 use Rattle.iddqd_bi.specs.declared.command.BiCommand.TheVariants as command
 
@@ -17,7 +17,15 @@ word_of bytes =
     if is_text bytes (codes "new") then Some New else
     if is_text bytes (codes "get1") then Some Get1 else
     if is_text bytes (codes "get2") then Some Get2 else
+    if is_text bytes (codes "both") then Some Both else
     if is_text bytes (codes "del1") then Some Del1 else
+    if is_text bytes (codes "del2") then Some Del2 else
+    if is_text bytes (codes "delboth") then Some DelBoth else
+    if is_text bytes (codes "len") then Some Len else
+    if is_text bytes (codes "put") then Some Put else
+    if is_text bytes (codes "reserve") then Some Reserve else
+    if is_text bytes (codes "fit") then Some Fit else
+    if is_text bytes (codes "clear") then Some Clear else
     None
 
 -- the command of a word with its numbers
@@ -26,4 +34,12 @@ command_of New (k1 ∷ k2 ∷ v ∷ []) = Some (command.InsertUnique (record { k
 command_of Get1 (k ∷ []) = Some (command.Get1 k)
 command_of Get2 (k ∷ []) = Some (command.Get2 k)
 command_of Del1 (k ∷ []) = Some (command.Remove1 k)
+command_of Both (k1 ∷ k2 ∷ []) = Some (command.GetUnique k1 k2)
+command_of Del2 (k ∷ []) = Some (command.Remove2 k)
+command_of DelBoth (k1 ∷ k2 ∷ []) = Some (command.RemoveUnique k1 k2)
+command_of Len [] = Some command.Len
+command_of Put (k1 ∷ k2 ∷ v ∷ []) = Some (command.InsertOverwrite (record { key1 = k1; key2 = k2; value = v }))
+command_of Reserve (n ∷ []) = Some (command.Reserve n)
+command_of Fit [] = Some command.ShrinkToFit
+command_of Clear [] = Some command.Clear
 command_of word numbers = None

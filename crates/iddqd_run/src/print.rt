@@ -18,11 +18,16 @@ pub fn line_of(alloc: Global, reply: BiReply<'_, BiItem>) -> Result<String, Allo
             let (_, duplicates) = refused.into_parts();
             duplicates_line(alloc, duplicates)
         }
+        BiReply::Displaced(displaced) => displaced_line(alloc, displaced),
         BiReply::Found(None) => String::from_str(alloc, "none\n"),
         BiReply::Found(Some(item)) => format!(in alloc; "item {item}\n"),
         BiReply::Taken(None) => String::from_str(alloc, "none\n"),
         BiReply::Taken(Some(item)) => format!(in alloc; "item {item}\n"),
+        BiReply::Present(true) => String::from_str(alloc, "yes\n"),
+        BiReply::Present(false) => String::from_str(alloc, "no\n"),
         BiReply::Memory(item) => format!(in alloc; "memory {item}\n"),
+        BiReply::Refused => String::from_str(alloc, "memory\n"),
+        BiReply::Length(count) => format!(in alloc; "len {count}\n"),
     }
 }
 
@@ -36,6 +41,23 @@ fn duplicates_line(alloc: Global, duplicates: UpToTwo<&BiItem>) -> Result<String
     loop {
         match left.pop_front() {
             Some(item) => push_item(alloc, &mut line, item)?,
+            None => {
+                line.push_str("\n")?;
+                return Ok(line);
+            }
+        }
+    }
+}
+
+/// The line of the items that went out for a new one.
+fn displaced_line(alloc: Global, displaced: UpToTwo<BiItem>) -> Result<String, AllocError>
+    ensures { IfOk result (λ line. string_bytes line ≡ codes "out" ++ items_text displaced ++ codes "\n") }
+{
+    let mut line = String::from_str(alloc, "out")?;
+    let mut left = displaced;
+    loop {
+        match left.pop_front() {
+            Some(item) => push_item(alloc, &mut line, &item)?,
             None => {
                 line.push_str("\n")?;
                 return Ok(line);

@@ -89,9 +89,29 @@ fn texts(rt: HostRuntime) {
             "line 1: bad command\n",
         ),
         (
-            "new 1 10 100\nnew 2 20 200\nnew 2 10 5\n",
+            "new 1 10 100\nnew 2 20 200\nnew 2 10 5\nlen\n",
             Ok(RunEnd::Done),
-            "ok\nok\ndup (2 20 200) (1 10 100)\n",
+            "ok\nok\ndup (2 20 200) (1 10 100)\nlen 2\n",
+        ),
+        (
+            "new 1 10 100\nnew 2 20 200\nboth 1 20\nput 1 20 300\nget2 10\nlen\n",
+            Ok(RunEnd::Done),
+            "ok\nok\nnone\nout (1 10 100) (2 20 200)\nnone\nlen 1\n",
+        ),
+        (
+            "new 1 10 100\nreserve 18446744073709551615\nlen\n",
+            Ok(RunEnd::Done),
+            "ok\nmemory\nlen 1\n",
+        ),
+        (
+            "put 3 1 1 0\ndelboth 3 2\ndelboth 3 1\ndel2 1\nreserve 5\nfit\nclear\nput 3 1 1 0\n",
+            Ok(RunEnd::BadLine(1)),
+            "line 1: bad command\n",
+        ),
+        (
+            "put 3 1 0\nboth 3 1\ndelboth 3 2\ndelboth 3 1\ndel2 1\nreserve 5\nfit\nclear\n",
+            Ok(RunEnd::Done),
+            "out\nitem (3 1 0)\nnone\nitem (3 1 0)\nnone\nok\nok\nok\n",
         ),
         (
             "new 007 1 2\nget1 7\n",

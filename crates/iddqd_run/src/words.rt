@@ -12,18 +12,47 @@ pub enum Word {
     Get1,
     Get2,
     Del1,
+    Both,
+    Del2,
+    DelBoth,
+    Len,
+    Put,
+    Reserve,
+    Fit,
+    Clear,
 }
 
 /// The word that the bytes spell, if they spell one.
 pub fn word_of(bytes: &[u8]) -> Option<Word>
     ensures { result ≡ word_of bytes.now }
 {
-    match bytes {
-        b"new" => Some(Word::New),
-        b"get1" => Some(Word::Get1),
-        b"get2" => Some(Word::Get2),
-        b"del1" => Some(Word::Del1),
-        _ => None,
+    // One comparison after another: a match on the bytes of so many words is more than the prover takes.
+    if bytes == b"new".as_slice() {
+        Some(Word::New)
+    } else if bytes == b"get1".as_slice() {
+        Some(Word::Get1)
+    } else if bytes == b"get2".as_slice() {
+        Some(Word::Get2)
+    } else if bytes == b"both".as_slice() {
+        Some(Word::Both)
+    } else if bytes == b"del1".as_slice() {
+        Some(Word::Del1)
+    } else if bytes == b"del2".as_slice() {
+        Some(Word::Del2)
+    } else if bytes == b"delboth".as_slice() {
+        Some(Word::DelBoth)
+    } else if bytes == b"len".as_slice() {
+        Some(Word::Len)
+    } else if bytes == b"put".as_slice() {
+        Some(Word::Put)
+    } else if bytes == b"reserve".as_slice() {
+        Some(Word::Reserve)
+    } else if bytes == b"fit".as_slice() {
+        Some(Word::Fit)
+    } else if bytes == b"clear".as_slice() {
+        Some(Word::Clear)
+    } else {
+        None
     }
 }
 
@@ -40,6 +69,18 @@ pub fn command_of(word: Word, numbers: &[u64]) -> Option<BiCommand<BiItem>>
         (Word::Get1, [key]) => Some(BiCommand::Get1(*key)),
         (Word::Get2, [key]) => Some(BiCommand::Get2(*key)),
         (Word::Del1, [key]) => Some(BiCommand::Remove1(*key)),
+        (Word::Both, [key1, key2]) => Some(BiCommand::GetUnique(*key1, *key2)),
+        (Word::Del2, [key]) => Some(BiCommand::Remove2(*key)),
+        (Word::DelBoth, [key1, key2]) => Some(BiCommand::RemoveUnique(*key1, *key2)),
+        (Word::Len, []) => Some(BiCommand::Len),
+        (Word::Put, [key1, key2, value]) => Some(BiCommand::InsertOverwrite(BiItem {
+            key1: *key1,
+            key2: *key2,
+            value: *value,
+        })),
+        (Word::Reserve, [more]) => Some(BiCommand::Reserve(*more as usize)),
+        (Word::Fit, []) => Some(BiCommand::ShrinkToFit),
+        (Word::Clear, []) => Some(BiCommand::Clear),
         _ => None,
     }
 }

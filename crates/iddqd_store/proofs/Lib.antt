@@ -13,6 +13,8 @@ pub mod KeepLemmas
 pub mod Line
 pub mod Looks
 pub mod MapLemmas
+pub mod MapLooks
+pub mod OverLemmas
 pub mod Rows
 pub mod RunLemmas
 pub mod SameBag
@@ -25,6 +27,7 @@ pub mod Stretch
 pub mod TableRows
 pub mod Theorem
 pub mod Turned
+pub mod UniqueLemmas
 pub mod Walk
 pub mod Walks
 pub mod Within

@@ -1,5 +1,6 @@
 pub mod Asking
 pub mod Bag
+pub mod Cell
 pub mod Errors
 pub mod Indexed
 pub mod Lends

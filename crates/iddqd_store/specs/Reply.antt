@@ -1,9 +1,13 @@
 -- What a command on a map answers: items that a reply lends are here as their values, an iterator as the list that it gives.
-use Rattle.std.specs.Prelude.{List, Option}
+use Rattle.std.specs.Prelude.{ℕ, Bool, List, Option}
 
 pub data Reply (T D : Type 0) : Type 0 where
   done : Reply T D
   duplicate : T → List T → Reply T D
+  displaced : List T → Reply T D
   found : Option T → Reply T D
+  present : Bool → Reply T D
   taken : Option T → Reply T D
   memory : T → Reply T D
+  refused : Reply T D
+  size : ℕ → Reply T D

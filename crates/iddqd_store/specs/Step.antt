@@ -1,9 +1,10 @@
 -- One step of a map, for any number of ranks: what a command may answer, and what the map holds then.
-use Rattle.std.specs.Prelude.{◌≡◌, ◌≢◌, ◌<◌, ◌≤◌, ℕ, List, [], ◌∷◌, ◌++◌, Bool, Option, length, filter, IsPermutation}
+use Rattle.std.specs.Prelude.{◌≡◌, ◌≢◌, ◌+◌, ◌<◌, ◌≤◌, ℕ, min, max, List, [], ◌∷◌, ◌++◌, Bool, Option, length, filter, IsPermutation}
+use Rattle.std.specs.List.{list_any}
 use Rattle.std.specs.Option.{option_to_list}
-use Rattle.iddqd_store.specs.Bag.{Ranks, clash, order}
+use Rattle.iddqd_store.specs.Bag.{Ranks, clash, order, over}
 use Rattle.iddqd_store.specs.Map.{Map, bag}
-use Rattle.iddqd_store.specs.Reply.{Reply, done, duplicate, found, taken, memory}
+use Rattle.iddqd_store.specs.Reply.{Reply, done, duplicate, displaced, found, present, taken, memory, refused, size}
 
 -- a bag of items, as a list of which the order means nothing, and how many fit
 pub record State (T : Type 0) : Type 0 where
@@ -18,6 +19,13 @@ state_of m = record { items = bag m; capacity = m.capacity }
 abbrev pub empty_state : {T : Type 0} → State T
 empty_state = record { items = []; capacity = 0 }
 
+module _ {T : Type 0} where
+  -- x is refused for want of memory, which happens only in a full map where nothing conflicts
+  abbrev pub Starves : Ranks T → State T → T → T → State T → Type 0
+  Starves ranks old x y new =
+      (y ≡ x) × (clash ranks old.items x ≡ []) × (length old.items ≡ old.capacity)
+      × (new.items ≡ old.items) × (old.capacity ≤ new.capacity)
+
 module _ {T D : Type 0} where
   -- x goes in where nothing conflicts, and the map grows only where it is full; else it is refused with what conflicts, or for want of memory in a full map
   abbrev pub InsertsUnique : Ranks T → State T → T → Reply T D → State T → Type 0
@@ -26,15 +34,27 @@ module _ {T D : Type 0} where
       × (old.capacity ≤ new.capacity) × (length old.items < old.capacity → new.capacity ≡ old.capacity)
   InsertsUnique ranks old x (duplicate y ys) new =
       (y ≡ x) × (clash ranks old.items x ≢ []) × (ys ≡ order ranks old.items x) × (new ≡ old)
-  InsertsUnique ranks old x (memory y) new =
-      (y ≡ x) × (clash ranks old.items x ≡ []) × (length old.items ≡ old.capacity)
-      × (new.items ≡ old.items) × (old.capacity ≤ new.capacity)
+  InsertsUnique ranks old x (memory y) new = Starves ranks old x y new
   InsertsUnique ranks old x reply new = ⊥
+
+  -- x goes in for what conflicts, which is given back. The map grows only where it is full and nothing conflicts
+  abbrev pub InsertsOverwrite : Ranks T → State T → T → Reply T D → State T → Type 0
+  InsertsOverwrite ranks old x (displaced ys) new =
+      (ys ≡ order ranks old.items x) × IsPermutation new.items (over ranks old.items x)
+      × (old.capacity ≤ new.capacity) × (length old.items < old.capacity → new.capacity ≡ old.capacity)
+      × (clash ranks old.items x ≢ [] → new.capacity ≡ old.capacity)
+  InsertsOverwrite ranks old x (memory y) new = Starves ranks old x y new
+  InsertsOverwrite ranks old x reply new = ⊥
 
   -- the member that passes the test, if there is one
   abbrev pub Gets : (T → Bool) → State T → Reply T D → State T → Type 0
   Gets test old (found o) new = (option_to_list o ≡ filter test old.items) × (new ≡ old)
   Gets test old reply new = ⊥
+
+  -- whether a member passes the test
+  abbrev pub Tells : (T → Bool) → State T → Reply T D → State T → Type 0
+  Tells test old (present b) new = (b ≡ list_any test old.items) × (new ≡ old)
+  Tells test old reply new = ⊥
 
   -- that member is taken out
   abbrev pub Removes : (T → Bool) → State T → Reply T D → State T → Type 0
@@ -42,3 +62,28 @@ module _ {T D : Type 0} where
       (option_to_list o ≡ filter test old.items) × IsPermutation old.items (option_to_list o ++ new.items)
       × (new.capacity ≡ old.capacity)
   Removes test old reply new = ⊥
+
+  -- there is room for so many more items, and more than before only where they did not fit
+  abbrev pub Reserves : ℕ → State T → Reply T D → State T → Type 0
+  Reserves more old done new =
+      (new.items ≡ old.items) × (length old.items + more ≤ new.capacity) × (old.capacity ≤ new.capacity)
+      × (length old.items + more ≤ old.capacity → new.capacity ≡ old.capacity)
+  Reserves more old refused new =
+      (new.items ≡ old.items) × (old.capacity < length old.items + more) × (old.capacity ≤ new.capacity)
+  Reserves more old reply new = ⊥
+
+  -- no more room is left than for the members or, if that is more, for so many items, as far as there was
+  abbrev pub ShrinksTo : ℕ → State T → Reply T D → State T → Type 0
+  ShrinksTo least old done new = (new.items ≡ old.items) × (new.capacity ≡ max (length old.items) (min least old.capacity))
+  ShrinksTo least old refused new = (0 < max (length old.items) (min least old.capacity)) × (new ≡ old)
+  ShrinksTo least old reply new = ⊥
+
+  -- no member is left, and all the room
+  abbrev pub Clears : State T → Reply T D → State T → Type 0
+  Clears old done new = (new.items ≡ []) × (new.capacity ≡ old.capacity)
+  Clears old reply new = ⊥
+
+  -- how many members there are
+  abbrev pub Sizes : State T → Reply T D → State T → Type 0
+  Sizes old (size n) new = (n ≡ length old.items) × (new ≡ old)
+  Sizes old reply new = ⊥

@@ -18,6 +18,11 @@ pub record LooksUp {A : Type 0} (hashes : List ℕ) (cells hash : ℕ) (answer :
   pub hit_least : OnSome answer (before + 1 ≤ after)
   pub hit_most : OnSome answer (after ≤ before + stretch hashes cells hash)
 
+-- the same over some number of cells that have room for so many pairs
+abbrev pub LooksUpWithin : {A : Type 0} → List ℕ → ℕ → ℕ → Option A → ℕ → ℕ → Type 0
+LooksUpWithin hashes room hash answer before after =
+    (cells : ℕ) × IsSize cells × (room ≤ cells / 8 * 7) × LooksUp hashes cells hash answer before after
+
 -- each pair is found from its home on, and an eighth of the cells is empty
 pub record IsTable (row : List (Option (ℕ × ℕ))) : Type 0 where
   pub size : IsSize (length row)

@@ -1,5 +1,6 @@
 //! The cells of a table. One call reads a cell, and it ticks the meter that it is handed.
-ghost use Rattle.std.specs.Prelude.{◌≡◌, ℕ, ◌+◌, ◌<◌, List, [], Option, None, Some, length, slice_set, replicate, IfOk};
+ghost use Rattle.std.specs.Prelude.{◌≡◌, ℕ, ◌+◌, ◌^◌, ◌<◌, List, [], Option, None, Some, length, slice_set, replicate, IfOk};
+ghost use Rattle.iddqd_store.specs.Cell.{pair_of, hash_of, number_of};
 ghost use Rattle.iddqd_store.specs.Ring.{cell};
 
 use crate::TryReserveError;
@@ -8,10 +9,60 @@ use crate::meter::Meter;
 use std::alloc::Global;
 use std::marker::Model;
 
+/// A cell of 16 bytes: a hash and a slot's number. An empty one has a number that no slot has.
+#[derive(Clone, Copy)]
+pub(crate) struct Cell {
+    hash: u64,
+    number: usize,
+}
+
+impl Model for Cell {
+    ghost Value = { Option (ℕ × ℕ) };
+
+    ghost view = { λ c. pair_of c.hash c.number };
+
+    ghost invariant = { λ c. c.number + 1 ≡ 2 ^ 64 → c.hash ≡ 0 };
+
+    ghost inverse = { λ p. record { hash = hash_of p; number = number_of p } };
+}
+
+impl Cell {
+    /// What stands for an empty cell.
+    fn empty() -> Cell
+        ensures { result ≡ None }
+    {
+        Cell {
+            hash: 0,
+            number: usize::MAX,
+        }
+    }
+
+    /// A cell with a pair.
+    fn full(hash: u64, ix: ItemIndex) -> Cell
+        ensures { result ≡ Some (hash, ix) }
+    {
+        Cell {
+            hash,
+            number: ix.cell_number(),
+        }
+    }
+
+    /// The pair in the cell.
+    fn pair(self) -> Option<(u64, ItemIndex)>
+        ensures { result ≡ self }
+    {
+        if self.number == usize::MAX {
+            None
+        } else {
+            Some((self.hash, ItemIndex::new(self.number)))
+        }
+    }
+}
+
 /// Cells in a row, each empty or with a hash and a slot's number.
 #[derive(Drop)]
 pub struct Cells {
-    row: Vec<Option<(u64, ItemIndex)>>,
+    row: Vec<Cell>,
 }
 
 impl Model for Cells {
@@ -34,7 +85,7 @@ impl Cells {
     pub fn with_len(alloc: Global, count: usize) -> Result<Cells, TryReserveError>
         ensures { IfOk result (λ c. c ≡ replicate count None) }
     {
-        match Vec::from_elem(alloc, None, count) {
+        match Vec::from_elem(alloc, Cell::empty(), count) {
             Ok(row) => Ok(Cells { row }),
             Err(_) => Err(TryReserveError),
         }
@@ -54,7 +105,7 @@ impl Cells {
         ensures look { meter.new ≡ meter.old + 1 }
     {
         meter.tick();
-        self.row[i]
+        self.row[i].pair()
     }
 
     /// Writes a pair into cell `i`.
@@ -62,7 +113,7 @@ impl Cells {
         requires { i < length self.old }
         ensures { self.new ≡ slice_set self.old i (Some (hash, ix)) }
     {
-        self.row[i] = Some((hash, ix));
+        self.row[i] = Cell::full(hash, ix);
     }
 
     /// Empties cell `i`.
@@ -70,13 +121,13 @@ impl Cells {
         requires { i < length self.old }
         ensures { self.new ≡ slice_set self.old i None }
     {
-        self.row[i] = None;
+        self.row[i] = Cell::empty();
     }
 
     /// Empties all cells.
     pub fn clear(&mut self)
         ensures { self.new ≡ replicate (length self.old) None }
     {
-        self.row.fill(None);
+        self.row.fill(Cell::empty());
     }
 }

@@ -114,6 +114,7 @@ impl IndexTable {
         ensures empty { IfOk result (λ t. t.pairs ≡ []) }
         ensures limit { IfOk result (λ t. IsLeast pairs t.limit) }
         ensures never_refused { pairs ≡ 0 → IsOk result }
+        ensures past { 7 * 2 ^ 60 < pairs → IsErr result }
     {
         IndexTable::with_capacity(self.alloc, pairs)
     }

@@ -2,10 +2,16 @@
 #![tactic(auto)]
 
 mod alike;
+mod own_hash;
 mod row;
 
 pub use alike::{Alike, AlikeHasher};
+pub use own_hash::{OwnHash, OwnHasher};
 pub use row::{Row, row_of};
 
+#[cfg(test)]
+mod bi_overwrites;
+#[cfg(test)]
+mod bi_queries;
 #[cfg(test)]
 mod bi_rows;

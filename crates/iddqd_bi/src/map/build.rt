@@ -1,5 +1,5 @@
 //! New maps.
-ghost use Rattle.std.specs.Prelude.{◌≡◌, [], IfOk, IsOk};
+ghost use Rattle.std.specs.Prelude.{◌≡◌, ◌*◌, ◌^◌, ◌<◌, [], IfOk, IsOk, IsErr};
 ghost use Rattle.iddqd_store.specs.Map.{bag};
 
 use super::{BiHashMap, DefaultHashBuilder};
@@ -19,11 +19,12 @@ impl<T: BiHashItem> BiHashMap<T, DefaultHashBuilder> {
 
     /// An empty map with the default builder and with room for so many items.
     ///
-    /// It takes memory for the slots and for each table. It is refused where there is none, and never for 0 items, which take none.
+    /// It takes memory for the slots and for each table. It is refused where there is none and where so many items are more than memory can count, and never for 0 items, which take none.
     pub fn with_capacity(alloc: Global, items: usize) -> Result<Self, TryReserveError>
         ensures empty { IfOk result (λ map. bag map ≡ []) }
         ensures capacity { IfOk result (λ map. map.capacity ≡ items) }
         ensures never_refused { items ≡ 0 → IsOk result }
+        ensures past { 7 * 2 ^ 60 < items → IsErr result }
     {
         BiHashMap::with_capacity_and_hasher(alloc, items, DefaultHashBuilder::default())
     }
@@ -57,7 +58,7 @@ impl<T: BiHashItem, S: BuildHasher> BiHashMap<T, S> {
 
     /// An empty map with room for so many items, whose hashes come from this builder.
     ///
-    /// It takes memory for the slots and for each table. It is refused where there is none, and never for 0 items, which take none.
+    /// It takes memory for the slots and for each table. It is refused where there is none and where so many items are more than memory can count, and never for 0 items, which take none.
     pub fn with_capacity_and_hasher(
         alloc: Global,
         items: usize,
@@ -69,6 +70,7 @@ impl<T: BiHashItem, S: BuildHasher> BiHashMap<T, S> {
         ensures capacity { IfOk result (λ map. map.capacity ≡ items) }
         ensures builder { IfOk result (λ map. map.builder ≡ hash_builder) }
         ensures never_refused { items ≡ 0 → IsOk result }
+        ensures past { 7 * 2 ^ 60 < items → IsErr result }
     {
         let first = IndexTable::with_capacity(alloc, items)?;
         let second = IndexTable::with_capacity(alloc, items)?;

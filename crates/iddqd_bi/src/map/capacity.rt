@@ -1,5 +1,5 @@
 //! Room for items.
-ghost use Rattle.std.specs.Prelude.{◌≡◌, ◌+◌, ◌<◌, ◌≤◌, [], length, ◌==◌, OnOk, OnErr};
+ghost use Rattle.std.specs.Prelude.{◌≡◌, ◌+◌, ◌*◌, ◌^◌, ◌<◌, ◌≤◌, [], length, ◌==◌, OnOk, OnErr, IsErr};
 ghost use Rattle.iddqd_store.specs.Map.{bag, Keeps};
 ghost use Rattle.iddqd_store.specs.Bag.{IsSound};
 ghost use Rattle.iddqd_bi.specs.Keys.{ranks};
@@ -38,7 +38,7 @@ impl<T: BiHashItem, S: BuildHasher> BiHashMap<T, S> {
 
     /// Makes room for so many more items. It takes no memory where they fit already, and compares no key.
     ///
-    /// It is refused where memory for more slots or for a larger table is. Then the items are as before, and the map may have more room.
+    /// It is refused where memory for more slots or for a larger table is, and where so many items are more than memory can count. Then the items are as before, and the map may have more room.
     pub fn reserve(&mut self, more: usize) -> Result<(), TryReserveError>
         ensures items { bag self.new ≡ bag self.old }
         ensures builder { self.new.builder ≡ self.old.builder }
@@ -46,6 +46,7 @@ impl<T: BiHashItem, S: BuildHasher> BiHashMap<T, S> {
         ensures same_room { length (bag self.old) + more ≤ self.old.capacity → self.new.capacity ≡ self.old.capacity }
         ensures granted { OnOk result (length (bag self.old) + more ≤ self.new.capacity) }
         ensures refused { OnErr result (self.old.capacity < length (bag self.old) + more) }
+        ensures past { 7 * 2 ^ 60 < length (bag self.old) + more → IsErr result }
     {
         self.grow(more)
     }
@@ -58,8 +59,9 @@ impl<T: BiHashItem, S: BuildHasher> BiHashMap<T, S> {
         ensures same_room { length (bag self.old) + more ≤ self.old.capacity → self.new.capacity ≡ self.old.capacity }
         ensures granted { OnOk result (length (bag self.old) + more ≤ self.new.capacity) }
         ensures refused { OnErr result (self.old.capacity < length (bag self.old) + more) }
+        ensures past { 7 * 2 ^ 60 < length (bag self.old) + more → IsErr result }
     {
-        self.grow(more)
+        self.reserve(more)
     }
 
     /// Drops every item. The builder and the capacity stay, and it takes no memory.
@@ -83,6 +85,7 @@ impl<T: BiHashItem, S: BuildHasher> BiHashMap<T, S> {
         ensures same_room { length (bag self.old) + more ≤ self.old.capacity → self.new.capacity ≡ self.old.capacity }
         ensures granted { OnOk result (length (bag self.old) + more ≤ self.new.capacity) }
         ensures refused { OnErr result (self.old.capacity < length (bag self.old) + more) }
+        ensures past { 7 * 2 ^ 60 < length (bag self.old) + more → IsErr result }
     {
         if let Err(refusal) = self.items.try_reserve(more) {
             return Err(refusal);

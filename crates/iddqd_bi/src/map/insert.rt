@@ -1,5 +1,6 @@
 //! Inserts.
-ghost use Rattle.std.specs.Prelude.{◌≡◌, ◌≢◌, ◌<◌, ◌∷◌, [], length, IsPermutation, All, OnOk, IfOk, IfErr, Some};
+ghost use Rattle.std.specs.Prelude.{◌≡◌, ◌≢◌, ◌<◌, ◌∷◌, [], length, IsPermutation, All, OnOk, IfOk, IfErr, Some, nat_eq};
+ghost use Rattle.std.specs.List.{IsDistinct};
 ghost use Rattle.iddqd_store.specs.Bag.{clash, order};
 ghost use Rattle.iddqd_store.specs.Map.{bag, Gains, Keeps};
 ghost use Rattle.iddqd_store.specs.Slots.{get, IsLive};
@@ -68,6 +69,7 @@ impl<T: BiHashItem, S: BuildHasher> BiHashMap<T, S> {
         requires hash2 { hash2 ≡ key2_hash T.BiHashItem T.K2.Hash S.BuildHasher S.Hasher.Hasher self.now.builder item.now }
         ensures items { items_at self.now.slots result ≡ order (ranks T.BiHashItem T.K1.Hash T.K2.Hash) (bag self.now) item.now }
         ensures live { All (IsLive self.now.slots) result }
+        ensures apart { IsDistinct nat_eq result }
     {
         let _ = &self.items;
         let by1 = self.slot1(hash1, item.key1());

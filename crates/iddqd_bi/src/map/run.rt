@@ -4,18 +4,18 @@ ghost use Rattle.std.specs.Option.{option_to_list};
 ghost use Rattle.iddqd_store.specs.Bag.{clash, order};
 ghost use Rattle.iddqd_store.specs.Map.{bag};
 ghost use Rattle.iddqd_store.specs.Reply.{Reply, found, duplicate};
-ghost use Rattle.iddqd_store.specs.Step.{state_of, InsertsUnique};
+ghost use Rattle.iddqd_store.specs.Step.{state_of, InsertsUnique, InsertsOverwrite, Reserves, ShrinksTo};
 ghost use Rattle.iddqd_store.specs.Run.{Applies, Run};
 ghost use Rattle.iddqd_store.specs.Searched.{items_at};
 ghost use Rattle.iddqd_bi.specs.Keys.{ranks};
-ghost use Rattle.iddqd_bi.specs.Step.{Step};
+ghost use Rattle.iddqd_bi.specs.Step.{Step, has_both};
 ghost use Rattle.iddqd_bi.specs.Values.{value_of};
 
 use super::BiHashMap;
 use crate::command::{BiCommand, BiReply, BiSink};
 use crate::error::Refusal;
 use crate::item::BiHashItemMut;
-use iddqd_store::{DuplicateItem, ItemIndex, UpToTwo};
+use iddqd_store::{DuplicateItem, ItemIndex, MemoryRefused, UpToTwo};
 use std::hash::{BuildHasher, Hash};
 
 impl<T: BiHashItemMut + Drop, S: BuildHasher> BiHashMap<T, S>
@@ -51,11 +51,44 @@ where
     {
         match command {
             BiCommand::InsertUnique(item) => self.apply_insert_unique(item, sink),
+            BiCommand::InsertOverwrite(item) => self.apply_insert_overwrite(item, sink),
             BiCommand::Get1(key) => self.tell_found1(&key, sink),
             BiCommand::Get2(key) => self.tell_found2(&key, sink),
+            BiCommand::GetUnique(key1, key2) => self.tell_found_unique(&key1, &key2, sink),
+            BiCommand::Contains1(key) => {
+                let present = self.contains_key1(&key);
+                self.tell(BiReply::Present(present), sink)
+            }
+            BiCommand::Contains2(key) => {
+                let present = self.contains_key2(&key);
+                self.tell(BiReply::Present(present), sink)
+            }
+            BiCommand::ContainsUnique(key1, key2) => {
+                let present = self.contains_key_unique(&key1, &key2);
+                self.tell(BiReply::Present(present), sink)
+            }
             BiCommand::Remove1(key) => {
                 let taken = self.remove1(&key);
                 self.tell(BiReply::Taken(taken), sink)
+            }
+            BiCommand::Remove2(key) => {
+                let taken = self.remove2(&key);
+                self.tell(BiReply::Taken(taken), sink)
+            }
+            BiCommand::RemoveUnique(key1, key2) => {
+                let taken = self.remove_unique(&key1, &key2);
+                self.tell(BiReply::Taken(taken), sink)
+            }
+            BiCommand::Reserve(more) => self.apply_reserve(more, sink),
+            BiCommand::ShrinkTo(least) => self.apply_shrink_to(least, sink),
+            BiCommand::ShrinkToFit => self.apply_shrink_to(0, sink),
+            BiCommand::Clear => {
+                self.clear();
+                self.tell(BiReply::Done, sink)
+            }
+            BiCommand::Len => {
+                let items = self.len();
+                self.tell(BiReply::Length(items), sink)
             }
         }
     }
@@ -68,6 +101,40 @@ where
             Ok(_) => self.tell(BiReply::Done, sink),
             Err(Refusal::Duplicate(item, found)) => self.tell_duplicate(item, &found, sink),
             Err(Refusal::Memory(item)) => self.tell(BiReply::Memory(item), sink),
+        }
+    }
+
+    fn apply_insert_overwrite<K: BiSink<T>>(
+        &mut self,
+        item: T,
+        sink: &mut K,
+    ) -> Result<(), K::Fault>
+        ensures step { Applies (λ old x reply new. InsertsOverwrite (ranks T.BiHashItem T.K1.Hash T.K2.Hash) old x reply new) K.took (state_of self.old) sink.old item result (state_of self.new) sink.new }
+        ensures builder { self.new.builder ≡ self.old.builder }
+    {
+        match self.insert_overwrite(item) {
+            Ok(displaced) => self.tell(BiReply::Displaced(displaced), sink),
+            Err(MemoryRefused { value }) => self.tell(BiReply::Memory(value), sink),
+        }
+    }
+
+    fn apply_reserve<K: BiSink<T>>(&mut self, more: usize, sink: &mut K) -> Result<(), K::Fault>
+        ensures step { Applies (λ old n reply new. Reserves n old reply new) K.took (state_of self.old) sink.old more result (state_of self.new) sink.new }
+        ensures builder { self.new.builder ≡ self.old.builder }
+    {
+        match self.reserve(more) {
+            Ok(()) => self.tell(BiReply::Done, sink),
+            Err(_) => self.tell(BiReply::Refused, sink),
+        }
+    }
+
+    fn apply_shrink_to<K: BiSink<T>>(&mut self, least: usize, sink: &mut K) -> Result<(), K::Fault>
+        ensures step { Applies (λ old n reply new. ShrinksTo n old reply new) K.took (state_of self.old) sink.old least result (state_of self.new) sink.new }
+        ensures builder { self.new.builder ≡ self.old.builder }
+    {
+        match self.shrink_to(least) {
+            Ok(()) => self.tell(BiReply::Done, sink),
+            Err(_) => self.tell(BiReply::Refused, sink),
         }
     }
 
@@ -89,6 +156,18 @@ where
         ensures { (o : _) × (option_to_list o ≡ filter (λ x. T.K2.eq key.now (T.key2 x)) (bag self.now)) × K.took sink.old (found o) result sink.new }
     {
         let found = self.get2(key);
+        sink.take(BiReply::Found(found))
+    }
+
+    fn tell_found_unique<K: BiSink<T>>(
+        &self,
+        key1: &T::K1,
+        key2: &T::K2,
+        sink: &mut K,
+    ) -> Result<(), K::Fault>
+        ensures { (o : _) × (option_to_list o ≡ filter (has_both T.BiHashItem T.K1.Hash T.K2.Hash key1.now key2.now) (bag self.now)) × K.took sink.old (found o) result sink.new }
+    {
+        let found = self.get_unique(key1, key2);
         sink.take(BiReply::Found(found))
     }
 

@@ -27,14 +27,14 @@ impl BiHashItem for Part {
     }
 }
 
-fn part(id: u64, serial: u64, count: u64) -> Part {
+fn made(id: u64, serial: u64, count: u64) -> Part {
     Part { id, serial, count }
 }
 
 // Puts (1,10,100) and (2,20,200) into a map.
 fn put_two(rt: &impl Abort, map: &mut BiHashMap<Part>) {
-    assert!(rt; map.insert_unique(part(1, 10, 100)).is_ok());
-    assert!(rt; map.insert_unique(part(2, 20, 200)).is_ok());
+    assert!(rt; map.insert_unique(made(1, 10, 100)).is_ok());
+    assert!(rt; map.insert_unique(made(2, 20, 200)).is_ok());
 }
 
 // Whether a map has (1,10,100) and (2,20,200) and nothing else.
@@ -92,7 +92,7 @@ fn reserving_and_clearing(rt: HostRuntime) -> Result<(), Fail> {
 fn shrinking_after_removals(rt: HostRuntime) -> Result<(), Fail> {
     let mut map = BiHashMap::new(rt.alloc());
     for k in 1..=100 {
-        assert!(rt; map.insert_unique(part(k, k, 0)).is_ok());
+        assert!(rt; map.insert_unique(made(k, k, 0)).is_ok());
     }
     for k in 1..=100 {
         if k != 37 && k != 90 {

@@ -2,6 +2,7 @@
 ghost use Rattle.std.specs.Prelude.{◌≡◌, ◌&&◌, ◌==◌, refl};
 ghost use Rattle.std.proofs.Common.{◌∙◌, true, sym, ap₂};
 
+use crate::cells::Cell;
 use crate::index_table::IndexTable;
 use crate::item_index::ItemIndex;
 use crate::item_set::ItemSet;
@@ -98,8 +99,8 @@ fn assert_places(rt: &impl Abort, table: &IndexTable, wanted: &[(usize, ItemInde
 }
 
 #[test]
-fn a_meter_takes_no_bytes(rt: HostRuntime) {
-    assert_eq!(rt; size_of::<Meter>(), 0);
+fn a_meter_takes_no_bytes_and_a_cell_16(rt: HostRuntime) {
+    assert_eq!(rt; (size_of::<Meter>(), size_of::<Cell>()), (0, 16));
 }
 
 #[test]

@@ -6,5 +6,5 @@ use Rattle.iddqd_run.proofs.print.duplicates_line.Goals as goal
 
 pub returns-in-None : goal.returns-in-None
 returns-in-None c =
-    items_end c.loop-item.left c.pop_front.result (string_bytes c.loop-item.line) (codes "dup") (items_text (map (λ item. item.now) c.args.duplicates)) (codes "\n")
+    items_end (λ item. item.now) c.loop-item.left c.pop_front.result (string_bytes c.loop-item.line) (codes "dup") (items_text (map (λ item. item.now) c.args.duplicates)) (codes "\n")
     (string_bytes c.push_str.new.self) c.pop_front.ensures.first c.in-None.is (search rules) c.loop-item.invariant

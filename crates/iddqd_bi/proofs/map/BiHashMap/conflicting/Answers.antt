@@ -1,7 +1,9 @@
-use Rattle.std.proofs.Common.{◌≡◌, subst, refl, ◌∷◌, [], List, Bool}
+use Rattle.std.proofs.Common.{◌≡◌, subst, refl, ◌∷◌, [], List, Bool, nat_eq}
 use Rattle.std.specs.List.{IsDistinct}
 use Rattle.iddqd_store.specs.Map.{Map, bag}
 use Rattle.iddqd_store.proofs.FoundLemmas.{listing_found}
+use Rattle.iddqd_store.proofs.BagLemmas.{IsDistinct-nil}
+use Rattle.iddqd_store.proofs.OverLemmas.{IsDistinct-with_found}
 use Rattle.iddqd_bi.proofs.MapLemmas.{apart1}
 use Rattle.iddqd_bi.proofs.map.BiHashMap.conflicting.Goals as goal
 
@@ -20,3 +22,8 @@ returns-clause-items g c =
     let first = listing_found agree1 slots [] (agree1 x) [] c.slot1-by1.result (λ y. laws.refl (key1 y)) (λ y z. laws.symm (key1 y) (key1 z)) apart refl c.slot1-by1.ensures.live named1 in
     rw (c.push_found-2.ensures, c.push_found.ensures, c.new-found.ensures)
     (listing_found agree1 slots (agree1 x ∷ []) (agree2 x) _ c.slot2-by2.result (λ y. laws.refl (key1 y)) (λ y z. laws.symm (key1 y) (key1 z)) apart first c.slot2-by2.ensures.live named2)
+
+pub returns-clause-apart : goal.returns-clause-apart
+returns-clause-apart g c =
+    rw (c.push_found-2.ensures, c.push_found.ensures, c.new-found.ensures)
+    (IsDistinct-with_found _ c.slot2-by2.result (IsDistinct-with_found [] c.slot1-by1.result (IsDistinct-nil nat_eq)))

@@ -44,3 +44,6 @@ returns-clause-same_room g c =
 pub returns-clause-granted : goal.returns-clause-granted
 returns-clause-granted g c =
     rw (← c.self.view_is) (omega (arith, c.in_default.ensures.ok, c.in_default-try_reserve.ensures.granted, c.in_default-try_reserve-2.ensures.granted, length1 c.self.invariant, length2 c.self.invariant, length-live_items c.self.inside.items.slots))
+
+pub returns-clause-past : goal.returns-clause-past
+returns-clause-past g c = rw (← c.self.view_is) (λ past. c.in_default-try_reserve.ensures.past (omega (arith, length1 c.self.invariant)))

@@ -1,5 +1,6 @@
-use Rattle.std.proofs.Common.{rules}
+use Rattle.std.proofs.Common.{rules, arith}
 use borrow.Author.Rules.{lives}
+use Rattle.iddqd_store.proofs.MapLooks.{looks_within, looks_within_most}
 use Rattle.iddqd_bi.proofs.MapLemmas.{search1, crowd1}
 use Rattle.iddqd_bi.proofs.map.BiHashMap.slot1_with.Goals as goal
 
@@ -11,3 +12,11 @@ pub returns-clause-asked : goal.returns-clause-asked
 returns-clause-asked g c =
     let crowd = crowd1 c.self.invariant c.args.hash in
     rw (← c.self.view_is, ← crowd) (search (rules, lives, c.find.ensures.asked))
+
+pub returns-clause-looks : goal.returns-clause-looks
+returns-clause-looks g c =
+    rw (← c.self.view_is) (looks_within _ c.self.inside.items.slots c.self.inside.first.pairs _ _ c.args.hash c.find.result _ _ c.self.invariant.first c.find.ensures.size (omega (arith, c.find.ensures.limit)) c.find.ensures.looks)
+
+pub returns-clause-at_most : goal.returns-clause-at_most
+returns-clause-at_most g c =
+    rw (← c.self.view_is) (looks_within_most _ c.self.inside.items.slots c.self.inside.first.pairs _ c.args.hash c.find.result _ _ c.self.invariant.first c.find.ensures.looks)

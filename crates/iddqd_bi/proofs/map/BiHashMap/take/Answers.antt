@@ -1,5 +1,5 @@
-use Rattle.std.proofs.Common.{sym, ◌∙◌, ap}
-use Rattle.std.proofs.lemmas.List.Sorted.{IsPermutation-map}
+use Rattle.std.proofs.Common.{sym, ◌∙◌, ap, arith}
+use Rattle.std.proofs.lemmas.List.Sorted.{IsPermutation-map, length_permutation}
 use Rattle.iddqd_store.specs.Map.{hash_of}
 use Rattle.iddqd_bi.proofs.MapLemmas.{two_lawful, pair1_in, pair2_in, IsIndexed-remove}
 use Rattle.iddqd_bi.proofs.map.BiHashMap.take.Goals as goal
@@ -31,3 +31,10 @@ pub returns-clause-items : goal.returns-clause-items
 returns-clause-items g c =
     let moved = c.in-Some.ensures.members in
     rw (← c.self.view_is) (IsPermutation-map (λ m. m.1) _ _ moved)
+
+pub returns-clause-room : goal.returns-clause-room
+returns-clause-room g c =
+    let fewer = length_permutation _ _ (IsPermutation-map (λ m. m.1) _ _ c.in-Some.ensures.members) in
+    let fits = rw (← c.self.view_is) at c.capacity.ensures.holds in
+    let value = rw (← c.self.view_is) at c.capacity.ensures.value in
+    omega (arith, fewer, fits, value)

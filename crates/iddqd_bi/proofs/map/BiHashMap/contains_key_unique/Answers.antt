@@ -1,0 +1,11 @@
+use Rattle.std.proofs.Common.{◌∙◌, [], ◌∷◌}
+use Rattle.iddqd_store.specs.Bag.{every_of}
+use Rattle.iddqd_store.specs.Map.{bag}
+use Rattle.iddqd_store.proofs.UniqueLemmas.{is_some-found}
+use Rattle.iddqd_bi.proofs.map.BiHashMap.contains_key_unique.Goals as goal
+
+pub returns : goal.returns
+returns g c =
+    let test1 = λ (x : g.row.T.Denot). g.Q1.Equivalent.equivalent c.args.query1.now (g.T.BiHashItem.key1 x) in
+    let test2 = λ (x : g.row.T.Denot). g.Q2.Equivalent.equivalent c.args.query2.now (g.T.BiHashItem.key2 x) in
+    c.is_some.ensures ∙ is_some-found (every_of (test1 ∷ test2 ∷ [])) (bag c.args.self.now) c.get_unique.result c.get_unique.ensures

@@ -1,0 +1,11 @@
+use Rattle.std.proofs.Common.{◌≡◌, ◌++◌, length}
+use Rattle.std.specs.Prelude.{codes, map, string_bytes}
+use Rattle.iddqd_run.specs.Printed.{items_text}
+use Rattle.iddqd_run.proofs.print.displaced_line.Given as goal
+
+-- the items so far and those that are left are all
+abbrev pub invariant-loop-item : goal.invariant-loop-item
+invariant-loop-item l = string_bytes l.line ++ items_text l.left ≡ codes "out" ++ items_text l.fn.displaced
+
+abbrev pub decreases-loop-item : goal.decreases-loop-item
+decreases-loop-item l = length l.left

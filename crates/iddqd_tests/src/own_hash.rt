@@ -1,0 +1,55 @@
+//! A builder of hashers that gives a `u64` itself as its hash.
+ghost use Rattle.std.specs.Prelude.{◌≡◌, slice_index_or};
+ghost use Rattle.std.specs.Int.{from_le_bytes};
+ghost use mir.Syntax.{w64};
+
+use std::hash::{BuildHasher, Hasher};
+
+/// Gives a `u64` itself.
+#[derive(Clone, Copy, Debug, PartialEq, Eq)]
+pub struct OwnHash;
+
+/// A hasher of `OwnHash`: the number of the last eight bytes written.
+#[derive(Clone, Copy, Debug, PartialEq, Eq)]
+pub struct OwnHasher {
+    number: u64,
+}
+
+fn byte(bytes: &[u8], at: usize) -> u8
+    ensures { result ≡ slice_index_or bytes.now at 0 }
+{
+    bytes.get(at).copied().unwrap_or(0)
+}
+
+impl Hasher for OwnHasher {
+    ghost write = { λ _ bytes. record { number = from_le_bytes w64 bytes } };
+
+    ghost finish = { λ s. s.number };
+
+    fn finish(&self) -> u64 {
+        self.number
+    }
+
+    fn write(&mut self, bytes: &[u8]) {
+        self.number = u64::from_le_bytes([
+            byte(bytes, 0),
+            byte(bytes, 1),
+            byte(bytes, 2),
+            byte(bytes, 3),
+            byte(bytes, 4),
+            byte(bytes, 5),
+            byte(bytes, 6),
+            byte(bytes, 7),
+        ]);
+    }
+}
+
+impl BuildHasher for OwnHash {
+    type Hasher = OwnHasher;
+
+    ghost build_hasher = { λ _. record { number = 0 } };
+
+    fn build_hasher(&self) -> OwnHasher {
+        OwnHasher { number: 0 }
+    }
+}
