@@ -10,6 +10,7 @@ use Rattle.iddqd_run.specs.Commands.{numbers_of, before}
 abbrev pub after_all : List ℕ → Option (List ℕ) → Option (List ℕ)
 after_all xs found = option_map (λ ns. xs ++ ns) found
 
+-- one more
 after_one : (xs : List ℕ) (n : ℕ) (found : Option (List ℕ)) → after_all xs (before (Some n) found) ≡ after_all (xs ++ n ∷ []) found
 after_one xs n None = refl
 after_one xs n (Some ns) = ap (λ (ys : List ℕ). Some ys) (sym (append_assoc xs (n ∷ []) ns))

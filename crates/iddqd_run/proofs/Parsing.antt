@@ -6,6 +6,7 @@ use Rattle.iddqd_run.specs.Lines.{lines_of}
 use Rattle.iddqd_run.specs.Commands.{command_of_line, first_bad_line}
 use Rattle.iddqd_run.specs.Words.{Command}
 
+-- each command, found
 abbrev pub found : List Command → List (Option Command)
 found commands = map (λ command. Some command) commands
 
@@ -13,6 +14,7 @@ found commands = map (λ command. Some command) commands
 abbrev pub SpellsSoFar : List ℕ → List Command → List ℕ → Type 0
 SpellsSoFar text commands rest = found commands ++ map command_of_line (lines_of rest) ≡ map command_of_line (lines_of text)
 
+-- one more
 found_more : (xs : List Command) (command : Command) (ys : List (Option Command)) → found (xs ++ command ∷ []) ++ ys ≡ found xs ++ Some command ∷ ys
 found_more [] command ys = refl
 found_more (x ∷ xs) command ys = ap (λ (zs : List (Option Command)). Some x ∷ zs) (found_more xs command ys)
@@ -31,6 +33,7 @@ spells_more text rest line after xs ys command cut h e r =
 pub spells_all : (text : List ℕ) (xs : List Command) → SpellsSoFar text xs [] → map command_of_line (lines_of text) ≡ found xs
 spells_all text xs r = sym r ∙ append-nil (found xs)
 
+-- the first that spells none stands behind those found
 first_none : (n : ℕ) (xs : List Command) (ys : List (Option Command)) → position_from (λ o. is_none o) n (found xs ++ None ∷ ys) ≡ Some (n + length xs)
 first_none n [] ys = ap (λ (k : ℕ). Some k) (let e : n ≡ n + 0 = omega arith in e)
 first_none n (x ∷ xs) ys = first_none (n + 1) xs ys ∙ ap (λ (k : ℕ). Some k) (let e : n + 1 + length xs ≡ n + suc (length xs) = omega arith in e)

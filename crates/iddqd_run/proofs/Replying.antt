@@ -32,6 +32,7 @@ module _ {C T D S : Type 0} (Steps : State T → C → Reply T D → State T →
   )
 
 module _ {C T D S F : Type 0} (Steps : State T → C → Reply T D → State T → Type 0) (text : S → List ℕ) (line : Reply T D → List ℕ) where
+  -- the first command, and a run of the rest
   after_first : (old mid new : State T) (sink then after : S) (kept : List (Reply T D)) (command : C) (commands : List C) (said answer : Result (Unit {0}) F)
       → Applies Steps (into_lines {F = F} text line) old sink command said mid then
       → MatchResult said (λ _. Run Steps (into_lines {F = F} text line) mid then commands answer new after) (λ f. (answer ≡ Err f) × (new ≡ mid) × (after ≡ then))
