@@ -9,3 +9,5 @@ pub use row::{Row, row_of};
 
 #[cfg(test)]
 mod bi_rows;
+#[cfg(test)]
+mod bi_walks;
