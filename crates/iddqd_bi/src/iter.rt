@@ -79,7 +79,7 @@ impl<'a, T> FusedIterator for Iter<'a, T> {}
 /// Contracts see those that are left, as a list.
 #[derive(Drop)]
 pub struct IntoIter<T> {
-    values: IntoValues<T>,
+    items: IntoValues<T>,
 }
 
 impl<T> Model for IntoIter<T> {
@@ -87,14 +87,14 @@ impl<T> Model for IntoIter<T> {
 
     ghost Value = { List T };
 
-    ghost view = { λ it. it.values };
+    ghost view = { λ it. it.items };
 }
 
 impl<T> IntoIter<T> {
-    pub(crate) fn new(values: IntoValues<T>) -> Self
-        ensures { result ≡ values }
+    pub(crate) fn new(items: IntoValues<T>) -> Self
+        ensures { result ≡ items }
     {
-        IntoIter { values }
+        IntoIter { items }
     }
 }
 
@@ -106,7 +106,7 @@ impl<T: Drop> Iterator for IntoIter<T> {
     ghost remaining = { item_count (λ rest. rest) };
 
     fn next(&mut self) -> Option<T> {
-        self.values.next()
+        self.items.next()
     }
 
     fn size_hint(&self) -> (usize, Option<usize>)
@@ -114,13 +114,13 @@ impl<T: Drop> Iterator for IntoIter<T> {
         ensures upper { IfSome result.1 (UpTo (item_count (λ rest. rest) self.now)) }
         ensures exact { result ≡ (length self.now, Some (length self.now)) }
     {
-        self.values.size_hint()
+        self.items.size_hint()
     }
 }
 
 impl<T: Drop> ExactSizeIterator for IntoIter<T> {
     fn len(&self) -> usize {
-        self.values.len()
+        self.items.len()
     }
 }
 

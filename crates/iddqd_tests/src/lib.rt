@@ -15,3 +15,5 @@ mod bi_overwrites;
 mod bi_queries;
 #[cfg(test)]
 mod bi_rows;
+#[cfg(test)]
+mod bi_walks;
