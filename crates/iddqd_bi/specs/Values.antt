@@ -1,8 +1,8 @@
 -- The value of a reply.
 use Rattle.std.specs.Prelude.{map, option_copied}
-use Rattle.iddqd_store.specs.Reply.{Reply, done, duplicate, displaced, found, present, taken, memory, refused, size}
+use Rattle.iddqd_store.specs.Reply.{Reply, done, duplicate, displaced, found, present, taken, memory, refused, size, items}
 use Rattle.iddqd_bi.specs.declared.command.BiReply.{BiReply}
-use Rattle.iddqd_bi.specs.declared.command.BiReply.TheVariants.{Done, Duplicate, Displaced, Found, Present, Taken, Memory, Refused, Length}
+use Rattle.iddqd_bi.specs.declared.command.BiReply.TheVariants.{Done, Duplicate, Displaced, Found, Present, Taken, Memory, Refused, Length, Items}
 
 abbrev pub value_of : {T D K1 K2 : Type 0} → BiReply T D K1 K2 → Reply T D
 value_of Done = done
@@ -14,3 +14,4 @@ value_of (Taken o) = taken o
 value_of (Memory x) = memory x
 value_of Refused = refused
 value_of (Length n) = size n
+value_of (Items xs) = items xs

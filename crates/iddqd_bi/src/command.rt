@@ -4,6 +4,7 @@ ghost use Rattle.iddqd_store.specs.Reply.{Reply};
 ghost use Rattle.iddqd_bi.specs.Values.{value_of};
 
 use crate::item::BiHashItemMut;
+use crate::iter::Iter;
 use iddqd_store::{DuplicateItem, UpToTwo};
 
 /// A call of the map, as a value.
@@ -41,6 +42,8 @@ pub enum BiCommand<T: BiHashItemMut> {
     Clear,
     /// `len`.
     Len,
+    /// `iter`.
+    Items,
 }
 
 /// What a command answers. It may lend items of the map.
@@ -64,6 +67,8 @@ pub enum BiReply<'m, T: BiHashItemMut> {
     Refused,
     /// How many items there are.
     Length(usize),
+    /// The items, each once, in no promised order.
+    Items(Iter<'m, T>),
 }
 
 /// What takes the replies of a run, one by one.

@@ -11,3 +11,4 @@ pub data Reply (T D : Type 0) : Type 0 where
   memory : T → Reply T D
   refused : Reply T D
   size : ℕ → Reply T D
+  items : List T → Reply T D

@@ -4,7 +4,7 @@ use Rattle.std.specs.List.{list_any}
 use Rattle.std.specs.Option.{option_to_list}
 use Rattle.iddqd_store.specs.Bag.{Ranks, clash, order, over}
 use Rattle.iddqd_store.specs.Map.{Map, bag}
-use Rattle.iddqd_store.specs.Reply.{Reply, done, duplicate, displaced, found, present, taken, memory, refused, size}
+use Rattle.iddqd_store.specs.Reply.{Reply, done, duplicate, displaced, found, present, taken, memory, refused, size, items}
 
 -- a bag of items, as a list of which the order means nothing, and how many fit
 pub record State (T : Type 0) : Type 0 where
@@ -87,3 +87,8 @@ module _ {T D : Type 0} where
   abbrev pub Sizes : State T → Reply T D → State T → Type 0
   Sizes old (size n) new = (n ≡ length old.items) × (new ≡ old)
   Sizes old reply new = ⊥
+
+  -- some listing of the members
+  abbrev pub Lists : State T → Reply T D → State T → Type 0
+  Lists old (items xs) new = IsPermutation xs old.items × (new ≡ old)
+  Lists old reply new = ⊥

@@ -3,7 +3,7 @@ ghost use Rattle.std.specs.Prelude.{◌≡◌, ◌≢◌, [], map, filter};
 ghost use Rattle.std.specs.Option.{option_to_list};
 ghost use Rattle.iddqd_store.specs.Bag.{clash, order};
 ghost use Rattle.iddqd_store.specs.Map.{bag};
-ghost use Rattle.iddqd_store.specs.Reply.{Reply, found, present, duplicate};
+ghost use Rattle.iddqd_store.specs.Reply.{Reply, found, present, duplicate, items};
 ghost use Rattle.iddqd_store.specs.Step.{state_of, InsertsUnique, InsertsOverwrite, Reserves, ShrinksTo};
 ghost use Rattle.iddqd_store.specs.Run.{Applies, Run};
 ghost use Rattle.iddqd_store.specs.Searched.{items_at};
@@ -81,6 +81,7 @@ where
                 self.tell(BiReply::Done, sink)
             }
             BiCommand::Len => self.tell(BiReply::Length(self.len()), sink),
+            BiCommand::Items => self.tell_items(sink),
         }
     }
 
@@ -178,5 +179,11 @@ where
     {
         let duplicates = self.items_of(found);
         sink.take(BiReply::Duplicate(DuplicateItem::new(item, duplicates)))
+    }
+
+    fn tell_items<K: BiSink<T>>(&self, sink: &mut K) -> Result<(), K::Fault>
+        ensures { K.took sink.old (items (bag self.now)) result sink.new }
+    {
+        sink.take(BiReply::Items(self.iter()))
     }
 }
