@@ -10,6 +10,6 @@ mod matchers;
 mod pointers;
 
 pub use command::{BiCommand, BiReply, BiSink};
-pub use error::{DuplicateError, InsertError, MemoryError};
+pub use error::{DuplicateError, FromIterError, InsertError, MemoryError};
 pub use item::{BiHashItem, BiHashItemMut};
 pub use map::{BiHashMap, DefaultHashBuilder};

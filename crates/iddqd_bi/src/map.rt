@@ -6,6 +6,7 @@ use std::marker::Model;
 
 mod build;
 mod capacity;
+mod extend;
 mod find;
 mod insert;
 mod overwrite;
