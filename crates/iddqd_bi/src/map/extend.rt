@@ -45,3 +45,55 @@ impl<T: BiHashItem + Drop, S: BuildHasher> BiHashMap<T, S> {
         Ok(())
     }
 }
+
+impl<T: BiHashItem + Drop, S: BuildHasher + Default + Drop> BiHashMap<T, S> {
+    /// The map of these items, each in the place of those before it that conflict with it, which are dropped.
+    ///
+    /// It asks for room as `extend` does. Where an item finds no memory it comes back, and there is no map.
+    pub fn from_iter<I: IntoIterator<Item = T>>(
+        alloc: Global,
+        iter: I,
+    ) -> Result<Self, MemoryRefused<T>>
+        requires ends { IsFiniteIterable I.into_iter_gives I.IntoIter.can_next I.IntoIter.remaining iter }
+        ensures all { IfOk result (λ map. GivesAll I.into_iter_gives I.IntoIter.next_gives iter (λ xs. IsPermutation (bag map) (overs (ranks T.BiHashItem T.K1.Hash T.K2.Hash) [] xs))) }
+        ensures refused { IfErr result (λ e. GivesThen I.into_iter_gives I.IntoIter.next_gives iter e.value (λ xs. clash (ranks T.BiHashItem T.K1.Hash T.K2.Hash) (overs (ranks T.BiHashItem T.K1.Hash T.K2.Hash) [] xs) e.value ≡ [])) }
+        ensures builder { IfOk result (λ map. S.is_default map.builder) }
+    {
+        let mut map = BiHashMap::default(alloc);
+        map.extend(iter)?;
+        Ok(map)
+    }
+
+    /// The map of these items, none of which conflict.
+    ///
+    /// It first asks for room for as many as the iterator promises, and goes on where that is refused. At the first item
+    /// that conflicts with some before it, it answers that one and those, in the order of the keys. An item that finds no
+    /// memory comes back. The other items and the iterator are dropped then, and there is no map.
+    pub fn from_iter_unique<I: IntoIterator<Item = T>>(
+        alloc: Global,
+        iter: I,
+    ) -> Result<Self, FromIterError<T>>
+        requires ends { IsFiniteIterable I.into_iter_gives I.IntoIter.can_next I.IntoIter.remaining iter }
+        ensures all { IfOk result (λ map. GivesAll I.into_iter_gives I.IntoIter.next_gives iter (AddsTo (ranks T.BiHashItem T.K1.Hash T.K2.Hash) (bag map))) }
+        ensures refused { IfErr result (λ e. MatchFromIterError e
+            (λ x duplicates. GivesThen I.into_iter_gives I.IntoIter.next_gives iter x (RefusesFor (ranks T.BiHashItem T.K1.Hash T.K2.Hash) x duplicates))
+            (λ x. GivesThen I.into_iter_gives I.IntoIter.next_gives iter x (HasPlaceFor (ranks T.BiHashItem T.K1.Hash T.K2.Hash) x))) }
+        ensures builder { IfOk result (λ map. S.is_default map.builder) }
+    {
+        let mut map = BiHashMap::default(alloc);
+        let items = iter.into_iter();
+        // The promise is of items, not of new keys, so its refusal is not yet a want of memory.
+        let _ = map.grow(items.size_hint().0);
+        for item in items {
+            match map.try_insert(item) {
+                Ok(_) => {}
+                Err(Refusal::Duplicate(item, found)) => {
+                    let duplicates = map.take_all(&found);
+                    return Err(FromIterError::Duplicate(DuplicateItem::new(item, duplicates)));
+                }
+                Err(Refusal::Memory(item)) => return Err(FromIterError::Memory(item)),
+            }
+        }
+        Ok(map)
+    }
+}
