@@ -1,3 +1,4 @@
+pub mod Building
 pub mod Indexed
 pub mod Keys
 pub mod Refused

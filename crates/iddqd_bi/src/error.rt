@@ -7,7 +7,7 @@ ghost use Rattle.iddqd_bi.specs.Keys.{keys, ranks};
 
 use crate::item::BiHashItem;
 use crate::map::BiHashMap;
-use iddqd_store::{ItemIndex, UpToTwo};
+use iddqd_store::{DuplicateItem, ItemIndex, UpToTwo};
 use std::hash::{BuildHasher, Hash};
 
 /// An item that an insert refused, and why, with no hold on the map.
@@ -40,6 +40,15 @@ pub struct DuplicateError<'a, T: BiHashItem, S: BuildHasher> {
 pub struct MemoryError<'a, T: BiHashItem, S: BuildHasher> {
     pub(crate) map: &'a mut BiHashMap<T, S>,
     pub(crate) new_item: T,
+}
+
+/// Why no map was built. The map of the items before is dropped.
+#[derive(Drop)]
+pub enum FromIterError<T> {
+    /// An item, and those before it that conflict with it, in the order of the keys.
+    Duplicate(DuplicateItem<T, UpToTwo<T>>),
+    /// An item that nothing conflicts with, and for which there was no memory.
+    Memory(T),
 }
 
 impl<T: BiHashItem, S: BuildHasher> DuplicateError<'_, T, S> {

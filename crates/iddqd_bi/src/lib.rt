@@ -11,7 +11,7 @@ mod matchers;
 mod pointers;
 
 pub use command::{BiCommand, BiReply, BiSink};
-pub use error::{DuplicateError, InsertError, MemoryError};
+pub use error::{DuplicateError, FromIterError, InsertError, MemoryError};
 pub use item::{BiHashItem, BiHashItemMut};
 pub use iter::{IntoIter, Iter};
 pub use map::{BiHashMap, DefaultHashBuilder};

@@ -8,6 +8,7 @@ mod build;
 mod capacity;
 mod clone;
 mod compare;
+mod extend;
 mod find;
 mod insert;
 mod iterate;

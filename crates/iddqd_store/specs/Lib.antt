@@ -1,5 +1,6 @@
 pub mod Asking
 pub mod Bag
+pub mod Building
 pub mod Cell
 pub mod Errors
 pub mod Indexed

@@ -1,5 +1,5 @@
 //! Inserts.
-ghost use Rattle.std.specs.Prelude.{◌≡◌, ◌≢◌, ◌<◌, ◌∷◌, [], length, IsPermutation, All, OnOk, IfOk, IfErr, Some, nat_eq};
+ghost use Rattle.std.specs.Prelude.{◌≡◌, ◌≢◌, ◌<◌, ◌∷◌, [], length, IsPermutation, All, OnOk, IfOk, IfErr, Some, nat_eq, ⊤};
 ghost use Rattle.std.specs.List.{IsDistinct};
 ghost use Rattle.iddqd_store.specs.Bag.{clash, order};
 ghost use Rattle.iddqd_store.specs.Map.{bag, Gains, Keeps};
@@ -50,6 +50,7 @@ impl<T: BiHashItem, S: BuildHasher> BiHashMap<T, S> {
         ensures refused { IfErr result (λ e. MatchRefusal e
             (λ x found. (x ≡ item) × (self.new ≡ self.old) × (clash (ranks T.BiHashItem T.K1.Hash T.K2.Hash) (bag self.old) item ≢ []) × (items_at self.old.slots found ≡ order (ranks T.BiHashItem T.K1.Hash T.K2.Hash) (bag self.old) item))
             (λ x. (x ≡ item) × Keeps self.old self.new × (clash (ranks T.BiHashItem T.K1.Hash T.K2.Hash) (bag self.old) item ≡ []) × (length (bag self.old) ≡ self.old.capacity))) }
+        ensures found { IfErr result (λ e. MatchRefusal e (λ x found. All (IsLive self.old.slots) found × IsDistinct nat_eq found) (λ x. ⊤)) }
     {
         let hash1 = self.hash_builder.hash_one(item.key1());
         let hash2 = self.hash_builder.hash_one(item.key2());

@@ -1,0 +1,25 @@
+use Rattle.std.proofs.Common.{◌∙◌, arith, rules}
+use Rattle.std.proofs.iter.Next.{on}
+use Rattle.iddqd_store.specs.Map.{bag}
+use Rattle.iddqd_store.proofs.BagSteps.{overs-step}
+use Rattle.iddqd_store.proofs.BuildLemmas.{length-overwritten}
+use Rattle.iddqd_bi.specs.Keys.{keys, ranks}
+use Rattle.iddqd_bi.proofs.map.BiHashMap.extend.Goals as goal
+
+pub loop-item-preserved : goal.loop-item-preserved
+loop-item-preserved g c =
+    let by = ranks g.T.BiHashItem (keys g.T.K1.PartialEq.eq g.T.K1.Hash.hash_input) (keys g.T.K2.PartialEq.eq g.T.K2.Hash.hash_input) in
+    let so_far = c.loop-item.invariant in
+    let put = c.insert_overwrite.ensures in
+    let nearer = (on c.in-Some.item c.in-Some.is c.next.ensures.goes so_far.ending).2 in
+    record {
+      callable = search rules;
+      ending = search rules;
+      items = overs-step by (bag c.args.self.now) c.loop-item.yielded (bag c.loop-item.self) (bag c.insert_overwrite.new.self) c.in-Some.item so_far.items c.in_ok-insert_overwrite.ensures.items;
+      no_less_room = omega (arith, so_far.no_less_room, put.no_less_room);
+      fits = λ fit.
+          let before = so_far.fits fit in
+          let same = put.same_room (omega (arith, before.0, nearer)) in
+          (omega (arith, before.0, nearer, same, length-overwritten by (bag c.loop-item.self) (bag c.insert_overwrite.new.self) c.in-Some.item c.in_ok-insert_overwrite.ensures.items), same ∙ before.1);
+      builder = put.builder ∙ so_far.builder;
+    }

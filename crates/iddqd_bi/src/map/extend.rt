@@ -1,0 +1,99 @@
+//! Many items at once.
+ghost use Rattle.std.specs.Prelude.{◌≡◌, ◌+◌, ◌≤◌, [], length, IsPermutation, IfOk, IfErr, OnOk, OnErr, IsOk};
+ghost use Rattle.std.specs.Iterator.{IsFiniteIterable, size};
+ghost use Rattle.iddqd_store.specs.Bag.{clash, overs};
+ghost use Rattle.iddqd_store.specs.Building.{GivesAll, GivesThen, AddsTo, RefusesFor, HasPlaceFor};
+ghost use Rattle.iddqd_store.specs.Map.{bag};
+ghost use Rattle.iddqd_bi.specs.Keys.{ranks};
+ghost use Rattle.iddqd_bi.specs.Building.{MatchFromIterError};
+
+use super::BiHashMap;
+use crate::error::{FromIterError, Refusal};
+use crate::item::BiHashItem;
+use iddqd_store::{DuplicateItem, MemoryRefused};
+use std::alloc::Global;
+use std::hash::{BuildHasher, Hash};
+
+impl<T: BiHashItem + Drop, S: BuildHasher> BiHashMap<T, S> {
+    /// Puts the items in one by one, each in the place of those that conflict with it, which are dropped.
+    ///
+    /// It first asks for room for as many as the iterator promises, or for half as many where the map has items, since
+    /// their keys may be there already. Where that is refused it goes on, and the map grows as it fills. An item that
+    /// finds no memory comes back: those before it stay, and the iterator is dropped with the rest.
+    pub fn extend<I: IntoIterator<Item = T>>(&mut self, iter: I) -> Result<(), MemoryRefused<T>>
+        requires ends { IsFiniteIterable I.into_iter_gives I.IntoIter.can_next I.IntoIter.remaining iter }
+        ensures all { OnOk result (GivesAll I.into_iter_gives I.IntoIter.next_gives iter (λ xs. IsPermutation (bag self.new) (overs (ranks T.BiHashItem T.K1.Hash T.K2.Hash) (bag self.old) xs))) }
+        ensures refused { IfErr result (λ e. GivesThen I.into_iter_gives I.IntoIter.next_gives iter e.value (λ xs. IsPermutation (bag self.new) (overs (ranks T.BiHashItem T.K1.Hash T.K2.Hash) (bag self.old) xs))) }
+        ensures free { IfErr result (λ e. clash (ranks T.BiHashItem T.K1.Hash T.K2.Hash) (bag self.new) e.value ≡ []) }
+        ensures full { OnErr result (self.old.capacity ≤ length (bag self.new)) }
+        ensures had_room { ((it : I.IntoIter) → I.into_iter_gives iter it → length (bag self.old) + size (I.IntoIter.remaining it) ≤ self.old.capacity) → IsOk result × (self.new.capacity ≡ self.old.capacity) }
+        ensures no_less_room { self.old.capacity ≤ self.new.capacity }
+        ensures builder { self.new.builder ≡ self.old.builder }
+    {
+        let items = iter.into_iter();
+        let promised = items.size_hint().0;
+        let wanted = if self.is_empty() {
+            promised
+        } else {
+            promised.div_ceil(2)
+        };
+        // The promise is of items, not of new keys, so its refusal is not yet a want of memory.
+        let _ = self.grow(wanted);
+        for item in items {
+            drop(self.insert_overwrite(item)?);
+        }
+        Ok(())
+    }
+}
+
+impl<T: BiHashItem + Drop, S: BuildHasher + Default + Drop> BiHashMap<T, S> {
+    /// The map of these items, each in the place of those before it that conflict with it, which are dropped.
+    ///
+    /// It asks for room as `extend` does. Where an item finds no memory it comes back, and there is no map.
+    pub fn from_iter<I: IntoIterator<Item = T>>(
+        alloc: Global,
+        iter: I,
+    ) -> Result<Self, MemoryRefused<T>>
+        requires ends { IsFiniteIterable I.into_iter_gives I.IntoIter.can_next I.IntoIter.remaining iter }
+        ensures all { IfOk result (λ map. GivesAll I.into_iter_gives I.IntoIter.next_gives iter (λ xs. IsPermutation (bag map) (overs (ranks T.BiHashItem T.K1.Hash T.K2.Hash) [] xs))) }
+        ensures refused { IfErr result (λ e. GivesThen I.into_iter_gives I.IntoIter.next_gives iter e.value (λ xs. clash (ranks T.BiHashItem T.K1.Hash T.K2.Hash) (overs (ranks T.BiHashItem T.K1.Hash T.K2.Hash) [] xs) e.value ≡ [])) }
+        ensures builder { IfOk result (λ map. S.is_default map.builder) }
+    {
+        let mut map = BiHashMap::default(alloc);
+        map.extend(iter)?;
+        Ok(map)
+    }
+
+    /// The map of these items, none of which conflict.
+    ///
+    /// It first asks for room for as many as the iterator promises, and goes on where that is refused. At the first item
+    /// that conflicts with some before it, it answers that one and those, in the order of the keys. An item that finds no
+    /// memory comes back. The other items and the iterator are dropped then, and there is no map.
+    pub fn from_iter_unique<I: IntoIterator<Item = T>>(
+        alloc: Global,
+        iter: I,
+    ) -> Result<Self, FromIterError<T>>
+        requires ends { IsFiniteIterable I.into_iter_gives I.IntoIter.can_next I.IntoIter.remaining iter }
+        ensures all { IfOk result (λ map. GivesAll I.into_iter_gives I.IntoIter.next_gives iter (AddsTo (ranks T.BiHashItem T.K1.Hash T.K2.Hash) (bag map))) }
+        ensures refused { IfErr result (λ e. MatchFromIterError e
+            (λ x duplicates. GivesThen I.into_iter_gives I.IntoIter.next_gives iter x (RefusesFor (ranks T.BiHashItem T.K1.Hash T.K2.Hash) x duplicates))
+            (λ x. GivesThen I.into_iter_gives I.IntoIter.next_gives iter x (HasPlaceFor (ranks T.BiHashItem T.K1.Hash T.K2.Hash) x))) }
+        ensures builder { IfOk result (λ map. S.is_default map.builder) }
+    {
+        let mut map = BiHashMap::default(alloc);
+        let items = iter.into_iter();
+        // The promise is of items, not of new keys, so its refusal is not yet a want of memory.
+        let _ = map.grow(items.size_hint().0);
+        for item in items {
+            match map.try_insert(item) {
+                Ok(_) => {}
+                Err(Refusal::Duplicate(item, found)) => {
+                    let duplicates = map.take_all(&found);
+                    return Err(FromIterError::Duplicate(DuplicateItem::new(item, duplicates)));
+                }
+                Err(Refusal::Memory(item)) => return Err(FromIterError::Memory(item)),
+            }
+        }
+        Ok(map)
+    }
+}

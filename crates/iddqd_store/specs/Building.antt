@@ -1,0 +1,26 @@
+-- What is built of the items that an iterator gives.
+use Rattle.std.specs.Prelude.{◌≡◌, List, [], ◌∷◌, Option, Some, Ok, Err, IsPermutation}
+use Rattle.std.specs.Iterator.{Drains, YieldsThen}
+use Rattle.iddqd_store.specs.Bag.{Ranks, add, adds}
+
+module _ {U S T : Type 0} (becomes : U → S → Type 0) (steps : S → Option T → S → Type 0) where
+  -- the iterator gave a whole list, of which P holds
+  abbrev pub GivesAll : U → (List T → Type 0) → Type 0
+  GivesAll iter P = (it : S) × (xs : List T) × becomes iter it × Drains steps it xs × P xs
+
+  -- the iterator gave a front of a list, of which P holds, and then x
+  abbrev pub GivesThen : U → T → (List T → Type 0) → Type 0
+  GivesThen iter x P = (it : S) × (xs : List T) × (rest : S) × becomes iter it × YieldsThen steps it xs (Some x) rest × P xs
+
+module _ {T : Type 0} (ranks : Ranks T) where
+  -- each of the list was added where nothing conflicts, which makes this bag
+  abbrev pub AddsTo : List T → List T → Type 0
+  AddsTo bag xs = (made : List T) × (adds ranks [] xs ≡ Ok made) × IsPermutation bag made
+
+  -- each was added, and then x was refused since these conflict
+  abbrev pub RefusesFor : T → List T → List T → Type 0
+  RefusesFor x duplicates xs = (made : List T) × (adds ranks [] xs ≡ Ok made) × (add ranks made x ≡ Err (x, duplicates))
+
+  -- each was added, and nothing conflicts with x
+  abbrev pub HasPlaceFor : T → List T → Type 0
+  HasPlaceFor x xs = (made : List T) × (adds ranks [] xs ≡ Ok made) × (add ranks made x ≡ Ok (x ∷ made))
