@@ -3,11 +3,11 @@ use Rattle.std.specs.Prelude.{Bool, List, [], ◌∷◌}
 use Rattle.std.specs.HashMap.Lent.{HashMembers}
 use Rattle.iddqd_store.specs.Bag.{every_of}
 use Rattle.iddqd_store.specs.Reply.{Reply}
-use Rattle.iddqd_store.specs.Step.{State, InsertsUnique, InsertsOverwrite, Gets, Tells, Removes, Reserves, ShrinksTo, Clears, Sizes, Lists}
+use Rattle.iddqd_store.specs.Step.{State, InsertsUnique, InsertsOverwrite, Gets, Tells, Removes, Reserves, ShrinksTo, Clears, Sizes, Lists, Extends}
 use Rattle.iddqd_bi.specs.Keys.{ranks}
 use Rattle.iddqd_bi.specs.declared.item.BiHashItem as item
 use Rattle.iddqd_bi.specs.declared.command.BiCommand.{BiCommand}
-use Rattle.iddqd_bi.specs.declared.command.BiCommand.TheVariants.{InsertUnique, InsertOverwrite, Get1, Get2, GetUnique, Contains1, Contains2, ContainsUnique, Remove1, Remove2, RemoveUnique, Reserve, ShrinkTo, ShrinkToFit, Clear, Len, Items}
+use Rattle.iddqd_bi.specs.declared.command.BiCommand.TheVariants.{InsertUnique, InsertOverwrite, Get1, Get2, GetUnique, Contains1, Contains2, ContainsUnique, Remove1, Remove2, RemoveUnique, Reserve, ShrinkTo, ShrinkToFit, Clear, Len, Items, Extend}
 
 module _ {T K1 K2 : Type 0} (of : item.Ghosts T K1 K2) where
   -- whether an item has this key
@@ -41,3 +41,4 @@ module _ {T D K1 K2 : Type 0} (of : item.Ghosts T K1 K2) (keys1 : HashMembers K1
   Step old Clear reply new = Clears old reply new
   Step old Len reply new = Sizes old reply new
   Step old Items reply new = Lists old reply new
+  Step old (Extend xs) reply new = Extends (ranks of keys1 keys2) old xs.items reply new

@@ -44,6 +44,8 @@ pub enum BiCommand<T: BiHashItemMut> {
     Len,
     /// `iter`.
     Items,
+    /// `extend` with these items, in order.
+    Extend(Vec<T>),
 }
 
 /// What a command answers. It may lend items of the map.

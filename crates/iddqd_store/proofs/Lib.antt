@@ -6,6 +6,7 @@ pub mod CloneLemmas
 pub mod Copied
 pub mod Copy
 pub mod EntryLemmas
+pub mod ExtendLemmas
 pub mod FillLemmas
 pub mod FoundLemmas
 pub mod Hole

@@ -2,7 +2,7 @@
 use Rattle.std.specs.Prelude.{◌≡◌, ◌≢◌, ◌+◌, ◌<◌, ◌≤◌, ℕ, min, max, List, [], ◌∷◌, ◌++◌, Bool, Option, length, filter, IsPermutation}
 use Rattle.std.specs.List.{list_any}
 use Rattle.std.specs.Option.{option_to_list}
-use Rattle.iddqd_store.specs.Bag.{Ranks, clash, order, over}
+use Rattle.iddqd_store.specs.Bag.{Ranks, clash, order, over, overs}
 use Rattle.iddqd_store.specs.Map.{Map, bag}
 use Rattle.iddqd_store.specs.Reply.{Reply, done, duplicate, displaced, found, present, taken, memory, refused, size, items}
 
@@ -92,3 +92,12 @@ module _ {T D : Type 0} where
   abbrev pub Lists : State T → Reply T D → State T → Type 0
   Lists old (items xs) new = IsPermutation xs old.items × (new ≡ old)
   Lists old reply new = ⊥
+
+  -- the items of a list go in one by one, each for what conflicts with it, until one finds no memory in a full map
+  abbrev pub Extends : Ranks T → State T → List T → Reply T D → State T → Type 0
+  Extends ranks old xs done new = IsPermutation new.items (overs ranks old.items xs) × (old.capacity ≤ new.capacity)
+  Extends ranks old xs (memory y) new =
+      (front : List T) × (rest : List T) × (xs ≡ front ++ y ∷ rest)
+      × IsPermutation new.items (overs ranks old.items front) × (clash ranks new.items y ≡ [])
+      × (old.capacity ≤ length new.items) × (old.capacity ≤ new.capacity)
+  Extends ranks old xs reply new = ⊥

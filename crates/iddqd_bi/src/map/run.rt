@@ -4,7 +4,7 @@ ghost use Rattle.std.specs.Option.{option_to_list};
 ghost use Rattle.iddqd_store.specs.Bag.{clash, order};
 ghost use Rattle.iddqd_store.specs.Map.{bag};
 ghost use Rattle.iddqd_store.specs.Reply.{Reply, found, present, duplicate, items};
-ghost use Rattle.iddqd_store.specs.Step.{state_of, InsertsUnique, InsertsOverwrite, Reserves, ShrinksTo};
+ghost use Rattle.iddqd_store.specs.Step.{state_of, InsertsUnique, InsertsOverwrite, Reserves, ShrinksTo, Extends};
 ghost use Rattle.iddqd_store.specs.Run.{Applies, Run};
 ghost use Rattle.iddqd_store.specs.Searched.{items_at};
 ghost use Rattle.iddqd_bi.specs.Keys.{ranks};
@@ -82,6 +82,7 @@ where
             }
             BiCommand::Len => self.tell(BiReply::Length(self.len()), sink),
             BiCommand::Items => self.tell_items(sink),
+            BiCommand::Extend(items) => self.apply_extend(items, sink),
         }
     }
 
@@ -106,6 +107,16 @@ where
     {
         match self.insert_overwrite(item) {
             Ok(displaced) => self.tell(BiReply::Displaced(displaced), sink),
+            Err(MemoryRefused { value }) => self.tell(BiReply::Memory(value), sink),
+        }
+    }
+
+    fn apply_extend<K: BiSink<T>>(&mut self, items: Vec<T>, sink: &mut K) -> Result<(), K::Fault>
+        ensures step { Applies (λ old xs reply new. Extends (ranks T.BiHashItem T.K1.Hash T.K2.Hash) old xs reply new) K.took (state_of self.old) sink.old items.items result (state_of self.new) sink.new }
+        ensures builder { self.new.builder ≡ self.old.builder }
+    {
+        match self.extend(items) {
+            Ok(()) => self.tell(BiReply::Done, sink),
             Err(MemoryRefused { value }) => self.tell(BiReply::Memory(value), sink),
         }
     }
