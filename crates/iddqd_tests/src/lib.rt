@@ -8,4 +8,6 @@ pub use alike::{Alike, AlikeHasher};
 pub use row::{Row, row_of};
 
 #[cfg(test)]
+mod bi_building;
+#[cfg(test)]
 mod bi_rows;
