@@ -6,7 +6,7 @@ use std::process::Abort;
 use std::test::*;
 
 /// Puts an item in, and says whether there was memory.
-fn put(map: &mut BiHashMap<Row>, item: Row) -> bool {
+pub(crate) fn put(map: &mut BiHashMap<Row>, item: Row) -> bool {
     match map.insert_unique(item) {
         Ok(()) => true,
         Err(InsertError::Duplicate(refusal)) => {
@@ -37,7 +37,7 @@ fn holds_two_rows(map: &BiHashMap<Row>) -> bool {
 }
 
 /// A map filled until its length equals its capacity, if there is memory.
-fn full(alloc: Global) -> Option<BiHashMap<Row>> {
+pub(crate) fn full(alloc: Global) -> Option<BiHashMap<Row>> {
     let mut map = two_rows(alloc)?;
     for k in 3..=map.capacity() as u64 {
         if !put(&mut map, row_of(k, 10 * k, 0)) {

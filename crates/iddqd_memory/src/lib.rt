@@ -6,3 +6,5 @@
 
 #[cfg(test)]
 mod bi;
+#[cfg(test)]
+mod bi_building;

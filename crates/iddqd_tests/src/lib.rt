@@ -13,6 +13,7 @@ pub use row::{Row, row_of};
 mod bi_overwrites;
 #[cfg(test)]
 mod bi_queries;
+mod bi_building;
 #[cfg(test)]
 mod bi_rows;
 #[cfg(test)]

@@ -1,5 +1,7 @@
 use Rattle.std.proofs.Common.{◌∙◌, arith, rules}
 use Rattle.std.proofs.iter.Next.{on}
+use Rattle.std.specs.Prelude.{IsPermutation}
+use Rattle.iddqd_store.specs.Bag.{over}
 use Rattle.iddqd_store.specs.Map.{bag}
 use Rattle.iddqd_store.proofs.BagSteps.{overs-step}
 use Rattle.iddqd_store.proofs.BuildLemmas.{length-overwritten}
@@ -12,14 +14,15 @@ loop-item-preserved g c =
     let so_far = c.loop-item.invariant in
     let put = c.insert_overwrite.ensures in
     let nearer = (on c.in-Some.item c.in-Some.is c.next.ensures.goes so_far.ending).2 in
+    let in_place : IsPermutation (bag c.insert_overwrite.new.self) (over by (bag c.loop-item.self) c.in-Some.item) = search rules in
     record {
       callable = search rules;
       ending = search rules;
-      items = overs-step by (bag c.args.self.now) c.loop-item.yielded (bag c.loop-item.self) (bag c.insert_overwrite.new.self) c.in-Some.item so_far.items c.in_ok-insert_overwrite.ensures.items;
+      items = overs-step by (bag c.args.self.now) c.loop-item.yielded (bag c.loop-item.self) (bag c.insert_overwrite.new.self) c.in-Some.item so_far.items in_place;
       no_less_room = omega (arith, so_far.no_less_room, put.no_less_room);
       fits = λ fit.
           let before = so_far.fits fit in
           let same = put.same_room (omega (arith, before.0, nearer)) in
-          (omega (arith, before.0, nearer, same, length-overwritten by (bag c.loop-item.self) (bag c.insert_overwrite.new.self) c.in-Some.item c.in_ok-insert_overwrite.ensures.items), same ∙ before.1);
+          (omega (arith, before.0, nearer, same, length-overwritten by (bag c.loop-item.self) (bag c.insert_overwrite.new.self) c.in-Some.item in_place), same ∙ before.1);
       builder = put.builder ∙ so_far.builder;
     }
