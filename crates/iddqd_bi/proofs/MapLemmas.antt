@@ -1,20 +1,20 @@
 -- How a map with two keys stays indexed.
 use Rattle.std.specs.Prelude.{◌≡◌, ℕ, Bool, true, false, List, [], ◌∷◌, length, filter, IsPermutation, Option, Some, Contains, count_by, ◌==◌, ◌&&◌}
-use Rattle.std.specs.List.{IsDistinct, AllByRecursion}
+use Rattle.std.specs.List.{IsDistinct}
 use Rattle.std.specs.Option.{option_to_list, option_and_then, IfSome, IfNone}
 use Rattle.std.specs.Cmp.{IsEquivalence}
-use Rattle.std.proofs.Common.{refl, sym, ap, ◌∙◌, subst}
-use Rattle.std.proofs.lemmas.Map.Keys.{IsDistinct-tail, IsDistinct-cons}
-use Rattle.std.proofs.lemmas.List.Sorted.{IsPermutation-sym, IsPermutation-trans, IsPermutation-map, IsPermutation-refl}
+use Rattle.std.proofs.Common.{sym, ◌∙◌, subst}
+use Rattle.std.proofs.lemmas.Map.Keys.{IsDistinct-tail}
+use Rattle.std.proofs.lemmas.List.Sorted.{IsPermutation-sym, IsPermutation-trans, IsPermutation-refl}
 use Rattle.iddqd_store.specs.Slots.{members, live_items, get}
 use Rattle.iddqd_store.specs.Indexed.{IsIndex, passes_at}
 use Rattle.iddqd_store.specs.Searched.{NamesOneOf}
-use Rattle.iddqd_store.specs.Bag.{Ranks, AreLawful, IsSound, conflicts, clash}
+use Rattle.iddqd_store.specs.Bag.{Ranks, AreLawful, conflicts, clash}
 use Rattle.iddqd_store.proofs.IndexLemmas.{IsIndex-insert, IsIndex-remove, length-index, length-live_items, pair_in}
 use Rattle.iddqd_store.proofs.BagLemmas.{IsSound-IsPermutation, IsSound-rank, IsDistinct-nil}
 use Rattle.iddqd_store.proofs.SearchLemmas.{search_among, crowd_among}
 use Rattle.iddqd_store.proofs.MapLemmas.{live_items-moves, free_sound, IsEquivalence-key}
-use Rattle.iddqd_bi.specs.Keys.{ranks, agree1, agree2}
+use Rattle.iddqd_bi.specs.Keys.{ranks}
 use Rattle.iddqd_bi.specs.Indexed.{IsIndexed}
 
 module _ {T : Type 0} where
