@@ -1,6 +1,6 @@
 -- How a map with two keys stays indexed.
 use Rattle.std.specs.Prelude.{◌≡◌, ℕ, Bool, true, false, List, [], ◌∷◌, length, filter, IsPermutation, Option, Some, Contains, count_by, ◌==◌, ◌&&◌}
-use Rattle.std.specs.List.{IsDistinct, AllByRecursion}
+use Rattle.std.specs.List.{IsDistinct}
 use Rattle.std.specs.Option.{option_to_list, option_and_then, IfSome, IfNone}
 use Rattle.std.specs.Cmp.{IsEquivalence}
 use Rattle.std.proofs.Common.{refl, sym, ap, ◌∙◌, subst}
@@ -10,7 +10,7 @@ use Rattle.std.specs.List.{AllZip}
 use Rattle.iddqd_store.specs.Slots.{members, live_items, get, IsSlotClone}
 use Rattle.iddqd_store.specs.Indexed.{IsIndex, passes_at}
 use Rattle.iddqd_store.specs.Searched.{NamesOneOf}
-use Rattle.iddqd_store.specs.Bag.{Ranks, AreLawful, IsSound, conflicts, clash}
+use Rattle.iddqd_store.specs.Bag.{Ranks, AreLawful, conflicts, clash}
 use Rattle.iddqd_store.proofs.IndexLemmas.{IsIndex-insert, IsIndex-remove, length-index, length-live_items, pair_in}
 use Rattle.iddqd_store.proofs.BagLemmas.{IsSound-IsPermutation, IsSound-rank, IsDistinct-nil}
 use Rattle.iddqd_store.proofs.SearchLemmas.{search_among, crowd_among}

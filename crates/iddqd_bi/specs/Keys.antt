@@ -1,5 +1,5 @@
 -- The ranks of an item with two keys, and the hashes of its keys.
-use Rattle.std.specs.Prelude.{ℕ, Bool, List, [], ◌∷◌}
+use Rattle.std.specs.Prelude.{ℕ, Bool, [], ◌∷◌}
 use Rattle.std.specs.Hash.{HashWrites}
 use Rattle.std.specs.HashMap.Lent.{HashMembers}
 use Rattle.std.specs.declared.hash.Hasher as hasher

@@ -1,5 +1,5 @@
 -- One step of a map with two keys: each command with what it may answer.
-use Rattle.std.specs.Prelude.{Bool, List, [], ◌∷◌}
+use Rattle.std.specs.Prelude.{Bool, [], ◌∷◌}
 use Rattle.std.specs.HashMap.Lent.{HashMembers}
 use Rattle.iddqd_store.specs.Bag.{every_of}
 use Rattle.iddqd_store.specs.Reply.{Reply}

@@ -1,4 +1,4 @@
-use Rattle.std.proofs.Common.{◌≡◌, subst, refl, ◌∷◌, [], List, Bool, nat_eq}
+use Rattle.std.proofs.Common.{subst, refl, ◌∷◌, [], nat_eq}
 use Rattle.std.specs.List.{IsDistinct}
 use Rattle.iddqd_store.specs.Map.{Map, bag}
 use Rattle.iddqd_store.proofs.FoundLemmas.{listing_found}

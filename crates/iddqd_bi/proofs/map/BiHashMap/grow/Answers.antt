@@ -1,6 +1,5 @@
 use Rattle.std.proofs.Common.{arith, ap, refl, ◌≡◌, ℕ}
 use Rattle.std.specs.Prelude.{min}
-use Rattle.std.proofs.lemmas.List.Sorted.{IsPermutation-refl}
 use Rattle.iddqd_store.proofs.IndexLemmas.{length-live_items}
 use Rattle.iddqd_bi.proofs.MapLemmas.{length1, length2, two_lawful, IsIndexed-reorder}
 use Rattle.iddqd_bi.proofs.map.BiHashMap.grow.Goals as goal

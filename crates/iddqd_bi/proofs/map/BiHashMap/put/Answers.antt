@@ -1,4 +1,4 @@
-use Rattle.std.proofs.Common.{arith, subst, IsPermutation, ◌∷◌, ℕ, List}
+use Rattle.std.proofs.Common.{arith}
 use Rattle.std.proofs.lemmas.List.Sorted.{IsPermutation-map, IsPermutation-sym}
 use Rattle.iddqd_store.proofs.IndexLemmas.{length-live_items}
 use Rattle.iddqd_bi.proofs.MapLemmas.{length1, length2, two_lawful, IsIndexed-insert}

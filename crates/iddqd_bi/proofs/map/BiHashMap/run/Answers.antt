@@ -1,4 +1,4 @@
-use Rattle.std.proofs.Common.{rules, ◌≡◌, ◌∷◌, ◌∙◌, List, Result, Ok, Err}
+use Rattle.std.proofs.Common.{rules, ◌∙◌}
 use Rattle.std.specs.Vec.Iter.{into_iter_items}
 use Rattle.iddqd_store.specs.Step.{state_of}
 use Rattle.iddqd_store.proofs.RunLemmas.{run_on, run_ends}

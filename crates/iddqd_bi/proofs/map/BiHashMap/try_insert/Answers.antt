@@ -1,7 +1,6 @@
-use Rattle.std.proofs.Common.{◌≡◌, ◌≢◌, ℕ, Bool, true, false, arith, refl, length, sym, ◌∙◌, nat_eq, ap}
+use Rattle.std.proofs.Common.{◌≡◌, ◌≢◌, ℕ, Bool, true, false, arith, refl, nat_eq, ap}
 use Rattle.iddqd_store.specs.Slots.{live_items}
 use Rattle.std.proofs.lemmas.Bool.Decides.{nat_tests}
-use Rattle.iddqd_store.specs.Bag.{clash}
 use Rattle.iddqd_store.proofs.FoundLemmas.{clash_none, clash_some}
 use Rattle.iddqd_bi.specs.Keys.{keys, ranks}
 use Rattle.iddqd_bi.proofs.map.BiHashMap.try_insert.Goals as goal
