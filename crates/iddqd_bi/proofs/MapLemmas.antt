@@ -3,9 +3,9 @@ use Rattle.std.specs.Prelude.{◌≡◌, ℕ, Bool, true, false, List, [], ◌�
 use Rattle.std.specs.List.{IsDistinct}
 use Rattle.std.specs.Option.{option_to_list, option_and_then, IfSome, IfNone}
 use Rattle.std.specs.Cmp.{IsEquivalence}
-use Rattle.std.proofs.Common.{refl, sym, ap, ◌∙◌, subst}
-use Rattle.std.proofs.lemmas.Map.Keys.{IsDistinct-tail, IsDistinct-cons}
-use Rattle.std.proofs.lemmas.List.Sorted.{IsPermutation-sym, IsPermutation-trans, IsPermutation-map, IsPermutation-refl}
+use Rattle.std.proofs.Common.{refl, sym, ◌∙◌, subst}
+use Rattle.std.proofs.lemmas.Map.Keys.{IsDistinct-tail}
+use Rattle.std.proofs.lemmas.List.Sorted.{IsPermutation-sym, IsPermutation-trans, IsPermutation-refl}
 use Rattle.std.specs.List.{AllZip}
 use Rattle.iddqd_store.specs.Slots.{members, live_items, get, IsSlotClone}
 use Rattle.iddqd_store.specs.Indexed.{IsIndex, passes_at}

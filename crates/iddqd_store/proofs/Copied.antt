@@ -1,7 +1,7 @@
 -- A table indexes a copy of the slots as it does the slots.
 use Rattle.std.specs.Prelude.{◌≡◌, ℕ, ◌+◌, List, [], ◌∷◌, map, Option, Some, None, Contains, IsPermutation}
 use Rattle.std.specs.List.{AllZip}
-use Rattle.std.proofs.Common.{refl, sym, subst, ◌∙◌}
+use Rattle.std.proofs.Common.{refl, sym, subst}
 use Rattle.std.proofs.lemmas.List.Sorted.{IsPermutation-refl}
 use Rattle.iddqd_store.specs.Bag.{IsCopy}
 use Rattle.iddqd_store.specs.Indexed.{IsIndex, pair_of}

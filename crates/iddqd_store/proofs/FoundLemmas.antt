@@ -1,6 +1,6 @@
 -- The slots that searches find, rank by rank, are those of a listing.
-use Rattle.std.specs.Prelude.{◌≡◌, ℕ, zero, suc, Bool, true, false, cond, not, ◌||◌, ◌&&◌, List, [], ◌∷◌, ◌++◌, length, filter, filter_map, IsPermutation, Contains, Option, Some, None, nat_eq, if◌then◌else◌, ◌⊎◌, ◌≢◌, All}
-use Rattle.std.specs.List.{IsDistinct, AllByRecursion, list_any}
+use Rattle.std.specs.Prelude.{◌≡◌, ℕ, Bool, true, false, cond, not, ◌||◌, ◌&&◌, List, [], ◌∷◌, ◌++◌, length, filter, IsPermutation, Contains, Option, Some, None, nat_eq, ◌≢◌, All}
+use Rattle.std.specs.List.{IsDistinct}
 use Rattle.std.specs.Option.{option_to_list, option_and_then, IfSome}
 use Rattle.std.proofs.Common.{IsSome, inl, inr, refl, sym, ap, subst, ◌∙◌, arith, append-nil, append_assoc}
 use Rattle.std.proofs.lemmas.Bool.{false≢true}
@@ -13,7 +13,7 @@ use Rattle.iddqd_store.specs.Bag.{Ranks, order, clash}
 use Rattle.std.proofs.lemmas.List.Elements.{All-head}
 use Rattle.std.proofs.lemmas.List.Sorted.{length_permutation}
 use Rattle.iddqd_store.proofs.Shuffled.{split}
-use Rattle.iddqd_store.proofs.BagLemmas.{each_passes, each-filter, Contains-filter, filter_twice, filter_swap, IsPermutation-listing, IsPermutation-order, same_from_short}
+use Rattle.iddqd_store.proofs.BagLemmas.{each_passes, Contains-filter, filter_twice, filter_swap, IsPermutation-listing, IsPermutation-order, same_from_short}
 use Rattle.iddqd_store.proofs.IndexLemmas.{Contains-cons, Contains-cons_cases, Contains-here, item_at, same_slot}
 use Rattle.iddqd_store.proofs.SearchLemmas.{each_at}
 

@@ -1,14 +1,12 @@
 -- A walk over members that keeps some, one call of a test after another.
-use Rattle.std.specs.Prelude.{◌≡◌, ℕ, zero, suc, ◌+◌, ◌<◌, Bool, true, false, cond, List, [], ◌∷◌, ◌++◌, length, take, IsPermutation, Option, Some, None}
+use Rattle.std.specs.Prelude.{◌≡◌, ℕ, suc, ◌<◌, Bool, true, false, cond, List, [], ◌∷◌, ◌++◌, length, take, IsPermutation, Option, Some, None}
 use Rattle.std.specs.List.{items_where_true}
-use Rattle.std.specs.List.Retain.{ReturnsInTurn, IsFiltered}
+use Rattle.std.specs.List.Retain.{ReturnsInTurn}
 use Rattle.std.specs.Option.{option_to_list}
 use Rattle.std.proofs.Common.{refl, sym, ap, subst, ◌∙◌, arith}
 use Rattle.std.proofs.Math.Seq.{take-suc}
-use Rattle.std.proofs.lemmas.List.Sorted.{IsPermutation-refl}
 use Rattle.iddqd_store.specs.Bag.{Keeps}
-use Rattle.iddqd_store.specs.Slots.{get, live_items, items_in}
-use Rattle.iddqd_store.proofs.SlotLemmas.{live_items-items_in}
+use Rattle.iddqd_store.specs.Slots.{get, items_in}
 
 module _ {F T : Type 0} (step : F → T → Bool → F → Type 0) where
   -- the test went over these members, kept those, and is now g

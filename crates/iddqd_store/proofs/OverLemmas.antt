@@ -1,18 +1,16 @@
 -- How items leave their slots in turn, and what is left where those that conflict left.
-use Rattle.std.specs.Prelude.{◌≡◌, ◌≢◌, ℕ, ◌+◌, ◌<◌, slice_get, drop, Bool, true, false, not, List, [], ◌∷◌, ◌++◌, length, filter, IsPermutation, Option, Some, None, nat_eq, All, if◌then◌else◌}
-use Rattle.std.specs.List.{IsDistinct, AllByRecursion, list_any}
-use Rattle.std.specs.Option.{option_to_list, IfSome}
-use Rattle.std.proofs.Common.{IsSome, refl, sym, ap, subst, ◌∙◌, arith, add-one, append_assoc, length-append}
+use Rattle.std.specs.Prelude.{◌≡◌, ◌≢◌, ℕ, ◌+◌, slice_get, drop, Bool, false, not, List, [], ◌∷◌, ◌++◌, length, filter, IsPermutation, Option, Some, None, nat_eq, All, if◌then◌else◌}
+use Rattle.std.specs.List.{IsDistinct, AllByRecursion}
+use Rattle.std.proofs.Common.{refl, sym, ap, subst, ◌∙◌, arith, add-one, append_assoc, length-append}
 use Rattle.std.proofs.Math.Seq.{drop-cons}
 use Rattle.std.proofs.lemmas.Option.{slice_get_within, get_or_from_slice_get}
-use Rattle.std.proofs.lemmas.Bool.{false≢true}
 use Rattle.std.proofs.lemmas.Bool.Decides.{nat_tests}
 use Rattle.std.proofs.lemmas.List.Elements.{All-nil, All-cons, All-head, All-tail, filter-append}
 use Rattle.std.proofs.lemmas.List.Sorted.{IsPermutation-refl, IsPermutation-sym, IsPermutation-trans, IsPermutation-append, IsPermutation-cons, length_permutation}
 use Rattle.std.proofs.lemmas.Map.Keys.{IsDistinct-head, IsDistinct-tail, IsDistinct-cons}
-use Rattle.iddqd_store.specs.Slots.{get, IsLive, live_items, Updates}
+use Rattle.iddqd_store.specs.Slots.{get, IsLive, Updates}
 use Rattle.iddqd_store.specs.Searched.{items_at, lists, with_found}
-use Rattle.iddqd_store.specs.Bag.{Ranks, some_of, without, like, conflicts, clash, order, over}
+use Rattle.iddqd_store.specs.Bag.{Ranks, some_of, like, conflicts, clash, order, over}
 use Rattle.iddqd_store.proofs.Shuffled.{split, IsPermutation-filter}
 use Rattle.iddqd_store.proofs.BagSteps.{none_passes}
 use Rattle.iddqd_store.proofs.BagLemmas.{or-false, IsDistinct-nil, each_weaker, each_passes, none_pass, all_pass, IsPermutation-order}

@@ -1,20 +1,17 @@
 -- What searches find among the members of a sound bag.
-use Rattle.std.specs.Prelude.{◌≡◌, ℕ, zero, suc, ◌+◌, ◌≤◌, ◌<◌, Bool, true, false, cond, not, ◌||◌, List, [], ◌∷◌, ◌++◌, length, filter, map, filter_map, IsPermutation, Contains, Option, Some, None, nat_eq, if◌then◌else◌, ◌==◌, ◌&&◌}
-use Rattle.std.specs.List.{IsDistinct, AllByRecursion, list_any, sum_by, count_by}
+use Rattle.std.specs.Prelude.{◌≡◌, ℕ, zero, suc, Bool, true, false, cond, List, [], ◌∷◌, filter, Contains, Option, Some, None, ◌==◌, ◌&&◌}
+use Rattle.std.specs.List.{IsDistinct, AllByRecursion, sum_by, count_by}
 use Rattle.std.specs.Option.{option_map_or, option_to_list, option_and_then, IfSome, IfNone}
-use Rattle.std.specs.Cmp.{IsEquivalence}
-use Rattle.std.proofs.Common.{IsSome, inl, inr, refl, sym, ap, subst, ◌∙◌, arith, append-nil, append_assoc}
+use Rattle.std.proofs.Common.{IsSome, inl, inr, refl, sym, ap, subst, ◌∙◌, arith}
 use Rattle.std.proofs.lemmas.Bool.{false≢true}
-use Rattle.std.proofs.lemmas.Bool.Decides.{nat_tests}
 use Rattle.std.proofs.lemmas.List.Sums.{sum_by-cons}
 use Rattle.std.proofs.lemmas.Map.Keys.{IsDistinct-head, IsDistinct-tail}
-use Rattle.iddqd_store.specs.Bag.{some_of, listing, without}
-use Rattle.iddqd_store.specs.Slots.{get, IsLive, live_items, members}
+use Rattle.iddqd_store.specs.Slots.{get, IsLive, live_items}
 use Rattle.iddqd_store.specs.Indexed.{IsIndex, passes_at}
-use Rattle.iddqd_store.specs.Searched.{NamesOneOf, items_at, lists, with_found}
+use Rattle.iddqd_store.specs.Searched.{NamesOneOf}
 use Rattle.iddqd_store.proofs.Shuffled.{split}
-use Rattle.iddqd_store.proofs.BagLemmas.{none_pass, each_passes, Contains-filter, filter_twice, filter_swap, length-append}
-use Rattle.iddqd_store.proofs.IndexLemmas.{Contains-cons, Contains-cons_cases, Contains-here, each_from_Contains, item_at, none_is, same_slot, crowd_is}
+use Rattle.iddqd_store.proofs.BagLemmas.{none_pass}
+use Rattle.iddqd_store.proofs.IndexLemmas.{Contains-cons, Contains-cons_cases, Contains-here, each_from_Contains, item_at, none_is, crowd_is}
 
 module _ {T : Type 0} where
   pub each_at : (P : T → Type 0) (xs : List T) (y : T) → AllByRecursion P xs → Contains xs y → P y

@@ -1,6 +1,5 @@
 -- A walk over the slots, in which the items that a test turns down are taken out.
-use Rattle.std.specs.Prelude.{◌≡◌, ◌≢◌, ◌≤◌, ◌<◌, ℕ, zero, suc, ◌+◌, Bool, true, false, cond, List, [], ◌∷◌, ◌++◌, take, drop, length, Option, Some, None, IfNone, IsPermutation}
-use Rattle.std.specs.List.{items_where_true}
+use Rattle.std.specs.Prelude.{◌≡◌, ◌≤◌, ◌<◌, ℕ, zero, suc, ◌+◌, Bool, true, false, cond, List, [], ◌∷◌, ◌++◌, take, drop, Option, Some, None}
 use Rattle.std.specs.List.Retain.{IsFiltered}
 use Rattle.std.proofs.Common.{refl, sym, ap, subst, ◌∙◌, arith, set, append_assoc, add-one}
 use Rattle.std.proofs.lemmas.List.Sorted.{IsPermutation-refl}

@@ -1,5 +1,5 @@
 -- A walk over the slots by their numbers.
-use Rattle.std.specs.Prelude.{◌≡◌, ◌≤◌, ℕ, ◌+◌, List, [], ◌∷◌, ◌++◌, take, drop, Option, Some}
+use Rattle.std.specs.Prelude.{◌≡◌, ◌≤◌, ℕ, ◌+◌, List, ◌∷◌, take, drop, Option, Some}
 use Rattle.iddqd_store.specs.Slots.{get, items_in}
 
 -- of the slots from a number on, this is the first that is live, with its item

@@ -1,4 +1,4 @@
-use Rattle.std.proofs.Common.{◌≡◌, ◌∙◌, sym, ap, refl, rules, subst, List, [], ◌∷◌, ◌++◌, map, Global, arith, IsPermutation}
+use Rattle.std.proofs.Common.{◌≡◌, ◌∙◌, sym, rules, subst, List, [], ◌∷◌, ◌++◌, map, Global, arith, IsPermutation}
 use Rattle.std.specs.declared.vec.IntoIter.{IntoIter}
 use Rattle.std.specs.Vec.Iter.{into_iter_items, into_iter_steps}
 use Rattle.std.proofs.lemmas.Iterator.{items_from_drains}

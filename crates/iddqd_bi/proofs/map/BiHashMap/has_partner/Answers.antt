@@ -1,4 +1,4 @@
-use Rattle.std.proofs.Common.{◌≡◌, ◌∷◌, [], List, Bool, sym, ◌∙◌, ap, refl}
+use Rattle.std.proofs.Common.{◌≡◌, ◌∷◌, [], sym, ◌∙◌, ap, refl}
 use Rattle.std.specs.Option.{option_copied}
 use Rattle.iddqd_store.specs.Map.{bag}
 use Rattle.iddqd_store.proofs.Partners.{partner_none, partner_some}

@@ -1,4 +1,4 @@
-use Rattle.std.proofs.Common.{rules, of_calls, ◌∙◌}
+use Rattle.std.proofs.Common.{of_calls, ◌∙◌}
 use Rattle.std.proofs.lemmas.Fn.{called_at}
 use Rattle.std.specs.Fn.{CalledAt}
 use Rattle.iddqd_store.proofs.Walked.{past_kept, past_taken, none_behind}

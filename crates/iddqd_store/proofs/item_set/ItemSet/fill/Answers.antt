@@ -1,8 +1,7 @@
-use Rattle.std.proofs.Common.{arith, ◌≡◌, ◌<◌, ◌∙◌, length, sym, ap, subst, None, Some}
+use Rattle.std.proofs.Common.{arith, ◌<◌, ◌∙◌, length, sym, ap}
 use Rattle.std.specs.Option.{option_copied}
 use Rattle.std.proofs.lemmas.List.{length-map}
 use Rattle.iddqd_store.specs.SlotChain.{item_of}
-use Rattle.iddqd_store.specs.Slots.{get}
 use Rattle.iddqd_store.proofs.FillLemmas.{IsFilling-skip, IsFilling-enter, IsFilling-room}
 use Rattle.iddqd_store.proofs.item_set.ItemSet.fill.Goals as goal
 use Rattle.iddqd_store.proofs.item_set.ItemSet.fill.Goals.{in-Some, in_default}

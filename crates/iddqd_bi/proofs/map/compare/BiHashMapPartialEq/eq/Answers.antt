@@ -1,4 +1,4 @@
-use Rattle.std.proofs.Common.{arith, sym, ◌∙◌, rules, nat_eq}
+use Rattle.std.proofs.Common.{arith, sym, ◌∙◌, rules}
 use Rattle.iddqd_store.specs.Map.{bag}
 use Rattle.iddqd_store.proofs.Partners.{same_decides, told_same, told_longer, told_alone}
 use Rattle.iddqd_bi.specs.Keys.{keys, ranks}
