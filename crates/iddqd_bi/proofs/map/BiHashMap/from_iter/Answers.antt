@@ -1,6 +1,6 @@
 use Rattle.std.proofs.Common.{◌≡◌, List, [], Result, Err, subst, sym, rules}
 use Rattle.std.specs.Prelude.{IsPermutation, IfErr}
-use Rattle.iddqd_store.specs.Bag.{clash, overs}
+use Rattle.iddqd_store.specs.Bag.{overs}
 use Rattle.iddqd_store.specs.Map.{bag}
 use Rattle.iddqd_store.proofs.BuildLemmas.{GivesThen-weaker, clash-none}
 use Rattle.iddqd_bi.specs.Keys.{keys, ranks}

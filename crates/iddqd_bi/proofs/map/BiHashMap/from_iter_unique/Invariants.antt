@@ -1,5 +1,3 @@
-use Rattle.std.proofs.Common.{◌≡◌, List, []}
-use Rattle.std.specs.Prelude.{IsPermutation}
 use Rattle.iddqd_store.specs.Map.{bag}
 use Rattle.iddqd_store.specs.Building.{AddsTo}
 use Rattle.iddqd_bi.specs.Keys.{keys, ranks}
