@@ -99,5 +99,5 @@ module _ {T D : Type 0} where
   Extends ranks old xs (memory y) new =
       (front : List T) × (rest : List T) × (xs ≡ front ++ y ∷ rest)
       × IsPermutation new.items (overs ranks old.items front) × (clash ranks new.items y ≡ [])
-      × (old.capacity ≤ length new.items) × (old.capacity ≤ new.capacity)
+      × (length new.items ≡ new.capacity) × (old.capacity ≤ new.capacity)
   Extends ranks old xs reply new = ⊥

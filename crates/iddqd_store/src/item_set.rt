@@ -170,6 +170,7 @@ impl<T> ItemSet<T> {
         ensures ok { OnOk result (live_count self.old.slots + more ≤ self.new.capacity) }
         ensures had_room { live_count self.old.slots + more ≤ self.old.capacity → self.new.capacity ≡ self.old.capacity }
         ensures err { OnErr result (self.old.capacity < live_count self.old.slots + more) }
+        ensures unchanged { OnErr result (self.new ≡ self.old) }
     {
         if self.slots.capacity() - self.live >= more {
             return Ok(());

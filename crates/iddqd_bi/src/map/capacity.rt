@@ -85,6 +85,7 @@ impl<T: BiHashItem, S: BuildHasher> BiHashMap<T, S> {
         ensures same_room { length (bag self.old) + more ≤ self.old.capacity → self.new.capacity ≡ self.old.capacity }
         ensures granted { OnOk result (length (bag self.old) + more ≤ self.new.capacity) }
         ensures refused { OnErr result (self.old.capacity < length (bag self.old) + more) }
+        ensures still_short { OnErr result (self.new.capacity < length (bag self.old) + more) }
         ensures past { 7 * 2 ^ 60 < length (bag self.old) + more → IsErr result }
     {
         if let Err(refusal) = self.items.try_reserve(more) {
@@ -107,6 +108,7 @@ impl<T: BiHashItem, S: BuildHasher> BiHashMap<T, S> {
         ensures had_room { length (bag self.old) < self.old.capacity → self.new ≡ self.old }
         ensures granted { OnOk result (length (bag self.old) < self.new.capacity) }
         ensures refused { OnErr result (length (bag self.old) ≡ self.old.capacity) }
+        ensures still_full { OnErr result (length (bag self.old) ≡ self.new.capacity) }
     {
         if self.len() == self.capacity() {
             return self.grow(1);

@@ -25,7 +25,7 @@ impl<T: BiHashItem + Drop, S: BuildHasher> BiHashMap<T, S> {
         ensures all { OnOk result (GivesAll I.into_iter_gives I.IntoIter.next_gives iter (λ xs. IsPermutation (bag self.new) (overs (ranks T.BiHashItem T.K1.Hash T.K2.Hash) (bag self.old) xs))) }
         ensures refused { IfErr result (λ e. GivesThen I.into_iter_gives I.IntoIter.next_gives iter e.value (λ xs. IsPermutation (bag self.new) (overs (ranks T.BiHashItem T.K1.Hash T.K2.Hash) (bag self.old) xs))) }
         ensures free { IfErr result (λ e. clash (ranks T.BiHashItem T.K1.Hash T.K2.Hash) (bag self.new) e.value ≡ []) }
-        ensures full { OnErr result (self.old.capacity ≤ length (bag self.new)) }
+        ensures full { OnErr result (length (bag self.new) ≡ self.new.capacity) }
         ensures had_room { ((it : I.IntoIter) → I.into_iter_gives iter it → length (bag self.old) + size (I.IntoIter.remaining it) ≤ self.old.capacity) → IsOk result × (self.new.capacity ≡ self.old.capacity) }
         ensures no_less_room { self.old.capacity ≤ self.new.capacity }
         ensures builder { self.new.builder ≡ self.old.builder }

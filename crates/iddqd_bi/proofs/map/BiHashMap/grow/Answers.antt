@@ -46,3 +46,18 @@ returns-clause-granted g c =
 
 pub returns-clause-past : goal.returns-clause-past
 returns-clause-past g c = rw (← c.self.view_is) (λ past. c.in_default-try_reserve.ensures.past (omega (arith, length1 c.self.invariant)))
+
+pub returns-in-Err-clause-still_short : goal.returns-in-Err-clause-still_short
+returns-in-Err-clause-still_short g c =
+    let same = ap (λ s. s.capacity) c.in-Err.ensures.unchanged in
+    rw (← c.self.view_is) (omega (arith, same, c.in-Err.ensures.err, length-live_items c.self.inside.items.slots))
+
+pub returns-in-Err-try_reserve-clause-still_short : goal.returns-in-Err-try_reserve-clause-still_short
+returns-in-Err-try_reserve-clause-still_short g c =
+    let same = ap (λ t. t.limit) c.in-Err-try_reserve.ensures.unchanged in
+    rw (← c.self.view_is) (omega (arith, same, c.in-Err-try_reserve.ensures.refused, length1 c.self.invariant))
+
+pub returns-in-Err-try_reserve-2-clause-still_short : goal.returns-in-Err-try_reserve-2-clause-still_short
+returns-in-Err-try_reserve-2-clause-still_short g c =
+    let same = ap (λ t. t.limit) c.in-Err-try_reserve-2.ensures.unchanged in
+    rw (← c.self.view_is) (omega (arith, same, c.in-Err-try_reserve-2.ensures.refused, length2 c.self.invariant))
