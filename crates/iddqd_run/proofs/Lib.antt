@@ -6,3 +6,4 @@ pub mod Numbering
 pub mod Parsing
 pub mod Printing
 pub mod Replying
+pub mod Sorting

@@ -1,10 +1,12 @@
 -- Worked rows on the text rules, by computation.
-use Rattle.std.proofs.Common.{◌≡◌, refl, [], ◌∷◌, Some, None}
+use Rattle.std.proofs.Common.{◌≡◌, refl, ℕ, [], ◌∷◌, Some, None}
 use Rattle.std.specs.Prelude.{codes}
 use Rattle.iddqd_run.specs.Commands.{command_of_line, first_bad_line}
 use Rattle.iddqd_run.specs.Lines.{lines_of}
 use Rattle.iddqd_run.specs.Numbers.{number_of}
-use Rattle.iddqd_bi.specs.declared.command.BiCommand.TheVariants.{InsertUnique, Remove1}
+use Rattle.iddqd_run.specs.Sorted.{by_first_key}
+use Rattle.iddqd_run.specs.declared.item.BiItem.{BiItem}
+use Rattle.iddqd_bi.specs.declared.command.BiCommand.TheVariants.{InsertUnique, Remove1, Items}
 
 -- lines: what follows the last line end is a line if it isn't empty
 no_line : lines_of [] ≡ []
@@ -39,6 +41,9 @@ insertion = refl
 removal : command_of_line (codes "del1 7") ≡ Some (Remove1 7)
 removal = refl
 
+listing : command_of_line (codes "list") ≡ Some Items
+listing = refl
+
 too_few : command_of_line (codes "new 1 10") ≡ None
 too_few = refl
 
@@ -59,3 +64,13 @@ carriage_return = refl
 
 unknown_word : first_bad_line (codes "new 1 10 100\nget3 1\n") ≡ Some 2
 unknown_word = refl
+
+number_behind_list : command_of_line (codes "list 1") ≡ None
+number_behind_list = refl
+
+-- items by their first keys
+abbrev item : ℕ → ℕ → BiItem
+item key value = record { key1 = key; key2 = value; value = value }
+
+sorted_items : by_first_key (item 3 0 ∷ item 2 1 ∷ item 3 2 ∷ item 2 3 ∷ []) ≡ item 2 1 ∷ item 2 3 ∷ item 3 0 ∷ item 3 2 ∷ []
+sorted_items = refl

@@ -8,5 +8,6 @@ pub mod Outputs
 pub mod Parsed
 pub mod Printed
 pub mod RunText
+pub mod Sorted
 pub mod Texts
 pub mod Words

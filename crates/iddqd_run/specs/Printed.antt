@@ -2,7 +2,8 @@
 use Rattle.std.specs.Prelude.{ℕ, List, ◌++◌, codes, Option, Some, None, true, false}
 use Rattle.std.specs.Fmt.{decimal}
 use Rattle.std.specs.List.{flat_map}
-use Rattle.iddqd_store.specs.Reply.{Reply, done, duplicate, found, taken, memory, displaced, present, refused, size}
+use Rattle.iddqd_store.specs.Reply.{Reply, done, duplicate, found, taken, memory, displaced, present, refused, size, items}
+use Rattle.iddqd_run.specs.Sorted.{by_first_key}
 use Rattle.iddqd_run.specs.declared.item.BiItem.{BiItem}
 
 -- the numbers in brackets, with a space between each two
@@ -11,7 +12,7 @@ printed item = codes "(" ++ decimal item.key1 ++ codes " " ++ decimal item.key2 
 
 -- a space and the item, for each
 abbrev pub items_text : List BiItem → List ℕ
-items_text items = flat_map (λ item. codes " " ++ printed item) items
+items_text xs = flat_map (λ item. codes " " ++ printed item) xs
 
 abbrev pub found_line : Option BiItem → List ℕ
 found_line None = codes "none\n"
@@ -23,10 +24,11 @@ line_of done = codes "ok\n"
 line_of (duplicate item duplicates) = codes "dup" ++ items_text duplicates ++ codes "\n"
 line_of (found item) = found_line item
 line_of (taken item) = found_line item
-line_of (displaced items) = codes "out" ++ items_text items ++ codes "\n"
+line_of (displaced out) = codes "out" ++ items_text out ++ codes "\n"
 line_of (memory item) = codes "memory " ++ printed item ++ codes "\n"
 line_of refused = codes "memory\n"
 line_of (size count) = codes "len " ++ decimal count ++ codes "\n"
+line_of (items xs) = codes "list" ++ items_text (by_first_key xs) ++ codes "\n"
 -- no word of the program asks for these
 line_of (present true) = codes "yes\n"
 line_of (present false) = codes "no\n"

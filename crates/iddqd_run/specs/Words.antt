@@ -3,7 +3,7 @@ use Rattle.std.specs.Prelude.{ℕ, List, [], ◌∷◌, codes, Option, Some, Non
 use Rattle.iddqd_run.specs.Texts.{is_text}
 use Rattle.iddqd_run.specs.declared.item.BiItem.{BiItem}
 use Rattle.iddqd_run.specs.declared.words.Word.{Word}
-use Rattle.iddqd_run.specs.declared.words.Word.TheVariants.{New, Get1, Get2, Del1, Both, Del2, DelBoth, Len, Put, Reserve, Fit, Clear}
+use Rattle.iddqd_run.specs.declared.words.Word.TheVariants.{New, Get1, Get2, Del1, Both, Del2, DelBoth, Len, Put, Reserve, Fit, Clear, List as ListAll}
 use Rattle.iddqd_bi.specs.declared.command.BiCommand.{BiCommand}
 use Rattle.iddqd_bi.specs.declared.command.BiCommand.TheVariants as command
 
@@ -26,6 +26,7 @@ word_of bytes =
     if is_text bytes (codes "reserve") then Some Reserve else
     if is_text bytes (codes "fit") then Some Fit else
     if is_text bytes (codes "clear") then Some Clear else
+    if is_text bytes (codes "list") then Some ListAll else
     None
 
 -- the command of a word with its numbers
@@ -42,4 +43,5 @@ command_of Put (k1 ∷ k2 ∷ v ∷ []) = Some (command.InsertOverwrite (record 
 command_of Reserve (n ∷ []) = Some (command.Reserve n)
 command_of Fit [] = Some command.ShrinkToFit
 command_of Clear [] = Some command.Clear
+command_of ListAll [] = Some command.Items
 command_of word numbers = None

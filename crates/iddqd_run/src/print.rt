@@ -2,9 +2,10 @@
 ghost use Rattle.std.specs.Prelude.{◌≡◌, ◌++◌, IfOk, OnOk, codes, map, string_bytes};
 ghost use Rattle.iddqd_bi.specs.Values.{value_of};
 ghost use Rattle.iddqd_run.specs.Printed.{printed, items_text, found_line, line_of, bad_line_message};
+ghost use Rattle.iddqd_run.specs.Sorted.{by_first_key};
 
 use crate::item::BiItem;
-use iddqd_bi::BiReply;
+use iddqd_bi::{BiReply, Iter};
 use iddqd_store::UpToTwo;
 use std::alloc::{AllocError, Global};
 
@@ -28,6 +29,7 @@ pub fn line_of(alloc: Global, reply: BiReply<'_, BiItem>) -> Result<String, Allo
         BiReply::Memory(item) => format!(in alloc; "memory {item}\n"),
         BiReply::Refused => String::from_str(alloc, "memory\n"),
         BiReply::Length(count) => format!(in alloc; "len {count}\n"),
+        BiReply::Items(items) => list_line(alloc, items),
     }
 }
 
@@ -64,6 +66,29 @@ fn displaced_line(alloc: Global, displaced: UpToTwo<BiItem>) -> Result<String, A
             }
         }
     }
+}
+
+/// The line of all items, the smallest first key first. It takes memory for the items too.
+fn list_line(alloc: Global, items: Iter<'_, BiItem>) -> Result<String, AllocError>
+    ensures { IfOk result (λ line.
+        string_bytes line ≡ codes "list" ++ items_text (by_first_key items.entry) ++ codes "\n") }
+{
+    let sorted = by_first_key(alloc, items)?;
+    let mut line = String::from_str(alloc, "list")?;
+    for item in &sorted {
+        push_item(alloc, &mut line, item)?;
+    }
+    line.push_str("\n")?;
+    Ok(line)
+}
+
+/// The items, the smallest first key first.
+fn by_first_key(alloc: Global, items: Iter<'_, BiItem>) -> Result<Vec<BiItem>, AllocError>
+    ensures { IfOk result (λ sorted. sorted.items ≡ by_first_key items.entry) }
+{
+    let mut sorted: Vec<BiItem> = items.copied().collect(alloc)?;
+    sorted.sort_by_key(|item| item.key1)?;
+    Ok(sorted)
 }
 
 /// Puts a space and the item behind a text.

@@ -98,6 +98,17 @@ fn texts(rt: HostRuntime) {
             Ok(RunEnd::Done),
             "ok\nok\nnone\nout (1 10 100) (2 20 200)\nnone\nlen 1\n",
         ),
+        ("list", Ok(RunEnd::Done), "list\n"),
+        (
+            "new 1 10 100\nnew 2 20 200\nboth 1 20\nput 1 20 300\nget2 10\nlist\n",
+            Ok(RunEnd::Done),
+            "ok\nok\nnone\nout (1 10 100) (2 20 200)\nnone\nlist (1 20 300)\n",
+        ),
+        (
+            "new 3 1 0\nnew 2 2 0\nlist\n",
+            Ok(RunEnd::Done),
+            "ok\nok\nlist (2 2 0) (3 1 0)\n",
+        ),
         (
             "new 1 10 100\nreserve 18446744073709551615\nlen\n",
             Ok(RunEnd::Done),

@@ -20,6 +20,7 @@ pub enum Word {
     Reserve,
     Fit,
     Clear,
+    List,
 }
 
 /// The word that the bytes spell, if they spell one.
@@ -51,6 +52,8 @@ pub fn word_of(bytes: &[u8]) -> Option<Word>
         Some(Word::Fit)
     } else if bytes == b"clear".as_slice() {
         Some(Word::Clear)
+    } else if bytes == b"list".as_slice() {
+        Some(Word::List)
     } else {
         None
     }
@@ -81,6 +84,7 @@ pub fn command_of(word: Word, numbers: &[u64]) -> Option<BiCommand<BiItem>>
         (Word::Reserve, [more]) => Some(BiCommand::Reserve(*more as usize)),
         (Word::Fit, []) => Some(BiCommand::ShrinkToFit),
         (Word::Clear, []) => Some(BiCommand::Clear),
+        (Word::List, []) => Some(BiCommand::Items),
         _ => None,
     }
 }

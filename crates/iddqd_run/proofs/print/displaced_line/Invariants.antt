@@ -1,5 +1,5 @@
 use Rattle.std.proofs.Common.{◌≡◌, ◌++◌, length}
-use Rattle.std.specs.Prelude.{codes, map, string_bytes}
+use Rattle.std.specs.Prelude.{codes, string_bytes}
 use Rattle.iddqd_run.specs.Printed.{items_text}
 use Rattle.iddqd_run.proofs.print.displaced_line.Given as goal
 
