@@ -9,11 +9,11 @@ pub use alike::{Alike, AlikeHasher};
 pub use own_hash::{OwnHash, OwnHasher};
 pub use row::{Row, row_of};
 
+mod bi_building;
 #[cfg(test)]
 mod bi_overwrites;
 #[cfg(test)]
 mod bi_queries;
-mod bi_building;
 #[cfg(test)]
 mod bi_rows;
 #[cfg(test)]

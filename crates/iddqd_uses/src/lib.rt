@@ -1,6 +1,8 @@
 //! Callers of the maps, proved from the maps' public contracts alone.
 #![tactic(auto)]
 
+mod building;
 mod inserting;
 
+pub use building::extend_by_vec;
 pub use inserting::{count_conflicts, insert_both, insert_or_back, insert_or_drop};

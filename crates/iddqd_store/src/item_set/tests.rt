@@ -17,7 +17,9 @@ fn tens(
         assert_eq!(rt; set.insert_reserved(k.wrapping_mul(10)).number(), k);
     }
     for at in removed {
-        assert!(rt; set.remove(ItemIndex::new(*at)).is_some());
+        let at = *at;
+        assert!(rt; at < n);
+        assert!(rt; set.remove(ItemIndex::new(at)).is_some());
     }
     Ok(set)
 }

@@ -1,0 +1,20 @@
+//! What a caller knows of a map that is built of many items.
+ghost use Rattle.std.specs.Prelude.{◌≡◌, ◌+◌, ◌≤◌, length, IsPermutation, OnOk, IsOk};
+ghost use Rattle.iddqd_store.specs.Bag.{overs};
+ghost use Rattle.iddqd_store.specs.Map.{bag};
+ghost use Rattle.iddqd_bi.specs.Keys.{ranks};
+
+use iddqd_bi::{BiHashItem, BiHashMap};
+use iddqd_store::MemoryRefused;
+use std::hash::{BuildHasher, Hash};
+
+/// Puts the items of a vector in one after another. It is not refused where there is room for all.
+pub fn extend_by_vec<T: BiHashItem + Drop, S: BuildHasher>(
+    map: &mut BiHashMap<T, S>,
+    items: Vec<T>,
+) -> Result<(), MemoryRefused<T>>
+    ensures all { OnOk result (IsPermutation (bag map.new) (overs (ranks T.BiHashItem T.K1.Hash T.K2.Hash) (bag map.old) items.items)) }
+    ensures had_room { length (bag map.old) + length items.items ≤ map.old.capacity → IsOk result }
+{
+    map.extend(items)
+}
