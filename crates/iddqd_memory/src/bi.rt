@@ -21,7 +21,7 @@ pub(crate) fn put(map: &mut BiHashMap<Row>, item: Row) -> bool {
 }
 
 /// The map of (1, 10, 100) and (2, 20, 200), if there is memory.
-fn two_rows(alloc: Global) -> Option<BiHashMap<Row>> {
+pub(crate) fn two_rows(alloc: Global) -> Option<BiHashMap<Row>> {
     let mut map = BiHashMap::new(alloc);
     if put(&mut map, row_of(1, 10, 100)) && put(&mut map, row_of(2, 20, 200)) {
         return Some(map);

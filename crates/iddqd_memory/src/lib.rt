@@ -8,3 +8,5 @@
 mod bi;
 #[cfg(test)]
 mod bi_building;
+#[cfg(test)]
+mod bi_copies;

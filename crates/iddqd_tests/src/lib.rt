@@ -9,7 +9,12 @@ pub use alike::{Alike, AlikeHasher};
 pub use own_hash::{OwnHash, OwnHasher};
 pub use row::{Row, row_of};
 
+#[cfg(test)]
 mod bi_building;
+#[cfg(test)]
+mod bi_copies;
+#[cfg(test)]
+mod bi_drops;
 #[cfg(test)]
 mod bi_overwrites;
 #[cfg(test)]
