@@ -11,8 +11,6 @@ pub mod FillLemmas
 pub mod FoundLemmas
 pub mod Hole
 pub mod IndexLemmas
-pub mod IndexSteps
-pub mod KeepLemmas
 pub mod Line
 pub mod Looks
 pub mod MapLemmas

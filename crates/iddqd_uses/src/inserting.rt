@@ -4,7 +4,7 @@ ghost use Rattle.std.specs.Bool.{OnTrue, OnFalse};
 ghost use Rattle.iddqd_store.specs.Bag.{clash, order};
 ghost use Rattle.iddqd_store.specs.Map.{bag};
 ghost use Rattle.iddqd_bi.specs.Keys.{ranks};
-ghost use Rattle.iddqd_uses.specs.Inserting.{GainsBoth};
+ghost use Rattle.iddqd_uses.specs.Inserting.{GainsBoth, MayRefuse};
 
 use iddqd_bi::{BiHashItem, BiHashMap, InsertError};
 use std::hash::{BuildHasher, Hash};
@@ -16,6 +16,7 @@ pub fn insert_or_drop<T: BiHashItem + Drop, S: BuildHasher>(
 ) -> bool
     ensures went_in { OnTrue result (IsPermutation (bag map.new) (item ∷ bag map.old)) }
     ensures refused { OnFalse result (bag map.new ≡ bag map.old) }
+    ensures reason { OnFalse result (MayRefuse (ranks T.BiHashItem T.K1.Hash T.K2.Hash) map.old item) }
 {
     match map.insert_unique(item) {
         Ok(()) => true,
@@ -38,6 +39,7 @@ pub fn insert_or_back<T: BiHashItem, S: BuildHasher>(
     ensures went_in { OnOk result (IsPermutation (bag map.new) (item ∷ bag map.old)) }
     ensures back { IfErr result (λ x. x ≡ item) }
     ensures refused { OnErr result (bag map.new ≡ bag map.old) }
+    ensures reason { OnErr result (MayRefuse (ranks T.BiHashItem T.K1.Hash T.K2.Hash) map.old item) }
 {
     match map.insert_unique(item) {
         Ok(()) => Ok(()),
