@@ -3,6 +3,8 @@
 
 mod building;
 mod inserting;
+mod users;
 
 pub use building::extend_by_vec;
 pub use inserting::{count_conflicts, insert_both, insert_or_back, insert_or_drop};
+pub use users::{User, by_login, register};
