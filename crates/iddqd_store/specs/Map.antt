@@ -31,9 +31,3 @@ pub record Gains {T S : Type 0} (old : Map T S) (item : T) (new : Map T S) : Typ
   pub no_less_room : old.capacity ≤ new.capacity
   pub same_room : length (bag old) < old.capacity → new.capacity ≡ old.capacity
   pub same_builder : new.builder ≡ old.builder
-
--- the map with the same items, and perhaps more room
-pub record Keeps {T S : Type 0} (old new : Map T S) : Type 0 where
-  pub items : bag new ≡ bag old
-  pub no_less_room : old.capacity ≤ new.capacity
-  pub same_builder : new.builder ≡ old.builder

@@ -23,8 +23,7 @@ module _ {T : Type 0} where
   -- x is refused for want of memory, which happens only in a full map where nothing conflicts
   abbrev pub Starves : Ranks T → State T → T → T → State T → Type 0
   Starves ranks old x y new =
-      (y ≡ x) × (clash ranks old.items x ≡ []) × (length old.items ≡ old.capacity)
-      × (new.items ≡ old.items) × (old.capacity ≤ new.capacity)
+      (y ≡ x) × (clash ranks old.items x ≡ []) × (length old.items ≡ old.capacity) × (new ≡ old)
 
 module _ {T D : Type 0} where
   -- x goes in where nothing conflicts, and the map grows only where it is full; else it is refused with what conflicts, or for want of memory in a full map

@@ -15,7 +15,7 @@ pub fn insert_or_drop<T: BiHashItem + Drop, S: BuildHasher>(
     item: T,
 ) -> bool
     ensures went_in { OnTrue result (IsPermutation (bag map.new) (item ∷ bag map.old)) }
-    ensures refused { OnFalse result (bag map.new ≡ bag map.old) }
+    ensures refused { OnFalse result (map.new ≡ map.old) }
     ensures reason { OnFalse result (MayRefuse (ranks T.BiHashItem T.K1.Hash T.K2.Hash) map.old item) }
 {
     match map.insert_unique(item) {
@@ -38,7 +38,7 @@ pub fn insert_or_back<T: BiHashItem, S: BuildHasher>(
 ) -> Result<(), T>
     ensures went_in { OnOk result (IsPermutation (bag map.new) (item ∷ bag map.old)) }
     ensures back { IfErr result (λ x. x ≡ item) }
-    ensures refused { OnErr result (bag map.new ≡ bag map.old) }
+    ensures refused { OnErr result (map.new ≡ map.old) }
     ensures reason { OnErr result (MayRefuse (ranks T.BiHashItem T.K1.Hash T.K2.Hash) map.old item) }
 {
     match map.insert_unique(item) {

@@ -34,7 +34,7 @@ impl BiHashItem for User {
 pub fn register(users: &mut BiHashMap<User>, user: User) -> Result<(), User>
     ensures registered { OnOk result (IsPermutation (bag users.new) (user ∷ bag users.old)) }
     ensures back { IfErr result (λ u. u ≡ user) }
-    ensures unchanged { OnErr result (bag users.new ≡ bag users.old) }
+    ensures unchanged { OnErr result (users.new ≡ users.old) }
 {
     match users.insert_unique(user) {
         Ok(()) => Ok(()),

@@ -1,6 +1,6 @@
 //! Room for items.
 ghost use Rattle.std.specs.Prelude.{◌≡◌, ◌+◌, ◌*◌, ◌^◌, ◌<◌, ◌≤◌, [], length, ◌==◌, OnOk, OnErr, IsErr};
-ghost use Rattle.iddqd_store.specs.Map.{bag, Keeps};
+ghost use Rattle.iddqd_store.specs.Map.{bag};
 ghost use Rattle.iddqd_store.specs.Bag.{IsSound};
 ghost use Rattle.iddqd_bi.specs.Keys.{ranks};
 
@@ -108,10 +108,12 @@ impl<T: BiHashItem, S: BuildHasher> BiHashMap<T, S> {
         ensures had_room { length (bag self.old) < self.old.capacity → self.new ≡ self.old }
         ensures granted { OnOk result (length (bag self.old) < self.new.capacity) }
         ensures refused { OnErr result (length (bag self.old) ≡ self.old.capacity) }
-        ensures still_full { OnErr result (length (bag self.old) ≡ self.new.capacity) }
+        ensures unchanged { OnErr result (self.new ≡ self.old) }
     {
         if self.len() == self.capacity() {
-            return self.grow(1);
+            if let Err(refusal) = self.grow(1) {
+                return Err(refusal);
+            }
         }
         Ok(())
     }

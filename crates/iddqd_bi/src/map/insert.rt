@@ -2,7 +2,7 @@
 ghost use Rattle.std.specs.Prelude.{◌≡◌, ◌≢◌, ◌<◌, ◌∷◌, [], length, IsPermutation, All, OnOk, IfOk, IfErr, Some, nat_eq, ⊤};
 ghost use Rattle.std.specs.List.{IsDistinct};
 ghost use Rattle.iddqd_store.specs.Bag.{clash, order};
-ghost use Rattle.iddqd_store.specs.Map.{bag, Gains, Keeps};
+ghost use Rattle.iddqd_store.specs.Map.{bag, Gains};
 ghost use Rattle.iddqd_store.specs.Slots.{get, IsLive};
 ghost use Rattle.iddqd_store.specs.Searched.{items_at};
 ghost use Rattle.iddqd_bi.specs.Keys.{ranks, key1_hash, key2_hash};
@@ -23,7 +23,7 @@ impl<T: BiHashItem, S: BuildHasher> BiHashMap<T, S> {
         ensures same_map { IfErr result (λ e. (refusing_map e).ghost_name ≡ self.entry.ghost_name) }
         ensures free { OnOk result (clash (ranks T.BiHashItem T.K1.Hash T.K2.Hash) (bag self.old) item ≡ []) }
         ensures handed_back { IfErr result (λ e. refused_item e ≡ item) }
-        ensures unchanged { IfErr result (λ e. MatchInsertError e ((refusing_map e).now ≡ self.old) (Keeps self.old (refusing_map e).now)) }
+        ensures unchanged { IfErr result (λ e. (refusing_map e).now ≡ self.old) }
         ensures reason { IfErr result (λ e. MatchInsertError e (clash (ranks T.BiHashItem T.K1.Hash T.K2.Hash) (bag self.old) item ≢ []) ((clash (ranks T.BiHashItem T.K1.Hash T.K2.Hash) (bag self.old) item ≡ []) × (length (bag self.old) ≡ self.old.capacity))) }
     {
         match self.try_insert(item) {
@@ -49,7 +49,7 @@ impl<T: BiHashItem, S: BuildHasher> BiHashMap<T, S> {
         ensures free { OnOk result (clash (ranks T.BiHashItem T.K1.Hash T.K2.Hash) (bag self.old) item ≡ []) }
         ensures refused { IfErr result (λ e. MatchRefusal e
             (λ x found. (x ≡ item) × (self.new ≡ self.old) × (clash (ranks T.BiHashItem T.K1.Hash T.K2.Hash) (bag self.old) item ≢ []) × (items_at self.old.slots found ≡ order (ranks T.BiHashItem T.K1.Hash T.K2.Hash) (bag self.old) item))
-            (λ x. (x ≡ item) × Keeps self.old self.new × (clash (ranks T.BiHashItem T.K1.Hash T.K2.Hash) (bag self.old) item ≡ []) × (length (bag self.old) ≡ self.old.capacity))) }
+            (λ x. (x ≡ item) × (self.new ≡ self.old) × (clash (ranks T.BiHashItem T.K1.Hash T.K2.Hash) (bag self.old) item ≡ []) × (length (bag self.old) ≡ self.old.capacity))) }
         ensures found { IfErr result (λ e. MatchRefusal e (λ x found. All (IsLive self.old.slots) found × IsDistinct nat_eq found) (λ x. ⊤)) }
     {
         let hash1 = self.hash_builder.hash_one(item.key1());

@@ -26,9 +26,8 @@ impl<T: BiHashItem, S: BuildHasher> BiHashMap<T, S> {
         ensures no_growth { clash (ranks T.BiHashItem T.K1.Hash T.K2.Hash) (bag self.old) item ≢ [] → self.new.capacity ≡ self.old.capacity }
         ensures builder { self.new.builder ≡ self.old.builder }
         ensures handed_back { IfErr result (λ e. e.value ≡ item) }
-        ensures unchanged { OnErr result (bag self.new ≡ bag self.old) }
+        ensures unchanged { OnErr result (self.new ≡ self.old) }
         ensures reason { OnErr result ((clash (ranks T.BiHashItem T.K1.Hash T.K2.Hash) (bag self.old) item ≡ []) × (length (bag self.old) ≡ self.old.capacity)) }
-        ensures still_full { OnErr result (length (bag self.new) ≡ self.new.capacity) }
     {
         let hash1 = self.hash_builder.hash_one(item.key1());
         let hash2 = self.hash_builder.hash_one(item.key2());

@@ -2,7 +2,7 @@ use Rattle.std.proofs.Common.{◌≡◌, ◌≢◌, ◌∙◌, [], refl, length,
 use Rattle.std.proofs.lemmas.List.Sorted.{IsPermutation-refl}
 use Rattle.std.specs.Iterator.{Yields}
 use Rattle.iddqd_store.specs.Bag.{clash, order}
-use Rattle.iddqd_store.specs.Map.{bag, Keeps}
+use Rattle.iddqd_store.specs.Map.{bag}
 use Rattle.iddqd_store.specs.Searched.{items_at}
 use Rattle.iddqd_store.proofs.BuildLemmas.{AddsTo-push, HasPlaceFor-free, RefusesFor-found}
 use Rattle.iddqd_bi.specs.Keys.{keys, ranks}
@@ -32,7 +32,7 @@ loop-item-preserved g c =
 pub returns-in-Err-Memory-clause-refused : goal.returns-in-Err-Memory-clause-refused
 returns-in-Err-Memory-clause-refused g c =
     let by = ranks g.T.BiHashItem (keys g.T.K1.PartialEq.eq g.T.K1.Hash.hash_input) (keys g.T.K2.PartialEq.eq g.T.K2.Hash.hash_input) in
-    let refused : (c.in-Err-Memory.item ≡ c.in-Some.item) × Keeps c.loop-item.map c.try_insert.new.self × (clash by (bag c.loop-item.map) c.in-Some.item ≡ []) × (length (bag c.loop-item.map) ≡ c.loop-item.map.capacity) = rw c.in-Err-Memory.field-0-is at c.in-Err-Memory.ensures.refused in
+    let refused : (c.in-Err-Memory.item ≡ c.in-Some.item) × (c.try_insert.new.self ≡ c.loop-item.map) × (clash by (bag c.loop-item.map) c.in-Some.item ≡ []) × (length (bag c.loop-item.map) ≡ c.loop-item.map.capacity) = rw c.in-Err-Memory.field-0-is at c.in-Err-Memory.ensures.refused in
     let gave = subst (λ s. Yields g.I.IntoIter.Iterator.next_gives s c.loop-item.yielded c.loop-item.item-iterator) c.into_iter-item-iterator.ensures.into_iter_gives c.loop-item.yielded_by in
     let place = HasPlaceFor-free by (bag c.loop-item.map) c.loop-item.yielded c.in-Some.item c.loop-item.invariant.added refused.2 in
     rw refused.0 (c.into_iter-items.result, c.loop-item.yielded, c.next.new.self, c.into_iter-items.ensures.into_iter_gives, (c.loop-item.item-iterator, gave, c.in-Some.ensures.steps), place)

@@ -1,5 +1,4 @@
-use Rattle.std.proofs.Common.{◌≡◌, ◌≢◌, ℕ, Bool, true, false, arith, refl, nat_eq, ap}
-use Rattle.iddqd_store.specs.Slots.{live_items}
+use Rattle.std.proofs.Common.{◌≡◌, ◌≢◌, ℕ, Bool, true, false, arith, refl, nat_eq}
 use Rattle.std.proofs.lemmas.Bool.Decides.{nat_tests}
 use Rattle.iddqd_store.proofs.FoundLemmas.{clash_none, clash_some}
 use Rattle.iddqd_bi.specs.Keys.{keys, ranks}
@@ -23,7 +22,7 @@ returns-in-Err-clause-refused g c =
     let found = c.conflicting-found in
     let kept = c.in-Err.ensures in (
       refl,
-      record { items = ap live_items kept.slots; no_less_room = kept.no_less_room; same_builder = kept.builder },
+      kept.unchanged,
       clash_none by c.args.self.now.slots c.args.item found.result found.ensures.items (none_found _ _ c.is_empty.ensures c.if-not-is_empty.false),
       kept.refused,
     )
