@@ -14,7 +14,8 @@ pub struct MemoryRefused<T> {
     pub value: T,
 }
 
-/// An item that was refused, and the items in its way: a short list `L` of them or of references to them, in the order of the keys.
+/// An item that was refused, and the items in its way: a short list `L` of them or of references to them, in the
+/// order of the keys.
 #[derive(Drop)]
 pub struct DuplicateItem<T, L> {
     new_item: T,

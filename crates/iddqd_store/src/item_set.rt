@@ -20,9 +20,11 @@ use std::marker::Model;
 use std::mem;
 pub use values::{IntoValues, Values};
 
-/// Items in slots, each found by the number of its slot. Contracts see the slots, each with its item or free, and how many items fit.
+/// Items in slots, each found by the number of its slot. Contracts see the slots, each with its item or free, and how
+/// many items fit.
 ///
-/// A slot keeps its number until `compact` or `shrink_to`, and a freed slot is used again before a new one. Only `try_reserve`, `shrink_to` and `clone` take memory, and only the first two change how many items fit:
+/// A slot keeps its number until `compact` or `shrink_to`, and a freed slot is used again before a new one. Only
+/// `try_reserve`, `shrink_to` and `clone` take memory, and only the first two change how many items fit:
 ///
 /// ```
 /// let mut set = ItemSet::new(alloc);
@@ -163,7 +165,8 @@ impl<T> ItemSet<T> {
         None
     }
 
-    /// Makes room for so many more items. It takes no memory where they fit already, and is refused only where memory for more slots is.
+    /// Makes room for so many more items. It takes no memory where they fit already, and is refused only where memory
+    /// for more slots is.
     pub fn try_reserve(&mut self, more: usize) -> Result<(), TryReserveError>
         ensures slots { self.new.slots ≡ self.old.slots }
         ensures capacity { self.old.capacity ≤ self.new.capacity }

@@ -19,7 +19,8 @@ impl<T: BiHashItem> BiHashMap<T, DefaultHashBuilder> {
 
     /// An empty map with the default builder and with room for so many items.
     ///
-    /// It takes memory for the slots and for each table. It is refused where there is none and where so many items are more than memory can count, and never for 0 items, which take none.
+    /// It takes memory for the slots and for each table. It is refused where there is none and where so many items are
+    /// more than memory can count, and never for 0 items, which take none.
     pub fn with_capacity(alloc: Global, items: usize) -> Result<Self, TryReserveError>
         ensures empty { IfOk result (λ map. bag map ≡ []) }
         ensures capacity { IfOk result (λ map. map.capacity ≡ items) }
@@ -58,7 +59,8 @@ impl<T: BiHashItem, S: BuildHasher> BiHashMap<T, S> {
 
     /// An empty map with room for so many items, whose hashes come from this builder.
     ///
-    /// It takes memory for the slots and for each table. It is refused where there is none and where so many items are more than memory can count, and never for 0 items, which take none.
+    /// It takes memory for the slots and for each table. It is refused where there is none and where so many items are
+    /// more than memory can count, and never for 0 items, which take none.
     pub fn with_capacity_and_hasher(
         alloc: Global,
         items: usize,

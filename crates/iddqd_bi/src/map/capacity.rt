@@ -38,7 +38,8 @@ impl<T: BiHashItem, S: BuildHasher> BiHashMap<T, S> {
 
     /// Makes room for so many more items. It takes no memory where they fit already, and compares no key.
     ///
-    /// It is refused where memory for more slots or for a larger table is, and where so many items are more than memory can count. Then the items are as before, and the map may have more room.
+    /// It is refused where memory for more slots or for a larger table is, and where so many items are more than
+    /// memory can count. Then the items are as before, and the map may have more room.
     pub fn reserve(&mut self, more: usize) -> Result<(), TryReserveError>
         ensures items { bag self.new ≡ bag self.old }
         ensures builder { self.new.builder ≡ self.old.builder }

@@ -13,7 +13,8 @@ use std::hash::{BuildHasher, Hash};
 impl<T: BiHashItem + Clone, S: BuildHasher + Clone> BiHashMap<T, S> {
     /// A map with a clone of each item and of the builder.
     ///
-    /// An item's clone has to have the item's keys, and the builder's clone has to hash alike. Where memory or a clone is
+    /// An item's clone has to have the item's keys, and the builder's clone has to hash alike. Where memory or a
+    /// clone is
     /// refused there is no map. No key is compared.
     pub fn clone(&self) -> Result<Self, TryReserveError>
         requires same_key1 { (x c : T) → Contains (bag self.now) x → T.is_clone x c → agree1 T.BiHashItem T.K1.Hash x c ≡ true }

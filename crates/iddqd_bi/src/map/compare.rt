@@ -13,7 +13,8 @@ use super::BiHashMap;
 use crate::item::BiHashItem;
 use std::hash::{BuildHasher, Hash};
 
-/// Two maps are equal exactly if their items pair off, each pair agreeing in both keys and by `==`. How they came about,
+/// Two maps are equal exactly if their items pair off, each pair agreeing in both keys and by `==`. How they came
+/// about,
 /// their capacity and the state of their builders play no part.
 ///
 /// There is at most one search for each item of the left map, by its first key.

@@ -14,6 +14,8 @@ use std::hash::{BuildHasher, Hash};
 
 impl<T: BiHashItem, S: BuildHasher> BiHashMap<T, S> {
     /// Takes out the item with this first key. It takes no memory, and the capacity stays.
+    ///
+    /// Compares at most as many keys as items have the key's hash at the first rank.
     pub fn remove1(&mut self, key: &T::K1) -> Option<T>
         ensures taken { option_to_list result ≡ filter (λ x. T.K1.eq key.now (T.key1 x)) (bag self.old) }
         ensures items { IsPermutation (bag self.old) (option_to_list result ++ bag self.new) }
@@ -26,6 +28,8 @@ impl<T: BiHashItem, S: BuildHasher> BiHashMap<T, S> {
     }
 
     /// Takes out the item with this second key. It takes no memory, and the capacity stays.
+    ///
+    /// Compares at most as many keys as items have the key's hash at the second rank.
     pub fn remove2(&mut self, key: &T::K2) -> Option<T>
         ensures taken { option_to_list result ≡ filter (λ x. T.K2.eq key.now (T.key2 x)) (bag self.old) }
         ensures items { IsPermutation (bag self.old) (option_to_list result ++ bag self.new) }
@@ -38,6 +42,8 @@ impl<T: BiHashItem, S: BuildHasher> BiHashMap<T, S> {
     }
 
     /// Takes out the item that has both keys. It takes no memory, and the capacity stays.
+    ///
+    /// Compares as many keys as `remove1` does, and the second key of the item found.
     pub fn remove_unique(&mut self, key1: &T::K1, key2: &T::K2) -> Option<T>
         ensures taken { option_to_list result ≡ all_of ((λ x. T.K1.eq key1.now (T.key1 x)) ∷ (λ x. T.K2.eq key2.now (T.key2 x)) ∷ []) (bag self.old) }
         ensures items { IsPermutation (bag self.old) (option_to_list result ++ bag self.new) }

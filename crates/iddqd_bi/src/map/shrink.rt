@@ -11,7 +11,8 @@ use std::hash::{BuildHasher, Hash};
 impl<T: BiHashItem + Drop, S: BuildHasher> BiHashMap<T, S> {
     /// Gives back the room beyond so many items and beyond the map's own. It never makes room.
     ///
-    /// It takes memory for the slots and the tables that are left, and hashes each key anew. It compares none. Where the memory is refused, the map is as before. An empty map that is to keep no room takes none.
+    /// It takes memory for the slots and the tables that are left, and hashes each key anew. It compares none. Where
+    /// the memory is refused, the map is as before. An empty map that is to keep no room takes none.
     pub fn shrink_to(&mut self, least: usize) -> Result<(), TryReserveError>
         ensures items { bag self.new ≡ bag self.old }
         ensures builder { self.new.builder ≡ self.old.builder }

@@ -21,7 +21,8 @@ impl<T: Clone> Clone for Slot<T> {
 }
 
 impl<T: Clone> ItemSet<T> {
-    /// The same slots, each with a clone of its item. It takes memory where there is a slot, and is refused where this or an item's clone is refused.
+    /// The same slots, each with a clone of its item. It takes memory where there is a slot, and is refused where
+    /// this or an item's clone is refused.
     pub fn clone(&self) -> Result<Self, TryReserveError>
         ensures slots { IfOk result (λ copy. AllZip (IsSlotClone T.is_clone) self.now.slots copy.slots) }
         ensures items { IfOk result (λ copy. AllZip T.is_clone (live_items self.now.slots) (live_items copy.slots)) }

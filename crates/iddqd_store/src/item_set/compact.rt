@@ -24,7 +24,8 @@ fn gathered<T: Drop>(slots: Vec<Slot<T>>, mut to: Vec<Slot<T>>) -> Vec<Slot<T>>
 }
 
 impl<T: Drop> ItemSet<T> {
-    /// Moves the items to the first slots, in their order, so that no slot is free. The room stays, and no memory is taken.
+    /// Moves the items to the first slots, in their order, so that no slot is free. The room stays, and no memory is
+    /// taken.
     pub fn compact(&mut self)
         ensures slots { self.new.slots ≡ map Some (live_items self.old.slots) }
         ensures capacity { self.new.capacity ≡ self.old.capacity }
@@ -33,7 +34,8 @@ impl<T: Drop> ItemSet<T> {
         self.head = self.slots.len();
     }
 
-    /// Compacts the set, and gives back the room beyond `least` items and beyond its own. It takes memory for what stays, unless that is nothing or all of the room, and where this is refused the set is as before.
+    /// Compacts the set, and gives back the room beyond `least` items and beyond its own. It takes memory for what
+    /// stays, unless that is nothing or all of the room, and where this is refused the set is as before.
     pub fn shrink_to(&mut self, least: usize) -> Result<(), TryReserveError>
         ensures slots { OnOk result (self.new.slots ≡ map Some (live_items self.old.slots)) }
         ensures capacity { OnOk result (self.new.capacity ≡ max (live_count self.old.slots) (min least self.old.capacity)) }

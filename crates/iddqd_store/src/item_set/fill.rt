@@ -10,7 +10,8 @@ use crate::item_index::ItemIndex;
 use crate::meter::Meter;
 
 impl<T> ItemSet<T> {
-    /// Puts the pair of each live slot, of its item's hash and its number, into a table that has room for them. It takes no memory, and compares no key.
+    /// Puts the pair of each live slot, of its item's hash and its number, into a table that has room for them. It
+    /// takes no memory, and compares no key.
     pub fn fill<H: ItemHash<T>>(&self, table: &mut IndexTable, hashes: &H)
         requires empty { table.old.pairs ≡ [] }
         requires room { live_count self.now.slots ≤ table.old.limit }
