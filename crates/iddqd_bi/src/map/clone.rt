@@ -14,8 +14,7 @@ impl<T: BiHashItem + Clone, S: BuildHasher + Clone> BiHashMap<T, S> {
     /// A map with a clone of each item and of the builder.
     ///
     /// An item's clone has to have the item's keys, and the builder's clone has to hash alike. Where memory or a
-    /// clone is
-    /// refused there is no map. No key is compared.
+    /// clone is refused there is no map. No key is compared.
     pub fn clone(&self) -> Result<Self, TryReserveError>
         requires same_key1 { (x c : T) → Contains (bag self.now) x → T.is_clone x c → agree1 T.BiHashItem T.K1.Hash x c ≡ true }
         requires same_key2 { (x c : T) → Contains (bag self.now) x → T.is_clone x c → agree2 T.BiHashItem T.K2.Hash x c ≡ true }

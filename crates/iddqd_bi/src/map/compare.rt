@@ -14,8 +14,7 @@ use crate::item::BiHashItem;
 use std::hash::{BuildHasher, Hash};
 
 /// Two maps are equal exactly if their items pair off, each pair agreeing in both keys and by `==`. How they came
-/// about,
-/// their capacity and the state of their builders play no part.
+/// about, their capacity and the state of their builders play no part.
 ///
 /// There is at most one search for each item of the left map, by its first key.
 impl<T: BiHashItem + PartialEq, S: BuildHasher> PartialEq for BiHashMap<T, S> {

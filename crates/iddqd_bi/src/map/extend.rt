@@ -67,10 +67,8 @@ impl<T: BiHashItem + Drop, S: BuildHasher + Default + Drop> BiHashMap<T, S> {
     /// The map of these items, none of which conflict.
     ///
     /// It first asks for room for as many as the iterator promises, and goes on where that is refused. At the first
-    /// item
-    /// that conflicts with some before it, it answers that one and those, in the order of the keys. An item that
-    /// finds no
-    /// memory comes back. The other items and the iterator are dropped then, and there is no map.
+    /// item that conflicts with some before it, it answers that one and those, in the order of the keys. An item that
+    /// finds no memory comes back. The other items and the iterator are dropped then, and there is no map.
     pub fn from_iter_unique<I: IntoIterator<Item = T>>(
         alloc: Global,
         iter: I,

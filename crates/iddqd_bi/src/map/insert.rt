@@ -18,6 +18,12 @@ impl<T: BiHashItem, S: BuildHasher> BiHashMap<T, S> {
     ghost use Rattle.iddqd_bi.specs.Refused.{MatchRefusal, MatchInsertError, refusing_map, refused_item, ends_as};
 
     /// Puts an item in where none conflicts with it.
+    ///
+    /// It is refused where an item of the map has one of its keys, whatever memory there is, and where the map is full
+    /// and there is no memory to grow. Either refusal hands the item back and holds the map as it was; the first one
+    /// lists the items in the way, in the order of the keys.
+    ///
+    /// Each key of the item is hashed once and searched for once. It takes memory only where the map is full.
     pub fn insert_unique(&mut self, item: T) -> Result<(), InsertError<'_, T, S>>
         ensures* ends { sem 𝓛 (ends_as T.row S.row T.K1.row T.K2.row S.Hasher.row T.BiHashItem T.K1.Hash T.K2.Hash S.BuildHasher S.Hasher.Hasher self.entry result (λ new. Gains self.old item new)) }
         ensures same_map { IfErr result (λ e. (refusing_map e).ghost_name ≡ self.entry.ghost_name) }
