@@ -19,7 +19,7 @@ mod words;
 mod write;
 
 use crate::from_read::FromRead;
-use crate::outcome::{RunFault, ending, kind_of};
+use crate::outcome::{asked, ending};
 use crate::run::run_text;
 use crate::to_write::ToWrite;
 use std::process::ExitCode;
@@ -28,16 +28,14 @@ use std::{env, io};
 /// The exit status is 0 where each line was run, 1 at a fault, and 2 at a bad line or at arguments
 /// other than one kind.
 fn main(rt: HostRuntime) -> ExitCode {
-    let (status, message) = match arguments(&rt) {
-        Err(_) => ending(&Err(RunFault::Memory)),
-        Ok(arguments) => match kind_of(&arguments) {
-            None => (2, "usage: iddqd_run bi|tri"),
-            Some(kind) => {
-                let mut source = FromRead::new(rt.stdin());
-                let mut out = ToWrite::new(rt.stdout());
-                ending(&run_text(rt.alloc(), kind, &mut source, &mut out))
-            }
-        },
+    let (status, message) = match asked(arguments(&rt)) {
+        Err(fault) => ending(&Err(fault)),
+        Ok(None) => (2, "usage: iddqd_run bi|tri"),
+        Ok(Some(kind)) => {
+            let mut source = FromRead::new(rt.stdin());
+            let mut out = ToWrite::new(rt.stdout());
+            ending(&run_text(rt.alloc(), kind, &mut source, &mut out))
+        }
     };
     if !message.is_empty() {
         // Where standard error fails too, the exit status is all that is left to say.
@@ -46,7 +44,7 @@ fn main(rt: HostRuntime) -> ExitCode {
     ExitCode::from(status)
 }
 
-/// The arguments after the program's name.
+/// The arguments after the program's name. One that is not UTF-8 is an error, as is want of memory.
 fn arguments(rt: &HostRuntime) -> io::Result<Vec<String>> {
     let mut arguments = Vec::new(rt.alloc());
     for argument in env::args(rt)?.skip(1) {

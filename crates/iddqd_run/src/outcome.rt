@@ -1,9 +1,11 @@
 //! What the program is asked for, how a run ends, and what the main makes of it.
-ghost use Rattle.std.specs.Prelude.{◌≡◌, map, string_bytes};
+ghost use Rattle.std.specs.Prelude.{◌≡◌, ◌≢◌, None, Ok, Err, IfOk, IfErr, map, string_bytes};
+ghost use Rattle.std.specs.IoError.{error_kind};
 ghost use Rattle.iddqd_run.specs.Outcome.{kind_of, status_of, message_of};
 
 use crate::ends::EndFault;
 use std::alloc::AllocError;
+use std::io::{self, ErrorKind};
 
 /// The kind of the map that is run.
 #[derive(Clone, Copy, Debug, PartialEq, Eq, Drop)]
@@ -39,6 +41,23 @@ impl From<AllocError> for RunFault {
 
     fn from(_: AllocError) -> RunFault {
         RunFault::Memory
+    }
+}
+
+/// What the arguments after the program's name ask for, as they were read: the kind of a map, or none.
+///
+/// Arguments that can't be read, as one that is not UTF-8, ask for none. Want of memory is a fault.
+pub fn asked(read: io::Result<Vec<String>>) -> Result<Option<Kind>, RunFault>
+    ensures read { IfOk read (λ arguments. result ≡ Ok (kind_of (map string_bytes arguments.items))) }
+    ensures memory { IfErr read (λ error. error_kind error ≡ ErrorKind.OutOfMemory → result ≡ Err RunFault.Memory) }
+    ensures unread { IfErr read (λ error. error_kind error ≢ ErrorKind.OutOfMemory → result ≡ Ok None) }
+{
+    match read {
+        Ok(arguments) => Ok(kind_of(&arguments)),
+        Err(error) => match error.kind() {
+            ErrorKind::OutOfMemory => Err(RunFault::Memory),
+            _ => Ok(None),
+        },
     }
 }
 
