@@ -127,7 +127,8 @@ impl Workload {
                 load.operations = load.new.len();
             }
             Operation::Walk => {
-                load.times = rounds;
+                load.times = rounds * 20;
+                load.operations = items * load.times;
             }
             Operation::Shrink => {
                 load.keys = first_keys(&shuffled(&load.rows, 1)[..items / 2]).collect();

@@ -1,7 +1,7 @@
 use Rattle.std.proofs.Common.{arith, ℕ, ◌≡◌, ◌+◌, ◌-◌, ◌*◌, ◌/◌, ◌%◌, ◌<◌, ◌≤◌, ◌∷◌, List, Option, length, set, sym, ap, ◌∙◌, refl, subst, None, Some, ⊎_elim}
 use Rattle.std.specs.Prelude.{◌≢◌, nat_lt, if◌then◌else◌}
 use Rattle.std.specs.List.Sorted.{IsPermutation}
-use Rattle.std.proofs.lemmas.List.{length-set, get_or-set_other, set-set}
+use Rattle.std.proofs.lemmas.List.{get_or-set_other, set-set}
 use Rattle.std.proofs.lemmas.List.Sorted.{IsPermutation-trans, IsPermutation-cons, length_permutation}
 use Rattle.iddqd_store.specs.Ring.{cell, gap, held, stretch, IsReached}
 use Rattle.iddqd_store.specs.Table.{hashes, IsTable}

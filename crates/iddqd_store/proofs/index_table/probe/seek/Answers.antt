@@ -1,6 +1,6 @@
-use Rattle.std.proofs.Common.{arith, ℕ, ◌≡◌, ◌+◌, ◌-◌, ◌%◌, length, ◌∙◌, None, Some, refl, eqb, false, not}
-use Rattle.std.specs.Prelude.{◌≢◌, ◌&&◌, nat_lt, if◌then◌else◌}
-use Rattle.std.proofs.lemmas.Bool.{eq-eqb, both_ways}
+use Rattle.std.proofs.Common.{arith, ℕ, ◌≡◌, ◌+◌, ◌-◌, ◌%◌, length, ◌∙◌, None, Some}
+use Rattle.std.specs.Prelude.{◌≢◌, nat_lt, if◌then◌else◌}
+use Rattle.std.proofs.lemmas.Bool.{both_ways}
 use Rattle.iddqd_store.specs.Ring.{cell}
 use Rattle.iddqd_store.proofs.Walk.{walk_more, unmet_more, seek_on}
 use Rattle.iddqd_store.proofs.index_table.probe.seek.Goals as goal
