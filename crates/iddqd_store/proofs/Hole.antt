@@ -1,7 +1,7 @@
 -- The hole that a deletion leaves and moves on.
 use Rattle.std.proofs.Common.{◌≡◌, ℕ, ◌+◌, ◌<◌, ◌≤◌, List, Option, None, Some, length, set, sym, ap, ◌∙◌, subst, inl, inr, ⊎_elim, arith}
 use Rattle.std.specs.Prelude.{◌≢◌, ◌⊎◌}
-use Rattle.std.proofs.lemmas.List.{length-set, get_or-set_same, get_or-set_other}
+use Rattle.std.proofs.lemmas.List.{length-set, get_or-set_same, get_or-set_other, set-set, set_comm}
 use Rattle.std.proofs.lemmas.Bool.{cases_lt, cases_eq}
 use Rattle.std.proofs.lemmas.Bool.Decides.{nat_tests}
 use Rattle.iddqd_store.specs.Ring.{gap, cell, IsReached}
@@ -14,6 +14,18 @@ wraps n a h p q e la lh lp lq le x y z = grind (arith, nat_tests)
 -- a way that leads through p to q leads over each place between them
 pub between : (n a h p m q : ℕ) → a < n → h < n → p < n → m < n → q < n → gap n h p ≤ gap n h q → gap n a p ≤ gap n a m → gap n a m ≤ gap n a q → gap n h m ≤ gap n h q
 between n a h p m q la lh lp lm lq x y z = grind (arith, nat_tests)
+
+-- whether a place lies on the way from h to q is told by how far it is from q
+pub reaches : (n a h o q far : ℕ) → a < n → h < n → o < n → q < n → 0 < far → far + gap n a o ≡ gap n a q → far ≤ gap n h q → gap n h o ≤ gap n h q
+reaches n a h o q far la lh lo lq pos e l = grind (arith, nat_tests)
+
+pub falls_short : (n a h o q far : ℕ) → a < n → h < n → o < n → q < n → 0 < far → far + gap n a o ≡ gap n a q → gap n h q < far → gap n h q < gap n h o
+falls_short n a h o q far la lh lo lq pos e l = grind (arith, nat_tests)
+
+-- what stood at a place moves into the hole, whatever that held
+pub left_behind : {X : Type 0} (cs : List (Option X)) (hole at : ℕ) (y : X) → at ≢ hole → set (set cs hole (Some y)) at None ≡ set (set (set cs hole None) at None) hole (Some y)
+left_behind cs hole at y apart =
+    sym (set_comm (set cs hole None) at hole None (Some y) apart ∙ ap (λ (r : List (Option _)). set r at None) (set-set cs hole None (Some y)))
 
 -- Row is the old row with a hole, which a walk from a on has moved for s steps.
 pub record Holed {X : Type 0} (home : X → ℕ) (n a hole s : ℕ) (old row : List (Option X)) : Type 0 where

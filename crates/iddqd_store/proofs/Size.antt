@@ -1,12 +1,14 @@
 -- Limits, and a row of empty cells.
-use Rattle.std.proofs.Common.{◌≡◌, ℕ, suc, zero, ◌+◌, ◌-◌, ◌%◌, ◌*◌, ◌/◌, ◌^◌, ◌<◌, ◌≤◌, [], Option, None, Some, length, replicate, refl, sym, ap, subst, inl, inr, ⊎_elim, arith, rules}
-use Rattle.std.specs.Prelude.{◌≢◌, ◌↔◌, IsSome}
+use Rattle.std.proofs.Common.{◌≡◌, ℕ, suc, zero, ◌+◌, ◌-◌, ◌%◌, ◌*◌, ◌/◌, ◌^◌, ◌<◌, ◌≤◌, [], Option, None, Some, length, replicate, refl, sym, ap, ◌∙◌, subst, inl, inr, ⊎_elim, arith, rules}
+use Rattle.std.specs.Prelude.{◌≢◌, ◌↔◌, IsSome, nat_lt, if◌then◌else◌}
 use Rattle.std.specs.Int.Bits.{bit_and}
 use Rattle.std.proofs.lemmas.Bool.{cases_lt}
+use Rattle.std.proofs.lemmas.Bool.Decides.{nat_tests}
+use Rattle.std.proofs.Math.Nat.{add-mul-mod_self_left, mod-eq_of_lt, mod_self, mul-suc}
 use Rattle.std.proofs.Math.Pow.{pow_mono}
-use Rattle.std.proofs.lemmas.Nat.{and_mask, pow-add, pow_below}
+use Rattle.std.proofs.lemmas.Nat.{and_mask, pow-add, pow_below, pow_pos}
 use Rattle.std.proofs.lemmas.List.{length-replicate}
-use Rattle.iddqd_store.specs.Ring.{held, cell}
+use Rattle.iddqd_store.specs.Ring.{gap, held, cell}
 use Rattle.iddqd_store.specs.Limit.{IsLeast, IsSize}
 use Rattle.iddqd_store.specs.Table.{IsTable}
 
@@ -65,6 +67,59 @@ mask_home hash count size some =
     let f : 2 ^ (3 + p.0) ≡ count = omega (arith, e, p.1) in
     subst (λ (n : ℕ). bit_and hash (n - 1) ≡ hash % n) f (and_mask hash (3 + p.0)))
     size
+
+-- the same for the next place of a ring
+pub mask_after : (at n : ℕ) → IsSize n → at < n → bit_and (at + 1) (n - 1) ≡ (if nat_lt (at + 1) n then at + 1 else 0)
+mask_after at n size l =
+    let m : bit_and (at + 1) (n - 1) ≡ (at + 1) % n = mask_home (at + 1) n size (omega arith) in
+    ⊎_elim (λ (h : at + 1 < n).
+    let e : (at + 1) % n ≡ at + 1 = mod-eq_of_lt h in
+    let g : at + 1 ≡ (if nat_lt (at + 1) n then at + 1 else 0) = grind (arith, nat_tests) in
+    m ∙ (e ∙ g))
+    (λ (h : n ≤ at + 1).
+    let same : at + 1 ≡ n = omega arith in
+    let e : (at + 1) % n ≡ 0 = ap (λ (k : ℕ). k % n) same ∙ mod_self n in
+    let g : 0 ≡ (if nat_lt (at + 1) n then at + 1 else 0) = grind (arith, nat_tests) in
+    m ∙ (e ∙ g))
+    (cases_lt (at + 1) n)
+
+one_less : (n r : ℕ) → 0 < r → n * r ≡ n + n * (r - 1)
+one_less n r some =
+    let e : suc (r - 1) ≡ r = omega arith in
+    subst (λ (m : ℕ). n * m ≡ n + n * (r - 1)) e (let m = mul-suc n (r - 1) in omega (arith, m))
+
+-- 2 ^ 64 is a multiple of a ring's size
+rounds : (n : ℕ) → IsSize n → n < 2 ^ 64 → 0 < n → (q : ℕ) × (2 ^ 64 ≡ n + n * q)
+rounds n size fits some =
+    ⊎_elim (λ (none : n ≡ 0). absurd (omega arith))
+    (λ (p : (k : ℕ) × (n ≡ 8 * 2 ^ k)).
+    ⊎_elim (λ (few : p.0 < 61).
+    let r : ℕ = 2 ^ (61 - p.0) in
+    let s : p.0 + (61 - p.0) ≡ 61 = omega arith in
+    let e : 2 ^ 61 ≡ 2 ^ p.0 * r = subst (λ (i : ℕ). 2 ^ i ≡ 2 ^ p.0 * r) s (pow-add 2 p.0 (61 - p.0)) in
+    let t : 2 ^ 64 ≡ n * r = rw p.1 (grind (arith, e)) in
+    (r - 1, t ∙ one_less n r (pow_pos (61 - p.0))))
+    (λ (many : 61 ≤ p.0). let b : 2 ^ 61 ≤ 2 ^ p.0 = pow_mono many in absurd (omega (arith, b, p.1)))
+    (cases_lt p.0 61))
+    size
+
+-- the same for a difference, which comes round at 2 ^ 64 where it would be below 0
+pub mask_steps : (a b n : ℕ) → IsSize n → n < 2 ^ 64 → a < n → b < n → bit_and ((b + (2 ^ 64 - a)) % 2 ^ 64) (n - 1) ≡ gap n a b
+mask_steps a b n size fits la lb =
+    let m : bit_and ((b + (2 ^ 64 - a)) % 2 ^ 64) (n - 1) ≡ (b + (2 ^ 64 - a)) % 2 ^ 64 % n = mask_home ((b + (2 ^ 64 - a)) % 2 ^ 64) n size (omega arith) in
+    ⊎_elim (λ (h : b < a).
+    let f = rounds n size fits (omega arith) in
+    let w : (b + (2 ^ 64 - a)) % 2 ^ 64 ≡ ((b + n) - a) + n * f.0 = omega (arith, f.1) in
+    let r : (((b + n) - a) + n * f.0) % n ≡ ((b + n) - a) % n = add-mul-mod_self_left ((b + n) - a) n f.0 in
+    let e : ((b + n) - a) % n ≡ (b + n) - a = mod-eq_of_lt (omega arith) in
+    let g : (b + n) - a ≡ gap n a b = grind (arith, nat_tests) in
+    m ∙ (ap (λ (k : ℕ). k % n) w ∙ (r ∙ (e ∙ g))))
+    (λ (h : a ≤ b).
+    let w : (b + (2 ^ 64 - a)) % 2 ^ 64 ≡ b - a = omega arith in
+    let e : (b - a) % n ≡ b - a = mod-eq_of_lt (omega arith) in
+    let g : b - a ≡ gap n a b = grind (arith, nat_tests) in
+    m ∙ (ap (λ (k : ℕ). k % n) w ∙ (e ∙ g)))
+    (cases_lt b a)
 
 -- no more pairs than these fit into cells that a `usize` counts
 pub size_most : (n : ℕ) → IsSize n → n < 2 ^ 64 → n / 8 * 7 ≤ 7 * 2 ^ 60

@@ -21,18 +21,18 @@ impl Model for Cell {
 
     ghost view = { λ c. pair_of c.hash c.number };
 
-    ghost invariant = { λ c. c.number + 1 ≡ 2 ^ 64 → c.hash ≡ 0 };
+    ghost invariant = { λ c. c.number + 1 ≡ 2 ^ 64 → c.hash + 1 ≡ 2 ^ 64 };
 
     ghost inverse = { λ p. record { hash = hash_of p; number = number_of p } };
 }
 
 impl Cell {
-    /// What stands for an empty cell.
+    /// What stands for an empty cell: all ones, so one pattern fills a row of them.
     fn empty() -> Cell
         ensures { result ≡ None }
     {
         Cell {
-            hash: 0,
+            hash: u64::MAX,
             number: usize::MAX,
         }
     }

@@ -1,5 +1,5 @@
 //! Ways in a table: from the home of a hash on, from cell to cell and round.
-ghost use Rattle.std.specs.Prelude.{◌≡◌, ◌≢◌, ℕ, ◌+◌, ◌-◌, ◌*◌, ◌/◌, ◌%◌, ◌^◌, ◌∷◌, ◌<◌, ◌≤◌, if◌then◌else◌, nat_lt, None, Some, length, IfSome, IsNone, ◌↔◌, Contains};
+ghost use Rattle.std.specs.Prelude.{◌≡◌, ◌≢◌, ℕ, ◌+◌, ◌-◌, ◌*◌, ◌/◌, ◌%◌, ◌^◌, ◌∷◌, ◌<◌, ◌≤◌, if◌then◌else◌, nat_lt, None, Some, true, length, IfSome, IsNone, ◌↔◌, Contains};
 ghost use Rattle.std.specs.List.Sorted.{IsPermutation};
 ghost use Rattle.iddqd_store.specs.Ring.{cell, gap, held, stretch};
 ghost use Rattle.iddqd_store.specs.Limit.{IsLeast, IsSize};
@@ -9,12 +9,13 @@ use crate::cells::Cells;
 use crate::item_index::ItemIndex;
 use crate::meter::Meter;
 
-// The place after `at`.
+// The place after `at`. The number of cells is a power of two, so a mask takes it round.
 pub(super) fn after(at: usize, count: usize) -> usize
-    requires { at < count }
+    requires size { IsSize count }
+    requires below { at < count }
     ensures { result ≡ (if nat_lt (at + 1) count then at + 1 else 0) }
 {
-    if at + 1 < count { at + 1 } else { 0 }
+    (at + 1) & (count - 1)
 }
 
 // How many cells hold so many pairs, if `usize` holds that number.
@@ -61,14 +62,21 @@ pub(super) fn first_empty(cells: &Cells, hash: u64, meter: &mut Meter) -> usize
 
 // How many steps lead from one place to another.
 pub(super) fn steps(from: usize, to: usize, count: usize) -> usize
+    requires size { IsSize count }
     requires from { from < count }
     requires to { to < count }
     ensures { result ≡ gap count from to }
 {
-    if from <= to {
-        to - from
-    } else {
-        to + (count - from)
+    to.wrapping_sub(from) & (count - 1)
+}
+
+// Whether a cell has this pair. The hash comes first, since it mostly tells pairs apart.
+fn has_pair(cell: Option<(u64, ItemIndex)>, hash: u64, index: ItemIndex) -> bool
+    ensures { (result ≡ true) ↔ (cell ≡ Some (hash, index)) }
+{
+    match cell {
+        Some((stored, ix)) => stored == hash && ix == index,
+        None => false,
     }
 }
 
@@ -82,13 +90,17 @@ pub(super) fn seek(cells: &Cells, hash: u64, index: ItemIndex, meter: &mut Meter
 {
     let count = cells.len();
     let mut at = home_of(hash, count);
-    while cells.cell_at(at, meter) != Some((hash, index)) {
+    while !has_pair(cells.cell_at(at, meter), hash, index) {
         at = after(at, count);
     }
     at
 }
 
 // Empties a cell, and moves what stands behind it up.
+//
+// Each pair that is looked at is written into the hole. It counts there only if the hole then moves to where the pair
+// stood: what the hole holds doesn't count, and the cell that is the hole in the end is emptied. So no branch depends
+// on whether a pair moves.
 pub(super) fn close_up(cells: &mut Cells, hash: u64, emptied: usize, meter: &mut Meter)
     requires table { IsTable cells.old }
     requires pair { cell cells.old emptied ≢ None }
@@ -101,17 +113,21 @@ pub(super) fn close_up(cells: &mut Cells, hash: u64, emptied: usize, meter: &mut
         ≡ meter.old + stretch (hashes (held cells.old)) (length cells.old) hash }
 {
     let count = cells.len();
-    cells.empty(emptied);
     let mut hole = emptied;
+    // How many steps lead from the hole to the cell that is looked at.
+    let mut far = 1usize;
     let mut at = after(emptied, count);
     while let Some(pair) = cells.cell_at(at, meter) {
         let (stored, index) = pair;
-        let home = home_of(stored, count);
-        if steps(home, hole, count) < steps(home, at, count) {
-            cells.empty(at);
-            cells.put(hole, stored, index);
+        let way = steps(home_of(stored, count), at, count);
+        cells.put(hole, stored, index);
+        if far <= way {
             hole = at;
+            far = 1;
+        } else {
+            far += 1;
         }
         at = after(at, count);
     }
+    cells.empty(hole);
 }

@@ -1,15 +1,16 @@
 use Rattle.std.proofs.Common.{arith, ℕ, ◌≡◌, ◌+◌, ◌-◌, ◌*◌, ◌/◌, ◌%◌, ◌<◌, ◌≤◌, ◌∷◌, List, Option, length, set, sym, ap, ◌∙◌, refl, subst, None, Some, ⊎_elim}
 use Rattle.std.specs.Prelude.{◌≢◌, nat_lt, if◌then◌else◌}
 use Rattle.std.specs.List.Sorted.{IsPermutation}
+use Rattle.std.proofs.lemmas.List.{get_or-set_other, set-set}
 use Rattle.std.proofs.lemmas.List.Sorted.{IsPermutation-trans, IsPermutation-cons, length_permutation}
 use Rattle.iddqd_store.specs.Ring.{cell, gap, held, stretch, IsReached}
-use Rattle.iddqd_store.specs.Table.{hashes}
+use Rattle.iddqd_store.specs.Table.{hashes, IsTable}
 use Rattle.iddqd_store.proofs.Line.{cases_option}
-use Rattle.iddqd_store.proofs.Change.{held_take, held_move, same_gap}
-use Rattle.iddqd_store.proofs.Hole.{Holed, holed_start, holed_pass, holed_move, holed_end}
+use Rattle.iddqd_store.proofs.Change.{held_take, held_move}
+use Rattle.iddqd_store.proofs.Hole.{Holed, reaches, falls_short, left_behind, holed_start, holed_pass, holed_move, holed_end}
 use Rattle.iddqd_store.proofs.Walk.{Walk, walk_more, walk_to, walk_below, walk_gap, walk_end, beyond}
 use Rattle.iddqd_store.proofs.index_table.probe.close_up.Goals as goal
-use Rattle.iddqd_store.proofs.index_table.probe.close_up.Goals.{then-steps, else-steps}
+use Rattle.iddqd_store.proofs.index_table.probe.close_up.Goals.{then-far-way, else-far-way}
 
 pub loop-pair-init : goal.loop-pair-init
 loop-pair-init c =
@@ -25,9 +26,14 @@ loop-pair-init c =
     record {
       looked = omega arith;
       walk = w;
-      holed = rw c.empty.ensures (holed_start (λ p. p.0 % n) n home lh (λ p. omega arith) row c.args.emptied b.0 _ refl c.requires.table.reached c.requires.way.below b.1 b.2 (omega (arith, b.3)) (omega arith));
-      taken = λ pair is. rw c.empty.ensures (held_take row c.args.emptied pair c.requires.way.below is);
+      some = omega arith;
+      apart = omega arith;
+      holed = holed_start (λ p. p.0 % n) n home lh (λ p. omega arith) row c.args.emptied b.0 _ refl c.requires.table.reached c.requires.way.below b.1 b.2 (omega (arith, b.3)) (omega arith);
+      taken = λ pair is. held_take row c.args.emptied pair c.requires.way.below is;
     }
+
+pub after-at-requires-in-Some-clause-size : goal.after-at-requires-in-Some-clause-size
+after-at-requires-in-Some-clause-size c = rw c.len-count.ensures c.requires.table.size
 
 pub loop-pair-preserved : goal.loop-pair-preserved
 loop-pair-preserved c =
@@ -37,6 +43,9 @@ loop-pair-preserved c =
     let i = c.loop-pair.invariant in
     let h = i.holed in
     let at = c.loop-pair.at in
+    let hole = c.loop-pair.hole in
+    let cs = c.loop-pair.cells in
+    let rest : List (Option (ℕ × ℕ)) = set cs hole None in
     let pair : ℕ × ℕ = c.in-Some.pair in
     let s : ℕ = gap n home c.args.emptied + 1 + (c.loop-pair.meter - c.args.meter.now) in
     let t : ℕ = gap n home c.args.emptied + 1 + (c.cell_at.new.meter - c.args.meter.now) in
@@ -44,43 +53,44 @@ loop-pair-preserved c =
     let lh : home < n = let b = c.requires.way.below in omega arith in
     let lat : at < n = walk_below row home at s lh i.walk in
     let ga : gap n home at ≡ s = walk_gap row home at s lh i.walk in
-    let there : cell c.loop-pair.cells at ≡ Some pair = sym c.cell_at.ensures.value ∙ c.in-Some.is in
+    let away : at ≢ hole = λ e. let g : gap n home at ≡ gap n home hole = ap (gap n home) e in omega (arith, g, ga, h.behind) in
+    let there : cell rest at ≡ Some pair = get_or-set_other cs hole at None None away ∙ (sym c.cell_at.ensures.value ∙ c.in-Some.is) in
     let was : cell row at ≡ Some pair = sym (h.ahead at lat (omega (arith, ga))) ∙ there in
     let some : cell row at ≢ None = λ z. cc (z, was) in
     let e : c.after-at-in-Some.result ≡ (if nat_lt (at + 1) n then at + 1 else 0) = rw c.len-count.ensures at c.after-at-in-Some.ensures in
     let w : Walk row home c.after-at-in-Some.result t = walk_more row home at s c.requires.table lh i.walk some c.after-at-in-Some.result t e more in
     let b = beyond row home c.after-at-in-Some.result t c.requires.table lh w in
-    let hm : c.home_of-home.result ≡ pair.0 % n = rw c.len-count.ensures at c.home_of-home.ensures in
-    let s1 : c.steps.result ≡ gap n (pair.0 % n) c.loop-pair.hole = rw (c.len-count.ensures, hm) at c.steps.ensures in
-    let s2 : c.steps-in-Some.result ≡ gap n (pair.0 % n) at = rw (c.len-count.ensures, hm) at c.steps-in-Some.ensures in
-    elim c.if-steps.branch [
-      | then-steps w' ↦
-          let r : c.if-steps.cells ≡ set (set c.loop-pair.cells at None) c.loop-pair.hole (Some pair) = w'.cells-is ∙ (w'.put.ensures ∙ ap (λ (cs : List (Option (ℕ × ℕ))). set cs c.loop-pair.hole (Some pair)) w'.empty-then-steps.ensures) in
-          let goes : gap n (pair.0 % n) c.loop-pair.hole ≤ gap n (pair.0 % n) at = omega (arith, s1, s2, w'.if-steps.true) in
-          let m : Holed (λ p. p.0 % n) n home at t row (set (set c.loop-pair.cells at None) c.loop-pair.hole (Some pair)) =
-          holed_move (λ p. p.0 % n) n home lh (λ p. omega arith) row c.loop-pair.cells c.loop-pair.hole at b.0 s t pair h lat ga there goes b.1 b.2 (omega (arith, b.3, more)) more in
-          let k : IsPermutation (held c.loop-pair.cells) (held (set (set c.loop-pair.cells at None) c.loop-pair.hole (Some pair))) =
-          held_move c.loop-pair.cells at c.loop-pair.hole pair (omega (arith, h.len, lat)) (omega (arith, h.len, h.below)) there h.empty in
+    let hm : c.home_of.result ≡ pair.0 % n = rw c.len-count.ensures at c.home_of.ensures in
+    let way : c.steps-way.result ≡ gap n (pair.0 % n) at = rw (c.len-count.ensures, hm) at c.steps-way.ensures in
+    let far : c.loop-pair.far + gap n home hole ≡ gap n home at = omega (arith, i.apart, ga) in
+    elim c.if-far-way.branch [
+      | then-far-way w' ↦
+          let r : set c.put.new.self at None ≡ set (set rest at None) hole (Some pair) = ap (λ (r : List (Option (ℕ × ℕ))). set r at None) c.put.ensures ∙ left_behind cs hole at pair away in
+          let goes : gap n (pair.0 % n) hole ≤ gap n (pair.0 % n) at = reaches n home (pair.0 % n) hole at c.loop-pair.far lh (omega arith) h.below lat i.some far (omega (arith, way, w'.if-far-way.true)) in
+          let m : Holed (λ p. p.0 % n) n home at t row (set (set rest at None) hole (Some pair)) =
+          holed_move (λ p. p.0 % n) n home lh (λ p. omega arith) row rest hole at b.0 s t pair h lat ga there goes b.1 b.2 (omega (arith, b.3, more)) more in
+          let k : IsPermutation (held rest) (held (set (set rest at None) hole (Some pair))) =
+          held_move rest at hole pair (omega (arith, h.len, lat)) (omega (arith, h.len, h.below)) there h.empty in
           record {
             looked = omega (arith, i.looked, c.cell_at.ensures.look);
             walk = w;
-            holed = rw (r, w'.hole-is) m;
-            taken = λ p is. rw r (IsPermutation-trans _ _ _ (i.taken p is) (IsPermutation-cons p _ _ k));
+            some = rw w'.far-is (omega arith);
+            apart = rw (w'.far-is, w'.hole-is) (omega (arith, ga, more));
+            holed = rw (w'.hole-is, r) m;
+            taken = λ p is. rw (w'.hole-is, r) (IsPermutation-trans _ _ _ (i.taken p is) (IsPermutation-cons p _ _ k));
           }
-      | else-steps w' ↦
-          let stays : gap n (pair.0 % n) at < gap n (pair.0 % n) c.loop-pair.hole =
-          let ne : gap n (pair.0 % n) c.loop-pair.hole ≢ gap n (pair.0 % n) at = λ g.
-          let same : c.loop-pair.hole ≡ at = same_gap n (pair.0 % n) c.loop-pair.hole at (omega arith) h.below lat g in
-          let gg : gap n home c.loop-pair.hole ≡ gap n home at = ap (gap n home) same in
-          absurd (omega (arith, gg, ga, h.behind)) in
-          omega (arith, s1, s2, w'.if-steps.false, ne) in
-          let m : Holed (λ p. p.0 % n) n home c.loop-pair.hole t row c.loop-pair.cells =
-          holed_pass (λ p. p.0 % n) n home lh (λ p. omega arith) row c.loop-pair.cells c.loop-pair.hole at s t pair h lat ga there stays more in
+      | else-far-way w' ↦
+          let r : set c.put.new.self hole None ≡ rest = ap (λ (r : List (Option (ℕ × ℕ))). set r hole None) c.put.ensures ∙ set-set cs hole (Some pair) None in
+          let stays : gap n (pair.0 % n) at < gap n (pair.0 % n) hole = falls_short n home (pair.0 % n) hole at c.loop-pair.far lh (omega arith) h.below lat i.some far (omega (arith, way, w'.if-far-way.false)) in
+          let m : Holed (λ p. p.0 % n) n home hole t row rest =
+          holed_pass (λ p. p.0 % n) n home lh (λ p. omega arith) row rest hole at s t pair h lat ga there stays more in
           record {
             looked = omega (arith, i.looked, c.cell_at.ensures.look);
             walk = w;
-            holed = rw (w'.cells-is, w'.hole-is) m;
-            taken = λ p is. rw w'.cells-is (i.taken p is);
+            some = rw w'.far-is (omega arith);
+            apart = rw (w'.far-is, w'.hole-is) (omega (arith, i.apart, more));
+            holed = rw (w'.hole-is, r) m;
+            taken = λ p is. rw (w'.hole-is, r) (i.taken p is);
           }
     ]
 
@@ -92,21 +102,27 @@ returns-clause-table c =
     let i = c.loop-pair.invariant in
     let h = i.holed in
     let at = c.loop-pair.at in
+    let hole = c.loop-pair.hole in
+    let cs = c.loop-pair.cells in
+    let rest : List (Option (ℕ × ℕ)) = set cs hole None in
     let s : ℕ = gap n home c.args.emptied + 1 + (c.loop-pair.meter - c.args.meter.now) in
     let lh : home < n = let b = c.requires.way.below in omega arith in
     let lat : at < n = walk_below row home at s lh i.walk in
     let ga : gap n home at ≡ s = walk_gap row home at s lh i.walk in
-    let none : cell c.loop-pair.cells at ≡ None = sym c.cell_at.ensures.value ∙ c.in_default.is in
-    let r : IsReached (λ p. p.0 % n) n c.loop-pair.cells = holed_end (λ p. p.0 % n) n home lh (λ p. omega arith) row c.loop-pair.cells c.loop-pair.hole at s h lat ga none in
+    let away : at ≢ hole = λ e. let g : gap n home at ≡ gap n home hole = ap (gap n home) e in omega (arith, g, ga, h.behind) in
+    let none : cell rest at ≡ None = get_or-set_other cs hole at None None away ∙ (sym c.cell_at.ensures.value ∙ c.in_default.is) in
+    let r : IsReached (λ p. p.0 % n) n rest = holed_end (λ p. p.0 % n) n home lh (λ p. omega arith) row rest hole at s h lat ga none in
+    let table : IsTable rest =
     ⊎_elim (λ (z : cell row c.args.emptied ≡ None). absurd (c.requires.pair z))
     (λ (z : (x : ℕ × ℕ) × (cell row c.args.emptied ≡ Some x)).
-    let p : length (z.0 ∷ held c.loop-pair.cells) ≡ length (held row) = length_permutation _ _ (i.taken z.0 z.1) in
+    let p : length (z.0 ∷ held rest) ≡ length (held row) = length_permutation _ _ (i.taken z.0 z.1) in
     record {
       size = rw h.len c.requires.table.size;
       fits = let f : length (held row) ≤ n / 8 * 7 = c.requires.table.fits in rw h.len (omega (arith, p, f));
-      reached = subst (λ (m : ℕ). IsReached (λ p. p.0 % m) m c.loop-pair.cells) (sym h.len) r;
+      reached = subst (λ (m : ℕ). IsReached (λ p. p.0 % m) m rest) (sym h.len) r;
     })
-    (cases_option (cell row c.args.emptied))
+    (cases_option (cell row c.args.emptied)) in
+    rw c.empty.ensures table
 
 pub returns-clause-looks : goal.returns-clause-looks
 returns-clause-looks c =
@@ -114,11 +130,15 @@ returns-clause-looks c =
     let n : ℕ = length row in
     let home : ℕ = c.args.hash % n in
     let i = c.loop-pair.invariant in
+    let h = i.holed in
     let at = c.loop-pair.at in
+    let hole = c.loop-pair.hole in
     let s : ℕ = gap n home c.args.emptied + 1 + (c.loop-pair.meter - c.args.meter.now) in
     let lh : home < n = let b = c.requires.way.below in omega arith in
     let lat : at < n = walk_below row home at s lh i.walk in
     let ga : gap n home at ≡ s = walk_gap row home at s lh i.walk in
-    let none : cell row at ≡ None = sym (i.holed.ahead at lat (omega (arith, ga))) ∙ (sym c.cell_at.ensures.value ∙ c.in_default.is) in
+    let away : at ≢ hole = λ e. let g : gap n home at ≡ gap n home hole = ap (gap n home) e in omega (arith, g, ga, h.behind) in
+    let still : cell (set c.loop-pair.cells hole None) at ≡ cell c.loop-pair.cells at = get_or-set_other c.loop-pair.cells hole at None None away in
+    let none : cell row at ≡ None = sym (h.ahead at lat (omega (arith, ga))) ∙ (still ∙ (sym c.cell_at.ensures.value ∙ c.in_default.is)) in
     let e : stretch (hashes (held row)) n c.args.hash ≡ s = walk_end row c.args.hash at s c.requires.table i.walk none in
     omega (arith, e, i.looked, c.cell_at.ensures.look)

@@ -1,4 +1,4 @@
-use Rattle.std.proofs.Common.{◌≡◌, ℕ, ◌+◌, ◌-◌, ◌%◌, ◌≤◌, ◌∷◌, length, Some}
+use Rattle.std.proofs.Common.{◌≡◌, ℕ, ◌+◌, ◌-◌, ◌%◌, ◌<◌, ◌≤◌, ◌∷◌, length, set, None, Some}
 use Rattle.std.specs.List.Sorted.{IsPermutation}
 use Rattle.iddqd_store.specs.Ring.{cell, gap, held}
 use Rattle.iddqd_store.proofs.Walk.{Walk}
@@ -11,11 +11,14 @@ invariant-loop-pair l =
     let n = length row in
     let home = l.hash % n in
     let s = (gap n home l.emptied + 1) + (l.meter - l.initial.meter) in
+    let rest = set l.cells l.hole None in
     record {
       looked : l.initial.meter ≤ l.meter;
       walk : Walk row home l.at s;
-      holed : Holed (λ p. p.0 % n) n home l.hole s row l.cells;
-      taken : (pair : ℕ × ℕ) → cell row l.emptied ≡ Some pair → IsPermutation (held row) (pair ∷ held l.cells);
+      some : 0 < l.far;
+      apart : l.far + gap n home l.hole ≡ s;
+      holed : Holed (λ p. p.0 % n) n home l.hole s row rest;
+      taken : (pair : ℕ × ℕ) → cell row l.emptied ≡ Some pair → IsPermutation (held row) (pair ∷ held rest);
     }
 
 abbrev pub decreases-loop-pair : goal.decreases-loop-pair
