@@ -1,5 +1,4 @@
 pub mod Building
-pub mod Indexed
 pub mod Keys
 pub mod Refused
 pub mod Step

@@ -3,7 +3,7 @@ ghost use Rattle.std.specs.Prelude.{◌≡◌, map};
 ghost use Rattle.iddqd_store.specs.Map.{bag};
 ghost use Rattle.iddqd_store.specs.Bag.{order};
 ghost use Rattle.iddqd_store.specs.Searched.{items_at};
-ghost use Rattle.iddqd_bi.specs.Keys.{keys, ranks};
+ghost use Rattle.iddqd_bi.specs.Keys.{ranks};
 
 use crate::item::BiHashItem;
 use crate::map::BiHashMap;
@@ -33,7 +33,7 @@ pub struct DuplicateError<'a, T: BiHashItem, S: BuildHasher> {
     pub(crate) map: &'a mut BiHashMap<T, S>,
     pub(crate) new_item: T,
     pub(crate) found: UpToTwo<ItemIndex>,
-    ghost found_is: { items_at map.now.slots found ≡ order (ranks T.BiHashItem (keys T.K1.eq T.K1.hash_input) (keys T.K2.eq T.K2.hash_input)) (bag map.now) new_item },
+    ghost found_is: { items_at map.now.slots found ≡ order (ranks T.BiHashItem T.K1.eq T.K2.eq) (bag map.now) new_item },
 }
 
 /// An item that was refused for want of memory, with the map that has no room for it.
@@ -61,7 +61,7 @@ impl<T: BiHashItem, S: BuildHasher> DuplicateError<'_, T, S> {
 
     /// The items of the map that conflict with it, in the order of the keys. Nothing is searched again.
     pub fn duplicates(&self) -> UpToTwo<&T>
-        ensures { map (λ item. item.now) result ≡ order (ranks T.BiHashItem T.K1.Hash T.K2.Hash) (bag self.now.map.now) self.now.new_item }
+        ensures { map (λ item. item.now) result ≡ order (ranks T.BiHashItem T.K1.eq T.K2.eq) (bag self.now.map.now) self.now.new_item }
     {
         let map = &*self.map;
         map.items_of(&self.found)
@@ -85,7 +85,7 @@ impl<'a, T: BiHashItem, S: BuildHasher> DuplicateError<'a, T, S> {
     /// The item that was refused, by value, with the items of the map that conflict with it, in the order of the keys.
     pub fn into_parts(self) -> (T, UpToTwo<&'a T>)
         ensures item { result.0 ≡ self.entry.new_item }
-        ensures duplicates { map (λ item. item.now) result.1 ≡ order (ranks T.BiHashItem T.K1.Hash T.K2.Hash) (bag self.entry.map.now) self.entry.new_item }
+        ensures duplicates { map (λ item. item.now) result.1 ≡ order (ranks T.BiHashItem T.K1.eq T.K2.eq) (bag self.entry.map.now) self.entry.new_item }
     {
         let DuplicateError {
             map,

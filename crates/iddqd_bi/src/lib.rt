@@ -3,12 +3,11 @@
 
 mod command;
 mod error;
-mod hashes;
 mod item;
 mod iter;
 mod map;
-mod matchers;
 mod pointers;
+mod ranks;
 
 pub use command::{BiCommand, BiReply, BiSink};
 pub use error::{DuplicateError, FromIterError, InsertError, MemoryError};

@@ -3,7 +3,7 @@ use Rattle.std.specs.Prelude.{◌≡◌, ℕ, Bool, true, false, cond, List, [],
 use Rattle.std.specs.List.{AllByRecursion}
 use Rattle.std.specs.Cmp.{IsEquivalence}
 use Rattle.std.proofs.Common.{refl}
-use Rattle.std.proofs.lemmas.Map.Keys.{IsDistinct-cons}
+use Rattle.std.proofs.lemmas.Map.Keys.{IsDistinct-cons, IsDistinct-tail}
 use Rattle.std.proofs.lemmas.List.Sorted.{IsPermutation-sym, IsPermutation-map}
 use Rattle.iddqd_store.specs.Slots.{members, live_items}
 use Rattle.iddqd_store.specs.Bag.{Ranks, AreLawful, IsSound, conflicts, clash}
@@ -34,3 +34,8 @@ module _ {T : Type 0} where
   free_sound ranks laws old new at x sound free moved =
       IsSound-IsPermutation ranks laws _ _ (IsPermutation-sym _ _ (IsPermutation-map (λ m. m.1) _ _ moved))
       (IsDistinct-cons (conflicts ranks) x (live_items old) (none_from_filter (conflicts ranks x) (live_items old) free) sound)
+
+  -- a sound bag without one of its items is sound
+  pub sound_without : (ranks : Ranks T) → AreLawful ranks → (old new : List (Option T)) (at : ℕ) (x : T) → IsSound ranks (live_items old) → IsPermutation (members old) ((at, x) ∷ members new) → IsSound ranks (live_items new)
+  sound_without ranks laws old new at x sound moved =
+      IsDistinct-tail (conflicts ranks) x (live_items new) (IsSound-IsPermutation ranks laws _ _ (live_items-moves old new at x moved) sound)

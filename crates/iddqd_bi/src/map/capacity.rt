@@ -13,7 +13,7 @@ impl<T: BiHashItem, S: BuildHasher> BiHashMap<T, S> {
     /// The number of items.
     pub fn len(&self) -> usize
         ensures value { result ≡ length (bag self.now) }
-        ensures sound { IsSound (ranks T.BiHashItem T.K1.Hash T.K2.Hash) (bag self.now) }
+        ensures sound { IsSound (ranks T.BiHashItem T.K1.eq T.K2.eq) (bag self.now) }
     {
         self.items.len()
     }
@@ -30,7 +30,6 @@ impl<T: BiHashItem, S: BuildHasher> BiHashMap<T, S> {
         ensures value { result ≡ self.now.capacity }
         ensures holds { length (bag self.now) ≤ result }
     {
-        let _ = (self.items.len(), self.first.len(), self.second.len());
         self.items
             .capacity()
             .min(self.first.capacity().min(self.second.capacity()))

@@ -15,8 +15,6 @@ impl<T: BiHashItem, S: BuildHasher> BiHashMap<T, S> {
         ensures runs { ShowsInOrder (deref {X = T}) }
         ensures fits { length (bag self.now) < 2 ^ 64 }
     {
-        // The length is a number of this size, which a caller who counts the items has to know.
-        let _ = self.len();
         Iter::new(self.items.values())
     }
 }
@@ -41,7 +39,6 @@ impl<T: BiHashItem + Drop, S: BuildHasher + Drop> IntoIterator for BiHashMap<T, 
     ghost into_iter_gives = { λ m it. (it ≡ bag m) × GivesInOrder T × (length (bag m) < 2 ^ 64) };
 
     fn into_iter(self) -> IntoIter<T> {
-        let _ = self.len();
         let BiHashMap {
             items,
             first: _,

@@ -29,7 +29,7 @@ impl<T: BiHashItem, S: BuildHasher> BiHashMap<T, S> {
             let (ix, item) = found;
             from = ix.number() + 1;
             if !f(item) {
-                drop(self.take(ix));
+                drop(self.take(ix, None, None));
             }
         }
     }

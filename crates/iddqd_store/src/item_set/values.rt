@@ -1,5 +1,5 @@
 //! The items of a set, one after another by slot.
-ghost use Rattle.std.specs.Prelude.{◌≡◌, [], length, Some, IfSome};
+ghost use Rattle.std.specs.Prelude.{◌≡◌, [], ◌<◌, ◌^◌, length, Some, IfSome};
 ghost use Rattle.std.specs.Iterator.{YieldsFirst, YieldsFirstRef, UpTo, item_count};
 ghost use Rattle.std.specs.Iterator.SizeHint.{IsWithinCount};
 ghost use Rattle.iddqd_store.specs.Slots.{live_items, live_count};
@@ -143,6 +143,7 @@ impl<T> ItemSet<T> {
     pub fn values(&self) -> Values<'_, T>
         ensures items { result ≡ live_items self.now.slots }
         ensures len { length result ≡ live_count self.now.slots }
+        ensures fits { live_count self.now.slots < 2 ^ 64 }
     {
         Values {
             slots: self.slots.as_slice(),
@@ -156,6 +157,7 @@ impl<T> ItemSet<T> {
         T: Drop,
         ensures items { result ≡ live_items self.slots }
         ensures len { length result ≡ live_count self.slots }
+        ensures fits { live_count self.slots < 2 ^ 64 }
     {
         let ItemSet {
             slots,
