@@ -4,7 +4,6 @@
 mod command;
 mod error;
 mod item;
-mod iter;
 mod map;
 mod pointers;
 mod ranks;
@@ -12,5 +11,9 @@ mod ranks;
 pub use command::{BiCommand, BiReply, BiSink};
 pub use error::{DuplicateError, FromIterError, InsertError, MemoryError};
 pub use item::{BiHashItem, BiHashItemMut};
-pub use iter::{IntoIter, Iter};
 pub use map::{BiHashMap, DefaultHashBuilder};
+
+// What the calls name of the parts that all maps share.
+pub use iddqd_store::{
+    DuplicateItem, Equivalent, IntoIter, Iter, KeyMatcher, MemoryRefused, Meter, TryReserveError, UpToTwo,
+};

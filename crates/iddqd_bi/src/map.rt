@@ -17,6 +17,7 @@ mod remove;
 mod retain;
 mod run;
 mod shrink;
+mod slots;
 #[cfg(test)]
 mod tests_capacity;
 

@@ -2,8 +2,8 @@
 use Rattle.std.specs.Prelude.{◌≡◌, ℕ, Bool, true, List, [], ◌∷◌, map, Option, Contains, IsPermutation, ⊤}
 use Rattle.std.specs.List.{AllZip}
 use Rattle.std.proofs.Common.{refl}
-use Rattle.iddqd_store.specs.Bag.{Ranks, AreLawful, IsSound, conflicts, clash, agrees}
-use Rattle.iddqd_store.specs.Indexed.{IsIndex, AreIndexes, IsIndexed}
+use Rattle.iddqd_store.specs.Bag.{Ranks, AreLawful, conflicts, clash, agrees}
+use Rattle.iddqd_store.specs.Indexed.{AreIndexes, IsIndexed}
 use Rattle.iddqd_store.specs.Rank.{IsSearchable}
 use Rattle.iddqd_store.specs.Slots.{IsSlotClone, members, live_items}
 use Rattle.iddqd_store.proofs.BagLemmas.{IsSound-rank, IsDistinct-nil}

@@ -1,13 +1,13 @@
 -- What a search by one rank finds, and what it costs.
-use Rattle.std.specs.Prelude.{◌≡◌, ℕ, ◌+◌, ◌*◌, ◌/◌, ◌≤◌, Bool, true, false, List, length, map, filter, Option, Some, None, Contains, count_by, ◌==◌, ◌&&◌}
-use Rattle.std.specs.Option.{option_to_list, option_and_then, IfSome, IfNone}
+use Rattle.std.specs.Prelude.{◌≡◌, ℕ, ◌+◌, ◌*◌, ◌/◌, ◌≤◌, Bool, true, false, List, Option, Some, None, Contains, count_by, ◌==◌, ◌&&◌}
+use Rattle.std.specs.Option.{option_and_then, IfSome, IfNone}
 use Rattle.std.proofs.Common.{arith}
 use Rattle.iddqd_store.specs.Limit.{IsSize}
 use Rattle.iddqd_store.specs.Slots.{live_items, get}
 use Rattle.iddqd_store.specs.Indexed.{passes_at}
 use Rattle.iddqd_store.specs.Bag.{IsOnly}
 use Rattle.iddqd_store.specs.Rank.{IsSearchable, NamesOneUnder, SearchCosts}
-use Rattle.iddqd_store.specs.Table.{hashes, LooksUp, LooksUpWithin}
+use Rattle.iddqd_store.specs.Table.{hashes, LooksUp}
 use Rattle.iddqd_store.proofs.SearchLemmas.{search_among, crowd_among}
 use Rattle.iddqd_store.proofs.IndexLemmas.{hash_at}
 use Rattle.iddqd_store.proofs.MapLooks.{looks_within, looks_within_most}

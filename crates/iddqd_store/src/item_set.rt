@@ -17,7 +17,7 @@ use crate::item_index::ItemIndex;
 use std::alloc::Global;
 use std::marker::Model;
 use std::mem;
-pub use values::{IntoValues, Values};
+pub use values::{IntoIter, Iter};
 
 /// Items in slots, each found by the number of its slot. Contracts see the slots, each with its item or free, and how
 /// many items fit.

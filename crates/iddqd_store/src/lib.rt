@@ -15,10 +15,10 @@ mod up_to_three;
 mod up_to_two;
 
 pub use equivalent::Equivalent;
-pub use error::{DuplicateItem, MemoryRefused, TryReserveError};
+pub use error::{DuplicateItem, FromIterError, MemoryRefused, TryReserveError};
 pub use index_table::IndexTable;
 pub use item_index::ItemIndex;
-pub use item_set::{IntoValues, ItemSet, Values};
+pub use item_set::{IntoIter, ItemSet, Iter};
 pub use key_matcher::KeyMatcher;
 pub use matcher::Matcher;
 pub use meter::Meter;

@@ -1,6 +1,6 @@
 //! Equality of maps.
-ghost use Rattle.std.specs.Prelude.{◌≡◌};
-ghost use Rattle.std.specs.Bool.{Decides};
+ghost use Rattle.std.specs.Prelude.{◌≡◌, ◌↔◌};
+ghost use Rattle.std.specs.Bool.{IsTrue};
 ghost use Rattle.std.specs.List.{list_any};
 ghost use Rattle.iddqd_store.specs.Bag.{IsSameBag, is_same, same_item};
 ghost use Rattle.iddqd_store.specs.Map.{bag};
@@ -20,11 +20,13 @@ use std::hash::{BuildHasher, Hash};
 impl<T: BiHashItem + PartialEq, S: BuildHasher> PartialEq for BiHashMap<T, S> {
     ghost eq = { λ m n. is_same (ranks T.BiHashItem T.K1.eq T.K2.eq) T.eq (bag m) (bag n) };
 
-    ghost laws = { on_per bag (is_same-partial (ranks T.BiHashItem T.K1.eq T.K2.eq) T.eq (IsEquivalence-key T.K1.eq T.key1 T.K1.Eq.laws, (IsEquivalence-key T.K2.eq T.key2 T.K2.Eq.laws, tt)) T.laws) };
+    ghost laws = { on_per bag (is_same-partial (ranks T.BiHashItem T.K1.eq T.K2.eq) T.eq
+        (IsEquivalence-key T.K1.eq T.key1 T.K1.Eq.laws, (IsEquivalence-key T.K2.eq T.key2 T.K2.Eq.laws, tt)) T.laws) };
 
     fn eq(&self, other: &Self) -> bool
         ensures eq { result ≡ is_same (ranks T.BiHashItem T.K1.eq T.K2.eq) T.eq (bag self.now) (bag other.now) }
-        ensures same { Decides result (IsSameBag (ranks T.BiHashItem T.K1.eq T.K2.eq) T.eq (bag self.now) (bag other.now)) }
+        ensures same { IsTrue result
+            ↔ IsSameBag (ranks T.BiHashItem T.K1.eq T.K2.eq) T.eq (bag self.now) (bag other.now) }
     {
         if self.len() != other.len() {
             return false;
@@ -39,7 +41,8 @@ impl<T: BiHashItem + PartialEq, S: BuildHasher> PartialEq for BiHashMap<T, S> {
 }
 
 impl<T: BiHashItem + Eq, S: BuildHasher> Eq for BiHashMap<T, S> {
-    ghost laws = { on_equiv bag (is_same-equivalence (ranks T.BiHashItem T.K1.eq T.K2.eq) T.eq (IsEquivalence-key T.K1.eq T.key1 T.K1.Eq.laws, (IsEquivalence-key T.K2.eq T.key2 T.K2.Eq.laws, tt)) T.Eq.laws) };
+    ghost laws = { on_equiv bag (is_same-equivalence (ranks T.BiHashItem T.K1.eq T.K2.eq) T.eq
+        (IsEquivalence-key T.K1.eq T.key1 T.K1.Eq.laws, (IsEquivalence-key T.K2.eq T.key2 T.K2.Eq.laws, tt)) T.Eq.laws) };
 }
 
 impl<T: BiHashItem + PartialEq, S: BuildHasher> BiHashMap<T, S> {

@@ -2,13 +2,13 @@
 ghost use Rattle.std.specs.Prelude.{◌≡◌, ◌+◌, ◌≤◌, [], length, IsPermutation, IfOk, IfErr, OnOk, OnErr, IsOk};
 ghost use Rattle.std.specs.Iterator.{IsFiniteIterable, size};
 ghost use Rattle.iddqd_store.specs.Bag.{clash, overs};
-ghost use Rattle.iddqd_store.specs.Building.{GivesAll, GivesThen, AddsTo, RefusesFor, HasPlaceFor};
+ghost use Rattle.iddqd_store.specs.Building.{GivesAll, GivesThen, AddsTo, RefusesFor, HasPlaceFor, MatchFromIterError};
 ghost use Rattle.iddqd_store.specs.Map.{bag};
-ghost use Rattle.iddqd_bi.specs.Building.{MatchFromIterError};
 ghost use Rattle.iddqd_bi.specs.Keys.{ranks};
 
 use super::BiHashMap;
-use crate::error::{FromIterError, Refusal};
+use super::slots::Refusal;
+use crate::error::FromIterError;
 use crate::item::BiHashItem;
 use iddqd_store::{DuplicateItem, MemoryRefused};
 use std::alloc::Global;

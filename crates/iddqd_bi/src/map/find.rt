@@ -1,20 +1,14 @@
 //! Lookups. Each goes through the search of its rank, which gives the slot.
-ghost use Rattle.std.specs.Prelude.{◌≡◌, ◌+◌, ◌≤◌, ◌==◌, [], ◌∷◌, length, filter, map, option_copied, IfSome, true, Contains, count_by};
-ghost use Rattle.std.specs.List.{IsDistinct, list_any};
-ghost use Rattle.std.specs.Option.{option_to_list, option_and_then};
-ghost use Rattle.iddqd_store.specs.Bag.{every_of, all_of, IsOnly};
-ghost use Rattle.iddqd_store.specs.Indexed.{HasHash};
-ghost use Rattle.iddqd_store.specs.Map.{bag, hash_of};
-ghost use Rattle.iddqd_store.specs.Slots.{get, IsLive};
-ghost use Rattle.iddqd_store.specs.Searched.{NamesOneOf, items_at};
-ghost use Rattle.iddqd_store.specs.Table.{LooksUpWithin};
+ghost use Rattle.std.specs.Prelude.{◌≡◌, option_copied};
+ghost use Rattle.std.specs.List.{list_any};
+ghost use Rattle.iddqd_store.specs.Bag.{IsOnly};
+ghost use Rattle.iddqd_store.specs.Map.{bag};
+ghost use Rattle.iddqd_store.specs.Rank.{agree, key_hash, NamesOneUnder, SearchCosts};
 ghost use Rattle.iddqd_bi.specs.Keys.{has1, has2, has_both};
-ghost use Rattle.iddqd_store.specs.Rank.{NamesOneUnder, SearchCosts, agree, key_hash};
 
 use super::BiHashMap;
 use crate::item::BiHashItem;
-use crate::ranks::{First, Second};
-use iddqd_store::{Equivalent, ItemIndex, KeyMatcher, Lookup, Meter, UpToTwo};
+use iddqd_store::{Equivalent, KeyMatcher, Meter};
 use std::hash::{BuildHasher, Hash};
 
 impl<T: BiHashItem, S: BuildHasher> BiHashMap<T, S> {
@@ -121,63 +115,5 @@ impl<T: BiHashItem, S: BuildHasher> BiHashMap<T, S> {
             self.now.capacity hash result (M.asked matcher.old) (M.asked matcher.new) meter.old meter.new }
     {
         self.by_key2().find_with(hash, matcher, meter)
-    }
-
-    /// The slot of the item that has both keys that the queries stand for, where this is the first query's hash.
-    pub(crate) fn slot_unique<Q1: Equivalent<T::K1>, Q2: Equivalent<T::K2>>(
-        &self,
-        hash: u64,
-        query1: &Q1,
-        query2: &Q2,
-    ) -> Option<ItemIndex>
-        requires { hash ≡ hash_of S.BuildHasher S.Hasher.Hasher self.now.builder (Q1.hash_input query1.now) }
-        ensures found { IsOnly (has_both T.BiHashItem Q1.equivalent Q2.equivalent query1.now query2.now)
-            (bag self.now) (option_and_then (get self.now.slots) result) }
-        ensures live { IfSome result (IsLive self.now.slots) }
-        ensures hashed { IfSome result (λ ix. HasHash
-            (key_hash T.key1 T.K1.hash_input S.BuildHasher S.Hasher.Hasher self.now.builder) self.now.slots ix hash) }
-    {
-        let ix = self.by_key1().slot(hash, query1)?;
-        let item = self.items.get(ix)?;
-        if query2.equivalent(item.key2()) {
-            Some(ix)
-        } else {
-            None
-        }
-    }
-
-    /// What searches by the first key read.
-    pub(crate) fn by_key1(&self) -> Lookup<'_, T, First, S>
-        ensures apart { IsDistinct (agree T.key1 T.K1.eq) (bag self.now) }
-        ensures slots { result.slots ≡ self.now.slots }
-        ensures builder { result.builder ≡ self.now.builder }
-        ensures room { self.now.capacity ≤ result.capacity }
-    {
-        Lookup::new(&self.items, &self.first, &self.hash_builder)
-    }
-
-    /// What searches by the second key read.
-    pub(crate) fn by_key2(&self) -> Lookup<'_, T, Second, S>
-        ensures apart { IsDistinct (agree T.key2 T.K2.eq) (bag self.now) }
-        ensures slots { result.slots ≡ self.now.slots }
-        ensures builder { result.builder ≡ self.now.builder }
-        ensures room { self.now.capacity ≤ result.capacity }
-    {
-        Lookup::new(&self.items, &self.second, &self.hash_builder)
-    }
-
-    /// The items of these slots, lent.
-    pub(crate) fn items_of(&self, found: &UpToTwo<ItemIndex>) -> UpToTwo<&T>
-        ensures { map (λ item. item.now) result ≡ items_at self.now.slots found.now }
-    {
-        let mut items = UpToTwo::new();
-        for at in 0..found.len() {
-            if let Some(ix) = found.get(at) {
-                if let Some(item) = self.items.get(*ix) {
-                    items.push(item);
-                }
-            }
-        }
-        items
     }
 }

@@ -5,7 +5,7 @@ ghost use Rattle.iddqd_store.specs.Map.{bag};
 
 use super::BiHashMap;
 use crate::item::BiHashItem;
-use crate::iter::{IntoIter, Iter};
+use iddqd_store::{IntoIter, Iter};
 use std::hash::{BuildHasher, Hash};
 
 impl<T: BiHashItem, S: BuildHasher> BiHashMap<T, S> {
@@ -15,7 +15,7 @@ impl<T: BiHashItem, S: BuildHasher> BiHashMap<T, S> {
         ensures runs { ShowsInOrder (deref {X = T}) }
         ensures fits { length (bag self.now) < 2 ^ 64 }
     {
-        Iter::new(self.items.values())
+        self.items.values()
     }
 }
 
@@ -45,6 +45,6 @@ impl<T: BiHashItem + Drop, S: BuildHasher + Drop> IntoIterator for BiHashMap<T, 
             second: _,
             hash_builder: _,
         } = self;
-        IntoIter::new(items.into_values())
+        items.into_values()
     }
 }

@@ -12,8 +12,8 @@ ghost use Rattle.iddqd_bi.specs.Step.{Step};
 ghost use Rattle.iddqd_bi.specs.Values.{value_of};
 
 use super::BiHashMap;
+use super::slots::Refusal;
 use crate::command::{BiCommand, BiReply, BiSink};
-use crate::error::Refusal;
 use crate::item::BiHashItemMut;
 use iddqd_store::{DuplicateItem, ItemIndex, MemoryRefused, UpToTwo};
 use std::hash::{BuildHasher, Hash};

@@ -19,7 +19,10 @@ pub returns-in-Err-clause-reason : goal.returns-in-Err-clause-reason
 returns-in-Err-clause-reason g c =
     let by = ranks g.T.BiHashItem g.T.K1.PartialEq.eq g.T.K2.PartialEq.eq in
     let found = c.conflicting-found in
-    (clash_none by c.args.self.now.slots c.args.item found.result found.ensures.items (none_found _ _ c.is_empty.ensures c.if-is_empty.true), c.in-Err.ensures.refused)
+    record {
+      free = clash_none by c.args.self.now.slots c.args.item found.result found.ensures.items (none_found _ _ c.is_empty.ensures c.if-is_empty.true);
+      full = c.in-Err.ensures.refused;
+    }
 
 pub returns-clause-no_growth : goal.returns-clause-no_growth
 returns-clause-no_growth g c =

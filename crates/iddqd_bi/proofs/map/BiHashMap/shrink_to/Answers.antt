@@ -1,15 +1,12 @@
-use Rattle.std.proofs.Common.{arith, ◌≡◌, ◌≤◌, ◌<◌, length, refl, ℕ, Result, Ok, Err}
-use Rattle.std.specs.Prelude.{min, max, OnErr}
+use Rattle.std.proofs.Common.{arith, ◌≡◌, ◌≤◌, ◌<◌, length, refl, ℕ}
+use Rattle.std.specs.Prelude.{min, max}
 use Rattle.iddqd_store.proofs.FillLemmas.{live_items-compact}
 use Rattle.iddqd_store.proofs.IndexLemmas.{length-live_items}
 use Rattle.iddqd_store.proofs.IndexedLemmas.{IsIndexed-move}
+use Rattle.iddqd_store.proofs.MapLemmas.{on_err}
 use Rattle.iddqd_store.specs.Map.{bag}
 use Rattle.iddqd_store.specs.Slots.{live_count}
 use Rattle.iddqd_bi.proofs.map.BiHashMap.shrink_to.Goals as goal
-
-on_err : {A E P : Type 0} (r : Result A E) → P → OnErr r P
-on_err (Ok _) p = tt
-on_err (Err _) p = p
 
 something : (count len slots kept wanted : ℕ) → len ≡ count → wanted ≡ max len kept → 0 < max count (min wanted slots) → 0 < max len kept
 something count len slots kept wanted all is taken = omega arith

@@ -26,10 +26,12 @@ invariant_of-self g c =
     IsIndexed-remove c.in-Some.item (AreLawful-ranks g.T.BiHashItem g.met.T.K1.Eq.laws g.met.T.K2.Eq.laws) c.self.invariant c.in-Some.ensures.members
     (c.forget.ensures.taken, (c.forget-in-Some.ensures.taken, tt))
 
-pub returns-clause-items : goal.returns-clause-items
-returns-clause-items g c =
-    let moved = c.in-Some.ensures.members in
-    rw (← c.self.view_is) (IsPermutation-map (λ m. m.1) _ _ moved)
+pub returns-clause-loses : goal.returns-clause-loses
+returns-clause-loses g c = record {
+  items = rw (← c.self.view_is) (IsPermutation-map (λ m. m.1) _ _ c.in-Some.ensures.members);
+  same_room = rw (← c.self.view_is, c.remove.ensures.capacity, c.forget.ensures.limit, c.forget-in-Some.ensures.limit) refl;
+  same_builder = rw (← c.self.view_is) refl;
+}
 
 pub returns-clause-room : goal.returns-clause-room
 returns-clause-room g c =
