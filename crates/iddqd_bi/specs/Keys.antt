@@ -1,33 +1,21 @@
--- The ranks of an item with two keys, and the hashes of its keys.
-use Rattle.std.specs.Prelude.{ℕ, Bool, [], ◌∷◌}
-use Rattle.std.specs.Hash.{HashWrites}
-use Rattle.std.specs.HashMap.Lent.{HashMembers}
-use Rattle.std.specs.declared.hash.Hasher as hasher
-use Rattle.std.specs.declared.hash.BuildHasher as builder
-use Rattle.iddqd_store.specs.Bag.{Ranks}
-use Rattle.iddqd_store.specs.Map.{hash_of}
+-- The ranks of an item with two keys.
+use Rattle.std.specs.Prelude.{Bool, [], ◌∷◌}
+use Rattle.iddqd_store.specs.Bag.{Ranks, every_of}
+use Rattle.iddqd_store.specs.Rank.{agree}
 use Rattle.iddqd_bi.specs.declared.item.BiHashItem as item
 
--- how keys are compared and hashed
-abbrev pub keys : {K : Type 0} → (K → K → Bool) → (K → HashWrites) → HashMembers K
-keys eq input = record { eq = eq; hash_input = input }
+module _ {T K1 K2 : Type 0} (of : item.Ghosts T K1 K2) where
+  -- for each rank, whether two items have equal keys
+  abbrev pub ranks : (K1 → K1 → Bool) → (K2 → K2 → Bool) → Ranks T
+  ranks eq1 eq2 = agree of.key1 eq1 ∷ agree of.key2 eq2 ∷ []
 
-module _ {T K1 K2 : Type 0} where
-  -- whether two items have equal keys of a rank
-  abbrev pub agree1 : item.Ghosts T K1 K2 → HashMembers K1 → T → T → Bool
-  agree1 of keys x y = keys.eq (of.key1 x) (of.key1 y)
+  -- whether an item has the key that a query stands for
+  abbrev pub has1 : {Q : Type 0} → (Q → K1 → Bool) → Q → T → Bool
+  has1 stands q x = stands q (of.key1 x)
 
-  abbrev pub agree2 : item.Ghosts T K1 K2 → HashMembers K2 → T → T → Bool
-  agree2 of keys x y = keys.eq (of.key2 x) (of.key2 y)
+  abbrev pub has2 : {Q : Type 0} → (Q → K2 → Bool) → Q → T → Bool
+  has2 stands q x = stands q (of.key2 x)
 
-  -- the same for each rank
-  abbrev pub ranks : item.Ghosts T K1 K2 → HashMembers K1 → HashMembers K2 → Ranks T
-  ranks of keys1 keys2 = agree1 of keys1 ∷ agree2 of keys2 ∷ []
-
-module _ {T K1 K2 S H : Type 0} where
-  -- the hash of an item's key of a rank
-  abbrev pub key1_hash : item.Ghosts T K1 K2 → HashMembers K1 → builder.Ghosts S H → hasher.Ghosts H → S → T → ℕ
-  key1_hash of keys build hash s x = hash_of build hash s (keys.hash_input (of.key1 x))
-
-  abbrev pub key2_hash : item.Ghosts T K1 K2 → HashMembers K2 → builder.Ghosts S H → hasher.Ghosts H → S → T → ℕ
-  key2_hash of keys build hash s x = hash_of build hash s (keys.hash_input (of.key2 x))
+  -- whether an item has both keys
+  abbrev pub has_both : {Q1 Q2 : Type 0} → (Q1 → K1 → Bool) → (Q2 → K2 → Bool) → Q1 → Q2 → T → Bool
+  has_both stands1 stands2 q1 q2 = every_of (has1 stands1 q1 ∷ has2 stands2 q2 ∷ [])

@@ -1,5 +1,5 @@
 -- What a refused insert says, and what the map ends as.
-use Rattle.std.specs.Prelude.{◌≡◌, List, ℕ, Result, Ok, Err, OnOk, OnErr}
+use Rattle.std.specs.Prelude.{◌≡◌, List, ℕ, Result, Ok, Err, OnOk, OnErr, ⊤}
 use Rattle.std.specs.Borrow.{RattleType, MutBor, Fml, GName, follows_so}
 use Rattle.std.specs.HashMap.Lent.{HashMembers}
 use Rattle.std.specs.declared.cmp.PartialEq as equal
@@ -9,15 +9,21 @@ use Rattle.std.specs.declared.hash.BuildHasher as builder
 use mathlib.Core.Option as maybe
 use Rattle.iddqd_store.specs.Map.{Map}
 use Rattle.iddqd_bi.specs.declared.item.BiHashItem as item
-use Rattle.iddqd_bi.specs.declared.error.Refusal.{Refusal}
-use Rattle.iddqd_bi.specs.declared.error.Refusal.TheVariants as refusal
+use Rattle.iddqd_bi.specs.declared.map.slots.Refusal.{Refusal}
+use Rattle.iddqd_bi.specs.declared.map.slots.Refusal.TheVariants as refusal
 use Rattle.iddqd_bi.specs.declared.error.InsertError.{InsertError}
 use Rattle.iddqd_bi.specs.declared.error.InsertError.TheVariants.{Duplicate, Memory}
 use Rattle.iddqd_bi.specs.contracts.map.BiHashMap.{the_row}
 
-abbrev pub MatchRefusal : {T : Type 0} → Refusal T → (T → List ℕ → Type 0) → (T → Type 0) → Type 0
-MatchRefusal (refusal.Duplicate x found) P Q = P x found
-MatchRefusal (refusal.Memory x) P Q = Q x
+-- the item that was refused
+abbrev pub refusal_item : {T : Type 0} → Refusal T → T
+refusal_item (refusal.Duplicate x found) = x
+refusal_item (refusal.Memory x) = x
+
+-- P of the slots found where items conflict, and Q where there is no memory
+abbrev pub MatchRefusal : {T : Type 0} → Refusal T → (List ℕ → Type 0) → Type 0 → Type 0
+MatchRefusal (refusal.Duplicate x found) P Q = P found
+MatchRefusal (refusal.Memory x) P Q = Q
 
 module _ {T S K1 K2 H : Type 0} {of : item.Ghosts T K1 K2} {eq1 : equal.Ghosts K1} {input1 : hash.Ghosts K1} {eq2 : equal.Ghosts K2} {input2 : hash.Ghosts K2} {build : builder.Ghosts S H} {hashes : hasher.Ghosts H} where
   -- the reference to the map that refused
@@ -30,10 +36,15 @@ module _ {T S K1 K2 H : Type 0} {of : item.Ghosts T K1 K2} {eq1 : equal.Ghosts K
   refused_item (Duplicate d) = d.new_item
   refused_item (Memory d) = d.new_item
 
-  -- P where items conflict, and Q where there is no memory
-  abbrev pub MatchInsertError : InsertError T S K1 K2 H of eq1 input1 eq2 input2 build hashes → Type 0 → Type 0 → Type 0
-  MatchInsertError (Duplicate d) P Q = P
-  MatchInsertError (Memory d) P Q = Q
+  -- P, where items conflict
+  abbrev pub OnDuplicate : InsertError T S K1 K2 H of eq1 input1 eq2 input2 build hashes → Type 0 → Type 0
+  OnDuplicate (Duplicate d) P = P
+  OnDuplicate (Memory d) P = ⊤
+
+  -- P, where there is no memory
+  abbrev pub OnMemory : InsertError T S K1 K2 H of eq1 input1 eq2 input2 build hashes → Type 0 → Type 0
+  OnMemory (Duplicate d) P = ⊤
+  OnMemory (Memory d) P = P
 
   abbrev pub refused_name : {X : Type 0} → Result X (InsertError T S K1 K2 H of eq1 input1 eq2 input2 build hashes) → maybe.Option GName
   refused_name (Ok _) = maybe.none

@@ -1,44 +1,30 @@
 -- One step of a map with two keys: each command with what it may answer.
-use Rattle.std.specs.Prelude.{Bool, [], ◌∷◌}
-use Rattle.std.specs.HashMap.Lent.{HashMembers}
-use Rattle.iddqd_store.specs.Bag.{every_of}
+use Rattle.std.specs.Prelude.{Bool}
 use Rattle.iddqd_store.specs.Reply.{Reply}
 use Rattle.iddqd_store.specs.Step.{State, InsertsUnique, InsertsOverwrite, Gets, Tells, Removes, Reserves, ShrinksTo, Clears, Sizes, Lists, Extends}
-use Rattle.iddqd_bi.specs.Keys.{ranks}
+use Rattle.iddqd_bi.specs.Keys.{ranks, has1, has2, has_both}
 use Rattle.iddqd_bi.specs.declared.item.BiHashItem as item
 use Rattle.iddqd_bi.specs.declared.command.BiCommand.{BiCommand}
 use Rattle.iddqd_bi.specs.declared.command.BiCommand.TheVariants.{InsertUnique, InsertOverwrite, Get1, Get2, GetUnique, Contains1, Contains2, ContainsUnique, Remove1, Remove2, RemoveUnique, Reserve, ShrinkTo, ShrinkToFit, Clear, Len, Items, Extend}
 
-module _ {T K1 K2 : Type 0} (of : item.Ghosts T K1 K2) where
-  -- whether an item has this key
-  abbrev pub has1 : HashMembers K1 → K1 → T → Bool
-  has1 keys1 k x = keys1.eq k (of.key1 x)
-
-  abbrev pub has2 : HashMembers K2 → K2 → T → Bool
-  has2 keys2 k x = keys2.eq k (of.key2 x)
-
-  -- whether an item has both keys
-  abbrev pub has_both : HashMembers K1 → HashMembers K2 → K1 → K2 → T → Bool
-  has_both keys1 keys2 k l = every_of (has1 keys1 k ∷ has2 keys2 l ∷ [])
-
-module _ {T D K1 K2 : Type 0} (of : item.Ghosts T K1 K2) (keys1 : HashMembers K1) (keys2 : HashMembers K2) where
+module _ {T D K1 K2 : Type 0} (of : item.Ghosts T K1 K2) (eq1 : K1 → K1 → Bool) (eq2 : K2 → K2 → Bool) where
   -- from old, the map may give this reply to the command and go on to new
   abbrev pub Step : State T → BiCommand T D K1 K2 → Reply T D → State T → Type 0
-  Step old (InsertUnique x) reply new = InsertsUnique (ranks of keys1 keys2) old x reply new
-  Step old (InsertOverwrite x) reply new = InsertsOverwrite (ranks of keys1 keys2) old x reply new
-  Step old (Get1 k) reply new = Gets (has1 of keys1 k) old reply new
-  Step old (Get2 k) reply new = Gets (has2 of keys2 k) old reply new
-  Step old (GetUnique k l) reply new = Gets (has_both of keys1 keys2 k l) old reply new
-  Step old (Contains1 k) reply new = Tells (has1 of keys1 k) old reply new
-  Step old (Contains2 k) reply new = Tells (has2 of keys2 k) old reply new
-  Step old (ContainsUnique k l) reply new = Tells (has_both of keys1 keys2 k l) old reply new
-  Step old (Remove1 k) reply new = Removes (has1 of keys1 k) old reply new
-  Step old (Remove2 k) reply new = Removes (has2 of keys2 k) old reply new
-  Step old (RemoveUnique k l) reply new = Removes (has_both of keys1 keys2 k l) old reply new
+  Step old (InsertUnique x) reply new = InsertsUnique (ranks of eq1 eq2) old x reply new
+  Step old (InsertOverwrite x) reply new = InsertsOverwrite (ranks of eq1 eq2) old x reply new
+  Step old (Get1 k) reply new = Gets (has1 of eq1 k) old reply new
+  Step old (Get2 k) reply new = Gets (has2 of eq2 k) old reply new
+  Step old (GetUnique k l) reply new = Gets (has_both of eq1 eq2 k l) old reply new
+  Step old (Contains1 k) reply new = Tells (has1 of eq1 k) old reply new
+  Step old (Contains2 k) reply new = Tells (has2 of eq2 k) old reply new
+  Step old (ContainsUnique k l) reply new = Tells (has_both of eq1 eq2 k l) old reply new
+  Step old (Remove1 k) reply new = Removes (has1 of eq1 k) old reply new
+  Step old (Remove2 k) reply new = Removes (has2 of eq2 k) old reply new
+  Step old (RemoveUnique k l) reply new = Removes (has_both of eq1 eq2 k l) old reply new
   Step old (Reserve n) reply new = Reserves n old reply new
   Step old (ShrinkTo n) reply new = ShrinksTo n old reply new
   Step old ShrinkToFit reply new = ShrinksTo 0 old reply new
   Step old Clear reply new = Clears old reply new
   Step old Len reply new = Sizes old reply new
   Step old Items reply new = Lists old reply new
-  Step old (Extend xs) reply new = Extends (ranks of keys1 keys2) old xs.items reply new
+  Step old (Extend xs) reply new = Extends (ranks of eq1 eq2) old xs.items reply new

@@ -4,8 +4,7 @@ ghost use Rattle.iddqd_store.specs.Reply.{Reply};
 ghost use Rattle.iddqd_bi.specs.Values.{value_of};
 
 use crate::item::BiHashItemMut;
-use crate::iter::Iter;
-use iddqd_store::{DuplicateItem, UpToTwo};
+use iddqd_store::{DuplicateItem, Iter, UpToTwo};
 
 /// A call of the map, as a value.
 #[derive(Drop)]

@@ -3,21 +3,12 @@ ghost use Rattle.std.specs.Prelude.{◌≡◌, map};
 ghost use Rattle.iddqd_store.specs.Map.{bag};
 ghost use Rattle.iddqd_store.specs.Bag.{order};
 ghost use Rattle.iddqd_store.specs.Searched.{items_at};
-ghost use Rattle.iddqd_bi.specs.Keys.{keys, ranks};
+ghost use Rattle.iddqd_bi.specs.Keys.{ranks};
 
 use crate::item::BiHashItem;
 use crate::map::BiHashMap;
-use iddqd_store::{DuplicateItem, ItemIndex, UpToTwo};
+use iddqd_store::{ItemIndex, UpToTwo};
 use std::hash::{BuildHasher, Hash};
-
-/// An item that an insert refused, and why, with no hold on the map.
-#[derive(Drop)]
-pub(crate) enum Refusal<T> {
-    /// These slots have items that conflict with it, in the order of the keys.
-    Duplicate(T, UpToTwo<ItemIndex>),
-    /// There was no memory for it.
-    Memory(T),
-}
 
 /// Why an insert was refused. It holds the map, so that the caller knows the map exactly.
 #[derive(Drop)]
@@ -33,7 +24,8 @@ pub struct DuplicateError<'a, T: BiHashItem, S: BuildHasher> {
     pub(crate) map: &'a mut BiHashMap<T, S>,
     pub(crate) new_item: T,
     pub(crate) found: UpToTwo<ItemIndex>,
-    ghost found_is: { items_at map.now.slots found ≡ order (ranks T.BiHashItem (keys T.K1.eq T.K1.hash_input) (keys T.K2.eq T.K2.hash_input)) (bag map.now) new_item },
+    ghost found_is: { items_at map.now.slots found
+        ≡ order (ranks T.BiHashItem T.K1.eq T.K2.eq) (bag map.now) new_item },
 }
 
 /// An item that was refused for want of memory, with the map that has no room for it.
@@ -42,14 +34,8 @@ pub struct MemoryError<'a, T: BiHashItem, S: BuildHasher> {
     pub(crate) new_item: T,
 }
 
-/// Why no map was built. The map of the items before is dropped.
-#[derive(Drop)]
-pub enum FromIterError<T> {
-    /// An item, and those before it that conflict with it, in the order of the keys.
-    Duplicate(DuplicateItem<T, UpToTwo<T>>),
-    /// An item that nothing conflicts with, and for which there was no memory.
-    Memory(T),
-}
+/// Why no map was built of some items.
+pub type FromIterError<T> = iddqd_store::FromIterError<T, UpToTwo<T>>;
 
 impl<T: BiHashItem, S: BuildHasher> DuplicateError<'_, T, S> {
     /// The item that was refused.
@@ -61,7 +47,8 @@ impl<T: BiHashItem, S: BuildHasher> DuplicateError<'_, T, S> {
 
     /// The items of the map that conflict with it, in the order of the keys. Nothing is searched again.
     pub fn duplicates(&self) -> UpToTwo<&T>
-        ensures { map (λ item. item.now) result ≡ order (ranks T.BiHashItem T.K1.Hash T.K2.Hash) (bag self.now.map.now) self.now.new_item }
+        ensures { map (λ item. item.now) result
+            ≡ order (ranks T.BiHashItem T.K1.eq T.K2.eq) (bag self.now.map.now) self.now.new_item }
     {
         let map = &*self.map;
         map.items_of(&self.found)
@@ -85,7 +72,8 @@ impl<'a, T: BiHashItem, S: BuildHasher> DuplicateError<'a, T, S> {
     /// The item that was refused, by value, with the items of the map that conflict with it, in the order of the keys.
     pub fn into_parts(self) -> (T, UpToTwo<&'a T>)
         ensures item { result.0 ≡ self.entry.new_item }
-        ensures duplicates { map (λ item. item.now) result.1 ≡ order (ranks T.BiHashItem T.K1.Hash T.K2.Hash) (bag self.entry.map.now) self.entry.new_item }
+        ensures duplicates { map (λ item. item.now) result.1
+            ≡ order (ranks T.BiHashItem T.K1.eq T.K2.eq) (bag self.entry.map.now) self.entry.new_item }
     {
         let DuplicateError {
             map,

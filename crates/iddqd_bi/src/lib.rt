@@ -3,15 +3,17 @@
 
 mod command;
 mod error;
-mod hashes;
 mod item;
-mod iter;
 mod map;
-mod matchers;
 mod pointers;
+mod ranks;
 
 pub use command::{BiCommand, BiReply, BiSink};
 pub use error::{DuplicateError, FromIterError, InsertError, MemoryError};
 pub use item::{BiHashItem, BiHashItemMut};
-pub use iter::{IntoIter, Iter};
 pub use map::{BiHashMap, DefaultHashBuilder};
+
+// What the calls name of the parts that all maps share.
+pub use iddqd_store::{
+    DuplicateItem, Equivalent, IntoIter, Iter, KeyMatcher, MemoryRefused, Meter, TryReserveError, UpToTwo,
+};

@@ -17,6 +17,7 @@ mod remove;
 mod retain;
 mod run;
 mod shrink;
+mod slots;
 #[cfg(test)]
 mod tests_capacity;
 
@@ -34,17 +35,23 @@ pub struct BiHashMap<T: BiHashItem, S: BuildHasher = DefaultHashBuilder> {
 }
 
 impl<T: BiHashItem, S: BuildHasher> Model for BiHashMap<T, S> {
-    ghost use Rattle.std.specs.Prelude.{min};
+    ghost use Rattle.std.specs.Prelude.{[], ◌∷◌, min};
     ghost use Rattle.iddqd_store.specs.Map.{Map, map_code};
-    ghost use Rattle.iddqd_bi.specs.Keys.{keys, ranks, key1_hash, key2_hash};
-    ghost use Rattle.iddqd_bi.specs.Indexed.{IsIndexed};
+    ghost use Rattle.iddqd_store.specs.Indexed.{IsIndexed};
+    ghost use Rattle.iddqd_store.specs.Rank.{key_hash};
+    ghost use Rattle.iddqd_bi.specs.Keys.{ranks};
 
     ghost Value = { Map T S };
 
     ghost coded = { map_code T.code S.code };
 
-    ghost view = { λ m. record { slots = m.items.slots; capacity = min m.items.capacity (min m.first.limit m.second.limit); builder = m.hash_builder } };
+    ghost view = { λ m. record {
+        slots = m.items.slots;
+        capacity = min m.items.capacity (min m.first.limit m.second.limit);
+        builder = m.hash_builder } };
 
-    ghost invariant = { λ m. let keys1 = keys T.K1.eq T.K1.hash_input in let keys2 = keys T.K2.eq T.K2.hash_input in
-        IsIndexed (ranks T.BiHashItem keys1 keys2) (key1_hash T.BiHashItem keys1 S.BuildHasher S.Hasher.Hasher m.hash_builder) (key2_hash T.BiHashItem keys2 S.BuildHasher S.Hasher.Hasher m.hash_builder) m.items.slots m.first.pairs m.second.pairs };
+    ghost invariant = { λ m. IsIndexed (ranks T.BiHashItem T.K1.eq T.K2.eq)
+        (key_hash T.key1 T.K1.hash_input S.BuildHasher S.Hasher.Hasher m.hash_builder
+        ∷ key_hash T.key2 T.K2.hash_input S.BuildHasher S.Hasher.Hasher m.hash_builder ∷ [])
+        m.items.slots (m.first.pairs ∷ m.second.pairs ∷ []) };
 }

@@ -1,7 +1,5 @@
 -- What a run of commands prints.
 use Rattle.std.specs.Prelude.{◌≡◌, ◌++◌, [], ◌∷◌, ℕ, List, nat_eq, Result, Ok, Err}
-use Rattle.std.specs.Hash as fed
-use Rattle.std.specs.HashMap.Lent.{HashMembers}
 use Rattle.std.specs.List.{flat_map}
 use Rattle.iddqd_store.specs.Reply.{Reply}
 use Rattle.iddqd_store.specs.Run.{Run}
@@ -26,13 +24,9 @@ KeepsReply old reply (Err e) new = ⊥
 abbrev pub item_keys : of.Ghosts BiItem ℕ ℕ
 item_keys = record { key1 = λ item. item.key1; key2 = λ item. item.key2 }
 
--- how keys are compared and hashed
-abbrev pub numbers : HashMembers ℕ
-numbers = record { eq = nat_eq; hash_input = fed.u64 }
-
 -- the replies of a run of the commands on a new map
 abbrev pub Replies : List Command → List (Reply BiItem ℕ) → Type 0
-Replies commands replies = (new : State BiItem) × Run (Step item_keys numbers numbers) KeepsReply empty_state [] commands (Ok tt) new replies
+Replies commands replies = (new : State BiItem) × Run (Step item_keys nat_eq nat_eq) KeepsReply empty_state [] commands (Ok tt) new replies
 
 -- the lines of these replies
 abbrev pub Prints : List Command → List ℕ → Type 0

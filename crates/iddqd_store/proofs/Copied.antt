@@ -26,4 +26,4 @@ module _ {T : Type 0} (is_clone : T → T → Type 0) where
 
     pub IsIndex-copy : (slots copy : List (Option T)) (pairs : List (ℕ × ℕ)) → ((x c : T) → Contains (live_items slots) x → is_clone x c → other c ≡ hash x) → AllZip (IsSlotClone is_clone) slots copy → IsIndex hash slots pairs → IsIndex other copy pairs
     IsIndex-copy slots copy pairs alike all indexed =
-        subst (λ l. IsPermutation pairs l) (sym (same_pairs 0 slots copy (λ x c found is. alike x c (subst (λ l. Contains l x) (sym (live_items-items_in slots)) found) is) all)) indexed
+        record { paired = subst (λ l. IsPermutation pairs l) (sym (same_pairs 0 slots copy (λ x c found is. alike x c (subst (λ l. Contains l x) (sym (live_items-items_in slots)) found) is) all)) indexed.paired }

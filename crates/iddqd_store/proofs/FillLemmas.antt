@@ -52,7 +52,7 @@ module _ {T : Type 0} (hash : T → ℕ) (slots : List (Option T)) where
   pub IsFilling-end : (at : ℕ) (pairs : List (ℕ × ℕ)) → length slots ≤ at → IsFilling at pairs → IsIndex hash slots pairs
   IsFilling-end at pairs past filling =
       let none : pairs_from at ≡ [] = rw (drop_all at slots past) refl in
-      subst (λ all. IsPermutation all (map (pair_of hash) (members slots))) (ap (λ rest. pairs ++ rest) none ∙ append-nil pairs) filling
+      record { paired = subst (λ all. IsPermutation all (map (pair_of hash) (members slots))) (ap (λ rest. pairs ++ rest) none ∙ append-nil pairs) filling }
 
 module _ {T : Type 0} where
   items_in-all : (xs : List T) → items_in (map Some xs) ≡ xs

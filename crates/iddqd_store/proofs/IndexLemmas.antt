@@ -9,9 +9,9 @@ use Rattle.iddqd_store.proofs.SlotLemmas.{members-take}
 use Rattle.std.proofs.lemmas.Bool.Decides.{nat_tests}
 use Rattle.std.proofs.lemmas.List.Sums.{sum_by-cons}
 use Rattle.std.proofs.lemmas.Map.Keys.{IsDistinct-head, IsDistinct-cons, IsDistinct-IsPermutation}
-use Rattle.std.proofs.lemmas.List.Sorted.{IsPermutation-sym, IsPermutation-cons, IsPermutation-trans, IsPermutation-map, length_permutation, Contains-permutation, sum_by-IsPermutation}
+use Rattle.std.proofs.lemmas.List.Sorted.{IsPermutation-refl, IsPermutation-sym, IsPermutation-cons, IsPermutation-trans, IsPermutation-map, length_permutation, Contains-permutation, sum_by-IsPermutation}
 use Rattle.iddqd_store.specs.Slots.{get, live_count, members_from, members, live_items}
-use Rattle.iddqd_store.specs.Indexed.{pair_of, IsIndex, passes_at}
+use Rattle.iddqd_store.specs.Indexed.{pair_of, IsIndex, HasHash, passes_at}
 use Rattle.iddqd_store.specs.Bag.{NamesOne}
 use Rattle.iddqd_store.proofs.BagLemmas.{each_weaker, named_is, without_named, IsDistinct-nil}
 use Rattle.iddqd_store.proofs.Shuffled.{split}
@@ -30,6 +30,13 @@ pub Contains-map : {X Y : Type 0} (f : X → Y) (xs : List X) (x : X) → Contai
 Contains-map f [] x h = absurd (omega (arith, h.1))
 Contains-map f (y ∷ ys) x (zero, within, found) = (0, omega arith, ap f found)
 Contains-map f (y ∷ ys) x (suc k, within, found) = Contains-cons (f y) (f x) (map f ys) (Contains-map f ys x (k, omega arith, found))
+
+Contains-of_map : {X Y : Type 0} (f : X → Y) (xs : List X) (y : Y) → Contains (map f xs) y → (x : X) × Contains xs x × (f x ≡ y)
+Contains-of_map f [] y h = absurd (omega (arith, h.1))
+Contains-of_map f (x ∷ xs) y (zero, within, found) = (x, Contains-here x xs, found)
+Contains-of_map f (x ∷ xs) y (suc k, within, found) =
+    let rest = Contains-of_map f xs y (k, omega arith, found) in
+    (rest.0, Contains-cons x rest.0 xs rest.1, rest.2)
 
 length-map : {X Y : Type 0} (f : X → Y) (xs : List X) → length (map f xs) ≡ length xs
 length-map f [] = refl
@@ -111,7 +118,7 @@ module _ {T : Type 0} where
   none_is hash test h slots pairs index alike none =
       none_of_map (λ m. m.1) test (members slots) (each_from_Contains (λ m. test m.1 ≡ false) (members slots) (λ m listed.
       let stands = at_member slots m.0 m.1 listed in
-      let paired : Contains pairs (hash m.1, m.0) = Contains-permutation _ _ _ (IsPermutation-sym _ _ index) (Contains-map (pair_of hash) (members slots) m listed) in
+      let paired : Contains pairs (hash m.1, m.0) = Contains-permutation _ _ _ (IsPermutation-sym _ _ index.paired) (Contains-map (pair_of hash) (members slots) m listed) in
       split (λ b. b ≡ false) (test m.1)
       (λ yes.
       let same = alike m.1 (item_at slots m.0 m.1 stands) yes in
@@ -120,11 +127,21 @@ module _ {T : Type 0} where
       sym yes ∙ sym is ∙ refused)
       (λ _. refl)))
 
-  pub IsIndex-insert : (hash : T → ℕ) (old new : List (Option T)) (pairs more : List (ℕ × ℕ)) (at : ℕ) (x : T) → IsIndex hash old pairs → IsPermutation (members new) ((at, x) ∷ members old) → IsPermutation more ((hash x, at) ∷ pairs) → IsIndex hash new more
-  IsIndex-insert hash old new pairs more at x index added paired =
-      IsPermutation-trans _ _ _ paired
-      (IsPermutation-trans _ _ _ (IsPermutation-cons (hash x, at) _ _ index)
-      (IsPermutation-sym _ _ (IsPermutation-map (pair_of hash) _ _ added)))
+  pub IsIndex-empty : {hash : T → ℕ} → IsIndex hash [] []
+  IsIndex-empty = record { paired = IsPermutation-refl [] }
+
+  -- a table in another order indexes the same
+  pub IsIndex-reorder : {hash : T → ℕ} {slots : List (Option T)} {pairs more : List (ℕ × ℕ)} → IsIndex hash slots pairs → IsPermutation pairs more → IsIndex hash slots more
+  IsIndex-reorder index same = record { paired = IsPermutation-trans _ _ _ (IsPermutation-sym _ _ same) index.paired }
+
+  -- a pair and its slot come together
+  pub IsIndex-insert : {hash : T → ℕ} {old new : List (Option T)} {pairs more : List (ℕ × ℕ)} {at h : ℕ} (x : T) → IsIndex hash old pairs → h ≡ hash x → IsPermutation (members new) ((at, x) ∷ members old) → IsPermutation ((h, at) ∷ pairs) more → IsIndex hash new more
+  IsIndex-insert {hash = hash} {pairs = pairs} {more = more} {at = at} x index is added paired = record {
+    paired =
+      IsPermutation-trans _ _ _ (IsPermutation-sym _ _ (subst (λ k. IsPermutation ((k, at) ∷ pairs) more) is paired))
+      (IsPermutation-trans _ _ _ (IsPermutation-cons (hash x, at) _ _ index.paired)
+      (IsPermutation-sym _ _ (IsPermutation-map (pair_of hash) _ _ added)));
+  }
 
   -- slot numbers differ
   low_pairs : (hash : T → ℕ) (first : ℕ) (slots : List (Option T)) → AllByRecursion (λ p. first ≤ p.1) (map (pair_of hash) (members_from first slots))
@@ -141,24 +158,41 @@ module _ {T : Type 0} where
       (distinct_pairs hash (first + 1) rest)
 
   -- a pair and its slot leave together
-  pub IsIndex-remove : (hash : T → ℕ) (old new : List (Option T)) (pairs fewer : List (ℕ × ℕ)) (at : ℕ) (x : T) → IsIndex hash old pairs → IsPermutation (members old) ((at, x) ∷ members new) → IsPermutation pairs ((hash x, at) ∷ fewer) → IsIndex hash new fewer
-  IsIndex-remove hash old new pairs fewer at x index taken paired =
+  pub IsIndex-remove : {hash : T → ℕ} {old new : List (Option T)} {pairs fewer : List (ℕ × ℕ)} {at h : ℕ} (x : T) → IsIndex hash old pairs → h ≡ hash x → IsPermutation (members old) ((at, x) ∷ members new) → IsPermutation pairs ((h, at) ∷ fewer) → IsIndex hash new fewer
+  IsIndex-remove {hash = hash} {old = old} {new = new} {pairs = pairs} {fewer = fewer} {at = at} x index is taken leaves =
+      let paired : IsPermutation pairs ((hash x, at) ∷ fewer) = subst (λ k. IsPermutation pairs ((k, at) ∷ fewer)) is leaves in
       let slot : ℕ × ℕ → ℕ × ℕ → Bool = λ p q. p.1 == q.1 in
       let left : List (ℕ × ℕ) = map (pair_of hash) (members new) in
-      let other : IsPermutation pairs ((hash x, at) ∷ left) = IsPermutation-trans _ _ _ index (IsPermutation-map (pair_of hash) _ _ taken) in
-      let apart : IsDistinct slot pairs = IsDistinct-IsPermutation slot same_slot_symm _ _ (IsPermutation-sym _ _ index) (distinct_pairs hash 0 old) in
+      let other : IsPermutation pairs ((hash x, at) ∷ left) = IsPermutation-trans _ _ _ index.paired (IsPermutation-map (pair_of hash) _ _ taken) in
+      let apart : IsDistinct slot pairs = IsDistinct-IsPermutation slot same_slot_symm _ _ (IsPermutation-sym _ _ index.paired) (distinct_pairs hash 0 old) in
       let first = without_named slot (λ p. at == p.1) (names_slot at) pairs fewer (hash x, at) (IsDistinct-IsPermutation slot same_slot_symm _ _ paired apart) (itself at) paired in
       let second = without_named slot (λ p. at == p.1) (names_slot at) pairs left (hash x, at) (IsDistinct-IsPermutation slot same_slot_symm _ _ other apart) (itself at) other in
-      IsPermutation-trans _ _ _ (IsPermutation-sym _ _ first) second
+      record { paired = IsPermutation-trans _ _ _ (IsPermutation-sym _ _ first) second }
 
   -- the pair of a live slot is in its table
-  pub pair_in : (hash : T → ℕ) (slots : List (Option T)) (pairs : List (ℕ × ℕ)) (at : ℕ) (x : T) → IsIndex hash slots pairs → get slots at ≡ Some x → Contains pairs (hash x, at)
-  pair_in hash slots pairs at x index found =
-      Contains-permutation _ _ _ (IsPermutation-sym _ _ index) (Contains-map (pair_of hash) (members slots) (at, x) (member_at slots at x found))
+  pub pair_in : {hash : T → ℕ} {slots : List (Option T)} {pairs : List (ℕ × ℕ)} (at : ℕ) (x : T) (h : ℕ) → IsIndex hash slots pairs → h ≡ hash x → get slots at ≡ Some x → Contains pairs (h, at)
+  pair_in {hash = hash} {slots = slots} {pairs = pairs} at x h index is found =
+      subst (λ k. Contains pairs (k, at)) (sym is) (Contains-permutation _ _ _ (IsPermutation-sym _ _ index.paired) (Contains-map (pair_of hash) (members slots) (at, x) (member_at slots at x found)))
 
-  pub length-index : (hash : T → ℕ) (slots : List (Option T)) (pairs : List (ℕ × ℕ)) → IsIndex hash slots pairs → length pairs ≡ live_count slots
-  length-index hash slots pairs index =
-      sym (length_permutation _ _ index) ∙ length-map (pair_of hash) (members slots) ∙ length-members_from 0 slots
+  -- an item in a slot that is paired with a hash has this hash
+  pub hash_at : {hash : T → ℕ} {slots : List (Option T)} {pairs : List (ℕ × ℕ)} (at h : ℕ) (x : T) → IsIndex hash slots pairs → Contains pairs (h, at) → get slots at ≡ Some x → hash x ≡ h
+  hash_at {hash = hash} {slots = slots} at h x index listed found =
+      let source = Contains-of_map (pair_of hash) (members slots) (h, at) (Contains-permutation _ _ _ index.paired listed) in
+      let there : get slots source.0.0 ≡ Some source.0.1 = at_member slots source.0.0 source.0.1 source.1 in
+      let slot : source.0.0 ≡ at = ap (λ p. p.1) source.2 in
+      let same : Some x ≡ Some source.0.1 = sym found ∙ ap (get slots) (sym slot) ∙ there in
+      let item : x ≡ source.0.1 = cc in
+      ap hash item ∙ ap (λ p. p.0) source.2
+
+  -- a hash that is given is that of the item
+  pub hash_known : {hash : T → ℕ} {slots : List (Option T)} {pairs : List (ℕ × ℕ)} (at : ℕ) (x : T) (known : Option ℕ) → IsIndex hash slots pairs → IfSome known (HasHash hash slots at) → get slots at ≡ Some x → IfSome known (λ h. hash x ≡ h)
+  hash_known at x None index has found = tt
+  hash_known at x (Some h) index has found = has x found
+
+  -- as many pairs as items
+  pub length-index : {hash : T → ℕ} {slots : List (Option T)} {pairs : List (ℕ × ℕ)} → IsIndex hash slots pairs → length pairs ≡ length (live_items slots)
+  length-index {hash = hash} {slots = slots} index =
+      sym (length_permutation _ _ index.paired) ∙ length-map (pair_of hash) (members slots) ∙ sym (length-map (λ m. m.1) (members slots))
 
   -- a search gives the slot of the item that is named, if there is one
   pub search_is : (agree : T → T → Bool) (test : T → Bool) → NamesOne agree test → (hash : T → ℕ) (h : ℕ) (slots : List (Option T)) (pairs : List (ℕ × ℕ)) (r : Option ℕ) → IsDistinct agree (live_items slots) → IsIndex hash slots pairs → ((x : T) → Contains (live_items slots) x → test x ≡ true → hash x ≡ h) → IfSome r (λ at. passes_at test slots at ≡ true) → IfNone r ((at : ℕ) → Contains pairs (h, at) → passes_at test slots at ≡ false) → option_to_list (option_and_then (get slots) r) ≡ filter test (live_items slots)
@@ -190,7 +224,7 @@ sum_by-map f h (x ∷ xs) = omega (arith, sum_by-map f h xs, sum_by-cons f (h x)
 -- as many pairs have a hash as items
 pub crowd_is : {T : Type 0} (hash : T → ℕ) (h : ℕ) (slots : List (Option T)) (pairs : List (ℕ × ℕ)) → IsIndex hash slots pairs → count_by (λ p. p.0 == h) pairs ≡ count_by (λ x. hash x == h) (live_items slots)
 crowd_is hash h slots pairs index =
-    let moved = sum_by-IsPermutation (λ p. cond (p.0 == h) 1 0) _ _ index in
+    let moved = sum_by-IsPermutation (λ p. cond (p.0 == h) 1 0) _ _ index.paired in
     let first = sum_by-map (λ (p : ℕ × ℕ). cond (p.0 == h) 1 0) (pair_of hash) (members slots) in
     let second = sum_by-map (λ x. cond (hash x == h) 1 0) (λ m. m.1) (members slots) in
     sym moved ∙ first ∙ sym second

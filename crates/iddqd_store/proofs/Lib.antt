@@ -11,12 +11,14 @@ pub mod FillLemmas
 pub mod FoundLemmas
 pub mod Hole
 pub mod IndexLemmas
+pub mod IndexedLemmas
 pub mod Line
 pub mod Looks
 pub mod MapLemmas
 pub mod MapLooks
 pub mod OverLemmas
 pub mod Partners
+pub mod RankLemmas
 pub mod Rows
 pub mod RunLemmas
 pub mod SameBag

@@ -1,12 +1,13 @@
 -- What the maps' invariants share, with any number of ranks.
-use Rattle.std.specs.Prelude.{◌≡◌, ℕ, Bool, true, false, cond, List, [], ◌∷◌, filter, IsPermutation, Option}
+use Rattle.std.specs.Prelude.{◌≡◌, ◌+◌, ◌<◌, ◌≤◌, ℕ, Bool, true, false, cond, List, [], ◌∷◌, length, filter, IsPermutation, Option, Result, Ok, Err, OnErr}
 use Rattle.std.specs.List.{AllByRecursion}
 use Rattle.std.specs.Cmp.{IsEquivalence}
-use Rattle.std.proofs.Common.{refl}
-use Rattle.std.proofs.lemmas.Map.Keys.{IsDistinct-cons}
-use Rattle.std.proofs.lemmas.List.Sorted.{IsPermutation-sym, IsPermutation-map}
+use Rattle.std.proofs.Common.{refl, sym, subst, arith}
+use Rattle.std.proofs.lemmas.Map.Keys.{IsDistinct-cons, IsDistinct-tail}
+use Rattle.std.proofs.lemmas.List.Sorted.{IsPermutation-refl, IsPermutation-sym, IsPermutation-map}
 use Rattle.iddqd_store.specs.Slots.{members, live_items}
 use Rattle.iddqd_store.specs.Bag.{Ranks, AreLawful, IsSound, conflicts, clash}
+use Rattle.iddqd_store.specs.Map.{Map, bag, Loses, MakesRoom}
 use Rattle.iddqd_store.proofs.BagLemmas.{IsSound-IsPermutation}
 
 -- keys tell items apart by an equivalence
@@ -34,3 +35,28 @@ module _ {T : Type 0} where
   free_sound ranks laws old new at x sound free moved =
       IsSound-IsPermutation ranks laws _ _ (IsPermutation-sym _ _ (IsPermutation-map (λ m. m.1) _ _ moved))
       (IsDistinct-cons (conflicts ranks) x (live_items old) (none_from_filter (conflicts ranks x) (live_items old) free) sound)
+
+  -- a sound bag without one of its items is sound
+  pub sound_without : (ranks : Ranks T) → AreLawful ranks → (old new : List (Option T)) (at : ℕ) (x : T) → IsSound ranks (live_items old) → IsPermutation (members old) ((at, x) ∷ members new) → IsSound ranks (live_items new)
+  sound_without ranks laws old new at x sound moved =
+      IsDistinct-tail (conflicts ranks) x (live_items new) (IsSound-IsPermutation ranks laws _ _ (live_items-moves old new at x moved) sound)
+
+pub on_err : {A E P : Type 0} (r : Result A E) → P → OnErr r P
+on_err (Ok _) p = tt
+on_err (Err _) p = p
+
+module _ {T S : Type 0} where
+  -- nothing is taken out
+  pub Loses-nothing : (m : Map T S) → Loses m [] m
+  Loses-nothing m = record { items = IsPermutation-refl (bag m); same_room = refl; same_builder = refl }
+
+  -- room is refused, where so many items don't fit
+  pub MakesRoom-refused : {A E : Type 0} {old new : Map T S} {more : ℕ} (r : Result A E) (e : E) → r ≡ Err e → old.capacity < length (bag old) + more → old.capacity ≤ new.capacity → new.builder ≡ old.builder → MakesRoom old more r new
+  MakesRoom-refused {A = A} {E = E} {old = old} {new = new} {more = more} r e is short no_less same = subst (λ (x : Result A E). MakesRoom old more x new) (sym is) record {
+    granted = tt;
+    refused = short;
+    past = λ _. refl;
+    no_less_room = no_less;
+    same_room = λ fits. absurd (omega (arith, short, fits));
+    same_builder = same;
+  }

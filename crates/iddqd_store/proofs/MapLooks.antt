@@ -15,7 +15,7 @@ module _ {T : Type 0} where
   hashes-index hash slots pairs index =
       subst (IsPermutation (hashes pairs))
       (map-map (λ (p : ℕ × ℕ). p.0) (pair_of hash) (members slots) ∙ sym (map-map hash (λ (m : ℕ × T). m.1) (members slots)))
-      (IsPermutation-map (λ (p : ℕ × ℕ). p.0) pairs (map (pair_of hash) (members slots)) index)
+      (IsPermutation-map (λ (p : ℕ × ℕ). p.0) pairs (map (pair_of hash) (members slots)) index.paired)
 
   -- a table's search looks as one over the members' hashes
   pub looks_within : {A : Type 0} (hash : T → ℕ) (slots : List (Option T)) (pairs : List (ℕ × ℕ)) (cells room h : ℕ) (answer : Option A) (before after : ℕ) → IsIndex hash slots pairs → IsSize cells → room ≤ cells / 8 * 7 → LooksUp (hashes pairs) cells h answer before after → LooksUpWithin (map hash (live_items slots)) room h answer before after

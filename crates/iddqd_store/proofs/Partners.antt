@@ -1,6 +1,6 @@
 -- A search of the partners that the members of a sound bag have in another.
-use Rattle.std.specs.Prelude.{◌≡◌, ◌≢◌, zero, suc, ◌<◌, Bool, true, false, ◌&&◌, ◌||◌, List, [], ◌∷◌, length, Option, Some, None, filter, Contains}
-use Rattle.std.specs.Bool.{Decides}
+use Rattle.std.specs.Prelude.{◌≡◌, ◌≢◌, zero, suc, ◌<◌, ◌↔◌, Bool, true, false, ◌&&◌, ◌||◌, List, [], ◌∷◌, length, Option, Some, None, filter, Contains}
+use Rattle.std.specs.Bool.{IsTrue}
 use Rattle.std.specs.Cmp.{IsPartialEquivalence}
 use Rattle.std.specs.List.{list_all, list_any}
 use Rattle.std.specs.Option.{option_to_list}
@@ -52,7 +52,7 @@ module _ {T : Type 0} where
 
 module _ {T : Type 0} (ranks : Ranks T) (eq : T → T → Bool) (laws : AreLawful ranks) (same : IsPartialEquivalence eq) (bag other : List T) where
   -- whatever answers as the test does decides whether the bags are the same
-  pub same_decides : (r : Bool) → r ≡ is_same ranks eq bag other → Decides r (IsSameBag ranks eq bag other)
+  pub same_decides : (r : Bool) → r ≡ is_same ranks eq bag other → IsTrue r ↔ IsSameBag ranks eq bag other
   same_decides r is = (λ h. is_same-IsSameBag ranks eq laws same bag other (sym is ∙ h), λ h. is ∙ IsSameBag-is_same ranks eq laws same bag other h)
 
   by_answer : (is_same ranks eq bag other ≡ true → ⊥) → is_same ranks eq bag other ≡ false

@@ -2,6 +2,8 @@
 use Rattle.std.specs.Prelude.{◌≡◌, List, [], ◌∷◌, Option, Some, Ok, Err, IsPermutation}
 use Rattle.std.specs.Iterator.{Drains, YieldsThen}
 use Rattle.iddqd_store.specs.Bag.{Ranks, add, adds}
+use Rattle.iddqd_store.specs.declared.error.FromIterError.{FromIterError}
+use Rattle.iddqd_store.specs.declared.error.FromIterError.TheVariants.{Duplicate, Memory}
 
 module _ {U S T : Type 0} (becomes : U → S → Type 0) (steps : S → Option T → S → Type 0) where
   -- the iterator gave a whole list, of which P holds
@@ -24,3 +26,8 @@ module _ {T : Type 0} (ranks : Ranks T) where
   -- each was added, and nothing conflicts with x
   abbrev pub HasPlaceFor : T → List T → Type 0
   HasPlaceFor x xs = (made : List T) × (adds ranks [] xs ≡ Ok made) × (add ranks made x ≡ Ok (x ∷ made))
+
+-- P of the item and those that conflict with it, and Q of the item where there is no memory
+abbrev pub MatchFromIterError : {T L : Type 0} → FromIterError T L → (T → L → Type 0) → (T → Type 0) → Type 0
+MatchFromIterError (Duplicate d) P Q = P d.new_item d.duplicates
+MatchFromIterError (Memory x) P Q = Q x

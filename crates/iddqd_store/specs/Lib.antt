@@ -7,6 +7,7 @@ pub mod Indexed
 pub mod Lends
 pub mod Limit
 pub mod Map
+pub mod Rank
 pub mod Reply
 pub mod Ring
 pub mod Run

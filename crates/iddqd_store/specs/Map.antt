@@ -1,10 +1,13 @@
 -- What a contract sees of a map, with any number of ranks.
-use Rattle.std.specs.Prelude.{◌≡◌, ◌≤◌, ◌<◌, ℕ, List, ◌∷◌, Option, length, fold, refl, IsPermutation}
+use Rattle.std.specs.Prelude.{◌≡◌, ◌≢◌, ◌+◌, ◌*◌, ◌^◌, ◌≤◌, ◌<◌, ℕ, nat_eq, List, [], ◌∷◌, ◌++◌, Option, Result, IsErr, OnOk, OnErr, All, length, fold, refl, IsPermutation}
 use Rattle.std.specs.Coded.{Coded, code_by, coded×, coded_ℕ, coded_list, coded_option}
 use Rattle.std.specs.Hash.{HashWrites}
+use Rattle.std.specs.List.{IsDistinct}
 use Rattle.std.specs.declared.hash.Hasher as hasher
 use Rattle.std.specs.declared.hash.BuildHasher as builder
-use Rattle.iddqd_store.specs.Slots.{live_items}
+use Rattle.iddqd_store.specs.Bag.{Ranks, clash, order}
+use Rattle.iddqd_store.specs.Searched.{items_at}
+use Rattle.iddqd_store.specs.Slots.{live_items, IsLive}
 
 -- the items by their slots, how many fit, and what makes the hashes. Public clauses cite the slots as `bag` alone
 pub record Map (T S : Type 0) : Type 0 where
@@ -31,3 +34,34 @@ pub record Gains {T S : Type 0} (old : Map T S) (item : T) (new : Map T S) : Typ
   pub no_less_room : old.capacity ≤ new.capacity
   pub same_room : length (bag old) < old.capacity → new.capacity ≡ old.capacity
   pub same_builder : new.builder ≡ old.builder
+
+-- the map without these items, which are given back. The room stays
+pub record Loses {T S : Type 0} (old : Map T S) (gone : List T) (new : Map T S) : Type 0 where
+  pub items : IsPermutation (bag old) (gone ++ bag new)
+  pub same_room : new.capacity ≡ old.capacity
+  pub same_builder : new.builder ≡ old.builder
+
+-- room is made for so many more items, or refused. It is refused only where they don't fit, and grows only there
+pub record MakesRoom {T S A E : Type 0} (old : Map T S) (more : ℕ) (result : Result A E) (new : Map T S) : Type 0 where
+  pub granted : OnOk result (length (bag old) + more ≤ new.capacity)
+  pub refused : OnErr result (old.capacity < length (bag old) + more)
+  pub past : 7 * 2 ^ 60 < length (bag old) + more → IsErr result
+  pub no_less_room : old.capacity ≤ new.capacity
+  pub same_room : length (bag old) + more ≤ old.capacity → new.capacity ≡ old.capacity
+  pub same_builder : new.builder ≡ old.builder
+
+-- nothing conflicts with the item, and the map is full
+pub record IsFullFor {T S : Type 0} (ranks : Ranks T) (m : Map T S) (x : T) : Type 0 where
+  pub free : clash ranks (bag m) x ≡ []
+  pub full : length (bag m) ≡ m.capacity
+
+-- these are the slots of what conflicts with the item, in the order of the keys. No public clause cites it
+pub record ListsConflicts {T S : Type 0} (ranks : Ranks T) (m : Map T S) (x : T) (found : List ℕ) : Type 0 where
+  pub items : items_at m.slots found ≡ order ranks (bag m) x
+  pub live : All (IsLive m.slots) found
+  pub apart : IsDistinct nat_eq found
+
+-- the item is refused for what stands in these slots. No public clause cites it
+pub record IsBlockedAt {T S : Type 0} (ranks : Ranks T) (m : Map T S) (x : T) (at : List ℕ) : Type 0 where
+  pub some : clash ranks (bag m) x ≢ []
+  pub found : ListsConflicts ranks m x at

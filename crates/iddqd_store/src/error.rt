@@ -14,6 +14,15 @@ pub struct MemoryRefused<T> {
     pub value: T,
 }
 
+/// Why no map was built of some items. The map of the items before is dropped.
+#[derive(Drop)]
+pub enum FromIterError<T, L> {
+    /// An item, and those before it that conflict with it: a short list `L` of them, in the order of the keys.
+    Duplicate(DuplicateItem<T, L>),
+    /// An item that nothing conflicts with, and for which there was no memory.
+    Memory(T),
+}
+
 /// An item that was refused, and the items in its way: a short list `L` of them or of references to them, in the
 /// order of the keys.
 #[derive(Drop)]

@@ -132,6 +132,7 @@ impl IndexTable {
     pub fn capacity(&self) -> usize
         ensures value { result ≡ self.now.limit }
         ensures most { result ≤ 7 * 2 ^ 60 }
+        ensures holds { length self.now.pairs ≤ result }
     {
         self.cells.len() / 8 * 7
     }
@@ -242,6 +243,7 @@ impl IndexTable {
         ensures taken { IsPermutation self.old.pairs ((hash, ix) ∷ self.new.pairs) }
         ensures cells { length self.new.row ≡ length self.old.row }
         ensures limit { self.new.limit ≡ self.old.limit }
+        ensures room { length self.new.pairs < self.new.limit }
         ensures looks { meter.new
             ≡ meter.old + stretch (hashes self.old.pairs) (length self.old.row) hash + 1 }
         ensures within { stretch (hashes self.old.pairs) (length self.old.row) hash

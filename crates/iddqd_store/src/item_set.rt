@@ -8,7 +8,6 @@ ghost use Rattle.iddqd_store.specs.SlotChain.{item_of};
 mod build;
 mod clone;
 mod compact;
-mod fill;
 #[cfg(test)]
 mod tests;
 mod values;
@@ -18,7 +17,7 @@ use crate::item_index::ItemIndex;
 use std::alloc::Global;
 use std::marker::Model;
 use std::mem;
-pub use values::{IntoValues, Values};
+pub use values::{IntoIter, Iter};
 
 /// Items in slots, each found by the number of its slot. Contracts see the slots, each with its item or free, and how
 /// many items fit.
@@ -105,6 +104,13 @@ impl<T> ItemSet<T> {
         ensures fits { result ≤ self.now.capacity }
     {
         self.live
+    }
+
+    /// How many slots there are, live or free.
+    pub(crate) fn slot_count(&self) -> usize
+        ensures { result ≡ length self.now.slots }
+    {
+        self.slots.len()
     }
 
     /// How many items fit without growing.
@@ -215,6 +221,7 @@ impl<T> ItemSet<T> {
         ensures slots { OnSome result (self.new.slots ≡ slice_set self.old.slots ix None) }
         ensures updates { Updates self.old.slots self.new.slots ix None }
         ensures members { IfSome result (λ x. IsPermutation (members self.old.slots) ((ix, x) ∷ members self.new.slots)) }
+        ensures room { OnSome result (live_count self.new.slots < self.new.capacity) }
         ensures absent { IfNone result (self.new ≡ self.old) }
         ensures capacity { self.new.capacity ≡ self.old.capacity }
     {
@@ -230,6 +237,7 @@ impl<T> ItemSet<T> {
         ensures value { get self.old.slots at ≡ Some result }
         ensures slots { self.new.slots ≡ slice_set self.old.slots at None }
         ensures capacity { self.new.capacity ≡ self.old.capacity }
+        ensures room { live_count self.new.slots < self.new.capacity }
     {
         let free = Slot::Free(self.head);
         match mem::replace(&mut self.slots[at], free) {

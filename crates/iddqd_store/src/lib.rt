@@ -1,29 +1,27 @@
 //! The parts of the multi-key maps: slots for items, tables of hashes, and the words that their contracts share.
 #![tactic(auto)]
 
-mod by_query;
 mod cells;
 mod equivalent;
 mod error;
 mod index_table;
-mod item_hash;
 mod item_index;
 mod item_set;
 mod key_matcher;
 mod matcher;
 mod meter;
+mod rank;
 mod up_to_three;
 mod up_to_two;
 
-pub use by_query::ByQuery;
 pub use equivalent::Equivalent;
-pub use error::{DuplicateItem, MemoryRefused, TryReserveError};
+pub use error::{DuplicateItem, FromIterError, MemoryRefused, TryReserveError};
 pub use index_table::IndexTable;
-pub use item_hash::ItemHash;
 pub use item_index::ItemIndex;
-pub use item_set::{IntoValues, ItemSet, Values};
+pub use item_set::{IntoIter, ItemSet, Iter};
 pub use key_matcher::KeyMatcher;
 pub use matcher::Matcher;
 pub use meter::Meter;
+pub use rank::{ByQuery, KeyOf, Lookup};
 pub use up_to_three::UpToThree;
 pub use up_to_two::UpToTwo;

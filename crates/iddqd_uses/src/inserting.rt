@@ -1,7 +1,7 @@
 //! What a caller knows of a map after an insert, granted or refused.
 ghost use Rattle.std.specs.Prelude.{◌≡◌, ◌≢◌, ◌≤◌, ◌∷◌, [], length, IsPermutation, OnOk, OnErr, IfErr};
 ghost use Rattle.std.specs.Bool.{OnTrue, OnFalse};
-ghost use Rattle.iddqd_store.specs.Bag.{clash, order};
+ghost use Rattle.iddqd_store.specs.Bag.{clash, order, over};
 ghost use Rattle.iddqd_store.specs.Map.{bag};
 ghost use Rattle.iddqd_bi.specs.Keys.{ranks};
 ghost use Rattle.iddqd_uses.specs.Inserting.{GainsBoth, MayRefuse};
@@ -16,7 +16,7 @@ pub fn insert_or_drop<T: BiHashItem + Drop, S: BuildHasher>(
 ) -> bool
     ensures went_in { OnTrue result (IsPermutation (bag map.new) (item ∷ bag map.old)) }
     ensures refused { OnFalse result (map.new ≡ map.old) }
-    ensures reason { OnFalse result (MayRefuse (ranks T.BiHashItem T.K1.Hash T.K2.Hash) map.old item) }
+    ensures reason { OnFalse result (MayRefuse (ranks T.BiHashItem T.K1.eq T.K2.eq) map.old item) }
 {
     match map.insert_unique(item) {
         Ok(()) => true,
@@ -39,7 +39,7 @@ pub fn insert_or_back<T: BiHashItem, S: BuildHasher>(
     ensures went_in { OnOk result (IsPermutation (bag map.new) (item ∷ bag map.old)) }
     ensures back { IfErr result (λ x. x ≡ item) }
     ensures refused { OnErr result (map.new ≡ map.old) }
-    ensures reason { OnErr result (MayRefuse (ranks T.BiHashItem T.K1.Hash T.K2.Hash) map.old item) }
+    ensures reason { OnErr result (MayRefuse (ranks T.BiHashItem T.K1.eq T.K2.eq) map.old item) }
 {
     match map.insert_unique(item) {
         Ok(()) => Ok(()),
@@ -86,7 +86,7 @@ pub fn count_conflicts<T: BiHashItem + Drop, S: BuildHasher>(
     map: &mut BiHashMap<T, S>,
     item: T,
 ) -> usize
-    ensures some { result ≢ 0 → (result ≡ length (order (ranks T.BiHashItem T.K1.Hash T.K2.Hash) (bag map.old) item)) × (map.new ≡ map.old) }
+    ensures some { result ≢ 0 → (result ≡ length (order (ranks T.BiHashItem T.K1.eq T.K2.eq) (bag map.old) item)) × (map.new ≡ map.old) }
 {
     match map.insert_unique(item) {
         Ok(()) => 0,
@@ -100,4 +100,15 @@ pub fn count_conflicts<T: BiHashItem + Drop, S: BuildHasher>(
             0
         }
     }
+}
+
+/// Puts an item in for what conflicts with it, which is dropped. Says whether it went in.
+pub fn overwrite_or_drop<T: BiHashItem + Drop, S: BuildHasher>(
+    map: &mut BiHashMap<T, S>,
+    item: T,
+) -> bool
+    ensures went_in { OnTrue result (IsPermutation (bag map.new) (over (ranks T.BiHashItem T.K1.eq T.K2.eq) (bag map.old) item)) }
+    ensures reason { OnFalse result (MayRefuse (ranks T.BiHashItem T.K1.eq T.K2.eq) map.old item) }
+{
+    map.insert_overwrite(item).is_ok()
 }

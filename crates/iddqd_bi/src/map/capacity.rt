@@ -1,7 +1,7 @@
 //! Room for items.
-ghost use Rattle.std.specs.Prelude.{◌≡◌, ◌+◌, ◌*◌, ◌^◌, ◌<◌, ◌≤◌, [], length, ◌==◌, OnOk, OnErr, IsErr};
-ghost use Rattle.iddqd_store.specs.Map.{bag};
+ghost use Rattle.std.specs.Prelude.{◌≡◌, ◌≤◌, [], length, ◌==◌};
 ghost use Rattle.iddqd_store.specs.Bag.{IsSound};
+ghost use Rattle.iddqd_store.specs.Map.{bag, MakesRoom};
 ghost use Rattle.iddqd_bi.specs.Keys.{ranks};
 
 use super::BiHashMap;
@@ -13,7 +13,7 @@ impl<T: BiHashItem, S: BuildHasher> BiHashMap<T, S> {
     /// The number of items.
     pub fn len(&self) -> usize
         ensures value { result ≡ length (bag self.now) }
-        ensures sound { IsSound (ranks T.BiHashItem T.K1.Hash T.K2.Hash) (bag self.now) }
+        ensures sound { IsSound (ranks T.BiHashItem T.K1.eq T.K2.eq) (bag self.now) }
     {
         self.items.len()
     }
@@ -30,7 +30,6 @@ impl<T: BiHashItem, S: BuildHasher> BiHashMap<T, S> {
         ensures value { result ≡ self.now.capacity }
         ensures holds { length (bag self.now) ≤ result }
     {
-        let _ = (self.items.len(), self.first.len(), self.second.len());
         self.items
             .capacity()
             .min(self.first.capacity().min(self.second.capacity()))
@@ -42,12 +41,7 @@ impl<T: BiHashItem, S: BuildHasher> BiHashMap<T, S> {
     /// memory can count. Then the items are as before, and the map may have more room.
     pub fn reserve(&mut self, more: usize) -> Result<(), TryReserveError>
         ensures items { bag self.new ≡ bag self.old }
-        ensures builder { self.new.builder ≡ self.old.builder }
-        ensures no_less_room { self.old.capacity ≤ self.new.capacity }
-        ensures same_room { length (bag self.old) + more ≤ self.old.capacity → self.new.capacity ≡ self.old.capacity }
-        ensures granted { OnOk result (length (bag self.old) + more ≤ self.new.capacity) }
-        ensures refused { OnErr result (self.old.capacity < length (bag self.old) + more) }
-        ensures past { 7 * 2 ^ 60 < length (bag self.old) + more → IsErr result }
+        ensures room { MakesRoom self.old more result self.new }
     {
         self.grow(more)
     }
@@ -55,12 +49,7 @@ impl<T: BiHashItem, S: BuildHasher> BiHashMap<T, S> {
     /// The same as `reserve`.
     pub fn try_reserve(&mut self, more: usize) -> Result<(), TryReserveError>
         ensures items { bag self.new ≡ bag self.old }
-        ensures builder { self.new.builder ≡ self.old.builder }
-        ensures no_less_room { self.old.capacity ≤ self.new.capacity }
-        ensures same_room { length (bag self.old) + more ≤ self.old.capacity → self.new.capacity ≡ self.old.capacity }
-        ensures granted { OnOk result (length (bag self.old) + more ≤ self.new.capacity) }
-        ensures refused { OnErr result (self.old.capacity < length (bag self.old) + more) }
-        ensures past { 7 * 2 ^ 60 < length (bag self.old) + more → IsErr result }
+        ensures room { MakesRoom self.old more result self.new }
     {
         self.reserve(more)
     }
@@ -76,46 +65,5 @@ impl<T: BiHashItem, S: BuildHasher> BiHashMap<T, S> {
         self.items.clear();
         self.first.clear();
         self.second.clear();
-    }
-
-    /// Makes room for so many more items.
-    pub(crate) fn grow(&mut self, more: usize) -> Result<(), TryReserveError>
-        ensures slots { self.new.slots ≡ self.old.slots }
-        ensures builder { self.new.builder ≡ self.old.builder }
-        ensures no_less_room { self.old.capacity ≤ self.new.capacity }
-        ensures same_room { length (bag self.old) + more ≤ self.old.capacity → self.new.capacity ≡ self.old.capacity }
-        ensures granted { OnOk result (length (bag self.old) + more ≤ self.new.capacity) }
-        ensures refused { OnErr result (self.old.capacity < length (bag self.old) + more) }
-        ensures still_short { OnErr result (self.new.capacity < length (bag self.old) + more) }
-        ensures past { 7 * 2 ^ 60 < length (bag self.old) + more → IsErr result }
-    {
-        if let Err(refusal) = self.items.try_reserve(more) {
-            return Err(refusal);
-        }
-        if let Err(refusal) = self.first.try_reserve(more) {
-            return Err(refusal);
-        }
-        if let Err(refusal) = self.second.try_reserve(more) {
-            return Err(refusal);
-        }
-        Ok(())
-    }
-
-    /// Makes room for one more item, where the map is full.
-    pub(crate) fn make_room(&mut self) -> Result<(), TryReserveError>
-        ensures slots { self.new.slots ≡ self.old.slots }
-        ensures builder { self.new.builder ≡ self.old.builder }
-        ensures no_less_room { self.old.capacity ≤ self.new.capacity }
-        ensures had_room { length (bag self.old) < self.old.capacity → self.new ≡ self.old }
-        ensures granted { OnOk result (length (bag self.old) < self.new.capacity) }
-        ensures refused { OnErr result (length (bag self.old) ≡ self.old.capacity) }
-        ensures unchanged { OnErr result (self.new ≡ self.old) }
-    {
-        if self.len() == self.capacity() {
-            if let Err(refusal) = self.grow(1) {
-                return Err(refusal);
-            }
-        }
-        Ok(())
     }
 }

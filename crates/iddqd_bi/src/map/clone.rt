@@ -3,7 +3,7 @@ ghost use Rattle.std.specs.Prelude.{◌≡◌, true, Contains, IfOk};
 ghost use Rattle.std.specs.Hash.{HashWrites};
 ghost use Rattle.iddqd_store.specs.Bag.{IsCopy};
 ghost use Rattle.iddqd_store.specs.Map.{bag, hash_of};
-ghost use Rattle.iddqd_bi.specs.Keys.{agree1, agree2};
+ghost use Rattle.iddqd_store.specs.Rank.{agree};
 
 use super::BiHashMap;
 use crate::item::BiHashItem;
@@ -16,8 +16,8 @@ impl<T: BiHashItem + Clone, S: BuildHasher + Clone> BiHashMap<T, S> {
     /// An item's clone has to have the item's keys, and the builder's clone has to hash alike. Where memory or a
     /// clone is refused there is no map. No key is compared.
     pub fn clone(&self) -> Result<Self, TryReserveError>
-        requires same_key1 { (x c : T) → Contains (bag self.now) x → T.is_clone x c → agree1 T.BiHashItem T.K1.Hash x c ≡ true }
-        requires same_key2 { (x c : T) → Contains (bag self.now) x → T.is_clone x c → agree2 T.BiHashItem T.K2.Hash x c ≡ true }
+        requires same_key1 { (x c : T) → Contains (bag self.now) x → T.is_clone x c → agree T.key1 T.K1.eq x c ≡ true }
+        requires same_key2 { (x c : T) → Contains (bag self.now) x → T.is_clone x c → agree T.key2 T.K2.eq x c ≡ true }
         requires same_hashes { (s : S) (writes : HashWrites) → S.is_clone self.now.builder s → hash_of S.BuildHasher S.Hasher.Hasher s writes ≡ hash_of S.BuildHasher S.Hasher.Hasher self.now.builder writes }
         ensures items { IfOk result (λ copy. IsCopy T.is_clone (bag self.now) (bag copy)) }
         ensures builder { IfOk result (λ copy. S.is_clone self.now.builder copy.builder) }

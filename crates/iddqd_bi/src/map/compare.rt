@@ -1,13 +1,13 @@
 //! Equality of maps.
-ghost use Rattle.std.specs.Prelude.{◌≡◌};
-ghost use Rattle.std.specs.Bool.{Decides};
+ghost use Rattle.std.specs.Prelude.{◌≡◌, ◌↔◌};
+ghost use Rattle.std.specs.Bool.{IsTrue};
 ghost use Rattle.std.specs.List.{list_any};
 ghost use Rattle.iddqd_store.specs.Bag.{IsSameBag, is_same, same_item};
 ghost use Rattle.iddqd_store.specs.Map.{bag};
-ghost use Rattle.iddqd_store.proofs.MapLemmas.{IsEquivalence-key};
 ghost use Rattle.iddqd_store.proofs.SameTest.{is_same-partial, is_same-equivalence};
 ghost use Rattle.std.specs.Cmp.{on_per, on_equiv};
-ghost use Rattle.iddqd_bi.specs.Keys.{keys, ranks};
+ghost use Rattle.iddqd_bi.specs.Keys.{ranks};
+ghost use Rattle.iddqd_store.proofs.MapLemmas.{IsEquivalence-key};
 
 use super::BiHashMap;
 use crate::item::BiHashItem;
@@ -18,13 +18,15 @@ use std::hash::{BuildHasher, Hash};
 ///
 /// There is at most one search for each item of the left map, by its first key.
 impl<T: BiHashItem + PartialEq, S: BuildHasher> PartialEq for BiHashMap<T, S> {
-    ghost eq = { λ m n. is_same (ranks T.BiHashItem (keys T.K1.eq T.K1.hash_input) (keys T.K2.eq T.K2.hash_input)) T.eq (bag m) (bag n) };
+    ghost eq = { λ m n. is_same (ranks T.BiHashItem T.K1.eq T.K2.eq) T.eq (bag m) (bag n) };
 
-    ghost laws = { on_per bag (is_same-partial (ranks T.BiHashItem (keys T.K1.eq T.K1.hash_input) (keys T.K2.eq T.K2.hash_input)) T.eq (IsEquivalence-key T.K1.eq T.key1 T.K1.Eq.laws, (IsEquivalence-key T.K2.eq T.key2 T.K2.Eq.laws, tt)) T.laws) };
+    ghost laws = { on_per bag (is_same-partial (ranks T.BiHashItem T.K1.eq T.K2.eq) T.eq
+        (IsEquivalence-key T.K1.eq T.key1 T.K1.Eq.laws, (IsEquivalence-key T.K2.eq T.key2 T.K2.Eq.laws, tt)) T.laws) };
 
     fn eq(&self, other: &Self) -> bool
-        ensures eq { result ≡ is_same (ranks T.BiHashItem T.K1.Hash T.K2.Hash) T.eq (bag self.now) (bag other.now) }
-        ensures same { Decides result (IsSameBag (ranks T.BiHashItem T.K1.Hash T.K2.Hash) T.eq (bag self.now) (bag other.now)) }
+        ensures eq { result ≡ is_same (ranks T.BiHashItem T.K1.eq T.K2.eq) T.eq (bag self.now) (bag other.now) }
+        ensures same { IsTrue result
+            ↔ IsSameBag (ranks T.BiHashItem T.K1.eq T.K2.eq) T.eq (bag self.now) (bag other.now) }
     {
         if self.len() != other.len() {
             return false;
@@ -39,13 +41,14 @@ impl<T: BiHashItem + PartialEq, S: BuildHasher> PartialEq for BiHashMap<T, S> {
 }
 
 impl<T: BiHashItem + Eq, S: BuildHasher> Eq for BiHashMap<T, S> {
-    ghost laws = { on_equiv bag (is_same-equivalence (ranks T.BiHashItem (keys T.K1.eq T.K1.hash_input) (keys T.K2.eq T.K2.hash_input)) T.eq (IsEquivalence-key T.K1.eq T.key1 T.K1.Eq.laws, (IsEquivalence-key T.K2.eq T.key2 T.K2.Eq.laws, tt)) T.Eq.laws) };
+    ghost laws = { on_equiv bag (is_same-equivalence (ranks T.BiHashItem T.K1.eq T.K2.eq) T.eq
+        (IsEquivalence-key T.K1.eq T.key1 T.K1.Eq.laws, (IsEquivalence-key T.K2.eq T.key2 T.K2.Eq.laws, tt)) T.Eq.laws) };
 }
 
 impl<T: BiHashItem + PartialEq, S: BuildHasher> BiHashMap<T, S> {
     /// Whether an item of the map agrees with this one in both keys and equals it.
     fn has_partner(&self, item: &T) -> bool
-        ensures { result ≡ list_any (same_item (ranks T.BiHashItem T.K1.Hash T.K2.Hash) T.eq item.now) (bag self.now) }
+        ensures { result ≡ list_any (same_item (ranks T.BiHashItem T.K1.eq T.K2.eq) T.eq item.now) (bag self.now) }
     {
         match self.get1(item.key1()) {
             Some(found) => item.key2() == found.key2() && item == found,

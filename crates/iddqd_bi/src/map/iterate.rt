@@ -5,7 +5,7 @@ ghost use Rattle.iddqd_store.specs.Map.{bag};
 
 use super::BiHashMap;
 use crate::item::BiHashItem;
-use crate::iter::{IntoIter, Iter};
+use iddqd_store::{IntoIter, Iter};
 use std::hash::{BuildHasher, Hash};
 
 impl<T: BiHashItem, S: BuildHasher> BiHashMap<T, S> {
@@ -15,9 +15,7 @@ impl<T: BiHashItem, S: BuildHasher> BiHashMap<T, S> {
         ensures runs { ShowsInOrder (deref {X = T}) }
         ensures fits { length (bag self.now) < 2 ^ 64 }
     {
-        // The length is a number of this size, which a caller who counts the items has to know.
-        let _ = self.len();
-        Iter::new(self.items.values())
+        self.items.values()
     }
 }
 
@@ -41,13 +39,12 @@ impl<T: BiHashItem + Drop, S: BuildHasher + Drop> IntoIterator for BiHashMap<T, 
     ghost into_iter_gives = { λ m it. (it ≡ bag m) × GivesInOrder T × (length (bag m) < 2 ^ 64) };
 
     fn into_iter(self) -> IntoIter<T> {
-        let _ = self.len();
         let BiHashMap {
             items,
             first: _,
             second: _,
             hash_builder: _,
         } = self;
-        IntoIter::new(items.into_values())
+        items.into_values()
     }
 }

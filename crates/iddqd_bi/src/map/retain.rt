@@ -1,14 +1,11 @@
 //! Keeping some of the items.
-ghost use Rattle.std.specs.Prelude.{◌≡◌, ◌+◌, ◌<◌, ◌^◌, [], drop, IfSome, IfNone};
+ghost use Rattle.std.specs.Prelude.{◌≡◌};
 ghost use Rattle.std.specs.Fn.{CalledAt};
 ghost use Rattle.iddqd_store.specs.Bag.{Keeps};
 ghost use Rattle.iddqd_store.specs.Map.{bag};
-ghost use Rattle.iddqd_store.specs.Slots.{items_in};
-ghost use Rattle.iddqd_store.specs.Walked.{ComesNext};
 
 use super::BiHashMap;
 use crate::item::BiHashItem;
-use iddqd_store::ItemIndex;
 use std::hash::{BuildHasher, Hash};
 
 impl<T: BiHashItem, S: BuildHasher> BiHashMap<T, S> {
@@ -29,21 +26,8 @@ impl<T: BiHashItem, S: BuildHasher> BiHashMap<T, S> {
             let (ix, item) = found;
             from = ix.number() + 1;
             if !f(item) {
-                drop(self.take(ix));
+                drop(self.take(ix, None, None));
             }
-        }
-    }
-
-    /// The first item in a slot of this number or a higher one, with its slot.
-    pub(crate) fn item_from(&self, from: usize) -> Option<(ItemIndex, &T)>
-        ensures next { IfSome result (λ p. ComesNext self.now.slots from p.0 p.1.now) }
-        ensures fits { IfSome result (λ p. p.0 + 1 < 2 ^ 64) }
-        ensures none { IfNone result (items_in (drop from self.now.slots) ≡ []) }
-    {
-        let ix = self.items.next_live(from)?;
-        match self.items.get(ix) {
-            Some(item) => Some((ix, item)),
-            None => unreachable!(),
         }
     }
 }

@@ -1,19 +1,19 @@
 //! Commands carried out on the map.
 ghost use Rattle.std.specs.Prelude.{◌≡◌, ◌≢◌, [], map, filter};
 ghost use Rattle.std.specs.Option.{option_to_list};
-ghost use Rattle.iddqd_store.specs.Bag.{clash, order};
+ghost use Rattle.iddqd_store.specs.Bag.{IsOnly};
 ghost use Rattle.iddqd_store.specs.Map.{bag};
 ghost use Rattle.iddqd_store.specs.Reply.{Reply, found, present, duplicate, items};
 ghost use Rattle.iddqd_store.specs.Step.{state_of, InsertsUnique, InsertsOverwrite, Reserves, ShrinksTo, Extends};
 ghost use Rattle.iddqd_store.specs.Run.{Applies, Run};
 ghost use Rattle.iddqd_store.specs.Searched.{items_at};
-ghost use Rattle.iddqd_bi.specs.Keys.{ranks};
-ghost use Rattle.iddqd_bi.specs.Step.{Step, has_both};
+ghost use Rattle.iddqd_bi.specs.Keys.{ranks, has1, has2, has_both};
+ghost use Rattle.iddqd_bi.specs.Step.{Step};
 ghost use Rattle.iddqd_bi.specs.Values.{value_of};
 
 use super::BiHashMap;
+use super::slots::Refusal;
 use crate::command::{BiCommand, BiReply, BiSink};
-use crate::error::Refusal;
 use crate::item::BiHashItemMut;
 use iddqd_store::{DuplicateItem, ItemIndex, MemoryRefused, UpToTwo};
 use std::hash::{BuildHasher, Hash};
@@ -31,7 +31,7 @@ where
         commands: Vec<BiCommand<T>>,
         sink: &mut K,
     ) -> Result<(), K::Fault>
-        ensures run { Run (Step T.BiHashItem T.K1.Hash T.K2.Hash) K.took (state_of self.old) sink.old commands.items result (state_of self.new) sink.new }
+        ensures run { Run (Step T.BiHashItem T.K1.eq T.K2.eq) K.took (state_of self.old) sink.old commands.items result (state_of self.new) sink.new }
         ensures builder { self.new.builder ≡ self.old.builder }
     {
         for command in commands {
@@ -46,7 +46,7 @@ where
         command: BiCommand<T>,
         sink: &mut K,
     ) -> Result<(), K::Fault>
-        ensures step { Applies (Step T.BiHashItem T.K1.Hash T.K2.Hash) K.took (state_of self.old) sink.old command result (state_of self.new) sink.new }
+        ensures step { Applies (Step T.BiHashItem T.K1.eq T.K2.eq) K.took (state_of self.old) sink.old command result (state_of self.new) sink.new }
         ensures builder { self.new.builder ≡ self.old.builder }
     {
         match command {
@@ -87,7 +87,7 @@ where
     }
 
     fn apply_insert_unique<K: BiSink<T>>(&mut self, item: T, sink: &mut K) -> Result<(), K::Fault>
-        ensures step { Applies (λ old x reply new. InsertsUnique (ranks T.BiHashItem T.K1.Hash T.K2.Hash) old x reply new) K.took (state_of self.old) sink.old item result (state_of self.new) sink.new }
+        ensures step { Applies (λ old x reply new. InsertsUnique (ranks T.BiHashItem T.K1.eq T.K2.eq) old x reply new) K.took (state_of self.old) sink.old item result (state_of self.new) sink.new }
         ensures builder { self.new.builder ≡ self.old.builder }
     {
         match self.try_insert(item) {
@@ -102,7 +102,7 @@ where
         item: T,
         sink: &mut K,
     ) -> Result<(), K::Fault>
-        ensures step { Applies (λ old x reply new. InsertsOverwrite (ranks T.BiHashItem T.K1.Hash T.K2.Hash) old x reply new) K.took (state_of self.old) sink.old item result (state_of self.new) sink.new }
+        ensures step { Applies (λ old x reply new. InsertsOverwrite (ranks T.BiHashItem T.K1.eq T.K2.eq) old x reply new) K.took (state_of self.old) sink.old item result (state_of self.new) sink.new }
         ensures builder { self.new.builder ≡ self.old.builder }
     {
         match self.insert_overwrite(item) {
@@ -112,7 +112,7 @@ where
     }
 
     fn apply_extend<K: BiSink<T>>(&mut self, items: Vec<T>, sink: &mut K) -> Result<(), K::Fault>
-        ensures step { Applies (λ old xs reply new. Extends (ranks T.BiHashItem T.K1.Hash T.K2.Hash) old xs reply new) K.took (state_of self.old) sink.old items.items result (state_of self.new) sink.new }
+        ensures step { Applies (λ old xs reply new. Extends (ranks T.BiHashItem T.K1.eq T.K2.eq) old xs reply new) K.took (state_of self.old) sink.old items.items result (state_of self.new) sink.new }
         ensures builder { self.new.builder ≡ self.old.builder }
     {
         match self.extend(items) {
@@ -155,14 +155,14 @@ where
     }
 
     fn tell_found1<K: BiSink<T>>(&self, key: &T::K1, sink: &mut K) -> Result<(), K::Fault>
-        ensures { (o : _) × (option_to_list o ≡ filter (λ x. T.K1.eq key.now (T.key1 x)) (bag self.now)) × K.took sink.old (found o) result sink.new }
+        ensures { (o : _) × (IsOnly (has1 T.BiHashItem T.K1.eq key.now) (bag self.now) o) × K.took sink.old (found o) result sink.new }
     {
         let found = self.get1(key);
         sink.take(BiReply::Found(found))
     }
 
     fn tell_found2<K: BiSink<T>>(&self, key: &T::K2, sink: &mut K) -> Result<(), K::Fault>
-        ensures { (o : _) × (option_to_list o ≡ filter (λ x. T.K2.eq key.now (T.key2 x)) (bag self.now)) × K.took sink.old (found o) result sink.new }
+        ensures { (o : _) × (IsOnly (has2 T.BiHashItem T.K2.eq key.now) (bag self.now) o) × K.took sink.old (found o) result sink.new }
     {
         let found = self.get2(key);
         sink.take(BiReply::Found(found))
@@ -174,7 +174,7 @@ where
         key2: &T::K2,
         sink: &mut K,
     ) -> Result<(), K::Fault>
-        ensures { (o : _) × (option_to_list o ≡ filter (has_both T.BiHashItem T.K1.Hash T.K2.Hash key1.now key2.now) (bag self.now)) × K.took sink.old (found o) result sink.new }
+        ensures { (o : _) × (IsOnly (has_both T.BiHashItem T.K1.eq T.K2.eq key1.now key2.now) (bag self.now) o) × K.took sink.old (found o) result sink.new }
     {
         let found = self.get_unique(key1, key2);
         sink.take(BiReply::Found(found))

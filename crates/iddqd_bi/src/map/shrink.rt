@@ -3,8 +3,8 @@ ghost use Rattle.std.specs.Prelude.{◌≡◌, ◌<◌, length, max, min, OnOk, 
 ghost use Rattle.iddqd_store.specs.Map.{bag};
 
 use super::BiHashMap;
-use crate::hashes::{Hashes1, Hashes2};
 use crate::item::BiHashItem;
+use crate::ranks::{First, Second};
 use iddqd_store::TryReserveError;
 use std::hash::{BuildHasher, Hash};
 
@@ -25,9 +25,8 @@ impl<T: BiHashItem + Drop, S: BuildHasher> BiHashMap<T, S> {
         let mut first = self.first.fresh(wanted)?;
         let mut second = self.second.fresh(wanted)?;
         self.items.shrink_to(wanted)?;
-        let hash_builder = &self.hash_builder;
-        self.items.fill(&mut first, &Hashes1 { hash_builder });
-        self.items.fill(&mut second, &Hashes2 { hash_builder });
+        self.items.fill::<First, S>(&mut first, &self.hash_builder);
+        self.items.fill::<Second, S>(&mut second, &self.hash_builder);
         self.first = first;
         self.second = second;
         Ok(())

@@ -59,7 +59,7 @@ fn iterators_end_and_stay_ended(rt: HostRuntime) -> Result<(), Fail> {
     assert_eq!(rt; values.len(), 0);
     assert!(rt; values.next().is_none());
     assert!(rt; values.next().is_none());
-    assert_eq!(rt; Values::<usize>::default().len(), 0);
+    assert_eq!(rt; Iter::<usize>::default().len(), 0);
     let mut owned = set.into_values();
     assert_eq!(rt;
         (owned.len(), owned.next(), owned.next(), owned.next()),

@@ -1,5 +1,5 @@
-//! The items of a set, one after another by slot.
-ghost use Rattle.std.specs.Prelude.{◌≡◌, [], length, Some, IfSome};
+//! The items of a set, one after another by slot: the iterators of the maps.
+ghost use Rattle.std.specs.Prelude.{◌≡◌, [], ◌<◌, ◌^◌, length, Some, IfSome};
 ghost use Rattle.std.specs.Iterator.{YieldsFirst, YieldsFirstRef, UpTo, item_count};
 ghost use Rattle.std.specs.Iterator.SizeHint.{IsWithinCount};
 ghost use Rattle.iddqd_store.specs.Slots.{live_items, live_count};
@@ -11,13 +11,13 @@ use std::vec;
 
 /// The items of a set, lent. Contracts see those that are left, as a list.
 #[derive(Drop)]
-pub struct Values<'a, T> {
+pub struct Iter<'a, T> {
     slots: &'a [Slot<T>],
     // How many of the slots are live.
     len: usize,
 }
 
-impl<'a, T> Model for Values<'a, T> {
+impl<'a, T> Model for Iter<'a, T> {
     ghost use Rattle.std.specs.Prelude.{List, map, ◌≡◌, length};
     ghost use Rattle.iddqd_store.specs.Slots.{items_in};
     ghost use Rattle.iddqd_store.specs.SlotChain.{item_of};
@@ -29,12 +29,12 @@ impl<'a, T> Model for Values<'a, T> {
     ghost invariant = { λ it. it.len ≡ length (items_in (map item_of it.slots.now)) };
 }
 
-impl<'a, T> Values<'a, T> {
+impl<'a, T> Iter<'a, T> {
     /// The items that are left, a second time.
     pub fn clone(&self) -> Self
         ensures { result ≡ self.now }
     {
-        Values {
+        Iter {
             slots: self.slots,
             len: self.len,
         }
@@ -44,11 +44,11 @@ impl<'a, T> Values<'a, T> {
     pub fn default() -> Self
         ensures { result ≡ [] }
     {
-        Values { slots: &[], len: 0 }
+        Iter { slots: &[], len: 0 }
     }
 }
 
-impl<'a, T> Iterator for Values<'a, T> {
+impl<'a, T> Iterator for Iter<'a, T> {
     type Item = &'a T;
 
     ghost next_gives = { YieldsFirstRef (λ rest. rest) };
@@ -75,23 +75,23 @@ impl<'a, T> Iterator for Values<'a, T> {
     }
 }
 
-impl<'a, T> ExactSizeIterator for Values<'a, T> {
+impl<'a, T> ExactSizeIterator for Iter<'a, T> {
     fn len(&self) -> usize {
         self.len
     }
 }
 
-impl<'a, T> FusedIterator for Values<'a, T> {}
+impl<'a, T> FusedIterator for Iter<'a, T> {}
 
 /// The items of a set that was given up. Contracts see those that are left, as a list.
 #[derive(Drop)]
-pub struct IntoValues<T> {
+pub struct IntoIter<T> {
     slots: vec::IntoIter<Slot<T>>,
     // How many of the slots are live.
     len: usize,
 }
 
-impl<T> Model for IntoValues<T> {
+impl<T> Model for IntoIter<T> {
     ghost use Rattle.std.specs.Prelude.{List, map, ◌≡◌, length};
     ghost use Rattle.std.specs.Vec.Iter.{into_iter_items};
     ghost use Rattle.iddqd_store.specs.Slots.{items_in};
@@ -104,7 +104,7 @@ impl<T> Model for IntoValues<T> {
     ghost invariant = { λ it. it.len ≡ length (items_in (map item_of (into_iter_items it.slots))) };
 }
 
-impl<T: Drop> Iterator for IntoValues<T> {
+impl<T: Drop> Iterator for IntoIter<T> {
     type Item = T;
 
     ghost next_gives = { YieldsFirst (λ rest. rest) };
@@ -130,39 +130,41 @@ impl<T: Drop> Iterator for IntoValues<T> {
     }
 }
 
-impl<T: Drop> ExactSizeIterator for IntoValues<T> {
+impl<T: Drop> ExactSizeIterator for IntoIter<T> {
     fn len(&self) -> usize {
         self.len
     }
 }
 
-impl<T: Drop> FusedIterator for IntoValues<T> {}
+impl<T: Drop> FusedIterator for IntoIter<T> {}
 
 impl<T> ItemSet<T> {
     /// Each item once, by slot. It takes no memory.
-    pub fn values(&self) -> Values<'_, T>
+    pub fn values(&self) -> Iter<'_, T>
         ensures items { result ≡ live_items self.now.slots }
         ensures len { length result ≡ live_count self.now.slots }
+        ensures fits { live_count self.now.slots < 2 ^ 64 }
     {
-        Values {
+        Iter {
             slots: self.slots.as_slice(),
             len: self.live,
         }
     }
 
     /// Each item once, by slot, given away. Those that are never asked for are dropped with the iterator.
-    pub fn into_values(self) -> IntoValues<T>
+    pub fn into_values(self) -> IntoIter<T>
     where
         T: Drop,
         ensures items { result ≡ live_items self.slots }
         ensures len { length result ≡ live_count self.slots }
+        ensures fits { live_count self.slots < 2 ^ 64 }
     {
         let ItemSet {
             slots,
             live,
             head: _,
         } = self;
-        IntoValues {
+        IntoIter {
             slots: slots.into_iter(),
             len: live,
         }

@@ -7,12 +7,12 @@ use Rattle.iddqd_store.specs.Bag.{clash, overs}
 use Rattle.iddqd_store.specs.Map.{bag}
 use Rattle.iddqd_store.specs.Reply.{done, memory}
 use Rattle.iddqd_store.proofs.ExtendLemmas.{yielded_then, map_same}
-use Rattle.iddqd_bi.specs.Keys.{keys, ranks}
+use Rattle.iddqd_bi.specs.Keys.{ranks}
 use Rattle.iddqd_bi.proofs.map.BiHashMap.apply_extend.Goals as goal
 
 pub returns-in-Ok-clause-step : goal.returns-in-Ok-clause-step
 returns-in-Ok-clause-step g c =
-    let by = ranks g.T.BiHashItem (keys g.T.K1.PartialEq.eq g.T.K1.Hash.hash_input) (keys g.T.K2.PartialEq.eq g.T.K2.Hash.hash_input) in
+    let by = ranks g.T.BiHashItem g.T.K1.PartialEq.eq g.T.K2.PartialEq.eq in
     let all = c.in-Ok.ensures.all in
     let run = all.3 in
     let same : map (λ y. y) all.1 ≡ c.args.items.items =
@@ -21,7 +21,7 @@ returns-in-Ok-clause-step g c =
 
 pub returns-in-Err-clause-step : goal.returns-in-Err-clause-step
 returns-in-Err-clause-step g c =
-    let by = ranks g.T.BiHashItem (keys g.T.K1.PartialEq.eq g.T.K1.Hash.hash_input) (keys g.T.K2.PartialEq.eq g.T.K2.Hash.hash_input) in
+    let by = ranks g.T.BiHashItem g.T.K1.PartialEq.eq g.T.K2.PartialEq.eq in
     let same : c.in-Err.field-0.value ≡ c.in-Err.value = cc in
     let refused = c.in-Err.ensures.refused in
     let split : c.args.items.items ≡ refused.1 ++ c.in-Err.field-0.value ∷ into_iter_items refused.2 =

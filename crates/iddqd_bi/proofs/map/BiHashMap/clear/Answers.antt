@@ -1,5 +1,5 @@
-use Rattle.iddqd_bi.proofs.MapLemmas.{IsIndexed-empty}
+use Rattle.iddqd_store.proofs.IndexedLemmas.{IsIndexed-empty}
 use Rattle.iddqd_bi.proofs.map.BiHashMap.clear.Goals as goal
 
 pub invariant_of-self : goal.invariant_of-self
-invariant_of-self g c = rw (c.clear.ensures.slots, c.clear-2.ensures.pairs, c.clear-3.ensures.pairs) (IsIndexed-empty _ _ _)
+invariant_of-self g c = rw (c.clear.ensures.slots, c.clear-2.ensures.pairs, c.clear-3.ensures.pairs) (IsIndexed-empty _ _)

@@ -1,7 +1,8 @@
-use Rattle.std.proofs.Common.{sym, ◌∙◌, ap}
+use Rattle.std.proofs.Common.{refl, sym, ◌∙◌, ap}
 use Rattle.iddqd_store.specs.Map.{hash_of}
 use Rattle.iddqd_store.proofs.Copied.{is_copy}
-use Rattle.iddqd_bi.proofs.MapLemmas.{two_lawful, IsIndexed-copy}
+use Rattle.iddqd_store.proofs.IndexedLemmas.{IsIndexed-copy}
+use Rattle.iddqd_bi.proofs.MapLemmas.{AreLawful-ranks}
 use Rattle.iddqd_bi.proofs.map.BiHashMap.clone.Goals as goal
 
 pub invariant_of-result : goal.invariant_of-result
@@ -11,9 +12,12 @@ invariant_of-result g c =
     let same2 = rw (← c.self.view_is) at c.requires.same_key2 in
     let hashes = rw (← c.self.view_is) at c.requires.same_hashes in
     rw (c.in_ok-clone-2.ensures, c.in_ok-clone-3.ensures)
-    (IsIndexed-copy _ _ g.T.Clone.is_clone (two_lawful _ g.T.BiHashItem.key1 _ g.T.BiHashItem.key2 g.met.T.K1.Eq.laws g.met.T.K2.Eq.laws) c.self.invariant same1 same2
-    (λ x k found is. hashes c.in-Ok.hash_builder (g.T.K1.Hash.hash_input (g.T.BiHashItem.key1 k)) c.in-Ok.ensures.cases ∙ ap hash (sym (g.met.T.K1.Hash.respects_eq _ _ (same1 x k found is))))
-    (λ x k found is. hashes c.in-Ok.hash_builder (g.T.K2.Hash.hash_input (g.T.BiHashItem.key2 k)) c.in-Ok.ensures.cases ∙ ap hash (sym (g.met.T.K2.Hash.respects_eq _ _ (same2 x k found is))))
+    (IsIndexed-copy g.T.Clone.is_clone _ _ (AreLawful-ranks g.T.BiHashItem g.met.T.K1.Eq.laws g.met.T.K2.Eq.laws) c.self.invariant
+    (λ x k found is. rw (same1 x k found is, same2 x k found is) refl)
+    (
+      (λ x k found is. hashes c.in-Ok.hash_builder (g.T.K1.Hash.hash_input (g.T.BiHashItem.key1 k)) c.in-Ok.ensures.cases ∙ ap hash (sym (g.met.T.K1.Hash.respects_eq _ _ (same1 x k found is)))),
+      ((λ x k found is. hashes c.in-Ok.hash_builder (g.T.K2.Hash.hash_input (g.T.BiHashItem.key2 k)) c.in-Ok.ensures.cases ∙ ap hash (sym (g.met.T.K2.Hash.respects_eq _ _ (same2 x k found is)))), tt),
+    )
     c.in_ok-clone.ensures.slots c.in_ok-clone.ensures.items)
 
 pub returns-clause-items : goal.returns-clause-items

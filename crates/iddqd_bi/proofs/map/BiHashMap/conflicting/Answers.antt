@@ -1,14 +1,11 @@
-use Rattle.std.proofs.Common.{subst, refl, ◌∷◌, [], nat_eq}
-use Rattle.std.specs.List.{IsDistinct}
-use Rattle.iddqd_store.specs.Map.{Map, bag}
+use Rattle.std.proofs.Common.{rules, refl, ◌∷◌, [], nat_eq}
 use Rattle.iddqd_store.proofs.FoundLemmas.{listing_found}
 use Rattle.iddqd_store.proofs.BagLemmas.{IsDistinct-nil}
 use Rattle.iddqd_store.proofs.OverLemmas.{IsDistinct-with_found}
-use Rattle.iddqd_bi.proofs.MapLemmas.{apart1}
 use Rattle.iddqd_bi.proofs.map.BiHashMap.conflicting.Goals as goal
 
-pub returns-clause-items : goal.returns-clause-items
-returns-clause-items g c =
+pub returns : goal.returns
+returns g c =
     let key1 = g.T.BiHashItem.key1 in
     let key2 = g.T.BiHashItem.key2 in
     let agree1 = λ (x y : g.row.T.Denot). g.T.K1.PartialEq.eq (key1 x) (key1 y) in
@@ -16,14 +13,14 @@ returns-clause-items g c =
     let laws = g.met.T.K1.Eq.laws in
     let x = c.args.item.now in
     let slots = c.args.self.now.slots in
-    let apart = subst (λ (m : Map g.row.T.Denot g.row.S.Denot). IsDistinct agree1 (bag m)) c.self.view_is (apart1 c.self.invariant) in
-    let named1 = rw c.key1.ensures at c.slot1-by1.ensures.found in
-    let named2 = rw c.key2.ensures at c.slot2-by2.ensures.found in
-    let first = listing_found agree1 slots [] (agree1 x) [] c.slot1-by1.result (λ y. laws.refl (key1 y)) (λ y z. laws.symm (key1 y) (key1 z)) apart refl c.slot1-by1.ensures.live named1 in
-    rw (c.push_found-2.ensures, c.push_found.ensures, c.new-found.ensures)
-    (listing_found agree1 slots (agree1 x ∷ []) (agree2 x) _ c.slot2-by2.result (λ y. laws.refl (key1 y)) (λ y z. laws.symm (key1 y) (key1 z)) apart first c.slot2-by2.ensures.live named2)
-
-pub returns-clause-apart : goal.returns-clause-apart
-returns-clause-apart g c =
-    rw (c.push_found-2.ensures, c.push_found.ensures, c.new-found.ensures)
-    (IsDistinct-with_found _ c.slot2-by2.result (IsDistinct-with_found [] c.slot1-by1.result (IsDistinct-nil nat_eq)))
+    let apart = c.by_key1.ensures.apart in
+    let named1 = rw (c.key1.ensures, c.by_key1.ensures.slots) at c.slot-by1.ensures.found in
+    let named2 = rw (c.key2.ensures, c.by_key2.ensures.slots) at c.slot-by2.ensures.found in
+    let first = listing_found agree1 slots [] (agree1 x) [] c.slot-by1.result (λ y. laws.refl (key1 y)) (λ y z. laws.symm (key1 y) (key1 z)) apart refl (rw c.by_key1.ensures.slots at c.slot-by1.ensures.live) named1 in
+    record {
+      items = rw (c.push_found-2.ensures, c.push_found.ensures, c.new-found.ensures)
+      (listing_found agree1 slots (agree1 x ∷ []) (agree2 x) _ c.slot-by2.result (λ y. laws.refl (key1 y)) (λ y z. laws.symm (key1 y) (key1 z)) apart first (rw c.by_key2.ensures.slots at c.slot-by2.ensures.live) named2);
+      live = search rules;
+      apart = rw (c.push_found-2.ensures, c.push_found.ensures, c.new-found.ensures)
+      (IsDistinct-with_found _ c.slot-by2.result (IsDistinct-with_found [] c.slot-by1.result (IsDistinct-nil nat_eq)));
+    }

@@ -1,63 +1,68 @@
-use Rattle.std.proofs.Common.{arith, ap, refl, ◌≡◌, ℕ}
+use Rattle.std.proofs.Common.{arith, rules, ap, refl, ◌≡◌, ◌+◌, ◌<◌, length, ℕ}
 use Rattle.std.specs.Prelude.{min}
-use Rattle.iddqd_store.proofs.IndexLemmas.{length-live_items}
-use Rattle.iddqd_bi.proofs.MapLemmas.{length1, length2, two_lawful, IsIndexed-reorder}
+use Rattle.iddqd_store.specs.Slots.{live_items}
+use Rattle.iddqd_store.proofs.IndexLemmas.{length-live_items, length-index}
+use Rattle.iddqd_store.proofs.IndexedLemmas.{IsIndexed-reorder}
+use Rattle.iddqd_store.proofs.MapLemmas.{MakesRoom-refused, on_err}
 use Rattle.iddqd_bi.proofs.map.BiHashMap.grow.Goals as goal
 
 same_least : (a b c x y z : ℕ) → x ≡ a → y ≡ b → z ≡ c → min x (min y z) ≡ min a (min b c)
 same_least a b c x y z p q r = rw (p, q, r) refl
 
-pub returns-in-Err-clause-same_room : goal.returns-in-Err-clause-same_room
-returns-in-Err-clause-same_room g c = rw (← c.self.view_is) (λ room. omega (arith, c.in-Err.ensures.err, length-live_items c.self.inside.items.slots))
+pub returns-in_err-try_reserve-clause-room : goal.returns-in_err-try_reserve-clause-room
+returns-in_err-try_reserve-clause-room g c =
+    MakesRoom-refused _ _ (search rules)
+    (rw (← c.self.view_is) (omega (arith, c.in_err-try_reserve.ensures.err, length-live_items c.self.inside.items.slots)))
+    (search rules) (search rules)
 
-pub returns-in-Err-clause-refused : goal.returns-in-Err-clause-refused
-returns-in-Err-clause-refused g c = rw (← c.self.view_is) (omega (arith, c.in-Err.ensures.err, length-live_items c.self.inside.items.slots))
+pub returns-in_err-try_reserve-clause-still_short : goal.returns-in_err-try_reserve-clause-still_short
+returns-in_err-try_reserve-clause-still_short g c =
+    let same = ap (λ s. s.capacity) c.in_err-try_reserve.ensures.unchanged in
+    let short : min c.try_reserve.new.self.capacity (min c.self.inside.first.limit c.self.inside.second.limit) < length (live_items c.self.inside.items.slots) + c.args.more = omega (arith, same, c.in_err-try_reserve.ensures.err, length-live_items c.self.inside.items.slots) in
+    rw (← c.self.view_is) (on_err _ short)
 
-pub returns-in-Err-try_reserve-clause-same_room : goal.returns-in-Err-try_reserve-clause-same_room
-returns-in-Err-try_reserve-clause-same_room g c = rw (← c.self.view_is) (λ room. omega (arith, c.in-Err-try_reserve.ensures.refused, length1 c.self.invariant))
+pub returns-in_err-try_reserve-2-clause-room : goal.returns-in_err-try_reserve-2-clause-room
+returns-in_err-try_reserve-2-clause-room g c =
+    MakesRoom-refused _ _ (search rules)
+    (rw (← c.self.view_is) (omega (arith, c.in_err-try_reserve-2.ensures.refused, length-index c.self.invariant.indexes.0)))
+    (search rules) (search rules)
 
-pub returns-in-Err-try_reserve-clause-refused : goal.returns-in-Err-try_reserve-clause-refused
-returns-in-Err-try_reserve-clause-refused g c = rw (← c.self.view_is) (omega (arith, c.in-Err-try_reserve.ensures.refused, length1 c.self.invariant))
+pub returns-in_err-try_reserve-2-clause-still_short : goal.returns-in_err-try_reserve-2-clause-still_short
+returns-in_err-try_reserve-2-clause-still_short g c =
+    let same = ap (λ t. t.limit) c.in_err-try_reserve-2.ensures.unchanged in
+    let short : min c.try_reserve.new.self.capacity (min c.try_reserve-2.new.self.limit c.self.inside.second.limit) < length (live_items c.self.inside.items.slots) + c.args.more = omega (arith, same, c.in_err-try_reserve-2.ensures.refused, length-index c.self.invariant.indexes.0) in
+    rw (← c.self.view_is) (on_err _ short)
 
-pub invariant_of-self-in-Err-try_reserve-2 : goal.invariant_of-self-in-Err-try_reserve-2
-invariant_of-self-in-Err-try_reserve-2 g c =
-    rw c.try_reserve.ensures.slots (IsIndexed-reorder (two_lawful _ g.T.BiHashItem.key1 _ g.T.BiHashItem.key2 g.met.T.K1.Eq.laws g.met.T.K2.Eq.laws) c.self.invariant _ _ c.try_reserve-2.ensures.pairs c.try_reserve-3.ensures.pairs)
+pub invariant_of-self-in_err-try_reserve-3 : goal.invariant_of-self-in_err-try_reserve-3
+invariant_of-self-in_err-try_reserve-3 g c =
+    rw c.try_reserve.ensures.slots (IsIndexed-reorder c.self.invariant (c.try_reserve-2.ensures.pairs, (c.try_reserve-3.ensures.pairs, tt)))
 
-pub returns-in-Err-try_reserve-2-clause-same_room : goal.returns-in-Err-try_reserve-2-clause-same_room
-returns-in-Err-try_reserve-2-clause-same_room g c = rw (← c.self.view_is) (λ room. omega (arith, c.in-Err-try_reserve-2.ensures.refused, length2 c.self.invariant))
+pub returns-in_err-try_reserve-3-clause-room : goal.returns-in_err-try_reserve-3-clause-room
+returns-in_err-try_reserve-3-clause-room g c =
+    MakesRoom-refused _ _ (search rules)
+    (rw (← c.self.view_is) (omega (arith, c.in_err-try_reserve-3.ensures.refused, length-index c.self.invariant.indexes.1.0)))
+    (search rules) (search rules)
 
-pub returns-in-Err-try_reserve-2-clause-refused : goal.returns-in-Err-try_reserve-2-clause-refused
-returns-in-Err-try_reserve-2-clause-refused g c = rw (← c.self.view_is) (omega (arith, c.in-Err-try_reserve-2.ensures.refused, length2 c.self.invariant))
+pub returns-in_err-try_reserve-3-clause-still_short : goal.returns-in_err-try_reserve-3-clause-still_short
+returns-in_err-try_reserve-3-clause-still_short g c =
+    let same = ap (λ t. t.limit) c.in_err-try_reserve-3.ensures.unchanged in
+    let short : min c.try_reserve.new.self.capacity (min c.try_reserve-2.new.self.limit c.try_reserve-3.new.self.limit) < length (live_items c.self.inside.items.slots) + c.args.more = omega (arith, same, c.in_err-try_reserve-3.ensures.refused, length-index c.self.invariant.indexes.1.0) in
+    rw (← c.self.view_is) (on_err _ short)
 
 pub invariant_of-self-2 : goal.invariant_of-self-2
 invariant_of-self-2 g c =
-    rw c.try_reserve.ensures.slots (IsIndexed-reorder (two_lawful _ g.T.BiHashItem.key1 _ g.T.BiHashItem.key2 g.met.T.K1.Eq.laws g.met.T.K2.Eq.laws) c.self.invariant _ _ c.try_reserve-2.ensures.pairs c.try_reserve-3.ensures.pairs)
+    rw c.try_reserve.ensures.slots (IsIndexed-reorder c.self.invariant (c.try_reserve-2.ensures.pairs, (c.try_reserve-3.ensures.pairs, tt)))
 
-pub returns-clause-same_room : goal.returns-clause-same_room
-returns-clause-same_room g c =
+pub returns-clause-room : goal.returns-clause-room
+returns-clause-room g c = record {
+  granted = rw (← c.self.view_is) (omega (arith, c.in_ok-try_reserve.ensures.ok, c.in_ok-try_reserve-2.ensures.granted, c.in_ok-try_reserve-3.ensures.granted, length-index c.self.invariant.indexes.0, length-index c.self.invariant.indexes.1.0, length-live_items c.self.inside.items.slots));
+  refused = tt;
+  past = rw (← c.self.view_is) (λ past. c.in_ok-try_reserve-2.ensures.past (omega (arith, length-index c.self.invariant.indexes.0)));
+  no_less_room = rw (← c.self.view_is) (omega (arith, c.try_reserve.ensures.capacity, c.try_reserve-2.ensures.limit, c.try_reserve-3.ensures.limit));
+  same_room =
     rw (← c.self.view_is) (λ room. same_least _ _ _ _ _ _
     (c.try_reserve.ensures.had_room (omega (arith, length-live_items c.self.inside.items.slots)))
-    (ap (λ t. t.limit) (c.try_reserve-2.ensures.same (omega (arith, length1 c.self.invariant))))
-    (ap (λ t. t.limit) (c.try_reserve-3.ensures.same (omega (arith, length2 c.self.invariant)))))
-
-pub returns-clause-granted : goal.returns-clause-granted
-returns-clause-granted g c =
-    rw (← c.self.view_is) (omega (arith, c.in_default.ensures.ok, c.in_default-try_reserve.ensures.granted, c.in_default-try_reserve-2.ensures.granted, length1 c.self.invariant, length2 c.self.invariant, length-live_items c.self.inside.items.slots))
-
-pub returns-clause-past : goal.returns-clause-past
-returns-clause-past g c = rw (← c.self.view_is) (λ past. c.in_default-try_reserve.ensures.past (omega (arith, length1 c.self.invariant)))
-
-pub returns-in-Err-clause-still_short : goal.returns-in-Err-clause-still_short
-returns-in-Err-clause-still_short g c =
-    let same = ap (λ s. s.capacity) c.in-Err.ensures.unchanged in
-    rw (← c.self.view_is) (omega (arith, same, c.in-Err.ensures.err, length-live_items c.self.inside.items.slots))
-
-pub returns-in-Err-try_reserve-clause-still_short : goal.returns-in-Err-try_reserve-clause-still_short
-returns-in-Err-try_reserve-clause-still_short g c =
-    let same = ap (λ t. t.limit) c.in-Err-try_reserve.ensures.unchanged in
-    rw (← c.self.view_is) (omega (arith, same, c.in-Err-try_reserve.ensures.refused, length1 c.self.invariant))
-
-pub returns-in-Err-try_reserve-2-clause-still_short : goal.returns-in-Err-try_reserve-2-clause-still_short
-returns-in-Err-try_reserve-2-clause-still_short g c =
-    let same = ap (λ t. t.limit) c.in-Err-try_reserve-2.ensures.unchanged in
-    rw (← c.self.view_is) (omega (arith, same, c.in-Err-try_reserve-2.ensures.refused, length2 c.self.invariant))
+    (ap (λ t. t.limit) (c.try_reserve-2.ensures.same (omega (arith, length-index c.self.invariant.indexes.0))))
+    (ap (λ t. t.limit) (c.try_reserve-3.ensures.same (omega (arith, length-index c.self.invariant.indexes.1.0)))));
+  same_builder = rw (← c.self.view_is) refl;
+}

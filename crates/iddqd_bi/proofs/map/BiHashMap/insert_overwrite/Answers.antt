@@ -2,7 +2,7 @@ use Rattle.std.proofs.Common.{◌≡◌, ℕ, Bool, true, arith, ap, ◌∙◌, 
 use Rattle.std.proofs.lemmas.Bool.Decides.{nat_tests}
 use Rattle.iddqd_store.proofs.FoundLemmas.{clash_none}
 use Rattle.iddqd_store.specs.Map.{Map}
-use Rattle.iddqd_bi.specs.Keys.{keys, ranks}
+use Rattle.iddqd_bi.specs.Keys.{ranks}
 use Rattle.iddqd_bi.proofs.map.BiHashMap.insert_overwrite.Goals as goal
 use Rattle.iddqd_bi.proofs.map.BiHashMap.insert_overwrite.Goals.{then-is_empty+in_default, else-is_empty}
 
@@ -11,19 +11,22 @@ none_found n b is empty = grind (arith, nat_tests)
 
 pub returns-in-Err-clause-no_growth : goal.returns-in-Err-clause-no_growth
 returns-in-Err-clause-no_growth g c =
-    let by = ranks g.T.BiHashItem (keys g.T.K1.PartialEq.eq g.T.K1.Hash.hash_input) (keys g.T.K2.PartialEq.eq g.T.K2.Hash.hash_input) in
+    let by = ranks g.T.BiHashItem g.T.K1.PartialEq.eq g.T.K2.PartialEq.eq in
     let found = c.conflicting-found in
     λ some. absurd (some (clash_none by c.args.self.now.slots c.args.item found.result found.ensures.items (none_found _ _ c.is_empty.ensures c.if-is_empty.true)))
 
 pub returns-in-Err-clause-reason : goal.returns-in-Err-clause-reason
 returns-in-Err-clause-reason g c =
-    let by = ranks g.T.BiHashItem (keys g.T.K1.PartialEq.eq g.T.K1.Hash.hash_input) (keys g.T.K2.PartialEq.eq g.T.K2.Hash.hash_input) in
+    let by = ranks g.T.BiHashItem g.T.K1.PartialEq.eq g.T.K2.PartialEq.eq in
     let found = c.conflicting-found in
-    (clash_none by c.args.self.now.slots c.args.item found.result found.ensures.items (none_found _ _ c.is_empty.ensures c.if-is_empty.true), c.in-Err.ensures.refused)
+    record {
+      free = clash_none by c.args.self.now.slots c.args.item found.result found.ensures.items (none_found _ _ c.is_empty.ensures c.if-is_empty.true);
+      full = c.in-Err.ensures.refused;
+    }
 
 pub returns-clause-no_growth : goal.returns-clause-no_growth
 returns-clause-no_growth g c =
-    let by = ranks g.T.BiHashItem (keys g.T.K1.PartialEq.eq g.T.K1.Hash.hash_input) (keys g.T.K2.PartialEq.eq g.T.K2.Hash.hash_input) in
+    let by = ranks g.T.BiHashItem g.T.K1.PartialEq.eq g.T.K2.PartialEq.eq in
     let found = c.conflicting-found in
     λ some. c.put_over-displaced.ensures.capacity ∙ elim c.if-is_empty.branch [
       | then-is_empty+in_default w ↦ absurd (some (clash_none by c.args.self.now.slots c.args.item found.result found.ensures.items (none_found _ _ c.is_empty.ensures w.if-is_empty.true)))

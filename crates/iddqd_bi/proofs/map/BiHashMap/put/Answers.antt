@@ -1,7 +1,8 @@
 use Rattle.std.proofs.Common.{arith}
-use Rattle.std.proofs.lemmas.List.Sorted.{IsPermutation-map, IsPermutation-sym}
-use Rattle.iddqd_store.proofs.IndexLemmas.{length-live_items}
-use Rattle.iddqd_bi.proofs.MapLemmas.{length1, length2, two_lawful, IsIndexed-insert}
+use Rattle.std.proofs.lemmas.List.Sorted.{IsPermutation-map}
+use Rattle.iddqd_store.proofs.IndexLemmas.{length-live_items, length-index}
+use Rattle.iddqd_store.proofs.IndexedLemmas.{IsIndexed-insert}
+use Rattle.iddqd_bi.proofs.MapLemmas.{AreLawful-ranks}
 use Rattle.iddqd_bi.proofs.map.BiHashMap.put.Goals as goal
 
 pub insert_reserved-ix-requires : goal.insert_reserved-ix-requires
@@ -12,22 +13,19 @@ insert_reserved-ix-requires g c =
 pub insert_reserved-requires : goal.insert_reserved-requires
 insert_reserved-requires g c =
     let room = rw (← c.self.view_is) at c.requires.room in
-    omega (arith, length1 c.self.invariant)
+    omega (arith, length-index c.self.invariant.indexes.0)
 
 pub insert_reserved-requires-2 : goal.insert_reserved-requires-2
 insert_reserved-requires-2 g c =
     let room = rw (← c.self.view_is) at c.requires.room in
-    omega (arith, length2 c.self.invariant)
+    omega (arith, length-index c.self.invariant.indexes.1.0)
 
 pub invariant_of-self : goal.invariant_of-self
 invariant_of-self g c =
-    IsIndexed-insert (two_lawful _ g.T.BiHashItem.key1 _ g.T.BiHashItem.key2 g.met.T.K1.Eq.laws g.met.T.K2.Eq.laws) c.self.invariant _ _ _ _ c.args.item _ _
-    (rw (← c.self.view_is) at c.requires.hash1)
-    (rw (← c.self.view_is) at c.requires.hash2)
-    (rw (← c.self.view_is) at c.requires.free)
-    c.insert_reserved-ix.ensures.members
-    (IsPermutation-sym _ _ c.insert_reserved.ensures.added)
-    (IsPermutation-sym _ _ c.insert_reserved-2.ensures.added)
+    let hash1 = rw (← c.self.view_is) at c.requires.hash1 in
+    let hash2 = rw (← c.self.view_is) at c.requires.hash2 in
+    IsIndexed-insert c.args.item (AreLawful-ranks g.T.BiHashItem g.met.T.K1.Eq.laws g.met.T.K2.Eq.laws) c.self.invariant (rw (← c.self.view_is) at c.requires.free) c.insert_reserved-ix.ensures.members
+    ((_, hash1, c.insert_reserved.ensures.added), ((_, hash2, c.insert_reserved-2.ensures.added), tt))
 
 pub returns-clause-items : goal.returns-clause-items
 returns-clause-items g c = rw (← c.self.view_is) (IsPermutation-map (λ m. m.1) _ _ c.insert_reserved-ix.ensures.members)

@@ -2,20 +2,23 @@ use Rattle.std.proofs.Common.{◌++◌, List, subst, ◌∙◌}
 use Rattle.std.specs.Prelude.{IsPermutation}
 use Rattle.iddqd_store.specs.Map.{bag}
 use Rattle.iddqd_store.proofs.OverLemmas.{clash-taken, over-taken}
-use Rattle.iddqd_bi.specs.Keys.{keys, ranks}
+use Rattle.iddqd_bi.specs.Keys.{ranks}
 use Rattle.iddqd_bi.proofs.map.BiHashMap.put_over.Goals as goal
+
+pub take_all-displaced-requires : goal.take_all-displaced-requires
+take_all-displaced-requires g c = record { live = c.requires.found.live; apart = c.requires.found.apart }
 
 pub put-ix-requires-clause-free : goal.put-ix-requires-clause-free
 put-ix-requires-clause-free g c =
-    let by = ranks g.T.BiHashItem (keys g.T.K1.PartialEq.eq g.T.K1.Hash.hash_input) (keys g.T.K2.PartialEq.eq g.T.K2.Hash.hash_input) in
+    let by = ranks g.T.BiHashItem g.T.K1.PartialEq.eq g.T.K2.PartialEq.eq in
     let taken = c.take_all-displaced in
     clash-taken by _ (bag taken.new.self) c.args.item
-    (subst (λ (l : List g.row.T.Denot). IsPermutation (bag c.args.self.now) (l ++ bag taken.new.self)) (taken.ensures.values ∙ c.requires.items) taken.ensures.items)
+    (subst (λ (l : List g.row.T.Denot). IsPermutation (bag c.args.self.now) (l ++ bag taken.new.self)) (taken.ensures.values ∙ c.requires.found.items) taken.ensures.loses.items)
 
 pub returns-clause-items : goal.returns-clause-items
 returns-clause-items g c =
-    let by = ranks g.T.BiHashItem (keys g.T.K1.PartialEq.eq g.T.K1.Hash.hash_input) (keys g.T.K2.PartialEq.eq g.T.K2.Hash.hash_input) in
+    let by = ranks g.T.BiHashItem g.T.K1.PartialEq.eq g.T.K2.PartialEq.eq in
     let taken = c.take_all-displaced in
     over-taken by _ (bag taken.new.self) _ c.args.item
-    (subst (λ (l : List g.row.T.Denot). IsPermutation (bag c.args.self.now) (l ++ bag taken.new.self)) (taken.ensures.values ∙ c.requires.items) taken.ensures.items)
+    (subst (λ (l : List g.row.T.Denot). IsPermutation (bag c.args.self.now) (l ++ bag taken.new.self)) (taken.ensures.values ∙ c.requires.found.items) taken.ensures.loses.items)
     c.put-ix.ensures.items

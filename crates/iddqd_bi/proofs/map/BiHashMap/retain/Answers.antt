@@ -10,8 +10,8 @@ loop-found-preserved-then-not-f g c =
     record {
       completes = rw (c.number-from.ensures, c.take.ensures.slots) (past_taken (CalledAt g.F.FnMut) _ at.f c.f.new.self _ at.self.slots at.from c.in-Some.found.0 c.in-Some.found.1.now c.in-Some.ensures.next (called_at g.F.FnMut c.f.ensures c.if-not-f.true) at.invariant.completes);
       callable = search of_calls;
-      capacity = c.take.ensures.capacity ∙ at.invariant.capacity;
-      builder = c.take.ensures.builder ∙ at.invariant.builder;
+      capacity = c.take.ensures.loses.same_room ∙ at.invariant.capacity;
+      builder = c.take.ensures.loses.same_builder ∙ at.invariant.builder;
     }
 
 pub loop-found-preserved : goal.loop-found-preserved

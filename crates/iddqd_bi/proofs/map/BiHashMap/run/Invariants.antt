@@ -2,14 +2,13 @@ use Rattle.std.proofs.Common.{◌≡◌}
 use Rattle.std.specs.Vec.Iter.{into_iter_items}
 use Rattle.iddqd_store.specs.Step.{state_of}
 use Rattle.iddqd_store.specs.Run.{Run}
-use Rattle.iddqd_bi.specs.Keys.{keys}
 use Rattle.iddqd_bi.specs.Step.{Step}
 use Rattle.iddqd_bi.proofs.map.BiHashMap.run.Given as goal
 
 -- each run of the rest of the commands from here completes one of all of them from the start
 abbrev pub invariant-loop-command : goal.invariant-loop-command
 invariant-loop-command g l =
-    let Runs = Run (Step g.T.BiHashItem (keys g.T.K1.PartialEq.eq g.T.K1.Hash.hash_input) (keys g.T.K2.PartialEq.eq g.T.K2.Hash.hash_input)) g.K.BiSink.took in
+    let Runs = Run (Step g.T.BiHashItem g.T.K1.PartialEq.eq g.T.K2.PartialEq.eq) g.K.BiSink.took in
     record {
       completes : (answer : _) (new : _) (after : _) → Runs (state_of l.self) l.sink (into_iter_items l.command-iterator) answer new after → Runs (state_of l.fn.self) l.fn.sink l.fn.commands.items answer new after;
       builder : l.self.builder ≡ l.fn.self.builder;

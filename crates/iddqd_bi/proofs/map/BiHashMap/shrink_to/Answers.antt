@@ -1,15 +1,12 @@
-use Rattle.std.proofs.Common.{arith, ◌≡◌, ◌≤◌, ◌<◌, length, refl, ℕ, Result, Ok, Err}
-use Rattle.std.specs.Prelude.{min, max, OnErr}
+use Rattle.std.proofs.Common.{arith, ◌≡◌, ◌≤◌, ◌<◌, length, refl, ℕ}
+use Rattle.std.specs.Prelude.{min, max}
 use Rattle.iddqd_store.proofs.FillLemmas.{live_items-compact}
 use Rattle.iddqd_store.proofs.IndexLemmas.{length-live_items}
+use Rattle.iddqd_store.proofs.IndexedLemmas.{IsIndexed-move}
+use Rattle.iddqd_store.proofs.MapLemmas.{on_err}
 use Rattle.iddqd_store.specs.Map.{bag}
 use Rattle.iddqd_store.specs.Slots.{live_count}
-use Rattle.iddqd_bi.proofs.MapLemmas.{two_lawful, IsIndexed-moved}
 use Rattle.iddqd_bi.proofs.map.BiHashMap.shrink_to.Goals as goal
-
-on_err : {A E P : Type 0} (r : Result A E) → P → OnErr r P
-on_err (Ok _) p = tt
-on_err (Err _) p = p
 
 something : (count len slots kept wanted : ℕ) → len ≡ count → wanted ≡ max len kept → 0 < max count (min wanted slots) → 0 < max len kept
 something count len slots kept wanted all is taken = omega arith
@@ -26,8 +23,8 @@ returns-in_err-shrink_to-clause-refused g c =
 
 pub invariant_of-self-2 : goal.invariant_of-self-2
 invariant_of-self-2 g c =
-    IsIndexed-moved (two_lawful _ g.T.BiHashItem.key1 _ g.T.BiHashItem.key2 g.met.T.K1.Eq.laws g.met.T.K2.Eq.laws) c.self.invariant _ _ _
-    (live_items-compact c.self.inside.items.slots c.shrink_to.new.self.slots c.in_ok-shrink_to.ensures.slots) c.fill.ensures.index c.fill-2.ensures.index
+    let same = live_items-compact c.self.inside.items.slots c.shrink_to.new.self.slots c.in_ok-shrink_to.ensures.slots in
+    IsIndexed-move c.self.invariant same (c.fill.ensures.index, (c.fill-2.ensures.index, tt))
 
 pub returns-clause-items : goal.returns-clause-items
 returns-clause-items g c = rw (← c.self.view_is) (live_items-compact c.self.inside.items.slots c.shrink_to.new.self.slots c.in_ok-shrink_to.ensures.slots)

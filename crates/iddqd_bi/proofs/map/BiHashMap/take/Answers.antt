@@ -1,40 +1,40 @@
-use Rattle.std.proofs.Common.{sym, ◌∙◌, ap, arith}
+use Rattle.std.proofs.Common.{sym, refl, ◌∙◌, arith}
 use Rattle.std.proofs.lemmas.List.Sorted.{IsPermutation-map, length_permutation}
-use Rattle.iddqd_store.specs.Map.{hash_of}
-use Rattle.iddqd_bi.proofs.MapLemmas.{two_lawful, pair1_in, pair2_in, IsIndexed-remove}
+use Rattle.iddqd_store.proofs.IndexLemmas.{pair_in, hash_known, length-index, length-live_items}
+use Rattle.iddqd_store.proofs.IndexedLemmas.{IsIndexed-remove}
+use Rattle.iddqd_bi.proofs.MapLemmas.{AreLawful-ranks}
 use Rattle.iddqd_bi.proofs.map.BiHashMap.take.Goals as goal
 
-pub remove-requires-in-Some : goal.remove-requires-in-Some
-remove-requires-in-Some g c =
-    let hash = hash_of g.S.BuildHasher g.S.Hasher.Hasher c.self.inside.hash_builder in
-    pair1_in (two_lawful _ g.T.BiHashItem.key1 _ g.T.BiHashItem.key2 g.met.T.K1.Eq.laws g.met.T.K2.Eq.laws) c.self.invariant c.args.ix c.in-Some.item _
-    (c.hash_one-hash1.ensures ∙ ap (λ k. hash (g.T.K1.Hash.hash_input k)) c.key1.ensures)
-    (sym c.remove.ensures.value ∙ c.in-Some.is)
+pub forget-requires : goal.forget-requires
+forget-requires g c =
+    let found = sym c.remove.ensures.value ∙ c.in-Some.is in
+    record {
+      known = hash_known c.args.ix c.in-Some.item c.args.hash1 c.self.invariant.indexes.0 (rw (← c.self.view_is) at c.requires.hash1) found;
+      paired = pair_in c.args.ix c.in-Some.item _ c.self.invariant.indexes.0 refl found;
+    }
 
-pub remove-requires-in-Some-2 : goal.remove-requires-in-Some-2
-remove-requires-in-Some-2 g c =
-    let hash = hash_of g.S.BuildHasher g.S.Hasher.Hasher c.self.inside.hash_builder in
-    pair2_in (two_lawful _ g.T.BiHashItem.key1 _ g.T.BiHashItem.key2 g.met.T.K1.Eq.laws g.met.T.K2.Eq.laws) c.self.invariant c.args.ix c.in-Some.item _
-    (c.hash_one-hash2.ensures ∙ ap (λ k. hash (g.T.K2.Hash.hash_input k)) c.key2.ensures)
-    (sym c.remove.ensures.value ∙ c.in-Some.is)
+pub forget-requires-in-Some : goal.forget-requires-in-Some
+forget-requires-in-Some g c =
+    let found = sym c.remove.ensures.value ∙ c.in-Some.is in
+    record {
+      known = hash_known c.args.ix c.in-Some.item c.args.hash2 c.self.invariant.indexes.1.0 (rw (← c.self.view_is) at c.requires.hash2) found;
+      paired = pair_in c.args.ix c.in-Some.item _ c.self.invariant.indexes.1.0 refl found;
+    }
 
 pub invariant_of-self : goal.invariant_of-self
 invariant_of-self g c =
-    let hash = hash_of g.S.BuildHasher g.S.Hasher.Hasher c.self.inside.hash_builder in
-    let moved = c.in-Some.ensures.members in
-    IsIndexed-remove (two_lawful _ g.T.BiHashItem.key1 _ g.T.BiHashItem.key2 g.met.T.K1.Eq.laws g.met.T.K2.Eq.laws) c.self.invariant _ _ _ _ c.in-Some.item _ _
-    (c.hash_one-hash1.ensures ∙ ap (λ k. hash (g.T.K1.Hash.hash_input k)) c.key1.ensures)
-    (c.hash_one-hash2.ensures ∙ ap (λ k. hash (g.T.K2.Hash.hash_input k)) c.key2.ensures)
-    moved c.remove-in-Some.ensures.taken c.remove-in-Some-2.ensures.taken
+    IsIndexed-remove c.in-Some.item (AreLawful-ranks g.T.BiHashItem g.met.T.K1.Eq.laws g.met.T.K2.Eq.laws) c.self.invariant c.in-Some.ensures.members
+    (c.forget.ensures.taken, (c.forget-in-Some.ensures.taken, tt))
 
-pub returns-clause-items : goal.returns-clause-items
-returns-clause-items g c =
-    let moved = c.in-Some.ensures.members in
-    rw (← c.self.view_is) (IsPermutation-map (λ m. m.1) _ _ moved)
+pub returns-clause-loses : goal.returns-clause-loses
+returns-clause-loses g c = record {
+  items = rw (← c.self.view_is) (IsPermutation-map (λ m. m.1) _ _ c.in-Some.ensures.members);
+  same_room = rw (← c.self.view_is, c.remove.ensures.capacity, c.forget.ensures.limit, c.forget-in-Some.ensures.limit) refl;
+  same_builder = rw (← c.self.view_is) refl;
+}
 
 pub returns-clause-room : goal.returns-clause-room
 returns-clause-room g c =
-    let fewer = length_permutation _ _ (IsPermutation-map (λ m. m.1) _ _ c.in-Some.ensures.members) in
-    let fits = rw (← c.self.view_is) at c.capacity.ensures.holds in
-    let value = rw (← c.self.view_is) at c.capacity.ensures.value in
-    omega (arith, fewer, fits, value)
+    let fewer = length-live_items c.remove.new.self.slots in
+    let one = length_permutation _ _ (IsPermutation-map (λ m. m.1) _ _ c.in-Some.ensures.members) in
+    omega (arith, fewer, one, c.in-Some.ensures.room, c.forget.ensures.room, c.forget-in-Some.ensures.room, c.forget.ensures.limit, length_permutation _ _ c.forget.ensures.taken, length_permutation _ _ c.forget-in-Some.ensures.taken, length-index c.self.invariant.indexes.0, length-index c.self.invariant.indexes.1.0)

@@ -29,10 +29,12 @@ loop-at-preserved g c =
             live = rw w.self-is (live-others slots _ ix rest w.take.ensures.updates apart (All-tail (IsLive slots) ix rest live));
             apart = IsDistinct-tail nat_eq ix rest apart;
             values = rw (w.self-is, w.taken-is, w.push.ensures) (items_at-taken slots _ ix rest w.take.result c.loop-at.taken _ w.take.ensures.updates w.take.ensures.value apart values);
-            items = rw (w.self-is, w.taken-is, w.push.ensures) (IsPermutation-taken _ _ _ c.loop-at.taken w.take.result so_far.items w.take.ensures.items);
+            loses = rw (w.self-is, w.taken-is, w.push.ensures) record {
+              items = IsPermutation-taken _ _ _ c.loop-at.taken w.take.result so_far.loses.items w.take.ensures.loses.items;
+              same_room = w.take.ensures.loses.same_room ∙ so_far.loses.same_room;
+              same_builder = w.take.ensures.loses.same_builder ∙ so_far.loses.same_builder;
+            };
             short = rw (w.taken-is, w.push.ensures) (omega (arith, length_push c.loop-at.taken w.take.result, so_far.short));
-            capacity = rw w.self-is (w.take.ensures.capacity ∙ so_far.capacity);
-            builder = rw w.self-is (w.take.ensures.builder ∙ so_far.builder);
             room = rw w.self-is (λ _. w.take.ensures.room);
             none = λ none. absurd (omega arith);
           }

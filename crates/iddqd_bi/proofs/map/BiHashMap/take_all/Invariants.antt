@@ -1,7 +1,7 @@
 use Rattle.std.proofs.Common.{◌≡◌, ◌≤◌, ◌<◌, ◌++◌, length, drop}
 use Rattle.std.specs.Prelude.{All, IsPermutation, nat_eq}
 use Rattle.std.specs.List.{IsDistinct}
-use Rattle.iddqd_store.specs.Map.{bag}
+use Rattle.iddqd_store.specs.Map.{bag, Loses}
 use Rattle.iddqd_store.specs.Slots.{IsLive}
 use Rattle.iddqd_store.specs.Searched.{items_at}
 use Rattle.iddqd_bi.proofs.map.BiHashMap.take_all.Given as goal
@@ -11,10 +11,8 @@ invariant-loop-at g l = record {
   live : All (IsLive l.self.slots) (drop l.at l.found);
   apart : IsDistinct nat_eq (drop l.at l.found);
   values : l.taken ++ items_at l.self.slots (drop l.at l.found) ≡ items_at l.fn.self.slots l.found;
-  items : IsPermutation (bag l.fn.self) (l.taken ++ bag l.self);
+  loses : Loses l.fn.self l.taken l.self;
   short : length l.taken ≤ l.at;
-  capacity : l.self.capacity ≡ l.fn.self.capacity;
-  builder : l.self.builder ≡ l.fn.self.builder;
   room : 0 < l.at → length (bag l.self) < l.self.capacity;
   none : l.at ≡ 0 → l.self ≡ l.fn.self;
 }

@@ -1,7 +1,7 @@
 use Rattle.std.proofs.Common.{◌≡◌, ◌≢◌, ℕ, Bool, true, false, arith, refl, nat_eq}
 use Rattle.std.proofs.lemmas.Bool.Decides.{nat_tests}
 use Rattle.iddqd_store.proofs.FoundLemmas.{clash_none, clash_some}
-use Rattle.iddqd_bi.specs.Keys.{keys, ranks}
+use Rattle.iddqd_bi.specs.Keys.{ranks}
 use Rattle.iddqd_bi.proofs.map.BiHashMap.try_insert.Goals as goal
 
 none_found : (n : ℕ) (b : Bool) → b ≡ nat_eq n 0 → b ≡ true → n ≡ 0
@@ -10,31 +10,32 @@ none_found n b is empty = grind (arith, nat_tests)
 some_found : (n : ℕ) (b : Bool) → b ≡ nat_eq n 0 → b ≡ false → n ≢ 0
 some_found n b is filled = grind (arith, nat_tests)
 
-pub returns-then-not-is_empty-clause-refused : goal.returns-then-not-is_empty-clause-refused
-returns-then-not-is_empty-clause-refused g c =
-    let by = ranks g.T.BiHashItem (keys g.T.K1.PartialEq.eq g.T.K1.Hash.hash_input) (keys g.T.K2.PartialEq.eq g.T.K2.Hash.hash_input) in
+pub returns-then-not-is_empty-clause-reason : goal.returns-then-not-is_empty-clause-reason
+returns-then-not-is_empty-clause-reason g c =
+    let by = ranks g.T.BiHashItem g.T.K1.PartialEq.eq g.T.K2.PartialEq.eq in
     let found = c.conflicting-found in
-    (refl, refl, clash_some by c.args.self.now.slots c.args.item found.result found.ensures.items found.ensures.live (some_found _ _ c.is_empty.ensures c.if-not-is_empty.true), found.ensures.items)
+    record {
+      some = clash_some by c.args.self.now.slots c.args.item found.result found.ensures.items found.ensures.live (some_found _ _ c.is_empty.ensures c.if-not-is_empty.true);
+      found = found.ensures;
+    }
 
-pub returns-in-Err-clause-refused : goal.returns-in-Err-clause-refused
-returns-in-Err-clause-refused g c =
-    let by = ranks g.T.BiHashItem (keys g.T.K1.PartialEq.eq g.T.K1.Hash.hash_input) (keys g.T.K2.PartialEq.eq g.T.K2.Hash.hash_input) in
+pub returns-in-Err-clause-reason : goal.returns-in-Err-clause-reason
+returns-in-Err-clause-reason g c =
+    let by = ranks g.T.BiHashItem g.T.K1.PartialEq.eq g.T.K2.PartialEq.eq in
     let found = c.conflicting-found in
-    let kept = c.in-Err.ensures in (
-      refl,
-      kept.unchanged,
-      clash_none by c.args.self.now.slots c.args.item found.result found.ensures.items (none_found _ _ c.is_empty.ensures c.if-not-is_empty.false),
-      kept.refused,
-    )
+    record {
+      free = clash_none by c.args.self.now.slots c.args.item found.result found.ensures.items (none_found _ _ c.is_empty.ensures c.if-not-is_empty.false);
+      full = c.in-Err.ensures.refused;
+    }
 
 pub put-requires-clause-free : goal.put-requires-clause-free
 put-requires-clause-free g c =
-    let by = ranks g.T.BiHashItem (keys g.T.K1.PartialEq.eq g.T.K1.Hash.hash_input) (keys g.T.K2.PartialEq.eq g.T.K2.Hash.hash_input) in
+    let by = ranks g.T.BiHashItem g.T.K1.PartialEq.eq g.T.K2.PartialEq.eq in
     let found = c.conflicting-found in
     rw c.make_room.ensures.slots (clash_none by c.args.self.now.slots c.args.item found.result found.ensures.items (none_found _ _ c.is_empty.ensures c.if-not-is_empty.false))
 
 pub returns-clause-free : goal.returns-clause-free
 returns-clause-free g c =
-    let by = ranks g.T.BiHashItem (keys g.T.K1.PartialEq.eq g.T.K1.Hash.hash_input) (keys g.T.K2.PartialEq.eq g.T.K2.Hash.hash_input) in
+    let by = ranks g.T.BiHashItem g.T.K1.PartialEq.eq g.T.K2.PartialEq.eq in
     let found = c.conflicting-found in
     clash_none by c.args.self.now.slots c.args.item found.result found.ensures.items (none_found _ _ c.is_empty.ensures c.if-not-is_empty.false)

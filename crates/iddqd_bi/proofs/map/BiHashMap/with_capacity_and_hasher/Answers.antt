@@ -1,5 +1,5 @@
-use Rattle.iddqd_bi.proofs.MapLemmas.{IsIndexed-empty}
+use Rattle.iddqd_store.proofs.IndexedLemmas.{IsIndexed-empty}
 use Rattle.iddqd_bi.proofs.map.BiHashMap.with_capacity_and_hasher.Goals as goal
 
 pub invariant_of-result : goal.invariant_of-result
-invariant_of-result g c = rw (c.in_ok-with_capacity.ensures.slots, c.in_ok-first.ensures.empty, c.in_ok-second.ensures.empty) (IsIndexed-empty _ _ _)
+invariant_of-result g c = rw (c.in_ok-with_capacity.ensures.slots, c.in_ok-first.ensures.empty, c.in_ok-second.ensures.empty) (IsIndexed-empty _ _)

@@ -1,5 +1,5 @@
-use Rattle.iddqd_bi.proofs.MapLemmas.{IsIndexed-empty}
+use Rattle.iddqd_store.proofs.IndexedLemmas.{IsIndexed-empty}
 use Rattle.iddqd_bi.proofs.map.BiHashMap.with_hasher.Goals as goal
 
 pub invariant_of-result : goal.invariant_of-result
-invariant_of-result g c = rw (c.new.ensures.slots, c.new-2.ensures.pairs, c.new-3.ensures.pairs) (IsIndexed-empty _ _ _)
+invariant_of-result g c = rw (c.new.ensures.slots, c.new-2.ensures.pairs, c.new-3.ensures.pairs) (IsIndexed-empty _ _)

@@ -12,3 +12,9 @@ invariant_of-self c =
 
 pub returns-clause-within : goal.returns-clause-within
 returns-clause-within c = stretch_le_pairs c.args.self.now.pairs (length c.args.self.now.row) c.args.hash
+
+pub returns-clause-room : goal.returns-clause-room
+returns-clause-room c =
+    let x : ℕ × ℕ = (c.args.hash, c.args.ix) in
+    let p : length (x ∷ held c.close_up.new.cells) ≡ length (held c.self.inside.cells) = length_permutation _ _ (c.close_up.ensures.taken x c.seek-at.ensures.pair) in
+    omega (arith, p, c.self.invariant.0.fits, c.close_up.ensures.len)

@@ -1,8 +1,8 @@
-use Rattle.std.proofs.Common.{arith, ◌<◌, ◌∙◌, length, sym, ap}
+use Rattle.std.proofs.Common.{arith, ◌<◌, ◌∙◌, length, refl, sym, ap}
 use Rattle.std.specs.Option.{option_copied}
-use Rattle.std.proofs.lemmas.List.{length-map}
-use Rattle.iddqd_store.specs.SlotChain.{item_of}
-use Rattle.iddqd_store.proofs.FillLemmas.{IsFilling-skip, IsFilling-enter, IsFilling-room}
+use Rattle.iddqd_store.specs.Rank.{key_hash}
+use Rattle.iddqd_store.specs.Map.{hash_of}
+use Rattle.iddqd_store.proofs.FillLemmas.{IsFilling-start, IsFilling-skip, IsFilling-enter, IsFilling-room}
 use Rattle.iddqd_store.proofs.item_set.ItemSet.fill.Goals as goal
 use Rattle.iddqd_store.proofs.item_set.ItemSet.fill.Goals.{in-Some, in_default}
 
@@ -10,23 +10,24 @@ pub insert_reserved-requires : goal.insert_reserved-requires
 insert_reserved-requires g c =
     let slots = c.args.self.now.slots in
     let i = c.loop-at.invariant in
-    let within : c.loop-at.at < length slots = rw (← c.self.view_is) (omega (arith, length-map c.self.inside.slots.items item_of)) in
+    let within : c.loop-at.at < length slots = omega arith in
     let found = rw c.new-ix.ensures at (sym c.get.ensures ∙ ap option_copied c.in-Some.is) in
-    let room = IsFilling-room (g.H.ItemHash.hash_of c.args.hashes.now) slots c.loop-at.at c.in-Some.item.now c.loop-at.table.pairs within found i.filling in
+    let room = IsFilling-room (key_hash g.R.KeyOf.key g.R.Key.Hash.hash_input g.S.BuildHasher g.S.Hasher.Hasher c.args.hash_builder.now) slots c.loop-at.at c.in-Some.item.now c.loop-at.table.pairs within found i.filling in
     rw i.limit (omega (arith, room, c.requires.room))
 
 pub loop-at-preserved : goal.loop-at-preserved
 loop-at-preserved g c =
     let slots = c.args.self.now.slots in
-    let hash = g.H.ItemHash.hash_of c.args.hashes.now in
+    let hash = key_hash g.R.KeyOf.key g.R.Key.Hash.hash_input g.S.BuildHasher g.S.Hasher.Hasher c.args.hash_builder.now in
+    let writes = hash_of g.S.BuildHasher g.S.Hasher.Hasher c.args.hash_builder.now in
     let at = c.loop-at.at in
     let i = c.loop-at.invariant in
-    let within : at < length slots = rw (← c.self.view_is) (omega (arith, length-map c.self.inside.slots.items item_of)) in
+    let within : at < length slots = omega arith in
     elim c.match-get.branch [
       | in-Some w ↦
           let found = rw c.new-ix.ensures at (sym c.get.ensures ∙ ap option_copied w.in-Some.is) in
           record {
-            filling = rw w.table-is (IsFilling-enter hash slots at w.in-Some.item.now w.hash.result c.loop-at.table.pairs _ within found w.hash.ensures (rw c.new-ix.ensures at w.insert_reserved.ensures.added) i.filling);
+            filling = rw w.table-is (IsFilling-enter hash slots at w.in-Some.item.now w.hash_one-hash.result c.loop-at.table.pairs _ within found (w.hash_one-hash.ensures ∙ ap (λ k. writes (g.R.Key.Hash.hash_input k)) w.key.ensures) (rw c.new-ix.ensures at w.insert_reserved.ensures.added) i.filling);
             cells = rw w.table-is (w.insert_reserved.ensures.cells ∙ i.cells);
             limit = rw w.table-is (w.insert_reserved.ensures.limit ∙ i.limit);
           }
@@ -38,3 +39,8 @@ loop-at-preserved g c =
             limit = rw w.table-is i.limit;
           }
     ]
+
+pub loop-at-init : goal.loop-at-init
+loop-at-init g c =
+    let hash = key_hash g.R.KeyOf.key g.R.Key.Hash.hash_input g.S.BuildHasher g.S.Hasher.Hasher c.args.hash_builder.now in
+    record { filling = rw c.requires.empty (IsFilling-start hash c.args.self.now.slots); cells = refl; limit = refl }

@@ -1,5 +1,7 @@
+use Rattle.std.proofs.Common.{arith}
 use Rattle.std.proofs.lemmas.List.{map-set}
-use Rattle.iddqd_store.proofs.SlotLemmas.{occupied_at, IsChained-vacate}
+use Rattle.iddqd_store.proofs.SlotLemmas.{occupied_at, count-set, IsChained-vacate}
+use Rattle.iddqd_store.specs.declared.item_set.Slot.TheVariants.{Live, Free}
 use Rattle.iddqd_store.proofs.item_set.ItemSet.take.Goals as goal
 
 pub invariant_of-self : goal.invariant_of-self
@@ -9,3 +11,9 @@ invariant_of-self g c =
 
 pub returns-clause-slots : goal.returns-clause-slots
 returns-clause-slots g c = rw (← c.self.view_is, c.replace.ensures.after, map-set)
+
+pub returns-clause-room : goal.returns-clause-room
+returns-clause-room g c =
+    let found = occupied_at c.self.inside.slots.items c.args.at (rw (← c.self.view_is) at c.requires) in
+    let fewer = count-set c.self.inside.slots.items c.args.at (Live found.0) (Free c.self.inside.head) found.1 in
+    rw c.replace.ensures.after (omega (arith, fewer, c.self.invariant.counted, c.self.invariant.total, c.self.inside.slots.ok.1))

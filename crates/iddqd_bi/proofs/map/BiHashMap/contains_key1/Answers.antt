@@ -1,9 +1,0 @@
-use Rattle.std.proofs.Common.{◌∙◌}
-use Rattle.iddqd_store.specs.Map.{bag}
-use Rattle.iddqd_store.proofs.UniqueLemmas.{is_some-found}
-use Rattle.iddqd_bi.proofs.map.BiHashMap.contains_key1.Goals as goal
-
-pub returns : goal.returns
-returns g c =
-    let test = λ (x : g.row.T.Denot). g.Q.Equivalent.equivalent c.args.query.now (g.T.BiHashItem.key1 x) in
-    c.is_some.ensures ∙ is_some-found test (bag c.args.self.now) c.get1.result c.get1.ensures

@@ -1,0 +1,32 @@
+//! The two ranks of an item, as the parts that all ranks share see them.
+use crate::item::BiHashItem;
+use iddqd_store::KeyOf;
+use std::hash::Hash;
+
+/// The rank of the first key.
+#[derive(Drop)]
+pub(crate) struct First;
+
+impl<T: BiHashItem> KeyOf<T> for First {
+    type Key = T::K1;
+
+    ghost key = { T.key1 };
+
+    fn key(item: &T) -> &T::K1 {
+        item.key1()
+    }
+}
+
+/// The rank of the second key.
+#[derive(Drop)]
+pub(crate) struct Second;
+
+impl<T: BiHashItem> KeyOf<T> for Second {
+    type Key = T::K2;
+
+    ghost key = { T.key2 };
+
+    fn key(item: &T) -> &T::K2 {
+        item.key2()
+    }
+}

@@ -1,0 +1,9 @@
+use Rattle.std.proofs.Common.{◌∙◌}
+use Rattle.iddqd_store.specs.Map.{bag}
+use Rattle.iddqd_store.proofs.UniqueLemmas.{is_some-found}
+use Rattle.iddqd_store.proofs.rank.lookup.Lookup.contains_key.Goals as goal
+
+pub returns : goal.returns
+returns g c =
+    let test = λ (x : g.row.T.Denot). g.Q.Equivalent.equivalent c.args.query.now (g.R.KeyOf.key x) in
+    c.is_some.ensures ∙ is_some-found test (bag c.args.self.now) c.get.result c.get.ensures

@@ -1,0 +1,46 @@
+//! The searches by a key, as the table sees them.
+ghost use Rattle.std.specs.Prelude.{◌≡◌, refl, false, true};
+ghost use Rattle.std.proofs.Common.{ap, ◌∙◌};
+ghost use Rattle.iddqd_store.specs.Asking.{passes_kept};
+ghost use Rattle.iddqd_store.specs.Indexed.{passes_at};
+
+use super::key_of::KeyOf;
+use crate::item_index::ItemIndex;
+use crate::item_set::ItemSet;
+use crate::key_matcher::KeyMatcher;
+use crate::matcher::Matcher;
+use std::hash::Hash;
+use std::marker::PhantomData;
+
+/// Asks about the key of the item in a slot.
+#[derive(Drop)]
+pub(crate) struct ByKey<'a, T, R: KeyOf<T>, M: KeyMatcher<R::Key>> {
+    pub(crate) items: &'a ItemSet<T>,
+    pub(crate) keys: &'a mut M,
+    pub(crate) rank: PhantomData<R>,
+}
+
+impl<'a, T, R: KeyOf<T>, M: KeyMatcher<R::Key>> Matcher for ByKey<'a, T, R, M> {
+    ghost accepts = { λ m ix. passes_at (λ x. M.accepts m.keys.now (R.key x)) m.items.now.slots ix };
+
+    ghost counts = { λ _ _. true };
+
+    ghost asked = { λ m. M.asked m.keys.now };
+
+    ghost IsKept = { λ m n. (n.items ≡ m.items) × (n.keys.ghost_name ≡ m.keys.ghost_name) × M.IsKept m.keys.now n.keys.now };
+
+    ghost accepts_kept = { λ m n ix k. passes_kept _ _ (λ x. M.accepts_kept m.keys.now n.keys.now (R.key x) k.2) _ _ ix (ap (λ i. i.now.slots) k.0) };
+
+    ghost counts_kept = { λ _ _ _ _. refl };
+
+    ghost kept_refl = { λ m. (refl, refl, M.kept_refl m.keys.now) };
+
+    ghost kept_trans = { λ m n o p q. (q.0 ∙ p.0, q.1 ∙ p.1, M.kept_trans m.keys.now n.keys.now o.keys.now p.2 q.2) };
+
+    fn matches(&mut self, ix: ItemIndex) -> bool {
+        match self.items.get(ix) {
+            Some(item) => self.keys.matches(R::key(item)),
+            None => false,
+        }
+    }
+}

@@ -1,0 +1,138 @@
+//! Searches by one rank.
+ghost use Rattle.std.specs.Prelude.{◌≡◌, option_copied, IfSome};
+ghost use Rattle.std.specs.List.{list_any};
+ghost use Rattle.std.specs.Option.{option_and_then};
+ghost use Rattle.iddqd_store.specs.Bag.{IsOnly};
+ghost use Rattle.iddqd_store.specs.Map.{bag, hash_of};
+ghost use Rattle.iddqd_store.specs.Indexed.{HasHash};
+ghost use Rattle.iddqd_store.specs.Slots.{get, IsLive};
+ghost use Rattle.iddqd_store.specs.Rank.{agree, key_hash, NamesOneUnder, SearchCosts, IsSearchable};
+
+use super::by_key::ByKey;
+use super::by_query::ByQuery;
+use super::key_of::KeyOf;
+use crate::equivalent::Equivalent;
+use crate::index_table::IndexTable;
+use crate::item_index::ItemIndex;
+use crate::item_set::ItemSet;
+use crate::key_matcher::KeyMatcher;
+use crate::meter::Meter;
+use std::hash::{BuildHasher, Hash};
+use std::marker::{Model, PhantomData};
+
+/// The slots of a map, lent with the table of one rank: what a search by that rank reads.
+#[derive(Drop)]
+pub struct Lookup<'a, T, R: KeyOf<T>, S: BuildHasher> {
+    items: &'a ItemSet<T>,
+    table: &'a IndexTable,
+    hash_builder: &'a S,
+    rank: PhantomData<R>,
+}
+
+impl<'a, T, R: KeyOf<T>, S: BuildHasher> Model for Lookup<'a, T, R, S> {
+    ghost use Rattle.iddqd_store.specs.Map.{Map, map_code};
+    ghost use Rattle.iddqd_store.specs.Rank.{agree, key_hash, IsSearchable};
+
+    ghost Value = { Map T S };
+
+    ghost coded = { map_code T.code S.code };
+
+    ghost view = { λ l. record { slots = l.items.now.slots; capacity = l.table.now.limit; builder = l.hash_builder.now } };
+
+    ghost invariant = { λ l. IsSearchable (agree R.key R.Key.eq)
+        (key_hash R.key R.Key.hash_input S.BuildHasher S.Hasher.Hasher l.hash_builder.now)
+        l.items.now.slots l.table.now.pairs };
+}
+
+impl<'a, T, R: KeyOf<T>, S: BuildHasher> Lookup<'a, T, R, S> {
+    /// The slots, a table that indexes them by the keys of the rank, and what makes the hashes.
+    pub fn new(items: &'a ItemSet<T>, table: &'a IndexTable, hash_builder: &'a S) -> Self
+        requires { IsSearchable (agree R.key R.Key.eq)
+            (key_hash R.key R.Key.hash_input S.BuildHasher S.Hasher.Hasher hash_builder.now)
+            items.now.slots table.now.pairs }
+        ensures { result ≡ record { slots = items.now.slots; capacity = table.now.limit; builder = hash_builder.now } }
+    {
+        Lookup {
+            items,
+            table,
+            hash_builder,
+            rank: PhantomData,
+        }
+    }
+
+    /// The item whose key the query stands for.
+    pub fn get<Q: Equivalent<R::Key>>(&self, query: &Q) -> Option<&'a T>
+        ensures { IsOnly (λ x. Q.equivalent query.now (R.key x)) (bag self.now) (option_copied result) }
+    {
+        let hash = self.hash_builder.hash_one(query);
+        let ix = self.slot(hash, query)?;
+        self.items.get(ix)
+    }
+
+    /// Whether there is such an item.
+    pub fn contains_key<Q: Equivalent<R::Key>>(&self, query: &Q) -> bool
+        ensures { result ≡ list_any (λ x. Q.equivalent query.now (R.key x)) (bag self.now) }
+    {
+        self.get(query).is_some()
+    }
+
+    /// The item whose key the matcher accepts.
+    pub fn find_with<M: KeyMatcher<R::Key>>(
+        &self,
+        hash: u64,
+        matcher: &mut M,
+        meter: &mut Meter,
+    ) -> Option<&'a T>
+        requires { NamesOneUnder (agree R.key R.Key.eq)
+            (key_hash R.key R.Key.hash_input S.BuildHasher S.Hasher.Hasher self.now.builder) hash
+            (λ x. M.accepts matcher.old (R.key x)) (bag self.now) }
+        ensures found { IsOnly (λ x. M.accepts matcher.old (R.key x)) (bag self.now) (option_copied result) }
+        ensures kept { M.IsKept matcher.old matcher.new }
+        ensures costs { SearchCosts
+            (key_hash R.key R.Key.hash_input S.BuildHasher S.Hasher.Hasher self.now.builder) (bag self.now)
+            self.now.capacity hash result (M.asked matcher.old) (M.asked matcher.new) meter.old meter.new }
+    {
+        let ix = self.slot_with(hash, matcher, meter)?;
+        self.items.get(ix)
+    }
+
+    /// The slot of the item whose key the query stands for, where this is the query's hash.
+    pub fn slot<Q: Equivalent<R::Key>>(&self, hash: u64, query: &Q) -> Option<ItemIndex>
+        requires { hash ≡ hash_of S.BuildHasher S.Hasher.Hasher self.now.builder (Q.hash_input query.now) }
+        ensures found { IsOnly (λ x. Q.equivalent query.now (R.key x)) (bag self.now)
+            (option_and_then (get self.now.slots) result) }
+        ensures live { IfSome result (IsLive self.now.slots) }
+        ensures hashed { IfSome result (λ ix. HasHash
+            (key_hash R.key R.Key.hash_input S.BuildHasher S.Hasher.Hasher self.now.builder) self.now.slots ix hash) }
+    {
+        self.slot_with(hash, &mut ByQuery::new(query), &mut Meter::new())
+    }
+
+    /// The slot of the item whose key the matcher accepts: the one search.
+    pub fn slot_with<M: KeyMatcher<R::Key>>(
+        &self,
+        hash: u64,
+        matcher: &mut M,
+        meter: &mut Meter,
+    ) -> Option<ItemIndex>
+        requires { NamesOneUnder (agree R.key R.Key.eq)
+            (key_hash R.key R.Key.hash_input S.BuildHasher S.Hasher.Hasher self.now.builder) hash
+            (λ x. M.accepts matcher.old (R.key x)) (bag self.now) }
+        ensures found { IsOnly (λ x. M.accepts matcher.old (R.key x)) (bag self.now)
+            (option_and_then (get self.now.slots) result) }
+        ensures live { IfSome result (IsLive self.now.slots) }
+        ensures hashed { IfSome result (λ ix. HasHash
+            (key_hash R.key R.Key.hash_input S.BuildHasher S.Hasher.Hasher self.now.builder) self.now.slots ix hash) }
+        ensures kept { M.IsKept matcher.old matcher.new }
+        ensures costs { SearchCosts
+            (key_hash R.key R.Key.hash_input S.BuildHasher S.Hasher.Hasher self.now.builder) (bag self.now)
+            self.now.capacity hash result (M.asked matcher.old) (M.asked matcher.new) meter.old meter.new }
+    {
+        let mut keys: ByKey<'_, T, R, M> = ByKey {
+            items: self.items,
+            keys: matcher,
+            rank: PhantomData,
+        };
+        self.table.find(hash, &mut keys, meter)
+    }
+}
