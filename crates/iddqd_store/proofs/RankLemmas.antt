@@ -1,5 +1,5 @@
 -- What a search by one rank finds, and what it costs.
-use Rattle.std.specs.Prelude.{◌≡◌, ℕ, ◌+◌, ◌*◌, ◌/◌, ◌≤◌, Bool, true, false, List, Option, Some, None, Contains, count_by, ◌==◌, ◌&&◌}
+use Rattle.std.specs.Prelude.{◌≡◌, ℕ, ◌+◌, ◌*◌, ◌/◌, ◌≤◌, Bool, true, false, List, Option, Some, None, Contains, count_by}
 use Rattle.std.specs.Option.{option_and_then, IfSome, IfNone}
 use Rattle.std.proofs.Common.{arith}
 use Rattle.iddqd_store.specs.Limit.{IsSize}
@@ -7,18 +7,18 @@ use Rattle.iddqd_store.specs.Slots.{live_items, get}
 use Rattle.iddqd_store.specs.Indexed.{passes_at}
 use Rattle.iddqd_store.specs.Bag.{IsOnly}
 use Rattle.iddqd_store.specs.Rank.{IsSearchable, NamesOneUnder, SearchCosts}
-use Rattle.iddqd_store.specs.Table.{hashes, LooksUp}
-use Rattle.iddqd_store.proofs.SearchLemmas.{search_among, crowd_among}
-use Rattle.iddqd_store.proofs.IndexLemmas.{hash_at}
+use Rattle.iddqd_store.specs.Table.{hashes, under, LooksUp}
+use Rattle.iddqd_store.proofs.SearchLemmas.{search_among}
+use Rattle.iddqd_store.proofs.IndexLemmas.{hash_at, crowd_is}
 use Rattle.iddqd_store.proofs.MapLooks.{looks_within, looks_within_most}
 
 module _ {T : Type 0} {agree : T → T → Bool} {hash : T → ℕ} {slots : List (Option T)} {pairs : List (ℕ × ℕ)} (rank : IsSearchable agree hash slots pairs) where
   pub searches : (test : T → Bool) (h : ℕ) (r : Option ℕ) → NamesOneUnder agree hash h test (live_items slots) → IfSome r (λ at. passes_at test slots at ≡ true) → IfNone r ((at : ℕ) → Contains pairs (h, at) → passes_at test slots at ≡ false) → IsOnly test (live_items slots) (option_and_then (get slots) r)
   searches test h r names = search_among agree test hash h slots pairs r names.one rank.apart rank.index names.hashed
 
-  pub costs : (cells room h : ℕ) (r : Option ℕ) (asks asks_then look look_then : ℕ) → IsSize cells → room ≤ cells / 8 * 7 → asks_then ≤ asks + count_by (λ p. p.0 == h && true) pairs → LooksUp (hashes pairs) cells h r look look_then → SearchCosts hash (live_items slots) room h r asks asks_then look look_then
+  pub costs : (cells room h : ℕ) (r : Option ℕ) (asks asks_then look look_then : ℕ) → IsSize cells → room ≤ cells / 8 * 7 → asks_then ≤ asks + count_by (under h) pairs → LooksUp (hashes pairs) cells h r look look_then → SearchCosts hash (live_items slots) room h r asks asks_then look look_then
   costs cells room h r asks asks_then look look_then size fits crowd looks = record {
-    asked = omega (arith, crowd, crowd_among hash h slots pairs rank.index);
+    asked = omega (arith, crowd, crowd_is hash h slots pairs rank.index);
     looks = looks_within hash slots pairs cells room h r look look_then rank.index size fits looks;
     at_most = looks_within_most hash slots pairs cells h r look look_then rank.index looks;
   }

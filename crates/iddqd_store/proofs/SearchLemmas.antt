@@ -1,17 +1,16 @@
 -- What searches find among the members of a sound bag.
-use Rattle.std.specs.Prelude.{◌≡◌, ℕ, zero, suc, Bool, true, false, cond, List, [], ◌∷◌, filter, Contains, Option, Some, None, ◌==◌, ◌&&◌}
-use Rattle.std.specs.List.{IsDistinct, AllByRecursion, sum_by, count_by}
+use Rattle.std.specs.Prelude.{◌≡◌, ℕ, zero, suc, Bool, true, false, cond, List, [], ◌∷◌, filter, Contains, Option, Some, None}
+use Rattle.std.specs.List.{IsDistinct, AllByRecursion}
 use Rattle.std.specs.Option.{option_map_or, option_to_list, option_and_then, IfSome, IfNone}
 use Rattle.std.proofs.Common.{IsSome, inl, inr, refl, sym, ap, subst, ◌∙◌, arith}
 use Rattle.std.proofs.lemmas.Bool.{false≢true}
-use Rattle.std.proofs.lemmas.List.Sums.{sum_by-cons}
 use Rattle.std.proofs.lemmas.Map.Keys.{IsDistinct-head, IsDistinct-tail}
 use Rattle.iddqd_store.specs.Slots.{get, IsLive, live_items}
 use Rattle.iddqd_store.specs.Indexed.{IsIndex, passes_at}
 use Rattle.iddqd_store.specs.Searched.{NamesOneOf}
 use Rattle.iddqd_store.proofs.Shuffled.{split}
 use Rattle.iddqd_store.proofs.BagLemmas.{none_pass}
-use Rattle.iddqd_store.proofs.IndexLemmas.{Contains-cons, Contains-cons_cases, Contains-here, each_from_Contains, item_at, none_is, crowd_is}
+use Rattle.iddqd_store.proofs.IndexLemmas.{Contains-cons, Contains-cons_cases, Contains-here, each_from_Contains, item_at, none_is}
 
 module _ {T : Type 0} where
   pub each_at : (P : T → Type 0) (xs : List T) (y : T) → AllByRecursion P xs → Contains xs y → P y
@@ -70,17 +69,3 @@ module _ {T : Type 0} where
       by_slot : (o : Option T) → option_map_or test o false ≡ true → IsSome o
       by_slot None h = absurd (false≢true h)
       by_slot (Some x) h = refl
-
-pub sum_by-alike : {X : Type 0} (f h : X → ℕ) → ((x : X) → f x ≡ h x) → (xs : List X) → sum_by f xs ≡ sum_by h xs
-sum_by-alike f h same [] = refl
-sum_by-alike f h same (x ∷ xs) = omega (arith, sum_by-alike f h same xs, same x, sum_by-cons f x xs, sum_by-cons h x xs)
-
-and_true : (b : Bool) → (b && true) ≡ b
-and_true true = refl
-and_true false = refl
-
--- as many pairs under a hash are counted as members have it
-pub crowd_among : {T : Type 0} (hash : T → ℕ) (h : ℕ) (slots : List (Option T)) (pairs : List (ℕ × ℕ)) → IsIndex hash slots pairs → count_by (λ p. p.0 == h && true) pairs ≡ count_by (λ x. hash x == h) (live_items slots)
-crowd_among hash h slots pairs index =
-    sum_by-alike (λ (p : ℕ × ℕ). cond (p.0 == h && true) 1 0) (λ p. cond (p.0 == h) 1 0) (λ p. ap (λ b. cond b 1 0) (and_true (p.0 == h))) pairs
-    ∙ crowd_is hash h slots pairs index

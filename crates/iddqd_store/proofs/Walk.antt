@@ -1,7 +1,7 @@
 -- A search that goes from a home on, over cells that are occupied.
 use Rattle.std.proofs.Common.{◌≡◌, ℕ, suc, zero, ◌+◌, ◌-◌, ◌*◌, ◌/◌, ◌<◌, ◌≤◌, ◌%◌, Bool, true, false, List, [], ◌∷◌, ◌++◌, Option, None, Some, length, get_or, take, drop, refl, sym, ap, ◌∙◌, subst, ⊎_elim, arith, cond}
 use Rattle.std.specs.List.{count_by, sum_by, Contains}
-use Rattle.std.specs.Prelude.{◌≢◌, nat_lt, is_some, if◌then◌else◌, ◌&&◌}
+use Rattle.std.specs.Prelude.{◌≢◌, nat_lt, is_some, if◌then◌else◌}
 use Rattle.std.specs.List.Sorted.{IsPermutation}
 use Rattle.std.proofs.lemmas.List.{length-append, length-drop, length-take-le, get_or_append_left, get_or-append_right, get_or-take, get_or-drop, take-append-drop}
 use Rattle.std.proofs.lemmas.List.Sums.{sum_by_more, sum_by-take-le}
@@ -145,19 +145,15 @@ met_within q cs a s =
     let t : met q cs a s ≤ sum_by (weight q) (ahead cs a) = sum_by-take-le (weight q) (ahead cs a) s in
     omega arith
 
--- whether a question about a pair is asked and counted
-abbrev pub counted : ℕ → (ℕ → Bool) → ℕ × ℕ → Bool
-counted hash counts p = under hash p && counts p.1
+-- one more that stands under the hash
+pub met_under : (hash : ℕ) (row : List (Option (ℕ × ℕ))) (a s : ℕ) (x : ℕ × ℕ) → a < length row → s < length row → cell row (place (length row) a s) ≡ Some x → x.0 ≡ hash → (t : ℕ) → t ≡ s + 1
+    → met (under hash) row a t ≡ met (under hash) row a s + 1
+met_under hash row a s x l m e h t et =
+    met_more (under hash) row a s x l m e t et ∙ ap (λ (b : Bool). met (under hash) row a s + cond b 1 0) (eq-eqb x.0 hash h)
 
--- one more that stands under the hash, and is counted where its question is
-pub met_under : (hash : ℕ) (counts : ℕ → Bool) (row : List (Option (ℕ × ℕ))) (a s : ℕ) (x : ℕ × ℕ) → a < length row → s < length row → cell row (place (length row) a s) ≡ Some x → x.0 ≡ hash → (t : ℕ) → t ≡ s + 1
-    → met (counted hash counts) row a t ≡ met (counted hash counts) row a s + cond (counts x.1) 1 0
-met_under hash counts row a s x l m e h t et =
-    met_more (counted hash counts) row a s x l m e t et ∙ ap (λ (b : Bool). met (counted hash counts) row a s + cond (b && counts x.1) 1 0) (eq-eqb x.0 hash h)
-
-pub met_grows : (hash : ℕ) (counts : ℕ → Bool) (row : List (Option (ℕ × ℕ))) (a s : ℕ) (x : ℕ × ℕ) → a < length row → s < length row → cell row (place (length row) a s) ≡ Some x → (t : ℕ) → t ≡ s + 1
-    → met (counted hash counts) row a s ≤ met (counted hash counts) row a t
-met_grows hash counts row a s x l m e t et = let f = met_more (counted hash counts) row a s x l m e t et in omega arith
+pub met_grows : (hash : ℕ) (row : List (Option (ℕ × ℕ))) (a s : ℕ) (x : ℕ × ℕ) → a < length row → s < length row → cell row (place (length row) a s) ≡ Some x → (t : ℕ) → t ≡ s + 1
+    → met (under hash) row a s ≤ met (under hash) row a t
+met_grows hash row a s x l m e t et = let f = met_more (under hash) row a s x l m e t et in omega arith
 
 -- the looks of a search that finds
 pub walk_found : (row : List (Option (ℕ × ℕ))) (hash at s t : ℕ) → IsTable row → Walk row (hash % length row) at s → cell row at ≢ None → t ≡ s + 1 → t ≤ stretch (hashes (held row)) (length row) hash

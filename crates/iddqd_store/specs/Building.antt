@@ -1,6 +1,6 @@
 -- What is built of the items that an iterator gives.
-use Rattle.std.specs.Prelude.{◌≡◌, List, [], ◌∷◌, Option, Some, Ok, Err, IsPermutation}
-use Rattle.std.specs.Iterator.{Drains, YieldsThen}
+use Rattle.std.specs.Prelude.{◌≡◌, ◌+◌, ◌≤◌, ℕ, List, [], ◌∷◌, Option, Some, Ok, Err, IsPermutation}
+use Rattle.std.specs.Iterator.{Count, Drains, YieldsThen, size}
 use Rattle.iddqd_store.specs.Bag.{Ranks, add, adds}
 use Rattle.iddqd_store.specs.declared.error.FromIterError.{FromIterError}
 use Rattle.iddqd_store.specs.declared.error.FromIterError.TheVariants.{Duplicate, Memory}
@@ -13,6 +13,10 @@ module _ {U S T : Type 0} (becomes : U → S → Type 0) (steps : S → Option T
   -- the iterator gave a front of a list, of which P holds, and then x
   abbrev pub GivesThen : U → T → (List T → Type 0) → Type 0
   GivesThen iter x P = (it : S) × (xs : List T) × (rest : S) × becomes iter it × YieldsThen steps it xs (Some x) rest × P xs
+
+-- however the iterator begins, as many items as it may give fit beside those that are held
+abbrev pub FitsOn : {U S : Type 0} → (U → S → Type 0) → (S → Count) → U → ℕ → ℕ → Type 0
+FitsOn becomes remaining iter held room = (it : _) → becomes iter it → held + size (remaining it) ≤ room
 
 module _ {T : Type 0} (ranks : Ranks T) where
   -- each of the list was added where nothing conflicts, which makes this bag

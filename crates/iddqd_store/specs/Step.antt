@@ -1,8 +1,8 @@
 -- One step of a map, for any number of ranks: what a command may answer, and what the map holds then.
-use Rattle.std.specs.Prelude.{◌≡◌, ◌≢◌, ◌+◌, ◌<◌, ◌≤◌, ℕ, min, max, List, [], ◌∷◌, ◌++◌, Bool, length, filter, IsPermutation}
+use Rattle.std.specs.Prelude.{◌≡◌, ◌≢◌, ◌+◌, ◌<◌, ◌≤◌, ℕ, min, max, List, [], ◌∷◌, ◌++◌, Bool, length, IsPermutation}
 use Rattle.std.specs.List.{list_any}
 use Rattle.std.specs.Option.{option_to_list}
-use Rattle.iddqd_store.specs.Bag.{Ranks, clash, order, over, overs}
+use Rattle.iddqd_store.specs.Bag.{Ranks, IsOnly, clash, order, over, overs}
 use Rattle.iddqd_store.specs.Map.{Map, bag}
 use Rattle.iddqd_store.specs.Reply.{Reply, done, duplicate, displaced, found, present, taken, memory, refused, size, items}
 
@@ -46,36 +46,36 @@ module _ {T D : Type 0} where
   InsertsOverwrite ranks old x reply new = ⊥
 
   -- the member that passes the test, if there is one
-  abbrev pub Gets : (T → Bool) → State T → Reply T D → State T → Type 0
-  Gets test old (found o) new = (option_to_list o ≡ filter test old.items) × (new ≡ old)
-  Gets test old reply new = ⊥
+  abbrev pub Gets : State T → (T → Bool) → Reply T D → State T → Type 0
+  Gets old test (found o) new = IsOnly test old.items o × (new ≡ old)
+  Gets old test reply new = ⊥
 
   -- whether a member passes the test
-  abbrev pub Tells : (T → Bool) → State T → Reply T D → State T → Type 0
-  Tells test old (present b) new = (b ≡ list_any test old.items) × (new ≡ old)
-  Tells test old reply new = ⊥
+  abbrev pub Tells : State T → (T → Bool) → Reply T D → State T → Type 0
+  Tells old test (present b) new = (b ≡ list_any test old.items) × (new ≡ old)
+  Tells old test reply new = ⊥
 
   -- that member is taken out
-  abbrev pub Removes : (T → Bool) → State T → Reply T D → State T → Type 0
-  Removes test old (taken o) new =
-      (option_to_list o ≡ filter test old.items) × IsPermutation old.items (option_to_list o ++ new.items)
+  abbrev pub Removes : State T → (T → Bool) → Reply T D → State T → Type 0
+  Removes old test (taken o) new =
+      IsOnly test old.items o × IsPermutation old.items (option_to_list o ++ new.items)
       × (new.capacity ≡ old.capacity)
-  Removes test old reply new = ⊥
+  Removes old test reply new = ⊥
 
   -- there is room for so many more items, and more than before only where they did not fit
-  abbrev pub Reserves : ℕ → State T → Reply T D → State T → Type 0
-  Reserves more old done new =
+  abbrev pub Reserves : State T → ℕ → Reply T D → State T → Type 0
+  Reserves old more done new =
       (new.items ≡ old.items) × (length old.items + more ≤ new.capacity) × (old.capacity ≤ new.capacity)
       × (length old.items + more ≤ old.capacity → new.capacity ≡ old.capacity)
-  Reserves more old refused new =
+  Reserves old more refused new =
       (new.items ≡ old.items) × (old.capacity < length old.items + more) × (old.capacity ≤ new.capacity)
-  Reserves more old reply new = ⊥
+  Reserves old more reply new = ⊥
 
   -- no more room is left than for the members or, if that is more, for so many items, as far as there was
-  abbrev pub ShrinksTo : ℕ → State T → Reply T D → State T → Type 0
-  ShrinksTo least old done new = (new.items ≡ old.items) × (new.capacity ≡ max (length old.items) (min least old.capacity))
-  ShrinksTo least old refused new = (0 < max (length old.items) (min least old.capacity)) × (new ≡ old)
-  ShrinksTo least old reply new = ⊥
+  abbrev pub ShrinksTo : State T → ℕ → Reply T D → State T → Type 0
+  ShrinksTo old least done new = (new.items ≡ old.items) × (new.capacity ≡ max (length old.items) (min least old.capacity))
+  ShrinksTo old least refused new = (0 < max (length old.items) (min least old.capacity)) × (new ≡ old)
+  ShrinksTo old least reply new = ⊥
 
   -- no member is left, and all the room
   abbrev pub Clears : State T → Reply T D → State T → Type 0

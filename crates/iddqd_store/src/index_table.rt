@@ -195,7 +195,7 @@ impl IndexTable {
 
         // Only pairs under the hash are asked about, each at most once.
         ensures asked { M.asked matcher.new ≤ M.asked matcher.old
-            + count_by (λ p. under hash p && M.counts matcher.old p.1) self.now.pairs }
+            + count_by (under hash) self.now.pairs }
 
         ensures looks { LooksUp (hashes self.now.pairs) (length self.now.row) hash
             result meter.old meter.new }

@@ -177,7 +177,8 @@ impl<T> ItemSet<T> {
         ensures slots { self.new.slots ≡ self.old.slots }
         ensures capacity { self.old.capacity ≤ self.new.capacity }
         ensures ok { OnOk result (live_count self.old.slots + more ≤ self.new.capacity) }
-        ensures had_room { live_count self.old.slots + more ≤ self.old.capacity → self.new.capacity ≡ self.old.capacity }
+        ensures had_room { live_count self.old.slots + more ≤ self.old.capacity
+            → self.new.capacity ≡ self.old.capacity }
         ensures err { OnErr result (self.old.capacity < live_count self.old.slots + more) }
         ensures unchanged { OnErr result (self.new ≡ self.old) }
     {
@@ -198,7 +199,8 @@ impl<T> ItemSet<T> {
         ensures updates { Updates self.old.slots self.new.slots result (Some item) }
         ensures members { IsPermutation (members self.new.slots) ((result, item) ∷ members self.old.slots) }
         ensures count { live_count self.new.slots ≡ live_count self.old.slots + 1 }
-        ensures reused { live_count self.old.slots < length self.old.slots → length self.new.slots ≡ length self.old.slots }
+        ensures reused { live_count self.old.slots < length self.old.slots
+            → length self.new.slots ≡ length self.old.slots }
         ensures capacity { self.new.capacity ≡ self.old.capacity }
     {
         let at = self.head;
@@ -220,7 +222,8 @@ impl<T> ItemSet<T> {
         ensures value { result ≡ get self.old.slots ix }
         ensures slots { OnSome result (self.new.slots ≡ slice_set self.old.slots ix None) }
         ensures updates { Updates self.old.slots self.new.slots ix None }
-        ensures members { IfSome result (λ x. IsPermutation (members self.old.slots) ((ix, x) ∷ members self.new.slots)) }
+        ensures members { IfSome result (λ x.
+            IsPermutation (members self.old.slots) ((ix, x) ∷ members self.new.slots)) }
         ensures room { OnSome result (live_count self.new.slots < self.new.capacity) }
         ensures absent { IfNone result (self.new ≡ self.old) }
         ensures capacity { self.new.capacity ≡ self.old.capacity }

@@ -1,5 +1,5 @@
 //! What a search asks about the slots that it meets.
-ghost use Rattle.std.specs.Prelude.{◌≡◌, ◌+◌, ◌≤◌, ℕ, Bool, if◌then◌else◌};
+ghost use Rattle.std.specs.Prelude.{◌≡◌, ◌+◌, ◌≤◌, ℕ, Bool};
 
 use crate::item_index::ItemIndex;
 
@@ -10,10 +10,7 @@ pub trait Matcher {
     // What `matches` answers.
     ghost accepts: { Self → ℕ → Bool };
 
-    // Whether a question about this index is counted. So a caller can count the questions about some indexes alone.
-    ghost counts: { Self → ℕ → Bool };
-
-    // How many of the counted questions were passed on so far.
+    // How many questions were passed on so far.
     ghost asked: { Self → ℕ };
 
     // What a call keeps.
@@ -23,11 +20,9 @@ pub trait Matcher {
     fn matches(&mut self, ix: ItemIndex) -> bool
         ensures value { result ≡ accepts self.old ix }
         ensures kept { IsKept self.old self.new }
-        ensures asked { asked self.new ≤ asked self.old + (if counts self.old ix then 1 else 0) };
+        ensures asked { asked self.new ≤ asked self.old + 1 };
 
     ghost accepts_kept: { (m n : Self) (ix : ℕ) → IsKept m n → accepts n ix ≡ accepts m ix };
-
-    ghost counts_kept: { (m n : Self) (ix : ℕ) → IsKept m n → counts n ix ≡ counts m ix };
 
     ghost kept_refl: { (m : Self) → IsKept m m };
 

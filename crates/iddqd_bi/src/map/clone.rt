@@ -18,7 +18,9 @@ impl<T: BiHashItem + Clone, S: BuildHasher + Clone> BiHashMap<T, S> {
     pub fn clone(&self) -> Result<Self, TryReserveError>
         requires same_key1 { (x c : T) → Contains (bag self.now) x → T.is_clone x c → agree T.key1 T.K1.eq x c ≡ true }
         requires same_key2 { (x c : T) → Contains (bag self.now) x → T.is_clone x c → agree T.key2 T.K2.eq x c ≡ true }
-        requires same_hashes { (s : S) (writes : HashWrites) → S.is_clone self.now.builder s → hash_of S.BuildHasher S.Hasher.Hasher s writes ≡ hash_of S.BuildHasher S.Hasher.Hasher self.now.builder writes }
+        requires same_hashes { (s : S) (writes : HashWrites) → S.is_clone self.now.builder s
+            → hash_of S.BuildHasher S.Hasher.Hasher s writes
+            ≡ hash_of S.BuildHasher S.Hasher.Hasher self.now.builder writes }
         ensures items { IfOk result (λ copy. IsCopy T.is_clone (bag self.now) (bag copy)) }
         ensures builder { IfOk result (λ copy. S.is_clone self.now.builder copy.builder) }
     {

@@ -42,7 +42,8 @@ impl<T: BiHashItem + PartialEq, S: BuildHasher> PartialEq for BiHashMap<T, S> {
 
 impl<T: BiHashItem + Eq, S: BuildHasher> Eq for BiHashMap<T, S> {
     ghost laws = { on_equiv bag (is_same-equivalence (ranks T.BiHashItem T.K1.eq T.K2.eq) T.eq
-        (IsEquivalence-key T.K1.eq T.key1 T.K1.Eq.laws, (IsEquivalence-key T.K2.eq T.key2 T.K2.Eq.laws, tt)) T.Eq.laws) };
+        (IsEquivalence-key T.K1.eq T.key1 T.K1.Eq.laws, (IsEquivalence-key T.K2.eq T.key2 T.K2.Eq.laws, tt))
+        T.Eq.laws) };
 }
 
 impl<T: BiHashItem + PartialEq, S: BuildHasher> BiHashMap<T, S> {

@@ -1,8 +1,8 @@
 //! Many items at once.
-ghost use Rattle.std.specs.Prelude.{◌≡◌, ◌+◌, ◌≤◌, [], length, IsPermutation, IfOk, IfErr, OnOk, OnErr, IsOk};
-ghost use Rattle.std.specs.Iterator.{IsFiniteIterable, size};
+ghost use Rattle.std.specs.Prelude.{◌≡◌, ◌≤◌, [], length, IsPermutation, IfOk, IfErr, OnOk, OnErr, IsOk};
+ghost use Rattle.std.specs.Iterator.{IsFiniteIterable};
 ghost use Rattle.iddqd_store.specs.Bag.{clash, overs};
-ghost use Rattle.iddqd_store.specs.Building.{GivesAll, GivesThen, AddsTo, RefusesFor, HasPlaceFor, MatchFromIterError};
+ghost use Rattle.iddqd_store.specs.Building.{GivesAll, GivesThen, FitsOn, AddsTo, RefusesFor, HasPlaceFor, MatchFromIterError};
 ghost use Rattle.iddqd_store.specs.Map.{bag};
 ghost use Rattle.iddqd_bi.specs.Keys.{ranks};
 
@@ -22,11 +22,16 @@ impl<T: BiHashItem + Drop, S: BuildHasher> BiHashMap<T, S> {
     /// finds no memory comes back: those before it stay, and the iterator is dropped with the rest.
     pub fn extend<I: IntoIterator<Item = T>>(&mut self, iter: I) -> Result<(), MemoryRefused<T>>
         requires ends { IsFiniteIterable I.into_iter_gives I.IntoIter.can_next I.IntoIter.remaining iter }
-        ensures all { OnOk result (GivesAll I.into_iter_gives I.IntoIter.next_gives iter (λ xs. IsPermutation (bag self.new) (overs (ranks T.BiHashItem T.K1.eq T.K2.eq) (bag self.old) xs))) }
-        ensures refused { IfErr result (λ e. GivesThen I.into_iter_gives I.IntoIter.next_gives iter e.value (λ xs. IsPermutation (bag self.new) (overs (ranks T.BiHashItem T.K1.eq T.K2.eq) (bag self.old) xs))) }
+        ensures all { OnOk result (GivesAll I.into_iter_gives I.IntoIter.next_gives iter (λ xs.
+            IsPermutation (bag self.new) (overs (ranks T.BiHashItem T.K1.eq T.K2.eq) (bag self.old) xs))) }
+        ensures refused { IfErr result (λ e. GivesThen I.into_iter_gives I.IntoIter.next_gives iter e.value (λ xs.
+            IsPermutation (bag self.new) (overs (ranks T.BiHashItem T.K1.eq T.K2.eq) (bag self.old) xs))) }
         ensures free { IfErr result (λ e. clash (ranks T.BiHashItem T.K1.eq T.K2.eq) (bag self.new) e.value ≡ []) }
         ensures full { OnErr result (length (bag self.new) ≡ self.new.capacity) }
-        ensures had_room { ((it : I.IntoIter) → I.into_iter_gives iter it → length (bag self.old) + size (I.IntoIter.remaining it) ≤ self.old.capacity) → IsOk result × (self.new.capacity ≡ self.old.capacity) }
+        ensures had_room { FitsOn I.into_iter_gives I.IntoIter.remaining iter (length (bag self.old)) self.old.capacity
+            → IsOk result }
+        ensures same_room { FitsOn I.into_iter_gives I.IntoIter.remaining iter (length (bag self.old)) self.old.capacity
+            → self.new.capacity ≡ self.old.capacity }
         ensures no_less_room { self.old.capacity ≤ self.new.capacity }
         ensures builder { self.new.builder ≡ self.old.builder }
     {
@@ -55,8 +60,10 @@ impl<T: BiHashItem + Drop, S: BuildHasher + Default + Drop> BiHashMap<T, S> {
         iter: I,
     ) -> Result<Self, MemoryRefused<T>>
         requires ends { IsFiniteIterable I.into_iter_gives I.IntoIter.can_next I.IntoIter.remaining iter }
-        ensures all { IfOk result (λ map. GivesAll I.into_iter_gives I.IntoIter.next_gives iter (λ xs. IsPermutation (bag map) (overs (ranks T.BiHashItem T.K1.eq T.K2.eq) [] xs))) }
-        ensures refused { IfErr result (λ e. GivesThen I.into_iter_gives I.IntoIter.next_gives iter e.value (λ xs. clash (ranks T.BiHashItem T.K1.eq T.K2.eq) (overs (ranks T.BiHashItem T.K1.eq T.K2.eq) [] xs) e.value ≡ [])) }
+        ensures all { IfOk result (λ map. GivesAll I.into_iter_gives I.IntoIter.next_gives iter (λ xs.
+            IsPermutation (bag map) (overs (ranks T.BiHashItem T.K1.eq T.K2.eq) [] xs))) }
+        ensures refused { IfErr result (λ e. GivesThen I.into_iter_gives I.IntoIter.next_gives iter e.value (λ xs.
+            clash (ranks T.BiHashItem T.K1.eq T.K2.eq) (overs (ranks T.BiHashItem T.K1.eq T.K2.eq) [] xs) e.value ≡ [])) }
         ensures builder { IfOk result (λ map. S.is_default map.builder) }
     {
         let mut map = BiHashMap::default(alloc);
@@ -74,10 +81,13 @@ impl<T: BiHashItem + Drop, S: BuildHasher + Default + Drop> BiHashMap<T, S> {
         iter: I,
     ) -> Result<Self, FromIterError<T>>
         requires ends { IsFiniteIterable I.into_iter_gives I.IntoIter.can_next I.IntoIter.remaining iter }
-        ensures all { IfOk result (λ map. GivesAll I.into_iter_gives I.IntoIter.next_gives iter (AddsTo (ranks T.BiHashItem T.K1.eq T.K2.eq) (bag map))) }
+        ensures all { IfOk result (λ map. GivesAll I.into_iter_gives I.IntoIter.next_gives iter
+            (AddsTo (ranks T.BiHashItem T.K1.eq T.K2.eq) (bag map))) }
         ensures refused { IfErr result (λ e. MatchFromIterError e
-            (λ x duplicates. GivesThen I.into_iter_gives I.IntoIter.next_gives iter x (RefusesFor (ranks T.BiHashItem T.K1.eq T.K2.eq) x duplicates))
-            (λ x. GivesThen I.into_iter_gives I.IntoIter.next_gives iter x (HasPlaceFor (ranks T.BiHashItem T.K1.eq T.K2.eq) x))) }
+            (λ x duplicates. GivesThen I.into_iter_gives I.IntoIter.next_gives iter x
+                (RefusesFor (ranks T.BiHashItem T.K1.eq T.K2.eq) x duplicates))
+            (λ x. GivesThen I.into_iter_gives I.IntoIter.next_gives iter x
+                (HasPlaceFor (ranks T.BiHashItem T.K1.eq T.K2.eq) x))) }
         ensures builder { IfOk result (λ map. S.is_default map.builder) }
     {
         let mut map = BiHashMap::default(alloc);

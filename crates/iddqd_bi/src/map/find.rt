@@ -66,7 +66,8 @@ impl<T: BiHashItem, S: BuildHasher> BiHashMap<T, S> {
         query1: &Q1,
         query2: &Q2,
     ) -> bool
-        ensures { result ≡ list_any (has_both T.BiHashItem Q1.equivalent Q2.equivalent query1.now query2.now) (bag self.now) }
+        ensures { result
+            ≡ list_any (has_both T.BiHashItem Q1.equivalent Q2.equivalent query1.now query2.now) (bag self.now) }
     {
         self.get_unique(query1, query2).is_some()
     }

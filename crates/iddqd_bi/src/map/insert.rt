@@ -29,8 +29,10 @@ impl<T: BiHashItem, S: BuildHasher> BiHashMap<T, S> {
         ensures free { OnOk result (clash (ranks T.BiHashItem T.K1.eq T.K2.eq) (bag self.old) item ≡ []) }
         ensures handed_back { IfErr result (λ e. refused_item e ≡ item) }
         ensures unchanged { IfErr result (λ e. (refusing_map e).now ≡ self.old) }
-        ensures duplicate { IfErr result (λ e. OnDuplicate e (clash (ranks T.BiHashItem T.K1.eq T.K2.eq) (bag self.old) item ≢ [])) }
-        ensures memory { IfErr result (λ e. OnMemory e (IsFullFor (ranks T.BiHashItem T.K1.eq T.K2.eq) self.old item)) }
+        ensures duplicate { IfErr result (λ e. OnDuplicate e
+            (clash (ranks T.BiHashItem T.K1.eq T.K2.eq) (bag self.old) item ≢ [])) }
+        ensures memory { IfErr result (λ e. OnMemory e
+            (IsFullFor (ranks T.BiHashItem T.K1.eq T.K2.eq) self.old item)) }
     {
         match self.try_insert(item) {
             Ok(_) => Ok(()),

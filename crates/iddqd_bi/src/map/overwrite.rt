@@ -16,7 +16,8 @@ impl<T: BiHashItem, S: BuildHasher> BiHashMap<T, S> {
     /// capacity stays. Otherwise the map grows only where it is full, and the item is handed back where there is no
     /// memory for that.
     pub fn insert_overwrite(&mut self, item: T) -> Result<UpToTwo<T>, MemoryRefused<T>>
-        ensures displaced { IfOk result (λ gone. gone ≡ order (ranks T.BiHashItem T.K1.eq T.K2.eq) (bag self.old) item) }
+        ensures displaced { IfOk result (λ gone.
+            gone ≡ order (ranks T.BiHashItem T.K1.eq T.K2.eq) (bag self.old) item) }
         ensures items { OnOk result (IsPermutation (bag self.new)
             (over (ranks T.BiHashItem T.K1.eq T.K2.eq) (bag self.old) item)) }
         ensures no_less_room { self.old.capacity ≤ self.new.capacity }

@@ -4,7 +4,7 @@ ghost use Rattle.std.specs.Option.{option_to_list};
 ghost use Rattle.iddqd_store.specs.Bag.{IsOnly};
 ghost use Rattle.iddqd_store.specs.Map.{bag};
 ghost use Rattle.iddqd_store.specs.Reply.{Reply, found, present, duplicate, items};
-ghost use Rattle.iddqd_store.specs.Step.{state_of, InsertsUnique, InsertsOverwrite, Reserves, ShrinksTo, Extends};
+ghost use Rattle.iddqd_store.specs.Step.{state_of, Gets, InsertsUnique, InsertsOverwrite, Reserves, ShrinksTo, Extends};
 ghost use Rattle.iddqd_store.specs.Run.{Applies, Run};
 ghost use Rattle.iddqd_store.specs.Searched.{items_at};
 ghost use Rattle.iddqd_bi.specs.Keys.{ranks, has1, has2, has_both};
@@ -31,7 +31,8 @@ where
         commands: Vec<BiCommand<T>>,
         sink: &mut K,
     ) -> Result<(), K::Fault>
-        ensures run { Run (Step T.BiHashItem T.K1.eq T.K2.eq) K.took (state_of self.old) sink.old commands.items result (state_of self.new) sink.new }
+        ensures run { Run (Step T.BiHashItem T.K1.eq T.K2.eq) K.took
+            (state_of self.old) sink.old commands.items result (state_of self.new) sink.new }
         ensures builder { self.new.builder ≡ self.old.builder }
     {
         for command in commands {
@@ -46,7 +47,8 @@ where
         command: BiCommand<T>,
         sink: &mut K,
     ) -> Result<(), K::Fault>
-        ensures step { Applies (Step T.BiHashItem T.K1.eq T.K2.eq) K.took (state_of self.old) sink.old command result (state_of self.new) sink.new }
+        ensures step { Applies (Step T.BiHashItem T.K1.eq T.K2.eq) K.took
+            (state_of self.old) sink.old command result (state_of self.new) sink.new }
         ensures builder { self.new.builder ≡ self.old.builder }
     {
         match command {
@@ -87,7 +89,8 @@ where
     }
 
     fn apply_insert_unique<K: BiSink<T>>(&mut self, item: T, sink: &mut K) -> Result<(), K::Fault>
-        ensures step { Applies (λ old x reply new. InsertsUnique (ranks T.BiHashItem T.K1.eq T.K2.eq) old x reply new) K.took (state_of self.old) sink.old item result (state_of self.new) sink.new }
+        ensures step { Applies (InsertsUnique (ranks T.BiHashItem T.K1.eq T.K2.eq)) K.took
+            (state_of self.old) sink.old item result (state_of self.new) sink.new }
         ensures builder { self.new.builder ≡ self.old.builder }
     {
         match self.try_insert(item) {
@@ -102,7 +105,8 @@ where
         item: T,
         sink: &mut K,
     ) -> Result<(), K::Fault>
-        ensures step { Applies (λ old x reply new. InsertsOverwrite (ranks T.BiHashItem T.K1.eq T.K2.eq) old x reply new) K.took (state_of self.old) sink.old item result (state_of self.new) sink.new }
+        ensures step { Applies (InsertsOverwrite (ranks T.BiHashItem T.K1.eq T.K2.eq)) K.took
+            (state_of self.old) sink.old item result (state_of self.new) sink.new }
         ensures builder { self.new.builder ≡ self.old.builder }
     {
         match self.insert_overwrite(item) {
@@ -112,7 +116,8 @@ where
     }
 
     fn apply_extend<K: BiSink<T>>(&mut self, items: Vec<T>, sink: &mut K) -> Result<(), K::Fault>
-        ensures step { Applies (λ old xs reply new. Extends (ranks T.BiHashItem T.K1.eq T.K2.eq) old xs reply new) K.took (state_of self.old) sink.old items.items result (state_of self.new) sink.new }
+        ensures step { Applies (Extends (ranks T.BiHashItem T.K1.eq T.K2.eq)) K.took
+            (state_of self.old) sink.old items.items result (state_of self.new) sink.new }
         ensures builder { self.new.builder ≡ self.old.builder }
     {
         match self.extend(items) {
@@ -122,7 +127,8 @@ where
     }
 
     fn apply_reserve<K: BiSink<T>>(&mut self, more: usize, sink: &mut K) -> Result<(), K::Fault>
-        ensures step { Applies (λ old n reply new. Reserves n old reply new) K.took (state_of self.old) sink.old more result (state_of self.new) sink.new }
+        ensures step { Applies Reserves K.took
+            (state_of self.old) sink.old more result (state_of self.new) sink.new }
         ensures builder { self.new.builder ≡ self.old.builder }
     {
         match self.reserve(more) {
@@ -132,7 +138,8 @@ where
     }
 
     fn apply_shrink_to<K: BiSink<T>>(&mut self, least: usize, sink: &mut K) -> Result<(), K::Fault>
-        ensures step { Applies (λ old n reply new. ShrinksTo n old reply new) K.took (state_of self.old) sink.old least result (state_of self.new) sink.new }
+        ensures step { Applies ShrinksTo K.took
+            (state_of self.old) sink.old least result (state_of self.new) sink.new }
         ensures builder { self.new.builder ≡ self.old.builder }
     {
         match self.shrink_to(least) {
@@ -155,14 +162,16 @@ where
     }
 
     fn tell_found1<K: BiSink<T>>(&self, key: &T::K1, sink: &mut K) -> Result<(), K::Fault>
-        ensures { (o : _) × (IsOnly (has1 T.BiHashItem T.K1.eq key.now) (bag self.now) o) × K.took sink.old (found o) result sink.new }
+        ensures { Applies Gets K.took (state_of self.now) sink.old
+            (has1 T.BiHashItem T.K1.eq key.now) result (state_of self.now) sink.new }
     {
         let found = self.get1(key);
         sink.take(BiReply::Found(found))
     }
 
     fn tell_found2<K: BiSink<T>>(&self, key: &T::K2, sink: &mut K) -> Result<(), K::Fault>
-        ensures { (o : _) × (IsOnly (has2 T.BiHashItem T.K2.eq key.now) (bag self.now) o) × K.took sink.old (found o) result sink.new }
+        ensures { Applies Gets K.took (state_of self.now) sink.old
+            (has2 T.BiHashItem T.K2.eq key.now) result (state_of self.now) sink.new }
     {
         let found = self.get2(key);
         sink.take(BiReply::Found(found))
@@ -174,7 +183,8 @@ where
         key2: &T::K2,
         sink: &mut K,
     ) -> Result<(), K::Fault>
-        ensures { (o : _) × (IsOnly (has_both T.BiHashItem T.K1.eq T.K2.eq key1.now key2.now) (bag self.now) o) × K.took sink.old (found o) result sink.new }
+        ensures { Applies Gets K.took (state_of self.now) sink.old
+            (has_both T.BiHashItem T.K1.eq T.K2.eq key1.now key2.now) result (state_of self.now) sink.new }
     {
         let found = self.get_unique(key1, key2);
         sink.take(BiReply::Found(found))

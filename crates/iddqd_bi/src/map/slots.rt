@@ -1,4 +1,5 @@
-//! What finds and changes items by slot. Every other file of the map goes through it: nothing else names an item's slot.
+//! What finds and changes items by slot. Every other file of the map goes through it: nothing else takes an item from
+//! its slot or puts one there.
 ghost use Rattle.std.specs.Prelude.{◌≡◌, ◌≢◌, ◌+◌, ◌^◌, ◌<◌, ◌≤◌, [], ◌∷◌, length, map, drop, All, IsPermutation, OnOk, OnErr, IfOk, IfErr, Some, None, IfSome, IfNone, nat_eq, slice_set};
 ghost use Rattle.std.specs.List.{IsDistinct};
 ghost use Rattle.std.specs.Option.{option_and_then};
@@ -102,8 +103,10 @@ impl<T: BiHashItem, S: BuildHasher> BiHashMap<T, S> {
 
     /// The slots of the items that conflict with this one, in the order of the keys.
     pub(crate) fn conflicting(&self, item: &T, hash1: u64, hash2: u64) -> UpToTwo<ItemIndex>
-        requires hash1 { hash1 ≡ key_hash T.key1 T.K1.hash_input S.BuildHasher S.Hasher.Hasher self.now.builder item.now }
-        requires hash2 { hash2 ≡ key_hash T.key2 T.K2.hash_input S.BuildHasher S.Hasher.Hasher self.now.builder item.now }
+        requires hash1 { hash1
+            ≡ key_hash T.key1 T.K1.hash_input S.BuildHasher S.Hasher.Hasher self.now.builder item.now }
+        requires hash2 { hash2
+            ≡ key_hash T.key2 T.K2.hash_input S.BuildHasher S.Hasher.Hasher self.now.builder item.now }
         ensures { ListsConflicts (ranks T.BiHashItem T.K1.eq T.K2.eq) self.now item.now result }
     {
         let by1 = self.by_key1().slot(hash1, item.key1());
@@ -226,8 +229,8 @@ impl<T: BiHashItem, S: BuildHasher> BiHashMap<T, S> {
         Ok(())
     }
 
-    /// Puts an item in where none conflicts with it, and answers its slot. Where some do, it is refused with their slots;
-    /// where the map is full and there is no memory to grow, without.
+    /// Puts an item in where none conflicts with it, and answers its slot. Where some do, it is refused with their slots,
+    /// and where the map is full and cannot grow, for memory.
     pub(crate) fn try_insert(&mut self, item: T) -> Result<ItemIndex, Refusal<T>>
         ensures gains { OnOk result (Gains self.old item self.new) }
         ensures at { IfOk result (λ ix. get self.new.slots ix ≡ Some item) }

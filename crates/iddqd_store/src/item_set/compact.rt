@@ -38,10 +38,12 @@ impl<T: Drop> ItemSet<T> {
     /// stays, unless that is nothing or all of the room, and where this is refused the set is as before.
     pub fn shrink_to(&mut self, least: usize) -> Result<(), TryReserveError>
         ensures slots { OnOk result (self.new.slots ≡ map Some (live_items self.old.slots)) }
-        ensures capacity { OnOk result (self.new.capacity ≡ max (live_count self.old.slots) (min least self.old.capacity)) }
+        ensures capacity { OnOk result (self.new.capacity
+            ≡ max (live_count self.old.slots) (min least self.old.capacity)) }
         ensures err { OnErr result (self.new ≡ self.old) }
         ensures taken { OnErr result (0 < max (live_count self.old.slots) (min least self.old.capacity)) }
-        ensures less { OnErr result (max (live_count self.old.slots) (min least self.old.capacity) < self.old.capacity) }
+        ensures less { OnErr result
+            (max (live_count self.old.slots) (min least self.old.capacity) < self.old.capacity) }
     {
         let wanted = self.live.max(least.min(self.slots.capacity()));
         if wanted == self.slots.capacity() {

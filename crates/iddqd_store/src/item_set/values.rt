@@ -126,7 +126,8 @@ impl<T: Drop> Iterator for IntoIter<T> {
         ensures upper { IfSome result.1 (UpTo (item_count (λ rest. rest) self.now)) }
         ensures exact { result ≡ (length self.now, Some (length self.now)) }
     {
-        (self.len, Some(self.len))
+        let left = self.len;
+        (left, Some(left))
     }
 }
 

@@ -1,5 +1,5 @@
 //! The searches by a key, as the table sees them.
-ghost use Rattle.std.specs.Prelude.{◌≡◌, refl, false, true};
+ghost use Rattle.std.specs.Prelude.{◌≡◌, refl, false};
 ghost use Rattle.std.proofs.Common.{ap, ◌∙◌};
 ghost use Rattle.iddqd_store.specs.Asking.{passes_kept};
 ghost use Rattle.iddqd_store.specs.Indexed.{passes_at};
@@ -23,15 +23,13 @@ pub(crate) struct ByKey<'a, T, R: KeyOf<T>, M: KeyMatcher<R::Key>> {
 impl<'a, T, R: KeyOf<T>, M: KeyMatcher<R::Key>> Matcher for ByKey<'a, T, R, M> {
     ghost accepts = { λ m ix. passes_at (λ x. M.accepts m.keys.now (R.key x)) m.items.now.slots ix };
 
-    ghost counts = { λ _ _. true };
-
     ghost asked = { λ m. M.asked m.keys.now };
 
-    ghost IsKept = { λ m n. (n.items ≡ m.items) × (n.keys.ghost_name ≡ m.keys.ghost_name) × M.IsKept m.keys.now n.keys.now };
+    ghost IsKept = { λ m n. (n.items ≡ m.items) × (n.keys.ghost_name ≡ m.keys.ghost_name)
+        × M.IsKept m.keys.now n.keys.now };
 
-    ghost accepts_kept = { λ m n ix k. passes_kept _ _ (λ x. M.accepts_kept m.keys.now n.keys.now (R.key x) k.2) _ _ ix (ap (λ i. i.now.slots) k.0) };
-
-    ghost counts_kept = { λ _ _ _ _. refl };
+    ghost accepts_kept = { λ m n ix k. passes_kept _ _
+        (λ x. M.accepts_kept m.keys.now n.keys.now (R.key x) k.2) _ _ ix (ap (λ i. i.now.slots) k.0) };
 
     ghost kept_refl = { λ m. (refl, refl, M.kept_refl m.keys.now) };
 

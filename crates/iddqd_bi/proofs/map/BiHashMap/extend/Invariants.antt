@@ -3,6 +3,7 @@ use Rattle.std.specs.Iterator.{size}
 use Rattle.std.specs.Prelude.{IsPermutation}
 use Rattle.iddqd_store.specs.Map.{bag}
 use Rattle.iddqd_store.specs.Bag.{overs}
+use Rattle.iddqd_store.specs.Building.{FitsOn}
 use Rattle.iddqd_bi.specs.Keys.{ranks}
 use Rattle.iddqd_bi.proofs.map.BiHashMap.extend.Given as goal
 
@@ -13,6 +14,6 @@ invariant-loop-item g l = record {
   ending : (goal.iterator-loop-item g).is_finite l.item-iterator;
   items : IsPermutation (bag l.self) (overs (ranks g.T.BiHashItem g.T.K1.PartialEq.eq g.T.K2.PartialEq.eq) (bag l.fn.self) l.yielded);
   no_less_room : l.fn.self.capacity ≤ l.self.capacity;
-  fits : ((it : _) → g.I.IntoIterator.into_iter_gives l.fn.iter it → length (bag l.fn.self) + size (g.I.IntoIter.Iterator.remaining it) ≤ l.fn.self.capacity) → (length (bag l.self) + size (g.I.IntoIter.Iterator.remaining l.item-iterator) ≤ l.self.capacity) × (l.self.capacity ≡ l.fn.self.capacity);
+  fits : FitsOn g.I.IntoIterator.into_iter_gives g.I.IntoIter.Iterator.remaining l.fn.iter (length (bag l.fn.self)) l.fn.self.capacity → (length (bag l.self) + size (g.I.IntoIter.Iterator.remaining l.item-iterator) ≤ l.self.capacity) × (l.self.capacity ≡ l.fn.self.capacity);
   builder : l.self.builder ≡ l.fn.self.builder;
 }

@@ -1,5 +1,5 @@
 use Rattle.std.proofs.Common.{◌≡◌, ◌≤◌, ◌<◌, ◌++◌, length, drop}
-use Rattle.std.specs.Prelude.{All, IsPermutation, nat_eq}
+use Rattle.std.specs.Prelude.{All, nat_eq}
 use Rattle.std.specs.List.{IsDistinct}
 use Rattle.iddqd_store.specs.Map.{bag, Loses}
 use Rattle.iddqd_store.specs.Slots.{IsLive}

@@ -1,12 +1,12 @@
-use Rattle.std.proofs.Common.{subst, arith, ℕ, ◌≡◌, ◌+◌, ◌-◌, ◌%◌, ◌<◌, ◌≤◌, length, sym, ap, ◌∙◌, refl, false, Some, None, cond}
+use Rattle.std.proofs.Common.{subst, arith, ℕ, ◌≡◌, ◌+◌, ◌-◌, ◌%◌, ◌<◌, ◌≤◌, length, sym, ap, ◌∙◌, refl, false, Some, None}
 use Rattle.std.specs.Prelude.{◌≢◌, nat_lt, if◌then◌else◌}
 use Rattle.std.specs.List.{Contains, count_by}
 use Rattle.iddqd_store.specs.Table.{Table}
 use Rattle.iddqd_store.specs.Ring.{cell, held, stretch}
-use Rattle.iddqd_store.specs.Table.{LooksUp, hashes}
+use Rattle.iddqd_store.specs.Table.{LooksUp, hashes, under}
 use Rattle.iddqd_store.proofs.Stretch.{place}
 use Rattle.iddqd_store.proofs.Within.{stretch_le_pairs}
-use Rattle.iddqd_store.proofs.Walk.{Walk, met, counted, walk_more, walk_end, walk_meets, refused_more, met_under, met_grows, met_within, found_there, walk_found}
+use Rattle.iddqd_store.proofs.Walk.{Walk, met, walk_more, walk_end, walk_meets, refused_more, met_under, met_grows, met_within, found_there, walk_found}
 use Rattle.iddqd_store.proofs.index_table.IndexTable.find.Goals as goal
 use Rattle.iddqd_store.proofs.index_table.IndexTable.find.Goals.{else-stored-hash-via-then-stored-hash+else-matches, else-stored-hash-via-else-stored-hash}
 
@@ -29,12 +29,11 @@ loop-pair-preserved g c =
     let asked = g.M.Matcher.asked in
     let e' : c.after-at.result ≡ (if nat_lt (c.loop-pair.at + 1) (length row) then c.loop-pair.at + 1 else 0) = rw c.len-count.ensures at c.after-at.ensures in
     let walk' : Walk row home c.after-at.result t = walk_more row home c.loop-pair.at s c.self.invariant.0 lh w there c.after-at.result t e' more in
-    let counts = g.M.Matcher.counts c.args.matcher.now in
     elim c.else-stored-hash.branch [
       | else-stored-hash-via-then-stored-hash+else-matches w' ↦
-          let q : met (counted hash counts) row home t ≡ met (counted hash counts) row home s + cond (counts x.1) 1 0 = met_under hash counts row home s x lh w.within placed w'.if-stored-hash.true t more in
+          let q : met (under hash) row home t ≡ met (under hash) row home s + 1 = met_under hash row home s x lh w.within placed w'.if-stored-hash.true t more in
           let no' : g.M.Matcher.accepts c.args.matcher.now x.1 ≡ false = sym (g.met.M.Matcher.accepts_kept _ _ x.1 i.kept) ∙ (sym w'.matches.ensures.value ∙ w'.if-matches.false) in
-          let a : asked w'.matches.new.self ≤ asked c.loop-pair.matcher + cond (counts x.1) 1 0 = rw (g.met.M.Matcher.counts_kept _ _ x.1 i.kept) at w'.matches.ensures.asked in
+          let a : asked w'.matches.new.self ≤ asked c.loop-pair.matcher + 1 = w'.matches.ensures.asked in
           record {
             looked = omega arith;
             walk = walk';
@@ -47,7 +46,7 @@ loop-pair-preserved g c =
             looked = omega arith;
             walk = walk';
             refused = refused_more row hash (g.M.Matcher.accepts c.args.matcher.now) s t c.loop-pair.at x more w at_x i.refused (λ e. absurd (w'.if-stored-hash.false e));
-            count = rw w'.matcher-is (omega (arith, i.count, met_grows hash counts row home s x lh w.within placed t more));
+            count = rw w'.matcher-is (omega (arith, i.count, met_grows hash row home s x lh w.within placed t more));
             kept = rw w'.matcher-is i.kept;
           }
     ]
@@ -73,14 +72,13 @@ returns-then-matches-clause-asked g c =
     let lh : home < length row = omega (arith, w.within) in
     let x : ℕ × ℕ = c.in-Some.pair in
     let asked = g.M.Matcher.asked in
-    let counts = g.M.Matcher.counts c.args.matcher.now in
     let at_x : cell row c.loop-pair.at ≡ Some x = sym c.cell_at.ensures.value ∙ c.in-Some.is in
     let placed : cell row (place (length row) home s) ≡ Some x = sym (ap (cell row) w.at_is) ∙ at_x in
-    let q : met (counted hash counts) row home (s + 1) ≡ met (counted hash counts) row home s + cond (counts x.1) 1 0 = met_under hash counts row home s x lh w.within placed c.if-stored-hash.true (s + 1) refl in
-    let m : met (counted hash counts) row home (s + 1) ≤ count_by (counted hash counts) (held row) = met_within (counted hash counts) row home (s + 1) in
-    let a : asked c.matches.new.self ≤ asked c.loop-pair.matcher + cond (counts x.1) 1 0 = rw (g.met.M.Matcher.counts_kept _ _ x.1 i.kept) at c.matches.ensures.asked in
-    let all : asked c.matches.new.self ≤ asked c.args.matcher.now + count_by (counted hash counts) (held row) = omega (arith, i.count, q, m, a) in
-    subst (λ (r : Table). asked c.matches.new.self ≤ asked c.args.matcher.now + count_by (counted hash counts) r.pairs) c.self.view_is all
+    let q : met (under hash) row home (s + 1) ≡ met (under hash) row home s + 1 = met_under hash row home s x lh w.within placed c.if-stored-hash.true (s + 1) refl in
+    let m : met (under hash) row home (s + 1) ≤ count_by (under hash) (held row) = met_within (under hash) row home (s + 1) in
+    let a : asked c.matches.new.self ≤ asked c.loop-pair.matcher + 1 = c.matches.ensures.asked in
+    let all : asked c.matches.new.self ≤ asked c.args.matcher.now + count_by (under hash) (held row) = omega (arith, i.count, q, m, a) in
+    subst (λ (r : Table). asked c.matches.new.self ≤ asked c.args.matcher.now + count_by (under hash) r.pairs) c.self.view_is all
 
 pub returns-then-matches-clause-kept : goal.returns-then-matches-clause-kept
 returns-then-matches-clause-kept g c = g.met.M.Matcher.kept_trans _ _ _ c.loop-pair.invariant.kept c.matches.ensures.kept
@@ -118,10 +116,9 @@ pub returns-clause-asked : goal.returns-clause-asked
 returns-clause-asked g c =
     let row = c.self.inside.cells in
     let i = c.loop-pair.invariant in
-    let counts = g.M.Matcher.counts c.args.matcher.now in
-    let m = met_within (counted c.args.hash counts) row (c.args.hash % length row) (c.loop-pair.meter - c.args.meter.now) in
-    let all : g.M.Matcher.asked c.loop-pair.matcher ≤ g.M.Matcher.asked c.args.matcher.now + count_by (counted c.args.hash counts) (held row) = omega (arith, i.count, m) in
-    subst (λ (r : Table). g.M.Matcher.asked c.loop-pair.matcher ≤ g.M.Matcher.asked c.args.matcher.now + count_by (counted c.args.hash counts) r.pairs) c.self.view_is all
+    let m = met_within (under c.args.hash) row (c.args.hash % length row) (c.loop-pair.meter - c.args.meter.now) in
+    let all : g.M.Matcher.asked c.loop-pair.matcher ≤ g.M.Matcher.asked c.args.matcher.now + count_by (under c.args.hash) (held row) = omega (arith, i.count, m) in
+    subst (λ (r : Table). g.M.Matcher.asked c.loop-pair.matcher ≤ g.M.Matcher.asked c.args.matcher.now + count_by (under c.args.hash) r.pairs) c.self.view_is all
 
 pub returns-clause-looks : goal.returns-clause-looks
 returns-clause-looks g c =

@@ -1,7 +1,8 @@
 use Rattle.std.proofs.Common.{◌≡◌, ℕ, ◌+◌, ◌-◌, ◌%◌, ◌<◌, ◌≤◌, Some, false, length}
 use Rattle.iddqd_store.specs.Ring.{cell}
+use Rattle.iddqd_store.specs.Table.{under}
 use Rattle.iddqd_store.proofs.Stretch.{place}
-use Rattle.iddqd_store.proofs.Walk.{Walk, met, counted}
+use Rattle.iddqd_store.proofs.Walk.{Walk, met}
 use Rattle.iddqd_store.proofs.index_table.IndexTable.find.Given as goal
 
 abbrev pub invariant-loop-pair : goal.invariant-loop-pair
@@ -15,7 +16,7 @@ invariant-loop-pair g l =
       looked : l.initial.meter ≤ l.meter;
       walk : Walk row home l.at steps;
       refused : (k : ℕ) → k < steps → (index : ℕ) → cell row (place (length row) home k) ≡ Some (l.hash, index) → accepts l.initial.matcher index ≡ false;
-      count : asked l.matcher ≤ asked l.initial.matcher + met (counted l.hash (g.M.Matcher.counts l.initial.matcher)) row home steps;
+      count : asked l.matcher ≤ asked l.initial.matcher + met (under l.hash) row home steps;
       kept : g.M.Matcher.IsKept l.initial.matcher l.matcher;
     }
 
