@@ -25,9 +25,10 @@ bag m = live_items m.slots
 abbrev pub hash_of : {S H : Type 0} → builder.Ghosts S H → hasher.Ghosts H → S → HashWrites → ℕ
 hash_of b h s writes = h.finish (fold h.write (b.build_hasher s) writes)
 
--- the map with one more item. It grows only where it is full
+-- the map with one more item, which fits. It grows only where it is full
 pub record Gains {T S : Type 0} (old : Map T S) (item : T) (new : Map T S) : Type 0 where
   pub items : IsPermutation (bag new) (item ∷ bag old)
   pub no_less_room : old.capacity ≤ new.capacity
   pub same_room : length (bag old) < old.capacity → new.capacity ≡ old.capacity
+  pub fits : length (bag new) ≤ new.capacity
   pub same_builder : new.builder ≡ old.builder

@@ -1,5 +1,5 @@
 -- One step of a map, for any number of ranks: what a command may answer, and what the map holds then.
-use Rattle.std.specs.Prelude.{◌≡◌, ◌≢◌, ◌+◌, ◌<◌, ◌≤◌, ℕ, min, max, List, [], ◌∷◌, ◌++◌, Bool, length, filter, IsPermutation}
+use Rattle.std.specs.Prelude.{◌≡◌, ◌≢◌, ◌+◌, ◌<◌, ◌≤◌, ℕ, min, max, List, [], ◌∷◌, ◌++◌, Bool, length, take, filter, IsPermutation}
 use Rattle.std.specs.List.{list_any}
 use Rattle.std.specs.Option.{option_to_list}
 use Rattle.iddqd_store.specs.Bag.{Ranks, clash, order, over, overs}
@@ -11,6 +11,10 @@ pub record State (T : Type 0) : Type 0 where
   pub items : List T
   pub capacity : ℕ
 
+-- the items fit
+abbrev pub Fits : {T : Type 0} → State T → Type 0
+Fits s = length s.items ≤ s.capacity
+
 -- the state of a map
 abbrev pub state_of : {T S : Type 0} → Map T S → State T
 state_of m = record { items = bag m; capacity = m.capacity }
@@ -20,6 +24,16 @@ abbrev pub empty_state : {T : Type 0} → State T
 empty_state = record { items = []; capacity = 0 }
 
 module _ {T : Type 0} where
+  -- so many items fit however many of a list went in, each for what conflicts with it
+  abbrev pub FitsOnTheWay : Ranks T → List T → List T → ℕ → Type 0
+  FitsOnTheWay ranks bag xs capacity = (n : ℕ) → length (overs ranks bag (take n xs)) ≤ capacity
+
+  -- the items of a list went in one by one, each for what conflicts with it. The room is no less, and enough on the way
+  abbrev pub ExtendsTo : Ranks T → State T → List T → State T → Type 0
+  ExtendsTo ranks old xs new =
+      IsPermutation new.items (overs ranks old.items xs) × FitsOnTheWay ranks old.items xs new.capacity
+      × (old.capacity ≤ new.capacity)
+
   -- x is refused for want of memory, which happens only in a full map where nothing conflicts
   abbrev pub Starves : Ranks T → State T → T → T → State T → Type 0
   Starves ranks old x y new =
@@ -94,9 +108,8 @@ module _ {T D : Type 0} where
 
   -- the items of a list go in one by one, each for what conflicts with it, until one finds no memory in a full map
   abbrev pub Extends : Ranks T → State T → List T → Reply T D → State T → Type 0
-  Extends ranks old xs done new = IsPermutation new.items (overs ranks old.items xs) × (old.capacity ≤ new.capacity)
+  Extends ranks old xs done new = ExtendsTo ranks old xs new
   Extends ranks old xs (memory y) new =
-      (front : List T) × (rest : List T) × (xs ≡ front ++ y ∷ rest)
-      × IsPermutation new.items (overs ranks old.items front) × (clash ranks new.items y ≡ [])
-      × (length new.items ≡ new.capacity) × (old.capacity ≤ new.capacity)
+      (front : List T) × (rest : List T) × (xs ≡ front ++ y ∷ rest) × ExtendsTo ranks old front new
+      × (clash ranks new.items y ≡ []) × (length new.items ≡ new.capacity)
   Extends ranks old xs reply new = ⊥

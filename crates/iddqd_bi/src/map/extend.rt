@@ -1,9 +1,10 @@
 //! Many items at once.
-ghost use Rattle.std.specs.Prelude.{◌≡◌, ◌+◌, ◌≤◌, [], length, IsPermutation, IfOk, IfErr, OnOk, OnErr, IsOk};
+ghost use Rattle.std.specs.Prelude.{◌≡◌, ◌+◌, ◌≤◌, [], length, IfOk, IfErr, OnOk, OnErr, IsOk};
 ghost use Rattle.std.specs.Iterator.{IsFiniteIterable, size};
 ghost use Rattle.iddqd_store.specs.Bag.{clash, overs};
 ghost use Rattle.iddqd_store.specs.Building.{GivesAll, GivesThen, AddsTo, RefusesFor, HasPlaceFor};
 ghost use Rattle.iddqd_store.specs.Map.{bag};
+ghost use Rattle.iddqd_store.specs.Step.{ExtendsTo, state_of, empty_state};
 ghost use Rattle.iddqd_bi.specs.Keys.{ranks};
 ghost use Rattle.iddqd_bi.specs.Building.{MatchFromIterError};
 
@@ -22,8 +23,10 @@ impl<T: BiHashItem + Drop, S: BuildHasher> BiHashMap<T, S> {
     /// finds no memory comes back: those before it stay, and the iterator is dropped with the rest.
     pub fn extend<I: IntoIterator<Item = T>>(&mut self, iter: I) -> Result<(), MemoryRefused<T>>
         requires ends { IsFiniteIterable I.into_iter_gives I.IntoIter.can_next I.IntoIter.remaining iter }
-        ensures all { OnOk result (GivesAll I.into_iter_gives I.IntoIter.next_gives iter (λ xs. IsPermutation (bag self.new) (overs (ranks T.BiHashItem T.K1.Hash T.K2.Hash) (bag self.old) xs))) }
-        ensures refused { IfErr result (λ e. GivesThen I.into_iter_gives I.IntoIter.next_gives iter e.value (λ xs. IsPermutation (bag self.new) (overs (ranks T.BiHashItem T.K1.Hash T.K2.Hash) (bag self.old) xs))) }
+        ensures all { OnOk result (GivesAll I.into_iter_gives I.IntoIter.next_gives iter (λ xs.
+            ExtendsTo (ranks T.BiHashItem T.K1.Hash T.K2.Hash) (state_of self.old) xs (state_of self.new))) }
+        ensures refused { IfErr result (λ e. GivesThen I.into_iter_gives I.IntoIter.next_gives iter e.value (λ xs.
+            ExtendsTo (ranks T.BiHashItem T.K1.Hash T.K2.Hash) (state_of self.old) xs (state_of self.new))) }
         ensures free { IfErr result (λ e. clash (ranks T.BiHashItem T.K1.Hash T.K2.Hash) (bag self.new) e.value ≡ []) }
         ensures full { OnErr result (length (bag self.new) ≡ self.new.capacity) }
         ensures had_room { ((it : I.IntoIter) → I.into_iter_gives iter it → length (bag self.old) + size (I.IntoIter.remaining it) ≤ self.old.capacity) → IsOk result × (self.new.capacity ≡ self.old.capacity) }
@@ -39,6 +42,8 @@ impl<T: BiHashItem + Drop, S: BuildHasher> BiHashMap<T, S> {
         };
         // The promise is of items, not of new keys, so its refusal is not yet a want of memory.
         let _ = self.grow(wanted);
+        // No map has more items than fit.
+        let _ = self.capacity();
         for item in items {
             drop(self.insert_overwrite(item)?);
         }
@@ -55,7 +60,8 @@ impl<T: BiHashItem + Drop, S: BuildHasher + Default + Drop> BiHashMap<T, S> {
         iter: I,
     ) -> Result<Self, MemoryRefused<T>>
         requires ends { IsFiniteIterable I.into_iter_gives I.IntoIter.can_next I.IntoIter.remaining iter }
-        ensures all { IfOk result (λ map. GivesAll I.into_iter_gives I.IntoIter.next_gives iter (λ xs. IsPermutation (bag map) (overs (ranks T.BiHashItem T.K1.Hash T.K2.Hash) [] xs))) }
+        ensures all { IfOk result (λ map. GivesAll I.into_iter_gives I.IntoIter.next_gives iter (λ xs.
+            ExtendsTo (ranks T.BiHashItem T.K1.Hash T.K2.Hash) empty_state xs (state_of map))) }
         ensures refused { IfErr result (λ e. GivesThen I.into_iter_gives I.IntoIter.next_gives iter e.value (λ xs. clash (ranks T.BiHashItem T.K1.Hash T.K2.Hash) (overs (ranks T.BiHashItem T.K1.Hash T.K2.Hash) [] xs) e.value ≡ [])) }
         ensures builder { IfOk result (λ map. S.is_default map.builder) }
     {
@@ -75,6 +81,7 @@ impl<T: BiHashItem + Drop, S: BuildHasher + Default + Drop> BiHashMap<T, S> {
     ) -> Result<Self, FromIterError<T>>
         requires ends { IsFiniteIterable I.into_iter_gives I.IntoIter.can_next I.IntoIter.remaining iter }
         ensures all { IfOk result (λ map. GivesAll I.into_iter_gives I.IntoIter.next_gives iter (AddsTo (ranks T.BiHashItem T.K1.Hash T.K2.Hash) (bag map))) }
+        ensures fits { IfOk result (λ map. length (bag map) ≤ map.capacity) }
         ensures refused { IfErr result (λ e. MatchFromIterError e
             (λ x duplicates. GivesThen I.into_iter_gives I.IntoIter.next_gives iter x (RefusesFor (ranks T.BiHashItem T.K1.Hash T.K2.Hash) x duplicates))
             (λ x. GivesThen I.into_iter_gives I.IntoIter.next_gives iter x (HasPlaceFor (ranks T.BiHashItem T.K1.Hash T.K2.Hash) x))) }
@@ -94,6 +101,8 @@ impl<T: BiHashItem + Drop, S: BuildHasher + Default + Drop> BiHashMap<T, S> {
                 Err(Refusal::Memory(item)) => return Err(FromIterError::Memory(item)),
             }
         }
+        // No map has more items than fit.
+        let _ = map.capacity();
         Ok(map)
     }
 }

@@ -1,5 +1,5 @@
 //! Inserts.
-ghost use Rattle.std.specs.Prelude.{◌≡◌, ◌≢◌, ◌<◌, ◌∷◌, [], length, IsPermutation, All, OnOk, IfOk, IfErr, Some, nat_eq, ⊤};
+ghost use Rattle.std.specs.Prelude.{◌≡◌, ◌≢◌, ◌<◌, ◌≤◌, ◌∷◌, [], length, IsPermutation, All, OnOk, IfOk, IfErr, Some, nat_eq, ⊤};
 ghost use Rattle.std.specs.List.{IsDistinct};
 ghost use Rattle.iddqd_store.specs.Bag.{clash, order};
 ghost use Rattle.iddqd_store.specs.Map.{bag, Gains};
@@ -95,6 +95,7 @@ impl<T: BiHashItem, S: BuildHasher> BiHashMap<T, S> {
         requires hash2 { hash2 ≡ key2_hash T.BiHashItem T.K2.Hash S.BuildHasher S.Hasher.Hasher self.old.builder item }
         ensures at { get self.new.slots result ≡ Some item }
         ensures items { IsPermutation (bag self.new) (item ∷ bag self.old) }
+        ensures fits { length (bag self.new) ≤ self.new.capacity }
         ensures capacity { self.new.capacity ≡ self.old.capacity }
         ensures builder { self.new.builder ≡ self.old.builder }
     {

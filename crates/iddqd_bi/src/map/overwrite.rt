@@ -21,6 +21,7 @@ impl<T: BiHashItem, S: BuildHasher> BiHashMap<T, S> {
     pub fn insert_overwrite(&mut self, item: T) -> Result<UpToTwo<T>, MemoryRefused<T>>
         ensures displaced { IfOk result (λ gone. gone ≡ order (ranks T.BiHashItem T.K1.Hash T.K2.Hash) (bag self.old) item) }
         ensures items { OnOk result (IsPermutation (bag self.new) (over (ranks T.BiHashItem T.K1.Hash T.K2.Hash) (bag self.old) item)) }
+        ensures fits { length (bag self.new) ≤ self.new.capacity }
         ensures no_less_room { self.old.capacity ≤ self.new.capacity }
         ensures same_room { length (bag self.old) < self.old.capacity → self.new.capacity ≡ self.old.capacity }
         ensures no_growth { clash (ranks T.BiHashItem T.K1.Hash T.K2.Hash) (bag self.old) item ≢ [] → self.new.capacity ≡ self.old.capacity }
@@ -59,6 +60,7 @@ impl<T: BiHashItem, S: BuildHasher> BiHashMap<T, S> {
         ensures displaced { result.0 ≡ order (ranks T.BiHashItem T.K1.Hash T.K2.Hash) (bag self.old) item }
         ensures at { get self.new.slots result.1 ≡ Some item }
         ensures items { IsPermutation (bag self.new) (over (ranks T.BiHashItem T.K1.Hash T.K2.Hash) (bag self.old) item) }
+        ensures fits { length (bag self.new) ≤ self.new.capacity }
         ensures capacity { self.new.capacity ≡ self.old.capacity }
         ensures builder { self.new.builder ≡ self.old.builder }
     {

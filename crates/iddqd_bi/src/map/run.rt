@@ -4,7 +4,7 @@ ghost use Rattle.std.specs.Option.{option_to_list};
 ghost use Rattle.iddqd_store.specs.Bag.{clash, order};
 ghost use Rattle.iddqd_store.specs.Map.{bag};
 ghost use Rattle.iddqd_store.specs.Reply.{Reply, found, present, duplicate, items};
-ghost use Rattle.iddqd_store.specs.Step.{state_of, InsertsUnique, InsertsOverwrite, Reserves, ShrinksTo, Extends};
+ghost use Rattle.iddqd_store.specs.Step.{Fits, state_of, InsertsUnique, InsertsOverwrite, Reserves, ShrinksTo, Extends};
 ghost use Rattle.iddqd_store.specs.Run.{Applies, Run};
 ghost use Rattle.iddqd_store.specs.Searched.{items_at};
 ghost use Rattle.iddqd_bi.specs.Keys.{ranks};
@@ -141,29 +141,37 @@ where
         }
     }
 
+    // Hands a reply to the sink. No map has more items than fit, which each of these calls says, since each step has to.
     // A reply that lends nothing has a free lifetime, so each reply goes to the sink from a borrow of the map.
     fn tell<'m, K: BiSink<T>>(&'m self, reply: BiReply<'m, T>, sink: &mut K) -> Result<(), K::Fault>
-        ensures { K.took sink.old (value_of reply.entry) result sink.new }
+        ensures took { K.took sink.old (value_of reply.entry) result sink.new }
+        ensures fits { Fits (state_of self.now) }
     {
+        let _ = self.capacity();
         sink.take(reply)
     }
 
     fn tell_present<K: BiSink<T>>(&self, answer: bool, sink: &mut K) -> Result<(), K::Fault>
-        ensures { K.took sink.old (present answer) result sink.new }
+        ensures took { K.took sink.old (present answer) result sink.new }
+        ensures fits { Fits (state_of self.now) }
     {
         self.tell(BiReply::Present(answer), sink)
     }
 
     fn tell_found1<K: BiSink<T>>(&self, key: &T::K1, sink: &mut K) -> Result<(), K::Fault>
-        ensures { (o : _) × (option_to_list o ≡ filter (λ x. T.K1.eq key.now (T.key1 x)) (bag self.now)) × K.took sink.old (found o) result sink.new }
+        ensures took { (o : _) × (option_to_list o ≡ filter (λ x. T.K1.eq key.now (T.key1 x)) (bag self.now)) × K.took sink.old (found o) result sink.new }
+        ensures fits { Fits (state_of self.now) }
     {
+        let _ = self.capacity();
         let found = self.get1(key);
         sink.take(BiReply::Found(found))
     }
 
     fn tell_found2<K: BiSink<T>>(&self, key: &T::K2, sink: &mut K) -> Result<(), K::Fault>
-        ensures { (o : _) × (option_to_list o ≡ filter (λ x. T.K2.eq key.now (T.key2 x)) (bag self.now)) × K.took sink.old (found o) result sink.new }
+        ensures took { (o : _) × (option_to_list o ≡ filter (λ x. T.K2.eq key.now (T.key2 x)) (bag self.now)) × K.took sink.old (found o) result sink.new }
+        ensures fits { Fits (state_of self.now) }
     {
+        let _ = self.capacity();
         let found = self.get2(key);
         sink.take(BiReply::Found(found))
     }
@@ -174,8 +182,10 @@ where
         key2: &T::K2,
         sink: &mut K,
     ) -> Result<(), K::Fault>
-        ensures { (o : _) × (option_to_list o ≡ filter (has_both T.BiHashItem T.K1.Hash T.K2.Hash key1.now key2.now) (bag self.now)) × K.took sink.old (found o) result sink.new }
+        ensures took { (o : _) × (option_to_list o ≡ filter (has_both T.BiHashItem T.K1.Hash T.K2.Hash key1.now key2.now) (bag self.now)) × K.took sink.old (found o) result sink.new }
+        ensures fits { Fits (state_of self.now) }
     {
+        let _ = self.capacity();
         let found = self.get_unique(key1, key2);
         sink.take(BiReply::Found(found))
     }
@@ -186,15 +196,19 @@ where
         found: &UpToTwo<ItemIndex>,
         sink: &mut K,
     ) -> Result<(), K::Fault>
-        ensures { K.took sink.old (duplicate item (items_at self.now.slots found.now)) result sink.new }
+        ensures took { K.took sink.old (duplicate item (items_at self.now.slots found.now)) result sink.new }
+        ensures fits { Fits (state_of self.now) }
     {
+        let _ = self.capacity();
         let duplicates = self.items_of(found);
         sink.take(BiReply::Duplicate(DuplicateItem::new(item, duplicates)))
     }
 
     fn tell_items<K: BiSink<T>>(&self, sink: &mut K) -> Result<(), K::Fault>
-        ensures { K.took sink.old (items (bag self.now)) result sink.new }
+        ensures took { K.took sink.old (items (bag self.now)) result sink.new }
+        ensures fits { Fits (state_of self.now) }
     {
+        let _ = self.capacity();
         sink.take(BiReply::Items(self.iter()))
     }
 }
