@@ -1,6 +1,8 @@
 mod Rows
+pub mod Chain
 pub mod Counting
 pub mod Cutting
+mod Impossible
 pub mod Moving
 pub mod Numbering
 pub mod Parsing

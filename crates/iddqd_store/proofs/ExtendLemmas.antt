@@ -6,7 +6,7 @@ use Rattle.std.proofs.lemmas.Bool.{cases_lt}
 use Rattle.std.proofs.lemmas.List.{take_all, take-append-le}
 use Rattle.std.proofs.lemmas.List.Sorted.{IsPermutation-refl, length_permutation}
 use Rattle.iddqd_store.specs.Bag.{Ranks, over, overs}
-use Rattle.iddqd_store.specs.Step.{State, Fits, FitsOnTheWay, ExtendsTo}
+use Rattle.iddqd_store.specs.Step.{State, FitsOnTheWay, ExtendsTo}
 use Rattle.iddqd_store.proofs.BagSteps.{overs-step}
 
 module _ {S T : Type 0} (steps : S → Option T → S → Type 0) (left : S → List T) (first : (s t : S) (x : T) → steps s (Some x) t → left s ≡ x ∷ left t) where
@@ -25,7 +25,7 @@ map_same (x ∷ xs) = ap (λ ys. x ∷ ys) (map_same xs)
 
 module _ {T : Type 0} (ranks : Ranks T) where
   -- nothing came yet
-  pub ExtendsTo-nil : (old new : State T) → new.items ≡ old.items → Fits new → old.capacity ≤ new.capacity → ExtendsTo ranks old [] new
+  pub ExtendsTo-nil : (old new : State T) → new.items ≡ old.items → length new.items ≤ new.capacity → old.capacity ≤ new.capacity → ExtendsTo ranks old [] new
   ExtendsTo-nil old new same fits no_less =
       (subst (λ (l : List T). IsPermutation l old.items) (sym same) (IsPermutation-refl old.items), way, no_less)
     where
@@ -37,7 +37,7 @@ module _ {T : Type 0} (ranks : Ranks T) where
 
   -- one more item came
   pub ExtendsTo-push : (old held new : State T) (xs : List T) (x : T) → ExtendsTo ranks old xs held → IsPermutation new.items (over ranks held.items x)
-      → Fits new → held.capacity ≤ new.capacity → ExtendsTo ranks old (xs ++ x ∷ []) new
+      → length new.items ≤ new.capacity → held.capacity ≤ new.capacity → ExtendsTo ranks old (xs ++ x ∷ []) new
   ExtendsTo-push old held new xs x so_far put fits no_less = (items, way, omega (arith, so_far.2))
     where
       items : IsPermutation new.items (overs ranks old.items (xs ++ x ∷ []))

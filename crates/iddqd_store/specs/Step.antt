@@ -1,5 +1,5 @@
 -- One step of a map, for any number of ranks: what a command may answer, and what the map holds then.
-use Rattle.std.specs.Prelude.{◌≡◌, ◌≢◌, ◌+◌, ◌<◌, ◌≤◌, ℕ, min, max, List, [], ◌∷◌, ◌++◌, Bool, length, take, filter, IsPermutation}
+use Rattle.std.specs.Prelude.{◌≡◌, ◌≢◌, ◌+◌, ◌*◌, ◌^◌, ◌<◌, ◌≤◌, ℕ, min, max, List, [], ◌∷◌, ◌++◌, Bool, length, take, filter, IsPermutation}
 use Rattle.std.specs.List.{list_any}
 use Rattle.std.specs.Option.{option_to_list}
 use Rattle.iddqd_store.specs.Bag.{Ranks, clash, order, over, overs}
@@ -11,9 +11,13 @@ pub record State (T : Type 0) : Type 0 where
   pub items : List T
   pub capacity : ℕ
 
--- the items fit
+-- no map has room for more items: so many pairs fit into the most cells that a `usize` counts
+abbrev pub most_room : ℕ
+most_room = 7 * 2 ^ 60
+
+-- the items fit, in room that a map can have
 abbrev pub Fits : {T : Type 0} → State T → Type 0
-Fits s = length s.items ≤ s.capacity
+Fits s = (length s.items ≤ s.capacity) × (s.capacity ≤ most_room)
 
 -- the state of a map
 abbrev pub state_of : {T S : Type 0} → Map T S → State T
@@ -106,9 +110,11 @@ module _ {T D : Type 0} where
   Lists old (items xs) new = IsPermutation xs old.items × (new ≡ old)
   Lists old reply new = ⊥
 
-  -- the items of a list go in one by one, each for what conflicts with it, until one finds no memory in a full map
+  -- the items of a list go in one by one, each for what conflicts with it, until one finds no memory in a full map.
+  -- The map grows only where they may not all fit
   abbrev pub Extends : Ranks T → State T → List T → Reply T D → State T → Type 0
-  Extends ranks old xs done new = ExtendsTo ranks old xs new
+  Extends ranks old xs done new =
+      ExtendsTo ranks old xs new × (length old.items + length xs ≤ old.capacity → new.capacity ≡ old.capacity)
   Extends ranks old xs (memory y) new =
       (front : List T) × (rest : List T) × (xs ≡ front ++ y ∷ rest) × ExtendsTo ranks old front new
       × (clash ranks new.items y ≡ []) × (length new.items ≡ new.capacity)

@@ -2,6 +2,7 @@
 ghost use Rattle.std.specs.Prelude.{◌≡◌, ◌+◌, ◌*◌, ◌^◌, ◌<◌, ◌≤◌, [], length, ◌==◌, OnOk, OnErr, IsErr};
 ghost use Rattle.iddqd_store.specs.Map.{bag};
 ghost use Rattle.iddqd_store.specs.Bag.{IsSound};
+ghost use Rattle.iddqd_store.specs.Step.{most_room};
 ghost use Rattle.iddqd_bi.specs.Keys.{ranks};
 
 use super::BiHashMap;
@@ -25,10 +26,12 @@ impl<T: BiHashItem, S: BuildHasher> BiHashMap<T, S> {
         self.len() == 0
     }
 
-    /// How many items fit without growing: the least of what the slots and each table hold.
+    /// How many items fit without growing: the least of what the slots and each table hold. It is never above what
+    /// the largest table holds whose cells a `usize` counts.
     pub fn capacity(&self) -> usize
         ensures value { result ≡ self.now.capacity }
         ensures holds { length (bag self.now) ≤ result }
+        ensures most { result ≤ most_room }
     {
         let _ = (self.items.len(), self.first.len(), self.second.len());
         self.items

@@ -1,4 +1,4 @@
-use Rattle.std.proofs.Common.{◌≡◌, ◌∙◌, sym, rules, subst, List, [], ◌∷◌, ◌++◌, map, Global, arith}
+use Rattle.std.proofs.Common.{◌≡◌, ◌≤◌, ◌+◌, length, ap, ◌∙◌, sym, rules, subst, List, [], ◌∷◌, ◌++◌, map, Global, arith}
 use Rattle.std.specs.declared.vec.IntoIter.{IntoIter}
 use Rattle.std.specs.Vec.Iter.{into_iter_items, into_iter_steps}
 use Rattle.std.proofs.lemmas.Iterator.{items_from_drains}
@@ -18,7 +18,9 @@ returns-in-Ok-clause-step g c =
     let run = all.3 in
     let same : map (λ y. y) all.1 ≡ c.args.items.items =
     items_from_drains all.1 (run.1.0, run.1.1, λ _. (run.0, run.1.2)) (YieldsList-from_vec c.args.items.items all.2.0 (omega (arith, all.2.1, c.args.items.ok))) in
-    (done, subst (λ (xs : List g.row.T.Denot). ExtendsTo by (state_of c.args.self.now) xs (state_of c.extend.new.self)) (sym (map_same all.1) ∙ same) all.4, c.tell.ensures.fits, c.tell.ensures.took)
+    let extends = subst (λ (xs : List g.row.T.Denot). ExtendsTo by (state_of c.args.self.now) xs (state_of c.extend.new.self)) (sym (map_same all.1) ∙ same) all.4 in
+    let same_room = λ (room : length (bag c.args.self.now) + length c.args.items.items ≤ c.args.self.now.capacity). (c.in-Ok.ensures.had_room (λ it gives. omega (arith, room, ap length gives.0))).1 in
+    (done, (extends, same_room), c.tell.ensures.fits, c.tell.ensures.took)
 
 pub returns-in-Err-clause-step : goal.returns-in-Err-clause-step
 returns-in-Err-clause-step g c =

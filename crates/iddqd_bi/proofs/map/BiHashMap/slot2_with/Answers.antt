@@ -15,7 +15,7 @@ returns-clause-asked g c =
 
 pub returns-clause-looks : goal.returns-clause-looks
 returns-clause-looks g c =
-    rw (← c.self.view_is) (looks_within _ c.self.inside.items.slots c.self.inside.second.pairs _ _ c.args.hash c.find.result _ _ c.self.invariant.second c.find.ensures.size (omega (arith, c.find.ensures.limit)) c.find.ensures.looks)
+    rw (← c.self.view_is) (looks_within _ c.self.inside.items.slots c.self.inside.second.pairs _ _ c.args.hash c.find.result _ _ c.self.invariant.second c.find.ensures.size c.find.ensures.counted (omega (arith, c.find.ensures.limit)) c.find.ensures.looks)
 
 pub returns-clause-at_most : goal.returns-clause-at_most
 returns-clause-at_most g c =
