@@ -1,4 +1,5 @@
 mod Rows
+mod RunRows
 pub mod Chain
 pub mod Counting
 pub mod Cutting

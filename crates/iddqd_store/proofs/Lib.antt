@@ -25,6 +25,7 @@ pub mod SearchLemmas
 pub mod Shuffled
 pub mod Size
 pub mod SlotLemmas
+mod StepRows
 pub mod Stretch
 pub mod TableRows
 pub mod Theorem
