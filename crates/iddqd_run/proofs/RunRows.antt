@@ -1,6 +1,7 @@
 -- Worked rows of runs: what commands on a new map may answer, and print.
 use Rattle.std.proofs.Common.{◌≡◌, refl, ℕ, List, [], ◌∷◌, Some, None, arith}
 use Rattle.std.specs.Prelude.{codes, IsPermutation}
+use Rattle.std.specs.Fmt.{digits}
 use Rattle.std.proofs.lemmas.List.Sorted.{IsPermutation-refl}
 use Rattle.iddqd_store.specs.Reply.{Reply, done, duplicate, displaced, found, taken, memory, refused, size, items}
 use Rattle.iddqd_store.specs.Step.{State}
@@ -33,5 +34,5 @@ room_after_a_removal = replies_from removing removing_replies (
 )
 
 prints_room_after_a_removal : Prints removing (codes "ok\nitem (1 10 100)\nok\n")
-unfolding printed
+unfolding printed digits
 prints_room_after_a_removal = (removing_replies, room_after_a_removal, refl)
