@@ -25,6 +25,7 @@ pub mod SearchLemmas
 pub mod Shuffled
 pub mod Size
 pub mod SlotLemmas
+pub mod StepLemmas
 mod StepRows
 pub mod Stretch
 pub mod TableRows
