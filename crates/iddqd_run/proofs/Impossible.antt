@@ -1,13 +1,14 @@
 -- What the definition of a run does not allow.
-use Rattle.std.proofs.Common.{◌≡◌, sym, ap, subst, ℕ, List, [], ◌∷◌, length, Some, None, arith, get_or}
-use Rattle.std.specs.Prelude.{codes, IsPermutation}
+use Rattle.std.proofs.Common.{◌≡◌, refl, sym, ap, ◌∙◌, subst, ℕ, ◌+◌, List, [], ◌∷◌, length, Some, None, arith, get_or}
+use Rattle.std.specs.Prelude.{codes, map, Option, is_none, IsPermutation}
 use Rattle.std.specs.Fmt.{digits}
-use Rattle.std.specs.List.{flat_map}
+use Rattle.std.specs.List.{flat_map, position_from}
 use Rattle.std.proofs.lemmas.List.{nil_from_length}
 use Rattle.std.proofs.lemmas.List.Sorted.{IsPermutation-sym, IsPermutation-trans, length_permutation}
 use Rattle.iddqd_store.proofs.BagLemmas.{same_from_short}
 use Rattle.iddqd_store.specs.Reply.{Reply, done, duplicate, taken, memory, refused}
 use Rattle.iddqd_bi.specs.declared.command.BiCommand.TheVariants.{InsertUnique, Remove1, Reserve}
+use Rattle.iddqd_run.specs.Commands.{Spells, first_bad_line}
 use Rattle.iddqd_run.specs.Outputs.{Replies, Prints}
 use Rattle.iddqd_run.specs.Printed.{line_of, printed}
 use Rattle.iddqd_run.specs.Words.{Command}
@@ -37,7 +38,7 @@ no_refusal_of_no_more : FromEmpty (reserving 0) (done ∷ refused ∷ []) → �
 no_refusal_of_no_more chain =
     let one = chain.1 in
     let two = one.3 in
-    omega (arith, one.2.0, two.1.1)
+    omega (arith, one.2.0, two.1.1, two.1.2)
 
 -- `new 1 10 100`, `del1 1`, `new 2 20 200` are not answered by `ok`, `item (1 10 100)`, `memory (2 20 200)`: a removal leaves room
 pub no_memory_after_a_removal : Replies removing (done ∷ taken (Some first) ∷ memory second ∷ []) → ⊥
@@ -117,3 +118,16 @@ not_printed_after_a_removal prints = by_replies prints.0 (from_empty removing pr
     by_replies (one ∷ two ∷ []) chain e = absurd (chain.1.3.3)
     by_replies (one ∷ two ∷ three ∷ []) chain e = by_first one two three chain e
     by_replies (one ∷ two ∷ three ∷ four ∷ more) chain e = absurd (chain.1.3.3.3)
+
+-- An input whose lines all spell commands has no bad line.
+no_bad_line : (count : ℕ) (commands : List Command) → position_from (λ (found : Option Command). is_none found) count (map (λ (command : Command). Some command) commands) ≡ None
+no_bad_line count [] = refl
+no_bad_line count (command ∷ commands) = no_bad_line (count + 1) commands
+
+pub not_done_and_bad : (text : List ℕ) (commands : List Command) (n : ℕ) → Spells text commands → first_bad_line text ≡ Some n → ⊥
+not_done_and_bad text commands n spells bad =
+    let none : first_bad_line text ≡ None = ap (λ (found : List (Option Command)). position_from (λ o. is_none o) 1 found) spells ∙ no_bad_line 1 commands in
+    apart (sym none ∙ bad)
+  where
+    apart : ◌≡◌ {A = Option ℕ} None (Some n) → ⊥
+    apart e = cc

@@ -1,6 +1,7 @@
 pub mod BagLemmas
 pub mod BagSteps
 pub mod BuildLemmas
+mod BuildRows
 pub mod Change
 pub mod CloneLemmas
 pub mod Copied

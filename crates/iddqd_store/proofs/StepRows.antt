@@ -127,7 +127,10 @@ some_room_is_made : Reserves {T = Item} {D = ℕ} 6 (state m2 7) refused (state 
 some_room_is_made = (refl, omega arith, omega arith)
 
 not_refused_where_room_is_there : (new : State Item) → Reserves {D = ℕ} 5 (state m2 7) refused new → ⊥
-not_refused_where_room_is_there new step = omega (arith, step.1)
+not_refused_where_room_is_there new step = omega (arith, step.1, step.2)
+
+not_refused_with_the_room_made : Reserves {D = ℕ} 6 (state m2 7) refused (state m2 14) → ⊥
+not_refused_with_the_room_made step = omega (arith, step.1)
 
 not_granted_without_room : Reserves {D = ℕ} 6 (state m2 7) done (state m2 7) → ⊥
 not_granted_without_room step = omega (arith, step.1)

@@ -80,13 +80,13 @@ module _ {T D : Type 0} where
       × (new.capacity ≡ old.capacity)
   Removes test old reply new = ⊥
 
-  -- there is room for so many more items, and more than before only where they did not fit
+  -- there is room for so many more items, and more than before only where they did not fit; or still too little
   abbrev pub Reserves : ℕ → State T → Reply T D → State T → Type 0
   Reserves more old done new =
       (new.items ≡ old.items) × (length old.items + more ≤ new.capacity) × (old.capacity ≤ new.capacity)
       × (length old.items + more ≤ old.capacity → new.capacity ≡ old.capacity)
   Reserves more old refused new =
-      (new.items ≡ old.items) × (old.capacity < length old.items + more) × (old.capacity ≤ new.capacity)
+      (new.items ≡ old.items) × (new.capacity < length old.items + more) × (old.capacity ≤ new.capacity)
   Reserves more old reply new = ⊥
 
   -- no more room is left than for the members or, if that is more, for so many items, as far as there was

@@ -42,7 +42,7 @@ impl<T: BiHashItem, S: BuildHasher> BiHashMap<T, S> {
     /// Makes room for so many more items. It takes no memory where they fit already, and compares no key.
     ///
     /// It is refused where memory for more slots or for a larger table is, and where so many items are more than
-    /// memory can count. Then the items are as before, and the map may have more room.
+    /// memory can count. Then the items are as before, and the map may have more room, but not for so many.
     pub fn reserve(&mut self, more: usize) -> Result<(), TryReserveError>
         ensures items { bag self.new ≡ bag self.old }
         ensures builder { self.new.builder ≡ self.old.builder }
@@ -50,6 +50,7 @@ impl<T: BiHashItem, S: BuildHasher> BiHashMap<T, S> {
         ensures same_room { length (bag self.old) + more ≤ self.old.capacity → self.new.capacity ≡ self.old.capacity }
         ensures granted { OnOk result (length (bag self.old) + more ≤ self.new.capacity) }
         ensures refused { OnErr result (self.old.capacity < length (bag self.old) + more) }
+        ensures still_short { OnErr result (self.new.capacity < length (bag self.old) + more) }
         ensures past { 7 * 2 ^ 60 < length (bag self.old) + more → IsErr result }
     {
         self.grow(more)
@@ -63,6 +64,7 @@ impl<T: BiHashItem, S: BuildHasher> BiHashMap<T, S> {
         ensures same_room { length (bag self.old) + more ≤ self.old.capacity → self.new.capacity ≡ self.old.capacity }
         ensures granted { OnOk result (length (bag self.old) + more ≤ self.new.capacity) }
         ensures refused { OnErr result (self.old.capacity < length (bag self.old) + more) }
+        ensures still_short { OnErr result (self.new.capacity < length (bag self.old) + more) }
         ensures past { 7 * 2 ^ 60 < length (bag self.old) + more → IsErr result }
     {
         self.reserve(more)
