@@ -1,6 +1,9 @@
 mod Rows
+mod RunRows
+pub mod Chain
 pub mod Counting
 pub mod Cutting
+mod Impossible
 pub mod Moving
 pub mod Numbering
 pub mod Parsing

@@ -1,10 +1,10 @@
 -- A run into a sink of lines prints the lines of its replies.
 use Rattle.std.proofs.Common.{◌≡◌, refl, ap, sym, ◌∙◌, ℕ, List, [], ◌∷◌, ◌++◌, Result, Ok, Err, append_assoc, append-nil, subst}
-use Rattle.std.specs.Prelude.{MatchResult}
+use Rattle.std.specs.Prelude.{nat_eq, MatchResult}
 use Rattle.std.specs.List.{flat_map}
 use Rattle.iddqd_store.specs.Reply.{Reply}
 use Rattle.iddqd_store.specs.Run.{Run, Applies}
-use Rattle.iddqd_store.specs.Step.{State, empty_state}
+use Rattle.iddqd_store.specs.Step.{State, Fits, empty_state}
 use Rattle.iddqd_bi.specs.Step.{Step}
 use Rattle.iddqd_run.specs.Outputs.{GrowsByLine, KeepsReply, Prints, item_keys}
 use Rattle.iddqd_run.specs.Printed.{line_of}
@@ -23,11 +23,11 @@ module _ {C T D S : Type 0} (Steps : State T → C → Reply T D → State T →
 
   -- a command whose line was taken
   one_more : (old mid new : State T) (sink then after : S) (kept : List (Reply T D)) (command : C) (commands : List C) (reply : Reply T D)
-      → Steps old command reply mid → text then ≡ text sink ++ line reply
+      → Steps old command reply mid → Fits mid → text then ≡ text sink ++ line reply
       → Replied mid then (kept ++ reply ∷ []) commands new after → Replied old sink kept (command ∷ commands) new after
-  one_more old mid new sink then after kept command commands reply s e r = (
+  one_more old mid new sink then after kept command commands reply s fits e r = (
     reply ∷ r.0,
-    (mid, kept ++ reply ∷ [], Ok tt, (reply, s, refl), subst (λ (ys : List (Reply T D)). Run Steps KeepsReply mid (kept ++ reply ∷ []) commands (Ok tt) new ys) (append_assoc kept (reply ∷ []) r.0) r.1),
+    (mid, kept ++ reply ∷ [], Ok tt, (reply, s, fits, refl), subst (λ (ys : List (Reply T D)). Run Steps KeepsReply mid (kept ++ reply ∷ []) commands (Ok tt) new ys) (append_assoc kept (reply ∷ []) r.0) r.1),
     r.2 ∙ (ap (λ (ys : List ℕ). ys ++ flat_map line r.0) e ∙ append_assoc (text sink) (line reply) (flat_map line r.0)),
   )
 
@@ -39,7 +39,7 @@ module _ {C T D S F : Type 0} (Steps : State T → C → Reply T D → State T �
       → ((more : List (Reply T D)) → Run Steps (into_lines {F = F} text line) mid then commands answer new after → Replied Steps text line mid then more commands new after)
       → (u : Unit {0}) → answer ≡ Ok u → Replied Steps text line old sink kept (command ∷ commands) new after
   after_first old mid new sink then after kept command commands (Ok v) answer a m ih u e =
-      one_more Steps text line old mid new sink then after kept command commands a.0 a.1 a.2 (ih (kept ++ a.0 ∷ []) m)
+      one_more Steps text line old mid new sink then after kept command commands a.0 a.1 a.2 a.3 (ih (kept ++ a.0 ∷ []) m)
   after_first old mid new sink then after kept command commands (Err f) answer a m ih u e = let x : Ok u ≡ Err f = sym e ∙ m.0 in cc
 
   -- a run without a fault

@@ -1,9 +1,12 @@
 -- Worked rows on the text rules, by computation.
 use Rattle.std.proofs.Common.{◌≡◌, refl, ℕ, [], ◌∷◌, Some, None}
+use Rattle.std.specs.Fmt.{digits}
 use Rattle.std.specs.Prelude.{codes}
+use Rattle.iddqd_store.specs.Reply.{done, duplicate, displaced, found, taken, memory, refused, size, items}
 use Rattle.iddqd_run.specs.Commands.{command_of_line, first_bad_line}
 use Rattle.iddqd_run.specs.Lines.{lines_of}
 use Rattle.iddqd_run.specs.Numbers.{number_of}
+use Rattle.iddqd_run.specs.Printed.{line_of, printed, bad_line_message}
 use Rattle.iddqd_run.specs.Sorted.{by_first_key}
 use Rattle.iddqd_run.specs.declared.item.BiItem.{BiItem}
 use Rattle.iddqd_bi.specs.declared.command.BiCommand.TheVariants.{InsertUnique, Remove1, Items}
@@ -74,3 +77,57 @@ item key value = record { key1 = key; key2 = value; value = value }
 
 sorted_items : by_first_key (item 3 0 ∷ item 2 1 ∷ item 3 2 ∷ item 2 3 ∷ []) ≡ item 2 1 ∷ item 2 3 ∷ item 3 0 ∷ item 3 2 ∷ []
 sorted_items = refl
+
+-- the line of each reply
+abbrev whole : ℕ → ℕ → ℕ → BiItem
+whole k1 k2 v = record { key1 = k1; key2 = k2; value = v }
+
+ok_line : line_of done ≡ codes "ok\n"
+ok_line = refl
+
+dup_line : line_of (duplicate (whole 2 10 5) (whole 2 20 200 ∷ whole 1 10 100 ∷ [])) ≡ codes "dup (2 20 200) (1 10 100)\n"
+unfolding printed digits
+dup_line = refl
+
+out_line : line_of (displaced (whole 1 10 100 ∷ whole 2 20 200 ∷ [])) ≡ codes "out (1 10 100) (2 20 200)\n"
+unfolding printed digits
+out_line = refl
+
+out_of_none : line_of (displaced []) ≡ codes "out\n"
+out_of_none = refl
+
+found_line : line_of (found (Some (whole 1 10 100))) ≡ codes "item (1 10 100)\n"
+unfolding printed digits
+found_line = refl
+
+not_found_line : line_of (found None) ≡ codes "none\n"
+not_found_line = refl
+
+taken_line : line_of (taken (Some (whole 7 1 2))) ≡ codes "item (7 1 2)\n"
+unfolding printed digits
+taken_line = refl
+
+none_taken_line : line_of (taken None) ≡ codes "none\n"
+none_taken_line = refl
+
+memory_line : line_of (memory (whole 18446744073709551615 0 10)) ≡ codes "memory (18446744073709551615 0 10)\n"
+unfolding printed digits
+memory_line = refl
+
+refused_line : line_of refused ≡ codes "memory\n"
+refused_line = refl
+
+len_line : line_of (size 2) ≡ codes "len 2\n"
+unfolding digits
+len_line = refl
+
+list_line : line_of (items (whole 3 1 0 ∷ whole 2 2 0 ∷ [])) ≡ codes "list (2 2 0) (3 1 0)\n"
+unfolding printed digits
+list_line = refl
+
+list_of_none : line_of (items []) ≡ codes "list\n"
+list_of_none = refl
+
+bad_line : bad_line_message 12 ≡ codes "line 12: bad command\n"
+unfolding digits
+bad_line = refl

@@ -3,6 +3,9 @@ use Rattle.std.proofs.Common.{◌≡◌, ℕ, zero, suc, ◌<◌, ◌≤◌, Boo
 use Rattle.std.proofs.lemmas.Bool.{cond-true, cond-false, cases_Bool}
 use Rattle.std.proofs.lemmas.Bool.Decides.{nat_tests}
 use Rattle.std.specs.List.Sorted.{ties, IsNonDecreasingBy, IsStableByKey}
+use Rattle.std.specs.Prelude.{IsPermutation, nat_eq}
+use Rattle.std.specs.List.{IsDistinct}
+use Rattle.iddqd_store.proofs.BagLemmas.{named-IsPermutation}
 use Rattle.iddqd_run.specs.Sorted.{put_in, by_first_key}
 use Rattle.iddqd_run.specs.declared.item.BiItem.{BiItem}
 
@@ -153,3 +156,15 @@ same_from_keys (y ∷ ys) (z ∷ zs) left right same =
 pub by_first_key-from_sort : (xs ys : List BiItem) → IsNonDecreasingBy (λ item. item.key1) ys → IsStableByKey (λ item. item.key1) nat_cmp xs ys → ys ≡ by_first_key xs
 by_first_key-from_sort xs ys sorted stable =
     same_from_keys ys (by_first_key xs) (Rises-from_sort ys sorted) (Rises-by_first_key xs) (λ x. stable x ∙ sym (filter-by_first_key x xs))
+
+-- items of which no two have one first key are sorted to one list, in whatever order they come
+pub by_first_key-IsPermutation : (xs ys : List BiItem) → IsDistinct (λ x y. nat_eq x.key1 y.key1) xs → IsPermutation xs ys → by_first_key xs ≡ by_first_key ys
+by_first_key-IsPermutation xs ys apart same =
+    same_from_keys (by_first_key xs) (by_first_key ys) (Rises-by_first_key xs) (Rises-by_first_key ys)
+    (λ x. filter-by_first_key x xs ∙ named-IsPermutation (λ y z. nat_eq y.key1 z.key1) (same_key x) (one x) xs ys apart same ∙ sym (filter-by_first_key x ys))
+  where
+    equal : (m n k : ℕ) → k ≡ m → k ≡ n → nat_eq m n ≡ true
+    equal m n k a b = grind (arith, nat_tests)
+
+    one : (x y z : BiItem) → same_key x y ≡ true → same_key x z ≡ true → nat_eq y.key1 z.key1 ≡ true
+    one x y z first then = equal y.key1 z.key1 x.key1 (same_key-true x y first) (same_key-true x z then)

@@ -1,6 +1,7 @@
 pub mod BagLemmas
 pub mod BagSteps
 pub mod BuildLemmas
+mod BuildRows
 pub mod Change
 pub mod CloneLemmas
 pub mod Copied
@@ -27,6 +28,8 @@ pub mod SearchLemmas
 pub mod Shuffled
 pub mod Size
 pub mod SlotLemmas
+pub mod StepLemmas
+mod StepRows
 pub mod Stretch
 pub mod TableRows
 pub mod Theorem

@@ -1,5 +1,5 @@
 -- How many cells a search of a map looks at.
-use Rattle.std.specs.Prelude.{ℕ, ◌+◌, ◌*◌, ◌/◌, ◌≤◌, List, length, map, IsPermutation, Option}
+use Rattle.std.specs.Prelude.{ℕ, ◌+◌, ◌*◌, ◌/◌, ◌^◌, ◌<◌, ◌≤◌, List, length, map, IsPermutation, Option}
 use Rattle.std.proofs.Common.{sym, subst, ◌∙◌, arith}
 use Rattle.std.proofs.lemmas.Simd.{map-map}
 use Rattle.std.proofs.lemmas.List.{length-map}
@@ -18,9 +18,9 @@ module _ {T : Type 0} where
       (IsPermutation-map (λ (p : ℕ × ℕ). p.0) pairs (map (pair_of hash) (members slots)) index.paired)
 
   -- a table's search looks as one over the members' hashes
-  pub looks_within : {A : Type 0} (hash : T → ℕ) (slots : List (Option T)) (pairs : List (ℕ × ℕ)) (cells room h : ℕ) (answer : Option A) (before after : ℕ) → IsIndex hash slots pairs → IsSize cells → room ≤ cells / 8 * 7 → LooksUp (hashes pairs) cells h answer before after → LooksUpWithin (map hash (live_items slots)) room h answer before after
-  looks_within hash slots pairs cells room h answer before after index size fits looks =
-      (cells, size, fits, looks_permutation (hashes pairs) (map hash (live_items slots)) cells h answer before after (hashes-index hash slots pairs index) looks)
+  pub looks_within : {A : Type 0} (hash : T → ℕ) (slots : List (Option T)) (pairs : List (ℕ × ℕ)) (cells room h : ℕ) (answer : Option A) (before after : ℕ) → IsIndex hash slots pairs → IsSize cells → cells < 2 ^ 64 → room ≤ cells / 8 * 7 → LooksUp (hashes pairs) cells h answer before after → LooksUpWithin (map hash (live_items slots)) room h answer before after
+  looks_within hash slots pairs cells room h answer before after index size counted fits looks =
+      (cells, size, counted, fits, looks_permutation (hashes pairs) (map hash (live_items slots)) cells h answer before after (hashes-index hash slots pairs index) looks)
 
   -- and at no more cells than there are members, and one
   pub looks_within_most : {A : Type 0} (hash : T → ℕ) (slots : List (Option T)) (pairs : List (ℕ × ℕ)) (cells h : ℕ) (answer : Option A) (before after : ℕ) → IsIndex hash slots pairs → LooksUp (hashes pairs) cells h answer before after → after ≤ before + length (live_items slots) + 1

@@ -6,13 +6,13 @@ use Rattle.std.proofs.lemmas.Bool.{false≢true}
 use Rattle.iddqd_store.proofs.SameBag.{IsSameBag-pair, HasPair}
 use Rattle.iddqd_store.specs.Bag.{Ranks, order, over, overs, add, adds, listing, without, all_of, differ, entry, vacant, unique, non_unique, agrees, swap, crowd, IsSameBag}
 
-abbrev Item : Type 0
+abbrev pub Item : Type 0
 Item = ℕ × ℕ × ℕ
 
-abbrev pairs : Ranks Item
+abbrev pub pairs : Ranks Item
 pairs = (λ x y. x.0 == y.0) ∷ (λ x y. x.1 == y.1) ∷ []
 
-abbrev m2 : List Item
+abbrev pub m2 : List Item
 m2 = (1, 10, 100) ∷ (2, 20, 200) ∷ []
 
 abbrev keyed : ℕ → ℕ → List (Item → Bool)

@@ -28,11 +28,12 @@ bag m = live_items m.slots
 abbrev pub hash_of : {S H : Type 0} → builder.Ghosts S H → hasher.Ghosts H → S → HashWrites → ℕ
 hash_of b h s writes = h.finish (fold h.write (b.build_hasher s) writes)
 
--- the map with one more item. It grows only where it is full
+-- the map with one more item, which fits. It grows only where it is full
 pub record Gains {T S : Type 0} (old : Map T S) (item : T) (new : Map T S) : Type 0 where
   pub items : IsPermutation (bag new) (item ∷ bag old)
   pub no_less_room : old.capacity ≤ new.capacity
   pub same_room : length (bag old) < old.capacity → new.capacity ≡ old.capacity
+  pub fits : length (bag new) ≤ new.capacity
   pub same_builder : new.builder ≡ old.builder
 
 -- the map without these items, which are given back. The room stays
@@ -45,6 +46,7 @@ pub record Loses {T S : Type 0} (old : Map T S) (gone : List T) (new : Map T S) 
 pub record MakesRoom {T S A E : Type 0} (old : Map T S) (more : ℕ) (result : Result A E) (new : Map T S) : Type 0 where
   pub granted : OnOk result (length (bag old) + more ≤ new.capacity)
   pub refused : OnErr result (old.capacity < length (bag old) + more)
+  pub still_short : OnErr result (new.capacity < length (bag old) + more)
   pub past : 7 * 2 ^ 60 < length (bag old) + more → IsErr result
   pub no_less_room : old.capacity ≤ new.capacity
   pub same_room : length (bag old) + more ≤ old.capacity → new.capacity ≡ old.capacity

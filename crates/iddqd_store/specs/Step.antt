@@ -1,5 +1,5 @@
 -- One step of a map, for any number of ranks: what a command may answer, and what the map holds then.
-use Rattle.std.specs.Prelude.{◌≡◌, ◌≢◌, ◌+◌, ◌<◌, ◌≤◌, ℕ, min, max, List, [], ◌∷◌, ◌++◌, Bool, length, IsPermutation}
+use Rattle.std.specs.Prelude.{◌≡◌, ◌≢◌, ◌+◌, ◌*◌, ◌^◌, ◌<◌, ◌≤◌, ℕ, min, max, List, [], ◌∷◌, ◌++◌, Bool, length, take, IsPermutation}
 use Rattle.std.specs.List.{list_any}
 use Rattle.std.specs.Option.{option_to_list}
 use Rattle.iddqd_store.specs.Bag.{Ranks, IsOnly, clash, order, over, overs}
@@ -11,6 +11,14 @@ pub record State (T : Type 0) : Type 0 where
   pub items : List T
   pub capacity : ℕ
 
+-- no map has room for more items: so many pairs fit into the most cells that a `usize` counts
+abbrev pub most_room : ℕ
+most_room = 7 * 2 ^ 60
+
+-- the items fit, in room that a map can have
+abbrev pub Fits : {T : Type 0} → State T → Type 0
+Fits s = (length s.items ≤ s.capacity) × (s.capacity ≤ most_room)
+
 -- the state of a map
 abbrev pub state_of : {T S : Type 0} → Map T S → State T
 state_of m = record { items = bag m; capacity = m.capacity }
@@ -20,6 +28,16 @@ abbrev pub empty_state : {T : Type 0} → State T
 empty_state = record { items = []; capacity = 0 }
 
 module _ {T : Type 0} where
+  -- so many items fit however many of a list went in, each for what conflicts with it
+  abbrev pub FitsOnTheWay : Ranks T → List T → List T → ℕ → Type 0
+  FitsOnTheWay ranks bag xs capacity = (n : ℕ) → length (overs ranks bag (take n xs)) ≤ capacity
+
+  -- the items of a list went in one by one, each for what conflicts with it. The room is no less, and enough on the way
+  abbrev pub ExtendsTo : Ranks T → State T → List T → State T → Type 0
+  ExtendsTo ranks old xs new =
+      IsPermutation new.items (overs ranks old.items xs) × FitsOnTheWay ranks old.items xs new.capacity
+      × (old.capacity ≤ new.capacity)
+
   -- x is refused for want of memory, which happens only in a full map where nothing conflicts
   abbrev pub Starves : Ranks T → State T → T → T → State T → Type 0
   Starves ranks old x y new =
@@ -62,13 +80,13 @@ module _ {T D : Type 0} where
       × (new.capacity ≡ old.capacity)
   Removes old test reply new = ⊥
 
-  -- there is room for so many more items, and more than before only where they did not fit
+  -- there is room for so many more items, and more than before only where they did not fit; or still too little
   abbrev pub Reserves : State T → ℕ → Reply T D → State T → Type 0
   Reserves old more done new =
       (new.items ≡ old.items) × (length old.items + more ≤ new.capacity) × (old.capacity ≤ new.capacity)
       × (length old.items + more ≤ old.capacity → new.capacity ≡ old.capacity)
   Reserves old more refused new =
-      (new.items ≡ old.items) × (old.capacity < length old.items + more) × (old.capacity ≤ new.capacity)
+      (new.items ≡ old.items) × (new.capacity < length old.items + more) × (old.capacity ≤ new.capacity)
   Reserves old more reply new = ⊥
 
   -- no more room is left than for the members or, if that is more, for so many items, as far as there was
@@ -92,11 +110,12 @@ module _ {T D : Type 0} where
   Lists old (items xs) new = IsPermutation xs old.items × (new ≡ old)
   Lists old reply new = ⊥
 
-  -- the items of a list go in one by one, each for what conflicts with it, until one finds no memory in a full map
+  -- the items of a list go in one by one, each for what conflicts with it, until one finds no memory in a full map.
+  -- The map grows only where they may not all fit
   abbrev pub Extends : Ranks T → State T → List T → Reply T D → State T → Type 0
-  Extends ranks old xs done new = IsPermutation new.items (overs ranks old.items xs) × (old.capacity ≤ new.capacity)
+  Extends ranks old xs done new =
+      ExtendsTo ranks old xs new × (length old.items + length xs ≤ old.capacity → new.capacity ≡ old.capacity)
   Extends ranks old xs (memory y) new =
-      (front : List T) × (rest : List T) × (xs ≡ front ++ y ∷ rest)
-      × IsPermutation new.items (overs ranks old.items front) × (clash ranks new.items y ≡ [])
-      × (length new.items ≡ new.capacity) × (old.capacity ≤ new.capacity)
+      (front : List T) × (rest : List T) × (xs ≡ front ++ y ∷ rest) × ExtendsTo ranks old front new
+      × (clash ranks new.items y ≡ []) × (length new.items ≡ new.capacity)
   Extends ranks old xs reply new = ⊥

@@ -1,5 +1,5 @@
 -- What holds of the cells of a table.
-use Rattle.std.specs.Prelude.{ℕ, ◌+◌, ◌*◌, ◌/◌, ◌%◌, ◌≡◌, ◌<◌, ◌≤◌, ◌==◌, Bool, List, Option, None, ◌≢◌, length, map, IfNone, OnSome}
+use Rattle.std.specs.Prelude.{ℕ, ◌+◌, ◌*◌, ◌/◌, ◌%◌, ◌^◌, ◌≡◌, ◌<◌, ◌≤◌, ◌==◌, Bool, List, Option, None, ◌≢◌, length, map, IfNone, OnSome}
 use Rattle.iddqd_store.specs.Limit.{IsSize}
 use Rattle.iddqd_store.specs.Ring.{held, cell, gap, stretch, IsReached}
 
@@ -18,10 +18,10 @@ pub record LooksUp {A : Type 0} (hashes : List ℕ) (cells hash : ℕ) (answer :
   pub hit_least : OnSome answer (before + 1 ≤ after)
   pub hit_most : OnSome answer (after ≤ before + stretch hashes cells hash)
 
--- the same over some number of cells that have room for so many pairs
+-- the same over some number of cells that a `usize` counts and that have room for so many pairs
 abbrev pub LooksUpWithin : {A : Type 0} → List ℕ → ℕ → ℕ → Option A → ℕ → ℕ → Type 0
 LooksUpWithin hashes room hash answer before after =
-    (cells : ℕ) × IsSize cells × (room ≤ cells / 8 * 7) × LooksUp hashes cells hash answer before after
+    (cells : ℕ) × IsSize cells × (cells < 2 ^ 64) × (room ≤ cells / 8 * 7) × LooksUp hashes cells hash answer before after
 
 -- each pair is found from its home on, and an eighth of the cells is empty
 pub record IsTable (row : List (Option (ℕ × ℕ))) : Type 0 where

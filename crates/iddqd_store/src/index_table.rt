@@ -202,6 +202,7 @@ impl IndexTable {
         ensures within { stretch (hashes self.now.pairs) (length self.now.row) hash
             ≤ length self.now.pairs }
         ensures size { IsSize (length self.now.row) }
+        ensures counted { length self.now.row < 2 ^ 64 }
         ensures limit { self.now.limit ≡ length self.now.row / 8 * 7 }
         ensures fits { length self.now.pairs ≤ self.now.limit }
     {

@@ -2,6 +2,7 @@
 ghost use Rattle.std.specs.Prelude.{◌≡◌, ◌≤◌, [], length, ◌==◌};
 ghost use Rattle.iddqd_store.specs.Bag.{IsSound};
 ghost use Rattle.iddqd_store.specs.Map.{bag, MakesRoom};
+ghost use Rattle.iddqd_store.specs.Step.{most_room};
 ghost use Rattle.iddqd_bi.specs.Keys.{ranks};
 
 use super::BiHashMap;
@@ -25,10 +26,12 @@ impl<T: BiHashItem, S: BuildHasher> BiHashMap<T, S> {
         self.len() == 0
     }
 
-    /// How many items fit without growing: the least of what the slots and each table hold.
+    /// How many items fit without growing: the least of what the slots and each table hold. It is never above what
+    /// the largest table holds whose cells a `usize` counts.
     pub fn capacity(&self) -> usize
         ensures value { result ≡ self.now.capacity }
         ensures holds { length (bag self.now) ≤ result }
+        ensures most { result ≤ most_room }
     {
         self.items
             .capacity()
@@ -38,7 +41,7 @@ impl<T: BiHashItem, S: BuildHasher> BiHashMap<T, S> {
     /// Makes room for so many more items. It takes no memory where they fit already, and compares no key.
     ///
     /// It is refused where memory for more slots or for a larger table is, and where so many items are more than
-    /// memory can count. Then the items are as before, and the map may have more room.
+    /// memory can count. Then the items are as before, and the map may have more room, but not for so many.
     pub fn reserve(&mut self, more: usize) -> Result<(), TryReserveError>
         ensures items { bag self.new ≡ bag self.old }
         ensures room { MakesRoom self.old more result self.new }

@@ -1,5 +1,5 @@
 //! Copies of a map.
-ghost use Rattle.std.specs.Prelude.{◌≡◌, true, Contains, IfOk};
+ghost use Rattle.std.specs.Prelude.{◌≡◌, ◌≤◌, length, true, Contains, IfOk};
 ghost use Rattle.std.specs.Hash.{HashWrites};
 ghost use Rattle.iddqd_store.specs.Bag.{IsCopy};
 ghost use Rattle.iddqd_store.specs.Map.{bag, hash_of};
@@ -22,16 +22,20 @@ impl<T: BiHashItem + Clone, S: BuildHasher + Clone> BiHashMap<T, S> {
             → hash_of S.BuildHasher S.Hasher.Hasher s writes
             ≡ hash_of S.BuildHasher S.Hasher.Hasher self.now.builder writes }
         ensures items { IfOk result (λ copy. IsCopy T.is_clone (bag self.now) (bag copy)) }
+        ensures fits { IfOk result (λ copy. length (bag copy) ≤ copy.capacity) }
         ensures builder { IfOk result (λ copy. S.is_clone self.now.builder copy.builder) }
     {
         let Ok(hash_builder) = self.hash_builder.clone() else {
             return Err(TryReserveError);
         };
-        Ok(BiHashMap {
+        let copy = BiHashMap {
             items: self.items.clone()?,
             first: self.first.clone()?,
             second: self.second.clone()?,
             hash_builder,
-        })
+        };
+        // No map has more items than fit.
+        let _ = copy.capacity();
+        Ok(copy)
     }
 }

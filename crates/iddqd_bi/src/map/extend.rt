@@ -1,9 +1,10 @@
 //! Many items at once.
-ghost use Rattle.std.specs.Prelude.{◌≡◌, ◌≤◌, [], length, IsPermutation, IfOk, IfErr, OnOk, OnErr, IsOk};
+ghost use Rattle.std.specs.Prelude.{◌≡◌, ◌≤◌, [], length, IfOk, IfErr, OnOk, OnErr, IsOk};
 ghost use Rattle.std.specs.Iterator.{IsFiniteIterable};
 ghost use Rattle.iddqd_store.specs.Bag.{clash, overs};
 ghost use Rattle.iddqd_store.specs.Building.{GivesAll, GivesThen, FitsOn, AddsTo, RefusesFor, HasPlaceFor, MatchFromIterError};
 ghost use Rattle.iddqd_store.specs.Map.{bag};
+ghost use Rattle.iddqd_store.specs.Step.{ExtendsTo, state_of, empty_state};
 ghost use Rattle.iddqd_bi.specs.Keys.{ranks};
 
 use super::BiHashMap;
@@ -23,9 +24,9 @@ impl<T: BiHashItem + Drop, S: BuildHasher> BiHashMap<T, S> {
     pub fn extend<I: IntoIterator<Item = T>>(&mut self, iter: I) -> Result<(), MemoryRefused<T>>
         requires ends { IsFiniteIterable I.into_iter_gives I.IntoIter.can_next I.IntoIter.remaining iter }
         ensures all { OnOk result (GivesAll I.into_iter_gives I.IntoIter.next_gives iter (λ xs.
-            IsPermutation (bag self.new) (overs (ranks T.BiHashItem T.K1.eq T.K2.eq) (bag self.old) xs))) }
+            ExtendsTo (ranks T.BiHashItem T.K1.eq T.K2.eq) (state_of self.old) xs (state_of self.new))) }
         ensures refused { IfErr result (λ e. GivesThen I.into_iter_gives I.IntoIter.next_gives iter e.value (λ xs.
-            IsPermutation (bag self.new) (overs (ranks T.BiHashItem T.K1.eq T.K2.eq) (bag self.old) xs))) }
+            ExtendsTo (ranks T.BiHashItem T.K1.eq T.K2.eq) (state_of self.old) xs (state_of self.new))) }
         ensures free { IfErr result (λ e. clash (ranks T.BiHashItem T.K1.eq T.K2.eq) (bag self.new) e.value ≡ []) }
         ensures full { OnErr result (length (bag self.new) ≡ self.new.capacity) }
         ensures had_room { FitsOn I.into_iter_gives I.IntoIter.remaining iter (length (bag self.old)) self.old.capacity
@@ -44,6 +45,8 @@ impl<T: BiHashItem + Drop, S: BuildHasher> BiHashMap<T, S> {
         };
         // The promise is of items, not of new keys, so its refusal is not yet a want of memory.
         let _ = self.grow(wanted);
+        // No map has more items than fit.
+        let _ = self.capacity();
         for item in items {
             drop(self.insert_overwrite(item)?);
         }
@@ -61,7 +64,7 @@ impl<T: BiHashItem + Drop, S: BuildHasher + Default + Drop> BiHashMap<T, S> {
     ) -> Result<Self, MemoryRefused<T>>
         requires ends { IsFiniteIterable I.into_iter_gives I.IntoIter.can_next I.IntoIter.remaining iter }
         ensures all { IfOk result (λ map. GivesAll I.into_iter_gives I.IntoIter.next_gives iter (λ xs.
-            IsPermutation (bag map) (overs (ranks T.BiHashItem T.K1.eq T.K2.eq) [] xs))) }
+            ExtendsTo (ranks T.BiHashItem T.K1.eq T.K2.eq) empty_state xs (state_of map))) }
         ensures refused { IfErr result (λ e. GivesThen I.into_iter_gives I.IntoIter.next_gives iter e.value (λ xs.
             clash (ranks T.BiHashItem T.K1.eq T.K2.eq) (overs (ranks T.BiHashItem T.K1.eq T.K2.eq) [] xs) e.value ≡ [])) }
         ensures builder { IfOk result (λ map. S.is_default map.builder) }
@@ -83,6 +86,7 @@ impl<T: BiHashItem + Drop, S: BuildHasher + Default + Drop> BiHashMap<T, S> {
         requires ends { IsFiniteIterable I.into_iter_gives I.IntoIter.can_next I.IntoIter.remaining iter }
         ensures all { IfOk result (λ map. GivesAll I.into_iter_gives I.IntoIter.next_gives iter
             (AddsTo (ranks T.BiHashItem T.K1.eq T.K2.eq) (bag map))) }
+        ensures fits { IfOk result (λ map. length (bag map) ≤ map.capacity) }
         ensures refused { IfErr result (λ e. MatchFromIterError e
             (λ x duplicates. GivesThen I.into_iter_gives I.IntoIter.next_gives iter x
                 (RefusesFor (ranks T.BiHashItem T.K1.eq T.K2.eq) x duplicates))
@@ -104,6 +108,8 @@ impl<T: BiHashItem + Drop, S: BuildHasher + Default + Drop> BiHashMap<T, S> {
                 Err(Refusal::Memory(item)) => return Err(FromIterError::Memory(item)),
             }
         }
+        // No map has more items than fit.
+        let _ = map.capacity();
         Ok(map)
     }
 }

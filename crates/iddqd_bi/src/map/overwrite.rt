@@ -20,6 +20,7 @@ impl<T: BiHashItem, S: BuildHasher> BiHashMap<T, S> {
             gone ≡ order (ranks T.BiHashItem T.K1.eq T.K2.eq) (bag self.old) item) }
         ensures items { OnOk result (IsPermutation (bag self.new)
             (over (ranks T.BiHashItem T.K1.eq T.K2.eq) (bag self.old) item)) }
+        ensures fits { length (bag self.new) ≤ self.new.capacity }
         ensures no_less_room { self.old.capacity ≤ self.new.capacity }
         ensures same_room { length (bag self.old) < self.old.capacity → self.new.capacity ≡ self.old.capacity }
         ensures no_growth { clash (ranks T.BiHashItem T.K1.eq T.K2.eq) (bag self.old) item ≢ []

@@ -4,7 +4,7 @@ ghost use Rattle.std.specs.Option.{option_to_list};
 ghost use Rattle.iddqd_store.specs.Bag.{IsOnly};
 ghost use Rattle.iddqd_store.specs.Map.{bag};
 ghost use Rattle.iddqd_store.specs.Reply.{Reply, found, present, duplicate, items};
-ghost use Rattle.iddqd_store.specs.Step.{state_of, Gets, InsertsUnique, InsertsOverwrite, Reserves, ShrinksTo, Extends};
+ghost use Rattle.iddqd_store.specs.Step.{Fits, state_of, Gets, InsertsUnique, InsertsOverwrite, Reserves, ShrinksTo, Extends};
 ghost use Rattle.iddqd_store.specs.Run.{Applies, Run};
 ghost use Rattle.iddqd_store.specs.Searched.{items_at};
 ghost use Rattle.iddqd_bi.specs.Keys.{ranks, has1, has2, has_both};
@@ -148,15 +148,19 @@ where
         }
     }
 
+    // Hands a reply to the sink. No map has more items than fit, which each of these calls says, since each step has to.
     // A reply that lends nothing has a free lifetime, so each reply goes to the sink from a borrow of the map.
     fn tell<'m, K: BiSink<T>>(&'m self, reply: BiReply<'m, T>, sink: &mut K) -> Result<(), K::Fault>
-        ensures { K.took sink.old (value_of reply.entry) result sink.new }
+        ensures took { K.took sink.old (value_of reply.entry) result sink.new }
+        ensures fits { Fits (state_of self.now) }
     {
+        let _ = self.capacity();
         sink.take(reply)
     }
 
     fn tell_present<K: BiSink<T>>(&self, answer: bool, sink: &mut K) -> Result<(), K::Fault>
-        ensures { K.took sink.old (present answer) result sink.new }
+        ensures took { K.took sink.old (present answer) result sink.new }
+        ensures fits { Fits (state_of self.now) }
     {
         self.tell(BiReply::Present(answer), sink)
     }
@@ -165,16 +169,14 @@ where
         ensures { Applies Gets K.took (state_of self.now) sink.old
             (has1 T.BiHashItem T.K1.eq key.now) result (state_of self.now) sink.new }
     {
-        let found = self.get1(key);
-        sink.take(BiReply::Found(found))
+        self.tell(BiReply::Found(self.get1(key)), sink)
     }
 
     fn tell_found2<K: BiSink<T>>(&self, key: &T::K2, sink: &mut K) -> Result<(), K::Fault>
         ensures { Applies Gets K.took (state_of self.now) sink.old
             (has2 T.BiHashItem T.K2.eq key.now) result (state_of self.now) sink.new }
     {
-        let found = self.get2(key);
-        sink.take(BiReply::Found(found))
+        self.tell(BiReply::Found(self.get2(key)), sink)
     }
 
     fn tell_found_unique<K: BiSink<T>>(
@@ -186,8 +188,7 @@ where
         ensures { Applies Gets K.took (state_of self.now) sink.old
             (has_both T.BiHashItem T.K1.eq T.K2.eq key1.now key2.now) result (state_of self.now) sink.new }
     {
-        let found = self.get_unique(key1, key2);
-        sink.take(BiReply::Found(found))
+        self.tell(BiReply::Found(self.get_unique(key1, key2)), sink)
     }
 
     fn tell_duplicate<K: BiSink<T>>(
@@ -196,15 +197,17 @@ where
         found: &UpToTwo<ItemIndex>,
         sink: &mut K,
     ) -> Result<(), K::Fault>
-        ensures { K.took sink.old (duplicate item (items_at self.now.slots found.now)) result sink.new }
+        ensures took { K.took sink.old (duplicate item (items_at self.now.slots found.now)) result sink.new }
+        ensures fits { Fits (state_of self.now) }
     {
         let duplicates = self.items_of(found);
-        sink.take(BiReply::Duplicate(DuplicateItem::new(item, duplicates)))
+        self.tell(BiReply::Duplicate(DuplicateItem::new(item, duplicates)), sink)
     }
 
     fn tell_items<K: BiSink<T>>(&self, sink: &mut K) -> Result<(), K::Fault>
-        ensures { K.took sink.old (items (bag self.now)) result sink.new }
+        ensures took { K.took sink.old (items (bag self.now)) result sink.new }
+        ensures fits { Fits (state_of self.now) }
     {
-        sink.take(BiReply::Items(self.iter()))
+        self.tell(BiReply::Items(self.iter()), sink)
     }
 }

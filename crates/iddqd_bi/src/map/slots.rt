@@ -125,6 +125,7 @@ impl<T: BiHashItem, S: BuildHasher> BiHashMap<T, S> {
         requires hash2 { hash2 ≡ key_hash T.key2 T.K2.hash_input S.BuildHasher S.Hasher.Hasher self.old.builder item }
         ensures at { get self.new.slots result ≡ Some item }
         ensures items { IsPermutation (bag self.new) (item ∷ bag self.old) }
+        ensures fits { length (bag self.new) ≤ self.new.capacity }
         ensures capacity { self.new.capacity ≡ self.old.capacity }
         ensures builder { self.new.builder ≡ self.old.builder }
     {
@@ -150,6 +151,7 @@ impl<T: BiHashItem, S: BuildHasher> BiHashMap<T, S> {
         ensures displaced { result.0 ≡ order (ranks T.BiHashItem T.K1.eq T.K2.eq) (bag self.old) item }
         ensures at { get self.new.slots result.1 ≡ Some item }
         ensures items { IsPermutation (bag self.new) (over (ranks T.BiHashItem T.K1.eq T.K2.eq) (bag self.old) item) }
+        ensures fits { length (bag self.new) ≤ self.new.capacity }
         ensures capacity { self.new.capacity ≡ self.old.capacity }
         ensures builder { self.new.builder ≡ self.old.builder }
     {
@@ -205,7 +207,6 @@ impl<T: BiHashItem, S: BuildHasher> BiHashMap<T, S> {
     pub(crate) fn grow(&mut self, more: usize) -> Result<(), TryReserveError>
         ensures slots { self.new.slots ≡ self.old.slots }
         ensures room { MakesRoom self.old more result self.new }
-        ensures still_short { OnErr result (self.new.capacity < length (bag self.old) + more) }
     {
         self.items.try_reserve(more)?;
         self.first.try_reserve(more)?;

@@ -1,11 +1,12 @@
-use Rattle.std.proofs.Common.{◌≡◌, ◌∙◌, sym, rules, subst, List, [], ◌∷◌, ◌++◌, map, Global, arith, IsPermutation}
+use Rattle.std.proofs.Common.{◌≡◌, ◌≤◌, ◌+◌, length, ap, ◌∙◌, sym, rules, subst, List, [], ◌∷◌, ◌++◌, map, Global, arith}
 use Rattle.std.specs.declared.vec.IntoIter.{IntoIter}
 use Rattle.std.specs.Vec.Iter.{into_iter_items, into_iter_steps}
 use Rattle.std.proofs.lemmas.Iterator.{items_from_drains}
 use Rattle.std.proofs.lemmas.Iterator.Adapters.{YieldsList-from_vec}
-use Rattle.iddqd_store.specs.Bag.{clash, overs}
+use Rattle.iddqd_store.specs.Bag.{clash}
 use Rattle.iddqd_store.specs.Map.{bag}
 use Rattle.iddqd_store.specs.Reply.{done, memory}
+use Rattle.iddqd_store.specs.Step.{ExtendsTo, state_of}
 use Rattle.iddqd_store.proofs.ExtendLemmas.{yielded_then, map_same}
 use Rattle.iddqd_bi.specs.Keys.{ranks}
 use Rattle.iddqd_bi.proofs.map.BiHashMap.apply_extend.Goals as goal
@@ -17,7 +18,9 @@ returns-in-Ok-clause-step g c =
     let run = all.3 in
     let same : map (λ y. y) all.1 ≡ c.args.items.items =
     items_from_drains all.1 (run.1.0, run.1.1, λ _. (run.0, run.1.2)) (YieldsList-from_vec c.args.items.items all.2.0 (omega (arith, all.2.1, c.args.items.ok))) in
-    (done, (subst (λ (xs : List g.row.T.Denot). IsPermutation (bag c.extend.new.self) (overs by (bag c.args.self.now) xs)) (sym (map_same all.1) ∙ same) all.4, c.in-Ok.ensures.no_less_room), search rules)
+    let extends = subst (λ (xs : List g.row.T.Denot). ExtendsTo by (state_of c.args.self.now) xs (state_of c.extend.new.self)) (sym (map_same all.1) ∙ same) all.4 in
+    let same_room = λ (room : length (bag c.args.self.now) + length c.args.items.items ≤ c.args.self.now.capacity). c.in-Ok.ensures.same_room (λ it gives. omega (arith, room, ap length gives.0)) in
+    (done, (extends, same_room), c.tell.ensures.fits, c.tell.ensures.took)
 
 pub returns-in-Err-clause-step : goal.returns-in-Err-clause-step
 returns-in-Err-clause-step g c =
@@ -30,4 +33,4 @@ returns-in-Err-clause-step g c =
     subst (λ (x : g.row.T.Denot). c.args.items.items ≡ refused.1 ++ x ∷ into_iter_items refused.2) same split in
     let free : clash by (bag c.extend.new.self) c.in-Err.value ≡ [] =
     subst (λ (x : g.row.T.Denot). clash by (bag c.extend.new.self) x ≡ []) same c.in-Err.ensures.free in
-    (memory c.in-Err.value, (refused.1, into_iter_items refused.2, whole, refused.5, free, c.in-Err.ensures.full, c.in-Err.ensures.no_less_room), search rules)
+    (memory c.in-Err.value, (refused.1, into_iter_items refused.2, whole, refused.5, free, c.in-Err.ensures.full), search rules, search rules)

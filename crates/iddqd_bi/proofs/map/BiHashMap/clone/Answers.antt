@@ -5,8 +5,8 @@ use Rattle.iddqd_store.proofs.IndexedLemmas.{IsIndexed-copy}
 use Rattle.iddqd_bi.proofs.MapLemmas.{AreLawful-ranks}
 use Rattle.iddqd_bi.proofs.map.BiHashMap.clone.Goals as goal
 
-pub invariant_of-result : goal.invariant_of-result
-invariant_of-result g c =
+pub invariant_of-copy : goal.invariant_of-copy
+invariant_of-copy g c =
     let hash = hash_of g.S.BuildHasher g.S.Hasher.Hasher c.self.inside.hash_builder in
     let same1 = rw (← c.self.view_is) at c.requires.same_key1 in
     let same2 = rw (← c.self.view_is) at c.requires.same_key2 in

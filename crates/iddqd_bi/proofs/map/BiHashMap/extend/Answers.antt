@@ -3,7 +3,8 @@ use Rattle.std.proofs.iter.Next.{on}
 use Rattle.std.specs.Prelude.{IsPermutation}
 use Rattle.iddqd_store.specs.Bag.{over}
 use Rattle.iddqd_store.specs.Map.{bag}
-use Rattle.iddqd_store.proofs.BagSteps.{overs-step}
+use Rattle.iddqd_store.specs.Step.{state_of}
+use Rattle.iddqd_store.proofs.ExtendLemmas.{ExtendsTo-push}
 use Rattle.iddqd_store.proofs.BuildLemmas.{length-overwritten}
 use Rattle.iddqd_bi.specs.Keys.{ranks}
 use Rattle.iddqd_bi.proofs.map.BiHashMap.extend.Goals as goal
@@ -18,7 +19,7 @@ loop-item-preserved g c =
     record {
       callable = search rules;
       ending = search rules;
-      items = overs-step by (bag c.args.self.now) c.loop-item.yielded (bag c.loop-item.self) (bag c.insert_overwrite.new.self) c.in-Some.item so_far.items in_place;
+      extends = ExtendsTo-push by (state_of c.args.self.now) (state_of c.loop-item.self) (state_of c.insert_overwrite.new.self) c.loop-item.yielded c.in-Some.item so_far.extends in_place put.fits put.no_less_room;
       no_less_room = omega (arith, so_far.no_less_room, put.no_less_room);
       fits = λ fit.
           let before = so_far.fits fit in

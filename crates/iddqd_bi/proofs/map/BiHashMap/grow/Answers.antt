@@ -3,7 +3,7 @@ use Rattle.std.specs.Prelude.{min}
 use Rattle.iddqd_store.specs.Slots.{live_items}
 use Rattle.iddqd_store.proofs.IndexLemmas.{length-live_items, length-index}
 use Rattle.iddqd_store.proofs.IndexedLemmas.{IsIndexed-reorder}
-use Rattle.iddqd_store.proofs.MapLemmas.{MakesRoom-refused, on_err}
+use Rattle.iddqd_store.proofs.MapLemmas.{MakesRoom-refused}
 use Rattle.iddqd_bi.proofs.map.BiHashMap.grow.Goals as goal
 
 same_least : (a b c x y z : ℕ) → x ≡ a → y ≡ b → z ≡ c → min x (min y z) ≡ min a (min b c)
@@ -11,27 +11,17 @@ same_least a b c x y z p q r = rw (p, q, r) refl
 
 pub returns-in_err-try_reserve-clause-room : goal.returns-in_err-try_reserve-clause-room
 returns-in_err-try_reserve-clause-room g c =
-    MakesRoom-refused _ _ (search rules)
-    (rw (← c.self.view_is) (omega (arith, c.in_err-try_reserve.ensures.err, length-live_items c.self.inside.items.slots)))
-    (search rules) (search rules)
-
-pub returns-in_err-try_reserve-clause-still_short : goal.returns-in_err-try_reserve-clause-still_short
-returns-in_err-try_reserve-clause-still_short g c =
     let same = ap (λ s. s.capacity) c.in_err-try_reserve.ensures.unchanged in
-    let short : min c.try_reserve.new.self.capacity (min c.self.inside.first.limit c.self.inside.second.limit) < length (live_items c.self.inside.items.slots) + c.args.more = omega (arith, same, c.in_err-try_reserve.ensures.err, length-live_items c.self.inside.items.slots) in
-    rw (← c.self.view_is) (on_err _ short)
+    MakesRoom-refused _ _ (search rules)
+    (rw (← c.self.view_is) (omega (arith, same, c.in_err-try_reserve.ensures.err, length-live_items c.self.inside.items.slots)))
+    (search rules) (search rules)
 
 pub returns-in_err-try_reserve-2-clause-room : goal.returns-in_err-try_reserve-2-clause-room
 returns-in_err-try_reserve-2-clause-room g c =
-    MakesRoom-refused _ _ (search rules)
-    (rw (← c.self.view_is) (omega (arith, c.in_err-try_reserve-2.ensures.refused, length-index c.self.invariant.indexes.0)))
-    (search rules) (search rules)
-
-pub returns-in_err-try_reserve-2-clause-still_short : goal.returns-in_err-try_reserve-2-clause-still_short
-returns-in_err-try_reserve-2-clause-still_short g c =
     let same = ap (λ t. t.limit) c.in_err-try_reserve-2.ensures.unchanged in
-    let short : min c.try_reserve.new.self.capacity (min c.try_reserve-2.new.self.limit c.self.inside.second.limit) < length (live_items c.self.inside.items.slots) + c.args.more = omega (arith, same, c.in_err-try_reserve-2.ensures.refused, length-index c.self.invariant.indexes.0) in
-    rw (← c.self.view_is) (on_err _ short)
+    MakesRoom-refused _ _ (search rules)
+    (rw (← c.self.view_is) (omega (arith, same, c.in_err-try_reserve-2.ensures.refused, length-index c.self.invariant.indexes.0)))
+    (search rules) (search rules)
 
 pub invariant_of-self-in_err-try_reserve-3 : goal.invariant_of-self-in_err-try_reserve-3
 invariant_of-self-in_err-try_reserve-3 g c =
@@ -39,15 +29,10 @@ invariant_of-self-in_err-try_reserve-3 g c =
 
 pub returns-in_err-try_reserve-3-clause-room : goal.returns-in_err-try_reserve-3-clause-room
 returns-in_err-try_reserve-3-clause-room g c =
-    MakesRoom-refused _ _ (search rules)
-    (rw (← c.self.view_is) (omega (arith, c.in_err-try_reserve-3.ensures.refused, length-index c.self.invariant.indexes.1.0)))
-    (search rules) (search rules)
-
-pub returns-in_err-try_reserve-3-clause-still_short : goal.returns-in_err-try_reserve-3-clause-still_short
-returns-in_err-try_reserve-3-clause-still_short g c =
     let same = ap (λ t. t.limit) c.in_err-try_reserve-3.ensures.unchanged in
-    let short : min c.try_reserve.new.self.capacity (min c.try_reserve-2.new.self.limit c.try_reserve-3.new.self.limit) < length (live_items c.self.inside.items.slots) + c.args.more = omega (arith, same, c.in_err-try_reserve-3.ensures.refused, length-index c.self.invariant.indexes.1.0) in
-    rw (← c.self.view_is) (on_err _ short)
+    MakesRoom-refused _ _ (search rules)
+    (rw (← c.self.view_is) (omega (arith, same, c.in_err-try_reserve-3.ensures.refused, length-index c.self.invariant.indexes.1.0)))
+    (search rules) (search rules)
 
 pub invariant_of-self-2 : goal.invariant_of-self-2
 invariant_of-self-2 g c =
@@ -57,6 +42,7 @@ pub returns-clause-room : goal.returns-clause-room
 returns-clause-room g c = record {
   granted = rw (← c.self.view_is) (omega (arith, c.in_ok-try_reserve.ensures.ok, c.in_ok-try_reserve-2.ensures.granted, c.in_ok-try_reserve-3.ensures.granted, length-index c.self.invariant.indexes.0, length-index c.self.invariant.indexes.1.0, length-live_items c.self.inside.items.slots));
   refused = tt;
+  still_short = tt;
   past = rw (← c.self.view_is) (λ past. c.in_ok-try_reserve-2.ensures.past (omega (arith, length-index c.self.invariant.indexes.0)));
   no_less_room = rw (← c.self.view_is) (omega (arith, c.try_reserve.ensures.capacity, c.try_reserve-2.ensures.limit, c.try_reserve-3.ensures.limit));
   same_room =

@@ -1,5 +1,5 @@
 use Rattle.std.proofs.Common.{arith}
-use Rattle.std.proofs.lemmas.List.Sorted.{IsPermutation-map}
+use Rattle.std.proofs.lemmas.List.Sorted.{IsPermutation-map, length_permutation}
 use Rattle.iddqd_store.proofs.IndexLemmas.{length-live_items, length-index}
 use Rattle.iddqd_store.proofs.IndexedLemmas.{IsIndexed-insert}
 use Rattle.iddqd_bi.proofs.MapLemmas.{AreLawful-ranks}
@@ -29,3 +29,9 @@ invariant_of-self g c =
 
 pub returns-clause-items : goal.returns-clause-items
 returns-clause-items g c = rw (← c.self.view_is) (IsPermutation-map (λ m. m.1) _ _ c.insert_reserved-ix.ensures.members)
+
+pub returns-clause-fits : goal.returns-clause-fits
+returns-clause-fits g c =
+    let room = rw (← c.self.view_is) at c.requires.room in
+    let more = length_permutation _ _ (IsPermutation-map (λ m. m.1) _ _ c.insert_reserved-ix.ensures.members) in
+    omega (arith, more, c.insert_reserved-ix.ensures.capacity, c.insert_reserved.ensures.limit, c.insert_reserved-2.ensures.limit)

@@ -9,7 +9,7 @@ returns-clause-found g c =
 
 pub returns-clause-costs : goal.returns-clause-costs
 returns-clause-costs g c =
-    rw (← c.self.view_is) (costs c.self.invariant _ _ c.args.hash c.find.result _ _ _ _ c.find.ensures.size (omega (arith, c.find.ensures.limit)) (search (rules, lives, c.find.ensures.asked)) c.find.ensures.looks)
+    rw (← c.self.view_is) (costs c.self.invariant _ _ c.args.hash c.find.result _ _ _ _ c.find.ensures.size c.find.ensures.counted (omega (arith, c.find.ensures.limit)) (search (rules, lives, c.find.ensures.asked)) c.find.ensures.looks)
 
 pub returns-clause-hashed : goal.returns-clause-hashed
 returns-clause-hashed g c = rw (← c.self.view_is) (hash_found c.self.invariant c.args.hash c.find.result c.find.ensures.found)

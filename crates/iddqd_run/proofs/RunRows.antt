@@ -1,0 +1,116 @@
+-- Worked rows of runs: what commands on a new map may answer, and print.
+use Rattle.std.proofs.Common.{refl, ap, ℕ, List, [], ◌∷◌, length, Some, None, arith}
+use Rattle.std.specs.Prelude.{codes, IsPermutation}
+use Rattle.std.specs.Fmt.{digits}
+use Rattle.std.proofs.lemmas.List.Sorted.{IsPermutation-refl}
+use Rattle.iddqd_store.specs.Reply.{Reply, done, duplicate, displaced, found, taken, memory, refused, size, items}
+use Rattle.iddqd_store.specs.Step.{State}
+use Rattle.iddqd_bi.specs.declared.command.BiCommand.TheVariants.{InsertUnique, InsertOverwrite, Get2, GetUnique, Remove1, Reserve, Len, Items}
+use Rattle.iddqd_run.specs.Outputs.{Replies, Prints}
+use Rattle.iddqd_run.specs.Printed.{line_of, printed}
+use Rattle.iddqd_run.specs.RunText.{IsOutcome}
+use Rattle.iddqd_run.specs.declared.outcome.Kind.TheVariants.{Bi}
+use Rattle.iddqd_run.specs.declared.outcome.RunEnd.TheVariants.{Done, BadLine}
+use Rattle.iddqd_run.specs.Words.{Command}
+use Rattle.iddqd_run.specs.declared.item.BiItem.{BiItem}
+use Rattle.iddqd_run.proofs.Chain.{FromEmpty, replies_from}
+
+abbrev item : ℕ → ℕ → ℕ → BiItem
+item k1 k2 v = record { key1 = k1; key2 = k2; value = v }
+
+abbrev state : List BiItem → ℕ → State BiItem
+state xs room = record { items = xs; capacity = room }
+
+-- an insert into a removed item's room
+abbrev removing : List Command
+removing = InsertUnique (item 1 10 100) ∷ Remove1 1 ∷ InsertUnique (item 2 20 200) ∷ []
+
+abbrev removing_replies : List (Reply BiItem ℕ)
+removing_replies = done ∷ taken (Some (item 1 10 100)) ∷ done ∷ []
+
+room_after_a_removal : Replies removing removing_replies
+room_after_a_removal = replies_from removing removing_replies (
+  state (item 2 20 200 ∷ []) 1,
+  (state (item 1 10 100 ∷ []) 1, (refl, IsPermutation-refl _, omega arith, λ room. absurd (omega (arith, room))), (omega arith, omega arith),
+    (state [] 1, (refl, IsPermutation-refl _, refl), (omega arith, omega arith),
+      (state (item 2 20 200 ∷ []) 1, (refl, IsPermutation-refl _, omega arith, λ room. refl), (omega arith, omega arith), refl))),
+)
+
+prints_room_after_a_removal : Prints removing (codes "ok\nitem (1 10 100)\nok\n")
+unfolding printed digits
+prints_room_after_a_removal = (removing_replies, room_after_a_removal, refl)
+
+-- overwriting two, then none is found by the key that went
+abbrev a : BiItem
+a = item 1 10 100
+
+abbrev b : BiItem
+b = item 2 20 200
+
+abbrev overwriting : List Command
+overwriting = InsertUnique a ∷ InsertUnique b ∷ GetUnique 1 20 ∷ InsertOverwrite (item 1 20 300) ∷ Get2 10 ∷ Items ∷ []
+
+abbrev overwriting_replies : List (Reply BiItem ℕ)
+overwriting_replies = done ∷ done ∷ found None ∷ displaced (a ∷ b ∷ []) ∷ found None ∷ items (item 1 20 300 ∷ []) ∷ []
+
+overwritten : Replies overwriting overwriting_replies
+overwritten = replies_from overwriting overwriting_replies (
+  state (item 1 20 300 ∷ []) 7,
+  (state (a ∷ []) 7, (refl, IsPermutation-refl _, omega arith, λ room. absurd (omega (arith, room))), (omega arith, omega arith),
+    (state (b ∷ a ∷ []) 7, (refl, IsPermutation-refl _, omega arith, λ room. refl), (omega arith, omega arith),
+      (state (b ∷ a ∷ []) 7, (refl, refl), (omega arith, omega arith),
+        (state (item 1 20 300 ∷ []) 7, (refl, IsPermutation-refl _, omega arith, (λ room. refl), λ some. refl), (omega arith, omega arith),
+          (state (item 1 20 300 ∷ []) 7, (refl, refl), (omega arith, omega arith),
+            (state (item 1 20 300 ∷ []) 7, (IsPermutation-refl _, refl), (omega arith, omega arith), refl)))))),
+)
+
+prints_overwritten : IsOutcome Bi (codes "new 1 10 100\nnew 2 20 200\nboth 1 20\nput 1 20 300\nget2 10\nlist\n") Done (codes "ok\nok\nnone\nout (1 10 100) (2 20 200)\nnone\nlist (1 20 300)\n")
+unfolding printed digits
+prints_overwritten = (overwriting, refl, (overwriting_replies, overwritten, refl))
+
+-- a conflict at both ranks
+abbrev conflicting : List Command
+conflicting = InsertUnique a ∷ InsertUnique b ∷ InsertUnique (item 2 10 5) ∷ Len ∷ []
+
+abbrev conflicting_replies : List (Reply BiItem ℕ)
+conflicting_replies = done ∷ done ∷ duplicate (item 2 10 5) (b ∷ a ∷ []) ∷ size 2 ∷ []
+
+conflicted : Replies conflicting conflicting_replies
+conflicted = replies_from conflicting conflicting_replies (
+  state (b ∷ a ∷ []) 7,
+  (state (a ∷ []) 7, (refl, IsPermutation-refl _, omega arith, λ room. absurd (omega (arith, room))), (omega arith, omega arith),
+    (state (b ∷ a ∷ []) 7, (refl, IsPermutation-refl _, omega arith, λ room. refl), (omega arith, omega arith),
+      (state (b ∷ a ∷ []) 7, (refl, (λ none. omega (arith, ap length none)), refl, refl), (omega arith, omega arith),
+        (state (b ∷ a ∷ []) 7, (refl, refl), (omega arith, omega arith), refl)))),
+)
+
+prints_conflicted : IsOutcome Bi (codes "new 1 10 100\nnew 2 20 200\nnew 2 10 5\nlen\n") Done (codes "ok\nok\ndup (2 20 200) (1 10 100)\nlen 2\n")
+unfolding printed digits
+prints_conflicted = (conflicting, refl, (conflicting_replies, conflicted, refl))
+
+-- more room than memory can count
+abbrev too_many : List Command
+too_many = InsertUnique a ∷ Reserve 18446744073709551615 ∷ Len ∷ []
+
+abbrev too_many_replies : List (Reply BiItem ℕ)
+too_many_replies = done ∷ refused ∷ size 1 ∷ []
+
+not_so_many : Replies too_many too_many_replies
+not_so_many = replies_from too_many too_many_replies (
+  state (a ∷ []) 7,
+  (state (a ∷ []) 7, (refl, IsPermutation-refl _, omega arith, λ room. absurd (omega (arith, room))), (omega arith, omega arith),
+    (state (a ∷ []) 7, (refl, omega arith, omega arith), (omega arith, omega arith),
+      (state (a ∷ []) 7, (refl, refl), (omega arith, omega arith), refl))),
+)
+
+prints_not_so_many : IsOutcome Bi (codes "new 1 10 100\nreserve 18446744073709551615\nlen\n") Done (codes "ok\nmemory\nlen 1\n")
+unfolding printed digits
+prints_not_so_many = (too_many, refl, (too_many_replies, not_so_many, refl))
+
+-- a bad line, and no line
+prints_bad_line : IsOutcome Bi (codes "new 1 10 100\nget3 1\n") (BadLine 2) (codes "line 2: bad command\n")
+unfolding digits
+prints_bad_line = (refl, refl)
+
+prints_nothing : IsOutcome Bi [] Done []
+prints_nothing = ([], refl, ([], replies_from [] [] (state [] 0, refl), refl))
