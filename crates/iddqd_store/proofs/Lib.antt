@@ -1,5 +1,6 @@
 pub mod BagLemmas
 pub mod BagSteps
+pub mod BagTheory
 pub mod BuildLemmas
 pub mod Change
 pub mod CloneLemmas
