@@ -130,9 +130,9 @@ module _ {T : Type 0} where
   pub IsIndex-insert : {hash : T → ℕ} {old new : List (Option T)} {pairs more : List (ℕ × ℕ)} {at h : ℕ} (x : T) → IsIndex hash old pairs → h ≡ hash x → IsPermutation (members new) ((at, x) ∷ members old) → IsPermutation ((h, at) ∷ pairs) more → IsIndex hash new more
   IsIndex-insert {hash = hash} {pairs = pairs} {more = more} {at = at} x index is added paired = record {
     paired =
-      IsPermutation-trans _ _ _ (IsPermutation-sym _ _ (subst (λ k. IsPermutation ((k, at) ∷ pairs) more) is paired))
-      (IsPermutation-trans _ _ _ (IsPermutation-cons (hash x, at) _ _ index.paired)
-      (IsPermutation-sym _ _ (IsPermutation-map (pair_of hash) _ _ added)));
+        IsPermutation-trans _ _ _ (IsPermutation-sym _ _ (subst (λ k. IsPermutation ((k, at) ∷ pairs) more) is paired))
+        (IsPermutation-trans _ _ _ (IsPermutation-cons (hash x, at) _ _ index.paired)
+        (IsPermutation-sym _ _ (IsPermutation-map (pair_of hash) _ _ added)));
   }
 
   -- slot numbers differ
