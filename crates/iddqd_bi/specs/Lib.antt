@@ -2,7 +2,6 @@ pub mod Keys
 pub mod Refused
 pub mod Step
 pub mod Values
-
 -- the words of the store that the map's clauses cite
 pub use Rattle.iddqd_store.specs.Bag
 pub use Rattle.iddqd_store.specs.Building

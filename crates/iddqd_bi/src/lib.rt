@@ -15,5 +15,6 @@ pub use map::{BiHashMap, DefaultHashBuilder};
 
 // What the calls name of the parts that all maps share.
 pub use iddqd_store::{
-    DuplicateItem, Equivalent, IntoIter, Iter, KeyMatcher, MemoryRefused, Meter, TryReserveError, UpToTwo,
+    DuplicateItem, Equivalent, IntoIter, Iter, KeyMatcher, MemoryRefused, Meter, TryReserveError,
+    UpToTwo,
 };

@@ -46,9 +46,10 @@ impl<T: BiHashItem, S: BuildHasher> Model for BiHashMap<T, S> {
     ghost coded = { map_code T.code S.code };
 
     ghost view = { λ m. record {
-        slots = m.items.slots;
-        capacity = min m.items.capacity (min m.first.limit m.second.limit);
-        builder = m.hash_builder } };
+      slots = m.items.slots;
+      capacity = min m.items.capacity (min m.first.limit m.second.limit);
+      builder = m.hash_builder;
+    } };
 
     ghost invariant = { λ m. IsIndexed (ranks T.BiHashItem T.K1.eq T.K2.eq)
         (key_hash T.key1 T.K1.hash_input S.BuildHasher S.Hasher.Hasher m.hash_builder

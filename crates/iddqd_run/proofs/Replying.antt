@@ -1,6 +1,6 @@
 -- A run into a sink of lines prints the lines of its replies.
-use Rattle.std.proofs.Common.{◌≡◌, refl, ap, sym, ◌∙◌, ℕ, List, [], ◌∷◌, ◌++◌, Result, Ok, Err, append_assoc, append-nil, subst}
-use Rattle.std.specs.Prelude.{nat_eq, MatchResult}
+use Rattle.std.proofs.Common.{◌≡◌, refl, ap, sym, ◌∙◌, ℕ, nat_eq, List, [], ◌∷◌, ◌++◌, Result, Ok, Err, append_assoc, append-nil, subst}
+use Rattle.std.specs.Prelude.{MatchResult}
 use Rattle.std.specs.List.{flat_map}
 use Rattle.iddqd_store.specs.Reply.{Reply}
 use Rattle.iddqd_store.specs.Run.{Run, Applies}

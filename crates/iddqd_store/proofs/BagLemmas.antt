@@ -145,9 +145,6 @@ module _ {T : Type 0} where
   pub length-over : (ranks : Ranks T) (bag : List T) (x : T) → length (over ranks bag x) + length (clash ranks bag x) ≡ suc (length bag)
   length-over ranks bag x = omega (arith, length-filter_both (conflicts ranks x) (λ y. not (some_of (like ranks x) y)) (λ _. refl) bag)
 
-  pub length-order : (ranks : Ranks T) (bag : List T) (x : T) → AreLawful ranks → IsSound ranks bag → length (order ranks bag x) ≤ length ranks
-  length-order ranks bag x laws h = length-listing ranks (like ranks x) (AreNames-like ranks x laws) bag h
-
   pub conflicts-symm : (ranks : Ranks T) → AreLawful ranks → (x y : T) → conflicts ranks x y ≡ conflicts ranks y x
   conflicts-symm [] h x y = refl
   conflicts-symm (agree ∷ ranks) h x y = rw (h.0.symm x y, conflicts-symm ranks h.1 x y)
@@ -210,10 +207,6 @@ module _ {T : Type 0} where
   named_is agree test names xs x h e found = only (filter test xs) x (length-named agree test names xs h) (Contains-filter test xs x e found)
 
 module _ {T : Type 0} where
-  pub none_after : (agree : T → T → Bool) (test : T → Bool) → NamesOne agree test → (x : T) (xs : List T) → IsDistinct agree (x ∷ xs) → test x ≡ true → filter test xs ≡ []
-  none_after agree test names x xs h e =
-      none_pass test xs (each_weaker _ _ (λ y apart. NamesOne-apart agree test names x y e apart) xs (IsDistinct-head agree x xs h))
-
   pub all_pass : (p : T → Bool) (xs : List T) → AllByRecursion (λ y. p y ≡ true) xs → filter p xs ≡ xs
   all_pass p [] h = refl
   all_pass p (x ∷ xs) h = rw h.0 (ap (λ l. x ∷ l) (all_pass p xs h.1))

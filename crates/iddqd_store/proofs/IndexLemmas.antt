@@ -1,7 +1,7 @@
 -- What a table that indexes slots finds, and how it stays an index.
 use Rattle.std.specs.Prelude.{◌≡◌, ℕ, zero, suc, ◌+◌, ◌≤◌, ◌<◌, ◌==◌, Bool, true, false, cond, List, [], ◌∷◌, length, map, filter, IsPermutation, Contains, Option, Some, None, is_some, count_by, ◌⊎◌}
 use Rattle.std.specs.List.{IsDistinct, AllByRecursion, sum_by}
-use Rattle.std.specs.Option.{option_map_or, option_to_list, option_and_then, IfSome, IfNone}
+use Rattle.std.specs.Option.{option_map_or, IfSome}
 use Rattle.std.proofs.Common.{refl, sym, ap, subst, ◌∙◌, arith, inl, inr, get_or, set, zero-add, add-zero}
 use Rattle.std.proofs.lemmas.Bool.{false≢true, cases_eq}
 use Rattle.std.proofs.lemmas.List.{get_or-set_other}
@@ -13,7 +13,7 @@ use Rattle.std.proofs.lemmas.List.Sorted.{IsPermutation-refl, IsPermutation-sym,
 use Rattle.iddqd_store.specs.Slots.{get, live_count, members_from, members, live_items}
 use Rattle.iddqd_store.specs.Indexed.{pair_of, IsIndex, HasHash, passes_at}
 use Rattle.iddqd_store.specs.Bag.{NamesOne}
-use Rattle.iddqd_store.proofs.BagLemmas.{each_weaker, named_is, without_named, IsDistinct-nil}
+use Rattle.iddqd_store.proofs.BagLemmas.{each_weaker, without_named, IsDistinct-nil}
 use Rattle.iddqd_store.proofs.Shuffled.{split}
 
 pub Contains-cons : {X : Type 0} (head x : X) (rest : List X) → Contains rest x → Contains (head ∷ rest) x
@@ -101,14 +101,6 @@ module _ {T : Type 0} where
   pub item_at : (slots : List (Option T)) (at : ℕ) (x : T) → get slots at ≡ Some x → Contains (live_items slots) x
   item_at slots at x found = Contains-map (λ m. m.1) (members slots) (at, x) (member_at slots at x found)
 
-  -- an accepted slot has the one item that is named
-  pub found_is : (agree : T → T → Bool) (test : T → Bool) → NamesOne agree test → (slots : List (Option T)) (at : ℕ) → IsDistinct agree (live_items slots) → passes_at test slots at ≡ true → option_to_list (get slots at) ≡ filter test (live_items slots)
-  found_is agree test names slots at apart accepted = by_slot (get slots at) refl accepted
-    where
-      by_slot : (o : Option T) → get slots at ≡ o → option_map_or test o false ≡ true → option_to_list o ≡ filter test (live_items slots)
-      by_slot None is h = absurd (false≢true h)
-      by_slot (Some x) is h = sym (named_is agree test names (live_items slots) x apart h (item_at slots at x is))
-
   pub none_of_map : {X : Type 0} (f : X → T) (test : T → Bool) (xs : List X) → AllByRecursion (λ x. test (f x) ≡ false) xs → filter test (map f xs) ≡ []
   none_of_map f test [] h = refl
   none_of_map f test (x ∷ xs) h = rw h.0 (none_of_map f test xs h.1)
@@ -138,9 +130,9 @@ module _ {T : Type 0} where
   pub IsIndex-insert : {hash : T → ℕ} {old new : List (Option T)} {pairs more : List (ℕ × ℕ)} {at h : ℕ} (x : T) → IsIndex hash old pairs → h ≡ hash x → IsPermutation (members new) ((at, x) ∷ members old) → IsPermutation ((h, at) ∷ pairs) more → IsIndex hash new more
   IsIndex-insert {hash = hash} {pairs = pairs} {more = more} {at = at} x index is added paired = record {
     paired =
-      IsPermutation-trans _ _ _ (IsPermutation-sym _ _ (subst (λ k. IsPermutation ((k, at) ∷ pairs) more) is paired))
-      (IsPermutation-trans _ _ _ (IsPermutation-cons (hash x, at) _ _ index.paired)
-      (IsPermutation-sym _ _ (IsPermutation-map (pair_of hash) _ _ added)));
+        IsPermutation-trans _ _ _ (IsPermutation-sym _ _ (subst (λ k. IsPermutation ((k, at) ∷ pairs) more) is paired))
+        (IsPermutation-trans _ _ _ (IsPermutation-cons (hash x, at) _ _ index.paired)
+        (IsPermutation-sym _ _ (IsPermutation-map (pair_of hash) _ _ added)));
   }
 
   -- slot numbers differ
@@ -193,11 +185,6 @@ module _ {T : Type 0} where
   pub length-index : {hash : T → ℕ} {slots : List (Option T)} {pairs : List (ℕ × ℕ)} → IsIndex hash slots pairs → length pairs ≡ length (live_items slots)
   length-index {hash = hash} {slots = slots} index =
       sym (length_permutation _ _ index.paired) ∙ length-map (pair_of hash) (members slots) ∙ sym (length-map (λ m. m.1) (members slots))
-
-  -- a search gives the slot of the item that is named, if there is one
-  pub search_is : (agree : T → T → Bool) (test : T → Bool) → NamesOne agree test → (hash : T → ℕ) (h : ℕ) (slots : List (Option T)) (pairs : List (ℕ × ℕ)) (r : Option ℕ) → IsDistinct agree (live_items slots) → IsIndex hash slots pairs → ((x : T) → Contains (live_items slots) x → test x ≡ true → hash x ≡ h) → IfSome r (λ at. passes_at test slots at ≡ true) → IfNone r ((at : ℕ) → Contains pairs (h, at) → passes_at test slots at ≡ false) → option_to_list (option_and_then (get slots) r) ≡ filter test (live_items slots)
-  search_is agree test names hash h slots pairs None apart index alike some none = sym (none_is hash test h slots pairs index alike none)
-  search_is agree test names hash h slots pairs (Some at) apart index alike some none = found_is agree test names slots at apart some
 
   -- two slots whose items agree are one
   pub same_slot : (agree : T → T → Bool) (slots : List (Option T)) (a b : ℕ) (x y : T) → IsDistinct agree (live_items slots) → ((x y : T) → agree x y ≡ agree y x) → get slots a ≡ Some x → get slots b ≡ Some y → agree x y ≡ true → a ≡ b

@@ -1,5 +1,6 @@
 pub mod BagLemmas
 pub mod BagSteps
+pub mod BagTheory
 pub mod BuildLemmas
 mod BuildRows
 pub mod Change

@@ -1,6 +1,5 @@
 -- What the maps' invariants share, with any number of ranks.
-use Rattle.std.specs.Prelude.{◌≡◌, ◌+◌, ◌<◌, ◌≤◌, ℕ, Bool, true, false, cond, List, [], ◌∷◌, length, filter, IsPermutation, Option, Result, Ok, Err, OnErr}
-use Rattle.std.specs.List.{AllByRecursion}
+use Rattle.std.specs.Prelude.{◌≡◌, ◌+◌, ◌<◌, ◌≤◌, ℕ, Bool, List, [], ◌∷◌, length, IsPermutation, Option, Result, Ok, Err, OnErr}
 use Rattle.std.specs.Cmp.{IsEquivalence}
 use Rattle.std.proofs.Common.{refl, sym, subst, arith}
 use Rattle.std.proofs.lemmas.Map.Keys.{IsDistinct-cons, IsDistinct-tail}
@@ -9,6 +8,7 @@ use Rattle.iddqd_store.specs.Slots.{members, live_items}
 use Rattle.iddqd_store.specs.Bag.{Ranks, AreLawful, IsSound, conflicts, clash}
 use Rattle.iddqd_store.specs.Map.{Map, bag, Loses, MakesRoom}
 use Rattle.iddqd_store.proofs.BagLemmas.{IsSound-IsPermutation}
+use Rattle.iddqd_store.proofs.BagSteps.{none_passes}
 
 -- keys tell items apart by an equivalence
 pub IsEquivalence-key : {T K : Type 0} (eq : K → K → Bool) (key : T → K) → IsEquivalence eq → IsEquivalence (λ (x y : T). eq (key x) (key y))
@@ -18,14 +18,6 @@ IsEquivalence-key eq key laws = record {
   congr = λ x y z. laws.congr (key x) (key y) (key z);
 }
 
-pub none_from_filter : {T : Type 0} (p : T → Bool) (xs : List T) → filter p xs ≡ [] → AllByRecursion (λ x. p x ≡ false) xs
-none_from_filter p [] h = tt
-none_from_filter p (x ∷ xs) h = by_test (p x) refl h (λ e. none_from_filter p xs e)
-  where
-    by_test : (s : Bool) → p x ≡ s → (cond s (x ∷ filter p xs) (filter p xs)) ≡ [] → (filter p xs ≡ [] → AllByRecursion (λ x. p x ≡ false) xs) → (p x ≡ false) × AllByRecursion (λ x. p x ≡ false) xs
-    by_test true is h f = absurd (cc)
-    by_test false is h f = (is, f h)
-
 module _ {T : Type 0} where
   pub live_items-moves : (old new : List (Option T)) (at : ℕ) (x : T) → IsPermutation (members old) ((at, x) ∷ members new) → IsPermutation (live_items old) (x ∷ live_items new)
   live_items-moves old new at x moved = IsPermutation-map (λ m. m.1) _ _ moved
@@ -34,7 +26,7 @@ module _ {T : Type 0} where
   pub free_sound : (ranks : Ranks T) → AreLawful ranks → (old new : List (Option T)) (at : ℕ) (x : T) → IsSound ranks (live_items old) → clash ranks (live_items old) x ≡ [] → IsPermutation (members new) ((at, x) ∷ members old) → IsSound ranks (live_items new)
   free_sound ranks laws old new at x sound free moved =
       IsSound-IsPermutation ranks laws _ _ (IsPermutation-sym _ _ (IsPermutation-map (λ m. m.1) _ _ moved))
-      (IsDistinct-cons (conflicts ranks) x (live_items old) (none_from_filter (conflicts ranks x) (live_items old) free) sound)
+      (IsDistinct-cons (conflicts ranks) x (live_items old) (none_passes (conflicts ranks x) (live_items old) free) sound)
 
   -- a sound bag without one of its items is sound
   pub sound_without : (ranks : Ranks T) → AreLawful ranks → (old new : List (Option T)) (at : ℕ) (x : T) → IsSound ranks (live_items old) → IsPermutation (members old) ((at, x) ∷ members new) → IsSound ranks (live_items new)

@@ -63,6 +63,7 @@ module _ {T : Type 0} where
             rw (agrees-trans ranks laws x y z first.0 second.0, same.trans x y z first.1 second.1) refl;
       }
 
+  -- the laws of `IsSameBag`, of which no proof cites reflexivity, symmetry and transitivity so far
   pub IsSameBag-refl : (ranks : Ranks T) (eq : T → T → Bool) → AreLawful ranks → IsEquivalence eq → (bag : List T) → IsSameBag ranks eq bag bag
   IsSameBag-refl ranks eq laws same bag = (bag, IsPermutation-refl bag, AllZip-refl (λ x y. same_item ranks eq x y ≡ true) (same_item-refl ranks eq laws same) bag)
 

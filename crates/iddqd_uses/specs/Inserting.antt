@@ -1,7 +1,7 @@
 -- What callers of an insert say.
 use Rattle.std.specs.Prelude.{◌≡◌, ◌≢◌, ◌⊎◌, List, [], ◌∷◌, length, IsPermutation}
-use Rattle.iddqd_store.specs.Bag.{Ranks, clash}
-use Rattle.iddqd_store.specs.Map.{Map, bag}
+use Rattle.iddqd_bi.specs.Bag.{Ranks, clash}
+use Rattle.iddqd_bi.specs.Map.{Map, bag}
 
 -- first a and then b went in
 abbrev pub GainsBoth : {T : Type 0} → List T → T → T → List T → Type 0

@@ -1,11 +1,10 @@
 //! What a caller knows of a map that is built of many items.
 ghost use Rattle.std.specs.Prelude.{◌≡◌, ◌+◌, ◌≤◌, length, IsPermutation, OnOk, IsOk};
-ghost use Rattle.iddqd_store.specs.Bag.{overs};
-ghost use Rattle.iddqd_store.specs.Map.{bag};
+ghost use Rattle.iddqd_bi.specs.Bag.{overs};
+ghost use Rattle.iddqd_bi.specs.Map.{bag};
 ghost use Rattle.iddqd_bi.specs.Keys.{ranks};
 
-use iddqd_bi::{BiHashItem, BiHashMap};
-use iddqd_store::MemoryRefused;
+use iddqd_bi::{BiHashItem, BiHashMap, MemoryRefused};
 use std::hash::{BuildHasher, Hash};
 
 /// Puts the items of a vector in one after another. It is not refused where there is room for all.

@@ -1,7 +1,7 @@
 //! A registry of users, who are known by a number and by a login.
 ghost use Rattle.std.specs.Prelude.{◌≡◌, ◌∷◌, IsPermutation, OnOk, OnErr, IfErr, filter, option_copied};
 ghost use Rattle.std.specs.Option.{option_to_list};
-ghost use Rattle.iddqd_store.specs.Map.{bag};
+ghost use Rattle.iddqd_bi.specs.Map.{bag};
 
 use iddqd_bi::{BiHashItem, BiHashMap, InsertError};
 

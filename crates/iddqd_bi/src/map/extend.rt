@@ -89,9 +89,9 @@ impl<T: BiHashItem + Drop, S: BuildHasher + Default + Drop> BiHashMap<T, S> {
         ensures fits { IfOk result (λ map. length (bag map) ≤ map.capacity) }
         ensures refused { IfErr result (λ e. MatchFromIterError e
             (λ x duplicates. GivesThen I.into_iter_gives I.IntoIter.next_gives iter x
-                (RefusesFor (ranks T.BiHashItem T.K1.eq T.K2.eq) x duplicates))
+            (RefusesFor (ranks T.BiHashItem T.K1.eq T.K2.eq) x duplicates))
             (λ x. GivesThen I.into_iter_gives I.IntoIter.next_gives iter x
-                (HasPlaceFor (ranks T.BiHashItem T.K1.eq T.K2.eq) x))) }
+            (HasPlaceFor (ranks T.BiHashItem T.K1.eq T.K2.eq) x))) }
         ensures builder { IfOk result (λ map. S.is_default map.builder) }
     {
         let mut map = BiHashMap::default(alloc);

@@ -1,9 +1,7 @@
 //! Commands carried out on the map.
-ghost use Rattle.std.specs.Prelude.{◌≡◌, ◌≢◌, [], map, filter};
-ghost use Rattle.std.specs.Option.{option_to_list};
-ghost use Rattle.iddqd_store.specs.Bag.{IsOnly};
+ghost use Rattle.std.specs.Prelude.{◌≡◌};
 ghost use Rattle.iddqd_store.specs.Map.{bag};
-ghost use Rattle.iddqd_store.specs.Reply.{Reply, found, present, duplicate, items};
+ghost use Rattle.iddqd_store.specs.Reply.{found, present, duplicate, items};
 ghost use Rattle.iddqd_store.specs.Step.{Fits, state_of, Gets, InsertsUnique, InsertsOverwrite, Reserves, ShrinksTo, Extends};
 ghost use Rattle.iddqd_store.specs.Run.{Applies, Run};
 ghost use Rattle.iddqd_store.specs.Searched.{items_at};

@@ -26,7 +26,8 @@ impl<T: BiHashItem + Drop, S: BuildHasher> BiHashMap<T, S> {
         let mut second = self.second.fresh(wanted)?;
         self.items.shrink_to(wanted)?;
         self.items.fill::<First, S>(&mut first, &self.hash_builder);
-        self.items.fill::<Second, S>(&mut second, &self.hash_builder);
+        self.items
+            .fill::<Second, S>(&mut second, &self.hash_builder);
         self.first = first;
         self.second = second;
         Ok(())

@@ -38,9 +38,10 @@ impl<'a, T, R: KeyOf<T>, S: BuildHasher> Model for Lookup<'a, T, R, S> {
     ghost coded = { map_code T.code S.code };
 
     ghost view = { λ l. record {
-        slots = l.items.now.slots;
-        capacity = l.table.now.limit;
-        builder = l.hash_builder.now } };
+      slots = l.items.now.slots;
+      capacity = l.table.now.limit;
+      builder = l.hash_builder.now;
+    } };
 
     ghost invariant = { λ l. IsSearchable (agree R.key R.Key.eq)
         (key_hash R.key R.Key.hash_input S.BuildHasher S.Hasher.Hasher l.hash_builder.now)

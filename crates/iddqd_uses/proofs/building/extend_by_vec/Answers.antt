@@ -2,8 +2,8 @@ use Rattle.std.proofs.Common.{List, ◌∙◌, subst}
 use Rattle.std.specs.Prelude.{IsPermutation}
 use Rattle.std.proofs.IntoIterSteps.{All-taken}
 use Rattle.std.proofs.lemmas.Result.{on_ok_weaker}
-use Rattle.iddqd_store.specs.Bag.{overs}
-use Rattle.iddqd_store.specs.Map.{bag}
+use Rattle.iddqd_bi.specs.Bag.{overs}
+use Rattle.iddqd_bi.specs.Map.{bag}
 use Rattle.iddqd_bi.specs.Keys.{ranks}
 use Rattle.iddqd_uses.proofs.building.extend_by_vec.Goals as goal
 

@@ -19,8 +19,8 @@ returns g c =
     let first = listing_found agree1 slots [] (agree1 x) [] c.slot-by1.result (λ y. laws.refl (key1 y)) (λ y z. laws.symm (key1 y) (key1 z)) apart refl (rw c.by_key1.ensures.slots at c.slot-by1.ensures.live) named1 in
     record {
       items = rw (c.push_found-2.ensures, c.push_found.ensures, c.new-found.ensures)
-      (listing_found agree1 slots (agree1 x ∷ []) (agree2 x) _ c.slot-by2.result (λ y. laws.refl (key1 y)) (λ y z. laws.symm (key1 y) (key1 z)) apart first (rw c.by_key2.ensures.slots at c.slot-by2.ensures.live) named2);
+          (listing_found agree1 slots (agree1 x ∷ []) (agree2 x) _ c.slot-by2.result (λ y. laws.refl (key1 y)) (λ y z. laws.symm (key1 y) (key1 z)) apart first (rw c.by_key2.ensures.slots at c.slot-by2.ensures.live) named2);
       live = search rules;
       apart = rw (c.push_found-2.ensures, c.push_found.ensures, c.new-found.ensures)
-      (IsDistinct-with_found _ c.slot-by2.result (IsDistinct-with_found [] c.slot-by1.result (IsDistinct-nil nat_eq)));
+          (IsDistinct-with_found _ c.slot-by2.result (IsDistinct-with_found [] c.slot-by1.result (IsDistinct-nil nat_eq)));
     }

@@ -46,9 +46,9 @@ returns-clause-room g c = record {
   past = rw (← c.self.view_is) (λ past. c.in_ok-try_reserve-2.ensures.past (omega (arith, length-index c.self.invariant.indexes.0)));
   no_less_room = rw (← c.self.view_is) (omega (arith, c.try_reserve.ensures.capacity, c.try_reserve-2.ensures.limit, c.try_reserve-3.ensures.limit));
   same_room =
-    rw (← c.self.view_is) (λ room. same_least _ _ _ _ _ _
-    (c.try_reserve.ensures.had_room (omega (arith, length-live_items c.self.inside.items.slots)))
-    (ap (λ t. t.limit) (c.try_reserve-2.ensures.same (omega (arith, length-index c.self.invariant.indexes.0))))
-    (ap (λ t. t.limit) (c.try_reserve-3.ensures.same (omega (arith, length-index c.self.invariant.indexes.1.0)))));
+      rw (← c.self.view_is) (λ room. same_least _ _ _ _ _ _
+      (c.try_reserve.ensures.had_room (omega (arith, length-live_items c.self.inside.items.slots)))
+      (ap (λ t. t.limit) (c.try_reserve-2.ensures.same (omega (arith, length-index c.self.invariant.indexes.0))))
+      (ap (λ t. t.limit) (c.try_reserve-3.ensures.same (omega (arith, length-index c.self.invariant.indexes.1.0)))));
   same_builder = rw (← c.self.view_is) refl;
 }
