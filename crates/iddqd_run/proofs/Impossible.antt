@@ -1,15 +1,17 @@
 -- What the definition of a run does not allow.
-use Rattle.std.proofs.Common.{◌≡◌, refl, sym, ap, ◌∙◌, subst, ℕ, ◌+◌, List, [], ◌∷◌, length, Some, None, arith, get_or}
+use Rattle.std.proofs.Common.{◌≡◌, refl, sym, ap, ◌∙◌, subst, ℕ, ◌+◌, length, List, [], ◌∷◌, Some, None, arith, get_or}
 use Rattle.std.specs.Prelude.{codes, map, Option, is_none, IsPermutation}
 use Rattle.std.specs.Fmt.{digits}
 use Rattle.std.specs.List.{flat_map, position_from}
 use Rattle.std.proofs.lemmas.List.{nil_from_length}
 use Rattle.std.proofs.lemmas.List.Sorted.{IsPermutation-sym, IsPermutation-trans, length_permutation}
-use Rattle.iddqd_store.proofs.BagLemmas.{same_from_short}
-use Rattle.iddqd_store.specs.Reply.{Reply, done, duplicate, taken, memory, refused}
-use Rattle.iddqd_bi.specs.declared.command.BiCommand.TheVariants.{InsertUnique, Remove1, Reserve}
+use Rattle.iddqd_store.proofs.BagLemmas.{same_from_short, length-over}
+use Rattle.iddqd_store.proofs.BagSteps.{length-clash}
+use Rattle.iddqd_bi.specs.Keys.{ranks}
+use Rattle.iddqd_store.specs.Reply.{Reply, done, duplicate, displaced, taken, memory, refused}
+use Rattle.iddqd_bi.specs.declared.command.BiCommand.TheVariants.{InsertUnique, InsertOverwrite, Remove1, Reserve}
 use Rattle.iddqd_run.specs.Commands.{Spells, first_bad_line}
-use Rattle.iddqd_run.specs.Outputs.{Replies, Prints}
+use Rattle.iddqd_run.specs.Outputs.{Replies, Prints, item_keys, numbers}
 use Rattle.iddqd_run.specs.Printed.{line_of, printed}
 use Rattle.iddqd_run.specs.Words.{Command}
 use Rattle.iddqd_run.specs.declared.item.BiItem.{BiItem}
@@ -54,6 +56,36 @@ no_room_past_memory run =
     let one = (from_empty (reserving 18446744073709551615) (done ∷ done ∷ []) run).1 in
     let two = one.3 in
     omega (arith, two.1.1, two.2.1)
+
+abbrev over_both : BiItem
+over_both = record { key1 = 1; key2 = 20; value = 300 }
+
+abbrev third : BiItem
+third = record { key1 = 3; key2 = 30; value = 0 }
+
+abbrev overwriting : List Command
+overwriting = InsertUnique first ∷ InsertUnique second ∷ InsertOverwrite over_both ∷ InsertUnique third ∷ []
+
+-- `new 1 10 100`, `new 2 20 200`, `put 1 20 300`, `new 3 30 0` do not end with `memory`: what displaces two leaves room
+pub no_memory_after_displacing_two : Replies overwriting (done ∷ done ∷ displaced (first ∷ second ∷ []) ∷ memory third ∷ []) → ⊥
+no_memory_after_displacing_two run =
+    let one = (from_empty overwriting (done ∷ done ∷ displaced (first ∷ second ∷ []) ∷ memory third ∷ []) run).1 in
+    let two = one.3 in
+    let three = two.3 in
+    let four = three.3 in
+    let by = ranks item_keys numbers numbers in
+    omega (
+      arith,
+      length_permutation _ _ one.1.1,
+      length_permutation _ _ two.1.1,
+      length_permutation _ _ three.1.1,
+      two.2.0,
+      three.1.2,
+      four.1.2,
+      ap length three.1.0,
+      length-clash by two.0.items over_both,
+      length-over by two.0.items over_both,
+    )
 
 -- The same of what is printed. Lines are told apart by their first bytes.
 abbrev at : ℕ → List ℕ → ℕ

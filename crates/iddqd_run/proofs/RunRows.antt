@@ -1,19 +1,19 @@
 -- Worked rows of runs: what commands on a new map may answer, and print.
 use Rattle.std.proofs.Common.{refl, ap, ℕ, List, [], ◌∷◌, length, Some, None, arith}
-use Rattle.std.specs.Prelude.{codes, IsPermutation}
+use Rattle.std.specs.Prelude.{codes}
 use Rattle.std.specs.Fmt.{digits}
 use Rattle.std.proofs.lemmas.List.Sorted.{IsPermutation-refl}
-use Rattle.iddqd_store.specs.Reply.{Reply, done, duplicate, displaced, found, taken, memory, refused, size, items}
+use Rattle.iddqd_store.specs.Reply.{Reply, done, duplicate, displaced, found, taken, refused, size, items}
 use Rattle.iddqd_store.specs.Step.{State}
 use Rattle.iddqd_bi.specs.declared.command.BiCommand.TheVariants.{InsertUnique, InsertOverwrite, Get2, GetUnique, Remove1, Reserve, Len, Items}
 use Rattle.iddqd_run.specs.Outputs.{Replies, Prints}
-use Rattle.iddqd_run.specs.Printed.{line_of, printed}
+use Rattle.iddqd_run.specs.Printed.{printed}
 use Rattle.iddqd_run.specs.RunText.{IsOutcome}
 use Rattle.iddqd_run.specs.declared.outcome.Kind.TheVariants.{Bi}
 use Rattle.iddqd_run.specs.declared.outcome.RunEnd.TheVariants.{Done, BadLine}
 use Rattle.iddqd_run.specs.Words.{Command}
 use Rattle.iddqd_run.specs.declared.item.BiItem.{BiItem}
-use Rattle.iddqd_run.proofs.Chain.{FromEmpty, replies_from}
+use Rattle.iddqd_run.proofs.Chain.{replies_from}
 
 abbrev item : ℕ → ℕ → ℕ → BiItem
 item k1 k2 v = record { key1 = k1; key2 = k2; value = v }
@@ -31,9 +31,17 @@ removing_replies = done ∷ taken (Some (item 1 10 100)) ∷ done ∷ []
 room_after_a_removal : Replies removing removing_replies
 room_after_a_removal = replies_from removing removing_replies (
   state (item 2 20 200 ∷ []) 1,
-  (state (item 1 10 100 ∷ []) 1, (refl, IsPermutation-refl _, omega arith, λ room. absurd (omega (arith, room))), (omega arith, omega arith),
-    (state [] 1, (refl, IsPermutation-refl _, refl), (omega arith, omega arith),
-      (state (item 2 20 200 ∷ []) 1, (refl, IsPermutation-refl _, omega arith, λ room. refl), (omega arith, omega arith), refl))),
+  (
+    state (item 1 10 100 ∷ []) 1,
+    (refl, IsPermutation-refl _, omega arith, λ room. absurd (omega (arith, room))),
+    (omega arith, omega arith),
+    (
+      state [] 1,
+      (refl, IsPermutation-refl _, refl),
+      (omega arith, omega arith),
+      (state (item 2 20 200 ∷ []) 1, (refl, IsPermutation-refl _, omega arith, λ room. refl), (omega arith, omega arith), refl),
+    ),
+  ),
 )
 
 prints_room_after_a_removal : Prints removing (codes "ok\nitem (1 10 100)\nok\n")
@@ -56,12 +64,32 @@ overwriting_replies = done ∷ done ∷ found None ∷ displaced (a ∷ b ∷ []
 overwritten : Replies overwriting overwriting_replies
 overwritten = replies_from overwriting overwriting_replies (
   state (item 1 20 300 ∷ []) 7,
-  (state (a ∷ []) 7, (refl, IsPermutation-refl _, omega arith, λ room. absurd (omega (arith, room))), (omega arith, omega arith),
-    (state (b ∷ a ∷ []) 7, (refl, IsPermutation-refl _, omega arith, λ room. refl), (omega arith, omega arith),
-      (state (b ∷ a ∷ []) 7, (refl, refl), (omega arith, omega arith),
-        (state (item 1 20 300 ∷ []) 7, (refl, IsPermutation-refl _, omega arith, (λ room. refl), λ some. refl), (omega arith, omega arith),
-          (state (item 1 20 300 ∷ []) 7, (refl, refl), (omega arith, omega arith),
-            (state (item 1 20 300 ∷ []) 7, (IsPermutation-refl _, refl), (omega arith, omega arith), refl)))))),
+  (
+    state (a ∷ []) 7,
+    (refl, IsPermutation-refl _, omega arith, λ room. absurd (omega (arith, room))),
+    (omega arith, omega arith),
+    (
+      state (b ∷ a ∷ []) 7,
+      (refl, IsPermutation-refl _, omega arith, λ room. refl),
+      (omega arith, omega arith),
+      (
+        state (b ∷ a ∷ []) 7,
+        (refl, refl),
+        (omega arith, omega arith),
+        (
+          state (item 1 20 300 ∷ []) 7,
+          (refl, IsPermutation-refl _, omega arith, (λ room. refl), λ some. refl),
+          (omega arith, omega arith),
+          (
+            state (item 1 20 300 ∷ []) 7,
+            (refl, refl),
+            (omega arith, omega arith),
+            (state (item 1 20 300 ∷ []) 7, (IsPermutation-refl _, refl), (omega arith, omega arith), refl),
+          ),
+        ),
+      ),
+    ),
+  ),
 )
 
 prints_overwritten : IsOutcome Bi (codes "new 1 10 100\nnew 2 20 200\nboth 1 20\nput 1 20 300\nget2 10\nlist\n") Done (codes "ok\nok\nnone\nout (1 10 100) (2 20 200)\nnone\nlist (1 20 300)\n")
@@ -78,10 +106,22 @@ conflicting_replies = done ∷ done ∷ duplicate (item 2 10 5) (b ∷ a ∷ [])
 conflicted : Replies conflicting conflicting_replies
 conflicted = replies_from conflicting conflicting_replies (
   state (b ∷ a ∷ []) 7,
-  (state (a ∷ []) 7, (refl, IsPermutation-refl _, omega arith, λ room. absurd (omega (arith, room))), (omega arith, omega arith),
-    (state (b ∷ a ∷ []) 7, (refl, IsPermutation-refl _, omega arith, λ room. refl), (omega arith, omega arith),
-      (state (b ∷ a ∷ []) 7, (refl, (λ none. omega (arith, ap length none)), refl, refl), (omega arith, omega arith),
-        (state (b ∷ a ∷ []) 7, (refl, refl), (omega arith, omega arith), refl)))),
+  (
+    state (a ∷ []) 7,
+    (refl, IsPermutation-refl _, omega arith, λ room. absurd (omega (arith, room))),
+    (omega arith, omega arith),
+    (
+      state (b ∷ a ∷ []) 7,
+      (refl, IsPermutation-refl _, omega arith, λ room. refl),
+      (omega arith, omega arith),
+      (
+        state (b ∷ a ∷ []) 7,
+        (refl, (λ none. omega (arith, ap length none)), refl, refl),
+        (omega arith, omega arith),
+        (state (b ∷ a ∷ []) 7, (refl, refl), (omega arith, omega arith), refl),
+      ),
+    ),
+  ),
 )
 
 prints_conflicted : IsOutcome Bi (codes "new 1 10 100\nnew 2 20 200\nnew 2 10 5\nlen\n") Done (codes "ok\nok\ndup (2 20 200) (1 10 100)\nlen 2\n")
@@ -98,9 +138,17 @@ too_many_replies = done ∷ refused ∷ size 1 ∷ []
 not_so_many : Replies too_many too_many_replies
 not_so_many = replies_from too_many too_many_replies (
   state (a ∷ []) 7,
-  (state (a ∷ []) 7, (refl, IsPermutation-refl _, omega arith, λ room. absurd (omega (arith, room))), (omega arith, omega arith),
-    (state (a ∷ []) 7, (refl, omega arith, omega arith), (omega arith, omega arith),
-      (state (a ∷ []) 7, (refl, refl), (omega arith, omega arith), refl))),
+  (
+    state (a ∷ []) 7,
+    (refl, IsPermutation-refl _, omega arith, λ room. absurd (omega (arith, room))),
+    (omega arith, omega arith),
+    (
+      state (a ∷ []) 7,
+      (refl, omega arith, omega arith),
+      (omega arith, omega arith),
+      (state (a ∷ []) 7, (refl, refl), (omega arith, omega arith), refl),
+    ),
+  ),
 )
 
 prints_not_so_many : IsOutcome Bi (codes "new 1 10 100\nreserve 18446744073709551615\nlen\n") Done (codes "ok\nmemory\nlen 1\n")

@@ -1,5 +1,5 @@
 -- What an iterator over a `Vec` by value gives, and how a bag is extended along a list.
-use Rattle.std.proofs.Common.{◌≡◌, ◌≤◌, ◌<◌, refl, sym, ap, subst, ◌∙◌, ⊎_elim, arith, ℕ, List, [], ◌∷◌, ◌++◌, length, take, map, Option, Some, length-append}
+use Rattle.std.proofs.Common.{◌≡◌, ◌≤◌, ◌<◌, refl, sym, ap, subst, ◌∙◌, ⊎_elim, arith, List, [], ◌∷◌, ◌++◌, length, map, Option, Some, length-append}
 use Rattle.std.specs.Prelude.{IsPermutation}
 use Rattle.std.specs.Iterator.{Yields, YieldsThen}
 use Rattle.std.proofs.lemmas.Bool.{cases_lt}

@@ -1,11 +1,11 @@
 -- A step leaves a sound bag sound, and a run keeps what each step keeps.
-use Rattle.std.proofs.Common.{◌≡◌, sym, ap, subst, List, [], ◌∷◌, Option, Some, None, Result, Ok, Err}
+use Rattle.std.proofs.Common.{◌≡◌, sym, subst, List, [], ◌∷◌, Some, None, Result, Ok, Err}
 use Rattle.std.specs.Prelude.{ℕ, Bool, IsPermutation, MatchResult}
 use Rattle.std.proofs.lemmas.List.Sorted.{IsPermutation-sym}
 use Rattle.std.proofs.lemmas.Map.Keys.{IsDistinct-tail}
 use Rattle.iddqd_store.specs.Bag.{Ranks, AreLawful, IsSound, conflicts, over, overs}
 use Rattle.iddqd_store.specs.Reply.{Reply, done, duplicate, displaced, found, present, taken, memory, refused, size, items}
-use Rattle.iddqd_store.specs.Run.{Run, Applies}
+use Rattle.iddqd_store.specs.Run.{Run}
 use Rattle.iddqd_store.specs.Step.{State, Fits, InsertsUnique, InsertsOverwrite, Gets, Tells, Removes, Reserves, ShrinksTo, Clears, Sizes, Lists, Extends}
 use Rattle.iddqd_store.proofs.BagLemmas.{IsSound-over, IsSound-IsPermutation}
 use Rattle.iddqd_store.proofs.BagSteps.{IsSound-nil, IsSound-cons, IsSound-overs, order-empty}

@@ -1,11 +1,11 @@
 -- Worked rows of the steps: what each may answer, and outcomes that it may not have.
-use Rattle.std.specs.Prelude.{◌≡◌, ◌≢◌, ℕ, ◌+◌, ◌<◌, ◌≤◌, ◌==◌, zero, suc, Bool, true, false, List, [], ◌∷◌, ◌++◌, length, Option, Some, None, IsPermutation}
+use Rattle.std.specs.Prelude.{◌≡◌, ℕ, ◌==◌, zero, suc, true, false, List, [], ◌∷◌, ◌++◌, length, Some, None}
 use Rattle.std.proofs.Common.{refl, ap, arith, get_or}
 use Rattle.std.proofs.lemmas.List.Sorted.{IsPermutation-refl, length_permutation}
 use Rattle.iddqd_store.proofs.Shuffled.{IsPermutation-flip}
 use Rattle.iddqd_store.proofs.Rows.{Item, pairs, m2}
-use Rattle.iddqd_store.specs.Reply.{Reply, done, duplicate, displaced, found, present, taken, memory, refused, size, items}
-use Rattle.iddqd_store.specs.Step.{State, Fits, FitsOnTheWay, ExtendsTo, empty_state, InsertsUnique, InsertsOverwrite, Gets, Tells, Removes, Reserves, ShrinksTo, Clears, Sizes, Lists, Extends}
+use Rattle.iddqd_store.specs.Reply.{done, duplicate, displaced, found, present, taken, memory, refused, size, items}
+use Rattle.iddqd_store.specs.Step.{State, Fits, FitsOnTheWay, empty_state, InsertsUnique, InsertsOverwrite, Gets, Tells, Removes, Reserves, ShrinksTo, Clears, Sizes, Lists, Extends}
 
 -- these items, where so many fit
 abbrev state : List Item → ℕ → State Item
