@@ -1,5 +1,5 @@
 -- Each run from a sound bag ends in a sound bag.
-use Rattle.std.proofs.Common.{List, Result}
+use Rattle.std.proofs.Common.{Bool, List, Result}
 use Rattle.iddqd_store.specs.Bag.{AreLawful, IsSound}
 use Rattle.iddqd_store.specs.Reply.{Reply}
 use Rattle.iddqd_store.specs.Run.{Run}

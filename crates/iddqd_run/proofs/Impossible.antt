@@ -1,6 +1,6 @@
 -- What the definition of a run does not allow.
 use Rattle.std.proofs.Common.{◌≡◌, refl, sym, ap, ◌∙◌, subst, ℕ, ◌+◌, length, List, [], ◌∷◌, Some, None, arith, get_or}
-use Rattle.std.specs.Prelude.{codes, map, Option, is_none, IsPermutation}
+use Rattle.std.specs.Prelude.{nat_eq, codes, map, Option, is_none, IsPermutation}
 use Rattle.std.specs.Fmt.{digits}
 use Rattle.std.specs.List.{flat_map, position_from}
 use Rattle.std.proofs.lemmas.List.{nil_from_length}
@@ -11,7 +11,7 @@ use Rattle.iddqd_bi.specs.Keys.{ranks}
 use Rattle.iddqd_store.specs.Reply.{Reply, done, duplicate, displaced, taken, memory, refused}
 use Rattle.iddqd_bi.specs.declared.command.BiCommand.TheVariants.{InsertUnique, InsertOverwrite, Remove1, Reserve}
 use Rattle.iddqd_run.specs.Commands.{Spells, first_bad_line}
-use Rattle.iddqd_run.specs.Outputs.{Replies, Prints, item_keys, numbers}
+use Rattle.iddqd_run.specs.Outputs.{Replies, Prints, item_keys}
 use Rattle.iddqd_run.specs.Printed.{line_of, printed}
 use Rattle.iddqd_run.specs.Words.{Command}
 use Rattle.iddqd_run.specs.declared.item.BiItem.{BiItem}
@@ -73,7 +73,7 @@ no_memory_after_displacing_two run =
     let two = one.3 in
     let three = two.3 in
     let four = three.3 in
-    let by = ranks item_keys numbers numbers in
+    let by = ranks item_keys nat_eq nat_eq in
     omega (
       arith,
       length_permutation _ _ one.1.1,
