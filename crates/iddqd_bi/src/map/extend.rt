@@ -63,7 +63,8 @@ impl<T: BiHashItem + Drop, S: BuildHasher + Default + Drop> BiHashMap<T, S> {
         ensures all { IfOk result (λ map. GivesAll I.into_iter_gives I.IntoIter.next_gives iter (λ xs.
             IsPermutation (bag map) (overs (ranks T.BiHashItem T.K1.eq T.K2.eq) [] xs))) }
         ensures refused { IfErr result (λ e. GivesThen I.into_iter_gives I.IntoIter.next_gives iter e.value (λ xs.
-            clash (ranks T.BiHashItem T.K1.eq T.K2.eq) (overs (ranks T.BiHashItem T.K1.eq T.K2.eq) [] xs) e.value ≡ [])) }
+            clash (ranks T.BiHashItem T.K1.eq T.K2.eq)
+            (overs (ranks T.BiHashItem T.K1.eq T.K2.eq) [] xs) e.value ≡ [])) }
         ensures builder { IfOk result (λ map. S.is_default map.builder) }
     {
         let mut map = BiHashMap::default(alloc);
