@@ -1,7 +1,6 @@
 pub mod Keys
 pub mod Refused
 pub mod Step
-pub mod Values
 -- the words of the store that the map's clauses cite
 pub use Rattle.iddqd_store.specs.Bag
 pub use Rattle.iddqd_store.specs.Building
@@ -12,3 +11,4 @@ pub use Rattle.iddqd_store.specs.Run
 pub use Rattle.iddqd_store.specs.Searched
 pub use Rattle.iddqd_store.specs.Step as Steps
 pub use Rattle.iddqd_store.specs.Table
+pub use Rattle.iddqd_store.specs.Values

@@ -1,10 +1,10 @@
 //! Commands on a map, as values, and what takes their replies.
 ghost use Rattle.std.specs.Prelude.{Result};
 ghost use Rattle.iddqd_store.specs.Reply.{Reply};
-ghost use Rattle.iddqd_bi.specs.Values.{value_of};
+ghost use Rattle.iddqd_store.specs.Values.{value_of};
 
 use crate::item::BiHashItemMut;
-use iddqd_store::{DuplicateItem, Iter, UpToTwo};
+use iddqd_store::{MapReply, UpToTwo};
 
 /// A call of the map, as a value.
 #[derive(Drop)]
@@ -48,29 +48,7 @@ pub enum BiCommand<T: BiHashItemMut> {
 }
 
 /// What a command answers. It may lend items of the map.
-#[derive(Drop)]
-pub enum BiReply<'m, T: BiHashItemMut> {
-    /// The command was carried out.
-    Done,
-    /// The item was refused since these items of the map conflict with it, in the order of the keys.
-    Duplicate(DuplicateItem<T, UpToTwo<&'m T>>),
-    /// The item went in for these, which had its keys, in the order of the keys.
-    Displaced(UpToTwo<T>),
-    /// The item that was looked up, if there is one.
-    Found(Option<&'m T>),
-    /// Whether there is such an item.
-    Present(bool),
-    /// The item that was taken out, if there was one.
-    Taken(Option<T>),
-    /// The item was refused for want of memory.
-    Memory(T),
-    /// The command was refused for want of memory.
-    Refused,
-    /// How many items there are.
-    Length(usize),
-    /// The items, each once, in no promised order.
-    Items(Iter<'m, T>),
-}
+pub type BiReply<'m, T> = MapReply<'m, T, UpToTwo<&'m T>, UpToTwo<T>>;
 
 /// What takes the replies of a run, one by one.
 pub trait BiSink<T: BiHashItemMut> {

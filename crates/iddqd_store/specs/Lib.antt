@@ -16,4 +16,5 @@ pub mod SlotChain
 pub mod Slots
 pub mod Step
 pub mod Table
+pub mod Values
 pub mod Walked

@@ -11,6 +11,7 @@ mod key_matcher;
 mod matcher;
 mod meter;
 mod rank;
+mod reply;
 mod up_to_three;
 mod up_to_two;
 
@@ -23,5 +24,6 @@ pub use key_matcher::KeyMatcher;
 pub use matcher::Matcher;
 pub use meter::Meter;
 pub use rank::{ByQuery, KeyOf, Lookup};
+pub use reply::MapReply;
 pub use up_to_three::UpToThree;
 pub use up_to_two::UpToTwo;

@@ -66,7 +66,8 @@ impl<T: BiHashItem + Drop, S: BuildHasher + Default + Drop> BiHashMap<T, S> {
         ensures all { IfOk result (λ map. GivesAll I.into_iter_gives I.IntoIter.next_gives iter (λ xs.
             ExtendsTo (ranks T.BiHashItem T.K1.eq T.K2.eq) empty_state xs (state_of map))) }
         ensures refused { IfErr result (λ e. GivesThen I.into_iter_gives I.IntoIter.next_gives iter e.value (λ xs.
-            clash (ranks T.BiHashItem T.K1.eq T.K2.eq) (overs (ranks T.BiHashItem T.K1.eq T.K2.eq) [] xs) e.value ≡ [])) }
+            clash (ranks T.BiHashItem T.K1.eq T.K2.eq)
+            (overs (ranks T.BiHashItem T.K1.eq T.K2.eq) [] xs) e.value ≡ [])) }
         ensures builder { IfOk result (λ map. S.is_default map.builder) }
     {
         let mut map = BiHashMap::default(alloc);

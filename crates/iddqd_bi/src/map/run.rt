@@ -7,7 +7,7 @@ ghost use Rattle.iddqd_store.specs.Run.{Applies, Run};
 ghost use Rattle.iddqd_store.specs.Searched.{items_at};
 ghost use Rattle.iddqd_bi.specs.Keys.{ranks, has1, has2, has_both};
 ghost use Rattle.iddqd_bi.specs.Step.{Step};
-ghost use Rattle.iddqd_bi.specs.Values.{value_of};
+ghost use Rattle.iddqd_store.specs.Values.{value_of};
 
 use super::BiHashMap;
 use super::slots::Refusal;

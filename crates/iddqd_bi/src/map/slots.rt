@@ -230,8 +230,8 @@ impl<T: BiHashItem, S: BuildHasher> BiHashMap<T, S> {
         Ok(())
     }
 
-    /// Puts an item in where none conflicts with it, and answers its slot. Where some do, it is refused with their slots,
-    /// and where the map is full and cannot grow, for memory.
+    /// Puts an item in where none conflicts with it, and answers its slot. It is refused with the slots of those that
+    /// do, or, where the map is full and cannot grow, for memory.
     pub(crate) fn try_insert(&mut self, item: T) -> Result<ItemIndex, Refusal<T>>
         ensures gains { OnOk result (Gains self.old item self.new) }
         ensures at { IfOk result (λ ix. get self.new.slots ix ≡ Some item) }

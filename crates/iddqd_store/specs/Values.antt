@@ -1,10 +1,11 @@
 -- The value of a reply.
-use Rattle.std.specs.Prelude.{map, option_copied}
+use Rattle.std.specs.Prelude.{List, map, option_copied}
+use Rattle.std.specs.Borrow.{Bor}
 use Rattle.iddqd_store.specs.Reply.{Reply, done, duplicate, displaced, found, present, taken, memory, refused, size, items}
-use Rattle.iddqd_bi.specs.declared.command.BiReply.{BiReply}
-use Rattle.iddqd_bi.specs.declared.command.BiReply.TheVariants.{Done, Duplicate, Displaced, Found, Present, Taken, Memory, Refused, Length, Items}
+use Rattle.iddqd_store.specs.declared.reply.MapReply.{MapReply}
+use Rattle.iddqd_store.specs.declared.reply.MapReply.TheVariants.{Done, Duplicate, Displaced, Found, Present, Taken, Memory, Refused, Length, Items}
 
-abbrev pub value_of : {T D K1 K2 : Type 0} → BiReply T D K1 K2 → Reply T D
+abbrev pub value_of : {T D : Type 0} → MapReply T (List (Bor T)) (List T) → Reply T D
 value_of Done = done
 value_of (Duplicate d) = duplicate d.new_item (map (λ b. b.now) d.duplicates)
 value_of (Displaced ys) = displaced ys
