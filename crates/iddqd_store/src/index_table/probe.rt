@@ -1,5 +1,5 @@
 //! Ways in a table: from the home of a hash on, from cell to cell and round.
-ghost use Rattle.std.specs.Prelude.{◌≡◌, ◌≢◌, ℕ, ◌+◌, ◌-◌, ◌*◌, ◌/◌, ◌%◌, ◌^◌, ◌∷◌, ◌<◌, ◌≤◌, if◌then◌else◌, nat_lt, None, Some, true, length, IfSome, IsNone, ◌↔◌, Contains};
+ghost use Rattle.std.specs.Prelude.{◌≡◌, ◌≢◌, ℕ, ◌+◌, ◌-◌, ◌*◌, ◌/◌, ◌%◌, ◌^◌, ◌∷◌, ◌<◌, ◌≤◌, if◌then◌else◌, nat_lt, None, Some, length, IfSome, IsNone, ◌↔◌, Contains};
 ghost use Rattle.std.specs.List.Sorted.{IsPermutation};
 ghost use Rattle.iddqd_store.specs.Ring.{cell, gap, held, stretch};
 ghost use Rattle.iddqd_store.specs.Limit.{IsLeast, IsSize};
@@ -70,16 +70,6 @@ pub(super) fn steps(from: usize, to: usize, count: usize) -> usize
     to.wrapping_sub(from) & (count - 1)
 }
 
-// Whether a cell has this pair. The hash comes first, since it mostly tells pairs apart.
-fn has_pair(cell: Option<(u64, ItemIndex)>, hash: u64, index: ItemIndex) -> bool
-    ensures { (result ≡ true) ↔ (cell ≡ Some (hash, index)) }
-{
-    match cell {
-        Some((stored, ix)) => stored == hash && ix == index,
-        None => false,
-    }
-}
-
 // The cell of a pair that is there.
 pub(super) fn seek(cells: &Cells, hash: u64, index: ItemIndex, meter: &mut Meter) -> usize
     requires table { IsTable cells.now }
@@ -90,7 +80,7 @@ pub(super) fn seek(cells: &Cells, hash: u64, index: ItemIndex, meter: &mut Meter
 {
     let count = cells.len();
     let mut at = home_of(hash, count);
-    while !has_pair(cells.cell_at(at, meter), hash, index) {
+    while cells.cell_at(at, meter) != Some((hash, index)) {
         at = after(at, count);
     }
     at

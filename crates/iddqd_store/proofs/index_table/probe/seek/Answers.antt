@@ -1,6 +1,6 @@
-use Rattle.std.proofs.Common.{arith, ℕ, ◌≡◌, ◌+◌, ◌-◌, ◌%◌, length, ◌∙◌, None, Some}
-use Rattle.std.specs.Prelude.{◌≢◌, nat_lt, if◌then◌else◌}
-use Rattle.std.proofs.lemmas.Bool.{both_ways}
+use Rattle.std.proofs.Common.{arith, ℕ, ◌≡◌, ◌+◌, ◌-◌, ◌%◌, length, ◌∙◌, None, Some, refl, eqb, false, not}
+use Rattle.std.specs.Prelude.{◌≢◌, ◌&&◌, nat_lt, if◌then◌else◌}
+use Rattle.std.proofs.lemmas.Bool.{eq-eqb, both_ways}
 use Rattle.iddqd_store.specs.Ring.{cell}
 use Rattle.iddqd_store.proofs.Walk.{walk_more, unmet_more, seek_on}
 use Rattle.iddqd_store.proofs.index_table.probe.seek.Goals as goal
@@ -18,7 +18,9 @@ loop-index-preserved c =
     let e : c.after-at.result ≡ (if nat_lt (c.loop-index.at + 1) (length row) then c.loop-index.at + 1 else 0) = rw c.len-count.ensures at c.after-at.ensures in
     let other : cell row c.loop-index.at ≢ Some x = λ z.
     let y : c.cell_at.result ≡ Some x = c.cell_at.ensures.value ∙ z in
-    both_ways c.has_pair.result c.loop-index-test.true (c.has_pair.ensures.1 y) in
+    let p : c.ne.result ≡ not (eqb c.args.hash c.args.hash && eqb c.args.index c.args.index) = rw y at c.ne.ensures in
+    let q : c.ne.result ≡ false = rw (eq-eqb c.args.hash c.args.hash refl, eq-eqb c.args.index c.args.index refl) at p in
+    both_ways c.ne.result q c.loop-index-test.true in
     record {
       looked = omega (arith, i.looked, c.cell_at.ensures.look);
       walk = walk_more row home c.loop-index.at s c.requires.table (omega arith) i.walk some c.after-at.result t e more;
