@@ -34,3 +34,4 @@ pub mod Walk
 pub mod Walked
 pub mod Walks
 pub mod Within
+pub mod CallerLemmas
