@@ -40,3 +40,4 @@ pub mod Walk
 pub mod Walked
 pub mod Walks
 pub mod Within
+pub mod CallerLemmas

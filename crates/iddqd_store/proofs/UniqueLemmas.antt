@@ -35,11 +35,11 @@ module _ {T : Type 0} where
       let too : every_of tests y ≡ false = let same : y ≡ x = cc in ap (every_of tests) same ∙ fails in
       sym (all_of-first test tests xs ∙ ap (all_of tests) (sym one) ∙ ap (λ b. cond b (y ∷ []) []) too)
 
-  abbrev some_item : List T → Bool
+  abbrev pub some_item : List T → Bool
   some_item [] = false
   some_item (x ∷ xs) = true
 
-  any_listed : (test : T → Bool) (xs : List T) → list_any test xs ≡ some_item (filter test xs)
+  pub any_listed : (test : T → Bool) (xs : List T) → list_any test xs ≡ some_item (filter test xs)
   any_listed test [] = refl
   any_listed test (x ∷ xs) = split (λ b. (b || list_any test xs) ≡ some_item (cond b (x ∷ filter test xs) (filter test xs))) (test x) (λ _. refl) (λ _. any_listed test xs)
 

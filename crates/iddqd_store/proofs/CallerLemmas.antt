@@ -1,0 +1,84 @@
+-- What a caller of a map cites: from a lookup's clause to membership and back, a lookup after an insert or a removal, and lengths.
+use Rattle.std.specs.Prelude.{◌≡◌, zero, suc, ◌+◌, Bool, true, false, cond, List, [], ◌∷◌, ◌++◌, length, filter, IsPermutation, Contains, Option, Some, None}
+use Rattle.std.specs.List.{IsDistinct, list_any}
+use Rattle.std.specs.Option.{option_to_list}
+use Rattle.std.specs.Cmp.{IsEquivalence}
+use Rattle.std.proofs.Common.{refl, sym, ap, subst, ◌∙◌, arith}
+use Rattle.std.proofs.lemmas.List.Sorted.{IsPermutation-sym, length_permutation, Contains-permutation}
+use Rattle.iddqd_store.specs.Bag.{Ranks, AreLawful, IsSound, NamesOne, clash, order, over}
+use Rattle.iddqd_store.proofs.Shuffled.{split}
+use Rattle.iddqd_store.proofs.BagLemmas.{IsSound-rank, named_is, none_after, Contains-filter, IsSound-IsPermutation, named-IsPermutation, length-over}
+use Rattle.iddqd_store.proofs.BagSteps.{length-clash}
+use Rattle.iddqd_store.proofs.IndexLemmas.{Contains-here, Contains-cons}
+use Rattle.iddqd_store.proofs.UniqueLemmas.{any_listed, some_item}
+
+-- a member that passes
+abbrev Passes : {T : Type 0} → (T → Bool) → List T → T → Type 0
+Passes test bag x = Contains bag x × (test x ≡ true)
+
+later : {T : Type 0} (test : T → Bool) (y x : T) (ys : List T) → Passes test ys x → Passes test (y ∷ ys) x
+later test y x ys rest = (Contains-cons y x ys rest.0, rest.1)
+
+here_or_later : {T : Type 0} (test : T → Bool) (y x : T) (ys kept : List T) → test y ≡ true → (Contains kept x → Passes test ys x) → Contains (y ∷ kept) x → Passes test (y ∷ ys) x
+here_or_later test y x ys kept first rest (zero, lt, e) = ((0, omega arith, e), ap test (sym e) ∙ first)
+here_or_later test y x ys kept first rest (suc k, lt, e) = later test y x ys (rest (k, omega (arith, lt), e))
+
+pub passes-listed : {T : Type 0} (test : T → Bool) (bag : List T) (x : T) → Contains (filter test bag) x → Contains bag x × (test x ≡ true)
+passes-listed test [] x there = absurd (omega (arith, there.1))
+passes-listed test (y ∷ ys) x there =
+    let rest = passes-listed test ys x in
+    split (λ b. Contains (cond b (y ∷ filter test ys) (filter test ys)) x → Passes test (y ∷ ys) x) (test y)
+    (λ first in_it. here_or_later test y x ys (filter test ys) first rest in_it)
+    (λ _ in_it. later test y x ys (rest in_it))
+    there
+
+-- In what follows `test` is what a lookup asks of an item, as `λ x. Q.equivalent query (T.key1 x)`, and `is` its clause.
+module _ {T : Type 0} (test : T → Bool) (bag : List T) (found : Option T) (is : option_to_list found ≡ filter test bag) where
+  -- what a lookup gives is a member and passes
+  pub member-found : (x : T) → found ≡ Some x → Contains bag x × (test x ≡ true)
+  member-found x here = passes-listed test bag x (subst (λ l. Contains l x) (ap option_to_list (sym here) ∙ is) (Contains-here x []))
+
+  -- where it gives nothing, no member passes
+  pub none-found : found ≡ None → (x : T) → Contains bag x → test x ≡ false
+  none-found none x there =
+      split (λ b. b ≡ false) (test x)
+      (λ yes. absurd (let some : Contains [] x = subst (λ l. Contains l x) (sym is ∙ ap option_to_list none) (Contains-filter test bag x yes there) in omega (arith, some.1)))
+      (λ _. refl)
+
+-- a query names one key, by the law of `Equivalent`
+pub NamesOne-query : {T K Q : Type 0} (eq : K → K → Bool) (stands_for : Q → K → Bool) (key : T → K) → ((q : Q) (k l : K) → stands_for q k ≡ true → stands_for q l ≡ eq k l) → (q : Q) → NamesOne (λ x y. eq (key x) (key y)) (λ x. stands_for q (key x))
+NamesOne-query eq stands_for key law q x y at_x at_y = sym (law q (key x) (key y) at_x) ∙ at_y
+
+one_of : {T : Type 0} (found : Option T) (x : T) → option_to_list found ≡ x ∷ [] → found ≡ Some x
+one_of None x e = absurd (cc)
+one_of (Some y) x e = let same : y ≡ x = cc in ap Some same
+
+-- In what follows `agree` is a rank: whether two items have equal keys there. `names` says that the test names one key.
+module _ {T : Type 0} (agree : T → T → Bool) (ranks : Ranks T) (test : T → Bool) (names : NamesOne agree test) (bag : List T) (sound : IsSound (agree ∷ ranks) bag) where
+  -- a member that passes is what the lookup gives
+  pub found-member : (found : Option T) (x : T) → option_to_list found ≡ filter test bag → Contains bag x → test x ≡ true → found ≡ Some x
+  found-member found x is there passes = one_of found x (is ∙ named_is agree test names bag x (IsSound-rank agree ranks bag sound).0 passes there)
+
+  -- an item that went in is found by its key
+  pub found-inserted : (old : List T) (found : Option T) (x : T) → IsPermutation bag (x ∷ old) → option_to_list found ≡ filter test bag → test x ≡ true → found ≡ Some x
+  found-inserted old found x went_in is passes =
+      found-member found x is (Contains-permutation (x ∷ old) bag x (IsPermutation-sym bag (x ∷ old) went_in) (Contains-here x old)) passes
+
+  -- and the map says that it has the key
+  pub contains-inserted : (old : List T) (x : T) → IsPermutation bag (x ∷ old) → test x ≡ true → list_any test bag ≡ true
+  contains-inserted old x went_in passes =
+      any_listed test bag ∙ ap some_item (named_is agree test names bag x (IsSound-rank agree ranks bag sound).0 passes (Contains-permutation (x ∷ old) bag x (IsPermutation-sym bag (x ∷ old) went_in) (Contains-here x old)))
+
+-- an item that was taken out is found under its key no more
+pub none-removed : {T : Type 0} (agree : T → T → Bool) (ranks : Ranks T) → AreLawful (agree ∷ ranks) → (test : T → Bool) → NamesOne agree test → (old bag : List T) (x : T) → IsSound (agree ∷ ranks) old → IsPermutation old (x ∷ bag) → test x ≡ true → filter test bag ≡ []
+none-removed agree ranks laws test names old bag x sound taken passes =
+    none_after agree test names x bag (IsSound-rank agree ranks (x ∷ bag) (IsSound-IsPermutation (agree ∷ ranks) laws old (x ∷ bag) taken sound)).0 passes
+
+-- one more after an insert
+pub length-inserted : {T : Type 0} (old new : List T) (x : T) → IsPermutation new (x ∷ old) → length new ≡ length old + 1
+length-inserted old new x went_in = sym (length_permutation new (x ∷ old) went_in) ∙ omega arith
+
+-- one more after an overwrite, less what was displaced
+pub length-overwritten_by : {T : Type 0} (ranks : Ranks T) (old new : List T) (x : T) → IsPermutation new (over ranks old x) → length new + length (order ranks old x) ≡ length old + 1
+length-overwritten_by ranks old new x went_in =
+    omega (arith, length_permutation new (over ranks old x) went_in, length-over ranks old x, length-clash ranks old x)
