@@ -1,10 +1,10 @@
 -- Each run from a sound bag ends in a sound bag.
 use Rattle.std.proofs.Common.{Bool, List, Result}
 use Rattle.iddqd_store.specs.Bag.{AreLawful, IsSound}
-use Rattle.iddqd_store.specs.Reply.{Reply}
-use Rattle.iddqd_store.specs.Run.{Run}
-use Rattle.iddqd_store.specs.Step.{State}
-use Rattle.iddqd_store.proofs.StepLemmas.{IsSound-InsertsUnique, IsSound-InsertsOverwrite, IsSound-Gets, IsSound-Tells, IsSound-Removes, IsSound-Reserves, IsSound-ShrinksTo, IsSound-Clears, IsSound-Sizes, IsSound-Lists, IsSound-Extends, run_keeps}
+use Rattle.iddqd_store.specs.Runs.Reply.{Reply}
+use Rattle.iddqd_store.specs.Runs.Run.{Run}
+use Rattle.iddqd_store.specs.Runs.Step.{State}
+use Rattle.iddqd_store.proofs.RunLemmas.Steps.{IsSound-InsertsUnique, IsSound-InsertsOverwrite, IsSound-Gets, IsSound-Tells, IsSound-Removes, IsSound-Reserves, IsSound-ShrinksTo, IsSound-Clears, IsSound-Sizes, IsSound-Lists, IsSound-Extends, run_keeps}
 use Rattle.iddqd_bi.specs.Keys.{ranks, has1, has2, has_both}
 use Rattle.iddqd_bi.specs.Step.{Step}
 use Rattle.iddqd_bi.specs.declared.item.BiHashItem as item

@@ -1,7 +1,7 @@
 -- One step of a map with two keys: each command with what it may answer.
 use Rattle.std.specs.Prelude.{Bool}
-use Rattle.iddqd_store.specs.Reply.{Reply}
-use Rattle.iddqd_store.specs.Step.{State, InsertsUnique, InsertsOverwrite, Gets, Tells, Removes, Reserves, ShrinksTo, Clears, Sizes, Lists, Extends}
+use Rattle.iddqd_store.specs.Runs.Reply.{Reply}
+use Rattle.iddqd_store.specs.Runs.Step.{State, InsertsUnique, InsertsOverwrite, Gets, Tells, Removes, Reserves, ShrinksTo, Clears, Sizes, Lists, Extends}
 use Rattle.iddqd_bi.specs.Keys.{ranks, has1, has2, has_both}
 use Rattle.iddqd_bi.specs.declared.item.BiHashItem as item
 use Rattle.iddqd_bi.specs.declared.command.BiCommand.{BiCommand}

@@ -1,7 +1,7 @@
 //! Commands on a map, as values, and what takes their replies.
 ghost use Rattle.std.specs.Prelude.{Result};
-ghost use Rattle.iddqd_store.specs.Reply.{Reply};
-ghost use Rattle.iddqd_store.specs.Values.{value_of};
+ghost use Rattle.iddqd_store.specs.Runs.Reply.{Reply};
+ghost use Rattle.iddqd_store.specs.Runs.Values.{value_of};
 
 use crate::item::BiHashItemMut;
 use iddqd_store::{MapReply, UpToTwo};

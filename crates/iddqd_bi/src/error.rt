@@ -2,7 +2,7 @@
 ghost use Rattle.std.specs.Prelude.{◌≡◌, map};
 ghost use Rattle.iddqd_store.specs.Map.{bag};
 ghost use Rattle.iddqd_store.specs.Bag.{order};
-ghost use Rattle.iddqd_store.specs.Searched.{items_at};
+ghost use Rattle.iddqd_store.specs.Slots.Found.{items_at};
 ghost use Rattle.iddqd_bi.specs.Keys.{ranks};
 
 use crate::item::BiHashItem;

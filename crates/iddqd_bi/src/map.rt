@@ -37,7 +37,7 @@ pub struct BiHashMap<T: BiHashItem, S: BuildHasher = DefaultHashBuilder> {
 impl<T: BiHashItem, S: BuildHasher> Model for BiHashMap<T, S> {
     ghost use Rattle.std.specs.Prelude.{[], ◌∷◌, min};
     ghost use Rattle.iddqd_store.specs.Map.{Map, map_code};
-    ghost use Rattle.iddqd_store.specs.Indexed.{IsIndexed};
+    ghost use Rattle.iddqd_store.specs.Rank.Index.{IsIndexed};
     ghost use Rattle.iddqd_store.specs.Rank.{key_hash};
     ghost use Rattle.iddqd_bi.specs.Keys.{ranks};
 

@@ -1,9 +1,9 @@
 -- A run that keeps its replies, command by command.
 use Rattle.std.proofs.Common.{◌≡◌, refl, ap, sym, ◌∙◌, List, [], ◌∷◌, ◌++◌, Result, Ok, Err, append_assoc, append-nil, subst, ℕ}
 use Rattle.std.specs.Prelude.{nat_eq, MatchResult}
-use Rattle.iddqd_store.specs.Reply.{Reply}
-use Rattle.iddqd_store.specs.Run.{Run, Applies}
-use Rattle.iddqd_store.specs.Step.{State, Fits, empty_state}
+use Rattle.iddqd_store.specs.Runs.Reply.{Reply}
+use Rattle.iddqd_store.specs.Runs.Run.{Run, Applies}
+use Rattle.iddqd_store.specs.Runs.Step.{State, Fits, empty_state}
 use Rattle.iddqd_bi.specs.Step.{Step}
 use Rattle.iddqd_run.specs.Outputs.{KeepsReply, Replies, item_keys}
 use Rattle.iddqd_run.specs.Words.{Command}

@@ -5,10 +5,10 @@ use Rattle.std.specs.Fmt.{digits}
 use Rattle.std.specs.List.{flat_map, position_from}
 use Rattle.std.proofs.lemmas.List.{nil_from_length}
 use Rattle.std.proofs.lemmas.List.Sorted.{IsPermutation-sym, IsPermutation-trans, length_permutation}
-use Rattle.iddqd_store.proofs.BagLemmas.{same_from_short, length-over}
-use Rattle.iddqd_store.proofs.BagSteps.{length-clash}
+use Rattle.iddqd_store.proofs.BagLemmas.Sound.{same_from_short, length-over}
+use Rattle.iddqd_store.proofs.BagLemmas.Steps.{length-clash}
 use Rattle.iddqd_bi.specs.Keys.{ranks}
-use Rattle.iddqd_store.specs.Reply.{Reply, done, duplicate, displaced, taken, memory, refused}
+use Rattle.iddqd_store.specs.Runs.Reply.{Reply, done, duplicate, displaced, taken, memory, refused}
 use Rattle.iddqd_bi.specs.declared.command.BiCommand.TheVariants.{InsertUnique, InsertOverwrite, Remove1, Reserve}
 use Rattle.iddqd_run.specs.Commands.{Spells, first_bad_line}
 use Rattle.iddqd_run.specs.Outputs.{Replies, Prints, item_keys}

@@ -2,9 +2,9 @@
 use Rattle.std.proofs.Common.{◌≡◌, refl, ap, sym, ◌∙◌, ℕ, nat_eq, List, [], ◌∷◌, ◌++◌, Result, Ok, Err, append_assoc, append-nil, subst}
 use Rattle.std.specs.Prelude.{MatchResult}
 use Rattle.std.specs.List.{flat_map}
-use Rattle.iddqd_store.specs.Reply.{Reply}
-use Rattle.iddqd_store.specs.Run.{Run, Applies}
-use Rattle.iddqd_store.specs.Step.{State, Fits, empty_state}
+use Rattle.iddqd_store.specs.Runs.Reply.{Reply}
+use Rattle.iddqd_store.specs.Runs.Run.{Run, Applies}
+use Rattle.iddqd_store.specs.Runs.Step.{State, Fits, empty_state}
 use Rattle.iddqd_bi.specs.Step.{Step}
 use Rattle.iddqd_run.specs.Outputs.{GrowsByLine, KeepsReply, Prints, item_keys}
 use Rattle.iddqd_run.specs.Printed.{line_of}

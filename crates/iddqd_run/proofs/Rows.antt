@@ -2,7 +2,7 @@
 use Rattle.std.proofs.Common.{◌≡◌, refl, ℕ, [], ◌∷◌, Some, None}
 use Rattle.std.specs.Fmt.{digits}
 use Rattle.std.specs.Prelude.{codes}
-use Rattle.iddqd_store.specs.Reply.{done, duplicate, displaced, found, taken, memory, refused, size, items}
+use Rattle.iddqd_store.specs.Runs.Reply.{done, duplicate, displaced, found, taken, memory, refused, size, items}
 use Rattle.iddqd_run.specs.Commands.{command_of_line, first_bad_line}
 use Rattle.iddqd_run.specs.Lines.{lines_of}
 use Rattle.iddqd_run.specs.Numbers.{number_of}

@@ -3,8 +3,8 @@ use Rattle.std.proofs.Common.{refl, ap, ℕ, List, [], ◌∷◌, length, Some, 
 use Rattle.std.specs.Prelude.{codes}
 use Rattle.std.specs.Fmt.{digits}
 use Rattle.std.proofs.lemmas.List.Sorted.{IsPermutation-refl}
-use Rattle.iddqd_store.specs.Reply.{Reply, done, duplicate, displaced, found, taken, refused, size, items}
-use Rattle.iddqd_store.specs.Step.{State}
+use Rattle.iddqd_store.specs.Runs.Reply.{Reply, done, duplicate, displaced, found, taken, refused, size, items}
+use Rattle.iddqd_store.specs.Runs.Step.{State}
 use Rattle.iddqd_bi.specs.declared.command.BiCommand.TheVariants.{InsertUnique, InsertOverwrite, Get2, GetUnique, Remove1, Reserve, Len, Items}
 use Rattle.iddqd_run.specs.Outputs.{Replies, Prints}
 use Rattle.iddqd_run.specs.Printed.{printed}

@@ -5,7 +5,7 @@ use Rattle.std.proofs.lemmas.Bool.Decides.{nat_tests}
 use Rattle.std.specs.List.Sorted.{ties, IsNonDecreasingBy, IsStableByKey}
 use Rattle.std.specs.Prelude.{IsPermutation, nat_eq}
 use Rattle.std.specs.List.{IsDistinct}
-use Rattle.iddqd_store.proofs.BagLemmas.{named-IsPermutation}
+use Rattle.iddqd_store.proofs.BagLemmas.Sound.{named-IsPermutation}
 use Rattle.iddqd_run.specs.Sorted.{put_in, by_first_key}
 use Rattle.iddqd_run.specs.declared.item.BiItem.{BiItem}
 

@@ -1,9 +1,9 @@
 -- What a run of commands prints.
 use Rattle.std.specs.Prelude.{◌≡◌, ◌++◌, [], ◌∷◌, ℕ, List, nat_eq, Result, Ok, Err}
 use Rattle.std.specs.List.{flat_map}
-use Rattle.iddqd_store.specs.Reply.{Reply}
-use Rattle.iddqd_store.specs.Run.{Run}
-use Rattle.iddqd_store.specs.Step.{State, empty_state}
+use Rattle.iddqd_store.specs.Runs.Reply.{Reply}
+use Rattle.iddqd_store.specs.Runs.Run.{Run}
+use Rattle.iddqd_store.specs.Runs.Step.{State, empty_state}
 use Rattle.iddqd_bi.specs.Step.{Step}
 use Rattle.iddqd_bi.specs.declared.item.BiHashItem as of
 use Rattle.iddqd_run.specs.declared.item.BiItem.{BiItem}

@@ -2,7 +2,7 @@
 use Rattle.std.specs.Prelude.{ℕ, List, ◌++◌, codes, Option, Some, None, true, false}
 use Rattle.std.specs.Fmt.{decimal}
 use Rattle.std.specs.List.{flat_map}
-use Rattle.iddqd_store.specs.Reply.{Reply, done, duplicate, found, taken, memory, displaced, present, refused, size, items}
+use Rattle.iddqd_store.specs.Runs.Reply.{Reply, done, duplicate, found, taken, memory, displaced, present, refused, size, items}
 use Rattle.iddqd_run.specs.Sorted.{by_first_key}
 use Rattle.iddqd_run.specs.declared.item.BiItem.{BiItem}
 

@@ -6,11 +6,11 @@ use Rattle.std.specs.Cmp.{IsEquivalence}
 use Rattle.std.proofs.Common.{refl, sym, ap, subst, ◌∙◌, arith}
 use Rattle.std.proofs.lemmas.List.Sorted.{IsPermutation-sym, length_permutation, Contains-permutation}
 use Rattle.iddqd_store.specs.Bag.{Ranks, AreLawful, IsSound, NamesOne, clash, order, over}
-use Rattle.iddqd_store.proofs.Shuffled.{split}
-use Rattle.iddqd_store.proofs.BagLemmas.{IsSound-rank, named_is, none_after, Contains-filter, IsSound-IsPermutation, named-IsPermutation, length-over}
-use Rattle.iddqd_store.proofs.BagSteps.{length-clash}
-use Rattle.iddqd_store.proofs.IndexLemmas.{Contains-here, Contains-cons}
-use Rattle.iddqd_store.proofs.UniqueLemmas.{any_listed, some_item}
+use Rattle.iddqd_store.proofs.BagLemmas.Exchanges.{split}
+use Rattle.iddqd_store.proofs.BagLemmas.Sound.{IsSound-rank, named_is, none_after, Contains-filter, IsSound-IsPermutation, named-IsPermutation, length-over}
+use Rattle.iddqd_store.proofs.BagLemmas.Steps.{length-clash}
+use Rattle.iddqd_store.proofs.RankLemmas.Index.{Contains-here, Contains-cons}
+use Rattle.iddqd_store.proofs.BagLemmas.Unique.{any_listed, some_item}
 
 -- a member that passes
 abbrev Passes : {T : Type 0} → (T → Bool) → List T → T → Type 0

@@ -7,8 +7,8 @@ use Rattle.std.proofs.lemmas.List.Sorted.{IsPermutation-refl, IsPermutation-sym,
 use Rattle.iddqd_store.specs.Slots.{members, live_items}
 use Rattle.iddqd_store.specs.Bag.{Ranks, AreLawful, IsSound, conflicts, clash}
 use Rattle.iddqd_store.specs.Map.{Map, bag, Loses, MakesRoom}
-use Rattle.iddqd_store.proofs.BagLemmas.{IsSound-IsPermutation}
-use Rattle.iddqd_store.proofs.BagSteps.{none_passes}
+use Rattle.iddqd_store.proofs.BagLemmas.Sound.{IsSound-IsPermutation}
+use Rattle.iddqd_store.proofs.BagLemmas.Steps.{none_passes}
 
 -- keys tell items apart by an equivalence
 pub IsEquivalence-key : {T K : Type 0} (eq : K → K → Bool) (key : T → K) → IsEquivalence eq → IsEquivalence (λ (x y : T). eq (key x) (key y))

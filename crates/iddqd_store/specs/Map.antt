@@ -6,7 +6,7 @@ use Rattle.std.specs.List.{IsDistinct}
 use Rattle.std.specs.declared.hash.Hasher as hasher
 use Rattle.std.specs.declared.hash.BuildHasher as builder
 use Rattle.iddqd_store.specs.Bag.{Ranks, clash, order}
-use Rattle.iddqd_store.specs.Searched.{items_at}
+use Rattle.iddqd_store.specs.Slots.Found.{items_at}
 use Rattle.iddqd_store.specs.Slots.{live_items, IsLive}
 
 -- the items by their slots, how many fit, and what makes the hashes. Public clauses cite the slots as `bag` alone

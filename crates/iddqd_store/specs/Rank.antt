@@ -1,13 +1,15 @@
 -- One rank of keys: what tells items apart by it, their hashes, what a search by it asks for, and what it costs.
+pub mod Asking
+pub mod Index
 use Rattle.std.specs.Prelude.{◌≡◌, ℕ, ◌+◌, ◌≤◌, Bool, true, List, Option, Contains, length, map}
 use Rattle.std.specs.Hash.{HashWrites}
 use Rattle.std.specs.List.{IsDistinct}
 use Rattle.std.specs.declared.hash.Hasher as hasher
 use Rattle.std.specs.declared.hash.BuildHasher as builder
 use Rattle.iddqd_store.specs.Bag.{crowd}
-use Rattle.iddqd_store.specs.Indexed.{IsIndex}
+use Rattle.iddqd_store.specs.Rank.Index.{IsIndex}
 use Rattle.iddqd_store.specs.Map.{hash_of}
-use Rattle.iddqd_store.specs.Searched.{NamesOneOf}
+use Rattle.iddqd_store.specs.Slots.Found.{NamesOneOf}
 use Rattle.iddqd_store.specs.Slots.{live_items}
 use Rattle.iddqd_store.specs.Table.{LooksUpWithin}
 

@@ -1,7 +1,10 @@
 -- What holds of the cells of a table.
+pub mod Cell
+pub mod Limit
+pub mod Ring
 use Rattle.std.specs.Prelude.{ℕ, ◌+◌, ◌*◌, ◌/◌, ◌%◌, ◌^◌, ◌≡◌, ◌<◌, ◌≤◌, ◌==◌, Bool, List, Option, None, ◌≢◌, length, map, IfNone, OnSome}
-use Rattle.iddqd_store.specs.Limit.{IsSize}
-use Rattle.iddqd_store.specs.Ring.{held, cell, gap, stretch, IsReached}
+use Rattle.iddqd_store.specs.Table.Limit.{IsSize}
+use Rattle.iddqd_store.specs.Table.Ring.{held, cell, gap, stretch, IsReached}
 
 -- the hashes of the pairs
 abbrev pub hashes : List (ℕ × ℕ) → List ℕ

@@ -1,7 +1,7 @@
 //! The cells of a table. One call reads a cell, and it ticks the meter that it is handed.
 ghost use Rattle.std.specs.Prelude.{◌≡◌, ℕ, ◌+◌, ◌^◌, ◌<◌, List, [], Option, None, Some, length, slice_set, replicate, IfOk};
-ghost use Rattle.iddqd_store.specs.Cell.{pair_of, hash_of, number_of};
-ghost use Rattle.iddqd_store.specs.Ring.{cell};
+ghost use Rattle.iddqd_store.specs.Table.Cell.{pair_of, hash_of, number_of};
+ghost use Rattle.iddqd_store.specs.Table.Ring.{cell};
 
 use crate::TryReserveError;
 use crate::item_index::ItemIndex;

@@ -1,8 +1,8 @@
 //! Pairs of a hash and a slot's index, found by the hash, in cells with open addressing and no marks of deleted pairs.
 ghost use Rattle.std.specs.Prelude.{◌≡◌, ℕ, ◌+◌, ◌*◌, ◌/◌, ◌^◌, ◌∷◌, ◌<◌, ◌≤◌, ◌&&◌, [], true, false, length, IsSome, IsOk, IsErr, ◌↔◌, IfOk, OnOk, OnErr, IfSome, IfNone, Contains, count_by};
 ghost use Rattle.std.specs.List.Sorted.{IsPermutation};
-ghost use Rattle.iddqd_store.specs.Ring.{cell, held, stretch, IsFull};
-ghost use Rattle.iddqd_store.specs.Limit.{IsLeast, IsSize};
+ghost use Rattle.iddqd_store.specs.Table.Ring.{cell, held, stretch, IsFull};
+ghost use Rattle.iddqd_store.specs.Table.Limit.{IsLeast, IsSize};
 ghost use Rattle.iddqd_store.specs.Table.{hashes, under, IsTable, LooksUp, Table, table_of};
 
 use crate::TryReserveError;

@@ -3,7 +3,7 @@ ghost use Rattle.std.specs.Prelude.{◌≡◌, ◌+◌, ◌-◌, ◌<◌, ◌≤
 ghost use Rattle.std.specs.Option.{option_copied_mut};
 ghost use Rattle.std.specs.Borrow.{Lends, sem};
 ghost use Rattle.iddqd_store.specs.Slots.{get, IsLive, live_count, members, Updates, Exchanges, NextLive};
-ghost use Rattle.iddqd_store.specs.SlotChain.{item_of};
+ghost use Rattle.iddqd_store.specs.Slots.Chain.{item_of};
 
 mod build;
 mod clone;
@@ -55,7 +55,7 @@ impl<T> Model for ItemSet<T> {
 
     ghost coded = { slots_code T.code };
 
-    ghost use Rattle.iddqd_store.specs.SlotChain.{item_of, IsChained};
+    ghost use Rattle.iddqd_store.specs.Slots.Chain.{item_of, IsChained};
 
     ghost view = { λ s. record { slots = map item_of s.slots.items; capacity = vec_capacity s.slots } };
 
@@ -84,7 +84,7 @@ impl<T> Slot<T> {
 }
 
 impl<T> ItemSet<T> {
-    ghost use Rattle.iddqd_store.specs.Lends.{lends_get, lends_item};
+    ghost use Rattle.iddqd_store.specs.Slots.Lends.{lends_get, lends_item};
 
     /// An empty set, which takes no memory until room is made in it.
     pub fn new(alloc: Global) -> Self

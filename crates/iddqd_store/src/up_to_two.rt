@@ -92,7 +92,7 @@ impl<T> UpToTwo<T> {
 }
 
 impl UpToTwo<ItemIndex> {
-    ghost use Rattle.iddqd_store.specs.Searched.{lists, with_found};
+    ghost use Rattle.iddqd_store.specs.Slots.Found.{lists, with_found};
 
     /// Whether this slot is among them.
     pub fn lists(&self, ix: ItemIndex) -> bool

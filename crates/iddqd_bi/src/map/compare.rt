@@ -4,7 +4,7 @@ ghost use Rattle.std.specs.Bool.{IsTrue};
 ghost use Rattle.std.specs.List.{list_any};
 ghost use Rattle.iddqd_store.specs.Bag.{IsSameBag, is_same, same_item};
 ghost use Rattle.iddqd_store.specs.Map.{bag};
-ghost use Rattle.iddqd_store.proofs.SameTest.{is_same-partial, is_same-equivalence};
+ghost use Rattle.iddqd_store.proofs.BagLemmas.SameTest.{is_same-partial, is_same-equivalence};
 ghost use Rattle.std.specs.Cmp.{on_per, on_equiv};
 ghost use Rattle.iddqd_bi.specs.Keys.{ranks};
 ghost use Rattle.iddqd_store.proofs.MapLemmas.{IsEquivalence-key};

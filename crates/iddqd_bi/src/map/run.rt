@@ -1,13 +1,13 @@
 //! Commands carried out on the map.
 ghost use Rattle.std.specs.Prelude.{◌≡◌};
 ghost use Rattle.iddqd_store.specs.Map.{bag};
-ghost use Rattle.iddqd_store.specs.Reply.{found, present, duplicate, items};
-ghost use Rattle.iddqd_store.specs.Step.{Fits, state_of, Gets, InsertsUnique, InsertsOverwrite, Reserves, ShrinksTo, Extends};
-ghost use Rattle.iddqd_store.specs.Run.{Applies, Run};
-ghost use Rattle.iddqd_store.specs.Searched.{items_at};
+ghost use Rattle.iddqd_store.specs.Runs.Reply.{found, present, duplicate, items};
+ghost use Rattle.iddqd_store.specs.Runs.Step.{Fits, state_of, Gets, InsertsUnique, InsertsOverwrite, Reserves, ShrinksTo, Extends};
+ghost use Rattle.iddqd_store.specs.Runs.Run.{Applies, Run};
+ghost use Rattle.iddqd_store.specs.Slots.Found.{items_at};
 ghost use Rattle.iddqd_bi.specs.Keys.{ranks, has1, has2, has_both};
 ghost use Rattle.iddqd_bi.specs.Step.{Step};
-ghost use Rattle.iddqd_store.specs.Values.{value_of};
+ghost use Rattle.iddqd_store.specs.Runs.Values.{value_of};
 
 use super::BiHashMap;
 use super::slots::Refusal;

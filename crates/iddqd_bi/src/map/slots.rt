@@ -4,12 +4,12 @@ ghost use Rattle.std.specs.Prelude.{◌≡◌, ◌≢◌, ◌+◌, ◌^◌, ◌<
 ghost use Rattle.std.specs.List.{IsDistinct};
 ghost use Rattle.std.specs.Option.{option_and_then};
 ghost use Rattle.iddqd_store.specs.Bag.{IsOnly, clash, order, over};
-ghost use Rattle.iddqd_store.specs.Indexed.{HasHash};
+ghost use Rattle.iddqd_store.specs.Rank.Index.{HasHash};
 ghost use Rattle.iddqd_store.specs.Map.{bag, hash_of, Gains, Loses, MakesRoom, IsFullFor, ListsConflicts, IsBlockedAt};
 ghost use Rattle.iddqd_store.specs.Rank.{agree, key_hash};
-ghost use Rattle.iddqd_store.specs.Searched.{items_at};
+ghost use Rattle.iddqd_store.specs.Slots.Found.{items_at};
 ghost use Rattle.iddqd_store.specs.Slots.{get, items_in, IsLive, Updates};
-ghost use Rattle.iddqd_store.specs.Walked.{ComesNext};
+ghost use Rattle.iddqd_store.specs.Slots.Next.{ComesNext};
 ghost use Rattle.iddqd_bi.specs.Keys.{ranks, has_both};
 
 use super::BiHashMap;
@@ -117,7 +117,9 @@ impl<T: BiHashItem, S: BuildHasher> BiHashMap<T, S> {
         found
     }
 
-    /// Puts an item in that nothing conflicts with.
+    /// Puts an item in that nothing conflicts with. It is no part of the loop of a caller that inserts: where LLVM makes
+    /// it one, inserting takes longer.
+    #[inline(never)]
     pub(crate) fn put(&mut self, item: T, hash1: u64, hash2: u64) -> ItemIndex
         requires room { length (bag self.old) < self.old.capacity }
         requires free { clash (ranks T.BiHashItem T.K1.eq T.K2.eq) (bag self.old) item ≡ [] }

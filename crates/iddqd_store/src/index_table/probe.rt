@@ -1,8 +1,8 @@
 //! Ways in a table: from the home of a hash on, from cell to cell and round.
 ghost use Rattle.std.specs.Prelude.{◌≡◌, ◌≢◌, ℕ, ◌+◌, ◌-◌, ◌*◌, ◌/◌, ◌%◌, ◌^◌, ◌∷◌, ◌<◌, ◌≤◌, if◌then◌else◌, nat_lt, None, Some, length, IfSome, IsNone, ◌↔◌, Contains};
 ghost use Rattle.std.specs.List.Sorted.{IsPermutation};
-ghost use Rattle.iddqd_store.specs.Ring.{cell, gap, held, stretch};
-ghost use Rattle.iddqd_store.specs.Limit.{IsLeast, IsSize};
+ghost use Rattle.iddqd_store.specs.Table.Ring.{cell, gap, held, stretch};
+ghost use Rattle.iddqd_store.specs.Table.Limit.{IsLeast, IsSize};
 ghost use Rattle.iddqd_store.specs.Table.{hashes, IsTable, IsFirstEmpty, IsWayTo};
 
 use crate::cells::Cells;

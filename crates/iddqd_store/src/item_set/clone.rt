@@ -8,7 +8,7 @@ use crate::TryReserveError;
 use std::alloc::AllocError;
 
 impl<T: Clone> Clone for Slot<T> {
-    ghost use Rattle.iddqd_store.specs.SlotChain.{IsCloneOf};
+    ghost use Rattle.iddqd_store.specs.Slots.Chain.{IsCloneOf};
 
     ghost is_clone = { IsCloneOf T.is_clone };
 

@@ -1,7 +1,7 @@
 //! Sets without free slots.
 ghost use Rattle.std.specs.Prelude.{◌≡◌, ◌<◌, ◌≤◌, ◌++◌, [], length, map, min, max, Some, OnOk, OnErr, vec_capacity, count_by};
 ghost use Rattle.iddqd_store.specs.Slots.{live_items, live_count};
-ghost use Rattle.iddqd_store.specs.SlotChain.{live_slots};
+ghost use Rattle.iddqd_store.specs.Slots.Chain.{live_slots};
 
 use super::{ItemSet, Slot};
 use crate::TryReserveError;

@@ -20,7 +20,7 @@ pub struct Iter<'a, T> {
 impl<'a, T> Model for Iter<'a, T> {
     ghost use Rattle.std.specs.Prelude.{List, map, ◌≡◌, length};
     ghost use Rattle.iddqd_store.specs.Slots.{items_in};
-    ghost use Rattle.iddqd_store.specs.SlotChain.{item_of};
+    ghost use Rattle.iddqd_store.specs.Slots.Chain.{item_of};
 
     ghost Value = { List T };
 
@@ -95,7 +95,7 @@ impl<T> Model for IntoIter<T> {
     ghost use Rattle.std.specs.Prelude.{List, map, ◌≡◌, length};
     ghost use Rattle.std.specs.Vec.Iter.{into_iter_items};
     ghost use Rattle.iddqd_store.specs.Slots.{items_in};
-    ghost use Rattle.iddqd_store.specs.SlotChain.{item_of};
+    ghost use Rattle.iddqd_store.specs.Slots.Chain.{item_of};
 
     ghost Value = { List T };
 

@@ -1,8 +1,8 @@
 //! The searches by a key, as the table sees them.
 ghost use Rattle.std.specs.Prelude.{◌≡◌, refl, false};
 ghost use Rattle.std.proofs.Common.{ap, ◌∙◌};
-ghost use Rattle.iddqd_store.specs.Asking.{passes_kept};
-ghost use Rattle.iddqd_store.specs.Indexed.{passes_at};
+ghost use Rattle.iddqd_store.specs.Rank.Asking.{passes_kept};
+ghost use Rattle.iddqd_store.specs.Rank.Index.{passes_at};
 
 use super::key_of::KeyOf;
 use crate::item_index::ItemIndex;

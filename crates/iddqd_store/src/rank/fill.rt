@@ -1,6 +1,6 @@
 //! Tables that index the slots.
 ghost use Rattle.std.specs.Prelude.{◌≡◌, ◌≤◌, [], length};
-ghost use Rattle.iddqd_store.specs.Indexed.{IsIndex};
+ghost use Rattle.iddqd_store.specs.Rank.Index.{IsIndex};
 ghost use Rattle.iddqd_store.specs.Rank.{key_hash};
 ghost use Rattle.iddqd_store.specs.Slots.{live_count};
 

@@ -1,6 +1,6 @@
 use Rattle.std.proofs.Common.{rules}
 use Rattle.std.specs.Prelude.{string_bytes}
-use Rattle.iddqd_store.specs.Step.{state_of}
+use Rattle.iddqd_store.specs.Runs.Step.{state_of}
 use Rattle.iddqd_run.proofs.Replying.{prints}
 use Rattle.iddqd_run.proofs.run.run_commands.Goals as goal
 

@@ -1,8 +1,8 @@
 use Rattle.std.proofs.Common.{arith, ℕ, ◌≡◌, ◌+◌, ◌<◌, [], length, take, None, Some, sym, ◌∙◌, ap}
 use Rattle.std.proofs.lemmas.List.Sorted.{IsPermutation-refl, IsPermutation-push_more, length_permutation}
 use Rattle.std.proofs.lemmas.List.{length_push}
-use Rattle.iddqd_store.specs.Ring.{held, cell}
-use Rattle.iddqd_store.proofs.Change.{held_more, held_no_more, held_front}
+use Rattle.iddqd_store.specs.Table.Ring.{held, cell}
+use Rattle.iddqd_store.proofs.TableLemmas.Write.{held_more, held_no_more, held_front}
 use Rattle.iddqd_store.proofs.index_table.regrown.Goals as goal
 use Rattle.iddqd_store.proofs.index_table.regrown.Goals.{in-Some, in_default}
 

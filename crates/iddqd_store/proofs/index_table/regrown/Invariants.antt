@@ -1,6 +1,6 @@
 use Rattle.std.proofs.Common.{◌≡◌, ◌*◌, ◌/◌, take}
 use Rattle.std.specs.List.Sorted.{IsPermutation}
-use Rattle.iddqd_store.specs.Ring.{held}
+use Rattle.iddqd_store.specs.Table.Ring.{held}
 use Rattle.iddqd_store.proofs.index_table.regrown.Given as goal
 
 abbrev pub invariant-loop-i : goal.invariant-loop-i

@@ -1,7 +1,7 @@
 use Rattle.std.proofs.Common.{◌≡◌, ◌∙◌, [], ap, length}
-use Rattle.iddqd_store.specs.Ring.{held}
+use Rattle.iddqd_store.specs.Table.Ring.{held}
 use Rattle.iddqd_store.specs.Table.{Table}
-use Rattle.iddqd_store.proofs.Size.{table_empty, length_held_empty, held-empty}
+use Rattle.iddqd_store.proofs.TableLemmas.Limits.{table_empty, length_held_empty, held-empty}
 use Rattle.iddqd_store.proofs.index_table.with_cells.Goals as goal
 
 pub invariant_of-table : goal.invariant_of-table

@@ -5,9 +5,9 @@ use Rattle.std.proofs.lemmas.Iterator.{items_from_drains}
 use Rattle.std.proofs.lemmas.Iterator.Adapters.{YieldsList-from_vec}
 use Rattle.iddqd_store.specs.Bag.{clash}
 use Rattle.iddqd_store.specs.Map.{bag}
-use Rattle.iddqd_store.specs.Reply.{done, memory}
-use Rattle.iddqd_store.specs.Step.{ExtendsTo, state_of}
-use Rattle.iddqd_store.proofs.ExtendLemmas.{yielded_then, map_same}
+use Rattle.iddqd_store.specs.Runs.Reply.{done, memory}
+use Rattle.iddqd_store.specs.Runs.Step.{ExtendsTo, state_of}
+use Rattle.iddqd_store.proofs.RunLemmas.Extending.{yielded_then, map_same}
 use Rattle.iddqd_bi.specs.Keys.{ranks}
 use Rattle.iddqd_bi.proofs.map.BiHashMap.apply_extend.Goals as goal
 

@@ -1,4 +1,4 @@
-use Rattle.iddqd_store.proofs.IndexedLemmas.{first_rank}
+use Rattle.iddqd_store.proofs.RankLemmas.Invariant.{first_rank}
 use Rattle.iddqd_bi.proofs.map.BiHashMap.by_key1.Goals as goal
 
 pub new-requires : goal.new-requires

@@ -1,5 +1,5 @@
 use Rattle.std.proofs.Common.{arith}
-use Rattle.iddqd_store.proofs.IndexLemmas.{length-live_items, length-index}
+use Rattle.iddqd_store.proofs.RankLemmas.Index.{length-live_items, length-index}
 use Rattle.iddqd_bi.proofs.map.BiHashMap.capacity.Goals as goal
 
 pub returns-clause-holds : goal.returns-clause-holds

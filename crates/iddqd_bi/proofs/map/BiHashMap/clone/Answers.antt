@@ -1,7 +1,7 @@
 use Rattle.std.proofs.Common.{refl, sym, ◌∙◌, ap}
 use Rattle.iddqd_store.specs.Map.{hash_of}
-use Rattle.iddqd_store.proofs.Copied.{is_copy}
-use Rattle.iddqd_store.proofs.IndexedLemmas.{IsIndexed-copy}
+use Rattle.iddqd_store.proofs.RankLemmas.Copied.{is_copy}
+use Rattle.iddqd_store.proofs.RankLemmas.Invariant.{IsIndexed-copy}
 use Rattle.iddqd_bi.proofs.MapLemmas.{AreLawful-ranks}
 use Rattle.iddqd_bi.proofs.map.BiHashMap.clone.Goals as goal
 

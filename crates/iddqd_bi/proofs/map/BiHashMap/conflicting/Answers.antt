@@ -1,7 +1,7 @@
 use Rattle.std.proofs.Common.{rules, refl, ◌∷◌, [], nat_eq}
-use Rattle.iddqd_store.proofs.FoundLemmas.{listing_found}
-use Rattle.iddqd_store.proofs.BagLemmas.{IsDistinct-nil}
-use Rattle.iddqd_store.proofs.OverLemmas.{IsDistinct-with_found}
+use Rattle.iddqd_store.proofs.SlotLemmas.Found.{listing_found}
+use Rattle.iddqd_store.proofs.BagLemmas.Sound.{IsDistinct-nil}
+use Rattle.iddqd_store.proofs.BagLemmas.Over.{IsDistinct-with_found}
 use Rattle.iddqd_bi.proofs.map.BiHashMap.conflicting.Goals as goal
 
 pub returns : goal.returns

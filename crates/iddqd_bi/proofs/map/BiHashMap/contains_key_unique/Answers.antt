@@ -1,7 +1,7 @@
 use Rattle.std.proofs.Common.{◌∙◌, [], ◌∷◌}
 use Rattle.iddqd_store.specs.Bag.{every_of}
 use Rattle.iddqd_store.specs.Map.{bag}
-use Rattle.iddqd_store.proofs.UniqueLemmas.{is_some-found}
+use Rattle.iddqd_store.proofs.BagLemmas.Unique.{is_some-found}
 use Rattle.iddqd_bi.proofs.map.BiHashMap.contains_key_unique.Goals as goal
 
 pub returns : goal.returns

@@ -3,9 +3,9 @@ use Rattle.std.proofs.iter.Next.{on}
 use Rattle.std.specs.Prelude.{IsPermutation}
 use Rattle.iddqd_store.specs.Bag.{over}
 use Rattle.iddqd_store.specs.Map.{bag}
-use Rattle.iddqd_store.specs.Step.{state_of}
-use Rattle.iddqd_store.proofs.ExtendLemmas.{ExtendsTo-push}
-use Rattle.iddqd_store.proofs.BuildLemmas.{length-overwritten}
+use Rattle.iddqd_store.specs.Runs.Step.{state_of}
+use Rattle.iddqd_store.proofs.RunLemmas.Extending.{ExtendsTo-push}
+use Rattle.iddqd_store.proofs.BagLemmas.Building.{length-overwritten}
 use Rattle.iddqd_bi.specs.Keys.{ranks}
 use Rattle.iddqd_bi.proofs.map.BiHashMap.extend.Goals as goal
 

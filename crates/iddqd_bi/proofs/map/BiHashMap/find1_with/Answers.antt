@@ -1,4 +1,4 @@
-use Rattle.iddqd_store.proofs.RankLemmas.{SearchCosts-room}
+use Rattle.iddqd_store.proofs.RankLemmas.Costs.{SearchCosts-room}
 use Rattle.iddqd_bi.proofs.map.BiHashMap.find1_with.Goals as goal
 
 pub returns-clause-costs : goal.returns-clause-costs

@@ -2,7 +2,7 @@ use Rattle.std.proofs.Common.{◌≡◌, List, [], Result, Err, subst, sym, rule
 use Rattle.std.specs.Prelude.{IsPermutation, IfErr}
 use Rattle.iddqd_store.specs.Bag.{overs}
 use Rattle.iddqd_store.specs.Map.{bag}
-use Rattle.iddqd_store.proofs.BuildLemmas.{GivesThen-weaker, clash-none}
+use Rattle.iddqd_store.proofs.BagLemmas.Building.{GivesThen-weaker, clash-none}
 use Rattle.iddqd_bi.specs.Keys.{ranks}
 use Rattle.iddqd_bi.proofs.map.BiHashMap.from_iter.Goals as goal
 

@@ -3,7 +3,7 @@ use Rattle.std.proofs.lemmas.List.Sorted.{IsPermutation-refl}
 use Rattle.std.specs.Iterator.{Yields}
 use Rattle.iddqd_store.specs.Bag.{order}
 use Rattle.iddqd_store.specs.Map.{bag, IsFullFor, IsBlockedAt}
-use Rattle.iddqd_store.proofs.BuildLemmas.{AddsTo-push, HasPlaceFor-free, RefusesFor-found}
+use Rattle.iddqd_store.proofs.BagLemmas.Building.{AddsTo-push, HasPlaceFor-free, RefusesFor-found}
 use Rattle.iddqd_bi.specs.Keys.{ranks}
 use Rattle.iddqd_bi.proofs.MapLemmas.{AreLawful-ranks}
 use Rattle.iddqd_bi.proofs.map.BiHashMap.from_iter_unique.Goals as goal

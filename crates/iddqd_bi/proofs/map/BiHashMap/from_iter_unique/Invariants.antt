@@ -1,5 +1,5 @@
 use Rattle.iddqd_store.specs.Map.{bag}
-use Rattle.iddqd_store.specs.Building.{AddsTo}
+use Rattle.iddqd_store.specs.Bag.Building.{AddsTo}
 use Rattle.iddqd_bi.specs.Keys.{ranks}
 use Rattle.iddqd_bi.proofs.map.BiHashMap.from_iter_unique.Given as goal
 

@@ -1,7 +1,7 @@
 use Rattle.std.proofs.Common.{◌≡◌, ◌∷◌, [], sym, ◌∙◌, ap, refl}
 use Rattle.std.specs.Option.{option_copied}
 use Rattle.iddqd_store.specs.Map.{bag}
-use Rattle.iddqd_store.proofs.Partners.{partner_none, partner_some}
+use Rattle.iddqd_store.proofs.BagLemmas.Partners.{partner_none, partner_some}
 use Rattle.iddqd_bi.proofs.map.BiHashMap.has_partner.Goals as goal
 
 pub returns-then-eq : goal.returns-then-eq

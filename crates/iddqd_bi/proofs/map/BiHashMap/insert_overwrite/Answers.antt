@@ -1,6 +1,6 @@
 use Rattle.std.proofs.Common.{◌≡◌, ℕ, Bool, true, arith, ap, ◌∙◌, nat_eq}
 use Rattle.std.proofs.lemmas.Bool.Decides.{nat_tests}
-use Rattle.iddqd_store.proofs.FoundLemmas.{clash_none}
+use Rattle.iddqd_store.proofs.SlotLemmas.Found.{clash_none}
 use Rattle.iddqd_store.specs.Map.{Map}
 use Rattle.iddqd_bi.specs.Keys.{ranks}
 use Rattle.iddqd_bi.proofs.map.BiHashMap.insert_overwrite.Goals as goal

@@ -1,5 +1,5 @@
 use Rattle.std.proofs.Common.{sym}
-use Rattle.iddqd_store.proofs.Walked.{nothing_left, comes_next}
+use Rattle.iddqd_store.proofs.SlotLemmas.Next.{nothing_left, comes_next}
 use Rattle.iddqd_bi.proofs.map.BiHashMap.item_from.Goals as goal
 
 pub returns-in_err-ix-clause-none : goal.returns-in_err-ix-clause-none

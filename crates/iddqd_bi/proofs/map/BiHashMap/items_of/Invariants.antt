@@ -1,5 +1,5 @@
 use Rattle.std.proofs.Common.{◌≡◌, ◌≤◌, length, map, take}
-use Rattle.iddqd_store.specs.Searched.{items_at}
+use Rattle.iddqd_store.specs.Slots.Found.{items_at}
 use Rattle.iddqd_bi.proofs.map.BiHashMap.items_of.Given as goal
 
 abbrev pub invariant-loop-at : goal.invariant-loop-at

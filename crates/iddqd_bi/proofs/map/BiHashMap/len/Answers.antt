@@ -1,5 +1,5 @@
 use Rattle.std.proofs.Common.{◌∙◌, sym}
-use Rattle.iddqd_store.proofs.IndexLemmas.{length-live_items}
+use Rattle.iddqd_store.proofs.RankLemmas.Index.{length-live_items}
 use Rattle.iddqd_bi.proofs.map.BiHashMap.len.Goals as goal
 
 pub returns-clause-value : goal.returns-clause-value

@@ -1,7 +1,7 @@
 use Rattle.std.proofs.Common.{arith}
 use Rattle.std.proofs.lemmas.List.Sorted.{IsPermutation-map, length_permutation}
-use Rattle.iddqd_store.proofs.IndexLemmas.{length-live_items, length-index}
-use Rattle.iddqd_store.proofs.IndexedLemmas.{IsIndexed-insert}
+use Rattle.iddqd_store.proofs.RankLemmas.Index.{length-live_items, length-index}
+use Rattle.iddqd_store.proofs.RankLemmas.Invariant.{IsIndexed-insert}
 use Rattle.iddqd_bi.proofs.MapLemmas.{AreLawful-ranks}
 use Rattle.iddqd_bi.proofs.map.BiHashMap.put.Goals as goal
 

@@ -1,7 +1,7 @@
 use Rattle.std.proofs.Common.{of_calls, ◌∙◌}
 use Rattle.std.proofs.lemmas.Fn.{called_at}
 use Rattle.std.specs.Fn.{CalledAt}
-use Rattle.iddqd_store.proofs.Walked.{past_kept, past_taken, none_behind}
+use Rattle.iddqd_store.proofs.SlotLemmas.Next.{past_kept, past_taken, none_behind}
 use Rattle.iddqd_bi.proofs.map.BiHashMap.retain.Goals as goal
 
 pub loop-found-preserved-then-not-f : goal.loop-found-preserved-then-not-f

@@ -1,7 +1,7 @@
 use Rattle.std.proofs.Common.{◌≡◌, drop, length}
 use Rattle.std.specs.Fn.{CalledAt}
 use Rattle.iddqd_store.specs.Slots.{items_in}
-use Rattle.iddqd_store.proofs.Walked.{Completes}
+use Rattle.iddqd_store.proofs.SlotLemmas.Next.{Completes}
 use Rattle.iddqd_bi.proofs.map.BiHashMap.retain.Given as goal
 
 abbrev pub invariant-loop-found : goal.invariant-loop-found

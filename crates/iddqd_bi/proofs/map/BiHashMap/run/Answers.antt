@@ -1,7 +1,7 @@
 use Rattle.std.proofs.Common.{rules, ◌∙◌}
 use Rattle.std.specs.Vec.Iter.{into_iter_items}
-use Rattle.iddqd_store.specs.Step.{state_of}
-use Rattle.iddqd_store.proofs.RunLemmas.{run_on, run_ends}
+use Rattle.iddqd_store.specs.Runs.Step.{state_of}
+use Rattle.iddqd_store.proofs.RunLemmas.Runs.{run_on, run_ends}
 use Rattle.iddqd_bi.specs.Step.{Step}
 use Rattle.iddqd_bi.proofs.map.BiHashMap.run.Goals as goal
 

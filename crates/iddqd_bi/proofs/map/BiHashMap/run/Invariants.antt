@@ -1,7 +1,7 @@
 use Rattle.std.proofs.Common.{◌≡◌}
 use Rattle.std.specs.Vec.Iter.{into_iter_items}
-use Rattle.iddqd_store.specs.Step.{state_of}
-use Rattle.iddqd_store.specs.Run.{Run}
+use Rattle.iddqd_store.specs.Runs.Step.{state_of}
+use Rattle.iddqd_store.specs.Runs.Run.{Run}
 use Rattle.iddqd_bi.specs.Step.{Step}
 use Rattle.iddqd_bi.proofs.map.BiHashMap.run.Given as goal
 

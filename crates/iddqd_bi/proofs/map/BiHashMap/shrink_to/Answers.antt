@@ -1,8 +1,8 @@
 use Rattle.std.proofs.Common.{arith, ◌≡◌, ◌≤◌, ◌<◌, length, refl, ℕ}
 use Rattle.std.specs.Prelude.{min, max}
-use Rattle.iddqd_store.proofs.FillLemmas.{live_items-compact}
-use Rattle.iddqd_store.proofs.IndexLemmas.{length-live_items}
-use Rattle.iddqd_store.proofs.IndexedLemmas.{IsIndexed-move}
+use Rattle.iddqd_store.proofs.RankLemmas.Fill.{live_items-compact}
+use Rattle.iddqd_store.proofs.RankLemmas.Index.{length-live_items}
+use Rattle.iddqd_store.proofs.RankLemmas.Invariant.{IsIndexed-move}
 use Rattle.iddqd_store.proofs.MapLemmas.{on_err}
 use Rattle.iddqd_store.specs.Map.{bag}
 use Rattle.iddqd_store.specs.Slots.{live_count}

@@ -2,7 +2,7 @@ use Rattle.std.proofs.Common.{sym, ap, ◌∙◌, [], ◌∷◌}
 use Rattle.std.specs.Option.{option_to_list, option_and_then}
 use Rattle.iddqd_store.specs.Slots.{get}
 use Rattle.iddqd_store.specs.Map.{Map, bag}
-use Rattle.iddqd_store.proofs.UniqueLemmas.{all_of-none, all_of-kept, all_of-lost, every_one}
+use Rattle.iddqd_store.proofs.BagLemmas.Unique.{all_of-none, all_of-kept, all_of-lost, every_one}
 use Rattle.iddqd_bi.proofs.map.BiHashMap.slot_unique.Goals as goal
 
 pub returns-in_err-ix-clause-found : goal.returns-in_err-ix-clause-found

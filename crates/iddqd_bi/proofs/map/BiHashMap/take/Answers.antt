@@ -1,7 +1,7 @@
 use Rattle.std.proofs.Common.{sym, refl, ◌∙◌, arith}
 use Rattle.std.proofs.lemmas.List.Sorted.{IsPermutation-map, length_permutation}
-use Rattle.iddqd_store.proofs.IndexLemmas.{pair_in, hash_known, length-index, length-live_items}
-use Rattle.iddqd_store.proofs.IndexedLemmas.{IsIndexed-remove}
+use Rattle.iddqd_store.proofs.RankLemmas.Index.{pair_in, hash_known, length-index, length-live_items}
+use Rattle.iddqd_store.proofs.RankLemmas.Invariant.{IsIndexed-remove}
 use Rattle.iddqd_bi.proofs.MapLemmas.{AreLawful-ranks}
 use Rattle.iddqd_bi.proofs.map.BiHashMap.take.Goals as goal
 

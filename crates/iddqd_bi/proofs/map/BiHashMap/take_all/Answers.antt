@@ -6,8 +6,8 @@ use Rattle.std.proofs.lemmas.List.{length_push}
 use Rattle.std.proofs.lemmas.List.Elements.{All-tail}
 use Rattle.std.proofs.lemmas.Option.{slice_get-get_or}
 use Rattle.iddqd_store.specs.Slots.{IsLive}
-use Rattle.iddqd_store.specs.Searched.{items_at}
-use Rattle.iddqd_store.proofs.OverLemmas.{drop-found, items_at-taken, live-others, IsPermutation-taken}
+use Rattle.iddqd_store.specs.Slots.Found.{items_at}
+use Rattle.iddqd_store.proofs.BagLemmas.Over.{drop-found, items_at-taken, live-others, IsPermutation-taken}
 use Rattle.iddqd_bi.proofs.map.BiHashMap.take_all.Goals as goal
 use Rattle.iddqd_bi.proofs.map.BiHashMap.take_all.Goals.{in-Some, in_default}
 

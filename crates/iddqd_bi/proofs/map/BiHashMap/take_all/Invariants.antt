@@ -3,7 +3,7 @@ use Rattle.std.specs.Prelude.{All, nat_eq}
 use Rattle.std.specs.List.{IsDistinct}
 use Rattle.iddqd_store.specs.Map.{bag, Loses}
 use Rattle.iddqd_store.specs.Slots.{IsLive}
-use Rattle.iddqd_store.specs.Searched.{items_at}
+use Rattle.iddqd_store.specs.Slots.Found.{items_at}
 use Rattle.iddqd_bi.proofs.map.BiHashMap.take_all.Given as goal
 
 abbrev pub invariant-loop-at : goal.invariant-loop-at

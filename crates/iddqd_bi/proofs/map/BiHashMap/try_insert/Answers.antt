@@ -1,6 +1,6 @@
 use Rattle.std.proofs.Common.{◌≡◌, ◌≢◌, ℕ, Bool, true, false, arith, nat_eq}
 use Rattle.std.proofs.lemmas.Bool.Decides.{nat_tests}
-use Rattle.iddqd_store.proofs.FoundLemmas.{clash_none, clash_some}
+use Rattle.iddqd_store.proofs.SlotLemmas.Found.{clash_none, clash_some}
 use Rattle.iddqd_bi.specs.Keys.{ranks}
 use Rattle.iddqd_bi.proofs.map.BiHashMap.try_insert.Goals as goal
 

@@ -1,4 +1,4 @@
-use Rattle.iddqd_store.proofs.IndexedLemmas.{IsIndexed-empty}
+use Rattle.iddqd_store.proofs.RankLemmas.Invariant.{IsIndexed-empty}
 use Rattle.iddqd_bi.proofs.map.BiHashMap.with_capacity_and_hasher.Goals as goal
 
 pub invariant_of-result : goal.invariant_of-result

@@ -1,5 +1,5 @@
 use Rattle.std.proofs.Common.{arith, length}
-use Rattle.iddqd_store.proofs.Size.{size_most}
+use Rattle.iddqd_store.proofs.TableLemmas.Limits.{size_most}
 use Rattle.iddqd_store.proofs.index_table.IndexTable.capacity.Goals as goal
 
 pub returns-clause-most : goal.returns-clause-most

@@ -1,11 +1,11 @@
 use Rattle.std.proofs.Common.{arith, ◌<◌, length, None, sym, subst, refl}
 use Rattle.std.specs.Prelude.{◌≢◌, ◌↔◌, IsSome}
 use Rattle.iddqd_store.specs.Table.{Table}
-use Rattle.iddqd_store.specs.Ring.{cell, held, IsFull}
+use Rattle.iddqd_store.specs.Table.Ring.{cell, held, IsFull}
 use Rattle.iddqd_store.specs.Table.{hashes}
-use Rattle.iddqd_store.proofs.Theorem.{occupied_exactly_full}
-use Rattle.iddqd_store.proofs.Walk.{room}
-use Rattle.iddqd_store.proofs.Size.{some_not_none}
+use Rattle.iddqd_store.proofs.TableLemmas.Full.{occupied_exactly_full}
+use Rattle.iddqd_store.proofs.TableLemmas.Search.{room}
+use Rattle.iddqd_store.proofs.TableLemmas.Limits.{some_not_none}
 use Rattle.iddqd_store.proofs.index_table.IndexTable.cell_at.Goals as goal
 
 pub returns-clause-full : goal.returns-clause-full

@@ -1,5 +1,5 @@
 use Rattle.std.proofs.Common.{length}
-use Rattle.iddqd_store.proofs.Size.{table_empty, length_held_empty, held-empty}
+use Rattle.iddqd_store.proofs.TableLemmas.Limits.{table_empty, length_held_empty, held-empty}
 use Rattle.iddqd_store.proofs.index_table.IndexTable.clear.Goals as goal
 
 pub invariant_of-self : goal.invariant_of-self

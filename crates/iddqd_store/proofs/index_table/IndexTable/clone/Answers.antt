@@ -1,6 +1,6 @@
 use Rattle.std.proofs.Common.{arith, ◌≡◌, ◌∙◌, ap}
 use Rattle.iddqd_store.specs.Table.{table_of}
-use Rattle.iddqd_store.proofs.Copy.{copy_whole}
+use Rattle.iddqd_store.proofs.TableLemmas.Copy.{copy_whole}
 use Rattle.iddqd_store.proofs.index_table.IndexTable.clone.Goals as goal
 
 pub invariant_of-result : goal.invariant_of-result

@@ -1,4 +1,4 @@
-use Rattle.iddqd_store.proofs.Copy.{IsCopied}
+use Rattle.iddqd_store.proofs.TableLemmas.Copy.{IsCopied}
 use Rattle.iddqd_store.proofs.index_table.IndexTable.clone.Given as goal
 
 abbrev pub invariant-loop-i : goal.invariant-loop-i

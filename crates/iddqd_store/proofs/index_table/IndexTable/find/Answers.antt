@@ -2,11 +2,11 @@ use Rattle.std.proofs.Common.{subst, arith, ℕ, ◌≡◌, ◌+◌, ◌-◌, �
 use Rattle.std.specs.Prelude.{◌≢◌, nat_lt, if◌then◌else◌}
 use Rattle.std.specs.List.{Contains, count_by}
 use Rattle.iddqd_store.specs.Table.{Table}
-use Rattle.iddqd_store.specs.Ring.{cell, held, stretch}
+use Rattle.iddqd_store.specs.Table.Ring.{cell, held, stretch}
 use Rattle.iddqd_store.specs.Table.{LooksUp, hashes, under}
-use Rattle.iddqd_store.proofs.Stretch.{place}
-use Rattle.iddqd_store.proofs.Within.{stretch_le_pairs}
-use Rattle.iddqd_store.proofs.Walk.{Walk, met, walk_more, walk_end, walk_meets, refused_more, met_under, met_grows, met_within, found_there, walk_found}
+use Rattle.iddqd_store.proofs.TableLemmas.Stretch.{place}
+use Rattle.iddqd_store.proofs.TableLemmas.StretchBound.{stretch_le_pairs}
+use Rattle.iddqd_store.proofs.TableLemmas.Search.{Walk, met, walk_more, walk_end, walk_meets, refused_more, met_under, met_grows, met_within, found_there, walk_found}
 use Rattle.iddqd_store.proofs.index_table.IndexTable.find.Goals as goal
 use Rattle.iddqd_store.proofs.index_table.IndexTable.find.Goals.{else-stored-hash-via-then-stored-hash+else-matches, else-stored-hash-via-else-stored-hash}
 

@@ -1,8 +1,8 @@
 use Rattle.std.proofs.Common.{◌≡◌, ℕ, ◌+◌, ◌-◌, ◌%◌, ◌<◌, ◌≤◌, Some, false, length}
-use Rattle.iddqd_store.specs.Ring.{cell}
+use Rattle.iddqd_store.specs.Table.Ring.{cell}
 use Rattle.iddqd_store.specs.Table.{under}
-use Rattle.iddqd_store.proofs.Stretch.{place}
-use Rattle.iddqd_store.proofs.Walk.{Walk, met}
+use Rattle.iddqd_store.proofs.TableLemmas.Stretch.{place}
+use Rattle.iddqd_store.proofs.TableLemmas.Search.{Walk, met}
 use Rattle.iddqd_store.proofs.index_table.IndexTable.find.Given as goal
 
 abbrev pub invariant-loop-pair : goal.invariant-loop-pair

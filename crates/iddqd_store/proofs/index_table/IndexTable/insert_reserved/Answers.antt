@@ -2,9 +2,9 @@ use Rattle.std.proofs.Common.{arith, ℕ, ◌*◌, ◌/◌, ◌<◌, ◌∷◌, 
 use Rattle.std.specs.List.Sorted.{IsPermutation}
 use Rattle.std.proofs.lemmas.List.Sorted.{length_permutation}
 use Rattle.iddqd_store.specs.Table.{Table}
-use Rattle.iddqd_store.specs.Ring.{held}
-use Rattle.iddqd_store.proofs.Change.{held_put, table_put}
-use Rattle.iddqd_store.proofs.Within.{stretch_le_pairs}
+use Rattle.iddqd_store.specs.Table.Ring.{held}
+use Rattle.iddqd_store.proofs.TableLemmas.Write.{held_put, table_put}
+use Rattle.iddqd_store.proofs.TableLemmas.StretchBound.{stretch_le_pairs}
 use Rattle.iddqd_store.proofs.index_table.IndexTable.insert_reserved.Goals as goal
 
 pub overflow_add-self : goal.overflow_add-self

@@ -1,7 +1,7 @@
 use Rattle.std.proofs.Common.{arith, ℕ, length, ◌≡◌, ◌∷◌}
 use Rattle.std.proofs.lemmas.List.Sorted.{length_permutation}
-use Rattle.iddqd_store.specs.Ring.{held}
-use Rattle.iddqd_store.proofs.Within.{stretch_le_pairs}
+use Rattle.iddqd_store.specs.Table.Ring.{held}
+use Rattle.iddqd_store.proofs.TableLemmas.StretchBound.{stretch_le_pairs}
 use Rattle.iddqd_store.proofs.index_table.IndexTable.remove.Goals as goal
 
 pub invariant_of-self : goal.invariant_of-self

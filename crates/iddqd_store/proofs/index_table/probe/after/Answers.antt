@@ -1,4 +1,4 @@
-use Rattle.iddqd_store.proofs.Size.{mask_after}
+use Rattle.iddqd_store.proofs.TableLemmas.Limits.{mask_after}
 use Rattle.iddqd_store.proofs.index_table.probe.after.Goals as goal
 
 pub returns : goal.returns

@@ -1,6 +1,6 @@
 use Rattle.std.proofs.Common.{rules, arith, ℕ, ◌≡◌, ◌+◌, ◌*◌, ◌/◌, ◌^◌, ◌<◌, ◌≤◌, subst, inr, ⊎_elim}
 use Rattle.std.proofs.lemmas.Bool.{cases_lt}
-use Rattle.iddqd_store.proofs.Size.{doubled, least_found, size_most}
+use Rattle.iddqd_store.proofs.TableLemmas.Limits.{doubled, least_found, size_most}
 use Rattle.iddqd_store.proofs.index_table.probe.cells_for.Goals as goal
 
 step : (k m count twice : ℕ) → count ≡ 8 * 2 ^ k → twice ≡ count * 2 → count / 8 * 7 < m → ((j : ℕ) → j < k → 7 * 2 ^ j < m) → (x : ℕ) × (twice ≡ 8 * 2 ^ x) × ((j : ℕ) → j < x → 7 * 2 ^ j < m)

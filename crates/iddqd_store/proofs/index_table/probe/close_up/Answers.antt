@@ -3,12 +3,12 @@ use Rattle.std.specs.Prelude.{◌≢◌, nat_lt, if◌then◌else◌}
 use Rattle.std.specs.List.Sorted.{IsPermutation}
 use Rattle.std.proofs.lemmas.List.{get_or-set_other, set-set}
 use Rattle.std.proofs.lemmas.List.Sorted.{IsPermutation-trans, IsPermutation-cons, length_permutation}
-use Rattle.iddqd_store.specs.Ring.{cell, gap, held, stretch, IsReached}
+use Rattle.iddqd_store.specs.Table.Ring.{cell, gap, held, stretch, IsReached}
 use Rattle.iddqd_store.specs.Table.{hashes, IsTable}
-use Rattle.iddqd_store.proofs.Line.{cases_option}
-use Rattle.iddqd_store.proofs.Change.{held_take, held_move}
-use Rattle.iddqd_store.proofs.Hole.{Holed, reaches, falls_short, left_behind, holed_start, holed_pass, holed_move, holed_end}
-use Rattle.iddqd_store.proofs.Walk.{Walk, walk_more, walk_to, walk_below, walk_gap, walk_end, beyond}
+use Rattle.iddqd_store.proofs.TableLemmas.Line.{cases_option}
+use Rattle.iddqd_store.proofs.TableLemmas.Write.{held_take, held_move}
+use Rattle.iddqd_store.proofs.TableLemmas.Remove.{Holed, reaches, falls_short, left_behind, holed_start, holed_pass, holed_move, holed_end}
+use Rattle.iddqd_store.proofs.TableLemmas.Search.{Walk, walk_more, walk_to, walk_below, walk_gap, walk_end, beyond}
 use Rattle.iddqd_store.proofs.index_table.probe.close_up.Goals as goal
 use Rattle.iddqd_store.proofs.index_table.probe.close_up.Goals.{then-far-way, else-far-way}
 

@@ -1,8 +1,8 @@
 use Rattle.std.proofs.Common.{◌≡◌, ℕ, ◌+◌, ◌-◌, ◌%◌, ◌<◌, ◌≤◌, ◌∷◌, length, set, None, Some}
 use Rattle.std.specs.List.Sorted.{IsPermutation}
-use Rattle.iddqd_store.specs.Ring.{cell, gap, held}
-use Rattle.iddqd_store.proofs.Walk.{Walk}
-use Rattle.iddqd_store.proofs.Hole.{Holed}
+use Rattle.iddqd_store.specs.Table.Ring.{cell, gap, held}
+use Rattle.iddqd_store.proofs.TableLemmas.Search.{Walk}
+use Rattle.iddqd_store.proofs.TableLemmas.Remove.{Holed}
 use Rattle.iddqd_store.proofs.index_table.probe.close_up.Given as goal
 
 abbrev pub invariant-loop-pair : goal.invariant-loop-pair

@@ -1,8 +1,8 @@
 use Rattle.std.proofs.Common.{arith, ℕ, ◌≡◌, ◌+◌, ◌-◌, ◌%◌, length, None}
 use Rattle.std.specs.Prelude.{◌≢◌, nat_lt, if◌then◌else◌}
-use Rattle.iddqd_store.specs.Ring.{cell, held, stretch}
+use Rattle.iddqd_store.specs.Table.Ring.{cell, held, stretch}
 use Rattle.iddqd_store.specs.Table.{hashes}
-use Rattle.iddqd_store.proofs.Walk.{walk_more, walk_end, walk_first, none_from_test, some_from_test}
+use Rattle.iddqd_store.proofs.TableLemmas.Search.{walk_more, walk_end, walk_first, none_from_test, some_from_test}
 use Rattle.iddqd_store.proofs.index_table.probe.first_empty.Goals as goal
 
 pub loop-at-preserved : goal.loop-at-preserved

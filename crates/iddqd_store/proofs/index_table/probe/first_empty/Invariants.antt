@@ -1,5 +1,5 @@
 use Rattle.std.proofs.Common.{◌-◌, ◌%◌, ◌≤◌, length}
-use Rattle.iddqd_store.proofs.Walk.{Walk}
+use Rattle.iddqd_store.proofs.TableLemmas.Search.{Walk}
 use Rattle.iddqd_store.proofs.index_table.probe.first_empty.Given as goal
 
 abbrev pub invariant-loop-at : goal.invariant-loop-at

@@ -1,4 +1,4 @@
-use Rattle.iddqd_store.proofs.Size.{mask_home}
+use Rattle.iddqd_store.proofs.TableLemmas.Limits.{mask_home}
 use Rattle.iddqd_store.proofs.index_table.probe.home_of.Goals as goal
 
 pub returns : goal.returns

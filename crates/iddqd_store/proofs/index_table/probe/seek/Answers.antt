@@ -1,8 +1,8 @@
 use Rattle.std.proofs.Common.{arith, ℕ, ◌≡◌, ◌+◌, ◌-◌, ◌%◌, length, ◌∙◌, None, Some, refl, eqb, false, not}
 use Rattle.std.specs.Prelude.{◌≢◌, ◌&&◌, nat_lt, if◌then◌else◌}
 use Rattle.std.proofs.lemmas.Bool.{eq-eqb, both_ways}
-use Rattle.iddqd_store.specs.Ring.{cell}
-use Rattle.iddqd_store.proofs.Walk.{walk_more, unmet_more, seek_on}
+use Rattle.iddqd_store.specs.Table.Ring.{cell}
+use Rattle.iddqd_store.proofs.TableLemmas.Search.{walk_more, unmet_more, seek_on}
 use Rattle.iddqd_store.proofs.index_table.probe.seek.Goals as goal
 
 pub loop-index-preserved : goal.loop-index-preserved

@@ -1,8 +1,8 @@
 use Rattle.std.proofs.Common.{ℕ, ◌-◌, ◌%◌, ◌<◌, ◌≤◌, length, Some}
 use Rattle.std.specs.Prelude.{◌≢◌}
-use Rattle.iddqd_store.specs.Ring.{cell}
-use Rattle.iddqd_store.proofs.Stretch.{place}
-use Rattle.iddqd_store.proofs.Walk.{Walk}
+use Rattle.iddqd_store.specs.Table.Ring.{cell}
+use Rattle.iddqd_store.proofs.TableLemmas.Stretch.{place}
+use Rattle.iddqd_store.proofs.TableLemmas.Search.{Walk}
 use Rattle.iddqd_store.proofs.index_table.probe.seek.Given as goal
 
 abbrev pub invariant-loop-index : goal.invariant-loop-index

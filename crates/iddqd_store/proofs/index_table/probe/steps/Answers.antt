@@ -1,5 +1,5 @@
 use Rattle.std.proofs.Common.{arith}
-use Rattle.iddqd_store.proofs.Size.{mask_steps}
+use Rattle.iddqd_store.proofs.TableLemmas.Limits.{mask_steps}
 use Rattle.iddqd_store.proofs.index_table.probe.steps.Goals as goal
 
 pub returns : goal.returns

@@ -1,4 +1,4 @@
-use Rattle.iddqd_store.proofs.CloneLemmas.{slots_are_clones, items_are_clones, IsChained-clone}
+use Rattle.iddqd_store.proofs.SlotLemmas.Clone.{slots_are_clones, items_are_clones, IsChained-clone}
 use Rattle.iddqd_store.proofs.item_set.ItemSet.clone.Goals as goal
 
 pub invariant_of-result : goal.invariant_of-result

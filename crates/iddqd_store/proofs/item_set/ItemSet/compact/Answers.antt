@@ -1,7 +1,7 @@
 use Rattle.std.proofs.Common.{◌≡◌, rules, arith, is_some}
 use Rattle.std.proofs.lemmas.List.Elements.{filter_from_retain}
-use Rattle.iddqd_store.specs.SlotChain.{item_of, live_slots}
-use Rattle.iddqd_store.proofs.SlotLemmas.{view-live_slots, IsChained-compact}
+use Rattle.iddqd_store.specs.Slots.Chain.{item_of, live_slots}
+use Rattle.iddqd_store.proofs.SlotLemmas.Chain.{view-live_slots, IsChained-compact}
 use Rattle.iddqd_store.proofs.item_set.ItemSet.compact.Goals as goal
 
 pub invariant_of-self : goal.invariant_of-self

@@ -2,7 +2,7 @@ use Rattle.std.proofs.Common.{arith, ◌<◌, ◌∙◌, length, refl, sym, ap}
 use Rattle.std.specs.Option.{option_copied}
 use Rattle.iddqd_store.specs.Rank.{key_hash}
 use Rattle.iddqd_store.specs.Map.{hash_of}
-use Rattle.iddqd_store.proofs.FillLemmas.{IsFilling-start, IsFilling-skip, IsFilling-enter, IsFilling-room}
+use Rattle.iddqd_store.proofs.RankLemmas.Fill.{IsFilling-start, IsFilling-skip, IsFilling-enter, IsFilling-room}
 use Rattle.iddqd_store.proofs.item_set.ItemSet.fill.Goals as goal
 use Rattle.iddqd_store.proofs.item_set.ItemSet.fill.Goals.{in-Some, in_default}
 

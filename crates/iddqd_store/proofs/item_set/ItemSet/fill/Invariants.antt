@@ -1,6 +1,6 @@
 use Rattle.std.proofs.Common.{◌≡◌, length}
 use Rattle.iddqd_store.specs.Rank.{key_hash}
-use Rattle.iddqd_store.proofs.FillLemmas.{IsFilling}
+use Rattle.iddqd_store.proofs.RankLemmas.Fill.{IsFilling}
 use Rattle.iddqd_store.proofs.item_set.ItemSet.fill.Given as goal
 
 abbrev pub invariant-loop-at : goal.invariant-loop-at

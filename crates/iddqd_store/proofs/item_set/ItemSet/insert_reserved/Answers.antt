@@ -1,8 +1,8 @@
 use Rattle.std.proofs.Common.{Some, sym, ap, ◌≡◌, map, length, ◌∙◌, arith}
 use Rattle.std.proofs.lemmas.List.{map-set, map_push, length-map}
 use Rattle.iddqd_store.specs.declared.item_set.Slot.TheVariants.{Live, Free}
-use Rattle.iddqd_store.specs.SlotChain.{item_of}
-use Rattle.iddqd_store.proofs.SlotLemmas.{full_at_end, next_within, next_is_vacant, read_at_next, next_is_not_occupied, count-set, IsChained-push, IsChained-fill, Updates-set, members-push, members-put}
+use Rattle.iddqd_store.specs.Slots.Chain.{item_of}
+use Rattle.iddqd_store.proofs.SlotLemmas.Chain.{full_at_end, next_within, next_is_vacant, read_at_next, next_is_not_occupied, count-set, IsChained-push, IsChained-fill, Updates-set, members-push, members-put}
 use Rattle.iddqd_store.proofs.item_set.ItemSet.insert_reserved.Goals as goal
 
 pub push_reserved-requires : goal.push_reserved-requires

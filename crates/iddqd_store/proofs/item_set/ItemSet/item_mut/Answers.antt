@@ -1,8 +1,8 @@
 use Rattle.std.proofs.Common.{None, refl, sym, ap, ◌∙◌}
 use Rattle.std.proofs.lemmas.List.{map-set, get_or-map}
 use Rattle.std.proofs.lemmas.Option.{slice_get_within}
-use Rattle.iddqd_store.specs.SlotChain.{item_of}
-use Rattle.iddqd_store.proofs.SlotLemmas.{occupied_at, IsChained-rewrite}
+use Rattle.iddqd_store.specs.Slots.Chain.{item_of}
+use Rattle.iddqd_store.proofs.SlotLemmas.Chain.{occupied_at, IsChained-rewrite}
 use Rattle.iddqd_store.proofs.item_set.ItemSet.item_mut.Goals as goal
 
 pub invariant_of-self-lent : goal.invariant_of-self-lent

@@ -1,4 +1,4 @@
-use Rattle.iddqd_store.proofs.SlotLemmas.{members-take}
+use Rattle.iddqd_store.proofs.SlotLemmas.Chain.{members-take}
 use Rattle.iddqd_store.proofs.item_set.ItemSet.remove.Goals as goal
 
 pub returns-then-is_live-clause-members : goal.returns-then-is_live-clause-members

@@ -1,4 +1,4 @@
-use Rattle.iddqd_store.proofs.SlotLemmas.{Exchanges-set}
+use Rattle.iddqd_store.proofs.SlotLemmas.Chain.{Exchanges-set}
 use Rattle.iddqd_store.proofs.item_set.ItemSet.replace.Goals as goal
 
 pub returns-clause-members : goal.returns-clause-members

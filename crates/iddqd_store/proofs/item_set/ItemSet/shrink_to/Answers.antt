@@ -1,6 +1,6 @@
 use Rattle.std.proofs.Common.{◌≡◌, arith, ap, ◌∙◌}
-use Rattle.iddqd_store.specs.SlotChain.{live_slots}
-use Rattle.iddqd_store.proofs.SlotLemmas.{length-live_slots, view-live_slots, IsChained-compact}
+use Rattle.iddqd_store.specs.Slots.Chain.{live_slots}
+use Rattle.iddqd_store.proofs.SlotLemmas.Chain.{length-live_slots, view-live_slots, IsChained-compact}
 use Rattle.iddqd_store.proofs.item_set.ItemSet.shrink_to.Goals as goal
 
 pub gathered-requires-clause-room : goal.gathered-requires-clause-room

@@ -1,6 +1,6 @@
 use Rattle.std.proofs.Common.{arith}
 use Rattle.std.proofs.lemmas.List.{map-set}
-use Rattle.iddqd_store.proofs.SlotLemmas.{occupied_at, count-set, IsChained-vacate}
+use Rattle.iddqd_store.proofs.SlotLemmas.Chain.{occupied_at, count-set, IsChained-vacate}
 use Rattle.iddqd_store.specs.declared.item_set.Slot.TheVariants.{Live, Free}
 use Rattle.iddqd_store.proofs.item_set.ItemSet.take.Goals as goal
 

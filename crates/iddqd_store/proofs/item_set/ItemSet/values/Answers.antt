@@ -1,6 +1,6 @@
 use Rattle.std.proofs.Common.{sym, map, ◌∙◌}
-use Rattle.iddqd_store.specs.SlotChain.{item_of}
-use Rattle.iddqd_store.proofs.SlotLemmas.{live_items-items_in, length-items_in}
+use Rattle.iddqd_store.specs.Slots.Chain.{item_of}
+use Rattle.iddqd_store.proofs.SlotLemmas.Chain.{live_items-items_in, length-items_in}
 use Rattle.iddqd_store.proofs.item_set.ItemSet.values.Goals as goal
 
 pub invariant_of-result : goal.invariant_of-result

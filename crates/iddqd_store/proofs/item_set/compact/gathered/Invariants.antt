@@ -1,6 +1,6 @@
 use Rattle.std.proofs.Common.{◌≡◌, ◌++◌, length, vec_capacity}
 use Rattle.std.specs.Vec.Iter.{into_iter_items}
-use Rattle.iddqd_store.specs.SlotChain.{live_slots}
+use Rattle.iddqd_store.specs.Slots.Chain.{live_slots}
 use Rattle.iddqd_store.proofs.item_set.compact.gathered.Given as goal
 
 -- those moved, and those still to come

@@ -25,7 +25,7 @@ use denote.Triple.Entry.{alive}
 use denote.Triple.Spec.{Meets, triple_of}
 use denote.Triple.Table.{entered}
 use denote.Triple.Walked.{says, Stays, stay_dropped, walk_of, ends_at, walk_Meets, Goes-dropped}
-use Rattle.iddqd_store.proofs.Walks.{none, none_made}
+use Rattle.iddqd_store.proofs.CountRule.{none, none_made}
 use Rattle.iddqd_store.specs.contracts.meter.Count as Count
 use Rattle.iddqd_store.specs.contracts.meter.Count.more as F
 use Rattle.iddqd_store.specs.contracts.meter.Count.more.Key.{name as #self}

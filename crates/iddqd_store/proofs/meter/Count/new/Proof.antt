@@ -23,7 +23,7 @@ use denote.Triple.Entry.{alive}
 use denote.Triple.Spec.{Meets, triple_of}
 use denote.Triple.Table.{entered}
 use denote.Triple.Walked.{says, Stays, walk_of, ends_at, walk_Meets}
-use Rattle.iddqd_store.proofs.Walks.{none, none_made}
+use Rattle.iddqd_store.proofs.CountRule.{none, none_made}
 use Rattle.iddqd_store.specs.contracts.meter.Count as Count
 use Rattle.iddqd_store.specs.contracts.meter.Count.new as F
 use Rattle.iddqd_store.specs.contracts.meter.Count.new.Key.{name as #self}

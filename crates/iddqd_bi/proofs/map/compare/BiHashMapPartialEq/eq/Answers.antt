@@ -1,6 +1,6 @@
 use Rattle.std.proofs.Common.{arith, sym, ◌∙◌, rules}
 use Rattle.iddqd_store.specs.Map.{bag}
-use Rattle.iddqd_store.proofs.Partners.{same_decides, told_same, told_longer, told_alone}
+use Rattle.iddqd_store.proofs.BagLemmas.Partners.{same_decides, told_same, told_longer, told_alone}
 use Rattle.iddqd_bi.specs.Keys.{ranks}
 use Rattle.iddqd_bi.proofs.MapLemmas.{AreLawful-ranks}
 use Rattle.iddqd_bi.proofs.map.compare.BiHashMapPartialEq.eq.Goals as goal

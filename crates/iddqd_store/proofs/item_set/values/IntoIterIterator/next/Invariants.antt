@@ -1,7 +1,7 @@
 use Rattle.std.proofs.Common.{◌≡◌, map, length}
 use Rattle.std.specs.Vec.Iter.{into_iter_items}
 use Rattle.iddqd_store.specs.Slots.{items_in}
-use Rattle.iddqd_store.specs.SlotChain.{item_of}
+use Rattle.iddqd_store.specs.Slots.Chain.{item_of}
 use Rattle.iddqd_store.proofs.item_set.values.IntoIterIterator.next.Given as goal
 
 -- only free slots were passed over

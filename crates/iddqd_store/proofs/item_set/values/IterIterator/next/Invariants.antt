@@ -1,6 +1,6 @@
 use Rattle.std.proofs.Common.{◌≡◌, map, length}
 use Rattle.iddqd_store.specs.Slots.{items_in}
-use Rattle.iddqd_store.specs.SlotChain.{item_of}
+use Rattle.iddqd_store.specs.Slots.Chain.{item_of}
 use Rattle.iddqd_store.proofs.item_set.values.IterIterator.next.Given as goal
 
 -- only free slots were passed over

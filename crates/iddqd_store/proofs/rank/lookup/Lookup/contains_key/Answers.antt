@@ -1,6 +1,6 @@
 use Rattle.std.proofs.Common.{◌∙◌}
 use Rattle.iddqd_store.specs.Map.{bag}
-use Rattle.iddqd_store.proofs.UniqueLemmas.{is_some-found}
+use Rattle.iddqd_store.proofs.BagLemmas.Unique.{is_some-found}
 use Rattle.iddqd_store.proofs.rank.lookup.Lookup.contains_key.Goals as goal
 
 pub returns : goal.returns

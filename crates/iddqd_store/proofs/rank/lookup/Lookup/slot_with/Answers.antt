@@ -1,6 +1,6 @@
 use Rattle.std.proofs.Common.{rules, arith}
 use borrow.Author.Rules.{lives}
-use Rattle.iddqd_store.proofs.RankLemmas.{searches, costs, hash_found}
+use Rattle.iddqd_store.proofs.RankLemmas.Costs.{searches, costs, hash_found}
 use Rattle.iddqd_store.proofs.rank.lookup.Lookup.slot_with.Goals as goal
 
 pub returns-clause-found : goal.returns-clause-found

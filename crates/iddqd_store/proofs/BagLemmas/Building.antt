@@ -1,0 +1,66 @@
+-- Bags built along a list.
+use Rattle.std.specs.Prelude.{◌≡◌, ◌≢◌, ◌≤◌, suc, List, [], ◌∷◌, ◌++◌, length, fold, Result, Ok, Err, Option, IsPermutation}
+use Rattle.std.proofs.Common.{refl, sym, ap, subst, ◌∙◌, arith}
+use Rattle.std.proofs.lemmas.List.Folds.{fold_stays}
+use Rattle.std.proofs.lemmas.List.Sorted.{IsPermutation-sym, IsPermutation-cons, IsPermutation-trans, length_permutation}
+use Rattle.iddqd_store.specs.Bag.{Ranks, AreLawful, IsSound, clash, order, over, add, add_next, adds}
+use Rattle.iddqd_store.specs.Bag.Building.{GivesThen, AddsTo, RefusesFor, HasPlaceFor}
+use Rattle.iddqd_store.proofs.BagLemmas.Sound.{length-over, order-IsPermutation, IsSound-IsPermutation}
+use Rattle.iddqd_store.proofs.BagLemmas.Steps.{IsSound-nil, IsSound-add, clash-IsPermutation, clash-empty, add-refused, adds_push}
+
+pub GivesThen-weaker : {U S T : Type 0} (becomes : U → S → Type 0) (steps : S → Option T → S → Type 0) (iter : U) (x : T) (P Q : List T → Type 0) → ((xs : List T) → P xs → Q xs) → GivesThen becomes steps iter x P → GivesThen becomes steps iter x Q
+GivesThen-weaker becomes steps iter x P Q f h = (h.0, h.1, h.2, h.3, h.4, f h.1 h.5)
+
+module _ {T : Type 0} where
+  -- an item more at most
+  pub length-overwritten : (ranks : Ranks T) (bag new : List T) (x : T) → IsPermutation new (over ranks bag x) → length new ≤ suc (length bag)
+  length-overwritten ranks bag new x p = omega (arith, length_permutation new (over ranks bag x) p, length-over ranks bag x)
+
+  nothing : (xs : List T) → length xs ≡ 0 → xs ≡ []
+  nothing [] h = refl
+  nothing (x ∷ xs) h = absurd (omega arith)
+
+  -- what conflicts with no member conflicts with none in another order
+  pub clash-none : (ranks : Ranks T) (held made : List T) (x : T) → IsPermutation held made → clash ranks held x ≡ [] → clash ranks made x ≡ []
+  clash-none ranks held made x p free =
+      nothing (clash ranks made x) (length_permutation _ _ (clash-IsPermutation ranks held made x p) ∙ ap length free)
+
+  add-free : (ranks : Ranks T) (made : List T) (x : T) → clash ranks made x ≡ [] → add ranks made x ≡ Ok (x ∷ made)
+  add-free ranks made x free = rw free refl
+
+  same_ok : (ranks : Ranks T) (bag made : List T) → adds ranks bag [] ≡ Ok made → bag ≡ made
+  same_ok ranks bag made h = cc
+
+  stays_refused : (ranks : Ranks T) (xs made : List T) (refusal : T × List T) → fold (add_next ranks) (Err refusal) xs ≡ Ok made → ⊥
+  stays_refused ranks xs made refusal h =
+      let still = fold_stays (add_next ranks) (Err refusal) (λ x. refl) xs in cc
+
+  -- a list that was added makes a sound bag
+  pub IsSound-adds : (ranks : Ranks T) (bag xs made : List T) → IsSound ranks bag → adds ranks bag xs ≡ Ok made → IsSound ranks made
+  IsSound-adds ranks bag [] made sound is = subst (IsSound ranks) (same_ok ranks bag made is) sound
+  IsSound-adds ranks bag (x ∷ xs) made sound is = by_first (λ next. IsSound-adds ranks next xs made) (add ranks bag x) refl is
+    where
+      by_first : ((next : List T) → IsSound ranks next → adds ranks next xs ≡ Ok made → IsSound ranks made) → (r : Result (List T) (T × List T)) → add ranks bag x ≡ r → fold (add_next ranks) r xs ≡ Ok made → IsSound ranks made
+      by_first on (Ok next) put rest = on next (IsSound-add ranks bag next x sound put) rest
+      by_first on (Err refusal) put rest = absurd (stays_refused ranks xs made refusal rest)
+
+  module _ (ranks : Ranks T) (held xs : List T) (x : T) (added : AddsTo ranks held xs) where
+    -- one more was added
+    pub AddsTo-push : (new : List T) → clash ranks held x ≡ [] → IsPermutation new (x ∷ held) → AddsTo ranks new (xs ++ x ∷ [])
+    AddsTo-push new free put =
+        let made = added.0 in (
+          x ∷ made,
+          adds_push ranks [] xs x ∙ ap (λ r. add_next ranks r x) added.1 ∙ add-free ranks made x (clash-none ranks held made x added.2 free),
+          IsPermutation-trans _ _ _ put (IsPermutation-cons x _ _ added.2),
+        )
+
+    pub HasPlaceFor-free : clash ranks held x ≡ [] → HasPlaceFor ranks x xs
+    HasPlaceFor-free free = (added.0, added.1, add-free ranks added.0 x (clash-none ranks held added.0 x added.2 free))
+
+    -- one was refused, and what is listed of the bag is what the definition lists
+    pub RefusesFor-found : AreLawful ranks → clash ranks held x ≢ [] → RefusesFor ranks x (order ranks held x) xs
+    RefusesFor-found laws some =
+        let made = added.0 in
+        let sound = IsSound-IsPermutation ranks laws made held (IsPermutation-sym _ _ added.2) (IsSound-adds ranks [] xs made (IsSound-nil ranks) added.1) in
+        let same = order-IsPermutation ranks laws held made x sound added.2 in
+        (made, added.1, add-refused ranks made x (λ none. some (clash-empty ranks held x (same ∙ none))) ∙ ap (λ l. Err (x, l)) (sym same))

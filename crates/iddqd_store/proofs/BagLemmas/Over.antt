@@ -1,0 +1,109 @@
+-- How items leave their slots in turn, and what is left where those that conflict left.
+use Rattle.std.specs.Prelude.{◌≡◌, ◌≢◌, ℕ, ◌+◌, slice_get, drop, Bool, false, not, List, [], ◌∷◌, ◌++◌, length, filter, IsPermutation, Option, Some, None, nat_eq, All, if◌then◌else◌}
+use Rattle.std.specs.List.{IsDistinct, AllByRecursion}
+use Rattle.std.proofs.Common.{refl, sym, ap, subst, ◌∙◌, arith, add-one, append_assoc, length-append}
+use Rattle.std.proofs.Math.Seq.{drop-cons}
+use Rattle.std.proofs.lemmas.Option.{slice_get_within, get_or_from_slice_get}
+use Rattle.std.proofs.lemmas.Bool.Decides.{nat_tests}
+use Rattle.std.proofs.lemmas.List.Elements.{All-nil, All-cons, All-head, All-tail, filter-append}
+use Rattle.std.proofs.lemmas.List.Sorted.{IsPermutation-refl, IsPermutation-sym, IsPermutation-trans, IsPermutation-append, IsPermutation-cons, length_permutation}
+use Rattle.std.proofs.lemmas.Map.Keys.{IsDistinct-head, IsDistinct-tail, IsDistinct-cons}
+use Rattle.iddqd_store.specs.Slots.{get, IsLive, Updates}
+use Rattle.iddqd_store.specs.Slots.Found.{items_at, lists, with_found}
+use Rattle.iddqd_store.specs.Bag.{Ranks, some_of, like, conflicts, clash, order, over}
+use Rattle.iddqd_store.proofs.BagLemmas.Exchanges.{split, IsPermutation-filter}
+use Rattle.iddqd_store.proofs.BagLemmas.Steps.{none_passes}
+use Rattle.iddqd_store.proofs.BagLemmas.Sound.{or-false, IsDistinct-nil, each_weaker, each_passes, none_pass, all_pass, IsPermutation-order}
+
+other_number : (a b : ℕ) → nat_eq a b ≡ false → b ≢ a
+other_number a b h = grind (arith, nat_tests)
+
+flipped : (a b : ℕ) → nat_eq a b ≡ false → nat_eq b a ≡ false
+flipped a b h = grind (arith, nat_tests)
+
+-- the slots found are distinct
+pub IsDistinct-push : (ixs : List ℕ) (ix : ℕ) → IsDistinct nat_eq ixs → lists ixs ix ≡ false → IsDistinct nat_eq (ixs ++ ix ∷ [])
+IsDistinct-push [] ix apart new = IsDistinct-cons nat_eq ix [] tt (IsDistinct-nil nat_eq)
+IsDistinct-push (a ∷ ixs) ix apart new =
+    let both = or-false (nat_eq ix a) (lists ixs ix) new in
+    IsDistinct-cons nat_eq a (ixs ++ ix ∷ [])
+    (further ixs (IsDistinct-head nat_eq a ixs apart) (flipped ix a both.0))
+    (IsDistinct-push ixs ix (IsDistinct-tail nat_eq a ixs apart) both.1)
+  where
+    further : (rest : List ℕ) → AllByRecursion (λ y. nat_eq a y ≡ false) rest → nat_eq a ix ≡ false → AllByRecursion (λ y. nat_eq a y ≡ false) (rest ++ ix ∷ [])
+    further [] others last = (last, tt)
+    further (b ∷ rest) others last = (others.0, further rest others.1 last)
+
+pub IsDistinct-with_found : (ixs : List ℕ) (found : Option ℕ) → IsDistinct nat_eq ixs → IsDistinct nat_eq (with_found ixs found)
+IsDistinct-with_found ixs None apart = apart
+IsDistinct-with_found ixs (Some ix) apart =
+    split (λ b. IsDistinct nat_eq (if b then ixs else ixs ++ ix ∷ [])) (lists ixs ix) (λ _. apart) (λ no. IsDistinct-push ixs ix apart no)
+
+-- the slots from this place on, by their first
+pub drop-found : (ixs : List ℕ) (at ix : ℕ) → slice_get ixs at ≡ Some ix → drop at ixs ≡ ix ∷ drop (at + 1) ixs
+drop-found ixs at ix is =
+    let within = slice_get_within ixs at ix is in
+    let first = get_or_from_slice_get ixs at ix 0 is in
+    rw (add-one, drop-cons ixs at 0, first) refl
+
+module _ {T : Type 0} where
+  -- a change of one slot leaves the items of the others
+  items_at-others : (old new : List (Option T)) (at : ℕ) (slot : Option T) (ixs : List ℕ) → Updates old new at slot → AllByRecursion (λ ix. nat_eq at ix ≡ false) ixs → items_at new ixs ≡ items_at old ixs
+  items_at-others old new at slot [] updates apart = refl
+  items_at-others old new at slot (ix ∷ ixs) updates apart =
+      let here : get new ix ≡ get old ix = updates.others ix (other_number at ix apart.0) in
+      rw (here, items_at-others old new at slot ixs updates apart.1) refl
+
+  -- one more item left its slot
+  pub items_at-taken : (old new : List (Option T)) (ix : ℕ) (rest : List ℕ) (x : T) (taken whole : List T) → Updates old new ix None → get old ix ≡ Some x → IsDistinct nat_eq (ix ∷ rest) → taken ++ items_at old (ix ∷ rest) ≡ whole → (taken ++ x ∷ []) ++ items_at new rest ≡ whole
+  items_at-taken old new ix rest x taken whole updates found apart before =
+      append_assoc taken (x ∷ []) (items_at new rest)
+      ∙ ap (λ l. taken ++ x ∷ l) (items_at-others old new ix None rest updates (IsDistinct-head nat_eq ix rest apart))
+      ∙ (rw found at before)
+
+  -- the other slots stay live
+  pub live-others : (old new : List (Option T)) (ix : ℕ) (rest : List ℕ) → Updates old new ix None → IsDistinct nat_eq (ix ∷ rest) → All (IsLive old) rest → All (IsLive new) rest
+  live-others old new ix rest updates apart live = each rest (IsDistinct-head nat_eq ix rest apart) live
+    where
+      each : (rest : List ℕ) → AllByRecursion (λ y. nat_eq ix y ≡ false) rest → All (IsLive old) rest → All (IsLive new) rest
+      each [] apart live = All-nil (IsLive new)
+      each (a ∷ rest) apart live =
+          All-cons (IsLive new) a rest
+          (rw (updates.others a (other_number ix a apart.0)) (All-head (IsLive old) a rest live))
+          (each rest apart.1 (All-tail (IsLive old) a rest live))
+
+  -- the bag by what was taken out of it
+  pub IsPermutation-taken : (bag held new taken : List T) (x : T) → IsPermutation bag (taken ++ held) → IsPermutation held (x ∷ new) → IsPermutation bag ((taken ++ x ∷ []) ++ new)
+  IsPermutation-taken bag held new taken x before out =
+      subst (IsPermutation bag) (sym (append_assoc taken (x ∷ []) new))
+      (IsPermutation-trans _ _ _ before (IsPermutation-append taken taken _ _ (IsPermutation-refl taken) out))
+
+  nothing : (xs : List T) → length xs ≡ 0 → xs ≡ []
+  nothing [] h = refl
+  nothing (x ∷ xs) h = absurd (omega arith)
+
+  -- a filter of the bag is that of what conflicts, and of the rest
+  filter-taken : (p : T → Bool) (ranks : Ranks T) (bag rest : List T) (x : T) → IsPermutation bag (order ranks bag x ++ rest) → IsPermutation (filter p bag) (filter p (clash ranks bag x) ++ filter p rest)
+  filter-taken p ranks bag rest x out =
+      IsPermutation-trans _ _ _
+      (subst (IsPermutation (filter p bag)) (filter-append p (order ranks bag x) rest) (IsPermutation-filter p bag (order ranks bag x ++ rest) out))
+      (IsPermutation-append _ _ _ _ (IsPermutation-filter p (order ranks bag x) (clash ranks bag x) (IsPermutation-order ranks bag x)) (IsPermutation-refl (filter p rest)))
+
+  -- where what conflicts with x was taken out, nothing conflicts with it
+  pub clash-taken : (ranks : Ranks T) (bag rest : List T) (x : T) → IsPermutation bag (order ranks bag x ++ rest) → clash ranks rest x ≡ []
+  clash-taken ranks bag rest x out =
+      let p : T → Bool = conflicts ranks x in
+      let again : filter p (clash ranks bag x) ≡ clash ranks bag x = all_pass p (clash ranks bag x) (each_passes p bag) in
+      let long : length (clash ranks bag x ++ filter p rest) ≡ length (clash ranks bag x) =
+      length_permutation _ _ (subst (λ l. IsPermutation (filter p bag) (l ++ filter p rest)) again (filter-taken p ranks bag rest x out)) in
+      nothing (clash ranks rest x) (omega (arith, long, length-append (clash ranks bag x) (filter p rest)))
+
+  -- and what is left, with x, is the bag overwritten by x
+  pub over-taken : (ranks : Ranks T) (bag rest new : List T) (x : T) → IsPermutation bag (order ranks bag x ++ rest) → IsPermutation new (x ∷ rest) → IsPermutation new (over ranks bag x)
+  over-taken ranks bag rest new x out put =
+      let p : T → Bool = λ y. not (some_of (like ranks x) y) in
+      let gone : filter p (clash ranks bag x) ≡ [] = none_pass p (clash ranks bag x) (each_weaker _ _ (λ y e. ap not e) (clash ranks bag x) (each_passes (conflicts ranks x) bag)) in
+      let kept : filter p rest ≡ rest = all_pass p rest (each_weaker _ _ (λ y e. ap not e) rest (none_passes (conflicts ranks x) rest (clash-taken ranks bag rest x out))) in
+      let left : IsPermutation (filter p bag) rest =
+      subst (IsPermutation (filter p bag)) (ap (λ l. l ++ filter p rest) gone ∙ kept) (filter-taken p ranks bag rest x out) in
+      IsPermutation-trans _ _ _ put (IsPermutation-cons x _ _ (IsPermutation-sym _ _ left))

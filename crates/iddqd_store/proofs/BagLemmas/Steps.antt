@@ -1,0 +1,106 @@
+-- How a bag changes: one item more, one in the place of others, one in the place of another, some taken away.
+use Rattle.std.specs.Prelude.{◌≡◌, ◌≢◌, ℕ, ◌==◌, Bool, true, false, cond, ◌&&◌, List, [], ◌∷◌, ◌++◌, length, filter, Result, Ok, Err, IsPermutation}
+use Rattle.std.specs.List.{AllByRecursion}
+use Rattle.std.proofs.Common.{refl, sym, ap, subst, ◌∙◌, arith}
+use Rattle.std.proofs.lemmas.Map.Keys.{IsDistinct-cons}
+use Rattle.std.proofs.lemmas.Bool.{false≢true}
+use Rattle.std.proofs.lemmas.Bool.Decides.{nat_tests}
+use Rattle.std.proofs.lemmas.List.Sorted.{IsPermutation-trans, length_permutation}
+use Rattle.std.proofs.lemmas.List.Sums.{fold_push}
+use Rattle.iddqd_store.proofs.BagLemmas.Exchanges.{split, IsPermutation-filter}
+use Rattle.iddqd_store.proofs.BagLemmas.Sound.{IsDistinct-nil, IsPermutation-order, IsSound-over, over-IsPermutation}
+use Rattle.iddqd_store.specs.Bag.{Ranks, conflicts, agrees, IsSound, clash, order, over, overs, add, add_next, adds, AreLawful}
+
+more_than_none : (n : ℕ) → n ≢ 0 → (n == 0) ≡ false
+more_than_none n h = grind (arith, nat_tests)
+
+zero_from : (n : ℕ) → (n == 0) ≡ true → n ≡ 0
+zero_from n h = grind (arith, nat_tests)
+
+same_ok : {A E : Type 0} (r : Result A E) (a b : A) → r ≡ Ok a → r ≡ Ok b → a ≡ b
+same_ok r a b h k = cc
+
+ok_or_err : {A E : Type 0} (r : Result A E) (a : A) (e : E) → r ≡ Ok a → r ≡ Err e → ⊥
+ok_or_err r a e h k = cc
+
+module _ {T : Type 0} where
+  pub IsSound-nil : (ranks : Ranks T) → IsSound ranks []
+  IsSound-nil ranks = IsDistinct-nil (conflicts ranks)
+
+  pub clash-IsPermutation : (ranks : Ranks T) (xs ys : List T) (x : T) → IsPermutation xs ys → IsPermutation (clash ranks xs x) (clash ranks ys x)
+  clash-IsPermutation ranks xs ys x p = IsPermutation-filter (conflicts ranks x) xs ys p
+
+  -- as many members conflict as are listed
+  pub length-clash : (ranks : Ranks T) (bag : List T) (x : T) → length (clash ranks bag x) ≡ length (order ranks bag x)
+  length-clash ranks bag x = length_permutation _ _ (IsPermutation-order ranks bag x)
+
+  nothing : (xs : List T) → length xs ≡ 0 → xs ≡ []
+  nothing [] h = refl
+  nothing (x ∷ xs) h = absurd (omega arith)
+
+  -- a filter that finds nothing
+  pub none_passes : (p : T → Bool) (xs : List T) → filter p xs ≡ [] → AllByRecursion (λ y. p y ≡ false) xs
+  none_passes p [] h = tt
+  none_passes p (x ∷ xs) h =
+      split (λ b. cond b (x ∷ filter p xs) (filter p xs) ≡ [] → AllByRecursion (λ y. p y ≡ false) (x ∷ xs)) (p x)
+      (λ _ z. absurd (omega (arith, ap length z)))
+      (λ e z. (e, none_passes p xs z))
+      h
+
+  -- where nothing is listed, nothing conflicts
+  pub clash-empty : (ranks : Ranks T) (bag : List T) (x : T) → order ranks bag x ≡ [] → clash ranks bag x ≡ []
+  clash-empty ranks bag x h = nothing (clash ranks bag x) (length-clash ranks bag x ∙ ap length h)
+
+  pub order-empty : (ranks : Ranks T) (bag : List T) (x : T) → clash ranks bag x ≡ [] → order ranks bag x ≡ []
+  order-empty ranks bag x h = nothing (order ranks bag x) (sym (length-clash ranks bag x) ∙ ap length h)
+
+  pub IsSound-cons : (ranks : Ranks T) (bag : List T) (x : T) → order ranks bag x ≡ [] → IsSound ranks bag → IsSound ranks (x ∷ bag)
+  IsSound-cons ranks bag x h sound = IsDistinct-cons (conflicts ranks) x bag (none_passes (conflicts ranks x) bag (clash-empty ranks bag x h)) sound
+
+  -- `add` where nothing conflicts
+  pub add-apart : (ranks : Ranks T) (bag : List T) (x : T) → order ranks bag x ≡ [] → add ranks bag x ≡ Ok (x ∷ bag)
+  add-apart ranks bag x h = rw (clash-empty ranks bag x h) refl
+
+  -- `add` where something does
+  pub add-refused : (ranks : Ranks T) (bag : List T) (x : T) → order ranks bag x ≢ [] → add ranks bag x ≡ Err (x, order ranks bag x)
+  add-refused ranks bag x h =
+      let some = more_than_none (length (clash ranks bag x)) (λ e. h (order-empty ranks bag x (nothing (clash ranks bag x) e))) in
+      rw some refl
+
+  pub IsSound-add : (ranks : Ranks T) (bag new : List T) (x : T) → IsSound ranks bag → add ranks bag x ≡ Ok new → IsSound ranks new
+  IsSound-add ranks bag new x sound made =
+      split (λ b. IsSound ranks new) (length (clash ranks bag x) == 0)
+      (λ yes.
+      let none = order-empty ranks bag x (nothing (clash ranks bag x) (zero_from _ yes)) in
+      subst (IsSound ranks) (same_ok (add ranks bag x) (x ∷ bag) new (add-apart ranks bag x none) made) (IsSound-cons ranks bag x none sound))
+      (λ no. absurd (ok_or_err (add ranks bag x) new (x, order ranks bag x) made (rw no refl)))
+
+  -- the items of a list one after another
+  pub overs_push : (ranks : Ranks T) (bag xs : List T) (x : T) → overs ranks bag (xs ++ x ∷ []) ≡ over ranks (overs ranks bag xs) x
+  overs_push ranks bag xs x = fold_push (over ranks) bag xs x
+
+  pub overs-IsPermutation : (ranks : Ranks T) (xs ys zs : List T) → IsPermutation xs ys → IsPermutation (overs ranks xs zs) (overs ranks ys zs)
+  overs-IsPermutation ranks xs ys [] p = p
+  overs-IsPermutation ranks xs ys (z ∷ zs) p = overs-IsPermutation ranks (over ranks xs z) (over ranks ys z) zs (over-IsPermutation ranks xs ys z p)
+
+  pub IsSound-overs : (ranks : Ranks T) (bag xs : List T) → IsSound ranks bag → IsSound ranks (overs ranks bag xs)
+  IsSound-overs ranks bag [] h = h
+  IsSound-overs ranks bag (x ∷ xs) h = IsSound-overs ranks (over ranks bag x) xs (IsSound-over ranks bag x h)
+
+  -- one step of `overs` at a bag that is held in another order
+  pub overs-step : (ranks : Ranks T) (bag xs held new : List T) (x : T) → IsPermutation held (overs ranks bag xs) → IsPermutation new (over ranks held x) → IsPermutation new (overs ranks bag (xs ++ x ∷ []))
+  overs-step ranks bag xs held new x p q = rw (overs_push ranks bag xs x) (IsPermutation-trans _ _ _ q (over-IsPermutation ranks held (overs ranks bag xs) x p))
+
+  pub adds_push : (ranks : Ranks T) (bag xs : List T) (x : T) → adds ranks bag (xs ++ x ∷ []) ≡ add_next ranks (adds ranks bag xs) x
+  adds_push ranks bag xs x = fold_push (add_next ranks) (Ok bag) xs x
+
+  -- items with equal keys conflict with the same items
+  pub agrees-conflicts : (ranks : Ranks T) → AreLawful ranks → (x y z : T) → agrees ranks x y ≡ true → conflicts ranks x z ≡ conflicts ranks y z
+  agrees-conflicts [] laws x y z h = refl
+  agrees-conflicts (agree ∷ ranks) laws x y z h =
+      let both = and-true (agree x y) (agrees ranks x y) h in
+      rw (laws.0.congr x y z both.0, agrees-conflicts ranks laws.1 x y z both.1) refl
+    where
+      and-true : (a b : Bool) → (a && b) ≡ true → (a ≡ true) × (b ≡ true)
+      and-true true b h = (refl, h)
+      and-true false b h = absurd (false≢true h)

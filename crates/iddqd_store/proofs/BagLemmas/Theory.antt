@@ -1,0 +1,96 @@
+-- Theorems about a bag that no proof cites so far. They say how its words go together, and what later calls rest on:
+-- writing in place (`swap`), building along a list (`overs`, `adds`), keeping some, counting by hashes.
+use Rattle.std.specs.Prelude.{◌≡◌, ◌≢◌, ℕ, ◌<◌, ◌≤◌, ◌==◌, Bool, true, false, cond, not, List, [], ◌∷◌, ◌++◌, length, filter, fold, Ok, Err, IsPermutation}
+use Rattle.std.specs.List.{IsDistinct, AllByRecursion, items_where_true}
+use Rattle.std.proofs.Common.{refl, sym, ap, subst, ◌∙◌, arith}
+use Rattle.std.proofs.lemmas.Map.Keys.{IsDistinct-head, IsDistinct-tail, IsDistinct-cons}
+use Rattle.std.proofs.lemmas.List.Sorted.{IsPermutation-sym, IsPermutation-cons, sum_by-IsPermutation}
+use Rattle.std.proofs.lemmas.List.Sums.{fold-append}
+use Rattle.std.proofs.lemmas.List.Folds.{fold_stays}
+use Rattle.iddqd_store.proofs.BagLemmas.Exchanges.{IsPermutation-filter}
+use Rattle.iddqd_store.proofs.BagLemmas.Steps.{none_passes, clash-empty, add-apart, add-refused, adds_push, agrees-conflicts}
+use Rattle.iddqd_store.proofs.BagLemmas.Sound.{length-listing, AreNames-like, each_weaker, each_passes, all_pass, not-true, IsDistinct-nil, IsDistinct-filter, IsSound-IsPermutation, order-IsPermutation}
+use Rattle.iddqd_store.specs.Bag.{Ranks, some_of, without, like, conflicts, agrees, IsSound, order, over, overs, add_next, adds, swap, Keeps, crowd, AreLawful}
+
+module _ {T : Type 0} where
+  pub length-order : (ranks : Ranks T) (bag : List T) (x : T) → AreLawful ranks → IsSound ranks bag → length (order ranks bag x) ≤ length ranks
+  length-order ranks bag x laws h = length-listing ranks (like ranks x) (AreNames-like ranks x laws) bag h
+
+  -- then x in the place of what conflicts is x beside the others
+  pub over-apart : (ranks : Ranks T) (bag : List T) (x : T) → order ranks bag x ≡ [] → over ranks bag x ≡ x ∷ bag
+  over-apart ranks bag x h =
+      let none = none_passes (conflicts ranks x) bag (clash-empty ranks bag x h) in
+      ap (λ l. x ∷ l) (all_pass (λ y. not (some_of (like ranks x) y)) bag (each_weaker _ _ (λ y e. ap not e) bag none))
+
+  pub overs-append : (ranks : Ranks T) (bag xs ys : List T) → overs ranks bag (xs ++ ys) ≡ overs ranks (overs ranks bag xs) ys
+  overs-append ranks bag xs ys = fold-append (over ranks) bag xs ys
+
+  -- after a refusal the rest of the list changes nothing
+  pub adds-refused : (ranks : Ranks T) (bag xs ys : List T) (refusal : T × List T) → adds ranks bag xs ≡ Err refusal → adds ranks bag (xs ++ ys) ≡ Err refusal
+  adds-refused ranks bag xs ys refusal h =
+      fold-append (add_next ranks) (Ok bag) xs ys ∙ ap (λ r. fold (add_next ranks) r ys) h ∙ fold_stays (add_next ranks) (Err refusal) (λ x. refl) ys
+
+  -- one step of `adds` at a bag that is held in another order: x is taken
+  pub adds-taken : (ranks : Ranks T) → AreLawful ranks → (bag xs made held : List T) (x : T) → adds ranks bag xs ≡ Ok made → IsSound ranks held → IsPermutation held made → order ranks held x ≡ [] → adds ranks bag (xs ++ x ∷ []) ≡ Ok (x ∷ made)
+  adds-taken ranks laws bag xs made held x so_far sound p none =
+      adds_push ranks bag xs x ∙ ap (λ r. add_next ranks r x) so_far
+      ∙ add-apart ranks made x (sym (order-IsPermutation ranks laws held made x sound p) ∙ none)
+
+  -- or refused, and with it the rest of the list
+  pub adds-stopped : (ranks : Ranks T) → AreLawful ranks → (bag xs rest made held : List T) (x : T) → adds ranks bag xs ≡ Ok made → IsSound ranks held → IsPermutation held made → order ranks held x ≢ [] → adds ranks bag (xs ++ x ∷ rest) ≡ Err (x, order ranks held x)
+  adds-stopped ranks laws bag xs rest made held x so_far sound p some =
+      let same = order-IsPermutation ranks laws held made x sound p in
+      let refused : add_next ranks (adds ranks bag xs) x ≡ Err (x, order ranks held x) =
+      ap (λ r. add_next ranks r x) so_far ∙ add-refused ranks made x (λ e. some (same ∙ e)) ∙ ap (λ l. Err (x, l)) (sym same) in
+      fold-append (add_next ranks) (Ok bag) xs (x ∷ rest) ∙ ap (λ r. fold (add_next ranks) r rest) refused ∙ fold_stays (add_next ranks) (Err (x, order ranks held x)) (λ x. refl) rest
+
+  pub IsSound-swap : (ranks : Ranks T) → AreLawful ranks → (bag : List T) (x y : T) → agrees ranks x y ≡ true → IsSound ranks bag → IsSound ranks (swap ranks bag x y)
+  IsSound-swap ranks laws bag x y same h =
+      let rest : List T = without (like ranks x) bag in
+      IsDistinct-cons (conflicts ranks) y rest
+      (each_weaker _ _ (λ z e. sym (agrees-conflicts ranks laws x y z same) ∙ not-true (conflicts ranks x z) e) rest (each_passes (λ z. not (some_of (like ranks x) z)) bag))
+      (IsDistinct-filter (conflicts ranks) (λ z. not (some_of (like ranks x) z)) bag h)
+
+  -- an item conflicts with itself, where there is a rank
+  pub conflicts-self : (ranks : Ranks T) → AreLawful ranks → 0 < length ranks → (x : T) → conflicts ranks x x ≡ true
+  conflicts-self [] laws h x = absurd (omega arith)
+  conflicts-self (agree ∷ ranks) laws h x = rw (laws.0.refl x) refl
+
+  -- `swap` takes its member out and puts the other in
+  pub swap-is : (ranks : Ranks T) → AreLawful ranks → 0 < length ranks → (bag rest : List T) (x y : T) → IsSound ranks bag → IsPermutation bag (x ∷ rest) → IsPermutation (swap ranks bag x y) (y ∷ rest)
+  swap-is ranks laws some bag rest x y sound p =
+      let test : T → Bool = λ z. not (some_of (like ranks x) z) in
+      let apart = IsDistinct-head (conflicts ranks) x rest (IsSound-IsPermutation ranks laws bag (x ∷ rest) p sound) in
+      let kept : filter test (x ∷ rest) ≡ rest =
+      rw (conflicts-self ranks laws some x) (all_pass test rest (each_weaker _ _ (λ z e. ap not e) rest apart)) in
+      IsPermutation-cons y _ _ (subst (IsPermutation (filter test bag)) kept (IsPermutation-filter test bag (x ∷ rest) p))
+
+  pub swap-IsPermutation : (ranks : Ranks T) (xs ys : List T) (x y : T) → IsPermutation xs ys → IsPermutation (swap ranks xs x y) (swap ranks ys x y)
+  swap-IsPermutation ranks xs ys x y p = IsPermutation-cons y _ _ (IsPermutation-filter (λ z. not (some_of (like ranks x) z)) xs ys p)
+
+  -- some of a sound bag is sound
+  pub IsSound-filter : (ranks : Ranks T) (p : T → Bool) (bag : List T) → IsSound ranks bag → IsSound ranks (filter p bag)
+  IsSound-filter ranks p bag h = IsDistinct-filter (conflicts ranks) p bag h
+
+  each-where_true : (P : T → Type 0) (bs : List Bool) (xs : List T) → AllByRecursion P xs → AllByRecursion P (items_where_true bs xs)
+  each-where_true P [] xs h = tt
+  each-where_true P (b ∷ bs) [] h = tt
+  each-where_true P (true ∷ bs) (x ∷ xs) h = (h.0, each-where_true P bs xs h.1)
+  each-where_true P (false ∷ bs) (x ∷ xs) h = each-where_true P bs xs h.1
+
+  IsDistinct-where_true : (e : T → T → Bool) (bs : List Bool) (xs : List T) → IsDistinct e xs → IsDistinct e (items_where_true bs xs)
+  IsDistinct-where_true e [] xs h = IsDistinct-nil e
+  IsDistinct-where_true e (b ∷ bs) [] h = IsDistinct-nil e
+  IsDistinct-where_true e (true ∷ bs) (x ∷ xs) h =
+      IsDistinct-cons e x (items_where_true bs xs) (each-where_true _ bs xs (IsDistinct-head e x xs h)) (IsDistinct-where_true e bs xs (IsDistinct-tail e x xs h))
+  IsDistinct-where_true e (false ∷ bs) (x ∷ xs) h = IsDistinct-where_true e bs xs (IsDistinct-tail e x xs h)
+
+  pub IsSound-keeps : {F : Type 0} (step : F → T → Bool → F → Type 0) (f : F) (ranks : Ranks T) → AreLawful ranks → (bag kept : List T) → Keeps step f bag kept → IsSound ranks bag → IsSound ranks kept
+  IsSound-keeps step f ranks laws bag kept h sound =
+      let answers = h.filtered in
+      let listed = IsSound-IsPermutation ranks laws bag h.listed h.same sound in
+      let left : IsSound ranks h.left = subst (IsSound ranks) (sym answers.4) (IsDistinct-where_true (conflicts ranks) answers.0 h.listed listed) in
+      IsSound-IsPermutation ranks laws h.left kept (IsPermutation-sym _ _ h.are) left
+
+  pub crowd-IsPermutation : (hash_of : T → ℕ) (xs ys : List T) (h : ℕ) → IsPermutation xs ys → crowd hash_of xs h ≡ crowd hash_of ys h
+  crowd-IsPermutation hash_of xs ys h p = sym (sum_by-IsPermutation (λ x. cond (hash_of x == h) 1 0) xs ys p)

@@ -1,0 +1,93 @@
+-- A step leaves a sound bag sound, and a run keeps what each step keeps.
+use Rattle.std.proofs.Common.{◌≡◌, sym, subst, List, [], ◌∷◌, Some, None, Result, Ok, Err}
+use Rattle.std.specs.Prelude.{ℕ, Bool, IsPermutation, MatchResult}
+use Rattle.std.proofs.lemmas.List.Sorted.{IsPermutation-sym}
+use Rattle.std.proofs.lemmas.Map.Keys.{IsDistinct-tail}
+use Rattle.iddqd_store.specs.Bag.{Ranks, AreLawful, IsSound, conflicts, over, overs}
+use Rattle.iddqd_store.specs.Runs.Reply.{Reply, done, duplicate, displaced, found, present, taken, memory, refused, size, items}
+use Rattle.iddqd_store.specs.Runs.Run.{Run}
+use Rattle.iddqd_store.specs.Runs.Step.{State, Fits, InsertsUnique, InsertsOverwrite, Gets, Tells, Removes, Reserves, ShrinksTo, Clears, Sizes, Lists, Extends}
+use Rattle.iddqd_store.proofs.BagLemmas.Sound.{IsSound-over, IsSound-IsPermutation}
+use Rattle.iddqd_store.proofs.BagLemmas.Steps.{IsSound-nil, IsSound-cons, IsSound-overs, order-empty}
+
+module _ {T : Type 0} (ranks : Ranks T) (laws : AreLawful ranks) (old new : State T) (sound : IsSound ranks old.items) where
+  same : new ≡ old → IsSound ranks new.items
+  same e = subst (λ (s : State T). IsSound ranks s.items) (sym e) sound
+
+  same_items : new.items ≡ old.items → IsSound ranks new.items
+  same_items e = subst (IsSound ranks) (sym e) sound
+
+  moved : (made : List T) → IsPermutation new.items made → IsSound ranks made → IsSound ranks new.items
+  moved made made_of h = IsSound-IsPermutation ranks laws made new.items (IsPermutation-sym _ _ made_of) h
+
+module _ {T D : Type 0} (ranks : Ranks T) (laws : AreLawful ranks) (old new : State T) (sound : IsSound ranks old.items) where
+  pub IsSound-InsertsUnique : (x : T) (reply : Reply T D) → InsertsUnique ranks old x reply new → IsSound ranks new.items
+  IsSound-InsertsUnique x done step = moved ranks laws old new sound (x ∷ old.items) step.1 (IsSound-cons ranks old.items x (order-empty ranks old.items x step.0) sound)
+  IsSound-InsertsUnique x (duplicate y ys) step = same ranks laws old new sound step.3
+  IsSound-InsertsUnique x (memory y) step = same ranks laws old new sound step.3
+  IsSound-InsertsUnique x reply step = absurd step
+
+  pub IsSound-InsertsOverwrite : (x : T) (reply : Reply T D) → InsertsOverwrite ranks old x reply new → IsSound ranks new.items
+  IsSound-InsertsOverwrite x (displaced ys) step = moved ranks laws old new sound (over ranks old.items x) step.1 (IsSound-over ranks old.items x sound)
+  IsSound-InsertsOverwrite x (memory y) step = same ranks laws old new sound step.3
+  IsSound-InsertsOverwrite x reply step = absurd step
+
+  pub IsSound-Gets : (test : T → Bool) (reply : Reply T D) → Gets old test reply new → IsSound ranks new.items
+  IsSound-Gets test (found o) step = same ranks laws old new sound step.1
+  IsSound-Gets test reply step = absurd step
+
+  pub IsSound-Tells : (test : T → Bool) (reply : Reply T D) → Tells old test reply new → IsSound ranks new.items
+  IsSound-Tells test (present b) step = same ranks laws old new sound step.1
+  IsSound-Tells test reply step = absurd step
+
+  pub IsSound-Removes : (test : T → Bool) (reply : Reply T D) → Removes old test reply new → IsSound ranks new.items
+  IsSound-Removes test (taken None) step = moved ranks laws old new sound old.items (IsPermutation-sym _ _ step.1) sound
+  IsSound-Removes test (taken (Some x)) step =
+      IsDistinct-tail (conflicts ranks) x new.items (IsSound-IsPermutation ranks laws old.items (x ∷ new.items) step.1 sound)
+  IsSound-Removes test reply step = absurd step
+
+  pub IsSound-Reserves : (more : ℕ) (reply : Reply T D) → Reserves old more reply new → IsSound ranks new.items
+  IsSound-Reserves more done step = same_items ranks laws old new sound step.0
+  IsSound-Reserves more refused step = same_items ranks laws old new sound step.0
+  IsSound-Reserves more reply step = absurd step
+
+  pub IsSound-ShrinksTo : (least : ℕ) (reply : Reply T D) → ShrinksTo old least reply new → IsSound ranks new.items
+  IsSound-ShrinksTo least done step = same_items ranks laws old new sound step.0
+  IsSound-ShrinksTo least refused step = same ranks laws old new sound step.1
+  IsSound-ShrinksTo least reply step = absurd step
+
+  pub IsSound-Clears : (reply : Reply T D) → Clears old reply new → IsSound ranks new.items
+  IsSound-Clears done step = subst (IsSound ranks) (sym step.0) (IsSound-nil ranks)
+  IsSound-Clears reply step = absurd step
+
+  pub IsSound-Sizes : (reply : Reply T D) → Sizes old reply new → IsSound ranks new.items
+  IsSound-Sizes (size n) step = same ranks laws old new sound step.1
+  IsSound-Sizes reply step = absurd step
+
+  pub IsSound-Lists : (reply : Reply T D) → Lists old reply new → IsSound ranks new.items
+  IsSound-Lists (items xs) step = same ranks laws old new sound step.1
+  IsSound-Lists reply step = absurd step
+
+  pub IsSound-Extends : (xs : List T) (reply : Reply T D) → Extends ranks old xs reply new → IsSound ranks new.items
+  IsSound-Extends xs done step = moved ranks laws old new sound (overs ranks old.items xs) step.0.0 (IsSound-overs ranks old.items xs sound)
+  IsSound-Extends xs (memory y) step = moved ranks laws old new sound (overs ranks old.items step.0) step.3.0 (IsSound-overs ranks old.items step.0 sound)
+  IsSound-Extends xs reply step = absurd step
+
+module _ {C T D S F : Type 0} (Step : State T → C → Reply T D → State T → Type 0) (took : S → Reply T D → Result (Unit {0}) F → S → Type 0) (P : State T → Type 0)
+    (kept : (old new : State T) (command : C) (reply : Reply T D) → P old → Step old command reply new → Fits new → P new) where
+  on : (next new : State T) (then after : S) (commands : List C) (said answer : Result (Unit {0}) F) → P next
+      → (Run Step took next then commands answer new after → P new)
+      → MatchResult said (λ _. Run Step took next then commands answer new after) (λ fault. (answer ≡ Err fault) × (new ≡ next) × (after ≡ then)) → P new
+  on next new then after commands (Ok u) answer here rest run = rest run
+  on next new then after commands (Err fault) answer here rest run = subst P (sym run.1) here
+
+  -- what each step keeps, a run keeps
+  pub run_keeps : (commands : List C) (old new : State T) (sink after : S) (answer : Result (Unit {0}) F) → P old → Run Step took old sink commands answer new after → P new
+  run_keeps [] old new sink after answer here run = subst P (sym run.1) here
+  run_keeps (command ∷ commands) old new sink after answer here run =
+      let next = kept old run.0 command run.3.0 here run.3.1 run.3.2 in
+      on run.0 new run.1 after commands run.2 answer next (run_keeps commands run.0 new run.1 after answer next) run.4
+
+-- the items fit behind a run, where they did before
+pub run_fits : {C T D S F : Type 0} (Step : State T → C → Reply T D → State T → Type 0) (took : S → Reply T D → Result (Unit {0}) F → S → Type 0) (commands : List C) (old new : State T) (sink after : S) (answer : Result (Unit {0}) F) → Fits old → Run Step took old sink commands answer new after → Fits new
+run_fits Step took commands old new sink after answer here run = run_keeps Step took Fits (λ old new command reply before step fits. fits) commands old new sink after answer here run

@@ -1,0 +1,13 @@
+-- Cells: sizes, full places, stretches, searches, writes, removals.
+pub mod Copy
+pub mod Full
+pub mod Limits
+pub mod Line
+pub mod Looks
+pub mod Remove
+pub mod Ring
+pub mod Rows
+pub mod Search
+pub mod Stretch
+pub mod StretchBound
+pub mod Write

@@ -1,0 +1,35 @@
+-- Looks depend on the hashes alone, in any order.
+use Rattle.std.proofs.Common.{◌≡◌, ℕ, ◌+◌, ◌<◌, ◌≤◌, List, Option, None, Some, length, ⊎_elim, arith}
+use Rattle.std.specs.List.Sorted.{IsPermutation}
+use Rattle.std.proofs.lemmas.Bool.{cases_lt}
+use Rattle.std.proofs.lemmas.List.Sorted.{IsPermutation-map}
+use Rattle.iddqd_store.specs.Table.Ring.{stretch}
+use Rattle.iddqd_store.specs.Table.{hashes, LooksUp}
+use Rattle.iddqd_store.proofs.TableLemmas.Stretch.{stretch_permutation}
+use Rattle.iddqd_store.proofs.TableLemmas.StretchBound.{stretch_le_length}
+
+pub looks_permutation : {A : Type 0} (xs ys : List ℕ) (n hash : ℕ) (answer : Option A) (before after : ℕ) → IsPermutation xs ys → LooksUp xs n hash answer before after → LooksUp ys n hash answer before after
+looks_permutation xs ys n hash answer before after same l =
+    let e : stretch xs n hash ≡ stretch ys n hash = stretch_permutation xs ys n hash same in
+    record {
+      no_cells = l.no_cells;
+      miss = rw e at l.miss;
+      hit_least = l.hit_least;
+      hit_most = rw e at l.hit_most;
+    }
+
+-- no search looks at more cells than there are pairs, and one
+pub looks_most : {A : Type 0} (hashes : List ℕ) (n hash : ℕ) (answer : Option A) (before after : ℕ) → LooksUp hashes n hash answer before after → after ≤ before + length hashes + 1
+looks_most hashes n hash None before after l =
+    let s : stretch hashes n hash ≤ length hashes = stretch_le_length hashes n hash in
+    ⊎_elim (λ (pos : 0 < n). let m : after ≡ before + stretch hashes n hash + 1 = l.miss pos in omega arith)
+    (λ (none : n ≤ 0). let m : after ≡ before = l.no_cells (omega arith) in omega arith)
+    (cases_lt 0 n)
+looks_most hashes n hash (Some x) before after l =
+    let s : stretch hashes n hash ≤ length hashes = stretch_le_length hashes n hash in
+    let m : after ≤ before + stretch hashes n hash = l.hit_most in
+    omega arith
+
+-- pairs in another order
+pub looks_pairs : {A : Type 0} (ps qs : List (ℕ × ℕ)) (n hash : ℕ) (answer : Option A) (before after : ℕ) → IsPermutation ps qs → LooksUp (hashes ps) n hash answer before after → LooksUp (hashes qs) n hash answer before after
+looks_pairs ps qs n hash answer before after same l = looks_permutation (hashes ps) (hashes qs) n hash answer before after (IsPermutation-map (λ p. p.0) ps qs same) l

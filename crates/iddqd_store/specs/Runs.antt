@@ -1,0 +1,5 @@
+-- A map as a state, what each command on it may answer, and a run of commands.
+pub mod Reply
+pub mod Run
+pub mod Step
+pub mod Values
