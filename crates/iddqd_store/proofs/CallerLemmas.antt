@@ -4,10 +4,11 @@ use Rattle.std.specs.List.{IsDistinct, list_any}
 use Rattle.std.specs.Option.{option_to_list}
 use Rattle.std.specs.Cmp.{IsEquivalence}
 use Rattle.std.proofs.Common.{refl, sym, ap, subst, ◌∙◌, arith}
+use Rattle.std.proofs.lemmas.Map.Keys.{IsDistinct-head}
 use Rattle.std.proofs.lemmas.List.Sorted.{IsPermutation-sym, length_permutation, Contains-permutation}
 use Rattle.iddqd_store.specs.Bag.{Ranks, AreLawful, IsSound, NamesOne, clash, order, over}
 use Rattle.iddqd_store.proofs.BagLemmas.Exchanges.{split}
-use Rattle.iddqd_store.proofs.BagLemmas.Sound.{IsSound-rank, named_is, none_after, Contains-filter, IsSound-IsPermutation, named-IsPermutation, length-over}
+use Rattle.iddqd_store.proofs.BagLemmas.Sound.{IsSound-rank, named_is, none_pass, each_weaker, NamesOne-apart, Contains-filter, IsSound-IsPermutation, named-IsPermutation, length-over}
 use Rattle.iddqd_store.proofs.BagLemmas.Steps.{length-clash}
 use Rattle.iddqd_store.proofs.RankLemmas.Index.{Contains-here, Contains-cons}
 use Rattle.iddqd_store.proofs.BagLemmas.Unique.{any_listed, some_item}
@@ -72,7 +73,8 @@ module _ {T : Type 0} (agree : T → T → Bool) (ranks : Ranks T) (test : T →
 -- an item that was taken out is found under its key no more
 pub none-removed : {T : Type 0} (agree : T → T → Bool) (ranks : Ranks T) → AreLawful (agree ∷ ranks) → (test : T → Bool) → NamesOne agree test → (old bag : List T) (x : T) → IsSound (agree ∷ ranks) old → IsPermutation old (x ∷ bag) → test x ≡ true → filter test bag ≡ []
 none-removed agree ranks laws test names old bag x sound taken passes =
-    none_after agree test names x bag (IsSound-rank agree ranks (x ∷ bag) (IsSound-IsPermutation (agree ∷ ranks) laws old (x ∷ bag) taken sound)).0 passes
+    let apart = (IsSound-rank agree ranks (x ∷ bag) (IsSound-IsPermutation (agree ∷ ranks) laws old (x ∷ bag) taken sound)).0 in
+    none_pass test bag (each_weaker _ _ (λ y other. NamesOne-apart agree test names x y passes other) bag (IsDistinct-head agree x bag apart))
 
 -- one more after an insert
 pub length-inserted : {T : Type 0} (old new : List T) (x : T) → IsPermutation new (x ∷ old) → length new ≡ length old + 1
