@@ -17,8 +17,6 @@ mod remove;
 mod retain;
 mod run;
 mod shrink;
-#[cfg(test)]
-mod tests_capacity;
 
 /// The builder of hashers that a map has where none is named: std's, with its fixed seed. It gives no protection where
 /// strangers choose the keys.

@@ -9,8 +9,6 @@ mod build;
 mod clone;
 mod compact;
 mod fill;
-#[cfg(test)]
-mod tests;
 mod values;
 
 use crate::TryReserveError;
