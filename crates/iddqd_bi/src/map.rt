@@ -18,8 +18,6 @@ mod retain;
 mod run;
 mod shrink;
 mod slots;
-#[cfg(test)]
-mod tests_capacity;
 
 /// The builder of hashers that a map has where none is named: std's, with its fixed seed. It gives no protection where
 /// strangers choose the keys.

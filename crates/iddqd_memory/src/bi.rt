@@ -93,6 +93,7 @@ fn insert_when_full(rt: &impl Abort, alloc: Global) -> bool {
             false
         }
         Err(InsertError::Memory(refusal)) => {
+            assert_eq!(rt; *refusal.new_item(), row_of(next, 10 * next, 0));
             assert_eq!(rt; refusal.into_item(), row_of(next, 10 * next, 0));
             false
         }
@@ -209,7 +210,7 @@ fn shrink_to_fit(rt: &impl Abort, alloc: Global) -> bool {
         assert_eq!(rt; map.capacity(), capacity);
         assert!(rt; map.shrink_to_fit().is_ok());
     }
-    assert!(rt; map.capacity() >= 2 && map.capacity() <= 7);
+    assert_eq!(rt; map.capacity(), 2);
     assert!(rt; holds_two_rows(&map));
     drop(map);
     granted

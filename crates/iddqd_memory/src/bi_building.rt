@@ -13,7 +13,7 @@ fn three_rows() -> [Row; 3] {
 
 /// Whether this is one of those.
 fn is_one_of_three(row: Row) -> bool {
-    row.first >= 1 && row.first <= 3 && row == row_of(row.first, 10 * row.first, 0)
+    row.key1 >= 1 && row.key1 <= 3 && row == row_of(row.key1, 10 * row.key1, 0)
 }
 
 /// Whether the map has those and no others.

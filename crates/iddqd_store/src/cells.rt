@@ -8,6 +8,7 @@ use crate::item_index::ItemIndex;
 use crate::meter::Meter;
 use std::alloc::Global;
 use std::marker::Model;
+use std::mem::size_of;
 
 /// A cell of 16 bytes: a hash and a slot's number. An empty one has a number that no slot has.
 #[derive(Clone, Copy)]
@@ -15,6 +16,8 @@ pub(crate) struct Cell {
     hash: u64,
     number: usize,
 }
+
+const _: () = prove!(size_of::<Cell>() == 16);
 
 impl Model for Cell {
     ghost Value = { Option (ℕ × ℕ) };

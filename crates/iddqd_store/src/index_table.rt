@@ -14,8 +14,6 @@ use std::alloc::Global;
 use std::marker::Model;
 
 mod probe;
-#[cfg(test)]
-mod tests;
 
 /// Pairs of a hash and a slot's index, found by the hash.
 ///

@@ -8,8 +8,6 @@ ghost use Rattle.iddqd_store.specs.Slots.Chain.{item_of};
 mod build;
 mod clone;
 mod compact;
-#[cfg(test)]
-mod tests;
 mod values;
 
 use crate::TryReserveError;

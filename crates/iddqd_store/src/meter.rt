@@ -4,6 +4,7 @@ ghost use Rattle.std.specs.Prelude.{◌≡◌, ℕ, ◌+◌};
 ghost use Rattle.std.specs.Borrow.{ftrue};
 
 use std::marker::Model;
+use std::mem::size_of;
 
 /// A number that only proofs read. It takes no memory.
 #[derive(Drop)]
@@ -35,6 +36,8 @@ impl Count {
 pub struct Meter {
     count: Count,
 }
+
+const _: () = prove!(size_of::<Meter>() == 0);
 
 impl Model for Meter {
     ghost Value = { ℕ };

@@ -96,39 +96,3 @@ impl<T> UpToThree<T> {
         mem::replace(&mut self.first, second)
     }
 }
-
-#[cfg(test)]
-mod tests {
-    use super::*;
-    use crate::{DuplicateItem, MemoryRefused, UpToTwo};
-
-    #[test]
-    fn short_lists_keep_their_order(rt: HostRuntime) {
-        let mut two = UpToTwo::new();
-        two.push(10);
-        two.push(20);
-        let mut three = UpToThree::new();
-        assert!(rt; three.is_empty());
-        for x in [10, 20, 30] {
-            assert!(rt; three.len() < 3);
-            three.push(x);
-        }
-        let refused = DuplicateItem::new(MemoryRefused { value: 5 }, two);
-        assert_eq!(rt; refused.duplicates().get(1).copied(), Some(20));
-        assert_eq!(rt; refused.new_item().value, 5);
-        let (_, mut two) = refused.into_parts();
-        for x in [10, 20] {
-            assert_eq!(rt; three.pop_front(), Some(x));
-            assert_eq!(rt; two.pop_front(), Some(x));
-        }
-        assert_eq!(rt; (two.len(), three.len()), (0, 1));
-        assert_eq!(rt;
-            (
-                two.pop_front(),
-                three.get(0).copied(),
-                three.get(1).copied()
-            ),
-            (None, Some(30), None)
-        );
-    }
-}

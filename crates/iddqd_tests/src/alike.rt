@@ -2,13 +2,13 @@
 use std::hash::{BuildHasher, Hasher};
 
 /// Gives every key this hash.
-#[derive(Clone, Copy, Debug, PartialEq, Eq)]
+#[derive(Clone, Copy)]
 pub struct Alike {
     pub hash: u64,
 }
 
 /// A hasher of `Alike`.
-#[derive(Clone, Copy, Debug, PartialEq, Eq)]
+#[derive(Clone, Copy)]
 pub struct AlikeHasher {
     pub hash: u64,
 }

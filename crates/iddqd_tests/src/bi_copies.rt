@@ -10,13 +10,13 @@ use std::test::Fail;
 /// An item that lets so many clones be made, of it and of those that share its number.
 #[derive(Drop)]
 struct Reluctant {
-    first: u64,
-    second: u64,
+    key1: u64,
+    key2: u64,
     left: Rc<Cell<u64>>,
 }
 
 impl Clone for Reluctant {
-    ghost is_clone = { λ x c. (c.first ≡ x.first) × (c.second ≡ x.second) };
+    ghost is_clone = { λ x c. (c.key1 ≡ x.key1) × (c.key2 ≡ x.key2) };
 
     fn clone(&self) -> Result<Self, AllocError> {
         let left = self.left.get();
@@ -25,8 +25,8 @@ impl Clone for Reluctant {
         }
         self.left.set(left - 1);
         Ok(Reluctant {
-            first: self.first,
-            second: self.second,
+            key1: self.key1,
+            key2: self.key2,
             left: self.left.clone()?,
         })
     }
@@ -37,16 +37,16 @@ impl BiHashItem for Reluctant {
 
     type K2 = u64;
 
-    ghost key1 = { λ x. x.first };
+    ghost key1 = { λ x. x.key1 };
 
-    ghost key2 = { λ x. x.second };
+    ghost key2 = { λ x. x.key2 };
 
     fn key1(&self) -> &u64 {
-        &self.first
+        &self.key1
     }
 
     fn key2(&self) -> &u64 {
-        &self.second
+        &self.key2
     }
 }
 
@@ -57,8 +57,8 @@ fn an_item_that_is_not_cloned_gives_no_map(rt: HostRuntime) -> Result<(), Fail> 
         let mut map = BiHashMap::new(rt.alloc());
         for key in 1..=4u64 {
             let item = Reluctant {
-                first: key,
-                second: key.wrapping_mul(10),
+                key1: key,
+                key2: key.wrapping_mul(10),
                 left: left.clone()?,
             };
             assert!(rt; map.insert_overwrite(item).is_ok());

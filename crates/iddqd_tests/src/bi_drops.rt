@@ -1,5 +1,6 @@
 //! Values that refusals and displacements hold are dropped once.
 use iddqd_bi::{BiHashItem, BiHashMap, FromIterError, InsertError};
+use iddqd_store::UpToTwo;
 use std::alloc::Global;
 use std::process::Abort;
 use std::rc::Rc;
@@ -8,8 +9,8 @@ use std::test::Fail;
 /// An item that is counted as long as it is there.
 #[derive(Drop)]
 struct Held {
-    first: u64,
-    second: u64,
+    key1: u64,
+    key2: u64,
     alive: Rc<()>,
 }
 
@@ -18,64 +19,86 @@ impl BiHashItem for Held {
 
     type K2 = u64;
 
-    ghost key1 = { λ x. x.first };
+    ghost key1 = { λ x. x.key1 };
 
-    ghost key2 = { λ x. x.second };
+    ghost key2 = { λ x. x.key2 };
 
     fn key1(&self) -> &u64 {
-        &self.first
+        &self.key1
     }
 
     fn key2(&self) -> &u64 {
-        &self.second
+        &self.key2
     }
 }
 
-fn item_of(alive: &Rc<()>, first: u64, second: u64) -> Result<Held, Fail> {
+fn item_of(alive: &Rc<()>, key1: u64, key2: u64) -> Result<Held, Fail> {
     Ok(Held {
-        first,
-        second,
+        key1,
+        key2,
         alive: alive.clone()?,
     })
 }
 
-/// The map of (1, 10) and (2, 20).
-fn two(rt: &impl Abort, alloc: Global, alive: &Rc<()>) -> Result<BiHashMap<Held>, Fail> {
+/// The map of (1, 10), (2, 20), .., of so many items.
+fn filled(
+    rt: &impl Abort,
+    alloc: Global,
+    alive: &Rc<()>,
+    items: u64,
+) -> Result<BiHashMap<Held>, Fail> {
     let mut map = BiHashMap::new(alloc);
-    for key in 1..=2 {
+    for key in 1..=items {
         let item = item_of(alive, key, key.wrapping_mul(10))?;
         assert!(rt; map.insert_unique(item).is_ok());
     }
     Ok(map)
 }
 
+/// The first keys of short lists of items.
+fn first_keys(found: UpToTwo<&Held>) -> [Option<u64>; 2] {
+    [found.get(0).map(|x| x.key1), found.get(1).map(|x| x.key1)]
+}
+
+// A refusal is dropped, or gives its item, or that and the items in its way.
 #[test]
 fn refused_items_are_dropped_once(rt: HostRuntime) -> Result<(), Fail> {
+    for way in 0..3 {
+        let alive = Rc::new(rt.alloc(), ())?;
+        let mut map = filled(&rt, rt.alloc(), &alive, 2)?;
+        let mut found = [None, None];
+        match map.insert_unique(item_of(&alive, 2, 10)?) {
+            Err(InsertError::Duplicate(refusal)) => {
+                found = first_keys(refusal.duplicates());
+                if way == 0 {
+                    drop(refusal);
+                } else if way == 1 {
+                    drop(refusal.into_item());
+                } else {
+                    let (item, lent) = refusal.into_parts();
+                    found = first_keys(lent);
+                    drop(item);
+                }
+            }
+            Err(InsertError::Memory(refusal)) => drop(refusal),
+            Ok(()) => {}
+        }
+        assert!(rt; found == [Some(2), Some(1)] && map.len() == 2);
+        assert!(rt; Rc::strong_count(&alive) == 3);
+    }
+    Ok(())
+}
+
+#[test]
+fn displaced_items_are_dropped_once(rt: HostRuntime) -> Result<(), Fail> {
     let alive = Rc::new(rt.alloc(), ())?;
-    let mut map = two(&rt, rt.alloc(), &alive)?;
-    let item = item_of(&alive, 1, 20)?;
-    match map.insert_unique(item) {
-        Err(InsertError::Duplicate(refusal)) => {
-            assert_eq!(rt; refusal.duplicates().len(), 2);
-            assert_eq!(rt; Rc::strong_count(&alive), 4);
-            drop(refusal);
-        }
-        Err(InsertError::Memory(refusal)) => drop(refusal),
-        Ok(()) => {}
-    }
-    assert_eq!(rt; (Rc::strong_count(&alive), map.len()), (3, 2));
-    let item = item_of(&alive, 1, 20)?;
-    match map.insert_overwrite(item) {
-        Ok(displaced) => {
-            assert_eq!(rt; Rc::strong_count(&alive), 4);
-            drop(displaced);
-        }
-        Err(refusal) => drop(refusal),
-    }
-    assert_eq!(rt; (Rc::strong_count(&alive), map.len()), (2, 1));
+    let mut map = filled(&rt, rt.alloc(), &alive, 2)?;
+    let displaced = map.insert_overwrite(item_of(&alive, 1, 20)?);
+    assert!(rt; Rc::strong_count(&alive) == 4 && map.len() == 1);
+    drop(displaced);
+    assert!(rt; Rc::strong_count(&alive) == 2);
     map.clear();
-    assert_eq!(rt; Rc::strong_count(&alive), 1);
-    drop(map);
+    assert!(rt; Rc::strong_count(&alive) == 1);
     Ok(())
 }
 
@@ -83,19 +106,31 @@ fn refused_items_are_dropped_once(rt: HostRuntime) -> Result<(), Fail> {
 fn a_refused_list_is_dropped_once(rt: HostRuntime) -> Result<(), Fail> {
     let alive = Rc::new(rt.alloc(), ())?;
     let mut items = Vec::new(rt.alloc());
-    for (first, second) in [(1, 10), (2, 20), (2, 10), (3, 30)] {
-        items.push(item_of(&alive, first, second)?)?;
+    for (key1, key2) in [(1, 10), (2, 20), (2, 10), (3, 30)] {
+        items.push(item_of(&alive, key1, key2)?)?;
     }
-    assert_eq!(rt; Rc::strong_count(&alive), 5);
-    match BiHashMap::<Held>::from_iter_unique(rt.alloc(), items) {
-        Err(FromIterError::Duplicate(refusal)) => {
-            // The new item and the two in its way are left of the four.
-            assert_eq!(rt; Rc::strong_count(&alive), 4);
-            drop(refusal);
+    let built = BiHashMap::<Held>::from_iter_unique(rt.alloc(), items);
+    // The new item and the two in its way are left of the four.
+    assert!(rt; matches!(built, Err(FromIterError::Duplicate(_))));
+    assert!(rt; Rc::strong_count(&alive) == 4);
+    drop(built);
+    assert!(rt; Rc::strong_count(&alive) == 1);
+    Ok(())
+}
+
+#[test]
+fn walked_items_are_dropped_once(rt: HostRuntime) -> Result<(), Fail> {
+    for taken in 0..=3 {
+        let alive = Rc::new(rt.alloc(), ())?;
+        let mut map = filled(&rt, rt.alloc(), &alive, 4)?;
+        map.retain(|item| item.key1 != 2);
+        let mut items = map.into_iter();
+        for left in 0..taken {
+            assert!(rt; Rc::strong_count(&alive).wrapping_add(left) == 4);
+            assert!(rt; items.next().is_some());
         }
-        Err(FromIterError::Memory(item)) => drop(item),
-        Ok(map) => drop(map),
+        drop(items);
+        assert!(rt; Rc::strong_count(&alive) == 1);
     }
-    assert_eq!(rt; Rc::strong_count(&alive), 1);
     Ok(())
 }

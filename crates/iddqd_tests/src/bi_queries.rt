@@ -1,4 +1,4 @@
-//! Lookups of the two-key map: worked rows, and how many keys a search asks about.
+//! Searches of the two-key map: how many keys they ask about, and queries that are no keys.
 ghost use Rattle.std.specs.Prelude.{◌≡◌, ◌==◌, nat_eq, refl};
 ghost use Rattle.std.proofs.Common.{rules, ◌∙◌, ap};
 ghost use Rattle.std.specs.Cmp.Rules.{comparing, hashing};
@@ -8,60 +8,8 @@ use crate::own_hash::OwnHash;
 use crate::row::{Row, row_of};
 use iddqd_bi::{BiHashItem, BiHashMap};
 use iddqd_store::{Equivalent, KeyMatcher, Meter};
-use std::alloc::Global;
 use std::hash::{BuildHasher, Hash, Hasher};
-use std::process::Abort;
 use std::test::*;
-
-/// The map of (1, 10, 100) and (2, 20, 200).
-fn two_rows<S: BuildHasher + Drop>(
-    alloc: Global,
-    hash_builder: S,
-) -> Result<BiHashMap<Row, S>, Fail> {
-    let mut map = BiHashMap::with_hasher(alloc, hash_builder);
-    for item in [row_of(1, 10, 100), row_of(2, 20, 200)] {
-        if map.insert_unique(item).is_err() {
-            drop(map);
-            return Err("refused")?;
-        }
-    }
-    Ok(map)
-}
-
-#[test]
-fn finds_by_one_key_and_by_both(rt: HostRuntime) -> Result<(), Fail> {
-    let map = two_rows(rt.alloc(), OwnHash)?;
-    let both = [
-        ((1, 20), None),
-        ((2, 20), Some(200)),
-        ((2, 9), None),
-        ((9, 20), None),
-    ];
-    for ((key1, key2), value) in both {
-        let found = map.get_unique(&key1, &key2).map(|row| row.value);
-        assert_eq!(rt; found, value, "at {key1}, {key2}");
-        assert_eq!(rt; map.contains_key_unique(&key1, &key2), value.is_some());
-    }
-    for (key, is_first, is_second) in [(1, true, false), (20, false, true), (9, false, false)] {
-        assert_eq!(rt; map.contains_key1(&key), is_first, "at {key}");
-        assert_eq!(rt; map.contains_key2(&key), is_second, "at {key}");
-    }
-    drop(map);
-    Ok(())
-}
-
-#[test]
-fn removes_by_one_key_and_by_both(rt: HostRuntime) -> Result<(), Fail> {
-    let mut map = two_rows(rt.alloc(), OwnHash)?;
-    assert_eq!(rt; map.remove_unique(&1, &20), None);
-    assert_eq!(rt; map.remove2(&9), None);
-    assert_eq!(rt; map.remove2(&10), Some(row_of(1, 10, 100)));
-    assert_eq!(rt; map.get1(&1).copied(), None);
-    assert_eq!(rt; map.remove_unique(&2, &20), Some(row_of(2, 20, 200)));
-    assert!(rt; map.is_empty());
-    drop(map);
-    Ok(())
-}
 
 /// Accepts one key, and counts its questions.
 #[derive(Drop)]
@@ -91,31 +39,44 @@ impl KeyMatcher<u64> for Only {
     }
 }
 
-/// The hash of a key, what a search by it finds, and how many keys that asks about.
-fn search(map: &BiHashMap<Row, OwnHash>, key: u64) -> (u64, Option<Row>, u64) {
+/// What a search by this key of a rank finds, and how many keys that asks about.
+fn search(map: &BiHashMap<Row, OwnHash>, is_first: bool, key: u64) -> (Option<Row>, u64) {
     let hash = OwnHash.hash_one(&key);
     let mut matcher = Only {
         key,
         asked: Meter::new(),
         questions: 0,
     };
-    let found = map
-        .find1_with(hash, &mut matcher, &mut Meter::new())
-        .copied();
-    (hash, found, matcher.questions)
+    let mut meter = Meter::new();
+    let found = if is_first {
+        map.find1_with(hash, &mut matcher, &mut meter).copied()
+    } else {
+        map.find2_with(hash, &mut matcher, &mut meter).copied()
+    };
+    (found, matcher.questions)
 }
 
 #[test]
-fn asks_only_keys_of_the_hash(rt: HostRuntime) -> Result<(), Fail> {
-    let map = two_rows(rt.alloc(), OwnHash)?;
-    assert_eq!(rt; search(&map, 9), (9, None, 0));
-    assert_eq!(rt; search(&map, 1), (1, Some(row_of(1, 10, 100)), 1));
+fn asks_only_keys_of_the_hash(rt: HostRuntime) {
+    let mut map = BiHashMap::with_hasher(rt.alloc(), OwnHash);
+    let rows = [row_of(1, 10, 100), row_of(2, 20, 200)];
+    for row in rows {
+        assert!(rt; map.insert_unique(row).is_ok());
+    }
+    for (is_first, key, wanted) in [
+        (true, 9, (None, 0)),
+        (true, 1, (Some(rows[0]), 1)),
+        (true, 20, (None, 0)),
+        (false, 20, (Some(rows[1]), 1)),
+        (false, 1, (None, 0)),
+    ] {
+        assert_eq!(rt; search(&map, is_first, key), wanted, "at {key}");
+    }
     drop(map);
-    Ok(())
 }
 
 /// An item with a text as its first key.
-#[derive(Clone, Copy, Debug, PartialEq, Eq)]
+#[derive(Clone, Copy)]
 struct Word {
     text: &'static str,
     number: u64,

@@ -1,4 +1,5 @@
-//! Tests of the maps that would make their own crates' proofs longer: worked rows, and what no clause says.
+//! Tests of the maps and their parts that would make their own crates' proofs longer: worked rows, and what no clause
+//! says.
 #![tactic(auto)]
 
 mod alike;
@@ -12,14 +13,22 @@ pub use row::{Row, row_of};
 #[cfg(test)]
 mod bi_building;
 #[cfg(test)]
+mod bi_commands;
+#[cfg(test)]
 mod bi_copies;
 #[cfg(test)]
 mod bi_drops;
 #[cfg(test)]
-mod bi_overwrites;
-#[cfg(test)]
 mod bi_queries;
 #[cfg(test)]
-mod bi_rows;
+mod bi_room;
 #[cfg(test)]
 mod bi_walks;
+#[cfg(test)]
+mod pointers;
+#[cfg(test)]
+mod short_lists;
+#[cfg(test)]
+mod slots;
+#[cfg(test)]
+mod tables;

@@ -6,11 +6,11 @@ ghost use mir.Syntax.{w64};
 use std::hash::{BuildHasher, Hasher};
 
 /// Gives a `u64` itself.
-#[derive(Clone, Copy, Debug, PartialEq, Eq)]
+#[derive(Clone, Copy)]
 pub struct OwnHash;
 
 /// A hasher of `OwnHash`: the number of the last eight bytes written.
-#[derive(Clone, Copy, Debug, PartialEq, Eq)]
+#[derive(Clone, Copy)]
 pub struct OwnHasher {
     number: u64,
 }

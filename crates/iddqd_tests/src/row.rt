@@ -7,8 +7,8 @@ use iddqd_bi::{BiHashItem, BiHashItemMut};
 /// Two keys and a value.
 #[derive(Clone, Copy, Debug, PartialEq, Eq)]
 pub struct Row {
-    pub first: u64,
-    pub second: u64,
+    pub key1: u64,
+    pub key2: u64,
     pub value: u64,
 }
 
@@ -17,16 +17,16 @@ impl BiHashItem for Row {
 
     type K2 = u64;
 
-    ghost key1 = { λ x. x.first };
+    ghost key1 = { λ x. x.key1 };
 
-    ghost key2 = { λ x. x.second };
+    ghost key2 = { λ x. x.key2 };
 
     fn key1(&self) -> &u64 {
-        &self.first
+        &self.key1
     }
 
     fn key2(&self) -> &u64 {
-        &self.second
+        &self.key2
     }
 }
 
@@ -49,10 +49,6 @@ impl BiHashItemMut for Row {
 }
 
 /// A row of these numbers.
-pub fn row_of(first: u64, second: u64, value: u64) -> Row {
-    Row {
-        first,
-        second,
-        value,
-    }
+pub fn row_of(key1: u64, key2: u64, value: u64) -> Row {
+    Row { key1, key2, value }
 }

@@ -1,0 +1,65 @@
+//! Room in two-key maps: each call that takes memory is granted.
+use crate::alike::Alike;
+use crate::row::{Row, row_of};
+use iddqd_bi::BiHashMap;
+use iddqd_store::TryReserveError;
+use std::alloc::Global;
+use std::hash::BuildHasher;
+use std::test::Fail;
+
+/// The capacities of a map after each call that changes it, where at most 62 are counted.
+fn capacities<S: BuildHasher>(map: &mut BiHashMap<Row, S>) -> Result<[usize; 4], TryReserveError> {
+    for key in 1..=100 {
+        let _ = map.insert_overwrite(row_of(key, key, 0));
+    }
+    map.retain(|row| row.key1 == 37 || row.key1 == 90);
+    map.shrink_to(50)?;
+    let shrunk = map.capacity();
+    map.shrink_to_fit()?;
+    let fitted = map.capacity();
+    map.reserve(50)?;
+    map.try_reserve(60)?;
+    let reserved = map.capacity().min(62);
+    map.clear();
+    map.shrink_to_fit()?;
+    Ok([shrunk, fitted, reserved, map.capacity()])
+}
+
+#[test]
+fn room_is_granted(rt: HostRuntime) -> Result<(), Fail> {
+    for mut map in [
+        BiHashMap::<Row>::default(rt.alloc()),
+        BiHashMap::with_capacity(rt.alloc(), 10)?,
+    ] {
+        assert!(rt; capacities(&mut map)? == [50, 2, 62, 0]);
+    }
+    let mut map = BiHashMap::with_capacity_and_hasher(rt.alloc(), 10, Alike { hash: 0 })?;
+    assert!(rt; capacities(&mut map)? == [50, 2, 62, 0]);
+    Ok(())
+}
+
+/// The length and the capacity of a map of so many items that was extended by nine promised ones, which all take the
+/// place of the first.
+fn extended(alloc: Global, made: usize) -> Result<(usize, usize), Fail> {
+    let mut map = BiHashMap::<Row>::with_capacity(alloc, made)?;
+    for key in 1..=made as u64 {
+        let _ = map.insert_overwrite(row_of(key, key, 0));
+    }
+    if map.extend([row_of(1, 1, 0); 9]).is_err() {
+        Err("refused")?;
+    }
+    Ok((map.len(), map.capacity()))
+}
+
+/// Where a map has items `extend` asks for half of what is promised, rounded up, and else for all of it.
+#[test]
+fn extending_asks_for_half_of_the_promise(rt: HostRuntime) -> Result<(), Fail> {
+    for (made, len, least, most) in [(2, 2, 7, 7), (0, 1, 9, 14)] {
+        let (length, capacity) = extended(rt.alloc(), made)?;
+        assert!(rt;
+            length == len && capacity >= least && capacity <= most,
+            "{length}: {capacity}"
+        );
+    }
+    Ok(())
+}

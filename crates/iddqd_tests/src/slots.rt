@@ -1,0 +1,69 @@
+//! Slots: the calls that no map's test runs, and values that are dropped once.
+use iddqd_store::{ItemIndex, ItemSet};
+use std::alloc::Global;
+use std::rc::Rc;
+use std::test::Fail;
+
+/// A set of 10 and 30 in slots 0 and 2.
+fn two_of_three(alloc: Global) -> Result<ItemSet<u64>, Fail> {
+    let mut set = ItemSet::with_capacity(alloc, 3)?;
+    for item in [10, 20, 30] {
+        if set.len() < set.capacity() {
+            set.insert_reserved(item);
+        }
+    }
+    let _ = set.remove(ItemIndex::new(1));
+    Ok(set)
+}
+
+/// Adds one to the item of a slot, and then puts seven in its place.
+fn write(set: &mut ItemSet<u64>, ix: ItemIndex) -> Option<u64> {
+    let item = set.get_mut(ix)?;
+    *item = item.wrapping_add(1);
+    set.get(ix)?;
+    Some(set.replace(ix, 7))
+}
+
+#[test]
+fn items_are_written_in_their_slots(rt: HostRuntime) -> Result<(), Fail> {
+    let mut set = two_of_three(rt.alloc())?;
+    for (at, wanted) in [(0, Some(11)), (1, None), (2, Some(31)), (3, None)] {
+        assert!(rt; at < 4);
+        assert!(rt; write(&mut set, ItemIndex::new(at)) == wanted);
+    }
+    assert!(rt; set.values().copied().eq([7, 7]));
+    Ok(())
+}
+
+#[test]
+fn slots_are_copied_and_compacted(rt: HostRuntime) -> Result<(), Fail> {
+    let mut set = two_of_three(rt.alloc())?;
+    let copy = set.clone()?;
+    set.compact();
+    set.shrink_to(0)?;
+    for (set, at) in [(copy, 2), (set, 1)] {
+        assert!(rt; at < 3);
+        assert!(rt; set.get(ItemIndex::new(at)).copied() == Some(30) && set.capacity() == at + 1);
+    }
+    Ok(())
+}
+
+#[test]
+fn each_item_is_dropped_once(rt: HostRuntime) -> Result<(), Fail> {
+    let alive = Rc::new(rt.alloc(), ())?;
+    let mut set = ItemSet::new(rt.alloc());
+    set.try_reserve(4)?;
+    for _ in 0..4 {
+        assert!(rt; set.len() < set.capacity());
+        set.insert_reserved(alive.clone()?);
+    }
+    drop(set.remove(ItemIndex::new(1)));
+    set.shrink_to(0)?;
+    assert!(rt; Rc::strong_count(&alive) == 4);
+    let mut values = set.into_values();
+    drop(values.next());
+    assert!(rt; Rc::strong_count(&alive) == 3);
+    drop(values);
+    assert!(rt; Rc::strong_count(&alive) == 1);
+    Ok(())
+}

@@ -1,0 +1,201 @@
+//! Worked rows of tables, with places found by hand. How many cells a call looks at stands in its contract.
+ghost use Rattle.std.specs.Prelude.{◌≡◌, ◌&&◌, ◌==◌, refl};
+ghost use Rattle.std.proofs.Common.{◌∙◌, true, sym, ap₂};
+
+use iddqd_store::{IndexTable, ItemIndex, Matcher, Meter};
+use std::alloc::{AllocError, Global};
+use std::test::Fail;
+
+/// Says yes to one index, or to none, and counts its questions.
+#[derive(Drop)]
+struct Only {
+    ix: ItemIndex,
+    yes: bool,
+    questions: usize,
+}
+
+impl Matcher for Only {
+    ghost accepts = { λ m ix. m.yes && (ix == m.ix) };
+
+    ghost counts = { λ _ _. true };
+
+    ghost asked = { λ m. m.questions };
+
+    ghost IsKept = { λ m n. (m.ix ≡ n.ix) × (m.yes ≡ n.yes) };
+
+    ghost accepts_kept = { λ m n ix k. ap₂ (λ y i. y && (ix == i)) (sym k.1) (sym k.0) };
+
+    ghost counts_kept = { λ _ _ _ _. refl };
+
+    ghost kept_refl = { λ _. (refl, refl) };
+
+    ghost kept_trans = { λ _ _ _ k l. (k.0 ∙ l.0, k.1 ∙ l.1) };
+
+    fn matches(&mut self, ix: ItemIndex) -> bool {
+        self.questions = self.questions.saturating_add(1);
+        self.yes && ix == self.ix
+    }
+}
+
+/// A hash and an index. An index is written as a letter, whose byte is its number.
+type Pair = (u64, u8);
+
+/// A matcher that says yes to this index, or to none.
+fn asking_for(ix: u8, yes: bool) -> Only {
+    Only {
+        ix: ItemIndex::new(ix as usize),
+        yes,
+        questions: 0,
+    }
+}
+
+/// Enters pairs in order, as long as there is room.
+fn enter(table: &mut IndexTable, pairs: &[Pair]) {
+    for (hash, ix) in pairs {
+        if table.len() < table.capacity() {
+            table.insert_reserved(*hash, ItemIndex::new(*ix as usize), &mut Meter::new());
+        }
+    }
+}
+
+/// Takes pairs out.
+fn take_out(table: &mut IndexTable, pairs: &[Pair]) {
+    for pair in pairs {
+        let (hash, ix) = *pair;
+        if let Some(ix) = table.find(hash, &mut asking_for(ix, true), &mut Meter::new()) {
+            table.remove(hash, ix, &mut Meter::new());
+        }
+    }
+}
+
+/// The letter in each cell, and a point in each empty one.
+fn picture(alloc: Global, table: &IndexTable) -> Result<Vec<u8>, AllocError> {
+    let mut letters = Vec::new(alloc);
+    for at in 0..table.cells() {
+        let pair = table.cell_at(at, &mut Meter::new());
+        let letter = pair.map_or(b'.', |pair| u8::try_from(pair.1.number()).unwrap_or(0));
+        letters.push(letter)?;
+    }
+    Ok(letters)
+}
+
+const SEVEN: &[Pair] = &[
+    (0, b'a'),
+    (0, b'b'),
+    (2, b'c'),
+    (3, b'd'),
+    (4, b'e'),
+    (5, b'f'),
+    (6, b'g'),
+];
+
+/// Pairs that are entered first and taken out again, those that are entered between, and for how many more there is
+/// room then; and what stands in the cells.
+const PLACES: [(&[Pair], &[Pair], usize, &str); 20] = [
+    (
+        &[],
+        &[(6, b'a'), (6, b'b'), (7, b'c'), (0, b'd')],
+        0,
+        "cd....ab",
+    ),
+    (
+        &[(6, b'a')],
+        &[(6, b'b'), (7, b'c'), (0, b'd')],
+        0,
+        "d.....bc",
+    ),
+    (&[(6, b'a')], &[(7, b'b'), (6, b'c')], 0, "......cb"),
+    (&[], &[(1, b'a'), (9, b'b')], 0, ".ab....."),
+    (&[], &[(1, b'a'), (9, b'b')], 10, ".a.......b......"),
+    (&[], SEVEN, 0, "abcdefg."),
+    (&[], SEVEN, 1, "abcdefg........."),
+    // In each order of three the same cells are taken, and so they are behind a fourth that is gone.
+    (&[], &[(6, b'a'), (7, b'b'), (6, b'c')], 0, "c.....ab"),
+    (&[], &[(6, b'a'), (6, b'c'), (7, b'b')], 0, "b.....ac"),
+    (&[], &[(7, b'b'), (6, b'a'), (6, b'c')], 0, "c.....ab"),
+    (&[], &[(7, b'b'), (6, b'c'), (6, b'a')], 0, "a.....cb"),
+    (&[], &[(6, b'c'), (6, b'a'), (7, b'b')], 0, "b.....ca"),
+    (&[], &[(6, b'c'), (7, b'b'), (6, b'a')], 0, "a.....cb"),
+    (
+        &[(6, b'd')],
+        &[(6, b'a'), (7, b'b'), (6, b'c')],
+        0,
+        "c.....ab",
+    ),
+    (
+        &[(6, b'd')],
+        &[(6, b'a'), (6, b'c'), (7, b'b')],
+        0,
+        "b.....ac",
+    ),
+    (
+        &[(6, b'd')],
+        &[(7, b'b'), (6, b'a'), (6, b'c')],
+        0,
+        "c.....ab",
+    ),
+    (
+        &[(6, b'd')],
+        &[(7, b'b'), (6, b'c'), (6, b'a')],
+        0,
+        "a.....cb",
+    ),
+    (
+        &[(6, b'd')],
+        &[(6, b'c'), (6, b'a'), (7, b'b')],
+        0,
+        "b.....ca",
+    ),
+    (
+        &[(6, b'd')],
+        &[(6, b'c'), (7, b'b'), (6, b'a')],
+        0,
+        "a.....cb",
+    ),
+    (&[(6, b'a'), (6, b'b')], &[], 0, "........"),
+];
+
+#[test]
+fn pairs_stand_in_their_places(rt: HostRuntime) -> Result<(), Fail> {
+    for (gone, pairs, more, wanted) in PLACES {
+        let mut table = IndexTable::with_capacity(rt.alloc(), 7)?;
+        enter(&mut table, gone);
+        enter(&mut table, pairs);
+        take_out(&mut table, gone);
+        table.try_reserve(more)?;
+        let copy = table.clone()?;
+        for table in [table, copy] {
+            assert_eq!(rt; picture(rt.alloc(), &table)?.as_slice(), wanted.as_bytes());
+        }
+    }
+    Ok(())
+}
+
+/// For how many pairs there is room, the pairs, and a search by hash for an index or for none; what it finds, and how
+/// many it asks about.
+const SEARCHES: [(usize, &[Pair], Pair, bool, Option<u8>, usize); 4] = [
+    (7, &[(1, b'a'), (2, b'b')], (9, b'a'), true, None, 0),
+    (0, &[], (9, b'a'), true, None, 0),
+    (14, &[(1, b'a'), (9, b'b')], (9, b'b'), true, Some(b'b'), 1),
+    (
+        7,
+        &[(6, b'a'), (7, b'b'), (6, b'c')],
+        (6, b'a'),
+        false,
+        None,
+        2,
+    ),
+];
+
+#[test]
+fn searches_ask_under_their_hash_alone(rt: HostRuntime) -> Result<(), Fail> {
+    for (room, pairs, (hash, ix), yes, wanted, asked) in SEARCHES {
+        let mut table = IndexTable::with_capacity(rt.alloc(), room)?;
+        enter(&mut table, pairs);
+        let mut matcher = asking_for(ix, yes);
+        let found = table.find(hash, &mut matcher, &mut Meter::new());
+        assert!(rt; found == wanted.map(|ix| ItemIndex::new(ix as usize)));
+        assert!(rt; matcher.questions == asked);
+    }
+    Ok(())
+}
