@@ -7,7 +7,7 @@ use Rattle.std.proofs.Common.{refl, sym, ap, subst, ◌∙◌, arith}
 use Rattle.std.proofs.lemmas.Map.Keys.{IsDistinct-head}
 use Rattle.std.proofs.lemmas.List.Sorted.{IsPermutation-sym, length_permutation, Contains-permutation}
 use Rattle.iddqd_store.specs.Bag.{Ranks, AreLawful, IsSound, NamesOne, clash, order, over}
-use Rattle.iddqd_store.proofs.BagLemmas.Exchanges.{split}
+use Rattle.iddqd_store.proofs.BagLemmas.Exchanges.{split, IsPermutation-filter}
 use Rattle.iddqd_store.proofs.BagLemmas.Sound.{IsSound-rank, named_is, none_pass, each_weaker, NamesOne-apart, Contains-filter, IsSound-IsPermutation, named-IsPermutation, length-over}
 use Rattle.iddqd_store.proofs.BagLemmas.Steps.{length-clash}
 use Rattle.iddqd_store.proofs.RankLemmas.Index.{Contains-here, Contains-cons}
@@ -75,6 +75,18 @@ pub none-removed : {T : Type 0} (agree : T → T → Bool) (ranks : Ranks T) →
 none-removed agree ranks laws test names old bag x sound taken passes =
     let apart = (IsSound-rank agree ranks (x ∷ bag) (IsSound-IsPermutation (agree ∷ ranks) laws old (x ∷ bag) taken sound)).0 in
     none_pass test bag (each_weaker _ _ (λ y other. NamesOne-apart agree test names x y passes other) bag (IsDistinct-head agree x bag apart))
+
+no_more : {T : Type 0} (xs : List T) → IsPermutation [] xs → xs ≡ []
+no_more [] p = refl
+no_more (x ∷ xs) p = absurd (let more : suc (length xs) ≡ 0 = length_permutation [] (x ∷ xs) p in omega (arith, more))
+
+-- the map says that it has the key no more, whether a removal by it found an item or not
+pub contains-removed : {T : Type 0} (agree : T → T → Bool) (ranks : Ranks T) → AreLawful (agree ∷ ranks) → (test : T → Bool) → NamesOne agree test → (old bag : List T) (gone : Option T) → IsSound (agree ∷ ranks) old → option_to_list gone ≡ filter test old → IsPermutation old (option_to_list gone ++ bag) → list_any test bag ≡ false
+contains-removed agree ranks laws test names old bag None sound is left =
+    let none : IsPermutation [] (filter test bag) = subst (λ l. IsPermutation l (filter test bag)) (sym is) (IsPermutation-filter test old bag left) in
+    any_listed test bag ∙ ap some_item (no_more (filter test bag) none)
+contains-removed agree ranks laws test names old bag (Some x) sound is left =
+    any_listed test bag ∙ ap some_item (none-removed agree ranks laws test names old bag x sound left (member-found test old (Some x) is x refl).1)
 
 -- one more after an insert
 pub length-inserted : {T : Type 0} (old new : List T) (x : T) → IsPermutation new (x ∷ old) → length new ≡ length old + 1

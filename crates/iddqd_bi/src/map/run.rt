@@ -199,7 +199,10 @@ where
         ensures fits { Fits (state_of self.now) }
     {
         let duplicates = self.items_of(found);
-        self.tell(BiReply::Duplicate(DuplicateItem::new(item, duplicates)), sink)
+        self.tell(
+            BiReply::Duplicate(DuplicateItem::new(item, duplicates)),
+            sink,
+        )
     }
 
     fn tell_items<K: BiSink<T>>(&self, sink: &mut K) -> Result<(), K::Fault>

@@ -1,0 +1,59 @@
+//! The devices of README's example.
+ghost use Rattle.std.specs.Prelude.{◌≡◌, ◌∷◌, ◌==◌, IsPermutation, OnOk, OnErr, IfErr, option_copied};
+ghost use Rattle.iddqd_bi.specs.Bag.{IsOnly};
+ghost use Rattle.iddqd_bi.specs.Map.{bag};
+
+use iddqd_bi::{BiHashItem, BiHashMap, InsertError};
+
+/// A device, known by its serial number and by its port.
+#[derive(Drop)]
+pub struct Device {
+    serial: u64,
+    port: u16,
+    watts: u32,
+}
+
+impl BiHashItem for Device {
+    type K1 = u64;
+
+    type K2 = u16;
+
+    ghost key1 = { λ d. d.serial };
+
+    ghost key2 = { λ d. d.port };
+
+    fn key1(&self) -> &u64 {
+        &self.serial
+    }
+
+    fn key2(&self) -> &u16 {
+        &self.port
+    }
+}
+
+/// Plugs a device in, or hands it back where its serial number or its port is taken, or memory is.
+pub fn plug_in(devices: &mut BiHashMap<Device>, device: Device) -> Result<(), Device>
+    ensures went_in { OnOk result (IsPermutation (bag devices.new) (device ∷ bag devices.old)) }
+    ensures back { IfErr result (λ d. d ≡ device) }
+    ensures refused { OnErr result (devices.new ≡ devices.old) }
+{
+    match devices.insert_unique(device) {
+        Ok(()) => Ok(()),
+        Err(InsertError::Duplicate(refusal)) => Err(refusal.into_item()),
+        Err(InsertError::Memory(refusal)) => Err(refusal.into_item()),
+    }
+}
+
+/// The device at a port, if there is one.
+pub fn at_port<'d>(devices: &'d BiHashMap<Device>, port: u16) -> Option<&'d Device>
+    ensures { IsOnly (λ d. port == d.port) (bag devices.now) (option_copied result) }
+{
+    devices.get2(&port)
+}
+
+/// The power of the device.
+pub fn watts(device: &Device) -> u32
+    ensures { result ≡ device.now.watts }
+{
+    device.watts
+}
