@@ -17,15 +17,11 @@ struct Only {
 impl Matcher for Only {
     ghost accepts = { λ m ix. m.yes && (ix == m.ix) };
 
-    ghost counts = { λ _ _. true };
-
     ghost asked = { λ m. m.questions };
 
     ghost IsKept = { λ m n. (m.ix ≡ n.ix) × (m.yes ≡ n.yes) };
 
     ghost accepts_kept = { λ m n ix k. ap₂ (λ y i. y && (ix == i)) (sym k.1) (sym k.0) };
-
-    ghost counts_kept = { λ _ _ _ _. refl };
 
     ghost kept_refl = { λ _. (refl, refl) };
 
