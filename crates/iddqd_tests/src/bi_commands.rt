@@ -148,7 +148,7 @@ fn check<S: BuildHasher + Drop>(rt: &impl Abort, alloc: Global, mut map: BiHashM
             Heard::Taken(Some(row_of(1, 20, 300))),
         ),
     ] {
-        assert_eq!(rt; map.apply(command, &mut sink), Ok(()));
+        assert!(rt; map.apply(command, &mut sink).is_ok());
         assert_eq!(rt; sink.heard.pop(), Some(wanted));
     }
     drop(map);
@@ -160,6 +160,30 @@ fn commands_are_answered(rt: HostRuntime) {
     check(&rt, alloc, BiHashMap::new(alloc));
     for hash in [0, 3, 18446744073709551615] {
         check(&rt, alloc, BiHashMap::with_hasher(alloc, Alike { hash }));
+    }
+}
+
+#[test]
+fn commands_on_room_are_answered(rt: HostRuntime) {
+    let mut map = BiHashMap::new(rt.alloc());
+    let mut sink = listening(rt.alloc(), 100);
+    for (command, wanted) in [
+        (BiCommand::InsertUnique(TWO), Heard::Done),
+        (BiCommand::Contains1(2), Heard::Present(true)),
+        (BiCommand::Contains2(2), Heard::Present(false)),
+        (BiCommand::Contains2(20), Heard::Present(true)),
+        (BiCommand::ContainsUnique(2, 20), Heard::Present(true)),
+        (BiCommand::ContainsUnique(2, 10), Heard::Present(false)),
+        (BiCommand::Reserve(50), Heard::Done),
+        (BiCommand::Reserve(usize::MAX), Heard::Refused),
+        (BiCommand::ShrinkTo(10), Heard::Done),
+        (BiCommand::ShrinkToFit, Heard::Done),
+        (BiCommand::Remove1(2), Heard::Taken(Some(TWO))),
+        (BiCommand::Clear, Heard::Done),
+        (BiCommand::Len, Heard::Length(0)),
+    ] {
+        assert!(rt; map.apply(command, &mut sink).is_ok());
+        assert!(rt; sink.heard.pop() == Some(wanted));
     }
 }
 

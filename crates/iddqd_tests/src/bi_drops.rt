@@ -69,6 +69,7 @@ fn refused_items_are_dropped_once(rt: HostRuntime) -> Result<(), Fail> {
         let mut found = [None, None];
         match map.insert_unique(item_of(&alive, 2, 10)?) {
             Err(InsertError::Duplicate(refusal)) => {
+                assert!(rt; refusal.new_item().key1 == 2);
                 found = first_keys(refusal.duplicates());
                 if way == 0 {
                     drop(refusal);
