@@ -1,10 +1,21 @@
--- The ranks of an item with two keys tell items apart lawfully.
-use Rattle.std.specs.Prelude.{Bool}
+-- The ranks of an item with two keys tell items apart lawfully, and its keys are tests for them.
+use Rattle.std.specs.Prelude.{◌≡◌, Bool, true}
 use Rattle.std.specs.Cmp.{IsEquivalence}
-use Rattle.iddqd_store.specs.Bag.{AreLawful}
-use Rattle.iddqd_store.proofs.MapLemmas.{IsEquivalence-key}
-use Rattle.iddqd_bi.specs.Keys.{ranks}
+use Rattle.std.proofs.Common.{refl}
+use Rattle.iddqd_store.specs.Bag.{AreLawful, agrees}
+use Rattle.iddqd_store.specs.Rank.Keys.{AreKeyTests}
+use Rattle.iddqd_store.proofs.MapLemmas.{IsEquivalence-key, IsKeyTest-key}
+use Rattle.iddqd_bi.specs.Keys.{ranks, key_tests}
 use Rattle.iddqd_bi.specs.declared.item.BiHashItem as item
 
 pub AreLawful-ranks : {T K1 K2 : Type 0} (of : item.Ghosts T K1 K2) {eq1 : K1 → K1 → Bool} {eq2 : K2 → K2 → Bool} → IsEquivalence eq1 → IsEquivalence eq2 → AreLawful (ranks of eq1 eq2)
 AreLawful-ranks of laws1 laws2 = (IsEquivalence-key _ of.key1 laws1, (IsEquivalence-key _ of.key2 laws2, tt))
+
+module _ {T K1 K2 : Type 0} (of : item.Ghosts T K1 K2) (eq1 : K1 → K1 → Bool) (eq2 : K2 → K2 → Bool) where
+  -- items with equal keys agree
+  pub agrees-keys : (x y : T) → eq1 (of.key1 x) (of.key1 y) ≡ true → eq2 (of.key2 x) (of.key2 y) ≡ true → agrees (ranks of eq1 eq2) x y ≡ true
+  agrees-keys x y same1 same2 = rw (same1, same2) refl
+
+  -- keys are tests
+  pub AreKeyTests-keys : IsEquivalence eq1 → IsEquivalence eq2 → (k1 : K1) (k2 : K2) → AreKeyTests (ranks of eq1 eq2) (key_tests of eq1 eq2 k1 k2)
+  AreKeyTests-keys laws1 laws2 k1 k2 = (IsKeyTest-key eq1 of.key1 laws1 k1, (IsKeyTest-key eq2 of.key2 laws2 k2, tt))

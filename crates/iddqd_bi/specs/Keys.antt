@@ -1,5 +1,5 @@
 -- The ranks of an item with two keys.
-use Rattle.std.specs.Prelude.{Bool, [], ◌∷◌}
+use Rattle.std.specs.Prelude.{Bool, List, [], ◌∷◌}
 use Rattle.iddqd_store.specs.Bag.{Ranks, every_of}
 use Rattle.iddqd_store.specs.Rank.{agree}
 use Rattle.iddqd_bi.specs.declared.item.BiHashItem as item
@@ -16,6 +16,10 @@ module _ {T K1 K2 : Type 0} (of : item.Ghosts T K1 K2) where
   abbrev pub has2 : {Q : Type 0} → (Q → K2 → Bool) → Q → T → Bool
   has2 stands q x = stands q (of.key2 x)
 
+  -- for each rank, whether an item has the key that a query stands for
+  abbrev pub key_tests : {Q1 Q2 : Type 0} → (Q1 → K1 → Bool) → (Q2 → K2 → Bool) → Q1 → Q2 → List (T → Bool)
+  key_tests stands1 stands2 q1 q2 = has1 stands1 q1 ∷ has2 stands2 q2 ∷ []
+
   -- whether an item has both keys
   abbrev pub has_both : {Q1 Q2 : Type 0} → (Q1 → K1 → Bool) → (Q2 → K2 → Bool) → Q1 → Q2 → T → Bool
-  has_both stands1 stands2 q1 q2 = every_of (has1 stands1 q1 ∷ has2 stands2 q2 ∷ [])
+  has_both stands1 stands2 q1 q2 = every_of (key_tests stands1 stands2 q1 q2)

@@ -1,4 +1,9 @@
+pub mod Entries
 pub mod Keys
+pub mod Lent
+pub mod Mismatch
+pub mod OccupiedRefs
+pub mod RefMuts
 pub mod Refused
 pub mod Step
 -- the words of the store that the map's clauses cite

@@ -34,6 +34,27 @@ pub struct MemoryError<'a, T: BiHashItem, S: BuildHasher> {
     pub(crate) new_item: T,
 }
 
+/// Why an item was not put in the place of others: the lowest rank at which its key is not theirs, with the item.
+#[derive(Drop)]
+pub enum KeyMismatch<T> {
+    /// The first key differs.
+    Key1(T),
+    /// The second key differs, and the first does not.
+    Key2(T),
+}
+
+/// Why an item was not put in through an entry: the lowest rank at which its key is not the entry's, or no memory, with
+/// the item.
+#[derive(Drop)]
+pub enum EntryError<T> {
+    /// The first key differs.
+    Key1(T),
+    /// The second key differs, and the first does not.
+    Key2(T),
+    /// Both keys are the entry's, but the map is full and there was no memory to grow.
+    Memory(T),
+}
+
 /// Why no map was built of some items.
 pub type FromIterError<T> = iddqd_store::FromIterError<T, UpToTwo<T>>;
 

@@ -2,19 +2,23 @@
 #![tactic(auto)]
 
 mod command;
+mod entry;
 mod error;
 mod item;
 mod map;
 mod pointers;
 mod ranks;
+mod ref_mut;
 
 pub use command::{BiCommand, BiReply, BiSink};
-pub use error::{DuplicateError, FromIterError, InsertError, MemoryError};
+pub use entry::{Entry, KeyPair, Keys, OccupiedEntry, OccupiedEntryMut, OccupiedEntryRef, VacantEntry};
+pub use error::{DuplicateError, EntryError, FromIterError, InsertError, KeyMismatch, MemoryError};
 pub use item::{BiHashItem, BiHashItemMut};
 pub use map::{BiHashMap, DefaultHashBuilder};
+pub use ref_mut::RefMut;
 
 // What the calls name of the parts that all maps share.
 pub use iddqd_store::{
-    DuplicateItem, Equivalent, IntoIter, Iter, KeyMatcher, MemoryRefused, Meter, TryReserveError,
+    Cursor, DuplicateItem, Equivalent, IntoIter, Iter, KeyMatcher, MemoryRefused, Meter, TryReserveError,
     UpToTwo,
 };

@@ -8,6 +8,7 @@ mod build;
 mod capacity;
 mod clone;
 mod compare;
+mod entry;
 mod extend;
 mod find;
 mod insert;
@@ -17,7 +18,8 @@ mod remove;
 mod retain;
 mod run;
 mod shrink;
-mod slots;
+pub(crate) mod slots;
+mod write;
 
 /// The builder of hashers that a map has where none is named: std's, with its fixed seed. It gives no protection where
 /// strangers choose the keys.

@@ -3,6 +3,7 @@ pub mod BuildRows
 pub mod Building
 pub mod Entries
 pub mod Exchanges
+pub mod KeyTests
 pub mod Over
 pub mod Partners
 pub mod Rows

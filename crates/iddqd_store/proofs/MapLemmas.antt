@@ -1,11 +1,14 @@
 -- What the maps' invariants share, with any number of ranks.
+pub mod Storing
+pub mod Walking
 use Rattle.std.specs.Prelude.{◌≡◌, ◌+◌, ◌<◌, ◌≤◌, ℕ, Bool, List, [], ◌∷◌, length, IsPermutation, Option, Result, Ok, Err, OnErr}
 use Rattle.std.specs.Cmp.{IsEquivalence}
-use Rattle.std.proofs.Common.{refl, sym, subst, arith}
+use Rattle.std.proofs.Common.{refl, sym, subst, ◌∙◌, arith}
 use Rattle.std.proofs.lemmas.Map.Keys.{IsDistinct-cons, IsDistinct-tail}
 use Rattle.std.proofs.lemmas.List.Sorted.{IsPermutation-refl, IsPermutation-sym, IsPermutation-map}
 use Rattle.iddqd_store.specs.Slots.{members, live_items}
 use Rattle.iddqd_store.specs.Bag.{Ranks, AreLawful, IsSound, conflicts, clash}
+use Rattle.iddqd_store.specs.Rank.Keys.{IsKeyTest}
 use Rattle.iddqd_store.specs.Map.{Map, bag, Loses, MakesRoom}
 use Rattle.iddqd_store.proofs.BagLemmas.Sound.{IsSound-IsPermutation}
 use Rattle.iddqd_store.proofs.BagLemmas.Steps.{none_passes}
@@ -17,6 +20,10 @@ IsEquivalence-key eq key laws = record {
   symm = λ x y. laws.symm (key x) (key y);
   congr = λ x y z. laws.congr (key x) (key y) (key z);
 }
+
+-- a key is a test: an item that has it is told apart from others as it tells them
+pub IsKeyTest-key : {T K : Type 0} (eq : K → K → Bool) (key : T → K) → IsEquivalence eq → (k : K) → IsKeyTest (λ x y. eq (key x) (key y)) (λ x. eq k (key x))
+IsKeyTest-key eq key laws k = λ x y has. laws.congr (key x) k (key y) (laws.symm (key x) k ∙ has)
 
 module _ {T : Type 0} where
   pub live_items-moves : (old new : List (Option T)) (at : ℕ) (x : T) → IsPermutation (members old) ((at, x) ∷ members new) → IsPermutation (live_items old) (x ∷ live_items new)

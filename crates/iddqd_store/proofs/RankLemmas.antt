@@ -1,6 +1,7 @@
 -- A table as the index of a rank: what it finds, how it is filled, kept and copied.
 pub mod Copied
 pub mod Costs
+pub mod Exchanged
 pub mod Fill
 pub mod Index
 pub mod Invariant

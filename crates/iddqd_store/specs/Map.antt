@@ -1,4 +1,6 @@
 -- What a contract sees of a map, with any number of ranks.
+pub mod Walk
+pub mod Written
 use Rattle.std.specs.Prelude.{◌≡◌, ◌≢◌, ◌+◌, ◌*◌, ◌^◌, ◌≤◌, ◌<◌, ℕ, nat_eq, List, [], ◌∷◌, ◌++◌, Option, Result, IsErr, OnOk, OnErr, All, length, fold, refl, IsPermutation}
 use Rattle.std.specs.Coded.{Coded, code_by, coded×, coded_ℕ, coded_list, coded_option}
 use Rattle.std.specs.Hash.{HashWrites}

@@ -1,6 +1,7 @@
 -- One rank of keys: what tells items apart by it, their hashes, what a search by it asks for, and what it costs.
 pub mod Asking
 pub mod Index
+pub mod Keys
 use Rattle.std.specs.Prelude.{◌≡◌, ℕ, ◌+◌, ◌≤◌, Bool, true, List, Option, Contains, length, map}
 use Rattle.std.specs.Hash.{HashWrites}
 use Rattle.std.specs.List.{IsDistinct}

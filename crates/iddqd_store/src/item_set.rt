@@ -147,7 +147,8 @@ impl<T> ItemSet<T> {
         }
     }
 
-    fn item_mut(&mut self, at: usize) -> &mut T
+    /// The item of the live slot of this number, for writing.
+    pub fn item_mut(&mut self, at: usize) -> &mut T
         requires { IsLive self.old.slots at }
         ensures* writes_back { sem 𝓛 (lends_item T.row self.entry at result) }
         ensures value { get self.old.slots at ≡ Some result.now }

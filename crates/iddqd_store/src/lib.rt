@@ -2,6 +2,7 @@
 #![tactic(auto)]
 
 mod cells;
+mod cursor;
 mod equivalent;
 mod error;
 mod index_table;
@@ -15,6 +16,7 @@ mod reply;
 mod up_to_three;
 mod up_to_two;
 
+pub use cursor::Cursor;
 pub use equivalent::Equivalent;
 pub use error::{DuplicateItem, FromIterError, MemoryRefused, TryReserveError};
 pub use index_table::IndexTable;

@@ -3,14 +3,17 @@
 ghost use Rattle.std.specs.Prelude.{◌≡◌, ◌≢◌, ◌+◌, ◌^◌, ◌<◌, ◌≤◌, [], ◌∷◌, length, map, drop, All, IsPermutation, OnOk, OnErr, IfOk, IfErr, Some, None, IfSome, IfNone, nat_eq, slice_set};
 ghost use Rattle.std.specs.List.{IsDistinct};
 ghost use Rattle.std.specs.Option.{option_and_then};
-ghost use Rattle.iddqd_store.specs.Bag.{IsOnly, clash, order, over};
+ghost use Rattle.iddqd_store.specs.Bag.{IsOnly, IsSound, clash, order, over};
 ghost use Rattle.iddqd_store.specs.Rank.Index.{HasHash};
 ghost use Rattle.iddqd_store.specs.Map.{bag, hash_of, Gains, Loses, MakesRoom, IsFullFor, ListsConflicts, IsBlockedAt};
 ghost use Rattle.iddqd_store.specs.Rank.{agree, key_hash};
-ghost use Rattle.iddqd_store.specs.Slots.Found.{items_at};
+ghost use Rattle.iddqd_store.specs.Slots.Found.{items_at, FoundAt};
 ghost use Rattle.iddqd_store.specs.Slots.{get, items_in, IsLive, Updates};
 ghost use Rattle.iddqd_store.specs.Slots.Next.{ComesNext};
 ghost use Rattle.iddqd_bi.specs.Keys.{ranks, has_both};
+
+pub(crate) mod entry;
+mod write;
 
 use super::BiHashMap;
 use crate::item::BiHashItem;
@@ -73,6 +76,14 @@ impl<T: BiHashItem, S: BuildHasher> BiHashMap<T, S> {
         }
     }
 
+    /// The slot of the item that has both keys.
+    pub(crate) fn slot_of_both(&self, key1: &T::K1, key2: &T::K2) -> Option<ItemIndex>
+        ensures { FoundAt (has_both T.BiHashItem T.K1.eq T.K2.eq key1.now key2.now) self.now.slots result }
+    {
+        let hash = self.hash_builder.hash_one(key1);
+        self.slot_unique(hash, key1, key2)
+    }
+
     /// The items of these slots, lent.
     pub(crate) fn items_of(&self, found: &UpToTwo<ItemIndex>) -> UpToTwo<&T>
         ensures { map (λ item. item.now) result ≡ items_at self.now.slots found.now }
@@ -127,6 +138,7 @@ impl<T: BiHashItem, S: BuildHasher> BiHashMap<T, S> {
         requires hash2 { hash2 ≡ key_hash T.key2 T.K2.hash_input S.BuildHasher S.Hasher.Hasher self.old.builder item }
         ensures at { get self.new.slots result ≡ Some item }
         ensures items { IsPermutation (bag self.new) (item ∷ bag self.old) }
+        ensures sound { IsSound (ranks T.BiHashItem T.K1.eq T.K2.eq) (bag self.new) }
         ensures fits { length (bag self.new) ≤ self.new.capacity }
         ensures capacity { self.new.capacity ≡ self.old.capacity }
         ensures builder { self.new.builder ≡ self.old.builder }
@@ -153,6 +165,7 @@ impl<T: BiHashItem, S: BuildHasher> BiHashMap<T, S> {
         ensures displaced { result.0 ≡ order (ranks T.BiHashItem T.K1.eq T.K2.eq) (bag self.old) item }
         ensures at { get self.new.slots result.1 ≡ Some item }
         ensures items { IsPermutation (bag self.new) (over (ranks T.BiHashItem T.K1.eq T.K2.eq) (bag self.old) item) }
+        ensures sound { IsSound (ranks T.BiHashItem T.K1.eq T.K2.eq) (bag self.new) }
         ensures fits { length (bag self.new) ≤ self.new.capacity }
         ensures capacity { self.new.capacity ≡ self.old.capacity }
         ensures builder { self.new.builder ≡ self.old.builder }

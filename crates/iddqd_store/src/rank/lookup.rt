@@ -5,6 +5,7 @@ ghost use Rattle.std.specs.Option.{option_and_then};
 ghost use Rattle.iddqd_store.specs.Bag.{IsOnly};
 ghost use Rattle.iddqd_store.specs.Map.{bag, hash_of};
 ghost use Rattle.iddqd_store.specs.Rank.Index.{HasHash};
+ghost use Rattle.iddqd_store.specs.Slots.Found.{FoundAt};
 ghost use Rattle.iddqd_store.specs.Slots.{get, IsLive};
 ghost use Rattle.iddqd_store.specs.Rank.{agree, key_hash, NamesOneUnder, SearchCosts, IsSearchable};
 
@@ -68,9 +69,16 @@ impl<'a, T, R: KeyOf<T>, S: BuildHasher> Lookup<'a, T, R, S> {
     pub fn get<Q: Equivalent<R::Key>>(&self, query: &Q) -> Option<&'a T>
         ensures { IsOnly (λ x. Q.equivalent query.now (R.key x)) (bag self.now) (option_copied result) }
     {
-        let hash = self.hash_builder.hash_one(query);
-        let ix = self.slot(hash, query)?;
+        let ix = self.slot_of(query)?;
         self.items.get(ix)
+    }
+
+    /// The slot of the item whose key the query stands for.
+    pub fn slot_of<Q: Equivalent<R::Key>>(&self, query: &Q) -> Option<ItemIndex>
+        ensures { FoundAt (λ x. Q.equivalent query.now (R.key x)) self.now.slots result }
+    {
+        let hash = self.hash_builder.hash_one(query);
+        self.slot(hash, query)
     }
 
     /// Whether there is such an item.

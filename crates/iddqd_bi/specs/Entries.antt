@@ -1,0 +1,134 @@
+-- What contracts say of entries.
+use Rattle.std.specs.Prelude.{◌≡◌, ◌≢◌, Bool, [], ◌∷◌, List, Option, Result, OnOk, OnErr, ⊤}
+use Rattle.std.specs.Option.{option_and_then, IfSome}
+use Rattle.std.specs.Borrow.{Fml, GName, RattleType, MutBor, LendsIf, follows, follows_so, name_if_ok}
+use Rattle.std.specs.HashMap.Lent.{HashMembers}
+use Rattle.std.specs.declared.cmp.PartialEq as equal
+use Rattle.std.specs.declared.hash.Hash as hash
+use Rattle.std.specs.declared.hash.Hasher as hasher
+use Rattle.std.specs.declared.hash.BuildHasher as builder
+use mir.Syntax.{named}
+use Rattle.iddqd_store.specs.Bag.{listing, vacant}
+use Rattle.iddqd_store.specs.Bag as bags
+use Rattle.iddqd_store.specs.Map.{Map, bag}
+use Rattle.iddqd_store.specs.Map.Written.{map_with_if}
+use Rattle.iddqd_store.specs.Slots.{get, IsLive}
+use Rattle.iddqd_store.specs.Slots.Found.{AreFound, entry_at, found_by_all, head_of, held_at}
+use Rattle.iddqd_bi.specs.Keys.{key_tests}
+use Rattle.iddqd_bi.specs.Refused.{map_row}
+use Rattle.iddqd_bi.specs.RefMuts.{ref_lender, rests_if_none}
+use Rattle.iddqd_bi.specs.declared.item.BiHashItem as item
+use Rattle.iddqd_bi.specs.declared.entry.keys.Keys as pair
+use Rattle.iddqd_bi.specs.declared.entry.Entry.{Entry}
+use Rattle.iddqd_bi.specs.declared.entry.Entry.TheVariants.{Vacant, Occupied}
+use Rattle.iddqd_bi.specs.declared.entry.VacantEntry.{VacantEntry}
+use Rattle.iddqd_bi.specs.declared.entry.OccupiedEntry.{OccupiedEntry}
+use Rattle.iddqd_bi.specs.declared.entry.OccupiedEntryMut.{OccupiedEntryMut}
+use Rattle.iddqd_bi.specs.declared.ref_mut.RefMut.{RefMut}
+use Rattle.iddqd_bi.specs.contracts.entry.OccupiedEntry.{the_row as occupied_row}
+use Rattle.iddqd_bi.specs.contracts.map.BiHashMap.{the_row as row_of_map}
+
+module _ {T S K1 K2 H : Type 0} where
+  -- for each rank, whether an item has the entry's key
+  abbrev pub sought : item.Ghosts T K1 K2 → (K1 → K1 → Bool) → (K2 → K2 → Bool) → OccupiedEntry T S K1 K2 H → List (T → Bool)
+  sought of eq1 eq2 o = key_tests of eq1 eq2 o.key1.now o.key2.now
+
+  -- the entry has found what its keys name, which is some item at least. `entry` ensures it
+  pub record HasFound (of : item.Ghosts T K1 K2) (eq1 : K1 → K1 → Bool) (eq2 : K2 → K2 → Bool) (o : OccupiedEntry T S K1 K2 H) : Type 0 where
+    pub found : AreFound (sought of eq1 eq2 o) o.map.now.slots (o.slot1 ∷ o.slot2 ∷ [])
+    pub some : listing (sought of eq1 eq2 o) (bag o.map.now) ≢ []
+
+  -- the items that are held for writing are in the map. `into_mut` ensures it
+  pub record Holds (m : OccupiedEntryMut T S K1 K2 H) : Type 0 where
+    pub live1 : IfSome m.slot1 (IsLive m.map.now.slots)
+    pub live2 : IfSome m.slot2 (IsLive m.map.now.slots)
+
+  -- those items, each once
+  abbrev pub held : OccupiedEntryMut T S K1 K2 H → List T
+  held m = held_at m.map.now.slots (m.slot1 ∷ m.slot2 ∷ [])
+
+  abbrev pub held_entry : OccupiedEntryMut T S K1 K2 H → bags.Entry T
+  held_entry m = entry_at m.map.now.slots (m.slot1 ∷ m.slot2 ∷ [])
+
+  -- the item with the first key, and that with the second
+  abbrev pub held1 : OccupiedEntryMut T S K1 K2 H → Option T
+  held1 m = option_and_then (get m.map.now.slots) m.slot1
+
+  abbrev pub held2 : OccupiedEntryMut T S K1 K2 H → Option T
+  held2 m = option_and_then (get m.map.now.slots) m.slot2
+
+  -- the item that has both
+  abbrev pub held_unique : OccupiedEntryMut T S K1 K2 H → Option T
+  held_unique m = option_and_then (get m.map.now.slots) (head_of (found_by_all (m.slot1 ∷ m.slot2 ∷ [])))
+
+module _ {T S Q K1 K2 H : Type 0} {of : item.Ghosts T K1 K2} {eq1 : equal.Ghosts K1} {input1 : hash.Ghosts K1} {eq2 : equal.Ghosts K2} {input2 : hash.Ghosts K2} {build : builder.Ghosts S H} {hashes : hasher.Ghosts H} {q : pair.Ghosts Q K1 K2} where
+  -- the reference to the map
+  abbrev pub entry_lender : Entry T S Q K1 K2 H of eq1 input1 eq2 input2 build hashes q → GName
+  entry_lender (Vacant e) = e.map.ghost_name
+  entry_lender (Occupied e) = e.map.ghost_name
+
+  -- the map
+  abbrev pub entry_map : Entry T S Q K1 K2 H of eq1 input1 eq2 input2 build hashes q → Map T S
+  entry_map (Vacant e) = e.map.now
+  entry_map (Occupied e) = e.map.now
+
+  -- the keys
+  abbrev pub entry_key1 : Entry T S Q K1 K2 H of eq1 input1 eq2 input2 build hashes q → K1
+  entry_key1 (Vacant e) = q.first e.keys
+  entry_key1 (Occupied e) = e.key1.now
+
+  abbrev pub entry_key2 : Entry T S Q K1 K2 H of eq1 input1 eq2 input2 build hashes q → K2
+  entry_key2 (Vacant e) = q.second e.keys
+  entry_key2 (Occupied e) = e.key2.now
+
+  -- what it holds
+  abbrev pub entry_value : Entry T S Q K1 K2 H of eq1 input1 eq2 input2 build hashes q → bags.Entry T
+  entry_value (Vacant e) = vacant
+  entry_value (Occupied e) = entry_at e.map.now.slots (e.slot1 ∷ e.slot2 ∷ [])
+
+  -- P of a vacant entry
+  abbrev pub OnVacant : Entry T S Q K1 K2 H of eq1 input1 eq2 input2 build hashes q → (VacantEntry T S Q K1 K2 H of eq1 input1 eq2 input2 build hashes q → Type 0) → Type 0
+  OnVacant (Vacant e) P = P e
+  OnVacant (Occupied e) P = ⊤
+
+  -- P of an occupied entry
+  abbrev pub OnOccupied : Entry T S Q K1 K2 H of eq1 input1 eq2 input2 build hashes q → (OccupiedEntry T S K1 K2 H → Type 0) → Type 0
+  OnOccupied (Vacant e) P = ⊤
+  OnOccupied (Occupied e) P = P e
+
+  -- an occupied entry has found what its keys name
+  abbrev pub IsFound : Entry T S Q K1 K2 H of eq1 input1 eq2 input2 build hashes q → Type 0
+  IsFound (Vacant e) = ⊤
+  IsFound (Occupied e) = HasFound of eq1.eq eq2.eq e
+
+module _ (T S K1 K2 H : RattleType) {of : item.Ghosts T.Denot K1.Denot K2.Denot} {eq1 : equal.Ghosts K1.Denot} {input1 : hash.Ghosts K1.Denot} {eq2 : equal.Ghosts K2.Denot} {input2 : hash.Ghosts K2.Denot} {build : builder.Ghosts S.Denot H.Denot} {hashes : hasher.Ghosts H.Denot} where
+  -- where no item is lent, the map stays
+  abbrev pub rests_if_err : {E : Type 0} → MutBor (Map T.Denot S.Denot) → Result (RefMut T.Denot S.Denot K1.Denot K2.Denot H.Denot of eq1 input1 eq2 input2 build hashes) E → Fml
+  rests_if_err m r = follows_so (row_of_map T S K1 K2 H of eq1 input1 eq2 input2 build hashes) (row_of_map T S K1 K2 H of eq1 input1 eq2 input2 build hashes) m.ghost_name (name_if_ok ref_lender r) (λ x n. OnOk r (n ≡ x)) (λ n. OnErr r (n ≡ m.now))
+
+  -- the same of a struct by value that held the map
+  abbrev pub held_rests_if_none : MutBor (Map T.Denot S.Denot) → Option (RefMut T.Denot S.Denot K1.Denot K2.Denot H.Denot of eq1 input1 eq2 input2 build hashes) → Fml
+  held_rests_if_none m r = rests_if_none T S K1 K2 H m r
+
+module _ (T S K1 K2 H : RattleType) (of : item.Ghosts T.Denot K1.Denot K2.Denot) (keys1 : HashMembers K1.Denot) (keys2 : HashMembers K2.Denot) (build : builder.Ghosts S.Denot H.Denot) (hashes : hasher.Ghosts H.Denot) where
+  -- where there is no entry, the map stays
+  abbrev pub occupied_rests_if_err : {E : Type 0} → MutBor (Map T.Denot S.Denot) → Result (OccupiedEntry T.Denot S.Denot K1.Denot K2.Denot H.Denot) E → Fml
+  occupied_rests_if_err m r = follows_so (map_row T S K1 K2 H of keys1 keys2 build hashes) (map_row T S K1 K2 H of keys1 keys2 build hashes) m.ghost_name (name_if_ok (λ e. e.map.ghost_name) r) (λ x n. OnOk r (n ≡ x)) (λ n. OnErr r (n ≡ m.now))
+
+  abbrev pub held_rests_if_err : {E : Type 0} → MutBor (Map T.Denot S.Denot) → Result (OccupiedEntryMut T.Denot S.Denot K1.Denot K2.Denot H.Denot) E → Fml
+  held_rests_if_err m r = follows_so (map_row T S K1 K2 H of keys1 keys2 build hashes) (map_row T S K1 K2 H of keys1 keys2 build hashes) m.ghost_name (name_if_ok (λ e. e.map.ghost_name) r) (λ x n. OnOk r (n ≡ x)) (λ n. OnErr r (n ≡ m.now))
+
+  -- the type of an occupied entry, as the logic holds it
+  abbrev pub entry_row : RattleType
+  entry_row = occupied_row (record { mir = named 1; lft = [] }) T S K1 K2 H of (record { eq = keys1.eq }) (record { hash_input = keys1.hash_input }) (record { eq = keys2.eq }) (record { hash_input = keys2.hash_input }) build hashes
+
+  -- the entry has the map that is left
+  abbrev pub lends_held : MutBor (OccupiedEntry T.Denot S.Denot K1.Denot K2.Denot H.Denot) → OccupiedEntryMut T.Denot S.Denot K1.Denot K2.Denot H.Denot → Fml
+  lends_held m r = follows entry_row (map_row T S K1 K2 H of keys1 keys2 build hashes) m.ghost_name r.map.ghost_name (λ n. record m.now { map = record m.now.map { now = n } })
+
+  -- the item with the first key has the last data written through r, and that with the second
+  abbrev pub lends_data1 : (D : RattleType) → (T.Denot → D.Denot → T.Denot) → MutBor (OccupiedEntry T.Denot S.Denot K1.Denot K2.Denot H.Denot) → Option (MutBor D.Denot) → Fml
+  lends_data1 D put m r = LendsIf entry_row D m r (λ d. record m.now { map = record m.now.map { now = map_with_if m.now.map.now m.now.slot1 (λ x. put x d) } }) m.now
+
+  abbrev pub lends_data2 : (D : RattleType) → (T.Denot → D.Denot → T.Denot) → MutBor (OccupiedEntry T.Denot S.Denot K1.Denot K2.Denot H.Denot) → Option (MutBor D.Denot) → Fml
+  lends_data2 D put m r = LendsIf entry_row D m r (λ d. record m.now { map = record m.now.map { now = map_with_if m.now.map.now m.now.slot2 (λ x. put x d) } }) m.now

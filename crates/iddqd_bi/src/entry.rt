@@ -1,0 +1,66 @@
+//! What two keys find in a map, with the map.
+ghost use Rattle.std.specs.Prelude.{◌≡◌, []};
+ghost use Rattle.iddqd_store.specs.Bag.{listing};
+ghost use Rattle.iddqd_store.specs.Map.{bag};
+ghost use Rattle.iddqd_bi.specs.Keys.{key_tests};
+
+use crate::item::BiHashItem;
+use crate::map::{BiHashMap, DefaultHashBuilder};
+use iddqd_store::ItemIndex;
+use std::hash::{BuildHasher, Hash};
+
+mod all;
+mod keys;
+mod occupied;
+mod occupied_mut;
+mod occupied_ref;
+mod vacant;
+
+pub use keys::{KeyPair, Keys};
+pub use occupied_ref::OccupiedEntryRef;
+
+/// What two keys find in a map.
+#[derive(Drop)]
+pub enum Entry<
+    'a,
+    T: BiHashItem,
+    S: BuildHasher = DefaultHashBuilder,
+    Q: Keys<'a, T::K1, T::K2> = KeyPair<'a, <T as BiHashItem>::K1, <T as BiHashItem>::K2>,
+> {
+    /// No item has one of the keys.
+    Vacant(VacantEntry<'a, T, S, Q>),
+    /// One item has both keys, or there are items that have one of them.
+    Occupied(OccupiedEntry<'a, T, S>),
+}
+
+/// Two keys that no item of the map has.
+#[derive(Drop)]
+pub struct VacantEntry<
+    'a,
+    T: BiHashItem,
+    S: BuildHasher = DefaultHashBuilder,
+    Q: Keys<'a, T::K1, T::K2> = KeyPair<'a, <T as BiHashItem>::K1, <T as BiHashItem>::K2>,
+> {
+    pub(crate) map: &'a mut BiHashMap<T, S>,
+    pub(crate) keys: Q,
+    ghost vacant: { listing (key_tests T.BiHashItem T.K1.eq T.K2.eq (Q.first keys) (Q.second keys))
+        (bag map.now) ≡ [] },
+}
+
+/// Two keys, with the item that has both or the items that have one of them.
+#[derive(Drop)]
+pub struct OccupiedEntry<'a, T: BiHashItem, S: BuildHasher = DefaultHashBuilder> {
+    pub(crate) map: &'a mut BiHashMap<T, S>,
+    pub(crate) key1: &'a T::K1,
+    pub(crate) key2: &'a T::K2,
+    pub(crate) slot1: Option<ItemIndex>,
+    pub(crate) slot2: Option<ItemIndex>,
+}
+
+/// The items that two keys found, lent for writing one at a time.
+#[derive(Drop)]
+pub struct OccupiedEntryMut<'a, T: BiHashItem, S: BuildHasher = DefaultHashBuilder> {
+    pub(crate) map: &'a mut BiHashMap<T, S>,
+    pub(crate) slot1: Option<ItemIndex>,
+    pub(crate) slot2: Option<ItemIndex>,
+}

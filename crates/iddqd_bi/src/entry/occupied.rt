@@ -1,0 +1,212 @@
+//! Reading, writing, overwriting and taking out what two keys found.
+ghost use Rattle.std.specs.Prelude.{◌≡◌, None, Some, not, IfOk, IfErr, OnOk, OnErr, IsPermutation, is_some};
+ghost use Rattle.std.specs.Borrow.{sem};
+ghost use Rattle.std.specs.Fn.{CalledAt};
+ghost use Rattle.iddqd_store.specs.Bag.{IsOnly, differ, entry, is_unique, listing, over, unique};
+ghost use Rattle.iddqd_store.specs.Bag.Storing.{Stores};
+ghost use Rattle.iddqd_store.specs.Map.{bag, Loses};
+ghost use Rattle.iddqd_bi.specs.Entries.{HasFound, Holds, held, held1, held2, sought, lends_data1, lends_data2, lends_held};
+ghost use Rattle.iddqd_bi.specs.Keys.{has1, has2, ranks};
+ghost use Rattle.iddqd_bi.specs.Mismatch.{mismatch_item, mismatch_rank};
+ghost use Rattle.iddqd_bi.specs.OccupiedRefs.{is_one, seen1, seen2};
+
+use super::{OccupiedEntry, OccupiedEntryMut, OccupiedEntryRef};
+use crate::error::KeyMismatch;
+use crate::item::{BiHashItem, BiHashItemMut};
+use crate::map::BiHashMap;
+use iddqd_store::UpToTwo;
+use std::hash::{BuildHasher, Hash};
+
+impl<'a, T: BiHashItem, S: BuildHasher> OccupiedEntry<'a, T, S> {
+    /// Whether one item has both keys.
+    pub fn is_unique(&self) -> bool
+        requires { HasFound T.BiHashItem T.K1.eq T.K2.eq self.now }
+        ensures { result ≡ is_unique (entry (sought T.BiHashItem T.K1.eq T.K2.eq self.now) (bag self.now.map.now)) }
+    {
+        self.map.is_one(self.slot1, self.slot2)
+    }
+
+    /// Whether no item has both keys. One of the keys may be absent.
+    pub fn is_non_unique(&self) -> bool
+        requires { HasFound T.BiHashItem T.K1.eq T.K2.eq self.now }
+        ensures { result
+            ≡ not (is_unique (entry (sought T.BiHashItem T.K1.eq T.K2.eq self.now) (bag self.now.map.now))) }
+    {
+        !self.is_unique()
+    }
+
+    /// The items, to be read.
+    pub fn get(&self) -> OccupiedEntryRef<'_, T>
+        requires { HasFound T.BiHashItem T.K1.eq T.K2.eq self.now }
+        ensures unique { is_one result
+            ≡ is_unique (entry (sought T.BiHashItem T.K1.eq T.K2.eq self.now) (bag self.now.map.now)) }
+        ensures by_key1 { IsOnly (has1 T.BiHashItem T.K1.eq self.now.key1.now) (bag self.now.map.now) (seen1 result) }
+        ensures by_key2 { IsOnly (has2 T.BiHashItem T.K2.eq self.now.key2.now) (bag self.now.map.now) (seen2 result) }
+    {
+        self.map.shown(self.slot1, self.slot2)
+    }
+
+    /// The items, to be read for as long as the map is lent.
+    pub fn into_ref(self) -> OccupiedEntryRef<'a, T>
+        requires { HasFound T.BiHashItem T.K1.eq T.K2.eq self }
+        ensures unique { is_one result
+            ≡ is_unique (entry (sought T.BiHashItem T.K1.eq T.K2.eq self.entry) (bag self.entry.map.now)) }
+        ensures by_key1 { IsOnly (has1 T.BiHashItem T.K1.eq self.entry.key1.now) (bag self.entry.map.now)
+            (seen1 result) }
+        ensures by_key2 { IsOnly (has2 T.BiHashItem T.K2.eq self.entry.key2.now) (bag self.entry.map.now)
+            (seen2 result) }
+    {
+        let OccupiedEntry {
+            map,
+            key1: _,
+            key2: _,
+            slot1,
+            slot2,
+        } = self;
+        let map: &'a BiHashMap<T, S> = map;
+        map.shown(slot1, slot2)
+    }
+
+    /// The items, for writing, lent by the entry. A caller knows less of the map afterwards than after `into_mut`.
+    pub fn get_mut(&mut self) -> OccupiedEntryMut<'_, T, S>
+        requires { HasFound T.BiHashItem T.K1.eq T.K2.eq self.old }
+        ensures* lends { sem 𝓛 (lends_held T.row S.row T.K1.row T.K2.row S.Hasher.row
+            T.BiHashItem T.K1.Hash T.K2.Hash S.BuildHasher S.Hasher.Hasher self.entry result) }
+        ensures map { result.map.now ≡ self.old.map.now }
+        ensures holds { Holds result }
+        ensures held { held result ≡ listing (sought T.BiHashItem T.K1.eq T.K2.eq self.old) (bag self.old.map.now) }
+        ensures by_key1 { IsOnly (has1 T.BiHashItem T.K1.eq self.old.key1.now) (bag self.old.map.now) (held1 result) }
+        ensures by_key2 { IsOnly (has2 T.BiHashItem T.K2.eq self.old.key2.now) (bag self.old.map.now) (held2 result) }
+    {
+        let slot1 = self.slot1;
+        let slot2 = self.slot2;
+        let map = &mut *self.map;
+        OccupiedEntryMut { map, slot1, slot2 }
+    }
+
+    /// The items, for writing, for as long as the map is lent.
+    pub fn into_mut(self) -> OccupiedEntryMut<'a, T, S>
+        requires { HasFound T.BiHashItem T.K1.eq T.K2.eq self }
+        ensures same_map { result.map.ghost_name ≡ self.entry.map.ghost_name }
+        ensures map { result.map.now ≡ self.entry.map.now }
+        ensures holds { Holds result }
+        ensures held { held result
+            ≡ listing (sought T.BiHashItem T.K1.eq T.K2.eq self.entry) (bag self.entry.map.now) }
+        ensures by_key1 { IsOnly (has1 T.BiHashItem T.K1.eq self.entry.key1.now) (bag self.entry.map.now)
+            (held1 result) }
+        ensures by_key2 { IsOnly (has2 T.BiHashItem T.K2.eq self.entry.key2.now) (bag self.entry.map.now)
+            (held2 result) }
+    {
+        let OccupiedEntry {
+            map,
+            key1: _,
+            key2: _,
+            slot1,
+            slot2,
+        } = self;
+        OccupiedEntryMut { map, slot1, slot2 }
+    }
+
+    /// Puts an item that has the entry's keys in the place of those that have one of them, and gives these back in the
+    /// order of the keys. The entry is unique then.
+    ///
+    /// It is refused with the lowest rank at which the item's key is not the entry's, whether an item has that key or
+    /// not. The refusal hands the item back, and nothing changes.
+    ///
+    /// It compares the first keys, and the second ones where those are equal, and searches nothing. It takes no memory.
+    pub fn insert(&mut self, item: T) -> Result<UpToTwo<T>, KeyMismatch<T>>
+        requires { HasFound T.BiHashItem T.K1.eq T.K2.eq self.old }
+        ensures same_map { self.new.map.ghost_name ≡ self.old.map.ghost_name }
+        ensures same_keys { OnOk result (differ (sought T.BiHashItem T.K1.eq T.K2.eq self.old) item ≡ None) }
+        ensures displaced { IfOk result (λ gone. gone
+            ≡ listing (sought T.BiHashItem T.K1.eq T.K2.eq self.old) (bag self.old.map.now)) }
+        ensures items { OnOk result (IsPermutation (bag self.new.map.now)
+            (over (ranks T.BiHashItem T.K1.eq T.K2.eq) (bag self.old.map.now) item)) }
+        ensures found { OnOk result (HasFound T.BiHashItem T.K1.eq T.K2.eq self.new) }
+        ensures unique { OnOk result (entry (sought T.BiHashItem T.K1.eq T.K2.eq self.new) (bag self.new.map.now)
+            ≡ unique item) }
+        ensures keys { OnOk result ((self.new.key1 ≡ self.old.key1) × (self.new.key2 ≡ self.old.key2)) }
+        ensures capacity { self.new.map.now.capacity ≡ self.old.map.now.capacity }
+        ensures builder { self.new.map.now.builder ≡ self.old.map.now.builder }
+        ensures handed_back { IfErr result (λ e. mismatch_item e ≡ item) }
+        ensures rank { IfErr result (λ e.
+            differ (sought T.BiHashItem T.K1.eq T.K2.eq self.old) item ≡ Some (mismatch_rank e)) }
+        ensures unchanged { OnErr result (self.new ≡ self.old) }
+    {
+        if *self.key1 != *item.key1() {
+            return Err(KeyMismatch::Key1(item));
+        }
+        if *self.key2 != *item.key2() {
+            return Err(KeyMismatch::Key2(item));
+        }
+        let found = self.map.each_found(self.slot1, self.slot2);
+        let hash1 = self.map.hash_of1(&item);
+        let hash2 = self.map.hash_of2(&item);
+        let (displaced, ix) = self.map.put_over(item, &found, hash1, hash2);
+        self.slot1 = Some(ix);
+        self.slot2 = Some(ix);
+        Ok(displaced)
+    }
+
+    /// Takes the items out, and gives them back in the order of the keys. It takes no memory, and the capacity stays.
+    ///
+    /// It compares no key.
+    pub fn remove(self) -> UpToTwo<T>
+        requires { HasFound T.BiHashItem T.K1.eq T.K2.eq self }
+        ensures taken { result ≡ listing (sought T.BiHashItem T.K1.eq T.K2.eq self.entry) (bag self.entry.map.now) }
+        ensures loses { Loses self.entry.map.now result self.exit.0.now }
+    {
+        let OccupiedEntry {
+            map,
+            key1: _,
+            key2: _,
+            slot1,
+            slot2,
+        } = self;
+        let found = map.each_found(slot1, slot2);
+        map.take_all(&found)
+    }
+}
+
+impl<'a, T: BiHashItemMut, S: BuildHasher> OccupiedEntry<'a, T, S> {
+    /// The data of the item with the first key, for writing.
+    pub fn data1_mut(&mut self) -> Option<&mut T::Data>
+        requires { HasFound T.BiHashItem T.K1.eq T.K2.eq self.old }
+        ensures* lends { sem 𝓛 (lends_data1 T.row S.row T.K1.row T.K2.row S.Hasher.row
+            T.BiHashItem T.K1.Hash T.K2.Hash S.BuildHasher S.Hasher.Hasher T.Data.row T.put self.entry result) }
+        ensures some { is_some result ≡ is_some self.old.slot1 }
+    {
+        let slot1 = self.slot1;
+        self.map.data_of(slot1)
+    }
+
+    /// The data of the item with the second key, for writing.
+    pub fn data2_mut(&mut self) -> Option<&mut T::Data>
+        requires { HasFound T.BiHashItem T.K1.eq T.K2.eq self.old }
+        ensures* lends { sem 𝓛 (lends_data2 T.row S.row T.K1.row T.K2.row S.Hasher.row
+            T.BiHashItem T.K1.Hash T.K2.Hash S.BuildHasher S.Hasher.Hasher T.Data.row T.put self.entry result) }
+        ensures some { is_some result ≡ is_some self.old.slot2 }
+    {
+        let slot2 = self.slot2;
+        self.map.data_of(slot2)
+    }
+
+    /// Stores what `f` answers at each item as its data, that of the first key first and each item once.
+    pub(crate) fn store<F: FnMut(&T) -> T::Data>(&mut self, f: F)
+    where
+        T::Data: Drop,
+        requires found { HasFound T.BiHashItem T.K1.eq T.K2.eq self.old }
+        requires callable { F.IsAlwaysCallable f }
+        ensures same_map { self.new.map.ghost_name ≡ self.old.map.ghost_name }
+        ensures stores { Stores (CalledAt F.FnMut) T.put (ranks T.BiHashItem T.K1.eq T.K2.eq) f
+            (listing (sought T.BiHashItem T.K1.eq T.K2.eq self.old) (bag self.old.map.now))
+            (bag self.old.map.now) (bag self.new.map.now) }
+        ensures capacity { self.new.map.now.capacity ≡ self.old.map.now.capacity }
+        ensures builder { self.new.map.now.builder ≡ self.old.map.now.builder }
+        ensures keys { (self.new.key1 ≡ self.old.key1) × (self.new.key2 ≡ self.old.key2) }
+    {
+        let slot1 = self.slot1;
+        let slot2 = self.slot2;
+        self.map.store_found(slot1, slot2, f);
+    }
+}

@@ -1,0 +1,44 @@
+//! Entries of two keys.
+ghost use Rattle.std.specs.Prelude.{◌≡◌};
+ghost use Rattle.iddqd_store.specs.Bag.{entry};
+ghost use Rattle.iddqd_store.specs.Map.{bag};
+ghost use Rattle.iddqd_bi.specs.Entries.{IsFound, entry_key1, entry_key2, entry_lender, entry_map, entry_value};
+ghost use Rattle.iddqd_bi.specs.Keys.{key_tests};
+
+use super::BiHashMap;
+use crate::entry::{Entry, KeyPair, OccupiedEntry, VacantEntry};
+use crate::item::BiHashItem;
+use std::hash::{BuildHasher, Hash};
+
+impl<T: BiHashItem, S: BuildHasher> BiHashMap<T, S> {
+    /// What two keys find: no item, one that has both, or items that have one of them. The entry keeps the keys and what
+    /// they found, and searches nothing again. It takes no memory.
+    ///
+    /// Each key is hashed once and searched for once.
+    pub fn entry<'a>(&'a mut self, key1: &'a T::K1, key2: &'a T::K2) -> Entry<'a, T, S>
+        ensures same_map { entry_lender result ≡ self.entry.ghost_name }
+        ensures unchanged { entry_map result ≡ self.old }
+        ensures key1 { entry_key1 result ≡ key1.now }
+        ensures key2 { entry_key2 result ≡ key2.now }
+        ensures value { entry_value result
+            ≡ entry (key_tests T.BiHashItem T.K1.eq T.K2.eq key1.now key2.now) (bag self.old) }
+        ensures found { IsFound result }
+    {
+        let slot1 = self.by_key1().slot_of(key1);
+        let slot2 = self.by_key2().slot_of(key2);
+        if slot1.is_none() && slot2.is_none() {
+            Entry::Vacant(VacantEntry {
+                map: self,
+                keys: KeyPair { key1, key2 },
+            })
+        } else {
+            Entry::Occupied(OccupiedEntry {
+                map: self,
+                key1,
+                key2,
+                slot1,
+                slot2,
+            })
+        }
+    }
+}

@@ -1,0 +1,156 @@
+//! The slots that searches by all keys found.
+ghost use Rattle.std.specs.Prelude.{◌≡◌, ◌≤◌, [], ◌∷◌, List, Bool, All, Some, length, nat_eq, option_copied, IfOk, IfErr, IfSome, OnOk, OnErr};
+ghost use Rattle.std.specs.Borrow.{sem};
+ghost use Rattle.std.specs.List.{IsDistinct};
+ghost use Rattle.std.specs.Option.{option_and_then};
+ghost use Rattle.iddqd_store.specs.Bag.{clash, entry, is_unique, listing};
+ghost use Rattle.iddqd_store.specs.Map.{bag, Gains};
+ghost use Rattle.iddqd_store.specs.Rank.{key_hash};
+ghost use Rattle.iddqd_store.specs.Slots.{get, IsLive};
+ghost use Rattle.iddqd_store.specs.Slots.Found.{AreFound, each_once, found_by_all, head_of, held_at};
+ghost use Rattle.iddqd_bi.specs.Keys.{ranks};
+ghost use Rattle.iddqd_bi.specs.OccupiedRefs.{is_one, seen1, seen2};
+ghost use Rattle.iddqd_bi.specs.RefMuts.{ref_lender, ref_map, ref_item, rests_if_none};
+
+use super::super::BiHashMap;
+use crate::entry::OccupiedEntryRef;
+use crate::item::BiHashItem;
+use crate::ref_mut::RefMut;
+use iddqd_store::{ItemIndex, UpToTwo};
+use std::hash::{BuildHasher, Hash};
+
+/// The slot that both searches found.
+pub(crate) fn one_of(slot1: Option<ItemIndex>, slot2: Option<ItemIndex>) -> Option<ItemIndex>
+    ensures { result ≡ head_of (found_by_all (slot1 ∷ slot2 ∷ [])) }
+{
+    match (slot1, slot2) {
+        (Some(a), Some(b)) => {
+            if a == b {
+                Some(a)
+            } else {
+                None
+            }
+        }
+        _ => None,
+    }
+}
+
+impl<T: BiHashItem, S: BuildHasher> BiHashMap<T, S> {
+    /// The slots that searches found, each once.
+    pub(crate) fn each_found(
+        &self,
+        slot1: Option<ItemIndex>,
+        slot2: Option<ItemIndex>,
+    ) -> UpToTwo<ItemIndex>
+        ensures value { result ≡ each_once (slot1 ∷ slot2 ∷ []) }
+        ensures apart { IsDistinct nat_eq result }
+        ensures listed { (tests : List (T → Bool)) → AreFound tests self.now.slots (slot1 ∷ slot2 ∷ [])
+            → held_at self.now.slots (slot1 ∷ slot2 ∷ []) ≡ listing tests (bag self.now) }
+    {
+        let _ = &self.items;
+        let mut found = UpToTwo::new();
+        found.push_found(slot1);
+        found.push_found(slot2);
+        found
+    }
+
+    /// Whether the searches found one item.
+    pub(crate) fn is_one(&self, slot1: Option<ItemIndex>, slot2: Option<ItemIndex>) -> bool
+        ensures { (tests : List (T → Bool)) → AreFound tests self.now.slots (slot1 ∷ slot2 ∷ [])
+            → result ≡ is_unique (entry tests (bag self.now)) }
+    {
+        let _ = &self.items;
+        one_of(slot1, slot2).is_some()
+    }
+
+    /// The items that the searches found, to be read.
+    pub(crate) fn shown(
+        &self,
+        slot1: Option<ItemIndex>,
+        slot2: Option<ItemIndex>,
+    ) -> OccupiedEntryRef<'_, T>
+        requires live1 { IfSome slot1 (IsLive self.now.slots) }
+        requires live2 { IfSome slot2 (IsLive self.now.slots) }
+        ensures unique { (tests : List (T → Bool)) → AreFound tests self.now.slots (slot1 ∷ slot2 ∷ [])
+            → is_one result ≡ is_unique (entry tests (bag self.now)) }
+        ensures by_key1 { seen1 result ≡ option_and_then (get self.now.slots) slot1 }
+        ensures by_key2 { seen2 result ≡ option_and_then (get self.now.slots) slot2 }
+    {
+        let _ = &self.items;
+        match one_of(slot1, slot2) {
+            Some(ix) => OccupiedEntryRef::Unique(self.item_at(ix)),
+            None => OccupiedEntryRef::NonUnique {
+                by_key1: self.item_of(slot1),
+                by_key2: self.item_of(slot2),
+            },
+        }
+    }
+
+    /// The item of a slot, if it has one.
+    fn item_of(&self, slot: Option<ItemIndex>) -> Option<&T>
+        ensures { option_copied result ≡ option_and_then (get self.now.slots) slot }
+    {
+        match slot {
+            Some(ix) => self.items.get(ix),
+            None => None,
+        }
+    }
+
+    /// The slot, if it has an item.
+    fn if_live(&self, slot: Option<ItemIndex>) -> Option<ItemIndex>
+        ensures live { IfSome result (IsLive self.now.slots) }
+        ensures item { option_and_then (get self.now.slots) result ≡ option_and_then (get self.now.slots) slot }
+    {
+        let ix = slot?;
+        if self.items.get(ix).is_some() {
+            Some(ix)
+        } else {
+            None
+        }
+    }
+
+    /// The item of a slot, if it has one, for writing.
+    pub(crate) fn lend(&mut self, slot: Option<ItemIndex>) -> Option<RefMut<'_, T, S>>
+        ensures* rests_at_none { sem 𝓛 (rests_if_none T.row S.row T.K1.row T.K2.row S.Hasher.row self.entry result) }
+        ensures item { option_and_then ref_item result ≡ option_and_then (get self.old.slots) slot }
+        ensures unchanged { IfSome result (λ r. ref_map r ≡ self.old) }
+        ensures same_map { IfSome result (λ r. ref_lender r ≡ self.entry.ghost_name) }
+    {
+        match self.if_live(slot) {
+            Some(slot) => Some(RefMut { map: self, slot }),
+            None => None,
+        }
+    }
+
+    /// Puts an item in that nothing conflicts with, or hands it back where there is no memory for it. It searches
+    /// nothing.
+    pub(crate) fn put_free(&mut self, item: T) -> Result<ItemIndex, T>
+        requires free { clash (ranks T.BiHashItem T.K1.eq T.K2.eq) (bag self.old) item ≡ [] }
+        ensures gains { OnOk result (Gains self.old item self.new) }
+        ensures at { IfOk result (λ ix. get self.new.slots ix ≡ Some item) }
+        ensures handed_back { IfErr result (λ x. x ≡ item) }
+        ensures unchanged { OnErr result (self.new ≡ self.old) }
+        ensures full { OnErr result (length (bag self.old) ≡ self.old.capacity) }
+    {
+        let hash1 = self.hash_of1(&item);
+        let hash2 = self.hash_of2(&item);
+        if let Err(_) = self.make_room() {
+            return Err(item);
+        }
+        Ok(self.put(item, hash1, hash2))
+    }
+
+    /// The hash of an item's first key.
+    pub(crate) fn hash_of1(&self, item: &T) -> u64
+        ensures { result ≡ key_hash T.key1 T.K1.hash_input S.BuildHasher S.Hasher.Hasher self.now.builder item.now }
+    {
+        self.hash_builder.hash_one(item.key1())
+    }
+
+    /// The hash of an item's second key.
+    pub(crate) fn hash_of2(&self, item: &T) -> u64
+        ensures { result ≡ key_hash T.key2 T.K2.hash_input S.BuildHasher S.Hasher.Hasher self.now.builder item.now }
+    {
+        self.hash_builder.hash_one(item.key2())
+    }
+}

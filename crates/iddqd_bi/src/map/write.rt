@@ -1,0 +1,90 @@
+//! Items lent for writing.
+ghost use Rattle.std.specs.Prelude.{◌≡◌, [], Some, IfSome, IfNone};
+ghost use Rattle.std.specs.Borrow.{sem};
+ghost use Rattle.std.specs.Option.{option_and_then};
+ghost use Rattle.iddqd_store.specs.Bag.{IsOnly};
+ghost use Rattle.iddqd_store.specs.Map.{bag};
+ghost use Rattle.iddqd_store.specs.Map.Walk.{Passes, to_come};
+ghost use Rattle.iddqd_bi.specs.Keys.{has1, has2, has_both};
+ghost use Rattle.iddqd_bi.specs.RefMuts.{ref_lender, ref_map, ref_item, ref_with, rests_if_none};
+
+use super::BiHashMap;
+use crate::item::BiHashItem;
+use crate::ref_mut::RefMut;
+use iddqd_store::Cursor;
+use std::hash::{BuildHasher, Hash};
+
+impl<T: BiHashItem, S: BuildHasher> BiHashMap<T, S> {
+    /// The item with this first key, for writing. It takes no memory.
+    ///
+    /// Compares at most as many keys as items have the key's hash at the first rank.
+    pub fn get1_mut(&mut self, key: &T::K1) -> Option<RefMut<'_, T, S>>
+        ensures* rests_at_none { sem 𝓛 (rests_if_none T.row S.row T.K1.row T.K2.row S.Hasher.row self.entry result) }
+        ensures found { IsOnly (has1 T.BiHashItem T.K1.eq key.now) (bag self.old) (option_and_then ref_item result) }
+        ensures unchanged { IfSome result (λ r. ref_map r ≡ self.old) }
+        ensures same_map { IfSome result (λ r. ref_lender r ≡ self.entry.ghost_name) }
+    {
+        match self.by_key1().slot_of(key) {
+            Some(slot) => Some(RefMut { map: self, slot }),
+            None => None,
+        }
+    }
+
+    /// The item with this second key, for writing. It takes no memory.
+    ///
+    /// Compares at most as many keys as items have the key's hash at the second rank.
+    pub fn get2_mut(&mut self, key: &T::K2) -> Option<RefMut<'_, T, S>>
+        ensures* rests_at_none { sem 𝓛 (rests_if_none T.row S.row T.K1.row T.K2.row S.Hasher.row self.entry result) }
+        ensures found { IsOnly (has2 T.BiHashItem T.K2.eq key.now) (bag self.old) (option_and_then ref_item result) }
+        ensures unchanged { IfSome result (λ r. ref_map r ≡ self.old) }
+        ensures same_map { IfSome result (λ r. ref_lender r ≡ self.entry.ghost_name) }
+    {
+        match self.by_key2().slot_of(key) {
+            Some(slot) => Some(RefMut { map: self, slot }),
+            None => None,
+        }
+    }
+
+    /// The item that has both keys, for writing. It takes no memory.
+    ///
+    /// Compares as many keys as `get1_mut` does, and the second key of the item found.
+    pub fn get_mut_unique(&mut self, key1: &T::K1, key2: &T::K2) -> Option<RefMut<'_, T, S>>
+        ensures* rests_at_none { sem 𝓛 (rests_if_none T.row S.row T.K1.row T.K2.row S.Hasher.row self.entry result) }
+        ensures found { IsOnly (has_both T.BiHashItem T.K1.eq T.K2.eq key1.now key2.now) (bag self.old)
+            (option_and_then ref_item result) }
+        ensures unchanged { IfSome result (λ r. ref_map r ≡ self.old) }
+        ensures same_map { IfSome result (λ r. ref_lender r ≡ self.entry.ghost_name) }
+    {
+        match self.slot_of_both(key1, key2) {
+            Some(slot) => Some(RefMut { map: self, slot }),
+            None => None,
+        }
+    }
+
+    /// The next item of a walk over the map, for writing, and `None` behind the last one. The cursor goes on behind it.
+    /// Between two steps of a walk an item may be written, but none may go in or out.
+    ///
+    /// ```
+    /// let mut at = Cursor::new();
+    /// while let Some(mut item) = map.next_from(&mut at) {
+    ///     *item.data_mut() = 0;
+    /// }
+    /// ```
+    pub fn next_from(&mut self, at: &mut Cursor) -> Option<RefMut<'_, T, S>>
+        ensures* rests_at_none { sem 𝓛 (rests_if_none T.row S.row T.K1.row T.K2.row S.Hasher.row self.entry result) }
+        ensures next { IfSome result (λ r. IfSome (ref_item r) (λ x.
+            Passes self.old at.old x (λ f. ref_map (ref_with r f)) at.new)) }
+        ensures end { IfNone result (to_come self.old at.old ≡ []) }
+        ensures stays { IfNone result (at.new ≡ at.old) }
+        ensures unchanged { IfSome result (λ r. ref_map r ≡ self.old) }
+        ensures same_map { IfSome result (λ r. ref_lender r ≡ self.entry.ghost_name) }
+    {
+        match self.slot_from(at.next()) {
+            Some(slot) => {
+                at.pass(slot);
+                Some(RefMut { map: self, slot })
+            }
+            None => None,
+        }
+    }
+}

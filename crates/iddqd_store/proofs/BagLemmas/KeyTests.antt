@@ -1,0 +1,27 @@
+-- What an item that has the keys conflicts with is what the keys find.
+use Rattle.std.specs.Prelude.{◌≡◌, Bool, true, not, List, [], ◌∷◌, ◌++◌, Option, None, Some, position, filter}
+use Rattle.std.specs.List.{AllByRecursion, AllZip}
+use Rattle.std.proofs.Common.{refl, sym, ap, ◌∙◌}
+use Rattle.iddqd_store.specs.Bag.{Ranks, listing, like, order, clash}
+use Rattle.iddqd_store.specs.Rank.Keys.{AreKeyTests}
+use Rattle.iddqd_store.proofs.BagLemmas.Steps.{clash-empty}
+
+module _ {T : Type 0} where
+  filter_same : (p q : T → Bool) → ((x : T) → p x ≡ q x) → (xs : List T) → filter p xs ≡ filter q xs
+  filter_same p q same [] = refl
+  filter_same p q same (x ∷ xs) = rw (same x, filter_same p q same xs) refl
+
+  -- an item that has the keys lists the members that they list
+  pub order-keys : (ranks : Ranks T) (tests : List (T → Bool)) (x : T) → AreKeyTests ranks tests → AllByRecursion (λ test. test x ≡ true) tests → (bag : List T) → order ranks bag x ≡ listing tests bag
+  order-keys [] [] x keys passes bag = refl
+  order-keys [] (test ∷ tests) x keys passes bag = absurd keys
+  order-keys (agree ∷ ranks) [] x keys passes bag = absurd keys
+  order-keys (agree ∷ ranks) (test ∷ tests) x keys passes bag =
+      let same : (y : T) → agree x y ≡ test y = λ y. keys.0 x y passes.0 in
+      ap (λ l. l ++ listing (like ranks x) (filter (λ y. not (agree x y)) bag)) (filter_same (agree x) test same bag)
+      ∙ ap (λ l. filter test bag ++ listing (like ranks x) l) (filter_same _ _ (λ y. ap not (same y)) bag)
+      ∙ ap (λ l. filter test bag ++ l) (order-keys ranks tests x keys.1 passes.1 (filter (λ y. not (test y)) bag))
+
+  -- where the keys find nothing, nothing conflicts with it
+  pub clash-keys : (ranks : Ranks T) (tests : List (T → Bool)) (x : T) → AreKeyTests ranks tests → AllByRecursion (λ test. test x ≡ true) tests → (bag : List T) → listing tests bag ≡ [] → clash ranks bag x ≡ []
+  clash-keys ranks tests x keys passes bag none = clash-empty ranks bag x (order-keys ranks tests x keys passes bag ∙ none)

@@ -1,0 +1,143 @@
+-- What the slots that searches found hold is what their tests find in the bag.
+use Rattle.std.specs.Prelude.{◌≡◌, ◌≤◌, ◌<◌, ℕ, Bool, true, false, cond, not, ◌&&◌, List, [], ◌∷◌, ◌++◌, length, filter, fold, Contains, Option, Some, None, is_some, nat_eq, All, if◌then◌else◌}
+use Rattle.std.specs.List.{AllByRecursion, IsDistinct, list_all}
+use Rattle.std.specs.Option.{option_to_list, option_and_then, IfSome}
+use Rattle.std.proofs.Common.{IsSome, inl, inr, refl, sym, ap, subst, ◌∙◌, arith, append-nil, append_assoc}
+use Rattle.std.proofs.lemmas.Bool.{false≢true}
+use Rattle.std.proofs.lemmas.Bool.Decides.{nat_tests}
+use Rattle.iddqd_store.specs.Bag.{Ranks, AreLawful, IsSound, listing, all_of, every_of, entry, entry_of, is_unique}
+use Rattle.iddqd_store.specs.Rank.Index.{IsIndexed}
+use Rattle.iddqd_store.specs.Slots.{get, IsLive, live_items}
+use Rattle.iddqd_store.specs.Slots.Found.{items_at, with_found, each_once, is_at, found_by_all, head_of, FoundAt, AreFound, held_at, entry_at}
+use Rattle.iddqd_store.proofs.BagLemmas.Entries.{all_of-next}
+use Rattle.iddqd_store.proofs.BagLemmas.Exchanges.{split}
+use Rattle.iddqd_store.proofs.BagLemmas.Over.{IsDistinct-with_found}
+use Rattle.iddqd_store.proofs.BagLemmas.Sound.{each_passes, Contains-filter, IsSound-rank, IsDistinct-nil}
+use Rattle.iddqd_store.proofs.RankLemmas.Index.{Contains-cons_cases, item_at, same_slot}
+use Rattle.iddqd_store.proofs.RankLemmas.Search.{each_at}
+use Rattle.iddqd_store.proofs.SlotLemmas.Found.{listing_found}
+
+itself : (a : ℕ) → nat_eq a a ≡ true
+itself a = grind (arith, nat_tests)
+
+pub one_of_two : (a b : ℕ) → nat_eq a b ≡ is_some (head_of (found_by_all (Some a ∷ Some b ∷ [])))
+one_of_two a b =
+    split (λ t. t ≡ is_some (head_of (cond (t && true) (a ∷ []) []))) (nat_eq a b) (λ _. refl) (λ _. refl)
+
+-- one member has all the keys exactly if some member passes every test
+unique_whole : {T : Type 0} (test : T → Bool) (tests : List (T → Bool)) (bag : List T) → is_unique (entry (test ∷ tests) bag) ≡ is_some (head_of (all_of (test ∷ tests) bag))
+unique_whole {T} test tests bag = by_first (filter test bag) refl
+  where
+    by_first : (l : List T) → filter test bag ≡ l → is_unique (entry (test ∷ tests) bag) ≡ is_some (head_of (all_of (test ∷ tests) bag))
+    by_first [] is =
+        let none : all_of (test ∷ tests) bag ≡ [] = all_of-next test tests bag ∙ ap (all_of tests) is in
+        rw none (no_whole (listing (test ∷ tests) bag))
+      where
+        no_whole : (l : List T) → is_unique (entry_of l []) ≡ false
+        no_whole [] = refl
+        no_whole (x ∷ l) = refl
+    by_first (y ∷ ys) is = rw is (whole (all_of (test ∷ tests) bag))
+      where
+        whole : (l : List T) → is_unique (entry_of (y ∷ (ys ++ listing tests (filter (λ x. not (test x)) bag))) l) ≡ is_some (head_of l)
+        whole [] = refl
+        whole (x ∷ l) = refl
+
+-- each slot is found once
+pub IsDistinct-each_once : (found : List (Option ℕ)) → IsDistinct nat_eq (each_once found)
+IsDistinct-each_once found = on [] found (IsDistinct-nil nat_eq)
+  where
+    on : (ixs : List ℕ) (found : List (Option ℕ)) → IsDistinct nat_eq ixs → IsDistinct nat_eq (fold with_found ixs found)
+    on ixs [] apart = apart
+    on ixs (at ∷ found) apart = on (with_found ixs at) found (IsDistinct-with_found ixs at apart)
+
+module _ {T : Type 0} {agree : T → T → Bool} {ranks : Ranks T} {hashes : List (T → ℕ)} {slots : List (Option T)} {tables : List (List (ℕ × ℕ))} (indexed : IsIndexed (agree ∷ ranks) hashes slots tables) (laws : AreLawful (agree ∷ ranks)) where
+  apart : IsDistinct agree (live_items slots)
+  apart = (IsSound-rank agree ranks (live_items slots) indexed.sound).0
+
+  -- the slots found have the members that the tests list
+  pub found_listing : (tests : List (T → Bool)) (found : List (Option ℕ)) → AreFound tests slots found → held_at slots found ≡ listing tests (live_items slots)
+  found_listing tests found are = on [] [] tests found refl are
+    where
+      on : (done : List (T → Bool)) (ixs : List ℕ) (tests : List (T → Bool)) (found : List (Option ℕ)) → items_at slots ixs ≡ listing done (live_items slots) → AreFound tests slots found → items_at slots (fold with_found ixs found) ≡ listing (done ++ tests) (live_items slots)
+      on done ixs [] [] so_far are = so_far ∙ ap (λ l. listing l (live_items slots)) (sym (append-nil done))
+      on done ixs [] (at ∷ found) so_far are = absurd are
+      on done ixs (test ∷ tests) [] so_far are = absurd are
+      on done ixs (test ∷ tests) (at ∷ found) so_far are =
+          let one_more = listing_found agree slots done test ixs at laws.0.refl laws.0.symm apart so_far are.0.live are.0.only in
+          on (done ++ test ∷ []) (with_found ixs at) tests found one_more are.1
+          ∙ ap (λ l. listing l (live_items slots)) (append_assoc done (test ∷ []) tests)
+
+  -- an item passes a test exactly if the search by the test found its slot
+  passes_found : (test : T → Bool) (at : Option ℕ) (ix : ℕ) (x : T) → get slots ix ≡ Some x → FoundAt test slots at → test x ≡ is_at ix at
+  passes_found test None ix x here found =
+      split (λ b. b ≡ false) (test x)
+      (λ yes. absurd (omega (arith, (subst (λ l. Contains l x) (sym found.only) (Contains-filter test (live_items slots) x yes (item_at slots ix x here))).1)))
+      (λ _. refl)
+  passes_found test (Some j) ix x here found = by_slot (get slots j) refl found.only found.live
+    where
+      by_slot : (o : Option T) → get slots j ≡ o → option_to_list o ≡ filter test (live_items slots) → IsSome o → test x ≡ nat_eq ix j
+      by_slot None there only some = absurd (cc)
+      by_slot (Some y) there only some =
+          split (λ b. test x ≡ b) (nat_eq ix j)
+          (λ same.
+          let one : ix ≡ j = grind (arith, nat_tests) in
+          let is : Some x ≡ Some y = sym here ∙ ap (get slots) one ∙ there in
+          let item : x ≡ y = cc is in
+          ap test item ∙ (subst (λ l. AllByRecursion (λ z. test z ≡ true) l) (sym only) (each_passes test (live_items slots))).0)
+          (λ differs. split (λ b. b ≡ false) (test x)
+          (λ yes.
+          let found_x = subst (λ l. Contains l x) (sym only) (Contains-filter test (live_items slots) x yes (item_at slots ix x here)) in
+          elim (Contains-cons_cases y x [] found_x) [
+            | inl same ↦
+                let one : ix ≡ j = same_slot agree slots ix j x y apart laws.0.symm here there (ap (agree x) same ∙ laws.0.refl x) in
+                absurd (false≢true (sym differs ∙ ap (nat_eq ix) (sym one) ∙ itself ix))
+            | inr further ↦ absurd (omega (arith, further.1))
+          ])
+          (λ _. refl))
+
+  every_found : (tests : List (T → Bool)) (found : List (Option ℕ)) (ix : ℕ) (x : T) → get slots ix ≡ Some x → AreFound tests slots found → every_of tests x ≡ list_all (is_at ix) found
+  every_found [] [] ix x here are = refl
+  every_found [] (at ∷ found) ix x here are = absurd are
+  every_found (test ∷ tests) [] ix x here are = absurd are
+  every_found (test ∷ tests) (at ∷ found) ix x here are =
+      rw (passes_found test at ix x here are.0, every_found tests found ix x here are.1) refl
+
+  -- the slot found by all has the member that passes every test
+  found_whole : (test : T → Bool) (tests : List (T → Bool)) (found : List (Option ℕ)) → AreFound (test ∷ tests) slots found → items_at slots (found_by_all found) ≡ all_of (test ∷ tests) (live_items slots)
+  found_whole test tests [] are = absurd are
+  found_whole test tests (None ∷ found) are =
+      sym (all_of-next test tests (live_items slots) ∙ ap (all_of tests) (sym are.0.only))
+  found_whole test tests (Some ix ∷ found) are = by_slot (get slots ix) refl are.0.only are.0.live
+    where
+      by_slot : (o : Option T) → get slots ix ≡ o → option_to_list o ≡ filter test (live_items slots) → IsSome o → items_at slots (found_by_all (Some ix ∷ found)) ≡ all_of (test ∷ tests) (live_items slots)
+      by_slot None there only some = absurd (cc)
+      by_slot (Some x) there only some =
+          let whole : all_of (test ∷ tests) (live_items slots) ≡ cond (list_all (is_at ix) found) (x ∷ []) [] =
+          all_of-next test tests (live_items slots) ∙ ap (all_of tests) (sym only) ∙ ap (λ b. cond b (x ∷ []) []) (every_found tests found ix x there are.1) in
+          sym (whole ∙ split (λ b. cond b (x ∷ []) [] ≡ items_at slots (cond b (ix ∷ []) [])) (list_all (is_at ix) found) (λ _. rw there refl) (λ _. refl))
+
+  -- so they hold what the tests find
+  pub found_entry : (tests : List (T → Bool)) (at : Option ℕ) (found : List (Option ℕ)) → AreFound tests slots (at ∷ found) → entry_at slots (at ∷ found) ≡ entry tests (live_items slots)
+  found_entry [] at found are = absurd are
+  found_entry (test ∷ tests) at found are =
+      ap (λ l. entry_of l (items_at slots (found_by_all (at ∷ found)))) (found_listing (test ∷ tests) (at ∷ found) are)
+      ∙ ap (entry_of (listing (test ∷ tests) (live_items slots))) (found_whole test tests (at ∷ found) are)
+
+  -- whether one member has all the keys is whether all searches found one slot
+  pub found_unique : (tests : List (T → Bool)) (at : Option ℕ) (found : List (Option ℕ)) → AreFound tests slots (at ∷ found) → is_unique (entry tests (live_items slots)) ≡ is_some (head_of (found_by_all (at ∷ found)))
+  found_unique [] at found are = absurd are
+  found_unique (test ∷ tests) at found are =
+      unique_whole test tests (live_items slots)
+      ∙ ap (λ l. is_some (head_of l)) (sym (found_whole test tests (at ∷ found) are))
+      ∙ by_all at found are
+    where
+      by_all : (at : Option ℕ) (found : List (Option ℕ)) → AreFound (test ∷ tests) slots (at ∷ found) → is_some (head_of (items_at slots (found_by_all (at ∷ found)))) ≡ is_some (head_of (found_by_all (at ∷ found)))
+      by_all None found are = refl
+      by_all (Some ix) found are =
+          split (λ b. is_some (head_of (items_at slots (cond b (ix ∷ []) []))) ≡ is_some (head_of (cond b (ix ∷ []) []))) (list_all (is_at ix) found)
+          (λ _. by_slot (get slots ix) refl are.0.live)
+          (λ _. refl)
+        where
+          by_slot : (o : Option T) → get slots ix ≡ o → IsSome o → is_some (head_of (items_at slots (ix ∷ []))) ≡ true
+          by_slot None there some = absurd (cc)
+          by_slot (Some x) there some = rw there refl
