@@ -3,9 +3,9 @@ use crate::error::DuplicateItem;
 use crate::item_set::Iter;
 
 /// What a command answers. It may lend items of the map: `Lent` is a short list of lent items, and `Given` one of items
-/// that are given away.
+/// that are given away. `D` is the data of an item.
 #[derive(Drop)]
-pub enum MapReply<'m, T, Lent, Given> {
+pub enum MapReply<'m, T, D, Lent, Given> {
     /// The command was carried out.
     Done,
     /// The item was refused since these items of the map conflict with it, in the order of the keys.
@@ -26,4 +26,16 @@ pub enum MapReply<'m, T, Lent, Given> {
     Length(usize),
     /// The items, each once, in no promised order.
     Items(Iter<'m, T>),
+    /// What was there is kept, and the item that was offered is dropped.
+    Kept,
+    /// The item was refused since its first key is not the one asked for.
+    Key1(T),
+    /// The item was refused since its second key is not the one asked for, and its first key is.
+    Key2(T),
+    /// The item was refused since its third key alone is not the one asked for. A map with two keys never answers it.
+    Key3(T),
+    /// The item is handed back since there is none to put it in the place of.
+    Absent(T),
+    /// The data is handed back since there is no item to write it to.
+    AbsentData(D),
 }

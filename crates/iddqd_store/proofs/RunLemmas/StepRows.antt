@@ -1,11 +1,11 @@
 -- Worked rows of the steps: what each may answer, and outcomes that it may not have.
-use Rattle.std.specs.Prelude.{◌≡◌, ℕ, ◌==◌, zero, suc, true, false, List, [], ◌∷◌, ◌++◌, length, Some, None}
+use Rattle.std.specs.Prelude.{◌≡◌, ℕ, ◌==◌, zero, suc, Bool, true, false, List, [], ◌∷◌, ◌++◌, length, Some, None}
 use Rattle.std.proofs.Common.{refl, ap, arith, get_or}
 use Rattle.std.proofs.lemmas.List.Sorted.{IsPermutation-refl, length_permutation}
 use Rattle.iddqd_store.proofs.BagLemmas.Exchanges.{IsPermutation-flip}
 use Rattle.iddqd_store.proofs.BagLemmas.Rows.{Item, pairs, m2}
-use Rattle.iddqd_store.specs.Runs.Reply.{done, duplicate, displaced, found, present, taken, memory, refused, size, items}
-use Rattle.iddqd_store.specs.Runs.Step.{State, Fits, FitsOnTheWay, empty_state, InsertsUnique, InsertsOverwrite, Gets, Tells, Removes, Reserves, ShrinksTo, Clears, Sizes, Lists, Extends}
+use Rattle.iddqd_store.specs.Runs.Reply.{done, duplicate, displaced, found, present, taken, memory, refused, size, items, kept, key, absent, absent_data}
+use Rattle.iddqd_store.specs.Runs.Step.{State, Fits, FitsOnTheWay, empty_state, InsertsUnique, InsertsOverwrite, Gets, Tells, Removes, Reserves, ShrinksTo, Clears, Sizes, Lists, Extends, EntryInserts, EntryRemoves, OrInserts, Replaces, Sets}
 
 -- these items, where so many fit
 abbrev state : List Item → ℕ → State Item
@@ -214,3 +214,99 @@ not_for_an_item_that_displaces new step = nowhere step.0 step.1 step.2
     nowhere [] rest e = omega (arith, ap (λ (l : List Item). (get_or l 0 third).1) e)
     nowhere (x ∷ []) rest e = omega (arith, ap length e)
     nowhere (x ∷ y ∷ front) rest e = omega (arith, ap length e)
+
+-- an entry: whether an item has the first key, and the second
+abbrev keyed : ℕ → ℕ → List (Item → Bool)
+keyed a b = (λ x. x.0 == a) ∷ (λ x. x.1 == b) ∷ []
+
+-- the second key is free, and (1, 99, 7) goes in for the item of the first
+goes_in_by_an_entry : EntryInserts {D = ℕ} pairs (keyed 1 99) (state m2 2) (1, 99, 7) (displaced ((1, 10, 100) ∷ [])) (state ((1, 99, 7) ∷ (2, 20, 200) ∷ []) 2)
+goes_in_by_an_entry = (refl, (refl, IsPermutation-refl _, omega arith, (λ room. refl), λ some. refl))
+
+goes_in_by_an_entry_for_two : EntryInserts {D = ℕ} pairs (keyed 1 20) (state m2 2) (1, 20, 300) (displaced m2) (state ((1, 20, 300) ∷ []) 2)
+goes_in_by_an_entry_for_two = (refl, (refl, IsPermutation-refl _, omega arith, (λ room. refl), λ some. refl))
+
+goes_in_by_a_vacant_entry : EntryInserts {D = ℕ} pairs (keyed 3 30) (state m2 2) third (displaced []) (state with_third 7)
+goes_in_by_a_vacant_entry = (refl, (refl, IsPermutation-refl _, omega arith, (λ room. omega (arith, room)), λ some. absurd (some refl)))
+
+-- it is refused though no item has the second key asked for
+another_second_key : EntryInserts {D = ℕ} pairs (keyed 1 99) (state m2 2) (1, 98, 0) (key 1 (1, 98, 0)) (state m2 2)
+another_second_key = (refl, refl, refl)
+
+not_another_first_key : EntryInserts {D = ℕ} pairs (keyed 1 99) (state m2 2) (1, 98, 0) (key 0 (1, 98, 0)) (state m2 2) → ⊥
+not_another_first_key step = cc (step.0)
+
+not_by_other_keys : (ys : List Item) (new : State Item) → EntryInserts {D = ℕ} pairs (keyed 1 99) (state m2 2) (1, 98, 0) (displaced ys) new → ⊥
+not_by_other_keys ys new step = cc (step.0)
+
+memory_behind_a_vacant_entry : EntryInserts {D = ℕ} pairs (keyed 3 30) (state m2 2) third (memory third) (state m2 2)
+memory_behind_a_vacant_entry = (refl, (refl, refl, refl, refl))
+
+no_want_of_memory_behind_an_occupied_entry : EntryInserts {D = ℕ} pairs (keyed 1 99) (state m2 2) (1, 99, 7) (memory (1, 99, 7)) (state m2 2) → ⊥
+no_want_of_memory_behind_an_occupied_entry step = omega (arith, ap length step.1.1)
+
+both_taken_out : EntryRemoves {D = ℕ} (keyed 2 10) (state m2 2) (displaced ((2, 20, 200) ∷ (1, 10, 100) ∷ [])) (state [] 2)
+both_taken_out = (refl, IsPermutation-flip (1, 10, 100) (2, 20, 200) [], refl)
+
+nothing_taken_out : EntryRemoves {D = ℕ} (keyed 5 50) (state m2 2) (displaced []) (state m2 2)
+nothing_taken_out = (refl, IsPermutation-refl m2, refl)
+
+not_left_in_by_an_entry : EntryRemoves {D = ℕ} (keyed 1 99) (state m2 2) (displaced ((1, 10, 100) ∷ [])) (state m2 2) → ⊥
+not_left_in_by_an_entry step = omega (arith, length_permutation _ _ step.1)
+
+no_item_forgotten : (new : State Item) → EntryRemoves {D = ℕ} (keyed 1 99) (state m2 2) (displaced []) new → ⊥
+no_item_forgotten new step = omega (arith, ap length step.0)
+
+-- an item where none is
+kept_where_one_is : OrInserts {D = ℕ} pairs (keyed 1 99) (state m2 2) (8, 8, 8) kept (state m2 2)
+kept_where_one_is = ((λ none. omega (arith, ap length none)), refl)
+
+not_kept_where_none_is : OrInserts {D = ℕ} pairs (keyed 3 30) (state m2 7) third kept (state m2 7) → ⊥
+not_kept_where_none_is step = step.0 refl
+
+goes_in_where_none_is : OrInserts {D = ℕ} pairs (keyed 3 30) (state m2 7) third done (state with_third 7)
+goes_in_where_none_is = (refl, refl, (refl, IsPermutation-refl with_third, omega arith, λ room. refl))
+
+not_where_one_is : (new : State Item) → OrInserts {D = ℕ} pairs (keyed 1 99) (state m2 7) (1, 99, 7) done new → ⊥
+not_where_one_is new step = omega (arith, ap length step.0)
+
+another_first_key : OrInserts {D = ℕ} pairs (keyed 5 50) (state m2 7) (6, 50, 0) (key 0 (6, 50, 0)) (state m2 7)
+another_first_key = (refl, refl, refl, refl)
+
+no_key_told_where_one_is : OrInserts {D = ℕ} pairs (keyed 1 99) (state m2 7) (8, 8, 8) (key 0 (8, 8, 8)) (state m2 7) → ⊥
+no_key_told_where_one_is step = omega (arith, ap length step.0)
+
+memory_where_none_is : OrInserts {D = ℕ} pairs (keyed 3 30) (state m2 2) third (memory third) (state m2 2)
+memory_where_none_is = (refl, refl, (refl, refl, refl, refl))
+
+-- another item under the same keys
+replaced : Replaces {D = ℕ} pairs (λ x. x.1 == 10) (state m2 2) (1, 10, 7) (displaced ((1, 10, 100) ∷ [])) (state ((1, 10, 7) ∷ (2, 20, 200) ∷ []) 2)
+replaced = ((1, 10, 100), refl, refl, refl, IsPermutation-refl _, refl)
+
+not_replaced_under_other_keys : Replaces {D = ℕ} pairs (λ x. x.0 == 1) (state m2 2) (1, 11, 0) (key 1 (1, 11, 0)) (state m2 2)
+not_replaced_under_other_keys = ((1, 10, 100), refl, refl, refl, refl)
+
+none_to_replace : Replaces {D = ℕ} pairs (λ x. x.0 == 3) (state m2 2) third (absent third) (state m2 2)
+none_to_replace = (refl, refl, refl)
+
+not_absent_where_one_is : Replaces {D = ℕ} pairs (λ x. x.0 == 1) (state m2 2) (1, 10, 7) (absent (1, 10, 7)) (state m2 2) → ⊥
+not_absent_where_one_is step = omega (arith, ap length step.0)
+
+no_other_given_back : (new : State Item) → Replaces {D = ℕ} pairs (λ x. x.0 == 1) (state m2 2) (1, 10, 7) (displaced []) new → ⊥
+no_other_given_back new step = omega (arith, ap length step.2)
+
+-- other data under the same keys
+abbrev valued : Item → ℕ → Item
+valued x v = (x.0, x.1, v)
+
+set : Sets pairs valued (λ x. x.0 == 1) (state m2 2) 8 done (state ((1, 10, 8) ∷ (2, 20, 200) ∷ []) 2)
+set = ((1, 10, 100), refl, IsPermutation-refl _, refl)
+
+none_to_set : Sets pairs valued (λ x. x.0 == 3) (state m2 2) 8 (absent_data 8) (state m2 2)
+none_to_set = (refl, refl, refl)
+
+not_set_where_none_is : (new : State Item) → Sets pairs valued (λ x. x.0 == 3) (state m2 2) 8 done new → ⊥
+not_set_where_none_is new step = omega (arith, ap length step.1)
+
+not_handed_back_where_one_is : Sets pairs valued (λ x. x.0 == 1) (state m2 2) 8 (absent_data 8) (state m2 2) → ⊥
+not_handed_back_where_one_is step = omega (arith, ap length step.0)

@@ -1,14 +1,16 @@
 -- A step leaves a sound bag sound, and a run keeps what each step keeps.
-use Rattle.std.proofs.Common.{◌≡◌, sym, subst, List, [], ◌∷◌, Some, None, Result, Ok, Err}
-use Rattle.std.specs.Prelude.{ℕ, Bool, IsPermutation, MatchResult}
+use Rattle.std.proofs.Common.{◌≡◌, sym, subst, List, [], ◌∷◌, Some, None, Result, Ok, Err, ◌++◌}
+use Rattle.std.specs.Prelude.{ℕ, Bool, true, IsPermutation, MatchResult}
 use Rattle.std.proofs.lemmas.List.Sorted.{IsPermutation-sym}
 use Rattle.std.proofs.lemmas.Map.Keys.{IsDistinct-tail}
-use Rattle.iddqd_store.specs.Bag.{Ranks, AreLawful, IsSound, conflicts, over, overs}
-use Rattle.iddqd_store.specs.Runs.Reply.{Reply, done, duplicate, displaced, found, present, taken, memory, refused, size, items}
+use Rattle.iddqd_store.specs.Bag.{Ranks, AreLawful, IsSound, agrees, conflicts, over, overs, swap}
+use Rattle.iddqd_store.specs.Runs.Reply.{Reply, done, duplicate, displaced, found, present, taken, memory, refused, size, items, kept, key, absent, absent_data}
 use Rattle.iddqd_store.specs.Runs.Run.{Run}
-use Rattle.iddqd_store.specs.Runs.Step.{State, Fits, InsertsUnique, InsertsOverwrite, Gets, Tells, Removes, Reserves, ShrinksTo, Clears, Sizes, Lists, Extends}
+use Rattle.iddqd_store.specs.Runs.Step.{State, Fits, InsertsUnique, InsertsOverwrite, Gets, Tells, Removes, Reserves, ShrinksTo, Clears, Sizes, Lists, Extends, EntryInserts, EntryRemoves, OrInserts, Replaces, Sets}
+use Rattle.iddqd_store.proofs.BagLemmas.Differ.{agrees-differ}
 use Rattle.iddqd_store.proofs.BagLemmas.Sound.{IsSound-over, IsSound-IsPermutation}
 use Rattle.iddqd_store.proofs.BagLemmas.Steps.{IsSound-nil, IsSound-cons, IsSound-overs, order-empty}
+use Rattle.iddqd_store.proofs.BagLemmas.Theory.{IsSound-swap}
 
 module _ {T : Type 0} (ranks : Ranks T) (laws : AreLawful ranks) (old new : State T) (sound : IsSound ranks old.items) where
   same : new ≡ old → IsSound ranks new.items
@@ -19,6 +21,11 @@ module _ {T : Type 0} (ranks : Ranks T) (laws : AreLawful ranks) (old new : Stat
 
   moved : (made : List T) → IsPermutation new.items made → IsSound ranks made → IsSound ranks new.items
   moved made made_of h = IsSound-IsPermutation ranks laws made new.items (IsPermutation-sym _ _ made_of) h
+
+-- what stands behind others in a sound bag is sound
+IsSound-back : {T : Type 0} (ranks : Ranks T) (xs ys : List T) → IsSound ranks (xs ++ ys) → IsSound ranks ys
+IsSound-back ranks [] ys h = h
+IsSound-back ranks (x ∷ xs) ys h = IsSound-back ranks xs ys (IsDistinct-tail (conflicts ranks) x (xs ++ ys) h)
 
 module _ {T D : Type 0} (ranks : Ranks T) (laws : AreLawful ranks) (old new : State T) (sound : IsSound ranks old.items) where
   pub IsSound-InsertsUnique : (x : T) (reply : Reply T D) → InsertsUnique ranks old x reply new → IsSound ranks new.items
@@ -72,6 +79,40 @@ module _ {T D : Type 0} (ranks : Ranks T) (laws : AreLawful ranks) (old new : St
   IsSound-Extends xs done step = moved ranks laws old new sound (overs ranks old.items xs) step.0.0 (IsSound-overs ranks old.items xs sound)
   IsSound-Extends xs (memory y) step = moved ranks laws old new sound (overs ranks old.items step.0) step.3.0 (IsSound-overs ranks old.items step.0 sound)
   IsSound-Extends xs reply step = absurd step
+
+  pub IsSound-EntryInserts : (tests : List (T → Bool)) (x : T) (reply : Reply T D) → EntryInserts ranks tests old x reply new → IsSound ranks new.items
+  IsSound-EntryInserts tests x (displaced ys) step = IsSound-InsertsOverwrite x (displaced ys) step.1
+  IsSound-EntryInserts tests x (key r y) step = same ranks laws old new sound step.2
+  IsSound-EntryInserts tests x (memory y) step = same ranks laws old new sound step.1.3
+  IsSound-EntryInserts tests x reply step = absurd step
+
+  pub IsSound-EntryRemoves : (tests : List (T → Bool)) (reply : Reply T D) → EntryRemoves tests old reply new → IsSound ranks new.items
+  IsSound-EntryRemoves tests (displaced ys) step =
+      IsSound-back ranks ys new.items (IsSound-IsPermutation ranks laws old.items (ys ++ new.items) step.1 sound)
+  IsSound-EntryRemoves tests reply step = absurd step
+
+  pub IsSound-OrInserts : (tests : List (T → Bool)) (x : T) (reply : Reply T D) → OrInserts ranks tests old x reply new → IsSound ranks new.items
+  IsSound-OrInserts tests x kept step = same ranks laws old new sound step.1
+  IsSound-OrInserts tests x (key r y) step = same ranks laws old new sound step.3
+  IsSound-OrInserts tests x done step = IsSound-InsertsUnique x done step.2
+  IsSound-OrInserts tests x (memory y) step = same ranks laws old new sound step.2.3
+  IsSound-OrInserts tests x reply step = absurd step
+
+  pub IsSound-Replaces : (test : T → Bool) (x : T) (reply : Reply T D) → Replaces ranks test old x reply new → IsSound ranks new.items
+  IsSound-Replaces test x (displaced ys) step =
+      moved ranks laws old new sound (swap ranks old.items step.0 x) step.4
+      (IsSound-swap ranks laws old.items step.0 x (agrees-differ ranks step.0 x step.3) sound)
+  IsSound-Replaces test x (key r y) step = same ranks laws old new sound step.4
+  IsSound-Replaces test x (absent y) step = same ranks laws old new sound step.2
+  IsSound-Replaces test x reply step = absurd step
+
+  -- where an item with other data has its keys
+  pub IsSound-Sets : (put : T → D → T) → ((z : T) (d : D) → agrees ranks z (put z d) ≡ true) → (test : T → Bool) (d : D) (reply : Reply T D) → Sets ranks put test old d reply new → IsSound ranks new.items
+  IsSound-Sets put keeps test d done step =
+      moved ranks laws old new sound (swap ranks old.items step.0 (put step.0 d)) step.2
+      (IsSound-swap ranks laws old.items step.0 (put step.0 d) (keeps step.0 d) sound)
+  IsSound-Sets put keeps test d (absent_data e) step = same ranks laws old new sound step.2
+  IsSound-Sets put keeps test d reply step = absurd step
 
 module _ {C T D S F : Type 0} (Step : State T → C → Reply T D → State T → Type 0) (took : S → Reply T D → Result (Unit {0}) F → S → Type 0) (P : State T → Type 0)
     (kept : (old new : State T) (command : C) (reply : Reply T D) → P old → Step old command reply new → Fits new → P new) where

@@ -12,3 +12,8 @@ pub data Reply (T D : Type 0) : Type 0 where
   refused : Reply T D
   size : ℕ → Reply T D
   items : List T → Reply T D
+  kept : Reply T D
+  -- the item's key of this rank, counted from 0, is not the one asked for
+  key : ℕ → T → Reply T D
+  absent : T → Reply T D
+  absent_data : D → Reply T D

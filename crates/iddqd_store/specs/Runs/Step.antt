@@ -1,10 +1,10 @@
 -- One step of a map, for any number of ranks: what a command may answer, and what the map holds then.
-use Rattle.std.specs.Prelude.{◌≡◌, ◌≢◌, ◌+◌, ◌*◌, ◌^◌, ◌<◌, ◌≤◌, ℕ, min, max, List, [], ◌∷◌, ◌++◌, Bool, length, take, IsPermutation}
+use Rattle.std.specs.Prelude.{◌≡◌, ◌≢◌, ◌+◌, ◌*◌, ◌^◌, ◌<◌, ◌≤◌, ℕ, min, max, List, [], ◌∷◌, ◌++◌, Bool, Some, None, filter, length, take, IsPermutation}
 use Rattle.std.specs.List.{list_any}
 use Rattle.std.specs.Option.{option_to_list}
-use Rattle.iddqd_store.specs.Bag.{Ranks, IsOnly, clash, order, over, overs}
+use Rattle.iddqd_store.specs.Bag.{Ranks, IsOnly, clash, differ, like, listing, order, over, overs, swap}
 use Rattle.iddqd_store.specs.Map.{Map, bag}
-use Rattle.iddqd_store.specs.Runs.Reply.{Reply, done, duplicate, displaced, found, present, taken, memory, refused, size, items}
+use Rattle.iddqd_store.specs.Runs.Reply.{Reply, done, duplicate, displaced, found, present, taken, memory, refused, size, items, kept, key, absent, absent_data}
 
 -- a bag of items, as a list of which the order means nothing, and how many fit
 pub record State (T : Type 0) : Type 0 where
@@ -119,3 +119,46 @@ module _ {T D : Type 0} where
       (front : List T) × (rest : List T) × (xs ≡ front ++ y ∷ rest) × ExtendsTo ranks old front new
       × (clash ranks new.items y ≡ []) × (length new.items ≡ new.capacity)
   Extends ranks old xs reply new = ⊥
+
+  -- x goes in for the items that have one of the keys asked for, which are given back; else its lowest key that is not
+  -- the one asked for is told, or want of memory in a full map
+  abbrev pub EntryInserts : Ranks T → List (T → Bool) → State T → T → Reply T D → State T → Type 0
+  EntryInserts ranks tests old x (displaced ys) new = (differ tests x ≡ None) × InsertsOverwrite ranks old x (displaced ys) new
+  EntryInserts ranks tests old x (key r y) new = (differ tests x ≡ Some r) × (y ≡ x) × (new ≡ old)
+  EntryInserts ranks tests old x (memory y) new = (differ tests x ≡ None) × Starves ranks old x y new
+  EntryInserts ranks tests old x reply new = ⊥
+
+  -- the items that have one of the keys are taken out and given back in the order of the keys
+  abbrev pub EntryRemoves : List (T → Bool) → State T → Reply T D → State T → Type 0
+  EntryRemoves tests old (displaced ys) new =
+      (ys ≡ listing tests old.items) × IsPermutation old.items (ys ++ new.items) × (new.capacity ≡ old.capacity)
+  EntryRemoves tests old reply new = ⊥
+
+  -- x goes in where no item has one of the keys; where some has, nothing changes, whatever the keys of x are
+  abbrev pub OrInserts : Ranks T → List (T → Bool) → State T → T → Reply T D → State T → Type 0
+  OrInserts ranks tests old x kept new = (listing tests old.items ≢ []) × (new ≡ old)
+  OrInserts ranks tests old x (key r y) new =
+      (listing tests old.items ≡ []) × (differ tests x ≡ Some r) × (y ≡ x) × (new ≡ old)
+  OrInserts ranks tests old x done new =
+      (listing tests old.items ≡ []) × (differ tests x ≡ None) × InsertsUnique ranks old x done new
+  OrInserts ranks tests old x (memory y) new = (listing tests old.items ≡ []) × (differ tests x ≡ None) × Starves ranks old x y new
+  OrInserts ranks tests old x reply new = ⊥
+
+  -- x goes in for the member that passes the test, which is given back; else its lowest key that is not the member's is
+  -- told, or that no member passes
+  abbrev pub Replaces : Ranks T → (T → Bool) → State T → T → Reply T D → State T → Type 0
+  Replaces ranks test old x (displaced ys) new =
+      (z : T) × IsOnly test old.items (Some z) × (ys ≡ z ∷ []) × (differ (like ranks z) x ≡ None)
+      × IsPermutation new.items (swap ranks old.items z x) × (new.capacity ≡ old.capacity)
+  Replaces ranks test old x (key r y) new =
+      (z : T) × IsOnly test old.items (Some z) × (differ (like ranks z) x ≡ Some r) × (y ≡ x) × (new ≡ old)
+  Replaces ranks test old x (absent y) new = (filter test old.items ≡ []) × (y ≡ x) × (new ≡ old)
+  Replaces ranks test old x reply new = ⊥
+
+  -- the member that passes the test has this data; where there is none, the data is handed back
+  abbrev pub Sets : Ranks T → (T → D → T) → (T → Bool) → State T → D → Reply T D → State T → Type 0
+  Sets ranks put test old d done new =
+      (z : T) × IsOnly test old.items (Some z) × IsPermutation new.items (swap ranks old.items z (put z d))
+      × (new.capacity ≡ old.capacity)
+  Sets ranks put test old d (absent_data e) new = (filter test old.items ≡ []) × (e ≡ d) × (new ≡ old)
+  Sets ranks put test old d reply new = ⊥

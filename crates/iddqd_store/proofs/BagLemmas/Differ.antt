@@ -1,0 +1,52 @@
+-- An item that differs at no rank passes each test.
+use Rattle.std.specs.Prelude.{◌≡◌, ◌+◌, suc, Bool, true, false, cond, not, List, [], ◌∷◌, length, Some, None}
+use Rattle.std.specs.List.{AllByRecursion, position, position_or_len}
+use Rattle.std.proofs.Common.{refl, sym, ◌∙◌, inl, inr, arith, nat_lt}
+use Rattle.std.proofs.lemmas.Bool.{cases_lt}
+use Rattle.std.proofs.lemmas.Bool.Decides.{nat_tests}
+use Rattle.std.proofs.lemmas.Option.{none-some}
+use Rattle.iddqd_store.specs.Bag.{Ranks, differ, every_of, like, agrees}
+
+module _ {X : Type 0} where
+  -- where the first passes there is a place, and a place further on is one
+  no_place : (p : X → Bool) (x : X) (xs : List X) → position p (x ∷ xs) ≡ None → (p x ≡ false) × (position p xs ≡ None)
+  no_place p x xs none = go (p x) refl
+    where
+      go : (t : Bool) → p x ≡ t → (p x ≡ false) × (position p xs ≡ None)
+      go true e =
+          let t : nat_lt 0 (suc (length xs)) ≡ true = grind (arith, nat_tests) in
+          let shown : position p (x ∷ xs) ≡ cond (nat_lt 0 (suc (length xs))) (Some 0) None = rw e refl in
+          let bad : Some 0 ≡ None = sym (rw t at shown) ∙ none in
+          absurd (none-some 0 (sym bad))
+      go false e =
+          let n = position_or_len p xs in
+          elim (cases_lt n (length xs)) [
+            | inl under ↦
+                let t : nat_lt (1 + n) (suc (length xs)) ≡ true = grind (arith, nat_tests) in
+                let shown : position p (x ∷ xs) ≡ cond (nat_lt (1 + n) (suc (length xs))) (Some (1 + n)) None = rw e refl in
+                let bad : Some (1 + n) ≡ None = sym (rw t at shown) ∙ none in
+                absurd (none-some (1 + n) (sym bad))
+            | inr over ↦
+                let t : nat_lt n (length xs) ≡ false = grind (arith, nat_tests) in
+                let rest : position p xs ≡ None = rw t refl in
+                (e, rest)
+          ]
+
+passed : (b : Bool) → not b ≡ false → b ≡ true
+passed true h = refl
+passed false h = absurd (cc)
+
+module _ {T : Type 0} where
+  pub differ-none : (tests : List (T → Bool)) (x : T) → differ tests x ≡ None → AllByRecursion (λ test. test x ≡ true) tests
+  differ-none [] x none = tt
+  differ-none (test ∷ tests) x none =
+      let first = no_place (λ t. not (t x)) test tests none in
+      (passed (test x) first.0, differ-none tests x first.1)
+
+  pub every_passed : (tests : List (T → Bool)) (x : T) → AllByRecursion (λ test. test x ≡ true) tests → every_of tests x ≡ true
+  every_passed [] x passes = refl
+  every_passed (test ∷ tests) x passes = rw (passes.0, every_passed tests x passes.1) refl
+
+  -- what has the keys of x at each rank agrees with it
+  pub agrees-differ : (ranks : Ranks T) (x y : T) → differ (like ranks x) y ≡ None → agrees ranks x y ≡ true
+  agrees-differ ranks x y none = every_passed (like ranks x) y (differ-none (like ranks x) y none)
