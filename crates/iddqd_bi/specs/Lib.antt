@@ -4,6 +4,7 @@ pub mod Lent
 pub mod Mismatch
 pub mod OccupiedRefs
 pub mod RefMuts
+pub mod Refusals
 pub mod Refused
 pub mod Step
 -- the words of the store that the map's clauses cite

@@ -45,10 +45,25 @@ pub enum BiCommand<T: BiHashItemMut> {
     Items,
     /// `extend` with these items, in order.
     Extend(Vec<T>),
+    /// `insert` of the `entry` of these keys, vacant or occupied.
+    EntryInsert(T::K1, T::K2, T),
+    /// `remove` of the `entry` of these keys, if it is occupied.
+    EntryRemove(T::K1, T::K2),
+    /// `or_insert` of the `entry` of these keys.
+    OrInsert(T::K1, T::K2, T),
+    /// `replace` of the item with this first key.
+    Replace1(T::K1, T),
+    /// `replace` of the item with this second key.
+    Replace2(T::K2, T),
+    /// The item with this first key gets this data, through `data_mut`.
+    Set1(T::K1, T::Data),
+    /// The item with this second key gets this data, through `data_mut`.
+    Set2(T::K2, T::Data),
 }
 
 /// What a command answers. It may lend items of the map.
-pub type BiReply<'m, T> = MapReply<'m, T, UpToTwo<&'m T>, UpToTwo<T>>;
+pub type BiReply<'m, T> =
+    MapReply<'m, T, <T as BiHashItemMut>::Data, UpToTwo<&'m T>, UpToTwo<T>>;
 
 /// What takes the replies of a run, one by one.
 pub trait BiSink<T: BiHashItemMut> {

@@ -17,6 +17,7 @@ mod overwrite;
 mod remove;
 mod retain;
 mod run;
+mod run_entries;
 mod shrink;
 pub(crate) mod slots;
 mod write;

@@ -5,7 +5,7 @@ use Rattle.iddqd_store.specs.Runs.Reply.{Reply}
 use Rattle.iddqd_store.specs.Runs.Run.{Run, Applies}
 use Rattle.iddqd_store.specs.Runs.Step.{State, Fits, empty_state}
 use Rattle.iddqd_bi.specs.Step.{Step}
-use Rattle.iddqd_run.specs.Outputs.{KeepsReply, Replies, item_keys}
+use Rattle.iddqd_run.specs.Outputs.{KeepsReply, Replies, item_keys, with_value}
 use Rattle.iddqd_run.specs.Words.{Command}
 use Rattle.iddqd_run.specs.declared.item.BiItem.{BiItem}
 
@@ -52,12 +52,12 @@ module _ {C T D : Type 0} (Steps : State T → C → Reply T D → State T → T
 
 -- a chain of the program's commands on a new map
 abbrev pub FromEmpty : List Command → List (Reply BiItem ℕ) → Type 0
-FromEmpty commands replies = (new : State BiItem) × Chain (Step item_keys nat_eq nat_eq) empty_state commands replies new
+FromEmpty commands replies = (new : State BiItem) × Chain (Step item_keys nat_eq nat_eq with_value) empty_state commands replies new
 
 pub from_empty : (commands : List Command) (replies : List (Reply BiItem ℕ)) → Replies commands replies → FromEmpty commands replies
 from_empty commands replies run =
-    let h = chain_of (Step item_keys nat_eq nat_eq) commands empty_state run.0 [] replies run.1 in
-    (run.0, subst (λ (l : List (Reply BiItem ℕ)). Chain (Step item_keys nat_eq nat_eq) empty_state commands l run.0) (sym h.1) h.2)
+    let h = chain_of (Step item_keys nat_eq nat_eq with_value) commands empty_state run.0 [] replies run.1 in
+    (run.0, subst (λ (l : List (Reply BiItem ℕ)). Chain (Step item_keys nat_eq nat_eq with_value) empty_state commands l run.0) (sym h.1) h.2)
 
 pub replies_from : (commands : List Command) (replies : List (Reply BiItem ℕ)) → FromEmpty commands replies → Replies commands replies
-replies_from commands replies chain = (chain.0, run_of (Step item_keys nat_eq nat_eq) commands replies empty_state chain.0 [] chain.1)
+replies_from commands replies chain = (chain.0, run_of (Step item_keys nat_eq nat_eq with_value) commands replies empty_state chain.0 [] chain.1)

@@ -1,7 +1,8 @@
 -- Items behind a text, one after another.
-use Rattle.std.proofs.Common.{◌≡◌, ap, sym, ◌∙◌, ℕ, ◌+◌, ◌<◌, ◌≤◌, List, [], ◌∷◌, ◌++◌, length, get_or, drop, Option, Some, None, codes, append-nil, append_assoc, add-one, drop-cons}
+use Rattle.std.proofs.Common.{◌≡◌, ap, sym, ◌∙◌, ℕ, ◌+◌, ◌<◌, ◌≤◌, List, [], ◌∷◌, ◌++◌, length, get_or, drop, Option, Some, None, codes, refl, append-nil, append_assoc, add-one, drop-cons}
 use Rattle.std.specs.Prelude.{map, slice_get}
 use Rattle.std.proofs.Math.ListN.{drop_of_length-le}
+use Rattle.std.specs.Fmt.{decimal, digits}
 use Rattle.iddqd_run.specs.Printed.{printed, items_text}
 use Rattle.iddqd_run.specs.declared.item.BiItem.{BiItem}
 
@@ -28,3 +29,16 @@ pub items_past : (items : List BiItem) (i : ℕ) (line word all end new : List �
     → new ≡ line ++ end → line ++ items_text (drop i items) ≡ word ++ all → new ≡ word ++ all ++ end
 items_past items i line word all end new h n r =
     n ∙ ap (λ (xs : List ℕ). xs ++ end) (sym (append-nil line) ∙ (ap (λ (xs : List BiItem). line ++ items_text xs) (sym (drop_of_length-le items {i = i} h)) ∙ r))
+
+-- the words of a rank, counted from 0
+pub first_key_word : (xs : List ℕ) → codes "key" ++ decimal (0 + 1) ++ codes " " ++ xs ≡ codes "key1 " ++ xs
+unfolding digits
+first_key_word xs = refl
+
+pub second_key_word : (xs : List ℕ) → codes "key" ++ decimal (1 + 1) ++ codes " " ++ xs ≡ codes "key2 " ++ xs
+unfolding digits
+second_key_word xs = refl
+
+pub third_key_word : (xs : List ℕ) → codes "key" ++ decimal (2 + 1) ++ codes " " ++ xs ≡ codes "key3 " ++ xs
+unfolding digits
+third_key_word xs = refl

@@ -6,7 +6,7 @@ use Rattle.iddqd_store.specs.Runs.Reply.{Reply}
 use Rattle.iddqd_store.specs.Runs.Run.{Run, Applies}
 use Rattle.iddqd_store.specs.Runs.Step.{State, Fits, empty_state}
 use Rattle.iddqd_bi.specs.Step.{Step}
-use Rattle.iddqd_run.specs.Outputs.{GrowsByLine, KeepsReply, Prints, item_keys}
+use Rattle.iddqd_run.specs.Outputs.{GrowsByLine, KeepsReply, Prints, item_keys, with_value}
 use Rattle.iddqd_run.specs.Printed.{line_of}
 use Rattle.iddqd_run.specs.Words.{Command}
 use Rattle.iddqd_run.specs.declared.item.BiItem.{BiItem}
@@ -51,8 +51,8 @@ module _ {C T D S F : Type 0} (Steps : State T → C → Reply T D → State T �
 
 -- from a new map and an empty text
 pub prints : {S F : Type 0} (text : S → List ℕ) (commands : List Command) (old new : State BiItem) (sink after : S) (answer : Result (Unit {0}) F) (u : Unit {0})
-    → old ≡ empty_state → text sink ≡ [] → answer ≡ Ok u → Run (Step item_keys nat_eq nat_eq) (into_lines {F = F} text line_of) old sink commands answer new after
+    → old ≡ empty_state → text sink ≡ [] → answer ≡ Ok u → Run (Step item_keys nat_eq nat_eq with_value) (into_lines {F = F} text line_of) old sink commands answer new after
     → Prints commands (text after)
 prints text commands old new sink after answer u e f k h =
-    let r = replied (Step item_keys nat_eq nat_eq) text line_of commands old new sink after [] answer h u k in
-    (r.0, (new, subst (λ state. Run (Step item_keys nat_eq nat_eq) KeepsReply state [] commands (Ok tt) new r.0) e r.1), r.2 ∙ ap (λ (ys : List ℕ). ys ++ flat_map line_of r.0) f)
+    let r = replied (Step item_keys nat_eq nat_eq with_value) text line_of commands old new sink after [] answer h u k in
+    (r.0, (new, subst (λ state. Run (Step item_keys nat_eq nat_eq with_value) KeepsReply state [] commands (Ok tt) new r.0) e r.1), r.2 ∙ ap (λ (ys : List ℕ). ys ++ flat_map line_of r.0) f)

@@ -2,14 +2,14 @@
 use Rattle.std.proofs.Common.{◌≡◌, refl, ℕ, [], ◌∷◌, Some, None}
 use Rattle.std.specs.Fmt.{digits}
 use Rattle.std.specs.Prelude.{codes}
-use Rattle.iddqd_store.specs.Runs.Reply.{done, duplicate, displaced, found, taken, memory, refused, size, items}
+use Rattle.iddqd_store.specs.Runs.Reply.{done, duplicate, displaced, found, taken, memory, refused, size, items, kept, key, absent, absent_data}
 use Rattle.iddqd_run.specs.Commands.{command_of_line, first_bad_line}
 use Rattle.iddqd_run.specs.Lines.{lines_of}
 use Rattle.iddqd_run.specs.Numbers.{number_of}
 use Rattle.iddqd_run.specs.Printed.{line_of, printed, bad_line_message}
 use Rattle.iddqd_run.specs.Sorted.{by_first_key}
 use Rattle.iddqd_run.specs.declared.item.BiItem.{BiItem}
-use Rattle.iddqd_bi.specs.declared.command.BiCommand.TheVariants.{InsertUnique, Remove1, Items}
+use Rattle.iddqd_bi.specs.declared.command.BiCommand.TheVariants.{InsertUnique, Remove1, Items, Replace1, Set1, EntryInsert, EntryRemove, OrInsert}
 
 -- lines: what follows the last line end is a line if it isn't empty
 no_line : lines_of [] ≡ []
@@ -71,6 +71,24 @@ unknown_word = refl
 number_behind_list : command_of_line (codes "list 1") ≡ None
 number_behind_list = refl
 
+replacement : command_of_line (codes "replace1 5 1 10 7") ≡ Some (Replace1 5 (record { key1 = 1; key2 = 10; value = 7 }))
+replacement = refl
+
+writing : command_of_line (codes "set1 5 8") ≡ Some (Set1 5 8)
+writing = refl
+
+entry_insertion : command_of_line (codes "entput 5 6 1 10 7") ≡ Some (EntryInsert 5 6 (record { key1 = 1; key2 = 10; value = 7 }))
+entry_insertion = refl
+
+entry_removal : command_of_line (codes "entdel 5 6") ≡ Some (EntryRemove 5 6)
+entry_removal = refl
+
+insertion_if_vacant : command_of_line (codes "orput 5 6 1 10 7") ≡ Some (OrInsert 5 6 (record { key1 = 1; key2 = 10; value = 7 }))
+insertion_if_vacant = refl
+
+keys_without_an_item : command_of_line (codes "entput 1 2 3 4") ≡ None
+keys_without_an_item = refl
+
 -- items by their first keys
 abbrev item : ℕ → ℕ → BiItem
 item key value = record { key1 = key; key2 = value; value = value }
@@ -127,6 +145,28 @@ list_line = refl
 
 list_of_none : line_of (items []) ≡ codes "list\n"
 list_of_none = refl
+
+kept_line : line_of kept ≡ codes "kept\n"
+kept_line = refl
+
+first_key_line : line_of (key 0 (whole 6 50 0)) ≡ codes "key1 (6 50 0)\n"
+unfolding printed digits
+first_key_line = refl
+
+second_key_line : line_of (key 1 (whole 1 98 0)) ≡ codes "key2 (1 98 0)\n"
+unfolding printed digits
+second_key_line = refl
+
+third_key_line : line_of (key 2 (whole 1 2 3)) ≡ codes "key3 (1 2 3)\n"
+unfolding printed digits
+third_key_line = refl
+
+absent_line : line_of (absent (whole 1 10 7)) ≡ codes "absent (1 10 7)\n"
+unfolding printed digits
+absent_line = refl
+
+absent_data_line : line_of (absent_data 8) ≡ codes "none\n"
+absent_data_line = refl
 
 bad_line : bad_line_message 12 ≡ codes "line 12: bad command\n"
 unfolding digits

@@ -24,9 +24,13 @@ KeepsReply old reply (Err e) new = ⊥
 abbrev pub item_keys : of.Ghosts BiItem ℕ ℕ
 item_keys = record { key1 = λ item. item.key1; key2 = λ item. item.key2 }
 
+-- the item with other data
+abbrev pub with_value : BiItem → ℕ → BiItem
+with_value item value = record item { value = value }
+
 -- the replies of a run of the commands on a new map
 abbrev pub Replies : List Command → List (Reply BiItem ℕ) → Type 0
-Replies commands replies = (new : State BiItem) × Run (Step item_keys nat_eq nat_eq) KeepsReply empty_state [] commands (Ok tt) new replies
+Replies commands replies = (new : State BiItem) × Run (Step item_keys nat_eq nat_eq with_value) KeepsReply empty_state [] commands (Ok tt) new replies
 
 -- the lines of these replies
 abbrev pub Prints : List Command → List ℕ → Type 0

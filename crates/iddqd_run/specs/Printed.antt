@@ -1,8 +1,8 @@
 -- What is printed of items and replies.
-use Rattle.std.specs.Prelude.{ℕ, List, ◌++◌, codes, Option, Some, None, true, false}
+use Rattle.std.specs.Prelude.{ℕ, ◌+◌, List, ◌++◌, codes, Option, Some, None, true, false}
 use Rattle.std.specs.Fmt.{decimal}
 use Rattle.std.specs.List.{flat_map}
-use Rattle.iddqd_store.specs.Runs.Reply.{Reply, done, duplicate, found, taken, memory, displaced, present, refused, size, items}
+use Rattle.iddqd_store.specs.Runs.Reply.{Reply, done, duplicate, found, taken, memory, displaced, present, refused, size, items, kept, key, absent, absent_data}
 use Rattle.iddqd_run.specs.Sorted.{by_first_key}
 use Rattle.iddqd_run.specs.declared.item.BiItem.{BiItem}
 
@@ -29,6 +29,11 @@ line_of (memory item) = codes "memory " ++ printed item ++ codes "\n"
 line_of refused = codes "memory\n"
 line_of (size count) = codes "len " ++ decimal count ++ codes "\n"
 line_of (items xs) = codes "list" ++ items_text (by_first_key xs) ++ codes "\n"
+line_of kept = codes "kept\n"
+-- ranks are counted from 1 here
+line_of (key r item) = codes "key" ++ decimal (r + 1) ++ codes " " ++ printed item ++ codes "\n"
+line_of (absent item) = codes "absent " ++ printed item ++ codes "\n"
+line_of (absent_data value) = codes "none\n"
 -- no word of the program asks for these
 line_of (present true) = codes "yes\n"
 line_of (present false) = codes "no\n"

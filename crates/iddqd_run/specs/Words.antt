@@ -3,7 +3,7 @@ use Rattle.std.specs.Prelude.{ℕ, List, [], ◌∷◌, codes, Option, Some, Non
 use Rattle.iddqd_run.specs.Texts.{is_text}
 use Rattle.iddqd_run.specs.declared.item.BiItem.{BiItem}
 use Rattle.iddqd_run.specs.declared.words.Word.{Word}
-use Rattle.iddqd_run.specs.declared.words.Word.TheVariants.{New, Get1, Get2, Del1, Both, Del2, DelBoth, Len, Put, Reserve, Fit, Clear, List as ListAll}
+use Rattle.iddqd_run.specs.declared.words.Word.TheVariants.{New, Get1, Get2, Del1, Both, Del2, DelBoth, Len, Put, Reserve, Fit, Clear, List as ListAll, Replace1, Set1, EntPut, EntDel, OrPut}
 use Rattle.iddqd_bi.specs.declared.command.BiCommand.{BiCommand}
 use Rattle.iddqd_bi.specs.declared.command.BiCommand.TheVariants as command
 
@@ -27,6 +27,11 @@ word_of bytes =
     if is_text bytes (codes "fit") then Some Fit else
     if is_text bytes (codes "clear") then Some Clear else
     if is_text bytes (codes "list") then Some ListAll else
+    if is_text bytes (codes "replace1") then Some Replace1 else
+    if is_text bytes (codes "set1") then Some Set1 else
+    if is_text bytes (codes "entput") then Some EntPut else
+    if is_text bytes (codes "entdel") then Some EntDel else
+    if is_text bytes (codes "orput") then Some OrPut else
     None
 
 -- the command of a word with its numbers
@@ -44,4 +49,9 @@ command_of Reserve (n ∷ []) = Some (command.Reserve n)
 command_of Fit [] = Some command.ShrinkToFit
 command_of Clear [] = Some command.Clear
 command_of ListAll [] = Some command.Items
+command_of Replace1 (k ∷ x1 ∷ x2 ∷ v ∷ []) = Some (command.Replace1 k (record { key1 = x1; key2 = x2; value = v }))
+command_of Set1 (k ∷ v ∷ []) = Some (command.Set1 k v)
+command_of EntPut (k1 ∷ k2 ∷ x1 ∷ x2 ∷ v ∷ []) = Some (command.EntryInsert k1 k2 (record { key1 = x1; key2 = x2; value = v }))
+command_of EntDel (k1 ∷ k2 ∷ []) = Some (command.EntryRemove k1 k2)
+command_of OrPut (k1 ∷ k2 ∷ x1 ∷ x2 ∷ v ∷ []) = Some (command.OrInsert k1 k2 (record { key1 = x1; key2 = x2; value = v }))
 command_of word numbers = None

@@ -30,6 +30,12 @@ pub fn line_of(alloc: Global, reply: BiReply<'_, BiItem>) -> Result<String, Allo
         BiReply::Refused => String::from_str(alloc, "memory\n"),
         BiReply::Length(count) => format!(in alloc; "len {count}\n"),
         BiReply::Items(items) => list_line(alloc, items),
+        BiReply::Kept => String::from_str(alloc, "kept\n"),
+        BiReply::Key1(item) => format!(in alloc; "key1 {item}\n"),
+        BiReply::Key2(item) => format!(in alloc; "key2 {item}\n"),
+        BiReply::Key3(item) => format!(in alloc; "key3 {item}\n"),
+        BiReply::Absent(item) => format!(in alloc; "absent {item}\n"),
+        BiReply::AbsentData(_) => String::from_str(alloc, "none\n"),
     }
 }
 

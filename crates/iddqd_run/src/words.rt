@@ -21,6 +21,11 @@ pub enum Word {
     Fit,
     Clear,
     List,
+    Replace1,
+    Set1,
+    EntPut,
+    EntDel,
+    OrPut,
 }
 
 /// The word that the bytes spell, if they spell one.
@@ -54,6 +59,16 @@ pub fn word_of(bytes: &[u8]) -> Option<Word>
         Some(Word::Clear)
     } else if bytes == b"list".as_slice() {
         Some(Word::List)
+    } else if bytes == b"replace1".as_slice() {
+        Some(Word::Replace1)
+    } else if bytes == b"set1".as_slice() {
+        Some(Word::Set1)
+    } else if bytes == b"entput".as_slice() {
+        Some(Word::EntPut)
+    } else if bytes == b"entdel".as_slice() {
+        Some(Word::EntDel)
+    } else if bytes == b"orput".as_slice() {
+        Some(Word::OrPut)
     } else {
         None
     }
@@ -85,6 +100,34 @@ pub fn command_of(word: Word, numbers: &[u64]) -> Option<BiCommand<BiItem>>
         (Word::Fit, []) => Some(BiCommand::ShrinkToFit),
         (Word::Clear, []) => Some(BiCommand::Clear),
         (Word::List, []) => Some(BiCommand::Items),
+        (Word::Replace1, [key, item1, item2, value]) => Some(BiCommand::Replace1(
+            *key,
+            BiItem {
+                key1: *item1,
+                key2: *item2,
+                value: *value,
+            },
+        )),
+        (Word::Set1, [key, value]) => Some(BiCommand::Set1(*key, *value)),
+        (Word::EntPut, [key1, key2, item1, item2, value]) => Some(BiCommand::EntryInsert(
+            *key1,
+            *key2,
+            BiItem {
+                key1: *item1,
+                key2: *item2,
+                value: *value,
+            },
+        )),
+        (Word::EntDel, [key1, key2]) => Some(BiCommand::EntryRemove(*key1, *key2)),
+        (Word::OrPut, [key1, key2, item1, item2, value]) => Some(BiCommand::OrInsert(
+            *key1,
+            *key2,
+            BiItem {
+                key1: *item1,
+                key2: *item2,
+                value: *value,
+            },
+        )),
         _ => None,
     }
 }

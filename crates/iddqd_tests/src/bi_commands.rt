@@ -23,6 +23,10 @@ enum Heard {
     Refused,
     Length(usize),
     Items(usize),
+    Kept,
+    Key(u64, Row),
+    Absent(Row),
+    AbsentData(u64),
 }
 
 fn hear(reply: BiReply<'_, Row>) -> Heard {
@@ -42,6 +46,12 @@ fn hear(reply: BiReply<'_, Row>) -> Heard {
         BiReply::Refused => Heard::Refused,
         BiReply::Length(length) => Heard::Length(length),
         BiReply::Items(items) => Heard::Items(items.len()),
+        BiReply::Kept => Heard::Kept,
+        BiReply::Key1(item) => Heard::Key(1, item),
+        BiReply::Key2(item) => Heard::Key(2, item),
+        BiReply::Key3(item) => Heard::Key(3, item),
+        BiReply::Absent(item) => Heard::Absent(item),
+        BiReply::AbsentData(value) => Heard::AbsentData(value),
     }
 }
 
@@ -161,6 +171,56 @@ fn commands_are_answered(rt: HostRuntime) {
     for hash in [0, 3, 18446744073709551615] {
         check(&rt, alloc, BiHashMap::with_hasher(alloc, Alike { hash }));
     }
+}
+
+#[test]
+fn commands_on_entries_are_answered(rt: HostRuntime) {
+    let mut map = BiHashMap::new(rt.alloc());
+    let mut sink = listening(rt.alloc(), 100);
+    let seven = row_of(1, 10, 7);
+    for (command, wanted) in [
+        (
+            BiCommand::EntryRemove(1, 10),
+            Heard::Displaced([None, None]),
+        ),
+        (BiCommand::OrInsert(1, 10, TWO), Heard::Key(1, TWO)),
+        (BiCommand::OrInsert(1, 20, ONE), Heard::Key(2, ONE)),
+        (BiCommand::OrInsert(1, 10, ONE), Heard::Done),
+        (BiCommand::OrInsert(9, 10, TWO), Heard::Kept),
+        (BiCommand::EntryInsert(2, 10, TWO), Heard::Key(2, TWO)),
+        (
+            BiCommand::EntryInsert(2, 20, TWO),
+            Heard::Displaced([None, None]),
+        ),
+        (BiCommand::Replace1(1, TWO), Heard::Key(1, TWO)),
+        (BiCommand::Replace2(30, ONE), Heard::Absent(ONE)),
+        (
+            BiCommand::Replace1(1, seven),
+            Heard::Displaced([Some(ONE), None]),
+        ),
+        (
+            BiCommand::Replace2(10, ONE),
+            Heard::Displaced([Some(seven), None]),
+        ),
+        (BiCommand::Set1(1, 7), Heard::Done),
+        (BiCommand::Get2(10), Heard::Found(Some(seven))),
+        (BiCommand::Set2(10, 100), Heard::Done),
+        (BiCommand::Get1(1), Heard::Found(Some(ONE))),
+        (BiCommand::Set1(3, 7), Heard::AbsentData(7)),
+        (
+            BiCommand::EntryInsert(2, 10, row_of(2, 10, 5)),
+            Heard::Displaced([Some(TWO), Some(ONE)]),
+        ),
+        (
+            BiCommand::EntryRemove(2, 30),
+            Heard::Displaced([Some(row_of(2, 10, 5)), None]),
+        ),
+        (BiCommand::Len, Heard::Length(0)),
+    ] {
+        assert!(rt; map.apply(command, &mut sink).is_ok());
+        assert_eq!(rt; sink.heard.pop(), Some(wanted));
+    }
+    drop(map);
 }
 
 #[test]

@@ -29,7 +29,7 @@ where
         commands: Vec<BiCommand<T>>,
         sink: &mut K,
     ) -> Result<(), K::Fault>
-        ensures run { Run (Step T.BiHashItem T.K1.eq T.K2.eq) K.took
+        ensures run { Run (Step T.BiHashItem T.K1.eq T.K2.eq T.put) K.took
             (state_of self.old) sink.old commands.items result (state_of self.new) sink.new }
         ensures builder { self.new.builder ≡ self.old.builder }
     {
@@ -45,7 +45,7 @@ where
         command: BiCommand<T>,
         sink: &mut K,
     ) -> Result<(), K::Fault>
-        ensures step { Applies (Step T.BiHashItem T.K1.eq T.K2.eq) K.took
+        ensures step { Applies (Step T.BiHashItem T.K1.eq T.K2.eq T.put) K.took
             (state_of self.old) sink.old command result (state_of self.new) sink.new }
         ensures builder { self.new.builder ≡ self.old.builder }
     {
@@ -83,6 +83,34 @@ where
             BiCommand::Len => self.tell(BiReply::Length(self.len()), sink),
             BiCommand::Items => self.tell_items(sink),
             BiCommand::Extend(items) => self.apply_extend(items, sink),
+            BiCommand::EntryInsert(key1, key2, item) => {
+                let reply = self.entry_insert(&key1, &key2, item);
+                self.tell(reply, sink)
+            }
+            BiCommand::EntryRemove(key1, key2) => {
+                let reply = self.entry_remove(&key1, &key2);
+                self.tell(reply, sink)
+            }
+            BiCommand::OrInsert(key1, key2, item) => {
+                let reply = self.or_insert(&key1, &key2, item);
+                self.tell(reply, sink)
+            }
+            BiCommand::Replace1(key, item) => {
+                let reply = self.replace1(&key, item);
+                self.tell(reply, sink)
+            }
+            BiCommand::Replace2(key, item) => {
+                let reply = self.replace2(&key, item);
+                self.tell(reply, sink)
+            }
+            BiCommand::Set1(key, data) => {
+                let reply = self.set1(&key, data);
+                self.tell(reply, sink)
+            }
+            BiCommand::Set2(key, data) => {
+                let reply = self.set2(&key, data);
+                self.tell(reply, sink)
+            }
         }
     }
 

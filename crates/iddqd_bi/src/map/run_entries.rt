@@ -1,0 +1,174 @@
+//! Commands on entries and on writing, carried out on the map: each call answers the reply, which lends nothing.
+ghost use Rattle.std.specs.Prelude.{◌≡◌, [], ◌∷◌};
+ghost use Rattle.iddqd_store.specs.Runs.Reply.{displaced, key};
+ghost use Rattle.iddqd_store.specs.Runs.Step.{state_of, EntryInserts, EntryRemoves, OrInserts, Replaces, Sets};
+ghost use Rattle.iddqd_store.specs.Runs.Values.{value_of};
+ghost use Rattle.iddqd_bi.specs.Keys.{ranks, has1, has2, key_tests};
+ghost use Rattle.iddqd_bi.specs.Mismatch.{mismatch_item, mismatch_rank};
+ghost use Rattle.iddqd_bi.specs.Refusals.{refusal_value};
+
+use super::BiHashMap;
+use crate::command::BiReply;
+use crate::entry::Entry;
+use crate::error::{EntryError, KeyMismatch};
+use crate::item::BiHashItemMut;
+use iddqd_store::UpToTwo;
+use std::hash::{BuildHasher, Hash};
+
+impl<T: BiHashItemMut + Drop, S: BuildHasher> BiHashMap<T, S>
+where
+    T::K1: Drop,
+    T::K2: Drop,
+    T::Data: Drop,
+{
+    /// Puts the item in through the entry of the keys.
+    pub(super) fn entry_insert<'a, 'm>(
+        &'a mut self,
+        key1: &'a T::K1,
+        key2: &'a T::K2,
+        item: T,
+    ) -> BiReply<'m, T>
+        ensures step { EntryInserts (ranks T.BiHashItem T.K1.eq T.K2.eq)
+            (key_tests T.BiHashItem T.K1.eq T.K2.eq key1.now key2.now)
+            (state_of self.old) item (value_of result) (state_of self.new) }
+        ensures builder { self.new.builder ≡ self.old.builder }
+    {
+        match self.entry(key1, key2) {
+            Entry::Vacant(v) => match v.insert(item) {
+                Ok(_r) => return BiReply::Displaced(UpToTwo::new()),
+                Err(e) => return refusal(e),
+            },
+            Entry::Occupied(mut o) => match o.insert(item) {
+                Ok(displaced) => return BiReply::Displaced(displaced),
+                Err(e) => return mismatch(e),
+            },
+        }
+    }
+
+    /// Takes the items out that the entry of the keys has.
+    pub(super) fn entry_remove<'a, 'm>(
+        &'a mut self,
+        key1: &'a T::K1,
+        key2: &'a T::K2,
+    ) -> BiReply<'m, T>
+        ensures step { EntryRemoves (key_tests T.BiHashItem T.K1.eq T.K2.eq key1.now key2.now)
+            (state_of self.old) (value_of result) (state_of self.new) }
+        ensures builder { self.new.builder ≡ self.old.builder }
+    {
+        match self.entry(key1, key2) {
+            Entry::Vacant(_v) => return BiReply::Displaced(UpToTwo::new()),
+            Entry::Occupied(o) => return BiReply::Displaced(o.remove()),
+        }
+    }
+
+    /// Puts the item in through the entry of the keys, where that is vacant.
+    pub(super) fn or_insert<'a, 'm>(
+        &'a mut self,
+        key1: &'a T::K1,
+        key2: &'a T::K2,
+        item: T,
+    ) -> BiReply<'m, T>
+        ensures step { OrInserts (ranks T.BiHashItem T.K1.eq T.K2.eq)
+            (key_tests T.BiHashItem T.K1.eq T.K2.eq key1.now key2.now)
+            (state_of self.old) item (value_of result) (state_of self.new) }
+        ensures builder { self.new.builder ≡ self.old.builder }
+    {
+        match self.entry(key1, key2) {
+            Entry::Vacant(v) => match v.insert(item) {
+                Ok(_r) => return BiReply::Done,
+                Err(e) => return refusal(e),
+            },
+            Entry::Occupied(_o) => return BiReply::Kept,
+        }
+    }
+
+    /// Puts the item in the place of that with this first key.
+    pub(super) fn replace1<'m>(&mut self, key: &T::K1, item: T) -> BiReply<'m, T>
+        ensures step { Replaces (ranks T.BiHashItem T.K1.eq T.K2.eq) (has1 T.BiHashItem T.K1.eq key.now)
+            (state_of self.old) item (value_of result) (state_of self.new) }
+        ensures builder { self.new.builder ≡ self.old.builder }
+    {
+        match self.get1_mut(key) {
+            Some(mut r) => match r.replace(item) {
+                Ok(old) => return displaced_one(old),
+                Err(e) => return mismatch(e),
+            },
+            None => return BiReply::Absent(item),
+        }
+    }
+
+    /// Puts the item in the place of that with this second key.
+    pub(super) fn replace2<'m>(&mut self, key: &T::K2, item: T) -> BiReply<'m, T>
+        ensures step { Replaces (ranks T.BiHashItem T.K1.eq T.K2.eq) (has2 T.BiHashItem T.K2.eq key.now)
+            (state_of self.old) item (value_of result) (state_of self.new) }
+        ensures builder { self.new.builder ≡ self.old.builder }
+    {
+        match self.get2_mut(key) {
+            Some(mut r) => match r.replace(item) {
+                Ok(old) => return displaced_one(old),
+                Err(e) => return mismatch(e),
+            },
+            None => return BiReply::Absent(item),
+        }
+    }
+
+    /// Writes the data of the item with this first key.
+    pub(super) fn set1<'m>(&mut self, key: &T::K1, new_data: T::Data) -> BiReply<'m, T>
+        ensures step { Sets (ranks T.BiHashItem T.K1.eq T.K2.eq) T.put (has1 T.BiHashItem T.K1.eq key.now)
+            (state_of self.old) new_data (value_of result) (state_of self.new) }
+        ensures builder { self.new.builder ≡ self.old.builder }
+    {
+        match self.get1_mut(key) {
+            Some(mut r) => {
+                *r.data_mut() = new_data;
+                return BiReply::Done;
+            }
+            None => return BiReply::AbsentData(new_data),
+        }
+    }
+
+    /// Writes the data of the item with this second key.
+    pub(super) fn set2<'m>(&mut self, key: &T::K2, new_data: T::Data) -> BiReply<'m, T>
+        ensures step { Sets (ranks T.BiHashItem T.K1.eq T.K2.eq) T.put (has2 T.BiHashItem T.K2.eq key.now)
+            (state_of self.old) new_data (value_of result) (state_of self.new) }
+        ensures builder { self.new.builder ≡ self.old.builder }
+    {
+        match self.get2_mut(key) {
+            Some(mut r) => {
+                *r.data_mut() = new_data;
+                return BiReply::Done;
+            }
+            None => return BiReply::AbsentData(new_data),
+        }
+    }
+}
+
+/// The reply to an item that a vacant entry refused.
+fn refusal<'m, T: BiHashItemMut>(refused: EntryError<T>) -> BiReply<'m, T>
+    ensures { value_of result ≡ refusal_value refused }
+{
+    match refused {
+        EntryError::Key1(item) => BiReply::Key1(item),
+        EntryError::Key2(item) => BiReply::Key2(item),
+        EntryError::Memory(item) => BiReply::Memory(item),
+    }
+}
+
+/// The reply to an item whose keys are not those of what it was to replace.
+fn mismatch<'m, T: BiHashItemMut>(refused: KeyMismatch<T>) -> BiReply<'m, T>
+    ensures { value_of result ≡ key (mismatch_rank refused) (mismatch_item refused) }
+{
+    match refused {
+        KeyMismatch::Key1(item) => BiReply::Key1(item),
+        KeyMismatch::Key2(item) => BiReply::Key2(item),
+    }
+}
+
+/// The reply that gives one item back.
+fn displaced_one<'m, T: BiHashItemMut>(item: T) -> BiReply<'m, T>
+    ensures { value_of result ≡ displaced (item ∷ []) }
+{
+    let mut gone = UpToTwo::new();
+    gone.push(item);
+    BiReply::Displaced(gone)
+}
