@@ -1,9 +1,10 @@
 -- The ranks of an item with two keys tell items apart lawfully, and its keys are tests for them.
-use Rattle.std.specs.Prelude.{◌≡◌, Bool, true}
+use Rattle.std.specs.Prelude.{◌≡◌, Bool, true, List, []}
 use Rattle.std.specs.Cmp.{IsEquivalence}
 use Rattle.std.proofs.Common.{refl}
-use Rattle.iddqd_store.specs.Bag.{AreLawful, agrees}
+use Rattle.iddqd_store.specs.Bag.{AreLawful, agrees, clash, listing, order}
 use Rattle.iddqd_store.specs.Rank.Keys.{AreKeyTests}
+use Rattle.iddqd_store.proofs.BagLemmas.KeyTests.{clash-keys, order-keys}
 use Rattle.iddqd_store.proofs.MapLemmas.{IsEquivalence-key, IsKeyTest-key}
 use Rattle.iddqd_bi.specs.Keys.{ranks, key_tests}
 use Rattle.iddqd_bi.specs.declared.item.BiHashItem as item
@@ -19,3 +20,11 @@ module _ {T K1 K2 : Type 0} (of : item.Ghosts T K1 K2) (eq1 : K1 → K1 → Bool
   -- keys are tests
   pub AreKeyTests-keys : IsEquivalence eq1 → IsEquivalence eq2 → (k1 : K1) (k2 : K2) → AreKeyTests (ranks of eq1 eq2) (key_tests of eq1 eq2 k1 k2)
   AreKeyTests-keys laws1 laws2 k1 k2 = (IsKeyTest-key eq1 of.key1 laws1 k1, (IsKeyTest-key eq2 of.key2 laws2 k2, tt))
+
+  -- an item with both keys conflicts with what they find
+  module _ (laws1 : IsEquivalence eq1) (laws2 : IsEquivalence eq2) (x : T) (k1 : K1) (k2 : K2) (same1 : eq1 k1 (of.key1 x) ≡ true) (same2 : eq2 k2 (of.key2 x) ≡ true) (bag : List T) where
+    pub order-both : order (ranks of eq1 eq2) bag x ≡ listing (key_tests of eq1 eq2 k1 k2) bag
+    order-both = order-keys (ranks of eq1 eq2) (key_tests of eq1 eq2 k1 k2) x (AreKeyTests-keys laws1 laws2 k1 k2) (same1, (same2, tt)) bag
+
+    pub clash-both : listing (key_tests of eq1 eq2 k1 k2) bag ≡ [] → clash (ranks of eq1 eq2) bag x ≡ []
+    clash-both none = clash-keys (ranks of eq1 eq2) (key_tests of eq1 eq2 k1 k2) x (AreKeyTests-keys laws1 laws2 k1 k2) (same1, (same2, tt)) bag none

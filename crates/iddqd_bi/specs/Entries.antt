@@ -8,13 +8,13 @@ use Rattle.std.specs.declared.hash.Hash as hash
 use Rattle.std.specs.declared.hash.Hasher as hasher
 use Rattle.std.specs.declared.hash.BuildHasher as builder
 use mir.Syntax.{named}
-use Rattle.iddqd_store.specs.Bag.{listing, vacant}
+use Rattle.iddqd_store.specs.Bag.{IsOnly, entry, listing, vacant}
 use Rattle.iddqd_store.specs.Bag as bags
 use Rattle.iddqd_store.specs.Map.{Map, bag}
 use Rattle.iddqd_store.specs.Map.Written.{map_with_if}
 use Rattle.iddqd_store.specs.Slots.{get, IsLive}
 use Rattle.iddqd_store.specs.Slots.Found.{AreFound, entry_at, found_by_all, head_of, held_at}
-use Rattle.iddqd_bi.specs.Keys.{key_tests}
+use Rattle.iddqd_bi.specs.Keys.{has1, has2, key_tests}
 use Rattle.iddqd_bi.specs.Refused.{map_row}
 use Rattle.iddqd_bi.specs.RefMuts.{ref_lender, rests_if_none}
 use Rattle.iddqd_bi.specs.declared.item.BiHashItem as item
@@ -36,6 +36,8 @@ module _ {T S K1 K2 H : Type 0} where
   -- the entry has found what its keys name, which is some item at least. `entry` ensures it
   pub record HasFound (of : item.Ghosts T K1 K2) (eq1 : K1 → K1 → Bool) (eq2 : K2 → K2 → Bool) (o : OccupiedEntry T S K1 K2 H) : Type 0 where
     pub found : AreFound (sought of eq1 eq2 o) o.map.now.slots (o.slot1 ∷ o.slot2 ∷ [])
+    pub value : entry_at o.map.now.slots (o.slot1 ∷ o.slot2 ∷ []) ≡ entry (sought of eq1 eq2 o) (bag o.map.now)
+    pub listed : held_at o.map.now.slots (o.slot1 ∷ o.slot2 ∷ []) ≡ listing (sought of eq1 eq2 o) (bag o.map.now)
     pub some : listing (sought of eq1 eq2 o) (bag o.map.now) ≢ []
 
   -- the items that are held for writing are in the map. `into_mut` ensures it
@@ -60,6 +62,14 @@ module _ {T S K1 K2 H : Type 0} where
   -- the item that has both
   abbrev pub held_unique : OccupiedEntryMut T S K1 K2 H → Option T
   held_unique m = option_and_then (get m.map.now.slots) (head_of (found_by_all (m.slot1 ∷ m.slot2 ∷ [])))
+
+  -- what is held for writing is what the entry found
+  pub record HoldsFound (of : item.Ghosts T K1 K2) (eq1 : K1 → K1 → Bool) (eq2 : K2 → K2 → Bool) (o : OccupiedEntry T S K1 K2 H) (m : OccupiedEntryMut T S K1 K2 H) : Type 0 where
+    pub holds : Holds m
+    pub listed : held m ≡ listing (sought of eq1 eq2 o) (bag o.map.now)
+    pub value : held_entry m ≡ entry (sought of eq1 eq2 o) (bag o.map.now)
+    pub by_key1 : IsOnly (has1 of eq1 o.key1.now) (bag o.map.now) (held1 m)
+    pub by_key2 : IsOnly (has2 of eq2 o.key2.now) (bag o.map.now) (held2 m)
 
 module _ {T S Q K1 K2 H : Type 0} {of : item.Ghosts T K1 K2} {eq1 : equal.Ghosts K1} {input1 : hash.Ghosts K1} {eq2 : equal.Ghosts K2} {input2 : hash.Ghosts K2} {build : builder.Ghosts S H} {hashes : hasher.Ghosts H} {q : pair.Ghosts Q K1 K2} where
   -- the reference to the map
@@ -111,10 +121,7 @@ module _ (T S K1 K2 H : RattleType) {of : item.Ghosts T.Denot K1.Denot K2.Denot}
   held_rests_if_none m r = rests_if_none T S K1 K2 H m r
 
 module _ (T S K1 K2 H : RattleType) (of : item.Ghosts T.Denot K1.Denot K2.Denot) (keys1 : HashMembers K1.Denot) (keys2 : HashMembers K2.Denot) (build : builder.Ghosts S.Denot H.Denot) (hashes : hasher.Ghosts H.Denot) where
-  -- where there is no entry, the map stays
-  abbrev pub occupied_rests_if_err : {E : Type 0} → MutBor (Map T.Denot S.Denot) → Result (OccupiedEntry T.Denot S.Denot K1.Denot K2.Denot H.Denot) E → Fml
-  occupied_rests_if_err m r = follows_so (map_row T S K1 K2 H of keys1 keys2 build hashes) (map_row T S K1 K2 H of keys1 keys2 build hashes) m.ghost_name (name_if_ok (λ e. e.map.ghost_name) r) (λ x n. OnOk r (n ≡ x)) (λ n. OnErr r (n ≡ m.now))
-
+  -- where no items are held, the map stays
   abbrev pub held_rests_if_err : {E : Type 0} → MutBor (Map T.Denot S.Denot) → Result (OccupiedEntryMut T.Denot S.Denot K1.Denot K2.Denot H.Denot) E → Fml
   held_rests_if_err m r = follows_so (map_row T S K1 K2 H of keys1 keys2 build hashes) (map_row T S K1 K2 H of keys1 keys2 build hashes) m.ghost_name (name_if_ok (λ e. e.map.ghost_name) r) (λ x n. OnOk r (n ≡ x)) (λ n. OnErr r (n ≡ m.now))
 

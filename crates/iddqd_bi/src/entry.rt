@@ -25,7 +25,7 @@ pub enum Entry<
     'a,
     T: BiHashItem,
     S: BuildHasher = DefaultHashBuilder,
-    Q: Keys<'a, T::K1, T::K2> = KeyPair<'a, <T as BiHashItem>::K1, <T as BiHashItem>::K2>,
+    Q: Keys<T::K1, T::K2> = KeyPair<'a, <T as BiHashItem>::K1, <T as BiHashItem>::K2>,
 > {
     /// No item has one of the keys.
     Vacant(VacantEntry<'a, T, S, Q>),
@@ -39,7 +39,7 @@ pub struct VacantEntry<
     'a,
     T: BiHashItem,
     S: BuildHasher = DefaultHashBuilder,
-    Q: Keys<'a, T::K1, T::K2> = KeyPair<'a, <T as BiHashItem>::K1, <T as BiHashItem>::K2>,
+    Q: Keys<T::K1, T::K2> = KeyPair<'a, <T as BiHashItem>::K1, <T as BiHashItem>::K2>,
 > {
     pub(crate) map: &'a mut BiHashMap<T, S>,
     pub(crate) keys: Q,

@@ -1,10 +1,10 @@
 //! What can be done with an entry, vacant or occupied.
-ghost use Rattle.std.specs.Prelude.{◌≡◌, ⊤, [], ◌∷◌, None, IfOk, IfErr, OnOk, IsOk};
+ghost use Rattle.std.specs.Prelude.{◌≡◌, None, IfOk, IfErr, OnOk, IsOk};
 ghost use Rattle.std.specs.Fn.{CalledAt};
-ghost use Rattle.iddqd_store.specs.Bag.{differ, listing};
+ghost use Rattle.iddqd_store.specs.Bag.{differ, listing, unique};
 ghost use Rattle.iddqd_store.specs.Bag.Storing.{Stores};
 ghost use Rattle.iddqd_store.specs.Map.{bag, Gains, IsFullFor};
-ghost use Rattle.iddqd_bi.specs.Entries.{Holds, IsFound, OnOccupied, OnVacant, entry_key1, entry_key2, entry_lender, entry_map, held, sought};
+ghost use Rattle.iddqd_bi.specs.Entries.{HasFound, Holds, HoldsFound, IsFound, OnOccupied, OnVacant, entry_key1, entry_key2, entry_lender, entry_map, held_entry, sought};
 ghost use Rattle.iddqd_bi.specs.Keys.{key_tests, ranks};
 ghost use Rattle.iddqd_bi.specs.Mismatch.{error_item, error_rank, OnNoMemory};
 
@@ -13,7 +13,7 @@ use crate::error::EntryError;
 use crate::item::{BiHashItem, BiHashItemMut};
 use std::hash::{BuildHasher, Hash};
 
-impl<'a, T: BiHashItem, S: BuildHasher, Q: Keys<'a, T::K1, T::K2>> Entry<'a, T, S, Q> {
+impl<'a, T: BiHashItem, S: BuildHasher, Q: Keys<T::K1, T::K2>> Entry<'a, T, S, Q> {
     /// Puts an item in where no item has one of the keys, as `VacantEntry::insert` does, and answers it. Where some has,
     /// the new item is dropped and nothing changes, and the answer holds those that are there.
     ///
@@ -21,14 +21,13 @@ impl<'a, T: BiHashItem, S: BuildHasher, Q: Keys<'a, T::K1, T::K2>> Entry<'a, T, 
     pub fn or_insert(self, item: T) -> Result<OccupiedEntryMut<'a, T, S>, EntryError<T>>
     where
         T: Drop,
-        requires { IsFound self }
         ensures same_map { IfOk result (λ m. m.map.ghost_name ≡ entry_lender self.entry) }
-        ensures holds { IfOk result Holds }
         ensures gains { OnVacant self.entry (λ v. IfOk result (λ m. Gains v.map.now item m.map.now)) }
-        ensures put { OnVacant self.entry (λ v. IfOk result (λ m. held m ≡ item ∷ [])) }
+        ensures put { OnVacant self.entry (λ v. IfOk result Holds) }
+        ensures unique { OnVacant self.entry (λ v. IfOk result (λ m. held_entry m ≡ unique item)) }
         ensures kept { OnOccupied self.entry (λ o. IfOk result (λ m. m.map.now ≡ o.map.now)) }
-        ensures held { OnOccupied self.entry (λ o. IfOk result (λ m.
-            held m ≡ listing (sought T.BiHashItem T.K1.eq T.K2.eq o) (bag o.map.now))) }
+        ensures holds { OnOccupied self.entry (λ o. HasFound T.BiHashItem T.K1.eq T.K2.eq o
+            → IfOk result (HoldsFound T.BiHashItem T.K1.eq T.K2.eq o)) }
         ensures granted { OnOccupied self.entry (λ o. IsOk result) }
         ensures handed_back { IfErr result (λ e. error_item e ≡ item) }
         ensures rank { OnVacant self.entry (λ v. IfErr result (λ e. differ (key_tests T.BiHashItem T.K1.eq T.K2.eq
@@ -45,7 +44,7 @@ impl<'a, T: BiHashItem, S: BuildHasher, Q: Keys<'a, T::K1, T::K2>> Entry<'a, T, 
     }
 }
 
-impl<'a, T: BiHashItemMut, S: BuildHasher, Q: Keys<'a, T::K1, T::K2>> Entry<'a, T, S, Q> {
+impl<'a, T: BiHashItemMut, S: BuildHasher, Q: Keys<T::K1, T::K2>> Entry<'a, T, S, Q> {
     /// Stores what `f` answers at each item of an occupied entry as its data, that of the first key first and each item
     /// once, and gives the entry back. A vacant entry stays, and `f` is not called. It takes no memory.
     pub fn and_modify<F: FnMut(&T) -> T::Data>(self, f: F) -> Entry<'a, T, S, Q>

@@ -5,18 +5,18 @@ use std::alloc::AllocError;
 
 /// Two keys. A vacant entry holds them behind this trait, so that what becomes of its map can be followed: beside plain
 /// references it could not.
-pub trait Keys<'k, K, L>: Copy {
+pub trait Keys<K, L>: Copy {
     // The keys.
     ghost first: { Self → K };
 
     ghost second: { Self → L };
 
     /// The first key.
-    fn first(&self) -> &'k K
+    fn first(&self) -> &K
         ensures { result.now ≡ first self.now };
 
     /// The second key.
-    fn second(&self) -> &'k L
+    fn second(&self) -> &L
         ensures { result.now ≡ second self.now };
 }
 
@@ -41,16 +41,16 @@ impl<'k, K, L> Clone for KeyPair<'k, K, L> {
     }
 }
 
-impl<'k, K, L> Keys<'k, K, L> for KeyPair<'k, K, L> {
+impl<'k, K, L> Keys<K, L> for KeyPair<'k, K, L> {
     ghost first = { λ p. p.key1.now };
 
     ghost second = { λ p. p.key2.now };
 
-    fn first(&self) -> &'k K {
+    fn first(&self) -> &K {
         self.key1
     }
 
-    fn second(&self) -> &'k L {
+    fn second(&self) -> &L {
         self.key2
     }
 }

@@ -5,7 +5,7 @@ ghost use Rattle.std.specs.Fn.{CalledAt};
 ghost use Rattle.iddqd_store.specs.Bag.{IsOnly, differ, entry, is_unique, listing, over, unique};
 ghost use Rattle.iddqd_store.specs.Bag.Storing.{Stores};
 ghost use Rattle.iddqd_store.specs.Map.{bag, Loses};
-ghost use Rattle.iddqd_bi.specs.Entries.{HasFound, Holds, held, held1, held2, sought, lends_data1, lends_data2, lends_held};
+ghost use Rattle.iddqd_bi.specs.Entries.{HasFound, HoldsFound, sought, lends_data1, lends_data2, lends_held};
 ghost use Rattle.iddqd_bi.specs.Keys.{has1, has2, ranks};
 ghost use Rattle.iddqd_bi.specs.Mismatch.{mismatch_item, mismatch_rank};
 ghost use Rattle.iddqd_bi.specs.OccupiedRefs.{is_one, seen1, seen2};
@@ -14,6 +14,7 @@ use super::{OccupiedEntry, OccupiedEntryMut, OccupiedEntryRef};
 use crate::error::KeyMismatch;
 use crate::item::{BiHashItem, BiHashItemMut};
 use crate::map::BiHashMap;
+use crate::map::slots::entry::{each_once, one_of};
 use iddqd_store::UpToTwo;
 use std::hash::{BuildHasher, Hash};
 
@@ -23,7 +24,7 @@ impl<'a, T: BiHashItem, S: BuildHasher> OccupiedEntry<'a, T, S> {
         requires { HasFound T.BiHashItem T.K1.eq T.K2.eq self.now }
         ensures { result ≡ is_unique (entry (sought T.BiHashItem T.K1.eq T.K2.eq self.now) (bag self.now.map.now)) }
     {
-        self.map.is_one(self.slot1, self.slot2)
+        one_of(self.slot1, self.slot2).is_some()
     }
 
     /// Whether no item has both keys. One of the keys may be absent.
@@ -43,7 +44,10 @@ impl<'a, T: BiHashItem, S: BuildHasher> OccupiedEntry<'a, T, S> {
         ensures by_key1 { IsOnly (has1 T.BiHashItem T.K1.eq self.now.key1.now) (bag self.now.map.now) (seen1 result) }
         ensures by_key2 { IsOnly (has2 T.BiHashItem T.K2.eq self.now.key2.now) (bag self.now.map.now) (seen2 result) }
     {
-        self.map.shown(self.slot1, self.slot2)
+        let is_unique = self.is_unique();
+        let by_key1 = self.map.item_of(self.slot1);
+        let by_key2 = self.map.item_of(self.slot2);
+        OccupiedEntryRef::of(is_unique, by_key1, by_key2)
     }
 
     /// The items, to be read for as long as the map is lent.
@@ -56,6 +60,7 @@ impl<'a, T: BiHashItem, S: BuildHasher> OccupiedEntry<'a, T, S> {
         ensures by_key2 { IsOnly (has2 T.BiHashItem T.K2.eq self.entry.key2.now) (bag self.entry.map.now)
             (seen2 result) }
     {
+        let is_unique = self.is_unique();
         let OccupiedEntry {
             map,
             key1: _,
@@ -64,19 +69,18 @@ impl<'a, T: BiHashItem, S: BuildHasher> OccupiedEntry<'a, T, S> {
             slot2,
         } = self;
         let map: &'a BiHashMap<T, S> = map;
-        map.shown(slot1, slot2)
+        let by_key1 = map.item_of(slot1);
+        let by_key2 = map.item_of(slot2);
+        OccupiedEntryRef::of(is_unique, by_key1, by_key2)
     }
 
     /// The items, for writing, lent by the entry. A caller knows less of the map afterwards than after `into_mut`.
     pub fn get_mut(&mut self) -> OccupiedEntryMut<'_, T, S>
-        requires { HasFound T.BiHashItem T.K1.eq T.K2.eq self.old }
         ensures* lends { sem 𝓛 (lends_held T.row S.row T.K1.row T.K2.row S.Hasher.row
             T.BiHashItem T.K1.Hash T.K2.Hash S.BuildHasher S.Hasher.Hasher self.entry result) }
         ensures map { result.map.now ≡ self.old.map.now }
-        ensures holds { Holds result }
-        ensures held { held result ≡ listing (sought T.BiHashItem T.K1.eq T.K2.eq self.old) (bag self.old.map.now) }
-        ensures by_key1 { IsOnly (has1 T.BiHashItem T.K1.eq self.old.key1.now) (bag self.old.map.now) (held1 result) }
-        ensures by_key2 { IsOnly (has2 T.BiHashItem T.K2.eq self.old.key2.now) (bag self.old.map.now) (held2 result) }
+        ensures holds { HasFound T.BiHashItem T.K1.eq T.K2.eq self.old
+            → HoldsFound T.BiHashItem T.K1.eq T.K2.eq self.old result }
     {
         let slot1 = self.slot1;
         let slot2 = self.slot2;
@@ -86,16 +90,10 @@ impl<'a, T: BiHashItem, S: BuildHasher> OccupiedEntry<'a, T, S> {
 
     /// The items, for writing, for as long as the map is lent.
     pub fn into_mut(self) -> OccupiedEntryMut<'a, T, S>
-        requires { HasFound T.BiHashItem T.K1.eq T.K2.eq self }
         ensures same_map { result.map.ghost_name ≡ self.entry.map.ghost_name }
         ensures map { result.map.now ≡ self.entry.map.now }
-        ensures holds { Holds result }
-        ensures held { held result
-            ≡ listing (sought T.BiHashItem T.K1.eq T.K2.eq self.entry) (bag self.entry.map.now) }
-        ensures by_key1 { IsOnly (has1 T.BiHashItem T.K1.eq self.entry.key1.now) (bag self.entry.map.now)
-            (held1 result) }
-        ensures by_key2 { IsOnly (has2 T.BiHashItem T.K2.eq self.entry.key2.now) (bag self.entry.map.now)
-            (held2 result) }
+        ensures holds { HasFound T.BiHashItem T.K1.eq T.K2.eq self.entry
+            → HoldsFound T.BiHashItem T.K1.eq T.K2.eq self.entry result }
     {
         let OccupiedEntry {
             map,
@@ -139,7 +137,7 @@ impl<'a, T: BiHashItem, S: BuildHasher> OccupiedEntry<'a, T, S> {
         if *self.key2 != *item.key2() {
             return Err(KeyMismatch::Key2(item));
         }
-        let found = self.map.each_found(self.slot1, self.slot2);
+        let found = each_once(self.slot1, self.slot2);
         let hash1 = self.map.hash_of1(&item);
         let hash2 = self.map.hash_of2(&item);
         let (displaced, ix) = self.map.put_over(item, &found, hash1, hash2);
@@ -163,8 +161,7 @@ impl<'a, T: BiHashItem, S: BuildHasher> OccupiedEntry<'a, T, S> {
             slot1,
             slot2,
         } = self;
-        let found = map.each_found(slot1, slot2);
-        map.take_all(&found)
+        map.take_all(&each_once(slot1, slot2))
     }
 }
 

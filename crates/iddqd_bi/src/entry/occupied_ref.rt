@@ -1,5 +1,5 @@
 //! The items that two keys found, to be read.
-ghost use Rattle.std.specs.Prelude.{◌≡◌, option_copied};
+ghost use Rattle.std.specs.Prelude.{◌≡◌, true, is_some, not, option_copied};
 ghost use Rattle.iddqd_bi.specs.OccupiedRefs.{is_one, seen_unique, seen1, seen2};
 
 /// The items that two keys found, to be read.
@@ -17,6 +17,22 @@ pub enum OccupiedEntryRef<'a, T> {
 }
 
 impl<'a, T> OccupiedEntryRef<'a, T> {
+    /// The items that two keys found. They are one where `is_unique` says so.
+    pub(crate) fn of(is_unique: bool, by_key1: Option<&'a T>, by_key2: Option<&'a T>) -> Self
+        requires some { is_unique ≡ true → is_some by_key1 ≡ true }
+        requires one { is_unique ≡ true → option_copied by_key1 ≡ option_copied by_key2 }
+        ensures unique { is_one result ≡ is_unique }
+        ensures by_key1 { seen1 result ≡ option_copied by_key1.entry }
+        ensures by_key2 { seen2 result ≡ option_copied by_key2.entry }
+    {
+        if is_unique {
+            if let Some(item) = by_key1 {
+                return OccupiedEntryRef::Unique(item);
+            }
+        }
+        OccupiedEntryRef::NonUnique { by_key1, by_key2 }
+    }
+
     /// Whether one item has both keys.
     pub fn is_unique(&self) -> bool
         ensures { result ≡ is_one self.now }

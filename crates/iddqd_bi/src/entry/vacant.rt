@@ -3,18 +3,18 @@ ghost use Rattle.std.specs.Prelude.{◌≡◌, [], ◌∷◌, None, Some, IfOk, 
 ghost use Rattle.std.specs.Borrow.{sem};
 ghost use Rattle.iddqd_store.specs.Bag.{differ, entry, unique};
 ghost use Rattle.iddqd_store.specs.Map.{bag, Gains, IsFullFor};
-ghost use Rattle.iddqd_bi.specs.Entries.{HasFound, Holds, held, held_entry, sought, rests_if_err, occupied_rests_if_err, held_rests_if_err};
+ghost use Rattle.iddqd_bi.specs.Entries.{HasFound, Holds, held, held_entry, sought, rests_if_err, held_rests_if_err};
 ghost use Rattle.iddqd_bi.specs.Keys.{key_tests, ranks};
 ghost use Rattle.iddqd_bi.specs.Mismatch.{error_item, error_rank, OnNoMemory};
 ghost use Rattle.iddqd_bi.specs.RefMuts.{ref_lender, ref_map, ref_item};
 
-use super::{Keys, OccupiedEntry, OccupiedEntryMut, VacantEntry};
+use super::{KeyPair, Keys, OccupiedEntry, OccupiedEntryMut, VacantEntry};
 use crate::error::EntryError;
 use crate::item::BiHashItem;
 use crate::ref_mut::RefMut;
 use std::hash::{BuildHasher, Hash};
 
-impl<'a, T: BiHashItem, S: BuildHasher, Q: Keys<'a, T::K1, T::K2>> VacantEntry<'a, T, S, Q> {
+impl<'a, T: BiHashItem, S: BuildHasher, Q: Keys<T::K1, T::K2>> VacantEntry<'a, T, S, Q> {
     /// Puts an item in that has the entry's keys.
     ///
     /// It is refused with the lowest rank at which its key is not the entry's, or else where the map is full and there is
@@ -49,44 +49,6 @@ impl<'a, T: BiHashItem, S: BuildHasher, Q: Keys<'a, T::K1, T::K2>> VacantEntry<'
         }
     }
 
-    /// The same as `insert`, and answers an entry, which is unique.
-    pub fn insert_entry(self, item: T) -> Result<OccupiedEntry<'a, T, S>, EntryError<T>>
-        ensures* unchanged_at_err { sem 𝓛 (occupied_rests_if_err T.row S.row T.K1.row T.K2.row S.Hasher.row
-            T.BiHashItem T.K1.Hash T.K2.Hash S.BuildHasher S.Hasher.Hasher self.entry.map result) }
-        ensures same_map { IfOk result (λ e. e.map.ghost_name ≡ self.entry.map.ghost_name) }
-        ensures gains { IfOk result (λ e. Gains self.entry.map.now item e.map.now) }
-        ensures found { IfOk result (HasFound T.BiHashItem T.K1.eq T.K2.eq) }
-        ensures unique { IfOk result (λ e.
-            entry (sought T.BiHashItem T.K1.eq T.K2.eq e) (bag e.map.now) ≡ unique item) }
-        ensures same_keys { OnOk result (differ (key_tests T.BiHashItem T.K1.eq T.K2.eq
-            (Q.first self.entry.keys) (Q.second self.entry.keys)) item ≡ None) }
-        ensures handed_back { IfErr result (λ e. error_item e ≡ item) }
-        ensures rank { IfErr result (λ e. differ (key_tests T.BiHashItem T.K1.eq T.K2.eq
-            (Q.first self.entry.keys) (Q.second self.entry.keys)) item ≡ error_rank e) }
-        ensures memory { IfErr result (λ e. OnNoMemory e
-            (IsFullFor (ranks T.BiHashItem T.K1.eq T.K2.eq) self.entry.map.now item)) }
-    {
-        let VacantEntry { map, keys } = self;
-        let key1 = keys.first();
-        let key2 = keys.second();
-        if *key1 != *item.key1() {
-            return Err(EntryError::Key1(item));
-        }
-        if *key2 != *item.key2() {
-            return Err(EntryError::Key2(item));
-        }
-        match map.put_free(item) {
-            Ok(slot) => Ok(OccupiedEntry {
-                map,
-                key1,
-                key2,
-                slot1: Some(slot),
-                slot2: Some(slot),
-            }),
-            Err(item) => Err(EntryError::Memory(item)),
-        }
-    }
-
     /// The same as `insert`, and answers what an occupied entry answers in `into_mut`.
     pub fn insert_mut(self, item: T) -> Result<OccupiedEntryMut<'a, T, S>, EntryError<T>>
         ensures* unchanged_at_err { sem 𝓛 (held_rests_if_err T.row S.row T.K1.row T.K2.row S.Hasher.row
@@ -114,6 +76,44 @@ impl<'a, T: BiHashItem, S: BuildHasher, Q: Keys<'a, T::K1, T::K2>> VacantEntry<'
         match map.put_free(item) {
             Ok(slot) => Ok(OccupiedEntryMut {
                 map,
+                slot1: Some(slot),
+                slot2: Some(slot),
+            }),
+            Err(item) => Err(EntryError::Memory(item)),
+        }
+    }
+}
+
+impl<'a, T: BiHashItem, S: BuildHasher> VacantEntry<'a, T, S> {
+    /// The same as `insert`, and answers an entry, which is unique. At a refusal a caller knows less of the map than after
+    /// `insert`.
+    pub fn insert_entry(self, item: T) -> Result<OccupiedEntry<'a, T, S>, EntryError<T>>
+        ensures same_map { IfOk result (λ e. e.map.ghost_name ≡ self.entry.map.ghost_name) }
+        ensures gains { IfOk result (λ e. Gains self.entry.map.now item e.map.now) }
+        ensures found { IfOk result (HasFound T.BiHashItem T.K1.eq T.K2.eq) }
+        ensures unique { IfOk result (λ e.
+            entry (sought T.BiHashItem T.K1.eq T.K2.eq e) (bag e.map.now) ≡ unique item) }
+        ensures same_keys { OnOk result (differ (key_tests T.BiHashItem T.K1.eq T.K2.eq
+            self.entry.keys.key1.now self.entry.keys.key2.now) item ≡ None) }
+        ensures handed_back { IfErr result (λ e. error_item e ≡ item) }
+        ensures rank { IfErr result (λ e. differ (key_tests T.BiHashItem T.K1.eq T.K2.eq
+            self.entry.keys.key1.now self.entry.keys.key2.now) item ≡ error_rank e) }
+        ensures memory { IfErr result (λ e. OnNoMemory e
+            (IsFullFor (ranks T.BiHashItem T.K1.eq T.K2.eq) self.entry.map.now item)) }
+    {
+        let VacantEntry { map, keys } = self;
+        let KeyPair { key1, key2 } = keys;
+        if *key1 != *item.key1() {
+            return Err(EntryError::Key1(item));
+        }
+        if *key2 != *item.key2() {
+            return Err(EntryError::Key2(item));
+        }
+        match map.put_free(item) {
+            Ok(slot) => Ok(OccupiedEntry {
+                map,
+                key1,
+                key2,
                 slot1: Some(slot),
                 slot2: Some(slot),
             }),

@@ -6,6 +6,7 @@ ghost use Rattle.iddqd_bi.specs.Entries.{IsFound, entry_key1, entry_key2, entry_
 ghost use Rattle.iddqd_bi.specs.Keys.{key_tests};
 
 use super::BiHashMap;
+use super::slots::entry::none_of;
 use crate::entry::{Entry, KeyPair, OccupiedEntry, VacantEntry};
 use crate::item::BiHashItem;
 use std::hash::{BuildHasher, Hash};
@@ -24,9 +25,10 @@ impl<T: BiHashItem, S: BuildHasher> BiHashMap<T, S> {
             ≡ entry (key_tests T.BiHashItem T.K1.eq T.K2.eq key1.now key2.now) (bag self.old) }
         ensures found { IsFound result }
     {
+        let _ = &self.items;
         let slot1 = self.by_key1().slot_of(key1);
         let slot2 = self.by_key2().slot_of(key2);
-        if slot1.is_none() && slot2.is_none() {
+        if none_of(&slot1, &slot2) {
             Entry::Vacant(VacantEntry {
                 map: self,
                 keys: KeyPair { key1, key2 },

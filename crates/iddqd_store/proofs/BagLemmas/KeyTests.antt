@@ -1,10 +1,12 @@
 -- What an item that has the keys conflicts with is what the keys find.
-use Rattle.std.specs.Prelude.{◌≡◌, Bool, true, not, List, [], ◌∷◌, ◌++◌, Option, None, Some, position, filter}
+use Rattle.std.specs.Prelude.{◌≡◌, ◌≤◌, length, Contains, Bool, true, not, List, [], ◌∷◌, ◌++◌, Option, None, Some, position, filter}
 use Rattle.std.specs.List.{AllByRecursion, AllZip}
-use Rattle.std.proofs.Common.{refl, sym, ap, ◌∙◌}
-use Rattle.iddqd_store.specs.Bag.{Ranks, listing, like, order, clash}
+use Rattle.std.proofs.Common.{inl, inr, refl, ap, ◌∙◌, arith}
+use Rattle.iddqd_store.specs.Bag.{Ranks, IsSound, NamesOne, listing, like, order, clash}
 use Rattle.iddqd_store.specs.Rank.Keys.{AreKeyTests}
+use Rattle.iddqd_store.proofs.BagLemmas.Sound.{Contains-filter, IsSound-rank, length-named}
 use Rattle.iddqd_store.proofs.BagLemmas.Steps.{clash-empty}
+use Rattle.iddqd_store.proofs.RankLemmas.Index.{Contains-cons_cases}
 
 module _ {T : Type 0} where
   filter_same : (p q : T → Bool) → ((x : T) → p x ≡ q x) → (xs : List T) → filter p xs ≡ filter q xs
@@ -25,3 +27,21 @@ module _ {T : Type 0} where
   -- where the keys find nothing, nothing conflicts with it
   pub clash-keys : (ranks : Ranks T) (tests : List (T → Bool)) (x : T) → AreKeyTests ranks tests → AllByRecursion (λ test. test x ≡ true) tests → (bag : List T) → listing tests bag ≡ [] → clash ranks bag x ≡ []
   clash-keys ranks tests x keys passes bag none = clash-empty ranks bag x (order-keys ranks tests x keys passes bag ∙ none)
+
+  only_one : (l : List T) (x : T) → length l ≤ 1 → Contains l x → l ≡ x ∷ []
+  only_one [] x short found = absurd (omega (arith, found.1))
+  only_one (y ∷ []) x short found = elim (Contains-cons_cases y x [] found) [
+    | inl same ↦ ap (λ z. z ∷ []) same
+    | inr further ↦ absurd (omega (arith, further.1))
+  ]
+  only_one (y ∷ z ∷ l) x short found = absurd (omega (arith, short))
+
+  -- in a sound bag each key of a member finds it alone
+  pub each_only : (ranks : Ranks T) (tests : List (T → Bool)) (bag : List T) (x : T) → AreKeyTests ranks tests → AllByRecursion (λ test. test x ≡ true) tests → IsSound ranks bag → Contains bag x → AllByRecursion (λ test. filter test bag ≡ x ∷ []) tests
+  each_only [] [] bag x keys passes sound there = tt
+  each_only [] (test ∷ tests) bag x keys passes sound there = absurd keys
+  each_only (agree ∷ ranks) [] bag x keys passes sound there = absurd keys
+  each_only (agree ∷ ranks) (test ∷ tests) bag x keys passes sound there =
+      let apart = IsSound-rank agree ranks bag sound in
+      let names : NamesOne agree test = λ y z has has_too. keys.0 y z has ∙ has_too in
+      (only_one (filter test bag) x (length-named agree test names bag apart.0) (Contains-filter test bag x passes.0 there), each_only ranks tests bag x keys.1 passes.1 apart.1 there)

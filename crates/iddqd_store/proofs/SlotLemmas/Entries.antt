@@ -1,6 +1,6 @@
 -- What the slots that searches found hold is what their tests find in the bag.
-use Rattle.std.specs.Prelude.{◌≡◌, ◌≤◌, ◌<◌, ℕ, Bool, true, false, cond, not, ◌&&◌, List, [], ◌∷◌, ◌++◌, length, filter, fold, Contains, Option, Some, None, is_some, nat_eq, All, if◌then◌else◌}
-use Rattle.std.specs.List.{AllByRecursion, IsDistinct, list_all}
+use Rattle.std.specs.Prelude.{◌≡◌, ◌≢◌, ◌≤◌, ◌<◌, ℕ, Bool, true, false, cond, not, ◌&&◌, List, [], ◌∷◌, ◌++◌, length, filter, fold, Contains, Option, Some, None, is_some, nat_eq, All, if◌then◌else◌}
+use Rattle.std.specs.List.{AllByRecursion, IsDistinct, list_all, list_any}
 use Rattle.std.specs.Option.{option_to_list, option_and_then, IfSome}
 use Rattle.std.proofs.Common.{IsSome, inl, inr, refl, sym, ap, subst, ◌∙◌, arith, append-nil, append_assoc}
 use Rattle.std.proofs.lemmas.Bool.{false≢true}
@@ -8,7 +8,7 @@ use Rattle.std.proofs.lemmas.Bool.Decides.{nat_tests}
 use Rattle.iddqd_store.specs.Bag.{Ranks, AreLawful, IsSound, listing, all_of, every_of, entry, entry_of, is_unique}
 use Rattle.iddqd_store.specs.Rank.Index.{IsIndexed}
 use Rattle.iddqd_store.specs.Slots.{get, IsLive, live_items}
-use Rattle.iddqd_store.specs.Slots.Found.{items_at, with_found, each_once, is_at, found_by_all, head_of, FoundAt, AreFound, held_at, entry_at}
+use Rattle.iddqd_store.specs.Slots.Found.{items_at, lists, with_found, each_once, is_at, found_by_all, head_of, FoundAt, AreFound, held_at, entry_at}
 use Rattle.iddqd_store.proofs.BagLemmas.Entries.{all_of-next}
 use Rattle.iddqd_store.proofs.BagLemmas.Exchanges.{split}
 use Rattle.iddqd_store.proofs.BagLemmas.Over.{IsDistinct-with_found}
@@ -19,28 +19,6 @@ use Rattle.iddqd_store.proofs.SlotLemmas.Found.{listing_found}
 
 itself : (a : ℕ) → nat_eq a a ≡ true
 itself a = grind (arith, nat_tests)
-
-pub one_of_two : (a b : ℕ) → nat_eq a b ≡ is_some (head_of (found_by_all (Some a ∷ Some b ∷ [])))
-one_of_two a b =
-    split (λ t. t ≡ is_some (head_of (cond (t && true) (a ∷ []) []))) (nat_eq a b) (λ _. refl) (λ _. refl)
-
--- one member has all the keys exactly if some member passes every test
-unique_whole : {T : Type 0} (test : T → Bool) (tests : List (T → Bool)) (bag : List T) → is_unique (entry (test ∷ tests) bag) ≡ is_some (head_of (all_of (test ∷ tests) bag))
-unique_whole {T} test tests bag = by_first (filter test bag) refl
-  where
-    by_first : (l : List T) → filter test bag ≡ l → is_unique (entry (test ∷ tests) bag) ≡ is_some (head_of (all_of (test ∷ tests) bag))
-    by_first [] is =
-        let none : all_of (test ∷ tests) bag ≡ [] = all_of-next test tests bag ∙ ap (all_of tests) is in
-        rw none (no_whole (listing (test ∷ tests) bag))
-      where
-        no_whole : (l : List T) → is_unique (entry_of l []) ≡ false
-        no_whole [] = refl
-        no_whole (x ∷ l) = refl
-    by_first (y ∷ ys) is = rw is (whole (all_of (test ∷ tests) bag))
-      where
-        whole : (l : List T) → is_unique (entry_of (y ∷ (ys ++ listing tests (filter (λ x. not (test x)) bag))) l) ≡ is_some (head_of l)
-        whole [] = refl
-        whole (x ∷ l) = refl
 
 -- each slot is found once
 pub IsDistinct-each_once : (found : List (Option ℕ)) → IsDistinct nat_eq (each_once found)
@@ -123,21 +101,51 @@ module _ {T : Type 0} {agree : T → T → Bool} {ranks : Ranks T} {hashes : Lis
       ap (λ l. entry_of l (items_at slots (found_by_all (at ∷ found)))) (found_listing (test ∷ tests) (at ∷ found) are)
       ∙ ap (entry_of (listing (test ∷ tests) (live_items slots))) (found_whole test tests (at ∷ found) are)
 
-  -- whether one member has all the keys is whether all searches found one slot
-  pub found_unique : (tests : List (T → Bool)) (at : Option ℕ) (found : List (Option ℕ)) → AreFound tests slots (at ∷ found) → is_unique (entry tests (live_items slots)) ≡ is_some (head_of (found_by_all (at ∷ found)))
-  found_unique [] at found are = absurd are
-  found_unique (test ∷ tests) at found are =
-      unique_whole test tests (live_items slots)
-      ∙ ap (λ l. is_some (head_of l)) (sym (found_whole test tests (at ∷ found) are))
-      ∙ by_all at found are
+-- slots that searches found hold one item exactly if all found one slot
+module _ {T : Type 0} (slots : List (Option T)) where
+  front_stays : (ix : ℕ) (l : List ℕ) (found : List (Option ℕ)) → (rest : List ℕ) × (fold with_found (ix ∷ l) found ≡ ix ∷ rest)
+  front_stays ix l [] = (l, refl)
+  front_stays ix l (None ∷ found) = front_stays ix l found
+  front_stays ix l (Some b ∷ found) =
+      split (λ t. (rest : List ℕ) × (fold with_found (if t then ix ∷ l else (ix ∷ l) ++ b ∷ []) found ≡ ix ∷ rest)) (lists (ix ∷ l) b)
+      (λ _. front_stays ix l found)
+      (λ _. front_stays ix (l ++ b ∷ []) found)
+
+  pub unique_at : (at : Option ℕ) (found : List (Option ℕ)) → IfSome at (IsLive slots) → is_unique (entry_at slots (at ∷ found)) ≡ is_some (head_of (found_by_all (at ∷ found)))
+  unique_at None found live = no_whole (held_at slots (None ∷ found))
     where
-      by_all : (at : Option ℕ) (found : List (Option ℕ)) → AreFound (test ∷ tests) slots (at ∷ found) → is_some (head_of (items_at slots (found_by_all (at ∷ found)))) ≡ is_some (head_of (found_by_all (at ∷ found)))
-      by_all None found are = refl
-      by_all (Some ix) found are =
-          split (λ b. is_some (head_of (items_at slots (cond b (ix ∷ []) []))) ≡ is_some (head_of (cond b (ix ∷ []) []))) (list_all (is_at ix) found)
-          (λ _. by_slot (get slots ix) refl are.0.live)
+      no_whole : (l : List T) → is_unique (entry_of l []) ≡ false
+      no_whole [] = refl
+      no_whole (x ∷ l) = refl
+  unique_at (Some ix) found live = by_slot (get slots ix) refl live
+    where
+      by_slot : (o : Option T) → get slots ix ≡ o → IsSome o → is_unique (entry_at slots (Some ix ∷ found)) ≡ is_some (head_of (found_by_all (Some ix ∷ found)))
+      by_slot None there some = absurd (cc)
+      by_slot (Some x) there some =
+          let front = front_stays ix [] found in
+          let held : held_at slots (Some ix ∷ found) ≡ x ∷ items_at slots front.0 = ap (items_at slots) front.1 ∙ (rw there refl) in
+          ap (λ l. is_unique (entry_of l (items_at slots (found_by_all (Some ix ∷ found))))) held
+          ∙ split (λ b. is_unique (entry_of (x ∷ items_at slots front.0) (items_at slots (cond b (ix ∷ []) []))) ≡ is_some (head_of (cond b (ix ∷ []) []))) (list_all (is_at ix) found)
+          (λ _. rw there refl)
           (λ _. refl)
-        where
-          by_slot : (o : Option T) → get slots ix ≡ o → IsSome o → is_some (head_of (items_at slots (ix ∷ []))) ≡ true
-          by_slot None there some = absurd (cc)
-          by_slot (Some x) there some = rw there refl
+
+  -- where a search found a slot, some item is held
+  pub held_some : (tests : List (T → Bool)) (found : List (Option ℕ)) → AreFound tests slots found → list_any is_some found ≡ true → held_at slots found ≢ []
+  held_some [] [] are some = absurd (false≢true some)
+  held_some [] (at ∷ found) are some = absurd are
+  held_some (test ∷ tests) [] are some = absurd are
+  held_some (test ∷ tests) (None ∷ found) are some = held_some tests found are.1 some
+  held_some (test ∷ tests) (Some ix ∷ found) are some = by_slot (get slots ix) refl are.0.live
+    where
+      by_slot : (o : Option T) → get slots ix ≡ o → IsSome o → held_at slots (Some ix ∷ found) ≢ []
+      by_slot None there some = absurd (cc)
+      by_slot (Some x) there some = λ none.
+          let front = front_stays ix [] found in
+          let held : held_at slots (Some ix ∷ found) ≡ x ∷ items_at slots front.0 = ap (items_at slots) front.1 ∙ (rw there refl) in
+          absurd (omega (arith, ap length (sym held ∙ none)))
+
+  -- where none did, nothing is
+  pub held_none : (found : List (Option ℕ)) → list_any is_some found ≡ false → held_at slots found ≡ []
+  held_none [] none = refl
+  held_none (None ∷ found) none = held_none found none
+  held_none (Some ix ∷ found) none = absurd (false≢true (sym none))

@@ -1,19 +1,17 @@
 //! The slots that searches by all keys found.
-ghost use Rattle.std.specs.Prelude.{◌≡◌, ◌≤◌, [], ◌∷◌, List, Bool, All, Some, length, nat_eq, option_copied, IfOk, IfErr, IfSome, OnOk, OnErr};
+ghost use Rattle.std.specs.Prelude.{◌≡◌, [], ◌∷◌, Some, is_some, not, option_copied, IfOk, IfErr, IfSome, OnOk, OnErr};
 ghost use Rattle.std.specs.Borrow.{sem};
-ghost use Rattle.std.specs.List.{IsDistinct};
+ghost use Rattle.std.specs.List.{list_any};
 ghost use Rattle.std.specs.Option.{option_and_then};
-ghost use Rattle.iddqd_store.specs.Bag.{clash, entry, is_unique, listing};
-ghost use Rattle.iddqd_store.specs.Map.{bag, Gains};
+ghost use Rattle.iddqd_store.specs.Bag.{IsSound, clash};
+ghost use Rattle.iddqd_store.specs.Map.{bag, Gains, IsFullFor};
 ghost use Rattle.iddqd_store.specs.Rank.{key_hash};
 ghost use Rattle.iddqd_store.specs.Slots.{get, IsLive};
-ghost use Rattle.iddqd_store.specs.Slots.Found.{AreFound, each_once, found_by_all, head_of, held_at};
+ghost use Rattle.iddqd_store.specs.Slots.Found.{each_once, found_by_all, head_of};
 ghost use Rattle.iddqd_bi.specs.Keys.{ranks};
-ghost use Rattle.iddqd_bi.specs.OccupiedRefs.{is_one, seen1, seen2};
 ghost use Rattle.iddqd_bi.specs.RefMuts.{ref_lender, ref_map, ref_item, rests_if_none};
 
 use super::super::BiHashMap;
-use crate::entry::OccupiedEntryRef;
 use crate::item::BiHashItem;
 use crate::ref_mut::RefMut;
 use iddqd_store::{ItemIndex, UpToTwo};
@@ -35,59 +33,26 @@ pub(crate) fn one_of(slot1: Option<ItemIndex>, slot2: Option<ItemIndex>) -> Opti
     }
 }
 
+/// Whether no search found a slot.
+pub(crate) fn none_of(slot1: &Option<ItemIndex>, slot2: &Option<ItemIndex>) -> bool
+    ensures { result ≡ not (list_any is_some (slot1.now ∷ slot2.now ∷ [])) }
+{
+    slot1.is_none() && slot2.is_none()
+}
+
+/// The slots that searches found, each once.
+pub(crate) fn each_once(slot1: Option<ItemIndex>, slot2: Option<ItemIndex>) -> UpToTwo<ItemIndex>
+    ensures { result ≡ each_once (slot1 ∷ slot2 ∷ []) }
+{
+    let mut found = UpToTwo::new();
+    found.push_found(slot1);
+    found.push_found(slot2);
+    found
+}
+
 impl<T: BiHashItem, S: BuildHasher> BiHashMap<T, S> {
-    /// The slots that searches found, each once.
-    pub(crate) fn each_found(
-        &self,
-        slot1: Option<ItemIndex>,
-        slot2: Option<ItemIndex>,
-    ) -> UpToTwo<ItemIndex>
-        ensures value { result ≡ each_once (slot1 ∷ slot2 ∷ []) }
-        ensures apart { IsDistinct nat_eq result }
-        ensures listed { (tests : List (T → Bool)) → AreFound tests self.now.slots (slot1 ∷ slot2 ∷ [])
-            → held_at self.now.slots (slot1 ∷ slot2 ∷ []) ≡ listing tests (bag self.now) }
-    {
-        let _ = &self.items;
-        let mut found = UpToTwo::new();
-        found.push_found(slot1);
-        found.push_found(slot2);
-        found
-    }
-
-    /// Whether the searches found one item.
-    pub(crate) fn is_one(&self, slot1: Option<ItemIndex>, slot2: Option<ItemIndex>) -> bool
-        ensures { (tests : List (T → Bool)) → AreFound tests self.now.slots (slot1 ∷ slot2 ∷ [])
-            → result ≡ is_unique (entry tests (bag self.now)) }
-    {
-        let _ = &self.items;
-        one_of(slot1, slot2).is_some()
-    }
-
-    /// The items that the searches found, to be read.
-    pub(crate) fn shown(
-        &self,
-        slot1: Option<ItemIndex>,
-        slot2: Option<ItemIndex>,
-    ) -> OccupiedEntryRef<'_, T>
-        requires live1 { IfSome slot1 (IsLive self.now.slots) }
-        requires live2 { IfSome slot2 (IsLive self.now.slots) }
-        ensures unique { (tests : List (T → Bool)) → AreFound tests self.now.slots (slot1 ∷ slot2 ∷ [])
-            → is_one result ≡ is_unique (entry tests (bag self.now)) }
-        ensures by_key1 { seen1 result ≡ option_and_then (get self.now.slots) slot1 }
-        ensures by_key2 { seen2 result ≡ option_and_then (get self.now.slots) slot2 }
-    {
-        let _ = &self.items;
-        match one_of(slot1, slot2) {
-            Some(ix) => OccupiedEntryRef::Unique(self.item_at(ix)),
-            None => OccupiedEntryRef::NonUnique {
-                by_key1: self.item_of(slot1),
-                by_key2: self.item_of(slot2),
-            },
-        }
-    }
-
     /// The item of a slot, if it has one.
-    fn item_of(&self, slot: Option<ItemIndex>) -> Option<&T>
+    pub(crate) fn item_of(&self, slot: Option<ItemIndex>) -> Option<&T>
         ensures { option_copied result ≡ option_and_then (get self.now.slots) slot }
     {
         match slot {
@@ -128,9 +93,10 @@ impl<T: BiHashItem, S: BuildHasher> BiHashMap<T, S> {
         requires free { clash (ranks T.BiHashItem T.K1.eq T.K2.eq) (bag self.old) item ≡ [] }
         ensures gains { OnOk result (Gains self.old item self.new) }
         ensures at { IfOk result (λ ix. get self.new.slots ix ≡ Some item) }
+        ensures sound { OnOk result (IsSound (ranks T.BiHashItem T.K1.eq T.K2.eq) (bag self.new)) }
         ensures handed_back { IfErr result (λ x. x ≡ item) }
         ensures unchanged { OnErr result (self.new ≡ self.old) }
-        ensures full { OnErr result (length (bag self.old) ≡ self.old.capacity) }
+        ensures full { OnErr result (IsFullFor (ranks T.BiHashItem T.K1.eq T.K2.eq) self.old item) }
     {
         let hash1 = self.hash_of1(&item);
         let hash2 = self.hash_of2(&item);

@@ -1,14 +1,14 @@
 //! Writing the item of a slot.
-ghost use Rattle.std.specs.Prelude.{◌≡◌, [], ◌∷◌, true, Bool, List, drop, Some, IsPermutation, IfSome, IfNone, is_some, ◌+◌};
+ghost use Rattle.std.specs.Prelude.{◌≡◌, [], ◌∷◌, true, drop, Some, IsPermutation, IfSome, IfNone, is_some, ◌+◌};
 ghost use Rattle.std.specs.Borrow.{sem};
 ghost use Rattle.std.specs.Fn.{CalledAt};
-ghost use Rattle.iddqd_store.specs.Bag.{listing, swap};
+ghost use Rattle.iddqd_store.specs.Bag.{swap};
 ghost use Rattle.iddqd_store.specs.Bag.Storing.{Stores};
 ghost use Rattle.iddqd_store.specs.Map.{bag};
 ghost use Rattle.iddqd_store.specs.Map.Walk.{IsNextSlot, Passes, to_come};
 ghost use Rattle.iddqd_store.specs.Map.Written.{map_with};
 ghost use Rattle.iddqd_store.specs.Slots.{get, IsLive};
-ghost use Rattle.iddqd_store.specs.Slots.Found.{AreFound, held_at};
+ghost use Rattle.iddqd_store.specs.Slots.Found.{held_at};
 ghost use Rattle.iddqd_bi.specs.Keys.{ranks};
 
 use super::super::BiHashMap;
@@ -115,12 +115,9 @@ impl<T: BiHashItemMut, S: BuildHasher> BiHashMap<T, S> {
         requires callable { F.IsAlwaysCallable f }
         ensures stores { Stores (CalledAt F.FnMut) T.put (ranks T.BiHashItem T.K1.eq T.K2.eq) f
             (held_at self.old.slots (slot1 ∷ slot2 ∷ [])) (bag self.old) (bag self.new) }
-        ensures listed { (tests : List (T → Bool)) → AreFound tests self.old.slots (slot1 ∷ slot2 ∷ [])
-            → held_at self.old.slots (slot1 ∷ slot2 ∷ []) ≡ listing tests (bag self.old) }
         ensures capacity { self.new.capacity ≡ self.old.capacity }
         ensures builder { self.new.builder ≡ self.old.builder }
     {
-        let _ = &self.items;
         match (slot1, slot2) {
             (Some(a), Some(b)) => {
                 self.store_at(a, &mut f);

@@ -2,6 +2,8 @@ use Rattle.std.proofs.Common.{arith}
 use Rattle.std.proofs.lemmas.List.Sorted.{IsPermutation-map, length_permutation}
 use Rattle.iddqd_store.proofs.RankLemmas.Index.{length-live_items, length-index}
 use Rattle.iddqd_store.proofs.RankLemmas.Invariant.{IsIndexed-insert}
+use Rattle.iddqd_store.proofs.MapLemmas.{free_sound}
+use Rattle.iddqd_bi.specs.Keys.{ranks}
 use Rattle.iddqd_bi.proofs.MapLemmas.{AreLawful-ranks}
 use Rattle.iddqd_bi.proofs.map.BiHashMap.put.Goals as goal
 
@@ -26,6 +28,10 @@ invariant_of-self g c =
     let hash2 = rw (← c.self.view_is) at c.requires.hash2 in
     IsIndexed-insert c.args.item (AreLawful-ranks g.T.BiHashItem g.met.T.K1.Eq.laws g.met.T.K2.Eq.laws) c.self.invariant (rw (← c.self.view_is) at c.requires.free) c.insert_reserved-ix.ensures.members
     ((_, hash1, c.insert_reserved.ensures.added), ((_, hash2, c.insert_reserved-2.ensures.added), tt))
+
+pub returns-clause-sound : goal.returns-clause-sound
+returns-clause-sound g c =
+    free_sound (ranks g.T.BiHashItem g.T.K1.PartialEq.eq g.T.K2.PartialEq.eq) (AreLawful-ranks g.T.BiHashItem g.met.T.K1.Eq.laws g.met.T.K2.Eq.laws) c.self.inside.items.slots c.insert_reserved-ix.new.self.slots c.insert_reserved-ix.result c.args.item c.self.invariant.sound (rw (← c.self.view_is) at c.requires.free) c.insert_reserved-ix.ensures.members
 
 pub returns-clause-items : goal.returns-clause-items
 returns-clause-items g c = rw (← c.self.view_is) (IsPermutation-map (λ m. m.1) _ _ c.insert_reserved-ix.ensures.members)

@@ -1,0 +1,10 @@
+use Rattle.std.proofs.Common.{rules, ◌≡◌, true}
+use Rattle.iddqd_bi.proofs.MapLemmas.{clash-both}
+use Rattle.iddqd_bi.proofs.entry.VacantEntry.insert.Goals as goal
+
+pub put_free-requires : goal.put_free-requires
+put_free-requires g c =
+    let v = c.args.self in
+    let same1 : g.T.K1.PartialEq.eq (g.Q.Keys.first v.keys) (g.T.BiHashItem.key1 c.args.item) ≡ true = search rules in
+    let same2 : g.T.K2.PartialEq.eq (g.Q.Keys.second v.keys) (g.T.BiHashItem.key2 c.args.item) ≡ true = search rules in
+    record { free = clash-both g.T.BiHashItem g.T.K1.PartialEq.eq g.T.K2.PartialEq.eq g.met.T.K1.Eq.laws g.met.T.K2.Eq.laws c.args.item _ _ same1 same2 _ v.vacant }
