@@ -1,4 +1,5 @@
 -- Steps and runs: what they keep, and worked rows.
+pub mod EntrySteps
 pub mod Extending
 pub mod Runs
 pub mod StepRows

@@ -7,7 +7,7 @@ use Rattle.iddqd_bi.proofs.map.BiHashMap.run.Goals as goal
 
 pub loop-command-preserved : goal.loop-command-preserved
 loop-command-preserved g c =
-    let step = Step g.T.BiHashItem g.T.K1.PartialEq.eq g.T.K2.PartialEq.eq in
+    let step = Step g.T.BiHashItem g.T.K1.PartialEq.eq g.T.K2.PartialEq.eq g.T.BiHashItemMut.put in
     record {
       completes = λ answer new after rest.
           c.loop-command.invariant.completes answer new after
@@ -19,7 +19,7 @@ loop-command-preserved g c =
 
 pub returns-in_err-apply-clause-run : goal.returns-in_err-apply-clause-run
 returns-in_err-apply-clause-run g c =
-    let step = Step g.T.BiHashItem g.T.K1.PartialEq.eq g.T.K2.PartialEq.eq in
+    let step = Step g.T.BiHashItem g.T.K1.PartialEq.eq g.T.K2.PartialEq.eq g.T.BiHashItemMut.put in
     c.loop-command.invariant.completes c.from_residual.result (state_of c.apply.new.self) c.apply.new.sink
     (run_ends step g.K.BiSink.took (state_of c.loop-command.self) (state_of c.apply.new.self) c.loop-command.sink c.apply.new.sink
     (into_iter_items c.loop-command.command-iterator) (into_iter_items c.next.new.self) c.in-Some.command c.apply.result c.from_residual.result c.in_err-apply.field-0.0

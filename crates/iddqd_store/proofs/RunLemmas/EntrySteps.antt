@@ -1,0 +1,35 @@
+-- Steps of commands on entries, from what an entry's calls say.
+use Rattle.std.specs.Prelude.{◌≡◌, ◌<◌, ◌≤◌, Bool, List, [], ◌∷◌, length, None, IsPermutation}
+use Rattle.std.proofs.Common.{sym, subst, ◌∙◌, arith}
+use Rattle.iddqd_store.specs.Bag.{Ranks, clash, differ, listing, over}
+use Rattle.iddqd_store.specs.Rank.Keys.{AreKeyTests}
+use Rattle.iddqd_store.specs.Runs.Reply.{done, displaced}
+use Rattle.iddqd_store.specs.Runs.Step.{State, EntryInserts, OrInserts}
+use Rattle.iddqd_store.proofs.BagLemmas.Differ.{differ-none}
+use Rattle.iddqd_store.proofs.BagLemmas.KeyTests.{clash-keys, order-keys}
+use Rattle.iddqd_store.proofs.BagLemmas.Steps.{order-empty}
+use Rattle.iddqd_store.proofs.BagLemmas.Theory.{over-apart}
+
+-- where the keys find nothing, nothing conflicts with an item that has them
+free : {T : Type 0} (ranks : Ranks T) (tests : List (T → Bool)) → AreKeyTests ranks tests → (bag : List T) (x : T) → differ tests x ≡ None → listing tests bag ≡ [] → clash ranks bag x ≡ []
+free ranks tests keys bag x same none = clash-keys ranks tests x keys (differ-none tests x same) bag none
+
+-- x has the keys of the entry
+module _ {T : Type 0} (D : Type 0) (ranks : Ranks T) (tests : List (T → Bool)) (keys : AreKeyTests ranks tests) (old new : State T) (x : T) (same : differ tests x ≡ None) where
+  -- it went in through a vacant entry
+  module _ (vacant : listing tests old.items ≡ []) (put : IsPermutation new.items (x ∷ old.items)) (no_less : old.capacity ≤ new.capacity) (same_room : length old.items < old.capacity → new.capacity ≡ old.capacity) where
+    pub or_inserts_vacant : OrInserts {D = D} ranks tests old x done new
+    or_inserts_vacant = (vacant, same, (free ranks tests keys old.items x same vacant, put, no_less, same_room))
+
+    pub entry_inserts_vacant : (gone : List T) → gone ≡ [] → EntryInserts {D = D} ranks tests old x (displaced gone) new
+    entry_inserts_vacant gone none =
+        let clear = free ranks tests keys old.items x same vacant in
+        let apart = order-empty ranks old.items x clear in
+        let went_in : IsPermutation new.items (over ranks old.items x) = subst (IsPermutation new.items) (sym (over-apart ranks old.items x apart)) put in
+        (same, (none ∙ sym apart, went_in, no_less, same_room, λ some. absurd (some clear)))
+
+  -- it went in through an occupied entry
+  pub entry_inserts_occupied : (gone : List T) → gone ≡ listing tests old.items → IsPermutation new.items (over ranks old.items x) → new.capacity ≡ old.capacity → EntryInserts {D = D} ranks tests old x (displaced gone) new
+  entry_inserts_occupied gone is put capacity =
+      let listed = order-keys ranks tests x keys (differ-none tests x same) old.items in
+      (same, (is ∙ sym listed, put, omega (arith, capacity), (λ room. capacity), λ some. capacity))
