@@ -1,4 +1,5 @@
 pub mod Entries
+pub mod IterMuts
 pub mod Keys
 pub mod Lent
 pub mod Mismatch

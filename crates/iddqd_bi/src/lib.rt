@@ -5,6 +5,7 @@ mod command;
 mod entry;
 mod error;
 mod item;
+mod iter_mut;
 mod map;
 mod pointers;
 mod ranks;
@@ -14,6 +15,7 @@ pub use command::{BiCommand, BiReply, BiSink};
 pub use entry::{Entry, KeyPair, Keys, OccupiedEntry, OccupiedEntryMut, OccupiedEntryRef, VacantEntry};
 pub use error::{DuplicateError, EntryError, FromIterError, InsertError, KeyMismatch, MemoryError};
 pub use item::{BiHashItem, BiHashItemMut};
+pub use iter_mut::IterMut;
 pub use map::{BiHashMap, DefaultHashBuilder};
 pub use ref_mut::RefMut;
 

@@ -1,8 +1,8 @@
 //! Items in slots.
-ghost use Rattle.std.specs.Prelude.{◌≡◌, ◌+◌, ◌-◌, ◌<◌, ◌≤◌, ◌^◌, [], ◌∷◌, IsSome, OnSome, IfNone, IfSome, is_some, MatchOption, OnOk, OnErr, Some, IsPermutation, option_copied, length, ℕ, None, slice_set};
+ghost use Rattle.std.specs.Prelude.{◌≡◌, ◌+◌, ◌-◌, ◌<◌, ◌≤◌, ◌^◌, [], ◌∷◌, IsSome, OnSome, IfNone, IfSome, is_some, MatchOption, OnOk, OnErr, Some, IsPermutation, option_copied, drop, length, ℕ, None, slice_set};
 ghost use Rattle.std.specs.Option.{option_copied_mut};
 ghost use Rattle.std.specs.Borrow.{Lends, sem};
-ghost use Rattle.iddqd_store.specs.Slots.{get, IsLive, live_count, members, Updates, Exchanges, NextLive};
+ghost use Rattle.iddqd_store.specs.Slots.{get, items_in, IsLive, live_count, members, Updates, Exchanges, NextLive};
 ghost use Rattle.iddqd_store.specs.Slots.Chain.{item_of};
 
 mod build;
@@ -168,6 +168,19 @@ impl<T> ItemSet<T> {
             }
         }
         None
+    }
+
+    /// How many slots are live from this number on. It looks at each of them.
+    pub fn count_from(&self, from: usize) -> usize
+        ensures { result ≡ length (items_in (drop from self.now.slots)) }
+    {
+        let mut count = 0;
+        for number in from..self.slots.len() {
+            if self.is_live(ItemIndex::new(number)) {
+                count += 1;
+            }
+        }
+        count
     }
 
     /// Makes room for so many more items. It takes no memory where they fit already, and is refused only where memory

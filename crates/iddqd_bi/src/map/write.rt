@@ -5,11 +5,13 @@ ghost use Rattle.std.specs.Option.{option_and_then};
 ghost use Rattle.iddqd_store.specs.Bag.{IsOnly};
 ghost use Rattle.iddqd_store.specs.Map.{bag};
 ghost use Rattle.iddqd_store.specs.Map.Walk.{Passes, to_come};
+ghost use Rattle.iddqd_bi.specs.IterMuts.{done_of, rest_of};
 ghost use Rattle.iddqd_bi.specs.Keys.{has1, has2, has_both};
 ghost use Rattle.iddqd_bi.specs.RefMuts.{ref_lender, ref_map, ref_item, ref_with, rests_if_none};
 
 use super::BiHashMap;
 use crate::item::BiHashItem;
+use crate::iter_mut::IterMut;
 use crate::ref_mut::RefMut;
 use iddqd_store::Cursor;
 use std::hash::{BuildHasher, Hash};
@@ -86,5 +88,15 @@ impl<T: BiHashItem, S: BuildHasher> BiHashMap<T, S> {
             }
             None => None,
         }
+    }
+
+    /// Each item once, for writing, in no promised order. It takes no memory.
+    pub fn iter_mut(&mut self) -> IterMut<'_, T, S>
+        ensures same_map { result.map.ghost_name ≡ self.entry.ghost_name }
+        ensures unchanged { result.map.now ≡ self.old }
+        ensures start { done_of result ≡ [] }
+        ensures items { rest_of result ≡ bag self.old }
+    {
+        IterMut { map: self, next: 0 }
     }
 }

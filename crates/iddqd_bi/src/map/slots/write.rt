@@ -1,5 +1,5 @@
 //! Writing the item of a slot.
-ghost use Rattle.std.specs.Prelude.{◌≡◌, [], ◌∷◌, true, drop, Some, IsPermutation, IfSome, IfNone, is_some, ◌+◌};
+ghost use Rattle.std.specs.Prelude.{◌≡◌, [], ◌∷◌, true, length, Some, IsPermutation, IfSome, IfNone, is_some, ◌+◌};
 ghost use Rattle.std.specs.Borrow.{sem};
 ghost use Rattle.std.specs.Fn.{CalledAt};
 ghost use Rattle.iddqd_store.specs.Bag.{swap};
@@ -36,6 +36,13 @@ impl<T: BiHashItem, S: BuildHasher> BiHashMap<T, S> {
             (swap (ranks T.BiHashItem T.K1.eq T.K2.eq) (bag self.old) result item) }
     {
         self.items.replace(ix, item)
+    }
+
+    /// How many items stand in slots of this number or a higher one.
+    pub(crate) fn count_from(&self, from: usize) -> usize
+        ensures { result ≡ length (to_come self.now from) }
+    {
+        self.items.count_from(from)
     }
 
     /// The first slot with an item of this number or a higher one.
