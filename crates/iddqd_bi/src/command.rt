@@ -62,8 +62,7 @@ pub enum BiCommand<T: BiHashItemMut> {
 }
 
 /// What a command answers. It may lend items of the map.
-pub type BiReply<'m, T> =
-    MapReply<'m, T, <T as BiHashItemMut>::Data, UpToTwo<&'m T>, UpToTwo<T>>;
+pub type BiReply<'m, T> = MapReply<'m, T, <T as BiHashItemMut>::Data, UpToTwo<&'m T>, UpToTwo<T>>;
 
 /// What takes the replies of a run, one by one.
 pub trait BiSink<T: BiHashItemMut> {
