@@ -1,5 +1,5 @@
 -- The step of a command that writes an item's data.
-use Rattle.std.specs.Prelude.{◌≡◌, Bool, true, List, Option, Some, None, IfSome, IsPermutation, is_some}
+use Rattle.std.specs.Prelude.{◌≡◌, Bool, true, Option, Some, None, IfSome, IsPermutation, is_some}
 use Rattle.iddqd_store.specs.Bag.{Ranks, IsOnly, swap}
 use Rattle.iddqd_store.specs.Runs.Reply.{done}
 use Rattle.iddqd_store.specs.Runs.Step.{State, Sets}
