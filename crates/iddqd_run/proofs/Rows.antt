@@ -91,7 +91,7 @@ keys_without_an_item = refl
 
 -- items by their first keys
 abbrev item : ℕ → ℕ → BiItem
-item key value = record { key1 = key; key2 = value; value = value }
+item k value = record { key1 = k; key2 = value; value = value }
 
 sorted_items : by_first_key (item 3 0 ∷ item 2 1 ∷ item 3 2 ∷ item 2 3 ∷ []) ≡ item 2 1 ∷ item 2 3 ∷ item 3 0 ∷ item 3 2 ∷ []
 sorted_items = refl

@@ -78,56 +78,109 @@ pub fn word_of(bytes: &[u8]) -> Option<Word>
 pub fn command_of(word: Word, numbers: &[u64]) -> Option<BiCommand<BiItem>>
     ensures { result ≡ command_of word numbers.now }
 {
-    match (word, numbers) {
-        (Word::New, [key1, key2, value]) => Some(BiCommand::InsertUnique(BiItem {
-            key1: *key1,
-            key2: *key2,
-            value: *value,
-        })),
-        (Word::Get1, [key]) => Some(BiCommand::Get1(*key)),
-        (Word::Get2, [key]) => Some(BiCommand::Get2(*key)),
-        (Word::Del1, [key]) => Some(BiCommand::Remove1(*key)),
-        (Word::Both, [key1, key2]) => Some(BiCommand::GetUnique(*key1, *key2)),
-        (Word::Del2, [key]) => Some(BiCommand::Remove2(*key)),
-        (Word::DelBoth, [key1, key2]) => Some(BiCommand::RemoveUnique(*key1, *key2)),
-        (Word::Len, []) => Some(BiCommand::Len),
-        (Word::Put, [key1, key2, value]) => Some(BiCommand::InsertOverwrite(BiItem {
-            key1: *key1,
-            key2: *key2,
-            value: *value,
-        })),
-        (Word::Reserve, [more]) => Some(BiCommand::Reserve(*more as usize)),
-        (Word::Fit, []) => Some(BiCommand::ShrinkToFit),
-        (Word::Clear, []) => Some(BiCommand::Clear),
-        (Word::List, []) => Some(BiCommand::Items),
-        (Word::Replace1, [key, item1, item2, value]) => Some(BiCommand::Replace1(
-            *key,
-            BiItem {
-                key1: *item1,
-                key2: *item2,
+    match word {
+        Word::New => match numbers {
+            [key1, key2, value] => Some(BiCommand::InsertUnique(BiItem {
+                key1: *key1,
+                key2: *key2,
                 value: *value,
-            },
-        )),
-        (Word::Set1, [key, value]) => Some(BiCommand::Set1(*key, *value)),
-        (Word::EntPut, [key1, key2, item1, item2, value]) => Some(BiCommand::EntryInsert(
-            *key1,
-            *key2,
-            BiItem {
-                key1: *item1,
-                key2: *item2,
+            })),
+            _ => None,
+        },
+        Word::Get1 => match numbers {
+            [key] => Some(BiCommand::Get1(*key)),
+            _ => None,
+        },
+        Word::Get2 => match numbers {
+            [key] => Some(BiCommand::Get2(*key)),
+            _ => None,
+        },
+        Word::Del1 => match numbers {
+            [key] => Some(BiCommand::Remove1(*key)),
+            _ => None,
+        },
+        Word::Both => match numbers {
+            [key1, key2] => Some(BiCommand::GetUnique(*key1, *key2)),
+            _ => None,
+        },
+        Word::Del2 => match numbers {
+            [key] => Some(BiCommand::Remove2(*key)),
+            _ => None,
+        },
+        Word::DelBoth => match numbers {
+            [key1, key2] => Some(BiCommand::RemoveUnique(*key1, *key2)),
+            _ => None,
+        },
+        Word::Len => match numbers {
+            [] => Some(BiCommand::Len),
+            _ => None,
+        },
+        Word::Put => match numbers {
+            [key1, key2, value] => Some(BiCommand::InsertOverwrite(BiItem {
+                key1: *key1,
+                key2: *key2,
                 value: *value,
-            },
-        )),
-        (Word::EntDel, [key1, key2]) => Some(BiCommand::EntryRemove(*key1, *key2)),
-        (Word::OrPut, [key1, key2, item1, item2, value]) => Some(BiCommand::OrInsert(
-            *key1,
-            *key2,
-            BiItem {
-                key1: *item1,
-                key2: *item2,
-                value: *value,
-            },
-        )),
-        _ => None,
+            })),
+            _ => None,
+        },
+        Word::Reserve => match numbers {
+            [more] => Some(BiCommand::Reserve(*more as usize)),
+            _ => None,
+        },
+        Word::Fit => match numbers {
+            [] => Some(BiCommand::ShrinkToFit),
+            _ => None,
+        },
+        Word::Clear => match numbers {
+            [] => Some(BiCommand::Clear),
+            _ => None,
+        },
+        Word::List => match numbers {
+            [] => Some(BiCommand::Items),
+            _ => None,
+        },
+        Word::Replace1 => match numbers {
+            [key, item1, item2, value] => Some(BiCommand::Replace1(
+                *key,
+                BiItem {
+                    key1: *item1,
+                    key2: *item2,
+                    value: *value,
+                },
+            )),
+            _ => None,
+        },
+        Word::Set1 => match numbers {
+            [key, value] => Some(BiCommand::Set1(*key, *value)),
+            _ => None,
+        },
+        Word::EntPut => match numbers {
+            [key1, key2, item1, item2, value] => Some(BiCommand::EntryInsert(
+                *key1,
+                *key2,
+                BiItem {
+                    key1: *item1,
+                    key2: *item2,
+                    value: *value,
+                },
+            )),
+            _ => None,
+        },
+        Word::EntDel => match numbers {
+            [key1, key2] => Some(BiCommand::EntryRemove(*key1, *key2)),
+            _ => None,
+        },
+        Word::OrPut => match numbers {
+            [key1, key2, item1, item2, value] => Some(BiCommand::OrInsert(
+                *key1,
+                *key2,
+                BiItem {
+                    key1: *item1,
+                    key2: *item2,
+                    value: *value,
+                },
+            )),
+            _ => None,
+        },
     }
 }
