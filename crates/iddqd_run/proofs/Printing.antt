@@ -30,15 +30,15 @@ pub items_past : (items : List BiItem) (i : ℕ) (line word all end new : List �
 items_past items i line word all end new h n r =
     n ∙ ap (λ (xs : List ℕ). xs ++ end) (sym (append-nil line) ∙ (ap (λ (xs : List BiItem). line ++ items_text xs) (sym (drop_of_length-le items {i = i} h)) ∙ r))
 
--- the words of a rank, counted from 0
-pub first_key_word : (xs : List ℕ) → codes "key" ++ decimal (0 + 1) ++ codes " " ++ xs ≡ codes "key1 " ++ xs
+-- the words of the ranks
+pub first_key_word : codes "key" ++ decimal (0 + 1) ++ codes " " ≡ codes "key1 "
 unfolding digits
-first_key_word xs = refl
+first_key_word = refl
 
-pub second_key_word : (xs : List ℕ) → codes "key" ++ decimal (1 + 1) ++ codes " " ++ xs ≡ codes "key2 " ++ xs
+pub second_key_word : codes "key" ++ decimal (1 + 1) ++ codes " " ≡ codes "key2 "
 unfolding digits
-second_key_word xs = refl
+second_key_word = refl
 
-pub third_key_word : (xs : List ℕ) → codes "key" ++ decimal (2 + 1) ++ codes " " ++ xs ≡ codes "key3 " ++ xs
+pub third_key_word : codes "key" ++ decimal (2 + 1) ++ codes " " ≡ codes "key3 "
 unfolding digits
-third_key_word xs = refl
+third_key_word = refl

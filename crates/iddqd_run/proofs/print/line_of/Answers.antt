@@ -7,14 +7,14 @@ use Rattle.iddqd_run.proofs.print.line_of.Goals as goal
 pub returns-in-Key1 : goal.returns-in-Key1
 returns-in-Key1 c =
     rw c.in-Key1.is
-    (subst (λ (text : List ℕ). IfOk c.format-in-Key1.result (λ line. string_bytes line ≡ text)) (sym (first_key_word (printed c.in-Key1.item ++ codes "\n"))) (search rules))
+    (subst (λ (word : List ℕ). IfOk c.format-in-Key1.result (λ line. string_bytes line ≡ word ++ printed c.in-Key1.item ++ codes "\n")) (sym first_key_word) (search rules))
 
 pub returns-in-Key2 : goal.returns-in-Key2
 returns-in-Key2 c =
     rw c.in-Key2.is
-    (subst (λ (text : List ℕ). IfOk c.format-in-Key2.result (λ line. string_bytes line ≡ text)) (sym (second_key_word (printed c.in-Key2.item ++ codes "\n"))) (search rules))
+    (subst (λ (word : List ℕ). IfOk c.format-in-Key2.result (λ line. string_bytes line ≡ word ++ printed c.in-Key2.item ++ codes "\n")) (sym second_key_word) (search rules))
 
 pub returns-in-Key3 : goal.returns-in-Key3
 returns-in-Key3 c =
     rw c.in-Key3.is
-    (subst (λ (text : List ℕ). IfOk c.format-in-Key3.result (λ line. string_bytes line ≡ text)) (sym (third_key_word (printed c.in-Key3.item ++ codes "\n"))) (search rules))
+    (subst (λ (word : List ℕ). IfOk c.format-in-Key3.result (λ line. string_bytes line ≡ word ++ printed c.in-Key3.item ++ codes "\n")) (sym third_key_word) (search rules))
