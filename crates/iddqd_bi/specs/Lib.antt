@@ -11,7 +11,10 @@ pub mod Step
 -- the words of the store that the map's clauses cite
 pub use Rattle.iddqd_store.specs.Bag
 pub use Rattle.iddqd_store.specs.Bag.Building
+pub use Rattle.iddqd_store.specs.Bag.Storing
 pub use Rattle.iddqd_store.specs.Map
+pub use Rattle.iddqd_store.specs.Map.Walk
+pub use Rattle.iddqd_store.specs.Map.Written
 pub use Rattle.iddqd_store.specs.Rank
 pub use Rattle.iddqd_store.specs.Runs.Reply
 pub use Rattle.iddqd_store.specs.Runs.Run

@@ -1,5 +1,5 @@
--- What a caller of a map cites: from a lookup's clause to membership and back, a lookup after an insert or a removal, and lengths.
-use Rattle.std.specs.Prelude.{◌≡◌, zero, suc, ◌+◌, Bool, true, false, cond, List, [], ◌∷◌, ◌++◌, length, filter, IsPermutation, Contains, Option, Some, None}
+-- What a caller of a map cites: from a lookup's clause to membership and back, a lookup after an insert or a removal, lengths, and walks.
+use Rattle.std.specs.Prelude.{◌≡◌, ℕ, zero, suc, ◌+◌, Bool, true, false, cond, List, [], ◌∷◌, ◌++◌, length, filter, IsPermutation, Contains, Option, Some, None}
 use Rattle.std.specs.List.{IsDistinct, list_any}
 use Rattle.std.specs.Option.{option_to_list}
 use Rattle.std.specs.Cmp.{IsEquivalence}
@@ -7,11 +7,15 @@ use Rattle.std.proofs.Common.{refl, sym, ap, subst, ◌∙◌, arith}
 use Rattle.std.proofs.lemmas.Map.Keys.{IsDistinct-head}
 use Rattle.std.proofs.lemmas.List.Sorted.{IsPermutation-sym, length_permutation, Contains-permutation}
 use Rattle.iddqd_store.specs.Bag.{Ranks, AreLawful, IsSound, NamesOne, clash, order, over}
+use Rattle.iddqd_store.specs.Map.{Map, bag}
+use Rattle.iddqd_store.specs.Map.Walk.{passed, to_come}
 use Rattle.iddqd_store.proofs.BagLemmas.Exchanges.{split, IsPermutation-filter}
 use Rattle.iddqd_store.proofs.BagLemmas.Sound.{IsSound-rank, named_is, none_pass, each_weaker, NamesOne-apart, Contains-filter, IsSound-IsPermutation, named-IsPermutation, length-over}
 use Rattle.iddqd_store.proofs.BagLemmas.Steps.{length-clash}
 use Rattle.iddqd_store.proofs.RankLemmas.Index.{Contains-here, Contains-cons}
 use Rattle.iddqd_store.proofs.BagLemmas.Unique.{any_listed, some_item}
+use Rattle.iddqd_store.proofs.SlotLemmas.Chain.{live_items-items_in}
+use Rattle.iddqd_store.proofs.SlotLemmas.Next.{before_and_behind}
 
 -- a member that passes
 abbrev Passes : {T : Type 0} → (T → Bool) → List T → T → Type 0
@@ -96,3 +100,7 @@ length-inserted old new x went_in = sym (length_permutation new (x ∷ old) went
 pub length-overwritten_by : {T : Type 0} (ranks : Ranks T) (old new : List T) (x : T) → IsPermutation new (over ranks old x) → length new + length (order ranks old x) ≡ length old + 1
 length-overwritten_by ranks old new x went_in =
     omega (arith, length_permutation new (over ranks old x) went_in, length-over ranks old x, length-clash ranks old x)
+
+-- the items before a place of a walk, and those behind it, are all there are
+pub passed-to_come : {T S : Type 0} (m : Map T S) (at : ℕ) → bag m ≡ passed m at ++ to_come m at
+passed-to_come m at = live_items-items_in m.slots ∙ sym (before_and_behind m.slots at)

@@ -3,12 +3,20 @@
 
 mod building;
 mod devices;
+mod entries;
 mod finding;
 mod inserting;
 mod users;
+mod walking;
+mod writing;
 
 pub use building::extend_by_vec;
 pub use devices::{Device, at_port, plug_in, watts};
+pub use entries::{
+    insert_through, modify_both, or_insert_and_write, overwrite_through, remove_through,
+};
 pub use finding::{count_all, put_and_find, remove_and_find};
 pub use inserting::{count_conflicts, insert_both, insert_or_back, insert_or_drop};
 pub use users::{User, by_login, register};
+pub use walking::{write_all, write_first};
+pub use writing::{replace1, write1};

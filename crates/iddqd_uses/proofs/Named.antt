@@ -1,0 +1,16 @@
+-- What is known of the one item that a key names.
+use Rattle.std.specs.Prelude.{◌≡◌, List, [], ◌∷◌, Option, Some, None, IfSome, IsPermutation}
+use Rattle.std.proofs.Common.{subst}
+use Rattle.std.specs.Option.{option_to_list}
+use Rattle.iddqd_bi.specs.Bag.{Ranks, swap}
+use Rattle.iddqd_bi.specs.Map.{Map, bag}
+
+-- what holds of the item that is found holds of the one that the key names
+only_holds : {X : Type 0} (P : X → Type 0) (o : Option X) (x : X) (xs : List X) → option_to_list o ≡ xs → x ∷ [] ≡ xs → IfSome o P → P x
+only_holds P None x xs is only h = absurd (cc (is, only))
+only_holds P (Some y) x xs is only h = let same : y ≡ x = cc (is, only) in subst P same h
+
+-- so where the item that is found was written
+pub only_written : {T S : Type 0} (by : Ranks T) (write : T → T) (old there : Map T S) (new : List T) (found : Option T) (x : T) (xs : List T) → there ≡ old → option_to_list found ≡ xs → x ∷ [] ≡ xs → IfSome found (λ y. IsPermutation new (swap by (bag there) y (write y))) → IsPermutation new (swap by (bag old) x (write x))
+only_written {T} {S} by write old there new found x xs same is only h =
+    subst (λ (m : Map T S). IsPermutation new (swap by (bag m) x (write x))) same (only_holds (λ y. IsPermutation new (swap by (bag there) y (write y))) found x xs is only h)

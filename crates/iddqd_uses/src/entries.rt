@@ -1,0 +1,119 @@
+//! What a caller knows of a map after the calls of an entry.
+ghost use Rattle.std.specs.Prelude.{◌≡◌, ◌∷◌, ◌++◌, IsPermutation, OnOk, OnErr, IfErr};
+ghost use Rattle.std.specs.Bool.{OnTrue, OnFalse};
+ghost use Rattle.std.specs.Fn.{CalledAt};
+ghost use Rattle.iddqd_bi.specs.Bag.{entry, listing, over};
+ghost use Rattle.iddqd_bi.specs.Storing.{Stores};
+ghost use Rattle.iddqd_bi.specs.Map.{bag};
+ghost use Rattle.iddqd_bi.specs.Keys.{key_tests, ranks};
+ghost use Rattle.iddqd_bi.specs.Mismatch.{error_item};
+ghost use Rattle.iddqd_uses.specs.Entering.{WritesEntry};
+
+use iddqd_bi::{BiHashItem, BiHashItemMut, BiHashMap, Entry, EntryError};
+use std::hash::{BuildHasher, Hash};
+
+/// Puts an item in through an entry. It is handed back where it is refused, and where an item has one of the keys.
+pub fn insert_through<'a, T: BiHashItem, S: BuildHasher>(
+    map: &'a mut BiHashMap<T, S>,
+    key1: &'a T::K1,
+    key2: &'a T::K2,
+    item: T,
+) -> Result<(), EntryError<T>>
+    ensures gains { OnOk result (IsPermutation (bag map.new) (item ∷ bag map.old)) }
+    ensures kept { OnErr result (map.new ≡ map.old) }
+    ensures handed_back { IfErr result (λ e. error_item e ≡ item) }
+{
+    match map.entry(key1, key2) {
+        Entry::Vacant(v) => match v.insert(item) {
+            Ok(_r) => return Ok(()),
+            Err(e) => return Err(e),
+        },
+        Entry::Occupied(_o) => return Err(EntryError::Key1(item)),
+    }
+}
+
+/// Puts an item in the place of those that have one of two keys, and says whether it went in.
+pub fn overwrite_through<'a, T: BiHashItem + Drop, S: BuildHasher>(
+    map: &'a mut BiHashMap<T, S>,
+    key1: &'a T::K1,
+    key2: &'a T::K2,
+    item: T,
+) -> bool
+    ensures went_in { OnTrue result (IsPermutation (bag map.new)
+        (over (ranks T.BiHashItem T.K1.eq T.K2.eq) (bag map.old) item)) }
+    ensures kept { OnFalse result (map.new ≡ map.old) }
+{
+    match map.entry(key1, key2) {
+        Entry::Vacant(_v) => return false,
+        Entry::Occupied(mut o) => match o.insert(item) {
+            Ok(_gone) => return true,
+            Err(_e) => return false,
+        },
+    }
+}
+
+/// Takes out what has one of two keys, and says whether there was something.
+pub fn remove_through<'a, T: BiHashItem + Drop, S: BuildHasher>(
+    map: &'a mut BiHashMap<T, S>,
+    key1: &'a T::K1,
+    key2: &'a T::K2,
+) -> bool
+    ensures taken { OnTrue result (IsPermutation (bag map.old)
+        (listing (key_tests T.BiHashItem T.K1.eq T.K2.eq key1.now key2.now) (bag map.old) ++ bag map.new)) }
+    ensures none { OnFalse result (map.new ≡ map.old) }
+{
+    match map.entry(key1, key2) {
+        Entry::Vacant(_v) => return false,
+        Entry::Occupied(o) => {
+            let _gone = o.remove();
+            return true;
+        }
+    }
+}
+
+/// Stores what `f` answers at each item that has one of two keys as its data.
+pub fn modify_both<'a, T: BiHashItemMut, S: BuildHasher, F: FnMut(&T) -> T::Data>(
+    map: &'a mut BiHashMap<T, S>,
+    key1: &'a T::K1,
+    key2: &'a T::K2,
+    f: F,
+)
+where
+    T::Data: Drop,
+    F: Drop,
+    requires callable { F.IsAlwaysCallable f }
+    ensures { Stores (CalledAt F.FnMut) T.put (ranks T.BiHashItem T.K1.eq T.K2.eq) f
+        (listing (key_tests T.BiHashItem T.K1.eq T.K2.eq key1.now key2.now) (bag map.old)) (bag map.old)
+        (bag map.new) }
+{
+    match map.entry(key1, key2).and_modify(f) {
+        Entry::Vacant(_v) => return,
+        Entry::Occupied(_o) => return,
+    }
+}
+
+/// Puts an item in where no item has one of two keys. Then it writes data into the item that has both, if there is one.
+pub fn or_insert_and_write<'a, T: BiHashItemMut + Drop, S: BuildHasher>(
+    map: &'a mut BiHashMap<T, S>,
+    key1: &'a T::K1,
+    key2: &'a T::K2,
+    item: T,
+    d: T::Data,
+) -> Result<(), EntryError<T>>
+where
+    T::Data: Drop,
+    ensures granted { OnOk result (WritesEntry (ranks T.BiHashItem T.K1.eq T.K2.eq) (λ x. T.put x d) (bag map.old) item
+        (entry (key_tests T.BiHashItem T.K1.eq T.K2.eq key1.now key2.now) (bag map.old)) (bag map.new)) }
+    ensures handed_back { IfErr result (λ e. error_item e ≡ item) }
+{
+    match map.entry(key1, key2).or_insert(item) {
+        Ok(held) => {
+            if let Some(mut found) = held.into_unique() {
+                *found.data_mut() = d;
+                return Ok(());
+            }
+            return Ok(());
+        }
+        Err(e) => return Err(e),
+    }
+}

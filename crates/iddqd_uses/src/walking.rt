@@ -1,0 +1,36 @@
+//! What a caller knows of a map whose items were written in a walk.
+ghost use Rattle.std.specs.Prelude.{◌≡◌, ◌∷◌, List, IsPermutation};
+ghost use Rattle.std.specs.Prelude.{map as each};
+ghost use Rattle.std.specs.Bool.{OnTrue, OnFalse};
+ghost use Rattle.iddqd_bi.specs.Map.{bag};
+
+use iddqd_bi::{BiHashItemMut, BiHashMap, Cursor};
+use std::hash::{BuildHasher, Hash};
+
+/// Writes the same data into every item.
+pub fn write_all<T: BiHashItemMut, S: BuildHasher>(map: &mut BiHashMap<T, S>, d: T::Data)
+where
+    T::Data: Drop + Copy,
+    ensures { IsPermutation (bag map.new) (each (λ x. T.put x d) (bag map.old)) }
+{
+    let mut at = Cursor::new();
+    while let Some(mut item) = map.next_from(&mut at) {
+        *item.data_mut() = d;
+    }
+}
+
+/// Writes the data of the first item of a walk, and says whether there is one.
+pub fn write_first<T: BiHashItemMut, S: BuildHasher>(map: &mut BiHashMap<T, S>, d: T::Data) -> bool
+where
+    T::Data: Drop,
+    ensures some { OnTrue result ((x : T) × (rest : List T) × (bag map.old ≡ x ∷ rest)
+        × (bag map.new ≡ T.put x d ∷ rest)) }
+    ensures none { OnFalse result (bag map.new ≡ bag map.old) }
+{
+    let mut walk = map.iter_mut();
+    if let Some(data) = walk.next_data() {
+        *data = d;
+        return true;
+    }
+    return false;
+}

@@ -1,0 +1,43 @@
+//! What a caller knows of a map in which an item was written.
+ghost use Rattle.std.specs.Prelude.{◌≡◌, Some, None, IsPermutation, IfOk, IfErr, OnErr};
+ghost use Rattle.iddqd_bi.specs.Bag.{IsOnly, swap};
+ghost use Rattle.iddqd_bi.specs.Map.{bag};
+ghost use Rattle.iddqd_bi.specs.Keys.{has1, ranks};
+
+use iddqd_bi::{BiHashItem, BiHashItemMut, BiHashMap, KeyMismatch};
+use std::hash::{BuildHasher, Hash};
+
+/// Writes the data of the item with a first key, if there is one.
+pub fn write1<T: BiHashItemMut, S: BuildHasher>(map: &mut BiHashMap<T, S>, key: &T::K1, d: T::Data)
+where
+    T::Data: Drop,
+    ensures present { (x : T) → IsOnly (has1 T.BiHashItem T.K1.eq key.now) (bag map.old) (Some x)
+        → IsPermutation (bag map.new) (swap (ranks T.BiHashItem T.K1.eq T.K2.eq) (bag map.old) x (T.put x d)) }
+    ensures absent { IsOnly (has1 T.BiHashItem T.K1.eq key.now) (bag map.old) None → map.new ≡ map.old }
+{
+    if let Some(mut item) = map.get1_mut(key) {
+        *item.data_mut() = d;
+    }
+}
+
+/// Puts an item in the place of the one with a first key, which it gives back. Else it hands the item back.
+pub fn replace1<T: BiHashItem, S: BuildHasher>(
+    map: &mut BiHashMap<T, S>,
+    key: &T::K1,
+    item: T,
+) -> Result<T, T>
+    ensures replaced { IfOk result (λ x. IsPermutation (bag map.new)
+        (swap (ranks T.BiHashItem T.K1.eq T.K2.eq) (bag map.old) x item)) }
+    ensures only { IfOk result (λ x. IsOnly (has1 T.BiHashItem T.K1.eq key.now) (bag map.old) (Some x)) }
+    ensures kept { OnErr result (map.new ≡ map.old) }
+    ensures handed_back { IfErr result (λ x. x ≡ item) }
+{
+    match map.get1_mut(key) {
+        Some(mut found) => match found.replace(item) {
+            Ok(old) => return Ok(old),
+            Err(KeyMismatch::Key1(item)) => return Err(item),
+            Err(KeyMismatch::Key2(item)) => return Err(item),
+        },
+        None => return Err(item),
+    }
+}
