@@ -1,5 +1,5 @@
 -- What contracts say of entries.
-use Rattle.std.specs.Prelude.{◌≡◌, ◌≢◌, Bool, [], ◌∷◌, List, Option, Result, OnOk, OnErr, ⊤}
+use Rattle.std.specs.Prelude.{◌≡◌, ◌≢◌, Bool, [], ◌∷◌, List, Option, None, Result, IsOk, IfOk, IfErr, OnOk, OnErr, ⊤}
 use Rattle.std.specs.Option.{option_and_then, IfSome}
 use Rattle.std.specs.Borrow.{Fml, GName, RattleType, MutBor, LendsIf, follows, follows_so, name_if_ok}
 use Rattle.std.specs.HashMap.Lent.{HashMembers}
@@ -8,13 +8,14 @@ use Rattle.std.specs.declared.hash.Hash as hash
 use Rattle.std.specs.declared.hash.Hasher as hasher
 use Rattle.std.specs.declared.hash.BuildHasher as builder
 use mir.Syntax.{named}
-use Rattle.iddqd_store.specs.Bag.{IsOnly, entry, listing, vacant}
+use Rattle.iddqd_store.specs.Bag.{IsOnly, differ, entry, listing, unique, vacant}
 use Rattle.iddqd_store.specs.Bag as bags
-use Rattle.iddqd_store.specs.Map.{Map, bag}
+use Rattle.iddqd_store.specs.Map.{Map, bag, Gains, IsFullFor}
 use Rattle.iddqd_store.specs.Map.Written.{map_with_if}
 use Rattle.iddqd_store.specs.Slots.{get, IsLive}
 use Rattle.iddqd_store.specs.Slots.Found.{AreFound, entry_at, found_by_all, head_of, held_at}
-use Rattle.iddqd_bi.specs.Keys.{has1, has2, key_tests}
+use Rattle.iddqd_bi.specs.Keys.{has1, has2, key_tests, ranks}
+use Rattle.iddqd_bi.specs.Mismatch.{error_item, error_rank, OnNoMemory}
 use Rattle.iddqd_bi.specs.Refused.{map_row}
 use Rattle.iddqd_bi.specs.RefMuts.{ref_lender, rests_if_none}
 use Rattle.iddqd_bi.specs.declared.item.BiHashItem as item
@@ -24,6 +25,7 @@ use Rattle.iddqd_bi.specs.declared.entry.Entry.TheVariants.{Vacant, Occupied}
 use Rattle.iddqd_bi.specs.declared.entry.VacantEntry.{VacantEntry}
 use Rattle.iddqd_bi.specs.declared.entry.OccupiedEntry.{OccupiedEntry}
 use Rattle.iddqd_bi.specs.declared.entry.OccupiedEntryMut.{OccupiedEntryMut}
+use Rattle.iddqd_bi.specs.declared.error.EntryError.{EntryError}
 use Rattle.iddqd_bi.specs.declared.ref_mut.RefMut.{RefMut}
 use Rattle.iddqd_bi.specs.contracts.entry.OccupiedEntry.{the_row as occupied_row}
 use Rattle.iddqd_bi.specs.contracts.map.BiHashMap.{the_row as row_of_map}
@@ -71,6 +73,12 @@ module _ {T S K1 K2 H : Type 0} where
     pub by_key1 : IsOnly (has1 of eq1 o.key1.now) (bag o.map.now) (held1 m)
     pub by_key2 : IsOnly (has2 of eq2 o.key2.now) (bag o.map.now) (held2 m)
 
+  -- nothing changes where the entry is occupied, and what it found is held
+  pub record KeepsFound {E : Type 0} (of : item.Ghosts T K1 K2) (eq1 : K1 → K1 → Bool) (eq2 : K2 → K2 → Bool) (o : OccupiedEntry T S K1 K2 H) (result : Result (OccupiedEntryMut T S K1 K2 H) E) : Type 0 where
+    pub granted : IsOk result
+    pub unchanged : IfOk result (λ m. m.map.now ≡ o.map.now)
+    pub holds : HasFound of eq1 eq2 o → IfOk result (HoldsFound of eq1 eq2 o)
+
 module _ {T S Q K1 K2 H : Type 0} {of : item.Ghosts T K1 K2} {eq1 : equal.Ghosts K1} {input1 : hash.Ghosts K1} {eq2 : equal.Ghosts K2} {input2 : hash.Ghosts K2} {build : builder.Ghosts S H} {hashes : hasher.Ghosts H} {q : pair.Ghosts Q K1 K2} where
   -- the reference to the map
   abbrev pub entry_lender : Entry T S Q K1 K2 H of eq1 input1 eq2 input2 build hashes q → GName
@@ -105,6 +113,17 @@ module _ {T S Q K1 K2 H : Type 0} {of : item.Ghosts T K1 K2} {eq1 : equal.Ghosts
   abbrev pub OnOccupied : Entry T S Q K1 K2 H of eq1 input1 eq2 input2 build hashes q → (OccupiedEntry T S K1 K2 H → Type 0) → Type 0
   OnOccupied (Vacant e) P = ⊤
   OnOccupied (Occupied e) P = P e
+
+  -- the item went in where the entry is vacant, which holds it then; or it is refused for the lowest rank at which its
+  -- key is not the entry's, or else for want of memory
+  pub record PutsIn (e : VacantEntry T S Q K1 K2 H of eq1 input1 eq2 input2 build hashes q) (x : T) (result : Result (OccupiedEntryMut T S K1 K2 H) (EntryError T)) : Type 0 where
+    pub gains : IfOk result (λ m. Gains e.map.now x m.map.now)
+    pub holds : IfOk result Holds
+    pub unique_item : IfOk result (λ m. held_entry m ≡ unique x)
+    pub same_keys : OnOk result (differ (key_tests of eq1.eq eq2.eq (q.first e.keys) (q.second e.keys)) x ≡ None)
+    pub handed_back : IfErr result (λ error. error_item error ≡ x)
+    pub rank : IfErr result (λ error. differ (key_tests of eq1.eq eq2.eq (q.first e.keys) (q.second e.keys)) x ≡ error_rank error)
+    pub memory : IfErr result (λ error. OnNoMemory error (IsFullFor (ranks of eq1.eq eq2.eq) e.map.now x))
 
   -- an occupied entry has found what its keys name
   abbrev pub IsFound : Entry T S Q K1 K2 H of eq1 input1 eq2 input2 build hashes q → Type 0

@@ -12,7 +12,9 @@ mod ranks;
 mod ref_mut;
 
 pub use command::{BiCommand, BiReply, BiSink};
-pub use entry::{Entry, KeyPair, Keys, OccupiedEntry, OccupiedEntryMut, OccupiedEntryRef, VacantEntry};
+pub use entry::{
+    Entry, KeyPair, Keys, OccupiedEntry, OccupiedEntryMut, OccupiedEntryRef, VacantEntry,
+};
 pub use error::{DuplicateError, EntryError, FromIterError, InsertError, KeyMismatch, MemoryError};
 pub use item::{BiHashItem, BiHashItemMut};
 pub use iter_mut::IterMut;
@@ -21,6 +23,6 @@ pub use ref_mut::RefMut;
 
 // What the calls name of the parts that all maps share.
 pub use iddqd_store::{
-    Cursor, DuplicateItem, Equivalent, IntoIter, Iter, KeyMatcher, MemoryRefused, Meter, TryReserveError,
-    UpToTwo,
+    Cursor, DuplicateItem, Equivalent, IntoIter, Iter, KeyMatcher, MemoryRefused, Meter,
+    TryReserveError, UpToTwo,
 };

@@ -1,12 +1,11 @@
 //! What can be done with an entry, vacant or occupied.
-ghost use Rattle.std.specs.Prelude.{◌≡◌, None, IfOk, IfErr, OnOk, IsOk};
+ghost use Rattle.std.specs.Prelude.{◌≡◌, IfOk};
 ghost use Rattle.std.specs.Fn.{CalledAt};
-ghost use Rattle.iddqd_store.specs.Bag.{differ, listing, unique};
+ghost use Rattle.iddqd_store.specs.Bag.{listing};
 ghost use Rattle.iddqd_store.specs.Bag.Storing.{Stores};
-ghost use Rattle.iddqd_store.specs.Map.{bag, Gains, IsFullFor};
-ghost use Rattle.iddqd_bi.specs.Entries.{HasFound, Holds, HoldsFound, IsFound, OnOccupied, OnVacant, entry_key1, entry_key2, entry_lender, entry_map, held_entry, sought};
-ghost use Rattle.iddqd_bi.specs.Keys.{key_tests, ranks};
-ghost use Rattle.iddqd_bi.specs.Mismatch.{error_item, error_rank, OnNoMemory};
+ghost use Rattle.iddqd_store.specs.Map.{bag};
+ghost use Rattle.iddqd_bi.specs.Entries.{IsFound, KeepsFound, OnOccupied, OnVacant, PutsIn, entry_key1, entry_key2, entry_lender, entry_map, sought};
+ghost use Rattle.iddqd_bi.specs.Keys.{ranks};
 
 use super::{Entry, Keys, OccupiedEntryMut};
 use crate::error::EntryError;
@@ -22,23 +21,29 @@ impl<'a, T: BiHashItem, S: BuildHasher, Q: Keys<T::K1, T::K2>> Entry<'a, T, S, Q
     where
         T: Drop,
         ensures same_map { IfOk result (λ m. m.map.ghost_name ≡ entry_lender self.entry) }
-        ensures gains { OnVacant self.entry (λ v. IfOk result (λ m. Gains v.map.now item m.map.now)) }
-        ensures put { OnVacant self.entry (λ v. IfOk result Holds) }
-        ensures unique { OnVacant self.entry (λ v. IfOk result (λ m. held_entry m ≡ unique item)) }
-        ensures kept { OnOccupied self.entry (λ o. IfOk result (λ m. m.map.now ≡ o.map.now)) }
-        ensures holds { OnOccupied self.entry (λ o. HasFound T.BiHashItem T.K1.eq T.K2.eq o
-            → IfOk result (HoldsFound T.BiHashItem T.K1.eq T.K2.eq o)) }
-        ensures granted { OnOccupied self.entry (λ o. IsOk result) }
-        ensures handed_back { IfErr result (λ e. error_item e ≡ item) }
-        ensures rank { OnVacant self.entry (λ v. IfErr result (λ e. differ (key_tests T.BiHashItem T.K1.eq T.K2.eq
-            (Q.first v.keys) (Q.second v.keys)) item ≡ error_rank e)) }
-        ensures same_keys { OnVacant self.entry (λ v. OnOk result (differ (key_tests T.BiHashItem T.K1.eq T.K2.eq
-            (Q.first v.keys) (Q.second v.keys)) item ≡ None)) }
-        ensures memory { OnVacant self.entry (λ v. IfErr result (λ e. OnNoMemory e
-            (IsFullFor (ranks T.BiHashItem T.K1.eq T.K2.eq) v.map.now item))) }
+        ensures put { OnVacant self.entry (λ v. PutsIn v item result) }
+        ensures kept { OnOccupied self.entry (λ o. KeepsFound T.BiHashItem T.K1.eq T.K2.eq o result) }
     {
         match self {
             Entry::Vacant(v) => v.insert_mut(item),
+            Entry::Occupied(o) => Ok(o.into_mut()),
+        }
+    }
+
+    /// The same with what `f` answers. It is called once where no item has one of the keys, and else not at all.
+    pub fn or_insert_with<F: FnOnce() -> T>(
+        self,
+        f: F,
+    ) -> Result<OccupiedEntryMut<'a, T, S>, EntryError<T>>
+    where
+        F: Drop,
+        requires { OnVacant self (λ v. F.pre f) }
+        ensures same_map { IfOk result (λ m. m.map.ghost_name ≡ entry_lender self.entry) }
+        ensures put { OnVacant self.entry (λ v. (x : T) × F.post f x × PutsIn v x result) }
+        ensures kept { OnOccupied self.entry (λ o. KeepsFound T.BiHashItem T.K1.eq T.K2.eq o result) }
+    {
+        match self {
+            Entry::Vacant(v) => v.insert_mut(f()),
             Entry::Occupied(o) => Ok(o.into_mut()),
         }
     }

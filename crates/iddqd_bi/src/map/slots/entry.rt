@@ -22,13 +22,7 @@ pub(crate) fn one_of(slot1: Option<ItemIndex>, slot2: Option<ItemIndex>) -> Opti
     ensures { result ≡ head_of (found_by_all (slot1 ∷ slot2 ∷ [])) }
 {
     match (slot1, slot2) {
-        (Some(a), Some(b)) => {
-            if a == b {
-                Some(a)
-            } else {
-                None
-            }
-        }
+        (Some(a), Some(b)) => { if a == b { Some(a) } else { None } }
         _ => None,
     }
 }

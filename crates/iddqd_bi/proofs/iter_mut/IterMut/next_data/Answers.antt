@@ -8,11 +8,14 @@ returns-in-Some g c =
       steps_to c.args.self.now (λ w x. g.T.BiHashItemMut.put x w) c.data_mut_at.result.ghost_name c.in-Some.ix c.number.result c.in-Some.ensures.step.0 c.number.ensures step,
       record {
         lends = tt;
-        next = (c.in-Some.ensures.next.0, record {
-          comes = rw step.after pass.comes;
-          before = λ f. rw (step.after, step.writes f) (pass.before f);
-          behind = λ f. rw (step.after, step.writes f) (pass.behind f);
-        });
+        next = (
+          c.in-Some.ensures.next.0,
+          record {
+            comes = rw step.after pass.comes;
+            before = λ f. rw (step.after, step.writes f) (pass.before f);
+            behind = λ f. rw (step.after, step.writes f) (pass.behind f);
+          },
+        );
         end = tt;
       },
     )
