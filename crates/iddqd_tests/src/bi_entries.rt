@@ -194,6 +194,19 @@ fn vacant<S: BuildHasher + Copy + Drop>(rt: &impl Abort, alloc: Global, hash_bui
     );
     assert!(rt; map.len() == 2 && map.get1(&7).is_none());
     drop(map);
+    let mut map = BiHashMap::with_hasher(alloc, hash_builder);
+    for (item, wanted) in [
+        (other, (Answer::Key1(other), false, 1)),
+        (item, (Answer::In([Some(item); 2]), true, 1)),
+        (other, (Answer::In([Some(item); 2]), true, 0)),
+    ] {
+        assert_eq!(rt; put_answer(&mut map, 5, 50, item), wanted);
+    }
+    drop(map);
+    let mut map = two(rt, alloc, hash_builder);
+    let found = (Answer::In([Some(ONE); 2]), true, 0);
+    assert_eq!(rt; put_answer(&mut map, 1, 10, row_of(1, 10, 0)), found);
+    drop(map);
 }
 
 #[test]
@@ -202,6 +215,33 @@ fn vacant_entries_are_filled(rt: HostRuntime) {
     for hash in [0, 3, 18446744073709551615] {
         vacant(&rt, rt.alloc(), Alike { hash });
     }
+}
+
+/// Puts in by an entry what a closure answers. Says what becomes of that, whether it is unique then, and how often the
+/// closure is called.
+fn put_answer<S: BuildHasher>(
+    map: &mut BiHashMap<Row, S>,
+    key1: u64,
+    key2: u64,
+    item: Row,
+) -> (Answer, bool, u64) {
+    let mut calls: u64 = 0;
+    let answer = || {
+        calls = calls.wrapping_add(1);
+        item
+    };
+    let (answer, is_unique) = match map.entry(&key1, &key2).or_insert_with(answer) {
+        Ok(mut found) => {
+            let is_unique = found.is_unique();
+            let first = found.by_key1().map(|x| *x);
+            (
+                Answer::In([first, found.into_by_key2().map(|x| *x)]),
+                is_unique,
+            )
+        }
+        Err(error) => (refusal(error), false),
+    };
+    (answer, is_unique, calls)
 }
 
 /// Adds one to each value that two keys find. Says the last two items that this is asked of, and how many there are.

@@ -41,12 +41,17 @@ fn walk<S: BuildHasher>(map: &mut BiHashMap<Row, S>) -> [(usize, Option<Row>); 4
     [first, second, third, fourth]
 }
 
-/// Sets every value to 0.
-fn clear_values<S: BuildHasher>(map: &mut BiHashMap<Row, S>) {
+/// Sets every value to 0, with more steps than there are items. Says how many items are lent.
+fn clear_values<S: BuildHasher>(map: &mut BiHashMap<Row, S>) -> usize {
     let mut at = Cursor::new();
-    while let Some(mut item) = map.next_from(&mut at) {
-        *item.data_mut() = 0;
+    let mut lent: usize = 0;
+    for _ in 0..5 {
+        if let Some(mut item) = map.next_from(&mut at) {
+            *item.data_mut() = 0;
+            lent = lent.wrapping_add(1);
+        }
     }
+    lent
 }
 
 fn check<S: BuildHasher + Drop>(rt: &impl Abort, alloc: Global, hash_builder: S) {
@@ -66,7 +71,7 @@ fn check<S: BuildHasher + Drop>(rt: &impl Abort, alloc: Global, hash_builder: S)
     let (one, two) = (Some(row_of(1, 10, 7)), Some(row_of(2, 20, 9)));
     assert!(rt; first.0 == 2 && second.0 == 1 && third == (0, None) && fourth == (0, None));
     assert!(rt; (first.1, second.1) == (one, two) || (first.1, second.1) == (two, one));
-    clear_values(&mut map);
+    assert_eq!(rt; clear_values(&mut map), 2);
     assert_eq!(rt; map.get1(&1).copied(), Some(row_of(1, 10, 0)));
     assert_eq!(rt; map.get1(&2).copied(), Some(row_of(2, 20, 0)));
     drop(map);
