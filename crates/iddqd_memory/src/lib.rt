@@ -11,3 +11,5 @@ mod bi;
 mod bi_building;
 #[cfg(test)]
 mod bi_copies;
+#[cfg(test)]
+mod bi_entries;

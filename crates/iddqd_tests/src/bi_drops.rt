@@ -135,3 +135,31 @@ fn walked_items_are_dropped_once(rt: HostRuntime) -> Result<(), Fail> {
     }
     Ok(())
 }
+
+// Guards and entries own no item: the map drops what they lent, and a refused item is dropped with its refusal.
+#[test]
+fn lent_items_are_dropped_once(rt: HostRuntime) -> Result<(), Fail> {
+    let alive = Rc::new(rt.alloc(), ())?;
+    let mut map = filled(&rt, rt.alloc(), &alive, 2)?;
+    let mut items = map.iter_mut();
+    assert!(rt; items.next_mut().is_some());
+    drop(items);
+    assert!(rt; Rc::strong_count(&alive) == 3 && map.len() == 2);
+    for (key1, key2) in [(1, 20), (1, 10), (1, 99), (9, 99)] {
+        drop(map.entry(&key1, &key2));
+        assert!(rt; Rc::strong_count(&alive) == 3 && map.len() == 2);
+    }
+    for (key2, during, after) in [(20, 4, 3), (10, 4, 3)] {
+        let item = item_of(&alive, 1, key2)?;
+        if let Some(mut found) = map.get1_mut(&1) {
+            let answer = found.replace(item);
+            assert!(rt; answer.is_ok() == (key2 == 10));
+            assert!(rt; Rc::strong_count(&alive) == during);
+            drop(answer);
+        }
+        assert!(rt; Rc::strong_count(&alive) == after && map.len() == 2);
+    }
+    drop(map);
+    assert!(rt; Rc::strong_count(&alive) == 1);
+    Ok(())
+}

@@ -19,6 +19,10 @@ mod bi_copies;
 #[cfg(test)]
 mod bi_drops;
 #[cfg(test)]
+mod bi_entries;
+#[cfg(test)]
+mod bi_guards;
+#[cfg(test)]
 mod bi_queries;
 #[cfg(test)]
 mod bi_room;
@@ -32,3 +36,5 @@ mod short_lists;
 mod slots;
 #[cfg(test)]
 mod tables;
+#[cfg(test)]
+mod worked;
