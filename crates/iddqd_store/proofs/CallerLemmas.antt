@@ -1,17 +1,18 @@
--- What a caller of a map cites: from a lookup's clause to membership and back, a lookup after an insert or a removal, lengths, and walks.
-use Rattle.std.specs.Prelude.{◌≡◌, ℕ, zero, suc, ◌+◌, Bool, true, false, cond, List, [], ◌∷◌, ◌++◌, length, filter, IsPermutation, Contains, Option, Some, None}
+-- What a caller of a map cites: from a lookup's clause to membership and back, a lookup after an insert or a removal, lengths, walks, and writes.
+use Rattle.std.specs.Prelude.{◌≡◌, ℕ, zero, suc, ◌+◌, ◌<◌, Bool, true, false, cond, not, List, [], ◌∷◌, ◌++◌, length, filter, IsPermutation, Contains, Option, Some, None}
 use Rattle.std.specs.List.{IsDistinct, list_any}
 use Rattle.std.specs.Option.{option_to_list}
 use Rattle.std.specs.Cmp.{IsEquivalence}
 use Rattle.std.proofs.Common.{refl, sym, ap, subst, ◌∙◌, arith}
 use Rattle.std.proofs.lemmas.Map.Keys.{IsDistinct-head}
-use Rattle.std.proofs.lemmas.List.Sorted.{IsPermutation-sym, length_permutation, Contains-permutation}
-use Rattle.iddqd_store.specs.Bag.{Ranks, AreLawful, IsSound, NamesOne, clash, order, over}
+use Rattle.std.proofs.lemmas.List.Sorted.{IsPermutation-sym, IsPermutation-trans, length_permutation, Contains-permutation}
+use Rattle.iddqd_store.specs.Bag.{Ranks, AreLawful, IsSound, NamesOne, agrees, clash, like, order, over, some_of, swap, without}
 use Rattle.iddqd_store.specs.Map.{Map, bag}
 use Rattle.iddqd_store.specs.Map.Walk.{passed, to_come}
 use Rattle.iddqd_store.proofs.BagLemmas.Exchanges.{split, IsPermutation-filter}
-use Rattle.iddqd_store.proofs.BagLemmas.Sound.{IsSound-rank, named_is, none_pass, each_weaker, NamesOne-apart, Contains-filter, IsSound-IsPermutation, named-IsPermutation, length-over}
-use Rattle.iddqd_store.proofs.BagLemmas.Steps.{length-clash}
+use Rattle.iddqd_store.proofs.BagLemmas.Sound.{all_pass, each_passes, IsSound-rank, named_is, none_pass, each_weaker, NamesOne-apart, Contains-filter, IsSound-IsPermutation, named-IsPermutation, length-over}
+use Rattle.iddqd_store.proofs.BagLemmas.Steps.{agrees-conflicts, length-clash}
+use Rattle.iddqd_store.proofs.BagLemmas.Theory.{conflicts-self, swap-IsPermutation}
 use Rattle.iddqd_store.proofs.RankLemmas.Index.{Contains-here, Contains-cons}
 use Rattle.iddqd_store.proofs.BagLemmas.Unique.{any_listed, some_item}
 use Rattle.iddqd_store.proofs.SlotLemmas.Chain.{live_items-items_in}
@@ -104,3 +105,12 @@ length-overwritten_by ranks old new x went_in =
 -- the items before a place of a walk, and those behind it, are all there are
 pub passed-to_come : {T S : Type 0} (m : Map T S) (at : ℕ) → bag m ≡ passed m at ++ to_come m at
 passed-to_come m at = live_items-items_in m.slots ∙ sym (before_and_behind m.slots at)
+
+-- of two writes of a member, one after the other, the last stands
+pub swap-twice : {T : Type 0} (ranks : Ranks T) → AreLawful ranks → 0 < length ranks → (old middle new : List T) (x y z : T) → agrees ranks x y ≡ true → IsPermutation middle (swap ranks old x y) → IsPermutation new (swap ranks middle y z) → IsPermutation new (swap ranks old x z)
+swap-twice {T} ranks laws some old middle new x y z same first last =
+    let rest : List T = without (like ranks x) old in
+    let test : T → Bool = λ w. not (some_of (like ranks y) w) in
+    let left : filter test (y ∷ rest) ≡ rest =
+    rw (conflicts-self ranks laws some y) (all_pass test rest (each_weaker _ _ (λ w e. ap not (sym (agrees-conflicts ranks laws x y w same)) ∙ e) rest (each_passes (λ w. not (some_of (like ranks x) w)) old))) in
+    IsPermutation-trans _ _ _ last (subst (λ l. IsPermutation (swap ranks middle y z) (z ∷ l)) left (swap-IsPermutation ranks middle (y ∷ rest) y z first))

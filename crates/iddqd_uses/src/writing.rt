@@ -20,6 +20,26 @@ where
     }
 }
 
+/// Writes the data of the item with a first key twice, if there is one. The last write stands.
+pub fn write1_twice<T: BiHashItemMut, S: BuildHasher>(
+    map: &mut BiHashMap<T, S>,
+    key: &T::K1,
+    first: T::Data,
+    last: T::Data,
+)
+where
+    T::Data: Drop,
+    ensures present { (x : T) → IsOnly (has1 T.BiHashItem T.K1.eq key.now) (bag map.old) (Some x)
+        → IsPermutation (bag map.new)
+        (swap (ranks T.BiHashItem T.K1.eq T.K2.eq) (bag map.old) x (T.put (T.put x first) last)) }
+    ensures absent { IsOnly (has1 T.BiHashItem T.K1.eq key.now) (bag map.old) None → map.new ≡ map.old }
+{
+    if let Some(mut item) = map.get1_mut(key) {
+        *item.data_mut() = first;
+        *item.data_mut() = last;
+    }
+}
+
 /// Puts an item in the place of the one with a first key, which it gives back. Else it hands the item back.
 pub fn replace1<T: BiHashItem, S: BuildHasher>(
     map: &mut BiHashMap<T, S>,
