@@ -106,21 +106,16 @@ fn enter_when_full(rt: &impl Abort, alloc: Global, way: Way) -> bool {
     granted
 }
 
-/// The same in each way.
-fn enter_in_each_way(rt: &impl Abort, alloc: Global) -> bool {
-    let mut granted = true;
-    for way in [
-        Way::Insert,
-        Way::InsertEntry,
-        Way::OrInsert,
-        Way::OrInsertWith,
-    ] {
-        if !enter_when_full(rt, alloc, way) {
-            granted = false;
-        }
-    }
-    granted
+/// The same in each of two ways.
+fn enter_in_both_ways(rt: &impl Abort, alloc: Global, ways: [Way; 2]) -> bool {
+    let first = enter_when_full(rt, alloc, ways[0]);
+    let second = enter_when_full(rt, alloc, ways[1]);
+    first && second
 }
+
+const INTO_VACANT: [Way; 2] = [Way::Insert, Way::InsertEntry];
+
+const INTO_EITHER: [Way; 2] = [Way::OrInsert, Way::OrInsertWith];
 
 /// Puts an item in the place of two by an entry of a full map. That takes no memory.
 fn overwrite_an_entry_when_full(rt: &impl Abort, alloc: Global) -> bool {
@@ -145,13 +140,23 @@ fn overwrite_an_entry_when_full(rt: &impl Abort, alloc: Global) -> bool {
 }
 
 #[test]
-fn allows_enter_in_each_way(rt: HostRuntime) {
-    let _ = enter_in_each_way(&rt, rt.alloc());
+fn allows_enter_a_vacant_entry(rt: HostRuntime) {
+    let _ = enter_in_both_ways(&rt, rt.alloc(), INTO_VACANT);
 }
 
 #[test]
-fn grants_enter_in_each_way(rt: HostRuntime) {
-    assert!(rt; enter_in_each_way(&rt, rt.alloc()));
+fn grants_enter_a_vacant_entry(rt: HostRuntime) {
+    assert!(rt; enter_in_both_ways(&rt, rt.alloc(), INTO_VACANT));
+}
+
+#[test]
+fn allows_enter_an_entry(rt: HostRuntime) {
+    let _ = enter_in_both_ways(&rt, rt.alloc(), INTO_EITHER);
+}
+
+#[test]
+fn grants_enter_an_entry(rt: HostRuntime) {
+    assert!(rt; enter_in_both_ways(&rt, rt.alloc(), INTO_EITHER));
 }
 
 #[test]
