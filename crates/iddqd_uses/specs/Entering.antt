@@ -5,7 +5,8 @@ use Rattle.iddqd_bi.specs.Bag.{Entry, vacant, unique, non_unique, Ranks, swap}
 module _ {T : Type 0} (ranks : Ranks T) (write : T → T) (old : List T) (x : T) where
   -- x went in, and then it was written
   abbrev pub GainsWritten : List T → Type 0
-  GainsWritten new = (middle : List T) × IsPermutation middle (x ∷ old) × IsPermutation new (swap ranks middle x (write x))
+  GainsWritten new =
+      (middle : List T) × IsPermutation middle (x ∷ old) × IsPermutation new (swap ranks middle x (write x))
 
   -- the same where no item has one of the keys, and else the item with both was written
   abbrev pub WritesEntry : Entry T → List T → Type 0

@@ -120,7 +120,7 @@ where
     }
 }
 
-/// Puts an item in where no item has one of two keys, and else writes data into the item that has both, if there is one.
+/// Puts an item in where no item has one of two keys, and else writes data into the item that has both, if one has.
 pub fn insert_or_write<'a, T: BiHashItemMut + Drop, S: BuildHasher>(
     map: &'a mut BiHashMap<T, S>,
     key1: &'a T::K1,
