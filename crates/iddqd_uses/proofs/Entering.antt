@@ -14,14 +14,15 @@ use Rattle.iddqd_bi.specs.Found.{found_by_all, head_of, is_at}
 use Rattle.iddqd_bi.specs.Storing.{Stores}
 use Rattle.iddqd_bi.specs.Map.{Map, bag}
 use Rattle.iddqd_bi.specs.Keys.{key_tests}
-use Rattle.iddqd_bi.specs.Entries.{IsFound, KeepsFound, OnVacant, OnOccupied, PutsIn, entry_key1, entry_key2, entry_map, held_entry, held_unique, sought}
+use Rattle.iddqd_bi.specs.Entries.{HasFound, HoldsFound, IsFound, KeepsFound, OnVacant, OnOccupied, PutsIn, entry_key1, entry_key2, entry_map, held_entry, held_unique, sought}
 use Rattle.iddqd_bi.specs.declared.item.BiHashItem as item
 use Rattle.iddqd_bi.specs.declared.entry.keys.Keys as pair
 use Rattle.iddqd_bi.specs.declared.entry.Entry.{Entry}
 use Rattle.iddqd_bi.specs.declared.entry.Entry.TheVariants.{Vacant, Occupied}
+use Rattle.iddqd_bi.specs.declared.entry.OccupiedEntry.{OccupiedEntry}
 use Rattle.iddqd_bi.specs.declared.entry.OccupiedEntryMut.{OccupiedEntryMut}
 use Rattle.iddqd_bi.specs.declared.error.EntryError.{EntryError}
-use Rattle.iddqd_uses.specs.Entering.{WritesEntry}
+use Rattle.iddqd_uses.specs.Entering.{InsertsOrWrites, WritesEntry}
 
 short_if : (b : Bool) (ix : ℕ) → length (if b then ix ∷ [] else []) ≤ 1
 short_if true ix = omega arith
@@ -84,6 +85,22 @@ module _ {T : Type 0} (old : List T) (x : T) where
       rw (← entered.0) (rw (same ∙ is_one y entered.1) at swaps)
   writes_entry by write (non_unique ys) held there new found one entered is_one is_none same some swaps =
       absurd (cc (some, same, is_none ys entered.1))
+
+  pub writes_found : (by : Ranks T) (write : T → T) (listed whole there new : List T) (held : bags.Entry T) (found one : Option T) → listed ≢ [] → there ≡ old → held ≡ entry_of listed whole → ((y : T) → held ≡ unique y → one ≡ Some y) → ((ys : List T) → held ≡ non_unique ys → one ≡ None) → found ≡ one → is_some found ≡ true → IfSome found (λ y. IsPermutation new (swap by there y (write y))) → InsertsOrWrites by write old x (entry_of listed whole) new
+  writes_found by write [] whole there new held found one not_none is entry is_one is_none same some swaps = absurd (not_none refl)
+  writes_found by write (y ∷ listed) [] there new held found one not_none is entry is_one is_none same some swaps =
+      absurd (cc (some, same, is_none (y ∷ listed) entry))
+  writes_found by write (y ∷ listed) (z ∷ whole) there new held found one not_none is entry is_one is_none same some swaps =
+      rw (← is) (rw (same ∙ is_one z entry) at swaps)
+
+module _ {T S K1 K2 H : Type 0} (of : item.Ghosts T K1 K2) (eq1 : K1 → K1 → Bool) (eq2 : K2 → K2 → Bool) where
+  -- so where `into_mut` holds what an occupied entry found
+  pub writes_occupied : (by : Ranks T) (write : T → T) (o : OccupiedEntry T S K1 K2 H) (m : OccupiedEntryMut T S K1 K2 H) (x : T) (k1 : K1) (k2 : K2) (old : Map T S) (new : List T) (found : Option T) →
+      HasFound of eq1 eq2 o → HoldsFound of eq1 eq2 o m → m.map.now ≡ o.map.now → o.key1.now ≡ k1 → o.key2.now ≡ k2 → o.map.now ≡ old →
+      found ≡ held_unique m → is_some found ≡ true → IfSome found (λ y. IsPermutation new (swap by (bag m.map.now) y (write y))) →
+      InsertsOrWrites by write (bag old) x (bags.entry (key_tests of eq1 eq2 k1 k2) (bag old)) new
+  writes_occupied by write o m x k1 k2 old new found has holds same is1 is2 is item some swaps =
+      rw (← is1, ← is2, ← is) (writes_found (bag o.map.now) x by write (listing (sought of eq1 eq2 o) (bag o.map.now)) _ (bag m.map.now) new (held_entry m) found (held_unique m) has.some (ap (λ (n : Map T S). bag n) same) holds.value (unique_held m) (none_held m) item some swaps)
 
 module _ {T S Q K1 K2 H : Type 0} {of : item.Ghosts T K1 K2} {eq1 : equal.Ghosts K1} {input1 : hash.Ghosts K1} {eq2 : equal.Ghosts K2} {input2 : hash.Ghosts K2} {build : builder.Ghosts S H} {hashes : hasher.Ghosts H} {q : pair.Ghosts Q K1 K2} where
   -- what is stored in an entry's items is stored in those that its keys name

@@ -1,5 +1,5 @@
 //! What a caller knows of a map after the calls of an entry.
-ghost use Rattle.std.specs.Prelude.{◌≡◌, ◌∷◌, ◌++◌, IsPermutation, OnOk, OnErr, IfErr};
+ghost use Rattle.std.specs.Prelude.{◌≡◌, [], ◌∷◌, ◌++◌, IsPermutation, OnOk, OnErr, IfErr};
 ghost use Rattle.std.specs.Bool.{OnTrue, OnFalse};
 ghost use Rattle.std.specs.Fn.{CalledAt};
 ghost use Rattle.iddqd_bi.specs.Bag.{entry, listing, over};
@@ -7,7 +7,7 @@ ghost use Rattle.iddqd_bi.specs.Storing.{Stores};
 ghost use Rattle.iddqd_bi.specs.Map.{bag};
 ghost use Rattle.iddqd_bi.specs.Keys.{key_tests, ranks};
 ghost use Rattle.iddqd_bi.specs.Mismatch.{error_item};
-ghost use Rattle.iddqd_uses.specs.Entering.{WritesEntry};
+ghost use Rattle.iddqd_uses.specs.Entering.{InsertsOrWrites, WritesEntry};
 
 use iddqd_bi::{BiHashItem, BiHashItemMut, BiHashMap, Entry, EntryError};
 use std::hash::{BuildHasher, Hash};
@@ -61,6 +61,8 @@ pub fn remove_through<'a, T: BiHashItem + Drop, S: BuildHasher>(
     ensures taken { OnTrue result (IsPermutation (bag map.old)
         (listing (key_tests T.BiHashItem T.K1.eq T.K2.eq key1.now key2.now) (bag map.old) ++ bag map.new)) }
     ensures none { OnFalse result (map.new ≡ map.old) }
+    ensures reason { OnFalse result
+        (listing (key_tests T.BiHashItem T.K1.eq T.K2.eq key1.now key2.now) (bag map.old) ≡ []) }
 {
     match map.entry(key1, key2) {
         Entry::Vacant(_v) => return false,
@@ -115,5 +117,36 @@ where
             return Ok(());
         }
         Err(e) => return Err(e),
+    }
+}
+
+/// Puts an item in where no item has one of two keys, and else writes data into the item that has both, if one has.
+pub fn insert_or_write<'a, T: BiHashItemMut + Drop, S: BuildHasher>(
+    map: &'a mut BiHashMap<T, S>,
+    key1: &'a T::K1,
+    key2: &'a T::K2,
+    item: T,
+    d: T::Data,
+) -> Result<(), EntryError<T>>
+where
+    T::Data: Drop,
+    ensures granted { OnOk result (InsertsOrWrites (ranks T.BiHashItem T.K1.eq T.K2.eq) (λ x. T.put x d) (bag map.old)
+        item (entry (key_tests T.BiHashItem T.K1.eq T.K2.eq key1.now key2.now) (bag map.old)) (bag map.new)) }
+    ensures kept { OnErr result (map.new ≡ map.old) }
+    ensures handed_back { IfErr result (λ e. error_item e ≡ item) }
+{
+    match map.entry(key1, key2) {
+        Entry::Vacant(v) => match v.insert(item) {
+            Ok(_r) => return Ok(()),
+            Err(e) => return Err(e),
+        },
+        Entry::Occupied(o) => {
+            let held = o.into_mut();
+            if let Some(mut both) = held.into_unique() {
+                *both.data_mut() = d;
+                return Ok(());
+            }
+            return Ok(());
+        }
     }
 }

@@ -13,7 +13,8 @@ mod writing;
 pub use building::extend_by_vec;
 pub use devices::{Device, at_port, plug_in, watts};
 pub use entries::{
-    insert_through, modify_both, or_insert_and_write, overwrite_through, remove_through,
+    insert_or_write, insert_through, modify_both, or_insert_and_write, overwrite_through,
+    remove_through,
 };
 pub use finding::{count_all, put_and_find, remove_and_find};
 pub use inserting::{count_conflicts, insert_both, insert_or_back, insert_or_drop};
