@@ -1,5 +1,5 @@
 -- What contracts say of entries.
-use Rattle.std.specs.Prelude.{◌≡◌, ◌≢◌, Bool, [], ◌∷◌, List, Option, None, Result, IsOk, IfOk, IfErr, OnOk, OnErr, ⊤}
+use Rattle.std.specs.Prelude.{◌≡◌, ◌≢◌, Bool, [], ◌∷◌, List, Option, Some, None, Result, IsOk, IfOk, IfErr, OnOk, OnErr, ⊤}
 use Rattle.std.specs.Option.{option_and_then, IfSome}
 use Rattle.std.specs.Borrow.{Fml, GName, RattleType, MutBor, LendsIf, follows, follows_so, name_if_ok}
 use Rattle.std.specs.HashMap.Lent.{HashMembers}
@@ -120,6 +120,9 @@ module _ {T S Q K1 K2 H : Type 0} {of : item.Ghosts T K1 K2} {eq1 : equal.Ghosts
     pub gains : IfOk result (λ m. Gains e.map.now x m.map.now)
     pub holds : IfOk result Holds
     pub unique_item : IfOk result (λ m. held_entry m ≡ unique x)
+    pub unique_held : IfOk result (λ m. held_unique m ≡ Some x)
+    pub by_key1 : IfOk result (λ m. held1 m ≡ Some x)
+    pub by_key2 : IfOk result (λ m. held2 m ≡ Some x)
     pub same_keys : OnOk result (differ (key_tests of eq1.eq eq2.eq (q.first e.keys) (q.second e.keys)) x ≡ None)
     pub handed_back : IfErr result (λ error. error_item error ≡ x)
     pub rank : IfErr result (λ error. differ (key_tests of eq1.eq eq2.eq (q.first e.keys) (q.second e.keys)) x ≡ error_rank error)

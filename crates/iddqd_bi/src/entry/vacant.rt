@@ -3,7 +3,7 @@ ghost use Rattle.std.specs.Prelude.{◌≡◌, [], ◌∷◌, None, Some, IfOk, 
 ghost use Rattle.std.specs.Borrow.{sem};
 ghost use Rattle.iddqd_store.specs.Bag.{differ, entry, unique};
 ghost use Rattle.iddqd_store.specs.Map.{bag, Gains, IsFullFor};
-ghost use Rattle.iddqd_bi.specs.Entries.{HasFound, Holds, held, held_entry, sought, rests_if_err, held_rests_if_err};
+ghost use Rattle.iddqd_bi.specs.Entries.{HasFound, Holds, held, held1, held2, held_entry, held_unique, sought, rests_if_err, held_rests_if_err};
 ghost use Rattle.iddqd_bi.specs.Keys.{key_tests, ranks};
 ghost use Rattle.iddqd_bi.specs.Mismatch.{error_item, error_rank, OnNoMemory};
 ghost use Rattle.iddqd_bi.specs.RefMuts.{ref_lender, ref_map, ref_item};
@@ -58,6 +58,9 @@ impl<'a, T: BiHashItem, S: BuildHasher, Q: Keys<T::K1, T::K2>> VacantEntry<'a, T
         ensures holds { IfOk result Holds }
         ensures held { IfOk result (λ m. held m ≡ item ∷ []) }
         ensures unique { IfOk result (λ m. held_entry m ≡ unique item) }
+        ensures unique_held { IfOk result (λ m. held_unique m ≡ Some item) }
+        ensures by_key1 { IfOk result (λ m. held1 m ≡ Some item) }
+        ensures by_key2 { IfOk result (λ m. held2 m ≡ Some item) }
         ensures same_keys { OnOk result (differ (key_tests T.BiHashItem T.K1.eq T.K2.eq
             (Q.first self.entry.keys) (Q.second self.entry.keys)) item ≡ None) }
         ensures handed_back { IfErr result (λ e. error_item e ≡ item) }
