@@ -186,7 +186,7 @@ fn vacant<S: BuildHasher + Copy + Drop>(rt: &impl Abort, alloc: Global, hash_bui
         assert_eq!(rt; map.get2(&50).copied(), Some(item));
         drop(map);
     }
-    // An item that none of the keys found is dropped where one of them finds another.
+    // Where one of the keys finds an item, nothing goes in, and the new one is dropped.
     let mut map = two(rt, alloc, hash_builder);
     assert_eq!(rt;
         put_in(&mut map, 7, 20, Way::OrInsert, row_of(7, 70, 0)),
