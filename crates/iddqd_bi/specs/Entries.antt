@@ -47,6 +47,18 @@ module _ {T S K1 K2 H : Type 0} where
     pub live1 : IfSome m.slot1 (IsLive m.map.now.slots)
     pub live2 : IfSome m.slot2 (IsLive m.map.now.slots)
 
+  -- the same places are held
+  pub record HoldsSame (m n : OccupiedEntryMut T S K1 K2 H) : Type 0 where
+    pub same1 : n.slot1 ≡ m.slot1
+    pub same2 : n.slot2 ≡ m.slot2
+
+  -- the entry has the same keys, and the same places in the map
+  pub record FindsSame (o p : OccupiedEntry T S K1 K2 H) : Type 0 where
+    pub key1 : p.key1 ≡ o.key1
+    pub key2 : p.key2 ≡ o.key2
+    pub same1 : p.slot1 ≡ o.slot1
+    pub same2 : p.slot2 ≡ o.slot2
+
   -- those items, each once
   abbrev pub held : OccupiedEntryMut T S K1 K2 H → List T
   held m = held_at m.map.now.slots (m.slot1 ∷ m.slot2 ∷ [])
@@ -127,6 +139,13 @@ module _ {T S Q K1 K2 H : Type 0} {of : item.Ghosts T K1 K2} {eq1 : equal.Ghosts
     pub handed_back : IfErr result (λ error. error_item error ≡ x)
     pub rank : IfErr result (λ error. differ (key_tests of eq1.eq eq2.eq (q.first e.keys) (q.second e.keys)) x ≡ error_rank error)
     pub memory : IfErr result (λ error. OnNoMemory error (IsFullFor (ranks of eq1.eq eq2.eq) e.map.now x))
+
+  -- both are vacant, or both occupied with the same keys and places
+  abbrev pub IsSameEntry : Entry T S Q K1 K2 H of eq1 input1 eq2 input2 build hashes q → Entry T S Q K1 K2 H of eq1 input1 eq2 input2 build hashes q → Type 0
+  IsSameEntry (Vacant e) (Vacant f) = ⊤
+  IsSameEntry (Vacant e) (Occupied p) = ⊥
+  IsSameEntry (Occupied o) (Vacant f) = ⊥
+  IsSameEntry (Occupied o) (Occupied p) = FindsSame o p
 
   -- an occupied entry has found what its keys name
   abbrev pub IsFound : Entry T S Q K1 K2 H of eq1 input1 eq2 input2 build hashes q → Type 0

@@ -4,7 +4,7 @@ ghost use Rattle.std.specs.Fn.{CalledAt};
 ghost use Rattle.iddqd_store.specs.Bag.{listing};
 ghost use Rattle.iddqd_store.specs.Bag.Storing.{Stores};
 ghost use Rattle.iddqd_store.specs.Map.{bag};
-ghost use Rattle.iddqd_bi.specs.Entries.{IsFound, KeepsFound, OnOccupied, OnVacant, PutsIn, entry_key1, entry_key2, entry_lender, entry_map, sought};
+ghost use Rattle.iddqd_bi.specs.Entries.{IsFound, IsSameEntry, KeepsFound, OnOccupied, OnVacant, PutsIn, entry_lender, entry_map, sought};
 ghost use Rattle.iddqd_bi.specs.Keys.{ranks};
 
 use super::{Entry, Keys, OccupiedEntryMut};
@@ -66,8 +66,7 @@ impl<'a, T: BiHashItemMut, S: BuildHasher, Q: Keys<T::K1, T::K2>> Entry<'a, T, S
             (bag (entry_map result))) }
         ensures capacity { (entry_map result).capacity ≡ (entry_map self.entry).capacity }
         ensures builder { (entry_map result).builder ≡ (entry_map self.entry).builder }
-        ensures key1 { entry_key1 result ≡ entry_key1 self.entry }
-        ensures key2 { entry_key2 result ≡ entry_key2 self.entry }
+        ensures places { IsSameEntry self.entry result }
     {
         match self {
             Entry::Vacant(v) => Entry::Vacant(v),

@@ -5,7 +5,7 @@ ghost use Rattle.std.specs.Fn.{CalledAt};
 ghost use Rattle.iddqd_store.specs.Bag.{IsOnly, differ, entry, is_unique, listing, over, unique};
 ghost use Rattle.iddqd_store.specs.Bag.Storing.{Stores};
 ghost use Rattle.iddqd_store.specs.Map.{bag, Loses};
-ghost use Rattle.iddqd_bi.specs.Entries.{HasFound, HoldsFound, sought, lends_data1, lends_data2, lends_held};
+ghost use Rattle.iddqd_bi.specs.Entries.{FindsSame, HasFound, HoldsFound, sought, lends_data1, lends_data2, lends_held};
 ghost use Rattle.iddqd_bi.specs.Keys.{has1, has2, ranks};
 ghost use Rattle.iddqd_bi.specs.Mismatch.{mismatch_item, mismatch_rank};
 ghost use Rattle.iddqd_bi.specs.OccupiedRefs.{is_one, seen1, seen2};
@@ -200,7 +200,7 @@ impl<'a, T: BiHashItemMut, S: BuildHasher> OccupiedEntry<'a, T, S> {
             (bag self.old.map.now) (bag self.new.map.now) }
         ensures capacity { self.new.map.now.capacity ≡ self.old.map.now.capacity }
         ensures builder { self.new.map.now.builder ≡ self.old.map.now.builder }
-        ensures keys { (self.new.key1 ≡ self.old.key1) × (self.new.key2 ≡ self.old.key2) }
+        ensures places { FindsSame self.old self.new }
     {
         let slot1 = self.slot1;
         let slot2 = self.slot2;

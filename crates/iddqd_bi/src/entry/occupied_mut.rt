@@ -6,7 +6,7 @@ ghost use Rattle.std.specs.Option.{option_and_then};
 ghost use Rattle.iddqd_store.specs.Bag.{is_unique};
 ghost use Rattle.iddqd_store.specs.Bag.Storing.{Stores};
 ghost use Rattle.iddqd_store.specs.Map.{bag};
-ghost use Rattle.iddqd_bi.specs.Entries.{Holds, held, held1, held2, held_entry, held_unique, held_rests_if_none};
+ghost use Rattle.iddqd_bi.specs.Entries.{Holds, HoldsSame, held, held1, held2, held_entry, held_unique, held_rests_if_none};
 ghost use Rattle.iddqd_bi.specs.Keys.{ranks};
 ghost use Rattle.iddqd_bi.specs.RefMuts.{ref_lender, ref_map, ref_item};
 
@@ -116,6 +116,7 @@ impl<'a, T: BiHashItemMut, S: BuildHasher> OccupiedEntryMut<'a, T, S> {
         ensures same_map { self.new.map.ghost_name ≡ self.old.map.ghost_name }
         ensures stores { Stores (CalledAt F.FnMut) T.put (ranks T.BiHashItem T.K1.eq T.K2.eq) f
             (held self.old) (bag self.old.map.now) (bag self.new.map.now) }
+        ensures places { HoldsSame self.old self.new }
         ensures capacity { self.new.map.now.capacity ≡ self.old.map.now.capacity }
         ensures builder { self.new.map.now.builder ≡ self.old.map.now.builder }
     {

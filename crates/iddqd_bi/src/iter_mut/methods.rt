@@ -1,5 +1,5 @@
 //! The steps of a walk for writing.
-ghost use Rattle.std.specs.Prelude.{◌≡◌, [], length, slice_get, IfSome, IfNone};
+ghost use Rattle.std.specs.Prelude.{◌≡◌, ◌+◌, [], length, slice_get, IfSome, IfNone};
 ghost use Rattle.std.specs.Borrow.{sem};
 ghost use Rattle.std.specs.Option.{option_and_then};
 ghost use Rattle.iddqd_store.specs.Map.Walk.{Passes};
@@ -34,6 +34,7 @@ impl<T: BiHashItem, S: BuildHasher> IterMut<'_, T, S> {
     /// Goes on behind the next item, and answers its slot.
     fn advance(&mut self) -> Option<ItemIndex>
         ensures next { option_and_then (get self.old.map.now.slots) result ≡ slice_get (rest_of self.old) 0 }
+        ensures behind { IfSome result (λ ix. self.new.next ≡ ix + 1) }
         ensures map { self.new.map ≡ self.old.map }
     {
         match self.map.slot_from(self.next) {
