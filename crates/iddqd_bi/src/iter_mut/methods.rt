@@ -1,5 +1,5 @@
 //! The steps of a walk for writing.
-ghost use Rattle.std.specs.Prelude.{◌≡◌, ◌+◌, [], length, slice_get, IfSome, IfNone};
+ghost use Rattle.std.specs.Prelude.{◌≡◌, ◌+◌, [], length, slice_get, IfSome, IfNone, Some};
 ghost use Rattle.std.specs.Borrow.{sem};
 ghost use Rattle.std.specs.Option.{option_and_then};
 ghost use Rattle.iddqd_store.specs.Map.Walk.{Passes};
@@ -53,6 +53,7 @@ impl<T: BiHashItemMut, S: BuildHasher> IterMut<'_, T, S> {
         ensures* lends { sem 𝓛 (lends_next T.row S.row T.K1.row T.K2.row S.Hasher.row
             T.BiHashItem T.K1.Hash T.K2.Hash S.BuildHasher S.Hasher.Hasher T.Data.row T.put self.entry result) }
         ensures next { IfSome result (λ r. IsNextOf self.old) }
+        ensures value { (x : T) → slice_get (rest_of self.old) 0 ≡ Some x → IfSome result (λ r. r.now ≡ T.payload x) }
         ensures end { IfNone result (rest_of self.old ≡ []) }
     {
         match self.map.slot_from(self.next) {

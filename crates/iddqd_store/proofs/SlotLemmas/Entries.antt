@@ -5,7 +5,7 @@ use Rattle.std.specs.Option.{option_to_list, option_and_then, IfSome}
 use Rattle.std.proofs.Common.{IsSome, inl, inr, refl, sym, ap, subst, ◌∙◌, arith, append-nil, append_assoc}
 use Rattle.std.proofs.lemmas.Bool.{false≢true}
 use Rattle.std.proofs.lemmas.Bool.Decides.{nat_tests}
-use Rattle.iddqd_store.specs.Bag.{Ranks, AreLawful, IsSound, listing, all_of, every_of, entry, entry_of, is_unique}
+use Rattle.iddqd_store.specs.Bag.{Ranks, AreLawful, IsOnly, IsSound, listing, all_of, every_of, entry, entry_of, is_unique}
 use Rattle.iddqd_store.specs.Rank.Index.{IsIndexed}
 use Rattle.iddqd_store.specs.Slots.{get, IsLive, live_items}
 use Rattle.iddqd_store.specs.Slots.Found.{items_at, lists, with_found, each_once, is_at, found_by_all, head_of, FoundAt, AreFound, held_at, entry_at}
@@ -13,6 +13,7 @@ use Rattle.iddqd_store.proofs.BagLemmas.Entries.{all_of-next}
 use Rattle.iddqd_store.proofs.BagLemmas.Exchanges.{split}
 use Rattle.iddqd_store.proofs.BagLemmas.Over.{IsDistinct-with_found}
 use Rattle.iddqd_store.proofs.BagLemmas.Sound.{each_passes, Contains-filter, IsSound-rank, IsDistinct-nil}
+use Rattle.iddqd_store.proofs.BagLemmas.Unique.{is_some-only}
 use Rattle.iddqd_store.proofs.RankLemmas.Index.{Contains-cons_cases, item_at, same_slot}
 use Rattle.iddqd_store.proofs.RankLemmas.Search.{each_at}
 use Rattle.iddqd_store.proofs.SlotLemmas.Found.{listing_found}
@@ -149,3 +150,19 @@ module _ {T : Type 0} (slots : List (Option T)) where
   held_none [] none = refl
   held_none (None ∷ found) none = held_none found none
   held_none (Some ix ∷ found) none = absurd (false≢true (sym none))
+
+  -- the slot that a search found has the one member that passes
+  pub found_item : (test : T → Bool) (at : Option ℕ) → FoundAt test slots at → (x : T) → IsOnly test (live_items slots) (Some x) → option_and_then (get slots) at ≡ Some x
+  found_item test at found x only = one (option_and_then (get slots) at) (found.only ∙ sym only)
+    where
+      one : (o : Option T) → option_to_list o ≡ x ∷ [] → o ≡ Some x
+      one None is = absurd (omega (arith, ap length is))
+      one (Some y) is = cc is
+
+  pub found_some : (test : T → Bool) (at : Option ℕ) → FoundAt test slots at → is_some at ≡ list_any test (live_items slots)
+  found_some test None found = is_some-only test (live_items slots) None found.only
+  found_some test (Some ix) found = by_slot (get slots ix) refl found.only found.live
+    where
+      by_slot : (o : Option T) → get slots ix ≡ o → option_to_list o ≡ filter test (live_items slots) → IsSome o → true ≡ list_any test (live_items slots)
+      by_slot None there only some = absurd (cc)
+      by_slot (Some x) there only some = is_some-only test (live_items slots) (Some x) only

@@ -2,6 +2,7 @@
 ghost use Rattle.std.specs.Prelude.{◌≡◌, [], ◌∷◌, true, length, Some, IsPermutation, IfSome, IfNone, is_some, ◌+◌};
 ghost use Rattle.std.specs.Borrow.{sem};
 ghost use Rattle.std.specs.Fn.{CalledAt};
+ghost use Rattle.std.specs.Option.{option_and_then};
 ghost use Rattle.iddqd_store.specs.Bag.{swap};
 ghost use Rattle.iddqd_store.specs.Bag.Storing.{Stores};
 ghost use Rattle.iddqd_store.specs.Map.{bag};
@@ -85,6 +86,8 @@ impl<T: BiHashItemMut, S: BuildHasher> BiHashMap<T, S> {
             T.BiHashItem T.K1.Hash T.K2.Hash S.BuildHasher S.Hasher.Hasher
             T.Data.row T.put self.entry slot result) }
         ensures some { is_some result ≡ is_some slot }
+        ensures value { (x : T) → option_and_then (get self.old.slots) slot ≡ Some x
+            → IfSome result (λ r. r.now ≡ T.payload x) }
     {
         match slot {
             Some(ix) => Some(self.data_mut_at(ix)),

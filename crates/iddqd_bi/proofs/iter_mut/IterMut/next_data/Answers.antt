@@ -1,3 +1,5 @@
+use Rattle.std.proofs.Common.{List, ap, sym, ◌∙◌}
+use Rattle.std.specs.Prelude.{slice_get}
 use Rattle.iddqd_bi.proofs.Iterating.{steps_to}
 use Rattle.iddqd_bi.proofs.iter_mut.IterMut.next_data.Goals as goal
 
@@ -16,6 +18,7 @@ returns-in-Some g c =
             behind = λ f. rw (step.after, step.writes f) (pass.behind f);
           },
         );
+        value = λ x is. c.data_mut_at.ensures.value x (c.in-Some.ensures.next.1 ∙ sym (ap (λ (l : List g.row.T.Denot). slice_get l 0) pass.comes) ∙ is);
         end = tt;
       },
     )
