@@ -1,16 +1,15 @@
 -- What a caller of a map cites: from a lookup's clause to membership and back, a lookup after an insert or a removal, lengths, walks, and writes.
 use Rattle.std.specs.Prelude.{◌≡◌, ℕ, zero, suc, ◌+◌, ◌<◌, Bool, true, false, cond, not, List, [], ◌∷◌, ◌++◌, length, filter, IsPermutation, Contains, Option, Some, None}
-use Rattle.std.specs.List.{IsDistinct, list_any}
+use Rattle.std.specs.List.{list_any}
 use Rattle.std.specs.Option.{option_to_list}
-use Rattle.std.specs.Cmp.{IsEquivalence}
 use Rattle.std.proofs.Common.{refl, sym, ap, subst, ◌∙◌, arith}
 use Rattle.std.proofs.lemmas.Map.Keys.{IsDistinct-head}
 use Rattle.std.proofs.lemmas.List.Sorted.{IsPermutation-sym, IsPermutation-trans, length_permutation, Contains-permutation}
-use Rattle.iddqd_store.specs.Bag.{Ranks, AreLawful, IsSound, NamesOne, agrees, clash, like, order, over, some_of, swap, without}
+use Rattle.iddqd_store.specs.Bag.{Ranks, AreLawful, IsSound, NamesOne, agrees, like, order, over, some_of, swap, without}
 use Rattle.iddqd_store.specs.Map.{Map, bag}
 use Rattle.iddqd_store.specs.Map.Walk.{passed, to_come}
 use Rattle.iddqd_store.proofs.BagLemmas.Exchanges.{split, IsPermutation-filter}
-use Rattle.iddqd_store.proofs.BagLemmas.Sound.{all_pass, each_passes, IsSound-rank, named_is, none_pass, each_weaker, NamesOne-apart, Contains-filter, IsSound-IsPermutation, named-IsPermutation, length-over}
+use Rattle.iddqd_store.proofs.BagLemmas.Sound.{all_pass, each_passes, IsSound-rank, named_is, none_pass, each_weaker, NamesOne-apart, Contains-filter, IsSound-IsPermutation, length-over}
 use Rattle.iddqd_store.proofs.BagLemmas.Steps.{agrees-conflicts, length-clash}
 use Rattle.iddqd_store.proofs.BagLemmas.Theory.{conflicts-self, swap-IsPermutation}
 use Rattle.iddqd_store.proofs.RankLemmas.Index.{Contains-here, Contains-cons}

@@ -1,4 +1,4 @@
--- What the keys of an entry find in a sound bag. No proof cites these so far: the calls of entries are to rest on them.
+-- What the keys of an entry find in a sound bag.
 use Rattle.std.specs.Prelude.{◌≡◌, ◌≤◌, ◌<◌, Bool, true, not, List, [], ◌∷◌, ◌++◌, length, filter, IsPermutation}
 use Rattle.std.specs.List.{AllByRecursion}
 use Rattle.std.proofs.Common.{refl, sym, ap, subst, ◌∙◌, arith}

@@ -1,6 +1,6 @@
 -- What an item that has the keys conflicts with is what the keys find.
-use Rattle.std.specs.Prelude.{◌≡◌, ◌≤◌, length, Contains, Bool, true, not, List, [], ◌∷◌, ◌++◌, Option, None, Some, position, filter}
-use Rattle.std.specs.List.{AllByRecursion, AllZip}
+use Rattle.std.specs.Prelude.{◌≡◌, ◌≤◌, length, Contains, Bool, true, not, List, [], ◌∷◌, ◌++◌, filter}
+use Rattle.std.specs.List.{AllByRecursion}
 use Rattle.std.proofs.Common.{inl, inr, refl, ap, ◌∙◌, arith}
 use Rattle.iddqd_store.specs.Bag.{Ranks, IsSound, NamesOne, listing, like, order, clash}
 use Rattle.iddqd_store.specs.Rank.Keys.{AreKeyTests}

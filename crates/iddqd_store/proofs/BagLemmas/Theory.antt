@@ -1,5 +1,5 @@
--- Theorems about a bag that no proof cites so far. They say how its words go together, and what later calls rest on:
--- writing in place (`swap`), building along a list (`overs`, `adds`), keeping some, counting by hashes.
+-- Theorems about a bag, of which calls rest on some. They say how its words go together: writing in place (`swap`), building
+-- along a list (`overs`, `adds`), keeping some, counting by hashes.
 use Rattle.std.specs.Prelude.{◌≡◌, ◌≢◌, ℕ, ◌<◌, ◌≤◌, ◌==◌, Bool, true, false, cond, not, List, [], ◌∷◌, ◌++◌, length, filter, fold, Ok, Err, IsPermutation}
 use Rattle.std.specs.List.{IsDistinct, AllByRecursion, items_where_true}
 use Rattle.std.proofs.Common.{refl, sym, ap, subst, ◌∙◌, arith}

@@ -3,7 +3,7 @@ use Rattle.std.specs.Prelude.{◌≡◌, ◌≤◌, ◌<◌, ℕ, zero, suc, ◌
 use Rattle.std.proofs.Common.{refl, ap, ◌∙◌, arith, add-one}
 use Rattle.iddqd_store.specs.Map.{Map}
 use Rattle.iddqd_store.specs.Map.Walk.{Passes, IsNextSlot, write_next, after_next}
-use Rattle.iddqd_store.specs.Map.Written.{of_item, map_with}
+use Rattle.iddqd_store.specs.Map.Written.{map_with}
 use Rattle.iddqd_store.specs.Slots.{get, items_in}
 use Rattle.iddqd_store.specs.Slots.Next.{ComesNext}
 

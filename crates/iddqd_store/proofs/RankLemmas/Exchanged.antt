@@ -1,7 +1,7 @@
 -- How a map stays indexed where an item gives way to one with the same keys.
-use Rattle.std.specs.Prelude.{◌≡◌, ◌<◌, ℕ, Bool, true, List, [], ◌∷◌, length, map, IsPermutation, Option, Some, slice_set, ⊤}
+use Rattle.std.specs.Prelude.{◌≡◌, ◌<◌, ℕ, true, List, [], ◌∷◌, length, map, IsPermutation, Option, Some, slice_set}
 use Rattle.std.specs.List.{AllByRecursion}
-use Rattle.std.proofs.Common.{refl, sym, subst}
+use Rattle.std.proofs.Common.{subst}
 use Rattle.std.proofs.lemmas.List.Sorted.{IsPermutation-sym, IsPermutation-trans, IsPermutation-map}
 use Rattle.iddqd_store.specs.Bag.{Ranks, AreLawful, agrees, swap}
 use Rattle.iddqd_store.specs.Rank.Index.{pair_of, IsIndex, AreIndexes, IsIndexed}

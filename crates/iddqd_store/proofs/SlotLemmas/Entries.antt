@@ -1,11 +1,11 @@
 -- What the slots that searches found hold is what their tests find in the bag.
-use Rattle.std.specs.Prelude.{◌≡◌, ◌≢◌, ◌≤◌, ◌<◌, ℕ, Bool, true, false, cond, not, ◌&&◌, List, [], ◌∷◌, ◌++◌, length, filter, fold, Contains, Option, Some, None, is_some, nat_eq, All, if◌then◌else◌}
+use Rattle.std.specs.Prelude.{◌≡◌, ◌≢◌, ℕ, Bool, true, false, cond, List, [], ◌∷◌, ◌++◌, length, filter, fold, Contains, Option, Some, None, is_some, nat_eq, if◌then◌else◌}
 use Rattle.std.specs.List.{AllByRecursion, IsDistinct, list_all, list_any}
 use Rattle.std.specs.Option.{option_to_list, option_and_then, IfSome}
 use Rattle.std.proofs.Common.{IsSome, inl, inr, refl, sym, ap, subst, ◌∙◌, arith, append-nil, append_assoc}
 use Rattle.std.proofs.lemmas.Bool.{false≢true}
 use Rattle.std.proofs.lemmas.Bool.Decides.{nat_tests}
-use Rattle.iddqd_store.specs.Bag.{Ranks, AreLawful, IsOnly, IsSound, listing, all_of, every_of, entry, entry_of, is_unique}
+use Rattle.iddqd_store.specs.Bag.{Ranks, AreLawful, IsOnly, listing, all_of, every_of, entry, entry_of, is_unique}
 use Rattle.iddqd_store.specs.Rank.Index.{IsIndexed}
 use Rattle.iddqd_store.specs.Slots.{get, IsLive, live_items}
 use Rattle.iddqd_store.specs.Slots.Found.{items_at, lists, with_found, each_once, is_at, found_by_all, head_of, FoundAt, AreFound, held_at, entry_at}
@@ -15,7 +15,6 @@ use Rattle.iddqd_store.proofs.BagLemmas.Over.{IsDistinct-with_found}
 use Rattle.iddqd_store.proofs.BagLemmas.Sound.{each_passes, Contains-filter, IsSound-rank, IsDistinct-nil}
 use Rattle.iddqd_store.proofs.BagLemmas.Unique.{is_some-only}
 use Rattle.iddqd_store.proofs.RankLemmas.Index.{Contains-cons_cases, item_at, same_slot}
-use Rattle.iddqd_store.proofs.RankLemmas.Search.{each_at}
 use Rattle.iddqd_store.proofs.SlotLemmas.Found.{listing_found}
 
 itself : (a : ℕ) → nat_eq a a ≡ true

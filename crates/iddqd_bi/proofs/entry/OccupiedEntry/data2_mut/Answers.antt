@@ -1,4 +1,4 @@
-use Rattle.std.proofs.Common.{rules, sym, ◌∙◌}
+use Rattle.std.proofs.Common.{rules, ◌∙◌}
 use Rattle.iddqd_store.proofs.SlotLemmas.Entries.{found_item, found_some}
 use Rattle.iddqd_bi.proofs.entry.OccupiedEntry.data2_mut.Goals as goal
 

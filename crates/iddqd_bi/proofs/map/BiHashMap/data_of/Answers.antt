@@ -1,4 +1,4 @@
-use Rattle.std.proofs.Common.{rules, ap, sym, ◌∙◌, refl}
+use Rattle.std.proofs.Common.{rules, ap, sym, ◌∙◌}
 use Rattle.std.specs.Option.{option_and_then}
 use Rattle.iddqd_store.specs.Slots.{get}
 use Rattle.iddqd_bi.proofs.map.BiHashMap.data_of.Goals as goal

@@ -1,4 +1,4 @@
-use Rattle.std.proofs.Common.{rules, ℕ, List, Option, ◌≡◌, [], ◌∷◌, true, false, sym, ap, ◌∙◌}
+use Rattle.std.proofs.Common.{rules, ℕ, List, Option, ◌≡◌, [], ◌∷◌, true, false, sym, ◌∙◌}
 use Rattle.std.specs.Prelude.{is_some}
 use Rattle.std.specs.List.{list_any}
 use Rattle.iddqd_store.specs.Slots.Found.{AreFound}

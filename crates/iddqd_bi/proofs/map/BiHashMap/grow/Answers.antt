@@ -1,6 +1,5 @@
-use Rattle.std.proofs.Common.{arith, rules, ap, refl, ◌≡◌, ◌+◌, ◌<◌, length, ℕ}
+use Rattle.std.proofs.Common.{arith, rules, ap, refl, ◌≡◌, ℕ}
 use Rattle.std.specs.Prelude.{min}
-use Rattle.iddqd_store.specs.Slots.{live_items}
 use Rattle.iddqd_store.proofs.RankLemmas.Index.{length-live_items, length-index}
 use Rattle.iddqd_store.proofs.RankLemmas.Invariant.{IsIndexed-reorder}
 use Rattle.iddqd_store.proofs.MapLemmas.{MakesRoom-refused}

@@ -1,4 +1,4 @@
-use Rattle.std.proofs.Common.{refl, sym, ap, ◌∙◌, arith}
+use Rattle.std.proofs.Common.{sym, ap, ◌∙◌, arith}
 use Rattle.iddqd_store.specs.Map.{Map, hash_of}
 use Rattle.iddqd_store.specs.Slots.{get}
 use Rattle.iddqd_store.proofs.RankLemmas.Exchanged.{IsIndexed-exchange, exchange_swaps}
