@@ -2,6 +2,7 @@
 ghost use Rattle.std.specs.Prelude.{◌≡◌, ◌<◌, ◌≤◌, ◌++◌, ◌∷◌, ◌==◌, [], length, option_copied, slice_get};
 ghost use Rattle.std.specs.Option.{option_to_list};
 
+use crate::item_index::ItemIndex;
 use std::marker::Model;
 use std::mem;
 
@@ -94,5 +95,35 @@ impl<T> UpToThree<T> {
         let third = self.third.take();
         let second = mem::replace(&mut self.second, third);
         mem::replace(&mut self.first, second)
+    }
+}
+
+impl UpToThree<ItemIndex> {
+    ghost use Rattle.iddqd_store.specs.Slots.Found.{lists, with_found};
+
+    /// Whether this slot is among them.
+    pub fn lists(&self, ix: ItemIndex) -> bool
+        ensures { result ≡ lists self.now ix }
+    {
+        match (&self.first, &self.second, &self.third) {
+            (None, _, _) => false,
+            (Some(first), None, _) => ix == *first,
+            (Some(first), Some(second), None) => ix == *first || ix == *second,
+            (Some(first), Some(second), Some(third)) => {
+                ix == *first || ix == *second || ix == *third
+            }
+        }
+    }
+
+    /// Puts the slot that a search found behind the others, unless it is among them.
+    pub fn push_found(&mut self, found: Option<ItemIndex>)
+        requires { length self.old < 3 }
+        ensures { self.new ≡ with_found self.old found }
+    {
+        if let Some(ix) = found {
+            if !self.lists(ix) {
+                self.push(ix);
+            }
+        }
     }
 }

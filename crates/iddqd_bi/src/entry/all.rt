@@ -13,8 +13,8 @@ use crate::item::{BiHashItem, BiHashItemMut};
 use std::hash::{BuildHasher, Hash};
 
 impl<'a, T: BiHashItem, S: BuildHasher, Q: Keys<T::K1, T::K2>> Entry<'a, T, S, Q> {
-    /// Puts an item in where no item has one of the keys, as `VacantEntry::insert` does, and answers it. Where some has,
-    /// the new item is dropped and nothing changes, and the answer holds those that are there.
+    /// Puts an item in where no item has one of the keys, as `VacantEntry::insert` does, and answers it. Where some
+    /// has, the new item is dropped and nothing changes, and the answer holds those that are there.
     ///
     /// At a refusal a caller knows less of the map than after `VacantEntry::insert_mut`.
     pub fn or_insert(self, item: T) -> Result<OccupiedEntryMut<'a, T, S>, EntryError<T>>

@@ -17,8 +17,8 @@ use std::hash::{BuildHasher, Hash};
 impl<'a, T: BiHashItem, S: BuildHasher, Q: Keys<T::K1, T::K2>> VacantEntry<'a, T, S, Q> {
     /// Puts an item in that has the entry's keys.
     ///
-    /// It is refused with the lowest rank at which its key is not the entry's, or else where the map is full and there is
-    /// no memory to grow. Each refusal hands the item back, and the map is as it was.
+    /// It is refused with the lowest rank at which its key is not the entry's, or else where the map is full and there
+    /// is no memory to grow. Each refusal hands the item back, and the map is as it was.
     ///
     /// It compares the first keys, and the second ones where those are equal, and searches nothing. It hashes each key
     /// of the item once, and takes memory only where the map is full.
@@ -88,8 +88,8 @@ impl<'a, T: BiHashItem, S: BuildHasher, Q: Keys<T::K1, T::K2>> VacantEntry<'a, T
 }
 
 impl<'a, T: BiHashItem, S: BuildHasher> VacantEntry<'a, T, S> {
-    /// The same as `insert`, and answers an entry, which is unique. At a refusal a caller knows less of the map than after
-    /// `insert`.
+    /// The same as `insert`, and answers an entry, which is unique. At a refusal a caller knows less of the map than
+    /// after `insert`.
     pub fn insert_entry(self, item: T) -> Result<OccupiedEntry<'a, T, S>, EntryError<T>>
         ensures same_map { IfOk result (λ e. e.map.ghost_name ≡ self.entry.map.ghost_name) }
         ensures gains { IfOk result (λ e. Gains self.entry.map.now item e.map.now) }

@@ -10,6 +10,7 @@ ghost use Rattle.iddqd_bi.specs.Keys.{ranks};
 ghost use Rattle.iddqd_store.proofs.MapLemmas.{IsEquivalence-key};
 
 use super::BiHashMap;
+use super::slots::has_others;
 use crate::item::BiHashItem;
 use std::hash::{BuildHasher, Hash};
 
@@ -52,7 +53,7 @@ impl<T: BiHashItem + PartialEq, S: BuildHasher> BiHashMap<T, S> {
         ensures { result ≡ list_any (same_item (ranks T.BiHashItem T.K1.eq T.K2.eq) T.eq item.now) (bag self.now) }
     {
         match self.get1(item.key1()) {
-            Some(found) => item.key2() == found.key2() && item == found,
+            Some(found) => has_others(found, item.key2()) && item == found,
             None => false,
         }
     }

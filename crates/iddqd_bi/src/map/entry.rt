@@ -12,8 +12,8 @@ use crate::item::BiHashItem;
 use std::hash::{BuildHasher, Hash};
 
 impl<T: BiHashItem, S: BuildHasher> BiHashMap<T, S> {
-    /// What two keys find: no item, one that has both, or items that have one of them. The entry keeps the keys and what
-    /// they found, and searches nothing again. It takes no memory.
+    /// What two keys find: no item, one that has both, or items that have one of them. The entry keeps the keys and
+    /// what they found, and searches nothing again. It takes no memory.
     ///
     /// Each key is hashed once and searched for once.
     pub fn entry<'a>(&'a mut self, key1: &'a T::K1, key2: &'a T::K2) -> Entry<'a, T, S>

@@ -174,8 +174,8 @@ where
         }
     }
 
-    // Hands a reply to the sink. No map has more items than fit, which each of these calls says, since each step has to.
-    // A reply that lends nothing has a free lifetime, so each reply goes to the sink from a borrow of the map.
+    // Hands a reply to the sink. No map has more items than fit, which each of these calls says, since each step has
+    // to. A reply that lends nothing has a free lifetime, so each reply goes to the sink from a borrow of the map.
     fn tell<'m, K: BiSink<T>>(&'m self, reply: BiReply<'m, T>, sink: &mut K) -> Result<(), K::Fault>
         ensures took { K.took sink.old (value_of reply.entry) result sink.new }
         ensures fits { Fits (state_of self.now) }

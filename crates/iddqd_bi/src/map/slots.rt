@@ -3,14 +3,14 @@
 ghost use Rattle.std.specs.Prelude.{◌≡◌, ◌≢◌, ◌+◌, ◌^◌, ◌<◌, ◌≤◌, [], ◌∷◌, length, map, drop, All, IsPermutation, OnOk, OnErr, IfOk, IfErr, Some, None, IfSome, IfNone, nat_eq, slice_set};
 ghost use Rattle.std.specs.List.{IsDistinct};
 ghost use Rattle.std.specs.Option.{option_and_then};
-ghost use Rattle.iddqd_store.specs.Bag.{IsOnly, IsSound, clash, order, over};
+ghost use Rattle.iddqd_store.specs.Bag.{IsOnly, IsSound, clash, every_of, order, over};
 ghost use Rattle.iddqd_store.specs.Rank.Index.{HasHash};
 ghost use Rattle.iddqd_store.specs.Map.{bag, hash_of, Gains, Loses, MakesRoom, IsFullFor, ListsConflicts, IsBlockedAt};
 ghost use Rattle.iddqd_store.specs.Rank.{agree, key_hash};
 ghost use Rattle.iddqd_store.specs.Slots.Found.{items_at, FoundAt};
 ghost use Rattle.iddqd_store.specs.Slots.{get, items_in, IsLive, Updates};
 ghost use Rattle.iddqd_store.specs.Slots.Next.{ComesNext};
-ghost use Rattle.iddqd_bi.specs.Keys.{ranks, has_both};
+ghost use Rattle.iddqd_bi.specs.Keys.{ranks, has2, has_both};
 
 pub(crate) mod entry;
 mod write;
@@ -28,6 +28,13 @@ pub(crate) enum Refusal<T> {
     Duplicate(T, UpToTwo<ItemIndex>),
     /// There was no memory for it.
     Memory(T),
+}
+
+/// Whether the item has the second key that the query stands for.
+pub(crate) fn has_others<T: BiHashItem, Q2: Equivalent<T::K2>>(item: &T, query2: &Q2) -> bool
+    ensures { result ≡ every_of (has2 T.BiHashItem Q2.equivalent query2.now ∷ []) item.now }
+{
+    query2.equivalent(item.key2())
 }
 
 impl<T: BiHashItem, S: BuildHasher> BiHashMap<T, S> {
@@ -69,7 +76,7 @@ impl<T: BiHashItem, S: BuildHasher> BiHashMap<T, S> {
     {
         let ix = self.by_key1().slot(hash, query1)?;
         let item = self.items.get(ix)?;
-        if query2.equivalent(item.key2()) {
+        if has_others(item, query2) {
             Some(ix)
         } else {
             None
@@ -128,8 +135,8 @@ impl<T: BiHashItem, S: BuildHasher> BiHashMap<T, S> {
         found
     }
 
-    /// Puts an item in that nothing conflicts with. It is no part of the loop of a caller that inserts: where LLVM makes
-    /// it one, inserting takes longer.
+    /// Puts an item in that nothing conflicts with. It is no part of the loop of a caller that inserts: where LLVM
+    /// makes it one, inserting takes longer.
     #[inline(never)]
     pub(crate) fn put(&mut self, item: T, hash1: u64, hash2: u64) -> ItemIndex
         requires room { length (bag self.old) < self.old.capacity }

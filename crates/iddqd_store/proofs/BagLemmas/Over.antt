@@ -61,6 +61,14 @@ module _ {T : Type 0} where
       ∙ ap (λ l. taken ++ x ∷ l) (items_at-others old new ix None rest updates (IsDistinct-head nat_eq ix rest apart))
       ∙ (rw found at before)
 
+  -- one more item was seen in its slot
+  pub items_at-seen : (slots : List (Option T)) (ix : ℕ) (rest : List ℕ) (x : T) (seen whole : List T) → get slots ix ≡ Some x → seen ++ items_at slots (ix ∷ rest) ≡ whole → (seen ++ x ∷ []) ++ items_at slots rest ≡ whole
+  items_at-seen slots ix rest x seen whole found before = append_assoc seen (x ∷ []) (items_at slots rest) ∙ (rw found at before)
+
+  -- or its slot had none
+  pub items_at-none : (slots : List (Option T)) (ix : ℕ) (rest : List ℕ) (seen whole : List T) → get slots ix ≡ None → seen ++ items_at slots (ix ∷ rest) ≡ whole → seen ++ items_at slots rest ≡ whole
+  items_at-none slots ix rest seen whole none before = rw none at before
+
   -- the other slots stay live
   pub live-others : (old new : List (Option T)) (ix : ℕ) (rest : List ℕ) → Updates old new ix None → IsDistinct nat_eq (ix ∷ rest) → All (IsLive old) rest → All (IsLive new) rest
   live-others old new ix rest updates apart live = each rest (IsDistinct-head nat_eq ix rest apart) live

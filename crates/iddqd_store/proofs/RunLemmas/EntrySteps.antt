@@ -1,10 +1,11 @@
--- Steps of commands on entries, from what an entry's calls say.
-use Rattle.std.specs.Prelude.{◌≡◌, ◌<◌, ◌≤◌, Bool, List, [], ◌∷◌, length, None, IsPermutation}
+-- Steps of commands on entries and on writing, from what the calls of an entry and of a guard say.
+use Rattle.std.specs.Prelude.{◌≡◌, ◌<◌, ◌≤◌, Bool, true, List, [], ◌∷◌, length, Option, None, Some, IfSome, IsPermutation, is_some}
 use Rattle.std.proofs.Common.{sym, subst, ◌∙◌, arith}
-use Rattle.iddqd_store.specs.Bag.{Ranks, clash, differ, listing, over}
+use Rattle.iddqd_store.specs.Bag.{Ranks, IsOnly, clash, differ, listing, over, swap}
+use Rattle.iddqd_store.specs.Map.{Map, bag}
 use Rattle.iddqd_store.specs.Rank.Keys.{AreKeyTests}
 use Rattle.iddqd_store.specs.Runs.Reply.{done, displaced}
-use Rattle.iddqd_store.specs.Runs.Step.{State, EntryInserts, OrInserts}
+use Rattle.iddqd_store.specs.Runs.Step.{State, EntryInserts, OrInserts, Sets, state_of}
 use Rattle.iddqd_store.proofs.BagLemmas.Differ.{differ-none}
 use Rattle.iddqd_store.proofs.BagLemmas.KeyTests.{clash-keys, order-keys}
 use Rattle.iddqd_store.proofs.BagLemmas.Steps.{order-empty}
@@ -33,3 +34,10 @@ module _ {T : Type 0} (D : Type 0) (ranks : Ranks T) (tests : List (T → Bool))
   entry_inserts_occupied gone is put capacity =
       let listed = order-keys ranks tests x keys (differ-none tests x same) old.items in
       (same, (is ∙ sym listed, put, omega (arith, capacity), (λ room. capacity), λ some. capacity))
+
+-- the item that was found has the data now
+pub sets_found : {T D S : Type 0} (ranks : Ranks T) (put : T → D → T) (test : T → Bool) (old held : Map T S) (new : State T) (d : D) (found : Option T)
+    → held ≡ old → is_some found ≡ true → IsOnly test (bag old) found → IfSome found (λ x. IsPermutation new.items (swap ranks (bag held) x (put x d))) → new.capacity ≡ old.capacity
+    → Sets ranks put test (state_of old) d done new
+sets_found ranks put test old held new d None is some only swaps capacity = absurd (cc some)
+sets_found ranks put test old held new d (Some x) is some only swaps capacity = (x, only, rw is at swaps, capacity)

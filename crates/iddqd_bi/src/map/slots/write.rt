@@ -1,7 +1,8 @@
 //! Writing the item of a slot.
-ghost use Rattle.std.specs.Prelude.{◌≡◌, [], ◌∷◌, true, length, Some, IsPermutation, IfSome, IfNone, is_some, ◌+◌};
+ghost use Rattle.std.specs.Prelude.{◌≡◌, [], ◌∷◌, true, All, length, nat_eq, Some, IsPermutation, IfSome, IfNone, is_some, ◌+◌};
 ghost use Rattle.std.specs.Borrow.{sem};
 ghost use Rattle.std.specs.Fn.{CalledAt};
+ghost use Rattle.std.specs.List.{IsDistinct};
 ghost use Rattle.std.specs.Option.{option_and_then};
 ghost use Rattle.iddqd_store.specs.Bag.{swap};
 ghost use Rattle.iddqd_store.specs.Bag.Storing.{Stores};
@@ -9,12 +10,13 @@ ghost use Rattle.iddqd_store.specs.Map.{bag};
 ghost use Rattle.iddqd_store.specs.Map.Walk.{IsNextSlot, Passes, to_come};
 ghost use Rattle.iddqd_store.specs.Map.Written.{map_with};
 ghost use Rattle.iddqd_store.specs.Slots.{get, IsLive};
-ghost use Rattle.iddqd_store.specs.Slots.Found.{held_at};
+ghost use Rattle.iddqd_store.specs.Slots.Found.{held_at, items_at};
 ghost use Rattle.iddqd_bi.specs.Keys.{ranks};
 
 use super::super::BiHashMap;
+use super::entry::each_once;
 use crate::item::{BiHashItem, BiHashItemMut};
-use iddqd_store::ItemIndex;
+use iddqd_store::{ItemIndex, UpToTwo};
 use std::hash::{BuildHasher, Hash};
 
 impl<T: BiHashItem, S: BuildHasher> BiHashMap<T, S> {
@@ -111,12 +113,31 @@ impl<T: BiHashItemMut, S: BuildHasher> BiHashMap<T, S> {
         *self.data_mut_at(ix) = d;
     }
 
+    /// Stores what a function answers at the items of these slots, in their order.
+    fn store_all<F: FnMut(&T) -> T::Data>(&mut self, found: &UpToTwo<ItemIndex>, mut f: F)
+    where
+        T::Data: Drop,
+        requires live { All (IsLive self.old.slots) found.now }
+        requires apart { IsDistinct nat_eq found.now }
+        requires callable { F.IsAlwaysCallable f }
+        ensures stores { Stores (CalledAt F.FnMut) T.put (ranks T.BiHashItem T.K1.eq T.K2.eq) f
+            (items_at self.old.slots found.now) (bag self.old) (bag self.new) }
+        ensures capacity { self.new.capacity ≡ self.old.capacity }
+        ensures builder { self.new.builder ≡ self.old.builder }
+    {
+        for at in 0..found.len() {
+            if let Some(ix) = found.get(at) {
+                self.store_at(*ix, &mut f);
+            }
+        }
+    }
+
     /// Stores what a function answers at the items of the slots that searches found, at each once.
     pub(crate) fn store_found<F: FnMut(&T) -> T::Data>(
         &mut self,
         slot1: Option<ItemIndex>,
         slot2: Option<ItemIndex>,
-        mut f: F,
+        f: F,
     )
     where
         T::Data: Drop,
@@ -128,16 +149,6 @@ impl<T: BiHashItemMut, S: BuildHasher> BiHashMap<T, S> {
         ensures capacity { self.new.capacity ≡ self.old.capacity }
         ensures builder { self.new.builder ≡ self.old.builder }
     {
-        match (slot1, slot2) {
-            (Some(a), Some(b)) => {
-                self.store_at(a, &mut f);
-                if a != b {
-                    self.store_at(b, &mut f);
-                }
-            }
-            (Some(a), None) => self.store_at(a, &mut f),
-            (None, Some(b)) => self.store_at(b, &mut f),
-            (None, None) => {}
-        }
+        self.store_all(&each_once(slot1, slot2), f);
     }
 }

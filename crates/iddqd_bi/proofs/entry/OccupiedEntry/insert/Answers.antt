@@ -1,5 +1,6 @@
 use Rattle.std.proofs.Common.{rules, ◌≡◌, [], ◌∷◌, true, sym, ◌∙◌}
 use Rattle.iddqd_store.specs.Map.{bag}
+use Rattle.iddqd_store.proofs.MapLemmas.Storing.{live_found}
 use Rattle.iddqd_store.proofs.SlotLemmas.Entries.{IsDistinct-each_once}
 use Rattle.iddqd_bi.proofs.EntryLemmas.{here_found, here_listed, here_some, here_unique, here_value}
 use Rattle.iddqd_bi.proofs.MapLemmas.{order-both}
@@ -12,7 +13,7 @@ put_over-displaced-requires-clause-found g c =
     let same2 : g.T.K2.PartialEq.eq o.key2.now (g.T.BiHashItem.key2 c.args.item) ≡ true = search rules in
     rw c.each_once-found.ensures record {
       items = c.requires.listed ∙ sym (order-both g.T.BiHashItem g.T.K1.PartialEq.eq g.T.K2.PartialEq.eq g.met.T.K1.Eq.laws g.met.T.K2.Eq.laws c.args.item o.key1.now o.key2.now same1 same2 (bag o.map.now));
-      live = search rules;
+      live = live_found o.map.now.slots (o.slot1 ∷ o.slot2 ∷ []) (c.requires.found.0.live, (c.requires.found.1.0.live, tt));
       apart = IsDistinct-each_once (o.slot1 ∷ o.slot2 ∷ []);
     }
 

@@ -3,13 +3,21 @@ use Rattle.std.specs.Prelude.{All, nat_eq}
 use Rattle.std.specs.List.{IsDistinct}
 use Rattle.std.proofs.lemmas.Map.Keys.{IsDistinct-tail}
 use Rattle.std.proofs.lemmas.List.{length_push}
-use Rattle.std.proofs.lemmas.List.Elements.{All-tail}
+use Rattle.std.proofs.lemmas.List.Elements.{All-head, All-tail}
 use Rattle.std.proofs.lemmas.Option.{slice_get-get_or}
 use Rattle.iddqd_store.specs.Slots.{IsLive}
 use Rattle.iddqd_store.specs.Slots.Found.{items_at}
 use Rattle.iddqd_store.proofs.BagLemmas.Over.{drop-found, items_at-taken, live-others, IsPermutation-taken}
 use Rattle.iddqd_bi.proofs.map.BiHashMap.take_all.Goals as goal
 use Rattle.iddqd_bi.proofs.map.BiHashMap.take_all.Goals.{in-Some, in_default}
+
+pub take-requires-clause-live : goal.take-requires-clause-live
+take-requires-clause-live g c =
+    let found = c.args.found.now in
+    let rest = drop (c.loop-at.at + 1) found in
+    let slots = c.loop-at.self.slots in
+    let front = drop-found found c.loop-at.at c.in-Some.ix.now (sym c.in-Some.ensures) in
+    All-head (IsLive slots) c.in-Some.ix.now rest (subst (All (IsLive slots)) front c.loop-at.invariant.live)
 
 pub loop-at-preserved : goal.loop-at-preserved
 loop-at-preserved g c =

@@ -1,0 +1,55 @@
+use Rattle.std.proofs.Common.{◌+◌, sym, ap, subst, ◌∙◌, arith, drop}
+use Rattle.std.specs.Prelude.{All, nat_eq}
+use Rattle.std.specs.Fn.{CalledAt}
+use Rattle.std.specs.List.{IsDistinct}
+use Rattle.std.proofs.lemmas.List.Elements.{All-head, All-tail}
+use Rattle.std.proofs.lemmas.Map.Keys.{IsDistinct-tail}
+use Rattle.std.proofs.lemmas.Option.{slice_get-get_or}
+use Rattle.iddqd_store.specs.Bag.Storing.{Stores}
+use Rattle.iddqd_store.specs.Map.{Map, bag}
+use Rattle.iddqd_store.specs.Slots.{IsLive}
+use Rattle.iddqd_store.specs.Slots.Found.{items_at}
+use Rattle.iddqd_store.proofs.BagLemmas.Over.{drop-found}
+use Rattle.iddqd_store.proofs.MapLemmas.Storing.{live_elsewhere, one_store}
+use Rattle.iddqd_bi.specs.Keys.{ranks}
+use Rattle.iddqd_bi.proofs.map.BiHashMap.store_all.Goals as goal
+use Rattle.iddqd_bi.proofs.map.BiHashMap.store_all.Goals.{in-Some, in_default}
+
+pub store_at-requires-clause-live : goal.store_at-requires-clause-live
+store_at-requires-clause-live g c =
+    let found = c.args.found.now in
+    let rest = drop (c.loop-at.at + 1) found in
+    let front = drop-found found c.loop-at.at c.in-Some.ix.now (sym c.in-Some.ensures) in
+    All-head (IsLive c.loop-at.self.slots) c.in-Some.ix.now rest (subst (All (IsLive c.loop-at.self.slots)) front c.loop-at.invariant.live)
+
+pub loop-at-preserved : goal.loop-at-preserved
+loop-at-preserved g c =
+    let by = ranks g.T.BiHashItem g.T.K1.PartialEq.eq g.T.K2.PartialEq.eq in
+    let put = g.T.BiHashItemMut.put in
+    let at = c.loop-at.at in
+    let found = c.args.found.now in
+    let rest = drop (at + 1) found in
+    let slots = c.loop-at.self.slots in
+    let so_far = c.loop-at.invariant in
+    elim c.match-get.branch [
+      | in-Some w ↦
+          let ix = w.in-Some.ix.now in
+          let stored = w.store_at.ensures.stored in
+          let mid = w.store_at.new.self in
+          let front = drop-found found at ix (sym w.in-Some.ensures) in
+          let apart = subst (IsDistinct nat_eq) front so_far.apart in
+          let live = subst (All (IsLive slots)) front so_far.live in
+          let written = λ (x : g.row.T.Denot). put x stored.1 in
+          record {
+            live = rw w.self-is (subst (λ (m : Map g.row.T.Denot g.row.S.Denot). All (IsLive m.slots) rest) (sym stored.4) (live_elsewhere c.loop-at.self ix written rest apart (All-tail (IsLive slots) ix rest live)));
+            apart = IsDistinct-tail nat_eq ix rest apart;
+            callable = rw w.f-is w.store_at.ensures.callable;
+            completes = λ new stores.
+                so_far.completes new
+                (subst (λ l. Stores (CalledAt g.F.FnMut) put by c.loop-at.f (items_at slots l) (bag c.loop-at.self) new) (sym front)
+                (one_store (CalledAt g.F.FnMut) put by c.loop-at.f w.store_at.new.f c.loop-at.self mid new ix rest stored.0 stored.1 apart stored.2 stored.3 stored.4 stored.5 (rw (w.self-is, w.f-is) at stores)));
+            capacity = rw w.self-is (ap (λ (m : Map g.row.T.Denot g.row.S.Denot). m.capacity) stored.4 ∙ so_far.capacity);
+            builder = rw w.self-is (ap (λ (m : Map g.row.T.Denot g.row.S.Denot). m.builder) stored.4 ∙ so_far.builder);
+          }
+      | in_default w ↦ absurd (let there = slice_get-get_or found at 0 (omega (arith, c.loop-at-test.true, c.len-at-end.ensures.value)) in let none = w.in_default.ensures in cc (there, none))
+    ]

@@ -1,0 +1,36 @@
+use Rattle.std.proofs.Common.{◌≡◌, ◌≤◌, ◌+◌, length, ap, ◌∙◌, sym, rules, subst, List, [], ◌∷◌, ◌++◌, map, Global, arith}
+use Rattle.std.specs.declared.vec.IntoIter.{IntoIter}
+use Rattle.std.specs.Vec.Iter.{into_iter_items, into_iter_steps}
+use Rattle.std.proofs.lemmas.Iterator.{items_from_drains}
+use Rattle.std.proofs.lemmas.Iterator.Adapters.{YieldsList-from_vec}
+use Rattle.iddqd_store.specs.Bag.{clash}
+use Rattle.iddqd_store.specs.Map.{bag}
+use Rattle.iddqd_store.specs.Runs.Reply.{done, memory}
+use Rattle.iddqd_store.specs.Runs.Step.{ExtendsTo, state_of}
+use Rattle.iddqd_store.proofs.RunLemmas.Extending.{yielded_then, map_same}
+use Rattle.iddqd_tri.specs.Keys.{ranks}
+use Rattle.iddqd_tri.proofs.map.TriHashMap.apply_extend.Goals as goal
+
+pub returns-in-Ok-clause-step : goal.returns-in-Ok-clause-step
+returns-in-Ok-clause-step g c =
+    let by = ranks g.T.TriHashItem g.T.K1.PartialEq.eq g.T.K2.PartialEq.eq g.T.K3.PartialEq.eq in
+    let all = c.in-Ok.ensures.all in
+    let run = all.3 in
+    let same : map (λ y. y) all.1 ≡ c.args.items.items =
+    items_from_drains all.1 (run.1.0, run.1.1, λ _. (run.0, run.1.2)) (YieldsList-from_vec c.args.items.items all.2.0 (omega (arith, all.2.1, c.args.items.ok))) in
+    let extends = subst (λ (xs : List g.row.T.Denot). ExtendsTo by (state_of c.args.self.now) xs (state_of c.extend.new.self)) (sym (map_same all.1) ∙ same) all.4 in
+    let same_room = λ (room : length (bag c.args.self.now) + length c.args.items.items ≤ c.args.self.now.capacity). c.in-Ok.ensures.same_room (λ it gives. omega (arith, room, ap length gives.0)) in
+    (done, (extends, same_room), c.tell.ensures.fits, c.tell.ensures.took)
+
+pub returns-in-Err-clause-step : goal.returns-in-Err-clause-step
+returns-in-Err-clause-step g c =
+    let by = ranks g.T.TriHashItem g.T.K1.PartialEq.eq g.T.K2.PartialEq.eq g.T.K3.PartialEq.eq in
+    let same : c.in-Err.field-0.value ≡ c.in-Err.value = cc in
+    let refused = c.in-Err.ensures.refused in
+    let split : c.args.items.items ≡ refused.1 ++ c.in-Err.field-0.value ∷ into_iter_items refused.2 =
+    sym refused.3.0 ∙ yielded_then (into_iter_steps {X = g.row.T.Denot} {Z = Global}) (λ (it : IntoIter g.row.T.Denot Global). into_iter_items it) (λ s t x step. step.0) refused.1 refused.0 refused.2 c.in-Err.field-0.value refused.4 in
+    let whole : c.args.items.items ≡ refused.1 ++ c.in-Err.value ∷ into_iter_items refused.2 =
+    subst (λ (x : g.row.T.Denot). c.args.items.items ≡ refused.1 ++ x ∷ into_iter_items refused.2) same split in
+    let free : clash by (bag c.extend.new.self) c.in-Err.value ≡ [] =
+    subst (λ (x : g.row.T.Denot). clash by (bag c.extend.new.self) x ≡ []) same c.in-Err.ensures.free in
+    (memory c.in-Err.value, (refused.1, into_iter_items refused.2, whole, refused.5, free, c.in-Err.ensures.full), search rules, search rules)

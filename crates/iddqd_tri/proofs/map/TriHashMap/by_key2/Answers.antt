@@ -1,0 +1,8 @@
+use Rattle.iddqd_store.proofs.RankLemmas.Invariant.{first_rank, other_ranks}
+use Rattle.iddqd_tri.proofs.map.TriHashMap.by_key2.Goals as goal
+
+pub new-requires : goal.new-requires
+new-requires g c = first_rank (other_ranks c.self.invariant)
+
+pub returns-clause-apart : goal.returns-clause-apart
+returns-clause-apart g c = rw (← c.self.view_is) (first_rank (other_ranks c.self.invariant)).apart

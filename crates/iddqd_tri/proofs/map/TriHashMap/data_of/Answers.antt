@@ -1,0 +1,14 @@
+use Rattle.std.proofs.Common.{rules, ap, sym, ◌∙◌}
+use Rattle.std.specs.Option.{option_and_then}
+use Rattle.iddqd_store.specs.Slots.{get}
+use Rattle.iddqd_tri.proofs.map.TriHashMap.data_of.Goals as goal
+
+pub returns-in-Some : goal.returns-in-Some
+returns-in-Some g c = (
+  search rules,
+  record {
+    writes_back = tt;
+    some = search rules;
+    value = λ x is. c.data_mut_at.ensures.value x (sym (ap (option_and_then (get c.args.self.now.slots)) c.in-Some.is) ∙ is);
+  },
+)

@@ -1,0 +1,29 @@
+use Rattle.std.proofs.Common.{◌∙◌, arith, rules}
+use Rattle.std.proofs.iter.Next.{on}
+use Rattle.std.specs.Prelude.{IsPermutation}
+use Rattle.iddqd_store.specs.Bag.{over}
+use Rattle.iddqd_store.specs.Map.{bag}
+use Rattle.iddqd_store.specs.Runs.Step.{state_of}
+use Rattle.iddqd_store.proofs.RunLemmas.Extending.{ExtendsTo-push}
+use Rattle.iddqd_store.proofs.BagLemmas.Building.{length-overwritten}
+use Rattle.iddqd_tri.specs.Keys.{ranks}
+use Rattle.iddqd_tri.proofs.map.TriHashMap.extend.Goals as goal
+
+pub loop-item-preserved : goal.loop-item-preserved
+loop-item-preserved g c =
+    let by = ranks g.T.TriHashItem g.T.K1.PartialEq.eq g.T.K2.PartialEq.eq g.T.K3.PartialEq.eq in
+    let so_far = c.loop-item.invariant in
+    let put = c.insert_overwrite.ensures in
+    let nearer = (on c.in-Some.item c.in-Some.is c.next.ensures.goes so_far.ending).2 in
+    let in_place : IsPermutation (bag c.insert_overwrite.new.self) (over by (bag c.loop-item.self) c.in-Some.item) = search rules in
+    record {
+      callable = search rules;
+      ending = search rules;
+      extends = ExtendsTo-push by (state_of c.args.self.now) (state_of c.loop-item.self) (state_of c.insert_overwrite.new.self) c.loop-item.yielded c.in-Some.item so_far.extends in_place put.fits put.no_less_room;
+      no_less_room = omega (arith, so_far.no_less_room, put.no_less_room);
+      fits = λ fit.
+          let before = so_far.fits fit in
+          let same = put.same_room (omega (arith, before.0, nearer)) in
+          (omega (arith, before.0, nearer, same, length-overwritten by (bag c.loop-item.self) (bag c.insert_overwrite.new.self) c.in-Some.item in_place), same ∙ before.1);
+      builder = put.builder ∙ so_far.builder;
+    }

@@ -1,0 +1,48 @@
+use Rattle.std.proofs.Common.{sym, refl, ◌∙◌, arith}
+use Rattle.std.proofs.lemmas.List.Sorted.{IsPermutation-map, length_permutation}
+use Rattle.iddqd_store.proofs.RankLemmas.Index.{pair_in, hash_known, length-index, length-live_items}
+use Rattle.iddqd_store.proofs.RankLemmas.Invariant.{IsIndexed-remove}
+use Rattle.iddqd_tri.proofs.MapLemmas.{AreLawful-ranks}
+use Rattle.iddqd_tri.proofs.map.TriHashMap.take.Goals as goal
+
+pub forget-requires : goal.forget-requires
+forget-requires g c =
+    let found = sym c.remove.ensures.value ∙ c.in-Some.is in
+    record {
+      known = hash_known c.args.ix c.in-Some.item c.args.hash1 c.self.invariant.indexes.0 (rw (← c.self.view_is) at c.requires.hash1) found;
+      paired = pair_in c.args.ix c.in-Some.item _ c.self.invariant.indexes.0 refl found;
+    }
+
+pub forget-requires-in-Some : goal.forget-requires-in-Some
+forget-requires-in-Some g c =
+    let found = sym c.remove.ensures.value ∙ c.in-Some.is in
+    record {
+      known = hash_known c.args.ix c.in-Some.item c.args.hash2 c.self.invariant.indexes.1.0 (rw (← c.self.view_is) at c.requires.hash2) found;
+      paired = pair_in c.args.ix c.in-Some.item _ c.self.invariant.indexes.1.0 refl found;
+    }
+
+pub forget-requires-in-Some-2 : goal.forget-requires-in-Some-2
+forget-requires-in-Some-2 g c =
+    let found = sym c.remove.ensures.value ∙ c.in-Some.is in
+    record {
+      known = hash_known c.args.ix c.in-Some.item c.args.hash3 c.self.invariant.indexes.1.1.0 (rw (← c.self.view_is) at c.requires.hash3) found;
+      paired = pair_in c.args.ix c.in-Some.item _ c.self.invariant.indexes.1.1.0 refl found;
+    }
+
+pub invariant_of-self : goal.invariant_of-self
+invariant_of-self g c =
+    IsIndexed-remove c.in-Some.item (AreLawful-ranks g.T.TriHashItem g.met.T.K1.Eq.laws g.met.T.K2.Eq.laws g.met.T.K3.Eq.laws) c.self.invariant c.in-Some.ensures.members
+    (c.forget.ensures.taken, (c.forget-in-Some.ensures.taken, (c.forget-in-Some-2.ensures.taken, tt)))
+
+pub returns-clause-loses : goal.returns-clause-loses
+returns-clause-loses g c = record {
+  items = rw (← c.self.view_is) (IsPermutation-map (λ m. m.1) _ _ c.in-Some.ensures.members);
+  same_room = rw (← c.self.view_is, c.remove.ensures.capacity, c.forget.ensures.limit, c.forget-in-Some.ensures.limit, c.forget-in-Some-2.ensures.limit) refl;
+  same_builder = rw (← c.self.view_is) refl;
+}
+
+pub returns-clause-room : goal.returns-clause-room
+returns-clause-room g c =
+    let fewer = length-live_items c.remove.new.self.slots in
+    let one = length_permutation _ _ (IsPermutation-map (λ m. m.1) _ _ c.in-Some.ensures.members) in
+    omega (arith, fewer, one, c.in-Some.ensures.room, c.forget.ensures.room, c.forget-in-Some.ensures.room, c.forget-in-Some-2.ensures.room, length_permutation _ _ c.forget.ensures.taken, length_permutation _ _ c.forget-in-Some.ensures.taken, length_permutation _ _ c.forget-in-Some-2.ensures.taken, length-index c.self.invariant.indexes.0, length-index c.self.invariant.indexes.1.0, length-index c.self.invariant.indexes.1.1.0)

@@ -1,0 +1,198 @@
+-- What contracts say of entries.
+use Rattle.std.specs.Prelude.{◌≡◌, ◌≢◌, Bool, [], ◌∷◌, List, Option, Some, None, Result, IsOk, IfOk, IfErr, OnOk, OnErr, ⊤}
+use Rattle.std.specs.Option.{option_and_then, IfSome}
+use Rattle.std.specs.Borrow.{Fml, GName, RattleType, MutBor, LendsIf, follows, follows_so, name_if_ok}
+use Rattle.std.specs.HashMap.Lent.{HashMembers}
+use Rattle.std.specs.declared.cmp.PartialEq as equal
+use Rattle.std.specs.declared.hash.Hash as hash
+use Rattle.std.specs.declared.hash.Hasher as hasher
+use Rattle.std.specs.declared.hash.BuildHasher as builder
+use mir.Syntax.{named}
+use Rattle.iddqd_store.specs.Bag.{IsOnly, differ, entry, listing, unique, vacant}
+use Rattle.iddqd_store.specs.Bag as bags
+use Rattle.iddqd_store.specs.Map.{Map, bag, Gains, IsFullFor}
+use Rattle.iddqd_store.specs.Map.Written.{map_with_if}
+use Rattle.iddqd_store.specs.Slots.{get, IsLive}
+use Rattle.iddqd_store.specs.Slots.Found.{AreFound, entry_at, found_by_all, head_of, held_at}
+use Rattle.iddqd_tri.specs.Keys.{has1, has2, has3, key_tests, ranks}
+use Rattle.iddqd_tri.specs.Mismatch.{error_item, error_rank, OnNoMemory}
+use Rattle.iddqd_tri.specs.Refused.{map_row}
+use Rattle.iddqd_tri.specs.RefMuts.{ref_lender, rests_if_none}
+use Rattle.iddqd_tri.specs.declared.item.TriHashItem as item
+use Rattle.iddqd_tri.specs.declared.entry.keys.Keys as pair
+use Rattle.iddqd_tri.specs.declared.entry.Entry.{Entry}
+use Rattle.iddqd_tri.specs.declared.entry.Entry.TheVariants.{Vacant, Occupied}
+use Rattle.iddqd_tri.specs.declared.entry.VacantEntry.{VacantEntry}
+use Rattle.iddqd_tri.specs.declared.entry.OccupiedEntry.{OccupiedEntry}
+use Rattle.iddqd_tri.specs.declared.entry.OccupiedEntryMut.{OccupiedEntryMut}
+use Rattle.iddqd_tri.specs.declared.error.EntryError.{EntryError}
+use Rattle.iddqd_tri.specs.declared.ref_mut.RefMut.{RefMut}
+use Rattle.iddqd_tri.specs.contracts.entry.OccupiedEntry.{the_row as occupied_row}
+use Rattle.iddqd_tri.specs.contracts.map.TriHashMap.{the_row as row_of_map}
+
+module _ {T S K1 K2 K3 H : Type 0} where
+  -- for each rank, whether an item has the entry's key
+  abbrev pub sought : item.Ghosts T K1 K2 K3 → (K1 → K1 → Bool) → (K2 → K2 → Bool) → (K3 → K3 → Bool) → OccupiedEntry T S K1 K2 K3 H → List (T → Bool)
+  sought of eq1 eq2 eq3 o = key_tests of eq1 eq2 eq3 o.key1.now o.key2.now o.key3.now
+
+  -- the entry has found what its keys name, which is some item at least. `entry` ensures it
+  pub record HasFound (of : item.Ghosts T K1 K2 K3) (eq1 : K1 → K1 → Bool) (eq2 : K2 → K2 → Bool) (eq3 : K3 → K3 → Bool) (o : OccupiedEntry T S K1 K2 K3 H) : Type 0 where
+    pub found : AreFound (sought of eq1 eq2 eq3 o) o.map.now.slots (o.slot1 ∷ o.slot2 ∷ o.slot3 ∷ [])
+    pub value : entry_at o.map.now.slots (o.slot1 ∷ o.slot2 ∷ o.slot3 ∷ []) ≡ entry (sought of eq1 eq2 eq3 o) (bag o.map.now)
+    pub listed : held_at o.map.now.slots (o.slot1 ∷ o.slot2 ∷ o.slot3 ∷ []) ≡ listing (sought of eq1 eq2 eq3 o) (bag o.map.now)
+    pub some : listing (sought of eq1 eq2 eq3 o) (bag o.map.now) ≢ []
+
+  -- the items that are held for writing are in the map. `into_mut` ensures it
+  pub record Holds (m : OccupiedEntryMut T S K1 K2 K3 H) : Type 0 where
+    pub live1 : IfSome m.slot1 (IsLive m.map.now.slots)
+    pub live2 : IfSome m.slot2 (IsLive m.map.now.slots)
+    pub live3 : IfSome m.slot3 (IsLive m.map.now.slots)
+
+  -- the same places are held
+  pub record HoldsSame (m n : OccupiedEntryMut T S K1 K2 K3 H) : Type 0 where
+    pub same1 : n.slot1 ≡ m.slot1
+    pub same2 : n.slot2 ≡ m.slot2
+    pub same3 : n.slot3 ≡ m.slot3
+
+  -- the entry has the same keys, and the same places in the map
+  pub record FindsSame (o p : OccupiedEntry T S K1 K2 K3 H) : Type 0 where
+    pub key1 : p.key1 ≡ o.key1
+    pub key2 : p.key2 ≡ o.key2
+    pub key3 : p.key3 ≡ o.key3
+    pub same1 : p.slot1 ≡ o.slot1
+    pub same2 : p.slot2 ≡ o.slot2
+    pub same3 : p.slot3 ≡ o.slot3
+
+  -- those items, each once
+  abbrev pub held : OccupiedEntryMut T S K1 K2 K3 H → List T
+  held m = held_at m.map.now.slots (m.slot1 ∷ m.slot2 ∷ m.slot3 ∷ [])
+
+  abbrev pub held_entry : OccupiedEntryMut T S K1 K2 K3 H → bags.Entry T
+  held_entry m = entry_at m.map.now.slots (m.slot1 ∷ m.slot2 ∷ m.slot3 ∷ [])
+
+  -- the item with the first key, that with the second and that with the third
+  abbrev pub held1 : OccupiedEntryMut T S K1 K2 K3 H → Option T
+  held1 m = option_and_then (get m.map.now.slots) m.slot1
+
+  abbrev pub held2 : OccupiedEntryMut T S K1 K2 K3 H → Option T
+  held2 m = option_and_then (get m.map.now.slots) m.slot2
+
+  abbrev pub held3 : OccupiedEntryMut T S K1 K2 K3 H → Option T
+  held3 m = option_and_then (get m.map.now.slots) m.slot3
+
+  -- the item that has all
+  abbrev pub held_unique : OccupiedEntryMut T S K1 K2 K3 H → Option T
+  held_unique m = option_and_then (get m.map.now.slots) (head_of (found_by_all (m.slot1 ∷ m.slot2 ∷ m.slot3 ∷ [])))
+
+  -- what is held for writing is what the entry found
+  pub record HoldsFound (of : item.Ghosts T K1 K2 K3) (eq1 : K1 → K1 → Bool) (eq2 : K2 → K2 → Bool) (eq3 : K3 → K3 → Bool) (o : OccupiedEntry T S K1 K2 K3 H) (m : OccupiedEntryMut T S K1 K2 K3 H) : Type 0 where
+    pub holds : Holds m
+    pub listed : held m ≡ listing (sought of eq1 eq2 eq3 o) (bag o.map.now)
+    pub value : held_entry m ≡ entry (sought of eq1 eq2 eq3 o) (bag o.map.now)
+    pub by_key1 : IsOnly (has1 of eq1 o.key1.now) (bag o.map.now) (held1 m)
+    pub by_key2 : IsOnly (has2 of eq2 o.key2.now) (bag o.map.now) (held2 m)
+    pub by_key3 : IsOnly (has3 of eq3 o.key3.now) (bag o.map.now) (held3 m)
+
+  -- nothing changes where the entry is occupied, and what it found is held
+  pub record KeepsFound {E : Type 0} (of : item.Ghosts T K1 K2 K3) (eq1 : K1 → K1 → Bool) (eq2 : K2 → K2 → Bool) (eq3 : K3 → K3 → Bool) (o : OccupiedEntry T S K1 K2 K3 H) (result : Result (OccupiedEntryMut T S K1 K2 K3 H) E) : Type 0 where
+    pub granted : IsOk result
+    pub unchanged : IfOk result (λ m. m.map.now ≡ o.map.now)
+    pub holds : HasFound of eq1 eq2 eq3 o → IfOk result (HoldsFound of eq1 eq2 eq3 o)
+
+module _ {T S Q K1 K2 K3 H : Type 0} {of : item.Ghosts T K1 K2 K3} {eq1 : equal.Ghosts K1} {input1 : hash.Ghosts K1} {eq2 : equal.Ghosts K2} {input2 : hash.Ghosts K2} {eq3 : equal.Ghosts K3} {input3 : hash.Ghosts K3} {build : builder.Ghosts S H} {hashes : hasher.Ghosts H} {q : pair.Ghosts Q K1 K2 K3} where
+  -- the reference to the map
+  abbrev pub entry_lender : Entry T S Q K1 K2 K3 H of eq1 input1 eq2 input2 eq3 input3 build hashes q → GName
+  entry_lender (Vacant e) = e.map.ghost_name
+  entry_lender (Occupied e) = e.map.ghost_name
+
+  -- the map
+  abbrev pub entry_map : Entry T S Q K1 K2 K3 H of eq1 input1 eq2 input2 eq3 input3 build hashes q → Map T S
+  entry_map (Vacant e) = e.map.now
+  entry_map (Occupied e) = e.map.now
+
+  -- the keys
+  abbrev pub entry_key1 : Entry T S Q K1 K2 K3 H of eq1 input1 eq2 input2 eq3 input3 build hashes q → K1
+  entry_key1 (Vacant e) = q.first e.keys
+  entry_key1 (Occupied e) = e.key1.now
+
+  abbrev pub entry_key2 : Entry T S Q K1 K2 K3 H of eq1 input1 eq2 input2 eq3 input3 build hashes q → K2
+  entry_key2 (Vacant e) = q.second e.keys
+  entry_key2 (Occupied e) = e.key2.now
+
+  abbrev pub entry_key3 : Entry T S Q K1 K2 K3 H of eq1 input1 eq2 input2 eq3 input3 build hashes q → K3
+  entry_key3 (Vacant e) = q.third e.keys
+  entry_key3 (Occupied e) = e.key3.now
+
+  -- what it holds
+  abbrev pub entry_value : Entry T S Q K1 K2 K3 H of eq1 input1 eq2 input2 eq3 input3 build hashes q → bags.Entry T
+  entry_value (Vacant e) = vacant
+  entry_value (Occupied e) = entry_at e.map.now.slots (e.slot1 ∷ e.slot2 ∷ e.slot3 ∷ [])
+
+  -- P of a vacant entry
+  abbrev pub OnVacant : Entry T S Q K1 K2 K3 H of eq1 input1 eq2 input2 eq3 input3 build hashes q → (VacantEntry T S Q K1 K2 K3 H of eq1 input1 eq2 input2 eq3 input3 build hashes q → Type 0) → Type 0
+  OnVacant (Vacant e) P = P e
+  OnVacant (Occupied e) P = ⊤
+
+  -- P of an occupied entry
+  abbrev pub OnOccupied : Entry T S Q K1 K2 K3 H of eq1 input1 eq2 input2 eq3 input3 build hashes q → (OccupiedEntry T S K1 K2 K3 H → Type 0) → Type 0
+  OnOccupied (Vacant e) P = ⊤
+  OnOccupied (Occupied e) P = P e
+
+  -- the item went in where the entry is vacant, which holds it then; or it is refused for the lowest rank at which its
+  -- key is not the entry's, or else for want of memory
+  pub record PutsIn (e : VacantEntry T S Q K1 K2 K3 H of eq1 input1 eq2 input2 eq3 input3 build hashes q) (x : T) (result : Result (OccupiedEntryMut T S K1 K2 K3 H) (EntryError T)) : Type 0 where
+    pub gains : IfOk result (λ m. Gains e.map.now x m.map.now)
+    pub holds : IfOk result Holds
+    pub unique_item : IfOk result (λ m. held_entry m ≡ unique x)
+    pub unique_held : IfOk result (λ m. held_unique m ≡ Some x)
+    pub by_key1 : IfOk result (λ m. held1 m ≡ Some x)
+    pub by_key2 : IfOk result (λ m. held2 m ≡ Some x)
+    pub by_key3 : IfOk result (λ m. held3 m ≡ Some x)
+    pub same_keys : OnOk result (differ (key_tests of eq1.eq eq2.eq eq3.eq (q.first e.keys) (q.second e.keys) (q.third e.keys)) x ≡ None)
+    pub handed_back : IfErr result (λ error. error_item error ≡ x)
+    pub rank : IfErr result (λ error. differ (key_tests of eq1.eq eq2.eq eq3.eq (q.first e.keys) (q.second e.keys) (q.third e.keys)) x ≡ error_rank error)
+    pub memory : IfErr result (λ error. OnNoMemory error (IsFullFor (ranks of eq1.eq eq2.eq eq3.eq) e.map.now x))
+
+  -- both are vacant, or both occupied with the same keys and places
+  abbrev pub IsSameEntry : Entry T S Q K1 K2 K3 H of eq1 input1 eq2 input2 eq3 input3 build hashes q → Entry T S Q K1 K2 K3 H of eq1 input1 eq2 input2 eq3 input3 build hashes q → Type 0
+  IsSameEntry (Vacant e) (Vacant f) = ⊤
+  IsSameEntry (Vacant e) (Occupied p) = ⊥
+  IsSameEntry (Occupied o) (Vacant f) = ⊥
+  IsSameEntry (Occupied o) (Occupied p) = FindsSame o p
+
+  -- an occupied entry has found what its keys name
+  abbrev pub IsFound : Entry T S Q K1 K2 K3 H of eq1 input1 eq2 input2 eq3 input3 build hashes q → Type 0
+  IsFound (Vacant e) = ⊤
+  IsFound (Occupied e) = HasFound of eq1.eq eq2.eq eq3.eq e
+
+module _ (T S K1 K2 K3 H : RattleType) {of : item.Ghosts T.Denot K1.Denot K2.Denot K3.Denot} {eq1 : equal.Ghosts K1.Denot} {input1 : hash.Ghosts K1.Denot} {eq2 : equal.Ghosts K2.Denot} {input2 : hash.Ghosts K2.Denot} {eq3 : equal.Ghosts K3.Denot} {input3 : hash.Ghosts K3.Denot} {build : builder.Ghosts S.Denot H.Denot} {hashes : hasher.Ghosts H.Denot} where
+  -- where no item is lent, the map stays
+  abbrev pub rests_if_err : {E : Type 0} → MutBor (Map T.Denot S.Denot) → Result (RefMut T.Denot S.Denot K1.Denot K2.Denot K3.Denot H.Denot of eq1 input1 eq2 input2 eq3 input3 build hashes) E → Fml
+  rests_if_err m r = follows_so (row_of_map T S K1 K2 K3 H of eq1 input1 eq2 input2 eq3 input3 build hashes) (row_of_map T S K1 K2 K3 H of eq1 input1 eq2 input2 eq3 input3 build hashes) m.ghost_name (name_if_ok ref_lender r) (λ x n. OnOk r (n ≡ x)) (λ n. OnErr r (n ≡ m.now))
+
+  -- the same of a struct by value that held the map
+  abbrev pub held_rests_if_none : MutBor (Map T.Denot S.Denot) → Option (RefMut T.Denot S.Denot K1.Denot K2.Denot K3.Denot H.Denot of eq1 input1 eq2 input2 eq3 input3 build hashes) → Fml
+  held_rests_if_none m r = rests_if_none T S K1 K2 K3 H m r
+
+module _ (T S K1 K2 K3 H : RattleType) (of : item.Ghosts T.Denot K1.Denot K2.Denot K3.Denot) (keys1 : HashMembers K1.Denot) (keys2 : HashMembers K2.Denot) (keys3 : HashMembers K3.Denot) (build : builder.Ghosts S.Denot H.Denot) (hashes : hasher.Ghosts H.Denot) where
+  -- where no items are held, the map stays
+  abbrev pub held_rests_if_err : {E : Type 0} → MutBor (Map T.Denot S.Denot) → Result (OccupiedEntryMut T.Denot S.Denot K1.Denot K2.Denot K3.Denot H.Denot) E → Fml
+  held_rests_if_err m r = follows_so (map_row T S K1 K2 K3 H of keys1 keys2 keys3 build hashes) (map_row T S K1 K2 K3 H of keys1 keys2 keys3 build hashes) m.ghost_name (name_if_ok (λ e. e.map.ghost_name) r) (λ x n. OnOk r (n ≡ x)) (λ n. OnErr r (n ≡ m.now))
+
+  -- the type of an occupied entry, as the logic holds it
+  abbrev pub entry_row : RattleType
+  entry_row = occupied_row (record { mir = named 1; lft = [] }) T S K1 K2 K3 H of (record { eq = keys1.eq }) (record { hash_input = keys1.hash_input }) (record { eq = keys2.eq }) (record { hash_input = keys2.hash_input }) (record { eq = keys3.eq }) (record { hash_input = keys3.hash_input }) build hashes
+
+  -- the entry has the map that is left
+  abbrev pub lends_held : MutBor (OccupiedEntry T.Denot S.Denot K1.Denot K2.Denot K3.Denot H.Denot) → OccupiedEntryMut T.Denot S.Denot K1.Denot K2.Denot K3.Denot H.Denot → Fml
+  lends_held m r = follows entry_row (map_row T S K1 K2 K3 H of keys1 keys2 keys3 build hashes) m.ghost_name r.map.ghost_name (λ n. record m.now { map = record m.now.map { now = n } })
+
+  -- the item with the first key has the last data written through r, that with the second and that with the third
+  abbrev pub lends_data1 : (D : RattleType) → (T.Denot → D.Denot → T.Denot) → MutBor (OccupiedEntry T.Denot S.Denot K1.Denot K2.Denot K3.Denot H.Denot) → Option (MutBor D.Denot) → Fml
+  lends_data1 D put m r = LendsIf entry_row D m r (λ d. record m.now { map = record m.now.map { now = map_with_if m.now.map.now m.now.slot1 (λ x. put x d) } }) m.now
+
+  abbrev pub lends_data2 : (D : RattleType) → (T.Denot → D.Denot → T.Denot) → MutBor (OccupiedEntry T.Denot S.Denot K1.Denot K2.Denot K3.Denot H.Denot) → Option (MutBor D.Denot) → Fml
+  lends_data2 D put m r = LendsIf entry_row D m r (λ d. record m.now { map = record m.now.map { now = map_with_if m.now.map.now m.now.slot2 (λ x. put x d) } }) m.now
+
+  abbrev pub lends_data3 : (D : RattleType) → (T.Denot → D.Denot → T.Denot) → MutBor (OccupiedEntry T.Denot S.Denot K1.Denot K2.Denot K3.Denot H.Denot) → Option (MutBor D.Denot) → Fml
+  lends_data3 D put m r = LendsIf entry_row D m r (λ d. record m.now { map = record m.now.map { now = map_with_if m.now.map.now m.now.slot3 (λ x. put x d) } }) m.now

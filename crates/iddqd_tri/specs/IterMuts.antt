@@ -1,0 +1,40 @@
+-- What contracts say of an `IterMut`.
+use Rattle.std.specs.Prelude.{List, [], Option}
+use Rattle.std.specs.Borrow.{LendsIf, Fml, RattleType, MutBor}
+use Rattle.std.specs.HashMap.Lent.{HashMembers}
+use Rattle.std.specs.declared.hash.Hasher as hasher
+use Rattle.std.specs.declared.hash.BuildHasher as builder
+use mir.Syntax.{named}
+use Rattle.iddqd_store.specs.Map.{Map}
+use Rattle.iddqd_tri.specs.declared.item.TriHashItem as item
+use Rattle.iddqd_store.specs.Map.Walk.{write_next, after_next, passed, to_come, Passes}
+use Rattle.iddqd_tri.specs.declared.iter_mut.IterMut.{IterMut}
+use Rattle.iddqd_tri.specs.contracts.iter_mut.IterMut.{the_row}
+
+module _ {T S K1 K2 K3 H : Type 0} where
+  -- the items to come
+  abbrev pub rest_of : IterMut T S K1 K2 K3 H → List T
+  rest_of it = to_come it.map.now it.next
+
+  -- those that were lent, as they stand
+  abbrev pub done_of : IterMut T S K1 K2 K3 H → List T
+  done_of it = passed it.map.now it.next
+
+  -- the map, with f of the next item
+  abbrev pub next_written : IterMut T S K1 K2 K3 H → (T → T) → Map T S
+  next_written it f = record it.map.now { slots = write_next f it.map.now.slots it.next }
+
+  -- the walk behind the next item, which is written
+  abbrev pub stepped : IterMut T S K1 K2 K3 H → (T → T) → IterMut T S K1 K2 K3 H
+  stepped it f = record { map = record it.map { now = next_written it f }; next = after_next it.map.now.slots it.next }
+
+  -- there is a next item
+  abbrev pub IsNextOf : IterMut T S K1 K2 K3 H → Type 0
+  IsNextOf it = (x : T) × Passes it.map.now it.next x (next_written it) (after_next it.map.now.slots it.next)
+
+module _ (T S K1 K2 K3 H : RattleType) (of : item.Ghosts T.Denot K1.Denot K2.Denot K3.Denot) (keys1 : HashMembers K1.Denot) (keys2 : HashMembers K2.Denot) (keys3 : HashMembers K3.Denot) (build : builder.Ghosts S.Denot H.Denot) (hashes : hasher.Ghosts H.Denot) where
+  abbrev pub iter_row : RattleType
+  iter_row = the_row (record { mir = named 1; lft = [] }) T S K1 K2 K3 H of (record { eq = keys1.eq }) (record { hash_input = keys1.hash_input }) (record { eq = keys2.eq }) (record { hash_input = keys2.hash_input }) (record { eq = keys3.eq }) (record { hash_input = keys3.hash_input }) build hashes
+
+  abbrev pub lends_next : (D : RattleType) → (T.Denot → D.Denot → T.Denot) → MutBor (IterMut T.Denot S.Denot K1.Denot K2.Denot K3.Denot H.Denot) → Option (MutBor D.Denot) → Fml
+  lends_next D put m r = LendsIf iter_row D m r (λ d. stepped m.now (λ x. put x d)) m.now

@@ -1,0 +1,28 @@
+-- The ranks of an item with three keys.
+use Rattle.std.specs.Prelude.{Bool, List, [], ◌∷◌}
+use Rattle.iddqd_store.specs.Bag.{Ranks, every_of}
+use Rattle.iddqd_store.specs.Rank.{agree}
+use Rattle.iddqd_tri.specs.declared.item.TriHashItem as item
+
+module _ {T K1 K2 K3 : Type 0} (of : item.Ghosts T K1 K2 K3) where
+  -- for each rank, whether two items have equal keys
+  abbrev pub ranks : (K1 → K1 → Bool) → (K2 → K2 → Bool) → (K3 → K3 → Bool) → Ranks T
+  ranks eq1 eq2 eq3 = agree of.key1 eq1 ∷ agree of.key2 eq2 ∷ agree of.key3 eq3 ∷ []
+
+  -- whether an item has the key that a query stands for
+  abbrev pub has1 : {Q : Type 0} → (Q → K1 → Bool) → Q → T → Bool
+  has1 stands q x = stands q (of.key1 x)
+
+  abbrev pub has2 : {Q : Type 0} → (Q → K2 → Bool) → Q → T → Bool
+  has2 stands q x = stands q (of.key2 x)
+
+  abbrev pub has3 : {Q : Type 0} → (Q → K3 → Bool) → Q → T → Bool
+  has3 stands q x = stands q (of.key3 x)
+
+  -- for each rank, whether an item has the key that a query stands for
+  abbrev pub key_tests : {Q1 Q2 Q3 : Type 0} → (Q1 → K1 → Bool) → (Q2 → K2 → Bool) → (Q3 → K3 → Bool) → Q1 → Q2 → Q3 → List (T → Bool)
+  key_tests stands1 stands2 stands3 q1 q2 q3 = has1 stands1 q1 ∷ has2 stands2 q2 ∷ has3 stands3 q3 ∷ []
+
+  -- whether an item has all keys
+  abbrev pub has_all : {Q1 Q2 Q3 : Type 0} → (Q1 → K1 → Bool) → (Q2 → K2 → Bool) → (Q3 → K3 → Bool) → Q1 → Q2 → Q3 → T → Bool
+  has_all stands1 stands2 stands3 q1 q2 q3 = every_of (key_tests stands1 stands2 stands3 q1 q2 q3)

@@ -1,0 +1,24 @@
+pub mod Entries
+pub mod IterMuts
+pub mod Keys
+pub mod Lent
+pub mod Mismatch
+pub mod OccupiedRefs
+pub mod RefMuts
+pub mod Refusals
+pub mod Refused
+pub mod Step
+-- the words of the store that the map's clauses cite
+pub use Rattle.iddqd_store.specs.Bag
+pub use Rattle.iddqd_store.specs.Bag.Building
+pub use Rattle.iddqd_store.specs.Bag.Storing
+pub use Rattle.iddqd_store.specs.Map
+pub use Rattle.iddqd_store.specs.Map.Walk
+pub use Rattle.iddqd_store.specs.Map.Written
+pub use Rattle.iddqd_store.specs.Rank
+pub use Rattle.iddqd_store.specs.Runs.Reply
+pub use Rattle.iddqd_store.specs.Runs.Run
+pub use Rattle.iddqd_store.specs.Slots.Found
+pub use Rattle.iddqd_store.specs.Runs.Step as Steps
+pub use Rattle.iddqd_store.specs.Table
+pub use Rattle.iddqd_store.specs.Runs.Values

@@ -1,0 +1,25 @@
+-- What an `OccupiedEntryRef` shows.
+use Rattle.std.specs.Prelude.{Bool, true, false, Option, Some, None, option_copied}
+use Rattle.iddqd_tri.specs.declared.entry.occupied_ref.OccupiedEntryRef.{OccupiedEntryRef}
+use Rattle.iddqd_tri.specs.declared.entry.occupied_ref.OccupiedEntryRef.TheVariants.{Unique, NonUnique}
+
+module _ {T : Type 0} where
+  abbrev pub is_one : OccupiedEntryRef T → Bool
+  is_one (Unique x) = true
+  is_one (NonUnique x y z) = false
+
+  abbrev pub seen_unique : OccupiedEntryRef T → Option T
+  seen_unique (Unique x) = Some x.now
+  seen_unique (NonUnique x y z) = None
+
+  abbrev pub seen1 : OccupiedEntryRef T → Option T
+  seen1 (Unique x) = Some x.now
+  seen1 (NonUnique x y z) = option_copied x
+
+  abbrev pub seen2 : OccupiedEntryRef T → Option T
+  seen2 (Unique x) = Some x.now
+  seen2 (NonUnique x y z) = option_copied y
+
+  abbrev pub seen3 : OccupiedEntryRef T → Option T
+  seen3 (Unique x) = Some x.now
+  seen3 (NonUnique x y z) = option_copied z

@@ -1,0 +1,58 @@
+-- What a contract says of a `RefMut`.
+use Rattle.std.specs.Prelude.{◌≡◌, ℕ, zero, suc, true, is_some, List, [], ◌∷◌, Option, Some, None, slice_set, refl}
+use Rattle.std.specs.Borrow.{Fml, GName, RattleType, MutBor, RestsIfNone, follows}
+use Rattle.std.specs.declared.cmp.PartialEq as equal
+use Rattle.std.specs.declared.hash.Hash as hash
+use Rattle.std.specs.declared.hash.Hasher as hasher
+use Rattle.std.specs.declared.hash.BuildHasher as builder
+use mir.Syntax.{named}
+use Rattle.iddqd_store.specs.Map.{Map}
+use Rattle.iddqd_store.specs.Slots.{get}
+use Rattle.iddqd_tri.specs.declared.item.TriHashItem as item
+use Rattle.iddqd_store.specs.Map.Written.{of_item, map_with}
+use Rattle.iddqd_tri.specs.declared.ref_mut.RefMut.{RefMut}
+use Rattle.iddqd_tri.specs.contracts.map.TriHashMap.{the_row as map_row}
+use Rattle.iddqd_tri.specs.contracts.ref_mut.RefMut.{the_row as ref_row}
+
+-- what is live stays so
+pub still_live : {T : Type 0} (f : T → T) (slots : List (Option T)) (i j : ℕ) → is_some (get slots j) ≡ true → is_some (get (slice_set slots i (of_item f (get slots i))) j) ≡ true
+still_live f [] i j h = h
+still_live f (None ∷ xs) zero j h = h
+still_live f (Some x ∷ xs) zero zero h = refl
+still_live f (Some x ∷ xs) zero (suc j) h = h
+still_live f (x ∷ xs) (suc i) zero h = h
+still_live f (x ∷ xs) (suc i) (suc j) h = still_live f xs i j h
+
+module _ {T S K1 K2 K3 H : Type 0} {of : item.Ghosts T K1 K2 K3} {eq1 : equal.Ghosts K1} {input1 : hash.Ghosts K1} {eq2 : equal.Ghosts K2} {input2 : hash.Ghosts K2} {eq3 : equal.Ghosts K3} {input3 : hash.Ghosts K3} {build : builder.Ghosts S H} {hashes : hasher.Ghosts H} where
+  -- the reference to the map
+  abbrev pub ref_lender : RefMut T S K1 K2 K3 H of eq1 input1 eq2 input2 eq3 input3 build hashes → GName
+  ref_lender r = r.map.ghost_name
+
+  -- the map, as the reference has it
+  abbrev pub ref_map : RefMut T S K1 K2 K3 H of eq1 input1 eq2 input2 eq3 input3 build hashes → Map T S
+  ref_map r = r.map.now
+
+  -- its slot
+  abbrev pub ref_slot : RefMut T S K1 K2 K3 H of eq1 input1 eq2 input2 eq3 input3 build hashes → ℕ
+  ref_slot r = r.slot
+
+  -- the item
+  abbrev pub ref_item : RefMut T S K1 K2 K3 H of eq1 input1 eq2 input2 eq3 input3 build hashes → Option T
+  ref_item r = get r.map.now.slots r.slot
+
+  -- the reference, with f of its item
+  abbrev pub ref_with : RefMut T S K1 K2 K3 H of eq1 input1 eq2 input2 eq3 input3 build hashes → (T → T) → RefMut T S K1 K2 K3 H of eq1 input1 eq2 input2 eq3 input3 build hashes
+  ref_with r f = record {
+    map = record r.map { now = map_with r.map.now r.slot f };
+    slot = r.slot;
+    live = still_live f r.map.now.slots r.slot r.slot r.live;
+  }
+
+module _ (T S K1 K2 K3 H : RattleType) {of : item.Ghosts T.Denot K1.Denot K2.Denot K3.Denot} {eq1 : equal.Ghosts K1.Denot} {input1 : hash.Ghosts K1.Denot} {eq2 : equal.Ghosts K2.Denot} {input2 : hash.Ghosts K2.Denot} {eq3 : equal.Ghosts K3.Denot} {input3 : hash.Ghosts K3.Denot} {build : builder.Ghosts S.Denot H.Denot} {hashes : hasher.Ghosts H.Denot} where
+  -- the item has the last data written through r
+  abbrev pub lends_ref_data : (D : RattleType) → (T.Denot → D.Denot → T.Denot) → MutBor (RefMut T.Denot S.Denot K1.Denot K2.Denot K3.Denot H.Denot of eq1 input1 eq2 input2 eq3 input3 build hashes) → MutBor D.Denot → Fml
+  lends_ref_data D put m r = follows (ref_row (record { mir = named 1; lft = [] }) T S K1 K2 K3 H of eq1 input1 eq2 input2 eq3 input3 build hashes) D m.ghost_name r.ghost_name (λ d. ref_with m.now (λ x. put x d))
+
+  -- where there is no reference, the map stays
+  abbrev pub rests_if_none : MutBor (Map T.Denot S.Denot) → Option (RefMut T.Denot S.Denot K1.Denot K2.Denot K3.Denot H.Denot of eq1 input1 eq2 input2 eq3 input3 build hashes) → Fml
+  rests_if_none m r = RestsIfNone (map_row T S K1 K2 K3 H of eq1 input1 eq2 input2 eq3 input3 build hashes) m ref_lender r (λ n. n ≡ m.now)

@@ -1,0 +1,60 @@
+-- What a refused insert says, and what the map ends as.
+use Rattle.std.specs.Prelude.{◌≡◌, List, ℕ, Result, Ok, Err, OnOk, OnErr, ⊤}
+use Rattle.std.specs.Borrow.{RattleType, MutBor, Fml, GName, follows_so}
+use Rattle.std.specs.HashMap.Lent.{HashMembers}
+use Rattle.std.specs.declared.cmp.PartialEq as equal
+use Rattle.std.specs.declared.hash.Hash as hash
+use Rattle.std.specs.declared.hash.Hasher as hasher
+use Rattle.std.specs.declared.hash.BuildHasher as builder
+use mathlib.Core.Option as maybe
+use Rattle.iddqd_store.specs.Map.{Map}
+use Rattle.iddqd_tri.specs.declared.item.TriHashItem as item
+use Rattle.iddqd_tri.specs.declared.map.slots.Refusal.{Refusal}
+use Rattle.iddqd_tri.specs.declared.map.slots.Refusal.TheVariants as refusal
+use Rattle.iddqd_tri.specs.declared.error.InsertError.{InsertError}
+use Rattle.iddqd_tri.specs.declared.error.InsertError.TheVariants.{Duplicate, Memory}
+use Rattle.iddqd_tri.specs.contracts.map.TriHashMap.{the_row}
+
+-- the item that was refused
+abbrev pub refusal_item : {T : Type 0} → Refusal T → T
+refusal_item (refusal.Duplicate x found) = x
+refusal_item (refusal.Memory x) = x
+
+-- P of the slots found where items conflict, and Q where there is no memory
+abbrev pub MatchRefusal : {T : Type 0} → Refusal T → (List ℕ → Type 0) → Type 0 → Type 0
+MatchRefusal (refusal.Duplicate x found) P Q = P found
+MatchRefusal (refusal.Memory x) P Q = Q
+
+module _ {T S K1 K2 K3 H : Type 0} {of : item.Ghosts T K1 K2 K3} {eq1 : equal.Ghosts K1} {input1 : hash.Ghosts K1} {eq2 : equal.Ghosts K2} {input2 : hash.Ghosts K2} {eq3 : equal.Ghosts K3} {input3 : hash.Ghosts K3} {build : builder.Ghosts S H} {hashes : hasher.Ghosts H} where
+  -- the reference to the map that refused
+  abbrev pub refusing_map : InsertError T S K1 K2 K3 H of eq1 input1 eq2 input2 eq3 input3 build hashes → MutBor (Map T S)
+  refusing_map (Duplicate d) = d.map
+  refusing_map (Memory d) = d.map
+
+  -- the item that was refused
+  abbrev pub refused_item : InsertError T S K1 K2 K3 H of eq1 input1 eq2 input2 eq3 input3 build hashes → T
+  refused_item (Duplicate d) = d.new_item
+  refused_item (Memory d) = d.new_item
+
+  -- P, where items conflict
+  abbrev pub OnDuplicate : InsertError T S K1 K2 K3 H of eq1 input1 eq2 input2 eq3 input3 build hashes → Type 0 → Type 0
+  OnDuplicate (Duplicate d) P = P
+  OnDuplicate (Memory d) P = ⊤
+
+  -- P, where there is no memory
+  abbrev pub OnMemory : InsertError T S K1 K2 K3 H of eq1 input1 eq2 input2 eq3 input3 build hashes → Type 0 → Type 0
+  OnMemory (Duplicate d) P = ⊤
+  OnMemory (Memory d) P = P
+
+  abbrev pub refused_name : {X : Type 0} → Result X (InsertError T S K1 K2 K3 H of eq1 input1 eq2 input2 eq3 input3 build hashes) → maybe.Option GName
+  refused_name (Ok _) = maybe.none
+  refused_name (Err e) = maybe.some (refusing_map e).ghost_name
+
+module _ (T S K1 K2 K3 H : RattleType) (of : item.Ghosts T.Denot K1.Denot K2.Denot K3.Denot) (keys1 : HashMembers K1.Denot) (keys2 : HashMembers K2.Denot) (keys3 : HashMembers K3.Denot) (build : builder.Ghosts S.Denot H.Denot) (hashes : hasher.Ghosts H.Denot) where
+  -- the map's type, as the logic holds it
+  abbrev pub map_row : RattleType
+  map_row = the_row T S K1 K2 K3 H of (record { eq = keys1.eq }) (record { hash_input = keys1.hash_input }) (record { eq = keys2.eq }) (record { hash_input = keys2.hash_input }) (record { eq = keys3.eq }) (record { hash_input = keys3.hash_input }) build hashes
+
+  -- where the insert is refused the map ends as the refusal leaves it, and else P holds of it
+  abbrev pub ends_as : {X : Type 0} → MutBor (Map T.Denot S.Denot) → Result X (InsertError T.Denot S.Denot K1.Denot K2.Denot K3.Denot H.Denot of (record { eq = keys1.eq }) (record { hash_input = keys1.hash_input }) (record { eq = keys2.eq }) (record { hash_input = keys2.hash_input }) (record { eq = keys3.eq }) (record { hash_input = keys3.hash_input }) build hashes) → (Map T.Denot S.Denot → Type 0) → Fml
+  ends_as m r P = follows_so map_row map_row m.ghost_name (refused_name r) (λ x n. OnErr r (n ≡ x)) (λ n. OnOk r (P n))

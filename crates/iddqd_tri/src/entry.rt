@@ -1,0 +1,80 @@
+//! What three keys find in a map, with the map.
+ghost use Rattle.std.specs.Prelude.{◌≡◌, []};
+ghost use Rattle.iddqd_store.specs.Bag.{listing};
+ghost use Rattle.iddqd_store.specs.Map.{bag};
+ghost use Rattle.iddqd_tri.specs.Keys.{key_tests};
+
+use crate::item::TriHashItem;
+use crate::map::{DefaultHashBuilder, TriHashMap};
+use iddqd_store::ItemIndex;
+use std::hash::{BuildHasher, Hash};
+
+mod all;
+mod keys;
+mod occupied;
+mod occupied_mut;
+mod occupied_ref;
+mod vacant;
+
+pub use keys::{KeyTriple, Keys};
+pub use occupied_ref::OccupiedEntryRef;
+
+/// What three keys find in a map.
+#[derive(Drop)]
+pub enum Entry<
+    'a,
+    T: TriHashItem,
+    S: BuildHasher = DefaultHashBuilder,
+    Q: Keys<T::K1, T::K2, T::K3> = KeyTriple<
+        'a,
+        <T as TriHashItem>::K1,
+        <T as TriHashItem>::K2,
+        <T as TriHashItem>::K3,
+    >,
+> {
+    /// No item has one of the keys.
+    Vacant(VacantEntry<'a, T, S, Q>),
+    /// One item has all keys, or there are items that have one of them.
+    Occupied(OccupiedEntry<'a, T, S>),
+}
+
+/// Three keys that no item of the map has.
+#[derive(Drop)]
+pub struct VacantEntry<
+    'a,
+    T: TriHashItem,
+    S: BuildHasher = DefaultHashBuilder,
+    Q: Keys<T::K1, T::K2, T::K3> = KeyTriple<
+        'a,
+        <T as TriHashItem>::K1,
+        <T as TriHashItem>::K2,
+        <T as TriHashItem>::K3,
+    >,
+> {
+    pub(crate) map: &'a mut TriHashMap<T, S>,
+    pub(crate) keys: Q,
+    ghost vacant: { listing
+        (key_tests T.TriHashItem T.K1.eq T.K2.eq T.K3.eq (Q.first keys) (Q.second keys) (Q.third keys))
+        (bag map.now) ≡ [] },
+}
+
+/// Three keys, with the item that has all or the items that have one of them.
+#[derive(Drop)]
+pub struct OccupiedEntry<'a, T: TriHashItem, S: BuildHasher = DefaultHashBuilder> {
+    pub(crate) map: &'a mut TriHashMap<T, S>,
+    pub(crate) key1: &'a T::K1,
+    pub(crate) key2: &'a T::K2,
+    pub(crate) key3: &'a T::K3,
+    pub(crate) slot1: Option<ItemIndex>,
+    pub(crate) slot2: Option<ItemIndex>,
+    pub(crate) slot3: Option<ItemIndex>,
+}
+
+/// The items that three keys found, lent for writing one at a time.
+#[derive(Drop)]
+pub struct OccupiedEntryMut<'a, T: TriHashItem, S: BuildHasher = DefaultHashBuilder> {
+    pub(crate) map: &'a mut TriHashMap<T, S>,
+    pub(crate) slot1: Option<ItemIndex>,
+    pub(crate) slot2: Option<ItemIndex>,
+    pub(crate) slot3: Option<ItemIndex>,
+}

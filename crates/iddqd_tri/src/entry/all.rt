@@ -1,0 +1,79 @@
+//! What can be done with an entry, vacant or occupied.
+ghost use Rattle.std.specs.Prelude.{◌≡◌, IfOk};
+ghost use Rattle.std.specs.Fn.{CalledAt};
+ghost use Rattle.iddqd_store.specs.Bag.{listing};
+ghost use Rattle.iddqd_store.specs.Bag.Storing.{Stores};
+ghost use Rattle.iddqd_store.specs.Map.{bag};
+ghost use Rattle.iddqd_tri.specs.Entries.{IsFound, IsSameEntry, KeepsFound, OnOccupied, OnVacant, PutsIn, entry_lender, entry_map, sought};
+ghost use Rattle.iddqd_tri.specs.Keys.{ranks};
+
+use super::{Entry, Keys, OccupiedEntryMut};
+use crate::error::EntryError;
+use crate::item::{TriHashItem, TriHashItemMut};
+use std::hash::{BuildHasher, Hash};
+
+impl<'a, T: TriHashItem, S: BuildHasher, Q: Keys<T::K1, T::K2, T::K3>> Entry<'a, T, S, Q> {
+    /// Puts an item in where no item has one of the keys, as `VacantEntry::insert` does, and answers it. Where some
+    /// has, the new item is dropped and nothing changes, and the answer holds those that are there.
+    ///
+    /// At a refusal a caller knows less of the map than after `VacantEntry::insert_mut`.
+    pub fn or_insert(self, item: T) -> Result<OccupiedEntryMut<'a, T, S>, EntryError<T>>
+    where
+        T: Drop,
+        ensures same_map { IfOk result (λ m. m.map.ghost_name ≡ entry_lender self.entry) }
+        ensures put { OnVacant self.entry (λ v. PutsIn v item result) }
+        ensures kept { OnOccupied self.entry (λ o. KeepsFound T.TriHashItem T.K1.eq T.K2.eq T.K3.eq o result) }
+    {
+        match self {
+            Entry::Vacant(v) => v.insert_mut(item),
+            Entry::Occupied(o) => Ok(o.into_mut()),
+        }
+    }
+
+    /// The same with what `f` answers. It is called once where no item has one of the keys, and else not at all.
+    pub fn or_insert_with<F: FnOnce() -> T>(
+        self,
+        f: F,
+    ) -> Result<OccupiedEntryMut<'a, T, S>, EntryError<T>>
+    where
+        F: Drop,
+        requires { OnVacant self (λ v. F.pre f) }
+        ensures same_map { IfOk result (λ m. m.map.ghost_name ≡ entry_lender self.entry) }
+        ensures put { OnVacant self.entry (λ v. (x : T) × F.post f x × PutsIn v x result) }
+        ensures kept { OnOccupied self.entry (λ o. KeepsFound T.TriHashItem T.K1.eq T.K2.eq T.K3.eq o result) }
+    {
+        match self {
+            Entry::Vacant(v) => v.insert_mut(f()),
+            Entry::Occupied(o) => Ok(o.into_mut()),
+        }
+    }
+}
+
+impl<'a, T: TriHashItemMut, S: BuildHasher, Q: Keys<T::K1, T::K2, T::K3>> Entry<'a, T, S, Q> {
+    /// Stores what `f` answers at each item of an occupied entry as its data, that of the first key first and each item
+    /// once, and gives the entry back. A vacant entry stays, and `f` is not called. It takes no memory.
+    pub fn and_modify<F: FnMut(&T) -> T::Data>(self, f: F) -> Entry<'a, T, S, Q>
+    where
+        T::Data: Drop,
+        F: Drop,
+        requires callable { F.IsAlwaysCallable f }
+        requires found { IsFound self }
+        ensures same_map { entry_lender result ≡ entry_lender self.entry }
+        ensures vacant { OnVacant self.entry (λ v. result ≡ self.entry) }
+        ensures stores { OnOccupied self.entry (λ o.
+            Stores (CalledAt F.FnMut) T.put (ranks T.TriHashItem T.K1.eq T.K2.eq T.K3.eq) f
+            (listing (sought T.TriHashItem T.K1.eq T.K2.eq T.K3.eq o) (bag o.map.now)) (bag o.map.now)
+            (bag (entry_map result))) }
+        ensures capacity { (entry_map result).capacity ≡ (entry_map self.entry).capacity }
+        ensures builder { (entry_map result).builder ≡ (entry_map self.entry).builder }
+        ensures places { IsSameEntry self.entry result }
+    {
+        match self {
+            Entry::Vacant(v) => Entry::Vacant(v),
+            Entry::Occupied(mut o) => {
+                o.store(f);
+                Entry::Occupied(o)
+            }
+        }
+    }
+}

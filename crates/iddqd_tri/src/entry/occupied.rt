@@ -1,0 +1,263 @@
+//! Reading, writing, overwriting and taking out what three keys found.
+ghost use Rattle.std.specs.Prelude.{◌≡◌, None, Some, not, IfOk, IfErr, IfSome, OnOk, OnErr, IsPermutation, is_some};
+ghost use Rattle.std.specs.Borrow.{sem};
+ghost use Rattle.std.specs.Fn.{CalledAt};
+ghost use Rattle.std.specs.List.{list_any};
+ghost use Rattle.iddqd_store.specs.Bag.{IsOnly, differ, entry, is_unique, listing, over, unique};
+ghost use Rattle.iddqd_store.specs.Bag.Storing.{Stores};
+ghost use Rattle.iddqd_store.specs.Map.{bag, Loses};
+ghost use Rattle.iddqd_tri.specs.Entries.{FindsSame, HasFound, HoldsFound, sought, lends_data1, lends_data2, lends_data3, lends_held};
+ghost use Rattle.iddqd_tri.specs.Keys.{has1, has2, has3, ranks};
+ghost use Rattle.iddqd_tri.specs.Mismatch.{mismatch_item, mismatch_rank};
+ghost use Rattle.iddqd_tri.specs.OccupiedRefs.{is_one, seen1, seen2, seen3};
+
+use super::{OccupiedEntry, OccupiedEntryMut, OccupiedEntryRef};
+use crate::error::KeyMismatch;
+use crate::item::{TriHashItem, TriHashItemMut};
+use crate::map::TriHashMap;
+use crate::map::slots::entry::{each_once, one_of};
+use iddqd_store::UpToThree;
+use std::hash::{BuildHasher, Hash};
+
+impl<'a, T: TriHashItem, S: BuildHasher> OccupiedEntry<'a, T, S> {
+    /// Whether one item has all keys.
+    pub fn is_unique(&self) -> bool
+        requires { HasFound T.TriHashItem T.K1.eq T.K2.eq T.K3.eq self.now }
+        ensures { result ≡ is_unique
+            (entry (sought T.TriHashItem T.K1.eq T.K2.eq T.K3.eq self.now) (bag self.now.map.now)) }
+    {
+        one_of(self.slot1, self.slot2, self.slot3).is_some()
+    }
+
+    /// Whether no item has all keys. One of the keys may be absent.
+    pub fn is_non_unique(&self) -> bool
+        requires { HasFound T.TriHashItem T.K1.eq T.K2.eq T.K3.eq self.now }
+        ensures { result
+            ≡ not (is_unique (entry (sought T.TriHashItem T.K1.eq T.K2.eq T.K3.eq self.now) (bag self.now.map.now))) }
+    {
+        !self.is_unique()
+    }
+
+    /// The items, to be read.
+    pub fn get(&self) -> OccupiedEntryRef<'_, T>
+        requires { HasFound T.TriHashItem T.K1.eq T.K2.eq T.K3.eq self.now }
+        ensures unique { is_one result
+            ≡ is_unique (entry (sought T.TriHashItem T.K1.eq T.K2.eq T.K3.eq self.now) (bag self.now.map.now)) }
+        ensures by_key1 { IsOnly (has1 T.TriHashItem T.K1.eq self.now.key1.now) (bag self.now.map.now) (seen1 result) }
+        ensures by_key2 { IsOnly (has2 T.TriHashItem T.K2.eq self.now.key2.now) (bag self.now.map.now) (seen2 result) }
+        ensures by_key3 { IsOnly (has3 T.TriHashItem T.K3.eq self.now.key3.now) (bag self.now.map.now) (seen3 result) }
+    {
+        let is_unique = self.is_unique();
+        let by_key1 = self.map.item_of(self.slot1);
+        let by_key2 = self.map.item_of(self.slot2);
+        let by_key3 = self.map.item_of(self.slot3);
+        OccupiedEntryRef::of(is_unique, by_key1, by_key2, by_key3)
+    }
+
+    /// The items, to be read for as long as the map is lent.
+    pub fn into_ref(self) -> OccupiedEntryRef<'a, T>
+        requires { HasFound T.TriHashItem T.K1.eq T.K2.eq T.K3.eq self }
+        ensures unique { is_one result
+            ≡ is_unique (entry (sought T.TriHashItem T.K1.eq T.K2.eq T.K3.eq self.entry) (bag self.entry.map.now)) }
+        ensures by_key1 { IsOnly (has1 T.TriHashItem T.K1.eq self.entry.key1.now) (bag self.entry.map.now)
+            (seen1 result) }
+        ensures by_key2 { IsOnly (has2 T.TriHashItem T.K2.eq self.entry.key2.now) (bag self.entry.map.now)
+            (seen2 result) }
+        ensures by_key3 { IsOnly (has3 T.TriHashItem T.K3.eq self.entry.key3.now) (bag self.entry.map.now)
+            (seen3 result) }
+    {
+        let is_unique = self.is_unique();
+        let OccupiedEntry {
+            map,
+            key1: _,
+            key2: _,
+            key3: _,
+            slot1,
+            slot2,
+            slot3,
+        } = self;
+        let map: &'a TriHashMap<T, S> = map;
+        let by_key1 = map.item_of(slot1);
+        let by_key2 = map.item_of(slot2);
+        let by_key3 = map.item_of(slot3);
+        OccupiedEntryRef::of(is_unique, by_key1, by_key2, by_key3)
+    }
+
+    /// The items, for writing, lent by the entry. A caller knows less of the map afterwards than after `into_mut`.
+    pub fn get_mut(&mut self) -> OccupiedEntryMut<'_, T, S>
+        ensures* lends { sem 𝓛 (lends_held T.row S.row T.K1.row T.K2.row T.K3.row S.Hasher.row
+            T.TriHashItem T.K1.Hash T.K2.Hash T.K3.Hash S.BuildHasher S.Hasher.Hasher self.entry result) }
+        ensures map { result.map.now ≡ self.old.map.now }
+        ensures holds { HasFound T.TriHashItem T.K1.eq T.K2.eq T.K3.eq self.old
+            → HoldsFound T.TriHashItem T.K1.eq T.K2.eq T.K3.eq self.old result }
+    {
+        let slot1 = self.slot1;
+        let slot2 = self.slot2;
+        let slot3 = self.slot3;
+        let map = &mut *self.map;
+        OccupiedEntryMut {
+            map,
+            slot1,
+            slot2,
+            slot3,
+        }
+    }
+
+    /// The items, for writing, for as long as the map is lent.
+    pub fn into_mut(self) -> OccupiedEntryMut<'a, T, S>
+        ensures same_map { result.map.ghost_name ≡ self.entry.map.ghost_name }
+        ensures map { result.map.now ≡ self.entry.map.now }
+        ensures holds { HasFound T.TriHashItem T.K1.eq T.K2.eq T.K3.eq self.entry
+            → HoldsFound T.TriHashItem T.K1.eq T.K2.eq T.K3.eq self.entry result }
+    {
+        let OccupiedEntry {
+            map,
+            key1: _,
+            key2: _,
+            key3: _,
+            slot1,
+            slot2,
+            slot3,
+        } = self;
+        OccupiedEntryMut {
+            map,
+            slot1,
+            slot2,
+            slot3,
+        }
+    }
+
+    /// Puts an item that has the entry's keys in the place of those that have one of them, and gives these back in the
+    /// order of the keys. The entry is unique then.
+    ///
+    /// It is refused with the lowest rank at which the item's key is not the entry's, whether an item has that key or
+    /// not. The refusal hands the item back, and nothing changes.
+    ///
+    /// It compares the first keys, and those of the next rank where those are equal, and searches nothing. It takes no
+    /// memory.
+    pub fn insert(&mut self, item: T) -> Result<UpToThree<T>, KeyMismatch<T>>
+        requires { HasFound T.TriHashItem T.K1.eq T.K2.eq T.K3.eq self.old }
+        ensures same_map { self.new.map.ghost_name ≡ self.old.map.ghost_name }
+        ensures same_keys { OnOk result (differ (sought T.TriHashItem T.K1.eq T.K2.eq T.K3.eq self.old) item ≡ None) }
+        ensures displaced { IfOk result (λ gone. gone
+            ≡ listing (sought T.TriHashItem T.K1.eq T.K2.eq T.K3.eq self.old) (bag self.old.map.now)) }
+        ensures items { OnOk result (IsPermutation (bag self.new.map.now)
+            (over (ranks T.TriHashItem T.K1.eq T.K2.eq T.K3.eq) (bag self.old.map.now) item)) }
+        ensures found { OnOk result (HasFound T.TriHashItem T.K1.eq T.K2.eq T.K3.eq self.new) }
+        ensures unique { OnOk result
+            (entry (sought T.TriHashItem T.K1.eq T.K2.eq T.K3.eq self.new) (bag self.new.map.now)
+            ≡ unique item) }
+        ensures keys { OnOk result
+            ((self.new.key1 ≡ self.old.key1) × (self.new.key2 ≡ self.old.key2) × (self.new.key3 ≡ self.old.key3)) }
+        ensures capacity { self.new.map.now.capacity ≡ self.old.map.now.capacity }
+        ensures builder { self.new.map.now.builder ≡ self.old.map.now.builder }
+        ensures handed_back { IfErr result (λ e. mismatch_item e ≡ item) }
+        ensures rank { IfErr result (λ e.
+            differ (sought T.TriHashItem T.K1.eq T.K2.eq T.K3.eq self.old) item ≡ Some (mismatch_rank e)) }
+        ensures unchanged { OnErr result (self.new ≡ self.old) }
+    {
+        if *self.key1 != *item.key1() {
+            return Err(KeyMismatch::Key1(item));
+        }
+        if *self.key2 != *item.key2() {
+            return Err(KeyMismatch::Key2(item));
+        }
+        if *self.key3 != *item.key3() {
+            return Err(KeyMismatch::Key3(item));
+        }
+        let found = each_once(self.slot1, self.slot2, self.slot3);
+        let hash1 = self.map.hash_of1(&item);
+        let hash2 = self.map.hash_of2(&item);
+        let hash3 = self.map.hash_of3(&item);
+        let (displaced, ix) = self.map.put_over(item, &found, hash1, hash2, hash3);
+        self.slot1 = Some(ix);
+        self.slot2 = Some(ix);
+        self.slot3 = Some(ix);
+        Ok(displaced)
+    }
+
+    /// Takes the items out, and gives them back in the order of the keys. It takes no memory, and the capacity stays.
+    ///
+    /// It compares no key.
+    pub fn remove(self) -> UpToThree<T>
+        requires { HasFound T.TriHashItem T.K1.eq T.K2.eq T.K3.eq self }
+        ensures taken { result
+            ≡ listing (sought T.TriHashItem T.K1.eq T.K2.eq T.K3.eq self.entry) (bag self.entry.map.now) }
+        ensures loses { Loses self.entry.map.now result self.exit.0.now }
+    {
+        let OccupiedEntry {
+            map,
+            key1: _,
+            key2: _,
+            key3: _,
+            slot1,
+            slot2,
+            slot3,
+        } = self;
+        map.take_all(&each_once(slot1, slot2, slot3))
+    }
+}
+
+impl<'a, T: TriHashItemMut, S: BuildHasher> OccupiedEntry<'a, T, S> {
+    /// The data of the item with the first key, for writing.
+    pub fn data1_mut(&mut self) -> Option<&mut T::Data>
+        requires { HasFound T.TriHashItem T.K1.eq T.K2.eq T.K3.eq self.old }
+        ensures* lends { sem 𝓛 (lends_data1 T.row S.row T.K1.row T.K2.row T.K3.row S.Hasher.row
+            T.TriHashItem T.K1.Hash T.K2.Hash T.K3.Hash S.BuildHasher S.Hasher.Hasher
+            T.Data.row T.put self.entry result) }
+        ensures some { is_some result ≡ list_any (has1 T.TriHashItem T.K1.eq self.old.key1.now) (bag self.old.map.now) }
+        ensures value { (x : T) → IsOnly (has1 T.TriHashItem T.K1.eq self.old.key1.now) (bag self.old.map.now) (Some x)
+            → IfSome result (λ r. r.now ≡ T.payload x) }
+    {
+        let slot1 = self.slot1;
+        self.map.data_of(slot1)
+    }
+
+    /// The data of the item with the second key, for writing.
+    pub fn data2_mut(&mut self) -> Option<&mut T::Data>
+        requires { HasFound T.TriHashItem T.K1.eq T.K2.eq T.K3.eq self.old }
+        ensures* lends { sem 𝓛 (lends_data2 T.row S.row T.K1.row T.K2.row T.K3.row S.Hasher.row
+            T.TriHashItem T.K1.Hash T.K2.Hash T.K3.Hash S.BuildHasher S.Hasher.Hasher
+            T.Data.row T.put self.entry result) }
+        ensures some { is_some result ≡ list_any (has2 T.TriHashItem T.K2.eq self.old.key2.now) (bag self.old.map.now) }
+        ensures value { (x : T) → IsOnly (has2 T.TriHashItem T.K2.eq self.old.key2.now) (bag self.old.map.now) (Some x)
+            → IfSome result (λ r. r.now ≡ T.payload x) }
+    {
+        let slot2 = self.slot2;
+        self.map.data_of(slot2)
+    }
+
+    /// The data of the item with the third key, for writing.
+    pub fn data3_mut(&mut self) -> Option<&mut T::Data>
+        requires { HasFound T.TriHashItem T.K1.eq T.K2.eq T.K3.eq self.old }
+        ensures* lends { sem 𝓛 (lends_data3 T.row S.row T.K1.row T.K2.row T.K3.row S.Hasher.row
+            T.TriHashItem T.K1.Hash T.K2.Hash T.K3.Hash S.BuildHasher S.Hasher.Hasher
+            T.Data.row T.put self.entry result) }
+        ensures some { is_some result ≡ list_any (has3 T.TriHashItem T.K3.eq self.old.key3.now) (bag self.old.map.now) }
+        ensures value { (x : T) → IsOnly (has3 T.TriHashItem T.K3.eq self.old.key3.now) (bag self.old.map.now) (Some x)
+            → IfSome result (λ r. r.now ≡ T.payload x) }
+    {
+        let slot3 = self.slot3;
+        self.map.data_of(slot3)
+    }
+
+    /// Stores what `f` answers at each item as its data, that of the first key first and each item once.
+    pub(crate) fn store<F: FnMut(&T) -> T::Data>(&mut self, f: F)
+    where
+        T::Data: Drop,
+        requires found { HasFound T.TriHashItem T.K1.eq T.K2.eq T.K3.eq self.old }
+        requires callable { F.IsAlwaysCallable f }
+        ensures same_map { self.new.map.ghost_name ≡ self.old.map.ghost_name }
+        ensures stores { Stores (CalledAt F.FnMut) T.put (ranks T.TriHashItem T.K1.eq T.K2.eq T.K3.eq) f
+            (listing (sought T.TriHashItem T.K1.eq T.K2.eq T.K3.eq self.old) (bag self.old.map.now))
+            (bag self.old.map.now) (bag self.new.map.now) }
+        ensures capacity { self.new.map.now.capacity ≡ self.old.map.now.capacity }
+        ensures builder { self.new.map.now.builder ≡ self.old.map.now.builder }
+        ensures places { FindsSame self.old self.new }
+    {
+        let slot1 = self.slot1;
+        let slot2 = self.slot2;
+        let slot3 = self.slot3;
+        self.map.store_found(slot1, slot2, slot3, f);
+    }
+}

@@ -1,0 +1,161 @@
+//! Writing the items that three keys found.
+ghost use Rattle.std.specs.Prelude.{◌≡◌, not, None, IfSome};
+ghost use Rattle.std.specs.Borrow.{sem};
+ghost use Rattle.std.specs.Fn.{CalledAt};
+ghost use Rattle.std.specs.Option.{option_and_then};
+ghost use Rattle.iddqd_store.specs.Bag.{is_unique};
+ghost use Rattle.iddqd_store.specs.Bag.Storing.{Stores};
+ghost use Rattle.iddqd_store.specs.Map.{bag};
+ghost use Rattle.iddqd_tri.specs.Entries.{Holds, HoldsSame, held, held1, held2, held3, held_entry, held_unique, held_rests_if_none};
+ghost use Rattle.iddqd_tri.specs.Keys.{ranks};
+ghost use Rattle.iddqd_tri.specs.RefMuts.{ref_lender, ref_map, ref_item};
+
+use super::OccupiedEntryMut;
+use crate::item::{TriHashItem, TriHashItemMut};
+use crate::map::slots::entry::one_of;
+use crate::ref_mut::RefMut;
+use std::hash::{BuildHasher, Hash};
+
+impl<'a, T: TriHashItem, S: BuildHasher> OccupiedEntryMut<'a, T, S> {
+    /// Whether one item has all keys.
+    pub fn is_unique(&self) -> bool
+        requires { Holds self.now }
+        ensures { result ≡ is_unique (held_entry self.now) }
+    {
+        one_of(self.slot1, self.slot2, self.slot3).is_some()
+    }
+
+    /// Whether no item has all keys.
+    pub fn is_non_unique(&self) -> bool
+        requires { Holds self.now }
+        ensures { result ≡ not (is_unique (held_entry self.now)) }
+    {
+        !self.is_unique()
+    }
+
+    /// The item that has all keys, for writing. A caller knows less of the map afterwards than after `into_unique`.
+    pub fn as_unique(&mut self) -> Option<RefMut<'_, T, S>>
+        ensures item { option_and_then ref_item result ≡ held_unique self.old }
+        ensures unchanged { IfSome result (λ r. ref_map r ≡ self.old.map.now) }
+    {
+        let slot = one_of(self.slot1, self.slot2, self.slot3);
+        self.map.lend(slot)
+    }
+
+    /// The item with the first key, for writing. A caller knows less of the map afterwards than after `into_by_key1`.
+    pub fn by_key1(&mut self) -> Option<RefMut<'_, T, S>>
+        ensures item { option_and_then ref_item result ≡ held1 self.old }
+        ensures unchanged { IfSome result (λ r. ref_map r ≡ self.old.map.now) }
+    {
+        let slot = self.slot1;
+        self.map.lend(slot)
+    }
+
+    /// The item with the second key, for writing. A caller knows less of the map afterwards than after `into_by_key2`.
+    pub fn by_key2(&mut self) -> Option<RefMut<'_, T, S>>
+        ensures item { option_and_then ref_item result ≡ held2 self.old }
+        ensures unchanged { IfSome result (λ r. ref_map r ≡ self.old.map.now) }
+    {
+        let slot = self.slot2;
+        self.map.lend(slot)
+    }
+
+    /// The item with the third key, for writing. A caller knows less of the map afterwards than after `into_by_key3`.
+    pub fn by_key3(&mut self) -> Option<RefMut<'_, T, S>>
+        ensures item { option_and_then ref_item result ≡ held3 self.old }
+        ensures unchanged { IfSome result (λ r. ref_map r ≡ self.old.map.now) }
+    {
+        let slot = self.slot3;
+        self.map.lend(slot)
+    }
+
+    /// The item that has all keys, for writing, for as long as the map is lent.
+    pub fn into_unique(self) -> Option<RefMut<'a, T, S>>
+        ensures* rests_at_none { sem 𝓛 (held_rests_if_none T.row S.row T.K1.row T.K2.row T.K3.row S.Hasher.row
+            self.entry.map result) }
+        ensures item { option_and_then ref_item result ≡ held_unique self.entry }
+        ensures unchanged { IfSome result (λ r. ref_map r ≡ self.entry.map.now) }
+        ensures same_map { IfSome result (λ r. ref_lender r ≡ self.entry.map.ghost_name) }
+    {
+        let OccupiedEntryMut {
+            map,
+            slot1,
+            slot2,
+            slot3,
+        } = self;
+        map.lend(one_of(slot1, slot2, slot3))
+    }
+
+    /// The item with the first key, for writing, for as long as the map is lent.
+    pub fn into_by_key1(self) -> Option<RefMut<'a, T, S>>
+        ensures* rests_at_none { sem 𝓛 (held_rests_if_none T.row S.row T.K1.row T.K2.row T.K3.row S.Hasher.row
+            self.entry.map result) }
+        ensures item { option_and_then ref_item result ≡ held1 self.entry }
+        ensures unchanged { IfSome result (λ r. ref_map r ≡ self.entry.map.now) }
+        ensures same_map { IfSome result (λ r. ref_lender r ≡ self.entry.map.ghost_name) }
+    {
+        let OccupiedEntryMut {
+            map,
+            slot1,
+            slot2: _,
+            slot3: _,
+        } = self;
+        map.lend(slot1)
+    }
+
+    /// The item with the second key, for writing, for as long as the map is lent.
+    pub fn into_by_key2(self) -> Option<RefMut<'a, T, S>>
+        ensures* rests_at_none { sem 𝓛 (held_rests_if_none T.row S.row T.K1.row T.K2.row T.K3.row S.Hasher.row
+            self.entry.map result) }
+        ensures item { option_and_then ref_item result ≡ held2 self.entry }
+        ensures unchanged { IfSome result (λ r. ref_map r ≡ self.entry.map.now) }
+        ensures same_map { IfSome result (λ r. ref_lender r ≡ self.entry.map.ghost_name) }
+    {
+        let OccupiedEntryMut {
+            map,
+            slot1: _,
+            slot2,
+            slot3: _,
+        } = self;
+        map.lend(slot2)
+    }
+
+    /// The item with the third key, for writing, for as long as the map is lent.
+    pub fn into_by_key3(self) -> Option<RefMut<'a, T, S>>
+        ensures* rests_at_none { sem 𝓛 (held_rests_if_none T.row S.row T.K1.row T.K2.row T.K3.row S.Hasher.row
+            self.entry.map result) }
+        ensures item { option_and_then ref_item result ≡ held3 self.entry }
+        ensures unchanged { IfSome result (λ r. ref_map r ≡ self.entry.map.now) }
+        ensures same_map { IfSome result (λ r. ref_lender r ≡ self.entry.map.ghost_name) }
+    {
+        let OccupiedEntryMut {
+            map,
+            slot1: _,
+            slot2: _,
+            slot3,
+        } = self;
+        map.lend(slot3)
+    }
+}
+
+impl<'a, T: TriHashItemMut, S: BuildHasher> OccupiedEntryMut<'a, T, S> {
+    /// Stores what `f` answers at each item as its data, that of the first key first and each item once. `f` sees each
+    /// item as it stands then. It takes no memory and compares no key.
+    pub fn for_each<F: FnMut(&T) -> T::Data>(&mut self, f: F)
+    where
+        T::Data: Drop,
+        requires holds { Holds self.old }
+        requires callable { F.IsAlwaysCallable f }
+        ensures same_map { self.new.map.ghost_name ≡ self.old.map.ghost_name }
+        ensures stores { Stores (CalledAt F.FnMut) T.put (ranks T.TriHashItem T.K1.eq T.K2.eq T.K3.eq) f
+            (held self.old) (bag self.old.map.now) (bag self.new.map.now) }
+        ensures places { HoldsSame self.old self.new }
+        ensures capacity { self.new.map.now.capacity ≡ self.old.map.now.capacity }
+        ensures builder { self.new.map.now.builder ≡ self.old.map.now.builder }
+    {
+        let slot1 = self.slot1;
+        let slot2 = self.slot2;
+        let slot3 = self.slot3;
+        self.map.store_found(slot1, slot2, slot3, f);
+    }
+}

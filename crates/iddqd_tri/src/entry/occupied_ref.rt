@@ -1,0 +1,105 @@
+//! The items that three keys found, to be read.
+ghost use Rattle.std.specs.Prelude.{◌≡◌, true, is_some, not, option_copied};
+ghost use Rattle.iddqd_tri.specs.OccupiedRefs.{is_one, seen_unique, seen1, seen2, seen3};
+
+/// The items that three keys found, to be read.
+#[derive(Drop)]
+pub enum OccupiedEntryRef<'a, T> {
+    /// One item has all keys.
+    Unique(&'a T),
+    /// The keys don't name one item. At least one of them names some.
+    NonUnique {
+        /// The item with the first key.
+        by_key1: Option<&'a T>,
+        /// The item with the second key.
+        by_key2: Option<&'a T>,
+        /// The item with the third key.
+        by_key3: Option<&'a T>,
+    },
+}
+
+impl<'a, T> OccupiedEntryRef<'a, T> {
+    /// The items that three keys found. They are one where `is_unique` says so.
+    pub(crate) fn of(
+        is_unique: bool,
+        by_key1: Option<&'a T>,
+        by_key2: Option<&'a T>,
+        by_key3: Option<&'a T>,
+    ) -> Self
+        requires some { is_unique ≡ true → is_some by_key1 ≡ true }
+        requires one2 { is_unique ≡ true → option_copied by_key1 ≡ option_copied by_key2 }
+        requires one3 { is_unique ≡ true → option_copied by_key1 ≡ option_copied by_key3 }
+        ensures unique { is_one result ≡ is_unique }
+        ensures by_key1 { seen1 result ≡ option_copied by_key1.entry }
+        ensures by_key2 { seen2 result ≡ option_copied by_key2.entry }
+        ensures by_key3 { seen3 result ≡ option_copied by_key3.entry }
+    {
+        if is_unique {
+            if let Some(item) = by_key1 {
+                return OccupiedEntryRef::Unique(item);
+            }
+        }
+        OccupiedEntryRef::NonUnique {
+            by_key1,
+            by_key2,
+            by_key3,
+        }
+    }
+
+    /// Whether one item has all keys.
+    pub fn is_unique(&self) -> bool
+        ensures { result ≡ is_one self.now }
+    {
+        match self {
+            OccupiedEntryRef::Unique(_) => true,
+            OccupiedEntryRef::NonUnique { .. } => false,
+        }
+    }
+
+    /// Whether no item has all keys.
+    pub fn is_non_unique(&self) -> bool
+        ensures { result ≡ not (is_one self.now) }
+    {
+        !self.is_unique()
+    }
+
+    /// The item that has all keys.
+    pub fn as_unique(&self) -> Option<&'a T>
+        ensures { option_copied result ≡ seen_unique self.now }
+    {
+        match self {
+            OccupiedEntryRef::Unique(item) => Some(*item),
+            OccupiedEntryRef::NonUnique { .. } => None,
+        }
+    }
+
+    /// The item with the first key.
+    pub fn by_key1(&self) -> Option<&'a T>
+        ensures { option_copied result ≡ seen1 self.now }
+    {
+        match self {
+            OccupiedEntryRef::Unique(item) => Some(*item),
+            OccupiedEntryRef::NonUnique { by_key1, .. } => *by_key1,
+        }
+    }
+
+    /// The item with the second key.
+    pub fn by_key2(&self) -> Option<&'a T>
+        ensures { option_copied result ≡ seen2 self.now }
+    {
+        match self {
+            OccupiedEntryRef::Unique(item) => Some(*item),
+            OccupiedEntryRef::NonUnique { by_key2, .. } => *by_key2,
+        }
+    }
+
+    /// The item with the third key.
+    pub fn by_key3(&self) -> Option<&'a T>
+        ensures { option_copied result ≡ seen3 self.now }
+    {
+        match self {
+            OccupiedEntryRef::Unique(item) => Some(*item),
+            OccupiedEntryRef::NonUnique { by_key3, .. } => *by_key3,
+        }
+    }
+}

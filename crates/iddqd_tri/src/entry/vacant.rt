@@ -1,0 +1,139 @@
+//! Putting an item in by keys that no item has.
+ghost use Rattle.std.specs.Prelude.{◌≡◌, [], ◌∷◌, None, Some, IfOk, IfErr, OnOk};
+ghost use Rattle.std.specs.Borrow.{sem};
+ghost use Rattle.iddqd_store.specs.Bag.{differ, entry, unique};
+ghost use Rattle.iddqd_store.specs.Map.{bag, Gains, IsFullFor};
+ghost use Rattle.iddqd_tri.specs.Entries.{HasFound, Holds, held, held1, held2, held3, held_entry, held_unique, sought, rests_if_err, held_rests_if_err};
+ghost use Rattle.iddqd_tri.specs.Keys.{key_tests, ranks};
+ghost use Rattle.iddqd_tri.specs.Mismatch.{error_item, error_rank, OnNoMemory};
+ghost use Rattle.iddqd_tri.specs.RefMuts.{ref_lender, ref_map, ref_item};
+
+use super::{KeyTriple, Keys, OccupiedEntry, OccupiedEntryMut, VacantEntry};
+use crate::error::EntryError;
+use crate::item::TriHashItem;
+use crate::ref_mut::RefMut;
+use std::hash::{BuildHasher, Hash};
+
+impl<'a, T: TriHashItem, S: BuildHasher, Q: Keys<T::K1, T::K2, T::K3>> VacantEntry<'a, T, S, Q> {
+    /// Puts an item in that has the entry's keys.
+    ///
+    /// It is refused with the lowest rank at which its key is not the entry's, or else where the map is full and there
+    /// is no memory to grow. Each refusal hands the item back, and the map is as it was.
+    ///
+    /// It compares the first keys, and those of the next rank where those are equal, and searches nothing. It hashes
+    /// each key of the item once, and takes memory only where the map is full.
+    pub fn insert(self, item: T) -> Result<RefMut<'a, T, S>, EntryError<T>>
+        ensures* unchanged_at_err { sem 𝓛 (rests_if_err T.row S.row T.K1.row T.K2.row T.K3.row S.Hasher.row
+            self.entry.map result) }
+        ensures same_map { IfOk result (λ r. ref_lender r ≡ self.entry.map.ghost_name) }
+        ensures item { IfOk result (λ r. ref_item r ≡ Some item) }
+        ensures gains { IfOk result (λ r. Gains self.entry.map.now item (ref_map r)) }
+        ensures same_keys { OnOk result (differ (key_tests T.TriHashItem T.K1.eq T.K2.eq T.K3.eq
+            (Q.first self.entry.keys) (Q.second self.entry.keys) (Q.third self.entry.keys)) item ≡ None) }
+        ensures handed_back { IfErr result (λ e. error_item e ≡ item) }
+        ensures rank { IfErr result (λ e. differ (key_tests T.TriHashItem T.K1.eq T.K2.eq T.K3.eq
+            (Q.first self.entry.keys) (Q.second self.entry.keys) (Q.third self.entry.keys)) item ≡ error_rank e) }
+        ensures memory { IfErr result (λ e. OnNoMemory e
+            (IsFullFor (ranks T.TriHashItem T.K1.eq T.K2.eq T.K3.eq) self.entry.map.now item)) }
+    {
+        let VacantEntry { map, keys } = self;
+        if *keys.first() != *item.key1() {
+            return Err(EntryError::Key1(item));
+        }
+        if *keys.second() != *item.key2() {
+            return Err(EntryError::Key2(item));
+        }
+        if *keys.third() != *item.key3() {
+            return Err(EntryError::Key3(item));
+        }
+        match map.put_free(item) {
+            Ok(slot) => Ok(RefMut { map, slot }),
+            Err(item) => Err(EntryError::Memory(item)),
+        }
+    }
+
+    /// The same as `insert`, and answers what an occupied entry answers in `into_mut`.
+    pub fn insert_mut(self, item: T) -> Result<OccupiedEntryMut<'a, T, S>, EntryError<T>>
+        ensures* unchanged_at_err { sem 𝓛 (held_rests_if_err T.row S.row T.K1.row T.K2.row T.K3.row S.Hasher.row
+            T.TriHashItem T.K1.Hash T.K2.Hash T.K3.Hash S.BuildHasher S.Hasher.Hasher self.entry.map result) }
+        ensures same_map { IfOk result (λ m. m.map.ghost_name ≡ self.entry.map.ghost_name) }
+        ensures gains { IfOk result (λ m. Gains self.entry.map.now item m.map.now) }
+        ensures holds { IfOk result Holds }
+        ensures held { IfOk result (λ m. held m ≡ item ∷ []) }
+        ensures unique { IfOk result (λ m. held_entry m ≡ unique item) }
+        ensures unique_held { IfOk result (λ m. held_unique m ≡ Some item) }
+        ensures by_key1 { IfOk result (λ m. held1 m ≡ Some item) }
+        ensures by_key2 { IfOk result (λ m. held2 m ≡ Some item) }
+        ensures by_key3 { IfOk result (λ m. held3 m ≡ Some item) }
+        ensures same_keys { OnOk result (differ (key_tests T.TriHashItem T.K1.eq T.K2.eq T.K3.eq
+            (Q.first self.entry.keys) (Q.second self.entry.keys) (Q.third self.entry.keys)) item ≡ None) }
+        ensures handed_back { IfErr result (λ e. error_item e ≡ item) }
+        ensures rank { IfErr result (λ e. differ (key_tests T.TriHashItem T.K1.eq T.K2.eq T.K3.eq
+            (Q.first self.entry.keys) (Q.second self.entry.keys) (Q.third self.entry.keys)) item ≡ error_rank e) }
+        ensures memory { IfErr result (λ e. OnNoMemory e
+            (IsFullFor (ranks T.TriHashItem T.K1.eq T.K2.eq T.K3.eq) self.entry.map.now item)) }
+    {
+        let VacantEntry { map, keys } = self;
+        if *keys.first() != *item.key1() {
+            return Err(EntryError::Key1(item));
+        }
+        if *keys.second() != *item.key2() {
+            return Err(EntryError::Key2(item));
+        }
+        if *keys.third() != *item.key3() {
+            return Err(EntryError::Key3(item));
+        }
+        match map.put_free(item) {
+            Ok(slot) => Ok(OccupiedEntryMut {
+                map,
+                slot1: Some(slot),
+                slot2: Some(slot),
+                slot3: Some(slot),
+            }),
+            Err(item) => Err(EntryError::Memory(item)),
+        }
+    }
+}
+
+impl<'a, T: TriHashItem, S: BuildHasher> VacantEntry<'a, T, S> {
+    /// The same as `insert`, and answers an entry, which is unique. At a refusal a caller knows less of the map than
+    /// after `insert`.
+    pub fn insert_entry(self, item: T) -> Result<OccupiedEntry<'a, T, S>, EntryError<T>>
+        ensures same_map { IfOk result (λ e. e.map.ghost_name ≡ self.entry.map.ghost_name) }
+        ensures gains { IfOk result (λ e. Gains self.entry.map.now item e.map.now) }
+        ensures found { IfOk result (HasFound T.TriHashItem T.K1.eq T.K2.eq T.K3.eq) }
+        ensures unique { IfOk result (λ e.
+            entry (sought T.TriHashItem T.K1.eq T.K2.eq T.K3.eq e) (bag e.map.now) ≡ unique item) }
+        ensures same_keys { OnOk result (differ (key_tests T.TriHashItem T.K1.eq T.K2.eq T.K3.eq
+            self.entry.keys.key1.now self.entry.keys.key2.now self.entry.keys.key3.now) item ≡ None) }
+        ensures handed_back { IfErr result (λ e. error_item e ≡ item) }
+        ensures rank { IfErr result (λ e. differ (key_tests T.TriHashItem T.K1.eq T.K2.eq T.K3.eq
+            self.entry.keys.key1.now self.entry.keys.key2.now self.entry.keys.key3.now) item ≡ error_rank e) }
+        ensures memory { IfErr result (λ e. OnNoMemory e
+            (IsFullFor (ranks T.TriHashItem T.K1.eq T.K2.eq T.K3.eq) self.entry.map.now item)) }
+    {
+        let VacantEntry { map, keys } = self;
+        let KeyTriple { key1, key2, key3 } = keys;
+        if *key1 != *item.key1() {
+            return Err(EntryError::Key1(item));
+        }
+        if *key2 != *item.key2() {
+            return Err(EntryError::Key2(item));
+        }
+        if *key3 != *item.key3() {
+            return Err(EntryError::Key3(item));
+        }
+        match map.put_free(item) {
+            Ok(slot) => Ok(OccupiedEntry {
+                map,
+                key1,
+                key2,
+                key3,
+                slot1: Some(slot),
+                slot2: Some(slot),
+                slot3: Some(slot),
+            }),
+            Err(item) => Err(EntryError::Memory(item)),
+        }
+    }
+}

@@ -1,0 +1,151 @@
+//! Why an insert is refused.
+ghost use Rattle.std.specs.Prelude.{◌≡◌, map};
+ghost use Rattle.iddqd_store.specs.Map.{bag};
+ghost use Rattle.iddqd_store.specs.Bag.{order};
+ghost use Rattle.iddqd_store.specs.Slots.Found.{items_at};
+ghost use Rattle.iddqd_tri.specs.Keys.{ranks};
+
+use crate::item::TriHashItem;
+use crate::map::TriHashMap;
+use iddqd_store::{ItemIndex, UpToThree};
+use std::hash::{BuildHasher, Hash};
+
+/// Why an insert was refused. It holds the map, so that the caller knows the map exactly.
+#[derive(Drop)]
+pub enum InsertError<'a, T: TriHashItem, S: BuildHasher> {
+    /// Items of the map conflict with the new one.
+    Duplicate(DuplicateError<'a, T, S>),
+    /// Nothing conflicts with the new item, but the map is full and there was no memory to grow.
+    Memory(MemoryError<'a, T, S>),
+}
+
+/// An item that was refused since others have its keys, with the map that has them.
+pub struct DuplicateError<'a, T: TriHashItem, S: BuildHasher> {
+    pub(crate) map: &'a mut TriHashMap<T, S>,
+    pub(crate) new_item: T,
+    pub(crate) found: UpToThree<ItemIndex>,
+    ghost found_is: { items_at map.now.slots found
+        ≡ order (ranks T.TriHashItem T.K1.eq T.K2.eq T.K3.eq) (bag map.now) new_item },
+}
+
+/// An item that was refused for want of memory, with the map that has no room for it.
+pub struct MemoryError<'a, T: TriHashItem, S: BuildHasher> {
+    pub(crate) map: &'a mut TriHashMap<T, S>,
+    pub(crate) new_item: T,
+}
+
+/// Why an item was not put in the place of others: the lowest rank at which its key is not theirs, with the item.
+#[derive(Drop)]
+pub enum KeyMismatch<T> {
+    /// The first key differs.
+    Key1(T),
+    /// The second key differs, and the first does not.
+    Key2(T),
+    /// The third key differs, and no other does.
+    Key3(T),
+}
+
+/// Why an item was not put in through an entry: the lowest rank at which its key is not the entry's, or no memory, with
+/// the item.
+#[derive(Drop)]
+pub enum EntryError<T> {
+    /// The first key differs.
+    Key1(T),
+    /// The second key differs, and the first does not.
+    Key2(T),
+    /// The third key differs, and no other does.
+    Key3(T),
+    /// All keys are the entry's, but the map is full and there was no memory to grow.
+    Memory(T),
+}
+
+/// Why no map was built of some items.
+pub type FromIterError<T> = iddqd_store::FromIterError<T, UpToThree<T>>;
+
+impl<T: TriHashItem, S: BuildHasher> DuplicateError<'_, T, S> {
+    /// The item that was refused.
+    pub fn new_item(&self) -> &T
+        ensures { result.now ≡ self.now.new_item }
+    {
+        &self.new_item
+    }
+
+    /// The items of the map that conflict with it, in the order of the keys. Nothing is searched again.
+    pub fn duplicates(&self) -> UpToThree<&T>
+        ensures { map (λ item. item.now) result
+            ≡ order (ranks T.TriHashItem T.K1.eq T.K2.eq T.K3.eq) (bag self.now.map.now) self.now.new_item }
+    {
+        let map = &*self.map;
+        map.items_of(&self.found)
+    }
+
+    /// The item that was refused, by value.
+    pub fn into_item(self) -> T
+        ensures item { result ≡ self.entry.new_item }
+        ensures map { self.exit.0.now ≡ self.entry.map.now }
+    {
+        let DuplicateError {
+            map: _,
+            new_item,
+            found: _,
+        } = self;
+        new_item
+    }
+}
+
+impl<'a, T: TriHashItem, S: BuildHasher> DuplicateError<'a, T, S> {
+    /// The item that was refused, by value, with the items of the map that conflict with it, in the order of the keys.
+    pub fn into_parts(self) -> (T, UpToThree<&'a T>)
+        ensures item { result.0 ≡ self.entry.new_item }
+        ensures duplicates { map (λ item. item.now) result.1
+            ≡ order (ranks T.TriHashItem T.K1.eq T.K2.eq T.K3.eq) (bag self.entry.map.now) self.entry.new_item }
+    {
+        let DuplicateError {
+            map,
+            new_item,
+            found,
+        } = self;
+        let map: &'a TriHashMap<T, S> = map;
+        (new_item, map.items_of(&found))
+    }
+}
+
+impl<T: TriHashItem, S: BuildHasher> MemoryError<'_, T, S> {
+    /// The item that was refused.
+    pub fn new_item(&self) -> &T
+        ensures { result.now ≡ self.now.new_item }
+    {
+        &self.new_item
+    }
+
+    /// The item that was refused, by value.
+    pub fn into_item(self) -> T
+        ensures item { result ≡ self.entry.new_item }
+        ensures map { self.exit.0.now ≡ self.entry.map.now }
+    {
+        let MemoryError { map: _, new_item } = self;
+        new_item
+    }
+}
+
+impl<T: TriHashItem + Drop, S: BuildHasher> Drop for DuplicateError<'_, T, S> {
+    fn drop(self)
+        ensures { self.exit.0.now ≡ self.entry.map.now }
+    {
+        let DuplicateError {
+            map: _,
+            new_item,
+            found: _,
+        } = self;
+        drop(new_item);
+    }
+}
+
+impl<T: TriHashItem + Drop, S: BuildHasher> Drop for MemoryError<'_, T, S> {
+    fn drop(self)
+        ensures { self.exit.0.now ≡ self.entry.map.now }
+    {
+        let MemoryError { map: _, new_item } = self;
+        drop(new_item);
+    }
+}

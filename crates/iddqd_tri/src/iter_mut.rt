@@ -1,0 +1,14 @@
+//! A walk over the items of a map, for writing.
+use crate::item::TriHashItem;
+use crate::map::{DefaultHashBuilder, TriHashMap};
+use std::hash::{BuildHasher, Hash};
+
+mod methods;
+
+/// A walk over the items of a map, each lent once for writing.
+#[derive(Drop)]
+pub struct IterMut<'a, T: TriHashItem, S: BuildHasher = DefaultHashBuilder> {
+    pub(crate) map: &'a mut TriHashMap<T, S>,
+    // The number of the first slot that the walk has not passed.
+    pub(crate) next: usize,
+}

@@ -1,0 +1,68 @@
+//! The steps of a walk for writing.
+ghost use Rattle.std.specs.Prelude.{◌≡◌, ◌+◌, [], length, slice_get, IfSome, IfNone, Some};
+ghost use Rattle.std.specs.Borrow.{sem};
+ghost use Rattle.std.specs.Option.{option_and_then};
+ghost use Rattle.iddqd_store.specs.Map.Walk.{Passes};
+ghost use Rattle.iddqd_store.specs.Slots.{get};
+ghost use Rattle.iddqd_tri.specs.IterMuts.{lends_next, IsNextOf, rest_of};
+ghost use Rattle.iddqd_tri.specs.RefMuts.{ref_item, ref_map};
+
+use super::IterMut;
+use crate::item::{TriHashItem, TriHashItemMut};
+use crate::ref_mut::RefMut;
+use iddqd_store::ItemIndex;
+use std::hash::{BuildHasher, Hash};
+
+impl<T: TriHashItem, S: BuildHasher> IterMut<'_, T, S> {
+    /// How many items are to come. It looks at each slot behind the place of the walk.
+    pub fn len(&self) -> usize
+        ensures { result ≡ length (rest_of self.now) }
+    {
+        self.map.count_from(self.next)
+    }
+
+    /// The next item, for writing. A caller knows less of the map afterwards than after `next_data`, or after
+    /// `TriHashMap::next_from`.
+    pub fn next_mut(&mut self) -> Option<RefMut<'_, T, S>>
+        ensures next { option_and_then ref_item result ≡ slice_get (rest_of self.old) 0 }
+        ensures unchanged { IfSome result (λ r. ref_map r ≡ self.old.map.now) }
+    {
+        let slot = self.advance();
+        self.map.lend(slot)
+    }
+
+    /// Goes on behind the next item, and answers its slot.
+    fn advance(&mut self) -> Option<ItemIndex>
+        ensures next { option_and_then (get self.old.map.now.slots) result ≡ slice_get (rest_of self.old) 0 }
+        ensures behind { IfSome result (λ ix. self.new.next ≡ ix + 1) }
+        ensures map { self.new.map ≡ self.old.map }
+    {
+        match self.map.slot_from(self.next) {
+            Some(slot) => {
+                self.next = slot.number() + 1;
+                Some(slot)
+            }
+            None => None,
+        }
+    }
+}
+
+impl<T: TriHashItemMut, S: BuildHasher> IterMut<'_, T, S> {
+    /// The data of the next item, for writing.
+    pub fn next_data(&mut self) -> Option<&mut T::Data>
+        ensures* lends { sem 𝓛 (lends_next T.row S.row T.K1.row T.K2.row T.K3.row S.Hasher.row
+            T.TriHashItem T.K1.Hash T.K2.Hash T.K3.Hash S.BuildHasher S.Hasher.Hasher
+            T.Data.row T.put self.entry result) }
+        ensures next { IfSome result (λ r. IsNextOf self.old) }
+        ensures value { (x : T) → slice_get (rest_of self.old) 0 ≡ Some x → IfSome result (λ r. r.now ≡ T.payload x) }
+        ensures end { IfNone result (rest_of self.old ≡ []) }
+    {
+        match self.map.slot_from(self.next) {
+            Some(ix) => {
+                self.next = ix.number() + 1;
+                Some(self.map.data_mut_at(ix))
+            }
+            None => None,
+        }
+    }
+}

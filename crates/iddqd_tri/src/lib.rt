@@ -1,0 +1,28 @@
+//! A hash map of items with three keys.
+#![tactic(auto)]
+
+mod command;
+mod entry;
+mod error;
+mod item;
+mod iter_mut;
+mod map;
+mod pointers;
+mod ranks;
+mod ref_mut;
+
+pub use command::{TriCommand, TriReply, TriSink};
+pub use entry::{
+    Entry, KeyTriple, Keys, OccupiedEntry, OccupiedEntryMut, OccupiedEntryRef, VacantEntry,
+};
+pub use error::{DuplicateError, EntryError, FromIterError, InsertError, KeyMismatch, MemoryError};
+pub use item::{TriHashItem, TriHashItemMut};
+pub use iter_mut::IterMut;
+pub use map::{DefaultHashBuilder, TriHashMap};
+pub use ref_mut::RefMut;
+
+// What the calls name of the parts that all maps share.
+pub use iddqd_store::{
+    Cursor, DuplicateItem, Equivalent, IntoIter, Iter, KeyMatcher, MemoryRefused, Meter,
+    TryReserveError, UpToThree,
+};

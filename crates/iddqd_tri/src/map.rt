@@ -1,0 +1,61 @@
+//! The map.
+use crate::item::TriHashItem;
+use iddqd_store::{IndexTable, ItemSet};
+use std::hash::{BuildHasher, BuildHasherDefault, FoldHasher, Hash};
+use std::marker::Model;
+
+mod build;
+mod capacity;
+mod clone;
+mod compare;
+mod entry;
+mod extend;
+mod find;
+mod insert;
+mod iterate;
+mod overwrite;
+mod remove;
+mod retain;
+mod run;
+mod run_entries;
+mod shrink;
+pub(crate) mod slots;
+mod write;
+
+/// The builder of hashers that a map has where none is named: std's, with its fixed seed. It gives no protection where
+/// strangers choose the keys.
+pub type DefaultHashBuilder = BuildHasherDefault<FoldHasher>;
+
+/// A hash map of items with three keys. No two of its items have an equal key of the same rank.
+#[derive(Drop)]
+pub struct TriHashMap<T: TriHashItem, S: BuildHasher = DefaultHashBuilder> {
+    items: ItemSet<T>,
+    first: IndexTable,
+    second: IndexTable,
+    third: IndexTable,
+    hash_builder: S,
+}
+
+impl<T: TriHashItem, S: BuildHasher> Model for TriHashMap<T, S> {
+    ghost use Rattle.std.specs.Prelude.{[], ◌∷◌, min};
+    ghost use Rattle.iddqd_store.specs.Map.{Map, map_code};
+    ghost use Rattle.iddqd_store.specs.Rank.Index.{IsIndexed};
+    ghost use Rattle.iddqd_store.specs.Rank.{key_hash};
+    ghost use Rattle.iddqd_tri.specs.Keys.{ranks};
+
+    ghost Value = { Map T S };
+
+    ghost coded = { map_code T.code S.code };
+
+    ghost view = { λ m. record {
+      slots = m.items.slots;
+      capacity = min m.items.capacity (min m.first.limit (min m.second.limit m.third.limit));
+      builder = m.hash_builder;
+    } };
+
+    ghost invariant = { λ m. IsIndexed (ranks T.TriHashItem T.K1.eq T.K2.eq T.K3.eq)
+        (key_hash T.key1 T.K1.hash_input S.BuildHasher S.Hasher.Hasher m.hash_builder
+        ∷ key_hash T.key2 T.K2.hash_input S.BuildHasher S.Hasher.Hasher m.hash_builder
+        ∷ key_hash T.key3 T.K3.hash_input S.BuildHasher S.Hasher.Hasher m.hash_builder ∷ [])
+        m.items.slots (m.first.pairs ∷ m.second.pairs ∷ m.third.pairs ∷ []) };
+}

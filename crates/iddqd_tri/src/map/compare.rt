@@ -1,0 +1,66 @@
+//! Equality of maps.
+ghost use Rattle.std.specs.Prelude.{◌≡◌, ◌↔◌};
+ghost use Rattle.std.specs.Bool.{IsTrue};
+ghost use Rattle.std.specs.List.{list_any};
+ghost use Rattle.iddqd_store.specs.Bag.{IsSameBag, is_same, same_item};
+ghost use Rattle.iddqd_store.specs.Map.{bag};
+ghost use Rattle.iddqd_store.proofs.BagLemmas.SameTest.{is_same-partial, is_same-equivalence};
+ghost use Rattle.std.specs.Cmp.{on_per, on_equiv};
+ghost use Rattle.iddqd_tri.specs.Keys.{ranks};
+ghost use Rattle.iddqd_store.proofs.MapLemmas.{IsEquivalence-key};
+
+use super::TriHashMap;
+use super::slots::has_others;
+use crate::item::TriHashItem;
+use std::hash::{BuildHasher, Hash};
+
+/// Two maps are equal exactly if their items pair off, each pair agreeing in all keys and by `==`. How they came
+/// about, their capacity and the state of their builders play no part.
+///
+/// There is at most one search for each item of the left map, by its first key.
+impl<T: TriHashItem + PartialEq, S: BuildHasher> PartialEq for TriHashMap<T, S> {
+    ghost eq = { λ m n. is_same (ranks T.TriHashItem T.K1.eq T.K2.eq T.K3.eq) T.eq (bag m) (bag n) };
+
+    ghost laws = { on_per bag (is_same-partial (ranks T.TriHashItem T.K1.eq T.K2.eq T.K3.eq) T.eq (
+      IsEquivalence-key T.K1.eq T.key1 T.K1.Eq.laws,
+      (IsEquivalence-key T.K2.eq T.key2 T.K2.Eq.laws, (IsEquivalence-key T.K3.eq T.key3 T.K3.Eq.laws, tt)),
+    ) T.laws) };
+
+    fn eq(&self, other: &Self) -> bool
+        ensures eq { result ≡ is_same (ranks T.TriHashItem T.K1.eq T.K2.eq T.K3.eq) T.eq (bag self.now)
+            (bag other.now) }
+        ensures same { IsTrue result
+            ↔ IsSameBag (ranks T.TriHashItem T.K1.eq T.K2.eq T.K3.eq) T.eq (bag self.now) (bag other.now) }
+    {
+        if self.len() != other.len() {
+            return false;
+        }
+        for item in self {
+            if !other.has_partner(item) {
+                return false;
+            }
+        }
+        true
+    }
+}
+
+impl<T: TriHashItem + Eq, S: BuildHasher> Eq for TriHashMap<T, S> {
+    ghost laws = { on_equiv bag (is_same-equivalence (ranks T.TriHashItem T.K1.eq T.K2.eq T.K3.eq) T.eq (
+      IsEquivalence-key T.K1.eq T.key1 T.K1.Eq.laws,
+      (IsEquivalence-key T.K2.eq T.key2 T.K2.Eq.laws, (IsEquivalence-key T.K3.eq T.key3 T.K3.Eq.laws, tt)),
+    )
+        T.Eq.laws) };
+}
+
+impl<T: TriHashItem + PartialEq, S: BuildHasher> TriHashMap<T, S> {
+    /// Whether an item of the map agrees with this one in all keys and equals it.
+    fn has_partner(&self, item: &T) -> bool
+        ensures { result ≡ list_any (same_item (ranks T.TriHashItem T.K1.eq T.K2.eq T.K3.eq) T.eq item.now)
+            (bag self.now) }
+    {
+        match self.get1(item.key1()) {
+            Some(found) => has_others(found, item.key2(), item.key3()) && item == found,
+            None => false,
+        }
+    }
+}

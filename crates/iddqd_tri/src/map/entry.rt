@@ -1,0 +1,55 @@
+//! Entries of three keys.
+ghost use Rattle.std.specs.Prelude.{◌≡◌};
+ghost use Rattle.iddqd_store.specs.Bag.{entry};
+ghost use Rattle.iddqd_store.specs.Map.{bag};
+ghost use Rattle.iddqd_tri.specs.Entries.{IsFound, entry_key1, entry_key2, entry_key3, entry_lender, entry_map, entry_value};
+ghost use Rattle.iddqd_tri.specs.Keys.{key_tests};
+
+use super::TriHashMap;
+use super::slots::entry::none_of;
+use crate::entry::{Entry, KeyTriple, OccupiedEntry, VacantEntry};
+use crate::item::TriHashItem;
+use std::hash::{BuildHasher, Hash};
+
+impl<T: TriHashItem, S: BuildHasher> TriHashMap<T, S> {
+    /// What three keys find: no item, one that has all, or items that have one of them. The entry keeps the keys and
+    /// what they found, and searches nothing again. It takes no memory.
+    ///
+    /// Each key is hashed once and searched for once.
+    pub fn entry<'a>(
+        &'a mut self,
+        key1: &'a T::K1,
+        key2: &'a T::K2,
+        key3: &'a T::K3,
+    ) -> Entry<'a, T, S>
+        ensures same_map { entry_lender result ≡ self.entry.ghost_name }
+        ensures unchanged { entry_map result ≡ self.old }
+        ensures key1 { entry_key1 result ≡ key1.now }
+        ensures key2 { entry_key2 result ≡ key2.now }
+        ensures key3 { entry_key3 result ≡ key3.now }
+        ensures value { entry_value result
+            ≡ entry (key_tests T.TriHashItem T.K1.eq T.K2.eq T.K3.eq key1.now key2.now key3.now) (bag self.old) }
+        ensures found { IsFound result }
+    {
+        let _ = &self.items;
+        let slot1 = self.by_key1().slot_of(key1);
+        let slot2 = self.by_key2().slot_of(key2);
+        let slot3 = self.by_key3().slot_of(key3);
+        if none_of(&slot1, &slot2, &slot3) {
+            Entry::Vacant(VacantEntry {
+                map: self,
+                keys: KeyTriple { key1, key2, key3 },
+            })
+        } else {
+            Entry::Occupied(OccupiedEntry {
+                map: self,
+                key1,
+                key2,
+                key3,
+                slot1,
+                slot2,
+                slot3,
+            })
+        }
+    }
+}

@@ -1,0 +1,117 @@
+//! Many items at once.
+ghost use Rattle.std.specs.Prelude.{◌≡◌, ◌≤◌, [], length, IfOk, IfErr, OnOk, OnErr, IsOk};
+ghost use Rattle.std.specs.Iterator.{IsFiniteIterable};
+ghost use Rattle.iddqd_store.specs.Bag.{clash, overs};
+ghost use Rattle.iddqd_store.specs.Bag.Building.{GivesAll, GivesThen, FitsOn, AddsTo, RefusesFor, HasPlaceFor, MatchFromIterError};
+ghost use Rattle.iddqd_store.specs.Map.{bag};
+ghost use Rattle.iddqd_store.specs.Runs.Step.{ExtendsTo, state_of, empty_state};
+ghost use Rattle.iddqd_tri.specs.Keys.{ranks};
+
+use super::TriHashMap;
+use super::slots::Refusal;
+use crate::error::FromIterError;
+use crate::item::TriHashItem;
+use iddqd_store::{DuplicateItem, MemoryRefused};
+use std::alloc::Global;
+use std::hash::{BuildHasher, Hash};
+
+impl<T: TriHashItem + Drop, S: BuildHasher> TriHashMap<T, S> {
+    /// Puts the items in one by one, each in the place of those that conflict with it, which are dropped.
+    ///
+    /// It first asks for room for as many as the iterator promises, or for half as many where the map has items, since
+    /// their keys may be there already. Where that is refused it goes on, and the map grows as it fills. An item that
+    /// finds no memory comes back: those before it stay, and the iterator is dropped with the rest.
+    pub fn extend<I: IntoIterator<Item = T>>(&mut self, iter: I) -> Result<(), MemoryRefused<T>>
+        requires ends { IsFiniteIterable I.into_iter_gives I.IntoIter.can_next I.IntoIter.remaining iter }
+        ensures all { OnOk result (GivesAll I.into_iter_gives I.IntoIter.next_gives iter (λ xs.
+            ExtendsTo (ranks T.TriHashItem T.K1.eq T.K2.eq T.K3.eq) (state_of self.old) xs (state_of self.new))) }
+        ensures refused { IfErr result (λ e. GivesThen I.into_iter_gives I.IntoIter.next_gives iter e.value (λ xs.
+            ExtendsTo (ranks T.TriHashItem T.K1.eq T.K2.eq T.K3.eq) (state_of self.old) xs (state_of self.new))) }
+        ensures free { IfErr result
+            (λ e. clash (ranks T.TriHashItem T.K1.eq T.K2.eq T.K3.eq) (bag self.new) e.value ≡ []) }
+        ensures full { OnErr result (length (bag self.new) ≡ self.new.capacity) }
+        ensures had_room { FitsOn I.into_iter_gives I.IntoIter.remaining iter (length (bag self.old)) self.old.capacity
+            → IsOk result }
+        ensures same_room { FitsOn I.into_iter_gives I.IntoIter.remaining iter (length (bag self.old)) self.old.capacity
+            → self.new.capacity ≡ self.old.capacity }
+        ensures no_less_room { self.old.capacity ≤ self.new.capacity }
+        ensures builder { self.new.builder ≡ self.old.builder }
+    {
+        let items = iter.into_iter();
+        let promised = items.size_hint().0;
+        let wanted = if self.is_empty() {
+            promised
+        } else {
+            promised.div_ceil(2)
+        };
+        // The promise is of items, not of new keys, so its refusal is not yet a want of memory.
+        let _ = self.grow(wanted);
+        // No map has more items than fit.
+        let _ = self.capacity();
+        for item in items {
+            drop(self.insert_overwrite(item)?);
+        }
+        Ok(())
+    }
+}
+
+impl<T: TriHashItem + Drop, S: BuildHasher + Default + Drop> TriHashMap<T, S> {
+    /// The map of these items, each in the place of those before it that conflict with it, which are dropped.
+    ///
+    /// It asks for room as `extend` does. Where an item finds no memory it comes back, and there is no map.
+    pub fn from_iter<I: IntoIterator<Item = T>>(
+        alloc: Global,
+        iter: I,
+    ) -> Result<Self, MemoryRefused<T>>
+        requires ends { IsFiniteIterable I.into_iter_gives I.IntoIter.can_next I.IntoIter.remaining iter }
+        ensures all { IfOk result (λ map. GivesAll I.into_iter_gives I.IntoIter.next_gives iter (λ xs.
+            ExtendsTo (ranks T.TriHashItem T.K1.eq T.K2.eq T.K3.eq) empty_state xs (state_of map))) }
+        ensures refused { IfErr result (λ e. GivesThen I.into_iter_gives I.IntoIter.next_gives iter e.value (λ xs.
+            clash (ranks T.TriHashItem T.K1.eq T.K2.eq T.K3.eq)
+            (overs (ranks T.TriHashItem T.K1.eq T.K2.eq T.K3.eq) [] xs) e.value ≡ [])) }
+        ensures builder { IfOk result (λ map. S.is_default map.builder) }
+    {
+        let mut map = TriHashMap::default(alloc);
+        map.extend(iter)?;
+        Ok(map)
+    }
+
+    /// The map of these items, none of which conflict.
+    ///
+    /// It first asks for room for as many as the iterator promises, and goes on where that is refused. At the first
+    /// item that conflicts with some before it, it answers that one and those, in the order of the keys. An item that
+    /// finds no memory comes back. The other items and the iterator are dropped then, and there is no map.
+    pub fn from_iter_unique<I: IntoIterator<Item = T>>(
+        alloc: Global,
+        iter: I,
+    ) -> Result<Self, FromIterError<T>>
+        requires ends { IsFiniteIterable I.into_iter_gives I.IntoIter.can_next I.IntoIter.remaining iter }
+        ensures all { IfOk result (λ map. GivesAll I.into_iter_gives I.IntoIter.next_gives iter
+            (AddsTo (ranks T.TriHashItem T.K1.eq T.K2.eq T.K3.eq) (bag map))) }
+        ensures fits { IfOk result (λ map. length (bag map) ≤ map.capacity) }
+        ensures refused { IfErr result (λ e. MatchFromIterError e
+            (λ x duplicates. GivesThen I.into_iter_gives I.IntoIter.next_gives iter x
+            (RefusesFor (ranks T.TriHashItem T.K1.eq T.K2.eq T.K3.eq) x duplicates))
+            (λ x. GivesThen I.into_iter_gives I.IntoIter.next_gives iter x
+            (HasPlaceFor (ranks T.TriHashItem T.K1.eq T.K2.eq T.K3.eq) x))) }
+        ensures builder { IfOk result (λ map. S.is_default map.builder) }
+    {
+        let mut map = TriHashMap::default(alloc);
+        let items = iter.into_iter();
+        // The promise is of items, not of new keys, so its refusal is not yet a want of memory.
+        let _ = map.grow(items.size_hint().0);
+        for item in items {
+            match map.try_insert(item) {
+                Ok(_) => {}
+                Err(Refusal::Duplicate(item, found)) => {
+                    let duplicates = map.take_all(&found);
+                    return Err(FromIterError::Duplicate(DuplicateItem::new(item, duplicates)));
+                }
+                Err(Refusal::Memory(item)) => return Err(FromIterError::Memory(item)),
+            }
+        }
+        // No map has more items than fit.
+        let _ = map.capacity();
+        Ok(map)
+    }
+}

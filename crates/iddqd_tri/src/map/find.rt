@@ -1,0 +1,164 @@
+//! Lookups. Each goes through the search of its rank, which gives the slot.
+ghost use Rattle.std.specs.Prelude.{◌≡◌, option_copied};
+ghost use Rattle.std.specs.List.{list_any};
+ghost use Rattle.iddqd_store.specs.Bag.{IsOnly};
+ghost use Rattle.iddqd_store.specs.Map.{bag};
+ghost use Rattle.iddqd_store.specs.Rank.{agree, key_hash, NamesOneUnder, SearchCosts};
+ghost use Rattle.iddqd_tri.specs.Keys.{has1, has2, has3, has_all};
+
+use super::TriHashMap;
+use crate::item::TriHashItem;
+use iddqd_store::{Equivalent, KeyMatcher, Meter};
+use std::hash::{BuildHasher, Hash};
+
+impl<T: TriHashItem, S: BuildHasher> TriHashMap<T, S> {
+    /// The item with the first key that the query stands for.
+    ///
+    /// Compares at most as many keys as items have the hash of the query at the first rank.
+    pub fn get1<Q: Equivalent<T::K1>>(&self, query: &Q) -> Option<&T>
+        ensures { IsOnly (has1 T.TriHashItem Q.equivalent query.now) (bag self.now) (option_copied result) }
+    {
+        self.by_key1().get(query)
+    }
+
+    /// The item with the second key that the query stands for.
+    ///
+    /// Compares at most as many keys as items have the hash of the query at the second rank.
+    pub fn get2<Q: Equivalent<T::K2>>(&self, query: &Q) -> Option<&T>
+        ensures { IsOnly (has2 T.TriHashItem Q.equivalent query.now) (bag self.now) (option_copied result) }
+    {
+        self.by_key2().get(query)
+    }
+
+    /// The item with the third key that the query stands for.
+    ///
+    /// Compares at most as many keys as items have the hash of the query at the third rank.
+    pub fn get3<Q: Equivalent<T::K3>>(&self, query: &Q) -> Option<&T>
+        ensures { IsOnly (has3 T.TriHashItem Q.equivalent query.now) (bag self.now) (option_copied result) }
+    {
+        self.by_key3().get(query)
+    }
+
+    /// The item that has all keys that the queries stand for.
+    ///
+    /// Compares as many keys as `get1` does, and the other keys of the item found.
+    pub fn get_unique<Q1: Equivalent<T::K1>, Q2: Equivalent<T::K2>, Q3: Equivalent<T::K3>>(
+        &self,
+        query1: &Q1,
+        query2: &Q2,
+        query3: &Q3,
+    ) -> Option<&T>
+        ensures { IsOnly
+            (has_all T.TriHashItem Q1.equivalent Q2.equivalent Q3.equivalent query1.now query2.now query3.now)
+            (bag self.now) (option_copied result) }
+    {
+        let hash = self.hash_builder.hash_one(query1);
+        let ix = self.slot_unique(hash, query1, query2, query3)?;
+        self.items.get(ix)
+    }
+
+    /// Whether an item has the first key that the query stands for. Costs what `get1` does.
+    pub fn contains_key1<Q: Equivalent<T::K1>>(&self, query: &Q) -> bool
+        ensures { result ≡ list_any (has1 T.TriHashItem Q.equivalent query.now) (bag self.now) }
+    {
+        self.by_key1().contains_key(query)
+    }
+
+    /// Whether an item has the second key that the query stands for. Costs what `get2` does.
+    pub fn contains_key2<Q: Equivalent<T::K2>>(&self, query: &Q) -> bool
+        ensures { result ≡ list_any (has2 T.TriHashItem Q.equivalent query.now) (bag self.now) }
+    {
+        self.by_key2().contains_key(query)
+    }
+
+    /// Whether an item has the third key that the query stands for. Costs what `get3` does.
+    pub fn contains_key3<Q: Equivalent<T::K3>>(&self, query: &Q) -> bool
+        ensures { result ≡ list_any (has3 T.TriHashItem Q.equivalent query.now) (bag self.now) }
+    {
+        self.by_key3().contains_key(query)
+    }
+
+    /// Whether an item has all keys that the queries stand for. Costs what `get_unique` does.
+    pub fn contains_key_unique<Q1: Equivalent<T::K1>, Q2: Equivalent<T::K2>, Q3: Equivalent<T::K3>>(
+        &self,
+        query1: &Q1,
+        query2: &Q2,
+        query3: &Q3,
+    ) -> bool
+        ensures { result
+            ≡ list_any
+            (has_all T.TriHashItem Q1.equivalent Q2.equivalent Q3.equivalent query1.now query2.now query3.now)
+            (bag self.now) }
+    {
+        self.get_unique(query1, query2, query3).is_some()
+    }
+
+    /// The item whose first key the matcher accepts: the one search under every lookup by first keys.
+    ///
+    /// The items' first keys that the matcher accepts must be equal to each other and have this hash. It is asked at
+    /// most as many times as items have the hash at the first rank. The meter counts the cells looked at, at most one
+    /// more than there are items.
+    pub fn find1_with<M: KeyMatcher<T::K1>>(
+        &self,
+        hash: u64,
+        matcher: &mut M,
+        meter: &mut Meter,
+    ) -> Option<&T>
+        requires { NamesOneUnder (agree T.key1 T.K1.eq)
+            (key_hash T.key1 T.K1.hash_input S.BuildHasher S.Hasher.Hasher self.now.builder) hash
+            (λ x. M.accepts matcher.old (T.key1 x)) (bag self.now) }
+        ensures found { IsOnly (λ x. M.accepts matcher.old (T.key1 x)) (bag self.now) (option_copied result) }
+        ensures kept { M.IsKept matcher.old matcher.new }
+        ensures costs { SearchCosts
+            (key_hash T.key1 T.K1.hash_input S.BuildHasher S.Hasher.Hasher self.now.builder) (bag self.now)
+            self.now.capacity hash result (M.asked matcher.old) (M.asked matcher.new) meter.old meter.new }
+    {
+        self.by_key1().find_with(hash, matcher, meter)
+    }
+
+    /// The item whose second key the matcher accepts: the one search under every lookup by second keys.
+    ///
+    /// The items' second keys that the matcher accepts must be equal to each other and have this hash. It is asked at
+    /// most as many times as items have the hash at the second rank. The meter counts the cells looked at, at most one
+    /// more than there are items.
+    pub fn find2_with<M: KeyMatcher<T::K2>>(
+        &self,
+        hash: u64,
+        matcher: &mut M,
+        meter: &mut Meter,
+    ) -> Option<&T>
+        requires { NamesOneUnder (agree T.key2 T.K2.eq)
+            (key_hash T.key2 T.K2.hash_input S.BuildHasher S.Hasher.Hasher self.now.builder) hash
+            (λ x. M.accepts matcher.old (T.key2 x)) (bag self.now) }
+        ensures found { IsOnly (λ x. M.accepts matcher.old (T.key2 x)) (bag self.now) (option_copied result) }
+        ensures kept { M.IsKept matcher.old matcher.new }
+        ensures costs { SearchCosts
+            (key_hash T.key2 T.K2.hash_input S.BuildHasher S.Hasher.Hasher self.now.builder) (bag self.now)
+            self.now.capacity hash result (M.asked matcher.old) (M.asked matcher.new) meter.old meter.new }
+    {
+        self.by_key2().find_with(hash, matcher, meter)
+    }
+
+    /// The item whose third key the matcher accepts: the one search under every lookup by third keys.
+    ///
+    /// The items' third keys that the matcher accepts must be equal to each other and have this hash. It is asked at
+    /// most as many times as items have the hash at the third rank. The meter counts the cells looked at, at most one
+    /// more than there are items.
+    pub fn find3_with<M: KeyMatcher<T::K3>>(
+        &self,
+        hash: u64,
+        matcher: &mut M,
+        meter: &mut Meter,
+    ) -> Option<&T>
+        requires { NamesOneUnder (agree T.key3 T.K3.eq)
+            (key_hash T.key3 T.K3.hash_input S.BuildHasher S.Hasher.Hasher self.now.builder) hash
+            (λ x. M.accepts matcher.old (T.key3 x)) (bag self.now) }
+        ensures found { IsOnly (λ x. M.accepts matcher.old (T.key3 x)) (bag self.now) (option_copied result) }
+        ensures kept { M.IsKept matcher.old matcher.new }
+        ensures costs { SearchCosts
+            (key_hash T.key3 T.K3.hash_input S.BuildHasher S.Hasher.Hasher self.now.builder) (bag self.now)
+            self.now.capacity hash result (M.asked matcher.old) (M.asked matcher.new) meter.old meter.new }
+    {
+        self.by_key3().find_with(hash, matcher, meter)
+    }
+}

@@ -1,0 +1,52 @@
+//! Inserts.
+ghost use Rattle.std.specs.Prelude.{◌≡◌, ◌≢◌, [], OnOk, IfErr};
+ghost use Rattle.std.specs.Borrow.{sem};
+ghost use Rattle.iddqd_store.specs.Bag.{clash};
+ghost use Rattle.iddqd_store.specs.Map.{bag, Gains, IsFullFor};
+ghost use Rattle.iddqd_tri.specs.Keys.{ranks};
+
+use super::TriHashMap;
+use super::slots::Refusal;
+use crate::error::{DuplicateError, InsertError, MemoryError};
+use crate::item::TriHashItem;
+use std::hash::{BuildHasher, Hash};
+
+impl<T: TriHashItem, S: BuildHasher> TriHashMap<T, S> {
+    ghost use Rattle.iddqd_tri.specs.Refused.{OnDuplicate, OnMemory, refusing_map, refused_item, ends_as};
+
+    /// Puts an item in where none conflicts with it.
+    ///
+    /// It is refused where an item of the map has one of its keys, whatever memory there is, and where the map is full
+    /// and there is no memory to grow. Either refusal hands the item back and holds the map as it was; the first one
+    /// lists the items in the way, in the order of the keys.
+    ///
+    /// Each key of the item is hashed once and searched for once. It takes memory only where the map is full.
+    pub fn insert_unique(&mut self, item: T) -> Result<(), InsertError<'_, T, S>>
+        ensures* ends { sem 𝓛 (ends_as T.row S.row T.K1.row T.K2.row T.K3.row S.Hasher.row
+            T.TriHashItem T.K1.Hash T.K2.Hash T.K3.Hash S.BuildHasher S.Hasher.Hasher
+            self.entry result (λ new. Gains self.old item new)) }
+        ensures same_map { IfErr result (λ e. (refusing_map e).ghost_name ≡ self.entry.ghost_name) }
+        ensures free { OnOk result (clash (ranks T.TriHashItem T.K1.eq T.K2.eq T.K3.eq) (bag self.old) item ≡ []) }
+        ensures handed_back { IfErr result (λ e. refused_item e ≡ item) }
+        ensures unchanged { IfErr result (λ e. (refusing_map e).now ≡ self.old) }
+        ensures duplicate { IfErr result (λ e. OnDuplicate e
+            (clash (ranks T.TriHashItem T.K1.eq T.K2.eq T.K3.eq) (bag self.old) item ≢ [])) }
+        ensures memory { IfErr result (λ e. OnMemory e
+            (IsFullFor (ranks T.TriHashItem T.K1.eq T.K2.eq T.K3.eq) self.old item)) }
+    {
+        match self.try_insert(item) {
+            Ok(_) => Ok(()),
+            Err(Refusal::Duplicate(new_item, found)) => Err(InsertError::Duplicate(
+                DuplicateError {
+                    map: self,
+                    new_item,
+                    found,
+                },
+            )),
+            Err(Refusal::Memory(new_item)) => Err(InsertError::Memory(MemoryError {
+                map: self,
+                new_item,
+            })),
+        }
+    }
+}

@@ -1,0 +1,51 @@
+//! Walks over the items.
+ghost use Rattle.std.specs.Prelude.{◌≡◌, ◌<◌, ◌^◌, length};
+ghost use Rattle.std.specs.Map.Iter.{ShowsInOrder, GivesInOrder, deref};
+ghost use Rattle.iddqd_store.specs.Map.{bag};
+
+use super::TriHashMap;
+use crate::item::TriHashItem;
+use iddqd_store::{IntoIter, Iter};
+use std::hash::{BuildHasher, Hash};
+
+impl<T: TriHashItem, S: BuildHasher> TriHashMap<T, S> {
+    /// Each item once, in no promised order. It takes no memory.
+    pub fn iter(&self) -> Iter<'_, T>
+        ensures items { result ≡ bag self.now }
+        ensures runs { ShowsInOrder (deref {X = T}) }
+        ensures fits { length (bag self.now) < 2 ^ 64 }
+    {
+        self.items.values()
+    }
+}
+
+impl<'a, T: TriHashItem, S: BuildHasher> IntoIterator for &'a TriHashMap<T, S> {
+    type Item = &'a T;
+
+    type IntoIter = Iter<'a, T>;
+
+    ghost into_iter_gives = { λ m it. (it ≡ bag m.now) × ShowsInOrder (deref {X = T}) × (length (bag m.now) < 2 ^ 64) };
+
+    fn into_iter(self) -> Iter<'a, T> {
+        self.iter()
+    }
+}
+
+impl<T: TriHashItem + Drop, S: BuildHasher + Drop> IntoIterator for TriHashMap<T, S> {
+    type Item = T;
+
+    type IntoIter = IntoIter<T>;
+
+    ghost into_iter_gives = { λ m it. (it ≡ bag m) × GivesInOrder T × (length (bag m) < 2 ^ 64) };
+
+    fn into_iter(self) -> IntoIter<T> {
+        let TriHashMap {
+            items,
+            first: _,
+            second: _,
+            third: _,
+            hash_builder: _,
+        } = self;
+        items.into_values()
+    }
+}

@@ -1,0 +1,45 @@
+//! Overwriting.
+ghost use Rattle.std.specs.Prelude.{◌≡◌, ◌≢◌, ◌<◌, ◌≤◌, [], length, IsPermutation, IfOk, IfErr, OnOk, OnErr};
+ghost use Rattle.iddqd_store.specs.Bag.{clash, order, over};
+ghost use Rattle.iddqd_store.specs.Map.{bag, IsFullFor};
+ghost use Rattle.iddqd_tri.specs.Keys.{ranks};
+
+use super::TriHashMap;
+use crate::item::TriHashItem;
+use iddqd_store::{MemoryRefused, UpToThree};
+use std::hash::{BuildHasher, Hash};
+
+impl<T: TriHashItem, S: BuildHasher> TriHashMap<T, S> {
+    /// Puts an item in, and gives back those that conflict with it, in the order of the keys and each once.
+    ///
+    /// Each key of the item is hashed once and searched for once. Where an item conflicts, it takes no memory and the
+    /// capacity stays. Otherwise the map grows only where it is full, and the item is handed back where there is no
+    /// memory for that.
+    pub fn insert_overwrite(&mut self, item: T) -> Result<UpToThree<T>, MemoryRefused<T>>
+        ensures displaced { IfOk result (λ gone.
+            gone ≡ order (ranks T.TriHashItem T.K1.eq T.K2.eq T.K3.eq) (bag self.old) item) }
+        ensures items { OnOk result (IsPermutation (bag self.new)
+            (over (ranks T.TriHashItem T.K1.eq T.K2.eq T.K3.eq) (bag self.old) item)) }
+        ensures fits { length (bag self.new) ≤ self.new.capacity }
+        ensures no_less_room { self.old.capacity ≤ self.new.capacity }
+        ensures same_room { length (bag self.old) < self.old.capacity → self.new.capacity ≡ self.old.capacity }
+        ensures no_growth { clash (ranks T.TriHashItem T.K1.eq T.K2.eq T.K3.eq) (bag self.old) item ≢ []
+            → self.new.capacity ≡ self.old.capacity }
+        ensures builder { self.new.builder ≡ self.old.builder }
+        ensures handed_back { IfErr result (λ e. e.value ≡ item) }
+        ensures unchanged { OnErr result (self.new ≡ self.old) }
+        ensures reason { OnErr result (IsFullFor (ranks T.TriHashItem T.K1.eq T.K2.eq T.K3.eq) self.old item) }
+    {
+        let hash1 = self.hash_builder.hash_one(item.key1());
+        let hash2 = self.hash_builder.hash_one(item.key2());
+        let hash3 = self.hash_builder.hash_one(item.key3());
+        let found = self.conflicting(&item, hash1, hash2, hash3);
+        if found.is_empty() {
+            if let Err(_) = self.make_room() {
+                return Err(MemoryRefused { value: item });
+            }
+        }
+        let (displaced, _) = self.put_over(item, &found, hash1, hash2, hash3);
+        Ok(displaced)
+    }
+}

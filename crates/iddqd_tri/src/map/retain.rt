@@ -1,0 +1,33 @@
+//! Keeping some of the items.
+ghost use Rattle.std.specs.Prelude.{◌≡◌};
+ghost use Rattle.std.specs.Fn.{CalledAt};
+ghost use Rattle.iddqd_store.specs.Bag.{Keeps};
+ghost use Rattle.iddqd_store.specs.Map.{bag};
+
+use super::TriHashMap;
+use crate::item::TriHashItem;
+use std::hash::{BuildHasher, Hash};
+
+impl<T: TriHashItem, S: BuildHasher> TriHashMap<T, S> {
+    /// Keeps the items at which `f` answers `true`, and drops the others. `f` is called once for each item, in no
+    /// promised order.
+    ///
+    /// It takes no memory and compares no key, and the capacity stays.
+    pub fn retain<F: FnMut(&T) -> bool>(&mut self, mut f: F)
+    where
+        T: Drop,
+        requires { F.IsAlwaysCallable f }
+        ensures kept { Keeps (CalledAt F.FnMut) f (bag self.old) (bag self.new) }
+        ensures capacity { self.new.capacity ≡ self.old.capacity }
+        ensures builder { self.new.builder ≡ self.old.builder }
+    {
+        let mut from = 0;
+        while let Some(found) = self.item_from(from) {
+            let (ix, item) = found;
+            from = ix.number() + 1;
+            if !f(item) {
+                drop(self.take(ix, None, None, None));
+            }
+        }
+    }
+}

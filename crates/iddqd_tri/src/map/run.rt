@@ -1,0 +1,272 @@
+//! Commands carried out on the map.
+ghost use Rattle.std.specs.Prelude.{◌≡◌};
+ghost use Rattle.iddqd_store.specs.Map.{bag};
+ghost use Rattle.iddqd_store.specs.Runs.Reply.{found, present, duplicate, items};
+ghost use Rattle.iddqd_store.specs.Runs.Step.{Fits, state_of, Gets, InsertsUnique, InsertsOverwrite, Reserves, ShrinksTo, Extends};
+ghost use Rattle.iddqd_store.specs.Runs.Run.{Applies, Run};
+ghost use Rattle.iddqd_store.specs.Slots.Found.{items_at};
+ghost use Rattle.iddqd_tri.specs.Keys.{ranks, has1, has2, has3, has_all};
+ghost use Rattle.iddqd_tri.specs.Step.{Step};
+ghost use Rattle.iddqd_store.specs.Runs.Values.{value_of};
+
+use super::TriHashMap;
+use super::slots::Refusal;
+use crate::command::{TriCommand, TriReply, TriSink};
+use crate::item::TriHashItemMut;
+use iddqd_store::{DuplicateItem, ItemIndex, MemoryRefused, UpToThree};
+use std::hash::{BuildHasher, Hash};
+
+impl<T: TriHashItemMut + Drop, S: BuildHasher> TriHashMap<T, S>
+where
+    T::K1: Drop,
+    T::K2: Drop,
+    T::K3: Drop,
+    T::Data: Drop,
+{
+    /// Carries out the commands in order, and hands each reply to the sink. It ends at the sink's first fault, after
+    /// the command whose reply the sink did not take well.
+    pub fn run<K: TriSink<T>>(
+        &mut self,
+        commands: Vec<TriCommand<T>>,
+        sink: &mut K,
+    ) -> Result<(), K::Fault>
+        ensures run { Run (Step T.TriHashItem T.K1.eq T.K2.eq T.K3.eq T.put) K.took
+            (state_of self.old) sink.old commands.items result (state_of self.new) sink.new }
+        ensures builder { self.new.builder ≡ self.old.builder }
+    {
+        for command in commands {
+            self.apply(command, sink)?;
+        }
+        Ok(())
+    }
+
+    /// Carries out one command, and hands its reply to the sink.
+    pub fn apply<K: TriSink<T>>(
+        &mut self,
+        command: TriCommand<T>,
+        sink: &mut K,
+    ) -> Result<(), K::Fault>
+        ensures step { Applies (Step T.TriHashItem T.K1.eq T.K2.eq T.K3.eq T.put) K.took
+            (state_of self.old) sink.old command result (state_of self.new) sink.new }
+        ensures builder { self.new.builder ≡ self.old.builder }
+    {
+        match command {
+            TriCommand::InsertUnique(item) => self.apply_insert_unique(item, sink),
+            TriCommand::InsertOverwrite(item) => self.apply_insert_overwrite(item, sink),
+            TriCommand::Get1(key) => self.tell_found1(&key, sink),
+            TriCommand::Get2(key) => self.tell_found2(&key, sink),
+            TriCommand::Get3(key) => self.tell_found3(&key, sink),
+            TriCommand::GetUnique(key1, key2, key3) => self.tell_found_unique(
+                &key1, &key2, &key3, sink,
+            ),
+            TriCommand::Contains1(key) => self.tell_present(self.contains_key1(&key), sink),
+            TriCommand::Contains2(key) => self.tell_present(self.contains_key2(&key), sink),
+            TriCommand::Contains3(key) => self.tell_present(self.contains_key3(&key), sink),
+            TriCommand::ContainsUnique(key1, key2, key3) => self.tell_present(
+                self.contains_key_unique(&key1, &key2, &key3),
+                sink,
+            ),
+            TriCommand::Remove1(key) => {
+                let taken = self.remove1(&key);
+                self.tell(TriReply::Taken(taken), sink)
+            }
+            TriCommand::Remove2(key) => {
+                let taken = self.remove2(&key);
+                self.tell(TriReply::Taken(taken), sink)
+            }
+            TriCommand::Remove3(key) => {
+                let taken = self.remove3(&key);
+                self.tell(TriReply::Taken(taken), sink)
+            }
+            TriCommand::RemoveUnique(key1, key2, key3) => {
+                let taken = self.remove_unique(&key1, &key2, &key3);
+                self.tell(TriReply::Taken(taken), sink)
+            }
+            TriCommand::Reserve(more) => self.apply_reserve(more, sink),
+            TriCommand::ShrinkTo(least) => self.apply_shrink_to(least, sink),
+            TriCommand::ShrinkToFit => self.apply_shrink_to(0, sink),
+            TriCommand::Clear => {
+                self.clear();
+                self.tell(TriReply::Done, sink)
+            }
+            TriCommand::Len => self.tell(TriReply::Length(self.len()), sink),
+            TriCommand::Items => self.tell_items(sink),
+            TriCommand::Extend(items) => self.apply_extend(items, sink),
+            TriCommand::EntryInsert(key1, key2, key3, item) => {
+                let reply = self.entry_insert(&key1, &key2, &key3, item);
+                self.tell(reply, sink)
+            }
+            TriCommand::EntryRemove(key1, key2, key3) => {
+                let reply = self.entry_remove(&key1, &key2, &key3);
+                self.tell(reply, sink)
+            }
+            TriCommand::OrInsert(key1, key2, key3, item) => {
+                let reply = self.or_insert(&key1, &key2, &key3, item);
+                self.tell(reply, sink)
+            }
+            TriCommand::Replace1(key, item) => {
+                let reply = self.replace1(&key, item);
+                self.tell(reply, sink)
+            }
+            TriCommand::Replace2(key, item) => {
+                let reply = self.replace2(&key, item);
+                self.tell(reply, sink)
+            }
+            TriCommand::Replace3(key, item) => {
+                let reply = self.replace3(&key, item);
+                self.tell(reply, sink)
+            }
+            TriCommand::Set1(key, data) => {
+                let reply = self.set1(&key, data);
+                self.tell(reply, sink)
+            }
+            TriCommand::Set2(key, data) => {
+                let reply = self.set2(&key, data);
+                self.tell(reply, sink)
+            }
+            TriCommand::Set3(key, data) => {
+                let reply = self.set3(&key, data);
+                self.tell(reply, sink)
+            }
+        }
+    }
+
+    fn apply_insert_unique<K: TriSink<T>>(&mut self, item: T, sink: &mut K) -> Result<(), K::Fault>
+        ensures step { Applies (InsertsUnique (ranks T.TriHashItem T.K1.eq T.K2.eq T.K3.eq)) K.took
+            (state_of self.old) sink.old item result (state_of self.new) sink.new }
+        ensures builder { self.new.builder ≡ self.old.builder }
+    {
+        match self.try_insert(item) {
+            Ok(_) => self.tell(TriReply::Done, sink),
+            Err(Refusal::Duplicate(item, found)) => self.tell_duplicate(item, &found, sink),
+            Err(Refusal::Memory(item)) => self.tell(TriReply::Memory(item), sink),
+        }
+    }
+
+    fn apply_insert_overwrite<K: TriSink<T>>(
+        &mut self,
+        item: T,
+        sink: &mut K,
+    ) -> Result<(), K::Fault>
+        ensures step { Applies (InsertsOverwrite (ranks T.TriHashItem T.K1.eq T.K2.eq T.K3.eq)) K.took
+            (state_of self.old) sink.old item result (state_of self.new) sink.new }
+        ensures builder { self.new.builder ≡ self.old.builder }
+    {
+        match self.insert_overwrite(item) {
+            Ok(displaced) => self.tell(TriReply::Displaced(displaced), sink),
+            Err(MemoryRefused { value }) => self.tell(TriReply::Memory(value), sink),
+        }
+    }
+
+    fn apply_extend<K: TriSink<T>>(&mut self, items: Vec<T>, sink: &mut K) -> Result<(), K::Fault>
+        ensures step { Applies (Extends (ranks T.TriHashItem T.K1.eq T.K2.eq T.K3.eq)) K.took
+            (state_of self.old) sink.old items.items result (state_of self.new) sink.new }
+        ensures builder { self.new.builder ≡ self.old.builder }
+    {
+        match self.extend(items) {
+            Ok(()) => self.tell(TriReply::Done, sink),
+            Err(MemoryRefused { value }) => self.tell(TriReply::Memory(value), sink),
+        }
+    }
+
+    fn apply_reserve<K: TriSink<T>>(&mut self, more: usize, sink: &mut K) -> Result<(), K::Fault>
+        ensures step { Applies Reserves K.took
+            (state_of self.old) sink.old more result (state_of self.new) sink.new }
+        ensures builder { self.new.builder ≡ self.old.builder }
+    {
+        match self.reserve(more) {
+            Ok(()) => self.tell(TriReply::Done, sink),
+            Err(_) => self.tell(TriReply::Refused, sink),
+        }
+    }
+
+    fn apply_shrink_to<K: TriSink<T>>(&mut self, least: usize, sink: &mut K) -> Result<(), K::Fault>
+        ensures step { Applies ShrinksTo K.took
+            (state_of self.old) sink.old least result (state_of self.new) sink.new }
+        ensures builder { self.new.builder ≡ self.old.builder }
+    {
+        match self.shrink_to(least) {
+            Ok(()) => self.tell(TriReply::Done, sink),
+            Err(_) => self.tell(TriReply::Refused, sink),
+        }
+    }
+
+    // Hands a reply to the sink. No map has more items than fit, which each of these calls says, since each step has
+    // to. A reply that lends nothing has a free lifetime, so each reply goes to the sink from a borrow of the map.
+    fn tell<'m, K: TriSink<T>>(
+        &'m self,
+        reply: TriReply<'m, T>,
+        sink: &mut K,
+    ) -> Result<(), K::Fault>
+        ensures took { K.took sink.old (value_of reply.entry) result sink.new }
+        ensures fits { Fits (state_of self.now) }
+    {
+        let _ = self.capacity();
+        sink.take(reply)
+    }
+
+    fn tell_present<K: TriSink<T>>(&self, answer: bool, sink: &mut K) -> Result<(), K::Fault>
+        ensures took { K.took sink.old (present answer) result sink.new }
+        ensures fits { Fits (state_of self.now) }
+    {
+        self.tell(TriReply::Present(answer), sink)
+    }
+
+    fn tell_found1<K: TriSink<T>>(&self, key: &T::K1, sink: &mut K) -> Result<(), K::Fault>
+        ensures { Applies Gets K.took (state_of self.now) sink.old
+            (has1 T.TriHashItem T.K1.eq key.now) result (state_of self.now) sink.new }
+    {
+        self.tell(TriReply::Found(self.get1(key)), sink)
+    }
+
+    fn tell_found2<K: TriSink<T>>(&self, key: &T::K2, sink: &mut K) -> Result<(), K::Fault>
+        ensures { Applies Gets K.took (state_of self.now) sink.old
+            (has2 T.TriHashItem T.K2.eq key.now) result (state_of self.now) sink.new }
+    {
+        self.tell(TriReply::Found(self.get2(key)), sink)
+    }
+
+    fn tell_found3<K: TriSink<T>>(&self, key: &T::K3, sink: &mut K) -> Result<(), K::Fault>
+        ensures { Applies Gets K.took (state_of self.now) sink.old
+            (has3 T.TriHashItem T.K3.eq key.now) result (state_of self.now) sink.new }
+    {
+        self.tell(TriReply::Found(self.get3(key)), sink)
+    }
+
+    fn tell_found_unique<K: TriSink<T>>(
+        &self,
+        key1: &T::K1,
+        key2: &T::K2,
+        key3: &T::K3,
+        sink: &mut K,
+    ) -> Result<(), K::Fault>
+        ensures { Applies Gets K.took (state_of self.now) sink.old
+            (has_all T.TriHashItem T.K1.eq T.K2.eq T.K3.eq key1.now key2.now key3.now) result
+            (state_of self.now) sink.new }
+    {
+        self.tell(TriReply::Found(self.get_unique(key1, key2, key3)), sink)
+    }
+
+    fn tell_duplicate<K: TriSink<T>>(
+        &self,
+        item: T,
+        found: &UpToThree<ItemIndex>,
+        sink: &mut K,
+    ) -> Result<(), K::Fault>
+        ensures took { K.took sink.old (duplicate item (items_at self.now.slots found.now)) result sink.new }
+        ensures fits { Fits (state_of self.now) }
+    {
+        let duplicates = self.items_of(found);
+        self.tell(
+            TriReply::Duplicate(DuplicateItem::new(item, duplicates)),
+            sink,
+        )
+    }
+
+    fn tell_items<K: TriSink<T>>(&self, sink: &mut K) -> Result<(), K::Fault>
+        ensures took { K.took sink.old (items (bag self.now)) result sink.new }
+        ensures fits { Fits (state_of self.now) }
+    {
+        self.tell(TriReply::Items(self.iter()), sink)
+    }
+}

@@ -1,0 +1,210 @@
+//! Commands on entries and on writing, carried out on the map: each call answers the reply, which lends nothing.
+ghost use Rattle.std.specs.Prelude.{◌≡◌, [], ◌∷◌};
+ghost use Rattle.iddqd_store.specs.Runs.Reply.{displaced, key};
+ghost use Rattle.iddqd_store.specs.Runs.Step.{state_of, EntryInserts, EntryRemoves, OrInserts, Replaces, Sets};
+ghost use Rattle.iddqd_store.specs.Runs.Values.{value_of};
+ghost use Rattle.iddqd_tri.specs.Keys.{ranks, has1, has2, has3, key_tests};
+ghost use Rattle.iddqd_tri.specs.Mismatch.{mismatch_item, mismatch_rank};
+ghost use Rattle.iddqd_tri.specs.Refusals.{refusal_value};
+
+use super::TriHashMap;
+use crate::command::TriReply;
+use crate::entry::Entry;
+use crate::error::{EntryError, KeyMismatch};
+use crate::item::TriHashItemMut;
+use iddqd_store::UpToThree;
+use std::hash::{BuildHasher, Hash};
+
+impl<T: TriHashItemMut + Drop, S: BuildHasher> TriHashMap<T, S>
+where
+    T::K1: Drop,
+    T::K2: Drop,
+    T::K3: Drop,
+    T::Data: Drop,
+{
+    /// Puts the item in through the entry of the keys.
+    pub(super) fn entry_insert<'a, 'm>(
+        &'a mut self,
+        key1: &'a T::K1,
+        key2: &'a T::K2,
+        key3: &'a T::K3,
+        item: T,
+    ) -> TriReply<'m, T>
+        ensures step { EntryInserts (ranks T.TriHashItem T.K1.eq T.K2.eq T.K3.eq)
+            (key_tests T.TriHashItem T.K1.eq T.K2.eq T.K3.eq key1.now key2.now key3.now)
+            (state_of self.old) item (value_of result) (state_of self.new) }
+        ensures builder { self.new.builder ≡ self.old.builder }
+    {
+        match self.entry(key1, key2, key3) {
+            Entry::Vacant(v) => match v.insert(item) {
+                Ok(_r) => return TriReply::Displaced(UpToThree::new()),
+                Err(e) => return refusal(e),
+            },
+            Entry::Occupied(mut o) => match o.insert(item) {
+                Ok(displaced) => return TriReply::Displaced(displaced),
+                Err(e) => return mismatch(e),
+            },
+        }
+    }
+
+    /// Takes the items out that the entry of the keys has.
+    pub(super) fn entry_remove<'a, 'm>(
+        &'a mut self,
+        key1: &'a T::K1,
+        key2: &'a T::K2,
+        key3: &'a T::K3,
+    ) -> TriReply<'m, T>
+        ensures step { EntryRemoves (key_tests T.TriHashItem T.K1.eq T.K2.eq T.K3.eq key1.now key2.now key3.now)
+            (state_of self.old) (value_of result) (state_of self.new) }
+        ensures builder { self.new.builder ≡ self.old.builder }
+    {
+        match self.entry(key1, key2, key3) {
+            Entry::Vacant(_v) => return TriReply::Displaced(UpToThree::new()),
+            Entry::Occupied(o) => return TriReply::Displaced(o.remove()),
+        }
+    }
+
+    /// Puts the item in through the entry of the keys, where that is vacant.
+    pub(super) fn or_insert<'a, 'm>(
+        &'a mut self,
+        key1: &'a T::K1,
+        key2: &'a T::K2,
+        key3: &'a T::K3,
+        item: T,
+    ) -> TriReply<'m, T>
+        ensures step { OrInserts (ranks T.TriHashItem T.K1.eq T.K2.eq T.K3.eq)
+            (key_tests T.TriHashItem T.K1.eq T.K2.eq T.K3.eq key1.now key2.now key3.now)
+            (state_of self.old) item (value_of result) (state_of self.new) }
+        ensures builder { self.new.builder ≡ self.old.builder }
+    {
+        match self.entry(key1, key2, key3) {
+            Entry::Vacant(v) => match v.insert(item) {
+                Ok(_r) => return TriReply::Done,
+                Err(e) => return refusal(e),
+            },
+            Entry::Occupied(_o) => return TriReply::Kept,
+        }
+    }
+
+    /// Puts the item in the place of that with this first key.
+    pub(super) fn replace1<'m>(&mut self, key: &T::K1, item: T) -> TriReply<'m, T>
+        ensures step { Replaces (ranks T.TriHashItem T.K1.eq T.K2.eq T.K3.eq) (has1 T.TriHashItem T.K1.eq key.now)
+            (state_of self.old) item (value_of result) (state_of self.new) }
+        ensures builder { self.new.builder ≡ self.old.builder }
+    {
+        match self.get1_mut(key) {
+            Some(mut r) => match r.replace(item) {
+                Ok(old) => return displaced_one(old),
+                Err(e) => return mismatch(e),
+            },
+            None => return TriReply::Absent(item),
+        }
+    }
+
+    /// Puts the item in the place of that with this second key.
+    pub(super) fn replace2<'m>(&mut self, key: &T::K2, item: T) -> TriReply<'m, T>
+        ensures step { Replaces (ranks T.TriHashItem T.K1.eq T.K2.eq T.K3.eq) (has2 T.TriHashItem T.K2.eq key.now)
+            (state_of self.old) item (value_of result) (state_of self.new) }
+        ensures builder { self.new.builder ≡ self.old.builder }
+    {
+        match self.get2_mut(key) {
+            Some(mut r) => match r.replace(item) {
+                Ok(old) => return displaced_one(old),
+                Err(e) => return mismatch(e),
+            },
+            None => return TriReply::Absent(item),
+        }
+    }
+
+    /// Puts the item in the place of that with this third key.
+    pub(super) fn replace3<'m>(&mut self, key: &T::K3, item: T) -> TriReply<'m, T>
+        ensures step { Replaces (ranks T.TriHashItem T.K1.eq T.K2.eq T.K3.eq) (has3 T.TriHashItem T.K3.eq key.now)
+            (state_of self.old) item (value_of result) (state_of self.new) }
+        ensures builder { self.new.builder ≡ self.old.builder }
+    {
+        match self.get3_mut(key) {
+            Some(mut r) => match r.replace(item) {
+                Ok(old) => return displaced_one(old),
+                Err(e) => return mismatch(e),
+            },
+            None => return TriReply::Absent(item),
+        }
+    }
+
+    /// Writes the data of the item with this first key.
+    pub(super) fn set1<'m>(&mut self, key: &T::K1, new_data: T::Data) -> TriReply<'m, T>
+        ensures step { Sets (ranks T.TriHashItem T.K1.eq T.K2.eq T.K3.eq) T.put (has1 T.TriHashItem T.K1.eq key.now)
+            (state_of self.old) new_data (value_of result) (state_of self.new) }
+        ensures builder { self.new.builder ≡ self.old.builder }
+    {
+        match self.get1_mut(key) {
+            Some(mut r) => {
+                *r.data_mut() = new_data;
+                return TriReply::Done;
+            }
+            None => return TriReply::AbsentData(new_data),
+        }
+    }
+
+    /// Writes the data of the item with this second key.
+    pub(super) fn set2<'m>(&mut self, key: &T::K2, new_data: T::Data) -> TriReply<'m, T>
+        ensures step { Sets (ranks T.TriHashItem T.K1.eq T.K2.eq T.K3.eq) T.put (has2 T.TriHashItem T.K2.eq key.now)
+            (state_of self.old) new_data (value_of result) (state_of self.new) }
+        ensures builder { self.new.builder ≡ self.old.builder }
+    {
+        match self.get2_mut(key) {
+            Some(mut r) => {
+                *r.data_mut() = new_data;
+                return TriReply::Done;
+            }
+            None => return TriReply::AbsentData(new_data),
+        }
+    }
+
+    /// Writes the data of the item with this third key.
+    pub(super) fn set3<'m>(&mut self, key: &T::K3, new_data: T::Data) -> TriReply<'m, T>
+        ensures step { Sets (ranks T.TriHashItem T.K1.eq T.K2.eq T.K3.eq) T.put (has3 T.TriHashItem T.K3.eq key.now)
+            (state_of self.old) new_data (value_of result) (state_of self.new) }
+        ensures builder { self.new.builder ≡ self.old.builder }
+    {
+        match self.get3_mut(key) {
+            Some(mut r) => {
+                *r.data_mut() = new_data;
+                return TriReply::Done;
+            }
+            None => return TriReply::AbsentData(new_data),
+        }
+    }
+}
+
+/// The reply to an item that a vacant entry refused.
+fn refusal<'m, T: TriHashItemMut>(refused: EntryError<T>) -> TriReply<'m, T>
+    ensures { value_of result ≡ refusal_value refused }
+{
+    match refused {
+        EntryError::Key1(item) => TriReply::Key1(item),
+        EntryError::Key2(item) => TriReply::Key2(item),
+        EntryError::Key3(item) => TriReply::Key3(item),
+        EntryError::Memory(item) => TriReply::Memory(item),
+    }
+}
+
+/// The reply to an item whose keys are not those of what it was to replace.
+fn mismatch<'m, T: TriHashItemMut>(refused: KeyMismatch<T>) -> TriReply<'m, T>
+    ensures { value_of result ≡ key (mismatch_rank refused) (mismatch_item refused) }
+{
+    match refused {
+        KeyMismatch::Key1(item) => TriReply::Key1(item),
+        KeyMismatch::Key2(item) => TriReply::Key2(item),
+        KeyMismatch::Key3(item) => TriReply::Key3(item),
+    }
+}
+
+/// The reply that gives one item back.
+fn displaced_one<'m, T: TriHashItemMut>(item: T) -> TriReply<'m, T>
+    ensures { value_of result ≡ displaced (item ∷ []) }
+{
+    let mut gone = UpToThree::new();
+    gone.push(item);
+    TriReply::Displaced(gone)
+}

@@ -1,0 +1,323 @@
+//! What finds and changes items by slot. Every other file of the map goes through it: nothing else takes an item from
+//! its slot or puts one there.
+ghost use Rattle.std.specs.Prelude.{◌≡◌, ◌≢◌, ◌+◌, ◌^◌, ◌<◌, ◌≤◌, [], ◌∷◌, length, map, drop, All, IsPermutation, OnOk, OnErr, IfOk, IfErr, Some, None, IfSome, IfNone, nat_eq, slice_set};
+ghost use Rattle.std.specs.List.{IsDistinct};
+ghost use Rattle.std.specs.Option.{option_and_then};
+ghost use Rattle.iddqd_store.specs.Bag.{IsOnly, IsSound, clash, every_of, order, over};
+ghost use Rattle.iddqd_store.specs.Rank.Index.{HasHash};
+ghost use Rattle.iddqd_store.specs.Map.{bag, hash_of, Gains, Loses, MakesRoom, IsFullFor, ListsConflicts, IsBlockedAt};
+ghost use Rattle.iddqd_store.specs.Rank.{agree, key_hash};
+ghost use Rattle.iddqd_store.specs.Slots.Found.{items_at, FoundAt};
+ghost use Rattle.iddqd_store.specs.Slots.{get, items_in, IsLive, Updates};
+ghost use Rattle.iddqd_store.specs.Slots.Next.{ComesNext};
+ghost use Rattle.iddqd_tri.specs.Keys.{ranks, has2, has3, has_all};
+
+pub(crate) mod entry;
+mod write;
+
+use super::TriHashMap;
+use crate::item::TriHashItem;
+use crate::ranks::{First, Second, Third};
+use iddqd_store::{Equivalent, ItemIndex, Lookup, Meter, TryReserveError, UpToThree};
+use std::hash::{BuildHasher, Hash};
+
+/// An item that an insert refused, and why, with no hold on the map.
+#[derive(Drop)]
+pub(crate) enum Refusal<T> {
+    /// These slots have items that conflict with it, in the order of the keys.
+    Duplicate(T, UpToThree<ItemIndex>),
+    /// There was no memory for it.
+    Memory(T),
+}
+
+/// Whether the item has the second and the third key that the queries stand for.
+pub(crate) fn has_others<T: TriHashItem, Q2: Equivalent<T::K2>, Q3: Equivalent<T::K3>>(
+    item: &T,
+    query2: &Q2,
+    query3: &Q3,
+) -> bool
+    ensures { result ≡ every_of
+        (has2 T.TriHashItem Q2.equivalent query2.now ∷ has3 T.TriHashItem Q3.equivalent query3.now ∷ []) item.now }
+{
+    query2.equivalent(item.key2()) && query3.equivalent(item.key3())
+}
+
+impl<T: TriHashItem, S: BuildHasher> TriHashMap<T, S> {
+    ghost use Rattle.iddqd_tri.specs.Refused.{MatchRefusal, refusal_item};
+
+    /// What searches by the first key read.
+    pub(crate) fn by_key1(&self) -> Lookup<'_, T, First, S>
+        ensures apart { IsDistinct (agree T.key1 T.K1.eq) (bag self.now) }
+        ensures slots { result.slots ≡ self.now.slots }
+        ensures builder { result.builder ≡ self.now.builder }
+        ensures room { self.now.capacity ≤ result.capacity }
+    {
+        Lookup::new(&self.items, &self.first, &self.hash_builder)
+    }
+
+    /// What searches by the second key read.
+    pub(crate) fn by_key2(&self) -> Lookup<'_, T, Second, S>
+        ensures apart { IsDistinct (agree T.key2 T.K2.eq) (bag self.now) }
+        ensures slots { result.slots ≡ self.now.slots }
+        ensures builder { result.builder ≡ self.now.builder }
+        ensures room { self.now.capacity ≤ result.capacity }
+    {
+        Lookup::new(&self.items, &self.second, &self.hash_builder)
+    }
+
+    /// What searches by the third key read.
+    pub(crate) fn by_key3(&self) -> Lookup<'_, T, Third, S>
+        ensures apart { IsDistinct (agree T.key3 T.K3.eq) (bag self.now) }
+        ensures slots { result.slots ≡ self.now.slots }
+        ensures builder { result.builder ≡ self.now.builder }
+        ensures room { self.now.capacity ≤ result.capacity }
+    {
+        Lookup::new(&self.items, &self.third, &self.hash_builder)
+    }
+
+    /// The slot of the item that has all keys that the queries stand for, where this is the first query's hash.
+    pub(crate) fn slot_unique<Q1: Equivalent<T::K1>, Q2: Equivalent<T::K2>, Q3: Equivalent<T::K3>>(
+        &self,
+        hash: u64,
+        query1: &Q1,
+        query2: &Q2,
+        query3: &Q3,
+    ) -> Option<ItemIndex>
+        requires { hash ≡ hash_of S.BuildHasher S.Hasher.Hasher self.now.builder (Q1.hash_input query1.now) }
+        ensures found { IsOnly
+            (has_all T.TriHashItem Q1.equivalent Q2.equivalent Q3.equivalent query1.now query2.now query3.now)
+            (bag self.now) (option_and_then (get self.now.slots) result) }
+        ensures live { IfSome result (IsLive self.now.slots) }
+        ensures hashed { IfSome result (λ ix. HasHash
+            (key_hash T.key1 T.K1.hash_input S.BuildHasher S.Hasher.Hasher self.now.builder) self.now.slots ix hash) }
+    {
+        let ix = self.by_key1().slot(hash, query1)?;
+        let item = self.items.get(ix)?;
+        if has_others(item, query2, query3) {
+            Some(ix)
+        } else {
+            None
+        }
+    }
+
+    /// The slot of the item that has all keys.
+    pub(crate) fn slot_of_all(&self, key1: &T::K1, key2: &T::K2, key3: &T::K3) -> Option<ItemIndex>
+        ensures { FoundAt (has_all T.TriHashItem T.K1.eq T.K2.eq T.K3.eq key1.now key2.now key3.now)
+            self.now.slots result }
+    {
+        let hash = self.hash_builder.hash_one(key1);
+        self.slot_unique(hash, key1, key2, key3)
+    }
+
+    /// The items of these slots, lent.
+    pub(crate) fn items_of(&self, found: &UpToThree<ItemIndex>) -> UpToThree<&T>
+        ensures { map (λ item. item.now) result ≡ items_at self.now.slots found.now }
+    {
+        let mut items = UpToThree::new();
+        for at in 0..found.len() {
+            if let Some(ix) = found.get(at) {
+                if let Some(item) = self.items.get(*ix) {
+                    items.push(item);
+                }
+            }
+        }
+        items
+    }
+
+    /// The first item in a slot of this number or a higher one, with its slot.
+    pub(crate) fn item_from(&self, from: usize) -> Option<(ItemIndex, &T)>
+        ensures next { IfSome result (λ p. ComesNext self.now.slots from p.0 p.1.now) }
+        ensures fits { IfSome result (λ p. p.0 + 1 < 2 ^ 64) }
+        ensures none { IfNone result (items_in (drop from self.now.slots) ≡ []) }
+    {
+        let ix = self.items.next_live(from)?;
+        match self.items.get(ix) {
+            Some(item) => Some((ix, item)),
+            None => unreachable!(),
+        }
+    }
+
+    /// The slots of the items that conflict with this one, in the order of the keys.
+    pub(crate) fn conflicting(
+        &self,
+        item: &T,
+        hash1: u64,
+        hash2: u64,
+        hash3: u64,
+    ) -> UpToThree<ItemIndex>
+        requires hash1 { hash1
+            ≡ key_hash T.key1 T.K1.hash_input S.BuildHasher S.Hasher.Hasher self.now.builder item.now }
+        requires hash2 { hash2
+            ≡ key_hash T.key2 T.K2.hash_input S.BuildHasher S.Hasher.Hasher self.now.builder item.now }
+        requires hash3 { hash3
+            ≡ key_hash T.key3 T.K3.hash_input S.BuildHasher S.Hasher.Hasher self.now.builder item.now }
+        ensures { ListsConflicts (ranks T.TriHashItem T.K1.eq T.K2.eq T.K3.eq) self.now item.now result }
+    {
+        let by1 = self.by_key1().slot(hash1, item.key1());
+        let by2 = self.by_key2().slot(hash2, item.key2());
+        let by3 = self.by_key3().slot(hash3, item.key3());
+        let mut found = UpToThree::new();
+        found.push_found(by1);
+        found.push_found(by2);
+        found.push_found(by3);
+        found
+    }
+
+    /// Puts an item in that nothing conflicts with. It is no part of the loop of a caller that inserts: where LLVM
+    /// makes it one, inserting takes longer.
+    #[inline(never)]
+    pub(crate) fn put(&mut self, item: T, hash1: u64, hash2: u64, hash3: u64) -> ItemIndex
+        requires room { length (bag self.old) < self.old.capacity }
+        requires free { clash (ranks T.TriHashItem T.K1.eq T.K2.eq T.K3.eq) (bag self.old) item ≡ [] }
+        requires hash1 { hash1 ≡ key_hash T.key1 T.K1.hash_input S.BuildHasher S.Hasher.Hasher self.old.builder item }
+        requires hash2 { hash2 ≡ key_hash T.key2 T.K2.hash_input S.BuildHasher S.Hasher.Hasher self.old.builder item }
+        requires hash3 { hash3 ≡ key_hash T.key3 T.K3.hash_input S.BuildHasher S.Hasher.Hasher self.old.builder item }
+        ensures at { get self.new.slots result ≡ Some item }
+        ensures items { IsPermutation (bag self.new) (item ∷ bag self.old) }
+        ensures sound { IsSound (ranks T.TriHashItem T.K1.eq T.K2.eq T.K3.eq) (bag self.new) }
+        ensures fits { length (bag self.new) ≤ self.new.capacity }
+        ensures capacity { self.new.capacity ≡ self.old.capacity }
+        ensures builder { self.new.builder ≡ self.old.builder }
+    {
+        let ix = self.items.insert_reserved(item);
+        self.first.insert_reserved(hash1, ix, &mut Meter::new());
+        self.second.insert_reserved(hash2, ix, &mut Meter::new());
+        self.third.insert_reserved(hash3, ix, &mut Meter::new());
+        ix
+    }
+
+    /// Puts an item in the place of those that conflict with it, whose slots are given, and gives them back with the
+    /// slot of the new one.
+    pub(crate) fn put_over(
+        &mut self,
+        item: T,
+        found: &UpToThree<ItemIndex>,
+        hash1: u64,
+        hash2: u64,
+        hash3: u64,
+    ) -> (UpToThree<T>, ItemIndex)
+        requires found { ListsConflicts (ranks T.TriHashItem T.K1.eq T.K2.eq T.K3.eq) self.old item found.now }
+        requires room { length found.now ≡ 0 → length (bag self.old) < self.old.capacity }
+        requires hash1 { hash1 ≡ key_hash T.key1 T.K1.hash_input S.BuildHasher S.Hasher.Hasher self.old.builder item }
+        requires hash2 { hash2 ≡ key_hash T.key2 T.K2.hash_input S.BuildHasher S.Hasher.Hasher self.old.builder item }
+        requires hash3 { hash3 ≡ key_hash T.key3 T.K3.hash_input S.BuildHasher S.Hasher.Hasher self.old.builder item }
+        ensures displaced { result.0 ≡ order (ranks T.TriHashItem T.K1.eq T.K2.eq T.K3.eq) (bag self.old) item }
+        ensures at { get self.new.slots result.1 ≡ Some item }
+        ensures items { IsPermutation (bag self.new)
+            (over (ranks T.TriHashItem T.K1.eq T.K2.eq T.K3.eq) (bag self.old) item) }
+        ensures sound { IsSound (ranks T.TriHashItem T.K1.eq T.K2.eq T.K3.eq) (bag self.new) }
+        ensures fits { length (bag self.new) ≤ self.new.capacity }
+        ensures capacity { self.new.capacity ≡ self.old.capacity }
+        ensures builder { self.new.builder ≡ self.old.builder }
+    {
+        let displaced = self.take_all(found);
+        let ix = self.put(item, hash1, hash2, hash3);
+        (displaced, ix)
+    }
+
+    /// Takes out the item of a slot. A key of it is hashed only where its hash isn't given.
+    pub(crate) fn take(
+        &mut self,
+        ix: ItemIndex,
+        hash1: Option<u64>,
+        hash2: Option<u64>,
+        hash3: Option<u64>,
+    ) -> T
+        requires live { IsLive self.old.slots ix }
+        requires hash1 { IfSome hash1 (HasHash
+            (key_hash T.key1 T.K1.hash_input S.BuildHasher S.Hasher.Hasher self.old.builder) self.old.slots ix) }
+        requires hash2 { IfSome hash2 (HasHash
+            (key_hash T.key2 T.K2.hash_input S.BuildHasher S.Hasher.Hasher self.old.builder) self.old.slots ix) }
+        requires hash3 { IfSome hash3 (HasHash
+            (key_hash T.key3 T.K3.hash_input S.BuildHasher S.Hasher.Hasher self.old.builder) self.old.slots ix) }
+        ensures value { get self.old.slots ix ≡ Some result }
+        ensures slots { self.new.slots ≡ slice_set self.old.slots ix None }
+        ensures loses { Loses self.old (result ∷ []) self.new }
+        ensures updates { Updates self.old.slots self.new.slots ix None }
+        ensures room { length (bag self.new) < self.new.capacity }
+    {
+        match self.items.remove(ix) {
+            Some(item) => {
+                self.first
+                    .forget::<T, First, S>(&self.hash_builder, &item, ix, hash1);
+                self.second
+                    .forget::<T, Second, S>(&self.hash_builder, &item, ix, hash2);
+                self.third
+                    .forget::<T, Third, S>(&self.hash_builder, &item, ix, hash3);
+                item
+            }
+            None => unreachable!(),
+        }
+    }
+
+    /// Takes out the items of these slots, in their order.
+    pub(crate) fn take_all(&mut self, found: &UpToThree<ItemIndex>) -> UpToThree<T>
+        requires live { All (IsLive self.old.slots) found.now }
+        requires apart { IsDistinct nat_eq found.now }
+        ensures values { result ≡ items_at self.old.slots found.now }
+        ensures loses { Loses self.old result self.new }
+        ensures room { length found.now ≢ 0 → length (bag self.new) < self.new.capacity }
+        ensures none { length found.now ≡ 0 → self.new ≡ self.old }
+    {
+        let mut taken = UpToThree::new();
+        for at in 0..found.len() {
+            if let Some(ix) = found.get(at) {
+                taken.push(self.take(*ix, None, None, None));
+            }
+        }
+        taken
+    }
+
+    /// Makes room for so many more items.
+    pub(crate) fn grow(&mut self, more: usize) -> Result<(), TryReserveError>
+        ensures slots { self.new.slots ≡ self.old.slots }
+        ensures room { MakesRoom self.old more result self.new }
+    {
+        self.items.try_reserve(more)?;
+        self.first.try_reserve(more)?;
+        self.second.try_reserve(more)?;
+        self.third.try_reserve(more)?;
+        Ok(())
+    }
+
+    /// Makes room for one more item, where the map is full.
+    pub(crate) fn make_room(&mut self) -> Result<(), TryReserveError>
+        ensures slots { self.new.slots ≡ self.old.slots }
+        ensures builder { self.new.builder ≡ self.old.builder }
+        ensures no_less_room { self.old.capacity ≤ self.new.capacity }
+        ensures had_room { length (bag self.old) < self.old.capacity → self.new ≡ self.old }
+        ensures granted { OnOk result (length (bag self.old) < self.new.capacity) }
+        ensures refused { OnErr result (length (bag self.old) ≡ self.old.capacity) }
+        ensures unchanged { OnErr result (self.new ≡ self.old) }
+    {
+        if self.len() == self.capacity() {
+            self.grow(1)?;
+        }
+        Ok(())
+    }
+
+    /// Puts an item in where none conflicts with it, and answers its slot. It is refused with the slots of those that
+    /// do, or, where the map is full and cannot grow, for memory.
+    pub(crate) fn try_insert(&mut self, item: T) -> Result<ItemIndex, Refusal<T>>
+        ensures gains { OnOk result (Gains self.old item self.new) }
+        ensures at { IfOk result (λ ix. get self.new.slots ix ≡ Some item) }
+        ensures free { OnOk result (clash (ranks T.TriHashItem T.K1.eq T.K2.eq T.K3.eq) (bag self.old) item ≡ []) }
+        ensures handed_back { IfErr result (λ e. refusal_item e ≡ item) }
+        ensures unchanged { OnErr result (self.new ≡ self.old) }
+        ensures reason { IfErr result (λ e. MatchRefusal e
+            (λ found. IsBlockedAt (ranks T.TriHashItem T.K1.eq T.K2.eq T.K3.eq) self.old item found)
+            (IsFullFor (ranks T.TriHashItem T.K1.eq T.K2.eq T.K3.eq) self.old item)) }
+    {
+        let hash1 = self.hash_builder.hash_one(item.key1());
+        let hash2 = self.hash_builder.hash_one(item.key2());
+        let hash3 = self.hash_builder.hash_one(item.key3());
+        let found = self.conflicting(&item, hash1, hash2, hash3);
+        if !found.is_empty() {
+            return Err(Refusal::Duplicate(item, found));
+        }
+        if let Err(_) = self.make_room() {
+            return Err(Refusal::Memory(item));
+        }
+        Ok(self.put(item, hash1, hash2, hash3))
+    }
+}

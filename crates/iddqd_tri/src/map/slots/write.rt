@@ -1,0 +1,157 @@
+//! Writing the item of a slot.
+ghost use Rattle.std.specs.Prelude.{◌≡◌, [], ◌∷◌, true, All, length, nat_eq, Some, IsPermutation, IfSome, IfNone, is_some, ◌+◌};
+ghost use Rattle.std.specs.Borrow.{sem};
+ghost use Rattle.std.specs.Fn.{CalledAt};
+ghost use Rattle.std.specs.List.{IsDistinct};
+ghost use Rattle.std.specs.Option.{option_and_then};
+ghost use Rattle.iddqd_store.specs.Bag.{swap};
+ghost use Rattle.iddqd_store.specs.Bag.Storing.{Stores};
+ghost use Rattle.iddqd_store.specs.Map.{bag};
+ghost use Rattle.iddqd_store.specs.Map.Walk.{IsNextSlot, Passes, to_come};
+ghost use Rattle.iddqd_store.specs.Map.Written.{map_with};
+ghost use Rattle.iddqd_store.specs.Slots.{get, IsLive};
+ghost use Rattle.iddqd_store.specs.Slots.Found.{held_at, items_at};
+ghost use Rattle.iddqd_tri.specs.Keys.{ranks};
+
+use super::super::TriHashMap;
+use super::entry::each_once;
+use crate::item::{TriHashItem, TriHashItemMut};
+use iddqd_store::{ItemIndex, UpToThree};
+use std::hash::{BuildHasher, Hash};
+
+impl<T: TriHashItem, S: BuildHasher> TriHashMap<T, S> {
+    /// The item of a live slot.
+    pub(crate) fn item_at(&self, ix: ItemIndex) -> &T
+        requires { IsLive self.now.slots ix }
+        ensures { get self.now.slots ix ≡ Some result.now }
+    {
+        self.items.get(ix).unwrap()
+    }
+
+    /// Puts an item with the same keys in the place of another, which it gives back.
+    pub(crate) fn replace_at(&mut self, ix: ItemIndex, item: T) -> T
+        requires live { IsLive self.old.slots ix }
+        requires keys { (x : T) → get self.old.slots ix ≡ Some x
+            → (T.K1.eq (T.key1 x) (T.key1 item) ≡ true) × (T.K2.eq (T.key2 x) (T.key2 item) ≡ true)
+            × (T.K3.eq (T.key3 x) (T.key3 item) ≡ true) }
+        ensures old { get self.old.slots ix ≡ Some result }
+        ensures new { self.new ≡ map_with self.old ix (λ x. item) }
+        ensures swaps { IsPermutation (bag self.new)
+            (swap (ranks T.TriHashItem T.K1.eq T.K2.eq T.K3.eq) (bag self.old) result item) }
+    {
+        self.items.replace(ix, item)
+    }
+
+    /// How many items stand in slots of this number or a higher one.
+    pub(crate) fn count_from(&self, from: usize) -> usize
+        ensures { result ≡ length (to_come self.now from) }
+    {
+        self.items.count_from(from)
+    }
+
+    /// The first slot with an item of this number or a higher one.
+    pub(crate) fn slot_from(&self, from: usize) -> Option<ItemIndex>
+        ensures next { IfSome result (λ ix. (x : T) × (get self.now.slots ix ≡ Some x)
+            × Passes self.now from x (map_with self.now ix) (ix + 1)) }
+        ensures step { IfSome result (λ ix. (x : T) × (get self.now.slots ix ≡ Some x)
+            × IsNextSlot self.now.slots from ix x) }
+        ensures live { IfSome result (IsLive self.now.slots) }
+        ensures none { IfNone result (to_come self.now from ≡ []) }
+    {
+        match self.items.next_live(from) {
+            Some(ix) => Some(ix),
+            None => None,
+        }
+    }
+}
+
+impl<T: TriHashItemMut, S: BuildHasher> TriHashMap<T, S> {
+    ghost use Rattle.iddqd_tri.specs.Lent.{lends_data, lends_data_if};
+
+    /// The data of the item of a live slot, for writing.
+    pub(crate) fn data_mut_at(&mut self, ix: ItemIndex) -> &mut T::Data
+        requires { IsLive self.old.slots ix }
+        ensures* writes_back { sem 𝓛 (lends_data T.row S.row T.K1.row T.K2.row T.K3.row S.Hasher.row
+            T.TriHashItem T.K1.Hash T.K2.Hash T.K3.Hash S.BuildHasher S.Hasher.Hasher
+            T.Data.row T.put self.entry ix result) }
+        ensures value { (x : T) → get self.old.slots ix ≡ Some x → result.now ≡ T.payload x }
+        ensures swaps { (x : T) (d : T.Data) → get self.old.slots ix ≡ Some x
+            → IsPermutation (bag (map_with self.old ix (λ y. T.put y d)))
+            (swap (ranks T.TriHashItem T.K1.eq T.K2.eq T.K3.eq) (bag self.old) x (T.put x d)) }
+    {
+        self.items.item_mut(ix.number()).data_mut()
+    }
+
+    /// The data of the item of the slot that there may be, for writing.
+    pub(crate) fn data_of(&mut self, slot: Option<ItemIndex>) -> Option<&mut T::Data>
+        requires { IfSome slot (IsLive self.old.slots) }
+        ensures* writes_back { sem 𝓛 (lends_data_if T.row S.row T.K1.row T.K2.row T.K3.row S.Hasher.row
+            T.TriHashItem T.K1.Hash T.K2.Hash T.K3.Hash S.BuildHasher S.Hasher.Hasher
+            T.Data.row T.put self.entry slot result) }
+        ensures some { is_some result ≡ is_some slot }
+        ensures value { (x : T) → option_and_then (get self.old.slots) slot ≡ Some x
+            → IfSome result (λ r. r.now ≡ T.payload x) }
+    {
+        match slot {
+            Some(ix) => Some(self.data_mut_at(ix)),
+            None => None,
+        }
+    }
+
+    /// Stores what a function answers at the item of a slot.
+    pub(crate) fn store_at<F: FnMut(&T) -> T::Data>(&mut self, ix: ItemIndex, f: &mut F)
+    where
+        T::Data: Drop,
+        requires live { IsLive self.old.slots ix }
+        requires callable { F.IsAlwaysCallable f.old }
+        ensures stored { (x : T) × (d : T.Data) × (get self.old.slots ix ≡ Some x)
+            × (CalledAt F.FnMut) f.old x d f.new × (self.new ≡ map_with self.old ix (λ y. T.put y d))
+            × IsPermutation (bag self.new)
+            (swap (ranks T.TriHashItem T.K1.eq T.K2.eq T.K3.eq) (bag self.old) x (T.put x d)) }
+        ensures callable { F.IsAlwaysCallable f.new }
+    {
+        let d = f(self.item_at(ix));
+        *self.data_mut_at(ix) = d;
+    }
+
+    /// Stores what a function answers at the items of these slots, in their order.
+    fn store_all<F: FnMut(&T) -> T::Data>(&mut self, found: &UpToThree<ItemIndex>, mut f: F)
+    where
+        T::Data: Drop,
+        requires live { All (IsLive self.old.slots) found.now }
+        requires apart { IsDistinct nat_eq found.now }
+        requires callable { F.IsAlwaysCallable f }
+        ensures stores { Stores (CalledAt F.FnMut) T.put (ranks T.TriHashItem T.K1.eq T.K2.eq T.K3.eq) f
+            (items_at self.old.slots found.now) (bag self.old) (bag self.new) }
+        ensures capacity { self.new.capacity ≡ self.old.capacity }
+        ensures builder { self.new.builder ≡ self.old.builder }
+    {
+        for at in 0..found.len() {
+            if let Some(ix) = found.get(at) {
+                self.store_at(*ix, &mut f);
+            }
+        }
+    }
+
+    /// Stores what a function answers at the items of the slots that searches found, at each once.
+    pub(crate) fn store_found<F: FnMut(&T) -> T::Data>(
+        &mut self,
+        slot1: Option<ItemIndex>,
+        slot2: Option<ItemIndex>,
+        slot3: Option<ItemIndex>,
+        f: F,
+    )
+    where
+        T::Data: Drop,
+        requires live1 { IfSome slot1 (IsLive self.old.slots) }
+        requires live2 { IfSome slot2 (IsLive self.old.slots) }
+        requires live3 { IfSome slot3 (IsLive self.old.slots) }
+        requires callable { F.IsAlwaysCallable f }
+        ensures stores { Stores (CalledAt F.FnMut) T.put (ranks T.TriHashItem T.K1.eq T.K2.eq T.K3.eq) f
+            (held_at self.old.slots (slot1 ∷ slot2 ∷ slot3 ∷ [])) (bag self.old) (bag self.new) }
+        ensures capacity { self.new.capacity ≡ self.old.capacity }
+        ensures builder { self.new.builder ≡ self.old.builder }
+    {
+        self.store_all(&each_once(slot1, slot2, slot3), f);
+    }
+}

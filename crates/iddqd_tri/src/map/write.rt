@@ -1,0 +1,127 @@
+//! Items lent for writing.
+ghost use Rattle.std.specs.Prelude.{◌≡◌, [], Some, IfSome, IfNone};
+ghost use Rattle.std.specs.Borrow.{sem};
+ghost use Rattle.std.specs.Option.{option_and_then};
+ghost use Rattle.iddqd_store.specs.Bag.{IsOnly};
+ghost use Rattle.iddqd_store.specs.Map.{bag};
+ghost use Rattle.iddqd_store.specs.Map.Walk.{Passes, to_come};
+ghost use Rattle.iddqd_tri.specs.IterMuts.{done_of, rest_of};
+ghost use Rattle.iddqd_tri.specs.Keys.{has1, has2, has3, has_all};
+ghost use Rattle.iddqd_tri.specs.RefMuts.{ref_lender, ref_map, ref_item, ref_with, rests_if_none};
+
+use super::TriHashMap;
+use crate::item::TriHashItem;
+use crate::iter_mut::IterMut;
+use crate::ref_mut::RefMut;
+use iddqd_store::Cursor;
+use std::hash::{BuildHasher, Hash};
+
+impl<T: TriHashItem, S: BuildHasher> TriHashMap<T, S> {
+    /// The item with this first key, for writing. It takes no memory.
+    ///
+    /// Compares at most as many keys as items have the key's hash at the first rank.
+    pub fn get1_mut(&mut self, key: &T::K1) -> Option<RefMut<'_, T, S>>
+        ensures* rests_at_none { sem 𝓛
+            (rests_if_none T.row S.row T.K1.row T.K2.row T.K3.row S.Hasher.row self.entry result) }
+        ensures found { IsOnly (has1 T.TriHashItem T.K1.eq key.now) (bag self.old) (option_and_then ref_item result) }
+        ensures unchanged { IfSome result (λ r. ref_map r ≡ self.old) }
+        ensures same_map { IfSome result (λ r. ref_lender r ≡ self.entry.ghost_name) }
+    {
+        match self.by_key1().slot_of(key) {
+            Some(slot) => Some(RefMut { map: self, slot }),
+            None => None,
+        }
+    }
+
+    /// The item with this second key, for writing. It takes no memory.
+    ///
+    /// Compares at most as many keys as items have the key's hash at the second rank.
+    pub fn get2_mut(&mut self, key: &T::K2) -> Option<RefMut<'_, T, S>>
+        ensures* rests_at_none { sem 𝓛
+            (rests_if_none T.row S.row T.K1.row T.K2.row T.K3.row S.Hasher.row self.entry result) }
+        ensures found { IsOnly (has2 T.TriHashItem T.K2.eq key.now) (bag self.old) (option_and_then ref_item result) }
+        ensures unchanged { IfSome result (λ r. ref_map r ≡ self.old) }
+        ensures same_map { IfSome result (λ r. ref_lender r ≡ self.entry.ghost_name) }
+    {
+        match self.by_key2().slot_of(key) {
+            Some(slot) => Some(RefMut { map: self, slot }),
+            None => None,
+        }
+    }
+
+    /// The item with this third key, for writing. It takes no memory.
+    ///
+    /// Compares at most as many keys as items have the key's hash at the third rank.
+    pub fn get3_mut(&mut self, key: &T::K3) -> Option<RefMut<'_, T, S>>
+        ensures* rests_at_none { sem 𝓛
+            (rests_if_none T.row S.row T.K1.row T.K2.row T.K3.row S.Hasher.row self.entry result) }
+        ensures found { IsOnly (has3 T.TriHashItem T.K3.eq key.now) (bag self.old) (option_and_then ref_item result) }
+        ensures unchanged { IfSome result (λ r. ref_map r ≡ self.old) }
+        ensures same_map { IfSome result (λ r. ref_lender r ≡ self.entry.ghost_name) }
+    {
+        match self.by_key3().slot_of(key) {
+            Some(slot) => Some(RefMut { map: self, slot }),
+            None => None,
+        }
+    }
+
+    /// The item that has all keys, for writing. It takes no memory.
+    ///
+    /// Compares as many keys as `get1_mut` does, and the other keys of the item found.
+    pub fn get_mut_unique(
+        &mut self,
+        key1: &T::K1,
+        key2: &T::K2,
+        key3: &T::K3,
+    ) -> Option<RefMut<'_, T, S>>
+        ensures* rests_at_none { sem 𝓛
+            (rests_if_none T.row S.row T.K1.row T.K2.row T.K3.row S.Hasher.row self.entry result) }
+        ensures found { IsOnly (has_all T.TriHashItem T.K1.eq T.K2.eq T.K3.eq key1.now key2.now key3.now) (bag self.old)
+            (option_and_then ref_item result) }
+        ensures unchanged { IfSome result (λ r. ref_map r ≡ self.old) }
+        ensures same_map { IfSome result (λ r. ref_lender r ≡ self.entry.ghost_name) }
+    {
+        match self.slot_of_all(key1, key2, key3) {
+            Some(slot) => Some(RefMut { map: self, slot }),
+            None => None,
+        }
+    }
+
+    /// The next item of a walk over the map, for writing, and `None` behind the last one. The cursor goes on behind it.
+    /// Between two steps of a walk an item may be written, but none may go in or out.
+    ///
+    /// ```
+    /// let mut at = Cursor::new();
+    /// while let Some(mut item) = map.next_from(&mut at) {
+    ///     *item.data_mut() = 0;
+    /// }
+    /// ```
+    pub fn next_from(&mut self, at: &mut Cursor) -> Option<RefMut<'_, T, S>>
+        ensures* rests_at_none { sem 𝓛
+            (rests_if_none T.row S.row T.K1.row T.K2.row T.K3.row S.Hasher.row self.entry result) }
+        ensures next { IfSome result (λ r. IfSome (ref_item r) (λ x.
+            Passes self.old at.old x (λ f. ref_map (ref_with r f)) at.new)) }
+        ensures end { IfNone result (to_come self.old at.old ≡ []) }
+        ensures stays { IfNone result (at.new ≡ at.old) }
+        ensures unchanged { IfSome result (λ r. ref_map r ≡ self.old) }
+        ensures same_map { IfSome result (λ r. ref_lender r ≡ self.entry.ghost_name) }
+    {
+        match self.slot_from(at.next()) {
+            Some(slot) => {
+                at.pass(slot);
+                Some(RefMut { map: self, slot })
+            }
+            None => None,
+        }
+    }
+
+    /// Each item once, for writing, in no promised order. It takes no memory.
+    pub fn iter_mut(&mut self) -> IterMut<'_, T, S>
+        ensures same_map { result.map.ghost_name ≡ self.entry.ghost_name }
+        ensures unchanged { result.map.now ≡ self.old }
+        ensures start { done_of result ≡ [] }
+        ensures items { rest_of result ≡ bag self.old }
+    {
+        IterMut { map: self, next: 0 }
+    }
+}

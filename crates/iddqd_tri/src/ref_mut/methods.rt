@@ -1,0 +1,91 @@
+//! What can be done with an item that is lent for writing.
+ghost use Rattle.std.specs.Prelude.{◌≡◌, Some, None, IfSome, IfOk, IfErr, OnOk, OnErr, IsPermutation};
+ghost use Rattle.std.specs.Borrow.{sem};
+ghost use Rattle.iddqd_store.specs.Bag.{differ, like, swap};
+ghost use Rattle.iddqd_store.specs.Map.{bag};
+ghost use Rattle.iddqd_tri.specs.Keys.{ranks};
+ghost use Rattle.iddqd_tri.specs.Mismatch.{mismatch_item, mismatch_rank};
+ghost use Rattle.iddqd_tri.specs.RefMuts.{ref_lender, ref_map, ref_item, ref_with, lends_ref_data};
+
+use super::RefMut;
+use crate::error::KeyMismatch;
+use crate::item::{TriHashItem, TriHashItemMut};
+use crate::map::TriHashMap;
+use std::hash::{BuildHasher, Hash};
+use std::ops::Deref;
+
+impl<T: TriHashItem, S: BuildHasher> Deref for RefMut<'_, T, S> {
+    type Target = T;
+
+    ghost deref_gives = { λ r x. ref_item r ≡ Some x };
+
+    /// The item.
+    fn deref(&self) -> &T
+        ensures { ref_item self.now ≡ Some result.now }
+    {
+        self.map.item_at(self.slot)
+    }
+}
+
+impl<T: TriHashItemMut, S: BuildHasher> RefMut<'_, T, S> {
+    /// The data of the item, for writing. No key changes, and none is compared or hashed.
+    pub fn data_mut(&mut self) -> &mut T::Data
+        ensures* writes_back { sem 𝓛 (lends_ref_data T.row S.row T.K1.row T.K2.row T.K3.row S.Hasher.row
+            T.Data.row T.put self.entry result) }
+        ensures value { IfSome (ref_item self.old) (λ x. result.now ≡ T.payload x) }
+        ensures item { (d : T.Data) → IfSome (ref_item self.old) (λ x.
+            ref_item (ref_with self.old (λ y. T.put y d)) ≡ Some (T.put x d)) }
+        ensures swaps { (d : T.Data) → IfSome (ref_item self.old) (λ x.
+            IsPermutation (bag (ref_map (ref_with self.old (λ y. T.put y d))))
+            (swap (ranks T.TriHashItem T.K1.eq T.K2.eq T.K3.eq) (bag (ref_map self.old)) x (T.put x d))) }
+    {
+        let slot = self.slot;
+        self.map.data_mut_at(slot)
+    }
+}
+
+impl<T: TriHashItem, S: BuildHasher> RefMut<'_, T, S> {
+    /// Puts an item with the same keys in the place of this one, which it gives back. Else the item is handed back with
+    /// the lowest rank at which the keys differ, and nothing changes.
+    ///
+    /// It compares the first keys, and those of the next rank where those are equal. It hashes none and takes no
+    /// memory.
+    pub fn replace(&mut self, item: T) -> Result<T, KeyMismatch<T>>
+        ensures same_map { ref_lender self.new ≡ ref_lender self.old }
+        ensures old { IfOk result (λ x. ref_item self.old ≡ Some x) }
+        ensures new { OnOk result (ref_item self.new ≡ Some item) }
+        ensures swaps { IfOk result (λ x. IsPermutation (bag (ref_map self.new))
+            (swap (ranks T.TriHashItem T.K1.eq T.K2.eq T.K3.eq) (bag (ref_map self.old)) x item)) }
+        ensures same_keys { IfOk result (λ x.
+            differ (like (ranks T.TriHashItem T.K1.eq T.K2.eq T.K3.eq) x) item ≡ None) }
+        ensures capacity { (ref_map self.new).capacity ≡ (ref_map self.old).capacity }
+        ensures builder { (ref_map self.new).builder ≡ (ref_map self.old).builder }
+        ensures handed_back { IfErr result (λ e. mismatch_item e ≡ item) }
+        ensures rank { IfErr result (λ e. IfSome (ref_item self.old) (λ x.
+            differ (like (ranks T.TriHashItem T.K1.eq T.K2.eq T.K3.eq) x) item ≡ Some (mismatch_rank e))) }
+        ensures unchanged { OnErr result (self.new ≡ self.old) }
+    {
+        if *self.key1() != *item.key1() {
+            return Err(KeyMismatch::Key1(item));
+        }
+        if *self.key2() != *item.key2() {
+            return Err(KeyMismatch::Key2(item));
+        }
+        if *self.key3() != *item.key3() {
+            return Err(KeyMismatch::Key3(item));
+        }
+        let slot = self.slot;
+        Ok(self.map.replace_at(slot, item))
+    }
+}
+
+impl<'a, T: TriHashItem, S: BuildHasher> RefMut<'a, T, S> {
+    /// The item, to be read for as long as the map is lent.
+    pub fn into_ref(self) -> &'a T
+        ensures { ref_item self.entry ≡ Some result.now }
+    {
+        let RefMut { map, slot } = self;
+        let map: &'a TriHashMap<T, S> = map;
+        map.item_at(slot)
+    }
+}
