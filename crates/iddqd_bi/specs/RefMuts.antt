@@ -1,5 +1,5 @@
 -- What a contract says of a `RefMut`.
-use Rattle.std.specs.Prelude.{◌≡◌, ℕ, zero, suc, true, is_some, List, [], ◌∷◌, Option, Some, None, slice_set, refl}
+use Rattle.std.specs.Prelude.{◌≡◌, ℕ, [], Option}
 use Rattle.std.specs.Borrow.{Fml, GName, RattleType, MutBor, RestsIfNone, follows}
 use Rattle.std.specs.declared.cmp.PartialEq as equal
 use Rattle.std.specs.declared.hash.Hash as hash
@@ -9,19 +9,10 @@ use mir.Syntax.{named}
 use Rattle.iddqd_store.specs.Map.{Map}
 use Rattle.iddqd_store.specs.Slots.{get}
 use Rattle.iddqd_bi.specs.declared.item.BiHashItem as item
-use Rattle.iddqd_store.specs.Map.Written.{of_item, map_with}
+use Rattle.iddqd_store.specs.Map.Written.{map_with, still_live}
 use Rattle.iddqd_bi.specs.declared.ref_mut.RefMut.{RefMut}
 use Rattle.iddqd_bi.specs.contracts.map.BiHashMap.{the_row as map_row}
 use Rattle.iddqd_bi.specs.contracts.ref_mut.RefMut.{the_row as ref_row}
-
--- what is live stays so
-pub still_live : {T : Type 0} (f : T → T) (slots : List (Option T)) (i j : ℕ) → is_some (get slots j) ≡ true → is_some (get (slice_set slots i (of_item f (get slots i))) j) ≡ true
-still_live f [] i j h = h
-still_live f (None ∷ xs) zero j h = h
-still_live f (Some x ∷ xs) zero zero h = refl
-still_live f (Some x ∷ xs) zero (suc j) h = h
-still_live f (x ∷ xs) (suc i) zero h = h
-still_live f (x ∷ xs) (suc i) (suc j) h = still_live f xs i j h
 
 module _ {T S K1 K2 H : Type 0} {of : item.Ghosts T K1 K2} {eq1 : equal.Ghosts K1} {input1 : hash.Ghosts K1} {eq2 : equal.Ghosts K2} {input2 : hash.Ghosts K2} {build : builder.Ghosts S H} {hashes : hasher.Ghosts H} where
   -- the reference to the map

@@ -1,6 +1,7 @@
 -- What the maps' invariants share, with any number of ranks.
 pub mod Storing
 pub mod Walking
+pub mod Written
 use Rattle.std.specs.Prelude.{◌≡◌, ◌+◌, ◌<◌, ◌≤◌, ℕ, Bool, List, [], ◌∷◌, length, IsPermutation, Option, Result, Ok, Err, OnErr}
 use Rattle.std.specs.Cmp.{IsEquivalence}
 use Rattle.std.proofs.Common.{refl, sym, subst, ◌∙◌, arith}

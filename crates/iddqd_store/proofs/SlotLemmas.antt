@@ -3,4 +3,5 @@ pub mod Chain
 pub mod Clone
 pub mod Entries
 pub mod Found
+pub mod Here
 pub mod Next

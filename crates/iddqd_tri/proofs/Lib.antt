@@ -1,4 +1,3 @@
-pub mod EntryLemmas
 pub mod Iterating
 pub mod MapLemmas
 pub mod RefLemmas

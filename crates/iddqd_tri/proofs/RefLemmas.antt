@@ -1,6 +1,6 @@
--- A `RefMut` does not depend on how its item is known to be live, and the item that is written there.
-use Rattle.std.specs.Prelude.{◌≡◌, ℕ, zero, suc, true, List, [], ◌∷◌, Option, Some, None, IfSome, is_some, slice_set}
-use Rattle.std.proofs.Common.{refl, ap}
+-- A `RefMut` does not depend on how its item is known to be live.
+use Rattle.std.specs.Prelude.{◌≡◌, true, is_some}
+use Rattle.std.proofs.Common.{ap}
 use Rattle.std.proofs.Math.Bool.{Bool-set}
 use Rattle.std.specs.declared.cmp.PartialEq as equal
 use Rattle.std.specs.declared.hash.Hash as hash
@@ -8,7 +8,6 @@ use Rattle.std.specs.declared.hash.Hasher as hasher
 use Rattle.std.specs.declared.hash.BuildHasher as builder
 use Rattle.iddqd_store.specs.Slots.{get}
 use Rattle.iddqd_tri.specs.declared.item.TriHashItem as item
-use Rattle.iddqd_store.specs.Map.{Map}
 use Rattle.iddqd_store.specs.Map.Written.{map_with}
 use Rattle.iddqd_tri.specs.declared.ref_mut.RefMut.{RefMut}
 use Rattle.iddqd_tri.specs.RefMuts.{ref_with}
@@ -16,16 +15,3 @@ use Rattle.iddqd_tri.specs.RefMuts.{ref_with}
 module _ {T S K1 K2 K3 H : Type 0} {of : item.Ghosts T K1 K2 K3} {eq1 : equal.Ghosts K1} {input1 : hash.Ghosts K1} {eq2 : equal.Ghosts K2} {input2 : hash.Ghosts K2} {eq3 : equal.Ghosts K3} {input3 : hash.Ghosts K3} {build : builder.Ghosts S H} {hashes : hasher.Ghosts H} (r : RefMut T S K1 K2 K3 H of eq1 input1 eq2 input2 eq3 input3 build hashes) where
   pub ref_written : (f : T → T) (p : is_some (get (map_with r.map.now r.slot f).slots r.slot) ≡ true) → record { map = record r.map { now = map_with r.map.now r.slot f }; slot = r.slot; live = p } ≡ ref_with r f
   ref_written f p = ap (λ q. record (ref_with r f) { live = q }) (Bool-set _ _ p (ref_with r f).live)
-
-pub item_written : {T S : Type 0} (m : Map T S) (at : ℕ) (f : T → T) (x : T) → get m.slots at ≡ Some x → get (map_with m at f).slots at ≡ Some (f x)
-item_written m at f x is = rw is (set_there m.slots at (f x) x is)
-  where
-    set_there : {T : Type 0} (slots : List (Option T)) (at : ℕ) (y x : T) → get slots at ≡ Some x → get (slice_set slots at (Some y)) at ≡ Some y
-    set_there [] zero y x is = absurd (cc is)
-    set_there [] (suc at) y x is = absurd (cc is)
-    set_there (o ∷ slots) zero y x is = refl
-    set_there (o ∷ slots) (suc at) y x is = set_there slots at y x is
-
-pub if_some : {X : Type 0} {P : X → Type 0} (o : Option X) → ((x : X) → o ≡ Some x → P x) → IfSome o P
-if_some None h = tt
-if_some (Some x) h = h x refl

@@ -1,9 +1,10 @@
-use Rattle.std.proofs.Common.{rules, ◌≡◌, [], ◌∷◌, true, sym, ◌∙◌}
+use Rattle.std.proofs.Common.{rules, arith, ◌≡◌, [], ◌∷◌, true, sym, ◌∙◌}
 use Rattle.iddqd_store.specs.Map.{bag}
 use Rattle.iddqd_store.proofs.MapLemmas.Storing.{live_found}
 use Rattle.iddqd_store.proofs.SlotLemmas.Entries.{IsDistinct-each_once}
-use Rattle.iddqd_tri.proofs.EntryLemmas.{here_found, here_listed, here_some, here_unique, here_value}
-use Rattle.iddqd_tri.proofs.MapLemmas.{order-all}
+use Rattle.iddqd_store.proofs.SlotLemmas.Here.{finds_here}
+use Rattle.iddqd_tri.specs.Keys.{key_tests, ranks}
+use Rattle.iddqd_tri.proofs.MapLemmas.{AreKeyTests-keys, order-all}
 use Rattle.iddqd_tri.proofs.entry.OccupiedEntry.insert.Goals as goal
 
 pub put_over-displaced-requires-clause-found : goal.put_over-displaced-requires-clause-found
@@ -33,19 +34,10 @@ returns-clause-found g c =
     let same1 : g.T.K1.PartialEq.eq o.key1.now (g.T.TriHashItem.key1 c.args.item) ≡ true = search rules in
     let same2 : g.T.K2.PartialEq.eq o.key2.now (g.T.TriHashItem.key2 c.args.item) ≡ true = search rules in
     let same3 : g.T.K3.PartialEq.eq o.key3.now (g.T.TriHashItem.key3 c.args.item) ≡ true = search rules in
-    let of = g.T.TriHashItem in
-    let eq1 = g.T.K1.PartialEq.eq in
-    let eq2 = g.T.K2.PartialEq.eq in
-    let eq3 = g.T.K3.PartialEq.eq in
-    let laws1 = g.met.T.K1.Eq.laws in
-    let laws2 = g.met.T.K2.Eq.laws in
-    let laws3 = g.met.T.K3.Eq.laws in
-    let slots = put.new.self.slots in record {
-      found = here_found of eq1 eq2 eq3 laws1 laws2 laws3 slots put.result.1 c.args.item o.key1.now o.key2.now o.key3.now same1 same2 same3 put.ensures.sound put.ensures.at;
-      value = here_value of eq1 eq2 eq3 laws1 laws2 laws3 slots put.result.1 c.args.item o.key1.now o.key2.now o.key3.now same1 same2 same3 put.ensures.sound put.ensures.at;
-      listed = here_listed of eq1 eq2 eq3 laws1 laws2 laws3 slots put.result.1 c.args.item o.key1.now o.key2.now o.key3.now same1 same2 same3 put.ensures.sound put.ensures.at;
-      some = here_some of eq1 eq2 eq3 laws1 laws2 laws3 slots put.result.1 c.args.item o.key1.now o.key2.now o.key3.now same1 same2 same3 put.ensures.sound put.ensures.at;
-    }
+    let tests = key_tests g.T.TriHashItem g.T.K1.PartialEq.eq g.T.K2.PartialEq.eq g.T.K3.PartialEq.eq o.key1.now o.key2.now o.key3.now in
+    let keys = AreKeyTests-keys g.T.TriHashItem g.T.K1.PartialEq.eq g.T.K2.PartialEq.eq g.T.K3.PartialEq.eq g.met.T.K1.Eq.laws g.met.T.K2.Eq.laws g.met.T.K3.Eq.laws o.key1.now o.key2.now o.key3.now in
+    let here = finds_here (ranks g.T.TriHashItem g.T.K1.PartialEq.eq g.T.K2.PartialEq.eq g.T.K3.PartialEq.eq) tests (omega arith) keys put.new.self.slots put.result.1 c.args.item (same1, (same2, (same3, tt))) put.ensures.sound put.ensures.at in
+    record { found = here.found; value = here.value; listed = here.listed; some = here.some }
 
 pub returns-clause-unique : goal.returns-clause-unique
 returns-clause-unique g c =
@@ -54,4 +46,7 @@ returns-clause-unique g c =
     let same1 : g.T.K1.PartialEq.eq o.key1.now (g.T.TriHashItem.key1 c.args.item) ≡ true = search rules in
     let same2 : g.T.K2.PartialEq.eq o.key2.now (g.T.TriHashItem.key2 c.args.item) ≡ true = search rules in
     let same3 : g.T.K3.PartialEq.eq o.key3.now (g.T.TriHashItem.key3 c.args.item) ≡ true = search rules in
-    here_unique g.T.TriHashItem g.T.K1.PartialEq.eq g.T.K2.PartialEq.eq g.T.K3.PartialEq.eq g.met.T.K1.Eq.laws g.met.T.K2.Eq.laws g.met.T.K3.Eq.laws put.new.self.slots put.result.1 c.args.item o.key1.now o.key2.now o.key3.now same1 same2 same3 put.ensures.sound put.ensures.at
+    let tests = key_tests g.T.TriHashItem g.T.K1.PartialEq.eq g.T.K2.PartialEq.eq g.T.K3.PartialEq.eq o.key1.now o.key2.now o.key3.now in
+    let keys = AreKeyTests-keys g.T.TriHashItem g.T.K1.PartialEq.eq g.T.K2.PartialEq.eq g.T.K3.PartialEq.eq g.met.T.K1.Eq.laws g.met.T.K2.Eq.laws g.met.T.K3.Eq.laws o.key1.now o.key2.now o.key3.now in
+    let here = finds_here (ranks g.T.TriHashItem g.T.K1.PartialEq.eq g.T.K2.PartialEq.eq g.T.K3.PartialEq.eq) tests (omega arith) keys put.new.self.slots put.result.1 c.args.item (same1, (same2, (same3, tt))) put.ensures.sound put.ensures.at in
+    here.unique_item

@@ -1,6 +1,7 @@
 use Rattle.std.proofs.Common.{refl}
 use Rattle.iddqd_store.specs.Slots.{get}
-use Rattle.iddqd_tri.proofs.RefLemmas.{ref_written, item_written, if_some}
+use Rattle.iddqd_store.proofs.MapLemmas.Written.{item_written, if_some}
+use Rattle.iddqd_tri.proofs.RefLemmas.{ref_written}
 use Rattle.iddqd_tri.proofs.ref_mut.RefMut.data_mut.Goals as goal
 
 pub returns : goal.returns

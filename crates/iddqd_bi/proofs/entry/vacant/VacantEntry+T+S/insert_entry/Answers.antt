@@ -1,6 +1,7 @@
-use Rattle.std.proofs.Common.{rules, ◌≡◌, true}
-use Rattle.iddqd_bi.proofs.EntryLemmas.{here_found, here_listed, here_some, here_unique, here_value}
-use Rattle.iddqd_bi.proofs.MapLemmas.{clash-both}
+use Rattle.std.proofs.Common.{rules, arith, ◌≡◌, true}
+use Rattle.iddqd_store.proofs.SlotLemmas.Here.{finds_here}
+use Rattle.iddqd_bi.specs.Keys.{key_tests, ranks}
+use Rattle.iddqd_bi.proofs.MapLemmas.{AreKeyTests-keys, clash-both}
 use Rattle.iddqd_bi.proofs.entry.vacant.VacantEntry+T+S.insert_entry.Goals as goal
 
 pub put_free-requires : goal.put_free-requires
@@ -13,24 +14,21 @@ put_free-requires g c =
 pub returns-in-Ok-clause-found : goal.returns-in-Ok-clause-found
 returns-in-Ok-clause-found g c =
     let v = c.args.self in
+    let put = c.in-Ok.ensures in
     let same1 : g.T.K1.PartialEq.eq v.keys.key1.now (g.T.BiHashItem.key1 c.args.item) ≡ true = search rules in
     let same2 : g.T.K2.PartialEq.eq v.keys.key2.now (g.T.BiHashItem.key2 c.args.item) ≡ true = search rules in
-    let of = g.T.BiHashItem in
-    let eq1 = g.T.K1.PartialEq.eq in
-    let eq2 = g.T.K2.PartialEq.eq in
-    let laws1 = g.met.T.K1.Eq.laws in
-    let laws2 = g.met.T.K2.Eq.laws in
-    let put = c.in-Ok.ensures in
-    let slots = c.put_free.new.self.slots in record {
-      found = here_found of eq1 eq2 laws1 laws2 slots c.in-Ok.slot c.args.item _ _ same1 same2 put.sound put.at;
-      value = here_value of eq1 eq2 laws1 laws2 slots c.in-Ok.slot c.args.item _ _ same1 same2 put.sound put.at;
-      listed = here_listed of eq1 eq2 laws1 laws2 slots c.in-Ok.slot c.args.item _ _ same1 same2 put.sound put.at;
-      some = here_some of eq1 eq2 laws1 laws2 slots c.in-Ok.slot c.args.item _ _ same1 same2 put.sound put.at;
-    }
+    let tests = key_tests g.T.BiHashItem g.T.K1.PartialEq.eq g.T.K2.PartialEq.eq v.keys.key1.now v.keys.key2.now in
+    let keys = AreKeyTests-keys g.T.BiHashItem g.T.K1.PartialEq.eq g.T.K2.PartialEq.eq g.met.T.K1.Eq.laws g.met.T.K2.Eq.laws v.keys.key1.now v.keys.key2.now in
+    let here = finds_here (ranks g.T.BiHashItem g.T.K1.PartialEq.eq g.T.K2.PartialEq.eq) tests (omega arith) keys c.put_free.new.self.slots c.in-Ok.slot c.args.item (same1, (same2, tt)) put.sound put.at in
+    record { found = here.found; value = here.value; listed = here.listed; some = here.some }
 
 pub returns-in-Ok-clause-unique : goal.returns-in-Ok-clause-unique
 returns-in-Ok-clause-unique g c =
     let v = c.args.self in
+    let put = c.in-Ok.ensures in
     let same1 : g.T.K1.PartialEq.eq v.keys.key1.now (g.T.BiHashItem.key1 c.args.item) ≡ true = search rules in
     let same2 : g.T.K2.PartialEq.eq v.keys.key2.now (g.T.BiHashItem.key2 c.args.item) ≡ true = search rules in
-    here_unique g.T.BiHashItem g.T.K1.PartialEq.eq g.T.K2.PartialEq.eq g.met.T.K1.Eq.laws g.met.T.K2.Eq.laws c.put_free.new.self.slots c.in-Ok.slot c.args.item v.keys.key1.now v.keys.key2.now same1 same2 c.in-Ok.ensures.sound c.in-Ok.ensures.at
+    let tests = key_tests g.T.BiHashItem g.T.K1.PartialEq.eq g.T.K2.PartialEq.eq v.keys.key1.now v.keys.key2.now in
+    let keys = AreKeyTests-keys g.T.BiHashItem g.T.K1.PartialEq.eq g.T.K2.PartialEq.eq g.met.T.K1.Eq.laws g.met.T.K2.Eq.laws v.keys.key1.now v.keys.key2.now in
+    let here = finds_here (ranks g.T.BiHashItem g.T.K1.PartialEq.eq g.T.K2.PartialEq.eq) tests (omega arith) keys c.put_free.new.self.slots c.in-Ok.slot c.args.item (same1, (same2, tt)) put.sound put.at in
+    here.unique_item

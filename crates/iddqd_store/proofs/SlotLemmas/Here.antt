@@ -1,0 +1,71 @@
+-- What searches by an item's own keys find where the item stands, in a sound bag.
+use Rattle.std.specs.Prelude.{◌≡◌, ◌≢◌, ◌<◌, ℕ, Bool, true, List, [], ◌∷◌, Option, Some, filter, fold, length, map, nat_eq, false, ◌||◌, if◌then◌else◌}
+use Rattle.std.specs.List.{AllByRecursion, list_all}
+use Rattle.std.proofs.Common.{IsSome, refl, sym, ap, ◌∙◌, arith}
+use Rattle.std.proofs.lemmas.Bool.Decides.{nat_tests}
+use Rattle.iddqd_store.specs.Bag.{Ranks, IsSound, entry, entry_of, listing, unique}
+use Rattle.iddqd_store.specs.Rank.Keys.{AreKeyTests}
+use Rattle.iddqd_store.specs.Slots.{get, live_items}
+use Rattle.iddqd_store.specs.Slots.Found.{AreFound, entry_at, found_by_all, held_at, is_at, items_at, with_found}
+use Rattle.iddqd_store.proofs.BagLemmas.Entries.{entry-unique, listing-one}
+use Rattle.iddqd_store.proofs.BagLemmas.KeyTests.{each_only}
+use Rattle.iddqd_store.proofs.RankLemmas.Index.{item_at}
+
+itself : (a : ℕ) → nat_eq a a ≡ true
+itself a = grind (arith, nat_tests)
+
+some_is : {X : Type 0} (o : Option X) (x : X) → o ≡ Some x → IsSome o
+some_is o x is = rw is refl
+
+-- each search found the slot
+abbrev pub all_at : {T : Type 0} → ℕ → List (T → Bool) → List (Option ℕ)
+all_at ix tests = map (λ _. Some ix) tests
+
+-- what an entry says whose searches all found the slot of x
+pub record FindsHere {T : Type 0} (tests : List (T → Bool)) (slots : List (Option T)) (ix : ℕ) (x : T) : Type 0 where
+  pub found : AreFound tests slots (all_at ix tests)
+  pub value : entry_at slots (all_at ix tests) ≡ entry tests (live_items slots)
+  pub listed : held_at slots (all_at ix tests) ≡ listing tests (live_items slots)
+  pub some : listing tests (live_items slots) ≢ []
+  pub unique_item : entry tests (live_items slots) ≡ unique x
+
+module _ {T : Type 0} (slots : List (Option T)) (ix : ℕ) (x : T) (here : get slots ix ≡ Some x) where
+  are_found : (tests : List (T → Bool)) → AllByRecursion (λ test. filter test (live_items slots) ≡ x ∷ []) tests → AreFound tests slots (all_at ix tests)
+  are_found [] only = tt
+  are_found (test ∷ tests) only = (record { only = rw here (sym only.0); live = some_is _ x here }, are_found tests only.1)
+
+  one_slot : (tests : List (T → Bool)) → fold with_found (ix ∷ []) (all_at ix tests) ≡ ix ∷ []
+  one_slot [] = refl
+  one_slot (test ∷ tests) = ap (λ b. fold with_found (if b || false then ix ∷ [] else ix ∷ ix ∷ []) (all_at ix tests)) (itself ix) ∙ one_slot tests
+
+  all_there : (tests : List (T → Bool)) → list_all (is_at ix) (all_at ix tests) ≡ true
+  all_there [] = refl
+  all_there (test ∷ tests) = rw (itself ix) (all_there tests)
+
+  holds_one : (tests : List (T → Bool)) → 0 < length tests → held_at slots (all_at ix tests) ≡ x ∷ []
+  holds_one [] some = absurd (omega arith)
+  holds_one (test ∷ tests) some = ap (items_at slots) (one_slot tests) ∙ (rw here refl)
+
+  holds_whole : (tests : List (T → Bool)) → 0 < length tests → items_at slots (found_by_all (all_at ix tests)) ≡ x ∷ []
+  holds_whole [] some = absurd (omega arith)
+  holds_whole (test ∷ tests) some = rw (all_there tests) (rw here refl)
+
+-- x stands in the slot, and has the keys that the tests ask for
+module _ {T : Type 0} (ranks : Ranks T) (tests : List (T → Bool)) (some : 0 < length tests) (keys : AreKeyTests ranks tests) (slots : List (Option T)) (ix : ℕ) (x : T) (passes : AllByRecursion (λ test. test x ≡ true) tests) (sound : IsSound ranks (live_items slots)) (here : get slots ix ≡ Some x) where
+  only : AllByRecursion (λ test. filter test (live_items slots) ≡ x ∷ []) tests
+  only = each_only ranks tests (live_items slots) x keys passes sound (item_at slots ix x here)
+
+  one_listed : listing tests (live_items slots) ≡ x ∷ []
+  one_listed = listing-one tests (live_items slots) x some only
+
+  is_unique_here : entry tests (live_items slots) ≡ unique x
+  is_unique_here = entry-unique tests (live_items slots) x some only
+
+  pub finds_here : FindsHere tests slots ix x
+  finds_here = record {
+    found = are_found slots ix x here tests only;
+    value = ap (λ l. entry_of l (items_at slots (found_by_all (all_at ix tests)))) (holds_one slots ix x here tests some) ∙ ap (entry_of (x ∷ [])) (holds_whole slots ix x here tests some) ∙ sym is_unique_here;
+    listed = holds_one slots ix x here tests some ∙ sym one_listed;
+    some = λ none. absurd (omega (arith, ap length (sym one_listed ∙ none)));
+    unique_item = is_unique_here;
+  }
