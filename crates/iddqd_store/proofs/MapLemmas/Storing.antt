@@ -1,5 +1,5 @@
 -- Data stored at the slots that searches found, one after the other.
-use Rattle.std.specs.Prelude.{◌≡◌, ◌≢◌, ℕ, false, List, [], ◌∷◌, ◌++◌, All, IsPermutation, Option, Some, None, fold, if◌then◌else◌, nat_eq}
+use Rattle.std.specs.Prelude.{◌≡◌, ◌≢◌, ℕ, zero, suc, slice_set, false, List, [], ◌∷◌, ◌++◌, All, IsPermutation, Option, Some, None, fold, if◌then◌else◌, nat_eq}
 use Rattle.std.specs.List.{AllByRecursion, IsDistinct}
 use Rattle.std.specs.Option.{IfSome}
 use Rattle.std.proofs.Common.{refl, subst, arith}
@@ -11,7 +11,7 @@ use Rattle.std.proofs.lemmas.Map.Keys.{IsDistinct-head}
 use Rattle.iddqd_store.specs.Bag.{Ranks, swap}
 use Rattle.iddqd_store.specs.Bag.Storing.{Stores}
 use Rattle.iddqd_store.specs.Map.{Map, bag}
-use Rattle.iddqd_store.specs.Map.Written.{map_with}
+use Rattle.iddqd_store.specs.Map.Written.{map_with, of_item}
 use Rattle.iddqd_store.specs.Slots.{get, IsLive}
 use Rattle.iddqd_store.specs.Slots.Found.{each_once, items_at, lists, with_found}
 use Rattle.iddqd_store.proofs.BagLemmas.Exchanges.{split}
@@ -52,6 +52,19 @@ module _ {T S : Type 0} (m : Map T S) (ix : ℕ) (f : T → T) where
           All-cons (IsLive (map_with m ix f).slots) other rest
           (rw (written_elsewhere other apart.0) (All-head (IsLive m.slots) other rest live))
           (each rest apart.1 (All-tail (IsLive m.slots) other rest live))
+
+-- and so does every slot that was live
+module _ {T : Type 0} (f : T → T) where
+  stays : (slots : List (Option T)) (ix at : ℕ) → IsLive slots at → IsLive (slice_set slots ix (of_item f (get slots ix))) at
+  stays [] ix at live = live
+  stays (None ∷ slots) zero at live = live
+  stays (Some x ∷ slots) zero zero live = live
+  stays (Some x ∷ slots) zero (suc at) live = live
+  stays (o ∷ slots) (suc ix) zero live = live
+  stays (o ∷ slots) (suc ix) (suc at) live = stays slots ix at live
+
+  pub stays_live : {S : Type 0} (m : Map T S) (ix at : ℕ) → IsLive m.slots at → IsLive (map_with m ix f).slots at
+  stays_live m ix at live = stays m.slots ix at live
 
 module _ {F T D : Type 0} (step : F → T → D → F → Type 0) (put : T → D → T) (ranks : Ranks T) where
   -- what is stored depends on the bag up to its order

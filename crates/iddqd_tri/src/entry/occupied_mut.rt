@@ -150,6 +150,7 @@ impl<'a, T: TriHashItemMut, S: BuildHasher> OccupiedEntryMut<'a, T, S> {
         ensures stores { Stores (CalledAt F.FnMut) T.put (ranks T.TriHashItem T.K1.eq T.K2.eq T.K3.eq) f
             (held self.old) (bag self.old.map.now) (bag self.new.map.now) }
         ensures places { HoldsSame self.old self.new }
+        ensures holds { Holds self.new }
         ensures capacity { self.new.map.now.capacity ≡ self.old.map.now.capacity }
         ensures builder { self.new.map.now.builder ≡ self.old.map.now.builder }
     {

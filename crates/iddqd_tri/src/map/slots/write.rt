@@ -1,5 +1,5 @@
 //! Writing the item of a slot.
-ghost use Rattle.std.specs.Prelude.{◌≡◌, [], ◌∷◌, true, All, length, nat_eq, Some, IsPermutation, IfSome, IfNone, is_some, ◌+◌};
+ghost use Rattle.std.specs.Prelude.{◌≡◌, [], ◌∷◌, true, ℕ, All, length, nat_eq, Some, IsPermutation, IfSome, IfNone, is_some, ◌+◌};
 ghost use Rattle.std.specs.Borrow.{sem};
 ghost use Rattle.std.specs.Fn.{CalledAt};
 ghost use Rattle.std.specs.List.{IsDistinct};
@@ -125,6 +125,7 @@ impl<T: TriHashItemMut, S: BuildHasher> TriHashMap<T, S> {
             (items_at self.old.slots found.now) (bag self.old) (bag self.new) }
         ensures capacity { self.new.capacity ≡ self.old.capacity }
         ensures builder { self.new.builder ≡ self.old.builder }
+        ensures live { (at : ℕ) → IsLive self.old.slots at → IsLive self.new.slots at }
     {
         for at in 0..found.len() {
             if let Some(ix) = found.get(at) {
@@ -151,6 +152,7 @@ impl<T: TriHashItemMut, S: BuildHasher> TriHashMap<T, S> {
             (held_at self.old.slots (slot1 ∷ slot2 ∷ slot3 ∷ [])) (bag self.old) (bag self.new) }
         ensures capacity { self.new.capacity ≡ self.old.capacity }
         ensures builder { self.new.builder ≡ self.old.builder }
+        ensures live { (at : ℕ) → IsLive self.old.slots at → IsLive self.new.slots at }
     {
         self.store_all(&each_once(slot1, slot2, slot3), f);
     }

@@ -10,7 +10,7 @@ use Rattle.iddqd_store.specs.Map.{Map, bag}
 use Rattle.iddqd_store.specs.Slots.{IsLive}
 use Rattle.iddqd_store.specs.Slots.Found.{items_at}
 use Rattle.iddqd_store.proofs.BagLemmas.Over.{drop-found}
-use Rattle.iddqd_store.proofs.MapLemmas.Storing.{live_elsewhere, one_store}
+use Rattle.iddqd_store.proofs.MapLemmas.Storing.{live_elsewhere, one_store, stays_live}
 use Rattle.iddqd_bi.specs.Keys.{ranks}
 use Rattle.iddqd_bi.proofs.map.BiHashMap.store_all.Goals as goal
 use Rattle.iddqd_bi.proofs.map.BiHashMap.store_all.Goals.{in-Some, in_default}
@@ -48,6 +48,7 @@ loop-at-preserved g c =
                 so_far.completes new
                 (subst (λ l. Stores (CalledAt g.F.FnMut) put by c.loop-at.f (items_at slots l) (bag c.loop-at.self) new) (sym front)
                 (one_store (CalledAt g.F.FnMut) put by c.loop-at.f w.store_at.new.f c.loop-at.self mid new ix rest stored.0 stored.1 apart stored.2 stored.3 stored.4 stored.5 (rw (w.self-is, w.f-is) at stores)));
+            live_still = λ k there. rw w.self-is (subst (λ (m : Map g.row.T.Denot g.row.S.Denot). IsLive m.slots k) (sym stored.4) (stays_live written c.loop-at.self ix k (so_far.live_still k there)));
             capacity = rw w.self-is (ap (λ (m : Map g.row.T.Denot g.row.S.Denot). m.capacity) stored.4 ∙ so_far.capacity);
             builder = rw w.self-is (ap (λ (m : Map g.row.T.Denot g.row.S.Denot). m.builder) stored.4 ∙ so_far.builder);
           }

@@ -1,4 +1,4 @@
-use Rattle.std.proofs.Common.{◌≡◌, List, drop}
+use Rattle.std.proofs.Common.{◌≡◌, ℕ, List, drop}
 use Rattle.std.specs.Prelude.{All, nat_eq}
 use Rattle.std.specs.Fn.{CalledAt}
 use Rattle.std.specs.List.{IsDistinct}
@@ -18,6 +18,7 @@ invariant-loop-at g l =
       apart : IsDistinct nat_eq (drop l.at l.found);
       callable : goal.F-IsAlwaysCallable g l.f;
       completes : (new : List g.row.T.Denot) → stores l.f (items_at l.self.slots (drop l.at l.found)) (bag l.self) new → stores l.fn.f (items_at l.fn.self.slots l.found) (bag l.fn.self) new;
+      live_still : (at : ℕ) → IsLive l.fn.self.slots at → IsLive l.self.slots at;
       capacity : l.self.capacity ≡ l.fn.self.capacity;
       builder : l.self.builder ≡ l.fn.self.builder;
     }
