@@ -113,12 +113,12 @@ where
     }
 
     /// Writes the data of the item with this first key.
-    pub(super) fn set1<'m>(&mut self, key: &T::K1, new_data: T::Data) -> BiReply<'m, T>
-        ensures step { Sets (ranks T.BiHashItem T.K1.eq T.K2.eq) T.put (has1 T.BiHashItem T.K1.eq key.now)
+    pub(super) fn set1<'m>(&mut self, key1: &T::K1, new_data: T::Data) -> BiReply<'m, T>
+        ensures step { Sets (ranks T.BiHashItem T.K1.eq T.K2.eq) T.put (has1 T.BiHashItem T.K1.eq key1.now)
             (state_of self.old) new_data (value_of result) (state_of self.new) }
         ensures builder { self.new.builder ≡ self.old.builder }
     {
-        match self.get1_mut(key) {
+        match self.get1_mut(key1) {
             Some(mut r) => {
                 *r.data_mut() = new_data;
                 return BiReply::Done;
@@ -128,12 +128,12 @@ where
     }
 
     /// Writes the data of the item with this second key.
-    pub(super) fn set2<'m>(&mut self, key: &T::K2, new_data: T::Data) -> BiReply<'m, T>
-        ensures step { Sets (ranks T.BiHashItem T.K1.eq T.K2.eq) T.put (has2 T.BiHashItem T.K2.eq key.now)
+    pub(super) fn set2<'m>(&mut self, key2: &T::K2, new_data: T::Data) -> BiReply<'m, T>
+        ensures step { Sets (ranks T.BiHashItem T.K1.eq T.K2.eq) T.put (has2 T.BiHashItem T.K2.eq key2.now)
             (state_of self.old) new_data (value_of result) (state_of self.new) }
         ensures builder { self.new.builder ≡ self.old.builder }
     {
-        match self.get2_mut(key) {
+        match self.get2_mut(key2) {
             Some(mut r) => {
                 *r.data_mut() = new_data;
                 return BiReply::Done;

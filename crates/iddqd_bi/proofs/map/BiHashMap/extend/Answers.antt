@@ -27,3 +27,14 @@ loop-item-preserved g c =
           (omega (arith, before.0, nearer, same, length-overwritten by (bag c.loop-item.self) (bag c.insert_overwrite.new.self) c.in-Some.item in_place), same ∙ before.1);
       builder = put.builder ∙ so_far.builder;
     }
+
+-- answered here, so that a wrong body is refused here, and no second search for it follows
+pub loop-item-init : goal.loop-item-init
+loop-item-init g c = record {
+  callable = search rules;
+  ending = search rules;
+  extends = search rules;
+  no_less_room = search rules;
+  fits = search rules;
+  builder = search rules;
+}

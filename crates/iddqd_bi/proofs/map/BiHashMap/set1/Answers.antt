@@ -6,5 +6,5 @@ use Rattle.iddqd_bi.proofs.map.BiHashMap.set1.Goals as goal
 
 pub returns-in-Some-clause-step : goal.returns-in-Some-clause-step
 returns-in-Some-clause-step g c =
-    sets_found (ranks g.T.BiHashItem g.T.K1.PartialEq.eq g.T.K2.PartialEq.eq) g.T.BiHashItemMut.put (has1 g.T.BiHashItem g.T.K1.PartialEq.eq c.args.key.now)
+    sets_found (ranks g.T.BiHashItem g.T.K1.PartialEq.eq g.T.K2.PartialEq.eq) g.T.BiHashItemMut.put (has1 g.T.BiHashItem g.T.K1.PartialEq.eq c.args.key1.now)
     c.args.self.now _ _ c.args.new_data (ref_item c.in-Some.r) c.in-Some.ensures.unchanged c.in-Some.r.live (search rules) (search (rules, c.data_mut.ensures.swaps c.args.new_data)) (search rules)

@@ -6,5 +6,5 @@ use Rattle.iddqd_tri.proofs.map.TriHashMap.set2.Goals as goal
 
 pub returns-in-Some-clause-step : goal.returns-in-Some-clause-step
 returns-in-Some-clause-step g c =
-    sets_found (ranks g.T.TriHashItem g.T.K1.PartialEq.eq g.T.K2.PartialEq.eq g.T.K3.PartialEq.eq) g.T.TriHashItemMut.put (has2 g.T.TriHashItem g.T.K2.PartialEq.eq c.args.key.now)
+    sets_found (ranks g.T.TriHashItem g.T.K1.PartialEq.eq g.T.K2.PartialEq.eq g.T.K3.PartialEq.eq) g.T.TriHashItemMut.put (has2 g.T.TriHashItem g.T.K2.PartialEq.eq c.args.key2.now)
     c.args.self.now _ _ c.args.new_data (ref_item c.in-Some.r) c.in-Some.ensures.unchanged c.in-Some.r.live (search rules) (search (rules, c.data_mut.ensures.swaps c.args.new_data)) (search rules)
