@@ -4,4 +4,5 @@ pub mod Clone
 pub mod Entries
 pub mod Found
 pub mod Here
+pub mod Kept
 pub mod Next

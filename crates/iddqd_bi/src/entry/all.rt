@@ -67,6 +67,7 @@ impl<'a, T: BiHashItemMut, S: BuildHasher, Q: Keys<T::K1, T::K2>> Entry<'a, T, S
         ensures capacity { (entry_map result).capacity ≡ (entry_map self.entry).capacity }
         ensures builder { (entry_map result).builder ≡ (entry_map self.entry).builder }
         ensures places { IsSameEntry self.entry result }
+        ensures found { IsFound result }
     {
         match self {
             Entry::Vacant(v) => Entry::Vacant(v),

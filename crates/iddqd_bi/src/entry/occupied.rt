@@ -206,6 +206,7 @@ impl<'a, T: BiHashItemMut, S: BuildHasher> OccupiedEntry<'a, T, S> {
         ensures capacity { self.new.map.now.capacity ≡ self.old.map.now.capacity }
         ensures builder { self.new.map.now.builder ≡ self.old.map.now.builder }
         ensures places { FindsSame self.old self.new }
+        ensures found { HasFound T.BiHashItem T.K1.eq T.K2.eq self.new }
     {
         let slot1 = self.slot1;
         let slot2 = self.slot2;

@@ -28,7 +28,7 @@ module _ {T : Type 0} where
   pub clash-keys : (ranks : Ranks T) (tests : List (T → Bool)) (x : T) → AreKeyTests ranks tests → AllByRecursion (λ test. test x ≡ true) tests → (bag : List T) → listing tests bag ≡ [] → clash ranks bag x ≡ []
   clash-keys ranks tests x keys passes bag none = clash-empty ranks bag x (order-keys ranks tests x keys passes bag ∙ none)
 
-  only_one : (l : List T) (x : T) → length l ≤ 1 → Contains l x → l ≡ x ∷ []
+  pub only_one : (l : List T) (x : T) → length l ≤ 1 → Contains l x → l ≡ x ∷ []
   only_one [] x short found = absurd (omega (arith, found.1))
   only_one (y ∷ []) x short found = elim (Contains-cons_cases y x [] found) [
     | inl same ↦ ap (λ z. z ∷ []) same

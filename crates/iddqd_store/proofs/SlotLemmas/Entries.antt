@@ -1,18 +1,18 @@
 -- What the slots that searches found hold is what their tests find in the bag.
 use Rattle.std.specs.Prelude.{◌≡◌, ◌≢◌, ℕ, Bool, true, false, cond, List, [], ◌∷◌, ◌++◌, length, filter, fold, Contains, Option, Some, None, is_some, nat_eq, if◌then◌else◌}
+use Rattle.std.specs.Cmp.{IsEquivalence}
 use Rattle.std.specs.List.{AllByRecursion, IsDistinct, list_all, list_any}
 use Rattle.std.specs.Option.{option_to_list, option_and_then, IfSome}
 use Rattle.std.proofs.Common.{IsSome, inl, inr, refl, sym, ap, subst, ◌∙◌, arith, append-nil, append_assoc}
 use Rattle.std.proofs.lemmas.Bool.{false≢true}
 use Rattle.std.proofs.lemmas.Bool.Decides.{nat_tests}
-use Rattle.iddqd_store.specs.Bag.{Ranks, AreLawful, IsOnly, listing, all_of, every_of, entry, entry_of, is_unique}
-use Rattle.iddqd_store.specs.Rank.Index.{IsIndexed}
+use Rattle.iddqd_store.specs.Bag.{IsOnly, listing, all_of, every_of, entry, entry_of, is_unique}
 use Rattle.iddqd_store.specs.Slots.{get, IsLive, live_items}
 use Rattle.iddqd_store.specs.Slots.Found.{items_at, lists, with_found, each_once, is_at, found_by_all, head_of, FoundAt, AreFound, held_at, entry_at}
 use Rattle.iddqd_store.proofs.BagLemmas.Entries.{all_of-next}
 use Rattle.iddqd_store.proofs.BagLemmas.Exchanges.{split}
 use Rattle.iddqd_store.proofs.BagLemmas.Over.{IsDistinct-with_found}
-use Rattle.iddqd_store.proofs.BagLemmas.Sound.{each_passes, Contains-filter, IsSound-rank, IsDistinct-nil}
+use Rattle.iddqd_store.proofs.BagLemmas.Sound.{each_passes, Contains-filter, IsDistinct-nil}
 use Rattle.iddqd_store.proofs.BagLemmas.Unique.{is_some-only}
 use Rattle.iddqd_store.proofs.RankLemmas.Index.{Contains-cons_cases, item_at, same_slot}
 use Rattle.iddqd_store.proofs.SlotLemmas.Found.{listing_found}
@@ -28,10 +28,7 @@ IsDistinct-each_once found = on [] found (IsDistinct-nil nat_eq)
     on ixs [] apart = apart
     on ixs (at ∷ found) apart = on (with_found ixs at) found (IsDistinct-with_found ixs at apart)
 
-module _ {T : Type 0} {agree : T → T → Bool} {ranks : Ranks T} {hashes : List (T → ℕ)} {slots : List (Option T)} {tables : List (List (ℕ × ℕ))} (indexed : IsIndexed (agree ∷ ranks) hashes slots tables) (laws : AreLawful (agree ∷ ranks)) where
-  apart : IsDistinct agree (live_items slots)
-  apart = (IsSound-rank agree ranks (live_items slots) indexed.sound).0
-
+module _ {T : Type 0} {agree : T → T → Bool} (laws : IsEquivalence agree) (slots : List (Option T)) (apart : IsDistinct agree (live_items slots)) where
   -- the slots found have the members that the tests list
   pub found_listing : (tests : List (T → Bool)) (found : List (Option ℕ)) → AreFound tests slots found → held_at slots found ≡ listing tests (live_items slots)
   found_listing tests found are = on [] [] tests found refl are
@@ -41,7 +38,7 @@ module _ {T : Type 0} {agree : T → T → Bool} {ranks : Ranks T} {hashes : Lis
       on done ixs [] (at ∷ found) so_far are = absurd are
       on done ixs (test ∷ tests) [] so_far are = absurd are
       on done ixs (test ∷ tests) (at ∷ found) so_far are =
-          let one_more = listing_found agree slots done test ixs at laws.0.refl laws.0.symm apart so_far are.0.live are.0.only in
+          let one_more = listing_found agree slots done test ixs at laws.refl laws.symm apart so_far are.0.live are.0.only in
           on (done ++ test ∷ []) (with_found ixs at) tests found one_more are.1
           ∙ ap (λ l. listing l (live_items slots)) (append_assoc done (test ∷ []) tests)
 
@@ -67,7 +64,7 @@ module _ {T : Type 0} {agree : T → T → Bool} {ranks : Ranks T} {hashes : Lis
           let found_x = subst (λ l. Contains l x) (sym only) (Contains-filter test (live_items slots) x yes (item_at slots ix x here)) in
           elim (Contains-cons_cases y x [] found_x) [
             | inl same ↦
-                let one : ix ≡ j = same_slot agree slots ix j x y apart laws.0.symm here there (ap (agree x) same ∙ laws.0.refl x) in
+                let one : ix ≡ j = same_slot agree slots ix j x y apart laws.symm here there (ap (agree x) same ∙ laws.refl x) in
                 absurd (false≢true (sym differs ∙ ap (nat_eq ix) (sym one) ∙ itself ix))
             | inr further ↦ absurd (omega (arith, further.1))
           ])

@@ -67,6 +67,7 @@ impl<'a, T: TriHashItemMut, S: BuildHasher, Q: Keys<T::K1, T::K2, T::K3>> Entry<
         ensures capacity { (entry_map result).capacity ≡ (entry_map self.entry).capacity }
         ensures builder { (entry_map result).builder ≡ (entry_map self.entry).builder }
         ensures places { IsSameEntry self.entry result }
+        ensures found { IsFound result }
     {
         match self {
             Entry::Vacant(v) => Entry::Vacant(v),

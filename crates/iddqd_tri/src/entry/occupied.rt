@@ -254,6 +254,7 @@ impl<'a, T: TriHashItemMut, S: BuildHasher> OccupiedEntry<'a, T, S> {
         ensures capacity { self.new.map.now.capacity ≡ self.old.map.now.capacity }
         ensures builder { self.new.map.now.builder ≡ self.old.map.now.builder }
         ensures places { FindsSame self.old self.new }
+        ensures found { HasFound T.TriHashItem T.K1.eq T.K2.eq T.K3.eq self.new }
     {
         let slot1 = self.slot1;
         let slot2 = self.slot2;

@@ -4,13 +4,14 @@ ghost use Rattle.std.specs.Borrow.{sem};
 ghost use Rattle.std.specs.Fn.{CalledAt};
 ghost use Rattle.std.specs.List.{IsDistinct};
 ghost use Rattle.std.specs.Option.{option_and_then};
-ghost use Rattle.iddqd_store.specs.Bag.{swap};
+ghost use Rattle.iddqd_store.specs.Bag.{IsSound, agrees, swap};
 ghost use Rattle.iddqd_store.specs.Bag.Storing.{Stores};
 ghost use Rattle.iddqd_store.specs.Map.{bag};
 ghost use Rattle.iddqd_store.specs.Map.Walk.{IsNextSlot, Passes, to_come};
 ghost use Rattle.iddqd_store.specs.Map.Written.{map_with};
 ghost use Rattle.iddqd_store.specs.Slots.{get, IsLive};
 ghost use Rattle.iddqd_store.specs.Slots.Found.{held_at, items_at};
+ghost use Rattle.iddqd_store.specs.Slots.Kept.{KeepsKeys};
 ghost use Rattle.iddqd_bi.specs.Keys.{ranks};
 
 use super::super::BiHashMap;
@@ -122,6 +123,7 @@ impl<T: BiHashItemMut, S: BuildHasher> BiHashMap<T, S> {
         requires callable { F.IsAlwaysCallable f }
         ensures stores { Stores (CalledAt F.FnMut) T.put (ranks T.BiHashItem T.K1.eq T.K2.eq) f
             (items_at self.old.slots found.now) (bag self.old) (bag self.new) }
+        ensures kept { KeepsKeys (agrees (ranks T.BiHashItem T.K1.eq T.K2.eq)) self.old.slots self.new.slots }
         ensures capacity { self.new.capacity ≡ self.old.capacity }
         ensures builder { self.new.builder ≡ self.old.builder }
         ensures live { (at : ℕ) → IsLive self.old.slots at → IsLive self.new.slots at }
@@ -147,10 +149,13 @@ impl<T: BiHashItemMut, S: BuildHasher> BiHashMap<T, S> {
         requires callable { F.IsAlwaysCallable f }
         ensures stores { Stores (CalledAt F.FnMut) T.put (ranks T.BiHashItem T.K1.eq T.K2.eq) f
             (held_at self.old.slots (slot1 ∷ slot2 ∷ [])) (bag self.old) (bag self.new) }
+        ensures kept { KeepsKeys (agrees (ranks T.BiHashItem T.K1.eq T.K2.eq)) self.old.slots self.new.slots }
+        ensures sound { IsSound (ranks T.BiHashItem T.K1.eq T.K2.eq) (bag self.new) }
         ensures capacity { self.new.capacity ≡ self.old.capacity }
         ensures builder { self.new.builder ≡ self.old.builder }
         ensures live { (at : ℕ) → IsLive self.old.slots at → IsLive self.new.slots at }
     {
         self.store_all(&each_once(slot1, slot2), f);
+        let _ = &self.items;
     }
 }

@@ -1,17 +1,21 @@
-use Rattle.std.proofs.Common.{◌+◌, sym, ap, subst, ◌∙◌, arith, drop}
+use Rattle.std.proofs.Common.{◌+◌, refl, sym, ap, subst, ◌∙◌, arith, drop}
 use Rattle.std.specs.Prelude.{All, nat_eq}
 use Rattle.std.specs.Fn.{CalledAt}
 use Rattle.std.specs.List.{IsDistinct}
 use Rattle.std.proofs.lemmas.List.Elements.{All-head, All-tail}
 use Rattle.std.proofs.lemmas.Map.Keys.{IsDistinct-tail}
 use Rattle.std.proofs.lemmas.Option.{slice_get-get_or}
+use Rattle.iddqd_store.specs.Bag.{agrees}
 use Rattle.iddqd_store.specs.Bag.Storing.{Stores}
 use Rattle.iddqd_store.specs.Map.{Map, bag}
 use Rattle.iddqd_store.specs.Slots.{IsLive}
 use Rattle.iddqd_store.specs.Slots.Found.{items_at}
+use Rattle.iddqd_store.specs.Slots.Kept.{KeepsKeys}
 use Rattle.iddqd_store.proofs.BagLemmas.Over.{drop-found}
 use Rattle.iddqd_store.proofs.MapLemmas.Storing.{live_elsewhere, one_store, stays_live}
+use Rattle.iddqd_store.proofs.SlotLemmas.Kept.{kept-same, kept-set}
 use Rattle.iddqd_bi.specs.Keys.{ranks}
+use Rattle.iddqd_bi.proofs.MapLemmas.{AreLawful-ranks, agrees-keys}
 use Rattle.iddqd_bi.proofs.map.BiHashMap.store_all.Goals as goal
 use Rattle.iddqd_bi.proofs.map.BiHashMap.store_all.Goals.{in-Some, in_default}
 
@@ -48,9 +52,24 @@ loop-at-preserved g c =
                 so_far.completes new
                 (subst (λ l. Stores (CalledAt g.F.FnMut) put by c.loop-at.f (items_at slots l) (bag c.loop-at.self) new) (sym front)
                 (one_store (CalledAt g.F.FnMut) put by c.loop-at.f w.store_at.new.f c.loop-at.self mid new ix rest stored.0 stored.1 apart stored.2 stored.3 stored.4 stored.5 (rw (w.self-is, w.f-is) at stores)));
+            kept = rw w.self-is (subst (λ (m : Map g.row.T.Denot g.row.S.Denot). KeepsKeys (agrees by) c.args.self.now.slots m.slots) (sym stored.4)
+                (rw stored.2 (kept-set by (AreLawful-ranks g.T.BiHashItem g.met.T.K1.Eq.laws g.met.T.K2.Eq.laws) c.args.self.now.slots slots ix stored.0 (written stored.0) so_far.kept stored.2
+                (agrees-keys g.T.BiHashItem g.T.K1.PartialEq.eq g.T.K2.PartialEq.eq stored.0 (written stored.0) (g.met.T.K1.Eq.laws.symm _ _ ∙ g.met.T.BiHashItemMut.keeps_key1 stored.0 stored.1) (g.met.T.K2.Eq.laws.symm _ _ ∙ g.met.T.BiHashItemMut.keeps_key2 stored.0 stored.1)))));
             live_still = λ k there. rw w.self-is (subst (λ (m : Map g.row.T.Denot g.row.S.Denot). IsLive m.slots k) (sym stored.4) (stays_live written c.loop-at.self ix k (so_far.live_still k there)));
             capacity = rw w.self-is (ap (λ (m : Map g.row.T.Denot g.row.S.Denot). m.capacity) stored.4 ∙ so_far.capacity);
             builder = rw w.self-is (ap (λ (m : Map g.row.T.Denot g.row.S.Denot). m.builder) stored.4 ∙ so_far.builder);
           }
       | in_default w ↦ absurd (let there = slice_get-get_or found at 0 (omega (arith, c.loop-at-test.true, c.len-at-end.ensures.value)) in let none = w.in_default.ensures in cc (there, none))
     ]
+
+pub loop-at-init : goal.loop-at-init
+loop-at-init g c = record {
+  live = c.requires.live;
+  apart = c.requires.apart;
+  callable = c.requires.callable;
+  completes = λ new stores. stores;
+  kept = kept-same (ranks g.T.BiHashItem g.T.K1.PartialEq.eq g.T.K2.PartialEq.eq) (AreLawful-ranks g.T.BiHashItem g.met.T.K1.Eq.laws g.met.T.K2.Eq.laws) c.args.self.now.slots;
+  live_still = λ at there. there;
+  capacity = refl;
+  builder = refl;
+}

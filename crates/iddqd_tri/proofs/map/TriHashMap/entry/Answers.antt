@@ -10,31 +10,34 @@ use Rattle.iddqd_tri.proofs.map.TriHashMap.entry.Goals as goal
 pub invariant_of-result : goal.invariant_of-result
 invariant_of-result g c =
     let tests = key_tests g.T.TriHashItem g.T.K1.PartialEq.eq g.T.K2.PartialEq.eq g.T.K3.PartialEq.eq c.args.key1.now c.args.key2.now c.args.key3.now in
-    let laws = AreLawful-ranks g.T.TriHashItem g.met.T.K1.Eq.laws g.met.T.K2.Eq.laws g.met.T.K3.Eq.laws in
+    let laws = (AreLawful-ranks g.T.TriHashItem g.met.T.K1.Eq.laws g.met.T.K2.Eq.laws g.met.T.K3.Eq.laws).0 in
+    let slots = c.args.self.now.slots in
     let found : List (Option ℕ) = c.slot_of-slot1.result ∷ c.slot_of-slot2.result ∷ c.slot_of-slot3.result ∷ [] in
-    let are : AreFound tests c.args.self.now.slots found = (rw c.by_key1.ensures.slots at c.slot_of-slot1.ensures, (rw c.by_key2.ensures.slots at c.slot_of-slot2.ensures, (rw c.by_key3.ensures.slots at c.slot_of-slot3.ensures, tt))) in
+    let are : AreFound tests slots found = (rw c.by_key1.ensures.slots at c.slot_of-slot1.ensures, (rw c.by_key2.ensures.slots at c.slot_of-slot2.ensures, (rw c.by_key3.ensures.slots at c.slot_of-slot3.ensures, tt))) in
     let none : list_any is_some found ≡ false = search rules in
-    record { vacant = rw (← c.self.view_is) (sym (found_listing c.self.invariant laws tests found (rw (← c.self.view_is) at are)) ∙ held_none c.self.inside.items.slots found none) }
+    record { vacant = sym (found_listing laws slots c.by_key1.ensures.apart tests found are) ∙ held_none slots found none }
 
 pub returns-else-none_of-clause-value : goal.returns-else-none_of-clause-value
 returns-else-none_of-clause-value g c =
     let tests = key_tests g.T.TriHashItem g.T.K1.PartialEq.eq g.T.K2.PartialEq.eq g.T.K3.PartialEq.eq c.args.key1.now c.args.key2.now c.args.key3.now in
-    let laws = AreLawful-ranks g.T.TriHashItem g.met.T.K1.Eq.laws g.met.T.K2.Eq.laws g.met.T.K3.Eq.laws in
+    let laws = (AreLawful-ranks g.T.TriHashItem g.met.T.K1.Eq.laws g.met.T.K2.Eq.laws g.met.T.K3.Eq.laws).0 in
+    let slots = c.args.self.now.slots in
     let found : List (Option ℕ) = c.slot_of-slot1.result ∷ c.slot_of-slot2.result ∷ c.slot_of-slot3.result ∷ [] in
-    let are : AreFound tests c.args.self.now.slots found = (rw c.by_key1.ensures.slots at c.slot_of-slot1.ensures, (rw c.by_key2.ensures.slots at c.slot_of-slot2.ensures, (rw c.by_key3.ensures.slots at c.slot_of-slot3.ensures, tt))) in
-    rw (← c.self.view_is) (found_entry c.self.invariant laws tests c.slot_of-slot1.result (c.slot_of-slot2.result ∷ c.slot_of-slot3.result ∷ []) (rw (← c.self.view_is) at are))
+    let are : AreFound tests slots found = (rw c.by_key1.ensures.slots at c.slot_of-slot1.ensures, (rw c.by_key2.ensures.slots at c.slot_of-slot2.ensures, (rw c.by_key3.ensures.slots at c.slot_of-slot3.ensures, tt))) in
+    found_entry laws slots c.by_key1.ensures.apart tests c.slot_of-slot1.result (c.slot_of-slot2.result ∷ c.slot_of-slot3.result ∷ []) are
 
 pub returns-else-none_of-clause-found : goal.returns-else-none_of-clause-found
 returns-else-none_of-clause-found g c =
     let tests = key_tests g.T.TriHashItem g.T.K1.PartialEq.eq g.T.K2.PartialEq.eq g.T.K3.PartialEq.eq c.args.key1.now c.args.key2.now c.args.key3.now in
-    let laws = AreLawful-ranks g.T.TriHashItem g.met.T.K1.Eq.laws g.met.T.K2.Eq.laws g.met.T.K3.Eq.laws in
+    let laws = (AreLawful-ranks g.T.TriHashItem g.met.T.K1.Eq.laws g.met.T.K2.Eq.laws g.met.T.K3.Eq.laws).0 in
+    let slots = c.args.self.now.slots in
     let found : List (Option ℕ) = c.slot_of-slot1.result ∷ c.slot_of-slot2.result ∷ c.slot_of-slot3.result ∷ [] in
-    let are : AreFound tests c.args.self.now.slots found = (rw c.by_key1.ensures.slots at c.slot_of-slot1.ensures, (rw c.by_key2.ensures.slots at c.slot_of-slot2.ensures, (rw c.by_key3.ensures.slots at c.slot_of-slot3.ensures, tt))) in
-    let inside = rw (← c.self.view_is) at are in
+    let are : AreFound tests slots found = (rw c.by_key1.ensures.slots at c.slot_of-slot1.ensures, (rw c.by_key2.ensures.slots at c.slot_of-slot2.ensures, (rw c.by_key3.ensures.slots at c.slot_of-slot3.ensures, tt))) in
     let some : list_any is_some found ≡ true = search rules in
-    rw (← c.self.view_is) record {
-      found = inside;
-      value = found_entry c.self.invariant laws tests c.slot_of-slot1.result (c.slot_of-slot2.result ∷ c.slot_of-slot3.result ∷ []) inside;
-      listed = found_listing c.self.invariant laws tests found inside;
-      some = λ none. held_some c.self.inside.items.slots tests found inside some (found_listing c.self.invariant laws tests found inside ∙ none);
+    let listed = found_listing laws slots c.by_key1.ensures.apart tests found are in
+    record {
+      found = are;
+      value = found_entry laws slots c.by_key1.ensures.apart tests c.slot_of-slot1.result (c.slot_of-slot2.result ∷ c.slot_of-slot3.result ∷ []) are;
+      listed = listed;
+      some = λ none. held_some slots tests found are some (listed ∙ none);
     }
