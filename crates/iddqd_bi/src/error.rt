@@ -1,9 +1,10 @@
 //! Why an insert is refused.
-ghost use Rattle.std.specs.Prelude.{◌≡◌, map};
+ghost use Rattle.std.specs.Prelude.{◌≡◌, ◌<◌, IfSome, Some, map};
 ghost use Rattle.iddqd_store.specs.Map.{bag};
-ghost use Rattle.iddqd_store.specs.Bag.{order};
+ghost use Rattle.iddqd_store.specs.Bag.{differ, order};
 ghost use Rattle.iddqd_store.specs.Slots.Found.{items_at};
-ghost use Rattle.iddqd_bi.specs.Keys.{ranks};
+ghost use Rattle.iddqd_bi.specs.Keys.{key_tests, ranks};
+ghost use Rattle.iddqd_bi.specs.Mismatch.{error_item, error_rank, mismatch_item, mismatch_rank};
 
 use crate::item::BiHashItem;
 use crate::map::BiHashMap;
@@ -53,6 +54,47 @@ pub enum EntryError<T> {
     Key2(T),
     /// Both keys are the entry's, but the map is full and there was no memory to grow.
     Memory(T),
+}
+
+/// The lowest rank, counted from 0, at which the item has not these keys. It compares the first keys, and those of the next
+/// rank where those are equal.
+pub(crate) fn differ<T: BiHashItem>(item: &T, key1: &T::K1, key2: &T::K2) -> Option<usize>
+    ensures rank { result ≡ differ (key_tests T.BiHashItem T.K1.eq T.K2.eq key1.now key2.now) item.now }
+    ensures below { IfSome result (λ rank. rank < 2) }
+{
+    if *key1 != *item.key1() {
+        return Some(0);
+    }
+    if *key2 != *item.key2() {
+        return Some(1);
+    }
+    None
+}
+
+impl<T> KeyMismatch<T> {
+    /// The refusal of an item whose key of this rank is not the one that is there.
+    pub(crate) fn at(rank: usize, item: T) -> Self
+        ensures item { mismatch_item result ≡ item }
+        ensures rank { rank < 2 → mismatch_rank result ≡ rank }
+    {
+        match rank {
+            0 => KeyMismatch::Key1(item),
+            _ => KeyMismatch::Key2(item),
+        }
+    }
+}
+
+impl<T> EntryError<T> {
+    /// The refusal of an item whose key of this rank is not the entry's.
+    pub(crate) fn at(rank: usize, item: T) -> Self
+        ensures item { error_item result ≡ item }
+        ensures rank { rank < 2 → error_rank result ≡ Some rank }
+    {
+        match rank {
+            0 => EntryError::Key1(item),
+            _ => EntryError::Key2(item),
+        }
+    }
 }
 
 /// Why no map was built of some items.

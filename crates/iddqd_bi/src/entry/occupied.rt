@@ -12,7 +12,7 @@ ghost use Rattle.iddqd_bi.specs.Mismatch.{mismatch_item, mismatch_rank};
 ghost use Rattle.iddqd_bi.specs.OccupiedRefs.{is_one, seen1, seen2};
 
 use super::{OccupiedEntry, OccupiedEntryMut, OccupiedEntryRef};
-use crate::error::KeyMismatch;
+use crate::error::{KeyMismatch, differ};
 use crate::item::{BiHashItem, BiHashItemMut};
 use crate::map::BiHashMap;
 use crate::map::slots::entry::{each_once, one_of};
@@ -132,11 +132,8 @@ impl<'a, T: BiHashItem, S: BuildHasher> OccupiedEntry<'a, T, S> {
             differ (sought T.BiHashItem T.K1.eq T.K2.eq self.old) item ≡ Some (mismatch_rank e)) }
         ensures unchanged { OnErr result (self.new ≡ self.old) }
     {
-        if *self.key1 != *item.key1() {
-            return Err(KeyMismatch::Key1(item));
-        }
-        if *self.key2 != *item.key2() {
-            return Err(KeyMismatch::Key2(item));
+        if let Some(rank) = differ(&item, self.key1, self.key2) {
+            return Err(KeyMismatch::at(rank, item));
         }
         let found = each_once(self.slot1, self.slot2);
         let hash1 = self.map.hash_of1(&item);

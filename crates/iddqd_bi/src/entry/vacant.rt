@@ -9,7 +9,7 @@ ghost use Rattle.iddqd_bi.specs.Mismatch.{error_item, error_rank, OnNoMemory};
 ghost use Rattle.iddqd_bi.specs.RefMuts.{ref_lender, ref_map, ref_item};
 
 use super::{KeyPair, Keys, OccupiedEntry, OccupiedEntryMut, VacantEntry};
-use crate::error::EntryError;
+use crate::error::{EntryError, differ};
 use crate::item::BiHashItem;
 use crate::ref_mut::RefMut;
 use std::hash::{BuildHasher, Hash};
@@ -37,11 +37,8 @@ impl<'a, T: BiHashItem, S: BuildHasher, Q: Keys<T::K1, T::K2>> VacantEntry<'a, T
             (IsFullFor (ranks T.BiHashItem T.K1.eq T.K2.eq) self.entry.map.now item)) }
     {
         let VacantEntry { map, keys } = self;
-        if *keys.first() != *item.key1() {
-            return Err(EntryError::Key1(item));
-        }
-        if *keys.second() != *item.key2() {
-            return Err(EntryError::Key2(item));
+        if let Some(rank) = differ(&item, keys.first(), keys.second()) {
+            return Err(EntryError::at(rank, item));
         }
         match map.put_free(item) {
             Ok(slot) => Ok(RefMut { map, slot }),
@@ -70,11 +67,8 @@ impl<'a, T: BiHashItem, S: BuildHasher, Q: Keys<T::K1, T::K2>> VacantEntry<'a, T
             (IsFullFor (ranks T.BiHashItem T.K1.eq T.K2.eq) self.entry.map.now item)) }
     {
         let VacantEntry { map, keys } = self;
-        if *keys.first() != *item.key1() {
-            return Err(EntryError::Key1(item));
-        }
-        if *keys.second() != *item.key2() {
-            return Err(EntryError::Key2(item));
+        if let Some(rank) = differ(&item, keys.first(), keys.second()) {
+            return Err(EntryError::at(rank, item));
         }
         match map.put_free(item) {
             Ok(slot) => Ok(OccupiedEntryMut {
@@ -107,11 +101,8 @@ impl<'a, T: BiHashItem, S: BuildHasher> VacantEntry<'a, T, S> {
     {
         let VacantEntry { map, keys } = self;
         let KeyPair { key1, key2 } = keys;
-        if *key1 != *item.key1() {
-            return Err(EntryError::Key1(item));
-        }
-        if *key2 != *item.key2() {
-            return Err(EntryError::Key2(item));
+        if let Some(rank) = differ(&item, key1, key2) {
+            return Err(EntryError::at(rank, item));
         }
         match map.put_free(item) {
             Ok(slot) => Ok(OccupiedEntry {

@@ -9,7 +9,7 @@ ghost use Rattle.iddqd_tri.specs.Mismatch.{error_item, error_rank, OnNoMemory};
 ghost use Rattle.iddqd_tri.specs.RefMuts.{ref_lender, ref_map, ref_item};
 
 use super::{KeyTriple, Keys, OccupiedEntry, OccupiedEntryMut, VacantEntry};
-use crate::error::EntryError;
+use crate::error::{EntryError, differ};
 use crate::item::TriHashItem;
 use crate::ref_mut::RefMut;
 use std::hash::{BuildHasher, Hash};
@@ -37,14 +37,8 @@ impl<'a, T: TriHashItem, S: BuildHasher, Q: Keys<T::K1, T::K2, T::K3>> VacantEnt
             (IsFullFor (ranks T.TriHashItem T.K1.eq T.K2.eq T.K3.eq) self.entry.map.now item)) }
     {
         let VacantEntry { map, keys } = self;
-        if *keys.first() != *item.key1() {
-            return Err(EntryError::Key1(item));
-        }
-        if *keys.second() != *item.key2() {
-            return Err(EntryError::Key2(item));
-        }
-        if *keys.third() != *item.key3() {
-            return Err(EntryError::Key3(item));
+        if let Some(rank) = differ(&item, keys.first(), keys.second(), keys.third()) {
+            return Err(EntryError::at(rank, item));
         }
         match map.put_free(item) {
             Ok(slot) => Ok(RefMut { map, slot }),
@@ -74,14 +68,8 @@ impl<'a, T: TriHashItem, S: BuildHasher, Q: Keys<T::K1, T::K2, T::K3>> VacantEnt
             (IsFullFor (ranks T.TriHashItem T.K1.eq T.K2.eq T.K3.eq) self.entry.map.now item)) }
     {
         let VacantEntry { map, keys } = self;
-        if *keys.first() != *item.key1() {
-            return Err(EntryError::Key1(item));
-        }
-        if *keys.second() != *item.key2() {
-            return Err(EntryError::Key2(item));
-        }
-        if *keys.third() != *item.key3() {
-            return Err(EntryError::Key3(item));
+        if let Some(rank) = differ(&item, keys.first(), keys.second(), keys.third()) {
+            return Err(EntryError::at(rank, item));
         }
         match map.put_free(item) {
             Ok(slot) => Ok(OccupiedEntryMut {
@@ -115,14 +103,8 @@ impl<'a, T: TriHashItem, S: BuildHasher> VacantEntry<'a, T, S> {
     {
         let VacantEntry { map, keys } = self;
         let KeyTriple { key1, key2, key3 } = keys;
-        if *key1 != *item.key1() {
-            return Err(EntryError::Key1(item));
-        }
-        if *key2 != *item.key2() {
-            return Err(EntryError::Key2(item));
-        }
-        if *key3 != *item.key3() {
-            return Err(EntryError::Key3(item));
+        if let Some(rank) = differ(&item, key1, key2, key3) {
+            return Err(EntryError::at(rank, item));
         }
         match map.put_free(item) {
             Ok(slot) => Ok(OccupiedEntry {

@@ -8,7 +8,7 @@ ghost use Rattle.iddqd_tri.specs.Mismatch.{mismatch_item, mismatch_rank};
 ghost use Rattle.iddqd_tri.specs.RefMuts.{ref_lender, ref_map, ref_item, ref_with, lends_ref_data};
 
 use super::RefMut;
-use crate::error::KeyMismatch;
+use crate::error::{KeyMismatch, differ};
 use crate::item::{TriHashItem, TriHashItemMut};
 use crate::map::TriHashMap;
 use std::hash::{BuildHasher, Hash};
@@ -65,14 +65,8 @@ impl<T: TriHashItem, S: BuildHasher> RefMut<'_, T, S> {
             differ (like (ranks T.TriHashItem T.K1.eq T.K2.eq T.K3.eq) x) item ≡ Some (mismatch_rank e))) }
         ensures unchanged { OnErr result (self.new ≡ self.old) }
     {
-        if *self.key1() != *item.key1() {
-            return Err(KeyMismatch::Key1(item));
-        }
-        if *self.key2() != *item.key2() {
-            return Err(KeyMismatch::Key2(item));
-        }
-        if *self.key3() != *item.key3() {
-            return Err(KeyMismatch::Key3(item));
+        if let Some(rank) = differ(&item, self.key1(), self.key2(), self.key3()) {
+            return Err(KeyMismatch::at(rank, item));
         }
         let slot = self.slot;
         Ok(self.map.replace_at(slot, item))

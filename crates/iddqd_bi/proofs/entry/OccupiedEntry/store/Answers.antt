@@ -1,4 +1,4 @@
-use Rattle.std.proofs.Common.{rules, [], ◌∷◌}
+use Rattle.std.proofs.Common.{[], ◌∷◌}
 use Rattle.iddqd_store.specs.Rank.{agree}
 use Rattle.iddqd_store.proofs.SlotLemmas.Kept.{finds_still}
 use Rattle.iddqd_bi.specs.Keys.{key_tests}
