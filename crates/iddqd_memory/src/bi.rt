@@ -20,9 +20,12 @@ pub(crate) fn put(map: &mut BiHashMap<Row>, item: Row) -> bool {
     }
 }
 
-/// The map of (1, 10, 100) and (2, 20, 200), if there is memory.
+/// The map of (1, 10, 100) and (2, 20, 200), if there is memory. Its tables have no room beyond its capacity, so that
+/// where it is full each of them has to grow.
 pub(crate) fn two_rows(alloc: Global) -> Option<BiHashMap<Row>> {
-    let mut map = BiHashMap::new(alloc);
+    let Ok(mut map) = BiHashMap::with_capacity(alloc, 7) else {
+        return None;
+    };
     if put(&mut map, row_of(1, 10, 100)) && put(&mut map, row_of(2, 20, 200)) {
         return Some(map);
     }

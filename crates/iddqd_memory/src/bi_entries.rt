@@ -106,17 +106,6 @@ fn enter_when_full(rt: &impl Abort, alloc: Global, way: Way) -> bool {
     granted
 }
 
-/// The same in each of two ways.
-fn enter_in_both_ways(rt: &impl Abort, alloc: Global, ways: [Way; 2]) -> bool {
-    let first = enter_when_full(rt, alloc, ways[0]);
-    let second = enter_when_full(rt, alloc, ways[1]);
-    first && second
-}
-
-const INTO_VACANT: [Way; 2] = [Way::Insert, Way::InsertEntry];
-
-const INTO_EITHER: [Way; 2] = [Way::OrInsert, Way::OrInsertWith];
-
 /// Puts an item in the place of two by an entry of a full map. That takes no memory.
 fn overwrite_an_entry_when_full(rt: &impl Abort, alloc: Global) -> bool {
     let Some(mut map) = full(alloc) else {
@@ -140,23 +129,43 @@ fn overwrite_an_entry_when_full(rt: &impl Abort, alloc: Global) -> bool {
 }
 
 #[test]
-fn allows_enter_a_vacant_entry(rt: HostRuntime) {
-    let _ = enter_in_both_ways(&rt, rt.alloc(), INTO_VACANT);
+fn allows_insert_into_a_vacant_entry(rt: HostRuntime) {
+    let _ = enter_when_full(&rt, rt.alloc(), Way::Insert);
 }
 
 #[test]
-fn grants_enter_a_vacant_entry(rt: HostRuntime) {
-    assert!(rt; enter_in_both_ways(&rt, rt.alloc(), INTO_VACANT));
+fn grants_insert_into_a_vacant_entry(rt: HostRuntime) {
+    assert!(rt; enter_when_full(&rt, rt.alloc(), Way::Insert));
 }
 
 #[test]
-fn allows_enter_an_entry(rt: HostRuntime) {
-    let _ = enter_in_both_ways(&rt, rt.alloc(), INTO_EITHER);
+fn allows_insert_entry(rt: HostRuntime) {
+    let _ = enter_when_full(&rt, rt.alloc(), Way::InsertEntry);
 }
 
 #[test]
-fn grants_enter_an_entry(rt: HostRuntime) {
-    assert!(rt; enter_in_both_ways(&rt, rt.alloc(), INTO_EITHER));
+fn grants_insert_entry(rt: HostRuntime) {
+    assert!(rt; enter_when_full(&rt, rt.alloc(), Way::InsertEntry));
+}
+
+#[test]
+fn allows_or_insert(rt: HostRuntime) {
+    let _ = enter_when_full(&rt, rt.alloc(), Way::OrInsert);
+}
+
+#[test]
+fn grants_or_insert(rt: HostRuntime) {
+    assert!(rt; enter_when_full(&rt, rt.alloc(), Way::OrInsert));
+}
+
+#[test]
+fn allows_or_insert_with(rt: HostRuntime) {
+    let _ = enter_when_full(&rt, rt.alloc(), Way::OrInsertWith);
+}
+
+#[test]
+fn grants_or_insert_with(rt: HostRuntime) {
+    assert!(rt; enter_when_full(&rt, rt.alloc(), Way::OrInsertWith));
 }
 
 #[test]

@@ -1,8 +1,7 @@
 //! Tests under refused memory. `tests/refused_memory` runs each with its first, second, .. request for memory refused.
 //!
 //! A test `allows_..` accepts exactly the outcomes that the definition allows, so it passes whichever request is
-//! refused.
-//! Its twin `grants_..` passes only where no request is refused: it tells the script when to stop.
+//! refused. Its twin `grants_..` passes only where no request is refused: it tells the script when to stop.
 #![tactic(auto)]
 
 #[cfg(test)]
@@ -13,3 +12,7 @@ mod bi_building;
 mod bi_copies;
 #[cfg(test)]
 mod bi_entries;
+#[cfg(test)]
+mod tri;
+#[cfg(test)]
+mod tri_building;

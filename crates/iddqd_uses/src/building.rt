@@ -12,7 +12,8 @@ pub fn extend_by_vec<T: BiHashItem + Drop, S: BuildHasher>(
     map: &mut BiHashMap<T, S>,
     items: Vec<T>,
 ) -> Result<(), MemoryRefused<T>>
-    ensures all { OnOk result (IsPermutation (bag map.new) (overs (ranks T.BiHashItem T.K1.eq T.K2.eq) (bag map.old) items.items)) }
+    ensures all { OnOk result
+        (IsPermutation (bag map.new) (overs (ranks T.BiHashItem T.K1.eq T.K2.eq) (bag map.old) items.items)) }
     ensures had_room { length (bag map.old) + length items.items ≤ map.old.capacity → IsOk result }
 {
     map.extend(items)

@@ -23,7 +23,8 @@ pub fn insert_through<'a, T: BiHashItem, S: BuildHasher>(
     ensures kept { OnErr result (map.new ≡ map.old) }
     ensures handed_back { IfErr result (λ e. error_item e ≡ item) }
 {
-    match map.entry(key1, key2) {
+    let entry = map.entry(key1, key2);
+    match entry {
         Entry::Vacant(v) => match v.insert(item) {
             Ok(_r) => return Ok(()),
             Err(e) => return Err(e),

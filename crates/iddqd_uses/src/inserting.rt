@@ -18,10 +18,11 @@ pub fn insert_or_drop<T: BiHashItem + Drop, S: BuildHasher>(
     ensures refused { OnFalse result (map.new ≡ map.old) }
     ensures reason { OnFalse result (MayRefuse (ranks T.BiHashItem T.K1.eq T.K2.eq) map.old item) }
 {
-    match map.insert_unique(item) {
+    let answer = map.insert_unique(item);
+    match answer {
         Ok(()) => true,
-        Err(InsertError::Duplicate(refusal)) => {
-            drop(refusal);
+        Err(InsertError::Duplicate(conflict)) => {
+            drop(conflict);
             false
         }
         Err(InsertError::Memory(refusal)) => {
@@ -86,9 +87,11 @@ pub fn count_conflicts<T: BiHashItem + Drop, S: BuildHasher>(
     map: &mut BiHashMap<T, S>,
     item: T,
 ) -> usize
-    ensures some { result ≢ 0 → (result ≡ length (order (ranks T.BiHashItem T.K1.eq T.K2.eq) (bag map.old) item)) × (map.new ≡ map.old) }
+    ensures some { result ≢ 0
+        → (result ≡ length (order (ranks T.BiHashItem T.K1.eq T.K2.eq) (bag map.old) item)) × (map.new ≡ map.old) }
 {
-    match map.insert_unique(item) {
+    let answer = map.insert_unique(item);
+    match answer {
         Ok(()) => 0,
         Err(InsertError::Duplicate(refusal)) => {
             let count = refusal.duplicates().len();
@@ -107,7 +110,8 @@ pub fn overwrite_or_drop<T: BiHashItem + Drop, S: BuildHasher>(
     map: &mut BiHashMap<T, S>,
     item: T,
 ) -> bool
-    ensures went_in { OnTrue result (IsPermutation (bag map.new) (over (ranks T.BiHashItem T.K1.eq T.K2.eq) (bag map.old) item)) }
+    ensures went_in { OnTrue result
+        (IsPermutation (bag map.new) (over (ranks T.BiHashItem T.K1.eq T.K2.eq) (bag map.old) item)) }
     ensures reason { OnFalse result (MayRefuse (ranks T.BiHashItem T.K1.eq T.K2.eq) map.old item) }
 {
     map.insert_overwrite(item).is_ok()

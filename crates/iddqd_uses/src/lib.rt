@@ -17,7 +17,9 @@ pub use entries::{
     remove_through,
 };
 pub use finding::{count_all, put_and_find, remove_and_find};
-pub use inserting::{count_conflicts, insert_both, insert_or_back, insert_or_drop};
+pub use inserting::{
+    count_conflicts, insert_both, insert_or_back, insert_or_drop, overwrite_or_drop,
+};
 pub use users::{User, by_login, register};
 pub use walking::{write_all, write_first};
 pub use writing::{replace1, write1, write1_twice};

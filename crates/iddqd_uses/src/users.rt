@@ -45,7 +45,8 @@ pub fn register(users: &mut BiHashMap<User>, user: User) -> Result<(), User>
 
 /// The user with a login, if there is one.
 pub fn by_login<'u>(users: &'u BiHashMap<User>, login: &String) -> Option<&'u User>
-    ensures { option_to_list (option_copied result) ≡ filter (λ u. ⟦<String as PartialEq>⟧.eq login.now u.login) (bag users.now) }
+    ensures { option_to_list (option_copied result)
+        ≡ filter (λ u. ⟦<String as PartialEq>⟧.eq login.now u.login) (bag users.now) }
 {
     users.get2(login)
 }

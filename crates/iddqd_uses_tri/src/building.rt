@@ -1,0 +1,20 @@
+//! What a caller knows of a map that is built of many items.
+ghost use Rattle.std.specs.Prelude.{◌≡◌, ◌+◌, ◌≤◌, length, IsPermutation, OnOk, IsOk};
+ghost use Rattle.iddqd_tri.specs.Bag.{overs};
+ghost use Rattle.iddqd_tri.specs.Map.{bag};
+ghost use Rattle.iddqd_tri.specs.Keys.{ranks};
+
+use iddqd_tri::{MemoryRefused, TriHashItem, TriHashMap};
+use std::hash::{BuildHasher, Hash};
+
+/// Puts the items of a vector in one after another. It is not refused where there is room for all.
+pub fn extend_by_vec<T: TriHashItem + Drop, S: BuildHasher>(
+    map: &mut TriHashMap<T, S>,
+    items: Vec<T>,
+) -> Result<(), MemoryRefused<T>>
+    ensures all { OnOk result
+        (IsPermutation (bag map.new) (overs (ranks T.TriHashItem T.K1.eq T.K2.eq T.K3.eq) (bag map.old) items.items)) }
+    ensures had_room { length (bag map.old) + length items.items ≤ map.old.capacity → IsOk result }
+{
+    map.extend(items)
+}

@@ -1,0 +1,165 @@
+//! What a caller knows of a map after the calls of an entry.
+ghost use Rattle.std.specs.Prelude.{◌≡◌, [], ◌∷◌, ◌++◌, IsPermutation, OnOk, OnErr, IfErr};
+ghost use Rattle.std.specs.Bool.{OnTrue, OnFalse};
+ghost use Rattle.std.specs.Fn.{CalledAt};
+ghost use Rattle.iddqd_tri.specs.Bag.{entry, listing, over};
+ghost use Rattle.iddqd_tri.specs.Storing.{Stores};
+ghost use Rattle.iddqd_tri.specs.Map.{bag};
+ghost use Rattle.iddqd_tri.specs.Keys.{key_tests, ranks};
+ghost use Rattle.iddqd_tri.specs.Mismatch.{error_item};
+ghost use Rattle.iddqd_uses_tri.specs.Entering.{InsertsOrWrites, WritesEntry};
+
+use iddqd_tri::{Entry, EntryError, TriHashItem, TriHashItemMut, TriHashMap};
+use std::hash::{BuildHasher, Hash};
+
+/// Puts an item in through an entry. It is handed back where it is refused, and where an item has one of the keys.
+pub fn insert_through<'a, T: TriHashItem, S: BuildHasher>(
+    map: &'a mut TriHashMap<T, S>,
+    key1: &'a T::K1,
+    key2: &'a T::K2,
+    key3: &'a T::K3,
+    item: T,
+) -> Result<(), EntryError<T>>
+    ensures gains { OnOk result (IsPermutation (bag map.new) (item ∷ bag map.old)) }
+    ensures kept { OnErr result (map.new ≡ map.old) }
+    ensures handed_back { IfErr result (λ e. error_item e ≡ item) }
+{
+    let entry = map.entry(key1, key2, key3);
+    match entry {
+        Entry::Vacant(v) => match v.insert(item) {
+            Ok(_r) => return Ok(()),
+            Err(e) => return Err(e),
+        },
+        Entry::Occupied(_o) => return Err(EntryError::Key1(item)),
+    }
+}
+
+/// Puts an item in the place of those that have one of three keys, and says whether it went in.
+pub fn overwrite_through<'a, T: TriHashItem + Drop, S: BuildHasher>(
+    map: &'a mut TriHashMap<T, S>,
+    key1: &'a T::K1,
+    key2: &'a T::K2,
+    key3: &'a T::K3,
+    item: T,
+) -> bool
+    ensures went_in { OnTrue result (IsPermutation (bag map.new)
+        (over (ranks T.TriHashItem T.K1.eq T.K2.eq T.K3.eq) (bag map.old) item)) }
+    ensures kept { OnFalse result (map.new ≡ map.old) }
+{
+    match map.entry(key1, key2, key3) {
+        Entry::Vacant(_v) => return false,
+        Entry::Occupied(mut o) => match o.insert(item) {
+            Ok(_gone) => return true,
+            Err(_e) => return false,
+        },
+    }
+}
+
+/// Takes out what has one of three keys, and says whether there was something.
+pub fn remove_through<'a, T: TriHashItem + Drop, S: BuildHasher>(
+    map: &'a mut TriHashMap<T, S>,
+    key1: &'a T::K1,
+    key2: &'a T::K2,
+    key3: &'a T::K3,
+) -> bool
+    ensures taken { OnTrue result (IsPermutation (bag map.old)
+        (listing (key_tests T.TriHashItem T.K1.eq T.K2.eq T.K3.eq key1.now key2.now key3.now)
+        (bag map.old) ++ bag map.new)) }
+    ensures none { OnFalse result (map.new ≡ map.old) }
+    ensures reason { OnFalse result
+        (listing (key_tests T.TriHashItem T.K1.eq T.K2.eq T.K3.eq key1.now key2.now key3.now) (bag map.old) ≡ []) }
+{
+    match map.entry(key1, key2, key3) {
+        Entry::Vacant(_v) => return false,
+        Entry::Occupied(o) => {
+            let _gone = o.remove();
+            return true;
+        }
+    }
+}
+
+/// Stores what `f` answers at each item that has one of three keys as its data.
+pub fn modify_all<'a, T: TriHashItemMut, S: BuildHasher, F: FnMut(&T) -> T::Data>(
+    map: &'a mut TriHashMap<T, S>,
+    key1: &'a T::K1,
+    key2: &'a T::K2,
+    key3: &'a T::K3,
+    f: F,
+)
+where
+    T::Data: Drop,
+    F: Drop,
+    requires callable { F.IsAlwaysCallable f }
+    ensures { Stores (CalledAt F.FnMut) T.put (ranks T.TriHashItem T.K1.eq T.K2.eq T.K3.eq) f
+        (listing (key_tests T.TriHashItem T.K1.eq T.K2.eq T.K3.eq key1.now key2.now key3.now) (bag map.old))
+        (bag map.old) (bag map.new) }
+{
+    match map.entry(key1, key2, key3).and_modify(f) {
+        Entry::Vacant(_v) => return,
+        Entry::Occupied(_o) => return,
+    }
+}
+
+/// Puts an item in where no item has one of three keys. Then it writes data into the item that has all, if one
+/// has.
+pub fn or_insert_and_write<'a, T: TriHashItemMut + Drop, S: BuildHasher>(
+    map: &'a mut TriHashMap<T, S>,
+    key1: &'a T::K1,
+    key2: &'a T::K2,
+    key3: &'a T::K3,
+    item: T,
+    d: T::Data,
+) -> Result<(), EntryError<T>>
+where
+    T::Data: Drop,
+    ensures granted { OnOk result (WritesEntry (ranks T.TriHashItem T.K1.eq T.K2.eq T.K3.eq)
+        (λ x. T.put x d) (bag map.old) item
+        (entry (key_tests T.TriHashItem T.K1.eq T.K2.eq T.K3.eq key1.now key2.now key3.now) (bag map.old))
+        (bag map.new)) }
+    ensures handed_back { IfErr result (λ e. error_item e ≡ item) }
+{
+    match map.entry(key1, key2, key3).or_insert(item) {
+        Ok(held) => {
+            if let Some(mut found) = held.into_unique() {
+                *found.data_mut() = d;
+                return Ok(());
+            }
+            return Ok(());
+        }
+        Err(e) => return Err(e),
+    }
+}
+
+/// Puts an item in where no item has one of three keys, and else writes data into the item that has all, if one has.
+pub fn insert_or_write<'a, T: TriHashItemMut + Drop, S: BuildHasher>(
+    map: &'a mut TriHashMap<T, S>,
+    key1: &'a T::K1,
+    key2: &'a T::K2,
+    key3: &'a T::K3,
+    item: T,
+    d: T::Data,
+) -> Result<(), EntryError<T>>
+where
+    T::Data: Drop,
+    ensures granted { OnOk result (InsertsOrWrites (ranks T.TriHashItem T.K1.eq T.K2.eq T.K3.eq)
+        (λ x. T.put x d) (bag map.old) item
+        (entry (key_tests T.TriHashItem T.K1.eq T.K2.eq T.K3.eq key1.now key2.now key3.now) (bag map.old))
+        (bag map.new)) }
+    ensures kept { OnErr result (map.new ≡ map.old) }
+    ensures handed_back { IfErr result (λ e. error_item e ≡ item) }
+{
+    match map.entry(key1, key2, key3) {
+        Entry::Vacant(v) => match v.insert(item) {
+            Ok(_r) => return Ok(()),
+            Err(e) => return Err(e),
+        },
+        Entry::Occupied(o) => {
+            let held = o.into_mut();
+            if let Some(mut one) = held.into_unique() {
+                *one.data_mut() = d;
+                return Ok(());
+            }
+            return Ok(());
+        }
+    }
+}

@@ -1,0 +1,79 @@
+//! A table of sessions, each known by its number, by its user and by its token.
+ghost use Rattle.std.specs.Prelude.{◌≡◌, ◌∷◌, ◌==◌, IsPermutation, OnOk, OnErr, IfErr, filter, option_copied};
+ghost use Rattle.std.specs.Option.{option_to_list};
+ghost use Rattle.iddqd_tri.specs.Map.{bag, Loses};
+
+use iddqd_tri::{InsertError, TriHashItem, TriHashMap};
+use std::hash::BuildHasher;
+
+/// A session.
+#[derive(Drop)]
+pub struct Session {
+    id: u64,
+    user: u32,
+    token: String,
+}
+
+impl TriHashItem for Session {
+    type K1 = u64;
+
+    type K2 = u32;
+
+    type K3 = String;
+
+    ghost key1 = { λ s. s.id };
+
+    ghost key2 = { λ s. s.user };
+
+    ghost key3 = { λ s. s.token };
+
+    fn key1(&self) -> &u64 {
+        &self.id
+    }
+
+    fn key2(&self) -> &u32 {
+        &self.user
+    }
+
+    fn key3(&self) -> &String {
+        &self.token
+    }
+}
+
+/// Opens a session, or hands it back where its number, its user or its token has one, or there is no memory.
+pub fn open<S: BuildHasher>(
+    sessions: &mut TriHashMap<Session, S>,
+    session: Session,
+) -> Result<(), Session>
+    ensures opened { OnOk result (IsPermutation (bag sessions.new) (session ∷ bag sessions.old)) }
+    ensures back { IfErr result (λ s. s ≡ session) }
+    ensures unchanged { OnErr result (sessions.new ≡ sessions.old) }
+{
+    match sessions.insert_unique(session) {
+        Ok(()) => Ok(()),
+        Err(InsertError::Duplicate(refusal)) => Err(refusal.into_item()),
+        Err(InsertError::Memory(refusal)) => Err(refusal.into_item()),
+    }
+}
+
+/// The session with a token, if there is one.
+pub fn by_token<'s, S: BuildHasher>(
+    sessions: &'s TriHashMap<Session, S>,
+    token: &String,
+) -> Option<&'s Session>
+    ensures { option_to_list (option_copied result)
+        ≡ filter (λ s. ⟦<String as PartialEq>⟧.eq token.now s.token) (bag sessions.now) }
+{
+    sessions.get3(token)
+}
+
+/// Closes the session of a user, which it gives, if there is one.
+pub fn close_of_user<S: BuildHasher>(
+    sessions: &mut TriHashMap<Session, S>,
+    user: u32,
+) -> Option<Session>
+    ensures taken { option_to_list result ≡ filter (λ s. user == s.user) (bag sessions.old) }
+    ensures loses { Loses sessions.old (option_to_list result) sessions.new }
+{
+    sessions.remove2(&user)
+}

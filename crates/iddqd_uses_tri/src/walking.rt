@@ -1,0 +1,39 @@
+//! What a caller knows of a map whose items were written in a walk.
+ghost use Rattle.std.specs.Prelude.{◌≡◌, ◌∷◌, List, IsPermutation};
+ghost use Rattle.std.specs.Prelude.{map as each};
+ghost use Rattle.std.specs.Bool.{OnTrue, OnFalse};
+ghost use Rattle.iddqd_tri.specs.Map.{bag};
+
+use iddqd_tri::{Cursor, TriHashItemMut, TriHashMap};
+use std::hash::{BuildHasher, Hash};
+
+/// Writes the same data into every item.
+pub fn write_all<T: TriHashItemMut, S: BuildHasher>(map: &mut TriHashMap<T, S>, d: T::Data)
+where
+    T::Data: Drop + Copy,
+    ensures { IsPermutation (bag map.new) (each (λ x. T.put x d) (bag map.old)) }
+{
+    let mut at = Cursor::new();
+    while let Some(mut item) = map.next_from(&mut at) {
+        *item.data_mut() = d;
+    }
+}
+
+/// Writes the data of the first item of a walk, and says whether there is one.
+pub fn write_first<T: TriHashItemMut, S: BuildHasher>(
+    map: &mut TriHashMap<T, S>,
+    d: T::Data,
+) -> bool
+where
+    T::Data: Drop,
+    ensures some { OnTrue result ((x : T) × (rest : List T) × (bag map.old ≡ x ∷ rest)
+        × (bag map.new ≡ T.put x d ∷ rest)) }
+    ensures none { OnFalse result (bag map.new ≡ bag map.old) }
+{
+    let mut walk = map.iter_mut();
+    if let Some(data) = walk.next_data() {
+        *data = d;
+        return true;
+    }
+    return false;
+}

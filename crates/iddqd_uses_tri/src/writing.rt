@@ -1,0 +1,69 @@
+//! What a caller knows of a map in which an item was written.
+ghost use Rattle.std.specs.Prelude.{◌≡◌, Some, None, IsPermutation, IfOk, IfErr, OnErr};
+ghost use Rattle.iddqd_tri.specs.Bag.{IsOnly, swap};
+ghost use Rattle.iddqd_tri.specs.Map.{bag};
+ghost use Rattle.iddqd_tri.specs.Keys.{has1, ranks};
+
+use iddqd_tri::{KeyMismatch, TriHashItem, TriHashItemMut, TriHashMap};
+use std::hash::{BuildHasher, Hash};
+
+/// Writes the data of the item with a first key, if there is one.
+pub fn write1<T: TriHashItemMut, S: BuildHasher>(
+    map: &mut TriHashMap<T, S>,
+    key: &T::K1,
+    d: T::Data,
+)
+where
+    T::Data: Drop,
+    ensures present { (x : T) → IsOnly (has1 T.TriHashItem T.K1.eq key.now) (bag map.old) (Some x)
+        → IsPermutation (bag map.new)
+        (swap (ranks T.TriHashItem T.K1.eq T.K2.eq T.K3.eq) (bag map.old) x (T.put x d)) }
+    ensures absent { IsOnly (has1 T.TriHashItem T.K1.eq key.now) (bag map.old) None → map.new ≡ map.old }
+{
+    if let Some(mut item) = map.get1_mut(key) {
+        *item.data_mut() = d;
+    }
+}
+
+/// Writes the data of the item with a first key twice, if there is one. The last write stands.
+pub fn write1_twice<T: TriHashItemMut, S: BuildHasher>(
+    map: &mut TriHashMap<T, S>,
+    key: &T::K1,
+    first: T::Data,
+    last: T::Data,
+)
+where
+    T::Data: Drop,
+    ensures present { (x : T) → IsOnly (has1 T.TriHashItem T.K1.eq key.now) (bag map.old) (Some x)
+        → IsPermutation (bag map.new)
+        (swap (ranks T.TriHashItem T.K1.eq T.K2.eq T.K3.eq) (bag map.old) x (T.put (T.put x first) last)) }
+    ensures absent { IsOnly (has1 T.TriHashItem T.K1.eq key.now) (bag map.old) None → map.new ≡ map.old }
+{
+    if let Some(mut item) = map.get1_mut(key) {
+        *item.data_mut() = first;
+        *item.data_mut() = last;
+    }
+}
+
+/// Puts an item in the place of the one with a first key, which it gives back. Else it hands the item back.
+pub fn replace1<T: TriHashItem, S: BuildHasher>(
+    map: &mut TriHashMap<T, S>,
+    key: &T::K1,
+    item: T,
+) -> Result<T, T>
+    ensures replaced { IfOk result (λ x. IsPermutation (bag map.new)
+        (swap (ranks T.TriHashItem T.K1.eq T.K2.eq T.K3.eq) (bag map.old) x item)) }
+    ensures only { IfOk result (λ x. IsOnly (has1 T.TriHashItem T.K1.eq key.now) (bag map.old) (Some x)) }
+    ensures kept { OnErr result (map.new ≡ map.old) }
+    ensures handed_back { IfErr result (λ x. x ≡ item) }
+{
+    match map.get1_mut(key) {
+        Some(mut found) => match found.replace(item) {
+            Ok(old) => return Ok(old),
+            Err(KeyMismatch::Key1(item)) => return Err(item),
+            Err(KeyMismatch::Key2(item)) => return Err(item),
+            Err(KeyMismatch::Key3(item)) => return Err(item),
+        },
+        None => return Err(item),
+    }
+}
