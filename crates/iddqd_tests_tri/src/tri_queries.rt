@@ -1,12 +1,14 @@
-//! Searches of the three-key map: how many keys they ask about.
-ghost use Rattle.std.specs.Prelude.{◌≡◌, ◌==◌, refl};
-ghost use Rattle.std.proofs.Common.{◌∙◌, ap};
+//! Searches of the three-key map: how many keys they ask about, and queries that are no keys.
+ghost use Rattle.std.specs.Prelude.{◌≡◌, ◌==◌, nat_eq, refl};
+ghost use Rattle.std.proofs.Common.{rules, ◌∙◌, ap};
+ghost use Rattle.std.specs.Cmp.Rules.{comparing, hashing};
+ghost use Rattle.std.specs.Cmp.Lexicographic.{pointwise};
 
 use crate::row::Row;
 use crate::worked::{ONE, THREE, TWO, three};
 use iddqd_tests::OwnHash;
-use iddqd_tri::{KeyMatcher, Meter, TriHashMap};
-use std::hash::BuildHasher;
+use iddqd_tri::{Equivalent, KeyMatcher, Meter, TriHashItem, TriHashMap};
+use std::hash::{BuildHasher, Hash, Hasher};
 use std::test::*;
 
 /// Accepts one key, and counts its questions.
@@ -67,4 +69,77 @@ fn asks_only_keys_of_the_hash(rt: HostRuntime) {
     ] {
         assert!(rt; search(&map, rank, key) == wanted, "{rank}: {key}");
     }
+}
+
+/// An item with a text as its third key.
+#[derive(Clone, Copy)]
+struct Word {
+    first: u64,
+    second: u64,
+    text: &'static str,
+}
+
+impl TriHashItem for Word {
+    type K1 = u64;
+
+    type K2 = u64;
+
+    type K3 = &'static str;
+
+    ghost key1 = { λ x. x.first };
+
+    ghost key2 = { λ x. x.second };
+
+    ghost key3 = { λ x. x.text };
+
+    fn key1(&self) -> &u64 {
+        &self.first
+    }
+
+    fn key2(&self) -> &u64 {
+        &self.second
+    }
+
+    fn key3(&self) -> &&'static str {
+        &self.text
+    }
+}
+
+/// A text that stands for the keys that are equal to it.
+#[derive(PartialEq, Eq, Hash, Drop)]
+struct Text<'a> {
+    text: &'a str,
+}
+
+impl<'a> Equivalent<&'static str> for Text<'a> {
+    ghost equivalent = { λ q k. pointwise nat_eq q.text.now k.now };
+
+    ghost respects_hash = { Prim.search (hashing, rules) };
+
+    ghost respects_eq = { Prim.search (comparing, rules) };
+
+    fn equivalent(&self, key: &&'static str) -> bool {
+        self.text == *key
+    }
+}
+
+#[test]
+fn a_text_is_found_by_a_query(rt: HostRuntime) -> Result<(), Fail> {
+    let mut map = TriHashMap::new(rt.alloc());
+    for (text, first, second) in [("ab", 1, 3), ("cd", 2, 4)] {
+        assert!(rt;
+            map.insert_overwrite(Word {
+                first,
+                second,
+                text
+            })
+            .is_ok()
+        );
+    }
+    for (text, number) in [("cd", Some(2)), ("ab", Some(1)), ("c", None), ("", None)] {
+        let found = map.get3(&Text { text }).map(|word| word.first);
+        assert_eq!(rt; found, number, "at {text}");
+    }
+    drop(map);
+    Ok(())
 }
