@@ -1,0 +1,33 @@
+//! Maps of references and boxes of items.
+use crate::row::row_of;
+use iddqd_tri::{TriHashItem, TriHashItemMut, TriHashMap};
+use std::alloc::Global;
+use std::rc::Rc;
+use std::test::Fail;
+
+/// Whether a map finds this item, which has the keys 1, 10 and 100, by each of its keys.
+fn is_found<T: TriHashItem<K1 = u64, K2 = u64, K3 = u64> + Drop>(alloc: Global, item: T) -> bool {
+    let mut map = TriHashMap::new(alloc);
+    let _ = map.insert_overwrite(item);
+    map.contains_key_unique(&1, &10, &100) && !map.contains_key1(&10) && !map.contains_key3(&10)
+}
+
+/// Writes the data of an item.
+fn write<T: TriHashItemMut<Data = u64>>(item: &mut T, value: u64) {
+    *item.data_mut() = value;
+}
+
+#[test]
+fn references_and_boxes_are_items(rt: HostRuntime) -> Result<(), Fail> {
+    let alloc = rt.alloc();
+    let mut row = row_of(1, 10, 100, 7);
+    write(&mut row, 8);
+    write(&mut &mut row, 9);
+    assert!(rt; row.value == 9);
+    let mut boxed = Box::new(alloc, row)?;
+    write(&mut boxed, 10);
+    assert!(rt; boxed.value == 10 && is_found(alloc, boxed));
+    assert!(rt; is_found(alloc, Rc::new(alloc, row)?));
+    assert!(rt; is_found(alloc, &row) && is_found(alloc, &mut row));
+    Ok(())
+}
