@@ -10,7 +10,7 @@ use Rattle.iddqd_run.specs.Outputs as outputs
 use Rattle.iddqd_run.specs.Printed.{line_of}
 use Rattle.iddqd_run.specs.declared.item.bi.BiItem.{BiItem}
 use Rattle.iddqd_run.specs.declared.words.Word.{Word}
-use Rattle.iddqd_run.specs.declared.words.Word.TheVariants.{New, Get1, Get2, Get3, Del1, Both, Del2, Del3, DelBoth, Len, Put, Reserve, Fit, Clear, List as ListAll, Replace1, Set1, EntPut, EntDel, OrPut}
+use Rattle.iddqd_run.specs.declared.words.Word.TheVariants.{New, Get1, Get2, Del1, Both, Del2, DelBoth, Len, Put, Reserve, Fit, Clear, List as ListAll, Replace1, Set1, EntPut, EntDel, OrPut}
 
 -- the numbers of an item
 abbrev pub numbers : BiItem → List ℕ
