@@ -21,7 +21,8 @@ module _ {C : Type 0} (command_of : Word → List ℕ → Option C) where
   -- the command of a word and of the numbers behind it
   abbrev pub command_of_fields : List (List ℕ) → Option C
   command_of_fields [] = None
-  command_of_fields (name ∷ digits) = option_and_then (λ word. option_and_then (command_of word) (numbers_of digits)) (word_of name)
+  command_of_fields (name ∷ digits) =
+      option_and_then (λ word. option_and_then (command_of word) (numbers_of digits)) (word_of name)
 
   -- the command that a line spells: one space stands before each number
   abbrev pub command_of_line : List ℕ → Option C

@@ -23,4 +23,5 @@ module _ {C T D : Type 0} (Steps : State T → C → Reply T D → State T → T
 
   -- the lines of these replies
   abbrev pub Prints : (Reply T D → List ℕ) → List C → List ℕ → Type 0
-  Prints line commands output = (replies : List (Reply T D)) × Replies commands replies × (output ≡ flat_map line replies)
+  Prints line commands output =
+      (replies : List (Reply T D)) × Replies commands replies × (output ≡ flat_map line replies)

@@ -14,9 +14,10 @@ use Rattle.iddqd_run.specs.declared.words.Word.{Word}
 
 -- with what the words of a kind stand for and its runs print, the run of an input may end so, with this output:
 -- the lines of the replies to its commands, or the message of its first bad line
-abbrev pub IsAnswer : {C : Type 0} → (Word → List ℕ → Option C) → (List C → List ℕ → Type 0) → List ℕ → RunEnd → List ℕ → Type 0
-IsAnswer {C} command_of Prints input Done output = (commands : List C) × Spells command_of input commands × Prints commands output
-IsAnswer command_of Prints input (BadLine n) output = (first_bad_line command_of input ≡ Some n) × (output ≡ bad_line_message n)
+module _ {C : Type 0} (command_of : Word → List ℕ → Option C) (Prints : List C → List ℕ → Type 0) where
+  abbrev pub IsAnswer : List ℕ → RunEnd → List ℕ → Type 0
+  IsAnswer input Done output = (commands : List C) × Spells command_of input commands × Prints commands output
+  IsAnswer input (BadLine n) output = (first_bad_line command_of input ≡ Some n) × (output ≡ bad_line_message n)
 
 -- the same for each kind
 abbrev pub IsOutcome : Kind → List ℕ → RunEnd → List ℕ → Type 0

@@ -16,6 +16,10 @@ use Rattle.iddqd_run.specs.declared.words.Word.TheVariants.{New, Get1, Get2, Del
 abbrev pub numbers : BiItem → List ℕ
 numbers item = item.key1 ∷ item.key2 ∷ item.value ∷ []
 
+-- the item of these numbers
+abbrev pub item : ℕ → ℕ → ℕ → BiItem
+item k1 k2 v = record { key1 = k1; key2 = k2; value = v }
+
 -- the keys of an item
 abbrev pub keys : of.Ghosts BiItem ℕ ℕ
 keys = record { key1 = λ item. item.key1; key2 = λ item. item.key2 }
@@ -30,7 +34,7 @@ Command = BiCommand BiItem ℕ ℕ ℕ
 
 -- the command of a word with its numbers
 abbrev pub command_of : Word → List ℕ → Option Command
-command_of New (k1 ∷ k2 ∷ v ∷ []) = Some (command.InsertUnique (record { key1 = k1; key2 = k2; value = v }))
+command_of New (k1 ∷ k2 ∷ v ∷ []) = Some (command.InsertUnique (item k1 k2 v))
 command_of Get1 (k ∷ []) = Some (command.Get1 k)
 command_of Get2 (k ∷ []) = Some (command.Get2 k)
 command_of Del1 (k ∷ []) = Some (command.Remove1 k)
@@ -38,16 +42,16 @@ command_of Both (k1 ∷ k2 ∷ []) = Some (command.GetUnique k1 k2)
 command_of Del2 (k ∷ []) = Some (command.Remove2 k)
 command_of DelBoth (k1 ∷ k2 ∷ []) = Some (command.RemoveUnique k1 k2)
 command_of Len [] = Some command.Len
-command_of Put (k1 ∷ k2 ∷ v ∷ []) = Some (command.InsertOverwrite (record { key1 = k1; key2 = k2; value = v }))
+command_of Put (k1 ∷ k2 ∷ v ∷ []) = Some (command.InsertOverwrite (item k1 k2 v))
 command_of Reserve (n ∷ []) = Some (command.Reserve n)
 command_of Fit [] = Some command.ShrinkToFit
 command_of Clear [] = Some command.Clear
 command_of ListAll [] = Some command.Items
-command_of Replace1 (k ∷ x1 ∷ x2 ∷ v ∷ []) = Some (command.Replace1 k (record { key1 = x1; key2 = x2; value = v }))
+command_of Replace1 (k ∷ x1 ∷ x2 ∷ v ∷ []) = Some (command.Replace1 k (item x1 x2 v))
 command_of Set1 (k ∷ v ∷ []) = Some (command.Set1 k v)
-command_of EntPut (k1 ∷ k2 ∷ x1 ∷ x2 ∷ v ∷ []) = Some (command.EntryInsert k1 k2 (record { key1 = x1; key2 = x2; value = v }))
+command_of EntPut (k1 ∷ k2 ∷ x1 ∷ x2 ∷ v ∷ []) = Some (command.EntryInsert k1 k2 (item x1 x2 v))
 command_of EntDel (k1 ∷ k2 ∷ []) = Some (command.EntryRemove k1 k2)
-command_of OrPut (k1 ∷ k2 ∷ x1 ∷ x2 ∷ v ∷ []) = Some (command.OrInsert k1 k2 (record { key1 = x1; key2 = x2; value = v }))
+command_of OrPut (k1 ∷ k2 ∷ x1 ∷ x2 ∷ v ∷ []) = Some (command.OrInsert k1 k2 (item x1 x2 v))
 -- so for `get3` and `del3`, whatever their numbers
 command_of word numbers = None
 

@@ -20,5 +20,6 @@ pub trait Numbers: fmt::Display {
     fn first_key(&self) -> u64
         ensures { result ≡ first_of (numbers self.now) };
 
+    // What is printed is these numbers in brackets.
     ghost shows: { (x : Self) → Self.output x ≡ Some (printed (numbers x)) };
 }

@@ -48,8 +48,8 @@ fn duplicates_line<'m, T: Numbers + 'm, L: ShortList<Item = &'m T> + Drop>(
     alloc: Global,
     duplicates: L,
 ) -> Result<String, AllocError>
-    ensures { IfOk result (λ line.
-        string_bytes line ≡ codes "dup" ++ items_text T.numbers (map (λ item. item.now) (L.list duplicates)) ++ codes "\n") }
+    ensures { IfOk result (λ line. string_bytes line ≡
+        codes "dup" ++ items_text T.numbers (map (λ item. item.now) (L.list duplicates)) ++ codes "\n") }
 {
     let mut line = String::from_str(alloc, "dup")?;
     let mut left = duplicates;
