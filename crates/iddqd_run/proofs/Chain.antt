@@ -1,13 +1,10 @@
 -- A run that keeps its replies, command by command.
-use Rattle.std.proofs.Common.{◌≡◌, refl, ap, sym, ◌∙◌, List, [], ◌∷◌, ◌++◌, Result, Ok, Err, append_assoc, append-nil, subst, ℕ}
-use Rattle.std.specs.Prelude.{nat_eq, MatchResult}
+use Rattle.std.proofs.Common.{◌≡◌, refl, ap, sym, ◌∙◌, List, [], ◌∷◌, ◌++◌, Result, Ok, Err, append_assoc, append-nil, subst}
+use Rattle.std.specs.Prelude.{MatchResult}
 use Rattle.iddqd_store.specs.Runs.Reply.{Reply}
 use Rattle.iddqd_store.specs.Runs.Run.{Run, Applies}
 use Rattle.iddqd_store.specs.Runs.Step.{State, Fits, empty_state}
-use Rattle.iddqd_bi.specs.Step.{Step}
-use Rattle.iddqd_run.specs.Outputs.{KeepsReply, Replies, item_keys, with_value}
-use Rattle.iddqd_run.specs.Words.{Command}
-use Rattle.iddqd_run.specs.declared.item.BiItem.{BiItem}
+use Rattle.iddqd_run.specs.Outputs.{KeepsReply, Replies}
 
 module _ {C T D : Type 0} (Steps : State T → C → Reply T D → State T → Type 0) where
   -- a step for each command, with its reply, to a state whose items fit
@@ -50,14 +47,14 @@ module _ {C T D : Type 0} (Steps : State T → C → Reply T D → State T → T
       let rest = run_of commands replies h.0 new (kept ++ reply ∷ []) h.3 in
       (h.0, kept ++ reply ∷ [], Ok tt, (reply, h.1, h.2, refl), subst (λ (l : List (Reply T D)). Kept h.0 (kept ++ reply ∷ []) commands new l) (append_assoc kept (reply ∷ []) replies) rest)
 
--- a chain of the program's commands on a new map
-abbrev pub FromEmpty : List Command → List (Reply BiItem ℕ) → Type 0
-FromEmpty commands replies = (new : State BiItem) × Chain (Step item_keys nat_eq nat_eq with_value) empty_state commands replies new
+  -- such a chain on a new map
+  abbrev pub FromEmpty : List C → List (Reply T D) → Type 0
+  FromEmpty commands replies = (new : State T) × Chain empty_state commands replies new
 
-pub from_empty : (commands : List Command) (replies : List (Reply BiItem ℕ)) → Replies commands replies → FromEmpty commands replies
-from_empty commands replies run =
-    let h = chain_of (Step item_keys nat_eq nat_eq with_value) commands empty_state run.0 [] replies run.1 in
-    (run.0, subst (λ (l : List (Reply BiItem ℕ)). Chain (Step item_keys nat_eq nat_eq with_value) empty_state commands l run.0) (sym h.1) h.2)
+  pub from_empty : (commands : List C) (replies : List (Reply T D)) → Replies Steps commands replies → FromEmpty commands replies
+  from_empty commands replies run =
+      let h = chain_of commands empty_state run.0 [] replies run.1 in
+      (run.0, subst (λ (l : List (Reply T D)). Chain empty_state commands l run.0) (sym h.1) h.2)
 
-pub replies_from : (commands : List Command) (replies : List (Reply BiItem ℕ)) → FromEmpty commands replies → Replies commands replies
-replies_from commands replies chain = (chain.0, run_of (Step item_keys nat_eq nat_eq with_value) commands replies empty_state chain.0 [] chain.1)
+  pub replies_from : (commands : List C) (replies : List (Reply T D)) → FromEmpty commands replies → Replies Steps commands replies
+  replies_from commands replies chain = (chain.0, run_of commands replies empty_state chain.0 [] chain.1)

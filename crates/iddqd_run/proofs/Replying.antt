@@ -1,15 +1,11 @@
 -- A run into a sink of lines prints the lines of its replies.
-use Rattle.std.proofs.Common.{◌≡◌, refl, ap, sym, ◌∙◌, ℕ, nat_eq, List, [], ◌∷◌, ◌++◌, Result, Ok, Err, append_assoc, append-nil, subst}
+use Rattle.std.proofs.Common.{◌≡◌, refl, ap, sym, ◌∙◌, ℕ, List, [], ◌∷◌, ◌++◌, Result, Ok, Err, append_assoc, append-nil, subst}
 use Rattle.std.specs.Prelude.{MatchResult}
 use Rattle.std.specs.List.{flat_map}
 use Rattle.iddqd_store.specs.Runs.Reply.{Reply}
 use Rattle.iddqd_store.specs.Runs.Run.{Run, Applies}
 use Rattle.iddqd_store.specs.Runs.Step.{State, Fits, empty_state}
-use Rattle.iddqd_bi.specs.Step.{Step}
-use Rattle.iddqd_run.specs.Outputs.{GrowsByLine, KeepsReply, Prints, item_keys, with_value}
-use Rattle.iddqd_run.specs.Printed.{line_of}
-use Rattle.iddqd_run.specs.Words.{Command}
-use Rattle.iddqd_run.specs.declared.item.BiItem.{BiItem}
+use Rattle.iddqd_run.specs.Outputs.{GrowsByLine, KeepsReply, Prints}
 
 -- a sink whose text grows by lines
 abbrev pub into_lines : {S R F : Type 0} → (S → List ℕ) → (R → List ℕ) → S → R → Result (Unit {0}) F → S → Type 0
@@ -50,9 +46,9 @@ module _ {C T D S F : Type 0} (Steps : State T → C → Reply T D → State T �
       after_first old h.0 new sink h.1 after kept command commands h.2 answer h.3 h.4 (λ more r. replied commands h.0 new h.1 after more answer r u e) u e
 
 -- from a new map and an empty text
-pub prints : {S F : Type 0} (text : S → List ℕ) (commands : List Command) (old new : State BiItem) (sink after : S) (answer : Result (Unit {0}) F) (u : Unit {0})
-    → old ≡ empty_state → text sink ≡ [] → answer ≡ Ok u → Run (Step item_keys nat_eq nat_eq with_value) (into_lines {F = F} text line_of) old sink commands answer new after
-    → Prints commands (text after)
-prints text commands old new sink after answer u e f k h =
-    let r = replied (Step item_keys nat_eq nat_eq with_value) text line_of commands old new sink after [] answer h u k in
-    (r.0, (new, subst (λ state. Run (Step item_keys nat_eq nat_eq with_value) KeepsReply state [] commands (Ok tt) new r.0) e r.1), r.2 ∙ ap (λ (ys : List ℕ). ys ++ flat_map line_of r.0) f)
+pub prints : {C T D S F : Type 0} (Steps : State T → C → Reply T D → State T → Type 0) (line : Reply T D → List ℕ) (text : S → List ℕ) (commands : List C) (old new : State T) (sink after : S) (answer : Result (Unit {0}) F) (u : Unit {0})
+    → old ≡ empty_state → text sink ≡ [] → answer ≡ Ok u → Run Steps (into_lines {F = F} text line) old sink commands answer new after
+    → Prints Steps line commands (text after)
+prints Steps line text commands old new sink after answer u e f k h =
+    let r = replied Steps text line commands old new sink after [] answer h u k in
+    (r.0, (new, subst (λ state. Run Steps KeepsReply state [] commands (Ok tt) new r.0) e r.1), r.2 ∙ ap (λ (ys : List ℕ). ys ++ flat_map line r.0) f)

@@ -8,7 +8,10 @@ use Rattle.iddqd_run.specs.Lines.{lines_of}
 use Rattle.iddqd_run.specs.Numbers.{number_of}
 use Rattle.iddqd_run.specs.Printed.{line_of, printed, bad_line_message}
 use Rattle.iddqd_run.specs.Sorted.{by_first_key}
-use Rattle.iddqd_run.specs.declared.item.BiItem.{BiItem}
+use Rattle.iddqd_run.specs.ThreeKeys as three_keys
+use Rattle.iddqd_run.specs.TwoKeys.{command_of, numbers}
+use Rattle.iddqd_run.specs.declared.item.bi.BiItem.{BiItem}
+use Rattle.iddqd_tri.specs.declared.command.TriCommand.TheVariants as three_keys_command
 use Rattle.iddqd_bi.specs.declared.command.BiCommand.TheVariants.{InsertUnique, Remove1, Items, Replace1, Set1, EntryInsert, EntryRemove, OrInsert}
 
 -- lines: what follows the last line end is a line if it isn't empty
@@ -38,136 +41,146 @@ signed : number_of (codes "+1") ≡ None
 signed = refl
 
 -- commands
-insertion : command_of_line (codes "new 1 10 100") ≡ Some (InsertUnique (record { key1 = 1; key2 = 10; value = 100 }))
+insertion : command_of_line command_of (codes "new 1 10 100") ≡ Some (InsertUnique (record { key1 = 1; key2 = 10; value = 100 }))
 insertion = refl
 
-removal : command_of_line (codes "del1 7") ≡ Some (Remove1 7)
+removal : command_of_line command_of (codes "del1 7") ≡ Some (Remove1 7)
 removal = refl
 
-listing : command_of_line (codes "list") ≡ Some Items
+listing : command_of_line command_of (codes "list") ≡ Some Items
 listing = refl
 
-too_few : command_of_line (codes "new 1 10") ≡ None
+too_few : command_of_line command_of (codes "new 1 10") ≡ None
 too_few = refl
 
-too_many : command_of_line (codes "get1 1 2") ≡ None
+too_many : command_of_line command_of (codes "get1 1 2") ≡ None
 too_many = refl
 
-space_before : command_of_line (codes " get1 1") ≡ None
+space_before : command_of_line command_of (codes " get1 1") ≡ None
 space_before = refl
 
-space_behind : command_of_line (codes "get1 1 ") ≡ None
+space_behind : command_of_line command_of (codes "get1 1 ") ≡ None
 space_behind = refl
 
-two_spaces : command_of_line (codes "get1  1") ≡ None
+two_spaces : command_of_line command_of (codes "get1  1") ≡ None
 two_spaces = refl
 
-carriage_return : command_of_line (codes "get1 1\r") ≡ None
+carriage_return : command_of_line command_of (codes "get1 1\r") ≡ None
 carriage_return = refl
 
-unknown_word : first_bad_line (codes "new 1 10 100\nget3 1\n") ≡ Some 2
+unknown_word : first_bad_line command_of (codes "new 1 10 100\nget3 1\n") ≡ Some 2
 unknown_word = refl
 
-number_behind_list : command_of_line (codes "list 1") ≡ None
+number_behind_list : command_of_line command_of (codes "list 1") ≡ None
 number_behind_list = refl
 
-replacement : command_of_line (codes "replace1 5 1 10 7") ≡ Some (Replace1 5 (record { key1 = 1; key2 = 10; value = 7 }))
+replacement : command_of_line command_of (codes "replace1 5 1 10 7") ≡ Some (Replace1 5 (record { key1 = 1; key2 = 10; value = 7 }))
 replacement = refl
 
-writing : command_of_line (codes "set1 5 8") ≡ Some (Set1 5 8)
+writing : command_of_line command_of (codes "set1 5 8") ≡ Some (Set1 5 8)
 writing = refl
 
-entry_insertion : command_of_line (codes "entput 5 6 1 10 7") ≡ Some (EntryInsert 5 6 (record { key1 = 1; key2 = 10; value = 7 }))
+entry_insertion : command_of_line command_of (codes "entput 5 6 1 10 7") ≡ Some (EntryInsert 5 6 (record { key1 = 1; key2 = 10; value = 7 }))
 entry_insertion = refl
 
-entry_removal : command_of_line (codes "entdel 5 6") ≡ Some (EntryRemove 5 6)
+entry_removal : command_of_line command_of (codes "entdel 5 6") ≡ Some (EntryRemove 5 6)
 entry_removal = refl
 
-insertion_if_vacant : command_of_line (codes "orput 5 6 1 10 7") ≡ Some (OrInsert 5 6 (record { key1 = 1; key2 = 10; value = 7 }))
+insertion_if_vacant : command_of_line command_of (codes "orput 5 6 1 10 7") ≡ Some (OrInsert 5 6 (record { key1 = 1; key2 = 10; value = 7 }))
 insertion_if_vacant = refl
 
-keys_without_an_item : command_of_line (codes "entput 1 2 3 4") ≡ None
+keys_without_an_item : command_of_line command_of (codes "entput 1 2 3 4") ≡ None
 keys_without_an_item = refl
 
 -- items by their first keys
 abbrev item : ℕ → ℕ → BiItem
 item k value = record { key1 = k; key2 = value; value = value }
 
-sorted_items : by_first_key (item 3 0 ∷ item 2 1 ∷ item 3 2 ∷ item 2 3 ∷ []) ≡ item 2 1 ∷ item 2 3 ∷ item 3 0 ∷ item 3 2 ∷ []
+sorted_items : by_first_key numbers (item 3 0 ∷ item 2 1 ∷ item 3 2 ∷ item 2 3 ∷ []) ≡ item 2 1 ∷ item 2 3 ∷ item 3 0 ∷ item 3 2 ∷ []
 sorted_items = refl
 
 -- the line of each reply
 abbrev whole : ℕ → ℕ → ℕ → BiItem
 whole k1 k2 v = record { key1 = k1; key2 = k2; value = v }
 
-ok_line : line_of done ≡ codes "ok\n"
+ok_line : line_of numbers done ≡ codes "ok\n"
 ok_line = refl
 
-dup_line : line_of (duplicate (whole 2 10 5) (whole 2 20 200 ∷ whole 1 10 100 ∷ [])) ≡ codes "dup (2 20 200) (1 10 100)\n"
+dup_line : line_of numbers (duplicate (whole 2 10 5) (whole 2 20 200 ∷ whole 1 10 100 ∷ [])) ≡ codes "dup (2 20 200) (1 10 100)\n"
 unfolding printed digits
 dup_line = refl
 
-out_line : line_of (displaced (whole 1 10 100 ∷ whole 2 20 200 ∷ [])) ≡ codes "out (1 10 100) (2 20 200)\n"
+out_line : line_of numbers (displaced (whole 1 10 100 ∷ whole 2 20 200 ∷ [])) ≡ codes "out (1 10 100) (2 20 200)\n"
 unfolding printed digits
 out_line = refl
 
-out_of_none : line_of (displaced []) ≡ codes "out\n"
+out_of_none : line_of numbers (displaced []) ≡ codes "out\n"
 out_of_none = refl
 
-found_line : line_of (found (Some (whole 1 10 100))) ≡ codes "item (1 10 100)\n"
+found_line : line_of numbers (found (Some (whole 1 10 100))) ≡ codes "item (1 10 100)\n"
 unfolding printed digits
 found_line = refl
 
-not_found_line : line_of (found None) ≡ codes "none\n"
+not_found_line : line_of numbers (found None) ≡ codes "none\n"
 not_found_line = refl
 
-taken_line : line_of (taken (Some (whole 7 1 2))) ≡ codes "item (7 1 2)\n"
+taken_line : line_of numbers (taken (Some (whole 7 1 2))) ≡ codes "item (7 1 2)\n"
 unfolding printed digits
 taken_line = refl
 
-none_taken_line : line_of (taken None) ≡ codes "none\n"
+none_taken_line : line_of numbers (taken None) ≡ codes "none\n"
 none_taken_line = refl
 
-memory_line : line_of (memory (whole 18446744073709551615 0 10)) ≡ codes "memory (18446744073709551615 0 10)\n"
+memory_line : line_of numbers (memory (whole 18446744073709551615 0 10)) ≡ codes "memory (18446744073709551615 0 10)\n"
 unfolding printed digits
 memory_line = refl
 
-refused_line : line_of refused ≡ codes "memory\n"
+refused_line : line_of numbers refused ≡ codes "memory\n"
 refused_line = refl
 
-len_line : line_of (size 2) ≡ codes "len 2\n"
+len_line : line_of numbers (size 2) ≡ codes "len 2\n"
 unfolding digits
 len_line = refl
 
-list_line : line_of (items (whole 3 1 0 ∷ whole 2 2 0 ∷ [])) ≡ codes "list (2 2 0) (3 1 0)\n"
+list_line : line_of numbers (items (whole 3 1 0 ∷ whole 2 2 0 ∷ [])) ≡ codes "list (2 2 0) (3 1 0)\n"
 unfolding printed digits
 list_line = refl
 
-list_of_none : line_of (items []) ≡ codes "list\n"
+list_of_none : line_of numbers (items []) ≡ codes "list\n"
 list_of_none = refl
 
-kept_line : line_of kept ≡ codes "kept\n"
+kept_line : line_of numbers kept ≡ codes "kept\n"
 kept_line = refl
 
-first_key_line : line_of (key 0 (whole 6 50 0)) ≡ codes "key1 (6 50 0)\n"
+first_key_line : line_of numbers (key 0 (whole 6 50 0)) ≡ codes "key1 (6 50 0)\n"
 unfolding printed digits
 first_key_line = refl
 
-second_key_line : line_of (key 1 (whole 1 98 0)) ≡ codes "key2 (1 98 0)\n"
+second_key_line : line_of numbers (key 1 (whole 1 98 0)) ≡ codes "key2 (1 98 0)\n"
 unfolding printed digits
 second_key_line = refl
 
-third_key_line : line_of (key 2 (whole 1 2 3)) ≡ codes "key3 (1 2 3)\n"
+third_key_line : line_of numbers (key 2 (whole 1 2 3)) ≡ codes "key3 (1 2 3)\n"
 unfolding printed digits
 third_key_line = refl
 
-absent_line : line_of (absent (whole 1 10 7)) ≡ codes "absent (1 10 7)\n"
+absent_line : line_of numbers (absent (whole 1 10 7)) ≡ codes "absent (1 10 7)\n"
 unfolding printed digits
 absent_line = refl
 
-absent_data_line : line_of (absent_data 8) ≡ codes "none\n"
+absent_data_line : line_of numbers (absent_data 8) ≡ codes "none\n"
 absent_data_line = refl
 
 bad_line : bad_line_message 12 ≡ codes "line 12: bad command\n"
 unfolding digits
 bad_line = refl
+
+-- the same words at three keys
+insertion_of_three_keys : command_of_line three_keys.command_of (codes "new 1 10 100 7") ≡ Some (three_keys_command.InsertUnique (record { key1 = 1; key2 = 10; key3 = 100; value = 7 }))
+insertion_of_three_keys = refl
+
+third_key_lookup : command_of_line three_keys.command_of (codes "get3 7") ≡ Some (three_keys_command.Get3 7)
+third_key_lookup = refl
+
+too_few_for_three_keys : command_of_line three_keys.command_of (codes "new 1 10 100") ≡ None
+too_few_for_three_keys = refl

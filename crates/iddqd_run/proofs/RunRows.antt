@@ -5,14 +5,17 @@ use Rattle.std.specs.Fmt.{digits}
 use Rattle.std.proofs.lemmas.List.Sorted.{IsPermutation-refl}
 use Rattle.iddqd_store.specs.Runs.Reply.{Reply, done, duplicate, displaced, found, taken, refused, size, items}
 use Rattle.iddqd_store.specs.Runs.Step.{State}
+use Rattle.iddqd_tri.specs.declared.command.TriCommand.TheVariants as tri
 use Rattle.iddqd_bi.specs.declared.command.BiCommand.TheVariants.{InsertUnique, InsertOverwrite, Get2, GetUnique, Remove1, Reserve, Len, Items}
-use Rattle.iddqd_run.specs.Outputs.{Replies, Prints}
+use Rattle.iddqd_run.specs.Outputs.{Replies}
+use Rattle.iddqd_run.specs.ThreeKeys as three_keys
 use Rattle.iddqd_run.specs.Printed.{printed}
 use Rattle.iddqd_run.specs.RunText.{IsOutcome}
-use Rattle.iddqd_run.specs.declared.outcome.Kind.TheVariants.{Bi}
+use Rattle.iddqd_run.specs.declared.outcome.Kind.TheVariants.{Bi, Tri}
 use Rattle.iddqd_run.specs.declared.outcome.RunEnd.TheVariants.{Done, BadLine}
-use Rattle.iddqd_run.specs.Words.{Command}
-use Rattle.iddqd_run.specs.declared.item.BiItem.{BiItem}
+use Rattle.iddqd_run.specs.TwoKeys.{Command, Prints, Steps}
+use Rattle.iddqd_run.specs.declared.item.bi.BiItem.{BiItem}
+use Rattle.iddqd_run.specs.declared.item.tri.TriItem.{TriItem}
 use Rattle.iddqd_run.proofs.Chain.{replies_from}
 
 abbrev item : ℕ → ℕ → ℕ → BiItem
@@ -28,8 +31,8 @@ removing = InsertUnique (item 1 10 100) ∷ Remove1 1 ∷ InsertUnique (item 2 2
 abbrev removing_replies : List (Reply BiItem ℕ)
 removing_replies = done ∷ taken (Some (item 1 10 100)) ∷ done ∷ []
 
-room_after_a_removal : Replies removing removing_replies
-room_after_a_removal = replies_from removing removing_replies (
+room_after_a_removal : Replies Steps removing removing_replies
+room_after_a_removal = replies_from Steps removing removing_replies (
   state (item 2 20 200 ∷ []) 1,
   (
     state (item 1 10 100 ∷ []) 1,
@@ -61,8 +64,8 @@ overwriting = InsertUnique a ∷ InsertUnique b ∷ GetUnique 1 20 ∷ InsertOve
 abbrev overwriting_replies : List (Reply BiItem ℕ)
 overwriting_replies = done ∷ done ∷ found None ∷ displaced (a ∷ b ∷ []) ∷ found None ∷ items (item 1 20 300 ∷ []) ∷ []
 
-overwritten : Replies overwriting overwriting_replies
-overwritten = replies_from overwriting overwriting_replies (
+overwritten : Replies Steps overwriting overwriting_replies
+overwritten = replies_from Steps overwriting overwriting_replies (
   state (item 1 20 300 ∷ []) 7,
   (
     state (a ∷ []) 7,
@@ -103,8 +106,8 @@ conflicting = InsertUnique a ∷ InsertUnique b ∷ InsertUnique (item 2 10 5) �
 abbrev conflicting_replies : List (Reply BiItem ℕ)
 conflicting_replies = done ∷ done ∷ duplicate (item 2 10 5) (b ∷ a ∷ []) ∷ size 2 ∷ []
 
-conflicted : Replies conflicting conflicting_replies
-conflicted = replies_from conflicting conflicting_replies (
+conflicted : Replies Steps conflicting conflicting_replies
+conflicted = replies_from Steps conflicting conflicting_replies (
   state (b ∷ a ∷ []) 7,
   (
     state (a ∷ []) 7,
@@ -135,8 +138,8 @@ too_many = InsertUnique a ∷ Reserve 18446744073709551615 ∷ Len ∷ []
 abbrev too_many_replies : List (Reply BiItem ℕ)
 too_many_replies = done ∷ refused ∷ size 1 ∷ []
 
-not_so_many : Replies too_many too_many_replies
-not_so_many = replies_from too_many too_many_replies (
+not_so_many : Replies Steps too_many too_many_replies
+not_so_many = replies_from Steps too_many too_many_replies (
   state (a ∷ []) 7,
   (
     state (a ∷ []) 7,
@@ -161,4 +164,56 @@ unfolding digits
 prints_bad_line = (refl, refl)
 
 prints_nothing : IsOutcome Bi [] Done []
-prints_nothing = ([], refl, ([], replies_from [] [] (state [] 0, refl), refl))
+prints_nothing = ([], refl, ([], replies_from Steps [] [] (state [] 0, refl), refl))
+
+-- three keys: an item that has one of each displaces three
+abbrev over_three : TriItem
+over_three = record { key1 = 1; key2 = 20; key3 = 300; value = 5 }
+
+abbrev one_of_three : TriItem
+one_of_three = record { key1 = 1; key2 = 10; key3 = 100; value = 7 }
+
+abbrev two_of_three : TriItem
+two_of_three = record { key1 = 2; key2 = 20; key3 = 200; value = 8 }
+
+abbrev three_of_three : TriItem
+three_of_three = record { key1 = 3; key2 = 30; key3 = 300; value = 9 }
+
+abbrev displacing_three : List three_keys.Command
+displacing_three = tri.InsertUnique one_of_three ∷ tri.InsertUnique two_of_three ∷ tri.InsertUnique three_of_three ∷ tri.InsertOverwrite over_three ∷ tri.Items ∷ []
+
+abbrev displacing_three_replies : List (Reply TriItem ℕ)
+displacing_three_replies = done ∷ done ∷ done ∷ displaced (one_of_three ∷ two_of_three ∷ three_of_three ∷ []) ∷ items (over_three ∷ []) ∷ []
+
+abbrev tri_state : List TriItem → State TriItem
+tri_state xs = record { items = xs; capacity = 7 }
+
+displaced_three : Replies three_keys.Steps displacing_three displacing_three_replies
+displaced_three = replies_from three_keys.Steps displacing_three displacing_three_replies (
+  tri_state (over_three ∷ []),
+  (
+    tri_state (one_of_three ∷ []),
+    (refl, IsPermutation-refl _, omega arith, λ room. absurd (omega (arith, room))),
+    (omega arith, omega arith),
+    (
+      tri_state (two_of_three ∷ one_of_three ∷ []),
+      (refl, IsPermutation-refl _, omega arith, λ room. refl),
+      (omega arith, omega arith),
+      (
+        tri_state (three_of_three ∷ two_of_three ∷ one_of_three ∷ []),
+        (refl, IsPermutation-refl _, omega arith, λ room. refl),
+        (omega arith, omega arith),
+        (
+          tri_state (over_three ∷ []),
+          (refl, IsPermutation-refl _, omega arith, (λ room. refl), λ some. refl),
+          (omega arith, omega arith),
+          (tri_state (over_three ∷ []), (IsPermutation-refl _, refl), (omega arith, omega arith), refl),
+        ),
+      ),
+    ),
+  ),
+)
+
+prints_displaced_three : IsOutcome Tri (codes "new 1 10 100 7\nnew 2 20 200 8\nnew 3 30 300 9\nput 1 20 300 5\nlist\n") Done (codes "ok\nok\nok\nout (1 10 100 7) (2 20 200 8) (3 30 300 9)\nlist (1 20 300 5)\n")
+unfolding printed digits
+prints_displaced_three = (displacing_three, refl, (displacing_three_replies, displaced_three, refl))

@@ -3,7 +3,8 @@ use Rattle.std.specs.Prelude.{◌≡◌, ◌==◌, ℕ, List, [], ◌∷◌, Opt
 use Rattle.std.specs.List.{slice_split, position_from}
 use Rattle.iddqd_run.specs.Lines.{lines_of}
 use Rattle.iddqd_run.specs.Numbers.{number_of}
-use Rattle.iddqd_run.specs.Words.{Command, word_of, command_of}
+use Rattle.iddqd_run.specs.Words.{word_of}
+use Rattle.iddqd_run.specs.declared.words.Word.{Word}
 
 -- a number before others
 abbrev pub before : Option ℕ → Option (List ℕ) → Option (List ℕ)
@@ -15,19 +16,22 @@ abbrev pub numbers_of : List (List ℕ) → Option (List ℕ)
 numbers_of [] = Some []
 numbers_of (field ∷ fields) = before (number_of field) (numbers_of fields)
 
--- the command of a word and of the numbers behind it
-abbrev pub command_of_fields : List (List ℕ) → Option Command
-command_of_fields [] = None
-command_of_fields (name ∷ digits) = option_and_then (λ word. option_and_then (command_of word) (numbers_of digits)) (word_of name)
+-- `command_of` is what the words of a kind of map stand for
+module _ {C : Type 0} (command_of : Word → List ℕ → Option C) where
+  -- the command of a word and of the numbers behind it
+  abbrev pub command_of_fields : List (List ℕ) → Option C
+  command_of_fields [] = None
+  command_of_fields (name ∷ digits) =
+      option_and_then (λ word. option_and_then (command_of word) (numbers_of digits)) (word_of name)
 
--- the command that a line spells: one space stands before each number
-abbrev pub command_of_line : List ℕ → Option Command
-command_of_line line = command_of_fields (slice_split (λ b. b == 32) line)
+  -- the command that a line spells: one space stands before each number
+  abbrev pub command_of_line : List ℕ → Option C
+  command_of_line line = command_of_fields (slice_split (λ b. b == 32) line)
 
--- each line of the text spells its command
-abbrev pub Spells : List ℕ → List Command → Type 0
-Spells text commands = map command_of_line (lines_of text) ≡ map (λ command. Some command) commands
+  -- each line of the text spells its command
+  abbrev pub Spells : List ℕ → List C → Type 0
+  Spells text commands = map command_of_line (lines_of text) ≡ map (λ command. Some command) commands
 
--- the number of the first line that spells none, where the first line is line 1
-abbrev pub first_bad_line : List ℕ → Option ℕ
-first_bad_line text = position_from (λ found. is_none found) 1 (map command_of_line (lines_of text))
+  -- the number of the first line that spells none, where the first line is line 1
+  abbrev pub first_bad_line : List ℕ → Option ℕ
+  first_bad_line text = position_from (λ found. is_none found) 1 (map command_of_line (lines_of text))

@@ -10,4 +10,6 @@ pub mod Printed
 pub mod RunText
 pub mod Sorted
 pub mod Texts
+pub mod ThreeKeys
+pub mod TwoKeys
 pub mod Words

@@ -2,7 +2,7 @@
 use Rattle.std.specs.Prelude.{ℕ, List, [], ◌∷◌, codes, Option, Some, None, Result, Ok, Err, if◌then◌else◌}
 use Rattle.iddqd_run.specs.Texts.{is_text}
 use Rattle.iddqd_run.specs.declared.outcome.Kind.{Kind}
-use Rattle.iddqd_run.specs.declared.outcome.Kind.TheVariants.{Bi}
+use Rattle.iddqd_run.specs.declared.outcome.Kind.TheVariants.{Bi, Tri}
 use Rattle.iddqd_run.specs.declared.outcome.RunEnd.{RunEnd}
 use Rattle.iddqd_run.specs.declared.outcome.RunEnd.TheVariants.{Done, BadLine}
 use Rattle.iddqd_run.specs.declared.outcome.RunFault.{RunFault}
@@ -10,7 +10,10 @@ use Rattle.iddqd_run.specs.declared.outcome.RunFault.TheVariants.{Read, Write, M
 
 -- the kind that the arguments ask for
 abbrev pub kind_of : List (List ℕ) → Option Kind
-kind_of (word ∷ []) = if is_text word (codes "bi") then Some Bi else None
+kind_of (word ∷ []) =
+    if is_text word (codes "bi") then Some Bi else
+    if is_text word (codes "tri") then Some Tri else
+    None
 kind_of arguments = None
 
 -- the exit status

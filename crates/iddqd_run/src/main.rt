@@ -1,6 +1,7 @@
 //! Runs the lines of commands of standard input on a map, and writes the line of each reply to standard output.
 #![tactic(auto)]
 
+mod command;
 mod ends;
 mod from_read;
 mod item;
@@ -14,7 +15,9 @@ mod run;
 mod sink;
 #[cfg(test)]
 mod tests;
+mod three_keys;
 mod to_write;
+mod two_keys;
 mod words;
 mod write;
 

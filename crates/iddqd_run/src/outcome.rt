@@ -12,6 +12,8 @@ use std::io::{self, ErrorKind};
 pub enum Kind {
     /// Items have two keys.
     Bi,
+    /// Items have three keys.
+    Tri,
 }
 
 /// How a run without a fault ends.
@@ -61,14 +63,15 @@ pub fn asked(read: io::Result<Vec<String>>) -> Result<Option<Kind>, RunFault>
     }
 }
 
-/// The kind that the arguments after the program's name ask for: `bi` alone asks for two keys.
-/// Other arguments ask for none.
+/// The kind that the arguments after the program's name ask for: `bi` alone asks for two keys, and
+/// `tri` alone for three. Other arguments ask for none.
 pub fn kind_of(arguments: &[String]) -> Option<Kind>
     ensures { result ≡ kind_of (map string_bytes arguments.now) }
 {
     match arguments {
         [word] => match word.as_bytes() {
             b"bi" => Some(Kind::Bi),
+            b"tri" => Some(Kind::Tri),
             _ => None,
         },
         _ => None,

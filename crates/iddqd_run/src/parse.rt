@@ -5,18 +5,17 @@ ghost use Rattle.std.specs.Option.{option_map};
 ghost use Rattle.iddqd_run.specs.Commands.{numbers_of, command_of_fields, command_of_line};
 ghost use Rattle.iddqd_run.specs.Parsed.{IsParse};
 
-use crate::item::BiItem;
+use crate::command::Command;
 use crate::lines::cut;
 use crate::numbers::number;
-use crate::words::{command_of, word_of};
-use iddqd_bi::BiCommand;
+use crate::words::word_of;
 use std::alloc::{AllocError, Global};
 
 /// What a text spells.
 #[derive(Drop)]
-pub enum Parsed {
+pub enum Parsed<C> {
     /// A command in each line.
-    Commands(Vec<BiCommand<BiItem>>),
+    Commands(Vec<C>),
     /// The line with this number is the first that spells none. The first line is line 1.
     BadLine(u64),
 }
@@ -25,8 +24,8 @@ pub enum Parsed {
 ///
 /// It keeps the commands in memory, and the parts of one line beside.
 #[tactic(auto, using(crate::proofs::Parsing::spells_more, crate::proofs::Parsing::spells_all, crate::proofs::Parsing::spells_none))]
-pub fn parse(alloc: Global, text: &[u8]) -> Result<Parsed, AllocError>
-    ensures { IfOk result (IsParse text.now) }
+pub fn parse<C: Command>(alloc: Global, text: &[u8]) -> Result<Parsed<C>, AllocError>
+    ensures { IfOk result (IsParse C.command_of text.now) }
 {
     let mut commands = Vec::new(alloc);
     let mut rest = text;
@@ -44,8 +43,8 @@ pub fn parse(alloc: Global, text: &[u8]) -> Result<Parsed, AllocError>
 }
 
 /// The command that a line spells, if it spells one.
-pub fn command_of_line(alloc: Global, line: &[u8]) -> Result<Option<BiCommand<BiItem>>, AllocError>
-    ensures { IfOk result (λ found. found ≡ command_of_line line.now) }
+pub fn command_of_line<C: Command>(alloc: Global, line: &[u8]) -> Result<Option<C>, AllocError>
+    ensures { IfOk result (λ found. found ≡ command_of_line C.command_of line.now) }
 {
     let fields = fields(alloc, line)?;
     command_of_fields(alloc, &fields)
@@ -60,11 +59,8 @@ fn fields<'t>(alloc: Global, line: &'t [u8]) -> Result<Vec<&'t [u8]>, AllocError
 }
 
 /// The command of a word and of the numbers behind it.
-fn command_of_fields(
-    alloc: Global,
-    fields: &[&[u8]],
-) -> Result<Option<BiCommand<BiItem>>, AllocError>
-    ensures { IfOk result (λ found. found ≡ command_of_fields (map (λ field. field.now) fields.now)) }
+fn command_of_fields<C: Command>(alloc: Global, fields: &[&[u8]]) -> Result<Option<C>, AllocError>
+    ensures { IfOk result (λ found. found ≡ command_of_fields C.command_of (map (λ field. field.now) fields.now)) }
 {
     let [name, digits @ ..] = fields else {
         return Ok(None);
@@ -75,7 +71,7 @@ fn command_of_fields(
     let Some(numbers) = numbers_of(alloc, digits)? else {
         return Ok(None);
     };
-    Ok(command_of(word, &numbers))
+    Ok(C::command_of(word, &numbers))
 }
 
 /// The numbers that the fields spell, if each spells one.

@@ -1,48 +1,55 @@
 //! The lines that the program prints.
 ghost use Rattle.std.specs.Prelude.{◌≡◌, ◌++◌, IfOk, OnOk, codes, map, string_bytes};
-ghost use Rattle.iddqd_bi.specs.Values.{value_of};
+ghost use Rattle.iddqd_store.specs.Runs.Values.{value_by};
 ghost use Rattle.iddqd_run.specs.Printed.{printed, items_text, found_line, line_of, bad_line_message};
 ghost use Rattle.iddqd_run.specs.Sorted.{by_first_key};
 
-use crate::item::BiItem;
-use iddqd_bi::{BiReply, Iter};
-use iddqd_store::UpToTwo;
+use crate::item::Numbers;
+use iddqd_store::{Iter, MapReply, ShortList};
 use std::alloc::{AllocError, Global};
 
 /// The line of a reply. It takes memory for its text.
-pub fn line_of(alloc: Global, reply: BiReply<'_, BiItem>) -> Result<String, AllocError>
-    ensures { IfOk result (λ line. string_bytes line ≡ line_of (value_of reply.entry)) }
+pub fn line_of<
+    'm,
+    T: Numbers + Copy + Drop,
+    L: ShortList<Item = &'m T> + Drop,
+    G: ShortList<Item = T> + Drop,
+>(alloc: Global, reply: MapReply<'m, T, u64, L, G>) -> Result<String, AllocError>
+    ensures { IfOk result (λ line. string_bytes line ≡ line_of T.numbers (value_by L.list G.list reply.entry)) }
 {
     match reply {
-        BiReply::Done => String::from_str(alloc, "ok\n"),
-        BiReply::Duplicate(refused) => {
+        MapReply::Done => String::from_str(alloc, "ok\n"),
+        MapReply::Duplicate(refused) => {
             let (_, duplicates) = refused.into_parts();
             duplicates_line(alloc, duplicates)
         }
-        BiReply::Displaced(displaced) => displaced_line(alloc, displaced),
-        BiReply::Found(None) => String::from_str(alloc, "none\n"),
-        BiReply::Found(Some(item)) => format!(in alloc; "item {item}\n"),
-        BiReply::Taken(None) => String::from_str(alloc, "none\n"),
-        BiReply::Taken(Some(item)) => format!(in alloc; "item {item}\n"),
-        BiReply::Present(true) => String::from_str(alloc, "yes\n"),
-        BiReply::Present(false) => String::from_str(alloc, "no\n"),
-        BiReply::Memory(item) => format!(in alloc; "memory {item}\n"),
-        BiReply::Refused => String::from_str(alloc, "memory\n"),
-        BiReply::Length(count) => format!(in alloc; "len {count}\n"),
-        BiReply::Items(items) => list_line(alloc, items),
-        BiReply::Kept => String::from_str(alloc, "kept\n"),
-        BiReply::Key1(item) => format!(in alloc; "key1 {item}\n"),
-        BiReply::Key2(item) => format!(in alloc; "key2 {item}\n"),
-        BiReply::Key3(item) => format!(in alloc; "key3 {item}\n"),
-        BiReply::Absent(item) => format!(in alloc; "absent {item}\n"),
-        BiReply::AbsentData(_) => String::from_str(alloc, "none\n"),
+        MapReply::Displaced(displaced) => displaced_line(alloc, displaced),
+        MapReply::Found(None) => String::from_str(alloc, "none\n"),
+        MapReply::Found(Some(item)) => format!(in alloc; "item {item}\n"),
+        MapReply::Taken(None) => String::from_str(alloc, "none\n"),
+        MapReply::Taken(Some(item)) => format!(in alloc; "item {item}\n"),
+        MapReply::Present(true) => String::from_str(alloc, "yes\n"),
+        MapReply::Present(false) => String::from_str(alloc, "no\n"),
+        MapReply::Memory(item) => format!(in alloc; "memory {item}\n"),
+        MapReply::Refused => String::from_str(alloc, "memory\n"),
+        MapReply::Length(count) => format!(in alloc; "len {count}\n"),
+        MapReply::Items(items) => list_line(alloc, items),
+        MapReply::Kept => String::from_str(alloc, "kept\n"),
+        MapReply::Key1(item) => format!(in alloc; "key1 {item}\n"),
+        MapReply::Key2(item) => format!(in alloc; "key2 {item}\n"),
+        MapReply::Key3(item) => format!(in alloc; "key3 {item}\n"),
+        MapReply::Absent(item) => format!(in alloc; "absent {item}\n"),
+        MapReply::AbsentData(_) => String::from_str(alloc, "none\n"),
     }
 }
 
 /// The line of the items in the way of a new one.
-fn duplicates_line(alloc: Global, duplicates: UpToTwo<&BiItem>) -> Result<String, AllocError>
-    ensures { IfOk result (λ line.
-        string_bytes line ≡ codes "dup" ++ items_text (map (λ item. item.now) duplicates.entry) ++ codes "\n") }
+fn duplicates_line<'m, T: Numbers + 'm, L: ShortList<Item = &'m T> + Drop>(
+    alloc: Global,
+    duplicates: L,
+) -> Result<String, AllocError>
+    ensures { IfOk result (λ line. string_bytes line ≡
+        codes "dup" ++ items_text T.numbers (map (λ item. item.now) (L.list duplicates)) ++ codes "\n") }
 {
     let mut line = String::from_str(alloc, "dup")?;
     let mut left = duplicates;
@@ -58,8 +65,12 @@ fn duplicates_line(alloc: Global, duplicates: UpToTwo<&BiItem>) -> Result<String
 }
 
 /// The line of the items that went out for a new one.
-fn displaced_line(alloc: Global, displaced: UpToTwo<BiItem>) -> Result<String, AllocError>
-    ensures { IfOk result (λ line. string_bytes line ≡ codes "out" ++ items_text displaced ++ codes "\n") }
+fn displaced_line<T: Numbers + Drop, G: ShortList<Item = T> + Drop>(
+    alloc: Global,
+    displaced: G,
+) -> Result<String, AllocError>
+    ensures { IfOk result (λ line.
+        string_bytes line ≡ codes "out" ++ items_text T.numbers (G.list displaced) ++ codes "\n") }
 {
     let mut line = String::from_str(alloc, "out")?;
     let mut left = displaced;
@@ -75,9 +86,12 @@ fn displaced_line(alloc: Global, displaced: UpToTwo<BiItem>) -> Result<String, A
 }
 
 /// The line of all items, the smallest first key first. It takes memory for the items too.
-fn list_line(alloc: Global, items: Iter<'_, BiItem>) -> Result<String, AllocError>
+fn list_line<T: Numbers + Copy + Drop>(
+    alloc: Global,
+    items: Iter<'_, T>,
+) -> Result<String, AllocError>
     ensures { IfOk result (λ line.
-        string_bytes line ≡ codes "list" ++ items_text (by_first_key items.entry) ++ codes "\n") }
+        string_bytes line ≡ codes "list" ++ items_text T.numbers (by_first_key T.numbers items.entry) ++ codes "\n") }
 {
     let sorted = by_first_key(alloc, items)?;
     let mut line = String::from_str(alloc, "list")?;
@@ -89,17 +103,21 @@ fn list_line(alloc: Global, items: Iter<'_, BiItem>) -> Result<String, AllocErro
 }
 
 /// The items, the smallest first key first.
-fn by_first_key(alloc: Global, items: Iter<'_, BiItem>) -> Result<Vec<BiItem>, AllocError>
-    ensures { IfOk result (λ sorted. sorted.items ≡ by_first_key items.entry) }
+fn by_first_key<T: Numbers + Copy + Drop>(
+    alloc: Global,
+    items: Iter<'_, T>,
+) -> Result<Vec<T>, AllocError>
+    ensures { IfOk result (λ sorted. sorted.items ≡ by_first_key T.numbers items.entry) }
 {
-    let mut sorted: Vec<BiItem> = items.copied().collect(alloc)?;
-    sorted.sort_by_key(|item| item.key1)?;
+    let mut sorted: Vec<T> = items.copied().collect(alloc)?;
+    sorted.sort_by_key(|item| item.first_key())?;
     Ok(sorted)
 }
 
 /// Puts a space and the item behind a text.
-fn push_item(alloc: Global, line: &mut String, item: &BiItem) -> Result<(), AllocError>
-    ensures { OnOk result (string_bytes line.new ≡ string_bytes line.old ++ codes " " ++ printed item.now) }
+fn push_item<T: Numbers>(alloc: Global, line: &mut String, item: &T) -> Result<(), AllocError>
+    ensures { OnOk result (string_bytes line.new ≡
+        string_bytes line.old ++ codes " " ++ printed (T.numbers item.now)) }
 {
     let text = format!(in alloc; " {item}")?;
     line.push_str(text.as_str())?;

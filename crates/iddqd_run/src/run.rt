@@ -2,18 +2,18 @@
 ghost use Rattle.std.specs.Prelude.{◌≡◌, Err, IfOk, IfSome, OnOk, string_bytes};
 ghost use Rattle.std.specs.Io.KnownBytes.{IsAtEnd, Keeps};
 ghost use Rattle.iddqd_run.specs.Faults.{reads_failed, writes_failed};
-ghost use Rattle.iddqd_run.specs.Outputs.{Prints};
-ghost use Rattle.iddqd_run.specs.RunText.{IsOutcome, Writes, WritesFront};
+ghost use Rattle.iddqd_run.specs.RunText.{IsAnswer, IsOutcome, Writes, WritesFront};
 
+use crate::command::Command;
 use crate::ends::{Out, Source};
-use crate::item::BiItem;
+use crate::item::{BiItem, TriItem};
 use crate::outcome::{Kind, RunEnd, RunFault};
 use crate::parse::{Parsed, parse};
 use crate::print::bad_line_message;
 use crate::read::read_all;
-use crate::sink::LineSink;
 use crate::write::write_all;
-use iddqd_bi::{BiCommand, BiHashMap};
+use iddqd_bi::BiCommand;
+use iddqd_tri::TriCommand;
 use std::alloc::{AllocError, Global};
 
 /// Reads to the end, reads all lines, then runs them on a new map of this kind, and writes the line
@@ -52,24 +52,25 @@ pub fn run_text<R: Source, W: Out>(
 fn answer(alloc: Global, kind: Kind, input: &[u8]) -> Result<(RunEnd, String), AllocError>
     ensures { IfOk result (λ answer. IsOutcome kind input.now answer.0 (string_bytes answer.1)) }
 {
-    match (kind, parse(alloc, input)?) {
-        (Kind::Bi, Parsed::Commands(commands)) => {
-            let output = run_commands(alloc, commands)?;
+    match kind {
+        Kind::Bi => answer_of::<BiCommand<BiItem>>(alloc, input),
+        Kind::Tri => answer_of::<TriCommand<TriItem>>(alloc, input),
+    }
+}
+
+/// The same, where the lines spell commands of this type.
+fn answer_of<C: Command>(alloc: Global, input: &[u8]) -> Result<(RunEnd, String), AllocError>
+    ensures { IfOk result (λ answer.
+        IsAnswer C.command_of C.Prints input.now answer.0 (string_bytes answer.1)) }
+{
+    match parse::<C>(alloc, input)? {
+        Parsed::Commands(commands) => {
+            let output = C::run_commands(alloc, commands)?;
             Ok((RunEnd::Done, output))
         }
-        (Kind::Bi, Parsed::BadLine(number)) => {
+        Parsed::BadLine(number) => {
             let message = bad_line_message(alloc, number)?;
             Ok((RunEnd::BadLine(number), message))
         }
     }
-}
-
-/// What commands print on a new map.
-fn run_commands(alloc: Global, commands: Vec<BiCommand<BiItem>>) -> Result<String, AllocError>
-    ensures { IfOk result (λ output. Prints commands.items (string_bytes output)) }
-{
-    let mut map = BiHashMap::<BiItem>::new(alloc);
-    let mut sink = LineSink::new(alloc);
-    map.run(commands, &mut sink)?;
-    Ok(sink.into_text())
 }

@@ -1,12 +1,7 @@
 //! What takes the replies of a run.
-ghost use Rattle.std.specs.Prelude.{string_bytes};
-ghost use Rattle.iddqd_bi.specs.Values.{value_of};
-ghost use Rattle.iddqd_run.specs.Printed.{line_of};
-ghost use Rattle.iddqd_run.specs.Outputs.{GrowsByLine};
-
-use crate::item::BiItem;
+use crate::item::Numbers;
 use crate::print::line_of;
-use iddqd_bi::{BiReply, BiSink};
+use iddqd_store::{MapReply, ShortList};
 use std::alloc::{AllocError, Global};
 
 /// Keeps the line of each reply, one behind the other.
@@ -17,7 +12,10 @@ pub struct LineSink {
 }
 
 impl LineSink {
-    ghost use Rattle.std.specs.Prelude.{◌≡◌, []};
+    ghost use Rattle.std.specs.Prelude.{◌≡◌, [], string_bytes};
+    ghost use Rattle.iddqd_store.specs.Runs.Values.{value_by};
+    ghost use Rattle.iddqd_run.specs.Outputs.{GrowsByLine};
+    ghost use Rattle.iddqd_run.specs.Printed.{line_of};
 
     /// A sink with no line yet. It takes no memory.
     pub fn new(alloc: Global) -> Self
@@ -36,18 +34,16 @@ impl LineSink {
         let LineSink { alloc: _, text } = self;
         text
     }
-}
 
-impl BiSink<BiItem> for LineSink {
-    type Fault = AllocError;
-
-    ghost took = { λ old reply answer new.
-        GrowsByLine line_of (string_bytes old.text) reply answer (string_bytes new.text) };
-
-    /// Puts the line of the reply behind the others, or leaves them where memory is refused.
-    fn take(&mut self, reply: BiReply<'_, BiItem>) -> Result<(), AllocError>
-        ensures { GrowsByLine line_of (string_bytes self.old.text) (value_of reply.entry) result
-            (string_bytes self.new.text) }
+    /// Puts the line of a reply behind the others, or leaves them where memory is refused.
+    pub fn push_line<
+        'm,
+        T: Numbers + Copy + Drop,
+        L: ShortList<Item = &'m T> + Drop,
+        G: ShortList<Item = T> + Drop,
+    >(&mut self, reply: MapReply<'m, T, u64, L, G>) -> Result<(), AllocError>
+        ensures { GrowsByLine (line_of T.numbers) (string_bytes self.old.text)
+            (value_by L.list G.list reply.entry) result (string_bytes self.new.text) }
     {
         let line = line_of(self.alloc, reply)?;
         self.text.push_str(line.as_str())?;

@@ -13,6 +13,7 @@ mod matcher;
 mod meter;
 mod rank;
 mod reply;
+mod short_list;
 mod up_to_three;
 mod up_to_two;
 
@@ -27,5 +28,6 @@ pub use matcher::Matcher;
 pub use meter::Meter;
 pub use rank::{ByQuery, KeyOf, Lookup};
 pub use reply::MapReply;
+pub use short_list::ShortList;
 pub use up_to_three::UpToThree;
 pub use up_to_two::UpToTwo;

@@ -5,20 +5,25 @@ use Rattle.iddqd_store.specs.Runs.Reply.{Reply, done, duplicate, displaced, foun
 use Rattle.iddqd_store.specs.declared.reply.MapReply.{MapReply}
 use Rattle.iddqd_store.specs.declared.reply.MapReply.TheVariants.{Done, Duplicate, Displaced, Found, Present, Taken, Memory, Refused, Length, Items, Kept, Key1, Key2, Key3, Absent, AbsentData}
 
+-- where the short lists of lent and of given items stand for these lists
+abbrev pub value_by : {T D L G : Type 0} → (L → List (Bor T)) → (G → List T) → MapReply T D L G → Reply T D
+value_by lent given Done = done
+value_by lent given (Duplicate d) = duplicate d.new_item (map (λ b. b.now) (lent d.duplicates))
+value_by lent given (Displaced ys) = displaced (given ys)
+value_by lent given (Found o) = found (option_copied o)
+value_by lent given (Present b) = present b
+value_by lent given (Taken o) = taken o
+value_by lent given (Memory x) = memory x
+value_by lent given Refused = refused
+value_by lent given (Length n) = size n
+value_by lent given (Items xs) = items xs
+value_by lent given Kept = kept
+value_by lent given (Key1 x) = key 0 x
+value_by lent given (Key2 x) = key 1 x
+value_by lent given (Key3 x) = key 2 x
+value_by lent given (Absent x) = absent x
+value_by lent given (AbsentData d) = absent_data d
+
+-- where they are lists themselves
 abbrev pub value_of : {T D : Type 0} → MapReply T D (List (Bor T)) (List T) → Reply T D
-value_of Done = done
-value_of (Duplicate d) = duplicate d.new_item (map (λ b. b.now) d.duplicates)
-value_of (Displaced ys) = displaced ys
-value_of (Found o) = found (option_copied o)
-value_of (Present b) = present b
-value_of (Taken o) = taken o
-value_of (Memory x) = memory x
-value_of Refused = refused
-value_of (Length n) = size n
-value_of (Items xs) = items xs
-value_of Kept = kept
-value_of (Key1 x) = key 0 x
-value_of (Key2 x) = key 1 x
-value_of (Key3 x) = key 2 x
-value_of (Absent x) = absent x
-value_of (AbsentData d) = absent_data d
+value_of reply = value_by (λ lent. lent) (λ given. given) reply

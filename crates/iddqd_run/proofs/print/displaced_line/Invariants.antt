@@ -5,7 +5,7 @@ use Rattle.iddqd_run.proofs.print.displaced_line.Given as goal
 
 -- the items so far and those that are left are all
 abbrev pub invariant-loop-item : goal.invariant-loop-item
-invariant-loop-item l = string_bytes l.line ++ items_text l.left ≡ codes "out" ++ items_text l.fn.displaced
+invariant-loop-item g l = string_bytes l.line ++ items_text g.T.Numbers.numbers (g.G.ShortList.list l.left) ≡ codes "out" ++ items_text g.T.Numbers.numbers (g.G.ShortList.list l.fn.displaced)
 
 abbrev pub decreases-loop-item : goal.decreases-loop-item
-decreases-loop-item l = length l.left
+decreases-loop-item g l = length (g.G.ShortList.list l.left)

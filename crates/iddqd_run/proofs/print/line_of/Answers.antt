@@ -5,16 +5,16 @@ use Rattle.iddqd_run.proofs.Printing.{first_key_word, second_key_word, third_key
 use Rattle.iddqd_run.proofs.print.line_of.Goals as goal
 
 pub returns-in-Key1 : goal.returns-in-Key1
-returns-in-Key1 c =
+returns-in-Key1 g c =
     rw c.in-Key1.is
-    (subst (λ (word : List ℕ). IfOk c.format-in-Key1.result (λ line. string_bytes line ≡ word ++ printed c.in-Key1.item ++ codes "\n")) (sym first_key_word) (search rules))
+    (subst (λ (word : List ℕ). IfOk c.format-in-Key1.result (λ line. string_bytes line ≡ word ++ printed (g.T.Numbers.numbers c.in-Key1.item) ++ codes "\n")) (sym first_key_word) (search rules))
 
 pub returns-in-Key2 : goal.returns-in-Key2
-returns-in-Key2 c =
+returns-in-Key2 g c =
     rw c.in-Key2.is
-    (subst (λ (word : List ℕ). IfOk c.format-in-Key2.result (λ line. string_bytes line ≡ word ++ printed c.in-Key2.item ++ codes "\n")) (sym second_key_word) (search rules))
+    (subst (λ (word : List ℕ). IfOk c.format-in-Key2.result (λ line. string_bytes line ≡ word ++ printed (g.T.Numbers.numbers c.in-Key2.item) ++ codes "\n")) (sym second_key_word) (search rules))
 
 pub returns-in-Key3 : goal.returns-in-Key3
-returns-in-Key3 c =
+returns-in-Key3 g c =
     rw c.in-Key3.is
-    (subst (λ (word : List ℕ). IfOk c.format-in-Key3.result (λ line. string_bytes line ≡ word ++ printed c.in-Key3.item ++ codes "\n")) (sym third_key_word) (search rules))
+    (subst (λ (word : List ℕ). IfOk c.format-in-Key3.result (λ line. string_bytes line ≡ word ++ printed (g.T.Numbers.numbers c.in-Key3.item) ++ codes "\n")) (sym third_key_word) (search rules))

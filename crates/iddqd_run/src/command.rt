@@ -1,0 +1,23 @@
+//! What each kind of map says of its commands.
+ghost use Rattle.std.specs.Prelude.{◌≡◌, ℕ, List, Option, IfOk, string_bytes};
+ghost use Rattle.iddqd_run.specs.declared.words.Word.{Word};
+
+use crate::words::Word;
+use std::alloc::{AllocError, Global};
+
+/// A command of one kind of map.
+pub trait Command: Drop {
+    // The command of a word with its numbers.
+    ghost command_of: { Word → List ℕ → Option Self };
+
+    // What a run of commands on a new map prints.
+    ghost Prints: { List Self → List ℕ → Type 0 };
+
+    /// The command of a word with these numbers, if they are as many as it takes.
+    fn command_of(word: Word, numbers: &[u64]) -> Option<Self>
+        ensures { result ≡ command_of word numbers.now };
+
+    /// What commands print on a new map.
+    fn run_commands(alloc: Global, commands: Vec<Self>) -> Result<String, AllocError>
+        ensures { IfOk result (λ output. Prints commands.items (string_bytes output)) };
+}
