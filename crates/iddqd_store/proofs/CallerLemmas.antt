@@ -1,4 +1,6 @@
 -- What a caller of a map cites: from a lookup's clause to membership and back, a lookup after an insert or a removal, lengths, walks, and writes.
+pub mod Named
+pub mod Walks
 use Rattle.std.specs.Prelude.{◌≡◌, ℕ, zero, suc, ◌+◌, ◌<◌, Bool, true, false, cond, not, List, [], ◌∷◌, ◌++◌, length, filter, IsPermutation, Contains, Option, Some, None}
 use Rattle.std.specs.List.{list_any}
 use Rattle.std.specs.Option.{option_to_list}

@@ -1,3 +1,1 @@
 mod Entering
-mod Named
-mod Walks

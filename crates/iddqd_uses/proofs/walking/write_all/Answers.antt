@@ -1,7 +1,7 @@
 use Rattle.std.proofs.Common.{refl, sym, [], ◌++◌, ◌∷◌}
 use Rattle.iddqd_bi.proofs.CallerLemmas.{passed-to_come}
 use Rattle.iddqd_bi.specs.RefMuts.{ref_item}
-use Rattle.iddqd_uses.proofs.Walks.{step_done, all_done, none_holds, some_holds}
+use Rattle.iddqd_bi.proofs.CallerLemmas.Walks.{step_done, all_done, none_holds, some_holds}
 use Rattle.iddqd_uses.proofs.walking.write_all.Goals as goal
 
 pub loop-item-init : goal.loop-item-init

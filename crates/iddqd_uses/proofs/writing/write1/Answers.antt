@@ -2,7 +2,7 @@ use Rattle.std.proofs.Common.{sym}
 use Rattle.iddqd_bi.specs.Keys.{ranks}
 use Rattle.iddqd_bi.specs.Map.{bag}
 use Rattle.iddqd_bi.specs.RefMuts.{ref_item, ref_map, ref_with}
-use Rattle.iddqd_uses.proofs.Named.{only_written}
+use Rattle.iddqd_bi.proofs.CallerLemmas.Named.{only_written}
 use Rattle.iddqd_uses.proofs.writing.write1.Goals as goal
 
 -- the item that is lent is the one that the key names

@@ -3,7 +3,7 @@ use Rattle.iddqd_bi.proofs.MapLemmas.{AreLawful-ranks, agrees-keys}
 use Rattle.iddqd_bi.specs.Keys.{ranks}
 use Rattle.iddqd_bi.specs.Map.{bag}
 use Rattle.iddqd_bi.specs.RefMuts.{ref_item, ref_map, ref_with}
-use Rattle.iddqd_uses.proofs.Named.{only_written_twice}
+use Rattle.iddqd_bi.proofs.CallerLemmas.Named.{only_written_twice}
 use Rattle.iddqd_uses.proofs.writing.write1_twice.Goals as goal
 
 -- the item keeps its keys, so the last write is of the item that the key names

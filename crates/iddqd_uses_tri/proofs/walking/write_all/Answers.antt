@@ -1,7 +1,7 @@
 use Rattle.std.proofs.Common.{refl, sym, [], ◌++◌, ◌∷◌}
 use Rattle.iddqd_tri.proofs.CallerLemmas.{passed-to_come}
 use Rattle.iddqd_tri.specs.RefMuts.{ref_item}
-use Rattle.iddqd_uses_tri.proofs.Walks.{step_done, all_done, none_holds, some_holds}
+use Rattle.iddqd_tri.proofs.CallerLemmas.Walks.{step_done, all_done, none_holds, some_holds}
 use Rattle.iddqd_uses_tri.proofs.walking.write_all.Goals as goal
 
 pub loop-item-init : goal.loop-item-init

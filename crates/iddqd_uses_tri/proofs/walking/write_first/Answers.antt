@@ -1,6 +1,6 @@
 use Rattle.std.proofs.Common.{sym}
 use Rattle.iddqd_tri.specs.Walk.{to_come}
-use Rattle.iddqd_uses_tri.proofs.Walks.{first_written}
+use Rattle.iddqd_tri.proofs.CallerLemmas.Walks.{first_written}
 use Rattle.iddqd_uses_tri.proofs.walking.write_first.Goals as goal
 
 -- the first item of the walk is the first of the bag

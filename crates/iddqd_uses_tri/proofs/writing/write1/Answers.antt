@@ -2,7 +2,7 @@ use Rattle.std.proofs.Common.{sym}
 use Rattle.iddqd_tri.specs.Keys.{ranks}
 use Rattle.iddqd_tri.specs.Map.{bag}
 use Rattle.iddqd_tri.specs.RefMuts.{ref_item, ref_map, ref_with}
-use Rattle.iddqd_uses_tri.proofs.Named.{only_written}
+use Rattle.iddqd_tri.proofs.CallerLemmas.Named.{only_written}
 use Rattle.iddqd_uses_tri.proofs.writing.write1.Goals as goal
 
 -- the item that is lent is the one that the key names

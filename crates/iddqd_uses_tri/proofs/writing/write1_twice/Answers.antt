@@ -3,7 +3,7 @@ use Rattle.iddqd_tri.proofs.MapLemmas.{AreLawful-ranks, agrees-keys}
 use Rattle.iddqd_tri.specs.Keys.{ranks}
 use Rattle.iddqd_tri.specs.Map.{bag}
 use Rattle.iddqd_tri.specs.RefMuts.{ref_item, ref_map, ref_with}
-use Rattle.iddqd_uses_tri.proofs.Named.{only_written_twice}
+use Rattle.iddqd_tri.proofs.CallerLemmas.Named.{only_written_twice}
 use Rattle.iddqd_uses_tri.proofs.writing.write1_twice.Goals as goal
 
 -- the item keeps its keys, so the last write is of the item that the key names

@@ -2,9 +2,9 @@
 use Rattle.std.specs.Prelude.{◌≡◌, ℕ, true, is_some, List, [], ◌∷◌, ◌++◌, map, IsPermutation, Option, Some, None, IfSome, IfNone}
 use Rattle.std.proofs.Common.{refl, sym, ap, ◌∙◌, subst}
 use Rattle.std.proofs.lemmas.List.Sorted.{IsPermutation-refl}
-use Rattle.iddqd_bi.specs.Map.{Map, bag}
-use Rattle.iddqd_bi.specs.Walk.{passed, to_come, Passes}
-use Rattle.iddqd_bi.proofs.CallerLemmas.{passed-to_come}
+use Rattle.iddqd_store.specs.Map.{Map, bag}
+use Rattle.iddqd_store.specs.Map.Walk.{passed, to_come, Passes}
+use Rattle.iddqd_store.proofs.CallerLemmas.{passed-to_come}
 
 module _ {T : Type 0} where
   append-nil : (xs : List T) → xs ++ [] ≡ xs

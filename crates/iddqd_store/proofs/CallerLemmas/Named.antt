@@ -2,9 +2,9 @@
 use Rattle.std.specs.Prelude.{◌≡◌, ◌<◌, true, List, length, [], ◌∷◌, Option, Some, None, IfSome, IsPermutation}
 use Rattle.std.proofs.Common.{subst}
 use Rattle.std.specs.Option.{option_to_list}
-use Rattle.iddqd_bi.specs.Bag.{Ranks, AreLawful, agrees, swap}
-use Rattle.iddqd_bi.specs.Map.{Map, bag}
-use Rattle.iddqd_bi.proofs.CallerLemmas.{swap-twice}
+use Rattle.iddqd_store.specs.Bag.{Ranks, AreLawful, agrees, swap}
+use Rattle.iddqd_store.specs.Map.{Map, bag}
+use Rattle.iddqd_store.proofs.CallerLemmas.{swap-twice}
 
 -- what holds of the item that is found holds of the one that the key names
 only_holds : {X : Type 0} (P : X → Type 0) (o : Option X) (x : X) (xs : List X) → option_to_list o ≡ xs → x ∷ [] ≡ xs → IfSome o P → P x
