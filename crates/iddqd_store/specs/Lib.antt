@@ -1,4 +1,5 @@
 pub mod Bag
+pub mod Callers
 pub mod Errors
 pub mod Map
 pub mod Rank

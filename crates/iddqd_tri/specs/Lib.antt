@@ -12,6 +12,7 @@ pub mod Step
 pub use Rattle.iddqd_store.specs.Bag
 pub use Rattle.iddqd_store.specs.Bag.Building
 pub use Rattle.iddqd_store.specs.Bag.Storing
+pub use Rattle.iddqd_store.specs.Callers
 pub use Rattle.iddqd_store.specs.Map
 pub use Rattle.iddqd_store.specs.Map.Walk
 pub use Rattle.iddqd_store.specs.Map.Written

@@ -7,7 +7,7 @@ ghost use Rattle.iddqd_bi.specs.Storing.{Stores};
 ghost use Rattle.iddqd_bi.specs.Map.{bag};
 ghost use Rattle.iddqd_bi.specs.Keys.{key_tests, ranks};
 ghost use Rattle.iddqd_bi.specs.Mismatch.{error_item};
-ghost use Rattle.iddqd_uses.specs.Entering.{InsertsOrWrites, WritesEntry};
+ghost use Rattle.iddqd_bi.specs.Callers.{InsertsOrWrites, WritesEntry};
 
 use iddqd_bi::{BiHashItem, BiHashItemMut, BiHashMap, Entry, EntryError};
 use std::hash::{BuildHasher, Hash};

@@ -4,7 +4,7 @@ ghost use Rattle.std.specs.Bool.{OnTrue, OnFalse};
 ghost use Rattle.iddqd_bi.specs.Bag.{clash, order, over};
 ghost use Rattle.iddqd_bi.specs.Map.{bag};
 ghost use Rattle.iddqd_bi.specs.Keys.{ranks};
-ghost use Rattle.iddqd_uses.specs.Inserting.{GainsBoth, MayRefuse};
+ghost use Rattle.iddqd_bi.specs.Callers.{GainsBoth, MayRefuse};
 
 use iddqd_bi::{BiHashItem, BiHashMap, InsertError};
 use std::hash::{BuildHasher, Hash};

@@ -7,7 +7,7 @@ ghost use Rattle.iddqd_tri.specs.Storing.{Stores};
 ghost use Rattle.iddqd_tri.specs.Map.{bag};
 ghost use Rattle.iddqd_tri.specs.Keys.{key_tests, ranks};
 ghost use Rattle.iddqd_tri.specs.Mismatch.{error_item};
-ghost use Rattle.iddqd_uses_tri.specs.Entering.{InsertsOrWrites, WritesEntry};
+ghost use Rattle.iddqd_tri.specs.Callers.{InsertsOrWrites, WritesEntry};
 
 use iddqd_tri::{Entry, EntryError, TriHashItem, TriHashItemMut, TriHashMap};
 use std::hash::{BuildHasher, Hash};

@@ -4,7 +4,7 @@ ghost use Rattle.std.specs.Bool.{OnTrue, OnFalse};
 ghost use Rattle.iddqd_tri.specs.Bag.{clash, order, over};
 ghost use Rattle.iddqd_tri.specs.Map.{bag};
 ghost use Rattle.iddqd_tri.specs.Keys.{ranks};
-ghost use Rattle.iddqd_uses_tri.specs.Inserting.{GainsBoth, MayRefuse};
+ghost use Rattle.iddqd_tri.specs.Callers.{GainsBoth, MayRefuse};
 
 use iddqd_tri::{InsertError, TriHashItem, TriHashMap};
 use std::hash::{BuildHasher, Hash};

@@ -2,7 +2,7 @@
 use Rattle.std.specs.Prelude.{◌≡◌, ◌≢◌, ◌≤◌, is_some, ℕ, zero, suc, Bool, true, false, List, [], ◌∷◌, length, filter, Option, Some, None, slice_set, if◌then◌else◌}
 use Rattle.std.specs.Cmp.{IsEquivalence}
 use Rattle.std.specs.List.{AllByRecursion, IsDistinct, list_any}
-use Rattle.std.specs.Option.{option_and_then, option_to_list, IfSome}
+use Rattle.std.specs.Option.{option_to_list}
 use Rattle.std.proofs.Common.{IsSome, refl, sym, ap, subst, ◌∙◌, arith}
 use Rattle.std.proofs.lemmas.Bool.{false≢true}
 use Rattle.std.proofs.lemmas.List.{nil_from_length}
@@ -10,7 +10,7 @@ use Rattle.iddqd_store.specs.Bag.{Ranks, AreLawful, IsSound, agrees, entry, list
 use Rattle.iddqd_store.specs.Rank.Keys.{IsKeyTest, AreKeyTests}
 use Rattle.iddqd_store.specs.Slots.{get, items_in, live_items}
 use Rattle.iddqd_store.specs.Slots.Found.{FoundAt, AreFound, entry_at, held_at}
-use Rattle.iddqd_store.specs.Slots.Kept.{IsSlotKept, KeepsKeys}
+use Rattle.iddqd_store.specs.Slots.Kept.{KeepsKeys}
 use Rattle.iddqd_store.proofs.BagLemmas.Exchanges.{split}
 use Rattle.iddqd_store.proofs.BagLemmas.KeyTests.{only_one}
 use Rattle.iddqd_store.proofs.BagLemmas.Same.{agrees-refl, agrees-trans, and-true}

@@ -6,7 +6,8 @@ use Rattle.iddqd_tri.specs.Entries.{held_entry, held_unique}
 use Rattle.iddqd_tri.specs.Keys.{key_tests, ranks}
 use Rattle.iddqd_tri.specs.Map.{Map, bag}
 use Rattle.iddqd_tri.specs.RefMuts.{ref_item, ref_map, ref_with}
-use Rattle.iddqd_uses_tri.proofs.Entering.{entered, none_held, unique_held, writes_entry}
+use Rattle.iddqd_tri.proofs.CallerLemmas.Entering.{writes_entry}
+use Rattle.iddqd_uses_tri.proofs.Entering.{entered, none_held, unique_held}
 use Rattle.iddqd_uses_tri.proofs.entries.or_insert_and_write.Goals as goal
 
 -- the item that is lent is the one that the entry has then
