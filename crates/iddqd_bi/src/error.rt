@@ -56,8 +56,8 @@ pub enum EntryError<T> {
     Memory(T),
 }
 
-/// The lowest rank, counted from 0, at which the item has not these keys. It compares the first keys, and those of the next
-/// rank where those are equal.
+/// The lowest rank, counted from 0, at which the item has not these keys. It compares the first keys, and those of the
+/// next rank where those are equal.
 pub(crate) fn differ<T: BiHashItem>(item: &T, key1: &T::K1, key2: &T::K2) -> Option<usize>
     ensures rank { result ≡ differ (key_tests T.BiHashItem T.K1.eq T.K2.eq key1.now key2.now) item.now }
     ensures below { IfSome result (λ rank. rank < 2) }

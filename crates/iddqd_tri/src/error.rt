@@ -60,15 +60,16 @@ pub enum EntryError<T> {
     Memory(T),
 }
 
-/// The lowest rank, counted from 0, at which the item has not these keys. It compares the first keys, and those of the next
-/// rank where those are equal.
+/// The lowest rank, counted from 0, at which the item has not these keys. It compares the first keys, and those of the
+/// next rank where those are equal.
 pub(crate) fn differ<T: TriHashItem>(
     item: &T,
     key1: &T::K1,
     key2: &T::K2,
     key3: &T::K3,
 ) -> Option<usize>
-    ensures rank { result ≡ differ (key_tests T.TriHashItem T.K1.eq T.K2.eq T.K3.eq key1.now key2.now key3.now) item.now }
+    ensures rank { result
+        ≡ differ (key_tests T.TriHashItem T.K1.eq T.K2.eq T.K3.eq key1.now key2.now key3.now) item.now }
     ensures below { IfSome result (λ rank. rank < 3) }
 {
     if *key1 != *item.key1() {

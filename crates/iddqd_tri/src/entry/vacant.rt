@@ -89,7 +89,8 @@ impl<'a, T: TriHashItem, S: BuildHasher> VacantEntry<'a, T, S> {
     pub fn insert_entry(self, item: T) -> Result<OccupiedEntry<'a, T, S>, EntryError<T>>
         ensures same_map { IfOk result (λ e. e.map.ghost_name ≡ self.entry.map.ghost_name) }
         ensures gains { IfOk result (λ e. Gains self.entry.map.now item e.map.now) }
-        ensures keys { IfOk result (λ e. (e.key1 ≡ self.entry.keys.key1) × (e.key2 ≡ self.entry.keys.key2) × (e.key3 ≡ self.entry.keys.key3)) }
+        ensures keys { IfOk result (λ e. (e.key1 ≡ self.entry.keys.key1) × (e.key2 ≡ self.entry.keys.key2)
+            × (e.key3 ≡ self.entry.keys.key3)) }
         ensures found { IfOk result (HasFound T.TriHashItem T.K1.eq T.K2.eq T.K3.eq) }
         ensures unique { IfOk result (λ e.
             entry (sought T.TriHashItem T.K1.eq T.K2.eq T.K3.eq e) (bag e.map.now) ≡ unique item) }
