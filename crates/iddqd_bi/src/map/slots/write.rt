@@ -156,6 +156,7 @@ impl<T: BiHashItemMut, S: BuildHasher> BiHashMap<T, S> {
         ensures live { (at : ℕ) → IsLive self.old.slots at → IsLive self.new.slots at }
     {
         self.store_all(&each_once(slot1, slot2), f);
+        // The invariant of what the map is now, for the clause `sound`.
         let _ = &self.items;
     }
 }

@@ -159,6 +159,7 @@ impl<T: TriHashItemMut, S: BuildHasher> TriHashMap<T, S> {
         ensures live { (at : ℕ) → IsLive self.old.slots at → IsLive self.new.slots at }
     {
         self.store_all(&each_once(slot1, slot2, slot3), f);
+        // The invariant of what the map is now, for the clause `sound`.
         let _ = &self.items;
     }
 }
