@@ -4,12 +4,12 @@ use Rattle.iddqd_store.specs.Bag.{AreLawful, IsSound, agrees}
 use Rattle.iddqd_store.specs.Runs.Reply.{Reply}
 use Rattle.iddqd_store.specs.Runs.Run.{Run}
 use Rattle.iddqd_store.specs.Runs.Step.{State}
-use Rattle.iddqd_store.proofs.RunLemmas.Steps.{IsSound-InsertsUnique, IsSound-InsertsOverwrite, IsSound-Gets, IsSound-Tells, IsSound-Removes, IsSound-Reserves, IsSound-ShrinksTo, IsSound-Clears, IsSound-Sizes, IsSound-Lists, IsSound-Extends, IsSound-EntryInserts, IsSound-EntryRemoves, IsSound-OrInserts, IsSound-Replaces, IsSound-Sets, run_keeps}
+use Rattle.iddqd_store.proofs.RunLemmas.Steps.{IsSound-InsertsUnique, IsSound-InsertsOverwrite, IsSound-Gets, IsSound-Tells, IsSound-Removes, IsSound-Reserves, IsSound-ShrinksTo, IsSound-Clears, IsSound-Sizes, IsSound-Lists, IsSound-Extends, IsSound-ExtendsUnique, IsSound-EntryInserts, IsSound-EntryRemoves, IsSound-OrInserts, IsSound-Replaces, IsSound-Sets, run_keeps}
 use Rattle.iddqd_bi.specs.Keys.{ranks, has1, has2, has_both, key_tests}
 use Rattle.iddqd_bi.specs.Step.{Step}
 use Rattle.iddqd_bi.specs.declared.item.BiHashItem as item
 use Rattle.iddqd_bi.specs.declared.command.BiCommand.{BiCommand}
-use Rattle.iddqd_bi.specs.declared.command.BiCommand.TheVariants.{InsertUnique, InsertOverwrite, Get1, Get2, GetUnique, Contains1, Contains2, ContainsUnique, Remove1, Remove2, RemoveUnique, Reserve, ShrinkTo, ShrinkToFit, Clear, Len, Items, Extend, EntryInsert, EntryRemove, OrInsert, Replace1, Replace2, Set1, Set2}
+use Rattle.iddqd_bi.specs.declared.command.BiCommand.TheVariants.{InsertUnique, InsertOverwrite, Get1, Get2, GetUnique, Contains1, Contains2, ContainsUnique, Remove1, Remove2, RemoveUnique, Reserve, ShrinkTo, ShrinkToFit, Clear, Len, Items, Extend, ExtendUnique, EntryInsert, EntryRemove, OrInsert, Replace1, Replace2, Set1, Set2}
 
 module _ {T D K1 K2 : Type 0} (of : item.Ghosts T K1 K2) (eq1 : K1 → K1 → Bool) (eq2 : K2 → K2 → Bool) (put : T → D → T) (laws : AreLawful (ranks of eq1 eq2))
     (keeps : (x : T) (d : D) → agrees (ranks of eq1 eq2) x (put x d) ≡ true) where
@@ -33,6 +33,7 @@ module _ {T D K1 K2 : Type 0} (of : item.Ghosts T K1 K2) (eq1 : K1 → K1 → Bo
   IsSound-Step old new Len reply sound step = IsSound-Sizes (ranks of eq1 eq2) laws old new sound reply step
   IsSound-Step old new Items reply sound step = IsSound-Lists (ranks of eq1 eq2) laws old new sound reply step
   IsSound-Step old new (Extend xs) reply sound step = IsSound-Extends (ranks of eq1 eq2) laws old new sound xs.items reply step
+  IsSound-Step old new (ExtendUnique xs) reply sound step = IsSound-ExtendsUnique (ranks of eq1 eq2) laws old new sound xs.items reply step
   IsSound-Step old new (EntryInsert k l x) reply sound step = IsSound-EntryInserts (ranks of eq1 eq2) laws old new sound (key_tests of eq1 eq2 k l) x reply step
   IsSound-Step old new (EntryRemove k l) reply sound step = IsSound-EntryRemoves (ranks of eq1 eq2) laws old new sound (key_tests of eq1 eq2 k l) reply step
   IsSound-Step old new (OrInsert k l x) reply sound step = IsSound-OrInserts (ranks of eq1 eq2) laws old new sound (key_tests of eq1 eq2 k l) x reply step

@@ -1,11 +1,11 @@
 -- One step of a map with two keys: each command with what it may answer.
 use Rattle.std.specs.Prelude.{Bool}
 use Rattle.iddqd_store.specs.Runs.Reply.{Reply}
-use Rattle.iddqd_store.specs.Runs.Step.{State, InsertsUnique, InsertsOverwrite, Gets, Tells, Removes, Reserves, ShrinksTo, Clears, Sizes, Lists, Extends, EntryInserts, EntryRemoves, OrInserts, Replaces, Sets}
+use Rattle.iddqd_store.specs.Runs.Step.{State, InsertsUnique, InsertsOverwrite, Gets, Tells, Removes, Reserves, ShrinksTo, Clears, Sizes, Lists, Extends, ExtendsUnique, EntryInserts, EntryRemoves, OrInserts, Replaces, Sets}
 use Rattle.iddqd_bi.specs.Keys.{ranks, has1, has2, has_both, key_tests}
 use Rattle.iddqd_bi.specs.declared.item.BiHashItem as item
 use Rattle.iddqd_bi.specs.declared.command.BiCommand.{BiCommand}
-use Rattle.iddqd_bi.specs.declared.command.BiCommand.TheVariants.{InsertUnique, InsertOverwrite, Get1, Get2, GetUnique, Contains1, Contains2, ContainsUnique, Remove1, Remove2, RemoveUnique, Reserve, ShrinkTo, ShrinkToFit, Clear, Len, Items, Extend, EntryInsert, EntryRemove, OrInsert, Replace1, Replace2, Set1, Set2}
+use Rattle.iddqd_bi.specs.declared.command.BiCommand.TheVariants.{InsertUnique, InsertOverwrite, Get1, Get2, GetUnique, Contains1, Contains2, ContainsUnique, Remove1, Remove2, RemoveUnique, Reserve, ShrinkTo, ShrinkToFit, Clear, Len, Items, Extend, ExtendUnique, EntryInsert, EntryRemove, OrInsert, Replace1, Replace2, Set1, Set2}
 
 -- `put` is the item with other data
 module _ {T D K1 K2 : Type 0} (of : item.Ghosts T K1 K2) (eq1 : K1 → K1 → Bool) (eq2 : K2 → K2 → Bool) (put : T → D → T) where
@@ -29,6 +29,7 @@ module _ {T D K1 K2 : Type 0} (of : item.Ghosts T K1 K2) (eq1 : K1 → K1 → Bo
   Step old Len reply new = Sizes old reply new
   Step old Items reply new = Lists old reply new
   Step old (Extend xs) reply new = Extends (ranks of eq1 eq2) old xs.items reply new
+  Step old (ExtendUnique xs) reply new = ExtendsUnique (ranks of eq1 eq2) old xs.items reply new
   Step old (EntryInsert k l x) reply new = EntryInserts (ranks of eq1 eq2) (key_tests of eq1 eq2 k l) old x reply new
   Step old (EntryRemove k l) reply new = EntryRemoves (key_tests of eq1 eq2 k l) old reply new
   Step old (OrInsert k l x) reply new = OrInserts (ranks of eq1 eq2) (key_tests of eq1 eq2 k l) old x reply new

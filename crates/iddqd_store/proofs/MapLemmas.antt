@@ -1,4 +1,5 @@
 -- What the maps' invariants share, with any number of ranks.
+pub mod Entered
 pub mod Storing
 pub mod Walking
 pub mod Written

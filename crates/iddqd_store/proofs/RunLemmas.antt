@@ -1,5 +1,6 @@
 -- Steps and runs: what they keep, and worked rows.
 pub mod EntrySteps
+pub mod ExtendUniqueRows
 pub mod Extending
 pub mod Runs
 pub mod StepRows

@@ -1,15 +1,14 @@
 -- What a contract sees of a map, with any number of ranks.
 pub mod Walk
 pub mod Written
-use Rattle.std.specs.Prelude.{◌≡◌, ◌≢◌, ◌+◌, ◌*◌, ◌^◌, ◌≤◌, ◌<◌, ℕ, nat_eq, List, [], ◌∷◌, ◌++◌, Option, Result, IsErr, OnOk, OnErr, All, length, fold, refl, IsPermutation}
+use Rattle.std.specs.Prelude.{◌≡◌, ◌≢◌, ◌+◌, ◌*◌, ◌^◌, ◌≤◌, ◌<◌, ℕ, List, [], ◌∷◌, ◌++◌, Option, Result, IsErr, OnOk, OnErr, length, fold, refl, IsPermutation}
 use Rattle.std.specs.Coded.{Coded, code_by, coded×, coded_ℕ, coded_list, coded_option}
 use Rattle.std.specs.Hash.{HashWrites}
-use Rattle.std.specs.List.{IsDistinct}
 use Rattle.std.specs.declared.hash.Hasher as hasher
 use Rattle.std.specs.declared.hash.BuildHasher as builder
 use Rattle.iddqd_store.specs.Bag.{Ranks, clash, order}
-use Rattle.iddqd_store.specs.Slots.Found.{items_at}
-use Rattle.iddqd_store.specs.Slots.{live_items, IsLive}
+use Rattle.iddqd_store.specs.Slots.Found.{StandAt}
+use Rattle.iddqd_store.specs.Slots.{live_items}
 
 -- the items by their slots, how many fit, and what makes the hashes. Public clauses cite the slots as `bag` alone
 pub record Map (T S : Type 0) : Type 0 where
@@ -60,10 +59,8 @@ pub record IsFullFor {T S : Type 0} (ranks : Ranks T) (m : Map T S) (x : T) : Ty
   pub full : length (bag m) ≡ m.capacity
 
 -- these are the slots of what conflicts with the item, in the order of the keys. No public clause cites it
-pub record ListsConflicts {T S : Type 0} (ranks : Ranks T) (m : Map T S) (x : T) (found : List ℕ) : Type 0 where
-  pub items : items_at m.slots found ≡ order ranks (bag m) x
-  pub live : All (IsLive m.slots) found
-  pub apart : IsDistinct nat_eq found
+abbrev pub ListsConflicts : {T S : Type 0} → Ranks T → Map T S → T → List ℕ → Type 0
+ListsConflicts ranks m x found = StandAt m.slots found (order ranks (bag m) x)
 
 -- the item is refused for what stands in these slots. No public clause cites it
 pub record IsBlockedAt {T S : Type 0} (ranks : Ranks T) (m : Map T S) (x : T) (at : List ℕ) : Type 0 where

@@ -23,6 +23,26 @@ pub enum FromIterError<T, L> {
     Memory(T),
 }
 
+/// Why `extend_unique` refused an item.
+#[derive(Clone, Copy, Debug, PartialEq, Eq, Drop)]
+pub enum ExtendUniqueReason {
+    /// It conflicts with an item of the map, or with one before it in the list.
+    Conflict,
+    /// Nothing conflicts with it, but there was no memory for it.
+    Memory,
+}
+
+/// Why `extend_unique` put nothing in. The rest of the list is dropped.
+#[derive(Drop)]
+pub struct ExtendUniqueError<T> {
+    /// The items before the one that was refused, in the order of the list.
+    pub taken: Vec<T>,
+    /// The item that was refused.
+    pub value: T,
+    /// Why it was refused.
+    pub reason: ExtendUniqueReason,
+}
+
 /// An item that was refused, and the items in its way: a short list `L` of them or of references to them, in the
 /// order of the keys.
 #[derive(Drop)]

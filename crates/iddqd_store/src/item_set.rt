@@ -119,6 +119,11 @@ impl<T> ItemSet<T> {
         self.slots.capacity()
     }
 
+    /// Where the set takes its memory from.
+    pub fn allocator(&self) -> Global {
+        *self.slots.allocator()
+    }
+
     /// The item of a live slot, and `None` for any other number.
     pub fn get(&self, ix: ItemIndex) -> Option<&T>
         ensures { option_copied result ≡ get self.now.slots ix }

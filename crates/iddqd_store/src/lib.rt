@@ -3,6 +3,7 @@
 
 mod cells;
 mod cursor;
+mod entered;
 mod equivalent;
 mod error;
 mod index_table;
@@ -18,8 +19,11 @@ mod up_to_three;
 mod up_to_two;
 
 pub use cursor::Cursor;
+pub use entered::Entered;
 pub use equivalent::Equivalent;
-pub use error::{DuplicateItem, FromIterError, MemoryRefused, TryReserveError};
+pub use error::{
+    DuplicateItem, ExtendUniqueError, ExtendUniqueReason, FromIterError, MemoryRefused, TryReserveError,
+};
 pub use index_table::IndexTable;
 pub use item_index::ItemIndex;
 pub use item_set::{IntoIter, ItemSet, Iter};

@@ -1,5 +1,5 @@
 //! What a command on a map answers.
-use crate::error::DuplicateItem;
+use crate::error::{DuplicateItem, ExtendUniqueError};
 use crate::item_set::Iter;
 
 /// What a command answers. It may lend items of the map: `Lent` is a short list of lent items, and `Given` one of items
@@ -38,4 +38,6 @@ pub enum MapReply<'m, T, D, Lent, Given> {
     Absent(T),
     /// The data is handed back since there is no item to write it to.
     AbsentData(D),
+    /// No item of a list went in, since one was refused.
+    ExtendRefused(ExtendUniqueError<T>),
 }

@@ -2,7 +2,7 @@
 ghost use Rattle.std.specs.Prelude.{◌≡◌};
 ghost use Rattle.iddqd_store.specs.Map.{bag};
 ghost use Rattle.iddqd_store.specs.Runs.Reply.{found, present, duplicate, items};
-ghost use Rattle.iddqd_store.specs.Runs.Step.{Fits, state_of, Gets, InsertsUnique, InsertsOverwrite, Reserves, ShrinksTo, Extends};
+ghost use Rattle.iddqd_store.specs.Runs.Step.{Fits, state_of, Gets, InsertsUnique, InsertsOverwrite, Reserves, ShrinksTo, Extends, ExtendsUnique};
 ghost use Rattle.iddqd_store.specs.Runs.Run.{Applies, Run};
 ghost use Rattle.iddqd_store.specs.Slots.Found.{items_at};
 ghost use Rattle.iddqd_bi.specs.Keys.{ranks, has1, has2, has_both};
@@ -83,6 +83,7 @@ where
             BiCommand::Len => self.tell(BiReply::Length(self.len()), sink),
             BiCommand::Items => self.tell_items(sink),
             BiCommand::Extend(items) => self.apply_extend(items, sink),
+            BiCommand::ExtendUnique(items) => self.apply_extend_unique(items, sink),
             BiCommand::EntryInsert(key1, key2, item) => {
                 let reply = self.entry_insert(&key1, &key2, item);
                 self.tell(reply, sink)
@@ -149,6 +150,21 @@ where
         match self.extend(items) {
             Ok(()) => self.tell(BiReply::Done, sink),
             Err(MemoryRefused { value }) => self.tell(BiReply::Memory(value), sink),
+        }
+    }
+
+    fn apply_extend_unique<K: BiSink<T>>(
+        &mut self,
+        items: Vec<T>,
+        sink: &mut K,
+    ) -> Result<(), K::Fault>
+        ensures step { Applies (ExtendsUnique (ranks T.BiHashItem T.K1.eq T.K2.eq)) K.took
+            (state_of self.old) sink.old items.items result (state_of self.new) sink.new }
+        ensures builder { self.new.builder ≡ self.old.builder }
+    {
+        match self.extend_unique(items) {
+            Ok(()) => self.tell(BiReply::Done, sink),
+            Err(refused) => self.tell(BiReply::ExtendRefused(refused), sink),
         }
     }
 

@@ -12,6 +12,7 @@ ghost use Rattle.iddqd_store.specs.Slots.{get, items_in, IsLive, Updates};
 ghost use Rattle.iddqd_store.specs.Slots.Next.{ComesNext};
 ghost use Rattle.iddqd_bi.specs.Keys.{ranks, has2, has_both};
 
+mod enter;
 pub(crate) mod entry;
 mod write;
 
@@ -144,6 +145,8 @@ impl<T: BiHashItem, S: BuildHasher> BiHashMap<T, S> {
         requires hash1 { hash1 ≡ key_hash T.key1 T.K1.hash_input S.BuildHasher S.Hasher.Hasher self.old.builder item }
         requires hash2 { hash2 ≡ key_hash T.key2 T.K2.hash_input S.BuildHasher S.Hasher.Hasher self.old.builder item }
         ensures at { get self.new.slots result ≡ Some item }
+        ensures was_free { get self.old.slots result ≡ None }
+        ensures updates { Updates self.old.slots self.new.slots result (Some item) }
         ensures items { IsPermutation (bag self.new) (item ∷ bag self.old) }
         ensures sound { IsSound (ranks T.BiHashItem T.K1.eq T.K2.eq) (bag self.new) }
         ensures fits { length (bag self.new) ≤ self.new.capacity }

@@ -31,13 +31,13 @@ in_the_way (Err refusal) = (get_or refusal.1 0 refusal.0).0
 made_of : (xs made : List Item) → ◌≡◌ {A = Added} (Ok xs) (Ok made) → made ≡ xs
 made_of xs made e = cc
 
-added : AddsTo pairs two two
+added : AddsTo pairs [] two two
 added = ((2, 20, 0) ∷ (1, 10, 0) ∷ [], refl, IsPermutation-flip (1, 10, 0) (2, 20, 0) [])
 
-none_lost : AddsTo pairs one two → ⊥
+none_lost : AddsTo pairs [] one two → ⊥
 none_lost adds = omega (arith, length_permutation _ _ adds.2, ap count adds.1)
 
-none_added_at_a_conflict : AddsTo pairs two ((1, 10, 0) ∷ (1, 20, 0) ∷ []) → ⊥
+none_added_at_a_conflict : AddsTo pairs [] two ((1, 10, 0) ∷ (1, 20, 0) ∷ []) → ⊥
 none_added_at_a_conflict adds = omega (arith, length_permutation _ _ adds.2, ap count adds.1)
 
 refused : RefusesFor pairs (2, 10, 5) ((2, 20, 0) ∷ (1, 10, 0) ∷ []) two

@@ -1,15 +1,22 @@
 -- Bags built along a list.
-use Rattle.std.specs.Prelude.{◌≡◌, ◌≢◌, ◌≤◌, suc, List, [], ◌∷◌, ◌++◌, length, fold, Result, Ok, Err, Option, IsPermutation}
+use Rattle.std.specs.Prelude.{◌≡◌, ◌≢◌, ◌≤◌, ◌==◌, suc, List, [], ◌∷◌, ◌++◌, length, fold, Result, Ok, Err, Option, IsPermutation}
 use Rattle.std.proofs.Common.{refl, sym, ap, subst, ◌∙◌, arith}
 use Rattle.std.proofs.lemmas.List.Folds.{fold_stays}
-use Rattle.std.proofs.lemmas.List.Sorted.{IsPermutation-sym, IsPermutation-cons, IsPermutation-trans, length_permutation}
+use Rattle.std.proofs.lemmas.List.Sorted.{IsPermutation-refl, IsPermutation-middle, IsPermutation-sym, IsPermutation-cons, IsPermutation-trans, length_permutation}
 use Rattle.iddqd_store.specs.Bag.{Ranks, AreLawful, IsSound, clash, order, over, add, add_next, adds}
 use Rattle.iddqd_store.specs.Bag.Building.{GivesThen, AddsTo, RefusesFor, HasPlaceFor}
+use Rattle.iddqd_store.proofs.BagLemmas.Exchanges.{split}
 use Rattle.iddqd_store.proofs.BagLemmas.Sound.{length-over, order-IsPermutation, IsSound-IsPermutation}
 use Rattle.iddqd_store.proofs.BagLemmas.Steps.{IsSound-nil, IsSound-add, clash-IsPermutation, clash-empty, add-refused, adds_push}
 
 pub GivesThen-weaker : {U S T : Type 0} (becomes : U → S → Type 0) (steps : S → Option T → S → Type 0) (iter : U) (x : T) (P Q : List T → Type 0) → ((xs : List T) → P xs → Q xs) → GivesThen becomes steps iter x P → GivesThen becomes steps iter x Q
 GivesThen-weaker becomes steps iter x P Q f h = (h.0, h.1, h.2, h.3, h.4, f h.1 h.5)
+
+same_made : {A E : Type 0} (r : Result A E) (a b : A) → r ≡ Ok a → r ≡ Ok b → a ≡ b
+same_made r a b h k = cc
+
+ok_or_err : {A E : Type 0} (r : Result A E) (a : A) (e : E) → r ≡ Ok a → r ≡ Err e → ⊥
+ok_or_err r a e h k = cc
 
 module _ {T : Type 0} where
   -- an item more at most
@@ -44,16 +51,43 @@ module _ {T : Type 0} where
       by_first on (Ok next) put rest = on next (IsSound-add ranks bag next x sound put) rest
       by_first on (Err refusal) put rest = absurd (stays_refused ranks xs made refusal rest)
 
-  module _ (ranks : Ranks T) (held xs : List T) (x : T) (added : AddsTo ranks held xs) where
-    -- one more was added
-    pub AddsTo-push : (new : List T) → clash ranks held x ≡ [] → IsPermutation new (x ∷ held) → AddsTo ranks new (xs ++ x ∷ [])
-    AddsTo-push new free put =
-        let made = added.0 in (
-          x ∷ made,
-          adds_push ranks [] xs x ∙ ap (λ r. add_next ranks r x) added.1 ∙ add-free ranks made x (clash-none ranks held made x added.2 free),
-          IsPermutation-trans _ _ _ put (IsPermutation-cons x _ _ added.2),
-        )
+  added_is : (ranks : Ranks T) (bag next : List T) (x : T) → add ranks bag x ≡ Ok next → next ≡ x ∷ bag
+  added_is ranks bag next x put =
+      split (λ b. next ≡ x ∷ bag) (length (clash ranks bag x) == 0)
+      (λ yes. same_made (add ranks bag x) next (x ∷ bag) put (rw yes refl))
+      (λ no. absurd (ok_or_err (add ranks bag x) next (x, order ranks bag x) put (rw no refl)))
 
+  -- a list that was added is in the bag with what was there
+  pub adds-IsPermutation : (ranks : Ranks T) (bag xs made : List T) → adds ranks bag xs ≡ Ok made → IsPermutation made (xs ++ bag)
+  adds-IsPermutation ranks bag [] made is = subst (λ l. IsPermutation made l) (sym (same_ok ranks bag made is)) (IsPermutation-refl made)
+  adds-IsPermutation ranks bag (x ∷ xs) made is = by_first (λ next. adds-IsPermutation ranks next xs made) (add ranks bag x) refl is
+    where
+      by_first : ((next : List T) → adds ranks next xs ≡ Ok made → IsPermutation made (xs ++ next)) → (r : Result (List T) (T × List T)) → add ranks bag x ≡ r → fold (add_next ranks) r xs ≡ Ok made → IsPermutation made (x ∷ xs ++ bag)
+      by_first on (Ok next) put rest =
+          IsPermutation-trans _ _ _ (subst (λ l. IsPermutation made (xs ++ l)) (added_is ranks bag next x put) (on next rest)) (IsPermutation-middle xs x bag)
+      by_first on (Err refusal) put rest = absurd (stays_refused ranks xs made refusal rest)
+
+  module _ (ranks : Ranks T) (old new xs : List T) (added : AddsTo ranks old new xs) where
+    pub AddsTo-IsPermutation : IsPermutation new (xs ++ old)
+    AddsTo-IsPermutation = IsPermutation-trans _ _ _ added.2 (adds-IsPermutation ranks old xs added.0 added.1)
+
+    pub AddsTo-sound : AreLawful ranks → IsSound ranks old → IsSound ranks new
+    AddsTo-sound laws sound =
+        IsSound-IsPermutation ranks laws added.0 new (IsPermutation-sym _ _ added.2) (IsSound-adds ranks old xs added.0 sound added.1)
+
+  pub AddsTo-nil : (ranks : Ranks T) (bag : List T) → AddsTo ranks bag bag []
+  AddsTo-nil ranks bag = (bag, refl, IsPermutation-refl bag)
+
+  -- one more was added
+  pub AddsTo-push : (ranks : Ranks T) (old held new xs : List T) (x : T) → AddsTo ranks old held xs → clash ranks held x ≡ [] → IsPermutation new (x ∷ held) → AddsTo ranks old new (xs ++ x ∷ [])
+  AddsTo-push ranks old held new xs x added free put =
+      let made = added.0 in (
+        x ∷ made,
+        adds_push ranks old xs x ∙ ap (λ r. add_next ranks r x) added.1 ∙ add-free ranks made x (clash-none ranks held made x added.2 free),
+        IsPermutation-trans _ _ _ put (IsPermutation-cons x _ _ added.2),
+      )
+
+  module _ (ranks : Ranks T) (held xs : List T) (x : T) (added : AddsTo ranks [] held xs) where
     pub HasPlaceFor-free : clash ranks held x ≡ [] → HasPlaceFor ranks x xs
     HasPlaceFor-free free = (added.0, added.1, add-free ranks added.0 x (clash-none ranks held added.0 x added.2 free))
 

@@ -48,7 +48,7 @@ drop-found ixs at ix is =
 
 module _ {T : Type 0} where
   -- a change of one slot leaves the items of the others
-  items_at-others : (old new : List (Option T)) (at : ℕ) (slot : Option T) (ixs : List ℕ) → Updates old new at slot → AllByRecursion (λ ix. nat_eq at ix ≡ false) ixs → items_at new ixs ≡ items_at old ixs
+  pub items_at-others : (old new : List (Option T)) (at : ℕ) (slot : Option T) (ixs : List ℕ) → Updates old new at slot → AllByRecursion (λ ix. nat_eq at ix ≡ false) ixs → items_at new ixs ≡ items_at old ixs
   items_at-others old new at slot [] updates apart = refl
   items_at-others old new at slot (ix ∷ ixs) updates apart =
       let here : get new ix ≡ get old ix = updates.others ix (other_number at ix apart.0) in
@@ -69,16 +69,16 @@ module _ {T : Type 0} where
   pub items_at-none : (slots : List (Option T)) (ix : ℕ) (rest : List ℕ) (seen whole : List T) → get slots ix ≡ None → seen ++ items_at slots (ix ∷ rest) ≡ whole → seen ++ items_at slots rest ≡ whole
   items_at-none slots ix rest seen whole none before = rw none at before
 
-  -- the other slots stay live
+  -- they stay live
+  pub live-unchanged : (old new : List (Option T)) (ix : ℕ) (slot : Option T) (rest : List ℕ) → Updates old new ix slot → AllByRecursion (λ y. nat_eq ix y ≡ false) rest → All (IsLive old) rest → All (IsLive new) rest
+  live-unchanged old new ix slot [] updates apart live = All-nil (IsLive new)
+  live-unchanged old new ix slot (a ∷ rest) updates apart live =
+      All-cons (IsLive new) a rest
+      (rw (updates.others a (other_number ix a apart.0)) (All-head (IsLive old) a rest live))
+      (live-unchanged old new ix slot rest updates apart.1 (All-tail (IsLive old) a rest live))
+
   pub live-others : (old new : List (Option T)) (ix : ℕ) (rest : List ℕ) → Updates old new ix None → IsDistinct nat_eq (ix ∷ rest) → All (IsLive old) rest → All (IsLive new) rest
-  live-others old new ix rest updates apart live = each rest (IsDistinct-head nat_eq ix rest apart) live
-    where
-      each : (rest : List ℕ) → AllByRecursion (λ y. nat_eq ix y ≡ false) rest → All (IsLive old) rest → All (IsLive new) rest
-      each [] apart live = All-nil (IsLive new)
-      each (a ∷ rest) apart live =
-          All-cons (IsLive new) a rest
-          (rw (updates.others a (other_number ix a apart.0)) (All-head (IsLive old) a rest live))
-          (each rest apart.1 (All-tail (IsLive old) a rest live))
+  live-others old new ix rest updates apart live = live-unchanged old new ix None rest updates (IsDistinct-head nat_eq ix rest apart) live
 
   -- the bag by what was taken out of it
   pub IsPermutation-taken : (bag held new taken : List T) (x : T) → IsPermutation bag (taken ++ held) → IsPermutation held (x ∷ new) → IsPermutation bag ((taken ++ x ∷ []) ++ new)

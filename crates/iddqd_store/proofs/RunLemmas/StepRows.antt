@@ -8,7 +8,7 @@ use Rattle.iddqd_store.specs.Runs.Reply.{done, duplicate, displaced, found, pres
 use Rattle.iddqd_store.specs.Runs.Step.{State, Fits, FitsOnTheWay, empty_state, InsertsUnique, InsertsOverwrite, Gets, Tells, Removes, Reserves, ShrinksTo, Clears, Sizes, Lists, Extends, EntryInserts, EntryRemoves, OrInserts, Replaces, Sets}
 
 -- these items, where so many fit
-abbrev state : List Item → ℕ → State Item
+abbrev pub state : List Item → ℕ → State Item
 state xs room = record { items = xs; capacity = room }
 
 abbrev third : Item

@@ -4,9 +4,9 @@ use Rattle.std.specs.Prelude.{ℕ, Bool, true, IsPermutation, MatchResult}
 use Rattle.std.proofs.lemmas.List.Sorted.{IsPermutation-sym}
 use Rattle.std.proofs.lemmas.Map.Keys.{IsDistinct-tail}
 use Rattle.iddqd_store.specs.Bag.{Ranks, AreLawful, IsSound, agrees, conflicts, over, overs, swap}
-use Rattle.iddqd_store.specs.Runs.Reply.{Reply, done, duplicate, displaced, found, present, taken, memory, refused, size, items, kept, key, absent, absent_data}
+use Rattle.iddqd_store.specs.Runs.Reply.{Reply, done, duplicate, displaced, found, present, taken, memory, refused, size, items, kept, key, absent, absent_data, extend_refused}
 use Rattle.iddqd_store.specs.Runs.Run.{Run}
-use Rattle.iddqd_store.specs.Runs.Step.{State, Fits, InsertsUnique, InsertsOverwrite, Gets, Tells, Removes, Reserves, ShrinksTo, Clears, Sizes, Lists, Extends, EntryInserts, EntryRemoves, OrInserts, Replaces, Sets}
+use Rattle.iddqd_store.specs.Runs.Step.{State, Fits, InsertsUnique, InsertsOverwrite, Gets, Tells, Removes, Reserves, ShrinksTo, Clears, Sizes, Lists, Extends, ExtendsUnique, EntryInserts, EntryRemoves, OrInserts, Replaces, Sets}
 use Rattle.iddqd_store.proofs.BagLemmas.Differ.{agrees-differ}
 use Rattle.iddqd_store.proofs.BagLemmas.Sound.{IsSound-over, IsSound-IsPermutation}
 use Rattle.iddqd_store.proofs.BagLemmas.Steps.{IsSound-nil, IsSound-cons, IsSound-overs, order-empty}
@@ -79,6 +79,11 @@ module _ {T D : Type 0} (ranks : Ranks T) (laws : AreLawful ranks) (old new : St
   IsSound-Extends xs done step = moved ranks laws old new sound (overs ranks old.items xs) step.0.0 (IsSound-overs ranks old.items xs sound)
   IsSound-Extends xs (memory y) step = moved ranks laws old new sound (overs ranks old.items step.0) step.3.0 (IsSound-overs ranks old.items step.0 sound)
   IsSound-Extends xs reply step = absurd step
+
+  pub IsSound-ExtendsUnique : (xs : List T) (reply : Reply T D) → ExtendsUnique ranks old xs reply new → IsSound ranks new.items
+  IsSound-ExtendsUnique xs done step = step.1
+  IsSound-ExtendsUnique xs (extend_refused reason ys y) step = moved ranks laws old new sound old.items step.2 sound
+  IsSound-ExtendsUnique xs reply step = absurd step
 
   pub IsSound-EntryInserts : (tests : List (T → Bool)) (x : T) (reply : Reply T D) → EntryInserts ranks tests old x reply new → IsSound ranks new.items
   IsSound-EntryInserts tests x (displaced ys) step = IsSound-InsertsOverwrite x (displaced ys) step.1

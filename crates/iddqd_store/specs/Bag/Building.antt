@@ -1,9 +1,11 @@
 -- What is built of the items that an iterator gives.
-use Rattle.std.specs.Prelude.{◌≡◌, ◌+◌, ◌≤◌, ℕ, List, [], ◌∷◌, Option, Some, Ok, Err, IsPermutation}
+use Rattle.std.specs.Prelude.{◌≡◌, ◌≢◌, ◌+◌, ◌≤◌, ℕ, List, [], ◌∷◌, Option, Some, Ok, Err, IsPermutation}
 use Rattle.std.specs.Iterator.{Count, Drains, YieldsThen, size}
 use Rattle.iddqd_store.specs.Bag.{Ranks, add, adds}
 use Rattle.iddqd_store.specs.declared.error.FromIterError.{FromIterError}
-use Rattle.iddqd_store.specs.declared.error.FromIterError.TheVariants.{Duplicate, Memory}
+use Rattle.iddqd_store.specs.declared.error.FromIterError.TheVariants as from_iter
+use Rattle.iddqd_store.specs.declared.error.ExtendUniqueReason.{ExtendUniqueReason}
+use Rattle.iddqd_store.specs.declared.error.ExtendUniqueReason.TheVariants.{Conflict, Memory}
 
 module _ {U S T : Type 0} (becomes : U → S → Type 0) (steps : S → Option T → S → Type 0) where
   -- the iterator gave a whole list, of which P holds
@@ -19,11 +21,11 @@ abbrev pub FitsOn : {U S : Type 0} → (U → S → Type 0) → (S → Count) �
 FitsOn becomes remaining iter held room = (it : _) → becomes iter it → held + size (remaining it) ≤ room
 
 module _ {T : Type 0} (ranks : Ranks T) where
-  -- each of the list was added where nothing conflicts, which makes this bag
-  abbrev pub AddsTo : List T → List T → Type 0
-  AddsTo bag xs = (made : List T) × (adds ranks [] xs ≡ Ok made) × IsPermutation bag made
+  -- each of the list was added to a bag where nothing conflicts, which makes this bag
+  abbrev pub AddsTo : List T → List T → List T → Type 0
+  AddsTo old new xs = (made : List T) × (adds ranks old xs ≡ Ok made) × IsPermutation new made
 
-  -- each was added, and then x was refused since these conflict
+  -- each was added to the empty bag, and then x was refused since these conflict
   abbrev pub RefusesFor : T → List T → List T → Type 0
   RefusesFor x duplicates xs = (made : List T) × (adds ranks [] xs ≡ Ok made) × (add ranks made x ≡ Err (x, duplicates))
 
@@ -31,7 +33,12 @@ module _ {T : Type 0} (ranks : Ranks T) where
   abbrev pub HasPlaceFor : T → List T → Type 0
   HasPlaceFor x xs = (made : List T) × (adds ranks [] xs ≡ Ok made) × (add ranks made x ≡ Ok (x ∷ made))
 
+-- these are what conflicts with an item that was refused: some exactly if that is the reason
+abbrev pub IsReason : {T : Type 0} → ExtendUniqueReason → List T → Type 0
+IsReason Conflict found = found ≢ []
+IsReason Memory found = found ≡ []
+
 -- P of the item and those that conflict with it, and Q of the item where there is no memory
 abbrev pub MatchFromIterError : {T L : Type 0} → FromIterError T L → (T → L → Type 0) → (T → Type 0) → Type 0
-MatchFromIterError (Duplicate d) P Q = P d.new_item d.duplicates
-MatchFromIterError (Memory x) P Q = Q x
+MatchFromIterError (from_iter.Duplicate d) P Q = P d.new_item d.duplicates
+MatchFromIterError (from_iter.Memory x) P Q = Q x

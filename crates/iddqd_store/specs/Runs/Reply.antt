@@ -1,5 +1,6 @@
 -- What a command on a map answers: items that a reply lends are here as their values, an iterator as the list that it gives.
 use Rattle.std.specs.Prelude.{ℕ, Bool, List, Option}
+use Rattle.iddqd_store.specs.declared.error.ExtendUniqueReason.{ExtendUniqueReason}
 
 pub data Reply (T D : Type 0) : Type 0 where
   done : Reply T D
@@ -17,3 +18,5 @@ pub data Reply (T D : Type 0) : Type 0 where
   key : ℕ → T → Reply T D
   absent : T → Reply T D
   absent_data : D → Reply T D
+  -- these came out again, and then this one was refused
+  extend_refused : ExtendUniqueReason → List T → T → Reply T D

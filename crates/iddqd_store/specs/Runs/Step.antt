@@ -2,9 +2,10 @@
 use Rattle.std.specs.Prelude.{◌≡◌, ◌≢◌, ◌+◌, ◌*◌, ◌^◌, ◌<◌, ◌≤◌, ℕ, min, max, List, [], ◌∷◌, ◌++◌, Bool, Some, None, filter, length, take, IsPermutation}
 use Rattle.std.specs.List.{list_any}
 use Rattle.std.specs.Option.{option_to_list}
-use Rattle.iddqd_store.specs.Bag.{Ranks, IsOnly, clash, differ, like, listing, order, over, overs, swap}
+use Rattle.iddqd_store.specs.Bag.{Ranks, IsOnly, IsSound, clash, differ, like, listing, order, over, overs, swap}
+use Rattle.iddqd_store.specs.Bag.Building.{AddsTo, IsReason}
 use Rattle.iddqd_store.specs.Map.{Map, bag}
-use Rattle.iddqd_store.specs.Runs.Reply.{Reply, done, duplicate, displaced, found, present, taken, memory, refused, size, items, kept, key, absent, absent_data}
+use Rattle.iddqd_store.specs.Runs.Reply.{Reply, done, duplicate, displaced, found, present, taken, memory, refused, size, items, kept, key, absent, absent_data, extend_refused}
 
 -- a bag of items, as a list of which the order means nothing, and how many fit
 pub record State (T : Type 0) : Type 0 where
@@ -42,6 +43,11 @@ module _ {T : Type 0} where
   abbrev pub Starves : Ranks T → State T → T → T → State T → Type 0
   Starves ranks old x y new =
       (y ≡ x) × (clash ranks old.items x ≡ []) × (length old.items ≡ old.capacity) × (new ≡ old)
+
+  -- the room is no less, and the same where so many more items fitted
+  abbrev pub GrowsFor : List T → State T → State T → Type 0
+  GrowsFor xs old new =
+      (old.capacity ≤ new.capacity) × (length old.items + length xs ≤ old.capacity → new.capacity ≡ old.capacity)
 
 module _ {T D : Type 0} where
   -- x goes in where nothing conflicts, and the map grows only where it is full; else it is refused with what conflicts, or for want of memory in a full map
@@ -119,6 +125,16 @@ module _ {T D : Type 0} where
       (front : List T) × (rest : List T) × (xs ≡ front ++ y ∷ rest) × ExtendsTo ranks old front new
       × (clash ranks new.items y ≡ []) × (length new.items ≡ new.capacity)
   Extends ranks old xs reply new = ⊥
+
+  -- the items of a list go in where nothing conflicts, all of them; or none does, and those before one that is refused
+  -- come back with it, in order. The map grows only where they don't all fit
+  abbrev pub ExtendsUnique : Ranks T → State T → List T → Reply T D → State T → Type 0
+  ExtendsUnique ranks old xs done new =
+      AddsTo ranks old.items new.items xs × IsSound ranks new.items × GrowsFor xs old new
+  ExtendsUnique ranks old xs (extend_refused reason ys y) new =
+      (rest : List T) × (xs ≡ ys ++ y ∷ rest) × IsPermutation new.items old.items × IsSound ranks (ys ++ old.items)
+      × IsReason reason (clash ranks (ys ++ old.items) y) × GrowsFor xs old new
+  ExtendsUnique ranks old xs reply new = ⊥
 
   -- x goes in for the items that have one of the keys asked for, which are given back; else its lowest key that is not
   -- the one asked for is told, or want of memory in a full map

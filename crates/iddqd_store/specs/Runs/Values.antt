@@ -1,9 +1,9 @@
 -- The value of a reply.
 use Rattle.std.specs.Prelude.{List, map, option_copied}
 use Rattle.std.specs.Borrow.{Bor}
-use Rattle.iddqd_store.specs.Runs.Reply.{Reply, done, duplicate, displaced, found, present, taken, memory, refused, size, items, kept, key, absent, absent_data}
+use Rattle.iddqd_store.specs.Runs.Reply.{Reply, done, duplicate, displaced, found, present, taken, memory, refused, size, items, kept, key, absent, absent_data, extend_refused}
 use Rattle.iddqd_store.specs.declared.reply.MapReply.{MapReply}
-use Rattle.iddqd_store.specs.declared.reply.MapReply.TheVariants.{Done, Duplicate, Displaced, Found, Present, Taken, Memory, Refused, Length, Items, Kept, Key1, Key2, Key3, Absent, AbsentData}
+use Rattle.iddqd_store.specs.declared.reply.MapReply.TheVariants.{Done, Duplicate, Displaced, Found, Present, Taken, Memory, Refused, Length, Items, Kept, Key1, Key2, Key3, Absent, AbsentData, ExtendRefused}
 
 -- where the short lists of lent and of given items stand for these lists
 abbrev pub value_by : {T D L G : Type 0} → (L → List (Bor T)) → (G → List T) → MapReply T D L G → Reply T D
@@ -23,6 +23,7 @@ value_by lent given (Key2 x) = key 1 x
 value_by lent given (Key3 x) = key 2 x
 value_by lent given (Absent x) = absent x
 value_by lent given (AbsentData d) = absent_data d
+value_by lent given (ExtendRefused e) = extend_refused e.reason e.taken.items e.value
 
 -- where they are lists themselves
 abbrev pub value_of : {T D : Type 0} → MapReply T D (List (Bor T)) (List T) → Reply T D

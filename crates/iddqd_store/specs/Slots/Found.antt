@@ -1,6 +1,6 @@
 -- What searches ask for, and what they find.
-use Rattle.std.specs.Prelude.{◌≡◌, ℕ, Bool, true, false, List, [], ◌∷◌, ◌++◌, Option, Some, None, filter_map, fold, if◌then◌else◌, nat_eq, ⊤}
-use Rattle.std.specs.List.{Contains, list_any, list_all}
+use Rattle.std.specs.Prelude.{◌≡◌, ℕ, Bool, true, false, List, [], ◌∷◌, ◌++◌, Option, Some, None, filter_map, fold, if◌then◌else◌, nat_eq, All, ⊤}
+use Rattle.std.specs.List.{Contains, IsDistinct, list_any, list_all}
 use Rattle.std.specs.Option.{option_and_then, IfSome}
 use Rattle.iddqd_store.specs.Bag.{Entry, IsOnly, entry_of}
 use Rattle.iddqd_store.specs.Slots.{get, IsLive, live_items}
@@ -13,6 +13,12 @@ module _ {T : Type 0} where
   -- the items of these slots
   abbrev pub items_at : List (Option T) → List ℕ → List T
   items_at slots ixs = filter_map (get slots) ixs
+
+  -- these slots hold these items, each slot once
+  pub record StandAt (slots : List (Option T)) (ixs : List ℕ) (xs : List T) : Type 0 where
+    pub items : items_at slots ixs ≡ xs
+    pub live : All (IsLive slots) ixs
+    pub apart : IsDistinct nat_eq ixs
 
 -- whether the number is among these
 abbrev pub lists : List ℕ → ℕ → Bool

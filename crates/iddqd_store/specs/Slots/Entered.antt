@@ -1,0 +1,13 @@
+-- What a contract sees of an `Entered`.
+use Rattle.std.specs.Prelude.{ℕ, List, refl}
+use Rattle.std.specs.Coded.{Coded, code_by, coded×, coded_ℕ, coded_list}
+
+-- the slots of what went in, and how many can be noted without more memory
+pub record Entered : Type 0 where
+  pub slots : List ℕ
+  pub room : ℕ
+
+abbrev pub entered_code : Coded Entered
+entered_code =
+    code_by (List ℕ × ℕ) (coded× (coded_list coded_ℕ) coded_ℕ)
+    (λ e. (e.slots, e.room)) (λ p. record { slots = p.0; room = p.1 }) (λ _. refl)

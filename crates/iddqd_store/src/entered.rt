@@ -1,0 +1,73 @@
+//! What went into a map of a list, so that it can be taken out again.
+ghost use Rattle.std.specs.Prelude.{◌≡◌, ◌+◌, ◌<◌, ◌≤◌, ◌++◌, [], ◌∷◌, length, vec_capacity, OnOk};
+
+use crate::error::TryReserveError;
+use crate::item_index::ItemIndex;
+use std::alloc::Global;
+use std::marker::Model;
+
+/// The slots of the items of a list that went into a map, in the order of the list, and room for these items should
+/// they have to come out again.
+#[derive(Drop)]
+pub struct Entered<T> {
+    slots: Vec<ItemIndex>,
+    // Empty, with the room that the items need once they come out.
+    items: Vec<T>,
+}
+
+impl<T> Model for Entered<T> {
+    ghost use Rattle.std.specs.Prelude.{◌≡◌, ◌≤◌, [], length, min, vec_capacity};
+    ghost use Rattle.iddqd_store.specs.Slots.Entered.{Entered, entered_code};
+
+    ghost Value = { Entered };
+
+    ghost coded = { entered_code };
+
+    ghost view = { λ e. record { slots = e.slots.items; room = min (vec_capacity e.slots) (vec_capacity e.items) } };
+
+    ghost invariant = { λ e. (e.items.items ≡ []) × (length e.slots.items ≤ vec_capacity e.items) };
+}
+
+impl<T> Entered<T> {
+    /// Nothing went in yet. It takes no memory.
+    pub fn new(alloc: Global) -> Self
+        ensures { result.slots ≡ [] }
+    {
+        Entered {
+            slots: Vec::new(alloc),
+            items: Vec::new(alloc),
+        }
+    }
+
+    /// Makes room to note one more.
+    pub fn reserve_one(&mut self) -> Result<(), TryReserveError>
+        ensures slots { self.new.slots ≡ self.old.slots }
+        ensures granted { OnOk result (length self.new.slots < self.new.room) }
+    {
+        if self.slots.reserve(1).is_err() {
+            return Err(TryReserveError);
+        }
+        if self.items.reserve(self.slots.len() + 1).is_err() {
+            return Err(TryReserveError);
+        }
+        Ok(())
+    }
+
+    /// Notes the slot of an item that went in.
+    pub fn push(&mut self, ix: ItemIndex)
+        requires { length self.old.slots < self.old.room }
+        ensures { self.new.slots ≡ self.old.slots ++ ix ∷ [] }
+    {
+        self.slots.push_reserved(ix);
+    }
+
+    /// The slots, and room for as many items.
+    pub fn into_parts(self) -> (Vec<ItemIndex>, Vec<T>)
+        ensures slots { result.0.items ≡ self.slots }
+        ensures empty { result.1.items ≡ [] }
+        ensures room { length self.slots ≤ vec_capacity result.1 }
+    {
+        let Entered { slots, items } = self;
+        (slots, items)
+    }
+}
