@@ -4,12 +4,12 @@ use Rattle.iddqd_store.specs.Bag.{AreLawful, IsSound, agrees}
 use Rattle.iddqd_store.specs.Runs.Reply.{Reply}
 use Rattle.iddqd_store.specs.Runs.Run.{Run}
 use Rattle.iddqd_store.specs.Runs.Step.{State}
-use Rattle.iddqd_store.proofs.RunLemmas.Steps.{IsSound-InsertsUnique, IsSound-InsertsOverwrite, IsSound-Gets, IsSound-Tells, IsSound-Removes, IsSound-Reserves, IsSound-ShrinksTo, IsSound-Clears, IsSound-Sizes, IsSound-Lists, IsSound-Extends, IsSound-EntryInserts, IsSound-EntryRemoves, IsSound-OrInserts, IsSound-Replaces, IsSound-Sets, run_keeps}
+use Rattle.iddqd_store.proofs.RunLemmas.Steps.{IsSound-InsertsUnique, IsSound-InsertsOverwrite, IsSound-Gets, IsSound-Tells, IsSound-Removes, IsSound-Reserves, IsSound-ShrinksTo, IsSound-Clears, IsSound-Sizes, IsSound-Lists, IsSound-Extends, IsSound-ExtendsUnique, IsSound-EntryInserts, IsSound-EntryRemoves, IsSound-OrInserts, IsSound-Replaces, IsSound-Sets, run_keeps}
 use Rattle.iddqd_tri.specs.Keys.{ranks, has1, has2, has3, has_all, key_tests}
 use Rattle.iddqd_tri.specs.Step.{Step}
 use Rattle.iddqd_tri.specs.declared.item.TriHashItem as item
 use Rattle.iddqd_tri.specs.declared.command.TriCommand.{TriCommand}
-use Rattle.iddqd_tri.specs.declared.command.TriCommand.TheVariants.{InsertUnique, InsertOverwrite, Get1, Get2, Get3, GetUnique, Contains1, Contains2, Contains3, ContainsUnique, Remove1, Remove2, Remove3, RemoveUnique, Reserve, ShrinkTo, ShrinkToFit, Clear, Len, Items, Extend, EntryInsert, EntryRemove, OrInsert, Replace1, Replace2, Replace3, Set1, Set2, Set3}
+use Rattle.iddqd_tri.specs.declared.command.TriCommand.TheVariants.{InsertUnique, InsertOverwrite, Get1, Get2, Get3, GetUnique, Contains1, Contains2, Contains3, ContainsUnique, Remove1, Remove2, Remove3, RemoveUnique, Reserve, ShrinkTo, ShrinkToFit, Clear, Len, Items, Extend, ExtendUnique, EntryInsert, EntryRemove, OrInsert, Replace1, Replace2, Replace3, Set1, Set2, Set3}
 
 module _ {T D K1 K2 K3 : Type 0} (of : item.Ghosts T K1 K2 K3) (eq1 : K1 → K1 → Bool) (eq2 : K2 → K2 → Bool) (eq3 : K3 → K3 → Bool) (put : T → D → T) (laws : AreLawful (ranks of eq1 eq2 eq3))
     (keeps : (x : T) (d : D) → agrees (ranks of eq1 eq2 eq3) x (put x d) ≡ true) where
@@ -36,6 +36,7 @@ module _ {T D K1 K2 K3 : Type 0} (of : item.Ghosts T K1 K2 K3) (eq1 : K1 → K1 
   IsSound-Step old new Len reply sound step = IsSound-Sizes (ranks of eq1 eq2 eq3) laws old new sound reply step
   IsSound-Step old new Items reply sound step = IsSound-Lists (ranks of eq1 eq2 eq3) laws old new sound reply step
   IsSound-Step old new (Extend xs) reply sound step = IsSound-Extends (ranks of eq1 eq2 eq3) laws old new sound xs.items reply step
+  IsSound-Step old new (ExtendUnique xs) reply sound step = IsSound-ExtendsUnique (ranks of eq1 eq2 eq3) laws old new sound xs.items reply step
   IsSound-Step old new (EntryInsert k l m x) reply sound step = IsSound-EntryInserts (ranks of eq1 eq2 eq3) laws old new sound (key_tests of eq1 eq2 eq3 k l m) x reply step
   IsSound-Step old new (EntryRemove k l m) reply sound step = IsSound-EntryRemoves (ranks of eq1 eq2 eq3) laws old new sound (key_tests of eq1 eq2 eq3 k l m) reply step
   IsSound-Step old new (OrInsert k l m x) reply sound step = IsSound-OrInserts (ranks of eq1 eq2 eq3) laws old new sound (key_tests of eq1 eq2 eq3 k l m) x reply step

@@ -1,11 +1,11 @@
 -- One step of a map with three keys: each command with what it may answer.
 use Rattle.std.specs.Prelude.{Bool}
 use Rattle.iddqd_store.specs.Runs.Reply.{Reply}
-use Rattle.iddqd_store.specs.Runs.Step.{State, InsertsUnique, InsertsOverwrite, Gets, Tells, Removes, Reserves, ShrinksTo, Clears, Sizes, Lists, Extends, EntryInserts, EntryRemoves, OrInserts, Replaces, Sets}
+use Rattle.iddqd_store.specs.Runs.Step.{State, InsertsUnique, InsertsOverwrite, Gets, Tells, Removes, Reserves, ShrinksTo, Clears, Sizes, Lists, Extends, ExtendsUnique, EntryInserts, EntryRemoves, OrInserts, Replaces, Sets}
 use Rattle.iddqd_tri.specs.Keys.{ranks, has1, has2, has3, has_all, key_tests}
 use Rattle.iddqd_tri.specs.declared.item.TriHashItem as item
 use Rattle.iddqd_tri.specs.declared.command.TriCommand.{TriCommand}
-use Rattle.iddqd_tri.specs.declared.command.TriCommand.TheVariants.{InsertUnique, InsertOverwrite, Get1, Get2, Get3, GetUnique, Contains1, Contains2, Contains3, ContainsUnique, Remove1, Remove2, Remove3, RemoveUnique, Reserve, ShrinkTo, ShrinkToFit, Clear, Len, Items, Extend, EntryInsert, EntryRemove, OrInsert, Replace1, Replace2, Replace3, Set1, Set2, Set3}
+use Rattle.iddqd_tri.specs.declared.command.TriCommand.TheVariants.{InsertUnique, InsertOverwrite, Get1, Get2, Get3, GetUnique, Contains1, Contains2, Contains3, ContainsUnique, Remove1, Remove2, Remove3, RemoveUnique, Reserve, ShrinkTo, ShrinkToFit, Clear, Len, Items, Extend, ExtendUnique, EntryInsert, EntryRemove, OrInsert, Replace1, Replace2, Replace3, Set1, Set2, Set3}
 
 -- `put` is the item with other data
 module _ {T D K1 K2 K3 : Type 0} (of : item.Ghosts T K1 K2 K3) (eq1 : K1 → K1 → Bool) (eq2 : K2 → K2 → Bool) (eq3 : K3 → K3 → Bool) (put : T → D → T) where
@@ -32,6 +32,7 @@ module _ {T D K1 K2 K3 : Type 0} (of : item.Ghosts T K1 K2 K3) (eq1 : K1 → K1 
   Step old Len reply new = Sizes old reply new
   Step old Items reply new = Lists old reply new
   Step old (Extend xs) reply new = Extends (ranks of eq1 eq2 eq3) old xs.items reply new
+  Step old (ExtendUnique xs) reply new = ExtendsUnique (ranks of eq1 eq2 eq3) old xs.items reply new
   Step old (EntryInsert k l m x) reply new = EntryInserts (ranks of eq1 eq2 eq3) (key_tests of eq1 eq2 eq3 k l m) old x reply new
   Step old (EntryRemove k l m) reply new = EntryRemoves (key_tests of eq1 eq2 eq3 k l m) old reply new
   Step old (OrInsert k l m x) reply new = OrInserts (ranks of eq1 eq2 eq3) (key_tests of eq1 eq2 eq3 k l m) old x reply new

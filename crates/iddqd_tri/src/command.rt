@@ -51,6 +51,8 @@ pub enum TriCommand<T: TriHashItemMut> {
     Items,
     /// `extend` with these items, in order.
     Extend(Vec<T>),
+    /// `extend_unique` with these items, in order.
+    ExtendUnique(Vec<T>),
     /// `insert` of the `entry` of these keys, vacant or occupied.
     EntryInsert(T::K1, T::K2, T::K3, T),
     /// `remove` of the `entry` of these keys, if it is occupied.

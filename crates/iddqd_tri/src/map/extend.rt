@@ -1,8 +1,8 @@
 //! Many items at once.
-ghost use Rattle.std.specs.Prelude.{◌≡◌, ◌≤◌, [], length, IfOk, IfErr, OnOk, OnErr, IsOk};
+ghost use Rattle.std.specs.Prelude.{◌≡◌, ◌≤◌, ◌++◌, [], length, IsPermutation, IfOk, IfErr, OnOk, OnErr, IsOk};
 ghost use Rattle.std.specs.Iterator.{IsFiniteIterable};
-ghost use Rattle.iddqd_store.specs.Bag.{clash, overs};
-ghost use Rattle.iddqd_store.specs.Bag.Building.{GivesAll, GivesThen, FitsOn, AddsTo, RefusesFor, HasPlaceFor, MatchFromIterError};
+ghost use Rattle.iddqd_store.specs.Bag.{IsSound, clash, overs};
+ghost use Rattle.iddqd_store.specs.Bag.Building.{GivesAll, GivesThen, FitsOn, AddsTo, RefusesFor, HasPlaceFor, IsReason, MatchFromIterError};
 ghost use Rattle.iddqd_store.specs.Map.{bag};
 ghost use Rattle.iddqd_store.specs.Runs.Step.{ExtendsTo, state_of, empty_state};
 ghost use Rattle.iddqd_tri.specs.Keys.{ranks};
@@ -11,7 +11,7 @@ use super::TriHashMap;
 use super::slots::Refusal;
 use crate::error::FromIterError;
 use crate::item::TriHashItem;
-use iddqd_store::{DuplicateItem, MemoryRefused};
+use iddqd_store::{DuplicateItem, Entered, ExtendUniqueError, MemoryRefused};
 use std::alloc::Global;
 use std::hash::{BuildHasher, Hash};
 
@@ -53,6 +53,55 @@ impl<T: TriHashItem + Drop, S: BuildHasher> TriHashMap<T, S> {
         }
         Ok(())
     }
+
+    /// Puts all the items in, where none of them conflicts with an item of the map or with another of them.
+    ///
+    /// Where one does, or finds no memory, none goes in: those before it come out again and are handed back with it,
+    /// in order, and the iterator is dropped with the rest. The conflict is looked for before memory is.
+    ///
+    /// Each key of an item is hashed once and searched for once as it goes in. It takes memory for what went in, to
+    /// give it back, and where the map is full; none for a list of no items. Giving back takes none, and compares no
+    /// keys. A refusal may leave the map more room.
+    ///
+    /// ```
+    /// if let Err(refused) = map.extend_unique(batch) {
+    ///     // The map is as it was, and this one is in the way.
+    ///     return Err(refused.value);
+    /// }
+    /// ```
+    pub fn extend_unique<I: IntoIterator<Item = T>>(
+        &mut self,
+        iter: I,
+    ) -> Result<(), ExtendUniqueError<T>>
+        requires ends { IsFiniteIterable I.into_iter_gives I.IntoIter.can_next I.IntoIter.remaining iter }
+        ensures all { OnOk result (GivesAll I.into_iter_gives I.IntoIter.next_gives iter
+            (AddsTo (ranks T.TriHashItem T.K1.eq T.K2.eq T.K3.eq) (bag self.old) (bag self.new))) }
+        ensures refused { IfErr result (λ e. GivesThen I.into_iter_gives I.IntoIter.next_gives iter e.value
+            (λ xs. xs ≡ e.taken.items)) }
+        ensures same_items { OnErr result (IsPermutation (bag self.new) (bag self.old)) }
+        ensures apart { IfErr result (λ e.
+            IsSound (ranks T.TriHashItem T.K1.eq T.K2.eq T.K3.eq) (e.taken.items ++ bag self.old)) }
+        ensures reason { IfErr result (λ e. IsReason e.reason
+            (clash (ranks T.TriHashItem T.K1.eq T.K2.eq T.K3.eq) (e.taken.items ++ bag self.old) e.value)) }
+        ensures sound { IsSound (ranks T.TriHashItem T.K1.eq T.K2.eq T.K3.eq) (bag self.new) }
+        ensures same_room { FitsOn I.into_iter_gives I.IntoIter.remaining iter (length (bag self.old)) self.old.capacity
+            → self.new.capacity ≡ self.old.capacity }
+        ensures no_less_room { self.old.capacity ≤ self.new.capacity }
+        ensures builder { self.new.builder ≡ self.old.builder }
+    {
+        let mut entered = Entered::new(self.items.allocator());
+        for item in iter {
+            if let Err((value, reason)) = self.enter(item, &mut entered) {
+                let taken = self.take_entered(entered);
+                return Err(ExtendUniqueError {
+                    taken,
+                    value,
+                    reason,
+                });
+            }
+        }
+        Ok(())
+    }
 }
 
 impl<T: TriHashItem + Drop, S: BuildHasher + Default + Drop> TriHashMap<T, S> {
@@ -87,7 +136,7 @@ impl<T: TriHashItem + Drop, S: BuildHasher + Default + Drop> TriHashMap<T, S> {
     ) -> Result<Self, FromIterError<T>>
         requires ends { IsFiniteIterable I.into_iter_gives I.IntoIter.can_next I.IntoIter.remaining iter }
         ensures all { IfOk result (λ map. GivesAll I.into_iter_gives I.IntoIter.next_gives iter
-            (AddsTo (ranks T.TriHashItem T.K1.eq T.K2.eq T.K3.eq) (bag map))) }
+            (AddsTo (ranks T.TriHashItem T.K1.eq T.K2.eq T.K3.eq) [] (bag map))) }
         ensures fits { IfOk result (λ map. length (bag map) ≤ map.capacity) }
         ensures refused { IfErr result (λ e. MatchFromIterError e
             (λ x duplicates. GivesThen I.into_iter_gives I.IntoIter.next_gives iter x

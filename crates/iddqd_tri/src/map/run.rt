@@ -2,7 +2,7 @@
 ghost use Rattle.std.specs.Prelude.{◌≡◌};
 ghost use Rattle.iddqd_store.specs.Map.{bag};
 ghost use Rattle.iddqd_store.specs.Runs.Reply.{found, present, duplicate, items};
-ghost use Rattle.iddqd_store.specs.Runs.Step.{Fits, state_of, Gets, InsertsUnique, InsertsOverwrite, Reserves, ShrinksTo, Extends};
+ghost use Rattle.iddqd_store.specs.Runs.Step.{Fits, state_of, Gets, InsertsUnique, InsertsOverwrite, Reserves, ShrinksTo, Extends, ExtendsUnique};
 ghost use Rattle.iddqd_store.specs.Runs.Run.{Applies, Run};
 ghost use Rattle.iddqd_store.specs.Slots.Found.{items_at};
 ghost use Rattle.iddqd_tri.specs.Keys.{ranks, has1, has2, has3, has_all};
@@ -92,6 +92,7 @@ where
             TriCommand::Len => self.tell(TriReply::Length(self.len()), sink),
             TriCommand::Items => self.tell_items(sink),
             TriCommand::Extend(items) => self.apply_extend(items, sink),
+            TriCommand::ExtendUnique(items) => self.apply_extend_unique(items, sink),
             TriCommand::EntryInsert(key1, key2, key3, item) => {
                 let reply = self.entry_insert(&key1, &key2, &key3, item);
                 self.tell(reply, sink)
@@ -166,6 +167,21 @@ where
         match self.extend(items) {
             Ok(()) => self.tell(TriReply::Done, sink),
             Err(MemoryRefused { value }) => self.tell(TriReply::Memory(value), sink),
+        }
+    }
+
+    fn apply_extend_unique<K: TriSink<T>>(
+        &mut self,
+        items: Vec<T>,
+        sink: &mut K,
+    ) -> Result<(), K::Fault>
+        ensures step { Applies (ExtendsUnique (ranks T.TriHashItem T.K1.eq T.K2.eq T.K3.eq)) K.took
+            (state_of self.old) sink.old items.items result (state_of self.new) sink.new }
+        ensures builder { self.new.builder ≡ self.old.builder }
+    {
+        match self.extend_unique(items) {
+            Ok(()) => self.tell(TriReply::Done, sink),
+            Err(refused) => self.tell(TriReply::ExtendRefused(refused), sink),
         }
     }
 

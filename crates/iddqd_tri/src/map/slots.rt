@@ -12,6 +12,7 @@ ghost use Rattle.iddqd_store.specs.Slots.{get, items_in, IsLive, Updates};
 ghost use Rattle.iddqd_store.specs.Slots.Next.{ComesNext};
 ghost use Rattle.iddqd_tri.specs.Keys.{ranks, has2, has3, has_all};
 
+mod enter;
 pub(crate) mod entry;
 mod write;
 
@@ -173,6 +174,8 @@ impl<T: TriHashItem, S: BuildHasher> TriHashMap<T, S> {
         requires hash2 { hash2 ≡ key_hash T.key2 T.K2.hash_input S.BuildHasher S.Hasher.Hasher self.old.builder item }
         requires hash3 { hash3 ≡ key_hash T.key3 T.K3.hash_input S.BuildHasher S.Hasher.Hasher self.old.builder item }
         ensures at { get self.new.slots result ≡ Some item }
+        ensures was_free { get self.old.slots result ≡ None }
+        ensures updates { Updates self.old.slots self.new.slots result (Some item) }
         ensures items { IsPermutation (bag self.new) (item ∷ bag self.old) }
         ensures sound { IsSound (ranks T.TriHashItem T.K1.eq T.K2.eq T.K3.eq) (bag self.new) }
         ensures fits { length (bag self.new) ≤ self.new.capacity }

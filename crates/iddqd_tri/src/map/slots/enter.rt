@@ -1,0 +1,65 @@
+//! What goes in to be taken out again, should the rest of its list be refused.
+ghost use Rattle.std.specs.Prelude.{◌≡◌, ◌<◌, ◌≤◌, ◌++◌, [], ◌∷◌, length, List, All, OnOk, OnErr, IfErr, nat_eq};
+ghost use Rattle.std.specs.List.{IsDistinct};
+ghost use Rattle.iddqd_store.specs.Bag.{clash};
+ghost use Rattle.iddqd_store.specs.Bag.Building.{IsReason};
+ghost use Rattle.iddqd_store.specs.Map.{bag, Gains, Loses};
+ghost use Rattle.iddqd_store.specs.Slots.{IsLive};
+ghost use Rattle.iddqd_store.specs.Slots.Found.{items_at, StandAt};
+ghost use Rattle.iddqd_tri.specs.Keys.{ranks};
+
+use crate::map::TriHashMap;
+use crate::item::TriHashItem;
+use iddqd_store::{Entered, ExtendUniqueReason};
+use std::hash::{BuildHasher, Hash};
+
+impl<T: TriHashItem, S: BuildHasher> TriHashMap<T, S> {
+    /// Puts an item in where none conflicts with it, and notes its slot. What conflicts is looked for first; then room
+    /// is made in the map and for the note, and then the item goes in.
+    pub(crate) fn enter(
+        &mut self,
+        item: T,
+        entered: &mut Entered<T>,
+    ) -> Result<(), (T, ExtendUniqueReason)>
+        ensures gains { OnOk result (Gains self.old item self.new) }
+        ensures free { OnOk result (clash (ranks T.TriHashItem T.K1.eq T.K2.eq T.K3.eq) (bag self.old) item ≡ []) }
+        ensures noted { OnOk result ((xs : List T) → StandAt self.old.slots entered.old.slots xs
+            → StandAt self.new.slots entered.new.slots (xs ++ item ∷ [])) }
+        ensures handed_back { IfErr result (λ e. e.0 ≡ item) }
+        ensures reason { IfErr result (λ e.
+            IsReason e.1 (clash (ranks T.TriHashItem T.K1.eq T.K2.eq T.K3.eq) (bag self.old) item)) }
+        ensures slots { OnErr result (self.new.slots ≡ self.old.slots) }
+        ensures same_notes { OnErr result (entered.new.slots ≡ entered.old.slots) }
+        ensures no_less_room { self.old.capacity ≤ self.new.capacity }
+        ensures same_room { length (bag self.old) < self.old.capacity → self.new.capacity ≡ self.old.capacity }
+        ensures builder { self.new.builder ≡ self.old.builder }
+    {
+        let hash1 = self.hash_builder.hash_one(item.key1());
+        let hash2 = self.hash_builder.hash_one(item.key2());
+        let hash3 = self.hash_builder.hash_one(item.key3());
+        let found = self.conflicting(&item, hash1, hash2, hash3);
+        if !found.is_empty() {
+            return Err((item, ExtendUniqueReason::Conflict));
+        }
+        if self.make_room().is_err() || entered.reserve_one().is_err() {
+            return Err((item, ExtendUniqueReason::Memory));
+        }
+        let ix = self.put(item, hash1, hash2, hash3);
+        entered.push(ix);
+        Ok(())
+    }
+
+    /// Takes out again what went in, in the order in which it did. It takes no memory, and compares no keys.
+    pub(crate) fn take_entered(&mut self, entered: Entered<T>) -> Vec<T>
+        requires live { All (IsLive self.old.slots) entered.slots }
+        requires apart { IsDistinct nat_eq entered.slots }
+        ensures values { result.items ≡ items_at self.old.slots entered.slots }
+        ensures loses { Loses self.old result.items self.new }
+    {
+        let (slots, mut items) = entered.into_parts();
+        for at in 0..slots.len() {
+            items.push_reserved(self.take(slots[at], None, None, None));
+        }
+        items
+    }
+}
