@@ -30,7 +30,7 @@ impl<T> Model for Entered<T> {
 
 impl<T> Entered<T> {
     /// Nothing went in yet. It takes no memory.
-    pub fn new(alloc: Global) -> Self
+    pub(crate) fn new(alloc: Global) -> Self
         ensures { result.slots ≡ [] }
     {
         Entered {

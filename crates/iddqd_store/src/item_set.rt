@@ -11,6 +11,7 @@ mod compact;
 mod values;
 
 use crate::TryReserveError;
+use crate::entered::Entered;
 use crate::item_index::ItemIndex;
 use std::alloc::Global;
 use std::marker::Model;
@@ -119,9 +120,11 @@ impl<T> ItemSet<T> {
         self.slots.capacity()
     }
 
-    /// Where the set takes its memory from.
-    pub fn allocator(&self) -> Global {
-        *self.slots.allocator()
+    /// A record of what goes in from now on, with nothing in it. It takes no memory.
+    pub fn entered(&self) -> Entered<T>
+        ensures { result.slots ≡ [] }
+    {
+        Entered::new(*self.slots.allocator())
     }
 
     /// The item of a live slot, and `None` for any other number.

@@ -11,7 +11,7 @@ use super::BiHashMap;
 use super::slots::Refusal;
 use crate::error::FromIterError;
 use crate::item::BiHashItem;
-use iddqd_store::{DuplicateItem, Entered, ExtendUniqueError, MemoryRefused};
+use iddqd_store::{DuplicateItem, ExtendUniqueError, MemoryRefused};
 use std::alloc::Global;
 use std::hash::{BuildHasher, Hash};
 
@@ -88,7 +88,7 @@ impl<T: BiHashItem + Drop, S: BuildHasher> BiHashMap<T, S> {
         ensures no_less_room { self.old.capacity ≤ self.new.capacity }
         ensures builder { self.new.builder ≡ self.old.builder }
     {
-        let mut entered = Entered::new(self.items.allocator());
+        let mut entered = self.items.entered();
         for item in iter {
             if let Err((value, reason)) = self.enter(item, &mut entered) {
                 let taken = self.take_entered(entered);
