@@ -1,13 +1,9 @@
-use Rattle.std.proofs.Common.{◌≡◌, ℕ, Bool, true, arith, ap, ◌∙◌, nat_eq}
-use Rattle.std.proofs.lemmas.Bool.Decides.{nat_tests}
-use Rattle.iddqd_store.proofs.SlotLemmas.Found.{clash_none}
+use Rattle.std.proofs.Common.{ap, ◌∙◌}
+use Rattle.iddqd_store.proofs.SlotLemmas.Found.{clash_none, none_found}
 use Rattle.iddqd_store.specs.Map.{Map}
 use Rattle.iddqd_tri.specs.Keys.{ranks}
 use Rattle.iddqd_tri.proofs.map.TriHashMap.insert_overwrite.Goals as goal
 use Rattle.iddqd_tri.proofs.map.TriHashMap.insert_overwrite.Goals.{then-is_empty+in_default, else-is_empty}
-
-none_found : (n : ℕ) (b : Bool) → b ≡ nat_eq n 0 → b ≡ true → n ≡ 0
-none_found n b is empty = grind (arith, nat_tests)
 
 pub returns-in-Err-clause-no_growth : goal.returns-in-Err-clause-no_growth
 returns-in-Err-clause-no_growth g c =

@@ -1,14 +1,6 @@
-use Rattle.std.proofs.Common.{◌≡◌, ◌≢◌, ℕ, Bool, true, false, arith, nat_eq}
-use Rattle.std.proofs.lemmas.Bool.Decides.{nat_tests}
-use Rattle.iddqd_store.proofs.SlotLemmas.Found.{clash_none, clash_some}
+use Rattle.iddqd_store.proofs.SlotLemmas.Found.{clash_none, clash_some, none_found, some_found}
 use Rattle.iddqd_tri.specs.Keys.{ranks}
 use Rattle.iddqd_tri.proofs.map.TriHashMap.try_insert.Goals as goal
-
-none_found : (n : ℕ) (b : Bool) → b ≡ nat_eq n 0 → b ≡ true → n ≡ 0
-none_found n b is empty = grind (arith, nat_tests)
-
-some_found : (n : ℕ) (b : Bool) → b ≡ nat_eq n 0 → b ≡ false → n ≢ 0
-some_found n b is filled = grind (arith, nat_tests)
 
 pub returns-then-not-is_empty-clause-reason : goal.returns-then-not-is_empty-clause-reason
 returns-then-not-is_empty-clause-reason g c =
