@@ -1,4 +1,5 @@
--- What a caller of a map cites: from a lookup's clause to membership and back, a lookup after an insert or a removal, lengths, walks, and writes.
+-- What a caller of a map cites: from a lookup's clause to membership and back, a lookup after an insert or a removal, batches, lengths, walks, and writes.
+pub mod Batches
 pub mod Entering
 pub mod Named
 pub mod Walks

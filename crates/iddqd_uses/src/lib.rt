@@ -6,6 +6,7 @@ mod devices;
 mod entries;
 mod finding;
 mod inserting;
+mod loading;
 mod users;
 mod walking;
 mod writing;
@@ -20,6 +21,7 @@ pub use finding::{count_all, put_and_find, remove_and_find};
 pub use inserting::{
     count_conflicts, insert_both, insert_or_back, insert_or_drop, overwrite_or_drop,
 };
-pub use users::{User, by_login, register};
+pub use loading::load;
+pub use users::{User, by_login, register, register_all};
 pub use walking::{write_all, write_first};
 pub use writing::{replace1, write1, write1_twice};

@@ -1,8 +1,10 @@
 //! A registry of users, who are known by a number and by a login.
-ghost use Rattle.std.specs.Prelude.{◌≡◌, ◌∷◌, IsPermutation, OnOk, OnErr, IfErr, filter, option_copied};
+ghost use Rattle.std.specs.Prelude.{◌≡◌, ◌∷◌, ◌++◌, All, Contains, IsPermutation, OnOk, OnErr, IfErr, Some, filter, option_copied};
 ghost use Rattle.std.specs.Option.{option_to_list};
+ghost use Rattle.iddqd_bi.specs.Bag.{IsOnly};
 ghost use Rattle.iddqd_bi.specs.Map.{bag};
 
+use crate::loading::load;
 use iddqd_bi::{BiHashItem, BiHashMap, InsertError};
 
 /// A user.
@@ -40,6 +42,21 @@ pub fn register(users: &mut BiHashMap<User>, user: User) -> Result<(), User>
         Ok(()) => Ok(()),
         Err(InsertError::Duplicate(refusal)) => Err(refusal.into_item()),
         Err(InsertError::Memory(refusal)) => Err(refusal.into_item()),
+    }
+}
+
+/// Registers all of these users, each of whom the login finds then, or none of them. Then it hands one back who is in
+/// the way.
+pub fn register_all(users: &mut BiHashMap<User>, batch: Vec<User>) -> Result<(), User>
+    ensures registered { OnOk result (IsPermutation (bag users.new) (batch.items ++ bag users.old)) }
+    ensures found { OnOk result (All (λ u.
+        IsOnly (λ v. ⟦<String as PartialEq>⟧.eq u.login v.login) (bag users.new) (Some u)) batch.items) }
+    ensures unchanged { OnErr result (IsPermutation (bag users.new) (bag users.old)) }
+    ensures back { IfErr result (λ u. Contains batch.items u) }
+{
+    match load(users, batch) {
+        Ok(()) => Ok(()),
+        Err((user, _reason)) => Err(user),
     }
 }
 

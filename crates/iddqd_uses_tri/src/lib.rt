@@ -5,6 +5,7 @@ mod building;
 mod entries;
 mod finding;
 mod inserting;
+mod loading;
 mod sessions;
 mod walking;
 mod writing;
@@ -18,6 +19,7 @@ pub use finding::{count_all, put_and_find, remove_and_find};
 pub use inserting::{
     count_conflicts, insert_both, insert_or_back, insert_or_drop, overwrite_or_drop,
 };
-pub use sessions::{Session, by_token, close_of_user, open};
+pub use loading::load;
+pub use sessions::{Session, by_token, close_of_user, open, open_all};
 pub use walking::{write_all, write_first};
 pub use writing::{replace1, write1, write1_twice};

@@ -1,8 +1,10 @@
 //! A table of sessions, each known by its number, by its user and by its token.
-ghost use Rattle.std.specs.Prelude.{◌≡◌, ◌∷◌, ◌==◌, IsPermutation, OnOk, OnErr, IfErr, filter, option_copied};
+ghost use Rattle.std.specs.Prelude.{◌≡◌, ◌∷◌, ◌++◌, ◌==◌, All, Contains, IsPermutation, OnOk, OnErr, IfErr, Some, filter, option_copied};
 ghost use Rattle.std.specs.Option.{option_to_list};
+ghost use Rattle.iddqd_tri.specs.Bag.{IsOnly};
 ghost use Rattle.iddqd_tri.specs.Map.{bag, Loses};
 
+use crate::loading::load;
 use iddqd_tri::{InsertError, TriHashItem, TriHashMap};
 use std::hash::BuildHasher;
 
@@ -53,6 +55,24 @@ pub fn open<S: BuildHasher>(
         Ok(()) => Ok(()),
         Err(InsertError::Duplicate(refusal)) => Err(refusal.into_item()),
         Err(InsertError::Memory(refusal)) => Err(refusal.into_item()),
+    }
+}
+
+/// Opens all of these sessions, each of which its token finds then, or none of them. Then it hands back one that is in
+/// the way.
+pub fn open_all<S: BuildHasher>(
+    sessions: &mut TriHashMap<Session, S>,
+    batch: Vec<Session>,
+) -> Result<(), Session>
+    ensures opened { OnOk result (IsPermutation (bag sessions.new) (batch.items ++ bag sessions.old)) }
+    ensures found { OnOk result (All (λ s.
+        IsOnly (λ t. ⟦<String as PartialEq>⟧.eq s.token t.token) (bag sessions.new) (Some s)) batch.items) }
+    ensures unchanged { OnErr result (IsPermutation (bag sessions.new) (bag sessions.old)) }
+    ensures back { IfErr result (λ s. Contains batch.items s) }
+{
+    match load(sessions, batch) {
+        Ok(()) => Ok(()),
+        Err((session, _reason)) => Err(session),
     }
 }
 

@@ -1,0 +1,26 @@
+//! What a caller knows of a map that takes a batch of items whole, or not at all.
+ghost use Rattle.std.specs.Prelude.{◌≡◌, ◌++◌, IsPermutation, OnOk, OnErr, IfErr};
+ghost use Rattle.iddqd_bi.specs.Bag.{IsSound};
+ghost use Rattle.iddqd_bi.specs.Callers.{IsInTheWay};
+ghost use Rattle.iddqd_bi.specs.Map.{bag};
+ghost use Rattle.iddqd_bi.specs.Keys.{ranks};
+
+use iddqd_bi::{BiHashItem, BiHashMap, ExtendUniqueReason};
+use std::hash::{BuildHasher, Hash};
+
+/// Puts all items of a batch in, or none of them. Then it hands back the one that is in the way, and says why.
+pub fn load<T: BiHashItem + Drop, S: BuildHasher>(
+    map: &mut BiHashMap<T, S>,
+    batch: Vec<T>,
+) -> Result<(), (T, ExtendUniqueReason)>
+    ensures all { OnOk result (IsPermutation (bag map.new) (batch.items ++ bag map.old)) }
+    ensures none { OnErr result (IsPermutation (bag map.new) (bag map.old)) }
+    ensures in_the_way { IfErr result (λ e.
+        IsInTheWay (ranks T.BiHashItem T.K1.eq T.K2.eq) (bag map.old) batch.items e.0 e.1) }
+    ensures sound { IsSound (ranks T.BiHashItem T.K1.eq T.K2.eq) (bag map.new) }
+{
+    match map.extend_unique(batch) {
+        Ok(()) => Ok(()),
+        Err(refused) => Err((refused.value, refused.reason)),
+    }
+}
