@@ -22,7 +22,8 @@ pub use cursor::Cursor;
 pub use entered::Entered;
 pub use equivalent::Equivalent;
 pub use error::{
-    DuplicateItem, ExtendUniqueError, ExtendUniqueReason, FromIterError, MemoryRefused, TryReserveError,
+    DuplicateItem, ExtendUniqueError, ExtendUniqueReason, FromIterError, MemoryRefused,
+    TryReserveError,
 };
 pub use index_table::IndexTable;
 pub use item_index::ItemIndex;

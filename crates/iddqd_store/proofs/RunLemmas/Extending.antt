@@ -1,5 +1,5 @@
 -- What an iterator over a `Vec` by value gives, and how a bag is extended along a list.
-use Rattle.std.proofs.Common.{◌≡◌, ◌≤◌, ◌<◌, refl, sym, ap, subst, ◌∙◌, ⊎_elim, arith, List, [], ◌∷◌, ◌++◌, length, map, Option, Some, length-append}
+use Rattle.std.proofs.Common.{◌≡◌, ◌≤◌, ◌<◌, sym, ap, subst, ◌∙◌, ⊎_elim, arith, List, [], ◌∷◌, ◌++◌, length, Option, Some, length-append}
 use Rattle.std.specs.Prelude.{IsPermutation}
 use Rattle.std.specs.Iterator.{Yields, YieldsThen}
 use Rattle.std.proofs.lemmas.Bool.{cases_lt}
@@ -18,10 +18,6 @@ module _ {S T : Type 0} (steps : S → Option T → S → Type 0) (left : S → 
   -- all came, and then the next
   pub yielded_then : (xs : List T) (s u : S) (x : T) → YieldsThen steps s xs (Some x) u → left s ≡ xs ++ x ∷ left u
   yielded_then xs s u x run = yielded xs s run.0 run.1 ∙ ap (λ ys. xs ++ ys) (first run.0 u x run.2)
-
-pub map_same : {T : Type 0} (xs : List T) → map (λ y. y) xs ≡ xs
-map_same [] = refl
-map_same (x ∷ xs) = ap (λ ys. x ∷ ys) (map_same xs)
 
 module _ {T : Type 0} (ranks : Ranks T) where
   -- nothing came yet

@@ -28,11 +28,12 @@ module _ {T : Type 0} where
     -- a free slot is none of the live ones
     not_live : (ixs : List ℕ) → All (IsLive old) ixs → AllByRecursion (λ at. nat_eq ix at ≡ false) ixs
     not_live [] live = tt
-    not_live (at ∷ ixs) live =
-        (split (λ b. b ≡ false) (nat_eq ix at)
-        (λ same. absurd (false≢true (sym (ap is_some free) ∙ ap (λ a. is_some (get old a)) (same_number ix at same) ∙ All-head (IsLive old) at ixs live)))
-        (λ _. refl), not_live ixs (All-tail (IsLive old) at ixs live))
-
+    not_live (at ∷ ixs) live = (
+      split (λ b. b ≡ false) (nat_eq ix at)
+          (λ same. absurd (false≢true (sym (ap is_some free) ∙ ap (λ a. is_some (get old a)) (same_number ix at same) ∙ All-head (IsLive old) at ixs live)))
+          (λ _. refl),
+      not_live ixs (All-tail (IsLive old) at ixs live),
+    )
 
   -- one more item went into a slot that was free
   pub StandAt-push : (old new : List (Option T)) (ixs : List ℕ) (xs : List T) (ix : ℕ) (x : T) → get old ix ≡ None → Updates old new ix (Some x) → StandAt old ixs xs → StandAt new (ixs ++ ix ∷ []) (xs ++ x ∷ [])

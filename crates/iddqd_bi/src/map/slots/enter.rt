@@ -8,8 +8,8 @@ ghost use Rattle.iddqd_store.specs.Slots.{IsLive};
 ghost use Rattle.iddqd_store.specs.Slots.Found.{items_at, StandAt};
 ghost use Rattle.iddqd_bi.specs.Keys.{ranks};
 
-use crate::map::BiHashMap;
 use crate::item::BiHashItem;
+use crate::map::BiHashMap;
 use iddqd_store::{Entered, ExtendUniqueReason};
 use std::hash::{BuildHasher, Hash};
 

@@ -8,8 +8,8 @@ ghost use Rattle.iddqd_store.specs.Slots.{IsLive};
 ghost use Rattle.iddqd_store.specs.Slots.Found.{items_at, StandAt};
 ghost use Rattle.iddqd_tri.specs.Keys.{ranks};
 
-use crate::map::TriHashMap;
 use crate::item::TriHashItem;
+use crate::map::TriHashMap;
 use iddqd_store::{Entered, ExtendUniqueReason};
 use std::hash::{BuildHasher, Hash};
 

@@ -1,12 +1,11 @@
-use Rattle.std.proofs.Common.{◌≡◌, ◌≤◌, ◌+◌, length, ap, ◌∙◌, sym, subst, List, ◌∷◌, ◌++◌, map, Global, arith}
+use Rattle.std.proofs.Common.{◌≡◌, ◌≤◌, ◌+◌, length, ap, ◌∙◌, sym, subst, List, ◌∷◌, ◌++◌, Global, arith}
 use Rattle.std.specs.declared.vec.IntoIter.{IntoIter}
 use Rattle.std.specs.Vec.Iter.{into_iter_items, into_iter_steps}
-use Rattle.std.proofs.lemmas.Iterator.{items_from_drains}
-use Rattle.std.proofs.lemmas.Iterator.Adapters.{YieldsList-from_vec}
+use Rattle.std.proofs.IntoIterSteps.{All-taken}
 use Rattle.iddqd_store.specs.Bag.Building.{AddsTo}
 use Rattle.iddqd_store.specs.Map.{bag}
 use Rattle.iddqd_store.specs.Runs.Reply.{done, extend_refused}
-use Rattle.iddqd_store.proofs.RunLemmas.Extending.{yielded_then, map_same}
+use Rattle.iddqd_store.proofs.RunLemmas.Extending.{yielded_then}
 use Rattle.iddqd_bi.specs.Keys.{ranks}
 use Rattle.iddqd_bi.proofs.map.BiHashMap.apply_extend_unique.Goals as goal
 
@@ -14,10 +13,8 @@ pub returns-in-Ok-clause-step : goal.returns-in-Ok-clause-step
 returns-in-Ok-clause-step g c =
     let by = ranks g.T.BiHashItem g.T.K1.PartialEq.eq g.T.K2.PartialEq.eq in
     let all = c.in-Ok.ensures.all in
-    let run = all.3 in
-    let same : map (λ y. y) all.1 ≡ c.args.items.items =
-    items_from_drains all.1 (run.1.0, run.1.1, λ _. (run.0, run.1.2)) (YieldsList-from_vec c.args.items.items all.2.0 (omega (arith, all.2.1, c.args.items.ok))) in
-    let added = subst (λ (xs : List g.row.T.Denot). AddsTo by (bag c.args.self.now) (bag c.extend_unique.new.self) xs) (sym (map_same all.1) ∙ same) all.4 in
+    let same = All-taken all.0 all.1 all.3 ∙ all.2.0 in
+    let added = subst (λ (xs : List g.row.T.Denot). AddsTo by (bag c.args.self.now) (bag c.extend_unique.new.self) xs) same all.4 in
     let same_room = λ (room : length (bag c.args.self.now) + length c.args.items.items ≤ c.args.self.now.capacity). c.in-Ok.ensures.same_room (λ it gives. omega (arith, room, ap length gives.0)) in
     (done, (added, c.in-Ok.ensures.sound, (c.in-Ok.ensures.no_less_room, same_room)), c.tell.ensures.fits, c.tell.ensures.took)
 
