@@ -6,8 +6,8 @@ use Rattle.std.specs.Option.{option_map}
 use Rattle.iddqd_run.specs.Numbers.{number_of}
 use Rattle.iddqd_run.specs.Commands.{numbers_of, before}
 
--- numbers before others
-abbrev pub after_all : List ℕ → Option (List ℕ) → Option (List ℕ)
+-- numbers, or items, before others
+abbrev pub after_all : {T : Type 0} → List T → Option (List T) → Option (List T)
 after_all xs found = option_map (λ ns. xs ++ ns) found
 
 -- one more

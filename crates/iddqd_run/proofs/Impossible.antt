@@ -10,10 +10,10 @@ use Rattle.iddqd_store.proofs.BagLemmas.Steps.{length-clash}
 use Rattle.iddqd_bi.specs.Keys.{ranks}
 use Rattle.iddqd_store.specs.Runs.Reply.{Reply, done, duplicate, displaced, taken, memory, refused}
 use Rattle.iddqd_bi.specs.declared.command.BiCommand.TheVariants.{InsertUnique, InsertOverwrite, Remove1, Reserve}
-use Rattle.iddqd_run.specs.Commands.{Spells, first_bad_line}
+use Rattle.iddqd_run.specs.Commands.{Spelled, Spells, first_bad_line}
 use Rattle.iddqd_run.specs.Outputs.{Replies}
 use Rattle.iddqd_run.specs.Printed.{line_of, printed}
-use Rattle.iddqd_run.specs.TwoKeys.{Command, Prints, Steps, command_of, keys, numbers}
+use Rattle.iddqd_run.specs.TwoKeys.{Command, Prints, Steps, command_of, keys, numbers, spelled}
 use Rattle.iddqd_run.specs.declared.item.bi.BiItem.{BiItem}
 use Rattle.iddqd_run.proofs.Chain.{FromEmpty, from_empty}
 
@@ -151,14 +151,18 @@ not_printed_after_a_removal prints = by_replies prints.0 (from_empty Steps remov
     by_replies (one ∷ two ∷ three ∷ []) chain e = by_first one two three chain e
     by_replies (one ∷ two ∷ three ∷ four ∷ more) chain e = absurd (chain.1.3.3.3)
 
+-- what a line spells
+abbrev Spelling : Type 0
+Spelling = Spelled Command BiItem
+
 -- An input whose lines all spell commands has no bad line.
-no_bad_line : (count : ℕ) (commands : List Command) → position_from (λ (found : Option Command). is_none found) count (map (λ (command : Command). Some command) commands) ≡ None
+no_bad_line : (count : ℕ) (commands : List Command) → position_from (λ (found : Option Spelling). is_none found) count (map (λ (command : Command). Some (spelled command)) commands) ≡ None
 no_bad_line count [] = refl
 no_bad_line count (command ∷ commands) = no_bad_line (count + 1) commands
 
-pub not_done_and_bad : (text : List ℕ) (commands : List Command) (n : ℕ) → Spells command_of text commands → first_bad_line command_of text ≡ Some n → ⊥
+pub not_done_and_bad : (text : List ℕ) (commands : List Command) (n : ℕ) → Spells command_of spelled text commands → first_bad_line command_of text ≡ Some n → ⊥
 not_done_and_bad text commands n spells bad =
-    let none : first_bad_line command_of text ≡ None = ap (λ (found : List (Option Command)). position_from (λ o. is_none o) 1 found) spells ∙ no_bad_line 1 commands in
+    let none : first_bad_line command_of text ≡ None = ap (λ (found : List (Option Spelling)). position_from (λ o. is_none o) 1 found) spells ∙ no_bad_line 1 commands in
     apart (sym none ∙ bad)
   where
     apart : ◌≡◌ {A = Option ℕ} None (Some n) → ⊥

@@ -2,8 +2,9 @@
 use Rattle.std.proofs.Common.{◌≡◌, refl, ℕ, [], ◌∷◌, Some, None}
 use Rattle.std.specs.Fmt.{digits}
 use Rattle.std.specs.Prelude.{codes}
-use Rattle.iddqd_store.specs.Runs.Reply.{done, duplicate, displaced, found, taken, memory, refused, size, items, kept, key, absent, absent_data}
-use Rattle.iddqd_run.specs.Commands.{command_of_line, first_bad_line}
+use Rattle.iddqd_store.specs.Runs.Reply.{done, duplicate, displaced, found, taken, memory, refused, size, items, kept, key, absent, absent_data, extend_refused}
+use Rattle.iddqd_store.specs.declared.error.ExtendUniqueReason.TheVariants.{Conflict, Memory}
+use Rattle.iddqd_run.specs.Commands.{single, add_all, command_of_line, first_bad_line}
 use Rattle.iddqd_run.specs.Lines.{lines_of}
 use Rattle.iddqd_run.specs.Numbers.{number_of}
 use Rattle.iddqd_run.specs.Printed.{line_of, printed, bad_line_message}
@@ -41,13 +42,13 @@ signed : number_of (codes "+1") ≡ None
 signed = refl
 
 -- commands
-insertion : command_of_line command_of (codes "new 1 10 100") ≡ Some (InsertUnique (record { key1 = 1; key2 = 10; value = 100 }))
+insertion : command_of_line command_of (codes "new 1 10 100") ≡ Some (single (InsertUnique (record { key1 = 1; key2 = 10; value = 100 })))
 insertion = refl
 
-removal : command_of_line command_of (codes "del1 7") ≡ Some (Remove1 7)
+removal : command_of_line command_of (codes "del1 7") ≡ Some (single (Remove1 7))
 removal = refl
 
-listing : command_of_line command_of (codes "list") ≡ Some Items
+listing : command_of_line command_of (codes "list") ≡ Some (single Items)
 listing = refl
 
 too_few : command_of_line command_of (codes "new 1 10") ≡ None
@@ -74,23 +75,44 @@ unknown_word = refl
 number_behind_list : command_of_line command_of (codes "list 1") ≡ None
 number_behind_list = refl
 
-replacement : command_of_line command_of (codes "replace1 5 1 10 7") ≡ Some (Replace1 5 (record { key1 = 1; key2 = 10; value = 7 }))
+replacement : command_of_line command_of (codes "replace1 5 1 10 7") ≡ Some (single (Replace1 5 (record { key1 = 1; key2 = 10; value = 7 })))
 replacement = refl
 
-writing : command_of_line command_of (codes "set1 5 8") ≡ Some (Set1 5 8)
+writing : command_of_line command_of (codes "set1 5 8") ≡ Some (single (Set1 5 8))
 writing = refl
 
-entry_insertion : command_of_line command_of (codes "entput 5 6 1 10 7") ≡ Some (EntryInsert 5 6 (record { key1 = 1; key2 = 10; value = 7 }))
+entry_insertion : command_of_line command_of (codes "entput 5 6 1 10 7") ≡ Some (single (EntryInsert 5 6 (record { key1 = 1; key2 = 10; value = 7 })))
 entry_insertion = refl
 
-entry_removal : command_of_line command_of (codes "entdel 5 6") ≡ Some (EntryRemove 5 6)
+entry_removal : command_of_line command_of (codes "entdel 5 6") ≡ Some (single (EntryRemove 5 6))
 entry_removal = refl
 
-insertion_if_vacant : command_of_line command_of (codes "orput 5 6 1 10 7") ≡ Some (OrInsert 5 6 (record { key1 = 1; key2 = 10; value = 7 }))
+insertion_if_vacant : command_of_line command_of (codes "orput 5 6 1 10 7") ≡ Some (single (OrInsert 5 6 (record { key1 = 1; key2 = 10; value = 7 })))
 insertion_if_vacant = refl
 
 keys_without_an_item : command_of_line command_of (codes "entput 1 2 3 4") ≡ None
 keys_without_an_item = refl
+
+addition_of_none : command_of_line command_of (codes "addall") ≡ Some (add_all [])
+addition_of_none = refl
+
+addition_of_two : command_of_line command_of (codes "addall 3 30 0 4 40 7") ≡ Some (add_all (record { key1 = 3; key2 = 30; value = 0 } ∷ record { key1 = 4; key2 = 40; value = 7 } ∷ []))
+addition_of_two = refl
+
+one_number_alone : command_of_line command_of (codes "addall 1") ≡ None
+one_number_alone = refl
+
+item_without_a_value : command_of_line command_of (codes "addall 1 2") ≡ None
+item_without_a_value = refl
+
+one_number_left_over : command_of_line command_of (codes "addall 1 2 3 4") ≡ None
+one_number_left_over = refl
+
+space_behind_addall : command_of_line command_of (codes "addall ") ≡ None
+space_behind_addall = refl
+
+two_spaces_behind_addall : command_of_line command_of (codes "addall  1 2 3") ≡ None
+two_spaces_behind_addall = refl
 
 -- items by their first keys
 abbrev item : ℕ → ℕ → BiItem
@@ -171,16 +193,36 @@ absent_line = refl
 absent_data_line : line_of numbers (absent_data 8) ≡ codes "none\n"
 absent_data_line = refl
 
+conflict_line : line_of numbers (extend_refused Conflict (whole 3 30 0 ∷ []) (whole 4 30 0)) ≡ codes "conflict (4 30 0)\n"
+unfolding printed digits
+conflict_line = refl
+
+list_without_memory_line : line_of numbers (extend_refused Memory (whole 3 30 0 ∷ []) (whole 4 30 0)) ≡ codes "memory (4 30 0)\n"
+unfolding printed digits
+list_without_memory_line = refl
+
 bad_line : bad_line_message 12 ≡ codes "line 12: bad command\n"
 unfolding digits
 bad_line = refl
 
 -- the same words at three keys
-insertion_of_three_keys : command_of_line three_keys.command_of (codes "new 1 10 100 7") ≡ Some (three_keys_command.InsertUnique (record { key1 = 1; key2 = 10; key3 = 100; value = 7 }))
+insertion_of_three_keys : command_of_line three_keys.command_of (codes "new 1 10 100 7") ≡ Some (single (three_keys_command.InsertUnique (record { key1 = 1; key2 = 10; key3 = 100; value = 7 })))
 insertion_of_three_keys = refl
 
-third_key_lookup : command_of_line three_keys.command_of (codes "get3 7") ≡ Some (three_keys_command.Get3 7)
+third_key_lookup : command_of_line three_keys.command_of (codes "get3 7") ≡ Some (single (three_keys_command.Get3 7))
 third_key_lookup = refl
 
 too_few_for_three_keys : command_of_line three_keys.command_of (codes "new 1 10 100") ≡ None
 too_few_for_three_keys = refl
+
+addition_of_none_of_three_keys : command_of_line three_keys.command_of (codes "addall") ≡ Some (add_all [])
+addition_of_none_of_three_keys = refl
+
+addition_of_two_of_three_keys : command_of_line three_keys.command_of (codes "addall 2 20 200 0 3 30 300 9") ≡ Some (add_all (record { key1 = 2; key2 = 20; key3 = 200; value = 0 } ∷ record { key1 = 3; key2 = 30; key3 = 300; value = 9 } ∷ []))
+addition_of_two_of_three_keys = refl
+
+two_numbers_left_over : command_of_line three_keys.command_of (codes "addall 1 2 3 4 5 6") ≡ None
+two_numbers_left_over = refl
+
+three_numbers_alone : command_of_line three_keys.command_of (codes "addall 1 2 3") ≡ None
+three_numbers_alone = refl

@@ -1,19 +1,26 @@
 -- Worked rows of runs: what commands on a new map may answer, and print.
-use Rattle.std.proofs.Common.{refl, ap, ℕ, List, [], ◌∷◌, length, Some, None, arith}
-use Rattle.std.specs.Prelude.{codes}
+use Rattle.std.proofs.Common.{◌≡◌, ◌<◌, ◌^◌, refl, ap, ℕ, List, [], ◌∷◌, length, Some, None, Ok, arith}
+use Rattle.std.specs.Prelude.{Vec, codes, nat_eq}
+use denote.RawPtr.{null_ptr}
+use Rattle.std.specs.declared.alloc.Global.{Global}
 use Rattle.std.specs.Fmt.{digits}
 use Rattle.std.proofs.lemmas.List.Sorted.{IsPermutation-refl}
-use Rattle.iddqd_store.specs.Runs.Reply.{Reply, done, duplicate, displaced, found, taken, refused, size, items}
+use Rattle.iddqd_store.proofs.BagLemmas.Building.{IsSound-adds}
+use Rattle.iddqd_store.proofs.BagLemmas.Steps.{IsSound-nil}
+use Rattle.iddqd_store.specs.Bag.{Ranks, IsSound, adds}
+use Rattle.iddqd_store.specs.declared.error.ExtendUniqueReason.TheVariants.{Conflict}
+use Rattle.iddqd_bi.specs.Keys.{ranks}
+use Rattle.iddqd_store.specs.Runs.Reply.{Reply, done, duplicate, displaced, found, taken, refused, size, items, extend_refused}
 use Rattle.iddqd_store.specs.Runs.Step.{State}
 use Rattle.iddqd_tri.specs.declared.command.TriCommand.TheVariants as tri
-use Rattle.iddqd_bi.specs.declared.command.BiCommand.TheVariants.{InsertUnique, InsertOverwrite, Get2, GetUnique, Remove1, Reserve, Len, Items}
+use Rattle.iddqd_bi.specs.declared.command.BiCommand.TheVariants.{InsertUnique, InsertOverwrite, ExtendUnique, Get2, GetUnique, Remove1, Reserve, Len, Items}
 use Rattle.iddqd_run.specs.Outputs.{Replies}
 use Rattle.iddqd_run.specs.ThreeKeys as three_keys
 use Rattle.iddqd_run.specs.Printed.{printed}
 use Rattle.iddqd_run.specs.RunText.{IsOutcome}
 use Rattle.iddqd_run.specs.declared.outcome.Kind.TheVariants.{Bi, Tri}
 use Rattle.iddqd_run.specs.declared.outcome.RunEnd.TheVariants.{Done, BadLine}
-use Rattle.iddqd_run.specs.TwoKeys.{Command, Prints, Steps}
+use Rattle.iddqd_run.specs.TwoKeys.{Command, Prints, Steps, keys}
 use Rattle.iddqd_run.specs.declared.item.bi.BiItem.{BiItem}
 use Rattle.iddqd_run.specs.declared.item.tri.TriItem.{TriItem}
 use Rattle.iddqd_run.proofs.Chain.{replies_from}
@@ -157,6 +164,58 @@ not_so_many = replies_from Steps too_many too_many_replies (
 prints_not_so_many : IsOutcome Bi (codes "new 1 10 100\nreserve 18446744073709551615\nlen\n") Done (codes "ok\nmemory\nlen 1\n")
 unfolding printed digits
 prints_not_so_many = (too_many, refl, (too_many_replies, not_so_many, refl))
+
+-- a list of which the second item is refused, and one that goes in, stored somewhere
+abbrev stored : Global → (xs : List BiItem) → length xs < 2 ^ 63 → Vec BiItem Global
+stored alloc xs small = record { ptr = null_ptr; len = length xs; cap = length xs; alloc = alloc; items = xs; ok = (refl, omega arith); small = small }
+
+abbrev by : Ranks BiItem
+by = ranks keys nat_eq nat_eq
+
+sound : (xs made : List BiItem) → adds by [] xs ≡ Ok made → IsSound by made
+sound xs made is = IsSound-adds by [] xs made (IsSound-nil by) is
+
+abbrev adding : Global → List Command
+adding alloc =
+    InsertUnique a
+    ∷ ExtendUnique (stored alloc (item 3 30 0 ∷ item 4 30 0 ∷ []) (omega arith))
+    ∷ Len
+    ∷ ExtendUnique (stored alloc (item 3 30 0 ∷ item 4 40 0 ∷ []) (omega arith))
+    ∷ Len
+    ∷ []
+
+abbrev adding_replies : List (Reply BiItem ℕ)
+adding_replies = done ∷ extend_refused Conflict (item 3 30 0 ∷ []) (item 4 30 0) ∷ size 1 ∷ done ∷ size 3 ∷ []
+
+added : (alloc : Global) → Replies Steps (adding alloc) adding_replies
+added alloc = replies_from Steps (adding alloc) adding_replies (
+  state (item 4 40 0 ∷ item 3 30 0 ∷ a ∷ []) 7,
+  (
+    state (a ∷ []) 7,
+    (refl, IsPermutation-refl _, omega arith, λ room. absurd (omega (arith, room))),
+    (omega arith, omega arith),
+    (
+      state (a ∷ []) 7,
+      ([], refl, IsPermutation-refl _, sound (a ∷ item 3 30 0 ∷ []) (item 3 30 0 ∷ a ∷ []) refl, (λ none. omega (arith, ap length none)), (omega arith, λ room. refl)),
+      (omega arith, omega arith),
+      (
+        state (a ∷ []) 7,
+        (refl, refl),
+        (omega arith, omega arith),
+        (
+          state (item 4 40 0 ∷ item 3 30 0 ∷ a ∷ []) 7,
+          ((item 4 40 0 ∷ item 3 30 0 ∷ a ∷ [], refl, IsPermutation-refl _), sound (a ∷ item 3 30 0 ∷ item 4 40 0 ∷ []) (item 4 40 0 ∷ item 3 30 0 ∷ a ∷ []) refl, (omega arith, λ room. refl)),
+          (omega arith, omega arith),
+          (state (item 4 40 0 ∷ item 3 30 0 ∷ a ∷ []) 7, (refl, refl), (omega arith, omega arith), refl),
+        ),
+      ),
+    ),
+  ),
+)
+
+prints_added : (alloc : Global) → IsOutcome Bi (codes "new 1 10 100\naddall 3 30 0 4 30 0\nlen\naddall 3 30 0 4 40 0\nlen\n") Done (codes "ok\nconflict (4 30 0)\nlen 1\nok\nlen 3\n")
+unfolding printed digits
+prints_added alloc = (adding alloc, refl, (adding_replies, added alloc, refl))
 
 -- a bad line, and no line
 prints_bad_line : IsOutcome Bi (codes "new 1 10 100\nget3 1\n") (BadLine 2) (codes "line 2: bad command\n")

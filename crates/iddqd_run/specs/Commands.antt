@@ -16,21 +16,27 @@ abbrev pub numbers_of : List (List ℕ) → Option (List ℕ)
 numbers_of [] = Some []
 numbers_of (field ∷ fields) = before (number_of field) (numbers_of fields)
 
--- `command_of` is what the words of a kind of map stand for
-module _ {C : Type 0} (command_of : Word → List ℕ → Option C) where
-  -- the command of a word and of the numbers behind it
-  abbrev pub command_of_fields : List (List ℕ) → Option C
+-- What a line spells: a command without a list, or `extend_unique` of these items. A command with a list holds a `Vec`,
+-- and no line tells where this is stored.
+pub data Spelled (C T : Type 0) : Type 0 where
+  single : C → Spelled C T
+  add_all : List T → Spelled C T
+
+-- `command_of` is what the words of a kind of map stand for, where each stands for something of type `S`
+module _ {S : Type 0} (command_of : Word → List ℕ → Option S) where
+  -- what a word and the numbers behind it spell
+  abbrev pub command_of_fields : List (List ℕ) → Option S
   command_of_fields [] = None
   command_of_fields (name ∷ digits) =
       option_and_then (λ word. option_and_then (command_of word) (numbers_of digits)) (word_of name)
 
-  -- the command that a line spells: one space stands before each number
-  abbrev pub command_of_line : List ℕ → Option C
+  -- what a line spells: one space stands before each number
+  abbrev pub command_of_line : List ℕ → Option S
   command_of_line line = command_of_fields (slice_split (λ b. b == 32) line)
 
-  -- each line of the text spells its command
-  abbrev pub Spells : List ℕ → List C → Type 0
-  Spells text commands = map command_of_line (lines_of text) ≡ map (λ command. Some command) commands
+  -- each line of the text spells its command, where `spelled` is what a command is spelled by
+  abbrev pub Spells : {C : Type 0} → (C → S) → List ℕ → List C → Type 0
+  Spells spelled text commands = map command_of_line (lines_of text) ≡ map (λ command. Some (spelled command)) commands
 
   -- the number of the first line that spells none, where the first line is line 1
   abbrev pub first_bad_line : List ℕ → Option ℕ

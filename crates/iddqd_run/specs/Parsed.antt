@@ -6,6 +6,6 @@ use Rattle.iddqd_run.specs.declared.parse.Parsed.TheVariants.{Commands, BadLine}
 use Rattle.iddqd_run.specs.declared.words.Word.{Word}
 
 -- the commands of all its lines, or the first bad line
-abbrev pub IsParse : {C : Type 0} → (Word → List ℕ → Option C) → List ℕ → Parsed C → Type 0
-IsParse command_of text (Commands commands) = Spells command_of text commands.items
-IsParse command_of text (BadLine n) = first_bad_line command_of text ≡ Some n
+abbrev pub IsParse : {C S : Type 0} → (Word → List ℕ → Option S) → (C → S) → List ℕ → Parsed C → Type 0
+IsParse command_of spelled text (Commands commands) = Spells command_of spelled text commands.items
+IsParse command_of spelled text (BadLine n) = first_bad_line command_of text ≡ Some n

@@ -2,7 +2,8 @@
 use Rattle.std.specs.Prelude.{ℕ, ◌+◌, List, [], ◌∷◌, ◌++◌, codes, Option, Some, None, true, false}
 use Rattle.std.specs.Fmt.{decimal}
 use Rattle.std.specs.List.{flat_map}
-use Rattle.iddqd_store.specs.Runs.Reply.{Reply, done, duplicate, found, taken, memory, displaced, present, refused, size, items, kept, key, absent, absent_data}
+use Rattle.iddqd_store.specs.Runs.Reply.{Reply, done, duplicate, found, taken, memory, displaced, present, refused, size, items, kept, key, absent, absent_data, extend_refused}
+use Rattle.iddqd_store.specs.declared.error.ExtendUniqueReason.TheVariants.{Conflict, Memory}
 use Rattle.iddqd_run.specs.Sorted.{by_first_key}
 
 -- a space and the number, for each, and the bracket behind
@@ -40,6 +41,8 @@ module _ {T : Type 0} (numbers : T → List ℕ) where
   line_of (key r item) = codes "key" ++ decimal (r + 1) ++ codes " " ++ printed (numbers item) ++ codes "\n"
   line_of (absent item) = codes "absent " ++ printed (numbers item) ++ codes "\n"
   line_of (absent_data value) = codes "none\n"
+  line_of (extend_refused Conflict before item) = codes "conflict " ++ printed (numbers item) ++ codes "\n"
+  line_of (extend_refused Memory before item) = codes "memory " ++ printed (numbers item) ++ codes "\n"
   -- no word of the program asks for these
   line_of (present true) = codes "yes\n"
   line_of (present false) = codes "no\n"

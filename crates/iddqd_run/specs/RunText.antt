@@ -12,17 +12,19 @@ use Rattle.iddqd_run.specs.declared.outcome.RunEnd.{RunEnd}
 use Rattle.iddqd_run.specs.declared.outcome.RunEnd.TheVariants.{Done, BadLine}
 use Rattle.iddqd_run.specs.declared.words.Word.{Word}
 
--- with what the words of a kind stand for and its runs print, the run of an input may end so, with this output:
--- the lines of the replies to its commands, or the message of its first bad line
-module _ {C : Type 0} (command_of : Word → List ℕ → Option C) (Prints : List C → List ℕ → Type 0) where
-  abbrev pub IsAnswer : List ℕ → RunEnd → List ℕ → Type 0
-  IsAnswer input Done output = (commands : List C) × Spells command_of input commands × Prints commands output
-  IsAnswer input (BadLine n) output = (first_bad_line command_of input ≡ Some n) × (output ≡ bad_line_message n)
+-- with what the words of a kind stand for, its commands are spelled by and its runs print, the run of an input may end
+-- so, with this output: the lines of the replies to its commands, or the message of its first bad line
+module _
+    {C S : Type 0} (command_of : Word → List ℕ → Option S) (spelled : C → S) (Prints : List C → List ℕ → Type 0)
+  where
+    abbrev pub IsAnswer : List ℕ → RunEnd → List ℕ → Type 0
+    IsAnswer input Done output = (commands : List C) × Spells command_of spelled input commands × Prints commands output
+    IsAnswer input (BadLine n) output = (first_bad_line command_of input ≡ Some n) × (output ≡ bad_line_message n)
 
 -- the same for each kind
 abbrev pub IsOutcome : Kind → List ℕ → RunEnd → List ℕ → Type 0
-IsOutcome Bi input end output = IsAnswer two_keys.command_of two_keys.Prints input end output
-IsOutcome Tri input end output = IsAnswer three_keys.command_of three_keys.Prints input end output
+IsOutcome Bi input end output = IsAnswer two_keys.command_of two_keys.spelled two_keys.Prints input end output
+IsOutcome Tri input end output = IsAnswer three_keys.command_of three_keys.spelled three_keys.Prints input end output
 
 -- such an output was written whole
 abbrev pub Writes : Kind → List ℕ → RunEnd → Option (List ℕ) → Option (List ℕ) → Type 0

@@ -1,16 +1,18 @@
 -- Kind `tri`: its items, what its words stand for, and what a run prints.
 use Rattle.std.specs.Prelude.{ℕ, nat_eq, List, [], ◌∷◌, Option, Some, None}
+use Rattle.std.specs.Option.{option_map}
 use Rattle.iddqd_store.specs.Runs.Reply.{Reply}
 use Rattle.iddqd_store.specs.Runs.Step.{State}
 use Rattle.iddqd_tri.specs.Step.{Step}
 use Rattle.iddqd_tri.specs.declared.item.TriHashItem as of
 use Rattle.iddqd_tri.specs.declared.command.TriCommand.{TriCommand}
 use Rattle.iddqd_tri.specs.declared.command.TriCommand.TheVariants as command
+use Rattle.iddqd_run.specs.Commands.{Spelled, single, add_all}
 use Rattle.iddqd_run.specs.Outputs as outputs
 use Rattle.iddqd_run.specs.Printed.{line_of}
 use Rattle.iddqd_run.specs.declared.item.tri.TriItem.{TriItem}
 use Rattle.iddqd_run.specs.declared.words.Word.{Word}
-use Rattle.iddqd_run.specs.declared.words.Word.TheVariants.{New, Get1, Get2, Get3, Del1, Both, Del2, Del3, DelBoth, Len, Put, Reserve, Fit, Clear, List as ListAll, Replace1, Set1, EntPut, EntDel, OrPut}
+use Rattle.iddqd_run.specs.declared.words.Word.TheVariants.{New, Get1, Get2, Get3, Del1, Both, Del2, Del3, DelBoth, Len, Put, Reserve, Fit, Clear, List as ListAll, Replace1, Set1, EntPut, EntDel, OrPut, AddAll}
 
 -- the numbers of an item
 abbrev pub numbers : TriItem → List ℕ
@@ -32,29 +34,45 @@ with_value item value = record item { value = value }
 abbrev pub Command : Type 0
 Command = TriCommand TriItem ℕ ℕ ℕ ℕ
 
--- the command of a word with its numbers
-abbrev pub command_of : Word → List ℕ → Option Command
-command_of New (k1 ∷ k2 ∷ k3 ∷ v ∷ []) = Some (command.InsertUnique (item k1 k2 k3 v))
-command_of Get1 (k ∷ []) = Some (command.Get1 k)
-command_of Get2 (k ∷ []) = Some (command.Get2 k)
-command_of Get3 (k ∷ []) = Some (command.Get3 k)
-command_of Del1 (k ∷ []) = Some (command.Remove1 k)
-command_of Both (k1 ∷ k2 ∷ k3 ∷ []) = Some (command.GetUnique k1 k2 k3)
-command_of Del2 (k ∷ []) = Some (command.Remove2 k)
-command_of Del3 (k ∷ []) = Some (command.Remove3 k)
-command_of DelBoth (k1 ∷ k2 ∷ k3 ∷ []) = Some (command.RemoveUnique k1 k2 k3)
-command_of Len [] = Some command.Len
-command_of Put (k1 ∷ k2 ∷ k3 ∷ v ∷ []) = Some (command.InsertOverwrite (item k1 k2 k3 v))
-command_of Reserve (n ∷ []) = Some (command.Reserve n)
-command_of Fit [] = Some command.ShrinkToFit
-command_of Clear [] = Some command.Clear
-command_of ListAll [] = Some command.Items
-command_of Replace1 (k ∷ x1 ∷ x2 ∷ x3 ∷ v ∷ []) = Some (command.Replace1 k (item x1 x2 x3 v))
-command_of Set1 (k ∷ v ∷ []) = Some (command.Set1 k v)
-command_of EntPut (k1 ∷ k2 ∷ k3 ∷ x1 ∷ x2 ∷ x3 ∷ v ∷ []) = Some (command.EntryInsert k1 k2 k3 (item x1 x2 x3 v))
-command_of EntDel (k1 ∷ k2 ∷ k3 ∷ []) = Some (command.EntryRemove k1 k2 k3)
-command_of OrPut (k1 ∷ k2 ∷ k3 ∷ x1 ∷ x2 ∷ x3 ∷ v ∷ []) = Some (command.OrInsert k1 k2 k3 (item x1 x2 x3 v))
-command_of word numbers = None
+-- the command of a word with its numbers, where it holds no list
+abbrev pub single_of : Word → List ℕ → Option Command
+single_of New (k1 ∷ k2 ∷ k3 ∷ v ∷ []) = Some (command.InsertUnique (item k1 k2 k3 v))
+single_of Get1 (k ∷ []) = Some (command.Get1 k)
+single_of Get2 (k ∷ []) = Some (command.Get2 k)
+single_of Get3 (k ∷ []) = Some (command.Get3 k)
+single_of Del1 (k ∷ []) = Some (command.Remove1 k)
+single_of Both (k1 ∷ k2 ∷ k3 ∷ []) = Some (command.GetUnique k1 k2 k3)
+single_of Del2 (k ∷ []) = Some (command.Remove2 k)
+single_of Del3 (k ∷ []) = Some (command.Remove3 k)
+single_of DelBoth (k1 ∷ k2 ∷ k3 ∷ []) = Some (command.RemoveUnique k1 k2 k3)
+single_of Len [] = Some command.Len
+single_of Put (k1 ∷ k2 ∷ k3 ∷ v ∷ []) = Some (command.InsertOverwrite (item k1 k2 k3 v))
+single_of Reserve (n ∷ []) = Some (command.Reserve n)
+single_of Fit [] = Some command.ShrinkToFit
+single_of Clear [] = Some command.Clear
+single_of ListAll [] = Some command.Items
+single_of Replace1 (k ∷ x1 ∷ x2 ∷ x3 ∷ v ∷ []) = Some (command.Replace1 k (item x1 x2 x3 v))
+single_of Set1 (k ∷ v ∷ []) = Some (command.Set1 k v)
+single_of EntPut (k1 ∷ k2 ∷ k3 ∷ x1 ∷ x2 ∷ x3 ∷ v ∷ []) = Some (command.EntryInsert k1 k2 k3 (item x1 x2 x3 v))
+single_of EntDel (k1 ∷ k2 ∷ k3 ∷ []) = Some (command.EntryRemove k1 k2 k3)
+single_of OrPut (k1 ∷ k2 ∷ k3 ∷ x1 ∷ x2 ∷ x3 ∷ v ∷ []) = Some (command.OrInsert k1 k2 k3 (item x1 x2 x3 v))
+single_of word numbers = None
+
+-- the items of the numbers, four for each, if none is left over
+abbrev pub items_of : List ℕ → Option (List TriItem)
+items_of [] = Some []
+items_of (k1 ∷ k2 ∷ k3 ∷ v ∷ numbers) = option_map (λ items. item k1 k2 k3 v ∷ items) (items_of numbers)
+items_of numbers = None
+
+-- what a word with its numbers spells
+abbrev pub command_of : Word → List ℕ → Option (Spelled Command TriItem)
+command_of AddAll numbers = option_map add_all (items_of numbers)
+command_of word numbers = option_map single (single_of word numbers)
+
+-- what a command is spelled by
+abbrev pub spelled : Command → Spelled Command TriItem
+spelled (command.ExtendUnique xs) = add_all xs.items
+spelled other = single other
 
 -- what each command may answer
 abbrev pub Steps : State TriItem → Command → Reply TriItem ℕ → State TriItem → Type 0

@@ -2,7 +2,7 @@
 use Rattle.std.specs.Prelude.{ℕ, List, codes, Option, Some, None, if◌then◌else◌}
 use Rattle.iddqd_run.specs.Texts.{is_text}
 use Rattle.iddqd_run.specs.declared.words.Word.{Word}
-use Rattle.iddqd_run.specs.declared.words.Word.TheVariants.{New, Get1, Get2, Get3, Del1, Both, Del2, Del3, DelBoth, Len, Put, Reserve, Fit, Clear, List as ListAll, Replace1, Set1, EntPut, EntDel, OrPut}
+use Rattle.iddqd_run.specs.declared.words.Word.TheVariants.{New, Get1, Get2, Get3, Del1, Both, Del2, Del3, DelBoth, Len, Put, Reserve, Fit, Clear, List as ListAll, Replace1, Set1, EntPut, EntDel, OrPut, AddAll}
 
 -- the word that the bytes spell
 abbrev pub word_of : List ℕ → Option Word
@@ -27,4 +27,5 @@ word_of bytes =
     if is_text bytes (codes "entput") then Some EntPut else
     if is_text bytes (codes "entdel") then Some EntDel else
     if is_text bytes (codes "orput") then Some OrPut else
+    if is_text bytes (codes "addall") then Some AddAll else
     None

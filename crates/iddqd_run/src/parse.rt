@@ -23,9 +23,9 @@ pub enum Parsed<C> {
 /// The commands that the lines of a text spell, or the first bad line.
 ///
 /// It keeps the commands in memory, and the parts of one line beside.
-#[tactic(auto, using(crate::proofs::Parsing::spells_more, crate::proofs::Parsing::spells_all, crate::proofs::Parsing::spells_none))]
+#[tactic(auto, using(crate::proofs::Parsing::spells_more, crate::proofs::Parsing::spells_all))]
 pub fn parse<C: Command>(alloc: Global, text: &[u8]) -> Result<Parsed<C>, AllocError>
-    ensures { IfOk result (IsParse C.command_of text.now) }
+    ensures { IfOk result (IsParse C.command_of C.spelled text.now) }
 {
     let mut commands = Vec::new(alloc);
     let mut rest = text;
@@ -44,7 +44,7 @@ pub fn parse<C: Command>(alloc: Global, text: &[u8]) -> Result<Parsed<C>, AllocE
 
 /// The command that a line spells, if it spells one.
 pub fn command_of_line<C: Command>(alloc: Global, line: &[u8]) -> Result<Option<C>, AllocError>
-    ensures { IfOk result (λ found. found ≡ command_of_line C.command_of line.now) }
+    ensures { IfOk result (λ found. option_map C.spelled found ≡ command_of_line C.command_of line.now) }
 {
     let fields = fields(alloc, line)?;
     command_of_fields(alloc, &fields)
@@ -60,7 +60,8 @@ fn fields<'t>(alloc: Global, line: &'t [u8]) -> Result<Vec<&'t [u8]>, AllocError
 
 /// The command of a word and of the numbers behind it.
 fn command_of_fields<C: Command>(alloc: Global, fields: &[&[u8]]) -> Result<Option<C>, AllocError>
-    ensures { IfOk result (λ found. found ≡ command_of_fields C.command_of (map (λ field. field.now) fields.now)) }
+    ensures { IfOk result (λ found.
+        option_map C.spelled found ≡ command_of_fields C.command_of (map (λ field. field.now) fields.now)) }
 {
     let [name, digits @ ..] = fields else {
         return Ok(None);
@@ -71,7 +72,7 @@ fn command_of_fields<C: Command>(alloc: Global, fields: &[&[u8]]) -> Result<Opti
     let Some(numbers) = numbers_of(alloc, digits)? else {
         return Ok(None);
     };
-    Ok(C::command_of(word, &numbers))
+    C::command_of(alloc, word, &numbers)
 }
 
 /// The numbers that the fields spell, if each spells one.

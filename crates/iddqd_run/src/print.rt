@@ -1,11 +1,12 @@
 //! The lines that the program prints.
 ghost use Rattle.std.specs.Prelude.{◌≡◌, ◌++◌, IfOk, OnOk, codes, map, string_bytes};
+ghost use Rattle.iddqd_store.specs.Runs.Reply.{extend_refused};
 ghost use Rattle.iddqd_store.specs.Runs.Values.{value_by};
 ghost use Rattle.iddqd_run.specs.Printed.{printed, items_text, found_line, line_of, bad_line_message};
 ghost use Rattle.iddqd_run.specs.Sorted.{by_first_key};
 
 use crate::item::Numbers;
-use iddqd_store::{Iter, MapReply, ShortList};
+use iddqd_store::{ExtendUniqueError, ExtendUniqueReason, Iter, MapReply, ShortList};
 use std::alloc::{AllocError, Global};
 
 /// The line of a reply. It takes memory for its text.
@@ -40,6 +41,7 @@ pub fn line_of<
         MapReply::Key3(item) => format!(in alloc; "key3 {item}\n"),
         MapReply::Absent(item) => format!(in alloc; "absent {item}\n"),
         MapReply::AbsentData(_) => String::from_str(alloc, "none\n"),
+        MapReply::ExtendRefused(refused) => refused_list_line(alloc, refused),
     }
 }
 
@@ -82,6 +84,21 @@ fn displaced_line<T: Numbers + Drop, G: ShortList<Item = T> + Drop>(
                 return Ok(line);
             }
         }
+    }
+}
+
+/// The line of a list of items of which none went in.
+fn refused_list_line<T: Numbers + Drop>(
+    alloc: Global,
+    refused: ExtendUniqueError<T>,
+) -> Result<String, AllocError>
+    ensures { IfOk result (λ line. string_bytes line ≡
+        line_of T.numbers (extend_refused refused.reason refused.taken.items refused.value)) }
+{
+    let value = refused.value;
+    match refused.reason {
+        ExtendUniqueReason::Conflict => format!(in alloc; "conflict {value}\n"),
+        ExtendUniqueReason::Memory => format!(in alloc; "memory {value}\n"),
     }
 }
 

@@ -61,7 +61,7 @@ fn answer(alloc: Global, kind: Kind, input: &[u8]) -> Result<(RunEnd, String), A
 /// The same, where the lines spell commands of this type.
 fn answer_of<C: Command>(alloc: Global, input: &[u8]) -> Result<(RunEnd, String), AllocError>
     ensures { IfOk result (λ answer.
-        IsAnswer C.command_of C.Prints input.now answer.0 (string_bytes answer.1)) }
+        IsAnswer C.command_of C.spelled C.Prints input.now answer.0 (string_bytes answer.1)) }
 {
     match parse::<C>(alloc, input)? {
         Parsed::Commands(commands) => {

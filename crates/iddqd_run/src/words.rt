@@ -25,6 +25,7 @@ pub enum Word {
     EntPut,
     EntDel,
     OrPut,
+    AddAll,
 }
 
 /// The word that the bytes spell, if they spell one.
@@ -72,6 +73,8 @@ pub fn word_of(bytes: &[u8]) -> Option<Word>
         Some(Word::EntDel)
     } else if bytes == b"orput".as_slice() {
         Some(Word::OrPut)
+    } else if bytes == b"addall".as_slice() {
+        Some(Word::AddAll)
     } else {
         None
     }
