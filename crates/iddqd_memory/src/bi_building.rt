@@ -1,6 +1,6 @@
 //! Two-key maps built of many items at once, under refused memory.
 use crate::bi::{full, put};
-use iddqd_bi::{BiHashMap, FromIterError};
+use iddqd_bi::{BiHashMap, ExtendUniqueReason, FromIterError};
 use iddqd_tests::{Row, row_of};
 use std::alloc::Global;
 use std::process::Abort;
@@ -57,6 +57,59 @@ fn extend_by_what_is_promised(rt: &impl Abort, alloc: Global) -> bool {
     assert!(rt; holds_three_rows(&map));
     drop(map);
     true
+}
+
+/// Whether the map has the rows of `full` but its last ones, so many in all, and these after them.
+fn holds(map: &BiHashMap<Row>, first: u64, others: &[Row]) -> bool {
+    for k in 1..=first {
+        let value = if k < 3 { 100 * k } else { 0 };
+        if map.get_unique(&k, &(10 * k)).copied() != Some(row_of(k, 10 * k, value)) {
+            return false;
+        }
+    }
+    for row in others {
+        if map.get_unique(&row.key1, &row.key2).copied() != Some(*row) {
+            return false;
+        }
+    }
+    map.len() == first as usize + others.len()
+}
+
+/// Puts two rows into a map that has so many of seven. Where one is refused, it comes back with what is before it in
+/// the list, and the map is as before; a second try with these is granted, and so is the rest of the list.
+fn extend_unique(rt: &impl Abort, alloc: Global, first: u64) -> bool {
+    let Some(mut map) = full(alloc) else {
+        return false;
+    };
+    for k in first + 1..=7 {
+        drop(map.remove1(&k));
+    }
+    // No memory is asked for where no item is put in, also in a full map.
+    let empty: [Row; 0] = [];
+    assert!(rt; map.extend_unique(empty).is_ok());
+    match map.extend_unique([row_of(1, 77, 0)]) {
+        Ok(()) => assert!(rt; false, "it conflicts"),
+        Err(refused) => assert_eq!(rt; refused.reason, ExtendUniqueReason::Conflict),
+    }
+    assert!(rt; holds(&map, first, &[]) && map.capacity() == 7);
+    let rows = [row_of(8, 80, 0), row_of(9, 90, 0)];
+    let granted = match map.extend_unique(rows) {
+        Ok(()) => true,
+        Err(refused) => {
+            assert_eq!(rt; refused.reason, ExtendUniqueReason::Memory);
+            assert!(rt; holds(&map, first, &[]));
+            let mut again = refused.taken;
+            assert!(rt; again.push(refused.value).is_ok());
+            let (tried, rest) = rows.split_at(again.len().min(2));
+            assert!(rt; again.as_slice() == tried);
+            assert!(rt; map.extend_unique(again).is_ok());
+            assert!(rt; map.extend_unique(rest.iter().copied()).is_ok());
+            false
+        }
+    };
+    assert!(rt; holds(&map, first, &rows));
+    drop(map);
+    granted
 }
 
 fn from_iter(rt: &impl Abort, alloc: Global) -> bool {
@@ -130,4 +183,20 @@ fn allows_from_iter_unique(rt: HostRuntime) {
 #[test]
 fn grants_from_iter_unique(rt: HostRuntime) {
     assert!(rt; from_iter_unique(&rt, rt.alloc()));
+}
+
+// In a full map it is the first row that may be refused, and where there is room for one also the second.
+
+#[test]
+fn allows_extend_unique(rt: HostRuntime) {
+    for first in [7, 6] {
+        let _ = extend_unique(&rt, rt.alloc(), first);
+    }
+}
+
+#[test]
+fn grants_extend_unique(rt: HostRuntime) {
+    for first in [7, 6] {
+        assert!(rt; extend_unique(&rt, rt.alloc(), first));
+    }
 }

@@ -70,7 +70,7 @@ pub(crate) fn two_in(alloc: Global, capacity: usize) -> Option<TriHashMap<Trio>>
 
 /// A full map, with those two items among others, if there is memory. Its tables have no room beyond its capacity, so
 /// that each of them has to grow for one item more.
-fn full(alloc: Global) -> Option<TriHashMap<Trio>> {
+pub(crate) fn full(alloc: Global) -> Option<TriHashMap<Trio>> {
     let mut map = two_in(alloc, 7)?;
     for k in 3..8 {
         if put_in(&mut map, Way::Unique, trio_of(k, 10 * k, 100 * k)) != Answer::In {

@@ -1,6 +1,6 @@
 //! The three-key map under refused memory: room, copies, and maps built of many items at once.
-use crate::tri::{Trio, holds, holds_two_of, trio_of, two_in};
-use iddqd_tri::{FromIterError, TriHashMap};
+use crate::tri::{Trio, full, holds, holds_two_of, trio_of, two_in};
+use iddqd_tri::{ExtendUniqueReason, FromIterError, TriHashMap};
 use std::alloc::Global;
 use std::process::Abort;
 use std::test::*;
@@ -134,6 +134,58 @@ fn extend_by_what_is_promised(rt: &impl Abort, alloc: Global) -> bool {
     true
 }
 
+/// Whether the map has the items of `full` but its last ones, so many in all, and these after them.
+fn holds_first(map: &TriHashMap<Trio>, first: u64, others: &[Trio]) -> bool {
+    for k in 1..=first {
+        if !holds(map, trio_of(k, 10 * k, 100 * k)) {
+            return false;
+        }
+    }
+    for item in others {
+        if !holds(map, *item) {
+            return false;
+        }
+    }
+    map.len() == first as usize + others.len()
+}
+
+/// Puts two items into a map that has so many of seven. Where one is refused, it comes back with what is before it in
+/// the list, and the map is as before; a second try with these is granted, and so is the rest of the list.
+fn extend_unique(rt: &impl Abort, alloc: Global, first: u64) -> bool {
+    let Some(mut map) = full(alloc) else {
+        return false;
+    };
+    for k in first + 1..=7 {
+        drop(map.remove1(&k));
+    }
+    // No memory is asked for where no item is put in, also in a full map.
+    let empty: [Trio; 0] = [];
+    assert!(rt; map.extend_unique(empty).is_ok());
+    match map.extend_unique([trio_of(77, 777, 100)]) {
+        Ok(()) => assert!(rt; false, "it conflicts"),
+        Err(refused) => assert_eq!(rt; refused.reason, ExtendUniqueReason::Conflict),
+    }
+    assert!(rt; holds_first(&map, first, &[]) && map.capacity() == 7);
+    let items = [trio_of(8, 80, 800), trio_of(9, 90, 900)];
+    let granted = match map.extend_unique(items) {
+        Ok(()) => true,
+        Err(refused) => {
+            assert_eq!(rt; refused.reason, ExtendUniqueReason::Memory);
+            assert!(rt; holds_first(&map, first, &[]));
+            let mut again = refused.taken;
+            assert!(rt; again.push(refused.value).is_ok());
+            let (tried, rest) = items.split_at(again.len().min(2));
+            assert!(rt; again.as_slice() == tried);
+            assert!(rt; map.extend_unique(again).is_ok());
+            assert!(rt; map.extend_unique(rest.iter().copied()).is_ok());
+            false
+        }
+    };
+    assert!(rt; holds_first(&map, first, &items));
+    drop(map);
+    granted
+}
+
 #[test]
 fn allows_with_capacity(rt: HostRuntime) {
     let _ = with_capacity(&rt, rt.alloc());
@@ -212,4 +264,20 @@ fn allows_extend_by_what_is_promised(rt: HostRuntime) {
 #[test]
 fn grants_extend_by_what_is_promised(rt: HostRuntime) {
     assert!(rt; extend_by_what_is_promised(&rt, rt.alloc()));
+}
+
+// In a full map it is the first item that may be refused, and where there is room for one also the second.
+
+#[test]
+fn allows_extend_unique(rt: HostRuntime) {
+    for first in [7, 6] {
+        let _ = extend_unique(&rt, rt.alloc(), first);
+    }
+}
+
+#[test]
+fn grants_extend_unique(rt: HostRuntime) {
+    for first in [7, 6] {
+        assert!(rt; extend_unique(&rt, rt.alloc(), first));
+    }
 }

@@ -3,6 +3,7 @@ ghost use Rattle.std.specs.Prelude.{⊤};
 
 use crate::alike::Alike;
 use crate::row::{Row, row_of};
+use crate::worked::{ONE, Refused, TWO, conflict, refused_list};
 use iddqd_bi::{BiCommand, BiHashMap, BiReply, BiSink, DefaultHashBuilder};
 use iddqd_store::UpToTwo;
 use std::alloc::{AllocError, Global};
@@ -27,6 +28,7 @@ enum Heard {
     Key(u64, Row),
     Absent(Row),
     AbsentData(u64),
+    ExtendRefused(Refused),
 }
 
 fn hear(reply: BiReply<'_, Row>) -> Heard {
@@ -52,6 +54,7 @@ fn hear(reply: BiReply<'_, Row>) -> Heard {
         BiReply::Key3(item) => Heard::Key(3, item),
         BiReply::Absent(item) => Heard::Absent(item),
         BiReply::AbsentData(value) => Heard::AbsentData(value),
+        BiReply::ExtendRefused(error) => Heard::ExtendRefused(refused_list(error)),
     }
 }
 
@@ -91,18 +94,6 @@ fn listening(alloc: Global, most: usize) -> Listener {
         most,
     }
 }
-
-const ONE: Row = Row {
-    key1: 1,
-    key2: 10,
-    value: 100,
-};
-
-const TWO: Row = Row {
-    key1: 2,
-    key2: 20,
-    value: 200,
-};
 
 /// The rows on the empty map, one command after another.
 fn check<S: BuildHasher + Drop>(rt: &impl Abort, alloc: Global, mut map: BiHashMap<Row, S>) {
@@ -297,6 +288,19 @@ fn extending(alloc: Global) -> Result<Vec<BiCommand<Row>>, AllocError> {
     ]?)
 }
 
+fn extending_unique(alloc: Global) -> Result<Vec<BiCommand<Row>>, AllocError> {
+    let clashing = vec![in alloc; row_of(3, 30, 0), row_of(4, 30, 0), row_of(5, 50, 0)]?;
+    let apart = vec![in alloc; row_of(10, 1, 0), row_of(20, 2, 0)]?;
+    Ok(vec![in alloc;
+        BiCommand::InsertUnique(ONE),
+        BiCommand::InsertUnique(TWO),
+        BiCommand::ExtendUnique(clashing),
+        BiCommand::Contains2(30),
+        BiCommand::ExtendUnique(apart),
+        BiCommand::Len,
+    ]?)
+}
+
 #[test]
 fn runs_go_to_the_end(rt: HostRuntime) -> Result<(), Fail> {
     let mut map = BiHashMap::new(rt.alloc());
@@ -312,5 +316,17 @@ fn runs_go_to_the_end(rt: HostRuntime) -> Result<(), Fail> {
     ];
     assert!(rt; ended.is_ok() && heard.as_slice() == wanted.as_slice());
     assert!(rt; map.get2(&20).copied() == Some(row_of(3, 20, 0)) && map.contains_key1(&1));
+    let mut map = BiHashMap::new(rt.alloc());
+    let (ended, heard) = run(rt.alloc(), &mut map, extending_unique(rt.alloc())?, 100);
+    let wanted = [
+        Heard::Done,
+        Heard::Done,
+        Heard::ExtendRefused(conflict(Some(row_of(3, 30, 0)), row_of(4, 30, 0))),
+        Heard::Present(false),
+        Heard::Done,
+        Heard::Length(4),
+    ];
+    assert!(rt; ended.is_ok() && heard.as_slice() == wanted.as_slice());
+    drop(map);
     Ok(())
 }

@@ -103,18 +103,35 @@ fn displaced_items_are_dropped_once(rt: HostRuntime) -> Result<(), Fail> {
     Ok(())
 }
 
+/// These items, in a list.
+fn listed(alloc: Global, alive: &Rc<()>, keys: &[(u64, u64)]) -> Result<Vec<Held>, Fail> {
+    let mut items = Vec::new(alloc);
+    for (key1, key2) in keys {
+        items.push(item_of(alive, *key1, *key2)?)?;
+    }
+    Ok(items)
+}
+
 #[test]
 fn a_refused_list_is_dropped_once(rt: HostRuntime) -> Result<(), Fail> {
     let alive = Rc::new(rt.alloc(), ())?;
-    let mut items = Vec::new(rt.alloc());
-    for (key1, key2) in [(1, 10), (2, 20), (2, 10), (3, 30)] {
-        items.push(item_of(&alive, key1, key2)?)?;
-    }
+    let items = listed(rt.alloc(), &alive, &[(1, 10), (2, 20), (2, 10), (3, 30)])?;
     let built = BiHashMap::<Held>::from_iter_unique(rt.alloc(), items);
     // The new item and the two in its way are left of the four.
     assert!(rt; matches!(built, Err(FromIterError::Duplicate(_))));
     assert!(rt; Rc::strong_count(&alive) == 4);
     drop(built);
+    assert!(rt; Rc::strong_count(&alive) == 1);
+    // Beside the two of the map, those that it took and gave back and the refused one are left of the five.
+    let mut map = filled(&rt, rt.alloc(), &alive, 2)?;
+    let keys = [(3, 30), (4, 40), (5, 30), (6, 60), (1, 10)];
+    if let Err(refused) = map.extend_unique(listed(rt.alloc(), &alive, &keys)?) {
+        assert!(rt; refused.taken.len() == 2 && Rc::strong_count(&alive) == 6);
+        drop(refused.taken);
+        assert!(rt; refused.value.key1 == 5 && Rc::strong_count(&alive) == 4);
+    }
+    assert!(rt; map.len() == 2 && Rc::strong_count(&alive) == 3);
+    drop(map);
     assert!(rt; Rc::strong_count(&alive) == 1);
     Ok(())
 }

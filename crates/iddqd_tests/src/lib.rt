@@ -3,10 +3,12 @@
 #![tactic(auto)]
 
 mod alike;
+mod counted;
 mod own_hash;
 mod row;
 
 pub use alike::{Alike, AlikeHasher};
+pub use counted::{Counted, Counts};
 pub use own_hash::{OwnHash, OwnHasher};
 pub use row::{Row, row_of};
 
@@ -17,9 +19,13 @@ mod bi_commands;
 #[cfg(test)]
 mod bi_copies;
 #[cfg(test)]
+mod bi_counts;
+#[cfg(test)]
 mod bi_drops;
 #[cfg(test)]
 mod bi_entries;
+#[cfg(test)]
+mod bi_extend_unique;
 #[cfg(test)]
 mod bi_guards;
 #[cfg(test)]

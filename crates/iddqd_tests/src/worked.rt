@@ -1,6 +1,6 @@
 //! The map of two rows, and what calls answer on it.
 use crate::row::{Row, row_of};
-use iddqd_bi::{BiHashMap, EntryError, KeyMismatch};
+use iddqd_bi::{BiHashMap, EntryError, ExtendUniqueError, ExtendUniqueReason, KeyMismatch};
 use std::alloc::Global;
 use std::hash::BuildHasher;
 use std::process::Abort;
@@ -57,5 +57,36 @@ pub fn refusal(error: EntryError<Row>) -> Answer {
         EntryError::Key1(item) => Answer::Key1(item),
         EntryError::Key2(item) => Answer::Key2(item),
         EntryError::Memory(item) => Answer::Memory(item),
+    }
+}
+
+/// Why a list did not go in: the items before the one that was refused, that one, and the reason. It shows two of the
+/// items before, which is one more than any row wants.
+#[derive(Clone, Copy, Debug, PartialEq, Eq)]
+pub struct Refused {
+    pub taken: [Option<Row>; 2],
+    pub value: Row,
+    pub reason: ExtendUniqueReason,
+}
+
+/// The refusal of this item for a conflict, after this one or none.
+pub fn conflict(taken: Option<Row>, value: Row) -> Refused {
+    Refused {
+        taken: [taken, None],
+        value,
+        reason: ExtendUniqueReason::Conflict,
+    }
+}
+
+pub fn refused_list(error: ExtendUniqueError<Row>) -> Refused {
+    let ExtendUniqueError {
+        taken,
+        value,
+        reason,
+    } = error;
+    Refused {
+        taken: [taken.get(0).copied(), taken.get(1).copied()],
+        value,
+        reason,
     }
 }

@@ -2,7 +2,7 @@
 ghost use Rattle.std.specs.Prelude.{⊤};
 
 use crate::row::Row;
-use crate::worked::{Listed, listed};
+use crate::worked::{Listed, Refused, listed, refused_list};
 use iddqd_tri::{TriReply, TriSink};
 use std::alloc::Global;
 
@@ -22,6 +22,7 @@ pub enum Heard {
     Memory(Row),
     Absent(Row),
     AbsentData(u64),
+    ExtendRefused(Refused),
 }
 
 fn hear(reply: TriReply<'_, Row>) -> Heard {
@@ -49,6 +50,7 @@ fn hear(reply: TriReply<'_, Row>) -> Heard {
         TriReply::Memory(item) => Heard::Memory(item),
         TriReply::Absent(item) => Heard::Absent(item),
         TriReply::AbsentData(value) => Heard::AbsentData(value),
+        TriReply::ExtendRefused(error) => Heard::ExtendRefused(refused_list(error)),
     }
 }
 

@@ -1,10 +1,11 @@
 //! Three-key maps that are built of many items at once, and their room.
 use crate::row::{Row, row_of};
-use crate::worked::{Listed, NOTHING, ONE, THREE, TWO, has_all};
+use crate::worked::{Listed, NOTHING, ONE, Refused, THREE, TWO, conflict, has_all, refused_list};
 use iddqd_tests::Alike;
-use iddqd_tri::{FromIterError, TriHashMap, TryReserveError};
+use iddqd_tri::{DefaultHashBuilder, FromIterError, TriHashMap, TryReserveError};
 use std::alloc::Global;
 use std::hash::BuildHasher;
+use std::process::Abort;
 use std::test::Fail;
 
 /// The number of items of the map of these that may not conflict, or the item that conflicts and those in its way.
@@ -59,6 +60,49 @@ fn building_names_the_first_conflict_or_overwrites(rt: HostRuntime) {
     }
     let apart = [ONE, row_of(10, 100, 1, 0), row_of(100, 1, 10, 0), TWO];
     assert!(rt; unique(rt.alloc(), apart) == Ok(4));
+}
+
+/// Why the list did not go into the map, if it did not.
+fn refusal_of<S: BuildHasher>(map: &mut TriHashMap<Row, S>, items: &[Row]) -> Option<Refused> {
+    match map.extend_unique(items.iter().copied()) {
+        Ok(()) => None,
+        Err(error) => Some(refused_list(error)),
+    }
+}
+
+/// The rows of lists that go in whole or not at all, on the map of one item, under this builder.
+fn check_unique<S: BuildHasher + Copy + Drop>(rt: &impl Abort, alloc: Global, hash_builder: S) {
+    let (second, third) = (row_of(2, 20, 200, 0), row_of(3, 30, 300, 0));
+    let late = row_of(3, 30, 100, 0);
+    let rows: [(&[Row], Option<Refused>, Listed); 3] = [
+        (
+            &[second, late],
+            Some(conflict(second, late)),
+            [Some(ONE), None, None],
+        ),
+        (
+            &[second, third],
+            None,
+            [Some(ONE), Some(second), Some(third)],
+        ),
+        (&[], None, [Some(ONE), None, None]),
+    ];
+    for (items, wanted, left) in rows {
+        let mut map = TriHashMap::with_hasher(alloc, hash_builder);
+        assert!(rt; map.insert_unique(ONE).is_ok());
+        let capacity = map.capacity();
+        assert!(rt; refusal_of(&mut map, items) == wanted && has_all(&map, left));
+        assert!(rt; !items.is_empty() || map.capacity() == capacity);
+    }
+}
+
+#[test]
+fn extend_unique_puts_all_in_or_none(rt: HostRuntime) {
+    let alloc = rt.alloc();
+    check_unique(&rt, alloc, DefaultHashBuilder::default());
+    for hash in [0, 18446744073709551615] {
+        check_unique(&rt, alloc, Alike { hash });
+    }
 }
 
 /// Whether a map has room for as many items as each call asks for, and for no more than its tables then need.

@@ -1,7 +1,7 @@
 //! Worked rows on three-key maps, told by the replies that a sink of their own hears.
 use crate::listener::{Heard, Listener, Stopped, listening};
 use crate::row::{Row, row_of};
-use crate::worked::{NOTHING, ONE, THREE, TWO, has_all};
+use crate::worked::{NOTHING, ONE, THREE, TWO, conflict, has_all};
 use iddqd_tests::Alike;
 use iddqd_tri::{DefaultHashBuilder, TriCommand, TriHashMap};
 use std::alloc::{AllocError, Global};
@@ -229,16 +229,37 @@ fn filling(alloc: Global) -> Result<Table, AllocError> {
     ]?)
 }
 
+/// Lists that go in whole or not at all.
+fn filling_whole(alloc: Global) -> Result<Table, AllocError> {
+    let (second, late) = (row_of(2, 20, 200, 0), row_of(3, 30, 100, 0));
+    let clashing = vec![in alloc; second, late]?;
+    let apart = vec![in alloc; second, row_of(3, 30, 300, 0)]?;
+    Ok(vec![in alloc;
+        (TriCommand::InsertUnique(ONE), Heard::Done),
+        (
+            TriCommand::ExtendUnique(clashing),
+            Heard::ExtendRefused(conflict(second, late))
+        ),
+        (TriCommand::Len, Heard::Length(1)),
+        (TriCommand::Get2(20), Heard::Found(None)),
+        (TriCommand::ExtendUnique(apart), Heard::Done),
+        (TriCommand::Len, Heard::Length(3)),
+        (TriCommand::ExtendUnique(Vec::new(alloc)), Heard::Done),
+        (TriCommand::Len, Heard::Length(3)),
+    ]?)
+}
+
 /// The first wrong place of each table, on empty maps of this builder.
 fn first_wrongs<S: BuildHasher + Copy + Drop>(
     alloc: Global,
     hash_builder: S,
-) -> Result<[Option<usize>; 4], AllocError> {
+) -> Result<[Option<usize>; 5], AllocError> {
     Ok([
         first_wrong(alloc, hash_builder, refusing(alloc)?),
         first_wrong(alloc, hash_builder, overwriting(alloc)?),
         first_wrong(alloc, hash_builder, writing(alloc)?),
         first_wrong(alloc, hash_builder, filling(alloc)?),
+        first_wrong(alloc, hash_builder, filling_whole(alloc)?),
     ])
 }
 
@@ -247,10 +268,10 @@ fn commands_are_answered(rt: HostRuntime) -> Result<(), Fail> {
     let alloc = rt.alloc();
     assert_eq!(rt;
         first_wrongs(alloc, DefaultHashBuilder::default())?,
-        [None; 4]
+        [None; 5]
     );
     for hash in [0, 18446744073709551615] {
-        assert_eq!(rt; first_wrongs(alloc, Alike { hash })?, [None; 4]);
+        assert_eq!(rt; first_wrongs(alloc, Alike { hash })?, [None; 5]);
     }
     Ok(())
 }

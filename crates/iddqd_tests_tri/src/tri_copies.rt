@@ -102,7 +102,7 @@ fn an_item_that_is_not_cloned_gives_no_map(rt: HostRuntime) -> Result<(), Fail> 
 }
 
 // A refusal is dropped, or gives its item, or that and the items in its way. What an overwrite displaces is dropped
-// with its answer, and what is left of a list that gave no map with the refusal.
+// with its answer.
 #[test]
 fn refused_and_displaced_items_are_dropped_once(rt: HostRuntime) -> Result<(), Fail> {
     let alive = Rc::new(rt.alloc(), Cell::new(0))?;
@@ -130,14 +130,45 @@ fn refused_and_displaced_items_are_dropped_once(rt: HostRuntime) -> Result<(), F
     assert!(rt; Rc::strong_count(&alive) == 3);
     map.clear();
     assert!(rt; Rc::strong_count(&alive) == 1);
-    let mut items = Vec::new(rt.alloc());
-    for keys in [(1, 10, 100), (2, 20, 200), (2, 30, 100), (3, 40, 300)] {
-        items.push(item_of(&alive, keys)?)?;
+    Ok(())
+}
+
+/// These items, in a list.
+fn listed(
+    alloc: Global,
+    left: &Rc<Cell<u64>>,
+    keys: &[(u64, u64, u64)],
+) -> Result<Vec<Held>, AllocError> {
+    let mut items = Vec::new(alloc);
+    for keys in keys {
+        items.push(item_of(left, *keys)?)?;
     }
-    let built = TriHashMap::<Held>::from_iter_unique(rt.alloc(), items);
+    Ok(items)
+}
+
+// What is left of a list that gave no map is dropped with the refusal, and so is what is left of one that did not go
+// into a map: the items that it took and gave back, and the one that it refused.
+#[test]
+fn refused_lists_are_dropped_once(rt: HostRuntime) -> Result<(), Fail> {
+    let alive = Rc::new(rt.alloc(), Cell::new(0))?;
+    let keys = [(1, 10, 100), (2, 20, 200), (2, 30, 100), (3, 40, 300)];
+    let built = TriHashMap::<Held>::from_iter_unique(
+        rt.alloc(),
+        listed(rt.alloc(), &alive, &keys)?,
+    );
     // The new item and the two in its way are left of the four.
     assert!(rt; matches!(built, Err(FromIterError::Duplicate(_))) && Rc::strong_count(&alive) == 4);
     drop(built);
+    assert!(rt; Rc::strong_count(&alive) == 1);
+    let mut map = four(&rt, rt.alloc(), &alive)?;
+    let keys = [(5, 50, 500), (6, 60, 600), (7, 70, 500), (8, 80, 800)];
+    if let Err(refused) = map.extend_unique(listed(rt.alloc(), &alive, &keys)?) {
+        assert!(rt; refused.taken.len() == 2 && Rc::strong_count(&alive) == 8);
+        drop(refused.taken);
+        assert!(rt; refused.value.key1 == 7 && Rc::strong_count(&alive) == 6);
+    }
+    assert!(rt; map.len() == 4 && Rc::strong_count(&alive) == 5);
+    drop(map);
     assert!(rt; Rc::strong_count(&alive) == 1);
     Ok(())
 }

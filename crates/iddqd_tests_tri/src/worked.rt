@@ -1,6 +1,8 @@
 //! The map of three rows, and what calls answer on it.
 use crate::row::Row;
-use iddqd_tri::{EntryError, KeyMismatch, TriHashMap, UpToThree};
+use iddqd_tri::{
+    EntryError, ExtendUniqueError, ExtendUniqueReason, KeyMismatch, TriHashMap, UpToThree,
+};
 use std::alloc::Global;
 use std::hash::BuildHasher;
 use std::process::Abort;
@@ -92,5 +94,40 @@ pub fn refusal(error: EntryError<Row>) -> Answer {
         EntryError::Key2(item) => Answer::Key(2, item),
         EntryError::Key3(item) => Answer::Key(3, item),
         EntryError::Memory(item) => Answer::Memory(item),
+    }
+}
+
+/// Why a list did not go in: the items before the one that was refused, that one, and the reason. It shows three of the
+/// items before, which is more than any row wants.
+#[derive(Clone, Copy, PartialEq, Eq)]
+pub struct Refused {
+    pub taken: Listed,
+    pub value: Row,
+    pub reason: ExtendUniqueReason,
+}
+
+/// The refusal of this item for a conflict, after this one.
+pub fn conflict(taken: Row, value: Row) -> Refused {
+    Refused {
+        taken: [Some(taken), None, None],
+        value,
+        reason: ExtendUniqueReason::Conflict,
+    }
+}
+
+pub fn refused_list(error: ExtendUniqueError<Row>) -> Refused {
+    let ExtendUniqueError {
+        taken,
+        value,
+        reason,
+    } = error;
+    Refused {
+        taken: [
+            taken.get(0).copied(),
+            taken.get(1).copied(),
+            taken.get(2).copied(),
+        ],
+        value,
+        reason,
     }
 }
