@@ -62,8 +62,9 @@ fn extend_by_what_is_promised(rt: &impl Abort, alloc: Global) -> bool {
 /// Whether the map has the rows of `full` but its last ones, so many in all, and these after them.
 fn holds(map: &BiHashMap<Row>, first: u64, others: &[Row]) -> bool {
     for k in 1..=first {
-        let value = if k < 3 { 100 * k } else { 0 };
-        if map.get_unique(&k, &(10 * k)).copied() != Some(row_of(k, 10 * k, value)) {
+        let value = if k < 3 { k.wrapping_mul(100) } else { 0 };
+        let key2 = k.wrapping_mul(10);
+        if map.get_unique(&k, &key2).copied() != Some(row_of(k, key2, value)) {
             return false;
         }
     }
@@ -72,7 +73,7 @@ fn holds(map: &BiHashMap<Row>, first: u64, others: &[Row]) -> bool {
             return false;
         }
     }
-    map.len() == first as usize + others.len()
+    map.len() == others.len().wrapping_add(first as usize)
 }
 
 /// Puts two rows into a map that has so many of seven. Where one is refused, it comes back with what is before it in
@@ -81,7 +82,7 @@ fn extend_unique(rt: &impl Abort, alloc: Global, first: u64) -> bool {
     let Some(mut map) = full(alloc) else {
         return false;
     };
-    for k in first + 1..=7 {
+    for k in first.wrapping_add(1)..=7 {
         drop(map.remove1(&k));
     }
     // No memory is asked for where no item is put in, also in a full map.

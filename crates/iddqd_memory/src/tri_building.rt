@@ -137,7 +137,7 @@ fn extend_by_what_is_promised(rt: &impl Abort, alloc: Global) -> bool {
 /// Whether the map has the items of `full` but its last ones, so many in all, and these after them.
 fn holds_first(map: &TriHashMap<Trio>, first: u64, others: &[Trio]) -> bool {
     for k in 1..=first {
-        if !holds(map, trio_of(k, 10 * k, 100 * k)) {
+        if !holds(map, trio_of(k, k.wrapping_mul(10), k.wrapping_mul(100))) {
             return false;
         }
     }
@@ -146,7 +146,7 @@ fn holds_first(map: &TriHashMap<Trio>, first: u64, others: &[Trio]) -> bool {
             return false;
         }
     }
-    map.len() == first as usize + others.len()
+    map.len() == others.len().wrapping_add(first as usize)
 }
 
 /// Puts two items into a map that has so many of seven. Where one is refused, it comes back with what is before it in
@@ -155,7 +155,7 @@ fn extend_unique(rt: &impl Abort, alloc: Global, first: u64) -> bool {
     let Some(mut map) = full(alloc) else {
         return false;
     };
-    for k in first + 1..=7 {
+    for k in first.wrapping_add(1)..=7 {
         drop(map.remove1(&k));
     }
     // No memory is asked for where no item is put in, also in a full map.
