@@ -1,0 +1,99 @@
+//! A load run: many drawn commands on each map, and each reply compared with that of a plain list of items.
+#![tactic(auto)]
+
+mod command;
+mod draw;
+mod item;
+mod list;
+mod reply;
+mod table;
+mod three_keys;
+mod two_keys;
+
+use crate::command::Command;
+use crate::draw::Draw;
+use crate::item::{Rank, THREE, TWO};
+use crate::list::List;
+use crate::reply::Sink;
+use crate::table::Table;
+use iddqd_bi::BiHashMap;
+use iddqd_tests::Alike;
+use iddqd_tri::TriHashMap;
+use std::alloc::{AllocError, Global};
+use std::io;
+use std::process::ExitCode;
+
+/// The exit status is 0 where all replies agree, and 1 where one differs or memory is refused.
+fn main(rt: HostRuntime) -> io::Result<ExitCode> {
+    let alloc = rt.alloc();
+    let alike = Alike { hash: 7 };
+    let map = BiHashMap::new(alloc);
+    let two = run(&rt, "two keys, default builder", map, &TWO, 200_000)?;
+    let map = BiHashMap::with_hasher(alloc, alike);
+    let two_alike = run(&rt, "two keys, all hashes alike", map, &TWO, 20_000)?;
+    let map = TriHashMap::new(alloc);
+    let three = run(&rt, "three keys, default builder", map, &THREE, 200_000)?;
+    let map = TriHashMap::with_hasher(alloc, alike);
+    let three_alike = run(&rt, "three keys, all hashes alike", map, &THREE, 20_000)?;
+    if two && two_alike && three && three_alike {
+        Ok(ExitCode::SUCCESS)
+    } else {
+        Ok(ExitCode::FAILURE)
+    }
+}
+
+/// Runs so many commands on an empty map, prints how that ended, and answers whether all replies agree.
+fn run<M: Table + Drop>(
+    rt: &HostRuntime,
+    name: &str,
+    map: M,
+    ranks: &'static [Rank],
+    commands: u64,
+) -> io::Result<bool> {
+    let mut list = List::new(rt.alloc(), ranks);
+    match first_wrong(rt.alloc(), map, &mut list, commands)? {
+        None => {
+            let left = list.len();
+            println!(rt; "{name}: {commands} commands agree, {left} items at the end")?;
+            Ok(true)
+        }
+        Some(number) => {
+            println!(rt; "{name}: command {number} is answered otherwise")?;
+            Ok(false)
+        }
+    }
+}
+
+/// The number of the first command that the map answers otherwise than the list. Behind the last one all items are
+/// compared, under its number.
+fn first_wrong<M: Table + Drop>(
+    alloc: Global,
+    mut map: M,
+    list: &mut List,
+    commands: u64,
+) -> Result<Option<u64>, AllocError> {
+    let mut draw = Draw::new(list.ranks());
+    for number in 1..=commands {
+        let command = draw.command(alloc, list)?;
+        if !agrees(alloc, &mut map, list, command)? {
+            return Ok(Some(number));
+        }
+    }
+    if agrees(alloc, &mut map, list, Command::Items)? {
+        Ok(None)
+    } else {
+        Ok(Some(commands))
+    }
+}
+
+/// Carries out a command on both. Says whether the replies agree.
+fn agrees<M: Table>(
+    alloc: Global,
+    map: &mut M,
+    list: &mut List,
+    command: Command,
+) -> Result<bool, AllocError> {
+    let mut sink = Sink::new(alloc, list.answer(&command)?);
+    map.carry_out(command, &mut sink)?;
+    Ok(sink.agrees())
+}
