@@ -1,0 +1,184 @@
+//! Runs of which one request for memory is refused. `tests/refused_memory` goes over the requests.
+//!
+//! As in `iddqd_memory`, a test `allows_..` passes whichever request is refused. It says what its run met, since each
+//! outcome has to come at some request. A test `grants_..` passes only where nothing of its own is refused.
+//!
+//! Each request costs a build of the tests. So runs begin behind 0, 13, 26 and 39 requests of the test's own, and the
+//! script begins with request 40: the first, the 14th, the 27th and the 40th of a run. With request 52 refused, each of
+//! the first 52 of a run was.
+use crate::from_read::FromRead;
+use crate::outcome::{Kind, RunEnd, RunFault};
+use crate::run::run_text;
+use crate::to_write::ToWrite;
+use std::alloc::Global;
+use std::io::{self, Write};
+use std::process::Abort;
+
+/// Seven lines for a kind of map.
+#[derive(Clone, Copy)]
+struct Seven {
+    kind: Kind,
+    text: &'static str,
+    /// What they print where no item is refused.
+    granted: &'static str,
+    /// What they print where the first item is refused.
+    without_first: &'static str,
+    /// What they print where the second item is refused.
+    without_second: &'static str,
+}
+
+const TWO_KEYS: Seven = Seven {
+    kind: Kind::Bi,
+    text: "new 1 10 100\nnew 2 20 200\nget1 1\nnew 1 99 0\ndel1 1\nget2 10\nlist\n",
+    granted: "ok\nok\nitem (1 10 100)\ndup (1 10 100)\nitem (1 10 100)\nnone\nlist (2 20 200)\n",
+    without_first: "memory (1 10 100)\nok\nnone\nok\nitem (1 99 0)\nnone\nlist (2 20 200)\n",
+    without_second: "ok\nmemory (2 20 200)\nitem (1 10 100)\ndup (1 10 100)\nitem (1 10 100)\nnone\nlist\n",
+};
+
+const THREE_KEYS: Seven = Seven {
+    kind: Kind::Tri,
+    text: "new 1 10 100 7\nnew 2 20 200 8\nget1 1\nnew 1 99 900 0\ndel1 1\nget2 10\nlist\n",
+    granted: "ok\nok\nitem (1 10 100 7)\ndup (1 10 100 7)\nitem (1 10 100 7)\nnone\nlist (2 20 200 8)\n",
+    without_first: "memory (1 10 100 7)\nok\nnone\nok\nitem (1 99 900 0)\nnone\nlist (2 20 200 8)\n",
+    without_second: "ok\nmemory (2 20 200 8)\nitem (1 10 100 7)\ndup (1 10 100 7)\nitem (1 10 100 7)\nnone\nlist\n",
+};
+
+/// A writer that takes no memory: an array, and how many bytes it took.
+#[derive(Drop)]
+struct ArrayWriter {
+    bytes: [u8; 128],
+    taken: usize,
+}
+
+impl Write for ArrayWriter {
+    fn write(&mut self, bytes: &[u8]) -> io::Result<usize> {
+        let Some(room) = self.bytes.get_mut(self.taken..) else {
+            return Ok(0);
+        };
+        let n = bytes.len().min(room.len());
+        room[..n].copy_from_slice(&bytes[..n]);
+        self.taken += n;
+        Ok(n)
+    }
+
+    fn flush(&mut self) -> io::Result<()> {
+        Ok(())
+    }
+}
+
+/// What a run met.
+#[derive(Clone, Copy, Debug, PartialEq, Eq)]
+enum Met {
+    /// No refusal that is seen. Where std asks for more than it needs and that is refused, it asks again for less.
+    Nothing,
+    /// No refusal at all: a request behind the run was refused.
+    LaterRequest,
+    /// Memory for the text was refused.
+    Fault,
+    /// Memory for an item was refused.
+    MemoryReply,
+}
+
+/// More requests than a run makes.
+const MANY: usize = 52;
+
+/// Makes so many requests for memory, and answers whether all were granted.
+fn request(alloc: Global, times: usize) -> bool {
+    let mut granted = true;
+    for _ in 0..times {
+        granted = Vec::<u8>::with_capacity(alloc, 1).is_ok() && granted;
+    }
+    granted
+}
+
+/// Runs the lines behind so many requests. Asserts that the run ends as it may, and that nothing else is written.
+fn run(rt: &impl Abort, alloc: Global, behind: usize, seven: Seven) -> Met {
+    let _ = request(alloc, behind);
+    let mut source = FromRead::new(seven.text.as_bytes());
+    let mut out = ToWrite::new(ArrayWriter {
+        bytes: [0; 128],
+        taken: 0,
+    });
+    let ended = run_text(alloc, seven.kind, &mut source, &mut out);
+    let writer = out.into_inner();
+    assert!(rt; writer.taken <= 128);
+    let written = &writer.bytes[..writer.taken];
+    if ended == Err(RunFault::Memory) {
+        assert!(rt; written.is_empty());
+        return Met::Fault;
+    }
+    assert_eq!(rt; ended, Ok(RunEnd::Done));
+    if written == seven.granted.as_bytes() {
+        return if request(alloc, MANY) {
+            Met::Nothing
+        } else {
+            Met::LaterRequest
+        };
+    }
+    assert!(rt;
+        written == seven.without_first.as_bytes() || written == seven.without_second.as_bytes()
+    );
+    Met::MemoryReply
+}
+
+/// Says what was met.
+fn say(rt: &HostRuntime, kind: Kind, met: Met) {
+    let _ = println!(rt; "met: {kind:?} {met:?}");
+}
+
+#[test]
+fn allows_two_keys(rt: HostRuntime) {
+    say(&rt, Kind::Bi, run(&rt, rt.alloc(), 0, TWO_KEYS));
+}
+
+#[test]
+fn allows_two_keys_behind_13(rt: HostRuntime) {
+    say(&rt, Kind::Bi, run(&rt, rt.alloc(), 13, TWO_KEYS));
+}
+
+#[test]
+fn allows_two_keys_behind_26(rt: HostRuntime) {
+    say(&rt, Kind::Bi, run(&rt, rt.alloc(), 26, TWO_KEYS));
+}
+
+#[test]
+fn allows_two_keys_behind_39(rt: HostRuntime) {
+    say(&rt, Kind::Bi, run(&rt, rt.alloc(), 39, TWO_KEYS));
+}
+
+#[test]
+fn allows_three_keys(rt: HostRuntime) {
+    say(&rt, Kind::Tri, run(&rt, rt.alloc(), 0, THREE_KEYS));
+}
+
+#[test]
+fn allows_three_keys_behind_13(rt: HostRuntime) {
+    say(&rt, Kind::Tri, run(&rt, rt.alloc(), 13, THREE_KEYS));
+}
+
+#[test]
+fn allows_three_keys_behind_26(rt: HostRuntime) {
+    say(&rt, Kind::Tri, run(&rt, rt.alloc(), 26, THREE_KEYS));
+}
+
+#[test]
+fn allows_three_keys_behind_39(rt: HostRuntime) {
+    say(&rt, Kind::Tri, run(&rt, rt.alloc(), 39, THREE_KEYS));
+}
+
+#[test]
+fn grants_two_keys(rt: HostRuntime) {
+    let met = run(&rt, rt.alloc(), 0, TWO_KEYS);
+    assert!(rt; met == Met::Nothing || met == Met::LaterRequest);
+}
+
+#[test]
+fn grants_three_keys(rt: HostRuntime) {
+    let met = run(&rt, rt.alloc(), 0, THREE_KEYS);
+    assert!(rt; met == Met::Nothing || met == Met::LaterRequest);
+}
+
+#[test]
+fn grants_many_requests(rt: HostRuntime) {
+    assert!(rt; request(rt.alloc(), MANY));
+}
