@@ -1,8 +1,9 @@
 //! Room in two-key maps: each call that takes memory is granted.
 use crate::alike::Alike;
 use crate::row::{Row, row_of};
-use iddqd_bi::BiHashMap;
-use iddqd_store::TryReserveError;
+use crate::worked::{ONE, TWO, two};
+use iddqd_bi::{BiHashMap, DefaultHashBuilder};
+use iddqd_store::{IndexTable, TryReserveError};
 use std::alloc::Global;
 use std::hash::BuildHasher;
 use std::test::Fail;
@@ -62,4 +63,31 @@ fn extending_asks_for_half_of_the_promise(rt: HostRuntime) -> Result<(), Fail> {
         );
     }
     Ok(())
+}
+
+/// Whether sizes that no memory holds are refused with the items as before, and small ones behind them granted.
+fn refuses_largest_sizes(map: &mut BiHashMap<Row>) -> bool {
+    for more in [usize::MAX, usize::MAX - 2] {
+        let before = map.capacity();
+        if map.reserve(more).is_ok() || map.try_reserve(more).is_ok() || map.capacity() < before {
+            return false;
+        }
+        if map.reserve(20).is_err() {
+            return false;
+        }
+    }
+    let before = map.capacity();
+    map.shrink_to(usize::MAX).is_ok()
+        && map.capacity() >= before
+        && map.len() == 2
+        && map.get1(&1) == Some(&ONE)
+        && map.get2(&20) == Some(&TWO)
+}
+
+#[test]
+fn largest_sizes_are_refused(rt: HostRuntime) {
+    assert!(rt; BiHashMap::<Row>::with_capacity(rt.alloc(), usize::MAX).is_err());
+    assert!(rt; IndexTable::with_capacity(rt.alloc(), usize::MAX).is_err());
+    let mut map = two(&rt, rt.alloc(), DefaultHashBuilder::default());
+    assert!(rt; refuses_largest_sizes(&mut map));
 }

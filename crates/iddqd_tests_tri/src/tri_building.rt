@@ -1,6 +1,8 @@
 //! Three-key maps that are built of many items at once, and their room.
 use crate::row::{Row, row_of};
-use crate::worked::{Listed, NOTHING, ONE, Refused, THREE, TWO, conflict, has_all, refused_list};
+use crate::worked::{
+    Listed, NOTHING, ONE, Refused, THREE, TWO, conflict, has_all, refused_list, three,
+};
 use iddqd_tests::Alike;
 use iddqd_tri::{DefaultHashBuilder, FromIterError, TriHashMap, TryReserveError};
 use std::alloc::Global;
@@ -161,4 +163,28 @@ fn room_is_granted(rt: HostRuntime) -> Result<(), Fail> {
         assert!(rt; len == length && capacity >= least && capacity <= most);
     }
     Ok(())
+}
+
+/// Whether sizes that no memory holds are refused with the items as before, and small ones behind them granted.
+fn refuses_largest_sizes(map: &mut TriHashMap<Row>) -> bool {
+    for more in [usize::MAX, usize::MAX - 2] {
+        let before = map.capacity();
+        if map.reserve(more).is_ok() || map.try_reserve(more).is_ok() || map.capacity() < before {
+            return false;
+        }
+        if map.reserve(20).is_err() {
+            return false;
+        }
+    }
+    let before = map.capacity();
+    map.shrink_to(usize::MAX).is_ok()
+        && map.capacity() >= before
+        && has_all(map, [Some(ONE), Some(TWO), Some(THREE)])
+}
+
+#[test]
+fn largest_sizes_are_refused(rt: HostRuntime) {
+    assert!(rt; TriHashMap::<Row>::with_capacity(rt.alloc(), usize::MAX).is_err());
+    let mut map = three(&rt, rt.alloc(), DefaultHashBuilder::default());
+    assert!(rt; refuses_largest_sizes(&mut map));
 }
