@@ -1,0 +1,20 @@
+//! Tests that count: how many keys each call of the maps compares, and how many it hashes, by keys that count this,
+//! under builders that hash all keys alike and under one that hashes a number to itself.
+#![tactic(auto)]
+
+#[cfg(test)]
+mod bi_calls;
+#[cfg(test)]
+mod bi_rows;
+#[cfg(test)]
+mod counting;
+#[cfg(test)]
+mod pair;
+#[cfg(test)]
+mod places;
+#[cfg(test)]
+mod tri_calls;
+#[cfg(test)]
+mod tri_rows;
+#[cfg(test)]
+mod triple;
