@@ -3,12 +3,10 @@
 #![tactic(auto)]
 
 mod alike;
-mod counted;
 mod own_hash;
 mod row;
 
 pub use alike::{Alike, AlikeHasher};
-pub use counted::{Counted, Counts};
 pub use own_hash::{OwnHash, OwnHasher};
 pub use row::{Row, row_of};
 
@@ -18,8 +16,6 @@ mod bi_building;
 mod bi_commands;
 #[cfg(test)]
 mod bi_copies;
-#[cfg(test)]
-mod bi_counts;
 #[cfg(test)]
 mod bi_drops;
 #[cfg(test)]

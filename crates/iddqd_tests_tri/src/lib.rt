@@ -16,8 +16,6 @@ mod tri_commands;
 #[cfg(test)]
 mod tri_copies;
 #[cfg(test)]
-mod tri_counts;
-#[cfg(test)]
 mod tri_entries;
 #[cfg(test)]
 mod tri_guards;
