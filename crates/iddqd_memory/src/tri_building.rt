@@ -9,8 +9,10 @@ use std::test::*;
 
 fn with_capacity(rt: &impl Abort, alloc: Global) -> bool {
     match TriHashMap::<Trio>::with_capacity(alloc, 10) {
-        Ok(map) => {
+        Ok(mut map) => {
             assert_eq!(rt; map.capacity(), 10);
+            // An empty map gives all its room back, and asks for none.
+            assert!(rt; map.shrink_to_fit().is_ok() && map.capacity() == 0);
             drop(map);
             true
         }
