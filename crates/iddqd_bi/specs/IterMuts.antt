@@ -1,5 +1,5 @@
 -- What contracts say of an `IterMut`.
-use Rattle.std.specs.Prelude.{List, [], Option}
+use Rattle.std.specs.Prelude.{◌≡◌, ◌-◌, List, [], length, Option}
 use Rattle.std.specs.Borrow.{LendsIf, Fml, RattleType, MutBor}
 use Rattle.std.specs.HashMap.Lent.{HashMembers}
 use Rattle.std.specs.declared.hash.Hasher as hasher
@@ -26,7 +26,11 @@ module _ {T S K1 K2 H : Type 0} where
 
   -- the walk behind the next item, which is written
   abbrev pub stepped : IterMut T S K1 K2 H → (T → T) → IterMut T S K1 K2 H
-  stepped it f = record { map = record it.map { now = next_written it f }; next = after_next it.map.now.slots it.next }
+  stepped it f = record { map = record it.map { now = next_written it f }; next = after_next it.map.now.slots it.next; left = it.left - 1 }
+
+  -- the count that the walk keeps is that of the items to come
+  abbrev pub IsCounted : IterMut T S K1 K2 H → Type 0
+  IsCounted it = it.left ≡ length (rest_of it)
 
   -- there is a next item
   abbrev pub IsNextOf : IterMut T S K1 K2 H → Type 0

@@ -3,6 +3,7 @@ use crate::item::BiHashItem;
 use crate::map::{BiHashMap, DefaultHashBuilder};
 use std::hash::{BuildHasher, Hash};
 
+mod counts;
 mod methods;
 
 /// A walk over the items of a map, each lent once for writing.
@@ -11,4 +12,6 @@ pub struct IterMut<'a, T: BiHashItem, S: BuildHasher = DefaultHashBuilder> {
     pub(crate) map: &'a mut BiHashMap<T, S>,
     // The number of the first slot that the walk has not passed.
     pub(crate) next: usize,
+    // How many items are to come, where no guard of `next_mut` left another map behind.
+    pub(crate) left: usize,
 }

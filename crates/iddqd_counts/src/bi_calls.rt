@@ -72,6 +72,8 @@ pub(crate) fn finds<S: BuildHasher>(
 pub(crate) enum Insert {
     Unique,
     Overwrite,
+    /// `insert_overwrite` of an item with these keys, which so many items have.
+    Displaces(Numbers, usize),
     Extend,
     ExtendUnique,
     /// `extend_unique` with a list of three whose last item has this first key, which is taken.
@@ -98,6 +100,10 @@ pub(crate) fn puts_in<S: BuildHasher>(
     Ok(match insert {
         Insert::Unique => map.insert_unique(pair_of(counts, (65, 75))?).is_ok(),
         Insert::Overwrite => map.insert_overwrite(pair_of(counts, (65, 75))?).is_ok(),
+        Insert::Displaces(keys, many) => match map.insert_overwrite(pair_of(counts, keys)?) {
+            Ok(displaced) => displaced.len() == many,
+            Err(_) => false,
+        },
         Insert::Extend => map.extend(three_items(counts, 67)?).is_ok(),
         Insert::ExtendUnique => map.extend_unique(three_items(counts, 67)?).is_ok(),
         Insert::ExtendUniqueRefused(last) => {

@@ -53,7 +53,7 @@ enum Call {
 
 /// What a call is called; the call; how many keys it compares at least and at most where all are hashed alike, and how
 /// many where each has its own hash; and how many it hashes.
-const CALLS: [(&str, Call, Bounds, u64, u64); 22] = [
+const CALLS: [(&str, Call, Bounds, u64, u64); 24] = [
     (
         "insert_unique",
         Call::Insert(Insert::Unique),
@@ -66,6 +66,20 @@ const CALLS: [(&str, Call, Bounds, u64, u64); 22] = [
         Call::Insert(Insert::Overwrite),
         (10, 10),
         0,
+        2,
+    ),
+    (
+        "insert_overwrite of two items",
+        Call::Insert(Insert::Displaces(APART, 2)),
+        (2, 10),
+        2,
+        4,
+    ),
+    (
+        "insert_overwrite of one item by its keys",
+        Call::Insert(Insert::Displaces(FIRST, 1)),
+        (2, 10),
+        2,
         2,
     ),
     ("extend", Call::Insert(Insert::Extend), (36, 36), 0, 6),
@@ -102,21 +116,21 @@ const CALLS: [(&str, Call, Bounds, u64, u64); 22] = [
         Call::Enter(Enter::Insert, NEW, NEW),
         (2, 2),
         2,
-        2,
+        0,
     ),
     (
         "insert_entry",
         Call::Enter(Enter::InsertEntry, NEW, NEW),
         (2, 2),
         2,
-        2,
+        0,
     ),
     (
         "or_insert, vacant",
         Call::Enter(Enter::OrInsert, NEW, NEW),
         (2, 2),
         2,
-        2,
+        0,
     ),
     (
         "or_insert, occupied",
@@ -130,14 +144,14 @@ const CALLS: [(&str, Call, Bounds, u64, u64); 22] = [
         Call::Enter(Enter::Over, FIRST, FIRST),
         (2, 2),
         2,
-        4,
+        2,
     ),
     (
         "insert in the place of two items",
         Call::Enter(Enter::Over, APART, APART),
         (2, 2),
         2,
-        6,
+        4,
     ),
     (
         "insert of another key1 at an entry",

@@ -57,7 +57,7 @@ enum Call {
 
 /// What a call is called; the call; how many keys it compares at least and at most where all are hashed alike, and how
 /// many where each has its own hash; and how many it hashes.
-const CALLS: [(&str, Call, Bounds, u64, u64); 24] = [
+const CALLS: [(&str, Call, Bounds, u64, u64); 26] = [
     (
         "insert_unique",
         Call::Insert(Insert::Unique),
@@ -70,6 +70,20 @@ const CALLS: [(&str, Call, Bounds, u64, u64); 24] = [
         Call::Insert(Insert::Overwrite),
         (15, 15),
         0,
+        3,
+    ),
+    (
+        "insert_overwrite of three items",
+        Call::Insert(Insert::Displaces(APART, 3)),
+        (3, 15),
+        3,
+        9,
+    ),
+    (
+        "insert_overwrite of one item by its keys",
+        Call::Insert(Insert::Displaces(FIRST, 1)),
+        (3, 15),
+        3,
         3,
     ),
     ("extend", Call::Insert(Insert::Extend), (54, 54), 0, 9),
@@ -106,21 +120,21 @@ const CALLS: [(&str, Call, Bounds, u64, u64); 24] = [
         Call::Enter(Enter::Insert, NEW, NEW),
         (3, 3),
         3,
-        3,
+        0,
     ),
     (
         "insert_entry",
         Call::Enter(Enter::InsertEntry, NEW, NEW),
         (3, 3),
         3,
-        3,
+        0,
     ),
     (
         "or_insert, vacant",
         Call::Enter(Enter::OrInsert, NEW, NEW),
         (3, 3),
         3,
-        3,
+        0,
     ),
     (
         "or_insert, occupied",
@@ -134,14 +148,14 @@ const CALLS: [(&str, Call, Bounds, u64, u64); 24] = [
         Call::Enter(Enter::Over, FIRST, FIRST),
         (3, 3),
         3,
-        6,
+        3,
     ),
     (
         "insert in the place of three items",
         Call::Enter(Enter::Over, APART, APART),
         (3, 3),
         3,
-        12,
+        9,
     ),
     (
         "insert of another key1 at an entry",

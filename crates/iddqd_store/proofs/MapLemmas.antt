@@ -1,5 +1,6 @@
 -- What the maps' invariants share, with any number of ranks.
 pub mod Entered
+pub mod Places
 pub mod Storing
 pub mod Walking
 pub mod Written

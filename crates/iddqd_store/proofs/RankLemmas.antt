@@ -6,4 +6,6 @@ pub mod Fill
 pub mod Index
 pub mod Invariant
 pub mod Looks
+pub mod Rehashed
 pub mod Search
+pub mod Sought

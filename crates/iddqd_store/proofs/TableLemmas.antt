@@ -1,5 +1,4 @@
 -- Cells: sizes, full places, stretches, searches, writes, removals.
-pub mod Copy
 pub mod Full
 pub mod Limits
 pub mod Line
@@ -8,6 +7,7 @@ pub mod Remove
 pub mod Ring
 pub mod Rows
 pub mod Search
+pub mod Spot
 pub mod Stretch
 pub mod StretchBound
 pub mod Write

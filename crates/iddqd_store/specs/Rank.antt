@@ -2,17 +2,17 @@
 pub mod Asking
 pub mod Index
 pub mod Keys
-use Rattle.std.specs.Prelude.{◌≡◌, ℕ, ◌+◌, ◌≤◌, Bool, true, List, Option, Contains, length, map}
+use Rattle.std.specs.Prelude.{◌≡◌, ℕ, ◌+◌, ◌≤◌, Bool, true, List, Option, Contains, IfSome, length, map}
 use Rattle.std.specs.Hash.{HashWrites}
 use Rattle.std.specs.List.{IsDistinct}
 use Rattle.std.specs.declared.hash.Hasher as hasher
 use Rattle.std.specs.declared.hash.BuildHasher as builder
 use Rattle.iddqd_store.specs.Bag.{crowd}
-use Rattle.iddqd_store.specs.Rank.Index.{IsIndex}
+use Rattle.iddqd_store.specs.Rank.Index.{HasHash, IsIndex}
 use Rattle.iddqd_store.specs.Map.{hash_of}
 use Rattle.iddqd_store.specs.Slots.Found.{NamesOneOf}
 use Rattle.iddqd_store.specs.Slots.{live_items}
-use Rattle.iddqd_store.specs.Table.{LooksUpWithin}
+use Rattle.iddqd_store.specs.Table.{IsFree, LooksUpWithin, Spot}
 
 module _ {T K : Type 0} where
   -- whether two items have equal keys
@@ -34,6 +34,26 @@ pub record SearchCosts {T A : Type 0} (hash_of : T → ℕ) (bag : List T) (room
   pub asked : asks_then ≤ asks + crowd hash_of bag hash
   pub looks : LooksUpWithin (map hash_of bag) room hash answer look look_then
   pub at_most : look_then ≤ look + length bag + 1
+
+-- a pair under this hash goes in at this cell, where the table has the hashes of the members. No public clause cites it
+pub record IsVacantFor {T : Type 0} (hash_of : T → ℕ) (bag : List T) (hash : ℕ) (spot : Spot) : Type 0 where
+  pub same : spot.hash ≡ hash
+  pub free : IsFree (map hash_of bag) spot
+
+module _ {T : Type 0} where
+  -- the pair of an item does
+  abbrev pub IsPlaceOf : (T → ℕ) → List T → T → Spot → Type 0
+  IsPlaceOf hash_of bag x spot = IsVacantFor hash_of bag (hash_of x) spot
+
+-- what contracts see of what a search by a hash found
+pub record SlotUnder : Type 0 where
+  pub slot : Option ℕ
+  pub hash : ℕ
+
+module _ {T : Type 0} where
+  -- the item in the slot that was found has the hash. No public clause cites it
+  abbrev pub IsUnder : (T → ℕ) → List (Option T) → SlotUnder → Type 0
+  IsUnder hash slots found = IfSome found.slot (λ at. HasHash hash slots at found.hash)
 
 -- what a search rests on: no two items have equal keys, and the table has their hashes. No public clause cites it
 pub record IsSearchable {T : Type 0} (agree : T → T → Bool) (hash : T → ℕ) (slots : List (Option T)) (pairs : List (ℕ × ℕ)) : Type 0 where

@@ -2,7 +2,8 @@
 pub mod Cell
 pub mod Limit
 pub mod Ring
-use Rattle.std.specs.Prelude.{ℕ, ◌+◌, ◌*◌, ◌/◌, ◌%◌, ◌^◌, ◌≡◌, ◌<◌, ◌≤◌, ◌==◌, Bool, List, Option, None, ◌≢◌, length, map, IfNone, OnSome}
+use Rattle.std.specs.Prelude.{ℕ, ◌+◌, ◌*◌, ◌/◌, ◌%◌, ◌^◌, ◌≡◌, ◌<◌, ◌≤◌, ◌==◌, Bool, List, ◌∷◌, Option, None, ◌≢◌, length, map, IfNone, OnSome}
+use Rattle.std.specs.List.Sorted.{IsPermutation}
 use Rattle.iddqd_store.specs.Table.Limit.{IsSize}
 use Rattle.iddqd_store.specs.Table.Ring.{held, cell, gap, stretch, IsReached}
 
@@ -26,6 +27,12 @@ abbrev pub LooksUpWithin : {A : Type 0} → List ℕ → ℕ → ℕ → Option 
 LooksUpWithin hashes room hash answer before after =
     (cells : ℕ) × IsSize cells × (cells < 2 ^ 64) × (room ≤ cells / 8 * 7) × LooksUp hashes cells hash answer before after
 
+-- an index stands under another hash, and each other pair stays
+pub record MovesPair (old new : List (ℕ × ℕ)) (before after index : ℕ) : Type 0 where
+  pub others : List (ℕ × ℕ)
+  pub had : IsPermutation old ((before, index) ∷ others)
+  pub has : IsPermutation new ((after, index) ∷ others)
+
 -- each pair is found from its home on, and an eighth of the cells is empty
 pub record IsTable (row : List (Option (ℕ × ℕ))) : Type 0 where
   pub size : IsSize (length row)
@@ -42,6 +49,17 @@ pub record IsFirstEmpty (row : List (Option (ℕ × ℕ))) (home at : ℕ) : Typ
 pub record IsWayTo (row : List (Option (ℕ × ℕ))) (home at : ℕ) : Type 0 where
   pub below : at < length row
   pub first : (q : ℕ) → q < length row → gap (length row) home q < gap (length row) home at → cell row q ≢ None
+
+-- what contracts see of an empty cell at which a search ended: for which hash, of how many cells, and which of them
+pub record Spot : Type 0 where
+  pub hash : ℕ
+  pub cells : ℕ
+  pub at : ℕ
+
+-- among so many cells with pairs of these hashes it is the first empty one from the home of its hash on
+pub record IsFree (hashes : List ℕ) (spot : Spot) : Type 0 where
+  pub below : 0 < spot.cells → spot.at < spot.cells
+  pub away : 0 < spot.cells → gap spot.cells (spot.hash % spot.cells) spot.at ≡ stretch hashes spot.cells spot.hash
 
 -- what contracts see of a table
 pub record Table : Type 0 where

@@ -127,6 +127,16 @@ impl Cells {
         self.row[i] = Cell::empty();
     }
 
+    /// The same cells, copied whole. It is refused where their bytes cannot be had.
+    pub fn clone(&self) -> Result<Cells, TryReserveError>
+        ensures { IfOk result (λ c. c ≡ self.now) }
+    {
+        match self.row.clone() {
+            Ok(row) => Ok(Cells { row }),
+            Err(_) => Err(TryReserveError),
+        }
+    }
+
     /// Empties all cells.
     pub fn clear(&mut self)
         ensures { self.new ≡ replicate (length self.old) None }

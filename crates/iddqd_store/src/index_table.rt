@@ -1,15 +1,17 @@
 //! Pairs of a hash and a slot's index, found by the hash, in cells with open addressing and no marks of deleted pairs.
-ghost use Rattle.std.specs.Prelude.{◌≡◌, ℕ, ◌+◌, ◌*◌, ◌/◌, ◌^◌, ◌∷◌, ◌<◌, ◌≤◌, ◌&&◌, [], true, false, length, IsSome, IsOk, IsErr, ◌↔◌, IfOk, OnOk, OnErr, IfSome, IfNone, Contains, count_by};
+ghost use Rattle.std.specs.Prelude.{◌≡◌, ◌≢◌, ℕ, ◌+◌, ◌*◌, ◌/◌, ◌^◌, ◌∷◌, ◌<◌, ◌≤◌, ◌&&◌, [], true, false, length, IsSome, IsOk, IsErr, ◌↔◌, IfOk, OnOk, OnErr, IfErr, IfSome, IfNone, Contains, count_by};
 ghost use Rattle.std.specs.List.Sorted.{IsPermutation};
+ghost use Rattle.std.specs.Result.{result_ok};
 ghost use Rattle.iddqd_store.specs.Table.Ring.{cell, held, stretch, IsFull};
 ghost use Rattle.iddqd_store.specs.Table.Limit.{IsLeast, IsSize};
-ghost use Rattle.iddqd_store.specs.Table.{hashes, under, IsTable, LooksUp, Table, table_of};
+ghost use Rattle.iddqd_store.specs.Table.{hashes, under, IsFree, IsTable, LooksUp, Table, table_of};
 
 use crate::TryReserveError;
 use crate::cells::Cells;
 use crate::item_index::ItemIndex;
 use crate::matcher::Matcher;
 use crate::meter::Meter;
+use crate::vacancy::Vacancy;
 use std::alloc::Global;
 use std::marker::Model;
 
@@ -24,8 +26,8 @@ mod probe;
 /// Contracts see its `pairs` in some order, its `limit`, which is how many fit, and its `row` of cells. Which cells
 /// are occupied is a function of the pairs' hashes and the number of cells (`cell_at`), whatever came before.
 ///
-/// A cell is looked at by one call alone, which ticks the meter that it is handed. No call but `try_reserve` and
-/// `clone` makes a meter of its own.
+/// A cell is looked at by one call alone, which ticks the meter that it is handed. No call but `try_reserve` makes a
+/// meter of its own, and `clone` copies the cells whole.
 #[derive(Drop)]
 pub struct IndexTable {
     alloc: Global,
@@ -204,19 +206,52 @@ impl IndexTable {
         ensures limit { self.now.limit ≡ length self.now.row / 8 * 7 }
         ensures fits { length self.now.pairs ≤ self.now.limit }
     {
+        match self.find_or_vacancy(hash, matcher, meter) {
+            Ok(ix) => Some(ix),
+            Err(_) => None,
+        }
+    }
+
+    /// The same, and where there is none the empty cell at which the search ended.
+    #[inline(always)]
+    pub fn find_or_vacancy<M: Matcher>(
+        &self,
+        hash: u64,
+        matcher: &mut M,
+        meter: &mut Meter,
+    ) -> Result<ItemIndex, Vacancy>
+        ensures found { IfOk result (λ ix. Contains self.now.pairs (hash, ix)) }
+        ensures accepted { IfOk result (λ ix. M.accepts matcher.old ix ≡ true) }
+        ensures none { OnErr result ((ix : ℕ) → Contains self.now.pairs (hash, ix)
+            → M.accepts matcher.old ix ≡ false) }
+        ensures hash { IfErr result (λ spot. spot.hash ≡ hash) }
+        ensures cells { IfErr result (λ spot. spot.cells ≡ length self.now.row) }
+        ensures free { IfErr result (IsFree (hashes self.now.pairs)) }
+        ensures kept { M.IsKept matcher.old matcher.new }
+        ensures asked { M.asked matcher.new ≤ M.asked matcher.old
+            + count_by (under hash) self.now.pairs }
+        ensures looks { LooksUp (hashes self.now.pairs) (length self.now.row) hash
+            (result_ok result) meter.old meter.new }
+        ensures within { stretch (hashes self.now.pairs) (length self.now.row) hash
+            ≤ length self.now.pairs }
+        ensures size { IsSize (length self.now.row) }
+        ensures counted { length self.now.row < 2 ^ 64 }
+        ensures limit { self.now.limit ≡ length self.now.row / 8 * 7 }
+        ensures fits { length self.now.pairs ≤ self.now.limit }
+    {
         let count = self.cells.len();
         if count == 0 {
-            return None;
+            return Err(Vacancy::unknown(hash));
         }
         let mut at = probe::home_of(hash, count);
         while let Some(pair) = self.cells.cell_at(at, meter) {
             let (stored, ix) = pair;
             if stored == hash && matcher.matches(ix) {
-                return Some(ix);
+                return Ok(ix);
             }
             at = probe::after(at, count);
         }
-        None
+        Err(Vacancy::new(hash, count, at))
     }
 
     /// Adds a pair where there is room. It takes no memory, and looks at the cells up to the first empty one.
@@ -232,6 +267,29 @@ impl IndexTable {
     {
         let at = probe::first_empty(&self.cells, hash, meter);
         self.cells.put(at, hash, ix);
+        self.count += 1;
+    }
+
+    /// Adds a pair where there is room, at the empty cell at which a search for its hash ended. Where the table has
+    /// another number of cells since then, that cell is looked for as in `insert_reserved`; else no cell is looked at.
+    #[inline(always)]
+    pub fn insert_at(&mut self, spot: Vacancy, ix: ItemIndex, meter: &mut Meter)
+        requires room { length self.old.pairs < self.old.limit }
+        requires free { IsFree (hashes self.old.pairs) spot }
+        ensures added { IsPermutation ((spot.hash, ix) ∷ self.old.pairs) self.new.pairs }
+        ensures cells { length self.new.row ≡ length self.old.row }
+        ensures limit { self.new.limit ≡ self.old.limit }
+        ensures no_look { spot.cells ≡ length self.old.row → meter.new ≡ meter.old }
+        ensures looks { spot.cells ≢ length self.old.row → meter.new
+            ≡ meter.old + stretch (hashes self.old.pairs) (length self.old.row) spot.hash + 1 }
+        ensures within { stretch (hashes self.old.pairs) (length self.old.row) spot.hash
+            ≤ length self.old.pairs }
+    {
+        if spot.cells() != self.cells.len() {
+            self.insert_reserved(spot.hash(), ix, meter);
+            return;
+        }
+        self.cells.put(spot.at(), spot.hash(), ix);
         self.count += 1;
     }
 
@@ -273,22 +331,14 @@ impl IndexTable {
         self.cells.cell_at(i, meter)
     }
 
-    /// A table with the same pairs in the same cells. It is refused where its memory cannot be had.
+    /// A table with the same pairs in the same cells, which are copied whole and not looked at one by one. It is refused
+    /// where its memory cannot be had.
     pub fn clone(&self) -> Result<IndexTable, TryReserveError>
         ensures { IfOk result (λ t. t ≡ self.now) }
     {
-        let count = self.cells.len();
-        let mut meter = Meter::new();
-        let mut cells = Cells::with_len(self.alloc, count)?;
-        for i in 0..count {
-            if let Some(pair) = self.cells.cell_at(i, &mut meter) {
-                let (hash, ix) = pair;
-                cells.put(i, hash, ix);
-            }
-        }
         Ok(IndexTable {
             alloc: self.alloc,
-            cells,
+            cells: self.cells.clone()?,
             count: self.count,
         })
     }

@@ -169,6 +169,14 @@ impl<T> ItemSet<T> {
         ensures next { NextLive self.now.slots from result }
         ensures fits { length self.now.slots < 2 ^ 64 }
     {
+        // Most slots are live, so this one is looked at before the loop: then the loop of a caller is one, and not two of
+        // which one stands in the other.
+        if from < self.slots.len() {
+            let first = ItemIndex::new(from);
+            if self.is_live(first) {
+                return Some(first);
+            }
+        }
         for at in from..self.slots.len() {
             let ix = ItemIndex::new(at);
             if self.is_live(ix) {

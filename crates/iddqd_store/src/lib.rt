@@ -17,6 +17,7 @@ mod reply;
 mod short_list;
 mod up_to_three;
 mod up_to_two;
+mod vacancy;
 
 pub use cursor::Cursor;
 pub use entered::Entered;
@@ -31,8 +32,9 @@ pub use item_set::{IntoIter, ItemSet, Iter};
 pub use key_matcher::KeyMatcher;
 pub use matcher::Matcher;
 pub use meter::Meter;
-pub use rank::{ByQuery, KeyOf, Lookup};
+pub use rank::{ByQuery, KeyOf, Lookup, Sought};
 pub use reply::MapReply;
 pub use short_list::ShortList;
 pub use up_to_three::UpToThree;
 pub use up_to_two::UpToTwo;
+pub use vacancy::Vacancy;

@@ -4,9 +4,13 @@ mod by_key;
 mod by_query;
 mod fill;
 mod forget;
+mod hash_of_key;
 mod key_of;
 mod lookup;
+mod rehash;
+mod sought;
 
 pub use by_query::ByQuery;
 pub use key_of::KeyOf;
 pub use lookup::Lookup;
+pub use sought::Sought;

@@ -87,10 +87,24 @@ impl<T> UpToThree<T> {
         }
     }
 
+    /// Puts an item in front of the others, of which there are fewer than three.
+    pub fn push_front(&mut self, item: T)
+        requires { length self.old < 3 }
+        ensures { self.new ≡ item ∷ self.old }
+    {
+        let second = mem::replace(&mut self.first, Some(item));
+        let third = mem::replace(&mut self.second, second);
+        match mem::replace(&mut self.third, third) {
+            None => {}
+            Some(_) => unreachable!(),
+        }
+    }
+
     /// Takes the first item out. The others move up.
     pub fn pop_front(&mut self) -> Option<T>
         ensures first { result ≡ slice_get self.old 0 }
         ensures rest { self.old ≡ option_to_list result ++ self.new }
+        ensures fewer { length self.new < 3 }
     {
         let third = self.third.take();
         let second = mem::replace(&mut self.second, third);

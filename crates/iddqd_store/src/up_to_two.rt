@@ -81,10 +81,23 @@ impl<T> UpToTwo<T> {
         }
     }
 
+    /// Puts an item in front of the others, of which there are fewer than two.
+    pub fn push_front(&mut self, item: T)
+        requires { length self.old < 2 }
+        ensures { self.new ≡ item ∷ self.old }
+    {
+        let second = mem::replace(&mut self.first, Some(item));
+        match mem::replace(&mut self.second, second) {
+            None => {}
+            Some(_) => unreachable!(),
+        }
+    }
+
     /// Takes the first item out. The others move up.
     pub fn pop_front(&mut self) -> Option<T>
         ensures first { result ≡ slice_get self.old 0 }
         ensures rest { self.old ≡ option_to_list result ++ self.new }
+        ensures fewer { length self.new < 2 }
     {
         let second = self.second.take();
         mem::replace(&mut self.first, second)

@@ -35,7 +35,7 @@ fn of_both<S: BuildHasher>(map: &mut BiHashMap<Row, S>, key1: u64, key2: u64) ->
 fn walk<S: BuildHasher>(map: &mut BiHashMap<Row, S>) -> [(usize, Option<Row>); 4] {
     let mut items = map.iter_mut();
     let first = (items.len(), items.next_mut().map(|item| *item));
-    let second = (items.len(), items.next_mut().map(|item| *item));
+    let second = (items.count_remaining(), items.next_mut().map(|item| *item));
     let third = (items.len(), items.next_mut().map(|item| *item));
     let fourth = (items.len(), items.next_mut().map(|item| *item));
     [first, second, third, fourth]

@@ -41,7 +41,7 @@ fn walk<S: BuildHasher>(map: &mut TriHashMap<Row, S>) -> (bool, u64) {
     let mut is_right = true;
     let mut sum: u64 = 0;
     for left in [3, 2, 1, 0, 0] {
-        is_right = is_right && items.len() == left;
+        is_right = is_right && items.len() == left && items.count_remaining() == left;
         match items.next_mut() {
             Some(item) => sum = sum.wrapping_add(item.value),
             None => is_right = is_right && left == 0,

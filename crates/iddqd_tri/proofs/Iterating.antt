@@ -1,17 +1,23 @@
 -- What a walk ends as, where the next item was written.
-use Rattle.std.specs.Prelude.{◌≡◌, ℕ, ◌+◌}
+use Rattle.std.specs.Prelude.{◌≡◌, ℕ, ◌+◌, ◌-◌}
 use Rattle.std.specs.Borrow.{GName}
 use Rattle.std.proofs.Common.{refl, ap, inl, ◌⊎◌}
 use mathlib.Core.Path.{fun_ext}
+use native.Mathlib.Numerals.{unary_clauses}
 use Rattle.iddqd_store.specs.Map.Written.{map_with}
 use Rattle.iddqd_store.specs.Map.Walk.{IsNextSlot}
-use Rattle.iddqd_tri.specs.IterMuts.{stepped}
+use Rattle.iddqd_tri.specs.IterMuts.{stepped, IsCounted, IsNextOf}
 use Rattle.iddqd_tri.specs.declared.iter_mut.IterMut.{IterMut}
 
 module _ {T S K1 K2 K3 H : Type 0} (it : IterMut T S K1 K2 K3 H) where
-  pub steps_to : {D : Type 0} (put : D → T → T) (name : GName) (ix n : ℕ) (x : T) → n ≡ ix → IsNextSlot it.map.now.slots it.next ix x → ◌≡◌ {A = (GName × (D → IterMut T S K1 K2 K3 H)) ⊎ IterMut T S K1 K2 K3 H} (inl (name, λ w. record { map = record it.map { now = map_with it.map.now ix (put w) }; next = n + 1 })) (inl (name, λ w. stepped it (put w)))
-  steps_to {D} put name ix n x is step =
-      let ends : D → IterMut T S K1 K2 K3 H = λ w. record { map = record it.map { now = map_with it.map.now ix (put w) }; next = n + 1 } in
+  pub steps_to : {D : Type 0} (put : D → T → T) (name : GName) (ix n left : ℕ) (x : T) → n ≡ ix → left ≡ it.left - 1 → IsNextSlot it.map.now.slots it.next ix x → ◌≡◌ {A = (GName × (D → IterMut T S K1 K2 K3 H)) ⊎ IterMut T S K1 K2 K3 H} (inl (name, λ w. record { map = record it.map { now = map_with it.map.now ix (put w) }; next = n + 1; left = left })) (inl (name, λ w. stepped it (put w)))
+  steps_to {D} put name ix n left x is fewer step =
+      let ends : D → IterMut T S K1 K2 K3 H = λ w. record { map = record it.map { now = map_with it.map.now ix (put w) }; next = n + 1; left = left } in
       let steps : D → IterMut T S K1 K2 K3 H = λ w. stepped it (put w) in
-      let same : (w : D) → ends w ≡ steps w = λ w. rw (is, step.after, step.writes (put w)) refl in
+      let same : (w : D) → ends w ≡ steps w = λ w. rw (is, fewer, step.after, step.writes (put w)) refl in
       ap (λ (F : D → IterMut T S K1 K2 K3 H). inl (name, F)) (fun_ext same)
+
+-- a walk that is counted right stays so where its next item is written
+module _ {T S K1 K2 K3 H : Type 0} (it : IterMut T S K1 K2 K3 H) where
+  pub counted_on : (f : T → T) → IsCounted it → IsNextOf it → IsCounted (stepped it f)
+  counted_on f counted next = rw (counted, next.1.comes, next.1.behind f) (simp unary_clauses refl)

@@ -3,6 +3,7 @@ use crate::item::TriHashItem;
 use crate::map::{DefaultHashBuilder, TriHashMap};
 use std::hash::{BuildHasher, Hash};
 
+mod counts;
 mod methods;
 
 /// A walk over the items of a map, each lent once for writing.
@@ -11,4 +12,6 @@ pub struct IterMut<'a, T: TriHashItem, S: BuildHasher = DefaultHashBuilder> {
     pub(crate) map: &'a mut TriHashMap<T, S>,
     // The number of the first slot that the walk has not passed.
     pub(crate) next: usize,
+    // How many items are to come, where no guard of `next_mut` left another map behind.
+    pub(crate) left: usize,
 }

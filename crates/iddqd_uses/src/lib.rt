@@ -23,5 +23,5 @@ pub use inserting::{
 };
 pub use loading::load;
 pub use users::{User, by_login, register, register_all};
-pub use walking::{write_all, write_first};
+pub use walking::{write_all, write_first, write_first_and_count};
 pub use writing::{replace1, write1, write1_twice};

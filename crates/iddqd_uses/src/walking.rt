@@ -1,5 +1,5 @@
 //! What a caller knows of a map whose items were written in a walk.
-ghost use Rattle.std.specs.Prelude.{◌≡◌, ◌∷◌, List, IsPermutation};
+ghost use Rattle.std.specs.Prelude.{◌≡◌, ◌-◌, ◌∷◌, List, IsPermutation, length};
 ghost use Rattle.std.specs.Prelude.{map as each};
 ghost use Rattle.std.specs.Bool.{OnTrue, OnFalse};
 ghost use Rattle.iddqd_bi.specs.Map.{bag};
@@ -33,4 +33,20 @@ where
         return true;
     }
     return false;
+}
+
+/// Writes the data of the first item of a walk, and says how many are to come behind it. No slot is counted.
+pub fn write_first_and_count<T: BiHashItemMut, S: BuildHasher>(
+    map: &mut BiHashMap<T, S>,
+    d: T::Data,
+) -> usize
+where
+    T::Data: Drop,
+    ensures { result ≡ length (bag map.old) - 1 }
+{
+    let mut walk = map.iter_mut();
+    if let Some(first) = walk.next_data() {
+        *first = d;
+    }
+    walk.len()
 }

@@ -21,5 +21,5 @@ pub use inserting::{
 };
 pub use loading::load;
 pub use sessions::{Session, by_token, close_of_user, open, open_all};
-pub use walking::{write_all, write_first};
+pub use walking::{write_all, write_first, write_first_and_count};
 pub use writing::{replace1, write1, write1_twice};

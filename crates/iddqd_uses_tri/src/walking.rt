@@ -1,5 +1,5 @@
 //! What a caller knows of a map whose items were written in a walk.
-ghost use Rattle.std.specs.Prelude.{◌≡◌, ◌∷◌, List, IsPermutation};
+ghost use Rattle.std.specs.Prelude.{◌≡◌, ◌-◌, ◌∷◌, List, IsPermutation, length};
 ghost use Rattle.std.specs.Prelude.{map as each};
 ghost use Rattle.std.specs.Bool.{OnTrue, OnFalse};
 ghost use Rattle.iddqd_tri.specs.Map.{bag};
@@ -36,4 +36,20 @@ where
         return true;
     }
     return false;
+}
+
+/// Writes the data of the first item of a walk, and says how many are to come behind it. No slot is counted.
+pub fn write_first_and_count<T: TriHashItemMut, S: BuildHasher>(
+    map: &mut TriHashMap<T, S>,
+    d: T::Data,
+) -> usize
+where
+    T::Data: Drop,
+    ensures { result ≡ length (bag map.old) - 1 }
+{
+    let mut walk = map.iter_mut();
+    if let Some(first) = walk.next_data() {
+        *first = d;
+    }
+    walk.len()
 }

@@ -16,7 +16,7 @@ use crate::error::{KeyMismatch, differ};
 use crate::item::{BiHashItem, BiHashItemMut};
 use crate::map::BiHashMap;
 use crate::map::slots::entry::{each_once, one_of};
-use iddqd_store::UpToTwo;
+use iddqd_store::{Sought, UpToTwo};
 use std::hash::{BuildHasher, Hash};
 
 impl<'a, T: BiHashItem, S: BuildHasher> OccupiedEntry<'a, T, S> {
@@ -135,10 +135,9 @@ impl<'a, T: BiHashItem, S: BuildHasher> OccupiedEntry<'a, T, S> {
         if let Some(rank) = differ(&item, self.key1, self.key2) {
             return Err(KeyMismatch::at(rank, item));
         }
-        let found = each_once(self.slot1, self.slot2);
-        let hash1 = self.map.hash_of1(&item);
-        let hash2 = self.map.hash_of2(&item);
-        let (displaced, ix) = self.map.put_over(item, &found, hash1, hash2);
+        let by1 = Sought::new(self.slot1, self.map.hash_of1(&item));
+        let by2 = Sought::new(self.slot2, self.map.hash_of2(&item));
+        let (displaced, ix) = self.map.put_over(item, &by1, &by2);
         self.slot1 = Some(ix);
         self.slot2 = Some(ix);
         Ok(displaced)
@@ -159,7 +158,8 @@ impl<'a, T: BiHashItem, S: BuildHasher> OccupiedEntry<'a, T, S> {
             slot1,
             slot2,
         } = self;
-        map.take_all(&each_once(slot1, slot2))
+        let nothing = Sought::nothing();
+        map.take_all(&each_once(slot1, slot2), &nothing, &nothing)
     }
 }
 

@@ -20,8 +20,8 @@ impl<'a, T: BiHashItem, S: BuildHasher, Q: Keys<T::K1, T::K2>> VacantEntry<'a, T
     /// It is refused with the lowest rank at which its key is not the entry's, or else where the map is full and there
     /// is no memory to grow. Each refusal hands the item back, and the map is as it was.
     ///
-    /// It compares the first keys, and the second ones where those are equal, and searches nothing. It hashes each key
-    /// of the item once, and takes memory only where the map is full.
+    /// It compares the first keys, and the second ones where those are equal, and searches and hashes
+    /// nothing. It takes memory only where the map is full.
     pub fn insert(self, item: T) -> Result<RefMut<'a, T, S>, EntryError<T>>
         ensures* unchanged_at_err { sem 𝓛 (rests_if_err T.row S.row T.K1.row T.K2.row S.Hasher.row
             self.entry.map result) }
@@ -36,11 +36,16 @@ impl<'a, T: BiHashItem, S: BuildHasher, Q: Keys<T::K1, T::K2>> VacantEntry<'a, T
         ensures memory { IfErr result (λ e. OnNoMemory e
             (IsFullFor (ranks T.BiHashItem T.K1.eq T.K2.eq) self.entry.map.now item)) }
     {
-        let VacantEntry { map, keys } = self;
+        let VacantEntry {
+            map,
+            keys,
+            at1,
+            at2,
+        } = self;
         if let Some(rank) = differ(&item, keys.first(), keys.second()) {
             return Err(EntryError::at(rank, item));
         }
-        match map.put_free(item) {
+        match map.put_free(item, at1, at2) {
             Ok(slot) => Ok(RefMut { map, slot }),
             Err(item) => Err(EntryError::Memory(item)),
         }
@@ -66,11 +71,16 @@ impl<'a, T: BiHashItem, S: BuildHasher, Q: Keys<T::K1, T::K2>> VacantEntry<'a, T
         ensures memory { IfErr result (λ e. OnNoMemory e
             (IsFullFor (ranks T.BiHashItem T.K1.eq T.K2.eq) self.entry.map.now item)) }
     {
-        let VacantEntry { map, keys } = self;
+        let VacantEntry {
+            map,
+            keys,
+            at1,
+            at2,
+        } = self;
         if let Some(rank) = differ(&item, keys.first(), keys.second()) {
             return Err(EntryError::at(rank, item));
         }
-        match map.put_free(item) {
+        match map.put_free(item, at1, at2) {
             Ok(slot) => Ok(OccupiedEntryMut {
                 map,
                 slot1: Some(slot),
@@ -99,12 +109,17 @@ impl<'a, T: BiHashItem, S: BuildHasher> VacantEntry<'a, T, S> {
         ensures memory { IfErr result (λ e. OnNoMemory e
             (IsFullFor (ranks T.BiHashItem T.K1.eq T.K2.eq) self.entry.map.now item)) }
     {
-        let VacantEntry { map, keys } = self;
+        let VacantEntry {
+            map,
+            keys,
+            at1,
+            at2,
+        } = self;
         let KeyPair { key1, key2 } = keys;
         if let Some(rank) = differ(&item, key1, key2) {
             return Err(EntryError::at(rank, item));
         }
-        match map.put_free(item) {
+        match map.put_free(item, at1, at2) {
             Ok(slot) => Ok(OccupiedEntry {
                 map,
                 key1,

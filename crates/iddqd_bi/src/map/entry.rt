@@ -6,7 +6,6 @@ ghost use Rattle.iddqd_bi.specs.Entries.{IsFound, entry_key1, entry_key2, entry_
 ghost use Rattle.iddqd_bi.specs.Keys.{key_tests};
 
 use super::BiHashMap;
-use super::slots::entry::none_of;
 use crate::entry::{Entry, KeyPair, OccupiedEntry, VacantEntry};
 use crate::item::BiHashItem;
 use std::hash::{BuildHasher, Hash};
@@ -25,22 +24,31 @@ impl<T: BiHashItem, S: BuildHasher> BiHashMap<T, S> {
             ≡ entry (key_tests T.BiHashItem T.K1.eq T.K2.eq key1.now key2.now) (bag self.old) }
         ensures found { IsFound result }
     {
-        let _ = &self.items;
-        let slot1 = self.by_key1().slot_of(key1);
-        let slot2 = self.by_key2().slot_of(key2);
-        if none_of(&slot1, &slot2) {
-            Entry::Vacant(VacantEntry {
+        let hash1 = self.hash_builder.hash_one(key1);
+        let hash2 = self.hash_builder.hash_one(key2);
+        let by1 = self.by_key1().search(hash1, key1);
+        let by2 = self.by_key2().search(hash2, key2);
+        match (by1, by2) {
+            (Err(at1), Err(at2)) => Entry::Vacant(VacantEntry {
                 map: self,
                 keys: KeyPair { key1, key2 },
-            })
-        } else {
-            Entry::Occupied(OccupiedEntry {
+                at1,
+                at2,
+            }),
+            (Ok(slot1), by2) => Entry::Occupied(OccupiedEntry {
                 map: self,
                 key1,
                 key2,
-                slot1,
-                slot2,
-            })
+                slot1: Some(slot1),
+                slot2: by2.ok(),
+            }),
+            (Err(_), Ok(slot2)) => Entry::Occupied(OccupiedEntry {
+                map: self,
+                key1,
+                key2,
+                slot1: None,
+                slot2: Some(slot2),
+            }),
         }
     }
 }

@@ -11,7 +11,7 @@ use super::BiHashMap;
 use super::slots::Refusal;
 use crate::error::FromIterError;
 use crate::item::BiHashItem;
-use iddqd_store::{DuplicateItem, ExtendUniqueError, MemoryRefused};
+use iddqd_store::{DuplicateItem, ExtendUniqueError, MemoryRefused, Sought};
 use std::alloc::Global;
 use std::hash::{BuildHasher, Hash};
 
@@ -152,7 +152,8 @@ impl<T: BiHashItem + Drop, S: BuildHasher + Default + Drop> BiHashMap<T, S> {
             match map.try_insert(item) {
                 Ok(_) => {}
                 Err(Refusal::Duplicate(item, found)) => {
-                    let duplicates = map.take_all(&found);
+                    let nothing = Sought::nothing();
+                    let duplicates = map.take_all(&found, &nothing, &nothing);
                     return Err(FromIterError::Duplicate(DuplicateItem::new(item, duplicates)));
                 }
                 Err(Refusal::Memory(item)) => return Err(FromIterError::Memory(item)),

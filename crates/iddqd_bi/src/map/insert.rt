@@ -21,6 +21,7 @@ impl<T: BiHashItem, S: BuildHasher> BiHashMap<T, S> {
     /// lists the items in the way, in the order of the keys.
     ///
     /// Each key of the item is hashed once and searched for once. It takes memory only where the map is full.
+    #[inline(always)]
     pub fn insert_unique(&mut self, item: T) -> Result<(), InsertError<'_, T, S>>
         ensures* ends { sem 𝓛 (ends_as T.row S.row T.K1.row T.K2.row S.Hasher.row
             T.BiHashItem T.K1.Hash T.K2.Hash S.BuildHasher S.Hasher.Hasher

@@ -32,13 +32,18 @@ impl<T: BiHashItem, S: BuildHasher> BiHashMap<T, S> {
     {
         let hash1 = self.hash_builder.hash_one(item.key1());
         let hash2 = self.hash_builder.hash_one(item.key2());
-        let found = self.conflicting(&item, hash1, hash2);
-        if found.is_empty() {
-            if let Err(_) = self.make_room() {
-                return Err(MemoryRefused { value: item });
+        match self.places(&item, hash1, hash2) {
+            Ok((at1, at2)) => {
+                if let Err(_) = self.make_room() {
+                    return Err(MemoryRefused { value: item });
+                }
+                self.put(item, at1, at2);
+                Ok(UpToTwo::new())
+            }
+            Err((by1, by2)) => {
+                let (displaced, _) = self.put_over(item, &by1, &by2);
+                Ok(displaced)
             }
         }
-        let (displaced, _) = self.put_over(item, &found, hash1, hash2);
-        Ok(displaced)
     }
 }

@@ -1,25 +1,29 @@
 //! What finds and changes items by slot. Every other file of the map goes through it: nothing else takes an item from
 //! its slot or puts one there.
-ghost use Rattle.std.specs.Prelude.{◌≡◌, ◌≢◌, ◌+◌, ◌^◌, ◌<◌, ◌≤◌, [], ◌∷◌, length, map, drop, All, IsPermutation, OnOk, OnErr, IfOk, IfErr, Some, None, IfSome, IfNone, nat_eq, slice_set};
+ghost use Rattle.std.specs.Prelude.{◌≡◌, ◌≢◌, ℕ, ◌+◌, ◌^◌, ◌<◌, ◌≤◌, [], ◌∷◌, length, map, drop, All, IsPermutation, OnOk, OnErr, IfOk, IfErr, Some, None, IfSome, IfNone, nat_eq, slice_set};
 ghost use Rattle.std.specs.List.{IsDistinct};
 ghost use Rattle.std.specs.Option.{option_and_then};
 ghost use Rattle.iddqd_store.specs.Bag.{IsOnly, IsSound, clash, every_of, order, over};
 ghost use Rattle.iddqd_store.specs.Rank.Index.{HasHash};
 ghost use Rattle.iddqd_store.specs.Map.{bag, hash_of, Gains, Loses, MakesRoom, IsFullFor, ListsConflicts, IsBlockedAt};
-ghost use Rattle.iddqd_store.specs.Rank.{agree, key_hash};
-ghost use Rattle.iddqd_store.specs.Slots.Found.{items_at, FoundAt};
-ghost use Rattle.iddqd_store.specs.Slots.{get, items_in, IsLive, Updates};
+ghost use Rattle.iddqd_store.specs.Rank.{agree, key_hash, IsPlaceOf, IsUnder};
+ghost use Rattle.iddqd_store.specs.Slots.Found.{each_once, items_at, FoundAt};
+ghost use Rattle.iddqd_store.specs.Slots.{get, items_in, live_items, IsLive, Updates};
 ghost use Rattle.iddqd_store.specs.Slots.Next.{ComesNext};
 ghost use Rattle.iddqd_bi.specs.Keys.{ranks, has2, has_both};
 
 mod enter;
 pub(crate) mod entry;
+mod over;
 mod write;
 
+use self::entry::each_once;
 use super::BiHashMap;
 use crate::item::BiHashItem;
 use crate::ranks::{First, Second};
-use iddqd_store::{Equivalent, ItemIndex, Lookup, Meter, TryReserveError, UpToTwo};
+use iddqd_store::{
+    Equivalent, ItemIndex, Lookup, Meter, Sought, TryReserveError, UpToTwo, Vacancy,
+};
 use std::hash::{BuildHasher, Hash};
 
 /// An item that an insert refused, and why, with no hold on the map.
@@ -120,30 +124,55 @@ impl<T: BiHashItem, S: BuildHasher> BiHashMap<T, S> {
         }
     }
 
-    /// The slots of the items that conflict with this one, in the order of the keys.
-    pub(crate) fn conflicting(&self, item: &T, hash1: u64, hash2: u64) -> UpToTwo<ItemIndex>
+    /// Where an item goes in at each rank; or, where items conflict with it, what the search at each rank found.
+    #[inline(always)]
+    pub(crate) fn places(
+        &self,
+        item: &T,
+        hash1: u64,
+        hash2: u64,
+    ) -> Result<(Vacancy, Vacancy), (Sought, Sought)>
         requires hash1 { hash1
             ≡ key_hash T.key1 T.K1.hash_input S.BuildHasher S.Hasher.Hasher self.now.builder item.now }
         requires hash2 { hash2
             ≡ key_hash T.key2 T.K2.hash_input S.BuildHasher S.Hasher.Hasher self.now.builder item.now }
-        ensures { ListsConflicts (ranks T.BiHashItem T.K1.eq T.K2.eq) self.now item.now result }
+        ensures free { OnOk result (clash (ranks T.BiHashItem T.K1.eq T.K2.eq) (bag self.now) item.now ≡ []) }
+        ensures first { IfOk result (λ at. IsPlaceOf
+            (key_hash T.key1 T.K1.hash_input S.BuildHasher S.Hasher.Hasher self.now.builder)
+            (bag self.now) item.now at.0) }
+        ensures second { IfOk result (λ at. IsPlaceOf
+            (key_hash T.key2 T.K2.hash_input S.BuildHasher S.Hasher.Hasher self.now.builder)
+            (bag self.now) item.now at.1) }
+        ensures blocked { IfErr result (λ found.
+            IsBlockedAt (ranks T.BiHashItem T.K1.eq T.K2.eq) self.now item.now
+            (each_once (found.0.slot ∷ found.1.slot ∷ []))) }
+        ensures under1 { IfErr result (λ found. IsUnder
+            (key_hash T.key1 T.K1.hash_input S.BuildHasher S.Hasher.Hasher self.now.builder)
+            self.now.slots found.0) }
+        ensures hash1 { IfErr result (λ found. found.0.hash ≡ hash1) }
+        ensures under2 { IfErr result (λ found. IsUnder
+            (key_hash T.key2 T.K2.hash_input S.BuildHasher S.Hasher.Hasher self.now.builder)
+            self.now.slots found.1) }
+        ensures hash2 { IfErr result (λ found. found.1.hash ≡ hash2) }
     {
-        let by1 = self.by_key1().slot(hash1, item.key1());
-        let by2 = self.by_key2().slot(hash2, item.key2());
-        let mut found = UpToTwo::new();
-        found.push_found(by1);
-        found.push_found(by2);
-        found
+        let by1 = self.by_key1().search(hash1, item.key1());
+        let by2 = self.by_key2().search(hash2, item.key2());
+        match (by1, by2) {
+            (Err(at1), Err(at2)) => Ok((at1, at2)),
+            (Ok(ix1), by2) => Err((Sought::new(Some(ix1), hash1), Sought::new(by2.ok(), hash2))),
+            (Err(_), Ok(ix2)) => Err((Sought::new(None, hash1), Sought::new(Some(ix2), hash2))),
+        }
     }
 
-    /// Puts an item in that nothing conflicts with. It is no part of the loop of a caller that inserts: where LLVM
-    /// makes it one, inserting takes longer.
-    #[inline(never)]
-    pub(crate) fn put(&mut self, item: T, hash1: u64, hash2: u64) -> ItemIndex
+    /// Puts an item in that nothing conflicts with, where it goes in at each rank.
+    #[inline(always)]
+    pub(crate) fn put(&mut self, item: T, at1: Vacancy, at2: Vacancy) -> ItemIndex
         requires room { length (bag self.old) < self.old.capacity }
         requires free { clash (ranks T.BiHashItem T.K1.eq T.K2.eq) (bag self.old) item ≡ [] }
-        requires hash1 { hash1 ≡ key_hash T.key1 T.K1.hash_input S.BuildHasher S.Hasher.Hasher self.old.builder item }
-        requires hash2 { hash2 ≡ key_hash T.key2 T.K2.hash_input S.BuildHasher S.Hasher.Hasher self.old.builder item }
+        requires first { IsPlaceOf
+            (key_hash T.key1 T.K1.hash_input S.BuildHasher S.Hasher.Hasher self.old.builder) (bag self.old) item at1 }
+        requires second { IsPlaceOf
+            (key_hash T.key2 T.K2.hash_input S.BuildHasher S.Hasher.Hasher self.old.builder) (bag self.old) item at2 }
         ensures at { get self.new.slots result ≡ Some item }
         ensures was_free { get self.old.slots result ≡ None }
         ensures updates { Updates self.old.slots self.new.slots result (Some item) }
@@ -154,35 +183,9 @@ impl<T: BiHashItem, S: BuildHasher> BiHashMap<T, S> {
         ensures builder { self.new.builder ≡ self.old.builder }
     {
         let ix = self.items.insert_reserved(item);
-        self.first.insert_reserved(hash1, ix, &mut Meter::new());
-        self.second.insert_reserved(hash2, ix, &mut Meter::new());
+        self.first.insert_at(at1, ix, &mut Meter::new());
+        self.second.insert_at(at2, ix, &mut Meter::new());
         ix
-    }
-
-    /// Puts an item in the place of those that conflict with it, whose slots are given, and gives them back with the
-    /// slot of the new one.
-    pub(crate) fn put_over(
-        &mut self,
-        item: T,
-        found: &UpToTwo<ItemIndex>,
-        hash1: u64,
-        hash2: u64,
-    ) -> (UpToTwo<T>, ItemIndex)
-        requires found { ListsConflicts (ranks T.BiHashItem T.K1.eq T.K2.eq) self.old item found.now }
-        requires room { length found.now ≡ 0 → length (bag self.old) < self.old.capacity }
-        requires hash1 { hash1 ≡ key_hash T.key1 T.K1.hash_input S.BuildHasher S.Hasher.Hasher self.old.builder item }
-        requires hash2 { hash2 ≡ key_hash T.key2 T.K2.hash_input S.BuildHasher S.Hasher.Hasher self.old.builder item }
-        ensures displaced { result.0 ≡ order (ranks T.BiHashItem T.K1.eq T.K2.eq) (bag self.old) item }
-        ensures at { get self.new.slots result.1 ≡ Some item }
-        ensures items { IsPermutation (bag self.new) (over (ranks T.BiHashItem T.K1.eq T.K2.eq) (bag self.old) item) }
-        ensures sound { IsSound (ranks T.BiHashItem T.K1.eq T.K2.eq) (bag self.new) }
-        ensures fits { length (bag self.new) ≤ self.new.capacity }
-        ensures capacity { self.new.capacity ≡ self.old.capacity }
-        ensures builder { self.new.builder ≡ self.old.builder }
-    {
-        let displaced = self.take_all(found);
-        let ix = self.put(item, hash1, hash2);
-        (displaced, ix)
     }
 
     /// Takes out the item of a slot. A key of it is hashed only where its hash isn't given.
@@ -210,25 +213,39 @@ impl<T: BiHashItem, S: BuildHasher> BiHashMap<T, S> {
         }
     }
 
-    /// Takes out the items of these slots, in their order.
-    pub(crate) fn take_all(&mut self, found: &UpToTwo<ItemIndex>) -> UpToTwo<T>
+    /// Takes out the items of these slots, in their order. A key is hashed only where a search by it did not find the
+    /// slot.
+    pub(crate) fn take_all(
+        &mut self,
+        found: &UpToTwo<ItemIndex>,
+        by1: &Sought,
+        by2: &Sought,
+    ) -> UpToTwo<T>
         requires live { All (IsLive self.old.slots) found.now }
         requires apart { IsDistinct nat_eq found.now }
+        requires by1 { IsUnder (key_hash T.key1 T.K1.hash_input S.BuildHasher S.Hasher.Hasher self.old.builder)
+            self.old.slots by1.now }
+        requires by2 { IsUnder (key_hash T.key2 T.K2.hash_input S.BuildHasher S.Hasher.Hasher self.old.builder)
+            self.old.slots by2.now }
         ensures values { result ≡ items_at self.old.slots found.now }
         ensures loses { Loses self.old result self.new }
         ensures room { length found.now ≢ 0 → length (bag self.new) < self.new.capacity }
         ensures none { length found.now ≡ 0 → self.new ≡ self.old }
+        ensures others { (at : ℕ) → IsDistinct nat_eq (at ∷ found.now) → get self.new.slots at ≡ get self.old.slots at }
+        ensures left { (at : ℕ) (x : T) → get self.new.slots at ≡ Some x → get self.old.slots at ≡ Some x }
     {
         let mut taken = UpToTwo::new();
         for at in 0..found.len() {
             if let Some(ix) = found.get(at) {
-                taken.push(self.take(*ix, None, None));
+                taken.push(self.take(*ix, by1.hash_at(*ix), by2.hash_at(*ix)));
             }
         }
         taken
     }
 
-    /// Makes room for so many more items.
+    /// Makes room for so many more items. It stays out of the way of an insert, which seldom grows.
+    #[cold]
+    #[inline(never)]
     pub(crate) fn grow(&mut self, more: usize) -> Result<(), TryReserveError>
         ensures slots { self.new.slots ≡ self.old.slots }
         ensures room { MakesRoom self.old more result self.new }
@@ -240,6 +257,7 @@ impl<T: BiHashItem, S: BuildHasher> BiHashMap<T, S> {
     }
 
     /// Makes room for one more item, where the map is full.
+    #[inline(always)]
     pub(crate) fn make_room(&mut self) -> Result<(), TryReserveError>
         ensures slots { self.new.slots ≡ self.old.slots }
         ensures builder { self.new.builder ≡ self.old.builder }
@@ -257,6 +275,10 @@ impl<T: BiHashItem, S: BuildHasher> BiHashMap<T, S> {
 
     /// Puts an item in where none conflicts with it, and answers its slot. It is refused with the slots of those that
     /// do, or, where the map is full and cannot grow, for memory.
+    ///
+    /// It is one body with what it calls, but for growing: so a caller's loop looks at the outcome where it arises, and
+    /// where the item goes in nothing is written to memory but the item and its pairs.
+    #[inline(always)]
     pub(crate) fn try_insert(&mut self, item: T) -> Result<ItemIndex, Refusal<T>>
         ensures gains { OnOk result (Gains self.old item self.new) }
         ensures at { IfOk result (λ ix. get self.new.slots ix ≡ Some item) }
@@ -269,13 +291,15 @@ impl<T: BiHashItem, S: BuildHasher> BiHashMap<T, S> {
     {
         let hash1 = self.hash_builder.hash_one(item.key1());
         let hash2 = self.hash_builder.hash_one(item.key2());
-        let found = self.conflicting(&item, hash1, hash2);
-        if !found.is_empty() {
-            return Err(Refusal::Duplicate(item, found));
-        }
+        let (at1, at2) = match self.places(&item, hash1, hash2) {
+            Ok(places) => places,
+            Err((by1, by2)) => {
+                return Err(Refusal::Duplicate(item, each_once(by1.slot(), by2.slot())));
+            }
+        };
         if let Err(_) = self.make_room() {
             return Err(Refusal::Memory(item));
         }
-        Ok(self.put(item, hash1, hash2))
+        Ok(self.put(item, at1, at2))
     }
 }

@@ -2,6 +2,7 @@
 use Rattle.std.specs.Prelude.{◌≡◌, ◌≢◌, ◌≤◌, ℕ, Bool, true, false, if◌then◌else◌, [], ◌∷◌, List, length, filter_map, is_some, Option, Some, None, IfSome, IsPermutation}
 use Rattle.std.proofs.Common.{refl, ap, ◌∙◌, arith}
 use Rattle.std.specs.List.{list_all}
+use Rattle.std.proofs.lemmas.List.Sorted.{IsPermutation-refl}
 use Rattle.std.specs.Option.{option_and_then}
 use Rattle.iddqd_store.specs.Bag.{Ranks, swap, entry_of, vacant, unique, non_unique}
 use Rattle.iddqd_store.specs.Bag as bags
@@ -61,6 +62,12 @@ module _ {T : Type 0} (old : List T) (x : T) where
       rw (← entered.0) (rw (same ∙ is_one y entered.1) at swaps)
   writes_entry by write (non_unique ys) held there new found one entered is_one is_none same some swaps =
       absurd (cc (some, same, is_none ys entered.1))
+
+  -- where none has all keys, nothing is written
+  pub rests_entry : (by : Ranks T) (write : T → T) (E held : bags.Entry T) (there new : List T) (found one : Option T) → Entered E there held → ((y : T) → held ≡ unique y → one ≡ Some y) → found ≡ one → found ≡ None → new ≡ there → WritesEntry by write old x E new
+  rests_entry by write vacant held there new found one entered is_one same none rests = absurd (cc (none, same, is_one x entered.1))
+  rests_entry by write (unique y) held there new found one entered is_one same none rests = absurd (cc (none, same, is_one y entered.1))
+  rests_entry by write (non_unique ys) held there new found one entered is_one same none rests = rw (rests ∙ entered.0) (IsPermutation-refl old)
 
   pub writes_found : (by : Ranks T) (write : T → T) (listed whole there new : List T) (held : bags.Entry T) (found one : Option T) → listed ≢ [] → there ≡ old → held ≡ entry_of listed whole → ((y : T) → held ≡ unique y → one ≡ Some y) → ((ys : List T) → held ≡ non_unique ys → one ≡ None) → found ≡ one → is_some found ≡ true → IfSome found (λ y. IsPermutation new (swap by there y (write y))) → InsertsOrWrites by write old x (entry_of listed whole) new
   writes_found by write [] whole there new held found one not_none is entry is_one is_none same some swaps = absurd (not_none refl)

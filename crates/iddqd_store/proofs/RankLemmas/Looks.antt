@@ -11,7 +11,7 @@ use Rattle.iddqd_store.specs.Table.{hashes, LooksUp, LooksUpWithin}
 use Rattle.iddqd_store.proofs.TableLemmas.Looks.{looks_permutation, looks_most}
 
 module _ {T : Type 0} where
-  hashes-index : (hash : T → ℕ) (slots : List (Option T)) (pairs : List (ℕ × ℕ)) → IsIndex hash slots pairs → IsPermutation (hashes pairs) (map hash (live_items slots))
+  pub hashes-index : (hash : T → ℕ) (slots : List (Option T)) (pairs : List (ℕ × ℕ)) → IsIndex hash slots pairs → IsPermutation (hashes pairs) (map hash (live_items slots))
   hashes-index hash slots pairs index =
       subst (IsPermutation (hashes pairs))
       (map-map (λ (p : ℕ × ℕ). p.0) (pair_of hash) (members slots) ∙ sym (map-map hash (λ (m : ℕ × T). m.1) (members slots)))

@@ -210,16 +210,21 @@ module _ {T : Type 0} where
         others = λ other differs. rw written (get_or-set_other old key other slot None differs);
       }
 
-  -- a write in a live slot exchanges its member
-  pub Exchanges-set : (slots : List (Option T)) (at : ℕ) (x y : T) → get_or slots at None ≡ Some x → Exchanges slots (set slots at (Some y)) at x y
-  Exchanges-set slots at x y found =
+  -- what a write in a live slot leaves
+  pub members-set : (slots : List (Option T)) (at : ℕ) (x y : T) → get_or slots at None ≡ Some x → IsPermutation (members_from 0 (set slots at (Some y))) ((at, y) ∷ members_from 0 (set slots at None))
+  members-set slots at x y found =
       let within : at < length slots = grind (arith, get_or_past) in
       let emptied : get_or (set slots at None) at None ≡ None = get_or-set_same slots at None None within in
       let put = members-put (set slots at None) at y (omega (arith, length-set slots at None)) emptied in
+      subst (λ l. IsPermutation (members_from 0 l) ((at, y) ∷ members_from 0 (set slots at None))) (set-set slots at None (Some y)) put
+
+  -- a write in a live slot exchanges its member
+  pub Exchanges-set : (slots : List (Option T)) (at : ℕ) (x y : T) → get_or slots at None ≡ Some x → Exchanges slots (set slots at (Some y)) at x y
+  Exchanges-set slots at x y found =
       record {
         others = members_from 0 (set slots at None);
         had = members-take slots at x found;
-        has = subst (λ l. IsPermutation (members_from 0 l) ((at, y) ∷ members_from 0 (set slots at None))) (set-set slots at None (Some y)) put;
+        has = members-set slots at x y found;
       }
 
   -- a live slot is among the slots

@@ -56,6 +56,14 @@ impl<'a, T> Iterator for Iter<'a, T> {
     ghost remaining = { item_count (λ rest. rest) };
 
     fn next(&mut self) -> Option<&'a T> {
+        // Most slots are live, so the first one is looked at before the loop: then the loop of a caller is one, and not
+        // two of which one stands in the other.
+        let (slot, rest) = self.slots.split_first()?;
+        self.slots = rest;
+        if let Slot::Live(item) = slot {
+            self.len -= 1;
+            return Some(item);
+        }
         while let Some((slot, rest)) = self.slots.split_first() {
             self.slots = rest;
             if let Slot::Live(item) = slot {
@@ -112,6 +120,12 @@ impl<T: Drop> Iterator for IntoIter<T> {
     ghost remaining = { item_count (λ rest. rest) };
 
     fn next(&mut self) -> Option<T> {
+        // The first one before the loop, as in `next` of `Iter`.
+        let first = self.slots.next()?;
+        if let Slot::Live(item) = first {
+            self.len -= 1;
+            return Some(item);
+        }
         while let Some(slot) = self.slots.next() {
             if let Slot::Live(item) = slot {
                 self.len -= 1;

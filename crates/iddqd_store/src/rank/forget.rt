@@ -3,6 +3,7 @@ ghost use Rattle.std.specs.Prelude.{◌≡◌, ◌<◌, ◌∷◌, length, Conta
 ghost use Rattle.std.specs.List.Sorted.{IsPermutation};
 ghost use Rattle.iddqd_store.specs.Rank.{key_hash};
 
+use super::hash_of_key::hash_of_key;
 use super::key_of::KeyOf;
 use crate::index_table::IndexTable;
 use crate::item_index::ItemIndex;
@@ -28,10 +29,7 @@ impl IndexTable {
         ensures limit { self.new.limit ≡ self.old.limit }
         ensures room { length self.new.pairs < self.new.limit }
     {
-        let hash = match known {
-            Some(hash) => hash,
-            None => hash_builder.hash_one(R::key(item)),
-        };
+        let hash = hash_of_key::<T, R, S>(hash_builder, item, known);
         self.remove(hash, ix, &mut Meter::new());
     }
 }

@@ -1,13 +1,14 @@
 //! Searches by one rank.
-ghost use Rattle.std.specs.Prelude.{◌≡◌, option_copied, IfSome};
+ghost use Rattle.std.specs.Prelude.{◌≡◌, option_copied, IfErr, IfOk, IfSome};
 ghost use Rattle.std.specs.List.{list_any};
 ghost use Rattle.std.specs.Option.{option_and_then};
+ghost use Rattle.std.specs.Result.{result_ok};
 ghost use Rattle.iddqd_store.specs.Bag.{IsOnly};
 ghost use Rattle.iddqd_store.specs.Map.{bag, hash_of};
 ghost use Rattle.iddqd_store.specs.Rank.Index.{HasHash};
 ghost use Rattle.iddqd_store.specs.Slots.Found.{FoundAt};
 ghost use Rattle.iddqd_store.specs.Slots.{get, IsLive};
-ghost use Rattle.iddqd_store.specs.Rank.{agree, key_hash, NamesOneUnder, SearchCosts, IsSearchable};
+ghost use Rattle.iddqd_store.specs.Rank.{agree, key_hash, IsVacantFor, NamesOneUnder, SearchCosts, IsSearchable};
 
 use super::by_key::ByKey;
 use super::by_query::ByQuery;
@@ -18,6 +19,7 @@ use crate::item_index::ItemIndex;
 use crate::item_set::ItemSet;
 use crate::key_matcher::KeyMatcher;
 use crate::meter::Meter;
+use crate::vacancy::Vacancy;
 use std::hash::{BuildHasher, Hash};
 use std::marker::{Model, PhantomData};
 
@@ -117,10 +119,27 @@ impl<'a, T, R: KeyOf<T>, S: BuildHasher> Lookup<'a, T, R, S> {
         ensures hashed { IfSome result (λ ix. HasHash
             (key_hash R.key R.Key.hash_input S.BuildHasher S.Hasher.Hasher self.now.builder) self.now.slots ix hash) }
     {
-        self.slot_with(hash, &mut ByQuery::new(query), &mut Meter::new())
+        match self.search(hash, query) {
+            Ok(ix) => Some(ix),
+            Err(_) => None,
+        }
     }
 
-    /// The slot of the item whose key the matcher accepts: the one search.
+    /// The slot of the item whose key the query stands for, or where there is none the empty cell for a pair under this
+    /// hash, which is the query's.
+    #[inline(always)]
+    pub fn search<Q: Equivalent<R::Key>>(&self, hash: u64, query: &Q) -> Result<ItemIndex, Vacancy>
+        requires { hash ≡ hash_of S.BuildHasher S.Hasher.Hasher self.now.builder (Q.hash_input query.now) }
+        ensures found { FoundAt (λ x. Q.equivalent query.now (R.key x)) self.now.slots (result_ok result) }
+        ensures hashed { IfOk result (λ ix. HasHash
+            (key_hash R.key R.Key.hash_input S.BuildHasher S.Hasher.Hasher self.now.builder) self.now.slots ix hash) }
+        ensures vacant { IfErr result (IsVacantFor
+            (key_hash R.key R.Key.hash_input S.BuildHasher S.Hasher.Hasher self.now.builder) (bag self.now) hash) }
+    {
+        self.search_with(hash, &mut ByQuery::new(query), &mut Meter::new())
+    }
+
+    /// The slot of the item whose key the matcher accepts.
     pub fn slot_with<M: KeyMatcher<R::Key>>(
         &self,
         hash: u64,
@@ -140,11 +159,42 @@ impl<'a, T, R: KeyOf<T>, S: BuildHasher> Lookup<'a, T, R, S> {
             (key_hash R.key R.Key.hash_input S.BuildHasher S.Hasher.Hasher self.now.builder) (bag self.now)
             self.now.capacity hash result (M.asked matcher.old) (M.asked matcher.new) meter.old meter.new }
     {
+        match self.search_with(hash, matcher, meter) {
+            Ok(ix) => Some(ix),
+            Err(_) => None,
+        }
+    }
+
+    /// The slot of the item whose key the matcher accepts, or where there is none the empty cell for a pair under the
+    /// hash: the one search.
+    #[inline(always)]
+    pub fn search_with<M: KeyMatcher<R::Key>>(
+        &self,
+        hash: u64,
+        matcher: &mut M,
+        meter: &mut Meter,
+    ) -> Result<ItemIndex, Vacancy>
+        requires { NamesOneUnder (agree R.key R.Key.eq)
+            (key_hash R.key R.Key.hash_input S.BuildHasher S.Hasher.Hasher self.now.builder) hash
+            (λ x. M.accepts matcher.old (R.key x)) (bag self.now) }
+        ensures found { IsOnly (λ x. M.accepts matcher.old (R.key x)) (bag self.now)
+            (option_and_then (get self.now.slots) (result_ok result)) }
+        ensures live { IfOk result (IsLive self.now.slots) }
+        ensures hashed { IfOk result (λ ix. HasHash
+            (key_hash R.key R.Key.hash_input S.BuildHasher S.Hasher.Hasher self.now.builder) self.now.slots ix hash) }
+        ensures vacant { IfErr result (IsVacantFor
+            (key_hash R.key R.Key.hash_input S.BuildHasher S.Hasher.Hasher self.now.builder) (bag self.now) hash) }
+        ensures kept { M.IsKept matcher.old matcher.new }
+        ensures costs { SearchCosts
+            (key_hash R.key R.Key.hash_input S.BuildHasher S.Hasher.Hasher self.now.builder) (bag self.now)
+            self.now.capacity hash (result_ok result) (M.asked matcher.old) (M.asked matcher.new)
+            meter.old meter.new }
+    {
         let mut keys: ByKey<'_, T, R, M> = ByKey {
             items: self.items,
             keys: matcher,
             rank: PhantomData,
         };
-        self.table.find(hash, &mut keys, meter)
+        self.table.find_or_vacancy(hash, &mut keys, meter)
     }
 }

@@ -16,7 +16,7 @@ use crate::error::{KeyMismatch, differ};
 use crate::item::{TriHashItem, TriHashItemMut};
 use crate::map::TriHashMap;
 use crate::map::slots::entry::{each_once, one_of};
-use iddqd_store::UpToThree;
+use iddqd_store::{Sought, UpToThree};
 use std::hash::{BuildHasher, Hash};
 
 impl<'a, T: TriHashItem, S: BuildHasher> OccupiedEntry<'a, T, S> {
@@ -159,11 +159,10 @@ impl<'a, T: TriHashItem, S: BuildHasher> OccupiedEntry<'a, T, S> {
         if let Some(rank) = differ(&item, self.key1, self.key2, self.key3) {
             return Err(KeyMismatch::at(rank, item));
         }
-        let found = each_once(self.slot1, self.slot2, self.slot3);
-        let hash1 = self.map.hash_of1(&item);
-        let hash2 = self.map.hash_of2(&item);
-        let hash3 = self.map.hash_of3(&item);
-        let (displaced, ix) = self.map.put_over(item, &found, hash1, hash2, hash3);
+        let by1 = Sought::new(self.slot1, self.map.hash_of1(&item));
+        let by2 = Sought::new(self.slot2, self.map.hash_of2(&item));
+        let by3 = Sought::new(self.slot3, self.map.hash_of3(&item));
+        let (displaced, ix) = self.map.put_over(item, &by1, &by2, &by3);
         self.slot1 = Some(ix);
         self.slot2 = Some(ix);
         self.slot3 = Some(ix);
@@ -188,7 +187,13 @@ impl<'a, T: TriHashItem, S: BuildHasher> OccupiedEntry<'a, T, S> {
             slot2,
             slot3,
         } = self;
-        map.take_all(&each_once(slot1, slot2, slot3))
+        let nothing = Sought::nothing();
+        map.take_all(
+            &each_once(slot1, slot2, slot3),
+            &nothing,
+            &nothing,
+            &nothing,
+        )
     }
 }
 

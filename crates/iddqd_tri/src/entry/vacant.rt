@@ -20,8 +20,8 @@ impl<'a, T: TriHashItem, S: BuildHasher, Q: Keys<T::K1, T::K2, T::K3>> VacantEnt
     /// It is refused with the lowest rank at which its key is not the entry's, or else where the map is full and there
     /// is no memory to grow. Each refusal hands the item back, and the map is as it was.
     ///
-    /// It compares the first keys, and those of the next rank where those are equal, and searches nothing. It hashes
-    /// each key of the item once, and takes memory only where the map is full.
+    /// It compares the first keys, and those of the next rank where those are equal, and searches and
+    /// hashes nothing. It takes memory only where the map is full.
     pub fn insert(self, item: T) -> Result<RefMut<'a, T, S>, EntryError<T>>
         ensures* unchanged_at_err { sem 𝓛 (rests_if_err T.row S.row T.K1.row T.K2.row T.K3.row S.Hasher.row
             self.entry.map result) }
@@ -36,11 +36,17 @@ impl<'a, T: TriHashItem, S: BuildHasher, Q: Keys<T::K1, T::K2, T::K3>> VacantEnt
         ensures memory { IfErr result (λ e. OnNoMemory e
             (IsFullFor (ranks T.TriHashItem T.K1.eq T.K2.eq T.K3.eq) self.entry.map.now item)) }
     {
-        let VacantEntry { map, keys } = self;
+        let VacantEntry {
+            map,
+            keys,
+            at1,
+            at2,
+            at3,
+        } = self;
         if let Some(rank) = differ(&item, keys.first(), keys.second(), keys.third()) {
             return Err(EntryError::at(rank, item));
         }
-        match map.put_free(item) {
+        match map.put_free(item, at1, at2, at3) {
             Ok(slot) => Ok(RefMut { map, slot }),
             Err(item) => Err(EntryError::Memory(item)),
         }
@@ -67,11 +73,17 @@ impl<'a, T: TriHashItem, S: BuildHasher, Q: Keys<T::K1, T::K2, T::K3>> VacantEnt
         ensures memory { IfErr result (λ e. OnNoMemory e
             (IsFullFor (ranks T.TriHashItem T.K1.eq T.K2.eq T.K3.eq) self.entry.map.now item)) }
     {
-        let VacantEntry { map, keys } = self;
+        let VacantEntry {
+            map,
+            keys,
+            at1,
+            at2,
+            at3,
+        } = self;
         if let Some(rank) = differ(&item, keys.first(), keys.second(), keys.third()) {
             return Err(EntryError::at(rank, item));
         }
-        match map.put_free(item) {
+        match map.put_free(item, at1, at2, at3) {
             Ok(slot) => Ok(OccupiedEntryMut {
                 map,
                 slot1: Some(slot),
@@ -102,12 +114,18 @@ impl<'a, T: TriHashItem, S: BuildHasher> VacantEntry<'a, T, S> {
         ensures memory { IfErr result (λ e. OnNoMemory e
             (IsFullFor (ranks T.TriHashItem T.K1.eq T.K2.eq T.K3.eq) self.entry.map.now item)) }
     {
-        let VacantEntry { map, keys } = self;
+        let VacantEntry {
+            map,
+            keys,
+            at1,
+            at2,
+            at3,
+        } = self;
         let KeyTriple { key1, key2, key3 } = keys;
         if let Some(rank) = differ(&item, key1, key2, key3) {
             return Err(EntryError::at(rank, item));
         }
-        match map.put_free(item) {
+        match map.put_free(item, at1, at2, at3) {
             Ok(slot) => Ok(OccupiedEntry {
                 map,
                 key1,

@@ -1,10 +1,10 @@
 //! The steps of a walk for writing.
-ghost use Rattle.std.specs.Prelude.{◌≡◌, ◌+◌, [], length, slice_get, IfSome, IfNone, Some};
+ghost use Rattle.std.specs.Prelude.{◌≡◌, ◌+◌, ◌-◌, [], slice_get, IfSome, IfNone, Some};
 ghost use Rattle.std.specs.Borrow.{sem};
 ghost use Rattle.std.specs.Option.{option_and_then};
 ghost use Rattle.iddqd_store.specs.Map.Walk.{Passes};
-ghost use Rattle.iddqd_store.specs.Slots.{get};
-ghost use Rattle.iddqd_tri.specs.IterMuts.{lends_next, IsNextOf, rest_of};
+ghost use Rattle.iddqd_store.specs.Slots.{get, IsLive};
+ghost use Rattle.iddqd_tri.specs.IterMuts.{lends_next, stepped, IsNextOf, IsCounted, rest_of};
 ghost use Rattle.iddqd_tri.specs.RefMuts.{ref_item, ref_map};
 
 use super::IterMut;
@@ -14,32 +14,33 @@ use iddqd_store::ItemIndex;
 use std::hash::{BuildHasher, Hash};
 
 impl<T: TriHashItem, S: BuildHasher> IterMut<'_, T, S> {
-    /// How many items are to come. It looks at each slot behind the place of the walk.
-    pub fn len(&self) -> usize
-        ensures { result ≡ length (rest_of self.now) }
-    {
-        self.map.count_from(self.next)
-    }
-
     /// The next item, for writing. A caller knows less of the map afterwards than after `next_data`, or after
     /// `TriHashMap::next_from`.
     pub fn next_mut(&mut self) -> Option<RefMut<'_, T, S>>
         ensures next { option_and_then ref_item result ≡ slice_get (rest_of self.old) 0 }
         ensures unchanged { IfSome result (λ r. ref_map r ≡ self.old.map.now) }
     {
-        let slot = self.advance();
-        self.map.lend(slot)
+        match self.advance() {
+            Some(slot) => Some(RefMut {
+                map: self.map,
+                slot,
+            }),
+            None => None,
+        }
     }
 
     /// Goes on behind the next item, and answers its slot.
     fn advance(&mut self) -> Option<ItemIndex>
         ensures next { option_and_then (get self.old.map.now.slots) result ≡ slice_get (rest_of self.old) 0 }
         ensures behind { IfSome result (λ ix. self.new.next ≡ ix + 1) }
+        ensures left { IfSome result (λ ix. self.new.left ≡ self.old.left - 1) }
+        ensures live { IfSome result (IsLive self.new.map.now.slots) }
         ensures map { self.new.map ≡ self.old.map }
     {
         match self.map.slot_from(self.next) {
             Some(slot) => {
                 self.next = slot.number() + 1;
+                self.left = self.left.saturating_sub(1);
                 Some(slot)
             }
             None => None,
@@ -56,10 +57,12 @@ impl<T: TriHashItemMut, S: BuildHasher> IterMut<'_, T, S> {
         ensures next { IfSome result (λ r. IsNextOf self.old) }
         ensures value { (x : T) → slice_get (rest_of self.old) 0 ≡ Some x → IfSome result (λ r. r.now ≡ T.payload x) }
         ensures end { IfNone result (rest_of self.old ≡ []) }
+        ensures counted { (f : T → T) → IsCounted self.old → IfSome result (λ r. IsCounted (stepped self.old f)) }
     {
         match self.map.slot_from(self.next) {
             Some(ix) => {
                 self.next = ix.number() + 1;
+                self.left = self.left.saturating_sub(1);
                 Some(self.map.data_mut_at(ix))
             }
             None => None,

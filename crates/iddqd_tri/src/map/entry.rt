@@ -6,7 +6,6 @@ ghost use Rattle.iddqd_tri.specs.Entries.{IsFound, entry_key1, entry_key2, entry
 ghost use Rattle.iddqd_tri.specs.Keys.{key_tests};
 
 use super::TriHashMap;
-use super::slots::entry::none_of;
 use crate::entry::{Entry, KeyTriple, OccupiedEntry, VacantEntry};
 use crate::item::TriHashItem;
 use std::hash::{BuildHasher, Hash};
@@ -31,25 +30,47 @@ impl<T: TriHashItem, S: BuildHasher> TriHashMap<T, S> {
             ≡ entry (key_tests T.TriHashItem T.K1.eq T.K2.eq T.K3.eq key1.now key2.now key3.now) (bag self.old) }
         ensures found { IsFound result }
     {
-        let _ = &self.items;
-        let slot1 = self.by_key1().slot_of(key1);
-        let slot2 = self.by_key2().slot_of(key2);
-        let slot3 = self.by_key3().slot_of(key3);
-        if none_of(&slot1, &slot2, &slot3) {
-            Entry::Vacant(VacantEntry {
+        let hash1 = self.hash_builder.hash_one(key1);
+        let hash2 = self.hash_builder.hash_one(key2);
+        let hash3 = self.hash_builder.hash_one(key3);
+        let by1 = self.by_key1().search(hash1, key1);
+        let by2 = self.by_key2().search(hash2, key2);
+        let by3 = self.by_key3().search(hash3, key3);
+        match (by1, by2, by3) {
+            (Err(at1), Err(at2), Err(at3)) => Entry::Vacant(VacantEntry {
                 map: self,
                 keys: KeyTriple { key1, key2, key3 },
-            })
-        } else {
-            Entry::Occupied(OccupiedEntry {
+                at1,
+                at2,
+                at3,
+            }),
+            (Ok(slot1), by2, by3) => Entry::Occupied(OccupiedEntry {
                 map: self,
                 key1,
                 key2,
                 key3,
-                slot1,
-                slot2,
-                slot3,
-            })
+                slot1: Some(slot1),
+                slot2: by2.ok(),
+                slot3: by3.ok(),
+            }),
+            (Err(_), Ok(slot2), by3) => Entry::Occupied(OccupiedEntry {
+                map: self,
+                key1,
+                key2,
+                key3,
+                slot1: None,
+                slot2: Some(slot2),
+                slot3: by3.ok(),
+            }),
+            (Err(_), Err(_), Ok(slot3)) => Entry::Occupied(OccupiedEntry {
+                map: self,
+                key1,
+                key2,
+                key3,
+                slot1: None,
+                slot2: None,
+                slot3: Some(slot3),
+            }),
         }
     }
 }

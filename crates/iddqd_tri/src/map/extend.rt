@@ -11,7 +11,7 @@ use super::TriHashMap;
 use super::slots::Refusal;
 use crate::error::FromIterError;
 use crate::item::TriHashItem;
-use iddqd_store::{DuplicateItem, ExtendUniqueError, MemoryRefused};
+use iddqd_store::{DuplicateItem, ExtendUniqueError, MemoryRefused, Sought};
 use std::alloc::Global;
 use std::hash::{BuildHasher, Hash};
 
@@ -153,7 +153,8 @@ impl<T: TriHashItem + Drop, S: BuildHasher + Default + Drop> TriHashMap<T, S> {
             match map.try_insert(item) {
                 Ok(_) => {}
                 Err(Refusal::Duplicate(item, found)) => {
-                    let duplicates = map.take_all(&found);
+                    let nothing = Sought::nothing();
+                    let duplicates = map.take_all(&found, &nothing, &nothing, &nothing);
                     return Err(FromIterError::Duplicate(DuplicateItem::new(item, duplicates)));
                 }
                 Err(Refusal::Memory(item)) => return Err(FromIterError::Memory(item)),

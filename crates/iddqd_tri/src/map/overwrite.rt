@@ -33,13 +33,18 @@ impl<T: TriHashItem, S: BuildHasher> TriHashMap<T, S> {
         let hash1 = self.hash_builder.hash_one(item.key1());
         let hash2 = self.hash_builder.hash_one(item.key2());
         let hash3 = self.hash_builder.hash_one(item.key3());
-        let found = self.conflicting(&item, hash1, hash2, hash3);
-        if found.is_empty() {
-            if let Err(_) = self.make_room() {
-                return Err(MemoryRefused { value: item });
+        match self.places(&item, hash1, hash2, hash3) {
+            Ok((at1, at2, at3)) => {
+                if let Err(_) = self.make_room() {
+                    return Err(MemoryRefused { value: item });
+                }
+                self.put(item, at1, at2, at3);
+                Ok(UpToThree::new())
+            }
+            Err((by1, by2, by3)) => {
+                let (displaced, _) = self.put_over(item, &by1, &by2, &by3);
+                Ok(displaced)
             }
         }
-        let (displaced, _) = self.put_over(item, &found, hash1, hash2, hash3);
-        Ok(displaced)
     }
 }

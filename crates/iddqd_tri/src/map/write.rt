@@ -5,7 +5,7 @@ ghost use Rattle.std.specs.Option.{option_and_then};
 ghost use Rattle.iddqd_store.specs.Bag.{IsOnly};
 ghost use Rattle.iddqd_store.specs.Map.{bag};
 ghost use Rattle.iddqd_store.specs.Map.Walk.{Passes, to_come};
-ghost use Rattle.iddqd_tri.specs.IterMuts.{done_of, rest_of};
+ghost use Rattle.iddqd_tri.specs.IterMuts.{done_of, rest_of, IsCounted};
 ghost use Rattle.iddqd_tri.specs.Keys.{has1, has2, has3, has_all};
 ghost use Rattle.iddqd_tri.specs.RefMuts.{ref_lender, ref_map, ref_item, ref_with, rests_if_none};
 
@@ -121,7 +121,13 @@ impl<T: TriHashItem, S: BuildHasher> TriHashMap<T, S> {
         ensures unchanged { result.map.now ≡ self.old }
         ensures start { done_of result ≡ [] }
         ensures items { rest_of result ≡ bag self.old }
+        ensures counted { IsCounted result }
     {
-        IterMut { map: self, next: 0 }
+        let left = self.len();
+        IterMut {
+            map: self,
+            next: 0,
+            left,
+        }
     }
 }

@@ -36,14 +36,14 @@ impl<T: BiHashItem, S: BuildHasher> BiHashMap<T, S> {
     {
         let hash1 = self.hash_builder.hash_one(item.key1());
         let hash2 = self.hash_builder.hash_one(item.key2());
-        let found = self.conflicting(&item, hash1, hash2);
-        if !found.is_empty() {
-            return Err((item, ExtendUniqueReason::Conflict));
-        }
+        let (at1, at2) = match self.places(&item, hash1, hash2) {
+            Ok(places) => places,
+            Err(_) => return Err((item, ExtendUniqueReason::Conflict)),
+        };
         if self.make_room().is_err() || entered.reserve_one().is_err() {
             return Err((item, ExtendUniqueReason::Memory));
         }
-        let ix = self.put(item, hash1, hash2);
+        let ix = self.put(item, at1, at2);
         entered.push(ix);
         Ok(())
     }

@@ -1,11 +1,10 @@
 //! The slots that searches by all keys found.
-ghost use Rattle.std.specs.Prelude.{◌≡◌, [], ◌∷◌, Some, is_some, not, option_copied, IfOk, IfErr, IfSome, OnOk, OnErr};
+ghost use Rattle.std.specs.Prelude.{◌≡◌, [], ◌∷◌, Some, option_copied, IfOk, IfErr, IfSome, OnOk, OnErr};
 ghost use Rattle.std.specs.Borrow.{sem};
-ghost use Rattle.std.specs.List.{list_any};
 ghost use Rattle.std.specs.Option.{option_and_then};
 ghost use Rattle.iddqd_store.specs.Bag.{IsSound, clash};
 ghost use Rattle.iddqd_store.specs.Map.{bag, Gains, IsFullFor};
-ghost use Rattle.iddqd_store.specs.Rank.{key_hash};
+ghost use Rattle.iddqd_store.specs.Rank.{key_hash, IsPlaceOf};
 ghost use Rattle.iddqd_store.specs.Slots.{get, IsLive};
 ghost use Rattle.iddqd_store.specs.Slots.Found.{each_once, found_by_all, head_of};
 ghost use Rattle.iddqd_bi.specs.Keys.{ranks};
@@ -14,7 +13,7 @@ ghost use Rattle.iddqd_bi.specs.RefMuts.{ref_lender, ref_map, ref_item, rests_if
 use super::super::BiHashMap;
 use crate::item::BiHashItem;
 use crate::ref_mut::RefMut;
-use iddqd_store::{ItemIndex, UpToTwo};
+use iddqd_store::{ItemIndex, UpToTwo, Vacancy};
 use std::hash::{BuildHasher, Hash};
 
 /// The slot that both searches found.
@@ -25,13 +24,6 @@ pub(crate) fn one_of(slot1: Option<ItemIndex>, slot2: Option<ItemIndex>) -> Opti
         (Some(a), Some(b)) => { if a == b { Some(a) } else { None } }
         _ => None,
     }
-}
-
-/// Whether no search found a slot.
-pub(crate) fn none_of(slot1: &Option<ItemIndex>, slot2: &Option<ItemIndex>) -> bool
-    ensures { result ≡ not (list_any is_some (slot1.now ∷ slot2.now ∷ [])) }
-{
-    slot1.is_none() && slot2.is_none()
 }
 
 /// The slots that searches found, each once.
@@ -82,9 +74,13 @@ impl<T: BiHashItem, S: BuildHasher> BiHashMap<T, S> {
     }
 
     /// Puts an item in that nothing conflicts with, or hands it back where there is no memory for it. It searches
-    /// nothing.
-    pub(crate) fn put_free(&mut self, item: T) -> Result<ItemIndex, T>
+    /// and hashes nothing.
+    pub(crate) fn put_free(&mut self, item: T, at1: Vacancy, at2: Vacancy) -> Result<ItemIndex, T>
         requires free { clash (ranks T.BiHashItem T.K1.eq T.K2.eq) (bag self.old) item ≡ [] }
+        requires first { IsPlaceOf
+            (key_hash T.key1 T.K1.hash_input S.BuildHasher S.Hasher.Hasher self.old.builder) (bag self.old) item at1 }
+        requires second { IsPlaceOf
+            (key_hash T.key2 T.K2.hash_input S.BuildHasher S.Hasher.Hasher self.old.builder) (bag self.old) item at2 }
         ensures gains { OnOk result (Gains self.old item self.new) }
         ensures at { IfOk result (λ ix. get self.new.slots ix ≡ Some item) }
         ensures sound { OnOk result (IsSound (ranks T.BiHashItem T.K1.eq T.K2.eq) (bag self.new)) }
@@ -92,12 +88,10 @@ impl<T: BiHashItem, S: BuildHasher> BiHashMap<T, S> {
         ensures unchanged { OnErr result (self.new ≡ self.old) }
         ensures full { OnErr result (IsFullFor (ranks T.BiHashItem T.K1.eq T.K2.eq) self.old item) }
     {
-        let hash1 = self.hash_of1(&item);
-        let hash2 = self.hash_of2(&item);
         if let Err(_) = self.make_room() {
             return Err(item);
         }
-        Ok(self.put(item, hash1, hash2))
+        Ok(self.put(item, at1, at2))
     }
 
     /// The hash of an item's first key.

@@ -1,11 +1,10 @@
 //! The slots that searches by all keys found.
-ghost use Rattle.std.specs.Prelude.{◌≡◌, [], ◌∷◌, Some, is_some, not, option_copied, IfOk, IfErr, IfSome, OnOk, OnErr};
+ghost use Rattle.std.specs.Prelude.{◌≡◌, [], ◌∷◌, Some, option_copied, IfOk, IfErr, IfSome, OnOk, OnErr};
 ghost use Rattle.std.specs.Borrow.{sem};
-ghost use Rattle.std.specs.List.{list_any};
 ghost use Rattle.std.specs.Option.{option_and_then};
 ghost use Rattle.iddqd_store.specs.Bag.{IsSound, clash};
 ghost use Rattle.iddqd_store.specs.Map.{bag, Gains, IsFullFor};
-ghost use Rattle.iddqd_store.specs.Rank.{key_hash};
+ghost use Rattle.iddqd_store.specs.Rank.{key_hash, IsPlaceOf};
 ghost use Rattle.iddqd_store.specs.Slots.{get, IsLive};
 ghost use Rattle.iddqd_store.specs.Slots.Found.{each_once, found_by_all, head_of};
 ghost use Rattle.iddqd_tri.specs.Keys.{ranks};
@@ -14,7 +13,7 @@ ghost use Rattle.iddqd_tri.specs.RefMuts.{ref_lender, ref_map, ref_item, rests_i
 use super::super::TriHashMap;
 use crate::item::TriHashItem;
 use crate::ref_mut::RefMut;
-use iddqd_store::{ItemIndex, UpToThree};
+use iddqd_store::{ItemIndex, UpToThree, Vacancy};
 use std::hash::{BuildHasher, Hash};
 
 /// The slot that all searches found.
@@ -29,17 +28,6 @@ pub(crate) fn one_of(
         (Some(a), Some(b), Some(c)) => { if a == b && a == c { Some(a) } else { None } }
         _ => None,
     }
-}
-
-/// Whether no search found a slot.
-pub(crate) fn none_of(
-    slot1: &Option<ItemIndex>,
-    slot2: &Option<ItemIndex>,
-    slot3: &Option<ItemIndex>,
-) -> bool
-    ensures { result ≡ not (list_any is_some (slot1.now ∷ slot2.now ∷ slot3.now ∷ [])) }
-{
-    slot1.is_none() && slot2.is_none() && slot3.is_none()
 }
 
 /// The slots that searches found, each once.
@@ -96,9 +84,21 @@ impl<T: TriHashItem, S: BuildHasher> TriHashMap<T, S> {
     }
 
     /// Puts an item in that nothing conflicts with, or hands it back where there is no memory for it. It searches
-    /// nothing.
-    pub(crate) fn put_free(&mut self, item: T) -> Result<ItemIndex, T>
+    /// and hashes nothing.
+    pub(crate) fn put_free(
+        &mut self,
+        item: T,
+        at1: Vacancy,
+        at2: Vacancy,
+        at3: Vacancy,
+    ) -> Result<ItemIndex, T>
         requires free { clash (ranks T.TriHashItem T.K1.eq T.K2.eq T.K3.eq) (bag self.old) item ≡ [] }
+        requires first { IsPlaceOf
+            (key_hash T.key1 T.K1.hash_input S.BuildHasher S.Hasher.Hasher self.old.builder) (bag self.old) item at1 }
+        requires second { IsPlaceOf
+            (key_hash T.key2 T.K2.hash_input S.BuildHasher S.Hasher.Hasher self.old.builder) (bag self.old) item at2 }
+        requires third { IsPlaceOf
+            (key_hash T.key3 T.K3.hash_input S.BuildHasher S.Hasher.Hasher self.old.builder) (bag self.old) item at3 }
         ensures gains { OnOk result (Gains self.old item self.new) }
         ensures at { IfOk result (λ ix. get self.new.slots ix ≡ Some item) }
         ensures sound { OnOk result (IsSound (ranks T.TriHashItem T.K1.eq T.K2.eq T.K3.eq) (bag self.new)) }
@@ -106,13 +106,10 @@ impl<T: TriHashItem, S: BuildHasher> TriHashMap<T, S> {
         ensures unchanged { OnErr result (self.new ≡ self.old) }
         ensures full { OnErr result (IsFullFor (ranks T.TriHashItem T.K1.eq T.K2.eq T.K3.eq) self.old item) }
     {
-        let hash1 = self.hash_of1(&item);
-        let hash2 = self.hash_of2(&item);
-        let hash3 = self.hash_of3(&item);
         if let Err(_) = self.make_room() {
             return Err(item);
         }
-        Ok(self.put(item, hash1, hash2, hash3))
+        Ok(self.put(item, at1, at2, at3))
     }
 
     /// The hash of an item's first key.

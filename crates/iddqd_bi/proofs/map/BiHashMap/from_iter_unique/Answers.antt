@@ -41,7 +41,7 @@ pub take_all-duplicates-requires : goal.take_all-duplicates-requires
 take_all-duplicates-requires g c =
     let by = ranks g.T.BiHashItem g.T.K1.PartialEq.eq g.T.K2.PartialEq.eq in
     let blocked : IsBlockedAt by c.loop-item.map c.in-Some.item c.in-Err-Duplicate.found = rw c.in-Err-Duplicate.field-0-is at c.in-Err-Duplicate.ensures.reason in
-    rw c.in-Err-Duplicate.ensures.unchanged record { live = blocked.found.live; apart = blocked.found.apart }
+    rw c.in-Err-Duplicate.ensures.unchanged record { live = blocked.found.live; apart = blocked.found.apart; by1 = rw c.nothing-nothing.ensures tt; by2 = rw c.nothing-nothing.ensures tt }
 
 pub returns-in-Err-Duplicate-clause-refused : goal.returns-in-Err-Duplicate-clause-refused
 returns-in-Err-Duplicate-clause-refused g c =

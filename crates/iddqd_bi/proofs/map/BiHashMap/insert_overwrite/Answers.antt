@@ -1,30 +1,22 @@
-use Rattle.std.proofs.Common.{ap, ◌∙◌}
-use Rattle.iddqd_store.proofs.SlotLemmas.Found.{clash_none, none_found}
-use Rattle.iddqd_store.specs.Map.{Map}
+use Rattle.std.proofs.Common.{sym, ◌∙◌}
+use Rattle.iddqd_store.specs.Map.{bag}
+use Rattle.iddqd_store.proofs.MapLemmas.Places.{order_none, over_none}
+use Rattle.iddqd_store.proofs.SlotLemmas.Found.{clash_none}
 use Rattle.iddqd_bi.specs.Keys.{ranks}
 use Rattle.iddqd_bi.proofs.map.BiHashMap.insert_overwrite.Goals as goal
-use Rattle.iddqd_bi.proofs.map.BiHashMap.insert_overwrite.Goals.{then-is_empty+in_default, else-is_empty}
 
-pub returns-in-Err-clause-no_growth : goal.returns-in-Err-clause-no_growth
-returns-in-Err-clause-no_growth g c =
+pub put_over-displaced-requires-clause-room : goal.put_over-displaced-requires-clause-room
+put_over-displaced-requires-clause-room g c =
     let by = ranks g.T.BiHashItem g.T.K1.PartialEq.eq g.T.K2.PartialEq.eq in
-    let found = c.conflicting-found in
-    λ some. absurd (some (clash_none by c.args.self.now.slots c.args.item found.result found.ensures.items (none_found _ _ c.is_empty.ensures c.if-is_empty.true)))
+    let blocked = c.in-Err.ensures.blocked in
+    λ short. absurd (blocked.some (clash_none by c.args.self.now.slots c.args.item _ blocked.found.items short))
 
-pub returns-in-Err-clause-reason : goal.returns-in-Err-clause-reason
-returns-in-Err-clause-reason g c =
+pub returns-in_default-clause-displaced : goal.returns-in_default-clause-displaced
+returns-in_default-clause-displaced g c =
     let by = ranks g.T.BiHashItem g.T.K1.PartialEq.eq g.T.K2.PartialEq.eq in
-    let found = c.conflicting-found in
-    record {
-      free = clash_none by c.args.self.now.slots c.args.item found.result found.ensures.items (none_found _ _ c.is_empty.ensures c.if-is_empty.true);
-      full = c.in-Err.ensures.refused;
-    }
+    c.new.ensures ∙ sym (order_none by (bag c.args.self.now) c.args.item c.in-Ok.ensures.free)
 
-pub returns-clause-no_growth : goal.returns-clause-no_growth
-returns-clause-no_growth g c =
+pub returns-in_default-clause-items : goal.returns-in_default-clause-items
+returns-in_default-clause-items g c =
     let by = ranks g.T.BiHashItem g.T.K1.PartialEq.eq g.T.K2.PartialEq.eq in
-    let found = c.conflicting-found in
-    λ some. c.put_over-displaced.ensures.capacity ∙ elim c.if-is_empty.branch [
-      | then-is_empty+in_default w ↦ absurd (some (clash_none by c.args.self.now.slots c.args.item found.result found.ensures.items (none_found _ _ c.is_empty.ensures w.if-is_empty.true)))
-      | else-is_empty w ↦ ap (λ (m : Map g.row.T.Denot g.row.S.Denot). m.capacity) w.self-is
-    ]
+    over_none by (bag c.args.self.now) c.args.item c.in-Ok.ensures.free (bag c.put.new.self) (rw c.make_room.ensures.slots at c.put.ensures.items)

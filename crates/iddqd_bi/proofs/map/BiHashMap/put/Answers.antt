@@ -1,5 +1,6 @@
 use Rattle.std.proofs.Common.{arith}
 use Rattle.std.proofs.lemmas.List.Sorted.{IsPermutation-map, length_permutation}
+use Rattle.iddqd_store.proofs.RankLemmas.Costs.{place_in}
 use Rattle.iddqd_store.proofs.RankLemmas.Index.{length-live_items, length-index}
 use Rattle.iddqd_store.proofs.RankLemmas.Invariant.{IsIndexed-insert}
 use Rattle.iddqd_store.proofs.MapLemmas.{free_sound}
@@ -12,22 +13,28 @@ insert_reserved-ix-requires g c =
     let room = rw (← c.self.view_is) at c.requires.room in
     omega (arith, length-live_items c.self.inside.items.slots)
 
-pub insert_reserved-requires : goal.insert_reserved-requires
-insert_reserved-requires g c =
+pub insert_at-requires-clause-room : goal.insert_at-requires-clause-room
+insert_at-requires-clause-room g c =
     let room = rw (← c.self.view_is) at c.requires.room in
     omega (arith, length-index c.self.invariant.indexes.0)
 
-pub insert_reserved-requires-2 : goal.insert_reserved-requires-2
-insert_reserved-requires-2 g c =
+pub insert_at-requires-clause-free : goal.insert_at-requires-clause-free
+insert_at-requires-clause-free g c = place_in c.self.invariant.indexes.0 (rw (← c.self.view_is) at c.requires.first)
+
+pub insert_at-requires-2-clause-room : goal.insert_at-requires-2-clause-room
+insert_at-requires-2-clause-room g c =
     let room = rw (← c.self.view_is) at c.requires.room in
     omega (arith, length-index c.self.invariant.indexes.1.0)
 
+pub insert_at-requires-2-clause-free : goal.insert_at-requires-2-clause-free
+insert_at-requires-2-clause-free g c = place_in c.self.invariant.indexes.1.0 (rw (← c.self.view_is) at c.requires.second)
+
 pub invariant_of-self : goal.invariant_of-self
 invariant_of-self g c =
-    let hash1 = rw (← c.self.view_is) at c.requires.hash1 in
-    let hash2 = rw (← c.self.view_is) at c.requires.hash2 in
+    let first = rw (← c.self.view_is) at c.requires.first in
+    let second = rw (← c.self.view_is) at c.requires.second in
     IsIndexed-insert c.args.item (AreLawful-ranks g.T.BiHashItem g.met.T.K1.Eq.laws g.met.T.K2.Eq.laws) c.self.invariant (rw (← c.self.view_is) at c.requires.free) c.insert_reserved-ix.ensures.members
-    ((_, hash1, c.insert_reserved.ensures.added), ((_, hash2, c.insert_reserved-2.ensures.added), tt))
+    ((_, first.same, c.insert_at.ensures.added), ((_, second.same, c.insert_at-2.ensures.added), tt))
 
 pub returns-clause-sound : goal.returns-clause-sound
 returns-clause-sound g c =
@@ -40,4 +47,4 @@ pub returns-clause-fits : goal.returns-clause-fits
 returns-clause-fits g c =
     let room = rw (← c.self.view_is) at c.requires.room in
     let more = length_permutation _ _ (IsPermutation-map (λ m. m.1) _ _ c.insert_reserved-ix.ensures.members) in
-    omega (arith, more, c.insert_reserved-ix.ensures.capacity, c.insert_reserved.ensures.limit, c.insert_reserved-2.ensures.limit)
+    omega (arith, more, c.insert_reserved-ix.ensures.capacity, c.insert_at.ensures.limit, c.insert_at-2.ensures.limit)

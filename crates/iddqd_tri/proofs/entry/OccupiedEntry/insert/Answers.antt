@@ -1,6 +1,7 @@
-use Rattle.std.proofs.Common.{rules, arith, ◌≡◌, [], ◌∷◌, true, sym, ◌∙◌}
-use Rattle.iddqd_store.specs.Map.{bag}
+use Rattle.std.proofs.Common.{rules, arith, ◌≡◌, [], ◌∷◌, true, sym, ap, ◌∙◌}
+use Rattle.iddqd_store.specs.Map.{bag, hash_of}
 use Rattle.iddqd_store.proofs.MapLemmas.Storing.{live_found}
+use Rattle.iddqd_store.proofs.RankLemmas.Sought.{found_under}
 use Rattle.iddqd_store.proofs.SlotLemmas.Entries.{IsDistinct-each_once}
 use Rattle.iddqd_store.proofs.SlotLemmas.Here.{finds_here}
 use Rattle.iddqd_tri.specs.Keys.{key_tests, ranks}
@@ -13,11 +14,35 @@ put_over-displaced-requires-clause-found g c =
     let same1 : g.T.K1.PartialEq.eq o.key1.now (g.T.TriHashItem.key1 c.args.item) ≡ true = search rules in
     let same2 : g.T.K2.PartialEq.eq o.key2.now (g.T.TriHashItem.key2 c.args.item) ≡ true = search rules in
     let same3 : g.T.K3.PartialEq.eq o.key3.now (g.T.TriHashItem.key3 c.args.item) ≡ true = search rules in
-    rw c.each_once-found.ensures record {
+    rw (c.new-by1.ensures, c.new-by2.ensures, c.new-by3.ensures) record {
       items = c.requires.listed ∙ sym (order-all g.T.TriHashItem g.T.K1.PartialEq.eq g.T.K2.PartialEq.eq g.T.K3.PartialEq.eq g.met.T.K1.Eq.laws g.met.T.K2.Eq.laws g.met.T.K3.Eq.laws c.args.item o.key1.now o.key2.now o.key3.now same1 same2 same3 (bag o.map.now));
       live = live_found o.map.now.slots (o.slot1 ∷ o.slot2 ∷ o.slot3 ∷ []) (c.requires.found.0.live, (c.requires.found.1.0.live, (c.requires.found.1.1.0.live, tt)));
       apart = IsDistinct-each_once (o.slot1 ∷ o.slot2 ∷ o.slot3 ∷ []);
     }
+
+pub put_over-displaced-requires-clause-under1 : goal.put_over-displaced-requires-clause-under1
+put_over-displaced-requires-clause-under1 g c =
+    let o = c.args.self.now in
+    let hash = hash_of g.S.BuildHasher g.S.Hasher.Hasher o.map.now.builder in
+    let same : g.T.K1.PartialEq.eq o.key1.now (g.T.TriHashItem.key1 c.args.item) ≡ true = search rules in
+    rw (c.new-by1.ensures, c.hash_of1.ensures)
+    (found_under _ _ _ o.slot1 _ c.requires.found.0 (λ x has. ap hash (sym (g.met.T.K1.Hash.respects_eq _ _ has) ∙ g.met.T.K1.Hash.respects_eq _ _ same)))
+
+pub put_over-displaced-requires-clause-under2 : goal.put_over-displaced-requires-clause-under2
+put_over-displaced-requires-clause-under2 g c =
+    let o = c.args.self.now in
+    let hash = hash_of g.S.BuildHasher g.S.Hasher.Hasher o.map.now.builder in
+    let same : g.T.K2.PartialEq.eq o.key2.now (g.T.TriHashItem.key2 c.args.item) ≡ true = search rules in
+    rw (c.new-by2.ensures, c.hash_of2.ensures)
+    (found_under _ _ _ o.slot2 _ c.requires.found.1.0 (λ x has. ap hash (sym (g.met.T.K2.Hash.respects_eq _ _ has) ∙ g.met.T.K2.Hash.respects_eq _ _ same)))
+
+pub put_over-displaced-requires-clause-under3 : goal.put_over-displaced-requires-clause-under3
+put_over-displaced-requires-clause-under3 g c =
+    let o = c.args.self.now in
+    let hash = hash_of g.S.BuildHasher g.S.Hasher.Hasher o.map.now.builder in
+    let same : g.T.K3.PartialEq.eq o.key3.now (g.T.TriHashItem.key3 c.args.item) ≡ true = search rules in
+    rw (c.new-by3.ensures, c.hash_of3.ensures)
+    (found_under _ _ _ o.slot3 _ c.requires.found.1.1.0 (λ x has. ap hash (sym (g.met.T.K3.Hash.respects_eq _ _ has) ∙ g.met.T.K3.Hash.respects_eq _ _ same)))
 
 pub returns-clause-displaced : goal.returns-clause-displaced
 returns-clause-displaced g c =

@@ -1,24 +1,77 @@
-use Rattle.std.proofs.Common.{◌++◌, List, subst, ◌∙◌}
-use Rattle.std.specs.Prelude.{IsPermutation}
+use Rattle.std.proofs.Common.{sym, ap, subst, ◌∙◌}
+use Rattle.std.specs.Prelude.{All, nat_eq}
+use Rattle.std.specs.List.{IsDistinct}
+use Rattle.std.proofs.lemmas.List.Elements.{All-head}
+use Rattle.std.proofs.lemmas.Map.Keys.{IsDistinct-tail}
 use Rattle.iddqd_store.specs.Map.{bag}
+use Rattle.iddqd_store.specs.Slots.{IsLive}
+use Rattle.iddqd_store.specs.Slots.Found.{items_at}
 use Rattle.iddqd_store.proofs.BagLemmas.Over.{clash-taken, over-taken}
+use Rattle.iddqd_store.proofs.MapLemmas.Places.{gives_way, none_first, over_none, stand_in}
+use Rattle.iddqd_store.proofs.SlotLemmas.Found.{clash_none}
+use Rattle.iddqd_store.proofs.RankLemmas.Sought.{IsUnder-fewer}
 use Rattle.iddqd_tri.specs.Keys.{ranks}
 use Rattle.iddqd_tri.proofs.map.TriHashMap.put_over.Goals as goal
 
-pub take_all-displaced-requires : goal.take_all-displaced-requires
-take_all-displaced-requires g c = record { live = c.requires.found.live; apart = c.requires.found.apart }
-
 pub put-ix-requires-clause-free : goal.put-ix-requires-clause-free
 put-ix-requires-clause-free g c =
+    let stand = stand_in (rw (c.slot.ensures, c.slot-2.ensures, c.slot-3.ensures) at c.each_once-found.ensures) c.requires.found in
     let by = ranks g.T.TriHashItem g.T.K1.PartialEq.eq g.T.K2.PartialEq.eq g.T.K3.PartialEq.eq in
+    clash_none by c.args.self.now.slots c.args.item c.each_once-found.result stand.items (none_first c.each_once-found.result (sym c.pop_front.ensures.first ∙ c.in_default.is))
+
+pub returns-in_default-clause-items : goal.returns-in_default-clause-items
+returns-in_default-clause-items g c =
+    let stand = stand_in (rw (c.slot.ensures, c.slot-2.ensures, c.slot-3.ensures) at c.each_once-found.ensures) c.requires.found in
+    let by = ranks g.T.TriHashItem g.T.K1.PartialEq.eq g.T.K2.PartialEq.eq g.T.K3.PartialEq.eq in
+    over_none by (bag c.args.self.now) c.args.item
+    (clash_none by c.args.self.now.slots c.args.item c.each_once-found.result stand.items (none_first c.each_once-found.result (sym c.pop_front.ensures.first ∙ c.in_default.is)))
+    (bag c.put-ix.new.self) c.put-ix.ensures.items
+
+pub take_all-displaced-requires-clause-apart : goal.take_all-displaced-requires-clause-apart
+take_all-displaced-requires-clause-apart g c =
+    let stand = stand_in (rw (c.slot.ensures, c.slot-2.ensures, c.slot-3.ensures) at c.each_once-found.ensures) c.requires.found in
+    IsDistinct-tail nat_eq c.in-Some.ix c.pop_front.new.self (subst (IsDistinct nat_eq) c.in-Some.ensures.rest stand.apart)
+
+pub exchange-requires-clause-free : goal.exchange-requires-clause-free
+exchange-requires-clause-free g c =
+    let stand = stand_in (rw (c.slot.ensures, c.slot-2.ensures, c.slot-3.ensures) at c.each_once-found.ensures) c.requires.found in
+    let by = ranks g.T.TriHashItem g.T.K1.PartialEq.eq g.T.K2.PartialEq.eq g.T.K3.PartialEq.eq in
+    let slots = c.args.self.now.slots in
+    let ix = c.in-Some.ix in
+    let ixs = c.pop_front.new.self in
     let taken = c.take_all-displaced in
-    clash-taken by _ (bag taken.new.self) c.args.item
-    (subst (λ (l : List g.row.T.Denot). IsPermutation (bag c.args.self.now) (l ++ bag taken.new.self)) (taken.ensures.values ∙ c.requires.found.items) taken.ensures.loses.items)
+    let items = ap (items_at slots) (sym c.in-Some.ensures.rest) ∙ stand.items in
+    let live = All-head (IsLive slots) ix ixs (subst (All (IsLive slots)) c.in-Some.ensures.rest stand.live) in
+    let same = taken.ensures.others ix (subst (IsDistinct nat_eq) c.in-Some.ensures.rest stand.apart) in
+    clash-taken by (bag c.args.self.now) _ c.args.item
+    (gives_way by slots taken.new.self.slots c.args.item ix ixs taken.result items live same taken.ensures.values taken.ensures.loses.items)
+
+pub exchange-requires-clause-under1 : goal.exchange-requires-clause-under1
+exchange-requires-clause-under1 g c =
+    let taken = c.take_all-displaced in
+    rw taken.ensures.loses.same_builder (IsUnder-fewer _ _ _ c.args.by1.now taken.ensures.left c.requires.under1)
+
+pub exchange-requires-clause-under2 : goal.exchange-requires-clause-under2
+exchange-requires-clause-under2 g c =
+    let taken = c.take_all-displaced in
+    rw taken.ensures.loses.same_builder (IsUnder-fewer _ _ _ c.args.by2.now taken.ensures.left c.requires.under2)
+
+pub exchange-requires-clause-under3 : goal.exchange-requires-clause-under3
+exchange-requires-clause-under3 g c =
+    let taken = c.take_all-displaced in
+    rw taken.ensures.loses.same_builder (IsUnder-fewer _ _ _ c.args.by3.now taken.ensures.left c.requires.under3)
 
 pub returns-clause-items : goal.returns-clause-items
 returns-clause-items g c =
+    let stand = stand_in (rw (c.slot.ensures, c.slot-2.ensures, c.slot-3.ensures) at c.each_once-found.ensures) c.requires.found in
     let by = ranks g.T.TriHashItem g.T.K1.PartialEq.eq g.T.K2.PartialEq.eq g.T.K3.PartialEq.eq in
+    let slots = c.args.self.now.slots in
+    let ix = c.in-Some.ix in
+    let ixs = c.pop_front.new.self in
     let taken = c.take_all-displaced in
-    over-taken by _ (bag taken.new.self) _ c.args.item
-    (subst (λ (l : List g.row.T.Denot). IsPermutation (bag c.args.self.now) (l ++ bag taken.new.self)) (taken.ensures.values ∙ c.requires.found.items) taken.ensures.loses.items)
-    c.put-ix.ensures.items
+    let items = ap (items_at slots) (sym c.in-Some.ensures.rest) ∙ stand.items in
+    let live = All-head (IsLive slots) ix ixs (subst (All (IsLive slots)) c.in-Some.ensures.rest stand.live) in
+    let same = taken.ensures.others ix (subst (IsDistinct nat_eq) c.in-Some.ensures.rest stand.apart) in
+    over-taken by (bag c.args.self.now) _ (bag c.exchange.new.self) c.args.item
+    (gives_way by slots taken.new.self.slots c.args.item ix ixs taken.result items live same taken.ensures.values taken.ensures.loses.items)
+    c.exchange.ensures.items

@@ -1,15 +1,21 @@
-use Rattle.std.proofs.Common.{◌≡◌, ◌+◌, ◌++◌, sym, subst, ◌∙◌, arith, drop}
-use Rattle.std.specs.Prelude.{All, nat_eq}
+use Rattle.std.proofs.Common.{ℕ, Some, false, get_or, ◌≡◌, ◌+◌, ◌++◌, sym, subst, ◌∙◌, arith, drop}
+use Rattle.std.specs.Prelude.{All, nat_eq, slice_get, ◌≢◌}
 use Rattle.std.specs.List.{IsDistinct}
-use Rattle.std.proofs.lemmas.Map.Keys.{IsDistinct-tail}
+use Rattle.std.proofs.lemmas.Map.Keys.{IsDistinct-head, IsDistinct-tail}
 use Rattle.std.proofs.lemmas.List.{length_push}
 use Rattle.std.proofs.lemmas.List.Elements.{All-head, All-tail}
 use Rattle.std.proofs.lemmas.Option.{slice_get-get_or}
 use Rattle.iddqd_store.specs.Slots.{IsLive}
 use Rattle.iddqd_store.specs.Slots.Found.{items_at}
 use Rattle.iddqd_store.proofs.BagLemmas.Over.{drop-found, items_at-taken, live-others, IsPermutation-taken}
+use Rattle.std.proofs.lemmas.Bool.Decides.{nat_tests}
+use Rattle.iddqd_store.proofs.RankLemmas.Search.{each_at}
+use Rattle.iddqd_store.proofs.RankLemmas.Sought.{IsUnder-fewer, known_there, stood}
 use Rattle.iddqd_tri.proofs.map.TriHashMap.take_all.Goals as goal
 use Rattle.iddqd_tri.proofs.map.TriHashMap.take_all.Goals.{in-Some, in_default}
+
+other_number : (a b : ℕ) → nat_eq a b ≡ false → a ≢ b
+other_number a b h = grind (arith, nat_tests)
 
 pub take-requires-clause-live : goal.take-requires-clause-live
 take-requires-clause-live g c =
@@ -18,6 +24,21 @@ take-requires-clause-live g c =
     let slots = c.loop-at.self.slots in
     let front = drop-found found c.loop-at.at c.in-Some.ix.now (sym c.in-Some.ensures) in
     All-head (IsLive slots) c.in-Some.ix.now rest (subst (All (IsLive slots)) front c.loop-at.invariant.live)
+
+pub take-requires-clause-hash1 : goal.take-requires-clause-hash1
+take-requires-clause-hash1 g c =
+    let so_far = c.loop-at.invariant in
+    known_there _ _ c.args.by1.now _ _ (rw so_far.loses.same_builder (IsUnder-fewer _ _ _ c.args.by1.now so_far.left c.requires.by1)) c.hash_at.ensures
+
+pub take-requires-clause-hash2 : goal.take-requires-clause-hash2
+take-requires-clause-hash2 g c =
+    let so_far = c.loop-at.invariant in
+    known_there _ _ c.args.by2.now _ _ (rw so_far.loses.same_builder (IsUnder-fewer _ _ _ c.args.by2.now so_far.left c.requires.by2)) c.hash_at-in-Some.ensures
+
+pub take-requires-clause-hash3 : goal.take-requires-clause-hash3
+take-requires-clause-hash3 g c =
+    let so_far = c.loop-at.invariant in
+    known_there _ _ c.args.by3.now _ _ (rw so_far.loses.same_builder (IsUnder-fewer _ _ _ c.args.by3.now so_far.left c.requires.by3)) c.hash_at-in-Some-2.ensures
 
 pub loop-at-preserved : goal.loop-at-preserved
 loop-at-preserved g c =
@@ -44,6 +65,13 @@ loop-at-preserved g c =
             };
             short = rw (w.taken-is, w.push.ensures) (omega (arith, length_push c.loop-at.taken w.take.result, so_far.short));
             room = rw w.self-is (λ _. w.take.ensures.room);
+            others = λ other apart_from.
+                let there : slice_get found at ≡ Some (get_or found at ix) = slice_get-get_or found at ix (omega (arith, c.loop-at-test.true, c.len-at-end.ensures.value)) in
+                let is : Some ix ≡ slice_get found at = w.in-Some.ensures in
+                let here : get_or found at ix ≡ ix = cc in
+                let differs : nat_eq other ix ≡ false = each_at (λ (y : ℕ). nat_eq other y ≡ false) found ix (IsDistinct-head nat_eq other found apart_from) (at, omega (arith, c.loop-at-test.true, c.len-at-end.ensures.value), here) in
+                rw w.self-is (w.take.ensures.updates.others other (other_number other ix differs) ∙ so_far.others other apart_from);
+            left = λ other x stands. so_far.left other x (stood slots _ ix other x w.take.ensures.updates (rw w.self-is at stands));
             none = λ none. absurd (omega arith);
           }
       | in_default w ↦ absurd (let there = slice_get-get_or found at 0 (omega (arith, c.loop-at-test.true, c.len-at-end.ensures.value)) in let none = w.in_default.ensures in cc (there, none))

@@ -1,8 +1,8 @@
-use Rattle.std.proofs.Common.{◌≡◌, ◌≤◌, ◌<◌, ◌++◌, length, drop}
-use Rattle.std.specs.Prelude.{All, nat_eq}
+use Rattle.std.proofs.Common.{◌≡◌, ◌≤◌, ◌<◌, ◌++◌, ◌∷◌, ℕ, length, drop}
+use Rattle.std.specs.Prelude.{All, nat_eq, Some}
 use Rattle.std.specs.List.{IsDistinct}
 use Rattle.iddqd_store.specs.Map.{bag, Loses}
-use Rattle.iddqd_store.specs.Slots.{IsLive}
+use Rattle.iddqd_store.specs.Slots.{IsLive, get}
 use Rattle.iddqd_store.specs.Slots.Found.{items_at}
 use Rattle.iddqd_tri.proofs.map.TriHashMap.take_all.Given as goal
 
@@ -14,5 +14,7 @@ invariant-loop-at g l = record {
   loses : Loses l.fn.self l.taken l.self;
   short : length l.taken ≤ l.at;
   room : 0 < l.at → length (bag l.self) < l.self.capacity;
+  others : (at : ℕ) → IsDistinct nat_eq (at ∷ l.found) → get l.self.slots at ≡ get l.fn.self.slots at;
+  left : (at : ℕ) (x : g.row.T.Denot) → get l.self.slots at ≡ Some x → get l.fn.self.slots at ≡ Some x;
   none : l.at ≡ 0 → l.self ≡ l.fn.self;
 }

@@ -1,0 +1,92 @@
+//! Putting an item in the place of others.
+ghost use Rattle.std.specs.Prelude.{◌≡◌, ◌<◌, ◌≤◌, [], ◌∷◌, length, IsPermutation, None, Some, slice_set};
+ghost use Rattle.iddqd_store.specs.Bag.{IsSound, clash, order, over};
+ghost use Rattle.iddqd_store.specs.Map.{bag, ListsConflicts};
+ghost use Rattle.iddqd_store.specs.Rank.{key_hash, IsUnder};
+ghost use Rattle.iddqd_store.specs.Slots.{get, live_items, IsLive};
+ghost use Rattle.iddqd_store.specs.Slots.Found.{each_once};
+ghost use Rattle.iddqd_bi.specs.Keys.{ranks};
+
+use super::super::BiHashMap;
+use super::entry::each_once;
+use crate::item::BiHashItem;
+use crate::ranks::{First, Second};
+use iddqd_store::{ItemIndex, Sought, UpToTwo, Vacancy};
+use std::hash::{BuildHasher, Hash};
+
+impl<T: BiHashItem, S: BuildHasher> BiHashMap<T, S> {
+    /// Puts an item in the place of those that conflict with it, whose slots the searches by its keys found, and gives
+    /// them back with the slot of the new one. It goes into the slot of the first of them, once the others are out.
+    /// No key is hashed by which a search found its item.
+    pub(crate) fn put_over(
+        &mut self,
+        item: T,
+        by1: &Sought,
+        by2: &Sought,
+    ) -> (UpToTwo<T>, ItemIndex)
+        requires found { ListsConflicts (ranks T.BiHashItem T.K1.eq T.K2.eq) self.old item
+            (each_once (by1.now.slot ∷ by2.now.slot ∷ [])) }
+        requires room { length (each_once (by1.now.slot ∷ by2.now.slot ∷ [])) ≡ 0 → length (bag self.old) < self.old.capacity }
+        requires hash1 { by1.now.hash
+            ≡ key_hash T.key1 T.K1.hash_input S.BuildHasher S.Hasher.Hasher self.old.builder item }
+        requires hash2 { by2.now.hash
+            ≡ key_hash T.key2 T.K2.hash_input S.BuildHasher S.Hasher.Hasher self.old.builder item }
+        requires under1 { IsUnder (key_hash T.key1 T.K1.hash_input S.BuildHasher S.Hasher.Hasher self.old.builder)
+            self.old.slots by1.now }
+        requires under2 { IsUnder (key_hash T.key2 T.K2.hash_input S.BuildHasher S.Hasher.Hasher self.old.builder)
+            self.old.slots by2.now }
+        ensures displaced { result.0 ≡ order (ranks T.BiHashItem T.K1.eq T.K2.eq) (bag self.old) item }
+        ensures at { get self.new.slots result.1 ≡ Some item }
+        ensures items { IsPermutation (bag self.new) (over (ranks T.BiHashItem T.K1.eq T.K2.eq) (bag self.old) item) }
+        ensures sound { IsSound (ranks T.BiHashItem T.K1.eq T.K2.eq) (bag self.new) }
+        ensures fits { length (bag self.new) ≤ self.new.capacity }
+        ensures capacity { self.new.capacity ≡ self.old.capacity }
+        ensures builder { self.new.builder ≡ self.old.builder }
+    {
+        let mut found = each_once(by1.slot(), by2.slot());
+        let Some(ix) = found.pop_front() else {
+            let ix = self.put(
+                item,
+                Vacancy::unknown(by1.hash()),
+                Vacancy::unknown(by2.hash()),
+            );
+            return (UpToTwo::new(), ix);
+        };
+        let mut displaced = self.take_all(&found, by1, by2);
+        displaced.push_front(self.exchange(ix, item, by1, by2));
+        (displaced, ix)
+    }
+
+    /// Puts an item in the slot of the one that conflicts with it, which it gives back. Where both have one hash at a
+    /// rank, the pair in its table stays.
+    fn exchange(&mut self, ix: ItemIndex, item: T, by1: &Sought, by2: &Sought) -> T
+        requires live { IsLive self.old.slots ix }
+        requires free { clash (ranks T.BiHashItem T.K1.eq T.K2.eq) (live_items (slice_set self.old.slots ix None)) item
+            ≡ [] }
+        requires hash1 { by1.now.hash
+            ≡ key_hash T.key1 T.K1.hash_input S.BuildHasher S.Hasher.Hasher self.old.builder item }
+        requires hash2 { by2.now.hash
+            ≡ key_hash T.key2 T.K2.hash_input S.BuildHasher S.Hasher.Hasher self.old.builder item }
+        requires under1 { IsUnder (key_hash T.key1 T.K1.hash_input S.BuildHasher S.Hasher.Hasher self.old.builder)
+            self.old.slots by1.now }
+        requires under2 { IsUnder (key_hash T.key2 T.K2.hash_input S.BuildHasher S.Hasher.Hasher self.old.builder)
+            self.old.slots by2.now }
+        ensures value { get self.old.slots ix ≡ Some result }
+        ensures at { get self.new.slots ix ≡ Some item }
+        ensures left { IsPermutation (bag self.old) (result ∷ live_items (slice_set self.old.slots ix None)) }
+        ensures items { IsPermutation (bag self.new) (item ∷ live_items (slice_set self.old.slots ix None)) }
+        ensures sound { IsSound (ranks T.BiHashItem T.K1.eq T.K2.eq) (bag self.new) }
+        ensures fits { length (bag self.new) ≤ self.new.capacity }
+        ensures capacity { self.new.capacity ≡ self.old.capacity }
+        ensures builder { self.new.builder ≡ self.old.builder }
+    {
+        // That the items fit, for the clause `fits`.
+        let _ = self.capacity();
+        let gone = self.items.replace(ix, item);
+        self.first
+            .rehash::<T, First, S>(&self.hash_builder, &gone, ix, by1.hash_at(ix), by1.hash());
+        self.second
+            .rehash::<T, Second, S>(&self.hash_builder, &gone, ix, by2.hash_at(ix), by2.hash());
+        gone
+    }
+}

@@ -1,0 +1,80 @@
+-- What searches by each key of an item say of what conflicts with it.
+use Rattle.std.specs.Prelude.{◌≡◌, ℕ, Bool, true, false, List, [], ◌∷◌, ◌++◌, length, Option, Some, None, is_some, IsSome, IsPermutation, slice_get, slice_set}
+use Rattle.std.specs.Cmp.{IsEquivalence}
+use Rattle.std.specs.List.{AllByRecursion, IsDistinct, list_any}
+use Rattle.std.specs.Option.{IfSome}
+use Rattle.std.proofs.Common.{refl, sym, subst, ◌∙◌, arith}
+use Rattle.std.proofs.lemmas.List.Sorted.{IsPermutation-refl, IsPermutation-sym, IsPermutation-trans, IsPermutation-map, IsPermutation-append, IsPermutation-middle}
+use Rattle.iddqd_store.specs.Bag.{Ranks, clash, like, order, over}
+use Rattle.iddqd_store.specs.Map.{Map, bag, IsBlockedAt}
+use Rattle.iddqd_store.specs.Slots.{IsLive, get, live_items}
+use Rattle.iddqd_store.specs.Slots.Found.{AreFound, StandAt, each_once, items_at}
+use Rattle.iddqd_store.proofs.BagLemmas.Over.{over-taken}
+use Rattle.iddqd_store.proofs.BagLemmas.Sound.{IsPermutation-order, same_from_short}
+use Rattle.iddqd_store.proofs.MapLemmas.Storing.{live_found}
+use Rattle.iddqd_store.proofs.SlotLemmas.Chain.{members-take}
+use Rattle.iddqd_store.proofs.SlotLemmas.Entries.{IsDistinct-each_once, found_listing, held_none, held_some}
+use Rattle.iddqd_store.proofs.SlotLemmas.Found.{clash_none, clash_some}
+
+module _ {T : Type 0} (slots : List (Option T)) where
+  each_live : (tests : List (T → Bool)) (found : List (Option ℕ)) → AreFound tests slots found → AllByRecursion (λ at. IfSome at (IsLive slots)) found
+  each_live [] [] are = tt
+  each_live [] (at ∷ found) are = absurd are
+  each_live (test ∷ tests) [] are = absurd are
+  each_live (test ∷ tests) (at ∷ found) are = (are.0.live, each_live tests found are.1)
+
+  none_at : (ixs : List ℕ) → length ixs ≡ 0 → items_at slots ixs ≡ []
+  none_at [] short = refl
+  none_at (a ∷ ixs) short = absurd (omega arith)
+
+module _ {T S : Type 0} {agree : T → T → Bool} (laws : IsEquivalence agree) (m : Map T S) (apart : IsDistinct agree (bag m)) (ranks : Ranks T) (x : T) (found : List (Option ℕ)) (are : AreFound (like ranks x) m.slots found) where
+  -- the slots found list it
+  conflicts_found : StandAt m.slots (each_once found) (order ranks (bag m) x)
+  conflicts_found = record {
+    items = found_listing laws m.slots apart (like ranks x) found are;
+    live = live_found m.slots found (each_live m.slots (like ranks x) found are);
+    apart = IsDistinct-each_once found;
+  }
+
+  -- where one is found, the item is blocked
+  pub blocked_by : list_any is_some found ≡ true → IsBlockedAt ranks m x (each_once found)
+  blocked_by some = record {
+    some = clash_some ranks m.slots x (each_once found) conflicts_found.items conflicts_found.live (λ short. held_some m.slots (like ranks x) found are some (none_at m.slots (each_once found) short));
+    found = conflicts_found;
+  }
+
+  -- and where none is, nothing conflicts with it
+  pub free_by : list_any is_some found ≡ false → clash ranks (bag m) x ≡ []
+  free_by none = clash_none ranks m.slots x [] (sym (held_none m.slots found none) ∙ conflicts_found.items) refl
+
+module _ {T : Type 0} (ranks : Ranks T) (bag : List T) (x : T) (free : clash ranks bag x ≡ []) where
+  -- where nothing conflicts with an item, nothing is listed
+  pub order_none : order ranks bag x ≡ []
+  order_none = sym (same_from_short [] (order ranks bag x) (IsPermutation-sym _ _ (subst (IsPermutation (order ranks bag x)) free (IsPermutation-order ranks bag x))) (omega arith))
+
+  -- and what goes in is in the place of none
+  pub over_none : (new : List T) → IsPermutation new (x ∷ bag) → IsPermutation new (over ranks bag x)
+  over_none new put = over-taken ranks bag bag new x (subst (λ l. IsPermutation bag (l ++ bag)) (sym order_none) (IsPermutation-refl bag)) put
+
+-- where the items of the other slots found are taken out and that of the first gives way, what conflicts is gone
+pub gives_way : {T : Type 0} (ranks : Ranks T) (slots rest : List (Option T)) (x : T) (ix : ℕ) (ixs : List ℕ) (others : List T) → items_at slots (ix ∷ ixs) ≡ order ranks (live_items slots) x → IsLive slots ix → get rest ix ≡ get slots ix → others ≡ items_at slots ixs → IsPermutation (live_items slots) (others ++ live_items rest) → IsPermutation (live_items slots) (order ranks (live_items slots) x ++ live_items (slice_set rest ix None))
+gives_way {T} ranks slots rest x ix ixs others items live same are taken = by_slot (get slots ix) refl live
+  where
+    by_slot : (o : Option T) → get slots ix ≡ o → IsSome o → IsPermutation (live_items slots) (order ranks (live_items slots) x ++ live_items (slice_set rest ix None))
+    by_slot None is some = absurd (cc)
+    by_slot (Some y) is some =
+        let left : List T = live_items (slice_set rest ix None) in
+        let listed : items_at slots (ix ∷ ixs) ≡ y ∷ others = rw (is, are) refl in
+        let out : IsPermutation (live_items rest) (y ∷ left) = IsPermutation-map (λ m. m.1) _ _ (members-take rest ix y (same ∙ is)) in
+        let all : IsPermutation (live_items slots) (y ∷ (others ++ left)) =
+        IsPermutation-trans _ _ _ taken (IsPermutation-trans _ _ _ (IsPermutation-append others others _ _ (IsPermutation-refl others) out) (IsPermutation-middle others y left)) in
+        subst (λ l. IsPermutation (live_items slots) (l ++ left)) (sym listed ∙ items) all
+
+-- a list with no first number
+pub none_first : (ixs : List ℕ) → slice_get ixs 0 ≡ None → length ixs ≡ 0
+none_first [] none = refl
+none_first (ix ∷ ixs) none = absurd (cc none)
+
+-- items that stand in these slots stand in the same slots
+pub stand_in : {T : Type 0} {slots : List (Option T)} {xs : List T} {found others : List ℕ} → found ≡ others → StandAt slots others xs → StandAt slots found xs
+stand_in {slots = slots} {xs = xs} same stand = subst (λ l. StandAt slots l xs) (sym same) stand

@@ -1,0 +1,155 @@
+use Rattle.std.proofs.Common.{subst, arith, ℕ, ◌≡◌, ◌+◌, ◌-◌, ◌%◌, ◌<◌, ◌≤◌, length, sym, ap, ◌∙◌, refl, false, Some, None}
+use Rattle.std.specs.Prelude.{◌≢◌, nat_lt, if◌then◌else◌}
+use Rattle.std.specs.List.{Contains, count_by}
+use Rattle.iddqd_store.specs.Table.{Table}
+use Rattle.iddqd_store.specs.Table.Ring.{cell, held, stretch}
+use Rattle.iddqd_store.specs.Table.{IsFree, LooksUp, hashes, under}
+use Rattle.iddqd_store.proofs.TableLemmas.Stretch.{place}
+use Rattle.iddqd_store.proofs.TableLemmas.StretchBound.{stretch_le_pairs}
+use Rattle.iddqd_store.proofs.TableLemmas.Spot.{walk_free}
+use Rattle.iddqd_store.proofs.TableLemmas.Search.{Walk, met, walk_more, walk_end, walk_meets, refused_more, met_under, met_grows, met_within, found_there, walk_found}
+use Rattle.iddqd_store.proofs.index_table.IndexTable.find_or_vacancy.Goals as goal
+use Rattle.iddqd_store.proofs.index_table.IndexTable.find_or_vacancy.Goals.{else-stored-hash-via-then-stored-hash+else-matches, else-stored-hash-via-else-stored-hash}
+
+pub loop-pair-preserved : goal.loop-pair-preserved
+loop-pair-preserved g c =
+    let row = c.self.inside.cells in
+    let hash = c.args.hash in
+    let home = hash % length row in
+    let i = c.loop-pair.invariant in
+    let s : ℕ = c.loop-pair.meter - c.args.meter.now in
+    let t : ℕ = c.cell_at.new.meter - c.args.meter.now in
+    let look : c.cell_at.new.meter ≡ c.loop-pair.meter + 1 = c.cell_at.ensures.look in
+    let more : t ≡ s + 1 = omega (arith, i.looked, look) in
+    let w : Walk row home c.loop-pair.at s = i.walk in
+    let lh : home < length row = omega (arith, c.if-count-eq0.false, c.len-count.ensures, w.within) in
+    let x : ℕ × ℕ = c.in-Some.pair in
+    let at_x : cell row c.loop-pair.at ≡ Some x = sym c.cell_at.ensures.value ∙ c.in-Some.is in
+    let there : cell row c.loop-pair.at ≢ None = λ e. cc (e, at_x) in
+    let placed : cell row (place (length row) home s) ≡ Some x = sym (ap (cell row) w.at_is) ∙ at_x in
+    let asked = g.M.Matcher.asked in
+    let e' : c.after-at.result ≡ (if nat_lt (c.loop-pair.at + 1) (length row) then c.loop-pair.at + 1 else 0) = rw c.len-count.ensures at c.after-at.ensures in
+    let walk' : Walk row home c.after-at.result t = walk_more row home c.loop-pair.at s c.self.invariant.0 lh w there c.after-at.result t e' more in
+    elim c.else-stored-hash.branch [
+      | else-stored-hash-via-then-stored-hash+else-matches w' ↦
+          let q : met (under hash) row home t ≡ met (under hash) row home s + 1 = met_under hash row home s x lh w.within placed w'.if-stored-hash.true t more in
+          let no' : g.M.Matcher.accepts c.args.matcher.now x.1 ≡ false = sym (g.met.M.Matcher.accepts_kept _ _ x.1 i.kept) ∙ (sym w'.matches.ensures.value ∙ w'.if-matches.false) in
+          let a : asked w'.matches.new.self ≤ asked c.loop-pair.matcher + 1 = w'.matches.ensures.asked in
+          record {
+            looked = omega arith;
+            walk = walk';
+            refused = refused_more row hash (g.M.Matcher.accepts c.args.matcher.now) s t c.loop-pair.at x more w at_x i.refused (λ _. no');
+            count = rw w'.matcher-is (omega (arith, i.count, q, a));
+            kept = rw w'.matcher-is (g.met.M.Matcher.kept_trans _ _ _ i.kept w'.matches.ensures.kept);
+          }
+      | else-stored-hash-via-else-stored-hash w' ↦
+          record {
+            looked = omega arith;
+            walk = walk';
+            refused = refused_more row hash (g.M.Matcher.accepts c.args.matcher.now) s t c.loop-pair.at x more w at_x i.refused (λ e. absurd (w'.if-stored-hash.false e));
+            count = rw w'.matcher-is (omega (arith, i.count, met_grows hash row home s x lh w.within placed t more));
+            kept = rw w'.matcher-is i.kept;
+          }
+    ]
+
+pub returns-then-matches-clause-found : goal.returns-then-matches-clause-found
+returns-then-matches-clause-found g c =
+    let row = c.self.inside.cells in
+    let at_x : cell row c.loop-pair.at ≡ Some c.in-Some.pair = sym c.cell_at.ensures.value ∙ c.in-Some.is in
+    subst (λ (r : Table). Contains r.pairs (c.args.hash, c.in-Some.pair.1)) c.self.view_is (found_there row c.loop-pair.at c.args.hash c.in-Some.pair at_x c.if-stored-hash.true)
+
+pub returns-then-matches-clause-accepted : goal.returns-then-matches-clause-accepted
+returns-then-matches-clause-accepted g c =
+    sym (g.met.M.Matcher.accepts_kept _ _ c.in-Some.pair.1 c.loop-pair.invariant.kept) ∙ (sym c.matches.ensures.value ∙ c.if-matches.true)
+
+pub returns-then-matches-clause-asked : goal.returns-then-matches-clause-asked
+returns-then-matches-clause-asked g c =
+    let row = c.self.inside.cells in
+    let hash = c.args.hash in
+    let home = hash % length row in
+    let i = c.loop-pair.invariant in
+    let s : ℕ = c.loop-pair.meter - c.args.meter.now in
+    let w : Walk row home c.loop-pair.at s = i.walk in
+    let lh : home < length row = omega (arith, w.within) in
+    let x : ℕ × ℕ = c.in-Some.pair in
+    let asked = g.M.Matcher.asked in
+    let at_x : cell row c.loop-pair.at ≡ Some x = sym c.cell_at.ensures.value ∙ c.in-Some.is in
+    let placed : cell row (place (length row) home s) ≡ Some x = sym (ap (cell row) w.at_is) ∙ at_x in
+    let q : met (under hash) row home (s + 1) ≡ met (under hash) row home s + 1 = met_under hash row home s x lh w.within placed c.if-stored-hash.true (s + 1) refl in
+    let m : met (under hash) row home (s + 1) ≤ count_by (under hash) (held row) = met_within (under hash) row home (s + 1) in
+    let a : asked c.matches.new.self ≤ asked c.loop-pair.matcher + 1 = c.matches.ensures.asked in
+    let all : asked c.matches.new.self ≤ asked c.args.matcher.now + count_by (under hash) (held row) = omega (arith, i.count, q, m, a) in
+    subst (λ (r : Table). asked c.matches.new.self ≤ asked c.args.matcher.now + count_by (under hash) r.pairs) c.self.view_is all
+
+pub returns-then-matches-clause-kept : goal.returns-then-matches-clause-kept
+returns-then-matches-clause-kept g c = g.met.M.Matcher.kept_trans _ _ _ c.loop-pair.invariant.kept c.matches.ensures.kept
+
+pub returns-then-matches-clause-looks : goal.returns-then-matches-clause-looks
+returns-then-matches-clause-looks g c =
+    let row = c.self.inside.cells in
+    let i = c.loop-pair.invariant in
+    let s : ℕ = c.loop-pair.meter - c.args.meter.now in
+    let t : ℕ = c.cell_at.new.meter - c.args.meter.now in
+    let look : c.cell_at.new.meter ≡ c.loop-pair.meter + 1 = c.cell_at.ensures.look in
+    let x : ℕ × ℕ = c.in-Some.pair in
+    let at_x : cell row c.loop-pair.at ≡ Some x = sym c.cell_at.ensures.value ∙ c.in-Some.is in
+    let there : cell row c.loop-pair.at ≢ None = λ e. cc (e, at_x) in
+    let l : t ≤ stretch (hashes (held row)) (length row) c.args.hash = walk_found row c.args.hash c.loop-pair.at s t c.self.invariant.0 i.walk there (omega (arith, i.looked, look)) in
+    let within : s < length row = i.walk.within in
+    let all : LooksUp (hashes (held row)) (length row) c.args.hash (Some x.1) c.args.meter.now c.cell_at.new.meter = record {
+      no_cells = λ z. absurd (omega arith);
+      miss = λ _. tt;
+      hit_least = omega (arith, i.looked, look);
+      hit_most = omega (arith, i.looked, look, l);
+    } in
+    subst (λ (r : Table). LooksUp (hashes r.pairs) (length r.row) c.args.hash (Some x.1) c.args.meter.now c.cell_at.new.meter) c.self.view_is all
+
+pub returns-clause-none : goal.returns-clause-none
+returns-clause-none g c index h =
+    let row = c.self.inside.cells in
+    let i = c.loop-pair.invariant in
+    let s : ℕ = c.loop-pair.meter - c.args.meter.now in
+    let none : cell row c.loop-pair.at ≡ None = sym c.cell_at.ensures.value ∙ c.in_default.is in
+    let k = walk_meets row c.args.hash c.loop-pair.at s index c.self.invariant.0 i.walk none (subst (λ (r : Table). Contains r.pairs (c.args.hash, index)) (sym c.self.view_is) h) in
+    i.refused k.0 k.1 index k.2
+
+pub returns-clause-free : goal.returns-clause-free
+returns-clause-free g c =
+    let row = c.self.inside.cells in
+    let i = c.loop-pair.invariant in
+    let s : ℕ = c.loop-pair.meter - c.args.meter.now in
+    let none : cell row c.loop-pair.at ≡ None = sym c.cell_at.ensures.value ∙ c.in_default.is in
+    let within : s < length row = i.walk.within in
+    let free : IsFree (hashes (held row)) (record { hash = c.args.hash; cells = length row; at = c.loop-pair.at }) = walk_free row c.args.hash c.loop-pair.at s c.self.invariant.0 (omega arith) i.walk none in
+    rw (c.new.ensures, c.len-count.ensures) (subst (λ (r : Table). IsFree (hashes r.pairs) (record { hash = c.args.hash; cells = length row; at = c.loop-pair.at })) c.self.view_is free)
+
+pub returns-clause-asked : goal.returns-clause-asked
+returns-clause-asked g c =
+    let row = c.self.inside.cells in
+    let i = c.loop-pair.invariant in
+    let m = met_within (under c.args.hash) row (c.args.hash % length row) (c.loop-pair.meter - c.args.meter.now) in
+    let all : g.M.Matcher.asked c.loop-pair.matcher ≤ g.M.Matcher.asked c.args.matcher.now + count_by (under c.args.hash) (held row) = omega (arith, i.count, m) in
+    subst (λ (r : Table). g.M.Matcher.asked c.loop-pair.matcher ≤ g.M.Matcher.asked c.args.matcher.now + count_by (under c.args.hash) r.pairs) c.self.view_is all
+
+pub returns-clause-looks : goal.returns-clause-looks
+returns-clause-looks g c =
+    let row = c.self.inside.cells in
+    let i = c.loop-pair.invariant in
+    let s : ℕ = c.loop-pair.meter - c.args.meter.now in
+    let look : c.cell_at.new.meter ≡ c.loop-pair.meter + 1 = c.cell_at.ensures.look in
+    let none : cell row c.loop-pair.at ≡ None = sym c.cell_at.ensures.value ∙ c.in_default.is in
+    let e : stretch (hashes (held row)) (length row) c.args.hash ≡ s = walk_end row c.args.hash c.loop-pair.at s c.self.invariant.0 i.walk none in
+    let within : s < length row = i.walk.within in
+    let all : LooksUp {A = ℕ} (hashes (held row)) (length row) c.args.hash None c.args.meter.now c.cell_at.new.meter = record {
+      no_cells = λ z. absurd (omega arith);
+      miss = λ _. omega (arith, i.looked, look, e);
+      hit_least = tt;
+      hit_most = tt;
+    } in
+    subst (λ (r : Table). LooksUp {A = ℕ} (hashes r.pairs) (length r.row) c.args.hash None c.args.meter.now c.cell_at.new.meter) c.self.view_is all
+
+pub returns-then-matches-clause-within : goal.returns-then-matches-clause-within
+returns-then-matches-clause-within g c = stretch_le_pairs c.args.self.now.pairs (length c.args.self.now.row) c.args.hash
+
+pub returns-clause-within : goal.returns-clause-within
+returns-clause-within g c = stretch_le_pairs c.args.self.now.pairs (length c.args.self.now.row) c.args.hash
