@@ -3,6 +3,7 @@ mod RunRows
 pub mod Chain
 pub mod Counting
 pub mod Cutting
+pub mod Fields
 mod Impossible
 pub mod Moving
 pub mod Numbering

@@ -1,10 +1,11 @@
 -- A number from the digits that were read.
-use Rattle.std.proofs.Common.{◌≡◌, refl, ap, sym, ◌∙◌, ℕ, suc, ◌+◌, ◌*◌, ◌-◌, ◌^◌, ◌≤◌, ◌<◌, List, [], ◌∷◌, length, get_or, drop, Bool, true, false, cond, Option, Some, None, arith, add-one, drop-cons}
-use Rattle.std.specs.Prelude.{◌&&◌, nat_lt}
+use Rattle.std.proofs.Common.{◌≡◌, refl, ap, sym, ◌∙◌, ℕ, suc, ◌+◌, ◌*◌, ◌-◌, ◌^◌, ◌≤◌, ◌<◌, List, [], ◌∷◌, length, get_or, take, drop, Bool, true, false, cond, Option, Some, None, arith, one-add}
+use Rattle.std.specs.Prelude.{◌≢◌, ◌==◌, ◌&&◌, nat_lt, not}
 use Rattle.std.proofs.Math.Nat.{pow-succ', one-le-pow, mul_assoc, add-mul, le-mul_of_pos_right}
-use Rattle.std.proofs.Math.ListN.{drop_of_length-le}
 use Rattle.std.proofs.lemmas.Bool.Decides.{nat_tests}
-use Rattle.iddqd_run.specs.Numbers.{is_digit, all_digits, value, pushed}
+use Rattle.iddqd_run.specs.Numbers.{is_digit, all_digits, value, number_of, pushed}
+use Rattle.std.specs.List.{before_first, position_or_len}
+use Rattle.std.proofs.lemmas.List.{take_all}
 
 -- the number, if the digits are digits and it fits
 abbrev pub kept : Bool → ℕ → Option ℕ
@@ -13,10 +14,6 @@ kept p x = cond (p && nat_lt x (2 ^ 64)) (Some x) None
 -- the number of the digits that are left, where n was read before them
 abbrev pub number_from : ℕ → List ℕ → Option ℕ
 number_from n rest = kept (all_digits rest) (n * 10 ^ length rest + value rest)
-
--- digits of a value that fits
-kept_fits : (p : Bool) (x : ℕ) → p ≡ true → x < 2 ^ 64 → kept p x ≡ Some x
-kept_fits p x h k = grind (arith, nat_tests)
 
 -- digits of a value that does not fit
 kept_large : (p : Bool) (x : ℕ) → 2 ^ 64 ≤ x → kept p x ≡ None
@@ -80,24 +77,6 @@ none_at n b rest false e h = kept_bad (is_digit b) (all_digits rest) (n * 10 ^ s
 pushed_none : (n b : ℕ) (rest : List ℕ) → pushed n b ≡ None → number_from n (b ∷ rest) ≡ None
 pushed_none n b rest h = none_at n b rest (is_digit b) refl h
 
--- the digits that are left, by the first of them
-next : (bytes : List ℕ) (i b : ℕ) → i < length bytes → b ≡ get_or bytes i 0 → drop i bytes ≡ b ∷ drop (i + 1) bytes
-next bytes i b h e = rw (add-one, e) (drop-cons bytes i 0 h)
-
--- at a byte that is a digit
-pub goes_on : (bytes : List ℕ) (i n m b : ℕ) (all : Option ℕ) → i < length bytes → b ≡ get_or bytes i 0 → pushed n b ≡ Some m → number_from n (drop i bytes) ≡ all → number_from m (drop (i + 1) bytes) ≡ all
-goes_on bytes i n m b all h e k r = sym (pushed_some n b m (drop (i + 1) bytes) k) ∙ (sym (ap (number_from n) (next bytes i b h e)) ∙ r)
-
--- at a byte that ends it
-pub stops : (bytes : List ℕ) (i n b : ℕ) (all : Option ℕ) → i < length bytes → b ≡ get_or bytes i 0 → pushed n b ≡ None → number_from n (drop i bytes) ≡ all → all ≡ None
-stops bytes i n b all h e k r = sym r ∙ (ap (number_from n) (next bytes i b h e) ∙ pushed_none n b (drop (i + 1) bytes) k)
-
--- after the last byte
-pub ends : (bytes : List ℕ) (i n : ℕ) (all : Option ℕ) → length bytes ≤ i → n < 2 ^ 64 → number_from n (drop i bytes) ≡ all → all ≡ Some n
-ends bytes i n all h k r =
-    let e : drop i bytes ≡ [] = drop_of_length-le bytes {i = i} h in
-    sym r ∙ (ap (number_from n) e ∙ (kept_fits true (n * 1 + 0) refl (omega arith) ∙ ap (λ (z : ℕ). Some z) (let z : n * 1 + 0 ≡ n = omega arith in z)))
-
 -- what was kept fits
 lt_of : (q : Bool) (x m : ℕ) → nat_lt x (2 ^ 64) ≡ q → cond q (Some x) None ≡ Some m → m < 2 ^ 64
 lt_of true x m e h = let k : x ≡ m = cc in let l : x < 2 ^ 64 = grind (arith, nat_tests) in omega arith
@@ -111,3 +90,42 @@ kept_lt false x m h = cc
 -- the same, of a digit more
 pub pushed_fits : (n b m : ℕ) → pushed n b ≡ Some m → m < 2 ^ 64
 pushed_fits n b m h = kept_lt (is_digit b) (n * 10 + (b - 48)) m h
+
+-- whether a byte ends a field
+abbrev pub is_space : ℕ → Bool
+is_space b = b == 32
+
+-- a byte in a field
+in_field : (b : ℕ) (bs : List ℕ) (is : Bool) → is_space b ≡ is → b ≢ 32 → position_or_len is_space (b ∷ bs) ≡ 1 + position_or_len is_space bs
+in_field b bs true e h = let same : b ≡ 32 = grind (arith, nat_tests) in absurd (h same)
+in_field b bs false e h = ap (λ is. cond (not is) (1 + position_or_len is_space bs) 0) e
+
+-- what stands behind a byte of a field
+pub field_goes_on : (rest after : List ℕ) → 1 ≤ length rest → after ≡ take (length rest - 1) (drop 1 rest) → get_or rest 0 0 ≢ 32
+    → (position_or_len is_space rest ≡ 1 + position_or_len is_space after) × (length rest ≡ 1 + length after) × (before_first is_space rest ≡ get_or rest 0 0 ∷ before_first is_space after)
+    × (drop (position_or_len is_space rest) rest ≡ drop (position_or_len is_space after) after)
+field_goes_on [] after h e k = absurd (omega arith)
+field_goes_on (b ∷ bs) after h e k =
+    let same : after ≡ bs = e ∙ take_all (length (b ∷ bs) - 1) bs (omega arith) in
+    let at : position_or_len is_space (b ∷ bs) ≡ 1 + position_or_len is_space bs = in_field b bs (is_space b) refl k in
+    rw same (at, sym (one-add (length bs)), ap (λ n. take n (b ∷ bs)) (at ∙ one-add (position_or_len is_space bs)), ap (λ n. drop n (b ∷ bs)) (at ∙ one-add (position_or_len is_space bs)))
+
+-- a digit of a field moves to those read
+pub field_told : (rest after : List ℕ) (n m : ℕ) (all : Option ℕ) → 1 ≤ length rest → after ≡ take (length rest - 1) (drop 1 rest) → get_or rest 0 0 ≢ 32 → pushed n (get_or rest 0 0) ≡ Some m
+    → number_from n (before_first is_space rest) ≡ all → number_from m (before_first is_space after) ≡ all
+field_told rest after n m all h e k p r =
+    sym (pushed_some n (get_or rest 0 0) m (before_first is_space after) p) ∙ (sym (ap (number_from n) (field_goes_on rest after h e k).2) ∙ r)
+
+-- no number has other bytes
+none_of_all : (bytes : List ℕ) → number_from 0 bytes ≡ None → number_of bytes ≡ None
+none_of_all [] h = refl
+none_of_all (b ∷ bs) h =
+    let e : value (b ∷ bs) ≡ 0 * 10 ^ length (b ∷ bs) + value (b ∷ bs) = omega arith in
+    ap (kept (all_digits (b ∷ bs))) e ∙ h
+
+-- at a byte of a field that is no digit, or where the number no longer fits
+pub field_spells_none : (fields rest after : List ℕ) (n : ℕ) → 1 ≤ length rest → after ≡ take (length rest - 1) (drop 1 rest) → get_or rest 0 0 ≢ 32 → pushed n (get_or rest 0 0) ≡ None
+    → number_from n (before_first is_space rest) ≡ number_from 0 (before_first is_space fields) → number_of (before_first is_space fields) ≡ None
+field_spells_none fields rest after n h e k p r =
+    none_of_all (before_first is_space fields)
+    (sym r ∙ (ap (number_from n) (field_goes_on rest after h e k).2 ∙ pushed_none n (get_or rest 0 0) (before_first is_space after) p))

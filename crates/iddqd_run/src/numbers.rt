@@ -1,20 +1,27 @@
 //! Numbers in digits.
-ghost use Rattle.std.specs.Prelude.{◌≡◌, ◌<◌, ◌≤◌, length};
+ghost use Rattle.std.specs.Prelude.{◌≡◌, ◌==◌, IfSome, drop};
+ghost use Rattle.std.specs.List.{before_first, position_or_len};
+ghost use Rattle.std.specs.Option.{option_map};
 ghost use Rattle.iddqd_run.specs.Numbers.{number_of, pushed};
 
-/// The number that the bytes spell.
-#[tactic(auto, using(crate::proofs::Numbering::goes_on, crate::proofs::Numbering::stops, crate::proofs::Numbering::ends))]
-pub fn number(bytes: &[u8]) -> Option<u64>
-    ensures { result ≡ number_of bytes.now }
+/// The number of the first field, and what stands behind the field, if it spells a number.
+pub fn first_number(fields: &[u8]) -> Option<(u64, &[u8])>
+    ensures number { option_map (λ found. found.0) result ≡ number_of (before_first (λ b. b == 32) fields.now) }
+    ensures behind { IfSome result (λ found. found.1.now ≡ drop (position_or_len (λ b. b == 32) fields.now) fields.now) }
 {
-    if bytes.is_empty() {
+    let mut value = 0;
+    let mut rest = fields;
+    while let [b, after @ ..] = rest {
+        if *b == b' ' {
+            break;
+        }
+        value = push_digit(value, *b)?;
+        rest = after;
+    }
+    if rest.len() == fields.len() {
         return None;
     }
-    let mut value = 0;
-    for b in bytes {
-        value = push_digit(value, *b)?;
-    }
-    Some(value)
+    Some((value, rest))
 }
 
 /// The number with one more digit.

@@ -8,6 +8,8 @@ use std::alloc::{AllocError, Global};
 #[derive(Drop)]
 pub struct LineSink {
     alloc: Global,
+    // Room for one line: where memory for it is refused halfway, the text stays as it is.
+    line: String,
     pub text: String,
 }
 
@@ -23,6 +25,7 @@ impl LineSink {
     {
         LineSink {
             alloc,
+            line: String::new(alloc),
             text: String::new(alloc),
         }
     }
@@ -31,7 +34,7 @@ impl LineSink {
     pub fn into_text(self) -> String
         ensures { result ≡ self.text }
     {
-        let LineSink { alloc: _, text } = self;
+        let LineSink { text, .. } = self;
         text
     }
 
@@ -45,8 +48,14 @@ impl LineSink {
         ensures { GrowsByLine (line_of T.numbers) (string_bytes self.old.text)
             (value_by L.list G.list reply.entry) result (string_bytes self.new.text) }
     {
-        let line = line_of(self.alloc, reply)?;
-        self.text.push_str(line.as_str())?;
-        Ok(())
+        match reply {
+            // The commonest lines need no room of their own: a word goes in whole, or not at all.
+            MapReply::Done => self.text.push_str("ok\n"),
+            MapReply::Found(None) => self.text.push_str("none\n"),
+            reply => {
+                line_of(self.alloc, reply, &mut self.line)?;
+                self.text.push_str(self.line.as_str())
+            }
+        }
     }
 }

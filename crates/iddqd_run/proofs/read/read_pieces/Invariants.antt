@@ -1,6 +1,6 @@
 use Rattle.std.proofs.Common.{◌≡◌, ◌-◌, ◌^◌, vec_len}
 use Rattle.std.specs.Io.KnownBytes.{Consumes}
-use Rattle.iddqd_run.proofs.read.read_all.Given as goal
+use Rattle.iddqd_run.proofs.read.read_pieces.Given as goal
 
 -- what was read so far was at the front
 abbrev pub invariant-loop-text : goal.invariant-loop-text
