@@ -1,5 +1,6 @@
-//! Items by two keys as a careful user of std keeps them: a slab of items, and a hash map from each key to a slot.
-use crate::workload::{Operation, Row, Workload};
+//! Items by several keys as a careful user of std keeps them: a slab of items, and a hash map from each key to a slot.
+use crate::workload::Row;
+use std::array::from_fn;
 use std::collections::HashMap;
 use std::collections::hash_map::Entry;
 use std::hash::{BuildHasher, BuildHasherDefault, Hasher};
@@ -29,190 +30,255 @@ impl Hasher for FoldHasher {
     }
 }
 
-type Slots = HashMap<u64, usize, BuildHasherDefault<FoldHasher>>;
-
-#[derive(Default)]
-struct ByHand {
-    slab: Vec<Option<Row>>,
-    free: Vec<usize>,
-    first: Slots,
-    second: Slots,
-}
-
-impl ByHand {
-    fn with_capacity(items: usize) -> ByHand {
-        ByHand {
-            slab: Vec::with_capacity(items),
-            free: Vec::new(),
-            first: Slots::with_capacity_and_hasher(items, Default::default()),
-            second: Slots::with_capacity_and_hasher(items, Default::default()),
-        }
-    }
-
-    fn filled(rows: &[Row]) -> ByHand {
-        let mut map = ByHand::default();
-        map.fill(rows);
-        map
-    }
-
-    fn fill(&mut self, rows: &[Row]) -> u64 {
-        rows.iter().map(|row| !self.insert(*row) as u64).sum()
-    }
-
-    fn len(&self) -> usize {
-        self.first.len()
-    }
-
-    fn insert(&mut self, row: Row) -> bool {
-        let first = self.first.entry(row.key1);
-        let second = self.second.entry(row.key2);
-        let (Entry::Vacant(first), Entry::Vacant(second)) = (first, second) else {
-            return false;
-        };
-        let slot = match self.free.pop() {
-            Some(slot) => {
-                self.slab[slot] = Some(row);
-                slot
-            }
-            None => {
-                self.slab.push(Some(row));
-                self.slab.len() - 1
-            }
-        };
-        first.insert(slot);
-        second.insert(slot);
-        true
-    }
-
-    fn get(&self, key: u64) -> Option<&Row> {
-        self.slab[*self.first.get(&key)?].as_ref()
-    }
-
-    fn remove(&mut self, key: u64) -> Option<Row> {
-        let slot = self.first.remove(&key)?;
-        let row = self.slab[slot].take()?;
-        self.second.remove(&row.key2);
-        self.free.push(slot);
-        Some(row)
-    }
-
-    /// What is in the way of a row goes, and the row comes in.
-    fn overwrite(&mut self, row: Row) -> [Option<Row>; 2] {
-        let displaced = self.remove(row.key1);
-        let slot = self.second.get(&row.key2);
-        let other = slot.and_then(|slot| self.slab[*slot]);
-        let other = other.and_then(|other| self.remove(other.key1));
-        self.insert(row);
-        [displaced, other]
-    }
-
-    /// The items come together in the first slots, and each slot's number changes.
-    fn shrink(&mut self) {
-        self.slab.retain(|row| row.is_some());
-        self.slab.shrink_to_fit();
-        self.free = Vec::new();
-        self.first.clear();
-        self.second.clear();
-        self.first.shrink_to(self.slab.len());
-        self.second.shrink_to(self.slab.len());
-        for (slot, row) in self.slab.iter().flatten().enumerate() {
-            self.first.insert(row.key1, slot);
-            self.second.insert(row.key2, slot);
-        }
-    }
-}
-
 pub fn hash(key: u64) -> u64 {
     BuildHasherDefault::<FoldHasher>::default().hash_one(key)
 }
 
-fn remove_insert(map: &mut ByHand, old: &[u64], new: &[Row]) -> u64 {
-    let mut sum = 0u64;
-    for (key, row) in old.iter().zip(new) {
-        sum = sum.wrapping_add(map.remove(*key).map_or(0, |gone| gone.key2));
-        sum = sum.wrapping_add(!map.insert(*row) as u64);
-    }
-    sum
+type Slots = HashMap<u64, usize, BuildHasherDefault<FoldHasher>>;
+
+/// The slots that an item's keys found, in the order of the keys.
+pub type Found<const N: usize> = [Option<usize>; N];
+
+/// Why a list of items did not go in.
+pub struct Refused<const N: usize> {
+    /// Those before the one that was refused.
+    pub taken: Vec<Row<N>>,
+    /// What was in its way.
+    pub found: Found<N>,
 }
 
-fn insert(room: usize, rows: &[Row], part: usize) -> u64 {
-    let mut sum = 0;
-    for rows in rows.chunks(part) {
-        let mut map = ByHand::with_capacity(room);
-        sum += map.fill(rows) + map.len() as u64;
-    }
-    sum
+#[derive(Clone)]
+pub struct ByHand<const N: usize> {
+    slab: Vec<Option<Row<N>>>,
+    free: Vec<usize>,
+    tables: [Slots; N],
 }
 
-fn get(rows: &[Row], keys: &[u64]) -> u64 {
-    let map = ByHand::filled(rows);
-    let mut sum = 0u64;
-    for key in keys {
-        if let Some(row) = map.get(*key) {
-            sum = sum.wrapping_add(row.key2);
+/// Puts an item into a slot.
+fn place<const N: usize>(
+    slab: &mut Vec<Option<Row<N>>>,
+    free: &mut Vec<usize>,
+    row: Row<N>,
+) -> usize {
+    match free.pop() {
+        Some(slot) => {
+            slab[slot] = Some(row);
+            slot
+        }
+        None => {
+            slab.push(Some(row));
+            slab.len() - 1
         }
     }
-    sum
 }
 
-fn get_in_turn(rows: &[Row], keys: &[u64]) -> u64 {
-    let map = ByHand::filled(rows);
-    let (mut sum, mut last) = (0u64, 0);
-    for key in keys {
-        if let Some(row) = map.get(*key ^ last) {
-            sum = sum.wrapping_add(row.key2);
-            last = row.value;
-        }
+fn slot_of(entry: Entry<'_, u64, usize>) -> Option<usize> {
+    match entry {
+        Entry::Occupied(entry) => Some(*entry.get()),
+        Entry::Vacant(_) => None,
     }
-    sum
 }
 
-fn walk(rows: &[Row], times: usize) -> u64 {
-    let map = ByHand::filled(rows);
-    let mut sum = 0u64;
-    for _ in 0..times {
-        for row in map.slab.iter().flatten() {
-            sum = sum.wrapping_add(row.key1);
-        }
-    }
-    sum
-}
-
-/// The loop of an operation, or, where it is not wanted whole, what prepares it alone.
-pub fn run(load: &Workload, operation: Operation, whole: bool) -> u64 {
-    let rows = &load.rows[..];
-    let new = if whole { &load.new[..] } else { &[] };
-    let keys = if whole { &load.keys[..] } else { &[] };
-    match operation {
-        Operation::Insert if whole => insert(0, rows, load.items),
-        Operation::Insert => 0,
-        Operation::InsertReserved if whole => insert(load.items, rows, load.items),
-        Operation::InsertReserved => {
-            // A map of std says what it has room for in its own way, so only the number wanted is added up.
-            let made =
-                (0..load.times).map(|_| ByHand::with_capacity(load.items).len() + load.items);
-            made.sum::<usize>() as u64
-        }
-        Operation::Hit | Operation::Miss => get(rows, keys),
-        Operation::HitInTurn => get_in_turn(rows, keys),
-        Operation::RemoveInsert => remove_insert(&mut ByHand::filled(rows), keys, new),
-        Operation::Overwrite => {
-            let mut map = ByHand::filled(rows);
-            new.iter()
-                .map(|row| map.overwrite(*row).iter().flatten().count() as u64)
-                .sum()
-        }
-        Operation::Walk => walk(rows, if whole { load.times } else { 0 }),
-        Operation::Shrink => {
-            let mut map = ByHand::filled(rows);
-            let mut sum = 0u64;
-            for key in &load.keys {
-                sum = sum.wrapping_add(map.remove(*key).map_or(0, |gone| gone.key2));
+/// An insert with a table of its own name for each key.
+macro_rules! insert_by {
+    ($map:ident, $row:ident, $($table:ident $rank:literal),*) => {
+        match ($($table.entry($row.keys[$rank]),)*) {
+            ($(Entry::Vacant($table),)*) => {
+                let slot = place(&mut $map.slab, &mut $map.free, $row);
+                $($table.insert(slot);)*
+                Ok(slot)
             }
-            if whole {
-                map.shrink();
+            ($($table,)*) => {
+                let mut found = [None; N];
+                $(found[$rank] = slot_of($table);)*
+                Err(found)
             }
-            sum.wrapping_add(map.len() as u64)
         }
+    };
+}
+
+impl<const N: usize> ByHand<N> {
+    pub fn with_capacity(items: usize) -> ByHand<N> {
+        ByHand {
+            slab: Vec::with_capacity(items),
+            free: Vec::new(),
+            tables: from_fn(|_| Slots::with_capacity_and_hasher(items, Default::default())),
+        }
+    }
+
+    pub fn new() -> ByHand<N> {
+        ByHand::with_capacity(0)
+    }
+
+    pub fn filled(rows: &[Row<N>]) -> ByHand<N> {
+        let mut map = ByHand::with_capacity(rows.len());
+        map.fill(rows);
+        map
+    }
+
+    /// Puts the rows in, and counts those that are refused.
+    pub fn fill(&mut self, rows: &[Row<N>]) -> u64 {
+        rows.iter()
+            .map(|row| self.insert(*row).is_err() as u64)
+            .sum()
+    }
+
+    pub fn len(&self) -> usize {
+        self.tables[0].len()
+    }
+
+    /// Puts an item in where no item has one of its keys, and answers its slot, or else what its keys found.
+    pub fn insert(&mut self, row: Row<N>) -> Result<usize, Found<N>> {
+        // One of these is left for each number of keys, and it is what is written for that number by hand.
+        match &mut self.tables[..] {
+            [first, second] => insert_by!(self, row, first 0, second 1),
+            [first, second, third] => insert_by!(self, row, first 0, second 1, third 2),
+            _ => unreachable!("two keys or three"),
+        }
+    }
+
+    /// The item that has all keys of this one, which goes in where no item has one of them.
+    pub fn entry_or_insert(&mut self, row: Row<N>) -> Option<&mut Row<N>> {
+        let slot = match self.insert(row) {
+            Ok(slot) => slot,
+            Err(found) if found.iter().all(|slot| *slot == found[0]) => found[0]?,
+            Err(_) => return None,
+        };
+        self.slab[slot].as_mut()
+    }
+
+    pub fn get(&self, key: u64) -> Option<&Row<N>> {
+        self.slab[*self.tables[0].get(&key)?].as_ref()
+    }
+
+    pub fn get_mut(&mut self, key: u64) -> Option<&mut Row<N>> {
+        self.slab[*self.tables[0].get(&key)?].as_mut()
+    }
+
+    pub fn iter(&self) -> impl Iterator<Item = &Row<N>> {
+        self.slab.iter().flatten()
+    }
+
+    /// The slots of a walk for writing.
+    pub fn slots_mut(&mut self) -> std::slice::IterMut<'_, Option<Row<N>>> {
+        self.slab.iter_mut()
+    }
+
+    pub fn into_rows(self) -> impl Iterator<Item = Row<N>> {
+        self.slab.into_iter().flatten()
+    }
+
+    pub fn remove(&mut self, key: u64) -> Option<Row<N>> {
+        let slot = self.tables[0].remove(&key)?;
+        let row = self.slab[slot].take()?;
+        for rank in 1..N {
+            self.tables[rank].remove(&row.keys[rank]);
+        }
+        self.free.push(slot);
+        Some(row)
+    }
+
+    /// What is in the way of a row goes, and the row comes in. One with the same keys is replaced in its slot.
+    pub fn overwrite(&mut self, row: Row<N>) -> [Option<Row<N>>; N] {
+        let mut displaced = [None; N];
+        let Err(found) = self.insert(row) else {
+            return displaced;
+        };
+        if let Some(slot) = found[0]
+            && found.iter().all(|other| *other == found[0])
+        {
+            displaced[0] = self.slab[slot].replace(row);
+            return displaced;
+        }
+        for (displaced, slot) in displaced.iter_mut().zip(found) {
+            *displaced = slot.and_then(|slot| self.take(slot));
+        }
+        let _ = self.insert(row);
+        displaced
+    }
+
+    /// Takes out what a slot has, if it still has something.
+    fn take(&mut self, slot: usize) -> Option<Row<N>> {
+        let row = self.slab[slot].take()?;
+        for rank in 0..N {
+            self.tables[rank].remove(&row.keys[rank]);
+        }
+        self.free.push(slot);
+        Some(row)
+    }
+
+    /// Takes out what these slots have.
+    fn take_all(&mut self, slots: &[usize]) -> Vec<Row<N>> {
+        let mut taken = Vec::with_capacity(slots.len());
+        taken.extend(slots.iter().filter_map(|slot| self.take(*slot)));
+        taken
+    }
+
+    pub fn reserve(&mut self, more: usize) {
+        self.slab.reserve(more.saturating_sub(self.free.len()));
+        for table in &mut self.tables {
+            table.reserve(more);
+        }
+    }
+
+    pub fn extend(&mut self, rows: impl Iterator<Item = Row<N>>) {
+        self.reserve(rows.size_hint().0);
+        for row in rows {
+            self.overwrite(row);
+        }
+    }
+
+    /// All rows go in, or none of them.
+    pub fn extend_unique(&mut self, rows: impl Iterator<Item = Row<N>>) -> Result<(), Refused<N>> {
+        let mut entered = Vec::new();
+        for row in rows {
+            match self.insert(row) {
+                Ok(slot) => entered.push(slot),
+                Err(found) => {
+                    let taken = self.take_all(&entered);
+                    return Err(Refused { taken, found });
+                }
+            }
+        }
+        Ok(())
+    }
+
+    pub fn retain(&mut self, keep: impl Fn(&Row<N>) -> bool) {
+        for (slot, place) in self.slab.iter_mut().enumerate() {
+            if let Some(row) = place.take_if(|row| !keep(row)) {
+                for (table, key) in self.tables.iter_mut().zip(row.keys) {
+                    table.remove(&key);
+                }
+                self.free.push(slot);
+            }
+        }
+    }
+
+    pub fn clear(&mut self) {
+        self.slab.clear();
+        self.free.clear();
+        for table in &mut self.tables {
+            table.clear();
+        }
+    }
+
+    /// The items come together in the first slots, and each slot's number changes.
+    pub fn shrink(&mut self) {
+        self.slab.retain(|row| row.is_some());
+        self.slab.shrink_to_fit();
+        self.free = Vec::new();
+        for (rank, table) in self.tables.iter_mut().enumerate() {
+            table.clear();
+            table.shrink_to(self.slab.len());
+            for (slot, row) in self.slab.iter().flatten().enumerate() {
+                table.insert(row.keys[rank], slot);
+            }
+        }
+    }
+}
+
+impl<const N: usize> PartialEq for ByHand<N> {
+    fn eq(&self, other: &ByHand<N>) -> bool {
+        self.len() == other.len() && self.iter().all(|row| other.get(row.keys[0]) == Some(row))
     }
 }

@@ -1,74 +1,148 @@
-//! Times loops over the map of this repository beside the same loops over two std hash maps kept by hand, in turn, in
-//! one process, with the same hasher, and prints nanoseconds an operation and their ratio.
+//! Times loops over the maps of this repository beside the same loops over std hash maps kept by hand, in turn, in one
+//! process, with the same hasher.
 //!
-//!     bench [ITEMS[,ITEMS..]] [TURNS] [WORD]
+//!     bench [OPTION..] [ITEMS[,ITEMS..]] [WORD]
 //!
-//! Each figure is the least of so many turns. WORD picks the operations whose name has it.
+//! It prints nanoseconds an operation and their ratio. WORD picks the operations whose name has it. Options:
+//!
+//!     --rounds N      how often the whole measurement is made (5)
+//!     --turns N       of how many turns the least time is taken in a round (20; fewer above 10,000 items)
+//!     --keys N        the map with 2 or with 3 keys alone
+//!     --without WORD  leaves out the operations whose name has the word
+//!     --table         prints tables for a page
+//!     --growth        prints tables of this side alone, of the calls that go over all items
+//!     --svg FILE      writes a picture of five operations at eight sizes
 mod by_hand;
-mod ours;
+mod loops;
+mod measure;
+mod operations;
+mod picture;
+mod report;
 mod workload;
 
-use std::time::Instant;
-use workload::{OPERATIONS, Operation, Workload};
+use measure::Plan;
+use operations::Operation;
 
-/// One of the two maps that are compared: a loop of it gives a sum of what it met.
-type Side = fn(&Workload, Operation, bool) -> u64;
-
-/// Nanoseconds that a loop took, and its sum.
-fn timed(side: Side, load: &Workload, operation: Operation, whole: bool) -> (f64, u64) {
-    let start = Instant::now();
-    let sum = side(load, operation, whole);
-    (start.elapsed().as_nanos() as f64, sum)
+/// What is wanted.
+struct Wanted {
+    plan: Plan,
+    sizes: Option<Vec<usize>>,
+    keys: Option<usize>,
+    word: String,
+    without: Option<String>,
+    table: bool,
+    growth: bool,
+    picture: Option<String>,
 }
 
-/// The least time of each side for an operation: of the whole loop, less that of what only prepares it.
-fn compare(load: &Workload, operation: Operation, turns: usize) -> [f64; 2] {
-    let sides: [Side; 2] = [by_hand::run, ours::run];
-    let mut least = [[f64::MAX; 2]; 2];
-    for _ in 0..turns {
-        for whole in [true, false] {
-            let mut sums = [0; 2];
-            for (i, side) in sides.into_iter().enumerate() {
-                let (took, sum) = timed(side, load, operation, whole);
-                sums[i] = sum;
-                least[i][whole as usize] = least[i][whole as usize].min(took);
+/// A word behind an option.
+fn behind(words: &mut impl Iterator<Item = String>, option: &str) -> String {
+    words
+        .next()
+        .unwrap_or_else(|| panic!("{option} wants a word behind it"))
+}
+
+fn number(word: &str) -> usize {
+    word.parse()
+        .unwrap_or_else(|_| panic!("{word} is no number"))
+}
+
+/// A number of items. Smaller maps have too few for some of the operations.
+fn size(word: &str) -> usize {
+    let items = number(word);
+    assert!(items >= 10, "{word} items are too few");
+    items
+}
+
+fn wanted(mut words: impl Iterator<Item = String>) -> Wanted {
+    let plan = Plan {
+        rounds: 5,
+        turns: 20,
+        compares: true,
+    };
+    let mut wanted = Wanted {
+        plan,
+        sizes: None,
+        keys: None,
+        word: String::new(),
+        without: None,
+        table: false,
+        growth: false,
+        picture: None,
+    };
+    while let Some(word) = words.next() {
+        match &word[..] {
+            "--rounds" => wanted.plan.rounds = number(&behind(&mut words, &word)).max(1),
+            "--turns" => wanted.plan.turns = number(&behind(&mut words, &word)).max(1),
+            "--keys" => wanted.keys = Some(number(&behind(&mut words, &word))),
+            "--without" => wanted.without = Some(behind(&mut words, &word)),
+            "--table" => wanted.table = true,
+            "--growth" => wanted.growth = true,
+            "--svg" => wanted.picture = Some(behind(&mut words, &word)),
+            _ if word.starts_with(|c: char| c.is_ascii_digit()) => {
+                wanted.sizes = Some(word.split(',').map(size).collect());
             }
-            assert_eq!(sums[0], sums[1], "the two sides differ: {operation:?}");
+            _ if word.starts_with('-') => panic!("there is no option {word}"),
+            _ => wanted.word = word,
         }
     }
-    least.map(|[prepared, whole]| (whole - prepared) / load.operations as f64)
+    wanted
+}
+
+impl Wanted {
+    fn has(&self, name: &str) -> bool {
+        let left_out = self
+            .without
+            .as_ref()
+            .is_some_and(|word| name.contains(&word[..]));
+        name.contains(&self.word) && !left_out
+    }
+
+    fn sizes(&self, default: &[usize]) -> Vec<usize> {
+        self.sizes.clone().unwrap_or(default.to_vec())
+    }
+
+    /// Measures the map with so many keys, and prints its figures.
+    fn print<const N: usize>(&self, operations: Vec<Operation<N>>) {
+        if self.keys.is_some_and(|keys| keys != N) {
+            return;
+        }
+        let all = operations.into_iter();
+        let picked: Vec<Operation<N>> = all
+            .filter(|operation| self.has(operation.name))
+            .filter(|operation| !self.growth || operation.goes_over_all)
+            .collect();
+        if self.growth {
+            let sizes = self.sizes(&[1_000, 10_000, 100_000, 1_000_000]);
+            let plan = Plan {
+                compares: false,
+                ..self.plan
+            };
+            report::print_growth(&picked, &sizes, plan);
+        } else if self.table {
+            report::print_table(&picked, &self.sizes(&[890, 1_000, 100_000]), self.plan);
+        } else {
+            report::print_text(&picked, &self.sizes(&[890, 1_000, 100_000]), self.plan);
+        }
+    }
 }
 
 fn main() {
-    let words: Vec<String> = std::env::args().skip(1).collect();
-    let word = |i: usize, default: &str| words.get(i).map_or(default, |w| w).to_string();
-    let turns: usize = word(1, "200").parse().expect("a number of turns");
-    let picked = word(2, "");
+    let wanted = wanted(std::env::args().skip(1));
     for key in 0..100 {
-        assert_eq!(by_hand::hash(key), ours::hash(key), "the hashers differ");
-    }
-    for items in word(0, "890,1000,100000").split(',') {
-        let items: usize = items.parse().expect("a number of items");
-        println!(
-            "{:<36}{:>10}{:>10}{:>8}",
-            format!("{items} items"),
-            "std",
-            "here",
-            "ratio"
+        assert_eq!(
+            by_hand::hash(key),
+            operations::hash(key),
+            "the hashers differ"
         );
-        for (name, operation) in OPERATIONS {
-            if !name.contains(&picked) {
-                continue;
-            }
-            let load = Workload::new(operation, items);
-            let turns = if items > 10_000 {
-                turns.div_ceil(4)
-            } else {
-                turns
-            };
-            let [std, here] = compare(&load, operation, turns);
-            println!("{name:<36}{std:>10.1}{here:>10.1}{:>8.2}", here / std);
-        }
-        println!();
     }
+    if let Some(file) = &wanted.picture {
+        let sizes = wanted.sizes(&picture::SIZES);
+        let drawn = picture::draw(&sizes, wanted.plan);
+        std::fs::write(file, drawn).unwrap_or_else(|error| panic!("{file}: {error}"));
+        return;
+    }
+    println!("{}\n", report::circumstances(wanted.plan));
+    wanted.print(operations::two_keys());
+    wanted.print(operations::three_keys());
 }

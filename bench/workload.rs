@@ -1,51 +1,21 @@
 //! What the loops go over: rows with mixed keys, and orders that no branch predictor has seen.
 
-/// An item of three numbers, as `iddqd_bench` has it.
+/// An item of so many keys and a value, as `iddqd_bench` has it.
 #[repr(C)]
-#[derive(Clone, Copy)]
-pub struct Row {
-    pub key1: u64,
-    pub key2: u64,
+#[derive(Clone, Copy, PartialEq)]
+pub struct Row<const N: usize> {
+    pub keys: [u64; N],
     pub value: u64,
 }
 
-#[derive(Clone, Copy, Debug, PartialEq)]
-pub enum Operation {
-    Insert,
-    InsertReserved,
-    Hit,
-    Miss,
-    HitInTurn,
-    RemoveInsert,
-    Overwrite,
-    Walk,
-    Shrink,
-}
-
-pub const OPERATIONS: [(&str, Operation); 9] = [
-    ("insert without room", Operation::Insert),
-    ("insert with room", Operation::InsertReserved),
-    ("look-up that hits", Operation::Hit),
-    ("look-up that misses", Operation::Miss),
-    ("look-up that waits for the last", Operation::HitInTurn),
-    ("a removal and an insert", Operation::RemoveInsert),
-    ("overwrite of two", Operation::Overwrite),
-    ("walk, an item", Operation::Walk),
-    ("shrink after half, an item left", Operation::Shrink),
-];
-
-/// The rows and keys of one operation.
-pub struct Workload {
-    /// How many items the map has.
-    pub items: usize,
-    /// What the map is filled with.
-    pub rows: Vec<Row>,
-    /// Rows that come in later.
-    pub new: Vec<Row>,
-    /// First keys that are looked up or taken out.
-    pub keys: Vec<u64>,
-    /// How often something is done over.
-    pub times: usize,
+/// The rows of one operation.
+pub struct Workload<const N: usize> {
+    /// What the maps are filled with.
+    pub rows: Vec<Row<N>>,
+    /// Rows that are asked for or come in later.
+    pub asked: Vec<Row<N>>,
+    /// How many items a map has, or how often something is done over.
+    pub number: usize,
     /// How many operations are timed in all.
     pub operations: usize,
 }
@@ -58,12 +28,11 @@ fn mix(x: u64) -> u64 {
 }
 
 /// The rows numbered so. No two rows have a key in common.
-fn rows(from: usize, to: usize) -> Vec<Row> {
-    let key = |rank: u64, i: usize| mix((rank << 40) + i as u64);
+fn rows<const N: usize>(from: usize, to: usize) -> Vec<Row<N>> {
+    let key = |rank: usize, i: usize| mix(((rank as u64 + 1) << 40) + i as u64);
     (from..to)
         .map(|i| Row {
-            key1: key(1, i),
-            key2: key(2, i),
+            keys: std::array::from_fn(|rank| key(rank, i)),
             value: 0,
         })
         .collect()
@@ -78,63 +47,151 @@ fn shuffled<T: Clone>(list: &[T], seed: usize) -> Vec<T> {
     list
 }
 
-fn first_keys(rows: &[Row]) -> impl Iterator<Item = u64> + '_ {
-    rows.iter().map(|row| row.key1)
+/// How many maps are filled, so that one loop takes about as long at each size.
+fn rounds(items: usize) -> usize {
+    (20_000 / items).max(2)
 }
 
-impl Workload {
-    /// The rows and keys of an operation on a map of so many items.
-    pub fn new(operation: Operation, items: usize) -> Workload {
-        // So that one loop takes about as long at each size, and no order is seen twice in it.
-        let rounds = (20_000 / items).max(2);
-        let mut load = Workload {
-            items,
-            rows: rows(0, items),
-            new: Vec::new(),
-            keys: Vec::new(),
-            times: 0,
-            operations: items * rounds,
-        };
-        match operation {
-            Operation::Insert | Operation::InsertReserved => {
-                load.rows = rows(0, items * rounds);
-                load.times = rounds;
-            }
-            Operation::Hit | Operation::HitInTurn => {
-                for round in 0..rounds {
-                    load.keys.extend(first_keys(&shuffled(&load.rows, round)));
-                }
-            }
-            Operation::Miss => load
-                .keys
-                .extend(first_keys(&rows(items, items * (rounds + 1)))),
-            Operation::RemoveInsert => {
-                load.new = rows(items, items * (rounds + 1));
-                let mut there = load.rows.clone();
-                for round in 0..rounds {
-                    load.keys.extend(first_keys(&shuffled(&there, round)));
-                    there = load.new[items * round..items * (round + 1)].to_vec();
-                }
-            }
-            Operation::Overwrite => {
-                let pairs = shuffled(&load.rows, 1);
-                let over = |two: &[Row]| Row {
-                    key1: two[0].key1,
-                    key2: two[1].key2,
-                    value: 0,
-                };
-                load.new = pairs.chunks_exact(2).map(over).collect();
-                load.operations = load.new.len();
-            }
-            Operation::Walk => {
-                load.times = rounds * 20;
-                load.operations = items * load.times;
-            }
-            Operation::Shrink => {
-                load.keys = first_keys(&shuffled(&load.rows, 1)[..items / 2]).collect();
-                load.operations = items - items / 2;
-            }
-        }
-        load
+/// How often each item of one map is asked for.
+fn orders(items: usize) -> usize {
+    2 * rounds(items)
+}
+
+/// One map of so many items, and each of them asked for in many orders.
+pub fn asked_again<const N: usize>(items: usize) -> Workload<N> {
+    let rows = rows(0, items);
+    let orders = (0..orders(items)).flat_map(|round| shuffled(&rows, round));
+    let asked: Vec<Row<N>> = orders.collect();
+    Workload {
+        operations: asked.len(),
+        rows,
+        asked,
+        number: 0,
     }
+}
+
+/// One map, and rows none of whose keys it has.
+pub fn missed<const N: usize>(items: usize) -> Workload<N> {
+    let operations = items * orders(items);
+    Workload {
+        rows: rows(0, items),
+        asked: rows(items, items + operations),
+        number: 0,
+        operations,
+    }
+}
+
+/// One map, and rows whose last key it has.
+pub fn taken<const N: usize>(items: usize) -> Workload<N> {
+    let mut load = asked_again(items);
+    let fresh = rows::<N>(items, items + load.asked.len());
+    for (row, fresh) in load.asked.iter_mut().zip(fresh) {
+        row.keys[..N - 1].copy_from_slice(&fresh.keys[..N - 1]);
+    }
+    load
+}
+
+/// One map, and pairs of a row that is in it by then and one that isn't.
+pub fn exchanged<const N: usize>(items: usize) -> Workload<N> {
+    let new = rows(items, items * (rounds(items) + 1));
+    let mut there = rows(0, items);
+    let mut asked = Vec::with_capacity(2 * new.len());
+    for (round, new) in new.chunks(items).enumerate() {
+        for (old, new) in shuffled(&there, round).iter().zip(new) {
+            asked.extend([*old, *new]);
+        }
+        there = new.to_vec();
+    }
+    Workload {
+        rows: rows(0, items),
+        asked,
+        number: 0,
+        operations: new.len(),
+    }
+}
+
+/// One map, and something that is done over to all its items.
+pub fn repeated<const N: usize>(items: usize) -> Workload<N> {
+    // A walk is short beside the inserts that prepare it, so it is done over often.
+    let number = (8_000_000 / items).clamp(20, 80);
+    Workload {
+        rows: rows(0, items),
+        asked: Vec::new(),
+        number,
+        operations: items * number,
+    }
+}
+
+/// Several maps of so many items each.
+pub fn fresh<const N: usize>(items: usize) -> Workload<N> {
+    let operations = items * rounds(items);
+    Workload {
+        rows: rows(0, operations),
+        asked: Vec::new(),
+        number: items,
+        operations,
+    }
+}
+
+/// With how many copies of a map of so many items a loop does what changes the map, as in `iddqd_bench`.
+pub fn copies(items: usize) -> usize {
+    (items / 10_000).clamp(1, 8)
+}
+
+/// Several maps, of which copies are changed.
+pub fn copied<const N: usize>(items: usize) -> Workload<N> {
+    let mut load = fresh::<N>(items);
+    load.operations *= copies(items);
+    load
+}
+
+/// Several maps, and the items of each in another order, compared as often as there are copies.
+pub fn compared<const N: usize>(items: usize) -> Workload<N> {
+    let mut load = reordered::<N>(items);
+    load.operations *= copies(items);
+    load
+}
+
+/// Several maps, and the items of each in another order.
+pub fn reordered<const N: usize>(items: usize) -> Workload<N> {
+    let mut load = fresh::<N>(items);
+    let parts = load.rows.chunks(items);
+    load.asked = parts.flat_map(|rows| shuffled(rows, 1)).collect();
+    load
+}
+
+/// Several maps, and half of the items of each. What is done to the copies is counted by the items that are left.
+pub fn halved<const N: usize>(items: usize) -> Workload<N> {
+    let mut load = fresh::<N>(items);
+    let parts = load.rows.chunks(items);
+    let halves = parts.flat_map(|rows| shuffled(rows, 1).into_iter().take(items / 2));
+    load.asked = halves.collect();
+    load.operations -= load.asked.len();
+    load.operations *= copies(items);
+    load
+}
+
+/// Several maps, and rows that have each key from another item of one: so each is in the way of two or of three.
+pub fn crossed<const N: usize>(items: usize) -> Workload<N> {
+    let mut load = fresh::<N>(items);
+    for rows in load.rows.chunks(items) {
+        let others = shuffled(rows, 1);
+        let over = |found: &[Row<N>]| Row {
+            keys: std::array::from_fn(|rank| found[rank].keys[rank]),
+            value: 0,
+        };
+        load.asked.extend(others.chunks_exact(N).map(over));
+    }
+    load.operations = load.asked.len();
+    load
+}
+
+/// Several maps, and the last item of each has the last key of the first.
+pub fn spoiled<const N: usize>(items: usize) -> Workload<N> {
+    let mut load = fresh::<N>(items);
+    for rows in load.rows.chunks_mut(items) {
+        let first = rows[0].keys[N - 1];
+        rows[items - 1].keys[N - 1] = first;
+    }
+    load
 }

@@ -1,0 +1,125 @@
+//! The operations: for each its name, its rows, the loop over the maps kept by hand, and the loops that the static
+//! library of `iddqd_bench` exports.
+use crate::loops;
+use crate::workload::{self, Row, Workload};
+
+/// A loop of the library. Each slice is passed as its pointer and its length, and nothing is written to one.
+type Exported<const N: usize> = unsafe extern "C" fn(
+    rows: *const Row<N>,
+    len: usize,
+    asked: *const Row<N>,
+    count: usize,
+    number: usize,
+    whole: bool,
+) -> u64;
+
+/// An operation on a map with so many keys. Each side's loop gives a sum of what it met. Where it is not wanted whole,
+/// it does what prepares it alone.
+pub struct Operation<const N: usize> {
+    pub name: &'static str,
+    /// Whether it is one call that goes over all items. The time is that of an item all the same.
+    pub goes_over_all: bool,
+    pub load: fn(usize) -> Workload<N>,
+    pub by_hand: fn(&Workload<N>, bool) -> u64,
+    exported: Exported<N>,
+}
+
+impl<const N: usize> Operation<N> {
+    /// The loop over the map of this repository.
+    pub fn here(&self, load: &Workload<N>, whole: bool) -> u64 {
+        let (rows, asked) = (&load.rows, &load.asked);
+        unsafe {
+            (self.exported)(
+                rows.as_ptr(),
+                rows.len(),
+                asked.as_ptr(),
+                asked.len(),
+                load.number,
+                whole,
+            )
+        }
+    }
+}
+
+unsafe extern "C" {
+    safe fn bench_hash(key: u64) -> u64;
+}
+
+pub fn hash(key: u64) -> u64 {
+    bench_hash(key)
+}
+
+const ONE: bool = false;
+const ALL: bool = true;
+
+/// The exported loop of this name, over rows with so many keys.
+macro_rules! exported {
+    ($name:ident, $keys:literal) => {{
+        unsafe extern "C" {
+            fn $name(
+                rows: *const Row<$keys>,
+                len: usize,
+                asked: *const Row<$keys>,
+                count: usize,
+                number: usize,
+                whole: bool,
+            ) -> u64;
+        }
+        $name
+    }};
+}
+
+macro_rules! operations {
+    ($($goes_over_all:ident $name:literal: $load:ident, $by_hand:ident, $bi:ident, $tri:ident;)*) => {
+        pub fn two_keys() -> Vec<Operation<2>> {
+            vec![$(Operation {
+                name: $name,
+                goes_over_all: $goes_over_all,
+                load: workload::$load,
+                by_hand: loops::$by_hand,
+                exported: exported!($bi, 2),
+            }),*]
+        }
+
+        pub fn three_keys() -> Vec<Operation<3>> {
+            vec![$(Operation {
+                name: $name,
+                goes_over_all: $goes_over_all,
+                load: workload::$load,
+                by_hand: loops::$by_hand,
+                exported: exported!($tri, 3),
+            }),*]
+        }
+    };
+}
+
+operations! {
+    ONE "insert without room": fresh, insert, bi_insert, tri_insert;
+    ONE "insert with room": fresh, insert_with_room, bi_insert_with_room, tri_insert_with_room;
+    ONE "insert that is refused": taken, insert_refused, bi_insert_refused, tri_insert_refused;
+    ONE "look-up that hits": asked_again, get, bi_get, tri_get;
+    ONE "look-up that misses": missed, get, bi_get, tri_get;
+    ONE "look-up that waits for the last": asked_again, get_in_turn, bi_get_in_turn, tri_get_in_turn;
+    ONE "look-up and a write": asked_again, get_mut, bi_get_mut, tri_get_mut;
+    ONE "removal": reordered, remove, bi_remove, tri_remove;
+    ONE "a removal and an insert": exchanged, remove_insert, bi_remove_insert, tri_remove_insert;
+    ONE "overwrite, one item a key goes": crossed, overwrite, bi_overwrite, tri_overwrite;
+    ONE "overwrite, the same keys": asked_again, overwrite_same, bi_overwrite_same, tri_overwrite_same;
+    ONE "or_insert, vacant": fresh, entry_vacant, bi_entry_vacant, tri_entry_vacant;
+    ONE "or_insert, occupied": asked_again, entry_occupied, bi_entry_occupied, tri_entry_occupied;
+    ALL "iter": repeated, iter, bi_iter, tri_iter;
+    ALL "for over a lent map": repeated, iter, bi_for_lent, tri_for_lent;
+    ALL "for over a map by value": copied, for_owned, bi_for_owned, tri_for_owned;
+    ALL "iter_mut, with len at each step": repeated, iter_mut, bi_iter_mut, tri_iter_mut;
+    ALL "retain half": copied, retain, bi_retain, tri_retain;
+    ALL "clone": repeated, clone, bi_clone, tri_clone;
+    ALL "clear": copied, clear, bi_clear, tri_clear;
+    ALL "equality": compared, equal, bi_equal, tri_equal;
+    ALL "shrink_to_fit after half went": halved, shrink, bi_shrink, tri_shrink;
+    ALL "reserve of a full map": copied, reserve, bi_reserve, tri_reserve;
+    ALL "extend": fresh, extend, bi_extend, tri_extend;
+    ALL "from_iter": fresh, from_iter, bi_from_iter, tri_from_iter;
+    ALL "from_iter_unique": fresh, from_iter_unique, bi_from_iter_unique, tri_from_iter_unique;
+    ALL "extend_unique": fresh, extend_unique, bi_extend_unique, tri_extend_unique;
+    ALL "extend_unique, the last refused": spoiled, extend_unique, bi_extend_unique, tri_extend_unique;
+}

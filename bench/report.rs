@@ -1,0 +1,170 @@
+//! Figures as text, and as tables for a page.
+use crate::measure::{Figures, Plan, measure};
+use crate::operations::Operation;
+use std::fs::read_to_string;
+use std::time::{SystemTime, UNIX_EPOCH};
+
+/// A number with a comma before each three digits.
+pub fn grouped(number: usize) -> String {
+    let digits = number.to_string();
+    let mut text = String::new();
+    for (i, digit) in digits.chars().enumerate() {
+        if i > 0 && (digits.len() - i).is_multiple_of(3) {
+            text.push(',');
+        }
+        text.push(digit);
+    }
+    text
+}
+
+/// Three digits or so.
+fn nanoseconds(time: f64) -> String {
+    match time {
+        100.0.. => format!("{time:.0}"),
+        10.0.. => format!("{time:.1}"),
+        0.0.. => format!("{time:.2}"),
+        _ => "?".to_string(),
+    }
+}
+
+fn ratio_of(figures: &Figures) -> [String; 2] {
+    figures
+        .ratio()
+        .map_or(["?".to_string(), String::new()], |r| {
+            [
+                format!("{:.2}", r.median),
+                format!("{:.2}..{:.2}", r.lowest, r.highest),
+            ]
+        })
+}
+
+/// The map that has so many keys.
+pub fn map_name(keys: usize) -> &'static str {
+    if keys == 2 { "BiHashMap" } else { "TriHashMap" }
+}
+
+/// Both sides at each size, for a terminal.
+pub fn print_text<const N: usize>(operations: &[Operation<N>], sizes: &[usize], plan: Plan) {
+    let figures = measure(operations, sizes, plan);
+    for (at, items) in sizes.iter().enumerate() {
+        let title = format!("{}, {} items", map_name(N), grouped(*items));
+        println!(
+            "{title:<36}{:>9}{:>9}{:>8}  spread",
+            "std ns", "here ns", "ratio"
+        );
+        for (operation, figures) in operations.iter().zip(&figures) {
+            let figures = &figures[at];
+            let [by_hand, here] = [figures.by_hand(), figures.here()].map(nanoseconds);
+            let [ratio, spread] = ratio_of(figures);
+            println!(
+                "{:<36}{by_hand:>9}{here:>9}{ratio:>8}  {spread}",
+                operation.name
+            );
+        }
+        println!();
+    }
+}
+
+fn print_row(cells: impl Iterator<Item = String>) {
+    let cells: Vec<String> = cells.collect();
+    println!("| {} |", cells.join(" | "));
+}
+
+/// The head of a table: its first cell and those behind it.
+fn print_head(first: String, others: Vec<String>) {
+    let line = vec!["---".to_string(); others.len() + 1];
+    print_row([first].into_iter().chain(others));
+    println!("|{}|", line.join("|"));
+}
+
+/// Both sides at each size, as a table of a page.
+pub fn print_table<const N: usize>(operations: &[Operation<N>], sizes: &[usize], plan: Plan) {
+    let figures = measure(operations, sizes, plan);
+    let heads = sizes.iter().flat_map(|items| {
+        let items = grouped(*items);
+        [format!("{items}: std, here"), "ratio (spread)".to_string()]
+    });
+    print_head(format!("`{}`", map_name(N)), heads.collect());
+    for (operation, figures) in operations.iter().zip(&figures) {
+        let cells = figures.iter().flat_map(|figures| {
+            let [by_hand, here] = [figures.by_hand(), figures.here()].map(nanoseconds);
+            let [ratio, spread] = ratio_of(figures);
+            [
+                format!("{by_hand}, {here}"),
+                format!("**{ratio}** ({spread})"),
+            ]
+        });
+        print_row([operation.name.to_string()].into_iter().chain(cells));
+    }
+    println!();
+}
+
+/// This side alone at each size, as a table of a page.
+pub fn print_growth<const N: usize>(operations: &[Operation<N>], sizes: &[usize], plan: Plan) {
+    let figures = measure(operations, sizes, plan);
+    let heads = sizes.iter().map(|items| grouped(*items)).collect();
+    print_head(format!("`{}`, ns an item", map_name(N)), heads);
+    for (operation, figures) in operations.iter().zip(&figures) {
+        let cells = figures.iter().map(|figures| nanoseconds(figures.here()));
+        print_row([operation.name.to_string()].into_iter().chain(cells));
+    }
+    println!();
+}
+
+/// The day, from the days since 1 January 1970.
+fn date(days: i64) -> String {
+    let months = [
+        "March",
+        "April",
+        "May",
+        "June",
+        "July",
+        "August",
+        "September",
+        "October",
+        "November",
+        "December",
+        "January",
+        "February",
+    ];
+    // Years begin in March here, so that the day that some have more is the last one.
+    let since = days + 719_468;
+    let (era, day) = (since / 146_097, since % 146_097);
+    let year = (day - day / 1_460 + day / 36_524 - day / 146_096) / 365;
+    let day = day - (365 * year + year / 4 - year / 100);
+    let month = (5 * day + 2) / 153;
+    let year = era * 400 + year + i64::from(month >= 10);
+    format!(
+        "{} {} {year}",
+        day - (153 * month + 2) / 5 + 1,
+        months[month as usize]
+    )
+}
+
+fn load() -> String {
+    let text = read_to_string("/proc/loadavg").unwrap_or_default();
+    text.split(' ').next().unwrap_or_default().to_string()
+}
+
+/// When and on what it was measured.
+pub fn circumstances(plan: Plan) -> String {
+    let seconds = SystemTime::now()
+        .duration_since(UNIX_EPOCH)
+        .map_or(0, |t| t.as_secs());
+    let processors = std::thread::available_parallelism().map_or(1, usize::from);
+    let text = read_to_string("/proc/cpuinfo").unwrap_or_default();
+    let name = text
+        .lines()
+        .find_map(|line| line.strip_prefix("model name"));
+    let name = name.map_or("an unknown processor", |name| {
+        name.trim_matches(['\t', ' ', ':'])
+    });
+    format!(
+        "On {}, {name} ({processors} to run on), load {} when it began: the medians of {} rounds, in \
+         each of which the least of {} turns was taken (fewer above 10,000 items).",
+        date((seconds / 86_400) as i64),
+        load(),
+        plan.rounds,
+        plan.turns,
+    )
+}

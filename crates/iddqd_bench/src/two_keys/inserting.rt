@@ -1,0 +1,150 @@
+//! Loops that put items into the map with two keys one by one.
+use super::{Row, fill, filled};
+use iddqd_bi::BiHashMap;
+use std::alloc::Global;
+
+/// Fills a new map from each part of so many rows.
+#[unsafe(no_mangle)]
+pub extern "C" fn bi_insert(
+    alloc: Global,
+    rows: &[Row],
+    _asked: &[Row],
+    number: usize,
+    whole: bool,
+) -> u64 {
+    let mut sum = 0u64;
+    for rows in rows.chunks(number.max(1)) {
+        let mut map = BiHashMap::new(alloc);
+        if whole {
+            sum = sum.wrapping_add(fill(&mut map, rows));
+            sum = sum.wrapping_add(map.len() as u64);
+        }
+    }
+    sum
+}
+
+/// Fills a new map, made with room for so many items, from each part of so many rows.
+#[unsafe(no_mangle)]
+pub extern "C" fn bi_insert_with_room(
+    alloc: Global,
+    rows: &[Row],
+    _asked: &[Row],
+    number: usize,
+    whole: bool,
+) -> u64 {
+    let mut sum = 0u64;
+    for rows in rows.chunks(number.max(1)) {
+        if let Ok(mut map) = BiHashMap::with_capacity(alloc, number) {
+            if whole {
+                sum = sum.wrapping_add(fill(&mut map, rows));
+            }
+            sum = sum.wrapping_add(map.len() as u64);
+        }
+    }
+    sum
+}
+
+/// Fills a map, and asks for inserts of rows one of whose keys is taken.
+#[unsafe(no_mangle)]
+pub extern "C" fn bi_insert_refused(
+    alloc: Global,
+    rows: &[Row],
+    asked: &[Row],
+    _number: usize,
+    whole: bool,
+) -> u64 {
+    let mut map = filled(alloc, rows);
+    if whole { fill(&mut map, asked) } else { 0 }
+}
+
+/// Fills a new map, made with room for so many items, through vacant entries, from each part of so many rows.
+#[unsafe(no_mangle)]
+pub extern "C" fn bi_entry_vacant(
+    alloc: Global,
+    rows: &[Row],
+    _asked: &[Row],
+    number: usize,
+    whole: bool,
+) -> u64 {
+    let mut sum = 0u64;
+    for rows in rows.chunks(number.max(1)) {
+        if let Ok(mut map) = BiHashMap::with_capacity(alloc, number) {
+            if whole {
+                for row in rows {
+                    if map.entry(&row.key1, &row.key2).or_insert(*row).is_err() {
+                        sum = sum.wrapping_add(1);
+                    }
+                }
+            }
+            sum = sum.wrapping_add(map.len() as u64);
+        }
+    }
+    sum
+}
+
+/// Fills a map, and asks for entries that have an item.
+#[unsafe(no_mangle)]
+pub extern "C" fn bi_entry_occupied(
+    alloc: Global,
+    rows: &[Row],
+    asked: &[Row],
+    _number: usize,
+    whole: bool,
+) -> u64 {
+    let mut map = filled(alloc, rows);
+    let mut sum = 0u64;
+    if whole {
+        for row in asked {
+            if let Ok(held) = map.entry(&row.key1, &row.key2).or_insert(*row)
+                && let Some(found) = held.into_unique()
+            {
+                sum = sum.wrapping_add(found.key2);
+            }
+        }
+    }
+    sum
+}
+
+/// Fills a map with each part of so many rows, and puts rows in over what is in their way: two items each, so there are
+/// half as many of these.
+#[unsafe(no_mangle)]
+pub extern "C" fn bi_overwrite(
+    alloc: Global,
+    rows: &[Row],
+    asked: &[Row],
+    number: usize,
+    whole: bool,
+) -> u64 {
+    let mut sum = 0u64;
+    let parts = rows.chunks(number.max(1));
+    for (rows, asked) in parts.zip(asked.chunks((number / 2).max(1))) {
+        let mut map = filled(alloc, rows);
+        if whole {
+            sum = sum.wrapping_add(overwrite(&mut map, asked));
+        }
+    }
+    sum
+}
+
+/// Fills a map, and puts items in over those that have the same keys.
+#[unsafe(no_mangle)]
+pub extern "C" fn bi_overwrite_same(
+    alloc: Global,
+    rows: &[Row],
+    asked: &[Row],
+    _number: usize,
+    whole: bool,
+) -> u64 {
+    let mut map = filled(alloc, rows);
+    if whole { overwrite(&mut map, asked) } else { 0 }
+}
+
+fn overwrite(map: &mut BiHashMap<Row>, asked: &[Row]) -> u64 {
+    let mut sum = 0u64;
+    for row in asked {
+        if let Ok(displaced) = map.insert_overwrite(*row) {
+            sum = sum.wrapping_add(displaced.len() as u64);
+        }
+    }
+    sum
+}

@@ -1,0 +1,117 @@
+//! Loops that look items of the map with two keys up, write to them or take them out.
+use super::{Row, filled, take_out};
+use std::alloc::Global;
+
+/// Looks each row's first key up. No look-up needs the answer of the one before.
+#[unsafe(no_mangle)]
+pub extern "C" fn bi_get(
+    alloc: Global,
+    rows: &[Row],
+    asked: &[Row],
+    _number: usize,
+    whole: bool,
+) -> u64 {
+    let map = filled(alloc, rows);
+    let mut sum = 0u64;
+    if whole {
+        for row in asked {
+            if let Some(found) = map.get1(&row.key1) {
+                sum = sum.wrapping_add(found.key2);
+            }
+        }
+    }
+    sum
+}
+
+/// Looks each row's first key up, changed by the value that the look-up before found. The rows' values are 0.
+#[unsafe(no_mangle)]
+pub extern "C" fn bi_get_in_turn(
+    alloc: Global,
+    rows: &[Row],
+    asked: &[Row],
+    _number: usize,
+    whole: bool,
+) -> u64 {
+    let map = filled(alloc, rows);
+    let mut sum = 0u64;
+    let mut last = 0u64;
+    if whole {
+        for row in asked {
+            if let Some(found) = map.get1(&(row.key1 ^ last)) {
+                sum = sum.wrapping_add(found.key2);
+                last = found.value;
+            }
+        }
+    }
+    sum
+}
+
+/// Looks each row's first key up, and writes to the item.
+#[unsafe(no_mangle)]
+pub extern "C" fn bi_get_mut(
+    alloc: Global,
+    rows: &[Row],
+    asked: &[Row],
+    _number: usize,
+    whole: bool,
+) -> u64 {
+    let mut map = filled(alloc, rows);
+    let mut sum = 0u64;
+    if whole {
+        for row in asked {
+            if let Some(mut found) = map.get1_mut(&row.key1) {
+                let value = found.data_mut();
+                *value = value.wrapping_add(1);
+                sum = sum.wrapping_add(*value);
+            }
+        }
+    }
+    sum
+}
+
+/// Fills a map with each part of so many rows, and takes out as many others.
+#[unsafe(no_mangle)]
+pub extern "C" fn bi_remove(
+    alloc: Global,
+    rows: &[Row],
+    asked: &[Row],
+    number: usize,
+    whole: bool,
+) -> u64 {
+    let mut sum = 0u64;
+    let number = number.max(1);
+    for (rows, asked) in rows.chunks(number).zip(asked.chunks(number)) {
+        let mut map = filled(alloc, rows);
+        if whole {
+            sum = sum.wrapping_add(take_out(&mut map, asked));
+        }
+    }
+    sum
+}
+
+/// Takes an item out and puts another in, for each two rows.
+#[unsafe(no_mangle)]
+pub extern "C" fn bi_remove_insert(
+    alloc: Global,
+    rows: &[Row],
+    asked: &[Row],
+    _number: usize,
+    whole: bool,
+) -> u64 {
+    let mut map = filled(alloc, rows);
+    let mut sum = 0u64;
+    if !whole {
+        return sum;
+    }
+    for two in asked.chunks(2) {
+        if let [old, new] = two {
+            if let Some(gone) = map.remove1(&old.key1) {
+                sum = sum.wrapping_add(gone.key2);
+            }
+            if map.insert_unique(*new).is_err() {
+                sum = sum.wrapping_add(1);
+            }
+        }
+    }
+    sum
+}
