@@ -1,11 +1,7 @@
 //! Runs of which one request for memory is refused. `tests/refused_memory` goes over the requests.
 //!
 //! As in `iddqd_memory`, a test `allows_..` passes whichever request is refused. It says what its run met, since each
-//! outcome has to come at some request. A test `grants_..` passes only where nothing of its own is refused.
-//!
-//! Each request costs a build of the tests. So runs begin behind 0, 13, 26 and 39 requests of the test's own, and the
-//! script begins with request 40: the first, the 14th, the 27th and the 40th of a run. With request 52 refused, each of
-//! the first 52 of a run was.
+//! outcome has to come at some request. A test `grants_..` passes where none is refused.
 use crate::from_read::FromRead;
 use crate::outcome::{Kind, RunEnd, RunFault};
 use crate::run::run_text;
@@ -71,29 +67,14 @@ impl Write for ArrayWriter {
 enum Met {
     /// No refusal that is seen. Where std asks for more than it needs and that is refused, it asks again for less.
     Nothing,
-    /// No refusal at all: a request behind the run was refused.
-    LaterRequest,
     /// Memory for the text was refused.
     Fault,
     /// Memory for an item was refused.
     MemoryReply,
 }
 
-/// More requests than a run makes.
-const MANY: usize = 52;
-
-/// Makes so many requests for memory, and answers whether all were granted.
-fn request(alloc: Global, times: usize) -> bool {
-    let mut granted = true;
-    for _ in 0..times {
-        granted = Vec::<u8>::with_capacity(alloc, 1).is_ok() && granted;
-    }
-    granted
-}
-
-/// Runs the lines behind so many requests. Asserts that the run ends as it may, and that nothing else is written.
-fn run(rt: &impl Abort, alloc: Global, behind: usize, seven: Seven) -> Met {
-    let _ = request(alloc, behind);
+/// Runs the lines. Asserts that the run ends as it may, and that nothing else is written.
+fn run(rt: &impl Abort, alloc: Global, seven: Seven) -> Met {
     let mut source = FromRead::new(seven.text.as_bytes());
     let mut out = ToWrite::new(ArrayWriter {
         bytes: [0; 128],
@@ -109,11 +90,7 @@ fn run(rt: &impl Abort, alloc: Global, behind: usize, seven: Seven) -> Met {
     }
     assert_eq!(rt; ended, Ok(RunEnd::Done));
     if written == seven.granted.as_bytes() {
-        return if request(alloc, MANY) {
-            Met::Nothing
-        } else {
-            Met::LaterRequest
-        };
+        return Met::Nothing;
     }
     assert!(rt;
         written == seven.without_first.as_bytes() || written == seven.without_second.as_bytes()
@@ -128,57 +105,20 @@ fn say(rt: &HostRuntime, kind: Kind, met: Met) {
 
 #[test]
 fn allows_two_keys(rt: HostRuntime) {
-    say(&rt, Kind::Bi, run(&rt, rt.alloc(), 0, TWO_KEYS));
-}
-
-#[test]
-fn allows_two_keys_behind_13(rt: HostRuntime) {
-    say(&rt, Kind::Bi, run(&rt, rt.alloc(), 13, TWO_KEYS));
-}
-
-#[test]
-fn allows_two_keys_behind_26(rt: HostRuntime) {
-    say(&rt, Kind::Bi, run(&rt, rt.alloc(), 26, TWO_KEYS));
-}
-
-#[test]
-fn allows_two_keys_behind_39(rt: HostRuntime) {
-    say(&rt, Kind::Bi, run(&rt, rt.alloc(), 39, TWO_KEYS));
+    say(&rt, Kind::Bi, run(&rt, rt.alloc(), TWO_KEYS));
 }
 
 #[test]
 fn allows_three_keys(rt: HostRuntime) {
-    say(&rt, Kind::Tri, run(&rt, rt.alloc(), 0, THREE_KEYS));
-}
-
-#[test]
-fn allows_three_keys_behind_13(rt: HostRuntime) {
-    say(&rt, Kind::Tri, run(&rt, rt.alloc(), 13, THREE_KEYS));
-}
-
-#[test]
-fn allows_three_keys_behind_26(rt: HostRuntime) {
-    say(&rt, Kind::Tri, run(&rt, rt.alloc(), 26, THREE_KEYS));
-}
-
-#[test]
-fn allows_three_keys_behind_39(rt: HostRuntime) {
-    say(&rt, Kind::Tri, run(&rt, rt.alloc(), 39, THREE_KEYS));
+    say(&rt, Kind::Tri, run(&rt, rt.alloc(), THREE_KEYS));
 }
 
 #[test]
 fn grants_two_keys(rt: HostRuntime) {
-    let met = run(&rt, rt.alloc(), 0, TWO_KEYS);
-    assert!(rt; met == Met::Nothing || met == Met::LaterRequest);
+    assert_eq!(rt; run(&rt, rt.alloc(), TWO_KEYS), Met::Nothing);
 }
 
 #[test]
 fn grants_three_keys(rt: HostRuntime) {
-    let met = run(&rt, rt.alloc(), 0, THREE_KEYS);
-    assert!(rt; met == Met::Nothing || met == Met::LaterRequest);
-}
-
-#[test]
-fn grants_many_requests(rt: HostRuntime) {
-    assert!(rt; request(rt.alloc(), MANY));
+    assert_eq!(rt; run(&rt, rt.alloc(), THREE_KEYS), Met::Nothing);
 }
