@@ -1,7 +1,7 @@
 //! Commands carried out on the map.
-ghost use Rattle.std.specs.Prelude.{◌≡◌};
+ghost use Rattle.std.specs.Prelude.{◌≡◌, length};
 ghost use Rattle.iddqd_store.specs.Map.{bag};
-ghost use Rattle.iddqd_store.specs.Runs.Reply.{found, present, duplicate, items};
+ghost use Rattle.iddqd_store.specs.Runs.Reply.{found, present, duplicate, items, size, done};
 ghost use Rattle.iddqd_store.specs.Runs.Step.{Fits, state_of, Gets, InsertsUnique, InsertsOverwrite, Reserves, ShrinksTo, Extends, ExtendsUnique};
 ghost use Rattle.iddqd_store.specs.Runs.Run.{Applies, Run};
 ghost use Rattle.iddqd_store.specs.Slots.Found.{items_at};
@@ -15,6 +15,8 @@ use crate::command::{BiCommand, BiReply, BiSink};
 use crate::item::BiHashItemMut;
 use iddqd_store::{DuplicateItem, ItemIndex, MemoryRefused, UpToTwo};
 use std::hash::{BuildHasher, Hash};
+
+mod steps;
 
 impl<T: BiHashItemMut + Drop, S: BuildHasher> BiHashMap<T, S>
 where
@@ -49,6 +51,8 @@ where
             (state_of self.old) sink.old command result (state_of self.new) sink.new }
         ensures builder { self.new.builder ≡ self.old.builder }
     {
+        // A function begins by clearing the room of all its values. So no arm holds a reply: it is a call (those that
+        // change the map by a key are in `steps`), and a look-up doesn't pay for the replies of all others.
         match command {
             BiCommand::InsertUnique(item) => self.apply_insert_unique(item, sink),
             BiCommand::InsertOverwrite(item) => self.apply_insert_overwrite(item, sink),
@@ -61,57 +65,29 @@ where
                 self.contains_key_unique(&key1, &key2),
                 sink,
             ),
-            BiCommand::Remove1(key) => {
-                let taken = self.remove1(&key);
-                self.tell(BiReply::Taken(taken), sink)
-            }
-            BiCommand::Remove2(key) => {
-                let taken = self.remove2(&key);
-                self.tell(BiReply::Taken(taken), sink)
-            }
-            BiCommand::RemoveUnique(key1, key2) => {
-                let taken = self.remove_unique(&key1, &key2);
-                self.tell(BiReply::Taken(taken), sink)
-            }
+            BiCommand::Remove1(key) => self.apply_remove1(key, sink),
+            BiCommand::Remove2(key) => self.apply_remove2(key, sink),
+            BiCommand::RemoveUnique(key1, key2) => self.apply_remove_unique(key1, key2, sink),
             BiCommand::Reserve(more) => self.apply_reserve(more, sink),
             BiCommand::ShrinkTo(least) => self.apply_shrink_to(least, sink),
             BiCommand::ShrinkToFit => self.apply_shrink_to(0, sink),
             BiCommand::Clear => {
                 self.clear();
-                self.tell(BiReply::Done, sink)
+                self.tell_done(sink)
             }
-            BiCommand::Len => self.tell(BiReply::Length(self.len()), sink),
+            BiCommand::Len => self.tell_length(sink),
             BiCommand::Items => self.tell_items(sink),
             BiCommand::Extend(items) => self.apply_extend(items, sink),
             BiCommand::ExtendUnique(items) => self.apply_extend_unique(items, sink),
-            BiCommand::EntryInsert(key1, key2, item) => {
-                let reply = self.entry_insert(&key1, &key2, item);
-                self.tell(reply, sink)
-            }
-            BiCommand::EntryRemove(key1, key2) => {
-                let reply = self.entry_remove(&key1, &key2);
-                self.tell(reply, sink)
-            }
-            BiCommand::OrInsert(key1, key2, item) => {
-                let reply = self.or_insert(&key1, &key2, item);
-                self.tell(reply, sink)
-            }
-            BiCommand::Replace1(key, item) => {
-                let reply = self.replace1(&key, item);
-                self.tell(reply, sink)
-            }
-            BiCommand::Replace2(key, item) => {
-                let reply = self.replace2(&key, item);
-                self.tell(reply, sink)
-            }
-            BiCommand::Set1(key, data) => {
-                let reply = self.set1(&key, data);
-                self.tell(reply, sink)
-            }
-            BiCommand::Set2(key, data) => {
-                let reply = self.set2(&key, data);
-                self.tell(reply, sink)
-            }
+            BiCommand::EntryInsert(key1, key2, item) => self.apply_entry_insert(
+                key1, key2, item, sink,
+            ),
+            BiCommand::EntryRemove(key1, key2) => self.apply_entry_remove(key1, key2, sink),
+            BiCommand::OrInsert(key1, key2, item) => self.apply_or_insert(key1, key2, item, sink),
+            BiCommand::Replace1(key, item) => self.apply_replace1(key, item, sink),
+            BiCommand::Replace2(key, item) => self.apply_replace2(key, item, sink),
+            BiCommand::Set1(key, data) => self.apply_set1(key, data, sink),
+            BiCommand::Set2(key, data) => self.apply_set2(key, data, sink),
         }
     }
 
@@ -205,6 +181,20 @@ where
         ensures fits { Fits (state_of self.now) }
     {
         self.tell(BiReply::Present(answer), sink)
+    }
+
+    fn tell_done<K: BiSink<T>>(&self, sink: &mut K) -> Result<(), K::Fault>
+        ensures took { K.took sink.old done result sink.new }
+        ensures fits { Fits (state_of self.now) }
+    {
+        self.tell(BiReply::Done, sink)
+    }
+
+    fn tell_length<K: BiSink<T>>(&self, sink: &mut K) -> Result<(), K::Fault>
+        ensures took { K.took sink.old (size (length (bag self.now))) result sink.new }
+        ensures fits { Fits (state_of self.now) }
+    {
+        self.tell(BiReply::Length(self.len()), sink)
     }
 
     fn tell_found1<K: BiSink<T>>(&self, key: &T::K1, sink: &mut K) -> Result<(), K::Fault>

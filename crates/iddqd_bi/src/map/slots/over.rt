@@ -26,7 +26,8 @@ impl<T: BiHashItem, S: BuildHasher> BiHashMap<T, S> {
     ) -> (UpToTwo<T>, ItemIndex)
         requires found { ListsConflicts (ranks T.BiHashItem T.K1.eq T.K2.eq) self.old item
             (each_once (by1.now.slot ∷ by2.now.slot ∷ [])) }
-        requires room { length (each_once (by1.now.slot ∷ by2.now.slot ∷ [])) ≡ 0 → length (bag self.old) < self.old.capacity }
+        requires room { length (each_once (by1.now.slot ∷ by2.now.slot ∷ [])) ≡ 0
+            → length (bag self.old) < self.old.capacity }
         requires hash1 { by1.now.hash
             ≡ key_hash T.key1 T.K1.hash_input S.BuildHasher S.Hasher.Hasher self.old.builder item }
         requires hash2 { by2.now.hash

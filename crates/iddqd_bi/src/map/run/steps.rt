@@ -1,0 +1,187 @@
+//! Commands that change the map, carried out one by one. Each has a function of its own, which is called and not copied
+//! into `apply`, since it takes room for a reply.
+ghost use Rattle.std.specs.Prelude.{◌≡◌};
+ghost use Rattle.iddqd_store.specs.Runs.Step.{state_of, Removes, Replaces, Sets};
+ghost use Rattle.iddqd_store.specs.Runs.Step.{EntryInserts, EntryRemoves, OrInserts};
+ghost use Rattle.iddqd_store.specs.Runs.Run.{Applies};
+ghost use Rattle.iddqd_bi.specs.Keys.{ranks, has1, has2, has_both, key_tests};
+
+use crate::command::{BiReply, BiSink};
+use crate::item::BiHashItemMut;
+use crate::map::BiHashMap;
+use std::hash::{BuildHasher, Hash};
+
+impl<T: BiHashItemMut + Drop, S: BuildHasher> BiHashMap<T, S>
+where
+    T::K1: Drop,
+    T::K2: Drop,
+    T::Data: Drop,
+{
+    /// Takes the item with this first key out.
+    #[inline(never)]
+    pub(super) fn apply_remove1<K: BiSink<T>>(
+        &mut self,
+        key: T::K1,
+        sink: &mut K,
+    ) -> Result<(), K::Fault>
+        ensures step { Applies Removes K.took
+            (state_of self.old) sink.old (has1 T.BiHashItem T.K1.eq key) result (state_of self.new) sink.new }
+        ensures builder { self.new.builder ≡ self.old.builder }
+    {
+        let taken = self.remove1(&key);
+        self.tell(BiReply::Taken(taken), sink)
+    }
+
+    /// Takes the item with this second key out.
+    #[inline(never)]
+    pub(super) fn apply_remove2<K: BiSink<T>>(
+        &mut self,
+        key: T::K2,
+        sink: &mut K,
+    ) -> Result<(), K::Fault>
+        ensures step { Applies Removes K.took
+            (state_of self.old) sink.old (has2 T.BiHashItem T.K2.eq key) result (state_of self.new) sink.new }
+        ensures builder { self.new.builder ≡ self.old.builder }
+    {
+        let taken = self.remove2(&key);
+        self.tell(BiReply::Taken(taken), sink)
+    }
+
+    /// Takes the item with both keys out.
+    #[inline(never)]
+    pub(super) fn apply_remove_unique<K: BiSink<T>>(
+        &mut self,
+        key1: T::K1,
+        key2: T::K2,
+        sink: &mut K,
+    ) -> Result<(), K::Fault>
+        ensures step { Applies Removes K.took
+            (state_of self.old) sink.old (has_both T.BiHashItem T.K1.eq T.K2.eq key1 key2)
+            result (state_of self.new) sink.new }
+        ensures builder { self.new.builder ≡ self.old.builder }
+    {
+        let taken = self.remove_unique(&key1, &key2);
+        self.tell(BiReply::Taken(taken), sink)
+    }
+
+    /// Puts the item in through the entry of the keys.
+    #[inline(never)]
+    pub(super) fn apply_entry_insert<K: BiSink<T>>(
+        &mut self,
+        key1: T::K1,
+        key2: T::K2,
+        item: T,
+        sink: &mut K,
+    ) -> Result<(), K::Fault>
+        ensures step { Applies (EntryInserts (ranks T.BiHashItem T.K1.eq T.K2.eq)
+            (key_tests T.BiHashItem T.K1.eq T.K2.eq key1 key2)) K.took
+            (state_of self.old) sink.old item result (state_of self.new) sink.new }
+        ensures builder { self.new.builder ≡ self.old.builder }
+    {
+        let reply = self.entry_insert(&key1, &key2, item);
+        self.tell(reply, sink)
+    }
+
+    /// Takes the items out that the entry of the keys has.
+    #[inline(never)]
+    pub(super) fn apply_entry_remove<K: BiSink<T>>(
+        &mut self,
+        key1: T::K1,
+        key2: T::K2,
+        sink: &mut K,
+    ) -> Result<(), K::Fault>
+        ensures step { Applies (λ old tests reply new. EntryRemoves tests old reply new) K.took
+            (state_of self.old) sink.old (key_tests T.BiHashItem T.K1.eq T.K2.eq key1 key2)
+            result (state_of self.new) sink.new }
+        ensures builder { self.new.builder ≡ self.old.builder }
+    {
+        let reply = self.entry_remove(&key1, &key2);
+        self.tell(reply, sink)
+    }
+
+    /// Puts the item in through the entry of the keys, where that is vacant.
+    #[inline(never)]
+    pub(super) fn apply_or_insert<K: BiSink<T>>(
+        &mut self,
+        key1: T::K1,
+        key2: T::K2,
+        item: T,
+        sink: &mut K,
+    ) -> Result<(), K::Fault>
+        ensures step { Applies (OrInserts (ranks T.BiHashItem T.K1.eq T.K2.eq)
+            (key_tests T.BiHashItem T.K1.eq T.K2.eq key1 key2)) K.took
+            (state_of self.old) sink.old item result (state_of self.new) sink.new }
+        ensures builder { self.new.builder ≡ self.old.builder }
+    {
+        let reply = self.or_insert(&key1, &key2, item);
+        self.tell(reply, sink)
+    }
+
+    /// Puts the item in the place of that with this first key.
+    #[inline(never)]
+    pub(super) fn apply_replace1<K: BiSink<T>>(
+        &mut self,
+        key: T::K1,
+        item: T,
+        sink: &mut K,
+    ) -> Result<(), K::Fault>
+        ensures step { Applies (Replaces (ranks T.BiHashItem T.K1.eq T.K2.eq)
+            (has1 T.BiHashItem T.K1.eq key)) K.took
+            (state_of self.old) sink.old item result (state_of self.new) sink.new }
+        ensures builder { self.new.builder ≡ self.old.builder }
+    {
+        let reply = self.replace1(&key, item);
+        self.tell(reply, sink)
+    }
+
+    /// Puts the item in the place of that with this second key.
+    #[inline(never)]
+    pub(super) fn apply_replace2<K: BiSink<T>>(
+        &mut self,
+        key: T::K2,
+        item: T,
+        sink: &mut K,
+    ) -> Result<(), K::Fault>
+        ensures step { Applies (Replaces (ranks T.BiHashItem T.K1.eq T.K2.eq)
+            (has2 T.BiHashItem T.K2.eq key)) K.took
+            (state_of self.old) sink.old item result (state_of self.new) sink.new }
+        ensures builder { self.new.builder ≡ self.old.builder }
+    {
+        let reply = self.replace2(&key, item);
+        self.tell(reply, sink)
+    }
+
+    /// Writes the data of the item with this first key.
+    #[inline(never)]
+    pub(super) fn apply_set1<K: BiSink<T>>(
+        &mut self,
+        key: T::K1,
+        new_data: T::Data,
+        sink: &mut K,
+    ) -> Result<(), K::Fault>
+        ensures step { Applies (Sets (ranks T.BiHashItem T.K1.eq T.K2.eq) T.put
+            (has1 T.BiHashItem T.K1.eq key)) K.took
+            (state_of self.old) sink.old new_data result (state_of self.new) sink.new }
+        ensures builder { self.new.builder ≡ self.old.builder }
+    {
+        let reply = self.set1(&key, new_data);
+        self.tell(reply, sink)
+    }
+
+    /// Writes the data of the item with this second key.
+    #[inline(never)]
+    pub(super) fn apply_set2<K: BiSink<T>>(
+        &mut self,
+        key: T::K2,
+        new_data: T::Data,
+        sink: &mut K,
+    ) -> Result<(), K::Fault>
+        ensures step { Applies (Sets (ranks T.BiHashItem T.K1.eq T.K2.eq) T.put
+            (has2 T.BiHashItem T.K2.eq key)) K.took
+            (state_of self.old) sink.old new_data result (state_of self.new) sink.new }
+        ensures builder { self.new.builder ≡ self.old.builder }
+    {
+        let reply = self.set2(&key, new_data);
+        self.tell(reply, sink)
+    }
+}
