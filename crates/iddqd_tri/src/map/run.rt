@@ -1,7 +1,7 @@
 //! Commands carried out on the map.
-ghost use Rattle.std.specs.Prelude.{◌≡◌};
+ghost use Rattle.std.specs.Prelude.{◌≡◌, length};
 ghost use Rattle.iddqd_store.specs.Map.{bag};
-ghost use Rattle.iddqd_store.specs.Runs.Reply.{found, present, duplicate, items};
+ghost use Rattle.iddqd_store.specs.Runs.Reply.{found, present, duplicate, items, size, done};
 ghost use Rattle.iddqd_store.specs.Runs.Step.{Fits, state_of, Gets, InsertsUnique, InsertsOverwrite, Reserves, ShrinksTo, Extends, ExtendsUnique};
 ghost use Rattle.iddqd_store.specs.Runs.Run.{Applies, Run};
 ghost use Rattle.iddqd_store.specs.Slots.Found.{items_at};
@@ -15,6 +15,8 @@ use crate::command::{TriCommand, TriReply, TriSink};
 use crate::item::TriHashItemMut;
 use iddqd_store::{DuplicateItem, ItemIndex, MemoryRefused, UpToThree};
 use std::hash::{BuildHasher, Hash};
+
+mod steps;
 
 impl<T: TriHashItemMut + Drop, S: BuildHasher> TriHashMap<T, S>
 where
@@ -50,6 +52,8 @@ where
             (state_of self.old) sink.old command result (state_of self.new) sink.new }
         ensures builder { self.new.builder ≡ self.old.builder }
     {
+        // A function begins by clearing the room of all its values. So no arm holds a reply: it is a call (those that
+        // change the map by a key are in `steps`), and a look-up doesn't pay for the replies of all others.
         match command {
             TriCommand::InsertUnique(item) => self.apply_insert_unique(item, sink),
             TriCommand::InsertOverwrite(item) => self.apply_insert_overwrite(item, sink),
@@ -66,69 +70,38 @@ where
                 self.contains_key_unique(&key1, &key2, &key3),
                 sink,
             ),
-            TriCommand::Remove1(key) => {
-                let taken = self.remove1(&key);
-                self.tell(TriReply::Taken(taken), sink)
-            }
-            TriCommand::Remove2(key) => {
-                let taken = self.remove2(&key);
-                self.tell(TriReply::Taken(taken), sink)
-            }
-            TriCommand::Remove3(key) => {
-                let taken = self.remove3(&key);
-                self.tell(TriReply::Taken(taken), sink)
-            }
-            TriCommand::RemoveUnique(key1, key2, key3) => {
-                let taken = self.remove_unique(&key1, &key2, &key3);
-                self.tell(TriReply::Taken(taken), sink)
-            }
+            TriCommand::Remove1(key) => self.apply_remove1(key, sink),
+            TriCommand::Remove2(key) => self.apply_remove2(key, sink),
+            TriCommand::Remove3(key) => self.apply_remove3(key, sink),
+            TriCommand::RemoveUnique(key1, key2, key3) => self.apply_remove_unique(
+                key1, key2, key3, sink,
+            ),
             TriCommand::Reserve(more) => self.apply_reserve(more, sink),
             TriCommand::ShrinkTo(least) => self.apply_shrink_to(least, sink),
             TriCommand::ShrinkToFit => self.apply_shrink_to(0, sink),
             TriCommand::Clear => {
                 self.clear();
-                self.tell(TriReply::Done, sink)
+                self.tell_done(sink)
             }
-            TriCommand::Len => self.tell(TriReply::Length(self.len()), sink),
+            TriCommand::Len => self.tell_length(sink),
             TriCommand::Items => self.tell_items(sink),
             TriCommand::Extend(items) => self.apply_extend(items, sink),
             TriCommand::ExtendUnique(items) => self.apply_extend_unique(items, sink),
-            TriCommand::EntryInsert(key1, key2, key3, item) => {
-                let reply = self.entry_insert(&key1, &key2, &key3, item);
-                self.tell(reply, sink)
-            }
-            TriCommand::EntryRemove(key1, key2, key3) => {
-                let reply = self.entry_remove(&key1, &key2, &key3);
-                self.tell(reply, sink)
-            }
-            TriCommand::OrInsert(key1, key2, key3, item) => {
-                let reply = self.or_insert(&key1, &key2, &key3, item);
-                self.tell(reply, sink)
-            }
-            TriCommand::Replace1(key, item) => {
-                let reply = self.replace1(&key, item);
-                self.tell(reply, sink)
-            }
-            TriCommand::Replace2(key, item) => {
-                let reply = self.replace2(&key, item);
-                self.tell(reply, sink)
-            }
-            TriCommand::Replace3(key, item) => {
-                let reply = self.replace3(&key, item);
-                self.tell(reply, sink)
-            }
-            TriCommand::Set1(key, data) => {
-                let reply = self.set1(&key, data);
-                self.tell(reply, sink)
-            }
-            TriCommand::Set2(key, data) => {
-                let reply = self.set2(&key, data);
-                self.tell(reply, sink)
-            }
-            TriCommand::Set3(key, data) => {
-                let reply = self.set3(&key, data);
-                self.tell(reply, sink)
-            }
+            TriCommand::EntryInsert(key1, key2, key3, item) => self.apply_entry_insert(
+                key1, key2, key3, item, sink,
+            ),
+            TriCommand::EntryRemove(key1, key2, key3) => self.apply_entry_remove(
+                key1, key2, key3, sink,
+            ),
+            TriCommand::OrInsert(key1, key2, key3, item) => self.apply_or_insert(
+                key1, key2, key3, item, sink,
+            ),
+            TriCommand::Replace1(key, item) => self.apply_replace1(key, item, sink),
+            TriCommand::Replace2(key, item) => self.apply_replace2(key, item, sink),
+            TriCommand::Replace3(key, item) => self.apply_replace3(key, item, sink),
+            TriCommand::Set1(key, data) => self.apply_set1(key, data, sink),
+            TriCommand::Set2(key, data) => self.apply_set2(key, data, sink),
+            TriCommand::Set3(key, data) => self.apply_set3(key, data, sink),
         }
     }
 
@@ -226,6 +199,20 @@ where
         ensures fits { Fits (state_of self.now) }
     {
         self.tell(TriReply::Present(answer), sink)
+    }
+
+    fn tell_done<K: TriSink<T>>(&self, sink: &mut K) -> Result<(), K::Fault>
+        ensures took { K.took sink.old done result sink.new }
+        ensures fits { Fits (state_of self.now) }
+    {
+        self.tell(TriReply::Done, sink)
+    }
+
+    fn tell_length<K: TriSink<T>>(&self, sink: &mut K) -> Result<(), K::Fault>
+        ensures took { K.took sink.old (size (length (bag self.now))) result sink.new }
+        ensures fits { Fits (state_of self.now) }
+    {
+        self.tell(TriReply::Length(self.len()), sink)
     }
 
     fn tell_found1<K: TriSink<T>>(&self, key: &T::K1, sink: &mut K) -> Result<(), K::Fault>

@@ -27,7 +27,8 @@ impl<T: TriHashItem, S: BuildHasher> TriHashMap<T, S> {
     ) -> (UpToThree<T>, ItemIndex)
         requires found { ListsConflicts (ranks T.TriHashItem T.K1.eq T.K2.eq T.K3.eq) self.old item
             (each_once (by1.now.slot ∷ by2.now.slot ∷ by3.now.slot ∷ [])) }
-        requires room { length (each_once (by1.now.slot ∷ by2.now.slot ∷ by3.now.slot ∷ [])) ≡ 0 → length (bag self.old) < self.old.capacity }
+        requires room { length (each_once (by1.now.slot ∷ by2.now.slot ∷ by3.now.slot ∷ [])) ≡ 0
+            → length (bag self.old) < self.old.capacity }
         requires hash1 { by1.now.hash
             ≡ key_hash T.key1 T.K1.hash_input S.BuildHasher S.Hasher.Hasher self.old.builder item }
         requires hash2 { by2.now.hash
@@ -42,7 +43,8 @@ impl<T: TriHashItem, S: BuildHasher> TriHashMap<T, S> {
             self.old.slots by3.now }
         ensures displaced { result.0 ≡ order (ranks T.TriHashItem T.K1.eq T.K2.eq T.K3.eq) (bag self.old) item }
         ensures at { get self.new.slots result.1 ≡ Some item }
-        ensures items { IsPermutation (bag self.new) (over (ranks T.TriHashItem T.K1.eq T.K2.eq T.K3.eq) (bag self.old) item) }
+        ensures items { IsPermutation (bag self.new)
+            (over (ranks T.TriHashItem T.K1.eq T.K2.eq T.K3.eq) (bag self.old) item) }
         ensures sound { IsSound (ranks T.TriHashItem T.K1.eq T.K2.eq T.K3.eq) (bag self.new) }
         ensures fits { length (bag self.new) ≤ self.new.capacity }
         ensures capacity { self.new.capacity ≡ self.old.capacity }
@@ -67,8 +69,8 @@ impl<T: TriHashItem, S: BuildHasher> TriHashMap<T, S> {
     /// rank, the pair in its table stays.
     fn exchange(&mut self, ix: ItemIndex, item: T, by1: &Sought, by2: &Sought, by3: &Sought) -> T
         requires live { IsLive self.old.slots ix }
-        requires free { clash (ranks T.TriHashItem T.K1.eq T.K2.eq T.K3.eq) (live_items (slice_set self.old.slots ix None)) item
-            ≡ [] }
+        requires free { clash (ranks T.TriHashItem T.K1.eq T.K2.eq T.K3.eq)
+            (live_items (slice_set self.old.slots ix None)) item ≡ [] }
         requires hash1 { by1.now.hash
             ≡ key_hash T.key1 T.K1.hash_input S.BuildHasher S.Hasher.Hasher self.old.builder item }
         requires hash2 { by2.now.hash

@@ -1,0 +1,241 @@
+//! Commands that change the map, carried out one by one. Each has a function of its own, which is called and not copied
+//! into `apply`, since it takes room for a reply.
+ghost use Rattle.std.specs.Prelude.{◌≡◌};
+ghost use Rattle.iddqd_store.specs.Runs.Step.{state_of, Removes, Replaces, Sets};
+ghost use Rattle.iddqd_store.specs.Runs.Step.{EntryInserts, EntryRemoves, OrInserts};
+ghost use Rattle.iddqd_store.specs.Runs.Run.{Applies};
+ghost use Rattle.iddqd_tri.specs.Keys.{ranks, has1, has2, has3, has_all, key_tests};
+
+use crate::command::{TriReply, TriSink};
+use crate::item::TriHashItemMut;
+use crate::map::TriHashMap;
+use std::hash::{BuildHasher, Hash};
+
+impl<T: TriHashItemMut + Drop, S: BuildHasher> TriHashMap<T, S>
+where
+    T::K1: Drop,
+    T::K2: Drop,
+    T::K3: Drop,
+    T::Data: Drop,
+{
+    /// Takes the item with this first key out.
+    #[inline(never)]
+    pub(super) fn apply_remove1<K: TriSink<T>>(
+        &mut self,
+        key: T::K1,
+        sink: &mut K,
+    ) -> Result<(), K::Fault>
+        ensures step { Applies Removes K.took
+            (state_of self.old) sink.old (has1 T.TriHashItem T.K1.eq key) result (state_of self.new) sink.new }
+        ensures builder { self.new.builder ≡ self.old.builder }
+    {
+        let taken = self.remove1(&key);
+        self.tell(TriReply::Taken(taken), sink)
+    }
+
+    /// Takes the item with this second key out.
+    #[inline(never)]
+    pub(super) fn apply_remove2<K: TriSink<T>>(
+        &mut self,
+        key: T::K2,
+        sink: &mut K,
+    ) -> Result<(), K::Fault>
+        ensures step { Applies Removes K.took
+            (state_of self.old) sink.old (has2 T.TriHashItem T.K2.eq key) result (state_of self.new) sink.new }
+        ensures builder { self.new.builder ≡ self.old.builder }
+    {
+        let taken = self.remove2(&key);
+        self.tell(TriReply::Taken(taken), sink)
+    }
+
+    /// Takes the item with this third key out.
+    #[inline(never)]
+    pub(super) fn apply_remove3<K: TriSink<T>>(
+        &mut self,
+        key: T::K3,
+        sink: &mut K,
+    ) -> Result<(), K::Fault>
+        ensures step { Applies Removes K.took
+            (state_of self.old) sink.old (has3 T.TriHashItem T.K3.eq key) result (state_of self.new) sink.new }
+        ensures builder { self.new.builder ≡ self.old.builder }
+    {
+        let taken = self.remove3(&key);
+        self.tell(TriReply::Taken(taken), sink)
+    }
+
+    /// Takes the item with all keys out.
+    #[inline(never)]
+    pub(super) fn apply_remove_unique<K: TriSink<T>>(
+        &mut self,
+        key1: T::K1,
+        key2: T::K2,
+        key3: T::K3,
+        sink: &mut K,
+    ) -> Result<(), K::Fault>
+        ensures step { Applies Removes K.took
+            (state_of self.old) sink.old (has_all T.TriHashItem T.K1.eq T.K2.eq T.K3.eq key1 key2 key3)
+            result (state_of self.new) sink.new }
+        ensures builder { self.new.builder ≡ self.old.builder }
+    {
+        let taken = self.remove_unique(&key1, &key2, &key3);
+        self.tell(TriReply::Taken(taken), sink)
+    }
+
+    /// Puts the item in through the entry of the keys.
+    #[inline(never)]
+    pub(super) fn apply_entry_insert<K: TriSink<T>>(
+        &mut self,
+        key1: T::K1,
+        key2: T::K2,
+        key3: T::K3,
+        item: T,
+        sink: &mut K,
+    ) -> Result<(), K::Fault>
+        ensures step { Applies (EntryInserts (ranks T.TriHashItem T.K1.eq T.K2.eq T.K3.eq)
+            (key_tests T.TriHashItem T.K1.eq T.K2.eq T.K3.eq key1 key2 key3)) K.took
+            (state_of self.old) sink.old item result (state_of self.new) sink.new }
+        ensures builder { self.new.builder ≡ self.old.builder }
+    {
+        let reply = self.entry_insert(&key1, &key2, &key3, item);
+        self.tell(reply, sink)
+    }
+
+    /// Takes the items out that the entry of the keys has.
+    #[inline(never)]
+    pub(super) fn apply_entry_remove<K: TriSink<T>>(
+        &mut self,
+        key1: T::K1,
+        key2: T::K2,
+        key3: T::K3,
+        sink: &mut K,
+    ) -> Result<(), K::Fault>
+        ensures step { Applies (λ old tests reply new. EntryRemoves tests old reply new) K.took
+            (state_of self.old) sink.old (key_tests T.TriHashItem T.K1.eq T.K2.eq T.K3.eq key1 key2 key3)
+            result (state_of self.new) sink.new }
+        ensures builder { self.new.builder ≡ self.old.builder }
+    {
+        let reply = self.entry_remove(&key1, &key2, &key3);
+        self.tell(reply, sink)
+    }
+
+    /// Puts the item in through the entry of the keys, where that is vacant.
+    #[inline(never)]
+    pub(super) fn apply_or_insert<K: TriSink<T>>(
+        &mut self,
+        key1: T::K1,
+        key2: T::K2,
+        key3: T::K3,
+        item: T,
+        sink: &mut K,
+    ) -> Result<(), K::Fault>
+        ensures step { Applies (OrInserts (ranks T.TriHashItem T.K1.eq T.K2.eq T.K3.eq)
+            (key_tests T.TriHashItem T.K1.eq T.K2.eq T.K3.eq key1 key2 key3)) K.took
+            (state_of self.old) sink.old item result (state_of self.new) sink.new }
+        ensures builder { self.new.builder ≡ self.old.builder }
+    {
+        let reply = self.or_insert(&key1, &key2, &key3, item);
+        self.tell(reply, sink)
+    }
+
+    /// Puts the item in the place of that with this first key.
+    #[inline(never)]
+    pub(super) fn apply_replace1<K: TriSink<T>>(
+        &mut self,
+        key: T::K1,
+        item: T,
+        sink: &mut K,
+    ) -> Result<(), K::Fault>
+        ensures step { Applies (Replaces (ranks T.TriHashItem T.K1.eq T.K2.eq T.K3.eq)
+            (has1 T.TriHashItem T.K1.eq key)) K.took
+            (state_of self.old) sink.old item result (state_of self.new) sink.new }
+        ensures builder { self.new.builder ≡ self.old.builder }
+    {
+        let reply = self.replace1(&key, item);
+        self.tell(reply, sink)
+    }
+
+    /// Puts the item in the place of that with this second key.
+    #[inline(never)]
+    pub(super) fn apply_replace2<K: TriSink<T>>(
+        &mut self,
+        key: T::K2,
+        item: T,
+        sink: &mut K,
+    ) -> Result<(), K::Fault>
+        ensures step { Applies (Replaces (ranks T.TriHashItem T.K1.eq T.K2.eq T.K3.eq)
+            (has2 T.TriHashItem T.K2.eq key)) K.took
+            (state_of self.old) sink.old item result (state_of self.new) sink.new }
+        ensures builder { self.new.builder ≡ self.old.builder }
+    {
+        let reply = self.replace2(&key, item);
+        self.tell(reply, sink)
+    }
+
+    /// Puts the item in the place of that with this third key.
+    #[inline(never)]
+    pub(super) fn apply_replace3<K: TriSink<T>>(
+        &mut self,
+        key: T::K3,
+        item: T,
+        sink: &mut K,
+    ) -> Result<(), K::Fault>
+        ensures step { Applies (Replaces (ranks T.TriHashItem T.K1.eq T.K2.eq T.K3.eq)
+            (has3 T.TriHashItem T.K3.eq key)) K.took
+            (state_of self.old) sink.old item result (state_of self.new) sink.new }
+        ensures builder { self.new.builder ≡ self.old.builder }
+    {
+        let reply = self.replace3(&key, item);
+        self.tell(reply, sink)
+    }
+
+    /// Writes the data of the item with this first key.
+    #[inline(never)]
+    pub(super) fn apply_set1<K: TriSink<T>>(
+        &mut self,
+        key: T::K1,
+        new_data: T::Data,
+        sink: &mut K,
+    ) -> Result<(), K::Fault>
+        ensures step { Applies (Sets (ranks T.TriHashItem T.K1.eq T.K2.eq T.K3.eq) T.put
+            (has1 T.TriHashItem T.K1.eq key)) K.took
+            (state_of self.old) sink.old new_data result (state_of self.new) sink.new }
+        ensures builder { self.new.builder ≡ self.old.builder }
+    {
+        let reply = self.set1(&key, new_data);
+        self.tell(reply, sink)
+    }
+
+    /// Writes the data of the item with this second key.
+    #[inline(never)]
+    pub(super) fn apply_set2<K: TriSink<T>>(
+        &mut self,
+        key: T::K2,
+        new_data: T::Data,
+        sink: &mut K,
+    ) -> Result<(), K::Fault>
+        ensures step { Applies (Sets (ranks T.TriHashItem T.K1.eq T.K2.eq T.K3.eq) T.put
+            (has2 T.TriHashItem T.K2.eq key)) K.took
+            (state_of self.old) sink.old new_data result (state_of self.new) sink.new }
+        ensures builder { self.new.builder ≡ self.old.builder }
+    {
+        let reply = self.set2(&key, new_data);
+        self.tell(reply, sink)
+    }
+
+    /// Writes the data of the item with this third key.
+    #[inline(never)]
+    pub(super) fn apply_set3<K: TriSink<T>>(
+        &mut self,
+        key: T::K3,
+        new_data: T::Data,
+        sink: &mut K,
+    ) -> Result<(), K::Fault>
+        ensures step { Applies (Sets (ranks T.TriHashItem T.K1.eq T.K2.eq T.K3.eq) T.put
+            (has3 T.TriHashItem T.K3.eq key)) K.took
+            (state_of self.old) sink.old new_data result (state_of self.new) sink.new }
+        ensures builder { self.new.builder ≡ self.old.builder }
+    {
+        let reply = self.set3(&key, new_data);
+        self.tell(reply, sink)
+    }
+}
