@@ -11,3 +11,4 @@ pub mod Parsing
 pub mod Printing
 pub mod Replying
 pub mod Sorting
+pub mod Spelling

@@ -35,7 +35,11 @@ pub fn parse<C: Command>(alloc: Global, text: &[u8]) -> Result<Parsed<C>, AllocE
         let (line, after) = cut(rest);
         number += 1;
         match command_of_line(alloc, line, &mut numbers)? {
-            Some(command) => commands.push(command)?,
+            Some(command) => {
+                // Room first: a `push` hands the command back where memory is refused, by way of memory at each line.
+                commands.reserve(1)?;
+                commands.push_reserved(command);
+            }
             None => return Ok(Parsed::BadLine(number)),
         }
         rest = after;
@@ -74,7 +78,8 @@ fn read_numbers(text: &[u8], numbers: &mut Vec<u64>) -> Result<bool, AllocError>
         let Some((n, after)) = first_number(fields) else {
             return Ok(false);
         };
-        numbers.push(n)?;
+        numbers.reserve(1)?;
+        numbers.push_reserved(n);
         rest = after;
     }
     Ok(true)

@@ -1,5 +1,6 @@
 //! The words of the program.
 ghost use Rattle.std.specs.Prelude.{◌≡◌};
+ghost use Rattle.iddqd_run.specs.Texts.{is_text};
 ghost use Rattle.iddqd_run.specs.Words.{word_of};
 
 /// The first word of a line.
@@ -33,49 +34,69 @@ pub fn word_of(bytes: &[u8]) -> Option<Word>
     ensures { result ≡ word_of bytes.now }
 {
     // One comparison after another: a match on the bytes of so many words is more than the prover takes.
-    if bytes == b"new".as_slice() {
+    if is_word(bytes, b"new") {
         Some(Word::New)
-    } else if bytes == b"get1".as_slice() {
+    } else if is_word(bytes, b"get1") {
         Some(Word::Get1)
-    } else if bytes == b"get2".as_slice() {
+    } else if is_word(bytes, b"get2") {
         Some(Word::Get2)
-    } else if bytes == b"get3".as_slice() {
+    } else if is_word(bytes, b"get3") {
         Some(Word::Get3)
-    } else if bytes == b"both".as_slice() {
+    } else if is_word(bytes, b"both") {
         Some(Word::Both)
-    } else if bytes == b"del1".as_slice() {
+    } else if is_word(bytes, b"del1") {
         Some(Word::Del1)
-    } else if bytes == b"del2".as_slice() {
+    } else if is_word(bytes, b"del2") {
         Some(Word::Del2)
-    } else if bytes == b"del3".as_slice() {
+    } else if is_word(bytes, b"del3") {
         Some(Word::Del3)
-    } else if bytes == b"delboth".as_slice() {
+    } else if is_word(bytes, b"delboth") {
         Some(Word::DelBoth)
-    } else if bytes == b"len".as_slice() {
+    } else if is_word(bytes, b"len") {
         Some(Word::Len)
-    } else if bytes == b"put".as_slice() {
+    } else if is_word(bytes, b"put") {
         Some(Word::Put)
-    } else if bytes == b"reserve".as_slice() {
+    } else if is_word(bytes, b"reserve") {
         Some(Word::Reserve)
-    } else if bytes == b"fit".as_slice() {
+    } else if is_word(bytes, b"fit") {
         Some(Word::Fit)
-    } else if bytes == b"clear".as_slice() {
+    } else if is_word(bytes, b"clear") {
         Some(Word::Clear)
-    } else if bytes == b"list".as_slice() {
+    } else if is_word(bytes, b"list") {
         Some(Word::List)
-    } else if bytes == b"replace1".as_slice() {
+    } else if is_word(bytes, b"replace1") {
         Some(Word::Replace1)
-    } else if bytes == b"set1".as_slice() {
+    } else if is_word(bytes, b"set1") {
         Some(Word::Set1)
-    } else if bytes == b"entput".as_slice() {
+    } else if is_word(bytes, b"entput") {
         Some(Word::EntPut)
-    } else if bytes == b"entdel".as_slice() {
+    } else if is_word(bytes, b"entdel") {
         Some(Word::EntDel)
-    } else if bytes == b"orput".as_slice() {
+    } else if is_word(bytes, b"orput") {
         Some(Word::OrPut)
-    } else if bytes == b"addall".as_slice() {
+    } else if is_word(bytes, b"addall") {
         Some(Word::AddAll)
     } else {
         None
     }
+}
+
+/// Whether the bytes are those of a word. It is copied into its callers, where the word's length is known and no loop is
+/// left.
+#[inline(always)]
+#[tactic(auto, using(crate::proofs::Spelling::goes_on, crate::proofs::Spelling::ends_so, crate::proofs::Spelling::differs, crate::proofs::Spelling::differs_in_length))]
+fn is_word(bytes: &[u8], word: &[u8]) -> bool
+    ensures { result ≡ is_text bytes.now word.now }
+{
+    if bytes.len() != word.len() {
+        return false;
+    }
+    let mut at = 0;
+    while at < word.len() {
+        if bytes[at] != word[at] {
+            return false;
+        }
+        at += 1;
+    }
+    true
 }
