@@ -1,9 +1,9 @@
-//! Calls of the two-key map, as values. Each is carried out on the map of five items, and says whether it answered as
-//! its name says. Where a call needs another one before it, the counts start again in between.
+//! Calls of the two-key map that look for items or put them in, as values. Each is carried out on the map of five
+//! items, and says whether it answered as its name says. Where a call needs another one before it, the counts start
+//! again in between. What only hands a call on stands apart from the calls, since each brings its contract.
 use crate::counting::Counts;
 use crate::pair::{Numbers, Pair, pair_of};
-use iddqd_bi::{BiHashMap, Cursor, Entry};
-use iddqd_tests::Alike;
+use iddqd_bi::BiHashMap;
 use std::alloc::{AllocError, Global};
 use std::hash::BuildHasher;
 use std::process::Abort;
@@ -23,63 +23,110 @@ pub(crate) fn five<S: BuildHasher + Drop>(
     Ok(map)
 }
 
+/// The keys that a search goes by.
+#[derive(Clone, Copy)]
+pub(crate) enum By {
+    Key1,
+    Key2,
+    All,
+}
+
 /// A call that looks for an item.
 #[derive(Clone, Copy)]
 pub(crate) enum Search {
-    Get1,
-    Get2,
-    GetUnique,
-    Contains1,
-    Contains2,
-    ContainsUnique,
-    Mut1,
-    Mut2,
-    MutUnique,
-    Remove1,
-    Remove2,
-    RemoveUnique,
+    Get(By),
+    Contains(By),
+    GetMut(By),
+    Remove(By),
 }
 
-/// Whether a search by the keys of this item finds one.
+/// Whether a search by keys of these numbers finds an item.
 pub(crate) fn finds<S: BuildHasher>(
     map: &mut BiHashMap<Pair, S>,
+    counts: &Rc<Counts>,
     search: Search,
-    item: &Pair,
-) -> bool {
-    let Pair {
-        key1,
-        key2,
-        value: _,
-    } = item;
-    match search {
-        Search::Get1 => map.get1(key1).is_some(),
-        Search::Get2 => map.get2(key2).is_some(),
-        Search::GetUnique => map.get_unique(key1, key2).is_some(),
-        Search::Contains1 => map.contains_key1(key1),
-        Search::Contains2 => map.contains_key2(key2),
-        Search::ContainsUnique => map.contains_key_unique(key1, key2),
-        Search::Mut1 => map.get1_mut(key1).is_some(),
-        Search::Mut2 => map.get2_mut(key2).is_some(),
-        Search::MutUnique => map.get_mut_unique(key1, key2).is_some(),
-        Search::Remove1 => map.remove1(key1).is_some(),
-        Search::Remove2 => map.remove2(key2).is_some(),
-        Search::RemoveUnique => map.remove_unique(key1, key2).is_some(),
+    numbers: Numbers,
+) -> Result<bool, AllocError> {
+    let keys = pair_of(counts, numbers)?;
+    Ok(match search {
+        Search::Get(by) => gets(map, by, &keys),
+        Search::Contains(by) => contains(map, by, &keys),
+        Search::GetMut(by) => gets_mut(map, by, &keys),
+        Search::Remove(by) => removes(map, by, &keys),
+    })
+}
+
+fn gets<S: BuildHasher>(map: &BiHashMap<Pair, S>, by: By, keys: &Pair) -> bool {
+    match by {
+        By::Key1 => map.get1(&keys.key1).is_some(),
+        By::Key2 => map.get2(&keys.key2).is_some(),
+        By::All => map.get_unique(&keys.key1, &keys.key2).is_some(),
     }
 }
 
-/// A call that puts items in which conflict with none, unless its name says otherwise.
+fn contains<S: BuildHasher>(map: &BiHashMap<Pair, S>, by: By, keys: &Pair) -> bool {
+    match by {
+        By::Key1 => map.contains_key1(&keys.key1),
+        By::Key2 => map.contains_key2(&keys.key2),
+        By::All => map.contains_key_unique(&keys.key1, &keys.key2),
+    }
+}
+
+fn gets_mut<S: BuildHasher>(map: &mut BiHashMap<Pair, S>, by: By, keys: &Pair) -> bool {
+    match by {
+        By::Key1 => map.get1_mut(&keys.key1).is_some(),
+        By::Key2 => map.get2_mut(&keys.key2).is_some(),
+        By::All => map.get_mut_unique(&keys.key1, &keys.key2).is_some(),
+    }
+}
+
+fn removes<S: BuildHasher>(map: &mut BiHashMap<Pair, S>, by: By, keys: &Pair) -> bool {
+    match by {
+        By::Key1 => map.remove1(&keys.key1).is_some(),
+        By::Key2 => map.remove2(&keys.key2).is_some(),
+        By::All => map.remove_unique(&keys.key1, &keys.key2).is_some(),
+    }
+}
+
+/// A call that puts one item in.
 #[derive(Clone, Copy)]
 pub(crate) enum Insert {
     Unique,
-    Overwrite,
-    /// `insert_overwrite` of an item with these keys, which so many items have.
-    Displaces(Numbers, usize),
-    Extend,
-    ExtendUnique,
-    /// `extend_unique` with a list of three whose last item has this first key, which is taken.
-    ExtendUniqueRefused(u64),
-    /// The items of that list by one `insert_unique` after another.
-    OneByOne(u64),
+    /// `insert_overwrite`, which so many items have to give way to.
+    Overwrite(usize),
+}
+
+/// Whether the item of keys of these numbers goes in as it is to.
+pub(crate) fn puts_in<S: BuildHasher>(
+    map: &mut BiHashMap<Pair, S>,
+    counts: &Rc<Counts>,
+    insert: Insert,
+    numbers: Numbers,
+) -> Result<bool, AllocError> {
+    let item = pair_of(counts, numbers)?;
+    Ok(match insert {
+        Insert::Unique => map.insert_unique(item).is_ok(),
+        Insert::Overwrite(many) => displaces(map, item) == Some(many),
+    })
+}
+
+/// How many items give way to this one, if there is memory.
+fn displaces<S: BuildHasher>(map: &mut BiHashMap<Pair, S>, item: Pair) -> Option<usize> {
+    match map.insert_overwrite(item) {
+        Ok(displaced) => Some(displaced.len()),
+        Err(_) => None,
+    }
+}
+
+/// A call with a list of three items, of which the first two conflict with none.
+#[derive(Clone, Copy)]
+pub(crate) enum Extend {
+    Overwriting,
+    Unique,
+    /// `extend_unique`, to which the last item conflicts.
+    Refused,
+    /// One `insert_unique` after another, of which the last is refused.
+    OneByOne,
 }
 
 /// Two items that conflict with none, and one that has this first key.
@@ -91,192 +138,32 @@ fn three_items(counts: &Rc<Counts>, last: u64) -> Result<[Pair; 3], AllocError> 
     ])
 }
 
-/// Whether items go in, or are refused where they are to be.
-pub(crate) fn puts_in<S: BuildHasher>(
+/// Whether a list of three whose last item has this first key goes in, or is refused where it is to be.
+pub(crate) fn extends<S: BuildHasher>(
     map: &mut BiHashMap<Pair, S>,
     counts: &Rc<Counts>,
-    insert: Insert,
+    extend: Extend,
+    last: u64,
 ) -> Result<bool, AllocError> {
-    Ok(match insert {
-        Insert::Unique => map.insert_unique(pair_of(counts, (65, 75))?).is_ok(),
-        Insert::Overwrite => map.insert_overwrite(pair_of(counts, (65, 75))?).is_ok(),
-        Insert::Displaces(keys, many) => match map.insert_overwrite(pair_of(counts, keys)?) {
-            Ok(displaced) => displaced.len() == many,
-            Err(_) => false,
-        },
-        Insert::Extend => map.extend(three_items(counts, 67)?).is_ok(),
-        Insert::ExtendUnique => map.extend_unique(three_items(counts, 67)?).is_ok(),
-        Insert::ExtendUniqueRefused(last) => {
-            map.extend_unique(three_items(counts, last)?).is_err() && map.len() == 5
-        }
-        Insert::OneByOne(last) => {
-            for item in three_items(counts, last)? {
-                let _ = map.insert_unique(item).is_ok();
-            }
-            map.len() == 7
-        }
+    let items = three_items(counts, last)?;
+    Ok(match extend {
+        Extend::Overwriting => map.extend(items).is_ok(),
+        Extend::Unique => takes_all(map, items) == (true, 8),
+        Extend::Refused => takes_all(map, items) == (false, 5),
+        Extend::OneByOne => put_one_by_one(map, items) == 7,
     })
 }
 
-/// What is done with an entry.
-#[derive(Clone, Copy)]
-pub(crate) enum Enter {
-    /// It is made, and is vacant.
-    Vacant,
-    /// `insert` where it is vacant.
-    Insert,
-    /// `insert_entry` where it is vacant.
-    InsertEntry,
-    OrInsert,
-    /// `insert` where it is occupied.
-    Over,
-    /// `insert` where it is occupied, of an item that has not its keys.
-    OverRefused,
-    /// `remove` of two items.
-    Remove,
-    AndModify,
-    ForEach,
+/// Whether `extend_unique` takes the items, and how many there are in the map behind it.
+fn takes_all<S: BuildHasher>(map: &mut BiHashMap<Pair, S>, items: [Pair; 3]) -> (bool, usize) {
+    let is_in = map.extend_unique(items).is_ok();
+    (is_in, map.len())
 }
 
-/// Whether the entry of keys of these numbers does what it is to do with an item of those.
-pub(crate) fn enters<S: BuildHasher>(
-    map: &mut BiHashMap<Pair, S>,
-    counts: &Rc<Counts>,
-    enter: Enter,
-    asked: Numbers,
-    given: Numbers,
-) -> Result<bool, AllocError> {
-    let keys = pair_of(counts, asked)?;
-    let item = pair_of(counts, given)?;
-    let entry = map.entry(&keys.key1, &keys.key2);
-    if let Enter::Vacant = enter {
-        return Ok(matches!(entry, Entry::Vacant(_)));
+/// How many items there are behind one `insert_unique` of each item after another.
+fn put_one_by_one<S: BuildHasher>(map: &mut BiHashMap<Pair, S>, items: [Pair; 3]) -> usize {
+    for item in items {
+        let _ = map.insert_unique(item).is_ok();
     }
-    counts.reset();
-    Ok(match (enter, entry) {
-        (Enter::Insert, Entry::Vacant(entry)) => entry.insert(item).is_ok(),
-        (Enter::InsertEntry, Entry::Vacant(entry)) => entry.insert_entry(item).is_ok(),
-        (Enter::OrInsert, entry) => entry.or_insert(item).is_ok(),
-        (Enter::Over, Entry::Occupied(mut entry)) => entry.insert(item).is_ok(),
-        (Enter::OverRefused, Entry::Occupied(mut entry)) => entry.insert(item).is_err(),
-        (Enter::Remove, Entry::Occupied(entry)) => entry.remove().len() == 2,
-        (Enter::AndModify, entry) => {
-            let entry = entry.and_modify(|item| item.value.wrapping_add(1));
-            matches!(entry, Entry::Occupied(_))
-        }
-        (Enter::ForEach, Entry::Occupied(entry)) => {
-            entry.into_mut().for_each(|item| item.value.wrapping_add(1));
-            true
-        }
-        _ => false,
-    })
-}
-
-/// What is done with the item of the first key 1, lent for writing.
-#[derive(Clone, Copy)]
-pub(crate) enum Write {
-    DataMut,
-    /// `replace` by an item of keys of these numbers.
-    Replace(Numbers),
-    /// The same, refused.
-    ReplaceRefused(Numbers),
-}
-
-/// Whether that item is written.
-pub(crate) fn writes<S: BuildHasher>(
-    map: &mut BiHashMap<Pair, S>,
-    counts: &Rc<Counts>,
-    write: Write,
-) -> Result<bool, AllocError> {
-    let first = pair_of(counts, (1, 11))?;
-    let Some(mut found) = map.get1_mut(&first.key1) else {
-        return Ok(false);
-    };
-    counts.reset();
-    Ok(match write {
-        Write::DataMut => {
-            *found.data_mut() = 0;
-            true
-        }
-        Write::Replace(numbers) => found.replace(pair_of(counts, numbers)?).is_ok(),
-        Write::ReplaceRefused(numbers) => found.replace(pair_of(counts, numbers)?).is_err(),
-    })
-}
-
-/// A call on the map as a whole.
-#[derive(Clone, Copy)]
-pub(crate) enum Whole {
-    Len,
-    Capacity,
-    Iter,
-    IterMut,
-    NextFrom,
-    IntoIter,
-    Reserve,
-    TryReserve,
-    ShrinkTo,
-    ShrinkToFit,
-    RetainAll,
-    RetainNone,
-    Clear,
-    Clone,
-    Equal,
-}
-
-/// How many items a cursor lends until there are no more, at most nine.
-fn passed<S: BuildHasher>(map: &mut BiHashMap<Pair, S>) -> u64 {
-    let mut at = Cursor::new();
-    let mut items: u64 = 0;
-    for _ in 0..9 {
-        if map.next_from(&mut at).is_some() {
-            items = items.wrapping_add(1);
-        }
-    }
-    items
-}
-
-/// How many items a walk lends for writing until there are no more, at most nine.
-fn walked<S: BuildHasher>(map: &mut BiHashMap<Pair, S>) -> u64 {
-    let mut walk = map.iter_mut();
-    let mut items: u64 = 0;
-    for _ in 0..9 {
-        if walk.next_mut().is_some() {
-            items = items.wrapping_add(1);
-        }
-    }
-    items
-}
-
-/// Whether a call on a map of five does what it is to do.
-pub(crate) fn does(mut map: BiHashMap<Pair, Alike>, counts: &Rc<Counts>, whole: Whole) -> bool {
-    match whole {
-        Whole::Len => map.len() == 5,
-        Whole::Capacity => map.capacity() >= 5,
-        Whole::Iter => map.iter().count() == 5,
-        Whole::IterMut => walked(&mut map) == 5,
-        Whole::NextFrom => passed(&mut map) == 5,
-        Whole::IntoIter => map.into_iter().count() == 5,
-        Whole::Reserve => map.reserve(100).is_ok(),
-        Whole::TryReserve => map.try_reserve(100).is_ok(),
-        Whole::ShrinkTo => map.shrink_to(6).is_ok(),
-        Whole::ShrinkToFit => map.shrink_to_fit().is_ok(),
-        Whole::RetainAll => {
-            map.retain(|_| true);
-            map.len() == 5
-        }
-        Whole::RetainNone => {
-            map.retain(|_| false);
-            map.is_empty()
-        }
-        Whole::Clear => {
-            map.clear();
-            map.is_empty()
-        }
-        Whole::Clone => map.clone().is_ok(),
-        Whole::Equal => {
-            let copy = map.clone();
-            counts.reset();
-            copy.is_ok_and(|copy| copy == map)
-        }
-    }
+    map.len()
 }

@@ -1,15 +1,9 @@
-//! How many keys calls of the two-key map compare and hash, on a map of five items.
-use crate::bi_calls::{
-    Enter, Insert, Search, Whole, Write, does, enters, finds, five, puts_in, writes,
-};
-use crate::counting::{Bounds, Counts, fits};
-use crate::pair::{Numbers, pair_of};
-use iddqd_tests::{Alike, OwnHash};
-use std::alloc::{AllocError, Global};
-use std::hash::BuildHasher;
-use std::process::Abort;
-use std::rc::Rc;
-use std::test::Fail;
+//! Rows: how many keys each call of the two-key map compares and hashes, on a map of five items.
+use crate::bi_calls::{By, Extend, Insert, Search};
+use crate::bi_lending::{Enter, Write};
+use crate::bi_wholes::{Lent, Room, Walk, Whole};
+use crate::counting::Bounds;
+use crate::pair::Numbers;
 
 /// The keys of the first item.
 const FIRST: Numbers = (1, 11);
@@ -17,89 +11,102 @@ const FIRST: Numbers = (1, 11);
 /// Keys of two items.
 const APART: Numbers = (1, 12);
 
+/// The keys of the third item.
+pub(crate) const THIRD: Numbers = (3, 13);
+
 /// Keys that no item has. By their own hashes they have the homes of the keys of the first item.
-const NEW: Numbers = (65, 75);
+pub(crate) const NEW: Numbers = (65, 75);
 
 /// What a search is called; the search; and where it finds an item, how many keys it compares at least and at most, and
 /// how many it hashes. By keys that no item has it hashes one, and compares the five of the rank that it searches where
 /// all are hashed alike, and none where each has its own hash.
-const SEARCHES: [(&str, Search, Bounds, u64); 12] = [
-    ("get1", Search::Get1, (1, 5), 1),
-    ("get2", Search::Get2, (1, 5), 1),
-    ("get_unique", Search::GetUnique, (2, 6), 1),
-    ("contains_key1", Search::Contains1, (1, 5), 1),
-    ("contains_key2", Search::Contains2, (1, 5), 1),
-    ("contains_key_unique", Search::ContainsUnique, (2, 6), 1),
-    ("get1_mut", Search::Mut1, (1, 5), 1),
-    ("get2_mut", Search::Mut2, (1, 5), 1),
-    ("get_mut_unique", Search::MutUnique, (2, 6), 1),
-    ("remove1", Search::Remove1, (1, 5), 2),
-    ("remove2", Search::Remove2, (1, 5), 2),
-    ("remove_unique", Search::RemoveUnique, (2, 6), 2),
+pub(crate) const SEARCHES: [(&str, Search, Bounds, u64); 12] = [
+    ("get1", Search::Get(By::Key1), (1, 5), 1),
+    ("get2", Search::Get(By::Key2), (1, 5), 1),
+    ("get_unique", Search::Get(By::All), (2, 6), 1),
+    ("contains_key1", Search::Contains(By::Key1), (1, 5), 1),
+    ("contains_key2", Search::Contains(By::Key2), (1, 5), 1),
+    ("contains_key_unique", Search::Contains(By::All), (2, 6), 1),
+    ("get1_mut", Search::GetMut(By::Key1), (1, 5), 1),
+    ("get2_mut", Search::GetMut(By::Key2), (1, 5), 1),
+    ("get_mut_unique", Search::GetMut(By::All), (2, 6), 1),
+    ("remove1", Search::Remove(By::Key1), (1, 5), 2),
+    ("remove2", Search::Remove(By::Key2), (1, 5), 2),
+    ("remove_unique", Search::Remove(By::All), (2, 6), 2),
 ];
 
 /// A call, with what it is given.
 #[derive(Clone, Copy)]
-enum Call {
+pub(crate) enum Call {
     /// A search by the keys of the third item.
     Find(Search),
     /// A search by keys that no item has.
     Miss(Search),
-    Insert(Insert),
+    /// An item of these keys.
+    Insert(Insert, Numbers),
+    /// A list whose last item has this first key.
+    Extend(Extend, u64),
     /// The entry of the first keys, and an item of the second.
     Enter(Enter, Numbers, Numbers),
-    Write(Write),
+    /// The first item, and one of these keys.
+    Write(Write, Numbers),
 }
 
 /// What a call is called; the call; how many keys it compares at least and at most where all are hashed alike, and how
 /// many where each has its own hash; and how many it hashes.
-const CALLS: [(&str, Call, Bounds, u64, u64); 24] = [
+pub(crate) const CALLS: [(&str, Call, Bounds, u64, u64); 24] = [
     (
         "insert_unique",
-        Call::Insert(Insert::Unique),
+        Call::Insert(Insert::Unique, NEW),
         (10, 10),
         0,
         2,
     ),
     (
         "insert_overwrite",
-        Call::Insert(Insert::Overwrite),
+        Call::Insert(Insert::Overwrite(0), NEW),
         (10, 10),
         0,
         2,
     ),
     (
         "insert_overwrite of two items",
-        Call::Insert(Insert::Displaces(APART, 2)),
+        Call::Insert(Insert::Overwrite(2), APART),
         (2, 10),
         2,
         4,
     ),
     (
         "insert_overwrite of one item by its keys",
-        Call::Insert(Insert::Displaces(FIRST, 1)),
+        Call::Insert(Insert::Overwrite(1), FIRST),
         (2, 10),
         2,
         2,
     ),
-    ("extend", Call::Insert(Insert::Extend), (36, 36), 0, 6),
+    (
+        "extend",
+        Call::Extend(Extend::Overwriting, 67),
+        (36, 36),
+        0,
+        6,
+    ),
     (
         "extend_unique",
-        Call::Insert(Insert::ExtendUnique),
+        Call::Extend(Extend::Unique, 67),
         (36, 36),
         0,
         6,
     ),
     (
         "extend_unique, a key of the map",
-        Call::Insert(Insert::ExtendUniqueRefused(3)),
+        Call::Extend(Extend::Refused, 3),
         (30, 36),
         1,
         10,
     ),
     (
         "extend_unique, a key of the list",
-        Call::Insert(Insert::ExtendUniqueRefused(65)),
+        Call::Extend(Extend::Refused, 65),
         (30, 36),
         1,
         10,
@@ -188,18 +195,18 @@ const CALLS: [(&str, Call, Bounds, u64, u64); 24] = [
         0,
         0,
     ),
-    ("data_mut", Call::Write(Write::DataMut), (0, 0), 0, 0),
-    ("replace", Call::Write(Write::Replace(FIRST)), (2, 2), 2, 0),
+    ("data_mut", Call::Write(Write::DataMut, FIRST), (0, 0), 0, 0),
+    ("replace", Call::Write(Write::Replace, FIRST), (2, 2), 2, 0),
     (
         "replace by another key1",
-        Call::Write(Write::ReplaceRefused((2, 11))),
+        Call::Write(Write::ReplaceRefused, (2, 11)),
         (1, 1),
         1,
         0,
     ),
     (
         "replace by another key2",
-        Call::Write(Write::ReplaceRefused((1, 12))),
+        Call::Write(Write::ReplaceRefused, (1, 12)),
         (2, 2),
         2,
         0,
@@ -208,116 +215,50 @@ const CALLS: [(&str, Call, Bounds, u64, u64); 24] = [
 
 /// What a call on the map as a whole is called; the call; how many keys it compares at least and at most; and how many
 /// it hashes. Tables hold hashes, so growing and copying hash nothing. Shrinking fills new tables, by each key's hash.
-const WHOLES: [(&str, Whole, Bounds, u64); 15] = [
-    ("len", Whole::Len, (0, 0), 0),
-    ("capacity", Whole::Capacity, (0, 0), 0),
-    ("iter", Whole::Iter, (0, 0), 0),
-    ("iter_mut", Whole::IterMut, (0, 0), 0),
-    ("next_from", Whole::NextFrom, (0, 0), 0),
+pub(crate) const WHOLES: [(&str, Whole, Bounds, u64); 15] = [
+    ("len", Whole::Lent(Lent::Len), (0, 0), 0),
+    ("capacity", Whole::Lent(Lent::Capacity), (0, 0), 0),
+    ("iter", Whole::Lent(Lent::Walk(Walk::Iter)), (0, 0), 0),
+    (
+        "iter_mut",
+        Whole::Lent(Lent::Walk(Walk::IterMut)),
+        (0, 0),
+        0,
+    ),
+    (
+        "next_from",
+        Whole::Lent(Lent::Walk(Walk::NextFrom)),
+        (0, 0),
+        0,
+    ),
     ("into_iter", Whole::IntoIter, (0, 0), 0),
-    ("reserve", Whole::Reserve, (0, 0), 0),
-    ("try_reserve", Whole::TryReserve, (0, 0), 0),
-    ("shrink_to", Whole::ShrinkTo, (0, 0), 10),
-    ("shrink_to_fit", Whole::ShrinkToFit, (0, 0), 10),
-    ("retain of all", Whole::RetainAll, (0, 0), 0),
-    ("retain of none", Whole::RetainNone, (0, 0), 10),
-    ("clear", Whole::Clear, (0, 0), 0),
-    ("clone", Whole::Clone, (0, 0), 0),
-    ("==", Whole::Equal, (0, 50), 5),
+    ("reserve", Whole::Lent(Lent::Room(Room::Reserve)), (0, 0), 0),
+    (
+        "try_reserve",
+        Whole::Lent(Lent::Room(Room::TryReserve)),
+        (0, 0),
+        0,
+    ),
+    (
+        "shrink_to",
+        Whole::Lent(Lent::Room(Room::ShrinkTo)),
+        (0, 0),
+        10,
+    ),
+    (
+        "shrink_to_fit",
+        Whole::Lent(Lent::Room(Room::ShrinkToFit)),
+        (0, 0),
+        10,
+    ),
+    ("retain of all", Whole::Lent(Lent::Retain(true)), (0, 0), 0),
+    (
+        "retain of none",
+        Whole::Lent(Lent::Retain(false)),
+        (0, 0),
+        10,
+    ),
+    ("clear", Whole::Lent(Lent::Clear), (0, 0), 0),
+    ("clone", Whole::Lent(Lent::Clone), (0, 0), 0),
+    ("==", Whole::Lent(Lent::Equal), (0, 50), 5),
 ];
-
-/// Whether a call on a new map answers as it is to, and how many keys it compares and hashes.
-fn counted<S: BuildHasher + Drop>(
-    rt: &impl Abort,
-    alloc: Global,
-    hash_builder: S,
-    call: Call,
-) -> Result<(bool, (u64, u64)), AllocError> {
-    let counts = Rc::new(alloc, Counts::new())?;
-    let mut map = five(rt, alloc, hash_builder, &counts)?;
-    let third = pair_of(&counts, (3, 13))?;
-    let new = pair_of(&counts, NEW)?;
-    counts.reset();
-    let is_so = match call {
-        Call::Find(search) => finds(&mut map, search, &third),
-        Call::Miss(search) => !finds(&mut map, search, &new),
-        Call::Insert(insert) => puts_in(&mut map, &counts, insert)?,
-        Call::Enter(enter, asked, given) => enters(&mut map, &counts, enter, asked, given)?,
-        Call::Write(write) => writes(&mut map, &counts, write)?,
-    };
-    Ok((is_so, counts.read()))
-}
-
-/// The searches, of which one by keys that no item has compares so many.
-fn check_searches<S: BuildHasher + Copy>(
-    rt: &impl Abort,
-    alloc: Global,
-    hash_builder: S,
-    missed: u64,
-) -> Result<(), AllocError> {
-    for (name, search, bounds, hashes) in SEARCHES {
-        let (is_so, made) = counted(rt, alloc, hash_builder, Call::Find(search))?;
-        assert!(rt; is_so && fits(made, bounds, hashes), "{name}: {made:?}");
-        let (is_so, made) = counted(rt, alloc, hash_builder, Call::Miss(search))?;
-        assert!(rt;
-            is_so && fits(made, (missed, missed), 1),
-            "{name}, absent: {made:?}"
-        );
-    }
-    Ok(())
-}
-
-/// The calls, under a builder that gives all keys this hash.
-fn check_alike(rt: &impl Abort, alloc: Global, hash: u64) -> Result<(), AllocError> {
-    for (name, call, bounds, _, hashes) in CALLS {
-        let (is_so, made) = counted(rt, alloc, Alike { hash }, call)?;
-        assert!(rt; is_so && fits(made, bounds, hashes), "{name}: {made:?}");
-    }
-    for (name, whole, bounds, hashes) in WHOLES {
-        let counts = Rc::new(alloc, Counts::new())?;
-        let map = five(rt, alloc, Alike { hash }, &counts)?;
-        counts.reset();
-        let is_so = does(map, &counts, whole);
-        let made = counts.read();
-        assert!(rt; is_so && fits(made, bounds, hashes), "{name}: {made:?}");
-    }
-    Ok(())
-}
-
-/// Taking out what went in compares no key: what `extend_unique` compares is what its inserts do one by one.
-fn check_refused(rt: &impl Abort, alloc: Global, hash: u64) -> Result<(), AllocError> {
-    for last in [3, 65] {
-        let refused = Call::Insert(Insert::ExtendUniqueRefused(last));
-        let (_, (refused, _)) = counted(rt, alloc, Alike { hash }, refused)?;
-        let single = Call::Insert(Insert::OneByOne(last));
-        let (is_so, (single, _)) = counted(rt, alloc, Alike { hash }, single)?;
-        assert!(rt;
-            is_so && refused == single,
-            "extend_unique, {last}: {refused}, {single}"
-        );
-    }
-    Ok(())
-}
-
-#[test]
-fn two_keys_hashed_alike(rt: HostRuntime) -> Result<(), Fail> {
-    for hash in [18446744073709551615, 0] {
-        check_searches(&rt, rt.alloc(), Alike { hash }, 5)?;
-        check_alike(&rt, rt.alloc(), hash)?;
-        check_refused(&rt, rt.alloc(), hash)?;
-    }
-    Ok(())
-}
-
-#[test]
-fn two_keys_hashed_to_themselves(rt: HostRuntime) -> Result<(), Fail> {
-    check_searches(&rt, rt.alloc(), OwnHash, 0)?;
-    for (name, call, _, compared, hashes) in CALLS {
-        let (is_so, made) = counted(&rt, rt.alloc(), OwnHash, call)?;
-        assert!(rt;
-            is_so && fits(made, (compared, compared), hashes),
-            "{name}: {made:?}"
-        );
-    }
-    Ok(())
-}

@@ -7,6 +7,7 @@ ghost use Rattle.std.specs.Cmp.Rules.{comparing, hashing};
 use std::alloc::AllocError;
 use std::cell::Cell;
 use std::hash::{Hash, Hasher};
+use std::process::Abort;
 use std::rc::Rc;
 
 /// How often the keys that share it were compared, and how often hashed.
@@ -95,7 +96,15 @@ impl Hash for Key {
 /// The least and the most keys that a call may compare.
 pub(crate) type Bounds = (u64, u64);
 
-/// Whether a call compared at least and at most so many keys, and hashed so many.
-pub(crate) fn fits((compared, hashed): (u64, u64), (least, most): Bounds, hashes: u64) -> bool {
-    least <= compared && compared <= most && hashed == hashes
+/// Whether a call answered as it is to, and how many keys it compared and hashed.
+pub(crate) type Made = (bool, (u64, u64));
+
+/// Asserts that a call answered as it is to, compared at least and at most so many keys, and hashed so many.
+pub(crate) fn check(rt: &impl Abort, name: &str, made: Made, bounds: Bounds, hashes: u64) {
+    let (is_so, (compared, hashed)) = made;
+    let (least, most) = bounds;
+    assert!(rt;
+        is_so && least <= compared && compared <= most && hashed == hashes,
+        "{name}: {compared} compared, {hashed} hashed"
+    );
 }

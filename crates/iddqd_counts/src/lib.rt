@@ -5,7 +5,13 @@
 #[cfg(test)]
 mod bi_calls;
 #[cfg(test)]
+mod bi_checks;
+#[cfg(test)]
+mod bi_lending;
+#[cfg(test)]
 mod bi_rows;
+#[cfg(test)]
+mod bi_wholes;
 #[cfg(test)]
 mod counting;
 #[cfg(test)]
@@ -15,6 +21,12 @@ mod places;
 #[cfg(test)]
 mod tri_calls;
 #[cfg(test)]
+mod tri_checks;
+#[cfg(test)]
+mod tri_lending;
+#[cfg(test)]
 mod tri_rows;
+#[cfg(test)]
+mod tri_wholes;
 #[cfg(test)]
 mod triple;

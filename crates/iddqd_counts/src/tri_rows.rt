@@ -1,15 +1,9 @@
-//! How many keys calls of the three-key map compare and hash, on a map of five items.
-use crate::counting::{Bounds, Counts, fits};
-use crate::tri_calls::{
-    Enter, Insert, Search, Whole, Write, does, enters, finds, five, puts_in, writes,
-};
-use crate::triple::{Numbers, triple_of};
-use iddqd_tests::{Alike, OwnHash};
-use std::alloc::{AllocError, Global};
-use std::hash::BuildHasher;
-use std::process::Abort;
-use std::rc::Rc;
-use std::test::Fail;
+//! Rows: how many keys each call of the three-key map compares and hashes, on a map of five items.
+use crate::counting::Bounds;
+use crate::tri_calls::{By, Extend, Insert, Search};
+use crate::tri_lending::{Enter, Write};
+use crate::tri_wholes::{Lent, Room, Walk, Whole};
+use crate::triple::Numbers;
 
 /// The keys of the first item.
 const FIRST: Numbers = (1, 11, 21);
@@ -17,93 +11,106 @@ const FIRST: Numbers = (1, 11, 21);
 /// Keys of three items.
 const APART: Numbers = (1, 12, 23);
 
+/// The keys of the third item.
+pub(crate) const THIRD: Numbers = (3, 13, 23);
+
 /// Keys that no item has. By their own hashes they have the homes of the keys of the first item.
-const NEW: Numbers = (65, 75, 85);
+pub(crate) const NEW: Numbers = (65, 75, 85);
 
 /// What a search is called; the search; and where it finds an item, how many keys it compares at least and at most, and
 /// how many it hashes. By keys that no item has it hashes one, and compares the five of the rank that it searches where
 /// all are hashed alike, and none where each has its own hash.
-const SEARCHES: [(&str, Search, Bounds, u64); 16] = [
-    ("get1", Search::Get1, (1, 5), 1),
-    ("get2", Search::Get2, (1, 5), 1),
-    ("get3", Search::Get3, (1, 5), 1),
-    ("get_unique", Search::GetUnique, (3, 7), 1),
-    ("contains_key1", Search::Contains1, (1, 5), 1),
-    ("contains_key2", Search::Contains2, (1, 5), 1),
-    ("contains_key3", Search::Contains3, (1, 5), 1),
-    ("contains_key_unique", Search::ContainsUnique, (3, 7), 1),
-    ("get1_mut", Search::Mut1, (1, 5), 1),
-    ("get2_mut", Search::Mut2, (1, 5), 1),
-    ("get3_mut", Search::Mut3, (1, 5), 1),
-    ("get_mut_unique", Search::MutUnique, (3, 7), 1),
-    ("remove1", Search::Remove1, (1, 5), 3),
-    ("remove2", Search::Remove2, (1, 5), 3),
-    ("remove3", Search::Remove3, (1, 5), 3),
-    ("remove_unique", Search::RemoveUnique, (3, 7), 3),
+pub(crate) const SEARCHES: [(&str, Search, Bounds, u64); 16] = [
+    ("get1", Search::Get(By::Key1), (1, 5), 1),
+    ("get2", Search::Get(By::Key2), (1, 5), 1),
+    ("get3", Search::Get(By::Key3), (1, 5), 1),
+    ("get_unique", Search::Get(By::All), (3, 7), 1),
+    ("contains_key1", Search::Contains(By::Key1), (1, 5), 1),
+    ("contains_key2", Search::Contains(By::Key2), (1, 5), 1),
+    ("contains_key3", Search::Contains(By::Key3), (1, 5), 1),
+    ("contains_key_unique", Search::Contains(By::All), (3, 7), 1),
+    ("get1_mut", Search::GetMut(By::Key1), (1, 5), 1),
+    ("get2_mut", Search::GetMut(By::Key2), (1, 5), 1),
+    ("get3_mut", Search::GetMut(By::Key3), (1, 5), 1),
+    ("get_mut_unique", Search::GetMut(By::All), (3, 7), 1),
+    ("remove1", Search::Remove(By::Key1), (1, 5), 3),
+    ("remove2", Search::Remove(By::Key2), (1, 5), 3),
+    ("remove3", Search::Remove(By::Key3), (1, 5), 3),
+    ("remove_unique", Search::Remove(By::All), (3, 7), 3),
 ];
 
 /// A call, with what it is given.
 #[derive(Clone, Copy)]
-enum Call {
+pub(crate) enum Call {
     /// A search by the keys of the third item.
     Find(Search),
     /// A search by keys that no item has.
     Miss(Search),
-    Insert(Insert),
+    /// An item of these keys.
+    Insert(Insert, Numbers),
+    /// A list whose last item has this first key.
+    Extend(Extend, u64),
     /// The entry of the first keys, and an item of the second.
     Enter(Enter, Numbers, Numbers),
-    Write(Write),
+    /// The first item, and one of these keys.
+    Write(Write, Numbers),
 }
 
 /// What a call is called; the call; how many keys it compares at least and at most where all are hashed alike, and how
 /// many where each has its own hash; and how many it hashes.
-const CALLS: [(&str, Call, Bounds, u64, u64); 26] = [
+pub(crate) const CALLS: [(&str, Call, Bounds, u64, u64); 26] = [
     (
         "insert_unique",
-        Call::Insert(Insert::Unique),
+        Call::Insert(Insert::Unique, NEW),
         (15, 15),
         0,
         3,
     ),
     (
         "insert_overwrite",
-        Call::Insert(Insert::Overwrite),
+        Call::Insert(Insert::Overwrite(0), NEW),
         (15, 15),
         0,
         3,
     ),
     (
         "insert_overwrite of three items",
-        Call::Insert(Insert::Displaces(APART, 3)),
+        Call::Insert(Insert::Overwrite(3), APART),
         (3, 15),
         3,
         9,
     ),
     (
         "insert_overwrite of one item by its keys",
-        Call::Insert(Insert::Displaces(FIRST, 1)),
+        Call::Insert(Insert::Overwrite(1), FIRST),
         (3, 15),
         3,
         3,
     ),
-    ("extend", Call::Insert(Insert::Extend), (54, 54), 0, 9),
+    (
+        "extend",
+        Call::Extend(Extend::Overwriting, 67),
+        (54, 54),
+        0,
+        9,
+    ),
     (
         "extend_unique",
-        Call::Insert(Insert::ExtendUnique),
+        Call::Extend(Extend::Unique, 67),
         (54, 54),
         0,
         9,
     ),
     (
         "extend_unique, a key of the map",
-        Call::Insert(Insert::ExtendUniqueRefused(3)),
+        Call::Extend(Extend::Refused, 3),
         (48, 54),
         1,
         15,
     ),
     (
         "extend_unique, a key of the list",
-        Call::Insert(Insert::ExtendUniqueRefused(65)),
+        Call::Extend(Extend::Refused, 65),
         (48, 54),
         1,
         15,
@@ -199,25 +206,25 @@ const CALLS: [(&str, Call, Bounds, u64, u64); 26] = [
         0,
         0,
     ),
-    ("data_mut", Call::Write(Write::DataMut), (0, 0), 0, 0),
-    ("replace", Call::Write(Write::Replace(FIRST)), (3, 3), 3, 0),
+    ("data_mut", Call::Write(Write::DataMut, FIRST), (0, 0), 0, 0),
+    ("replace", Call::Write(Write::Replace, FIRST), (3, 3), 3, 0),
     (
         "replace by another key1",
-        Call::Write(Write::ReplaceRefused((2, 11, 21))),
+        Call::Write(Write::ReplaceRefused, (2, 11, 21)),
         (1, 1),
         1,
         0,
     ),
     (
         "replace by another key2",
-        Call::Write(Write::ReplaceRefused((1, 12, 21))),
+        Call::Write(Write::ReplaceRefused, (1, 12, 21)),
         (2, 2),
         2,
         0,
     ),
     (
         "replace by another key3",
-        Call::Write(Write::ReplaceRefused((1, 11, 22))),
+        Call::Write(Write::ReplaceRefused, (1, 11, 22)),
         (3, 3),
         3,
         0,
@@ -226,116 +233,50 @@ const CALLS: [(&str, Call, Bounds, u64, u64); 26] = [
 
 /// What a call on the map as a whole is called; the call; how many keys it compares at least and at most; and how many
 /// it hashes. Tables hold hashes, so growing and copying hash nothing. Shrinking fills new tables, by each key's hash.
-const WHOLES: [(&str, Whole, Bounds, u64); 15] = [
-    ("len", Whole::Len, (0, 0), 0),
-    ("capacity", Whole::Capacity, (0, 0), 0),
-    ("iter", Whole::Iter, (0, 0), 0),
-    ("iter_mut", Whole::IterMut, (0, 0), 0),
-    ("next_from", Whole::NextFrom, (0, 0), 0),
+pub(crate) const WHOLES: [(&str, Whole, Bounds, u64); 15] = [
+    ("len", Whole::Lent(Lent::Len), (0, 0), 0),
+    ("capacity", Whole::Lent(Lent::Capacity), (0, 0), 0),
+    ("iter", Whole::Lent(Lent::Walk(Walk::Iter)), (0, 0), 0),
+    (
+        "iter_mut",
+        Whole::Lent(Lent::Walk(Walk::IterMut)),
+        (0, 0),
+        0,
+    ),
+    (
+        "next_from",
+        Whole::Lent(Lent::Walk(Walk::NextFrom)),
+        (0, 0),
+        0,
+    ),
     ("into_iter", Whole::IntoIter, (0, 0), 0),
-    ("reserve", Whole::Reserve, (0, 0), 0),
-    ("try_reserve", Whole::TryReserve, (0, 0), 0),
-    ("shrink_to", Whole::ShrinkTo, (0, 0), 15),
-    ("shrink_to_fit", Whole::ShrinkToFit, (0, 0), 15),
-    ("retain of all", Whole::RetainAll, (0, 0), 0),
-    ("retain of none", Whole::RetainNone, (0, 0), 15),
-    ("clear", Whole::Clear, (0, 0), 0),
-    ("clone", Whole::Clone, (0, 0), 0),
-    ("==", Whole::Equal, (0, 75), 5),
+    ("reserve", Whole::Lent(Lent::Room(Room::Reserve)), (0, 0), 0),
+    (
+        "try_reserve",
+        Whole::Lent(Lent::Room(Room::TryReserve)),
+        (0, 0),
+        0,
+    ),
+    (
+        "shrink_to",
+        Whole::Lent(Lent::Room(Room::ShrinkTo)),
+        (0, 0),
+        15,
+    ),
+    (
+        "shrink_to_fit",
+        Whole::Lent(Lent::Room(Room::ShrinkToFit)),
+        (0, 0),
+        15,
+    ),
+    ("retain of all", Whole::Lent(Lent::Retain(true)), (0, 0), 0),
+    (
+        "retain of none",
+        Whole::Lent(Lent::Retain(false)),
+        (0, 0),
+        15,
+    ),
+    ("clear", Whole::Lent(Lent::Clear), (0, 0), 0),
+    ("clone", Whole::Lent(Lent::Clone), (0, 0), 0),
+    ("==", Whole::Lent(Lent::Equal), (0, 75), 5),
 ];
-
-/// Whether a call on a new map answers as it is to, and how many keys it compares and hashes.
-fn counted<S: BuildHasher + Drop>(
-    rt: &impl Abort,
-    alloc: Global,
-    hash_builder: S,
-    call: Call,
-) -> Result<(bool, (u64, u64)), AllocError> {
-    let counts = Rc::new(alloc, Counts::new())?;
-    let mut map = five(rt, alloc, hash_builder, &counts)?;
-    let third = triple_of(&counts, (3, 13, 23))?;
-    let new = triple_of(&counts, NEW)?;
-    counts.reset();
-    let is_so = match call {
-        Call::Find(search) => finds(&mut map, search, &third),
-        Call::Miss(search) => !finds(&mut map, search, &new),
-        Call::Insert(insert) => puts_in(&mut map, &counts, insert)?,
-        Call::Enter(enter, asked, given) => enters(&mut map, &counts, enter, asked, given)?,
-        Call::Write(write) => writes(&mut map, &counts, write)?,
-    };
-    Ok((is_so, counts.read()))
-}
-
-/// The searches, of which one by keys that no item has compares so many.
-fn check_searches<S: BuildHasher + Copy>(
-    rt: &impl Abort,
-    alloc: Global,
-    hash_builder: S,
-    missed: u64,
-) -> Result<(), AllocError> {
-    for (name, search, bounds, hashes) in SEARCHES {
-        let (is_so, made) = counted(rt, alloc, hash_builder, Call::Find(search))?;
-        assert!(rt; is_so && fits(made, bounds, hashes), "{name}: {made:?}");
-        let (is_so, made) = counted(rt, alloc, hash_builder, Call::Miss(search))?;
-        assert!(rt;
-            is_so && fits(made, (missed, missed), 1),
-            "{name}, absent: {made:?}"
-        );
-    }
-    Ok(())
-}
-
-/// The calls, under a builder that gives all keys this hash.
-fn check_alike(rt: &impl Abort, alloc: Global, hash: u64) -> Result<(), AllocError> {
-    for (name, call, bounds, _, hashes) in CALLS {
-        let (is_so, made) = counted(rt, alloc, Alike { hash }, call)?;
-        assert!(rt; is_so && fits(made, bounds, hashes), "{name}: {made:?}");
-    }
-    for (name, whole, bounds, hashes) in WHOLES {
-        let counts = Rc::new(alloc, Counts::new())?;
-        let map = five(rt, alloc, Alike { hash }, &counts)?;
-        counts.reset();
-        let is_so = does(map, &counts, whole);
-        let made = counts.read();
-        assert!(rt; is_so && fits(made, bounds, hashes), "{name}: {made:?}");
-    }
-    Ok(())
-}
-
-/// Taking out what went in compares no key: what `extend_unique` compares is what its inserts do one by one.
-fn check_refused(rt: &impl Abort, alloc: Global, hash: u64) -> Result<(), AllocError> {
-    for last in [3, 65] {
-        let refused = Call::Insert(Insert::ExtendUniqueRefused(last));
-        let (_, (refused, _)) = counted(rt, alloc, Alike { hash }, refused)?;
-        let single = Call::Insert(Insert::OneByOne(last));
-        let (is_so, (single, _)) = counted(rt, alloc, Alike { hash }, single)?;
-        assert!(rt;
-            is_so && refused == single,
-            "extend_unique, {last}: {refused}, {single}"
-        );
-    }
-    Ok(())
-}
-
-#[test]
-fn three_keys_hashed_alike(rt: HostRuntime) -> Result<(), Fail> {
-    for hash in [18446744073709551615, 0] {
-        check_searches(&rt, rt.alloc(), Alike { hash }, 5)?;
-        check_alike(&rt, rt.alloc(), hash)?;
-        check_refused(&rt, rt.alloc(), hash)?;
-    }
-    Ok(())
-}
-
-#[test]
-fn three_keys_hashed_to_themselves(rt: HostRuntime) -> Result<(), Fail> {
-    check_searches(&rt, rt.alloc(), OwnHash, 0)?;
-    for (name, call, _, compared, hashes) in CALLS {
-        let (is_so, made) = counted(&rt, rt.alloc(), OwnHash, call)?;
-        assert!(rt;
-            is_so && fits(made, (compared, compared), hashes),
-            "{name}: {made:?}"
-        );
-    }
-    Ok(())
-}
