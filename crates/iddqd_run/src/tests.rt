@@ -5,10 +5,14 @@ use crate::from_read::FromRead;
 use crate::outcome::{Kind, RunEnd, RunFault};
 use crate::run::run_text;
 use crate::to_write::ToWrite;
+use std::alloc::Global;
 use std::io::{self, ErrorKind, Read, Write};
+use std::process::Abort;
 
-/// Six lines for each kind of map, what they print, and how many bytes that is.
-const SIX: [(Kind, &str, &str, usize); 2] = [
+/// Six lines for a kind of map, what they print, and how many bytes that is.
+type Six = (Kind, &'static str, &'static str, usize);
+
+const SIX: [Six; 2] = [
     (
         Kind::Bi,
         "new 1 10 100\nnew 2 20 200\nget1 1\nnew 1 99 0\ndel1 1\nget2 10\n",
@@ -91,67 +95,107 @@ impl Write for PartWriter {
     }
 }
 
+/// How a run ends, and what it has written then.
+type Ended = (Result<RunEnd, RunFault>, Vec<u8>);
+
+/// The run of the lines that this reader gives.
+fn read_by(alloc: Global, kind: Kind, reader: PartReader<'_>) -> Ended {
+    let mut source = FromRead::new(reader);
+    let mut out = ToWrite::new(Vec::new(alloc));
+    let ended = run_text(alloc, kind, &mut source, &mut out);
+    (ended, out.into_inner())
+}
+
+/// The run of a text that this writer takes.
+fn taken_by(alloc: Global, kind: Kind, text: &str, writer: PartWriter) -> Ended {
+    let mut source = FromRead::new(text.as_bytes());
+    let mut out = ToWrite::new(writer);
+    let ended = run_text(alloc, kind, &mut source, &mut out);
+    (ended, out.into_inner().taken)
+}
+
+/// What a run has to end with and to have written, and where a call fails: behind so many reads or bytes.
+type Wanted<'t> = (Result<RunEnd, RunFault>, &'t [u8], usize);
+
+fn check(rt: &impl Abort, kind: Kind, made: &Ended, wanted: Wanted<'_>) {
+    let (ended, written, at) = wanted;
+    assert_eq!(rt; made.0, ended, "{kind:?} at {at}");
+    assert_eq!(rt; made.1.as_slice(), written, "{kind:?} at {at}");
+}
+
+/// How many reads of so many bytes at most a text takes, where the last one gives no byte.
+fn reads_of(text: &str, most: usize) -> usize {
+    if most == 1 {
+        text.len().wrapping_add(1)
+    } else {
+        2
+    }
+}
+
+/// One read alone fails, behind so many.
+fn check_read(rt: &impl Abort, alloc: Global, six: Six, most: usize, fails_after: usize) {
+    let (kind, text, printed, _) = six;
+    let wanted = if fails_after < reads_of(text, most) {
+        (Err(RunFault::Read), "".as_bytes(), fails_after)
+    } else {
+        (Ok(RunEnd::Done), printed.as_bytes(), fails_after)
+    };
+    for error in [ErrorKind::Other, ErrorKind::Interrupted] {
+        let reader = PartReader {
+            left: text.as_bytes(),
+            most,
+            fails_after: Some(fails_after),
+            error,
+        };
+        check(rt, kind, &read_by(alloc, kind, reader), wanted);
+    }
+}
+
 #[test]
 fn no_read_is_tried_again(rt: HostRuntime) {
-    for (kind, text, printed, _) in SIX {
+    for six in SIX {
         for most in [1, usize::MAX] {
-            // The last read gives no byte.
-            let reads = if most == 1 { text.len() + 1 } else { 2 };
-            for fails_after in 0..=reads {
-                for error in [ErrorKind::Other, ErrorKind::Interrupted] {
-                    let mut source = FromRead::new(PartReader {
-                        left: text.as_bytes(),
-                        most,
-                        fails_after: Some(fails_after),
-                        error,
-                    });
-                    let mut out = ToWrite::new(Vec::new(rt.alloc()));
-                    let ended = run_text(rt.alloc(), kind, &mut source, &mut out);
-                    let (wanted, written) = if fails_after < reads {
-                        (Err(RunFault::Read), "")
-                    } else {
-                        (Ok(RunEnd::Done), printed)
-                    };
-                    assert_eq!(rt; ended, wanted, "{kind:?} after {fails_after} reads");
-                    assert_eq!(rt;
-                        out.into_inner().as_slice(),
-                        written.as_bytes(),
-                        "{kind:?} after {fails_after} reads"
-                    );
-                }
+            for fails_after in 0..=reads_of(six.1, most) {
+                check_read(&rt, rt.alloc(), six, most, fails_after);
             }
         }
     }
 }
 
+/// The first bytes of a text that has so many.
+fn front_of(bytes: &[u8], length: usize) -> &[u8] {
+    bytes.get(..length).unwrap_or(bytes)
+}
+
+/// One write alone fails, behind so many bytes.
+fn check_write(rt: &impl Abort, alloc: Global, six: Six, most: usize, fails_at: usize) {
+    let (kind, text, printed, length) = six;
+    let ended = if fails_at < length {
+        Err(RunFault::Write)
+    } else {
+        Ok(RunEnd::Done)
+    };
+    let written = front_of(printed.as_bytes(), fails_at);
+    for error in [None, Some(ErrorKind::Other), Some(ErrorKind::Interrupted)] {
+        let writer = PartWriter {
+            taken: Vec::new(alloc),
+            most,
+            fails_at: Some(fails_at),
+            error,
+        };
+        let made = taken_by(alloc, kind, text, writer);
+        check(rt, kind, &made, (ended, written, fails_at));
+    }
+}
+
 #[test]
 fn no_write_is_tried_again(rt: HostRuntime) {
-    for (kind, text, printed, length) in SIX {
-        let whole = printed.as_bytes();
-        assert_eq!(rt; whole.len(), length);
+    for six in SIX {
+        let (_, _, printed, length) = six;
+        assert_eq!(rt; printed.len(), length);
         for most in [1, usize::MAX] {
             for fails_at in 0..=length {
-                for error in [None, Some(ErrorKind::Other), Some(ErrorKind::Interrupted)] {
-                    let mut source = FromRead::new(text.as_bytes());
-                    let mut out = ToWrite::new(PartWriter {
-                        taken: Vec::new(rt.alloc()),
-                        most,
-                        fails_at: Some(fails_at),
-                        error,
-                    });
-                    let ended = run_text(rt.alloc(), kind, &mut source, &mut out);
-                    let wanted = if fails_at < length {
-                        Err(RunFault::Write)
-                    } else {
-                        Ok(RunEnd::Done)
-                    };
-                    assert_eq!(rt; ended, wanted, "{kind:?} at {fails_at} bytes");
-                    assert_eq!(rt;
-                        out.into_inner().taken.as_slice(),
-                        &whole[..fails_at],
-                        "{kind:?} at {fails_at} bytes"
-                    );
-                }
+                check_write(&rt, rt.alloc(), six, most, fails_at);
             }
         }
     }

@@ -73,15 +73,20 @@ enum Met {
     MemoryReply,
 }
 
-/// Runs the lines. Asserts that the run ends as it may, and that nothing else is written.
-fn run(rt: &impl Abort, alloc: Global, seven: Seven) -> Met {
+/// How the run of these lines ends, and what took what it wrote.
+fn run_lines(alloc: Global, seven: Seven) -> (Result<RunEnd, RunFault>, ArrayWriter) {
     let mut source = FromRead::new(seven.text.as_bytes());
     let mut out = ToWrite::new(ArrayWriter {
         bytes: [0; 128],
         taken: 0,
     });
     let ended = run_text(alloc, seven.kind, &mut source, &mut out);
-    let writer = out.into_inner();
+    (ended, out.into_inner())
+}
+
+/// Runs the lines. Asserts that the run ends as it may, and that nothing else is written.
+fn run(rt: &impl Abort, alloc: Global, seven: Seven) -> Met {
+    let (ended, writer) = run_lines(alloc, seven);
     assert!(rt; writer.taken <= 128);
     let written = &writer.bytes[..writer.taken];
     if ended == Err(RunFault::Memory) {
