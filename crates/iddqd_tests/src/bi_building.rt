@@ -1,11 +1,15 @@
 //! Worked rows on two-key maps built of many items at once.
-use crate::row::{Row, row_of};
+use crate::row::Row;
+use crate::worked::row;
 use iddqd_bi::{BiHashMap, FromIterError};
 use std::alloc::Global;
 use std::test::*;
 
-/// The number of items of the map of these that may not conflict, or the item that conflicts and those in its way.
-fn unique(alloc: Global, items: [Row; 3]) -> Result<usize, (Row, [Option<Row>; 2])> {
+/// An item that conflicts, and those in its way.
+type Conflict = (Row, [Option<Row>; 2]);
+
+/// The number of items of the map of these that may not conflict, or what conflicts.
+fn unique(alloc: Global, items: [Row; 3]) -> Result<usize, Conflict> {
     match BiHashMap::<Row>::from_iter_unique(alloc, items) {
         Ok(map) => Ok(map.len()),
         Err(FromIterError::Memory(item)) => Err((item, [None, None])),
@@ -16,27 +20,29 @@ fn unique(alloc: Global, items: [Row; 3]) -> Result<usize, (Row, [Option<Row>; 2
     }
 }
 
+const ONE: Row = row!(1, 10, 0);
+
+const TWO: Row = row!(2, 20, 0);
+
+const LATE: Row = row!(2, 10, 5);
+
 #[test]
 fn building_names_the_first_conflict(rt: HostRuntime) {
-    let one = row_of(1, 10, 0);
-    let two = row_of(2, 20, 0);
-    let late = row_of(2, 10, 5);
-    for (items, wanted) in [
-        ([one, two, late], Err((late, [Some(two), Some(one)]))),
-        ([one, row_of(10, 1, 0), row_of(20, 2, 0)], Ok(3)),
-    ] {
-        assert!(rt; unique(rt.alloc(), items) == wanted);
+    let conflict = (LATE, [Some(TWO), Some(ONE)]);
+    assert!(rt; unique(rt.alloc(), [ONE, TWO, LATE]) == Err(conflict));
+    assert!(rt; unique(rt.alloc(), [ONE, row!(10, 1, 0), row!(20, 2, 0)]) == Ok(3));
+}
+
+/// The number of items of the map of these that may take the place of others, and the one with the first key 1.
+fn overwritten(alloc: Global, items: [Row; 3]) -> Option<(usize, Option<Row>)> {
+    match BiHashMap::<Row>::from_iter(alloc, items) {
+        Ok(map) => Some((map.len(), map.get1(&1).copied())),
+        Err(_) => None,
     }
 }
 
 #[test]
 fn building_overwrites(rt: HostRuntime) {
-    let items = [row_of(1, 10, 0), row_of(2, 20, 0), row_of(1, 20, 5)];
-    match BiHashMap::<Row>::from_iter(rt.alloc(), items) {
-        Ok(map) => {
-            assert!(rt; map.len() == 1 && map.get1(&1).copied() == Some(items[2]));
-            drop(map);
-        }
-        Err(_) => assert!(rt; false, "there is memory"),
-    }
+    let last = row!(1, 20, 5);
+    assert!(rt; overwritten(rt.alloc(), [ONE, TWO, last]) == Some((1, Some(last))));
 }

@@ -2,7 +2,7 @@
 ghost use Rattle.std.specs.Prelude.{◌≡◌};
 
 use iddqd_bi::{BiHashItem, BiHashMap};
-use std::alloc::AllocError;
+use std::alloc::{AllocError, Global};
 use std::cell::Cell;
 use std::rc::Rc;
 use std::test::Fail;
@@ -50,30 +50,32 @@ impl BiHashItem for Reluctant {
     }
 }
 
+/// The map of (1, 10), (2, 20), .., of four items.
+fn four(alloc: Global, left: &Rc<Cell<u64>>) -> Result<BiHashMap<Reluctant>, AllocError> {
+    let mut map = BiHashMap::new(alloc);
+    for (key1, key2) in [(1, 10), (2, 20), (3, 30), (4, 40)] {
+        let left = left.clone()?;
+        let _ = map.insert_overwrite(Reluctant { key1, key2, left });
+    }
+    Ok(map)
+}
+
+/// The length of a map's clone, if there is one.
+fn cloned(map: &BiHashMap<Reluctant>) -> Option<usize> {
+    match map.clone() {
+        Ok(copy) => Some(copy.len()),
+        Err(_) => None,
+    }
+}
+
 #[test]
 fn an_item_that_is_not_cloned_gives_no_map(rt: HostRuntime) -> Result<(), Fail> {
-    for allowed in 0..=4u64 {
+    for (allowed, wanted) in [(0, None), (1, None), (2, None), (3, None), (4, Some(4))] {
         let left = Rc::new(rt.alloc(), Cell::new(allowed))?;
-        let mut map = BiHashMap::new(rt.alloc());
-        for key in 1..=4u64 {
-            let item = Reluctant {
-                key1: key,
-                key2: key.wrapping_mul(10),
-                left: left.clone()?,
-            };
-            assert!(rt; map.insert_overwrite(item).is_ok());
-        }
-        match map.clone() {
-            Ok(copy) => {
-                assert_eq!(rt; (allowed, copy.len()), (4, 4));
-                drop(copy);
-            }
-            Err(_) => assert!(rt; allowed < 4),
-        }
-        assert_eq!(rt; map.len(), 4);
-        assert!(rt; map.contains_key1(&4));
+        let map = four(rt.alloc(), &left)?;
+        assert!(rt; cloned(&map) == wanted && map.len() == 4 && map.contains_key1(&4));
         drop(map);
-        assert_eq!(rt; Rc::strong_count(&left), 1);
+        assert!(rt; Rc::strong_count(&left) == 1);
     }
     Ok(())
 }

@@ -1,8 +1,7 @@
 //! Values that refusals and displacements hold are dropped once.
 use iddqd_bi::{BiHashItem, BiHashMap, FromIterError, InsertError};
-use iddqd_store::UpToTwo;
-use std::alloc::Global;
-use std::process::Abort;
+use iddqd_store::{ExtendUniqueError, UpToTwo};
+use std::alloc::{AllocError, Global};
 use std::rc::Rc;
 use std::test::Fail;
 
@@ -32,7 +31,7 @@ impl BiHashItem for Held {
     }
 }
 
-fn item_of(alive: &Rc<()>, key1: u64, key2: u64) -> Result<Held, Fail> {
+fn item_of(alive: &Rc<()>, (key1, key2): (u64, u64)) -> Result<Held, AllocError> {
     Ok(Held {
         key1,
         key2,
@@ -40,19 +39,37 @@ fn item_of(alive: &Rc<()>, key1: u64, key2: u64) -> Result<Held, Fail> {
     })
 }
 
-/// The map of (1, 10), (2, 20), .., of so many items.
-fn filled(
-    rt: &impl Abort,
+/// These items, in a list.
+fn listed(alloc: Global, alive: &Rc<()>, keys: &[(u64, u64)]) -> Result<Vec<Held>, AllocError> {
+    let mut items = Vec::new(alloc);
+    for keys in keys {
+        items.push(item_of(alive, *keys)?)?;
+    }
+    Ok(items)
+}
+
+/// The map of these items.
+fn map_of(alloc: Global, items: Vec<Held>) -> BiHashMap<Held> {
+    let mut map = BiHashMap::new(alloc);
+    for item in items {
+        let _ = map.insert_overwrite(item);
+    }
+    map
+}
+
+const TWO: &[(u64, u64)] = &[(1, 10), (2, 20)];
+
+const FOUR: &[(u64, u64)] = &[(1, 10), (2, 20), (3, 30), (4, 40)];
+
+/// The map of two items, and one more.
+fn two_and(
     alloc: Global,
     alive: &Rc<()>,
-    items: u64,
-) -> Result<BiHashMap<Held>, Fail> {
-    let mut map = BiHashMap::new(alloc);
-    for key in 1..=items {
-        let item = item_of(alive, key, key.wrapping_mul(10))?;
-        assert!(rt; map.insert_unique(item).is_ok());
-    }
-    Ok(map)
+    keys: (u64, u64),
+) -> Result<(BiHashMap<Held>, Held), AllocError> {
+    let items = listed(alloc, alive, TWO)?;
+    let item = item_of(alive, keys)?;
+    Ok((map_of(alloc, items), item))
 }
 
 /// The first keys of short lists of items.
@@ -60,123 +77,173 @@ fn first_keys(found: UpToTwo<&Held>) -> [Option<u64>; 2] {
     [found.get(0).map(|x| x.key1), found.get(1).map(|x| x.key1)]
 }
 
-// A refusal is dropped, or gives its item, or that and the items in its way.
+/// The first key of an item that a map refuses, and those of the items in its way. The refusal is dropped, or gives its
+/// item, or that and the items in its way.
+fn refused(map: &mut BiHashMap<Held>, item: Held, way: u64) -> Option<(u64, [Option<u64>; 2])> {
+    match map.insert_unique(item) {
+        Err(InsertError::Duplicate(refusal)) => {
+            let key = refusal.new_item().key1;
+            let mut found = first_keys(refusal.duplicates());
+            if way == 0 {
+                drop(refusal);
+            } else if way == 1 {
+                drop(refusal.into_item());
+            } else {
+                let (item, lent) = refusal.into_parts();
+                found = first_keys(lent);
+                drop(item);
+            }
+            Some((key, found))
+        }
+        Err(InsertError::Memory(refusal)) => {
+            drop(refusal);
+            None
+        }
+        Ok(()) => None,
+    }
+}
+
 #[test]
 fn refused_items_are_dropped_once(rt: HostRuntime) -> Result<(), Fail> {
     for way in 0..3 {
         let alive = Rc::new(rt.alloc(), ())?;
-        let mut map = filled(&rt, rt.alloc(), &alive, 2)?;
-        let mut found = [None, None];
-        match map.insert_unique(item_of(&alive, 2, 10)?) {
-            Err(InsertError::Duplicate(refusal)) => {
-                assert!(rt; refusal.new_item().key1 == 2);
-                found = first_keys(refusal.duplicates());
-                if way == 0 {
-                    drop(refusal);
-                } else if way == 1 {
-                    drop(refusal.into_item());
-                } else {
-                    let (item, lent) = refusal.into_parts();
-                    found = first_keys(lent);
-                    drop(item);
-                }
-            }
-            Err(InsertError::Memory(refusal)) => drop(refusal),
-            Ok(()) => {}
-        }
-        assert!(rt; found == [Some(2), Some(1)] && map.len() == 2);
-        assert!(rt; Rc::strong_count(&alive) == 3);
+        let (mut map, item) = two_and(rt.alloc(), &alive, (2, 10))?;
+        assert!(rt; refused(&mut map, item, way) == Some((2, [Some(2), Some(1)])));
+        assert!(rt; map.len() == 2 && Rc::strong_count(&alive) == 3);
     }
     Ok(())
+}
+
+/// How many times an item is counted while those that it displaced are there, and once they are gone.
+fn displaced(map: &mut BiHashMap<Held>, item: Held, alive: &Rc<()>) -> [usize; 2] {
+    let displaced = map.insert_overwrite(item);
+    let during = Rc::strong_count(alive);
+    drop(displaced);
+    [during, Rc::strong_count(alive)]
 }
 
 #[test]
 fn displaced_items_are_dropped_once(rt: HostRuntime) -> Result<(), Fail> {
     let alive = Rc::new(rt.alloc(), ())?;
-    let mut map = filled(&rt, rt.alloc(), &alive, 2)?;
-    let displaced = map.insert_overwrite(item_of(&alive, 1, 20)?);
-    assert!(rt; Rc::strong_count(&alive) == 4 && map.len() == 1);
-    drop(displaced);
-    assert!(rt; Rc::strong_count(&alive) == 2);
+    let (mut map, item) = two_and(rt.alloc(), &alive, (1, 20))?;
+    assert!(rt; displaced(&mut map, item, &alive) == [4, 2] && map.len() == 1);
     map.clear();
     assert!(rt; Rc::strong_count(&alive) == 1);
     Ok(())
 }
 
-/// These items, in a list.
-fn listed(alloc: Global, alive: &Rc<()>, keys: &[(u64, u64)]) -> Result<Vec<Held>, Fail> {
-    let mut items = Vec::new(alloc);
-    for (key1, key2) in keys {
-        items.push(item_of(alive, *key1, *key2)?)?;
-    }
-    Ok(items)
+/// Whether a list gives no map for a conflict, and the counts while the refusal is there and once it is gone.
+fn built(alloc: Global, items: Vec<Held>, alive: &Rc<()>) -> (bool, [usize; 2]) {
+    let built = BiHashMap::<Held>::from_iter_unique(alloc, items);
+    let is_refused = matches!(built, Err(FromIterError::Duplicate(_)));
+    let during = Rc::strong_count(alive);
+    drop(built);
+    (is_refused, [during, Rc::strong_count(alive)])
 }
+
+/// How many items come back with the one that is refused, the first key of that one, and the counts while all of them
+/// are there, and once only that one is.
+fn sent_back(
+    map: &mut BiHashMap<Held>,
+    items: Vec<Held>,
+    alive: &Rc<()>,
+) -> Option<(usize, u64, [usize; 2])> {
+    let Err(refused) = map.extend_unique(items) else {
+        return None;
+    };
+    let ExtendUniqueError {
+        taken,
+        value,
+        reason: _,
+    } = refused;
+    let length = taken.len();
+    let during = Rc::strong_count(alive);
+    drop(taken);
+    Some((length, value.key1, [during, Rc::strong_count(alive)]))
+}
+
+const CLASHING: &[(u64, u64)] = &[(1, 10), (2, 20), (2, 10), (3, 30)];
+
+const CLASHING_LATE: &[(u64, u64)] = &[(3, 30), (4, 40), (5, 30), (6, 60), (1, 10)];
 
 #[test]
 fn a_refused_list_is_dropped_once(rt: HostRuntime) -> Result<(), Fail> {
     let alive = Rc::new(rt.alloc(), ())?;
-    let items = listed(rt.alloc(), &alive, &[(1, 10), (2, 20), (2, 10), (3, 30)])?;
-    let built = BiHashMap::<Held>::from_iter_unique(rt.alloc(), items);
+    let items = listed(rt.alloc(), &alive, CLASHING)?;
     // The new item and the two in its way are left of the four.
-    assert!(rt; matches!(built, Err(FromIterError::Duplicate(_))));
-    assert!(rt; Rc::strong_count(&alive) == 4);
-    drop(built);
-    assert!(rt; Rc::strong_count(&alive) == 1);
+    assert!(rt; built(rt.alloc(), items, &alive) == (true, [4, 1]));
+    let items = listed(rt.alloc(), &alive, TWO)?;
+    let late = listed(rt.alloc(), &alive, CLASHING_LATE)?;
+    let mut map = map_of(rt.alloc(), items);
     // Beside the two of the map, those that it took and gave back and the refused one are left of the five.
-    let mut map = filled(&rt, rt.alloc(), &alive, 2)?;
-    let keys = [(3, 30), (4, 40), (5, 30), (6, 60), (1, 10)];
-    if let Err(refused) = map.extend_unique(listed(rt.alloc(), &alive, &keys)?) {
-        assert!(rt; refused.taken.len() == 2 && Rc::strong_count(&alive) == 6);
-        drop(refused.taken);
-        assert!(rt; refused.value.key1 == 5 && Rc::strong_count(&alive) == 4);
-    }
+    assert!(rt; sent_back(&mut map, late, &alive) == Some((2, 5, [6, 4])));
     assert!(rt; map.len() == 2 && Rc::strong_count(&alive) == 3);
     drop(map);
     assert!(rt; Rc::strong_count(&alive) == 1);
     Ok(())
 }
 
+/// Whether each of so many steps of a walk that gives the items takes one out, and the count once the walk ends there.
+fn walked(mut map: BiHashMap<Held>, alive: &Rc<()>, taken: usize) -> (bool, usize) {
+    map.retain(|item| item.key1 != 2);
+    let mut items = map.into_iter();
+    let mut is_right = true;
+    for left in 0..taken {
+        is_right = is_right && Rc::strong_count(alive).wrapping_add(left) == 4;
+        is_right = is_right && items.next().is_some();
+    }
+    drop(items);
+    (is_right, Rc::strong_count(alive))
+}
+
 #[test]
 fn walked_items_are_dropped_once(rt: HostRuntime) -> Result<(), Fail> {
     for taken in 0..=3 {
         let alive = Rc::new(rt.alloc(), ())?;
-        let mut map = filled(&rt, rt.alloc(), &alive, 4)?;
-        map.retain(|item| item.key1 != 2);
-        let mut items = map.into_iter();
-        for left in 0..taken {
-            assert!(rt; Rc::strong_count(&alive).wrapping_add(left) == 4);
-            assert!(rt; items.next().is_some());
-        }
-        drop(items);
-        assert!(rt; Rc::strong_count(&alive) == 1);
+        let map = map_of(rt.alloc(), listed(rt.alloc(), &alive, FOUR)?);
+        assert!(rt; walked(map, &alive, taken) == (true, 1));
     }
     Ok(())
 }
 
-// Guards and entries own no item: the map drops what they lent, and a refused item is dropped with its refusal.
+/// Whether an item takes the place of the one with the first key 1, and the count while the answer is there.
+fn replaced(map: &mut BiHashMap<Held>, item: Held, alive: &Rc<()>) -> Option<(bool, usize)> {
+    let mut found = map.get1_mut(&1)?;
+    let answer = found.replace(item);
+    Some((answer.is_ok(), Rc::strong_count(alive)))
+}
+
+/// Whether a walk lends an item.
+fn is_lent(map: &mut BiHashMap<Held>) -> bool {
+    map.iter_mut().next_mut().is_some()
+}
+
+// Guards and entries own no item: the map drops what they lent.
 #[test]
 fn lent_items_are_dropped_once(rt: HostRuntime) -> Result<(), Fail> {
     let alive = Rc::new(rt.alloc(), ())?;
-    let mut map = filled(&rt, rt.alloc(), &alive, 2)?;
-    let mut items = map.iter_mut();
-    assert!(rt; items.next_mut().is_some());
-    drop(items);
+    let mut map = map_of(rt.alloc(), listed(rt.alloc(), &alive, TWO)?);
+    assert!(rt; is_lent(&mut map));
     assert!(rt; Rc::strong_count(&alive) == 3 && map.len() == 2);
     for (key1, key2) in [(1, 20), (1, 10), (1, 99), (9, 99)] {
         drop(map.entry(&key1, &key2));
         assert!(rt; Rc::strong_count(&alive) == 3 && map.len() == 2);
     }
-    for (key2, during, after) in [(20, 4, 3), (10, 4, 3)] {
-        let item = item_of(&alive, 1, key2)?;
-        if let Some(mut found) = map.get1_mut(&1) {
-            let answer = found.replace(item);
-            assert!(rt; answer.is_ok() == (key2 == 10));
-            assert!(rt; Rc::strong_count(&alive) == during);
-            drop(answer);
-        }
-        assert!(rt; Rc::strong_count(&alive) == after && map.len() == 2);
-    }
     drop(map);
     assert!(rt; Rc::strong_count(&alive) == 1);
+    Ok(())
+}
+
+// What takes the place of an item, or is refused, is dropped once with the answer.
+#[test]
+fn replaced_items_are_dropped_once(rt: HostRuntime) -> Result<(), Fail> {
+    for (key2, is_in) in [(20, false), (10, true)] {
+        let alive = Rc::new(rt.alloc(), ())?;
+        let (mut map, item) = two_and(rt.alloc(), &alive, (1, key2))?;
+        assert!(rt; replaced(&mut map, item, &alive) == Some((is_in, 4)));
+        assert!(rt; Rc::strong_count(&alive) == 3 && map.len() == 2);
+        drop(map);
+        assert!(rt; Rc::strong_count(&alive) == 1);
+    }
     Ok(())
 }

@@ -1,16 +1,15 @@
 //! Worked rows on entries of two-key maps.
-ghost use Rattle.iddqd_bi.specs.Entries.{HasFound};
+ghost use Rattle.iddqd_bi.specs.Entries.{HasFound, Holds};
 
 use crate::alike::Alike;
 use crate::row::{Row, row_of};
-use crate::worked::{Answer, ONE, TWO, mismatch, refusal, two};
+use crate::worked::{Answer, ONE, TWO, by_first, mismatch, refusal, reset, row};
 use iddqd_bi::{
-    BiHashItem, BiHashMap, DefaultHashBuilder, Entry, KeyMismatch, OccupiedEntry, OccupiedEntryRef,
+    BiHashItem, BiHashMap, Entry, KeyMismatch, OccupiedEntry, OccupiedEntryMut, OccupiedEntryRef,
 };
 use iddqd_store::UpToTwo;
-use std::alloc::Global;
 use std::hash::{BuildHasher, Hash};
-use std::process::Abort;
+use std::test::*;
 
 /// What an entry finds: by the first key, by the second, and by both.
 type Seen = [Option<Row>; 3];
@@ -49,12 +48,13 @@ fn answer_of(inserted: Result<UpToTwo<Row>, KeyMismatch<Row>>) -> Answer {
 }
 
 /// What two keys find, what becomes of two items that are inserted there one after the other, and what is found then.
+type Inserted = (Seen, [Answer; 2], Seen);
+
 fn insert_both<S: BuildHasher>(
     map: &mut BiHashMap<Row, S>,
-    key1: u64,
-    key2: u64,
+    (key1, key2): (u64, u64),
     items: [Row; 2],
-) -> Option<(Seen, [Answer; 2], Seen)> {
+) -> Option<Inserted> {
     match map.entry(&key1, &key2) {
         Entry::Vacant(_) => None,
         Entry::Occupied(mut found) => {
@@ -78,89 +78,84 @@ fn take_out<S: BuildHasher>(
     }
 }
 
-fn occupied<S: BuildHasher + Copy + Drop>(rt: &impl Abort, alloc: Global, hash_builder: S) {
-    let apart = [Some(ONE), Some(TWO), None];
-    let half = [Some(ONE), None, None];
-    let new = row_of(1, 20, 300);
-    let (low, high) = (row_of(1, 21, 0), row_of(9, 21, 0));
-    let beside = row_of(1, 98, 0);
-    for ((key1, key2), before, items, answers, after, found) in [
-        (
-            (1, 20),
-            apart,
-            [low, new],
-            [Answer::Key2(low), Answer::In([Some(ONE), Some(TWO)])],
-            [Some(new); 3],
-            [Some(new), None],
-        ),
-        (
-            (1, 20),
-            apart,
-            [low, high],
-            [Answer::Key2(low), Answer::Key1(high)],
-            apart,
-            [Some(ONE), Some(TWO)],
-        ),
-        (
-            (1, 99),
-            half,
-            [beside; 2],
-            [Answer::Key2(beside); 2],
-            half,
-            [Some(ONE), Some(TWO)],
-        ),
-    ] {
-        let mut map = two(rt, alloc, hash_builder);
-        let wanted = Some((before, answers, after));
-        assert_eq!(rt; insert_both(&mut map, key1, key2, items), wanted);
-        assert_eq!(rt; [map.get1(&1).copied(), map.get1(&2).copied()], found);
-        drop(map);
+const APART: Seen = [Some(ONE), Some(TWO), None];
+
+const HALF: Seen = [Some(ONE), None, None];
+
+const BOTH: [Option<Row>; 2] = [Some(ONE), Some(TWO)];
+
+const NEW: Row = row!(1, 20, 300);
+
+const LOW: Row = row!(1, 21, 0);
+
+const HIGH: Row = row!(9, 21, 0);
+
+const BESIDE: Row = row!(1, 98, 0);
+
+/// On the map of two: two keys, the items that are inserted there, what that answers, and what the map has then.
+const OVERWRITES: [((u64, u64), [Row; 2], Inserted, [Option<Row>; 2]); 3] = [
+    (
+        (1, 20),
+        [LOW, NEW],
+        (APART, [Answer::Key2(LOW), Answer::In(BOTH)], [Some(NEW); 3]),
+        [Some(NEW), None],
+    ),
+    (
+        (1, 20),
+        [LOW, HIGH],
+        (APART, [Answer::Key2(LOW), Answer::Key1(HIGH)], APART),
+        BOTH,
+    ),
+    (
+        (1, 99),
+        [BESIDE; 2],
+        (HALF, [Answer::Key2(BESIDE); 2], HALF),
+        BOTH,
+    ),
+];
+
+fn occupied<S: BuildHasher>(map: &mut BiHashMap<Row, S>) -> bool {
+    for (keys, items, wanted, left) in OVERWRITES {
+        if !reset(map) || insert_both(map, keys, items) != Some(wanted) || by_first(map) != left {
+            return false;
+        }
     }
-    let mut map = two(rt, alloc, hash_builder);
-    assert_eq!(rt; take_out(&mut map, 1, 99), Some([Some(ONE), None]));
-    assert!(rt; map.len() == 1 && map.get2(&10).is_none());
-    drop(map);
+    reset(map)
+        && take_out(map, 1, 99) == Some([Some(ONE), None])
+        && map.len() == 1
+        && map.get2(&10).is_none()
 }
 
 #[test]
 fn occupied_entries_are_overwritten(rt: HostRuntime) {
-    occupied(&rt, rt.alloc(), DefaultHashBuilder::default());
+    assert!(rt; occupied(&mut BiHashMap::new(rt.alloc())));
     for hash in [0, 3, 18446744073709551615] {
-        occupied(&rt, rt.alloc(), Alike { hash });
+        assert!(rt; occupied(&mut BiHashMap::with_hasher(rt.alloc(), Alike { hash })));
     }
 }
 
-/// The way that an item takes into an entry.
-#[derive(Clone, Copy, PartialEq, Eq)]
-enum Way {
-    Insert,
-    InsertEntry,
-    OrInsert,
-}
-
-/// Puts an item in by an entry. Says what becomes of it, and whether it is lent as the one that has both keys.
-fn put_in<S: BuildHasher>(
+/// What becomes of an item that `insert` puts into a vacant entry.
+fn insert<S: BuildHasher>(
     map: &mut BiHashMap<Row, S>,
-    key1: u64,
-    key2: u64,
-    way: Way,
+    (key1, key2): (u64, u64),
     item: Row,
 ) -> Answer {
-    let entry = map.entry(&key1, &key2);
-    if way == Way::OrInsert {
-        return match entry.or_insert(item) {
-            Ok(mut found) => Answer::In([
-                found.as_unique().map(|x| *x),
-                found.into_unique().map(|x| *x),
-            ]),
-            Err(error) => refusal(error),
-        };
-    }
-    match entry {
-        Entry::Vacant(entry) if way == Way::Insert => match entry.insert(item) {
+    match map.entry(&key1, &key2) {
+        Entry::Vacant(entry) => match entry.insert(item) {
             Ok(found) => Answer::In([Some(*found), Some(*found.into_ref())]),
             Err(error) => refusal(error),
         },
+        Entry::Occupied(_) => Answer::Nowhere,
+    }
+}
+
+/// What becomes of an item that `insert_entry` puts into a vacant entry.
+fn insert_entry<S: BuildHasher>(
+    map: &mut BiHashMap<Row, S>,
+    (key1, key2): (u64, u64),
+    item: Row,
+) -> Answer {
+    match map.entry(&key1, &key2) {
         Entry::Vacant(entry) => match entry.insert_entry(item) {
             Ok(found) => {
                 let first = found.get().as_unique().copied();
@@ -172,48 +167,91 @@ fn put_in<S: BuildHasher>(
     }
 }
 
-fn vacant<S: BuildHasher + Copy + Drop>(rt: &impl Abort, alloc: Global, hash_builder: S) {
-    let (item, other) = (row_of(5, 50, 0), row_of(6, 50, 0));
-    for way in [Way::Insert, Way::InsertEntry, Way::OrInsert] {
-        let mut map = BiHashMap::with_hasher(alloc, hash_builder);
-        assert_eq!(rt; put_in(&mut map, 5, 50, way, other), Answer::Key1(other));
-        assert_eq!(rt; map.len(), 0);
-        assert_eq!(rt;
-            put_in(&mut map, 5, 50, way, item),
-            Answer::In([Some(item); 2])
-        );
-        assert_eq!(rt; map.get1(&5).copied(), Some(item));
-        assert_eq!(rt; map.get2(&50).copied(), Some(item));
-        drop(map);
+/// The item that is lent as the one that has both keys, while the entry stays and once it is gone.
+fn unique<S: BuildHasher>(mut found: OccupiedEntryMut<'_, Row, S>) -> Answer {
+    let first = match found.as_unique() {
+        Some(item) => Some(*item),
+        None => None,
+    };
+    match found.into_unique() {
+        Some(item) => Answer::In([first, Some(*item)]),
+        None => Answer::In([first, None]),
     }
-    // Where one of the keys finds an item, nothing goes in, and the new one is dropped.
-    let mut map = two(rt, alloc, hash_builder);
-    assert_eq!(rt;
-        put_in(&mut map, 7, 20, Way::OrInsert, row_of(7, 70, 0)),
-        Answer::In([None; 2])
-    );
-    assert!(rt; map.len() == 2 && map.get1(&7).is_none());
-    drop(map);
-    let mut map = BiHashMap::with_hasher(alloc, hash_builder);
-    for (item, wanted) in [
-        (other, (Answer::Key1(other), false, 1)),
-        (item, (Answer::In([Some(item); 2]), true, 1)),
-        (other, (Answer::In([Some(item); 2]), true, 0)),
-    ] {
-        assert_eq!(rt; put_answer(&mut map, 5, 50, item), wanted);
-    }
-    drop(map);
-    let mut map = two(rt, alloc, hash_builder);
-    let found = (Answer::In([Some(ONE); 2]), true, 0);
-    assert_eq!(rt; put_answer(&mut map, 1, 10, row_of(1, 10, 0)), found);
-    drop(map);
 }
 
-#[test]
-fn vacant_entries_are_filled(rt: HostRuntime) {
-    vacant(&rt, rt.alloc(), DefaultHashBuilder::default());
-    for hash in [0, 3, 18446744073709551615] {
-        vacant(&rt, rt.alloc(), Alike { hash });
+/// What becomes of an item that `or_insert` puts in, and whether it is lent as the one that has both keys.
+fn or_insert<S: BuildHasher>(
+    map: &mut BiHashMap<Row, S>,
+    (key1, key2): (u64, u64),
+    item: Row,
+) -> Answer {
+    match map.entry(&key1, &key2).or_insert(item) {
+        Ok(found) => unique(found),
+        Err(error) => refusal(error),
+    }
+}
+
+/// The way that an item takes into an entry.
+#[derive(Clone, Copy)]
+enum Way {
+    Insert,
+    InsertEntry,
+    OrInsert,
+}
+
+/// What becomes of an item that goes this way into the entry of these keys.
+fn put_in<S: BuildHasher>(
+    map: &mut BiHashMap<Row, S>,
+    keys: (u64, u64),
+    way: Way,
+    item: Row,
+) -> Answer {
+    match way {
+        Way::Insert => insert(map, keys, item),
+        Way::InsertEntry => insert_entry(map, keys, item),
+        Way::OrInsert => or_insert(map, keys, item),
+    }
+}
+
+const ITEM: Row = row!(5, 50, 0);
+
+const OTHER: Row = row!(6, 50, 0);
+
+/// Whether an item with another key comes back from the entry of (5, 50), and one with its keys goes in, on an empty map.
+fn is_filled<S: BuildHasher>(map: &mut BiHashMap<Row, S>, way: Way) -> bool {
+    put_in(map, (5, 50), way, OTHER) == Answer::Key1(OTHER)
+        && map.len() == 0
+        && put_in(map, (5, 50), way, ITEM) == Answer::In([Some(ITEM); 2])
+        && map.get1(&5).copied() == Some(ITEM)
+        && map.get2(&50).copied() == Some(ITEM)
+}
+
+fn vacant<S: BuildHasher>(map: &mut BiHashMap<Row, S>) -> bool {
+    for way in [Way::Insert, Way::InsertEntry, Way::OrInsert] {
+        map.clear();
+        if !is_filled(map, way) {
+            return false;
+        }
+    }
+    // Where one of the keys finds an item, nothing goes in, and the new one is dropped.
+    reset(map)
+        && or_insert(map, (7, 20), row!(7, 70, 0)) == Answer::In([None; 2])
+        && map.len() == 2
+        && map.get1(&7).is_none()
+}
+
+/// The item that an entry lends by its first key and by its second, and whether it is the one that has both.
+fn by_each<S: BuildHasher>(mut found: OccupiedEntryMut<'_, Row, S>) -> (Answer, bool)
+    requires { Holds found }
+{
+    let is_unique = found.is_unique();
+    let first = match found.by_key1() {
+        Some(item) => Some(*item),
+        None => None,
+    };
+    match found.into_by_key2() {
+        Some(item) => (Answer::In([first, Some(*item)]), is_unique),
+        None => (Answer::In([first, None]), is_unique),
     }
 }
 
@@ -221,35 +259,55 @@ fn vacant_entries_are_filled(rt: HostRuntime) {
 /// closure is called.
 fn put_answer<S: BuildHasher>(
     map: &mut BiHashMap<Row, S>,
-    key1: u64,
-    key2: u64,
+    (key1, key2): (u64, u64),
     item: Row,
-) -> (Answer, bool, u64) {
+) -> ((Answer, bool), u64) {
     let mut calls: u64 = 0;
     let answer = || {
         calls = calls.wrapping_add(1);
         item
     };
-    let (answer, is_unique) = match map.entry(&key1, &key2).or_insert_with(answer) {
-        Ok(mut found) => {
-            let is_unique = found.is_unique();
-            let first = found.by_key1().map(|x| *x);
-            (
-                Answer::In([first, found.into_by_key2().map(|x| *x)]),
-                is_unique,
-            )
-        }
+    let answer = match map.entry(&key1, &key2).or_insert_with(answer) {
+        Ok(found) => by_each(found),
         Err(error) => (refusal(error), false),
     };
-    (answer, is_unique, calls)
+    (answer, calls)
 }
 
-/// Adds one to each value that two keys find. Says the last two items that this is asked of, and how many there are.
-fn modify<S: BuildHasher>(
-    map: &mut BiHashMap<Row, S>,
-    key1: u64,
-    key2: u64,
-) -> ([Option<Row>; 2], u64) {
+/// The items that are put in one after the other by the entry of (5, 50), from the empty map on, and what becomes of
+/// each.
+const PUT: [(Row, ((Answer, bool), u64)); 3] = [
+    (OTHER, ((Answer::Key1(OTHER), false), 1)),
+    (ITEM, ((Answer::In([Some(ITEM); 2]), true), 1)),
+    (OTHER, ((Answer::In([Some(ITEM); 2]), true), 0)),
+];
+
+fn answered<S: BuildHasher>(map: &mut BiHashMap<Row, S>) -> bool {
+    map.clear();
+    for (item, wanted) in PUT {
+        if put_answer(map, (5, 50), item) != wanted {
+            return false;
+        }
+    }
+    let found = ((Answer::In([Some(ONE); 2]), true), 0);
+    reset(map) && put_answer(map, (1, 10), row!(1, 10, 0)) == found
+}
+
+#[test]
+fn vacant_entries_are_filled(rt: HostRuntime) {
+    let mut map = BiHashMap::new(rt.alloc());
+    assert!(rt; vacant(&mut map) && answered(&mut map));
+    for hash in [0, 3, 18446744073709551615] {
+        let mut map = BiHashMap::with_hasher(rt.alloc(), Alike { hash });
+        assert!(rt; vacant(&mut map) && answered(&mut map));
+    }
+}
+
+/// The last two items that were asked of, and how many there were.
+type Heard = ([Option<Row>; 2], u64);
+
+/// Adds one to each value that two keys find. Says of which items this is asked.
+fn modify<S: BuildHasher>(map: &mut BiHashMap<Row, S>, (key1, key2): (u64, u64)) -> Heard {
     let mut heard = [None; 2];
     let mut calls: u64 = 0;
     let entry = map.entry(&key1, &key2).and_modify(|row| {
@@ -262,11 +320,7 @@ fn modify<S: BuildHasher>(
 }
 
 /// The same, of the items of an occupied entry that are lent for writing.
-fn modify_each<S: BuildHasher>(
-    map: &mut BiHashMap<Row, S>,
-    key1: u64,
-    key2: u64,
-) -> ([Option<Row>; 2], u64) {
+fn modify_each<S: BuildHasher>(map: &mut BiHashMap<Row, S>, (key1, key2): (u64, u64)) -> Heard {
     let mut heard = [None; 2];
     let mut calls: u64 = 0;
     match map.entry(&key1, &key2) {
@@ -280,24 +334,37 @@ fn modify_each<S: BuildHasher>(
     (heard, calls)
 }
 
-fn modified<S: BuildHasher + Copy + Drop>(rt: &impl Abort, alloc: Global, hash_builder: S) {
-    let mut map = two(rt, alloc, hash_builder);
-    assert_eq!(rt; modify(&mut map, 1, 20), ([Some(ONE), Some(TWO)], 2));
-    assert_eq!(rt; map.get1(&1).copied(), Some(row_of(1, 10, 101)));
-    assert_eq!(rt; map.get1(&2).copied(), Some(row_of(2, 20, 201)));
-    assert_eq!(rt;
-        modify_each(&mut map, 2, 20),
-        ([None, Some(row_of(2, 20, 201))], 1)
-    );
-    assert_eq!(rt; map.get1(&2).copied(), Some(row_of(2, 20, 202)));
-    assert_eq!(rt; modify(&mut map, 5, 50), ([None, None], 0));
-    drop(map);
+/// Whether the entry itself modifies or the items that it lends, the keys, and of which items this is asked; and the
+/// values of the map of two then, from it on.
+const MODIFIED: [(bool, (u64, u64), Heard, [u64; 2]); 3] = [
+    (true, (1, 20), ([Some(ONE), Some(TWO)], 2), [101, 201]),
+    (
+        false,
+        (2, 20),
+        ([None, Some(row!(2, 20, 201))], 1),
+        [101, 202],
+    ),
+    (true, (5, 50), ([None, None], 0), [101, 202]),
+];
+
+fn modified<S: BuildHasher>(map: &mut BiHashMap<Row, S>) -> bool {
+    let mut is_right = reset(map);
+    for (by_entry, keys, wanted, [first, second]) in MODIFIED {
+        let heard = if by_entry {
+            modify(map, keys)
+        } else {
+            modify_each(map, keys)
+        };
+        let left = [Some(row_of(1, 10, first)), Some(row_of(2, 20, second))];
+        is_right = is_right && heard == wanted && by_first(map) == left;
+    }
+    is_right
 }
 
 #[test]
 fn entries_are_modified(rt: HostRuntime) {
-    modified(&rt, rt.alloc(), DefaultHashBuilder::default());
+    assert!(rt; modified(&mut BiHashMap::new(rt.alloc())));
     for hash in [0, 3, 18446744073709551615] {
-        modified(&rt, rt.alloc(), Alike { hash });
+        assert!(rt; modified(&mut BiHashMap::with_hasher(rt.alloc(), Alike { hash })));
     }
 }

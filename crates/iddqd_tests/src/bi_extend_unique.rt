@@ -1,11 +1,10 @@
 //! Worked rows on lists that go into a two-key map whole or not at all.
 use crate::alike::Alike;
-use crate::row::{Row, row_of};
-use crate::worked::{ONE, Refused, TWO, conflict, refused_list, two};
-use iddqd_bi::{BiHashMap, DefaultHashBuilder};
-use std::alloc::Global;
+use crate::row::Row;
+use crate::worked::{ONE, Refused, TWO, refused_list, reset, row};
+use iddqd_bi::{BiHashMap, ExtendUniqueReason};
 use std::hash::BuildHasher;
-use std::process::Abort;
+use std::test::*;
 
 /// Why the list did not go into the map, if it did not.
 fn refusal_of<S: BuildHasher>(map: &mut BiHashMap<Row, S>, items: &[Row]) -> Option<Refused> {
@@ -15,8 +14,8 @@ fn refusal_of<S: BuildHasher>(map: &mut BiHashMap<Row, S>, items: &[Row]) -> Opt
     }
 }
 
-/// Whether the map has each of these rows, and so many in all.
-fn has<S: BuildHasher>(map: &BiHashMap<Row, S>, rows: &[Row], length: usize) -> bool {
+/// Whether the map has each of these rows.
+fn has<S: BuildHasher>(map: &BiHashMap<Row, S>, rows: &[Row]) -> bool {
     for row in rows {
         if map.get1(&row.key1).copied() != Some(*row)
             || map.get2(&row.key2).copied() != Some(*row)
@@ -24,47 +23,75 @@ fn has<S: BuildHasher>(map: &BiHashMap<Row, S>, rows: &[Row], length: usize) -> 
             return false;
         }
     }
-    map.len() == length
+    true
 }
 
-/// The rows on the map of two, under this builder.
-fn check<S: BuildHasher + Copy + Drop>(rt: &impl Abort, alloc: Global, hash_builder: S) {
-    let (third, fifth) = (row_of(3, 30, 0), row_of(5, 50, 0));
-    let rows: [(&[Row], Option<Refused>, usize); 5] = [
-        (
-            &[third, row_of(4, 30, 0), fifth],
-            Some(conflict(Some(third), row_of(4, 30, 0))),
-            2,
-        ),
-        (
-            &[row_of(1, 60, 0), fifth],
-            Some(conflict(None, row_of(1, 60, 0))),
-            2,
-        ),
-        (
-            &[third, row_of(3, 40, 0)],
-            Some(conflict(Some(third), row_of(3, 40, 0))),
-            2,
-        ),
-        (&[row_of(10, 1, 0), row_of(20, 2, 0)], None, 4),
-        (&[], None, 2),
-    ];
-    for (items, wanted, length) in rows {
-        let mut map = two(rt, alloc, hash_builder);
-        let capacity = map.capacity();
-        assert_eq!(rt; refusal_of(&mut map, items), wanted);
-        let went_in = if wanted.is_none() { items } else { &[] };
-        assert!(rt; has(&map, &[ONE, TWO], length) && has(&map, went_in, length));
-        assert!(rt; wanted.is_none() || map.get1(&3).is_none());
-        assert!(rt; !items.is_empty() || map.capacity() == capacity);
+fn has_two<S: BuildHasher>(map: &BiHashMap<Row, S>) -> bool {
+    has(map, &[ONE, TWO])
+}
+
+const THIRD: Row = row!(3, 30, 0);
+
+const FIFTH: Row = row!(5, 50, 0);
+
+/// The refusal of this item for a conflict, after this one or none.
+macro_rules! conflict {
+    ($taken:expr, $value:expr) => {
+        Refused {
+            taken: [$taken, None],
+            value: $value,
+            reason: ExtendUniqueReason::Conflict,
+        }
+    };
+}
+
+/// Lists, and why they do not go into the map of two.
+const REFUSED: [(&[Row], Refused); 3] = [
+    (
+        &[THIRD, row!(4, 30, 0), FIFTH],
+        conflict!(Some(THIRD), row!(4, 30, 0)),
+    ),
+    (&[row!(1, 60, 0), FIFTH], conflict!(None, row!(1, 60, 0))),
+    (
+        &[THIRD, row!(3, 40, 0)],
+        conflict!(Some(THIRD), row!(3, 40, 0)),
+    ),
+];
+
+fn none_goes_in<S: BuildHasher>(map: &mut BiHashMap<Row, S>) -> bool {
+    for (items, wanted) in REFUSED {
+        if !reset(map)
+            || refusal_of(map, items) != Some(wanted)
+            || !has_two(map)
+            || map.len() != 2
+            || map.get1(&3).is_some()
+        {
+            return false;
+        }
     }
+    true
+}
+
+/// Whether a list goes into the map of two, which has so many items then.
+fn all_go_in<S: BuildHasher>(map: &mut BiHashMap<Row, S>, items: &[Row], length: usize) -> bool {
+    let is_right = reset(map) && refusal_of(map, items) == None;
+    is_right && has_two(map) && has(map, items) && map.len() == length
+}
+
+fn keeps_room<S: BuildHasher>(map: &mut BiHashMap<Row, S>) -> bool {
+    let is_reset = reset(map);
+    let capacity = map.capacity();
+    is_reset && all_go_in(map, &[], 2) && map.capacity() == capacity
+}
+
+fn check<S: BuildHasher>(map: &mut BiHashMap<Row, S>) -> bool {
+    none_goes_in(map) && keeps_room(map) && all_go_in(map, &[row!(10, 1, 0), row!(20, 2, 0)], 4)
 }
 
 #[test]
 fn extend_unique_puts_all_in_or_none(rt: HostRuntime) {
-    let alloc = rt.alloc();
-    check(&rt, alloc, DefaultHashBuilder::default());
+    assert!(rt; check(&mut BiHashMap::new(rt.alloc())));
     for hash in [0, 18446744073709551615] {
-        check(&rt, alloc, Alike { hash });
+        assert!(rt; check(&mut BiHashMap::with_hasher(rt.alloc(), Alike { hash })));
     }
 }

@@ -1,11 +1,9 @@
 //! Worked rows on items of two-key maps that are lent for writing.
 use crate::alike::Alike;
-use crate::row::{Row, row_of};
-use crate::worked::{Answer, ONE, TWO, mismatch, two};
-use iddqd_bi::{BiHashMap, Cursor, DefaultHashBuilder};
-use std::alloc::Global;
+use crate::row::Row;
+use crate::worked::{Answer, ONE, TWO, by_first, mismatch, reset, row};
+use iddqd_bi::{BiHashMap, Cursor};
 use std::hash::BuildHasher;
-use std::process::Abort;
 use std::test::*;
 
 /// What becomes of an item that is put in the place of the one with this first key.
@@ -28,17 +26,26 @@ fn write2<S: BuildHasher>(map: &mut BiHashMap<Row, S>, key: u64, value: u64) {
 
 /// The item that has both keys, lent for writing.
 fn of_both<S: BuildHasher>(map: &mut BiHashMap<Row, S>, key1: u64, key2: u64) -> Option<Row> {
-    map.get_mut_unique(&key1, &key2).map(|found| *found)
+    match map.get_mut_unique(&key1, &key2) {
+        Some(found) => Some(*found),
+        None => None,
+    }
 }
 
-/// How many items are to come before each step of a walk, and what the step lends.
-fn walk<S: BuildHasher>(map: &mut BiHashMap<Row, S>) -> [(usize, Option<Row>); 4] {
+/// Whether a walk says at each step how many of two items are to come, and goes on saying so at its end. The last two
+/// items that it lends.
+fn walk<S: BuildHasher>(map: &mut BiHashMap<Row, S>) -> (bool, [Option<Row>; 2]) {
     let mut items = map.iter_mut();
-    let first = (items.len(), items.next_mut().map(|item| *item));
-    let second = (items.count_remaining(), items.next_mut().map(|item| *item));
-    let third = (items.len(), items.next_mut().map(|item| *item));
-    let fourth = (items.len(), items.next_mut().map(|item| *item));
-    [first, second, third, fourth]
+    let mut is_right = true;
+    let mut lent = [None; 2];
+    for left in [2, 1, 0, 0] {
+        is_right = is_right && items.len() == left && items.count_remaining() == left;
+        match items.next_mut() {
+            Some(item) => lent = [lent[1], Some(*item)],
+            None => is_right = is_right && left == 0,
+        }
+    }
+    (is_right, lent)
 }
 
 /// Sets every value to 0, with more steps than there are items. Says how many items are lent.
@@ -54,33 +61,48 @@ fn clear_values<S: BuildHasher>(map: &mut BiHashMap<Row, S>) -> usize {
     lent
 }
 
-fn check<S: BuildHasher + Drop>(rt: &impl Abort, alloc: Global, hash_builder: S) {
-    let mut map = two(rt, alloc, hash_builder);
-    for (item, answer) in [
-        (row_of(1, 11, 0), Answer::Key2(row_of(1, 11, 0))),
-        (row_of(1, 10, 7), Answer::In([Some(ONE), None])),
-    ] {
-        assert_eq!(rt; replace1(&mut map, 1, item), answer);
-    }
-    assert_eq!(rt; map.get1(&1).copied(), Some(row_of(1, 10, 7)));
-    write2(&mut map, 20, 9);
-    assert_eq!(rt; map.get1(&2).copied(), Some(row_of(2, 20, 9)));
-    assert_eq!(rt; of_both(&mut map, 1, 20), None);
-    assert_eq!(rt; of_both(&mut map, 2, 20), Some(row_of(2, 20, 9)));
-    let [first, second, third, fourth] = walk(&mut map);
-    let (one, two) = (Some(row_of(1, 10, 7)), Some(row_of(2, 20, 9)));
-    assert!(rt; first.0 == 2 && second.0 == 1 && third == (0, None) && fourth == (0, None));
-    assert!(rt; (first.1, second.1) == (one, two) || (first.1, second.1) == (two, one));
-    assert_eq!(rt; clear_values(&mut map), 2);
-    assert_eq!(rt; map.get1(&1).copied(), Some(row_of(1, 10, 0)));
-    assert_eq!(rt; map.get1(&2).copied(), Some(row_of(2, 20, 0)));
-    drop(map);
+const SEVEN: Row = row!(1, 10, 7);
+
+const NINE: Row = row!(2, 20, 9);
+
+const OTHER: Row = row!(1, 11, 0);
+
+fn replaced<S: BuildHasher>(map: &mut BiHashMap<Row, S>) -> bool {
+    reset(map)
+        && replace1(map, 1, OTHER) == Answer::Key2(OTHER)
+        && replace1(map, 1, SEVEN) == Answer::In([Some(ONE), None])
+        && by_first(map) == [Some(SEVEN), Some(TWO)]
+}
+
+fn written<S: BuildHasher>(map: &mut BiHashMap<Row, S>) -> bool {
+    let is_reset = reset(map);
+    write2(map, 20, 9);
+    is_reset
+        && by_first(map) == [Some(ONE), Some(NINE)]
+        && of_both(map, 1, 20) == None
+        && of_both(map, 2, 20) == Some(NINE)
+}
+
+fn walked<S: BuildHasher>(map: &mut BiHashMap<Row, S>) -> bool {
+    let is_reset = reset(map);
+    let (is_right, lent) = walk(map);
+    is_reset && is_right && (lent == [Some(ONE), Some(TWO)] || lent == [Some(TWO), Some(ONE)])
+}
+
+fn cleared<S: BuildHasher>(map: &mut BiHashMap<Row, S>) -> bool {
+    reset(map)
+        && clear_values(map) == 2
+        && by_first(map) == [Some(row!(1, 10, 0)), Some(row!(2, 20, 0))]
+}
+
+fn check<S: BuildHasher>(map: &mut BiHashMap<Row, S>) -> bool {
+    replaced(map) && written(map) && walked(map) && cleared(map)
 }
 
 #[test]
 fn items_are_written(rt: HostRuntime) {
-    check(&rt, rt.alloc(), DefaultHashBuilder::default());
+    assert!(rt; check(&mut BiHashMap::new(rt.alloc())));
     for hash in [0, 3, 18446744073709551615] {
-        check(&rt, rt.alloc(), Alike { hash });
+        assert!(rt; check(&mut BiHashMap::with_hasher(rt.alloc(), Alike { hash })));
     }
 }

@@ -5,7 +5,8 @@ ghost use Rattle.std.specs.Cmp.Rules.{comparing, hashing};
 ghost use Rattle.std.specs.Cmp.Lexicographic.{pointwise};
 
 use crate::own_hash::OwnHash;
-use crate::row::{Row, row_of};
+use crate::row::Row;
+use crate::worked::{ONE, TWO, two};
 use iddqd_bi::{BiHashItem, BiHashMap};
 use iddqd_store::{Equivalent, KeyMatcher, Meter};
 use std::hash::{BuildHasher, Hash, Hasher};
@@ -56,23 +57,21 @@ fn search(map: &BiHashMap<Row, OwnHash>, is_first: bool, key: u64) -> (Option<Ro
     (found, matcher.questions)
 }
 
+/// Whether a search is by the first key, the key, what it finds, and how many keys it asks about.
+const SEARCHES: [(bool, u64, (Option<Row>, u64)); 5] = [
+    (true, 9, (None, 0)),
+    (true, 1, (Some(ONE), 1)),
+    (true, 20, (None, 0)),
+    (false, 20, (Some(TWO), 1)),
+    (false, 1, (None, 0)),
+];
+
 #[test]
 fn asks_only_keys_of_the_hash(rt: HostRuntime) {
-    let mut map = BiHashMap::with_hasher(rt.alloc(), OwnHash);
-    let rows = [row_of(1, 10, 100), row_of(2, 20, 200)];
-    for row in rows {
-        assert!(rt; map.insert_unique(row).is_ok());
+    let map = two(&rt, rt.alloc(), OwnHash);
+    for (is_first, key, wanted) in SEARCHES {
+        assert!(rt; search(&map, is_first, key) == wanted, "at {key}");
     }
-    for (is_first, key, wanted) in [
-        (true, 9, (None, 0)),
-        (true, 1, (Some(rows[0]), 1)),
-        (true, 20, (None, 0)),
-        (false, 20, (Some(rows[1]), 1)),
-        (false, 1, (None, 0)),
-    ] {
-        assert_eq!(rt; search(&map, is_first, key), wanted, "at {key}");
-    }
-    drop(map);
 }
 
 /// An item with a text as its first key.
@@ -118,16 +117,37 @@ impl<'a> Equivalent<&'static str> for Text<'a> {
     }
 }
 
+/// The number of the item with this text.
+fn number(map: &BiHashMap<Word>, text: &str) -> Option<u64> {
+    match map.get1(&Text { text }) {
+        Some(word) => Some(word.number),
+        None => None,
+    }
+}
+
+const NUMBERS: [(&str, Option<u64>); 4] = [
+    ("cd", Some(2)),
+    ("ab", Some(1)),
+    ("c", None),
+    ("", None),
+];
+
+/// Whether each text is found that should be, in the map of these.
+fn are_found(map: &BiHashMap<Word>) -> bool {
+    for (text, wanted) in NUMBERS {
+        if number(map, text) != wanted {
+            return false;
+        }
+    }
+    true
+}
+
 #[test]
-fn a_text_is_found_by_a_query(rt: HostRuntime) -> Result<(), Fail> {
+fn a_text_is_found_by_a_query(rt: HostRuntime) {
     let mut map = BiHashMap::new(rt.alloc());
     for (text, number) in [("ab", 1), ("cd", 2)] {
-        assert!(rt; map.insert_overwrite(Word { text, number }).is_ok());
+        let _ = map.insert_overwrite(Word { text, number });
     }
-    for (text, number) in [("cd", Some(2)), ("ab", Some(1)), ("c", None), ("", None)] {
-        let found = map.get1(&Text { text }).map(|word| word.number);
-        assert_eq!(rt; found, number, "at {text}");
-    }
+    assert!(rt; are_found(&map));
     drop(map);
-    Ok(())
 }

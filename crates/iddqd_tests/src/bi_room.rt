@@ -8,34 +8,51 @@ use std::alloc::Global;
 use std::hash::BuildHasher;
 use std::test::Fail;
 
-/// The capacities of a map after each call that changes it, where at most 62 are counted.
-fn capacities<S: BuildHasher>(map: &mut BiHashMap<Row, S>) -> Result<[usize; 4], TryReserveError> {
+/// Leaves two of a hundred items in a map.
+fn fill<S: BuildHasher>(map: &mut BiHashMap<Row, S>) {
     for key in 1..=100 {
         let _ = map.insert_overwrite(row_of(key, key, 0));
     }
     map.retain(|row| row.key1 == 37 || row.key1 == 90);
+}
+
+/// The capacities of a map that is shrunk to 50, and to what it needs.
+fn shrunk<S: BuildHasher>(map: &mut BiHashMap<Row, S>) -> Result<[usize; 2], TryReserveError> {
     map.shrink_to(50)?;
     let shrunk = map.capacity();
     map.shrink_to_fit()?;
-    let fitted = map.capacity();
+    Ok([shrunk, map.capacity()])
+}
+
+/// The capacity of a map that room was reserved in, where at most 62 are counted.
+fn reserved<S: BuildHasher>(map: &mut BiHashMap<Row, S>) -> Result<usize, TryReserveError> {
     map.reserve(50)?;
     map.try_reserve(60)?;
-    let reserved = map.capacity().min(62);
+    Ok(map.capacity().min(62))
+}
+
+/// The capacity of a map that was cleared and gave back its room.
+fn cleared<S: BuildHasher>(map: &mut BiHashMap<Row, S>) -> Result<usize, TryReserveError> {
     map.clear();
     map.shrink_to_fit()?;
-    Ok([shrunk, fitted, reserved, map.capacity()])
+    Ok(map.capacity())
+}
+
+/// Whether an empty map has room for as many items as each call asks for, and for no more than the tables then need.
+fn has_room<S: BuildHasher>(map: &mut BiHashMap<Row, S>) -> bool {
+    fill(map);
+    shrunk(map).ok() == Some([50, 2])
+        && reserved(map).ok() == Some(62)
+        && cleared(map).ok() == Some(0)
 }
 
 #[test]
 fn room_is_granted(rt: HostRuntime) -> Result<(), Fail> {
-    for mut map in [
-        BiHashMap::<Row>::default(rt.alloc()),
-        BiHashMap::with_capacity(rt.alloc(), 10)?,
-    ] {
-        assert!(rt; capacities(&mut map)? == [50, 2, 62, 0]);
-    }
-    let mut map = BiHashMap::with_capacity_and_hasher(rt.alloc(), 10, Alike { hash: 0 })?;
-    assert!(rt; capacities(&mut map)? == [50, 2, 62, 0]);
+    let alloc = rt.alloc();
+    assert!(rt; has_room(&mut BiHashMap::<Row>::default(alloc)));
+    assert!(rt; has_room(&mut BiHashMap::<Row>::with_capacity(alloc, 10)?));
+    let builder = Alike { hash: 0 };
+    assert!(rt; has_room(&mut BiHashMap::with_capacity_and_hasher(alloc, 10, builder)?));
     Ok(())
 }
 

@@ -2,26 +2,12 @@
 ghost use Rattle.std.specs.Prelude.{◌≡◌, length, map, IfOk};
 ghost use Rattle.iddqd_store.specs.Map.{bag};
 
-use crate::row::{Row, row_of};
-use iddqd_bi::{BiHashItem, BiHashMap, Iter};
+use crate::row::Row;
+use crate::worked::{ONE, TWO, row, two};
+use iddqd_bi::{BiHashItem, BiHashMap, DefaultHashBuilder, Iter};
 use std::alloc::{AllocError, Global};
 use std::hash::{BuildHasher, Hash};
-use std::process::Abort;
 use std::test::Fail;
-
-/// Puts these rows into a map.
-fn put_all(rt: &impl Abort, map: &mut BiHashMap<Row>, rows: &[Row]) {
-    for row in rows {
-        assert!(rt; map.insert_unique(*row).is_ok());
-    }
-}
-
-/// The map of (1, 10, 100) and (2, 20, 200).
-fn two(rt: &impl Abort, alloc: Global) -> BiHashMap<Row> {
-    let mut map = BiHashMap::new(alloc);
-    put_all(rt, &mut map, &[row_of(1, 10, 100), row_of(2, 20, 200)]);
-    map
-}
 
 // What callers can say of chains over a map.
 fn count_all<T: BiHashItem, S: BuildHasher>(map: &BiHashMap<T, S>) -> usize
@@ -48,87 +34,123 @@ fn all_given<T: BiHashItem + Drop, S: BuildHasher + Drop>(
     map.into_iter().collect(alloc)
 }
 
+/// Whether a walk says at each step how many of two items are left, and goes on saying so at its end.
+fn says_what_is_left(map: &BiHashMap<Row>) -> bool {
+    let mut items = map.iter();
+    let mut is_right = true;
+    for left in [2, 1, 0, 0] {
+        is_right = is_right && items.len() == left && items.size_hint() == (left, Some(left));
+        is_right = is_right && items.clone().count() == left;
+        is_right = is_right && items.next().is_some() == (left > 0);
+    }
+    is_right
+}
+
 #[test]
 fn iterators_say_how_many_are_left(rt: HostRuntime) {
-    let map = two(&rt, rt.alloc());
-    let mut items = map.iter();
-    for left in [2, 1, 0, 0] {
-        assert!(rt; items.len() == left && items.size_hint() == (left, Some(left)));
-        assert!(rt; items.clone().count() == left);
-        assert!(rt; items.next().is_some() == (left > 0));
+    let map = two(&rt, rt.alloc(), DefaultHashBuilder::default());
+    assert!(rt; says_what_is_left(&map) && Iter::<Row>::default().next().is_none());
+}
+
+/// The sum of the values of a map's items.
+fn sum_lent(map: &BiHashMap<Row>) -> u64 {
+    let mut sum: u64 = 0;
+    for item in map {
+        sum = sum.wrapping_add(item.value);
     }
-    assert!(rt; Iter::<Row>::default().next().is_none());
-    drop(map);
+    sum
+}
+
+fn sum_given(items: Vec<Row>) -> u64 {
+    let mut sum: u64 = 0;
+    for item in items {
+        sum = sum.wrapping_add(item.value);
+    }
+    sum
 }
 
 #[test]
 fn walks_give_each_item_once(rt: HostRuntime) -> Result<(), Fail> {
-    let map = two(&rt, rt.alloc());
-    assert!(rt; count_all(&map) == 2 && all_lent(rt.alloc(), &map)?.len() == 2);
-    let mut sum: u64 = 0;
-    for item in &map {
-        sum = sum.wrapping_add(item.value);
-    }
-    for item in all_given(rt.alloc(), map)? {
-        sum = sum.wrapping_add(item.value);
-    }
-    assert!(rt; sum == 600);
+    let alloc = rt.alloc();
+    let map = two(&rt, alloc, DefaultHashBuilder::default());
+    assert!(rt; count_all(&map) == 2 && all_lent(alloc, &map)?.len() == 2);
+    assert!(rt; sum_lent(&map) == 300 && sum_given(all_given(alloc, map)?) == 300);
     Ok(())
 }
 
-/// Whether the map of two rows equals this one, asked from both sides.
-fn equals(
-    alloc: Global,
-    map: &BiHashMap<Row>,
-    room: usize,
-    rows: &[Row],
-) -> Result<[bool; 2], Fail> {
-    let mut other = BiHashMap::with_capacity(alloc, room)?;
+/// Whether the map of these rows, made with this room, and another map are equal, asked from both sides.
+fn equals(alloc: Global, map: &BiHashMap<Row>, room: usize, rows: &[Row]) -> Option<[bool; 2]> {
+    let Ok(mut other) = BiHashMap::with_capacity(alloc, room) else {
+        return None;
+    };
     for row in rows {
         let _ = other.insert_overwrite(*row);
     }
-    Ok([*map == other, other == *map])
+    Some([*map == other, other == *map])
 }
 
-#[test]
-fn equality_is_of_the_items_alone(rt: HostRuntime) -> Result<(), Fail> {
-    let map = two(&rt, rt.alloc());
-    let rows: [(usize, &[Row], bool); 5] = [
-        (100, &[row_of(2, 20, 200), row_of(1, 10, 100)], true),
-        (0, &[row_of(1, 20, 100), row_of(2, 10, 200)], false),
-        (0, &[row_of(1, 10, 100), row_of(2, 20, 201)], false),
-        (0, &[row_of(1, 10, 100), row_of(3, 20, 200)], false),
-        (0, &[row_of(1, 10, 100)], false),
-    ];
-    for (room, rows, wanted) in rows {
-        assert!(rt; equals(rt.alloc(), &map, room, rows)? == [wanted, wanted]);
+const COMPARED: [(usize, &[Row], bool); 5] = [
+    (100, &[TWO, ONE], true),
+    (0, &[row!(1, 20, 100), row!(2, 10, 200)], false),
+    (0, &[ONE, row!(2, 20, 201)], false),
+    (0, &[ONE, row!(3, 20, 200)], false),
+    (0, &[ONE], false),
+];
+
+/// Whether the map of two equals others where it should.
+fn are_compared(alloc: Global, map: &BiHashMap<Row>) -> bool {
+    for (room, rows, wanted) in COMPARED {
+        if equals(alloc, map, room, rows) != Some([wanted, wanted]) {
+            return false;
+        }
     }
-    Ok(())
+    true
 }
 
 #[test]
-fn a_clone_is_a_map_of_its_own(rt: HostRuntime) -> Result<(), Fail> {
-    let mut map = two(&rt, rt.alloc());
-    let copy = map.clone()?;
-    assert!(rt; copy == map);
-    let rows: [&[Row]; 3] = [&[], &[row_of(2, 20, 200)], &[row_of(1, 10, 100)]];
+fn equality_is_of_the_items_alone(rt: HostRuntime) {
+    let map = two(&rt, rt.alloc(), DefaultHashBuilder::default());
+    assert!(rt; are_compared(rt.alloc(), &map));
+}
+
+/// Whether a map equals its copy once it is cleared, and with each of its two rows put back.
+fn equal_again(map: &mut BiHashMap<Row>, copy: &BiHashMap<Row>) -> [bool; 3] {
     map.clear();
-    for (at, rows) in rows.into_iter().enumerate() {
-        put_all(&rt, &mut map, rows);
-        assert!(rt; (copy == map) == (at == 2));
-    }
-    Ok(())
+    let empty = *copy == *map;
+    let _ = map.insert_overwrite(TWO);
+    let half = *copy == *map;
+    let _ = map.insert_overwrite(ONE);
+    [empty, half, *copy == *map]
+}
+
+/// Whether a map has a clone, which equals it and stays as it is.
+fn is_cloned(map: &mut BiHashMap<Row>) -> bool {
+    let Ok(copy) = map.clone() else {
+        return false;
+    };
+    copy == *map && equal_again(map, &copy) == [false, false, true]
 }
 
 #[test]
-fn retain_asks_once_for_each_item(rt: HostRuntime) {
-    let mut map = two(&rt, rt.alloc());
-    let capacity = map.capacity();
+fn a_clone_is_a_map_of_its_own(rt: HostRuntime) {
+    let mut map = two(&rt, rt.alloc(), DefaultHashBuilder::default());
+    assert!(rt; is_cloned(&mut map));
+}
+
+/// How many items `retain` asks about, where it leaves that with the first key 2.
+fn asked(map: &mut BiHashMap<Row>) -> u64 {
     let mut calls: u64 = 0;
     map.retain(|item| {
         calls = calls.wrapping_add(1);
         item.key1 == 2
     });
-    assert!(rt; calls == 2 && map.len() == 1 && map.capacity() == capacity);
+    calls
+}
+
+#[test]
+fn retain_asks_once_for_each_item(rt: HostRuntime) {
+    let mut map = two(&rt, rt.alloc(), DefaultHashBuilder::default());
+    let capacity = map.capacity();
+    assert!(rt; asked(&mut map) == 2 && map.len() == 1 && map.capacity() == capacity);
     assert!(rt; map.contains_key2(&20));
 }

@@ -1,21 +1,32 @@
 //! The map of two rows, and what calls answer on it.
-use crate::row::{Row, row_of};
+use crate::row::Row;
 use iddqd_bi::{BiHashMap, EntryError, ExtendUniqueError, ExtendUniqueReason, KeyMismatch};
 use std::alloc::Global;
 use std::hash::BuildHasher;
 use std::process::Abort;
 
-pub const ONE: Row = Row {
-    key1: 1,
-    key2: 10,
-    value: 100,
-};
+/// A row of these numbers, as `row_of` makes it, for constants, which call no function.
+macro_rules! row {
+    ($key1:expr, $key2:expr, $value:expr) => {
+        Row {
+            key1: $key1,
+            key2: $key2,
+            value: $value,
+        }
+    };
+}
 
-pub const TWO: Row = Row {
-    key1: 2,
-    key2: 20,
-    value: 200,
-};
+pub(crate) use row;
+
+pub const ONE: Row = row!(1, 10, 100);
+
+pub const TWO: Row = row!(2, 20, 200);
+
+/// Makes a map that of (1, 10, 100) and (2, 20, 200). Says whether both went in.
+pub fn reset<S: BuildHasher>(map: &mut BiHashMap<Row, S>) -> bool {
+    map.clear();
+    map.insert_unique(ONE).is_ok() && map.insert_unique(TWO).is_ok()
+}
 
 /// The map of (1, 10, 100) and (2, 20, 200).
 pub fn two<S: BuildHasher + Drop>(
@@ -24,14 +35,17 @@ pub fn two<S: BuildHasher + Drop>(
     hash_builder: S,
 ) -> BiHashMap<Row, S> {
     let mut map = BiHashMap::with_hasher(alloc, hash_builder);
-    for row in [ONE, TWO] {
-        assert!(rt; map.insert_unique(row).is_ok());
-    }
+    assert!(rt; reset(&mut map));
     map
 }
 
+/// The items with the first keys 1 and 2.
+pub fn by_first<S: BuildHasher>(map: &BiHashMap<Row, S>) -> [Option<Row>; 2] {
+    [map.get1(&1).copied(), map.get1(&2).copied()]
+}
+
 /// What becomes of an item that a call is given.
-#[derive(Clone, Copy, Debug, PartialEq, Eq)]
+#[derive(Clone, Copy, PartialEq, Eq)]
 pub enum Answer {
     /// It went in, for these.
     In([Option<Row>; 2]),
@@ -62,20 +76,11 @@ pub fn refusal(error: EntryError<Row>) -> Answer {
 
 /// Why a list did not go in: the items before the one that was refused, that one, and the reason. It shows two of the
 /// items before, which is one more than any row wants.
-#[derive(Clone, Copy, Debug, PartialEq, Eq)]
+#[derive(Clone, Copy, PartialEq, Eq)]
 pub struct Refused {
     pub taken: [Option<Row>; 2],
     pub value: Row,
     pub reason: ExtendUniqueReason,
-}
-
-/// The refusal of this item for a conflict, after this one or none.
-pub fn conflict(taken: Option<Row>, value: Row) -> Refused {
-    Refused {
-        taken: [taken, None],
-        value,
-        reason: ExtendUniqueReason::Conflict,
-    }
 }
 
 pub fn refused_list(error: ExtendUniqueError<Row>) -> Refused {
