@@ -217,7 +217,8 @@ const ITEM: Row = row!(5, 50, 0);
 
 const OTHER: Row = row!(6, 50, 0);
 
-/// Whether an item with another key comes back from the entry of (5, 50), and one with its keys goes in, on an empty map.
+/// Whether an item with another key comes back from the entry of (5, 50), and one with its keys goes in, on an empty
+/// map.
 fn is_filled<S: BuildHasher>(map: &mut BiHashMap<Row, S>, way: Way) -> bool {
     put_in(map, (5, 50), way, OTHER) == Answer::Key1(OTHER)
         && map.len() == 0
