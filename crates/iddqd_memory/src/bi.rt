@@ -1,232 +1,264 @@
 //! The two-key map under refused memory.
+use crate::granted::{granted, same};
 use iddqd_bi::{BiHashMap, InsertError};
 use iddqd_tests::{Row, row_of};
 use std::alloc::Global;
 use std::process::Abort;
 use std::test::*;
 
-/// Puts an item in, and says whether there was memory.
-pub(crate) fn put(map: &mut BiHashMap<Row>, item: Row) -> bool {
+/// What becomes of an item that `insert_unique` is given.
+#[derive(Clone, Copy, Debug, PartialEq, Eq)]
+pub(crate) enum Answer {
+    In,
+    Conflict,
+    /// What the refusal shows, and what it hands back.
+    Memory(Row, Row),
+}
+
+fn insert(map: &mut BiHashMap<Row>, item: Row) -> Answer {
     match map.insert_unique(item) {
-        Ok(()) => true,
+        Ok(()) => Answer::In,
         Err(InsertError::Duplicate(refusal)) => {
             drop(refusal);
-            true
+            Answer::Conflict
         }
         Err(InsertError::Memory(refusal)) => {
-            drop(refusal);
-            false
+            let shown = *refusal.new_item();
+            Answer::Memory(shown, refusal.into_item())
         }
     }
 }
 
-/// The map of (1, 10, 100) and (2, 20, 200), if there is memory. Its tables have no room beyond its capacity, so that
-/// where it is full each of them has to grow.
-pub(crate) fn two_rows(alloc: Global) -> Option<BiHashMap<Row>> {
-    let Ok(mut map) = BiHashMap::with_capacity(alloc, 7) else {
-        return None;
-    };
-    if put(&mut map, row_of(1, 10, 100)) && put(&mut map, row_of(2, 20, 200)) {
-        return Some(map);
-    }
-    None
+/// Puts an item in that conflicts with none, and says whether there was memory.
+pub(crate) fn put(map: &mut BiHashMap<Row>, item: Row) -> bool {
+    insert(map, item) == Answer::In
+}
+
+/// The item with this first key.
+pub(crate) fn found1(map: &BiHashMap<Row>, key: u64) -> Option<Row> {
+    map.get1(&key).copied()
+}
+
+/// The item with this second key.
+pub(crate) fn found2(map: &BiHashMap<Row>, key: u64) -> Option<Row> {
+    map.get2(&key).copied()
+}
+
+/// An empty map of this capacity, if there is memory.
+fn empty(alloc: Global, capacity: usize) -> Option<BiHashMap<Row>> {
+    BiHashMap::with_capacity(alloc, capacity).ok()
+}
+
+/// Puts (1, 10, 100) and (2, 20, 200) in, and says whether there was memory.
+fn put_two(map: &mut BiHashMap<Row>) -> bool {
+    put(map, row_of(1, 10, 100)) && put(map, row_of(2, 20, 200))
 }
 
 /// Whether the map holds those two rows and has no others.
-fn holds_two_rows(map: &BiHashMap<Row>) -> bool {
+pub(crate) fn holds_two_rows(map: &BiHashMap<Row>) -> bool {
     map.len() == 2
-        && map.get1(&1).copied() == Some(row_of(1, 10, 100))
-        && map.get2(&20).copied() == Some(row_of(2, 20, 200))
+        && found1(map, 1) == Some(row_of(1, 10, 100))
+        && found2(map, 20) == Some(row_of(2, 20, 200))
+}
+
+/// The map of those two rows, if there is memory. Its tables have no room beyond its capacity, so that where it is full
+/// each of them has to grow.
+pub(crate) fn two_rows(alloc: Global) -> Option<BiHashMap<Row>> {
+    let mut map = empty(alloc, 7)?;
+    if put_two(&mut map) { Some(map) } else { None }
+}
+
+/// Puts rows in until the length of the map of two is its capacity, and says whether there was memory.
+fn fill(map: &mut BiHashMap<Row>) -> bool {
+    for k in 3..=map.capacity() as u64 {
+        if !put(map, row_of(k, k.wrapping_mul(10), 0)) {
+            return false;
+        }
+    }
+    true
 }
 
 /// A map filled until its length equals its capacity, if there is memory.
 pub(crate) fn full(alloc: Global) -> Option<BiHashMap<Row>> {
     let mut map = two_rows(alloc)?;
-    for k in 3..=map.capacity() as u64 {
-        if !put(&mut map, row_of(k, 10 * k, 0)) {
-            drop(map);
-            return None;
-        }
-    }
-    Some(map)
+    if fill(&mut map) { Some(map) } else { None }
+}
+
+/// The row behind those of a full map of this capacity.
+pub(crate) fn row_behind(capacity: usize) -> Row {
+    let next = (capacity as u64).wrapping_add(1);
+    row_of(next, next.wrapping_mul(10), 0)
 }
 
 // Each scenario answers whether every request was granted. A set-up that is refused is an outcome that says nothing.
 
-fn reserve(rt: &impl Abort, alloc: Global) -> bool {
-    let Some(mut map) = two_rows(alloc) else {
-        return false;
-    };
+fn reserve_twenty(rt: &impl Abort, map: &mut BiHashMap<Row>) -> bool {
     let capacity = map.capacity();
     let granted = map.reserve(20).is_ok();
-    assert!(rt; holds_two_rows(&map));
+    assert!(rt; holds_two_rows(map));
     assert!(rt; map.capacity() >= capacity);
     if !granted {
         assert!(rt; map.try_reserve(20).is_ok());
     }
     assert!(rt; map.capacity() >= 22);
-    assert!(rt; holds_two_rows(&map));
-    drop(map);
+    assert!(rt; holds_two_rows(map));
     granted
+}
+
+fn reserve(rt: &impl Abort, alloc: Global) -> bool {
+    match two_rows(alloc) {
+        Some(mut map) => reserve_twenty(rt, &mut map),
+        None => false,
+    }
 }
 
 fn with_capacity(rt: &impl Abort, alloc: Global) -> bool {
-    match BiHashMap::<Row>::with_capacity(alloc, 10) {
-        Ok(map) => {
+    match empty(alloc, 10) {
+        Some(map) => {
             assert!(rt; map.capacity() >= 10);
-            drop(map);
             true
         }
-        Err(_) => false,
+        None => false,
     }
 }
 
-fn insert_when_full(rt: &impl Abort, alloc: Global) -> bool {
-    let Some(mut map) = full(alloc) else {
-        return false;
-    };
-    let capacity = map.capacity();
-    let next = capacity as u64 + 1;
-    assert_eq!(rt; map.len(), capacity);
-    let granted = match map.insert_unique(row_of(next, 10 * next, 0)) {
-        Ok(()) => true,
-        Err(InsertError::Duplicate(refusal)) => {
-            drop(refusal);
-            assert!(rt; false, "nothing conflicts");
-            false
-        }
-        Err(InsertError::Memory(refusal)) => {
-            assert_eq!(rt; *refusal.new_item(), row_of(next, 10 * next, 0));
-            assert_eq!(rt; refusal.into_item(), row_of(next, 10 * next, 0));
-            false
-        }
-    };
-    if !granted {
-        assert_eq!(rt; map.len(), capacity);
-        assert_eq!(rt; map.get1(&next).copied(), None);
-        assert!(rt; put(&mut map, row_of(next, 10 * next, 0)));
+/// What is done with a full map.
+#[derive(Clone, Copy)]
+enum Change {
+    Insert,
+    /// An insert that conflicts.
+    Duplicate,
+    Overwrite,
+    /// An overwrite of two rows.
+    Displace,
+}
+
+fn when_full(rt: &impl Abort, alloc: Global, what: Change) -> bool {
+    match full(alloc) {
+        Some(mut map) => carry_out(rt, &mut map, what),
+        None => false,
     }
-    assert_eq!(rt; map.len(), capacity + 1);
-    assert_eq!(rt;
-        map.get2(&(10 * next)).copied(),
-        Some(row_of(next, 10 * next, 0))
-    );
-    drop(map);
+}
+
+fn carry_out(rt: &impl Abort, map: &mut BiHashMap<Row>, what: Change) -> bool {
+    match what {
+        Change::Insert => insert_behind(rt, map),
+        Change::Duplicate => {
+            // Whatever memory there is, a conflict is answered as one.
+            same(rt, insert(map, row_of(1, 77, 0)), Answer::Conflict);
+            true
+        }
+        Change::Overwrite => overwrite_none(rt, map),
+        Change::Displace => overwrite_two(rt, map),
+    }
+}
+
+fn insert_behind(rt: &impl Abort, map: &mut BiHashMap<Row>) -> bool {
+    let capacity = map.capacity();
+    let item = row_behind(capacity);
+    same(rt, map.len(), capacity);
+    let answer = insert(map, item);
+    let granted = answer == Answer::In;
+    if !granted {
+        same(rt, answer, Answer::Memory(item, item));
+        same(rt, map.len(), capacity);
+        same(rt, found1(map, item.key1), None);
+        assert!(rt; put(map, item));
+    }
+    same(rt, map.len(), capacity.wrapping_add(1));
+    same(rt, found2(map, item.key2), Some(item));
     granted
 }
 
-fn refuse_a_duplicate_when_full(rt: &impl Abort, alloc: Global) -> bool {
-    let Some(mut map) = full(alloc) else {
-        return false;
-    };
-    // Whatever memory there is, a conflict is answered as one.
-    let answered = match map.insert_unique(row_of(1, 77, 0)) {
-        Ok(()) => false,
-        Err(InsertError::Duplicate(refusal)) => {
-            drop(refusal);
-            true
-        }
-        Err(InsertError::Memory(refusal)) => {
-            drop(refusal);
-            false
-        }
-    };
-    assert!(rt; answered);
-    drop(map);
-    true
+/// The first two of the items that give way to this one, or the item where memory is refused.
+fn overwrite(map: &mut BiHashMap<Row>, item: Row) -> Result<[Option<Row>; 2], Row> {
+    match map.insert_overwrite(item) {
+        Ok(displaced) => Ok([displaced.get(0).copied(), displaced.get(1).copied()]),
+        Err(refusal) => Err(refusal.value),
+    }
 }
 
-fn overwrite_when_full(rt: &impl Abort, alloc: Global) -> bool {
-    let Some(mut map) = full(alloc) else {
-        return false;
-    };
+fn overwrite_none(rt: &impl Abort, map: &mut BiHashMap<Row>) -> bool {
     let capacity = map.capacity();
-    let next = capacity as u64 + 1;
-    let item = row_of(next, 10 * next, 0);
-    let granted = match map.insert_overwrite(item) {
-        Ok(displaced) => {
-            assert!(rt; displaced.is_empty());
-            true
-        }
-        Err(refusal) => {
-            assert_eq!(rt; refusal.value, item);
-            false
-        }
-    };
+    let item = row_behind(capacity);
+    let answer = overwrite(map, item);
+    let granted = answer == Ok([None, None]);
     if !granted {
-        assert_eq!(rt; map.len(), capacity);
-        assert!(rt; map.insert_overwrite(item).is_ok());
+        same(rt, answer, Err(item));
+        same(rt, map.len(), capacity);
+        same(rt, overwrite(map, item), Ok([None, None]));
     }
-    assert_eq!(rt; map.len(), capacity + 1);
-    assert_eq!(rt; map.get1(&next).copied(), Some(item));
-    drop(map);
+    same(rt, map.len(), capacity.wrapping_add(1));
+    same(rt, found1(map, item.key1), Some(item));
     granted
 }
 
 // Where items are displaced no memory is asked for, and the room that they leave takes the next item.
-fn overwrite_that_displaces_when_full(rt: &impl Abort, alloc: Global) -> bool {
-    let Some(mut map) = full(alloc) else {
-        return false;
-    };
+fn overwrite_two(rt: &impl Abort, map: &mut BiHashMap<Row>) -> bool {
     let capacity = map.capacity();
-    let next = capacity as u64 + 1;
-    match map.insert_overwrite(row_of(1, 20, 0)) {
-        Ok(displaced) => {
-            assert_eq!(rt; displaced.get(0).copied(), Some(row_of(1, 10, 100)));
-            assert_eq!(rt; displaced.get(1).copied(), Some(row_of(2, 20, 200)));
-        }
-        Err(_) => assert!(rt; false, "no memory is asked for"),
-    }
-    assert_eq!(rt; map.len(), capacity - 1);
-    assert!(rt; put(&mut map, row_of(next, 10 * next, 0)));
-    assert_eq!(rt; map.len(), capacity);
-    assert_eq!(rt; map.capacity(), capacity);
-    drop(map);
+    let gone = [Some(row_of(1, 10, 100)), Some(row_of(2, 20, 200))];
+    same(rt, overwrite(map, row_of(1, 20, 0)), Ok(gone));
+    same(rt, map.len().wrapping_add(1), capacity);
+    assert!(rt; put(map, row_behind(capacity)));
+    same(rt, map.len(), capacity);
+    same(rt, map.capacity(), capacity);
     true
 }
 
 // Inserts and removals below the capacity ask for no memory, however many there were.
-fn insert_and_remove_often(rt: &impl Abort, alloc: Global) -> bool {
-    let Ok(mut map) = BiHashMap::with_capacity(alloc, 7) else {
-        return false;
-    };
+fn put_and_remove(rt: &impl Abort, map: &mut BiHashMap<Row>) {
     let capacity = map.capacity();
     for _ in 0..1000 {
-        assert!(rt; put(&mut map, row_of(5, 50, 0)));
-        assert_eq!(rt; map.remove1(&5), Some(row_of(5, 50, 0)));
+        assert!(rt; put(map, row_of(5, 50, 0)));
+        same(rt, map.remove1(&5), Some(row_of(5, 50, 0)));
     }
-    assert_eq!(rt; map.capacity(), capacity);
-    drop(map);
-    true
+    same(rt, map.capacity(), capacity);
 }
 
-fn shrink_to_fit(rt: &impl Abort, alloc: Global) -> bool {
-    let Ok(mut map) = BiHashMap::with_capacity(alloc, 100) else {
-        return false;
-    };
-    assert!(rt; put(&mut map, row_of(1, 10, 100)));
-    assert!(rt; put(&mut map, row_of(2, 20, 200)));
+fn insert_and_remove_often(rt: &impl Abort, alloc: Global) -> bool {
+    match empty(alloc, 7) {
+        Some(mut map) => {
+            put_and_remove(rt, &mut map);
+            true
+        }
+        None => false,
+    }
+}
+
+fn shrink_two(rt: &impl Abort, map: &mut BiHashMap<Row>) -> bool {
+    assert!(rt; put_two(map));
     let capacity = map.capacity();
     let granted = map.shrink_to_fit().is_ok();
-    assert!(rt; holds_two_rows(&map));
+    assert!(rt; holds_two_rows(map));
     if !granted {
-        assert_eq!(rt; map.capacity(), capacity);
+        same(rt, map.capacity(), capacity);
         assert!(rt; map.shrink_to_fit().is_ok());
     }
-    assert_eq!(rt; map.capacity(), 2);
-    assert!(rt; holds_two_rows(&map));
-    drop(map);
+    same(rt, map.capacity(), 2);
+    assert!(rt; holds_two_rows(map));
     granted
 }
 
-fn shrink_to_fit_when_empty(rt: &impl Abort, alloc: Global) -> bool {
-    let Ok(mut map) = BiHashMap::<Row>::with_capacity(alloc, 10) else {
-        return false;
-    };
+fn shrink_to_fit(rt: &impl Abort, alloc: Global) -> bool {
+    match empty(alloc, 100) {
+        Some(mut map) => shrink_two(rt, &mut map),
+        None => false,
+    }
+}
+
+fn shrink_empty(rt: &impl Abort, map: &mut BiHashMap<Row>) {
     assert!(rt; map.shrink_to_fit().is_ok());
-    assert_eq!(rt; map.capacity(), 0);
-    drop(map);
-    true
+    same(rt, map.capacity(), 0);
+}
+
+fn shrink_to_fit_when_empty(rt: &impl Abort, alloc: Global) -> bool {
+    match empty(alloc, 10) {
+        Some(mut map) => {
+            shrink_empty(rt, &mut map);
+            true
+        }
+        None => false,
+    }
 }
 
 #[test]
@@ -236,7 +268,7 @@ fn allows_with_capacity(rt: HostRuntime) {
 
 #[test]
 fn grants_with_capacity(rt: HostRuntime) {
-    assert!(rt; with_capacity(&rt, rt.alloc()));
+    granted(&rt, with_capacity(&rt, rt.alloc()));
 }
 
 #[test]
@@ -246,27 +278,27 @@ fn allows_reserve(rt: HostRuntime) {
 
 #[test]
 fn grants_reserve(rt: HostRuntime) {
-    assert!(rt; reserve(&rt, rt.alloc()));
+    granted(&rt, reserve(&rt, rt.alloc()));
 }
 
 #[test]
 fn allows_insert_when_full(rt: HostRuntime) {
-    let _ = insert_when_full(&rt, rt.alloc());
+    let _ = when_full(&rt, rt.alloc(), Change::Insert);
 }
 
 #[test]
 fn grants_insert_when_full(rt: HostRuntime) {
-    assert!(rt; insert_when_full(&rt, rt.alloc()));
+    granted(&rt, when_full(&rt, rt.alloc(), Change::Insert));
 }
 
 #[test]
 fn allows_refuse_a_duplicate_when_full(rt: HostRuntime) {
-    let _ = refuse_a_duplicate_when_full(&rt, rt.alloc());
+    let _ = when_full(&rt, rt.alloc(), Change::Duplicate);
 }
 
 #[test]
 fn grants_refuse_a_duplicate_when_full(rt: HostRuntime) {
-    assert!(rt; refuse_a_duplicate_when_full(&rt, rt.alloc()));
+    granted(&rt, when_full(&rt, rt.alloc(), Change::Duplicate));
 }
 
 #[test]
@@ -276,7 +308,7 @@ fn allows_shrink_to_fit(rt: HostRuntime) {
 
 #[test]
 fn grants_shrink_to_fit(rt: HostRuntime) {
-    assert!(rt; shrink_to_fit(&rt, rt.alloc()));
+    granted(&rt, shrink_to_fit(&rt, rt.alloc()));
 }
 
 #[test]
@@ -286,27 +318,27 @@ fn allows_shrink_to_fit_when_empty(rt: HostRuntime) {
 
 #[test]
 fn grants_shrink_to_fit_when_empty(rt: HostRuntime) {
-    assert!(rt; shrink_to_fit_when_empty(&rt, rt.alloc()));
+    granted(&rt, shrink_to_fit_when_empty(&rt, rt.alloc()));
 }
 
 #[test]
 fn allows_overwrite_when_full(rt: HostRuntime) {
-    let _ = overwrite_when_full(&rt, rt.alloc());
+    let _ = when_full(&rt, rt.alloc(), Change::Overwrite);
 }
 
 #[test]
 fn grants_overwrite_when_full(rt: HostRuntime) {
-    assert!(rt; overwrite_when_full(&rt, rt.alloc()));
+    granted(&rt, when_full(&rt, rt.alloc(), Change::Overwrite));
 }
 
 #[test]
 fn allows_overwrite_that_displaces_when_full(rt: HostRuntime) {
-    let _ = overwrite_that_displaces_when_full(&rt, rt.alloc());
+    let _ = when_full(&rt, rt.alloc(), Change::Displace);
 }
 
 #[test]
 fn grants_overwrite_that_displaces_when_full(rt: HostRuntime) {
-    assert!(rt; overwrite_that_displaces_when_full(&rt, rt.alloc()));
+    granted(&rt, when_full(&rt, rt.alloc(), Change::Displace));
 }
 
 #[test]
@@ -316,5 +348,5 @@ fn allows_insert_and_remove_often(rt: HostRuntime) {
 
 #[test]
 fn grants_insert_and_remove_often(rt: HostRuntime) {
-    assert!(rt; insert_and_remove_often(&rt, rt.alloc()));
+    granted(&rt, insert_and_remove_often(&rt, rt.alloc()));
 }

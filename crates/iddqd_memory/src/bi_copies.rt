@@ -1,27 +1,32 @@
 //! Copies of the two-key map under refused memory.
-use crate::bi::two_rows;
-use iddqd_tests::row_of;
+use crate::bi::{holds_two_rows, two_rows};
+use crate::granted::granted;
+use iddqd_bi::BiHashMap;
+use iddqd_tests::Row;
 use std::alloc::Global;
 use std::process::Abort;
 
-// As in the other scenarios the answer says whether every request was granted.
-fn clone(rt: &impl Abort, alloc: Global) -> bool {
-    let Some(map) = two_rows(alloc) else {
-        return false;
-    };
-    let granted = match map.clone() {
+/// Whether there is memory for a clone. It is equal to the map.
+fn is_cloned(rt: &impl Abort, map: &BiHashMap<Row>) -> bool {
+    match map.clone() {
         Ok(copy) => {
-            assert!(rt; copy == map);
-            drop(copy);
+            assert!(rt; copy == *map);
             true
         }
         Err(_) => false,
-    };
-    assert_eq!(rt; map.len(), 2);
-    assert_eq!(rt; map.get1(&1).copied(), Some(row_of(1, 10, 100)));
-    assert_eq!(rt; map.get2(&20).copied(), Some(row_of(2, 20, 200)));
-    drop(map);
-    granted
+    }
+}
+
+// As in the other scenarios the answer says whether every request was granted.
+fn clone(rt: &impl Abort, alloc: Global) -> bool {
+    match two_rows(alloc) {
+        Some(map) => {
+            let granted = is_cloned(rt, &map);
+            assert!(rt; holds_two_rows(&map));
+            granted
+        }
+        None => false,
+    }
 }
 
 #[test]
@@ -31,5 +36,5 @@ fn allows_clone(rt: HostRuntime) {
 
 #[test]
 fn grants_clone(rt: HostRuntime) {
-    assert!(rt; clone(&rt, rt.alloc()));
+    granted(&rt, clone(&rt, rt.alloc()));
 }

@@ -1,5 +1,6 @@
 //! Entries of full two-key maps under refused memory.
-use crate::bi::full;
+use crate::bi::{found1, found2, full, row_behind};
+use crate::granted::{granted, same};
 use iddqd_bi::{BiHashMap, Entry, EntryError};
 use iddqd_tests::{Row, row_of};
 use std::alloc::Global;
@@ -33,99 +34,126 @@ fn refusal(error: EntryError<Row>) -> Answer {
     }
 }
 
-/// Puts an item in by the entry of two keys.
-fn put_in(map: &mut BiHashMap<Row>, key1: u64, key2: u64, way: Way, item: Row) -> Answer {
-    let entry = map.entry(&key1, &key2);
-    if way == Way::OrInsert {
-        return match entry.or_insert(item) {
-            Ok(_found) => Answer::In,
-            Err(error) => refusal(error),
-        };
+/// Puts an item in by the entry of the keys of another one.
+fn put_in(map: &mut BiHashMap<Row>, keys: Row, way: Way, item: Row) -> Answer {
+    match way {
+        Way::Insert => insert(map, keys, item),
+        Way::InsertEntry => insert_entry(map, keys, item),
+        Way::OrInsert => or_insert(map, keys, item),
+        Way::OrInsertWith => or_insert_with(map, keys, item),
     }
-    if way == Way::OrInsertWith {
-        return match entry.or_insert_with(|| item) {
-            Ok(_found) => Answer::In,
-            Err(error) => refusal(error),
-        };
+}
+
+fn insert(map: &mut BiHashMap<Row>, keys: Row, item: Row) -> Answer {
+    let Entry::Vacant(entry) = map.entry(&keys.key1, &keys.key2) else {
+        return Answer::Occupied;
+    };
+    match entry.insert(item) {
+        Ok(_found) => Answer::In,
+        Err(error) => refusal(error),
     }
-    match entry {
-        Entry::Vacant(entry) if way == Way::Insert => match entry.insert(item) {
-            Ok(_found) => Answer::In,
-            Err(error) => refusal(error),
-        },
-        Entry::Vacant(entry) => match entry.insert_entry(item) {
-            Ok(_found) => Answer::In,
-            Err(error) => refusal(error),
-        },
-        Entry::Occupied(_found) => Answer::Occupied,
+}
+
+fn insert_entry(map: &mut BiHashMap<Row>, keys: Row, item: Row) -> Answer {
+    let Entry::Vacant(entry) = map.entry(&keys.key1, &keys.key2) else {
+        return Answer::Occupied;
+    };
+    match entry.insert_entry(item) {
+        Ok(_found) => Answer::In,
+        Err(error) => refusal(error),
     }
+}
+
+fn or_insert(map: &mut BiHashMap<Row>, keys: Row, item: Row) -> Answer {
+    match map.entry(&keys.key1, &keys.key2).or_insert(item) {
+        Ok(_found) => Answer::In,
+        Err(error) => refusal(error),
+    }
+}
+
+fn or_insert_with(map: &mut BiHashMap<Row>, keys: Row, item: Row) -> Answer {
+    match map.entry(&keys.key1, &keys.key2).or_insert_with(|| item) {
+        Ok(_found) => Answer::In,
+        Err(error) => refusal(error),
+    }
+}
+
+/// Whether the map has this row by each of its keys.
+fn has(map: &BiHashMap<Row>, row: Row) -> bool {
+    found1(map, row.key1) == Some(row) && found2(map, row.key2) == Some(row)
 }
 
 /// Whether the map holds what `full` filled it with, so many items and no others.
 fn is_as_filled(map: &BiHashMap<Row>, items: usize) -> bool {
+    for k in 3..=items as u64 {
+        if !has(map, row_of(k, k.wrapping_mul(10), 0)) {
+            return false;
+        }
+    }
     map.len() == items
         && map.capacity() == items
-        && map.get1(&1).copied() == Some(row_of(1, 10, 100))
-        && map.get1(&2).copied() == Some(row_of(2, 20, 200))
-        && (3..=items as u64).all(|k| {
-            let row = row_of(k, k.wrapping_mul(10), 0);
-            map.get1(&k).copied() == Some(row) && map.get2(&row.key2).copied() == Some(row)
-        })
+        && has(map, row_of(1, 10, 100))
+        && has(map, row_of(2, 20, 200))
 }
 
-/// Puts an item into a full map by an entry, after another one that has not its first key. Says whether every request
-/// was granted.
-fn enter_when_full(rt: &impl Abort, alloc: Global, way: Way) -> bool {
-    let Some(mut map) = full(alloc) else {
-        return false;
-    };
+/// Puts an item into a full map by an entry, after another one that has not its first key.
+fn enter(rt: &impl Abort, map: &mut BiHashMap<Row>, way: Way) -> bool {
     let capacity = map.capacity();
-    let next = capacity as u64 + 1;
-    let item = row_of(next, next.wrapping_mul(10), 5);
+    let item = row_behind(capacity);
     let other = row_of(0, item.key2, 5);
     // Whatever memory there is, a key that is not the entry's is answered as such.
-    assert_eq!(rt;
-        put_in(&mut map, item.key1, item.key2, way, other),
-        Answer::Key1(other)
-    );
-    assert!(rt; is_as_filled(&map, capacity));
-    let answer = put_in(&mut map, item.key1, item.key2, way, item);
+    same(rt, put_in(map, item, way, other), Answer::Key1(other));
+    assert!(rt; is_as_filled(map, capacity));
+    let answer = put_in(map, item, way, item);
     let granted = answer == Answer::In;
     if !granted {
-        assert_eq!(rt; answer, Answer::Memory(item));
-        assert!(rt; is_as_filled(&map, capacity));
-        assert_eq!(rt;
-            put_in(&mut map, item.key1, item.key2, way, item),
-            Answer::In
-        );
+        same(rt, answer, Answer::Memory(item));
+        assert!(rt; is_as_filled(map, capacity));
+        same(rt, put_in(map, item, way, item), Answer::In);
     }
-    assert_eq!(rt; map.len(), capacity + 1);
-    assert_eq!(rt; map.get1(&item.key1).copied(), Some(item));
-    assert_eq!(rt; map.get2(&item.key2).copied(), Some(item));
-    drop(map);
+    same(rt, map.len(), capacity.wrapping_add(1));
+    assert!(rt; has(map, item));
     granted
+}
+
+/// Says whether every request was granted.
+fn enter_when_full(rt: &impl Abort, alloc: Global, way: Way) -> bool {
+    match full(alloc) {
+        Some(mut map) => enter(rt, &mut map, way),
+        None => false,
+    }
+}
+
+/// The first two of the items that an occupied entry gives for this one.
+fn overwrite(map: &mut BiHashMap<Row>, keys: Row, item: Row) -> Option<[Option<Row>; 2]> {
+    let Entry::Occupied(mut found) = map.entry(&keys.key1, &keys.key2) else {
+        return None;
+    };
+    match found.insert(item) {
+        Ok(gone) => Some([gone.get(0).copied(), gone.get(1).copied()]),
+        Err(_error) => None,
+    }
+}
+
+fn overwrite_two(rt: &impl Abort, map: &mut BiHashMap<Row>) {
+    let capacity = map.capacity();
+    let item = row_of(1, 20, 300);
+    let gone = [Some(row_of(1, 10, 100)), Some(row_of(2, 20, 200))];
+    same(rt, overwrite(map, item, item), Some(gone));
+    same(rt, map.len().wrapping_add(1), capacity);
+    same(rt, map.capacity(), capacity);
+    same(rt, found2(map, 20), Some(item));
 }
 
 /// Puts an item in the place of two by an entry of a full map. That takes no memory.
 fn overwrite_an_entry_when_full(rt: &impl Abort, alloc: Global) -> bool {
-    let Some(mut map) = full(alloc) else {
-        return false;
-    };
-    let capacity = map.capacity();
-    let displaced = match map.entry(&1, &20) {
-        Entry::Vacant(_entry) => None,
-        Entry::Occupied(mut found) => match found.insert(row_of(1, 20, 300)) {
-            Ok(gone) => Some([gone.get(0).copied(), gone.get(1).copied()]),
-            Err(_error) => None,
-        },
-    };
-    let wanted = [Some(row_of(1, 10, 100)), Some(row_of(2, 20, 200))];
-    assert_eq!(rt; displaced, Some(wanted));
-    assert_eq!(rt; map.len(), capacity - 1);
-    assert_eq!(rt; map.capacity(), capacity);
-    assert_eq!(rt; map.get2(&20).copied(), Some(row_of(1, 20, 300)));
-    drop(map);
-    true
+    match full(alloc) {
+        Some(mut map) => {
+            overwrite_two(rt, &mut map);
+            true
+        }
+        None => false,
+    }
 }
 
 #[test]
@@ -135,7 +163,7 @@ fn allows_insert_into_a_vacant_entry(rt: HostRuntime) {
 
 #[test]
 fn grants_insert_into_a_vacant_entry(rt: HostRuntime) {
-    assert!(rt; enter_when_full(&rt, rt.alloc(), Way::Insert));
+    granted(&rt, enter_when_full(&rt, rt.alloc(), Way::Insert));
 }
 
 #[test]
@@ -145,7 +173,7 @@ fn allows_insert_entry(rt: HostRuntime) {
 
 #[test]
 fn grants_insert_entry(rt: HostRuntime) {
-    assert!(rt; enter_when_full(&rt, rt.alloc(), Way::InsertEntry));
+    granted(&rt, enter_when_full(&rt, rt.alloc(), Way::InsertEntry));
 }
 
 #[test]
@@ -155,7 +183,7 @@ fn allows_or_insert(rt: HostRuntime) {
 
 #[test]
 fn grants_or_insert(rt: HostRuntime) {
-    assert!(rt; enter_when_full(&rt, rt.alloc(), Way::OrInsert));
+    granted(&rt, enter_when_full(&rt, rt.alloc(), Way::OrInsert));
 }
 
 #[test]
@@ -165,7 +193,7 @@ fn allows_or_insert_with(rt: HostRuntime) {
 
 #[test]
 fn grants_or_insert_with(rt: HostRuntime) {
-    assert!(rt; enter_when_full(&rt, rt.alloc(), Way::OrInsertWith));
+    granted(&rt, enter_when_full(&rt, rt.alloc(), Way::OrInsertWith));
 }
 
 #[test]
@@ -175,5 +203,5 @@ fn allows_overwrite_an_entry_when_full(rt: HostRuntime) {
 
 #[test]
 fn grants_overwrite_an_entry_when_full(rt: HostRuntime) {
-    assert!(rt; overwrite_an_entry_when_full(&rt, rt.alloc()));
+    granted(&rt, overwrite_an_entry_when_full(&rt, rt.alloc()));
 }

@@ -13,6 +13,8 @@ mod bi_copies;
 #[cfg(test)]
 mod bi_entries;
 #[cfg(test)]
+mod granted;
+#[cfg(test)]
 mod tri;
 #[cfg(test)]
 mod tri_building;

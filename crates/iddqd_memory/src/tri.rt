@@ -1,4 +1,5 @@
 //! The three-key map under refused memory: each call that puts an item into a full map.
+use crate::granted::{granted, same};
 use iddqd_tri::{Entry, EntryError, InsertError, TriHashItem, TriHashMap};
 use std::alloc::Global;
 use std::process::Abort;
@@ -55,38 +56,50 @@ pub(crate) fn holds_two_of(map: &TriHashMap<Trio>, items: usize) -> bool {
     map.len() == items && holds(map, trio_of(1, 10, 100)) && holds(map, trio_of(2, 20, 200))
 }
 
+/// Puts an item in that conflicts with none, and says whether there was memory.
+fn put(map: &mut TriHashMap<Trio>, item: Trio) -> bool {
+    insert(map, item) == Answer::In
+}
+
 /// The map of two items with this capacity, if there is memory.
 pub(crate) fn two_in(alloc: Global, capacity: usize) -> Option<TriHashMap<Trio>> {
-    let Ok(mut map) = TriHashMap::with_capacity(alloc, capacity) else {
-        return None;
-    };
-    if put_in(&mut map, Way::Unique, trio_of(1, 10, 100)) == Answer::In
-        && put_in(&mut map, Way::Unique, trio_of(2, 20, 200)) == Answer::In
-    {
-        return Some(map);
-    }
-    None
+    let mut map = TriHashMap::with_capacity(alloc, capacity).ok()?;
+    if put_two(&mut map) { Some(map) } else { None }
+}
+
+fn put_two(map: &mut TriHashMap<Trio>) -> bool {
+    put(map, trio_of(1, 10, 100)) && put(map, trio_of(2, 20, 200))
 }
 
 /// A full map, with those two items among others, if there is memory. Its tables have no room beyond its capacity, so
 /// that each of them has to grow for one item more.
 pub(crate) fn full(alloc: Global) -> Option<TriHashMap<Trio>> {
     let mut map = two_in(alloc, 7)?;
+    if fill(&mut map) { Some(map) } else { None }
+}
+
+/// Puts the third item to the seventh in, and says whether there was memory.
+fn fill(map: &mut TriHashMap<Trio>) -> bool {
     for k in 3..8 {
-        if put_in(&mut map, Way::Unique, trio_of(k, 10 * k, 100 * k)) != Answer::In {
-            drop(map);
-            return None;
+        if !put(map, trio_of(k, 10 * k, 100 * k)) {
+            return false;
         }
     }
-    Some(map)
+    true
 }
 
 /// A call that puts an item in.
-#[derive(Clone, Copy, PartialEq, Eq)]
+#[derive(Clone, Copy)]
 enum Way {
     Unique,
     Overwrite,
     Extend,
+    Entry(EntryWay),
+}
+
+/// A call of an entry that puts an item in.
+#[derive(Clone, Copy)]
+enum EntryWay {
     VacantInsert,
     VacantInsertEntry,
     OrInsert,
@@ -113,52 +126,82 @@ fn refusal(error: EntryError<Trio>) -> Answer {
 /// Puts the item in, by the entry of its own keys where the call is one of an entry.
 fn put_in(map: &mut TriHashMap<Trio>, way: Way, item: Trio) -> Answer {
     match way {
-        Way::Unique => match map.insert_unique(item) {
-            Ok(()) => Answer::In,
-            Err(InsertError::Memory(refusal)) => Answer::Memory(refusal.into_item()),
-            Err(InsertError::Duplicate(refusal)) => {
-                drop(refusal);
-                Answer::Other
-            }
-        },
-        Way::Overwrite => match map.insert_overwrite(item) {
-            Ok(_displaced) => Answer::In,
-            Err(refusal) => Answer::Memory(refusal.value),
-        },
-        // A filter promises no item.
-        Way::Extend => match map.extend([item].into_iter().filter(|_| true)) {
-            Ok(()) => Answer::In,
-            Err(refusal) => Answer::Memory(refusal.value),
-        },
-        _ => enter(map, way, item, item.key3),
+        Way::Unique => insert(map, item),
+        Way::Overwrite => overwrite(map, item),
+        Way::Extend => extend(map, item),
+        Way::Entry(way) => enter(map, way, item, item),
     }
 }
 
-/// Puts the item in by the entry of its first two keys and this third one.
-fn enter(map: &mut TriHashMap<Trio>, way: Way, item: Trio, key3: u64) -> Answer {
-    let entry = map.entry(&item.key1, &item.key2, &key3);
-    if way == Way::OrInsert {
-        return match entry.or_insert(item) {
-            Ok(_found) => Answer::In,
-            Err(error) => refusal(error),
-        };
+fn insert(map: &mut TriHashMap<Trio>, item: Trio) -> Answer {
+    match map.insert_unique(item) {
+        Ok(()) => Answer::In,
+        Err(InsertError::Memory(refusal)) => Answer::Memory(refusal.into_item()),
+        Err(InsertError::Duplicate(refusal)) => {
+            drop(refusal);
+            Answer::Other
+        }
     }
-    if way == Way::OrInsertWith {
-        return match entry.or_insert_with(|| item) {
-            Ok(_found) => Answer::In,
-            Err(error) => refusal(error),
-        };
+}
+
+fn overwrite(map: &mut TriHashMap<Trio>, item: Trio) -> Answer {
+    match map.insert_overwrite(item) {
+        Ok(_displaced) => Answer::In,
+        Err(refusal) => Answer::Memory(refusal.value),
     }
-    match entry {
-        Entry::Vacant(entry) if way == Way::VacantInsert => match entry.insert(item) {
-            Ok(_found) => Answer::In,
-            Err(error) => refusal(error),
-        },
-        Entry::Vacant(entry) => match entry.insert_entry(item) {
-            Ok(_found) => Answer::In,
-            Err(error) => refusal(error),
-        },
-        Entry::Occupied(_found) => Answer::Other,
+}
+
+fn extend(map: &mut TriHashMap<Trio>, item: Trio) -> Answer {
+    // A filter promises no item.
+    match map.extend([item].into_iter().filter(|_| true)) {
+        Ok(()) => Answer::In,
+        Err(refusal) => Answer::Memory(refusal.value),
+    }
+}
+
+/// Puts an item in by the entry of the keys of another one.
+fn enter(map: &mut TriHashMap<Trio>, way: EntryWay, keys: Trio, item: Trio) -> Answer {
+    match way {
+        EntryWay::VacantInsert => vacant_insert(map, keys, item),
+        EntryWay::VacantInsertEntry => insert_entry(map, keys, item),
+        EntryWay::OrInsert => or_insert(map, keys, item),
+        EntryWay::OrInsertWith => or_insert_with(map, keys, item),
+    }
+}
+
+fn vacant_insert(map: &mut TriHashMap<Trio>, keys: Trio, item: Trio) -> Answer {
+    let Entry::Vacant(entry) = map.entry(&keys.key1, &keys.key2, &keys.key3) else {
+        return Answer::Other;
+    };
+    match entry.insert(item) {
+        Ok(_found) => Answer::In,
+        Err(error) => refusal(error),
+    }
+}
+
+fn insert_entry(map: &mut TriHashMap<Trio>, keys: Trio, item: Trio) -> Answer {
+    let Entry::Vacant(entry) = map.entry(&keys.key1, &keys.key2, &keys.key3) else {
+        return Answer::Other;
+    };
+    match entry.insert_entry(item) {
+        Ok(_found) => Answer::In,
+        Err(error) => refusal(error),
+    }
+}
+
+fn or_insert(map: &mut TriHashMap<Trio>, keys: Trio, item: Trio) -> Answer {
+    let entry = map.entry(&keys.key1, &keys.key2, &keys.key3);
+    match entry.or_insert(item) {
+        Ok(_found) => Answer::In,
+        Err(error) => refusal(error),
+    }
+}
+
+fn or_insert_with(map: &mut TriHashMap<Trio>, keys: Trio, item: Trio) -> Answer {
+    let entry = map.entry(&keys.key1, &keys.key2, &keys.key3);
+    match entry.or_insert_with(|| item) {
+        Ok(_found) => Answer::In,
+        Err(error) => refusal(error),
     }
 }
 
@@ -166,73 +209,97 @@ fn enter(map: &mut TriHashMap<Trio>, way: Way, item: Trio, key3: u64) -> Answer 
 
 /// Puts one item more into a full map. Where that is refused the item is handed back and the map is as before, and a
 /// second try is granted.
-fn grow(rt: &impl Abort, alloc: Global, way: Way) -> bool {
-    let Some(mut map) = full(alloc) else {
-        return false;
-    };
+fn grow_full(rt: &impl Abort, map: &mut TriHashMap<Trio>, way: Way) -> bool {
     let item = trio_of(8, 80, 800);
-    let answer = put_in(&mut map, way, item);
+    let answer = put_in(map, way, item);
     let granted = answer == Answer::In;
     if !granted {
-        assert_eq!(rt; answer, Answer::Memory(item));
-        assert!(rt; holds_two_of(&map, 7));
-        assert_eq!(rt; map.capacity(), 7);
-        assert_eq!(rt; put_in(&mut map, way, item), Answer::In);
+        same(rt, answer, Answer::Memory(item));
+        assert!(rt; holds_two_of(map, 7));
+        same(rt, map.capacity(), 7);
+        same(rt, put_in(map, way, item), Answer::In);
     }
-    assert!(rt; holds_two_of(&map, 8));
+    assert!(rt; holds_two_of(map, 8));
     assert!(rt; map.capacity() >= 8);
-    assert!(rt; holds(&map, item));
-    drop(map);
+    assert!(rt; holds(map, item));
     granted
+}
+
+fn grow(rt: &impl Abort, alloc: Global, way: Way) -> bool {
+    match full(alloc) {
+        Some(mut map) => grow_full(rt, &mut map, way),
+        None => false,
+    }
+}
+
+/// Gives a full map of two what it refuses: an item that conflicts, and entries an item that has not their third key.
+fn refuse(rt: &impl Abort, map: &mut TriHashMap<Trio>) {
+    same(rt, insert(map, trio_of(1, 20, 300)), Answer::Other);
+    let keys = trio_of(3, 30, 400);
+    let other = trio_of(3, 30, 300);
+    for way in [
+        EntryWay::VacantInsert,
+        EntryWay::VacantInsertEntry,
+        EntryWay::OrInsert,
+        EntryWay::OrInsertWith,
+    ] {
+        same(rt, enter(map, way, keys, other), Answer::Key3(other));
+    }
+    assert!(rt; holds_two_of(map, 2));
+}
+
+/// How many items give way to this one, if there is memory.
+fn displaced(map: &mut TriHashMap<Trio>, item: Trio) -> Option<usize> {
+    match map.insert_overwrite(item) {
+        Ok(displaced) => Some(displaced.len()),
+        Err(_) => None,
+    }
+}
+
+/// How many items an occupied entry gives for this one, if it is occupied and takes it.
+fn displaced_by_entry(map: &mut TriHashMap<Trio>, keys: Trio, item: Trio) -> Option<usize> {
+    let Entry::Occupied(mut found) = map.entry(&keys.key1, &keys.key2, &keys.key3) else {
+        return None;
+    };
+    match found.insert(item) {
+        Ok(gone) => Some(gone.len()),
+        Err(_error) => None,
+    }
+}
+
+/// Puts an item into a map that has room for it, and takes it out again, many times.
+fn put_and_remove(rt: &impl Abort, map: &mut TriHashMap<Trio>, item: Trio) {
+    for _ in 0..100 {
+        assert!(rt; put(map, item));
+        same(rt, map.remove2(&item.key2), Some(item));
+    }
 }
 
 /// Calls that ask for no memory even where the map is full, whatever there is: conflicts, entries of another key, items
 /// that displace others, and as many inserts and removals as you like.
-fn ask_for_none(rt: &impl Abort, alloc: Global) -> bool {
-    let Some(mut map) = two_in(alloc, 2) else {
-        return false;
-    };
+fn ask_for_none_of(rt: &impl Abort, map: &mut TriHashMap<Trio>) {
+    refuse(rt, map);
     let item = trio_of(1, 20, 300);
-    assert_eq!(rt; put_in(&mut map, Way::Unique, item), Answer::Other);
-    for way in [
-        Way::VacantInsert,
-        Way::VacantInsertEntry,
-        Way::OrInsert,
-        Way::OrInsertWith,
-    ] {
-        let other = trio_of(3, 30, 300);
-        assert_eq!(rt; enter(&mut map, way, other, 400), Answer::Key3(other));
-    }
-    assert!(rt; holds_two_of(&map, 2));
-    match map.insert_overwrite(item) {
-        Ok(displaced) => assert_eq!(rt; displaced.len(), 2),
-        Err(_) => assert!(rt; false, "no memory is asked for"),
-    }
-    assert!(rt; holds(&map, item));
-    for _ in 0..100 {
-        assert_eq!(rt;
-            put_in(&mut map, Way::Unique, trio_of(3, 30, 400)),
-            Answer::In
-        );
-        assert_eq!(rt; map.remove2(&30), Some(trio_of(3, 30, 400)));
-    }
-    assert_eq!(rt;
-        put_in(&mut map, Way::OrInsert, trio_of(3, 30, 400)),
-        Answer::In
-    );
+    same(rt, displaced(map, item), Some(2));
+    assert!(rt; holds(map, item));
+    let other = trio_of(3, 30, 400);
+    put_and_remove(rt, map, other);
+    same(rt, enter(map, EntryWay::OrInsert, other, other), Answer::In);
     // The entry of both items' keys, one of which displaces the other.
-    let displaced = match map.entry(&1, &30, &300) {
-        Entry::Vacant(_entry) => 0,
-        Entry::Occupied(mut found) => match found.insert(trio_of(1, 30, 300)) {
-            Ok(gone) => gone.len(),
-            Err(_error) => 0,
-        },
-    };
-    assert_eq!(rt; displaced, 2);
-    assert_eq!(rt; map.len(), 1);
-    assert_eq!(rt; map.capacity(), 2);
-    drop(map);
-    true
+    let keys = trio_of(1, 30, 300);
+    same(rt, displaced_by_entry(map, keys, keys), Some(2));
+    same(rt, map.len(), 1);
+    same(rt, map.capacity(), 2);
+}
+
+fn ask_for_none(rt: &impl Abort, alloc: Global) -> bool {
+    match two_in(alloc, 2) {
+        Some(mut map) => {
+            ask_for_none_of(rt, &mut map);
+            true
+        }
+        None => false,
+    }
 }
 
 #[test]
@@ -242,7 +309,7 @@ fn allows_insert_unique(rt: HostRuntime) {
 
 #[test]
 fn grants_insert_unique(rt: HostRuntime) {
-    assert!(rt; grow(&rt, rt.alloc(), Way::Unique));
+    granted(&rt, grow(&rt, rt.alloc(), Way::Unique));
 }
 
 #[test]
@@ -252,7 +319,7 @@ fn allows_insert_overwrite(rt: HostRuntime) {
 
 #[test]
 fn grants_insert_overwrite(rt: HostRuntime) {
-    assert!(rt; grow(&rt, rt.alloc(), Way::Overwrite));
+    granted(&rt, grow(&rt, rt.alloc(), Way::Overwrite));
 }
 
 #[test]
@@ -262,47 +329,56 @@ fn allows_extend(rt: HostRuntime) {
 
 #[test]
 fn grants_extend(rt: HostRuntime) {
-    assert!(rt; grow(&rt, rt.alloc(), Way::Extend));
+    granted(&rt, grow(&rt, rt.alloc(), Way::Extend));
 }
 
 #[test]
 fn allows_insert_into_a_vacant_entry(rt: HostRuntime) {
-    let _ = grow(&rt, rt.alloc(), Way::VacantInsert);
+    let _ = grow(&rt, rt.alloc(), Way::Entry(EntryWay::VacantInsert));
 }
 
 #[test]
 fn grants_insert_into_a_vacant_entry(rt: HostRuntime) {
-    assert!(rt; grow(&rt, rt.alloc(), Way::VacantInsert));
+    granted(
+        &rt,
+        grow(&rt, rt.alloc(), Way::Entry(EntryWay::VacantInsert)),
+    );
 }
 
 #[test]
 fn allows_insert_entry(rt: HostRuntime) {
-    let _ = grow(&rt, rt.alloc(), Way::VacantInsertEntry);
+    let _ = grow(&rt, rt.alloc(), Way::Entry(EntryWay::VacantInsertEntry));
 }
 
 #[test]
 fn grants_insert_entry(rt: HostRuntime) {
-    assert!(rt; grow(&rt, rt.alloc(), Way::VacantInsertEntry));
+    granted(
+        &rt,
+        grow(&rt, rt.alloc(), Way::Entry(EntryWay::VacantInsertEntry)),
+    );
 }
 
 #[test]
 fn allows_or_insert(rt: HostRuntime) {
-    let _ = grow(&rt, rt.alloc(), Way::OrInsert);
+    let _ = grow(&rt, rt.alloc(), Way::Entry(EntryWay::OrInsert));
 }
 
 #[test]
 fn grants_or_insert(rt: HostRuntime) {
-    assert!(rt; grow(&rt, rt.alloc(), Way::OrInsert));
+    granted(&rt, grow(&rt, rt.alloc(), Way::Entry(EntryWay::OrInsert)));
 }
 
 #[test]
 fn allows_or_insert_with(rt: HostRuntime) {
-    let _ = grow(&rt, rt.alloc(), Way::OrInsertWith);
+    let _ = grow(&rt, rt.alloc(), Way::Entry(EntryWay::OrInsertWith));
 }
 
 #[test]
 fn grants_or_insert_with(rt: HostRuntime) {
-    assert!(rt; grow(&rt, rt.alloc(), Way::OrInsertWith));
+    granted(
+        &rt,
+        grow(&rt, rt.alloc(), Way::Entry(EntryWay::OrInsertWith)),
+    );
 }
 
 #[test]
@@ -312,5 +388,5 @@ fn allows_what_asks_for_none(rt: HostRuntime) {
 
 #[test]
 fn grants_what_asks_for_none(rt: HostRuntime) {
-    assert!(rt; ask_for_none(&rt, rt.alloc()));
+    granted(&rt, ask_for_none(&rt, rt.alloc()));
 }

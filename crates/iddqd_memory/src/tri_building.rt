@@ -1,4 +1,5 @@
 //! The three-key map under refused memory: room, copies, and maps built of many items at once.
+use crate::granted::{granted, same};
 use crate::tri::{Trio, full, holds, holds_two_of, trio_of, two_in};
 use iddqd_tri::{ExtendUniqueReason, FromIterError, TriHashMap};
 use std::alloc::Global;
@@ -7,75 +8,96 @@ use std::test::*;
 
 // As in the other scenarios each answer says whether every request was granted.
 
+// An empty map gives all its room back, and asks for none.
+fn shrink_empty(rt: &impl Abort, map: &mut TriHashMap<Trio>) {
+    map.clear();
+    assert!(rt; map.shrink_to_fit().is_ok());
+    same(rt, map.capacity(), 0);
+}
+
 fn with_capacity(rt: &impl Abort, alloc: Global) -> bool {
     match TriHashMap::<Trio>::with_capacity(alloc, 10) {
         Ok(mut map) => {
-            assert_eq!(rt; map.capacity(), 10);
-            // An empty map gives all its room back, and asks for none.
-            assert!(rt; map.shrink_to_fit().is_ok() && map.capacity() == 0);
-            drop(map);
+            same(rt, map.capacity(), 10);
+            shrink_empty(rt, &mut map);
             true
         }
         Err(_) => false,
     }
 }
 
-fn reserve(rt: &impl Abort, alloc: Global) -> bool {
-    let Some(mut map) = two_in(alloc, 2) else {
-        return false;
-    };
+fn reserve_twenty(rt: &impl Abort, map: &mut TriHashMap<Trio>) -> bool {
     let granted = map.reserve(20).is_ok();
-    assert!(rt; holds_two_of(&map, 2));
+    assert!(rt; holds_two_of(map, 2));
     assert!(rt; map.capacity() >= 2);
     if !granted {
         assert!(rt; map.try_reserve(20).is_ok());
     }
     assert!(rt; map.capacity() >= 22);
-    assert!(rt; holds_two_of(&map, 2));
-    drop(map);
+    assert!(rt; holds_two_of(map, 2));
     granted
 }
 
-/// Gives back the room beyond so many items, or by `shrink_to_fit` where they are none.
-fn shrink(rt: &impl Abort, alloc: Global, least: usize) -> bool {
-    let Some(mut map) = two_in(alloc, 50) else {
-        return false;
-    };
-    let granted = if least == 0 {
+fn reserve(rt: &impl Abort, alloc: Global) -> bool {
+    match two_in(alloc, 2) {
+        Some(mut map) => reserve_twenty(rt, &mut map),
+        None => false,
+    }
+}
+
+/// Whether the room beyond so many items is given back, by `shrink_to_fit` where they are none.
+fn is_shrunk(map: &mut TriHashMap<Trio>, least: usize) -> bool {
+    if least == 0 {
         map.shrink_to_fit().is_ok()
     } else {
         map.shrink_to(least).is_ok()
-    };
-    assert!(rt; holds_two_of(&map, 2));
+    }
+}
+
+fn shrink_two(rt: &impl Abort, map: &mut TriHashMap<Trio>, least: usize) -> bool {
+    let granted = is_shrunk(map, least);
+    assert!(rt; holds_two_of(map, 2));
     if !granted {
-        assert_eq!(rt; map.capacity(), 50);
+        same(rt, map.capacity(), 50);
         assert!(rt; map.shrink_to(least).is_ok());
     }
-    assert_eq!(rt; map.capacity(), if least == 0 { 2 } else { least });
-    assert!(rt; holds_two_of(&map, 2));
-    map.clear();
-    // An empty map that is to keep no room takes none.
-    assert!(rt; map.shrink_to_fit().is_ok());
-    assert_eq!(rt; map.capacity(), 0);
-    drop(map);
+    same(rt, map.capacity(), if least == 0 { 2 } else { least });
+    assert!(rt; holds_two_of(map, 2));
     granted
 }
 
-fn clone(rt: &impl Abort, alloc: Global) -> bool {
-    let Some(map) = two_in(alloc, 2) else {
-        return false;
-    };
-    let granted = match map.clone() {
+/// Gives back the room beyond so many items.
+fn shrink(rt: &impl Abort, alloc: Global, least: usize) -> bool {
+    match two_in(alloc, 50) {
+        Some(mut map) => {
+            let granted = shrink_two(rt, &mut map, least);
+            shrink_empty(rt, &mut map);
+            granted
+        }
+        None => false,
+    }
+}
+
+/// Whether there is memory for a clone. It is equal to the map.
+fn is_cloned(rt: &impl Abort, map: &TriHashMap<Trio>) -> bool {
+    match map.clone() {
         Ok(copy) => {
-            assert!(rt; copy == map);
-            drop(copy);
+            assert!(rt; copy == *map);
             true
         }
         Err(_) => false,
-    };
-    assert!(rt; holds_two_of(&map, 2));
-    drop(map);
-    granted
+    }
+}
+
+fn clone(rt: &impl Abort, alloc: Global) -> bool {
+    match two_in(alloc, 2) {
+        Some(map) => {
+            let granted = is_cloned(rt, &map);
+            assert!(rt; holds_two_of(&map, 2));
+            granted
+        }
+        None => false,
+    }
 }
 
 /// Three items that do not conflict.
@@ -94,37 +116,46 @@ fn holds_three(map: &TriHashMap<Trio>) -> bool {
 
 // An iterator that filters promises no item.
 
-fn from_iter(rt: &impl Abort, alloc: Global) -> bool {
+/// Whether `from_iter` makes a map of the three items, or the item that it refuses.
+fn made(alloc: Global) -> Result<bool, Trio> {
     match TriHashMap::<Trio>::from_iter(alloc, three().into_iter().filter(|_| true)) {
-        Ok(map) => {
-            assert!(rt; holds_three(&map));
-            drop(map);
+        Ok(map) => Ok(holds_three(&map)),
+        Err(refusal) => Err(refusal.value),
+    }
+}
+
+/// The same of `from_iter_unique`, which finds no conflict.
+fn made_unique(alloc: Global) -> Result<bool, Trio> {
+    match TriHashMap::<Trio>::from_iter_unique(alloc, three().into_iter().filter(|_| true)) {
+        Ok(map) => Ok(holds_three(&map)),
+        Err(FromIterError::Duplicate(refusal)) => {
+            drop(refusal);
+            Ok(false)
+        }
+        Err(FromIterError::Memory(item)) => Err(item),
+    }
+}
+
+/// Whether all three items went in. If not, one of them was refused.
+fn all_went_in(rt: &impl Abort, made: Result<bool, Trio>) -> bool {
+    match made {
+        Ok(holds) => {
+            assert!(rt; holds);
             true
         }
-        Err(refusal) => {
-            assert!(rt; three().contains(&refusal.value));
+        Err(refused) => {
+            assert!(rt; three().contains(&refused));
             false
         }
     }
 }
 
+fn from_iter(rt: &impl Abort, alloc: Global) -> bool {
+    all_went_in(rt, made(alloc))
+}
+
 fn from_iter_unique(rt: &impl Abort, alloc: Global) -> bool {
-    match TriHashMap::<Trio>::from_iter_unique(alloc, three().into_iter().filter(|_| true)) {
-        Ok(map) => {
-            assert!(rt; holds_three(&map));
-            drop(map);
-            true
-        }
-        Err(FromIterError::Duplicate(refusal)) => {
-            drop(refusal);
-            assert!(rt; false, "nothing conflicts");
-            false
-        }
-        Err(FromIterError::Memory(item)) => {
-            assert!(rt; three().contains(&item));
-            false
-        }
-    }
+    all_went_in(rt, made_unique(alloc))
 }
 
 // Where the growth by the promise is refused, the inserts ask again, and are granted.
@@ -132,7 +163,6 @@ fn extend_by_what_is_promised(rt: &impl Abort, alloc: Global) -> bool {
     let mut map = TriHashMap::<Trio>::new(alloc);
     assert!(rt; map.extend(three()).is_ok());
     assert!(rt; holds_three(&map));
-    drop(map);
     true
 }
 
@@ -151,41 +181,77 @@ fn holds_first(map: &TriHashMap<Trio>, first: u64, others: &[Trio]) -> bool {
     map.len() == others.len().wrapping_add(first as usize)
 }
 
-/// Puts two items into a map that has so many of seven. Where one is refused, it comes back with what is before it in
-/// the list, and the map is as before; a second try with these is granted, and so is the rest of the list.
-fn extend_unique(rt: &impl Abort, alloc: Global, first: u64) -> bool {
-    let Some(mut map) = full(alloc) else {
-        return false;
-    };
+// Takes the items behind so many out of a full map.
+fn leave_first(map: &mut TriHashMap<Trio>, first: u64) {
     for k in first.wrapping_add(1)..=7 {
-        drop(map.remove1(&k));
+        let _ = map.remove1(&k);
     }
-    // No memory is asked for where no item is put in, also in a full map.
+}
+
+/// Why `extend_unique` refuses one item, if it does.
+fn refusal_of(map: &mut TriHashMap<Trio>, item: Trio) -> Option<ExtendUniqueReason> {
+    match map.extend_unique([item]) {
+        Ok(()) => None,
+        Err(refused) => Some(refused.reason),
+    }
+}
+
+// No memory is asked for where no item is put in, also in a full map.
+fn extend_by_none(rt: &impl Abort, map: &mut TriHashMap<Trio>, first: u64) {
     let empty: [Trio; 0] = [];
     assert!(rt; map.extend_unique(empty).is_ok());
-    match map.extend_unique([trio_of(77, 777, 100)]) {
-        Ok(()) => assert!(rt; false, "it conflicts"),
-        Err(refused) => assert_eq!(rt; refused.reason, ExtendUniqueReason::Conflict),
-    }
-    assert!(rt; holds_first(&map, first, &[]) && map.capacity() == 7);
-    let items = [trio_of(8, 80, 800), trio_of(9, 90, 900)];
-    let granted = match map.extend_unique(items) {
-        Ok(()) => true,
+    same(
+        rt,
+        refusal_of(map, trio_of(77, 777, 100)),
+        Some(ExtendUniqueReason::Conflict),
+    );
+    assert!(rt; holds_first(map, first, &[]) && map.capacity() == 7);
+}
+
+/// The items that a refused `extend_unique` for want of memory hands back, in the order of the list, if it is refused.
+fn handed_back(rt: &impl Abort, map: &mut TriHashMap<Trio>, items: [Trio; 2]) -> Option<Vec<Trio>> {
+    match map.extend_unique(items) {
+        Ok(()) => None,
         Err(refused) => {
-            assert_eq!(rt; refused.reason, ExtendUniqueReason::Memory);
-            assert!(rt; holds_first(&map, first, &[]));
-            let mut again = refused.taken;
-            assert!(rt; again.push(refused.value).is_ok());
-            let (tried, rest) = items.split_at(again.len().min(2));
-            assert!(rt; again.as_slice() == tried);
-            assert!(rt; map.extend_unique(again).is_ok());
-            assert!(rt; map.extend_unique(rest.iter().copied()).is_ok());
+            same(rt, refused.reason, ExtendUniqueReason::Memory);
+            let mut back = refused.taken;
+            assert!(rt; back.push(refused.value).is_ok());
+            Some(back)
+        }
+    }
+}
+
+// A second try with what came back is granted, and so is the rest of the list.
+fn try_again(rt: &impl Abort, map: &mut TriHashMap<Trio>, back: Vec<Trio>, items: &[Trio]) {
+    let (tried, rest) = items.split_at(back.len().min(items.len()));
+    assert!(rt; back.as_slice() == tried);
+    assert!(rt; map.extend_unique(back).is_ok());
+    assert!(rt; map.extend_unique(rest.iter().copied()).is_ok());
+}
+
+/// Puts two items into a map that has so many of seven. Where one is refused, it comes back with what is before it in
+/// the list, and the map is as before.
+fn extend_first(rt: &impl Abort, map: &mut TriHashMap<Trio>, first: u64) -> bool {
+    leave_first(map, first);
+    extend_by_none(rt, map, first);
+    let items = [trio_of(8, 80, 800), trio_of(9, 90, 900)];
+    let granted = match handed_back(rt, map, items) {
+        None => true,
+        Some(back) => {
+            assert!(rt; holds_first(map, first, &[]));
+            try_again(rt, map, back, &items);
             false
         }
     };
-    assert!(rt; holds_first(&map, first, &items));
-    drop(map);
+    assert!(rt; holds_first(map, first, &items));
     granted
+}
+
+fn extend_unique(rt: &impl Abort, alloc: Global, first: u64) -> bool {
+    match full(alloc) {
+        Some(mut map) => extend_first(rt, &mut map, first),
+        None => false,
+    }
 }
 
 #[test]
@@ -195,7 +261,7 @@ fn allows_with_capacity(rt: HostRuntime) {
 
 #[test]
 fn grants_with_capacity(rt: HostRuntime) {
-    assert!(rt; with_capacity(&rt, rt.alloc()));
+    granted(&rt, with_capacity(&rt, rt.alloc()));
 }
 
 #[test]
@@ -205,7 +271,7 @@ fn allows_reserve(rt: HostRuntime) {
 
 #[test]
 fn grants_reserve(rt: HostRuntime) {
-    assert!(rt; reserve(&rt, rt.alloc()));
+    granted(&rt, reserve(&rt, rt.alloc()));
 }
 
 #[test]
@@ -215,7 +281,7 @@ fn allows_shrink_to(rt: HostRuntime) {
 
 #[test]
 fn grants_shrink_to(rt: HostRuntime) {
-    assert!(rt; shrink(&rt, rt.alloc(), 3));
+    granted(&rt, shrink(&rt, rt.alloc(), 3));
 }
 
 #[test]
@@ -225,7 +291,7 @@ fn allows_shrink_to_fit(rt: HostRuntime) {
 
 #[test]
 fn grants_shrink_to_fit(rt: HostRuntime) {
-    assert!(rt; shrink(&rt, rt.alloc(), 0));
+    granted(&rt, shrink(&rt, rt.alloc(), 0));
 }
 
 #[test]
@@ -235,7 +301,7 @@ fn allows_clone(rt: HostRuntime) {
 
 #[test]
 fn grants_clone(rt: HostRuntime) {
-    assert!(rt; clone(&rt, rt.alloc()));
+    granted(&rt, clone(&rt, rt.alloc()));
 }
 
 #[test]
@@ -245,7 +311,7 @@ fn allows_from_iter(rt: HostRuntime) {
 
 #[test]
 fn grants_from_iter(rt: HostRuntime) {
-    assert!(rt; from_iter(&rt, rt.alloc()));
+    granted(&rt, from_iter(&rt, rt.alloc()));
 }
 
 #[test]
@@ -255,7 +321,7 @@ fn allows_from_iter_unique(rt: HostRuntime) {
 
 #[test]
 fn grants_from_iter_unique(rt: HostRuntime) {
-    assert!(rt; from_iter_unique(&rt, rt.alloc()));
+    granted(&rt, from_iter_unique(&rt, rt.alloc()));
 }
 
 #[test]
@@ -265,7 +331,7 @@ fn allows_extend_by_what_is_promised(rt: HostRuntime) {
 
 #[test]
 fn grants_extend_by_what_is_promised(rt: HostRuntime) {
-    assert!(rt; extend_by_what_is_promised(&rt, rt.alloc()));
+    granted(&rt, extend_by_what_is_promised(&rt, rt.alloc()));
 }
 
 // In a full map it is the first item that may be refused, and where there is room for one also the second.
@@ -280,6 +346,6 @@ fn allows_extend_unique(rt: HostRuntime) {
 #[test]
 fn grants_extend_unique(rt: HostRuntime) {
     for first in [7, 6] {
-        assert!(rt; extend_unique(&rt, rt.alloc(), first));
+        granted(&rt, extend_unique(&rt, rt.alloc(), first));
     }
 }
