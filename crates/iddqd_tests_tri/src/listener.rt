@@ -33,9 +33,9 @@ fn hear(reply: TriReply<'_, Row>) -> Heard {
         TriReply::Duplicate(refused) => {
             let found = refused.duplicates();
             Heard::Duplicate([
-                found.get(0).map(|x| **x),
-                found.get(1).map(|x| **x),
-                found.get(2).map(|x| **x),
+                found.get(0).copied().copied(),
+                found.get(1).copied().copied(),
+                found.get(2).copied().copied(),
             ])
         }
         TriReply::Displaced(items) => Heard::Displaced(listed(items)),

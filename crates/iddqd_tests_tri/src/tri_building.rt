@@ -1,13 +1,12 @@
 //! Three-key maps that are built of many items at once, and their room.
 use crate::row::{Row, row_of};
 use crate::worked::{
-    Listed, NOTHING, ONE, Refused, THREE, TWO, conflict, has_all, refused_list, three,
+    Listed, NOTHING, ONE, Refused, THREE, TWO, conflict, has_all, listed, refused_list, row, three,
 };
 use iddqd_tests::Alike;
 use iddqd_tri::{DefaultHashBuilder, FromIterError, TriHashMap, TryReserveError};
 use std::alloc::Global;
 use std::hash::BuildHasher;
-use std::process::Abort;
 use std::test::Fail;
 
 /// The number of items of the map of these that may not conflict, or the item that conflicts and those in its way.
@@ -17,50 +16,65 @@ fn unique(alloc: Global, items: [Row; 4]) -> Result<usize, (Row, Listed)> {
         Err(FromIterError::Memory(item)) => Err((item, NOTHING)),
         Err(FromIterError::Duplicate(refusal)) => {
             let (item, found) = refusal.into_parts();
-            let found = [
-                found.get(0).copied(),
-                found.get(1).copied(),
-                found.get(2).copied(),
-            ];
-            Err((item, found))
+            Err((item, listed(found)))
         }
     }
 }
 
-/// Whether the map of these items that may take the place of others, and the map that they extend, have what is wanted.
+/// Whether the map of these items that may take the place of others has what is wanted.
 fn overwritten(alloc: Global, items: [Row; 4], wanted: Listed) -> bool {
-    let mut extended = TriHashMap::<Row>::new(alloc);
-    let is_extended = extended.extend(items).is_ok() && has_all(&extended, wanted);
     match TriHashMap::<Row>::from_iter(alloc, items) {
-        Ok(map) => is_extended && has_all(&map, wanted),
+        Ok(map) => has_all(&map, wanted),
         Err(_) => false,
     }
 }
 
+/// Whether the map that these items extend has what is wanted.
+fn extends(map: &mut TriHashMap<Row>, items: [Row; 4], wanted: Listed) -> bool {
+    map.clear();
+    map.extend(items).is_ok() && has_all(map, wanted)
+}
+
+const LATE: Row = row!(3, 20, 100, 0);
+
+const OTHER: Row = row!(4, 10, 400, 0);
+
+/// Items, which conflicts where they may not and those in its way, and what is left where they may.
+const BUILT: [([Row; 4], (Row, Listed), Listed); 3] = [
+    (
+        [ONE, TWO, THREE, LATE],
+        (LATE, [Some(THREE), Some(TWO), Some(ONE)]),
+        [Some(LATE), None, None],
+    ),
+    (
+        [ONE, OTHER, TWO, LATE],
+        (OTHER, [Some(ONE), None, None]),
+        [Some(OTHER), Some(LATE), None],
+    ),
+    (
+        [ONE, TWO, LATE, THREE],
+        (LATE, [Some(TWO), Some(ONE), None]),
+        [Some(THREE), None, None],
+    ),
+];
+
+/// Whether maps are built of the items as they should be, and the map is extended by them.
+fn are_built(alloc: Global, map: &mut TriHashMap<Row>) -> bool {
+    for (items, conflict, wanted) in BUILT {
+        if unique(alloc, items) != Err(conflict)
+            || !overwritten(alloc, items, wanted)
+            || !extends(map, items, wanted)
+        {
+            return false;
+        }
+    }
+    true
+}
+
 #[test]
 fn building_names_the_first_conflict_or_overwrites(rt: HostRuntime) {
-    let late = row_of(3, 20, 100, 0);
-    let other = row_of(4, 10, 400, 0);
-    for (items, built, wanted) in [
-        (
-            [ONE, TWO, THREE, late],
-            Err((late, [Some(THREE), Some(TWO), Some(ONE)])),
-            [Some(late), None, None],
-        ),
-        (
-            [ONE, other, TWO, late],
-            Err((other, [Some(ONE), None, None])),
-            [Some(other), Some(late), None],
-        ),
-        (
-            [ONE, TWO, late, THREE],
-            Err((late, [Some(TWO), Some(ONE), None])),
-            [Some(THREE), None, None],
-        ),
-    ] {
-        assert!(rt; unique(rt.alloc(), items) == built && overwritten(rt.alloc(), items, wanted));
-    }
-    let apart = [ONE, row_of(10, 100, 1, 0), row_of(100, 1, 10, 0), TWO];
+    assert!(rt; are_built(rt.alloc(), &mut TriHashMap::new(rt.alloc())));
+    let apart = [ONE, row!(10, 100, 1, 0), row!(100, 1, 10, 0), TWO];
     assert!(rt; unique(rt.alloc(), apart) == Ok(4));
 }
 
@@ -72,64 +86,79 @@ fn refusal_of<S: BuildHasher>(map: &mut TriHashMap<Row, S>, items: &[Row]) -> Op
     }
 }
 
-/// The rows of lists that go in whole or not at all, on the map of one item, under this builder.
-fn check_unique<S: BuildHasher + Copy + Drop>(rt: &impl Abort, alloc: Global, hash_builder: S) {
-    let (second, third) = (row_of(2, 20, 200, 0), row_of(3, 30, 300, 0));
-    let late = row_of(3, 30, 100, 0);
-    let rows: [(&[Row], Option<Refused>, Listed); 3] = [
-        (
-            &[second, late],
-            Some(conflict(second, late)),
-            [Some(ONE), None, None],
-        ),
-        (
-            &[second, third],
-            None,
-            [Some(ONE), Some(second), Some(third)],
-        ),
-        (&[], None, [Some(ONE), None, None]),
-    ];
-    for (items, wanted, left) in rows {
-        let mut map = TriHashMap::with_hasher(alloc, hash_builder);
-        assert!(rt; map.insert_unique(ONE).is_ok());
-        let capacity = map.capacity();
-        assert!(rt; refusal_of(&mut map, items) == wanted && has_all(&map, left));
-        assert!(rt; !items.is_empty() || map.capacity() == capacity);
-    }
+const SECOND: Row = row!(2, 20, 200, 0);
+
+/// Whether a list goes into the map of one item or not, with what is wanted then.
+fn is_whole<S: BuildHasher>(
+    map: &mut TriHashMap<Row, S>,
+    items: &[Row],
+    wanted: Option<Refused>,
+    left: Listed,
+) -> bool {
+    map.clear();
+    map.insert_unique(ONE).is_ok() && refusal_of(map, items) == wanted && has_all(map, left)
+}
+
+fn keeps_room<S: BuildHasher>(map: &mut TriHashMap<Row, S>) -> bool {
+    let capacity = map.capacity();
+    is_whole(map, &[], None, [Some(ONE), None, None]) && map.capacity() == capacity
+}
+
+fn are_whole<S: BuildHasher>(map: &mut TriHashMap<Row, S>) -> bool {
+    let (late, third) = (row!(3, 30, 100, 0), row!(3, 30, 300, 0));
+    let all = [Some(ONE), Some(SECOND), Some(third)];
+    let refused = Some(conflict(SECOND, late));
+    is_whole(map, &[SECOND, late], refused, [Some(ONE), None, None])
+        && keeps_room(map)
+        && is_whole(map, &[SECOND, third], None, all)
 }
 
 #[test]
 fn extend_unique_puts_all_in_or_none(rt: HostRuntime) {
-    let alloc = rt.alloc();
-    check_unique(&rt, alloc, DefaultHashBuilder::default());
+    assert!(rt; are_whole(&mut TriHashMap::new(rt.alloc())));
     for hash in [0, 18446744073709551615] {
-        check_unique(&rt, alloc, Alike { hash });
+        assert!(rt; are_whole(&mut TriHashMap::with_hasher(rt.alloc(), Alike { hash })));
     }
 }
 
-/// Whether a map has room for as many items as each call asks for, and for no more than its tables then need.
-fn has_room<S: BuildHasher>(map: &mut TriHashMap<Row, S>) -> Result<bool, TryReserveError> {
+/// Leaves two of a hundred items in a map. Says whether it has them and not another.
+fn fill<S: BuildHasher>(map: &mut TriHashMap<Row, S>) -> bool {
     for key in 1..=100 {
         let _ = map.insert_overwrite(row_of(key, key, key, 0));
     }
     map.retain(|row| row.key1 == 37 || row.key3 == 90);
+    map.contains_key1(&37) && map.contains_key3(&90) && !map.contains_key2(&36)
+}
+
+/// The capacities of a map that is shrunk to 50, and to what it needs.
+fn shrunk<S: BuildHasher>(map: &mut TriHashMap<Row, S>) -> Result<(usize, usize), TryReserveError> {
     map.shrink_to(50)?;
     let shrunk = map.capacity();
     map.shrink_to_fit()?;
-    let fitted = map.capacity();
-    let is_found = map.contains_key1(&37) && map.contains_key3(&90) && !map.contains_key2(&36);
+    Ok((shrunk, map.capacity()))
+}
+
+/// The capacity of a map that room was reserved in.
+fn reserved<S: BuildHasher>(map: &mut TriHashMap<Row, S>) -> Result<usize, TryReserveError> {
     map.reserve(50)?;
     map.try_reserve(60)?;
-    let reserved = map.capacity();
+    Ok(map.capacity())
+}
+
+/// The capacity of a map that was cleared and gave back its room.
+fn cleared<S: BuildHasher>(map: &mut TriHashMap<Row, S>) -> Result<usize, TryReserveError> {
     map.clear();
     map.shrink_to_fit()?;
-    Ok(
-        is_found
-            && (50..=56).contains(&shrunk)
-            && (2..=7).contains(&fitted)
-            && reserved >= 62
-            && map.capacity() == 0,
-    )
+    Ok(map.capacity())
+}
+
+/// Whether a map has room for as many items as each call asks for, and for no more than its tables then need.
+fn has_room<S: BuildHasher>(map: &mut TriHashMap<Row, S>) -> Result<bool, TryReserveError> {
+    let is_filled = fill(map);
+    let (shrunk, fitted) = shrunk(map)?;
+    let is_found = map.contains_key1(&37) && map.contains_key3(&90) && !map.contains_key2(&36);
+    let is_shrunk = (50..=56).contains(&shrunk) && (2..=7).contains(&fitted);
+    Ok(is_filled && is_found && is_shrunk && reserved(map)? >= 62 && cleared(map)? == 0)
 }
 
 /// The length and the capacity of a map of so many items that was extended by nine promised ones, which all take the
@@ -145,21 +174,23 @@ fn extended(alloc: Global, made: usize) -> Result<(usize, usize), Fail> {
     Ok((map.len(), map.capacity()))
 }
 
-// Where a map has items `extend` asks for half of what is promised, rounded up, and else for all of it.
 #[test]
 fn room_is_granted(rt: HostRuntime) -> Result<(), Fail> {
     let alloc = rt.alloc();
-    for mut map in [
-        TriHashMap::<Row>::default(alloc),
-        TriHashMap::with_capacity(alloc, 15)?,
-    ] {
-        assert!(rt; map.capacity() == 0 || (15..=28).contains(&map.capacity()));
-        assert!(rt; has_room(&mut map)?);
-    }
+    let mut map = TriHashMap::<Row>::default(alloc);
+    assert!(rt; map.capacity() == 0 && has_room(&mut map).ok() == Some(true));
+    let mut map = TriHashMap::<Row>::with_capacity(alloc, 15)?;
+    assert!(rt; (15..=28).contains(&map.capacity()) && has_room(&mut map).ok() == Some(true));
     let mut map = TriHashMap::with_capacity_and_hasher(alloc, 10, Alike { hash: 0 })?;
-    assert!(rt; has_room(&mut map)?);
+    assert!(rt; has_room(&mut map).ok() == Some(true));
+    Ok(())
+}
+
+// Where a map has items `extend` asks for half of what is promised, rounded up, and else for all of it.
+#[test]
+fn extending_asks_for_half_of_the_promise(rt: HostRuntime) -> Result<(), Fail> {
     for (made, length, least, most) in [(2, 2, 7, 7), (0, 1, 9, 14)] {
-        let (len, capacity) = extended(alloc, made)?;
+        let (len, capacity) = extended(rt.alloc(), made)?;
         assert!(rt; len == length && capacity >= least && capacity <= most);
     }
     Ok(())

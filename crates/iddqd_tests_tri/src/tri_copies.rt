@@ -1,10 +1,9 @@
 //! Items that are counted, whose own clone may refuse: they are dropped once, and copies of a map are whole or none.
 ghost use Rattle.std.specs.Prelude.{◌≡◌};
 
-use iddqd_tri::{FromIterError, InsertError, TriHashItem, TriHashMap};
+use iddqd_tri::{ExtendUniqueError, FromIterError, InsertError, TriHashItem, TriHashMap};
 use std::alloc::{AllocError, Global};
 use std::cell::Cell;
-use std::process::Abort;
 use std::rc::Rc;
 use std::test::Fail;
 
@@ -62,7 +61,10 @@ impl TriHashItem for Held {
     }
 }
 
-fn item_of(left: &Rc<Cell<u64>>, (key1, key2, key3): (u64, u64, u64)) -> Result<Held, AllocError> {
+/// The keys of an item.
+type Keys = (u64, u64, u64);
+
+fn item_of(left: &Rc<Cell<u64>>, (key1, key2, key3): Keys) -> Result<Held, AllocError> {
     Ok(Held {
         key1,
         key2,
@@ -71,47 +73,68 @@ fn item_of(left: &Rc<Cell<u64>>, (key1, key2, key3): (u64, u64, u64)) -> Result<
     })
 }
 
-/// The map of (1, 10, 100), (2, 20, 200), .., of four items.
-fn four(
-    rt: &impl Abort,
+/// These items, in a list.
+fn listed(alloc: Global, left: &Rc<Cell<u64>>, keys: &[Keys]) -> Result<Vec<Held>, AllocError> {
+    let mut items = Vec::new(alloc);
+    for keys in keys {
+        items.push(item_of(left, *keys)?)?;
+    }
+    Ok(items)
+}
+
+/// The map of these items.
+fn map_of(alloc: Global, items: Vec<Held>) -> TriHashMap<Held> {
+    let mut map = TriHashMap::new(alloc);
+    for item in items {
+        let _ = map.insert_overwrite(item);
+    }
+    map
+}
+
+const FOUR: &[Keys] = &[(1, 10, 100), (2, 20, 200), (3, 30, 300), (4, 40, 400)];
+
+/// The map of four items.
+fn four(alloc: Global, left: &Rc<Cell<u64>>) -> Result<TriHashMap<Held>, AllocError> {
+    Ok(map_of(alloc, listed(alloc, left, FOUR)?))
+}
+
+/// The map of four items, and one more.
+fn four_and(
     alloc: Global,
     left: &Rc<Cell<u64>>,
-) -> Result<TriHashMap<Held>, AllocError> {
-    let mut map = TriHashMap::new(alloc);
-    for keys in [(1, 10, 100), (2, 20, 200), (3, 30, 300), (4, 40, 400)] {
-        assert!(rt; map.insert_unique(item_of(left, keys)?).is_ok());
+    keys: Keys,
+) -> Result<(TriHashMap<Held>, Held), AllocError> {
+    let items = listed(alloc, left, FOUR)?;
+    let item = item_of(left, keys)?;
+    Ok((map_of(alloc, items), item))
+}
+
+/// The length of a map's clone, if there is one.
+fn cloned(map: &TriHashMap<Held>) -> Option<usize> {
+    match map.clone() {
+        Ok(copy) => Some(copy.len()),
+        Err(_) => None,
     }
-    Ok(map)
 }
 
 #[test]
 fn an_item_that_is_not_cloned_gives_no_map(rt: HostRuntime) -> Result<(), Fail> {
-    for allowed in 0..=4 {
+    for (allowed, wanted) in [(0, None), (1, None), (2, None), (3, None), (4, Some(4))] {
         let left = Rc::new(rt.alloc(), Cell::new(allowed))?;
-        let map = four(&rt, rt.alloc(), &left)?;
-        let copied = match map.clone() {
-            Ok(copy) => copy.len(),
-            Err(_) => 0,
-        };
-        assert!(rt; copied == if allowed < 4 { 0 } else { 4 });
-        assert!(rt; map.len() == 4 && map.contains_key3(&400));
+        let map = four(rt.alloc(), &left)?;
+        assert!(rt; cloned(&map) == wanted && map.len() == 4 && map.contains_key3(&400));
         drop(map);
         assert!(rt; Rc::strong_count(&left) == 1);
     }
     Ok(())
 }
 
-// A refusal is dropped, or gives its item, or that and the items in its way. What an overwrite displaces is dropped
-// with its answer.
-#[test]
-fn refused_and_displaced_items_are_dropped_once(rt: HostRuntime) -> Result<(), Fail> {
-    let alive = Rc::new(rt.alloc(), Cell::new(0))?;
-    let mut map = four(&rt, rt.alloc(), &alive)?;
-    for way in 0..3 {
-        let mut in_way = 0;
-        let item = item_of(&alive, (3, 20, 100))?;
-        if let Err(InsertError::Duplicate(refusal)) = map.insert_unique(item) {
-            in_way = refusal.duplicates().len();
+/// How many items are in the way of one that a map refuses. The refusal is dropped, or gives its item, or that and the
+/// items in its way.
+fn refused(map: &mut TriHashMap<Held>, item: Held, way: u64) -> usize {
+    match map.insert_unique(item) {
+        Err(InsertError::Duplicate(refusal)) => {
+            let mut in_way = refusal.duplicates().len();
             if way == 0 {
                 drop(refusal);
             } else if way == 1 {
@@ -121,52 +144,90 @@ fn refused_and_displaced_items_are_dropped_once(rt: HostRuntime) -> Result<(), F
                 in_way = lent.len();
                 drop(item);
             }
+            in_way
         }
-        assert!(rt; in_way == 3 && map.len() == 4 && Rc::strong_count(&alive) == 5);
+        Err(InsertError::Memory(refusal)) => {
+            drop(refusal);
+            0
+        }
+        Ok(()) => 0,
     }
-    let displaced = map.insert_overwrite(item_of(&alive, (1, 20, 300))?);
-    assert!(rt; map.len() == 2 && Rc::strong_count(&alive) == 6);
+}
+
+#[test]
+fn refused_items_are_dropped_once(rt: HostRuntime) -> Result<(), Fail> {
+    for way in 0..3 {
+        let alive = Rc::new(rt.alloc(), Cell::new(0))?;
+        let (mut map, item) = four_and(rt.alloc(), &alive, (3, 20, 100))?;
+        assert!(rt; refused(&mut map, item, way) == 3);
+        assert!(rt; map.len() == 4 && Rc::strong_count(&alive) == 5);
+    }
+    Ok(())
+}
+
+/// The counts while the items that one displaced are there, and once they are gone.
+fn displaced(map: &mut TriHashMap<Held>, item: Held, alive: &Rc<Cell<u64>>) -> [usize; 2] {
+    let displaced = map.insert_overwrite(item);
+    let during = Rc::strong_count(alive);
     drop(displaced);
-    assert!(rt; Rc::strong_count(&alive) == 3);
+    [during, Rc::strong_count(alive)]
+}
+
+#[test]
+fn displaced_items_are_dropped_once(rt: HostRuntime) -> Result<(), Fail> {
+    let alive = Rc::new(rt.alloc(), Cell::new(0))?;
+    let (mut map, item) = four_and(rt.alloc(), &alive, (1, 20, 300))?;
+    assert!(rt; displaced(&mut map, item, &alive) == [6, 3] && map.len() == 2);
     map.clear();
     assert!(rt; Rc::strong_count(&alive) == 1);
     Ok(())
 }
 
-/// These items, in a list.
-fn listed(
-    alloc: Global,
-    left: &Rc<Cell<u64>>,
-    keys: &[(u64, u64, u64)],
-) -> Result<Vec<Held>, AllocError> {
-    let mut items = Vec::new(alloc);
-    for keys in keys {
-        items.push(item_of(left, *keys)?)?;
-    }
-    Ok(items)
+/// Whether a list gives no map for a conflict, and the counts while the refusal is there and once it is gone.
+fn built(alloc: Global, items: Vec<Held>, alive: &Rc<Cell<u64>>) -> (bool, [usize; 2]) {
+    let built = TriHashMap::<Held>::from_iter_unique(alloc, items);
+    let is_refused = matches!(built, Err(FromIterError::Duplicate(_)));
+    let during = Rc::strong_count(alive);
+    drop(built);
+    (is_refused, [during, Rc::strong_count(alive)])
 }
+
+/// How many items come back with the one that is refused, the first key of that one, and the counts while all of them
+/// are there, and once only that one is.
+fn sent_back(
+    map: &mut TriHashMap<Held>,
+    items: Vec<Held>,
+    alive: &Rc<Cell<u64>>,
+) -> Option<(usize, u64, [usize; 2])> {
+    let Err(refused) = map.extend_unique(items) else {
+        return None;
+    };
+    let ExtendUniqueError {
+        taken,
+        value,
+        reason: _,
+    } = refused;
+    let length = taken.len();
+    let during = Rc::strong_count(alive);
+    drop(taken);
+    Some((length, value.key1, [during, Rc::strong_count(alive)]))
+}
+
+const CLASHING: &[Keys] = &[(1, 10, 100), (2, 20, 200), (2, 30, 100), (3, 40, 300)];
+
+const CLASHING_LATE: &[Keys] = &[(5, 50, 500), (6, 60, 600), (7, 70, 500), (8, 80, 800)];
 
 // What is left of a list that gave no map is dropped with the refusal, and so is what is left of one that did not go
 // into a map: the items that it took and gave back, and the one that it refused.
 #[test]
 fn refused_lists_are_dropped_once(rt: HostRuntime) -> Result<(), Fail> {
     let alive = Rc::new(rt.alloc(), Cell::new(0))?;
-    let keys = [(1, 10, 100), (2, 20, 200), (2, 30, 100), (3, 40, 300)];
-    let built = TriHashMap::<Held>::from_iter_unique(
-        rt.alloc(),
-        listed(rt.alloc(), &alive, &keys)?,
-    );
+    let items = listed(rt.alloc(), &alive, CLASHING)?;
     // The new item and the two in its way are left of the four.
-    assert!(rt; matches!(built, Err(FromIterError::Duplicate(_))) && Rc::strong_count(&alive) == 4);
-    drop(built);
-    assert!(rt; Rc::strong_count(&alive) == 1);
-    let mut map = four(&rt, rt.alloc(), &alive)?;
-    let keys = [(5, 50, 500), (6, 60, 600), (7, 70, 500), (8, 80, 800)];
-    if let Err(refused) = map.extend_unique(listed(rt.alloc(), &alive, &keys)?) {
-        assert!(rt; refused.taken.len() == 2 && Rc::strong_count(&alive) == 8);
-        drop(refused.taken);
-        assert!(rt; refused.value.key1 == 7 && Rc::strong_count(&alive) == 6);
-    }
+    assert!(rt; built(rt.alloc(), items, &alive) == (true, [4, 1]));
+    let late = listed(rt.alloc(), &alive, CLASHING_LATE)?;
+    let mut map = four(rt.alloc(), &alive)?;
+    assert!(rt; sent_back(&mut map, late, &alive) == Some((2, 7, [8, 6])));
     assert!(rt; map.len() == 4 && Rc::strong_count(&alive) == 5);
     drop(map);
     assert!(rt; Rc::strong_count(&alive) == 1);
@@ -186,26 +247,44 @@ fn walked(mut map: TriHashMap<Held>, alive: &Rc<Cell<u64>>, taken: u64) -> (usiz
     (during, Rc::strong_count(alive))
 }
 
-// Guards and entries own no item: the map drops what they lent, and a refused item is dropped with its refusal.
 #[test]
-fn walked_and_lent_items_are_dropped_once(rt: HostRuntime) -> Result<(), Fail> {
-    let alive = Rc::new(rt.alloc(), Cell::new(0))?;
+fn walked_items_are_dropped_once(rt: HostRuntime) -> Result<(), Fail> {
     for (taken, during) in [(0, 4), (1, 3), (3, 1), (4, 1)] {
-        let map = four(&rt, rt.alloc(), &alive)?;
+        let alive = Rc::new(rt.alloc(), Cell::new(0))?;
+        let map = four(rt.alloc(), &alive)?;
         assert!(rt; walked(map, &alive, taken) == (during, 1));
     }
-    let mut map = four(&rt, rt.alloc(), &alive)?;
-    drop(map.iter_mut().next_mut());
+    Ok(())
+}
+
+/// Whether an item takes the place of the one with the first key 1, and the count while the answer is there.
+fn replaced(
+    map: &mut TriHashMap<Held>,
+    item: Held,
+    alive: &Rc<Cell<u64>>,
+) -> Option<(bool, usize)> {
+    let mut found = map.get1_mut(&1)?;
+    let answer = found.replace(item);
+    Some((answer.is_ok(), Rc::strong_count(alive)))
+}
+
+/// Whether a walk lends an item.
+fn is_lent(map: &mut TriHashMap<Held>) -> bool {
+    map.iter_mut().next_mut().is_some()
+}
+
+// Guards and entries own no item: the map drops what they lent, and a refused item is dropped with its refusal.
+#[test]
+fn lent_items_are_dropped_once(rt: HostRuntime) -> Result<(), Fail> {
     for (key1, key2, key3) in [(1, 20, 300), (1, 10, 100), (1, 99, 900), (9, 99, 900)] {
+        let alive = Rc::new(rt.alloc(), Cell::new(0))?;
+        let (mut map, item) = four_and(rt.alloc(), &alive, (1, key2, key3))?;
+        assert!(rt; is_lent(&mut map));
         drop(map.entry(&key1, &key2, &key3));
-        let item = item_of(&alive, (1, key2, key3))?;
-        if let Some(mut found) = map.get1_mut(&1) {
-            let answer = found.replace(item);
-            assert!(rt; answer.is_ok() == (key3 == 100) && Rc::strong_count(&alive) == 6);
-        }
+        assert!(rt; replaced(&mut map, item, &alive) == Some((key3 == 100, 6)));
         assert!(rt; Rc::strong_count(&alive) == 5 && map.len() == 4);
+        drop(map);
+        assert!(rt; Rc::strong_count(&alive) == 1);
     }
-    drop(map);
-    assert!(rt; Rc::strong_count(&alive) == 1);
     Ok(())
 }

@@ -1,18 +1,17 @@
 //! Worked rows on entries of three-key maps.
 ghost use Rattle.iddqd_tri.specs.Entries.{HasFound};
 
-use crate::row::{Row, row_of};
+use crate::row::Row;
 use crate::worked::{
-    Answer, Listed, NOTHING, ONE, THREE, TWO, has_all, listed, mismatch, refusal, three,
+    Answer, Listed, NOTHING, ONE, THREE, TWO, has_all, listed, mismatch, refusal, reset, row,
 };
 use iddqd_tests::Alike;
 use iddqd_tri::{
-    DefaultHashBuilder, Entry, KeyMismatch, OccupiedEntry, OccupiedEntryMut, OccupiedEntryRef,
-    TriHashItem, TriHashMap, UpToThree,
+    Entry, KeyMismatch, OccupiedEntry, OccupiedEntryMut, OccupiedEntryRef, TriHashItem, TriHashMap,
+    UpToThree,
 };
-use std::alloc::Global;
 use std::hash::{BuildHasher, Hash};
-use std::process::Abort;
+use std::test::*;
 
 /// Three keys that an entry is asked for by.
 type Asked = (u64, u64, u64);
@@ -44,98 +43,189 @@ fn insert_at<T: TriHashItem, S: BuildHasher>(
 }
 
 /// What three keys find, what becomes of an item that is inserted there, and what is found then.
+type Inserted = (Seen, Answer, Seen);
+
+fn answer_of(inserted: Result<UpToThree<Row>, KeyMismatch<Row>>) -> Answer {
+    match inserted {
+        Ok(displaced) => Answer::In(listed(displaced)),
+        Err(error) => mismatch(error),
+    }
+}
+
 fn insert_over<S: BuildHasher>(
     map: &mut TriHashMap<Row, S>,
     (key1, key2, key3): Asked,
     item: Row,
-) -> Option<(Seen, Answer, Seen)> {
+) -> Option<Inserted> {
     match map.entry(&key1, &key2, &key3) {
         Entry::Vacant(_) => None,
         Entry::Occupied(mut found) => {
             let before = seen(found.get());
-            let answer = match insert_at(&mut found, item) {
-                Ok(displaced) => Answer::In(listed(displaced)),
-                Err(error) => mismatch(error),
-            };
+            let answer = answer_of(insert_at(&mut found, item));
             Some((before, answer, seen(found.into_ref())))
         }
     }
 }
 
-fn occupied<S: BuildHasher + Copy + Drop>(rt: &impl Abort, alloc: Global, hash_builder: S) {
-    let all = [Some(ONE), Some(TWO), Some(THREE)];
-    let new = row_of(3, 20, 100, 5);
-    let same = row_of(2, 20, 200, 0);
-    let (first, second, third) = (
-        row_of(9, 21, 301, 0),
-        row_of(1, 98, 900, 0),
-        row_of(1, 10, 901, 0),
-    );
-    for (asked, before, item, answer, after, left) in [
+const EACH: Listed = [Some(ONE), Some(TWO), Some(THREE)];
+
+const LAST_FIRST: Listed = [Some(THREE), Some(TWO), Some(ONE)];
+
+const NEW: Row = row!(3, 20, 100, 5);
+
+const SAME: Row = row!(2, 20, 200, 0);
+
+const FIRST: Row = row!(9, 21, 301, 0);
+
+const SECOND: Row = row!(1, 98, 900, 0);
+
+const THIRD: Row = row!(1, 10, 901, 0);
+
+const HALF: Seen = ([Some(ONE), None, None], None);
+
+const TWICE: Seen = ([Some(ONE), Some(ONE), None], None);
+
+const TWICE_AND: Seen = ([Some(ONE), Some(ONE), Some(THREE)], None);
+
+/// On the map of three: three keys, the item that is inserted there, what that answers, and what the map has then.
+const OVERWRITES: [(Asked, Row, Inserted, Listed); 6] = [
+    (
+        (3, 20, 100),
+        NEW,
         (
-            (3, 20, 100),
-            ([Some(THREE), Some(TWO), Some(ONE)], None),
-            new,
-            Answer::In([Some(THREE), Some(TWO), Some(ONE)]),
-            ([Some(new); 3], Some(new)),
-            [Some(new), None, None],
+            (LAST_FIRST, None),
+            Answer::In(LAST_FIRST),
+            ([Some(NEW); 3], Some(NEW)),
         ),
+        [Some(NEW), None, None],
+    ),
+    (
+        (2, 20, 200),
+        SAME,
         (
-            (2, 20, 200),
             ([Some(TWO); 3], Some(TWO)),
-            same,
             Answer::In([Some(TWO), None, None]),
-            ([Some(same); 3], Some(same)),
-            [Some(ONE), Some(same), Some(THREE)],
+            ([Some(SAME); 3], Some(SAME)),
         ),
-        (
-            (1, 20, 300),
-            (all, None),
-            first,
-            Answer::Key(1, first),
-            (all, None),
-            all,
-        ),
-        (
-            (1, 99, 900),
-            ([Some(ONE), None, None], None),
-            second,
-            Answer::Key(2, second),
-            ([Some(ONE), None, None], None),
-            all,
-        ),
-        (
-            (1, 10, 900),
-            ([Some(ONE), Some(ONE), None], None),
-            third,
-            Answer::Key(3, third),
-            ([Some(ONE), Some(ONE), None], None),
-            all,
-        ),
-        (
-            (1, 10, 300),
-            ([Some(ONE), Some(ONE), Some(THREE)], None),
-            third,
-            Answer::Key(3, third),
-            ([Some(ONE), Some(ONE), Some(THREE)], None),
-            all,
-        ),
-    ] {
-        let mut map = three(rt, alloc, hash_builder);
-        let heard = insert_over(&mut map, asked, item);
-        assert!(rt;
-            heard == Some((before, answer, after)) && has_all(&map, left),
-            "at {asked:?}"
-        );
+        [Some(ONE), Some(SAME), Some(THREE)],
+    ),
+    (
+        (1, 20, 300),
+        FIRST,
+        ((EACH, None), Answer::Key(1, FIRST), (EACH, None)),
+        EACH,
+    ),
+    (
+        (1, 99, 900),
+        SECOND,
+        (HALF, Answer::Key(2, SECOND), HALF),
+        EACH,
+    ),
+    (
+        (1, 10, 900),
+        THIRD,
+        (TWICE, Answer::Key(3, THIRD), TWICE),
+        EACH,
+    ),
+    (
+        (1, 10, 300),
+        THIRD,
+        (TWICE_AND, Answer::Key(3, THIRD), TWICE_AND),
+        EACH,
+    ),
+];
+
+fn occupied<S: BuildHasher>(map: &mut TriHashMap<Row, S>) -> bool {
+    for (asked, item, wanted, left) in OVERWRITES {
+        if !reset(map) || insert_over(map, asked, item) != Some(wanted) || !has_all(map, left) {
+            return false;
+        }
     }
+    true
 }
 
 #[test]
 fn occupied_entries_are_overwritten(rt: HostRuntime) {
-    occupied(&rt, rt.alloc(), DefaultHashBuilder::default());
+    assert!(rt; occupied(&mut TriHashMap::new(rt.alloc())));
     for hash in [0, 18446744073709551615] {
-        occupied(&rt, rt.alloc(), Alike { hash });
+        assert!(rt; occupied(&mut TriHashMap::with_hasher(rt.alloc(), Alike { hash })));
     }
+}
+
+/// What becomes of an item that `insert` puts into a vacant entry.
+fn insert<S: BuildHasher>(
+    map: &mut TriHashMap<Row, S>,
+    (key1, key2, key3): Asked,
+    item: Row,
+) -> Answer {
+    match map.entry(&key1, &key2, &key3) {
+        Entry::Vacant(entry) => match entry.insert(item) {
+            Ok(found) => Answer::In([Some(*found), Some(*found), Some(*found.into_ref())]),
+            Err(error) => refusal(error),
+        },
+        Entry::Occupied(_) => Answer::Nowhere,
+    }
+}
+
+/// What becomes of an item that `insert_entry` puts into a vacant entry.
+fn insert_entry<S: BuildHasher>(
+    map: &mut TriHashMap<Row, S>,
+    (key1, key2, key3): Asked,
+    item: Row,
+) -> Answer {
+    match map.entry(&key1, &key2, &key3) {
+        Entry::Vacant(entry) => match entry.insert_entry(item) {
+            Ok(found) => Answer::In(seen(found.into_ref()).0),
+            Err(error) => refusal(error),
+        },
+        Entry::Occupied(_) => Answer::Nowhere,
+    }
+}
+
+/// The items that are lent for writing: by all keys, by the third and by the second.
+fn lent<S: BuildHasher>(mut found: OccupiedEntryMut<'_, Row, S>) -> Answer {
+    let unique = match found.as_unique() {
+        Some(item) => Some(*item),
+        None => None,
+    };
+    let third = match found.by_key3() {
+        Some(item) => Some(*item),
+        None => None,
+    };
+    match found.into_by_key2() {
+        Some(item) => Answer::In([unique, third, Some(*item)]),
+        None => Answer::In([unique, third, None]),
+    }
+}
+
+/// What becomes of an item that `or_insert` puts in.
+fn or_insert<S: BuildHasher>(
+    map: &mut TriHashMap<Row, S>,
+    (key1, key2, key3): Asked,
+    item: Row,
+) -> Answer {
+    match map.entry(&key1, &key2, &key3).or_insert(item) {
+        Ok(found) => lent(found),
+        Err(error) => refusal(error),
+    }
+}
+
+/// What becomes of an item that a closure answers, and how often that is called.
+fn or_insert_with<S: BuildHasher>(
+    map: &mut TriHashMap<Row, S>,
+    (key1, key2, key3): Asked,
+    item: Row,
+) -> (Answer, u64) {
+    let mut calls: u64 = 0;
+    let answer = || {
+        calls = calls.wrapping_add(1);
+        item
+    };
+    let answer = match map.entry(&key1, &key2, &key3).or_insert_with(answer) {
+        Ok(found) => lent(found),
+        Err(error) => refusal(error),
+    };
+    (answer, calls)
 }
 
 /// The way that an item takes into an entry.
@@ -147,79 +237,65 @@ enum Way {
     OrInsertWith,
 }
 
-/// The items that are lent for writing: by all keys, by the third and by the second.
-fn lent<S: BuildHasher>(mut found: OccupiedEntryMut<'_, Row, S>) -> Answer {
-    let unique = found.as_unique().map(|x| *x);
-    let third = found.by_key3().map(|x| *x);
-    Answer::In([unique, third, found.into_by_key2().map(|x| *x)])
-}
-
-/// Puts an item in by an entry. Says what becomes of it, and how often a closure that answers it is called.
+/// What becomes of an item that goes this way into the entry of these keys, and how often a closure is called for it.
 fn put_in<S: BuildHasher>(
     map: &mut TriHashMap<Row, S>,
-    (key1, key2, key3): Asked,
+    asked: Asked,
     way: Way,
     item: Row,
 ) -> (Answer, u64) {
-    let mut calls: u64 = 0;
-    let entry = map.entry(&key1, &key2, &key3);
-    let answer = match (way, entry) {
-        (Way::OrInsert, entry) => entry.or_insert(item).map_or_else(refusal, lent),
-        (Way::OrInsertWith, entry) => {
-            let made = entry.or_insert_with(|| {
-                calls = calls.wrapping_add(1);
-                item
-            });
-            made.map_or_else(refusal, lent)
-        }
-        (Way::Insert, Entry::Vacant(entry)) => match entry.insert(item) {
-            Ok(found) => Answer::In([Some(*found), Some(*found), Some(*found.into_ref())]),
-            Err(error) => refusal(error),
-        },
-        (Way::InsertEntry, Entry::Vacant(entry)) => match entry.insert_entry(item) {
-            Ok(found) => Answer::In(seen(found.into_ref()).0),
-            Err(error) => refusal(error),
-        },
-        (_, Entry::Occupied(_)) => Answer::Nowhere,
-    };
-    (answer, calls)
+    match way {
+        Way::Insert => (insert(map, asked, item), 0),
+        Way::InsertEntry => (insert_entry(map, asked, item), 0),
+        Way::OrInsert => (or_insert(map, asked, item), 0),
+        Way::OrInsertWith => or_insert_with(map, asked, item),
+    }
 }
 
-fn vacant<S: BuildHasher + Copy + Drop>(rt: &impl Abort, alloc: Global, hash_builder: S) {
-    let item = row_of(9, 90, 900, 0);
-    for (way, asks) in [
-        (Way::Insert, 0),
-        (Way::InsertEntry, 0),
-        (Way::OrInsert, 0),
-        (Way::OrInsertWith, 1),
-    ] {
-        let mut map = three(rt, alloc, hash_builder);
-        for (rank, other) in [
-            (1, row_of(8, 91, 901, 0)),
-            (2, row_of(9, 91, 901, 0)),
-            (3, row_of(9, 90, 901, 0)),
-        ] {
-            let heard = put_in(&mut map, (9, 90, 900), way, other);
-            assert!(rt; heard == (Answer::Key(rank, other), asks) && map.len() == 3);
-        }
-        let heard = put_in(&mut map, (9, 90, 900), way, item);
-        assert!(rt; heard == (Answer::In([Some(item); 3]), asks) && map.len() == 4);
-        assert!(rt; map.get_unique(&9, &90, &900).copied() == Some(item));
+const ITEM: Row = row!(9, 90, 900, 0);
+
+/// The items that go one after the other into the entry of (9, 90, 900), from the map of three on, what becomes of
+/// each, and how many items there are then.
+const PUT: [(Row, Answer, usize); 4] = [
+    (row!(8, 91, 901, 0), Answer::Key(1, row!(8, 91, 901, 0)), 3),
+    (row!(9, 91, 901, 0), Answer::Key(2, row!(9, 91, 901, 0)), 3),
+    (row!(9, 90, 901, 0), Answer::Key(3, row!(9, 90, 901, 0)), 3),
+    (ITEM, Answer::In([Some(ITEM); 3]), 4),
+];
+
+/// Whether the items go this way as they should, where a closure is called so often for each.
+fn is_filled<S: BuildHasher>(map: &mut TriHashMap<Row, S>, way: Way, calls: u64) -> bool {
+    let mut is_right = reset(map);
+    for (item, answer, length) in PUT {
+        is_right = is_right && put_in(map, (9, 90, 900), way, item) == (answer, calls);
+        is_right = is_right && map.len() == length;
     }
-    // Where one of the keys finds an item, nothing goes in, and the new one is dropped.
+    is_right && map.get_unique(&9, &90, &900).copied() == Some(ITEM)
+}
+
+/// Whether nothing goes in where one of the keys finds an item. The new one is dropped.
+fn is_kept<S: BuildHasher>(map: &mut TriHashMap<Row, S>, way: Way) -> bool {
     let wanted = (Answer::In([None, None, Some(TWO)]), 0);
-    for way in [Way::OrInsert, Way::OrInsertWith] {
-        let mut map = three(rt, alloc, hash_builder);
-        let heard = put_in(&mut map, (9, 20, 900), way, item);
-        assert!(rt; heard == wanted && map.len() == 3 && !map.contains_key1(&9));
-    }
+    reset(map)
+        && put_in(map, (9, 20, 900), way, ITEM) == wanted
+        && map.len() == 3
+        && !map.contains_key1(&9)
+}
+
+fn vacant<S: BuildHasher>(map: &mut TriHashMap<Row, S>) -> bool {
+    is_filled(map, Way::Insert, 0)
+        && is_filled(map, Way::InsertEntry, 0)
+        && is_filled(map, Way::OrInsert, 0)
+        && is_filled(map, Way::OrInsertWith, 1)
+        && is_kept(map, Way::OrInsert)
+        && is_kept(map, Way::OrInsertWith)
 }
 
 #[test]
 fn vacant_entries_are_filled(rt: HostRuntime) {
-    vacant(&rt, rt.alloc(), DefaultHashBuilder::default());
+    assert!(rt; vacant(&mut TriHashMap::new(rt.alloc())));
     for hash in [0, 18446744073709551615] {
-        vacant(&rt, rt.alloc(), Alike { hash });
+        assert!(rt; vacant(&mut TriHashMap::with_hasher(rt.alloc(), Alike { hash })));
     }
 }
 
@@ -247,27 +323,65 @@ fn modify_each<S: BuildHasher>(map: &mut TriHashMap<Row, S>, (key1, key2, key3):
     heard
 }
 
-fn modified<S: BuildHasher + Drop>(rt: &impl Abort, alloc: Global, hash_builder: S) {
-    let mut map = three(rt, alloc, hash_builder);
-    assert!(rt; modify(&mut map, (1, 10, 300)) == [None, Some(ONE), Some(THREE)]);
-    let (one, three) = (row_of(1, 10, 100, 8), row_of(3, 30, 300, 10));
-    assert!(rt; has_all(&map, [Some(one), Some(TWO), Some(three)]));
-    assert!(rt; modify_each(&mut map, (3, 20, 100)) == [Some(three), Some(TWO), Some(one)]);
-    let (one, two, three) = (
-        row_of(1, 10, 100, 9),
-        row_of(2, 20, 200, 9),
-        row_of(3, 30, 300, 11),
-    );
-    assert!(rt; modify_each(&mut map, (2, 20, 200)) == [None, None, Some(two)]);
-    assert!(rt; modify(&mut map, (5, 50, 500)) == NOTHING);
-    let two = row_of(2, 20, 200, 10);
-    assert!(rt; has_all(&map, [Some(one), Some(two), Some(three)]));
+/// Whether the entry itself modifies or the items that it lends, the keys, and of which items this is asked; and what
+/// the map of three has then, from it on.
+const MODIFIED: [(bool, Asked, Listed, Listed); 4] = [
+    (
+        true,
+        (1, 10, 300),
+        [None, Some(ONE), Some(THREE)],
+        [
+            Some(row!(1, 10, 100, 8)),
+            Some(TWO),
+            Some(row!(3, 30, 300, 10)),
+        ],
+    ),
+    (
+        false,
+        (3, 20, 100),
+        [
+            Some(row!(3, 30, 300, 10)),
+            Some(TWO),
+            Some(row!(1, 10, 100, 8)),
+        ],
+        [
+            Some(row!(1, 10, 100, 9)),
+            Some(row!(2, 20, 200, 9)),
+            Some(row!(3, 30, 300, 11)),
+        ],
+    ),
+    (
+        false,
+        (2, 20, 200),
+        [None, None, Some(row!(2, 20, 200, 9))],
+        RAISED,
+    ),
+    (true, (5, 50, 500), NOTHING, RAISED),
+];
+
+const RAISED: Listed = [
+    Some(row!(1, 10, 100, 9)),
+    Some(row!(2, 20, 200, 10)),
+    Some(row!(3, 30, 300, 11)),
+];
+
+fn modified<S: BuildHasher>(map: &mut TriHashMap<Row, S>) -> bool {
+    let mut is_right = reset(map);
+    for (by_entry, asked, wanted, left) in MODIFIED {
+        let heard = if by_entry {
+            modify(map, asked)
+        } else {
+            modify_each(map, asked)
+        };
+        is_right = is_right && heard == wanted && has_all(map, left);
+    }
+    is_right
 }
 
 #[test]
 fn entries_are_modified(rt: HostRuntime) {
-    modified(&rt, rt.alloc(), DefaultHashBuilder::default());
+    assert!(rt; modified(&mut TriHashMap::new(rt.alloc())));
     for hash in [0, 18446744073709551615] {
-        modified(&rt, rt.alloc(), Alike { hash });
+        assert!(rt; modified(&mut TriHashMap::with_hasher(rt.alloc(), Alike { hash })));
     }
 }

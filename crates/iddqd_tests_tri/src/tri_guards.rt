@@ -1,11 +1,9 @@
 //! Worked rows on items of three-key maps that are lent for writing, one by one or by walks.
-use crate::row::{Row, row_of};
-use crate::worked::{Answer, ONE, THREE, TWO, has_all, mismatch, three};
+use crate::row::Row;
+use crate::worked::{Answer, Listed, ONE, THREE, TWO, has_all, mismatch, reset, row};
 use iddqd_tests::Alike;
-use iddqd_tri::{Cursor, DefaultHashBuilder, TriHashMap};
-use std::alloc::Global;
+use iddqd_tri::{Cursor, TriHashMap};
 use std::hash::BuildHasher;
-use std::process::Abort;
 
 /// What becomes of an item that is put in the place of the one with this second key.
 fn replace2<S: BuildHasher>(map: &mut TriHashMap<Row, S>, key: u64, item: Row) -> Answer {
@@ -31,7 +29,10 @@ fn write<S: BuildHasher>(map: &mut TriHashMap<Row, S>, (key3, key1): (u64, u64),
 /// The item that has all keys, lent for writing.
 fn of_all<S: BuildHasher>(map: &mut TriHashMap<Row, S>, key1: u64, key3: u64) -> Option<Row> {
     let key2 = key1.wrapping_mul(10);
-    map.get_mut_unique(&key1, &key2, &key3).map(|found| *found)
+    match map.get_mut_unique(&key1, &key2, &key3) {
+        Some(found) => Some(*found),
+        None => None,
+    }
 }
 
 /// Whether a walk says at each step how many of three items are to come, and goes on saying so at its end. The sum of
@@ -64,40 +65,56 @@ fn raise<S: BuildHasher>(map: &mut TriHashMap<Row, S>, by: u64) -> usize {
     lent
 }
 
-fn check<S: BuildHasher + Drop>(rt: &impl Abort, alloc: Global, hash_builder: S) {
-    let mut map = three(rt, alloc, hash_builder);
-    let (third, second, first) = (
-        row_of(2, 20, 201, 0),
-        row_of(2, 21, 201, 0),
-        row_of(9, 20, 201, 0),
-    );
-    for (key, item, answer) in [
-        (20, third, Answer::Key(3, third)),
-        (20, second, Answer::Key(2, second)),
-        (20, first, Answer::Key(1, first)),
-        (21, second, Answer::Nowhere),
-        (
-            20,
-            row_of(2, 20, 200, 4),
-            Answer::In([Some(TWO), None, None]),
-        ),
-    ] {
-        assert!(rt; replace2(&mut map, key, item) == answer);
+const THIRD: Row = row!(2, 20, 201, 0);
+
+const SECOND: Row = row!(2, 21, 201, 0);
+
+const FIRST: Row = row!(9, 20, 201, 0);
+
+const NEW: Row = row!(2, 20, 200, 4);
+
+/// A second key, an item for its item's place, and what becomes of that.
+const REPLACED: [(u64, Row, Answer); 5] = [
+    (20, THIRD, Answer::Key(3, THIRD)),
+    (20, SECOND, Answer::Key(2, SECOND)),
+    (20, FIRST, Answer::Key(1, FIRST)),
+    (21, SECOND, Answer::Nowhere),
+    (20, NEW, Answer::In([Some(TWO), None, None])),
+];
+
+fn replaced<S: BuildHasher>(map: &mut TriHashMap<Row, S>) -> bool {
+    for (key, item, wanted) in REPLACED {
+        if replace2(map, key, item) != wanted {
+            return false;
+        }
     }
-    let two = row_of(2, 20, 200, 4);
-    assert!(rt; has_all(&map, [Some(ONE), Some(two), Some(THREE)]));
-    write(&mut map, (300, 1), 2);
-    assert!(rt; of_all(&mut map, 1, 300) == None && of_all(&mut map, 2, 200) == Some(two));
-    assert!(rt; walk(&mut map) == (true, 8) && raise(&mut map, 10) == 3);
-    let one = row_of(1, 10, 100, 12);
-    let (two, three) = (row_of(2, 20, 200, 14), row_of(3, 30, 300, 12));
-    assert!(rt; has_all(&map, [Some(one), Some(two), Some(three)]));
+    has_all(map, [Some(ONE), Some(NEW), Some(THREE)])
+}
+
+/// The items once the values of two are 2, and all values are raised by 10.
+const RAISED: Listed = [
+    Some(row!(1, 10, 100, 12)),
+    Some(row!(2, 20, 200, 14)),
+    Some(row!(3, 30, 300, 12)),
+];
+
+fn written<S: BuildHasher>(map: &mut TriHashMap<Row, S>) -> bool {
+    write(map, (300, 1), 2);
+    of_all(map, 1, 300) == None
+        && of_all(map, 2, 200) == Some(NEW)
+        && walk(map) == (true, 8)
+        && raise(map, 10) == 3
+        && has_all(map, RAISED)
+}
+
+fn check<S: BuildHasher>(map: &mut TriHashMap<Row, S>) -> bool {
+    reset(map) && replaced(map) && written(map)
 }
 
 #[test]
 fn items_are_written(rt: HostRuntime) {
-    check(&rt, rt.alloc(), DefaultHashBuilder::default());
+    assert!(rt; check(&mut TriHashMap::new(rt.alloc())));
     for hash in [0, 18446744073709551615] {
-        check(&rt, rt.alloc(), Alike { hash });
+        assert!(rt; check(&mut TriHashMap::with_hasher(rt.alloc(), Alike { hash })));
     }
 }

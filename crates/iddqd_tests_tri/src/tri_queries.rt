@@ -56,17 +56,20 @@ fn search(map: &TriHashMap<Row, OwnHash>, rank: u8, key: u64) -> (Option<Row>, u
     (found.copied(), matcher.questions)
 }
 
+/// The rank of a search, the key, what it finds, and how many keys it asks about.
+const SEARCHES: [(u8, u64, (Option<Row>, u64)); 6] = [
+    (1, 9, (None, 0)),
+    (1, 1, (Some(ONE), 1)),
+    (2, 20, (Some(TWO), 1)),
+    (2, 1, (None, 0)),
+    (3, 300, (Some(THREE), 1)),
+    (3, 30, (None, 0)),
+];
+
 #[test]
 fn asks_only_keys_of_the_hash(rt: HostRuntime) {
     let map = three(&rt, rt.alloc(), OwnHash);
-    for (rank, key, wanted) in [
-        (1, 9, (None, 0)),
-        (1, 1, (Some(ONE), 1)),
-        (2, 20, (Some(TWO), 1)),
-        (2, 1, (None, 0)),
-        (3, 300, (Some(THREE), 1)),
-        (3, 30, (None, 0)),
-    ] {
+    for (rank, key, wanted) in SEARCHES {
         assert!(rt; search(&map, rank, key) == wanted, "{rank}: {key}");
     }
 }
@@ -123,23 +126,41 @@ impl<'a> Equivalent<&'static str> for Text<'a> {
     }
 }
 
+/// The first key of the item with this text.
+fn number(map: &TriHashMap<Word>, text: &str) -> Option<u64> {
+    match map.get3(&Text { text }) {
+        Some(word) => Some(word.first),
+        None => None,
+    }
+}
+
+const NUMBERS: [(&str, Option<u64>); 4] = [
+    ("cd", Some(2)),
+    ("ab", Some(1)),
+    ("c", None),
+    ("", None),
+];
+
+/// Whether each text is found that should be, in the map of these.
+fn are_found(map: &TriHashMap<Word>) -> bool {
+    for (text, wanted) in NUMBERS {
+        if number(map, text) != wanted {
+            return false;
+        }
+    }
+    true
+}
+
 #[test]
-fn a_text_is_found_by_a_query(rt: HostRuntime) -> Result<(), Fail> {
+fn a_text_is_found_by_a_query(rt: HostRuntime) {
     let mut map = TriHashMap::new(rt.alloc());
     for (text, first, second) in [("ab", 1, 3), ("cd", 2, 4)] {
-        assert!(rt;
-            map.insert_overwrite(Word {
-                first,
-                second,
-                text
-            })
-            .is_ok()
-        );
+        let _ = map.insert_overwrite(Word {
+            first,
+            second,
+            text,
+        });
     }
-    for (text, number) in [("cd", Some(2)), ("ab", Some(1)), ("c", None), ("", None)] {
-        let found = map.get3(&Text { text }).map(|word| word.first);
-        assert_eq!(rt; found, number, "at {text}");
-    }
+    assert!(rt; are_found(&map));
     drop(map);
-    Ok(())
 }

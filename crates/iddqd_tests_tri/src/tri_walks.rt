@@ -1,31 +1,51 @@
 //! Walks over the three-key map, equality and copies.
-use crate::row::{Row, row_of};
-use crate::worked::{Listed, NOTHING, ONE, THREE, TWO, has_all, three};
+use crate::row::Row;
+use crate::worked::{Listed, NOTHING, ONE, THREE, TWO, has_all, row, three};
 use iddqd_tests::Alike;
 use iddqd_tri::{DefaultHashBuilder, Iter, TriHashMap};
 use std::alloc::Global;
 use std::hash::BuildHasher;
-use std::test::Fail;
+use std::test::*;
+
+/// Whether a walk says at each step how many of three items are left, and goes on saying so at its end. The sum of the
+/// values that it lends.
+fn walk(map: &TriHashMap<Row>) -> (bool, u64) {
+    let mut items = map.iter();
+    let mut is_right = true;
+    let mut sum: u64 = 0;
+    for left in [3, 2, 1, 0, 0] {
+        is_right = is_right && items.size_hint() == (left, Some(left));
+        is_right = is_right && items.clone().count() == left;
+        match items.next() {
+            Some(item) => sum = sum.wrapping_add(item.value),
+            None => is_right = is_right && left == 0,
+        }
+    }
+    (is_right, sum)
+}
+
+/// The sum of the values of a map's items, which are lent.
+fn sum_lent(map: &TriHashMap<Row>) -> u64 {
+    let mut sum: u64 = 0;
+    for item in map {
+        sum = sum.wrapping_add(item.value);
+    }
+    sum
+}
+
+fn sum_given(map: TriHashMap<Row>) -> u64 {
+    let mut sum: u64 = 0;
+    for item in map {
+        sum = sum.wrapping_add(item.value);
+    }
+    sum
+}
 
 #[test]
 fn iterators_give_each_item_once(rt: HostRuntime) {
     let map = three(&rt, rt.alloc(), DefaultHashBuilder::default());
-    let mut items = map.iter();
-    let mut sum: u64 = 0;
-    for left in [3, 2, 1, 0, 0] {
-        assert!(rt; items.size_hint() == (left, Some(left)) && items.clone().count() == left);
-        sum = items
-            .next()
-            .map_or(sum, |item| sum.wrapping_add(item.value));
-    }
-    assert!(rt; sum == 24 && Iter::<Row>::default().next().is_none());
-    for item in &map {
-        sum = sum.wrapping_add(item.value);
-    }
-    for item in map {
-        sum = sum.wrapping_add(item.value);
-    }
-    assert!(rt; sum == 72);
+    assert!(rt; walk(&map) == (true, 24) && sum_lent(&map) == 24 && sum_given(map) == 24);
+    assert!(rt; Iter::<Row>::default().next().is_none());
 }
 
 /// Whether the map of three rows equals the map of these, made with this room and builder, asked from both sides.
@@ -35,84 +55,104 @@ fn equals<S: BuildHasher + Drop>(
     hash_builder: S,
     room: usize,
     rows: Listed,
-) -> Result<[bool; 2], Fail> {
-    let mut other = TriHashMap::with_capacity_and_hasher(alloc, room, hash_builder)?;
+) -> Option<[bool; 2]> {
+    let Ok(mut other) = TriHashMap::with_capacity_and_hasher(alloc, room, hash_builder) else {
+        return None;
+    };
     for row in rows.into_iter().flatten() {
         let _ = other.insert_overwrite(row);
     }
-    Ok([*map == other, other == *map])
+    Some([*map == other, other == *map])
 }
+
+/// The room and the rows of maps, and whether they equal that of three rows.
+const COMPARED: [(usize, Listed, bool); 6] = [
+    (100, [Some(THREE), Some(TWO), Some(ONE)], true),
+    (
+        0,
+        [
+            Some(row!(1, 20, 100, 7)),
+            Some(row!(2, 10, 200, 8)),
+            Some(THREE),
+        ],
+        false,
+    ),
+    (
+        0,
+        [
+            Some(row!(1, 10, 200, 7)),
+            Some(row!(2, 20, 100, 8)),
+            Some(THREE),
+        ],
+        false,
+    ),
+    (0, [Some(ONE), Some(TWO), Some(row!(3, 30, 300, 8))], false),
+    (0, [Some(ONE), Some(TWO), Some(row!(4, 30, 300, 9))], false),
+    (0, [Some(ONE), Some(TWO), None], false),
+];
 
 /// Whether maps are equal by their items alone, one of each builder.
 fn are_compared<S: BuildHasher + Copy + Drop>(
     alloc: Global,
     map: &TriHashMap<Row, S>,
     hash_builder: S,
-) -> Result<bool, Fail> {
-    for (room, rows, wanted) in [
-        (100, [Some(THREE), Some(TWO), Some(ONE)], true),
-        (
-            0,
-            [
-                Some(row_of(1, 20, 100, 7)),
-                Some(row_of(2, 10, 200, 8)),
-                Some(THREE),
-            ],
-            false,
-        ),
-        (
-            0,
-            [
-                Some(row_of(1, 10, 200, 7)),
-                Some(row_of(2, 20, 100, 8)),
-                Some(THREE),
-            ],
-            false,
-        ),
-        (
-            0,
-            [Some(ONE), Some(TWO), Some(row_of(3, 30, 300, 8))],
-            false,
-        ),
-        (
-            0,
-            [Some(ONE), Some(TWO), Some(row_of(4, 30, 300, 9))],
-            false,
-        ),
-        (0, [Some(ONE), Some(TWO), None], false),
-    ] {
-        if equals(alloc, map, hash_builder, room, rows)? != [wanted, wanted] {
-            return Ok(false);
+) -> bool {
+    for (room, rows, wanted) in COMPARED {
+        if equals(alloc, map, hash_builder, room, rows) != Some([wanted, wanted]) {
+            return false;
         }
     }
-    Ok(true)
+    true
 }
 
 #[test]
-fn equality_is_of_the_items_alone(rt: HostRuntime) -> Result<(), Fail> {
+fn equality_is_of_the_items_alone(rt: HostRuntime) {
     let alloc = rt.alloc();
     let default = DefaultHashBuilder::default();
-    assert!(rt; are_compared(alloc, &three(&rt, alloc, default), default)?);
+    assert!(rt; are_compared(alloc, &three(&rt, alloc, default), default));
     let map = three(&rt, alloc, Alike { hash: 0 });
-    assert!(rt; are_compared(alloc, &map, Alike { hash: 3 })?);
-    Ok(())
+    assert!(rt; are_compared(alloc, &map, Alike { hash: 3 }));
 }
 
-#[test]
-fn a_clone_is_a_map_of_its_own(rt: HostRuntime) -> Result<(), Fail> {
-    let mut map = three(&rt, rt.alloc(), DefaultHashBuilder::default());
-    let copy = map.clone()?;
-    let capacity = map.capacity();
+/// How many items `retain` asks about, where it leaves that with the first key 2.
+fn asked(map: &mut TriHashMap<Row>) -> u64 {
     let mut calls: u64 = 0;
     map.retain(|item| {
         calls = calls.wrapping_add(1);
         item.key1 == 2
     });
-    assert!(rt; calls == 3 && map.capacity() == capacity && copy != map);
-    assert!(rt; has_all(&map, [Some(TWO), None, None]));
-    assert!(rt; has_all(&copy, [Some(ONE), Some(TWO), Some(THREE)]));
-    assert!(rt; map.insert_unique(THREE).is_ok() && map.insert_unique(ONE).is_ok() && copy == map);
+    calls
+}
+
+/// Whether only one item is left in a map of three, and its copy has all.
+fn is_alone(map: &mut TriHashMap<Row>, copy: &TriHashMap<Row>) -> bool {
+    let capacity = map.capacity();
+    asked(map) == 3
+        && map.capacity() == capacity
+        && *copy != *map
+        && has_all(map, [Some(TWO), None, None])
+        && has_all(copy, [Some(ONE), Some(TWO), Some(THREE)])
+}
+
+/// Whether a map that has one item of three left equals its copy with the others again, and not once it is cleared.
+fn is_equal_again(map: &mut TriHashMap<Row>, copy: &TriHashMap<Row>) -> bool {
+    let capacity = map.capacity();
+    let is_back = map.insert_unique(THREE).is_ok() && map.insert_unique(ONE).is_ok();
+    let is_equal = *copy == *map;
     map.clear();
-    assert!(rt; has_all(&map, NOTHING) && copy.len() == 3 && map.capacity() == capacity);
-    Ok(())
+    is_back && is_equal && has_all(map, NOTHING) && copy.len() == 3 && map.capacity() == capacity
+}
+
+/// Whether a map of three has a clone, which stays as it is.
+fn is_cloned(map: &mut TriHashMap<Row>) -> bool {
+    match map.clone() {
+        Ok(copy) => is_alone(map, &copy) && is_equal_again(map, &copy),
+        Err(_) => false,
+    }
+}
+
+#[test]
+fn a_clone_is_a_map_of_its_own(rt: HostRuntime) {
+    let mut map = three(&rt, rt.alloc(), DefaultHashBuilder::default());
+    assert!(rt; is_cloned(&mut map));
 }

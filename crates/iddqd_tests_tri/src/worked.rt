@@ -7,31 +7,38 @@ use std::alloc::Global;
 use std::hash::BuildHasher;
 use std::process::Abort;
 
-pub const ONE: Row = Row {
-    key1: 1,
-    key2: 10,
-    key3: 100,
-    value: 7,
-};
+/// A row of these numbers, as `row_of` makes it, for constants, which call no function.
+macro_rules! row {
+    ($key1:expr, $key2:expr, $key3:expr, $value:expr) => {
+        Row {
+            key1: $key1,
+            key2: $key2,
+            key3: $key3,
+            value: $value,
+        }
+    };
+}
 
-pub const TWO: Row = Row {
-    key1: 2,
-    key2: 20,
-    key3: 200,
-    value: 8,
-};
+pub(crate) use row;
 
-pub const THREE: Row = Row {
-    key1: 3,
-    key2: 30,
-    key3: 300,
-    value: 9,
-};
+pub const ONE: Row = row!(1, 10, 100, 7);
+
+pub const TWO: Row = row!(2, 20, 200, 8);
+
+pub const THREE: Row = row!(3, 30, 300, 9);
 
 /// Items in the order of the keys, each once.
 pub type Listed = [Option<Row>; 3];
 
 pub const NOTHING: Listed = [None; 3];
+
+/// Makes a map that of (1, 10, 100, 7), (2, 20, 200, 8) and (3, 30, 300, 9). Says whether all went in.
+pub fn reset<S: BuildHasher>(map: &mut TriHashMap<Row, S>) -> bool {
+    map.clear();
+    map.insert_unique(ONE).is_ok()
+        && map.insert_unique(TWO).is_ok()
+        && map.insert_unique(THREE).is_ok()
+}
 
 /// The map of (1, 10, 100, 7), (2, 20, 200, 8) and (3, 30, 300, 9).
 pub fn three<S: BuildHasher + Drop>(
@@ -40,9 +47,7 @@ pub fn three<S: BuildHasher + Drop>(
     hash_builder: S,
 ) -> TriHashMap<Row, S> {
     let mut map = TriHashMap::with_hasher(alloc, hash_builder);
-    for row in [ONE, TWO, THREE] {
-        assert!(rt; map.insert_unique(row).is_ok());
-    }
+    assert!(rt; reset(&mut map));
     map
 }
 
