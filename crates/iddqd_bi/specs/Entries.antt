@@ -1,5 +1,5 @@
 -- What contracts say of entries.
-use Rattle.std.specs.Prelude.{◌≡◌, ◌≢◌, Bool, [], ◌∷◌, List, Option, Some, None, Result, IsOk, IfOk, IfErr, OnOk, OnErr, ⊤}
+use Rattle.std.specs.Prelude.{◌≡◌, ◌≢◌, ◌<◌, length, Bool, [], ◌∷◌, List, Option, Some, None, Result, IsOk, IfOk, IfErr, OnOk, OnErr, ⊤}
 use Rattle.std.specs.Option.{option_and_then, IfSome}
 use Rattle.std.specs.Borrow.{Fml, GName, RattleType, MutBor, LendsIf, follows, follows_so, name_if_ok}
 use Rattle.std.specs.HashMap.Lent.{HashMembers}
@@ -25,7 +25,7 @@ use Rattle.iddqd_bi.specs.declared.entry.Entry.TheVariants.{Vacant, Occupied}
 use Rattle.iddqd_bi.specs.declared.entry.VacantEntry.{VacantEntry}
 use Rattle.iddqd_bi.specs.declared.entry.OccupiedEntry.{OccupiedEntry}
 use Rattle.iddqd_bi.specs.declared.entry.OccupiedEntryMut.{OccupiedEntryMut}
-use Rattle.iddqd_bi.specs.declared.error.EntryError.{EntryError}
+use Rattle.iddqd_bi.specs.declared.error.EntryRefusal.{EntryRefusal}
 use Rattle.iddqd_bi.specs.declared.ref_mut.RefMut.{RefMut}
 use Rattle.iddqd_bi.specs.contracts.entry.OccupiedEntry.{the_row as occupied_row}
 use Rattle.iddqd_bi.specs.contracts.map.BiHashMap.{the_row as row_of_map}
@@ -128,17 +128,20 @@ module _ {T S Q K1 K2 H : Type 0} {of : item.Ghosts T K1 K2} {eq1 : equal.Ghosts
 
   -- the item went in where the entry is vacant, which holds it then; or it is refused for the lowest rank at which its
   -- key is not the entry's, or else for want of memory
-  pub record PutsIn (e : VacantEntry T S Q K1 K2 H of eq1 input1 eq2 input2 build hashes q) (x : T) (result : Result (OccupiedEntryMut T S K1 K2 H) (EntryError T)) : Type 0 where
+  pub record PutsIn (e : VacantEntry T S Q K1 K2 H of eq1 input1 eq2 input2 build hashes q) (x : T) (result : Result (OccupiedEntryMut T S K1 K2 H) (EntryRefusal T S K1 K2 H)) : Type 0 where
     pub gains : IfOk result (λ m. Gains e.map.now x m.map.now)
     pub holds : IfOk result Holds
+    pub listed : IfOk result (λ m. held m ≡ x ∷ [])
     pub unique_item : IfOk result (λ m. held_entry m ≡ unique x)
     pub unique_held : IfOk result (λ m. held_unique m ≡ Some x)
     pub by_key1 : IfOk result (λ m. held1 m ≡ Some x)
     pub by_key2 : IfOk result (λ m. held2 m ≡ Some x)
     pub same_keys : OnOk result (differ (key_tests of eq1.eq eq2.eq (q.first e.keys) (q.second e.keys)) x ≡ None)
-    pub handed_back : IfErr result (λ error. error_item error ≡ x)
-    pub rank : IfErr result (λ error. differ (key_tests of eq1.eq eq2.eq (q.first e.keys) (q.second e.keys)) x ≡ error_rank error)
-    pub memory : IfErr result (λ error. OnNoMemory error (IsFullFor (ranks of eq1.eq eq2.eq) e.map.now x))
+    pub granted : differ (key_tests of eq1.eq eq2.eq (q.first e.keys) (q.second e.keys)) x ≡ None → length (bag e.map.now) < e.map.now.capacity → IsOk result
+    pub unchanged : IfErr result (λ refusal. refusal.map.now ≡ e.map.now)
+    pub handed_back : IfErr result (λ refusal. error_item refusal.error ≡ x)
+    pub rank : IfErr result (λ refusal. differ (key_tests of eq1.eq eq2.eq (q.first e.keys) (q.second e.keys)) x ≡ error_rank refusal.error)
+    pub memory : IfErr result (λ refusal. OnNoMemory refusal.error (IsFullFor (ranks of eq1.eq eq2.eq) e.map.now x))
 
   -- both are vacant, or both occupied with the same keys and places
   abbrev pub IsSameEntry : Entry T S Q K1 K2 H of eq1 input1 eq2 input2 build hashes q → Entry T S Q K1 K2 H of eq1 input1 eq2 input2 build hashes q → Type 0

@@ -7,7 +7,7 @@ ghost use Rattle.iddqd_bi.specs.Keys.{key_tests, ranks};
 ghost use Rattle.iddqd_bi.specs.Mismatch.{error_item, error_rank, mismatch_item, mismatch_rank};
 
 use crate::item::BiHashItem;
-use crate::map::BiHashMap;
+use crate::map::{BiHashMap, DefaultHashBuilder};
 use iddqd_store::{ItemIndex, UpToTwo};
 use std::hash::{BuildHasher, Hash};
 
@@ -56,6 +56,12 @@ pub enum EntryError<T> {
     Memory(T),
 }
 
+/// Why an entry refused an item. It holds the map, which is as it was, so that the caller knows the map exactly.
+pub struct EntryRefusal<'a, T: BiHashItem, S: BuildHasher = DefaultHashBuilder> {
+    pub(crate) map: &'a mut BiHashMap<T, S>,
+    pub(crate) error: EntryError<T>,
+}
+
 /// The lowest rank, counted from 0, at which the item has not these keys. It compares the first keys, and those of the
 /// next rank where those are equal.
 pub(crate) fn differ<T: BiHashItem>(item: &T, key1: &T::K1, key2: &T::K2) -> Option<usize>
@@ -94,6 +100,42 @@ impl<T> EntryError<T> {
             0 => EntryError::Key1(item),
             _ => EntryError::Key2(item),
         }
+    }
+
+    /// The item that was refused.
+    pub fn item(&self) -> &T
+        ensures { result.now ≡ error_item self.now }
+    {
+        match self {
+            EntryError::Key1(item) | EntryError::Key2(item) | EntryError::Memory(item) => item,
+        }
+    }
+
+    /// The item that was refused, by value.
+    pub fn into_item(self) -> T
+        ensures { result ≡ error_item self }
+    {
+        match self {
+            EntryError::Key1(item) | EntryError::Key2(item) | EntryError::Memory(item) => item,
+        }
+    }
+}
+
+impl<T: BiHashItem, S: BuildHasher> EntryRefusal<'_, T, S> {
+    /// Why, with the item.
+    pub fn error(&self) -> &EntryError<T>
+        ensures { result.now ≡ self.now.error }
+    {
+        &self.error
+    }
+
+    /// Why, with the item by value.
+    pub fn into_error(self) -> EntryError<T>
+        ensures error { result ≡ self.entry.error }
+        ensures map { self.exit.0.now ≡ self.entry.map.now }
+    {
+        let EntryRefusal { map: _, error } = self;
+        error
     }
 }
 
@@ -185,5 +227,14 @@ impl<T: BiHashItem + Drop, S: BuildHasher> Drop for MemoryError<'_, T, S> {
     {
         let MemoryError { map: _, new_item } = self;
         drop(new_item);
+    }
+}
+
+impl<T: BiHashItem + Drop, S: BuildHasher> Drop for EntryRefusal<'_, T, S> {
+    fn drop(self)
+        ensures { self.exit.0.now ≡ self.entry.map.now }
+    {
+        let EntryRefusal { map: _, error } = self;
+        drop(error);
     }
 }

@@ -60,21 +60,21 @@ fn insert_entry(map: &mut BiHashMap<Row>, keys: Row, item: Row) -> Answer {
     };
     match entry.insert_entry(item) {
         Ok(_found) => Answer::In,
-        Err(error) => refusal(error),
+        Err(error) => refusal(error.into_error()),
     }
 }
 
 fn or_insert(map: &mut BiHashMap<Row>, keys: Row, item: Row) -> Answer {
     match map.entry(&keys.key1, &keys.key2).or_insert(item) {
         Ok(_found) => Answer::In,
-        Err(error) => refusal(error),
+        Err(error) => refusal(error.into_error()),
     }
 }
 
 fn or_insert_with(map: &mut BiHashMap<Row>, keys: Row, item: Row) -> Answer {
     match map.entry(&keys.key1, &keys.key2).or_insert_with(|| item) {
         Ok(_found) => Answer::In,
-        Err(error) => refusal(error),
+        Err(error) => refusal(error.into_error()),
     }
 }
 

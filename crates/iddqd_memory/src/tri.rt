@@ -185,7 +185,7 @@ fn insert_entry(map: &mut TriHashMap<Trio>, keys: Trio, item: Trio) -> Answer {
     };
     match entry.insert_entry(item) {
         Ok(_found) => Answer::In,
-        Err(error) => refusal(error),
+        Err(error) => refusal(error.into_error()),
     }
 }
 
@@ -193,7 +193,7 @@ fn or_insert(map: &mut TriHashMap<Trio>, keys: Trio, item: Trio) -> Answer {
     let entry = map.entry(&keys.key1, &keys.key2, &keys.key3);
     match entry.or_insert(item) {
         Ok(_found) => Answer::In,
-        Err(error) => refusal(error),
+        Err(error) => refusal(error.into_error()),
     }
 }
 
@@ -201,7 +201,7 @@ fn or_insert_with(map: &mut TriHashMap<Trio>, keys: Trio, item: Trio) -> Answer 
     let entry = map.entry(&keys.key1, &keys.key2, &keys.key3);
     match entry.or_insert_with(|| item) {
         Ok(_found) => Answer::In,
-        Err(error) => refusal(error),
+        Err(error) => refusal(error.into_error()),
     }
 }
 

@@ -161,7 +161,7 @@ fn insert_entry<S: BuildHasher>(
                 let first = found.get().as_unique().copied();
                 Answer::In([first, found.into_ref().as_unique().copied()])
             }
-            Err(error) => refusal(error),
+            Err(error) => refusal(error.into_error()),
         },
         Entry::Occupied(_) => Answer::Nowhere,
     }
@@ -187,7 +187,7 @@ fn or_insert<S: BuildHasher>(
 ) -> Answer {
     match map.entry(&key1, &key2).or_insert(item) {
         Ok(found) => unique(found),
-        Err(error) => refusal(error),
+        Err(error) => refusal(error.into_error()),
     }
 }
 
@@ -270,7 +270,7 @@ fn put_answer<S: BuildHasher>(
     };
     let answer = match map.entry(&key1, &key2).or_insert_with(answer) {
         Ok(found) => by_each(found),
-        Err(error) => (refusal(error), false),
+        Err(error) => (refusal(error.into_error()), false),
     };
     (answer, calls)
 }

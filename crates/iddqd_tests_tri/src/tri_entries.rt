@@ -176,7 +176,7 @@ fn insert_entry<S: BuildHasher>(
     match map.entry(&key1, &key2, &key3) {
         Entry::Vacant(entry) => match entry.insert_entry(item) {
             Ok(found) => Answer::In(seen(found.into_ref()).0),
-            Err(error) => refusal(error),
+            Err(error) => refusal(error.into_error()),
         },
         Entry::Occupied(_) => Answer::Nowhere,
     }
@@ -206,7 +206,7 @@ fn or_insert<S: BuildHasher>(
 ) -> Answer {
     match map.entry(&key1, &key2, &key3).or_insert(item) {
         Ok(found) => lent(found),
-        Err(error) => refusal(error),
+        Err(error) => refusal(error.into_error()),
     }
 }
 
@@ -223,7 +223,7 @@ fn or_insert_with<S: BuildHasher>(
     };
     let answer = match map.entry(&key1, &key2, &key3).or_insert_with(answer) {
         Ok(found) => lent(found),
-        Err(error) => refusal(error),
+        Err(error) => refusal(error.into_error()),
     };
     (answer, calls)
 }

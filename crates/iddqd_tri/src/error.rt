@@ -7,7 +7,7 @@ ghost use Rattle.iddqd_tri.specs.Keys.{key_tests, ranks};
 ghost use Rattle.iddqd_tri.specs.Mismatch.{error_item, error_rank, mismatch_item, mismatch_rank};
 
 use crate::item::TriHashItem;
-use crate::map::TriHashMap;
+use crate::map::{DefaultHashBuilder, TriHashMap};
 use iddqd_store::{ItemIndex, UpToThree};
 use std::hash::{BuildHasher, Hash};
 
@@ -60,6 +60,12 @@ pub enum EntryError<T> {
     Memory(T),
 }
 
+/// Why an entry refused an item. It holds the map, which is as it was, so that the caller knows the map exactly.
+pub struct EntryRefusal<'a, T: TriHashItem, S: BuildHasher = DefaultHashBuilder> {
+    pub(crate) map: &'a mut TriHashMap<T, S>,
+    pub(crate) error: EntryError<T>,
+}
+
 /// The lowest rank, counted from 0, at which the item has not these keys. It compares the first keys, and those of the
 /// next rank where those are equal.
 pub(crate) fn differ<T: TriHashItem>(
@@ -109,6 +115,48 @@ impl<T> EntryError<T> {
             1 => EntryError::Key2(item),
             _ => EntryError::Key3(item),
         }
+    }
+
+    /// The item that was refused.
+    pub fn item(&self) -> &T
+        ensures { result.now ≡ error_item self.now }
+    {
+        match self {
+            EntryError::Key1(item)
+            | EntryError::Key2(item)
+            | EntryError::Key3(item)
+            | EntryError::Memory(item) => item,
+        }
+    }
+
+    /// The item that was refused, by value.
+    pub fn into_item(self) -> T
+        ensures { result ≡ error_item self }
+    {
+        match self {
+            EntryError::Key1(item)
+            | EntryError::Key2(item)
+            | EntryError::Key3(item)
+            | EntryError::Memory(item) => item,
+        }
+    }
+}
+
+impl<T: TriHashItem, S: BuildHasher> EntryRefusal<'_, T, S> {
+    /// Why, with the item.
+    pub fn error(&self) -> &EntryError<T>
+        ensures { result.now ≡ self.now.error }
+    {
+        &self.error
+    }
+
+    /// Why, with the item by value.
+    pub fn into_error(self) -> EntryError<T>
+        ensures error { result ≡ self.entry.error }
+        ensures map { self.exit.0.now ≡ self.entry.map.now }
+    {
+        let EntryRefusal { map: _, error } = self;
+        error
     }
 }
 
@@ -200,5 +248,14 @@ impl<T: TriHashItem + Drop, S: BuildHasher> Drop for MemoryError<'_, T, S> {
     {
         let MemoryError { map: _, new_item } = self;
         drop(new_item);
+    }
+}
+
+impl<T: TriHashItem + Drop, S: BuildHasher> Drop for EntryRefusal<'_, T, S> {
+    fn drop(self)
+        ensures { self.exit.0.now ≡ self.entry.map.now }
+    {
+        let EntryRefusal { map: _, error } = self;
+        drop(error);
     }
 }

@@ -19,7 +19,7 @@ use Rattle.iddqd_bi.specs.declared.entry.Entry.{Entry}
 use Rattle.iddqd_bi.specs.declared.entry.Entry.TheVariants.{Vacant, Occupied}
 use Rattle.iddqd_bi.specs.declared.entry.OccupiedEntry.{OccupiedEntry}
 use Rattle.iddqd_bi.specs.declared.entry.OccupiedEntryMut.{OccupiedEntryMut}
-use Rattle.iddqd_bi.specs.declared.error.EntryError.{EntryError}
+use Rattle.iddqd_bi.specs.declared.error.EntryRefusal.{EntryRefusal}
 use Rattle.iddqd_bi.specs.Callers.{InsertsOrWrites}
 use Rattle.iddqd_bi.proofs.CallerLemmas.Entering.{Entered, all_not, all_unique, occupied_as, short_all, writes_found}
 
@@ -52,7 +52,7 @@ module _ {T S Q K1 K2 H : Type 0} {of : item.Ghosts T K1 K2} {eq1 : equal.Ghosts
 
   -- what `or_insert` leaves where it is granted
   pub entered : (e : Entry T S Q K1 K2 H of eq1 input1 eq2 input2 build hashes q) (m : OccupiedEntryMut T S K1 K2 H) (x : T) (k1 : K1) (k2 : K2) (old : Map T S) →
-      OnVacant e (λ v. PutsIn v x (Ok m)) → OnOccupied e (λ o. KeepsFound {E = EntryError T} of eq1.eq eq2.eq o (Ok m)) → IsFound e →
+      OnVacant e (λ v. PutsIn v x (Ok m)) → OnOccupied e (λ o. KeepsFound {E = EntryRefusal T S K1 K2 H} of eq1.eq eq2.eq o (Ok m)) → IsFound e →
       entry_key1 e ≡ k1 → entry_key2 e ≡ k2 → entry_map e ≡ old →
       Entered (bag old) x (bags.entry (key_tests of eq1.eq eq2.eq k1 k2) (bag old)) (bag m.map.now) (held_entry m)
   entered (Vacant v) m x k1 k2 old put kept found is1 is2 is =

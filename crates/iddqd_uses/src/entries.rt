@@ -107,6 +107,7 @@ where
     T::Data: Drop,
     ensures granted { OnOk result (WritesEntry (ranks T.BiHashItem T.K1.eq T.K2.eq) (λ x. T.put x d) (bag map.old) item
         (entry (key_tests T.BiHashItem T.K1.eq T.K2.eq key1.now key2.now) (bag map.old)) (bag map.new)) }
+    ensures kept { OnErr result (map.new ≡ map.old) }
     ensures handed_back { IfErr result (λ e. error_item e ≡ item) }
 {
     match map.entry(key1, key2).or_insert(item) {
@@ -117,7 +118,7 @@ where
             }
             return Ok(());
         }
-        Err(e) => return Err(e),
+        Err(e) => return Err(e.into_error()),
     }
 }
 

@@ -116,6 +116,7 @@ where
         (λ x. T.put x d) (bag map.old) item
         (entry (key_tests T.TriHashItem T.K1.eq T.K2.eq T.K3.eq key1.now key2.now key3.now) (bag map.old))
         (bag map.new)) }
+    ensures kept { OnErr result (map.new ≡ map.old) }
     ensures handed_back { IfErr result (λ e. error_item e ≡ item) }
 {
     match map.entry(key1, key2, key3).or_insert(item) {
@@ -126,7 +127,7 @@ where
             }
             return Ok(());
         }
-        Err(e) => return Err(e),
+        Err(e) => return Err(e.into_error()),
     }
 }
 

@@ -1,5 +1,5 @@
 //! What can be done with an entry, vacant or occupied.
-ghost use Rattle.std.specs.Prelude.{◌≡◌, IfOk};
+ghost use Rattle.std.specs.Prelude.{◌≡◌, IfOk, IfErr};
 ghost use Rattle.std.specs.Fn.{CalledAt};
 ghost use Rattle.iddqd_store.specs.Bag.{listing};
 ghost use Rattle.iddqd_store.specs.Bag.Storing.{Stores};
@@ -8,7 +8,7 @@ ghost use Rattle.iddqd_bi.specs.Entries.{IsFound, IsSameEntry, KeepsFound, OnOcc
 ghost use Rattle.iddqd_bi.specs.Keys.{ranks};
 
 use super::{Entry, Keys, OccupiedEntryMut};
-use crate::error::EntryError;
+use crate::error::EntryRefusal;
 use crate::item::{BiHashItem, BiHashItemMut};
 use std::hash::{BuildHasher, Hash};
 
@@ -16,16 +16,17 @@ impl<'a, T: BiHashItem, S: BuildHasher, Q: Keys<T::K1, T::K2>> Entry<'a, T, S, Q
     /// Puts an item in where no item has one of the keys, as `VacantEntry::insert` does, and answers it. Where some
     /// has, the new item is dropped and nothing changes, and the answer holds those that are there.
     ///
-    /// At a refusal a caller knows less of the map than after `VacantEntry::insert_mut`.
-    pub fn or_insert(self, item: T) -> Result<OccupiedEntryMut<'a, T, S>, EntryError<T>>
+    /// It is refused as `VacantEntry::insert` is, and the refusal holds the map, which is as it was.
+    pub fn or_insert(self, item: T) -> Result<OccupiedEntryMut<'a, T, S>, EntryRefusal<'a, T, S>>
     where
         T: Drop,
         ensures same_map { IfOk result (λ m. m.map.ghost_name ≡ entry_lender self.entry) }
+        ensures same_map_at_err { IfErr result (λ e. e.map.ghost_name ≡ entry_lender self.entry) }
         ensures put { OnVacant self.entry (λ v. PutsIn v item result) }
         ensures kept { OnOccupied self.entry (λ o. KeepsFound T.BiHashItem T.K1.eq T.K2.eq o result) }
     {
         match self {
-            Entry::Vacant(v) => v.insert_mut(item),
+            Entry::Vacant(v) => v.put_in(item),
             Entry::Occupied(o) => Ok(o.into_mut()),
         }
     }
@@ -34,16 +35,17 @@ impl<'a, T: BiHashItem, S: BuildHasher, Q: Keys<T::K1, T::K2>> Entry<'a, T, S, Q
     pub fn or_insert_with<F: FnOnce() -> T>(
         self,
         f: F,
-    ) -> Result<OccupiedEntryMut<'a, T, S>, EntryError<T>>
+    ) -> Result<OccupiedEntryMut<'a, T, S>, EntryRefusal<'a, T, S>>
     where
         F: Drop,
         requires { OnVacant self (λ v. F.pre f) }
         ensures same_map { IfOk result (λ m. m.map.ghost_name ≡ entry_lender self.entry) }
+        ensures same_map_at_err { IfErr result (λ e. e.map.ghost_name ≡ entry_lender self.entry) }
         ensures put { OnVacant self.entry (λ v. (x : T) × F.post f x × PutsIn v x result) }
         ensures kept { OnOccupied self.entry (λ o. KeepsFound T.BiHashItem T.K1.eq T.K2.eq o result) }
     {
         match self {
-            Entry::Vacant(v) => v.insert_mut(f()),
+            Entry::Vacant(v) => v.put_in(f()),
             Entry::Occupied(o) => Ok(o.into_mut()),
         }
     }

@@ -1,15 +1,15 @@
 //! Putting an item in by keys that no item has.
-ghost use Rattle.std.specs.Prelude.{◌≡◌, [], ◌∷◌, None, Some, IfOk, IfErr, OnOk};
+ghost use Rattle.std.specs.Prelude.{◌≡◌, ◌<◌, [], ◌∷◌, length, None, Some, IsOk, IfOk, IfErr, OnOk};
 ghost use Rattle.std.specs.Borrow.{sem};
 ghost use Rattle.iddqd_store.specs.Bag.{differ, entry, unique};
 ghost use Rattle.iddqd_store.specs.Map.{bag, Gains, IsFullFor};
-ghost use Rattle.iddqd_bi.specs.Entries.{HasFound, Holds, held, held1, held2, held_entry, held_unique, sought, rests_if_err, held_rests_if_err};
+ghost use Rattle.iddqd_bi.specs.Entries.{HasFound, Holds, PutsIn, held, held1, held2, held_entry, held_unique, sought, rests_if_err, held_rests_if_err};
 ghost use Rattle.iddqd_bi.specs.Keys.{key_tests, ranks};
 ghost use Rattle.iddqd_bi.specs.Mismatch.{error_item, error_rank, OnNoMemory};
 ghost use Rattle.iddqd_bi.specs.RefMuts.{ref_lender, ref_map, ref_item};
 
 use super::{KeyPair, Keys, OccupiedEntry, OccupiedEntryMut, VacantEntry};
-use crate::error::{EntryError, differ};
+use crate::error::{EntryError, EntryRefusal, differ};
 use crate::item::BiHashItem;
 use crate::ref_mut::RefMut;
 use std::hash::{BuildHasher, Hash};
@@ -30,6 +30,9 @@ impl<'a, T: BiHashItem, S: BuildHasher, Q: Keys<T::K1, T::K2>> VacantEntry<'a, T
         ensures gains { IfOk result (λ r. Gains self.entry.map.now item (ref_map r)) }
         ensures same_keys { OnOk result (differ (key_tests T.BiHashItem T.K1.eq T.K2.eq
             (Q.first self.entry.keys) (Q.second self.entry.keys)) item ≡ None) }
+        ensures granted { differ (key_tests T.BiHashItem T.K1.eq T.K2.eq
+            (Q.first self.entry.keys) (Q.second self.entry.keys)) item ≡ None
+            → length (bag self.entry.map.now) < self.entry.map.now.capacity → IsOk result }
         ensures handed_back { IfErr result (λ e. error_item e ≡ item) }
         ensures rank { IfErr result (λ e. differ (key_tests T.BiHashItem T.K1.eq T.K2.eq
             (Q.first self.entry.keys) (Q.second self.entry.keys)) item ≡ error_rank e) }
@@ -65,6 +68,9 @@ impl<'a, T: BiHashItem, S: BuildHasher, Q: Keys<T::K1, T::K2>> VacantEntry<'a, T
         ensures by_key2 { IfOk result (λ m. held2 m ≡ Some item) }
         ensures same_keys { OnOk result (differ (key_tests T.BiHashItem T.K1.eq T.K2.eq
             (Q.first self.entry.keys) (Q.second self.entry.keys)) item ≡ None) }
+        ensures granted { differ (key_tests T.BiHashItem T.K1.eq T.K2.eq
+            (Q.first self.entry.keys) (Q.second self.entry.keys)) item ≡ None
+            → length (bag self.entry.map.now) < self.entry.map.now.capacity → IsOk result }
         ensures handed_back { IfErr result (λ e. error_item e ≡ item) }
         ensures rank { IfErr result (λ e. differ (key_tests T.BiHashItem T.K1.eq T.K2.eq
             (Q.first self.entry.keys) (Q.second self.entry.keys)) item ≡ error_rank e) }
@@ -89,12 +95,45 @@ impl<'a, T: BiHashItem, S: BuildHasher, Q: Keys<T::K1, T::K2>> VacantEntry<'a, T
             Err(item) => Err(EntryError::Memory(item)),
         }
     }
+
+    /// The same as `insert_mut`, and the refusal holds the map: what the calls of the whole entry answer.
+    pub(super) fn put_in(
+        self,
+        item: T,
+    ) -> Result<OccupiedEntryMut<'a, T, S>, EntryRefusal<'a, T, S>>
+        ensures same_map { IfOk result (λ m. m.map.ghost_name ≡ self.entry.map.ghost_name) }
+        ensures same_map_at_err { IfErr result (λ e. e.map.ghost_name ≡ self.entry.map.ghost_name) }
+        ensures puts_in { PutsIn self.entry item result }
+    {
+        let VacantEntry {
+            map,
+            keys,
+            at1,
+            at2,
+        } = self;
+        if let Some(rank) = differ(&item, keys.first(), keys.second()) {
+            return Err(EntryRefusal {
+                map,
+                error: EntryError::at(rank, item),
+            });
+        }
+        match map.put_free(item, at1, at2) {
+            Ok(slot) => Ok(OccupiedEntryMut {
+                map,
+                slot1: Some(slot),
+                slot2: Some(slot),
+            }),
+            Err(item) => Err(EntryRefusal {
+                map,
+                error: EntryError::Memory(item),
+            }),
+        }
+    }
 }
 
 impl<'a, T: BiHashItem, S: BuildHasher> VacantEntry<'a, T, S> {
-    /// The same as `insert`, and answers an entry, which is unique. At a refusal a caller knows less of the map than
-    /// after `insert`.
-    pub fn insert_entry(self, item: T) -> Result<OccupiedEntry<'a, T, S>, EntryError<T>>
+    /// The same as `insert`, and answers an entry, which is unique. Its refusal holds the map.
+    pub fn insert_entry(self, item: T) -> Result<OccupiedEntry<'a, T, S>, EntryRefusal<'a, T, S>>
         ensures same_map { IfOk result (λ e. e.map.ghost_name ≡ self.entry.map.ghost_name) }
         ensures gains { IfOk result (λ e. Gains self.entry.map.now item e.map.now) }
         ensures keys { IfOk result (λ e. (e.key1 ≡ self.entry.keys.key1) × (e.key2 ≡ self.entry.keys.key2)) }
@@ -103,10 +142,15 @@ impl<'a, T: BiHashItem, S: BuildHasher> VacantEntry<'a, T, S> {
             entry (sought T.BiHashItem T.K1.eq T.K2.eq e) (bag e.map.now) ≡ unique item) }
         ensures same_keys { OnOk result (differ (key_tests T.BiHashItem T.K1.eq T.K2.eq
             self.entry.keys.key1.now self.entry.keys.key2.now) item ≡ None) }
-        ensures handed_back { IfErr result (λ e. error_item e ≡ item) }
+        ensures granted { differ (key_tests T.BiHashItem T.K1.eq T.K2.eq
+            self.entry.keys.key1.now self.entry.keys.key2.now) item ≡ None
+            → length (bag self.entry.map.now) < self.entry.map.now.capacity → IsOk result }
+        ensures same_map_at_err { IfErr result (λ e. e.map.ghost_name ≡ self.entry.map.ghost_name) }
+        ensures unchanged { IfErr result (λ e. e.map.now ≡ self.entry.map.now) }
+        ensures handed_back { IfErr result (λ e. error_item e.error ≡ item) }
         ensures rank { IfErr result (λ e. differ (key_tests T.BiHashItem T.K1.eq T.K2.eq
-            self.entry.keys.key1.now self.entry.keys.key2.now) item ≡ error_rank e) }
-        ensures memory { IfErr result (λ e. OnNoMemory e
+            self.entry.keys.key1.now self.entry.keys.key2.now) item ≡ error_rank e.error) }
+        ensures memory { IfErr result (λ e. OnNoMemory e.error
             (IsFullFor (ranks T.BiHashItem T.K1.eq T.K2.eq) self.entry.map.now item)) }
     {
         let VacantEntry {
@@ -117,7 +161,10 @@ impl<'a, T: BiHashItem, S: BuildHasher> VacantEntry<'a, T, S> {
         } = self;
         let KeyPair { key1, key2 } = keys;
         if let Some(rank) = differ(&item, key1, key2) {
-            return Err(EntryError::at(rank, item));
+            return Err(EntryRefusal {
+                map,
+                error: EntryError::at(rank, item),
+            });
         }
         match map.put_free(item, at1, at2) {
             Ok(slot) => Ok(OccupiedEntry {
@@ -127,7 +174,10 @@ impl<'a, T: BiHashItem, S: BuildHasher> VacantEntry<'a, T, S> {
                 slot1: Some(slot),
                 slot2: Some(slot),
             }),
-            Err(item) => Err(EntryError::Memory(item)),
+            Err(item) => Err(EntryRefusal {
+                map,
+                error: EntryError::Memory(item),
+            }),
         }
     }
 }

@@ -36,6 +36,7 @@ impl<T: BiHashItem, S: BuildHasher> IterMut<'_, T, S> {
         ensures left { IfSome result (λ ix. self.new.left ≡ self.old.left - 1) }
         ensures live { IfSome result (IsLive self.new.map.now.slots) }
         ensures map { self.new.map ≡ self.old.map }
+        ensures rests { IfNone result (self.new ≡ self.old) }
     {
         match self.map.slot_from(self.next) {
             Some(slot) => {

@@ -1,5 +1,5 @@
 //! Inserts.
-ghost use Rattle.std.specs.Prelude.{◌≡◌, ◌≢◌, [], OnOk, IfErr};
+ghost use Rattle.std.specs.Prelude.{◌≡◌, ◌≢◌, ◌<◌, [], length, IsOk, OnOk, IfErr};
 ghost use Rattle.std.specs.Borrow.{sem};
 ghost use Rattle.iddqd_store.specs.Bag.{clash};
 ghost use Rattle.iddqd_store.specs.Map.{bag, Gains, IsFullFor};
@@ -28,6 +28,8 @@ impl<T: BiHashItem, S: BuildHasher> BiHashMap<T, S> {
             self.entry result (λ new. Gains self.old item new)) }
         ensures same_map { IfErr result (λ e. (refusing_map e).ghost_name ≡ self.entry.ghost_name) }
         ensures free { OnOk result (clash (ranks T.BiHashItem T.K1.eq T.K2.eq) (bag self.old) item ≡ []) }
+        ensures granted { clash (ranks T.BiHashItem T.K1.eq T.K2.eq) (bag self.old) item ≡ []
+            → length (bag self.old) < self.old.capacity → IsOk result }
         ensures handed_back { IfErr result (λ e. refused_item e ≡ item) }
         ensures unchanged { IfErr result (λ e. (refusing_map e).now ≡ self.old) }
         ensures duplicate { IfErr result (λ e. OnDuplicate e

@@ -1,5 +1,5 @@
 //! Overwriting.
-ghost use Rattle.std.specs.Prelude.{◌≡◌, ◌≢◌, ◌<◌, ◌≤◌, [], length, IsPermutation, IfOk, IfErr, OnOk, OnErr};
+ghost use Rattle.std.specs.Prelude.{◌≡◌, ◌≢◌, ◌<◌, ◌≤◌, [], length, IsPermutation, IsOk, IfOk, IfErr, OnOk, OnErr};
 ghost use Rattle.iddqd_store.specs.Bag.{clash, order, over};
 ghost use Rattle.iddqd_store.specs.Map.{bag, IsFullFor};
 ghost use Rattle.iddqd_bi.specs.Keys.{ranks};
@@ -20,6 +20,7 @@ impl<T: BiHashItem, S: BuildHasher> BiHashMap<T, S> {
             gone ≡ order (ranks T.BiHashItem T.K1.eq T.K2.eq) (bag self.old) item) }
         ensures items { OnOk result (IsPermutation (bag self.new)
             (over (ranks T.BiHashItem T.K1.eq T.K2.eq) (bag self.old) item)) }
+        ensures granted { length (bag self.old) < self.old.capacity → IsOk result }
         ensures fits { length (bag self.new) ≤ self.new.capacity }
         ensures no_less_room { self.old.capacity ≤ self.new.capacity }
         ensures same_room { length (bag self.old) < self.old.capacity → self.new.capacity ≡ self.old.capacity }

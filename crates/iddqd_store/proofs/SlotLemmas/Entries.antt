@@ -1,8 +1,9 @@
 -- What the slots that searches found hold is what their tests find in the bag.
-use Rattle.std.specs.Prelude.{◌≡◌, ◌≢◌, ℕ, Bool, true, false, cond, List, [], ◌∷◌, ◌++◌, length, filter, fold, Contains, Option, Some, None, is_some, nat_eq, if◌then◌else◌}
+use Rattle.std.specs.Prelude.{◌≡◌, ◌≢◌, ℕ, Bool, true, false, cond, List, [], ◌∷◌, ◌++◌, length, filter, fold, map, Contains, Option, Some, None, is_some, nat_eq, if◌then◌else◌}
 use Rattle.std.specs.Cmp.{IsEquivalence}
 use Rattle.std.specs.List.{AllByRecursion, IsDistinct, list_all, list_any}
-use Rattle.std.specs.Option.{option_to_list, option_and_then, IfSome}
+use Rattle.std.specs.Borrow.{MutBor}
+use Rattle.std.specs.Option.{option_copied_mut, option_to_list, option_and_then, IfSome}
 use Rattle.std.proofs.Common.{IsSome, inl, inr, refl, sym, ap, subst, ◌∙◌, arith, append-nil, append_assoc}
 use Rattle.std.proofs.lemmas.Bool.{false≢true}
 use Rattle.std.proofs.lemmas.Bool.Decides.{nat_tests}
@@ -147,18 +148,14 @@ module _ {T : Type 0} (slots : List (Option T)) where
   held_none (None ∷ found) none = held_none found none
   held_none (Some ix ∷ found) none = absurd (false≢true (sym none))
 
-  -- the slot that a search found has the one member that passes
-  pub found_item : (test : T → Bool) (at : Option ℕ) → FoundAt test slots at → (x : T) → IsOnly test (live_items slots) (Some x) → option_and_then (get slots) at ≡ Some x
-  found_item test at found x only = one (option_and_then (get slots) at) (found.only ∙ sym only)
+  -- what is lent of the slot that a search found is of the one member that passes
+  pub found_data : {D : Type 0} (part : T → D) (test : T → Bool) (at : Option ℕ) → FoundAt test slots at → (r : Option (MutBor D)) → is_some r ≡ is_some at →
+      ((x : T) → option_and_then (get slots) at ≡ Some x → IfSome r (λ m. m.now ≡ part x)) → option_to_list (option_copied_mut r) ≡ map part (filter test (live_items slots))
+  found_data part test None found None some value = ap (map part) found.only
+  found_data part test None found (Some m) some value = absurd (false≢true (sym some))
+  found_data part test (Some ix) found None some value = absurd (false≢true some)
+  found_data part test (Some ix) found (Some m) some value = by_slot (get slots ix) refl found.only found.live
     where
-      one : (o : Option T) → option_to_list o ≡ x ∷ [] → o ≡ Some x
-      one None is = absurd (omega (arith, ap length is))
-      one (Some y) is = cc is
-
-  pub found_some : (test : T → Bool) (at : Option ℕ) → FoundAt test slots at → is_some at ≡ list_any test (live_items slots)
-  found_some test None found = is_some-only test (live_items slots) None found.only
-  found_some test (Some ix) found = by_slot (get slots ix) refl found.only found.live
-    where
-      by_slot : (o : Option T) → get slots ix ≡ o → option_to_list o ≡ filter test (live_items slots) → IsSome o → true ≡ list_any test (live_items slots)
+      by_slot : (o : Option T) → get slots ix ≡ o → option_to_list o ≡ filter test (live_items slots) → IsSome o → m.now ∷ [] ≡ map part (filter test (live_items slots))
       by_slot None there only some = absurd (cc)
-      by_slot (Some x) there only some = is_some-only test (live_items slots) (Some x) only
+      by_slot (Some x) there only some = ap (λ d. d ∷ []) (value x there) ∙ ap (map part) only

@@ -53,7 +53,8 @@ impl Sought {
 
     /// The hash of the key in this slot, if the search found it.
     pub fn hash_at(&self, ix: ItemIndex) -> Option<u64>
-        ensures { IfSome result (λ hash. (self.now.slot ≡ Some ix) × (hash ≡ self.now.hash)) }
+        ensures known { self.now.slot ≡ Some ix → result ≡ Some self.now.hash }
+        ensures under { IfSome result (λ hash. (self.now.slot ≡ Some ix) × (hash ≡ self.now.hash)) }
     {
         match self.slot {
             Some(at) => { if at == ix { Some(self.hash) } else { None } }

@@ -1,8 +1,8 @@
 //! Reading, writing, overwriting and taking out what three keys found.
-ghost use Rattle.std.specs.Prelude.{◌≡◌, None, Some, not, IfOk, IfErr, IfSome, OnOk, OnErr, IsPermutation, is_some};
+ghost use Rattle.std.specs.Prelude.{◌≡◌, None, Some, not, filter, map, IfOk, IfErr, OnOk, OnErr, IsPermutation};
+ghost use Rattle.std.specs.Option.{option_copied_mut, option_to_list};
 ghost use Rattle.std.specs.Borrow.{sem};
 ghost use Rattle.std.specs.Fn.{CalledAt};
-ghost use Rattle.std.specs.List.{list_any};
 ghost use Rattle.iddqd_store.specs.Bag.{IsOnly, differ, entry, is_unique, listing, over, unique};
 ghost use Rattle.iddqd_store.specs.Bag.Storing.{Stores};
 ghost use Rattle.iddqd_store.specs.Map.{bag, Loses};
@@ -204,9 +204,8 @@ impl<'a, T: TriHashItemMut, S: BuildHasher> OccupiedEntry<'a, T, S> {
         ensures* lends { sem 𝓛 (lends_data1 T.row S.row T.K1.row T.K2.row T.K3.row S.Hasher.row
             T.TriHashItem T.K1.Hash T.K2.Hash T.K3.Hash S.BuildHasher S.Hasher.Hasher
             T.Data.row T.put self.entry result) }
-        ensures some { is_some result ≡ list_any (has1 T.TriHashItem T.K1.eq self.old.key1.now) (bag self.old.map.now) }
-        ensures value { (x : T) → IsOnly (has1 T.TriHashItem T.K1.eq self.old.key1.now) (bag self.old.map.now) (Some x)
-            → IfSome result (λ r. r.now ≡ T.payload x) }
+        ensures value { option_to_list (option_copied_mut result)
+            ≡ map T.payload (filter (has1 T.TriHashItem T.K1.eq self.old.key1.now) (bag self.old.map.now)) }
     {
         let slot1 = self.slot1;
         self.map.data_of(slot1)
@@ -218,9 +217,8 @@ impl<'a, T: TriHashItemMut, S: BuildHasher> OccupiedEntry<'a, T, S> {
         ensures* lends { sem 𝓛 (lends_data2 T.row S.row T.K1.row T.K2.row T.K3.row S.Hasher.row
             T.TriHashItem T.K1.Hash T.K2.Hash T.K3.Hash S.BuildHasher S.Hasher.Hasher
             T.Data.row T.put self.entry result) }
-        ensures some { is_some result ≡ list_any (has2 T.TriHashItem T.K2.eq self.old.key2.now) (bag self.old.map.now) }
-        ensures value { (x : T) → IsOnly (has2 T.TriHashItem T.K2.eq self.old.key2.now) (bag self.old.map.now) (Some x)
-            → IfSome result (λ r. r.now ≡ T.payload x) }
+        ensures value { option_to_list (option_copied_mut result)
+            ≡ map T.payload (filter (has2 T.TriHashItem T.K2.eq self.old.key2.now) (bag self.old.map.now)) }
     {
         let slot2 = self.slot2;
         self.map.data_of(slot2)
@@ -232,9 +230,8 @@ impl<'a, T: TriHashItemMut, S: BuildHasher> OccupiedEntry<'a, T, S> {
         ensures* lends { sem 𝓛 (lends_data3 T.row S.row T.K1.row T.K2.row T.K3.row S.Hasher.row
             T.TriHashItem T.K1.Hash T.K2.Hash T.K3.Hash S.BuildHasher S.Hasher.Hasher
             T.Data.row T.put self.entry result) }
-        ensures some { is_some result ≡ list_any (has3 T.TriHashItem T.K3.eq self.old.key3.now) (bag self.old.map.now) }
-        ensures value { (x : T) → IsOnly (has3 T.TriHashItem T.K3.eq self.old.key3.now) (bag self.old.map.now) (Some x)
-            → IfSome result (λ r. r.now ≡ T.payload x) }
+        ensures value { option_to_list (option_copied_mut result)
+            ≡ map T.payload (filter (has3 T.TriHashItem T.K3.eq self.old.key3.now) (bag self.old.map.now)) }
     {
         let slot3 = self.slot3;
         self.map.data_of(slot3)

@@ -1,15 +1,15 @@
 //! Putting an item in by keys that no item has.
-ghost use Rattle.std.specs.Prelude.{◌≡◌, [], ◌∷◌, None, Some, IfOk, IfErr, OnOk};
+ghost use Rattle.std.specs.Prelude.{◌≡◌, ◌<◌, [], ◌∷◌, length, None, Some, IsOk, IfOk, IfErr, OnOk};
 ghost use Rattle.std.specs.Borrow.{sem};
 ghost use Rattle.iddqd_store.specs.Bag.{differ, entry, unique};
 ghost use Rattle.iddqd_store.specs.Map.{bag, Gains, IsFullFor};
-ghost use Rattle.iddqd_tri.specs.Entries.{HasFound, Holds, held, held1, held2, held3, held_entry, held_unique, sought, rests_if_err, held_rests_if_err};
+ghost use Rattle.iddqd_tri.specs.Entries.{HasFound, Holds, PutsIn, held, held1, held2, held3, held_entry, held_unique, sought, rests_if_err, held_rests_if_err};
 ghost use Rattle.iddqd_tri.specs.Keys.{key_tests, ranks};
 ghost use Rattle.iddqd_tri.specs.Mismatch.{error_item, error_rank, OnNoMemory};
 ghost use Rattle.iddqd_tri.specs.RefMuts.{ref_lender, ref_map, ref_item};
 
 use super::{KeyTriple, Keys, OccupiedEntry, OccupiedEntryMut, VacantEntry};
-use crate::error::{EntryError, differ};
+use crate::error::{EntryError, EntryRefusal, differ};
 use crate::item::TriHashItem;
 use crate::ref_mut::RefMut;
 use std::hash::{BuildHasher, Hash};
@@ -30,6 +30,9 @@ impl<'a, T: TriHashItem, S: BuildHasher, Q: Keys<T::K1, T::K2, T::K3>> VacantEnt
         ensures gains { IfOk result (λ r. Gains self.entry.map.now item (ref_map r)) }
         ensures same_keys { OnOk result (differ (key_tests T.TriHashItem T.K1.eq T.K2.eq T.K3.eq
             (Q.first self.entry.keys) (Q.second self.entry.keys) (Q.third self.entry.keys)) item ≡ None) }
+        ensures granted { differ (key_tests T.TriHashItem T.K1.eq T.K2.eq T.K3.eq
+            (Q.first self.entry.keys) (Q.second self.entry.keys) (Q.third self.entry.keys)) item ≡ None
+            → length (bag self.entry.map.now) < self.entry.map.now.capacity → IsOk result }
         ensures handed_back { IfErr result (λ e. error_item e ≡ item) }
         ensures rank { IfErr result (λ e. differ (key_tests T.TriHashItem T.K1.eq T.K2.eq T.K3.eq
             (Q.first self.entry.keys) (Q.second self.entry.keys) (Q.third self.entry.keys)) item ≡ error_rank e) }
@@ -67,6 +70,9 @@ impl<'a, T: TriHashItem, S: BuildHasher, Q: Keys<T::K1, T::K2, T::K3>> VacantEnt
         ensures by_key3 { IfOk result (λ m. held3 m ≡ Some item) }
         ensures same_keys { OnOk result (differ (key_tests T.TriHashItem T.K1.eq T.K2.eq T.K3.eq
             (Q.first self.entry.keys) (Q.second self.entry.keys) (Q.third self.entry.keys)) item ≡ None) }
+        ensures granted { differ (key_tests T.TriHashItem T.K1.eq T.K2.eq T.K3.eq
+            (Q.first self.entry.keys) (Q.second self.entry.keys) (Q.third self.entry.keys)) item ≡ None
+            → length (bag self.entry.map.now) < self.entry.map.now.capacity → IsOk result }
         ensures handed_back { IfErr result (λ e. error_item e ≡ item) }
         ensures rank { IfErr result (λ e. differ (key_tests T.TriHashItem T.K1.eq T.K2.eq T.K3.eq
             (Q.first self.entry.keys) (Q.second self.entry.keys) (Q.third self.entry.keys)) item ≡ error_rank e) }
@@ -93,12 +99,47 @@ impl<'a, T: TriHashItem, S: BuildHasher, Q: Keys<T::K1, T::K2, T::K3>> VacantEnt
             Err(item) => Err(EntryError::Memory(item)),
         }
     }
+
+    /// The same as `insert_mut`, and the refusal holds the map: what the calls of the whole entry answer.
+    pub(super) fn put_in(
+        self,
+        item: T,
+    ) -> Result<OccupiedEntryMut<'a, T, S>, EntryRefusal<'a, T, S>>
+        ensures same_map { IfOk result (λ m. m.map.ghost_name ≡ self.entry.map.ghost_name) }
+        ensures same_map_at_err { IfErr result (λ e. e.map.ghost_name ≡ self.entry.map.ghost_name) }
+        ensures puts_in { PutsIn self.entry item result }
+    {
+        let VacantEntry {
+            map,
+            keys,
+            at1,
+            at2,
+            at3,
+        } = self;
+        if let Some(rank) = differ(&item, keys.first(), keys.second(), keys.third()) {
+            return Err(EntryRefusal {
+                map,
+                error: EntryError::at(rank, item),
+            });
+        }
+        match map.put_free(item, at1, at2, at3) {
+            Ok(slot) => Ok(OccupiedEntryMut {
+                map,
+                slot1: Some(slot),
+                slot2: Some(slot),
+                slot3: Some(slot),
+            }),
+            Err(item) => Err(EntryRefusal {
+                map,
+                error: EntryError::Memory(item),
+            }),
+        }
+    }
 }
 
 impl<'a, T: TriHashItem, S: BuildHasher> VacantEntry<'a, T, S> {
-    /// The same as `insert`, and answers an entry, which is unique. At a refusal a caller knows less of the map than
-    /// after `insert`.
-    pub fn insert_entry(self, item: T) -> Result<OccupiedEntry<'a, T, S>, EntryError<T>>
+    /// The same as `insert`, and answers an entry, which is unique. Its refusal holds the map.
+    pub fn insert_entry(self, item: T) -> Result<OccupiedEntry<'a, T, S>, EntryRefusal<'a, T, S>>
         ensures same_map { IfOk result (λ e. e.map.ghost_name ≡ self.entry.map.ghost_name) }
         ensures gains { IfOk result (λ e. Gains self.entry.map.now item e.map.now) }
         ensures keys { IfOk result (λ e. (e.key1 ≡ self.entry.keys.key1) × (e.key2 ≡ self.entry.keys.key2)
@@ -108,10 +149,15 @@ impl<'a, T: TriHashItem, S: BuildHasher> VacantEntry<'a, T, S> {
             entry (sought T.TriHashItem T.K1.eq T.K2.eq T.K3.eq e) (bag e.map.now) ≡ unique item) }
         ensures same_keys { OnOk result (differ (key_tests T.TriHashItem T.K1.eq T.K2.eq T.K3.eq
             self.entry.keys.key1.now self.entry.keys.key2.now self.entry.keys.key3.now) item ≡ None) }
-        ensures handed_back { IfErr result (λ e. error_item e ≡ item) }
+        ensures granted { differ (key_tests T.TriHashItem T.K1.eq T.K2.eq T.K3.eq
+            self.entry.keys.key1.now self.entry.keys.key2.now self.entry.keys.key3.now) item ≡ None
+            → length (bag self.entry.map.now) < self.entry.map.now.capacity → IsOk result }
+        ensures same_map_at_err { IfErr result (λ e. e.map.ghost_name ≡ self.entry.map.ghost_name) }
+        ensures unchanged { IfErr result (λ e. e.map.now ≡ self.entry.map.now) }
+        ensures handed_back { IfErr result (λ e. error_item e.error ≡ item) }
         ensures rank { IfErr result (λ e. differ (key_tests T.TriHashItem T.K1.eq T.K2.eq T.K3.eq
-            self.entry.keys.key1.now self.entry.keys.key2.now self.entry.keys.key3.now) item ≡ error_rank e) }
-        ensures memory { IfErr result (λ e. OnNoMemory e
+            self.entry.keys.key1.now self.entry.keys.key2.now self.entry.keys.key3.now) item ≡ error_rank e.error) }
+        ensures memory { IfErr result (λ e. OnNoMemory e.error
             (IsFullFor (ranks T.TriHashItem T.K1.eq T.K2.eq T.K3.eq) self.entry.map.now item)) }
     {
         let VacantEntry {
@@ -123,7 +169,10 @@ impl<'a, T: TriHashItem, S: BuildHasher> VacantEntry<'a, T, S> {
         } = self;
         let KeyTriple { key1, key2, key3 } = keys;
         if let Some(rank) = differ(&item, key1, key2, key3) {
-            return Err(EntryError::at(rank, item));
+            return Err(EntryRefusal {
+                map,
+                error: EntryError::at(rank, item),
+            });
         }
         match map.put_free(item, at1, at2, at3) {
             Ok(slot) => Ok(OccupiedEntry {
@@ -135,7 +184,10 @@ impl<'a, T: TriHashItem, S: BuildHasher> VacantEntry<'a, T, S> {
                 slot2: Some(slot),
                 slot3: Some(slot),
             }),
-            Err(item) => Err(EntryError::Memory(item)),
+            Err(item) => Err(EntryRefusal {
+                map,
+                error: EntryError::Memory(item),
+            }),
         }
     }
 }

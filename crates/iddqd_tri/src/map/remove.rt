@@ -1,4 +1,5 @@
 //! Removals.
+ghost use Rattle.std.specs.Prelude.{◌≡◌, IfNone};
 ghost use Rattle.std.specs.Option.{option_to_list};
 ghost use Rattle.iddqd_store.specs.Bag.{IsOnly};
 ghost use Rattle.iddqd_store.specs.Map.{bag, Loses};
@@ -15,6 +16,7 @@ impl<T: TriHashItem, S: BuildHasher> TriHashMap<T, S> {
     pub fn remove1(&mut self, key: &T::K1) -> Option<T>
         ensures taken { IsOnly (has1 T.TriHashItem T.K1.eq key.now) (bag self.old) result }
         ensures loses { Loses self.old (option_to_list result) self.new }
+        ensures absent { IfNone result (self.new ≡ self.old) }
     {
         let hash = self.hash_builder.hash_one(key);
         let ix = self.by_key1().slot(hash, key)?;
@@ -27,6 +29,7 @@ impl<T: TriHashItem, S: BuildHasher> TriHashMap<T, S> {
     pub fn remove2(&mut self, key: &T::K2) -> Option<T>
         ensures taken { IsOnly (has2 T.TriHashItem T.K2.eq key.now) (bag self.old) result }
         ensures loses { Loses self.old (option_to_list result) self.new }
+        ensures absent { IfNone result (self.new ≡ self.old) }
     {
         let hash = self.hash_builder.hash_one(key);
         let ix = self.by_key2().slot(hash, key)?;
@@ -39,6 +42,7 @@ impl<T: TriHashItem, S: BuildHasher> TriHashMap<T, S> {
     pub fn remove3(&mut self, key: &T::K3) -> Option<T>
         ensures taken { IsOnly (has3 T.TriHashItem T.K3.eq key.now) (bag self.old) result }
         ensures loses { Loses self.old (option_to_list result) self.new }
+        ensures absent { IfNone result (self.new ≡ self.old) }
     {
         let hash = self.hash_builder.hash_one(key);
         let ix = self.by_key3().slot(hash, key)?;
@@ -52,6 +56,7 @@ impl<T: TriHashItem, S: BuildHasher> TriHashMap<T, S> {
         ensures taken { IsOnly (has_all T.TriHashItem T.K1.eq T.K2.eq T.K3.eq key1.now key2.now key3.now)
             (bag self.old) result }
         ensures loses { Loses self.old (option_to_list result) self.new }
+        ensures absent { IfNone result (self.new ≡ self.old) }
     {
         let hash = self.hash_builder.hash_one(key1);
         let ix = self.slot_unique(hash, key1, key2, key3)?;

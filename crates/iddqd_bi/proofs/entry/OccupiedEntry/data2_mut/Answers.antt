@@ -1,5 +1,5 @@
-use Rattle.std.proofs.Common.{rules, ◌∙◌}
-use Rattle.iddqd_store.proofs.SlotLemmas.Entries.{found_item, found_some}
+use Rattle.std.proofs.Common.{rules}
+use Rattle.iddqd_store.proofs.SlotLemmas.Entries.{found_data}
 use Rattle.iddqd_bi.proofs.entry.OccupiedEntry.data2_mut.Goals as goal
 
 pub returns : goal.returns
@@ -7,7 +7,6 @@ returns g c = (
   search rules,
   record {
     lends = tt;
-    some = c.data_of.ensures.some ∙ found_some _ _ _ c.requires.found.1.0;
-    value = λ x is. c.data_of.ensures.value x (found_item _ _ _ c.requires.found.1.0 x is);
+    value = found_data _ g.T.BiHashItemMut.payload _ _ c.requires.found.1.0 c.data_of.result c.data_of.ensures.some c.data_of.ensures.value;
   },
 )

@@ -10,7 +10,7 @@ pub rehash-requires : goal.rehash-requires
 rehash-requires g c =
     let under = rw (← c.self.view_is) at c.requires.under1 in
     record {
-      known = known_of _ _ c.args.ix c.replace-gone.result _ c.replace-gone.ensures.value (known_there _ _ c.args.by1.now c.args.ix _ under c.hash_at.ensures);
+      known = known_of _ _ c.args.ix c.replace-gone.result _ c.replace-gone.ensures.value (known_there _ _ c.args.by1.now c.args.ix _ under c.hash_at.ensures.under);
       paired = pair_in c.args.ix c.replace-gone.result _ c.self.invariant.indexes.0 refl c.replace-gone.ensures.value;
     }
 
@@ -18,7 +18,7 @@ pub rehash-requires-2 : goal.rehash-requires-2
 rehash-requires-2 g c =
     let under = rw (← c.self.view_is) at c.requires.under2 in
     record {
-      known = known_of _ _ c.args.ix c.replace-gone.result _ c.replace-gone.ensures.value (known_there _ _ c.args.by2.now c.args.ix _ under c.hash_at-2.ensures);
+      known = known_of _ _ c.args.ix c.replace-gone.result _ c.replace-gone.ensures.value (known_there _ _ c.args.by2.now c.args.ix _ under c.hash_at-2.ensures.under);
       paired = pair_in c.args.ix c.replace-gone.result _ c.self.invariant.indexes.1.0 refl c.replace-gone.ensures.value;
     }
 
