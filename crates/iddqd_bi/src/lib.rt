@@ -15,7 +15,9 @@ pub use command::{BiCommand, BiReply, BiSink};
 pub use entry::{
     Entry, KeyPair, Keys, OccupiedEntry, OccupiedEntryMut, OccupiedEntryRef, VacantEntry,
 };
-pub use error::{DuplicateError, EntryError, EntryRefusal, FromIterError, InsertError, KeyMismatch, MemoryError};
+pub use error::{
+    DuplicateError, EntryError, EntryRefusal, FromIterError, InsertError, KeyMismatch, MemoryError,
+};
 pub use item::{BiHashItem, BiHashItemMut};
 pub use iter_mut::IterMut;
 pub use map::{BiHashMap, DefaultHashBuilder};

@@ -15,7 +15,9 @@ pub use command::{TriCommand, TriReply, TriSink};
 pub use entry::{
     Entry, KeyTriple, Keys, OccupiedEntry, OccupiedEntryMut, OccupiedEntryRef, VacantEntry,
 };
-pub use error::{DuplicateError, EntryError, EntryRefusal, FromIterError, InsertError, KeyMismatch, MemoryError};
+pub use error::{
+    DuplicateError, EntryError, EntryRefusal, FromIterError, InsertError, KeyMismatch, MemoryError,
+};
 pub use item::{TriHashItem, TriHashItemMut};
 pub use iter_mut::IterMut;
 pub use map::{DefaultHashBuilder, TriHashMap};

@@ -3,7 +3,7 @@ ghost use Rattle.std.specs.Prelude.{◌≡◌, ◌<◌, [], ◌∷◌, length, N
 ghost use Rattle.std.specs.Borrow.{sem};
 ghost use Rattle.iddqd_store.specs.Bag.{differ, entry, unique};
 ghost use Rattle.iddqd_store.specs.Map.{bag, Gains, IsFullFor};
-ghost use Rattle.iddqd_tri.specs.Entries.{HasFound, Holds, PutsIn, held, held1, held2, held3, held_entry, held_unique, sought, rests_if_err, held_rests_if_err};
+ghost use Rattle.iddqd_tri.specs.Entries.{HasFound, Holds, held, held1, held2, held3, held_entry, held_unique, sought, rests_if_err, held_rests_if_err};
 ghost use Rattle.iddqd_tri.specs.Keys.{key_tests, ranks};
 ghost use Rattle.iddqd_tri.specs.Mismatch.{error_item, error_rank, OnNoMemory};
 ghost use Rattle.iddqd_tri.specs.RefMuts.{ref_lender, ref_map, ref_item};
@@ -97,42 +97,6 @@ impl<'a, T: TriHashItem, S: BuildHasher, Q: Keys<T::K1, T::K2, T::K3>> VacantEnt
                 slot3: Some(slot),
             }),
             Err(item) => Err(EntryError::Memory(item)),
-        }
-    }
-
-    /// The same as `insert_mut`, and the refusal holds the map: what the calls of the whole entry answer.
-    pub(super) fn put_in(
-        self,
-        item: T,
-    ) -> Result<OccupiedEntryMut<'a, T, S>, EntryRefusal<'a, T, S>>
-        ensures same_map { IfOk result (λ m. m.map.ghost_name ≡ self.entry.map.ghost_name) }
-        ensures same_map_at_err { IfErr result (λ e. e.map.ghost_name ≡ self.entry.map.ghost_name) }
-        ensures puts_in { PutsIn self.entry item result }
-    {
-        let VacantEntry {
-            map,
-            keys,
-            at1,
-            at2,
-            at3,
-        } = self;
-        if let Some(rank) = differ(&item, keys.first(), keys.second(), keys.third()) {
-            return Err(EntryRefusal {
-                map,
-                error: EntryError::at(rank, item),
-            });
-        }
-        match map.put_free(item, at1, at2, at3) {
-            Ok(slot) => Ok(OccupiedEntryMut {
-                map,
-                slot1: Some(slot),
-                slot2: Some(slot),
-                slot3: Some(slot),
-            }),
-            Err(item) => Err(EntryRefusal {
-                map,
-                error: EntryError::Memory(item),
-            }),
         }
     }
 }
