@@ -1,7 +1,7 @@
 //! The steps of a walk for writing.
-ghost use Rattle.std.specs.Prelude.{◌≡◌, ◌+◌, ◌-◌, [], slice_get, IfSome, IfNone, Some};
+ghost use Rattle.std.specs.Prelude.{◌≡◌, ◌+◌, ◌-◌, [], slice_get, IfSome, IfNone};
 ghost use Rattle.std.specs.Borrow.{sem};
-ghost use Rattle.std.specs.Option.{option_and_then};
+ghost use Rattle.std.specs.Option.{option_and_then, option_copied_mut, option_map};
 ghost use Rattle.iddqd_store.specs.Map.Walk.{Passes};
 ghost use Rattle.iddqd_store.specs.Slots.{get, IsLive};
 ghost use Rattle.iddqd_bi.specs.IterMuts.{lends_next, stepped, IsNextOf, IsCounted, rest_of};
@@ -55,7 +55,7 @@ impl<T: BiHashItemMut, S: BuildHasher> IterMut<'_, T, S> {
         ensures* lends { sem 𝓛 (lends_next T.row S.row T.K1.row T.K2.row S.Hasher.row
             T.BiHashItem T.K1.Hash T.K2.Hash S.BuildHasher S.Hasher.Hasher T.Data.row T.put self.entry result) }
         ensures next { IfSome result (λ r. IsNextOf self.old) }
-        ensures value { (x : T) → slice_get (rest_of self.old) 0 ≡ Some x → IfSome result (λ r. r.now ≡ T.payload x) }
+        ensures value { option_copied_mut result ≡ option_map T.payload (slice_get (rest_of self.old) 0) }
         ensures end { IfNone result (rest_of self.old ≡ []) }
         ensures counted { (f : T → T) → IsCounted self.old → IfSome result (λ r. IsCounted (stepped self.old f)) }
     {

@@ -3,23 +3,27 @@ use Rattle.std.specs.Prelude.{◌≡◌, ◌≢◌, ℕ, Bool, true, false, cond
 use Rattle.std.specs.Cmp.{IsEquivalence}
 use Rattle.std.specs.List.{AllByRecursion, IsDistinct, list_all, list_any}
 use Rattle.std.specs.Borrow.{MutBor}
-use Rattle.std.specs.Option.{option_copied_mut, option_to_list, option_and_then, IfSome}
+use Rattle.std.specs.Option.{option_copied_mut, option_map, option_to_list, option_and_then, IfSome}
 use Rattle.std.proofs.Common.{IsSome, inl, inr, refl, sym, ap, subst, ◌∙◌, arith, append-nil, append_assoc}
 use Rattle.std.proofs.lemmas.Bool.{false≢true}
 use Rattle.std.proofs.lemmas.Bool.Decides.{nat_tests}
-use Rattle.iddqd_store.specs.Bag.{IsOnly, listing, all_of, every_of, entry, entry_of, is_unique}
+use Rattle.iddqd_store.specs.Bag.{listing, all_of, every_of, entry, entry_of, is_unique}
 use Rattle.iddqd_store.specs.Slots.{get, IsLive, live_items}
 use Rattle.iddqd_store.specs.Slots.Found.{items_at, lists, with_found, each_once, is_at, found_by_all, head_of, FoundAt, AreFound, held_at, entry_at}
 use Rattle.iddqd_store.proofs.BagLemmas.Entries.{all_of-next}
 use Rattle.iddqd_store.proofs.BagLemmas.Exchanges.{split}
 use Rattle.iddqd_store.proofs.BagLemmas.Over.{IsDistinct-with_found}
 use Rattle.iddqd_store.proofs.BagLemmas.Sound.{each_passes, Contains-filter, IsDistinct-nil}
-use Rattle.iddqd_store.proofs.BagLemmas.Unique.{is_some-only}
 use Rattle.iddqd_store.proofs.RankLemmas.Index.{Contains-cons_cases, item_at, same_slot}
 use Rattle.iddqd_store.proofs.SlotLemmas.Found.{listing_found}
 
 itself : (a : ℕ) → nat_eq a a ≡ true
 itself a = grind (arith, nat_tests)
+
+-- what is a part of the item in a slot is the part of what is there
+pub part_there : {T D : Type 0} (part : T → D) (d : D) (o : Option T) → IsSome o → ((x : T) → o ≡ Some x → d ≡ part x) → Some d ≡ option_map part o
+part_there part d None some is = absurd (cc)
+part_there part d (Some x) some is = ap (λ y. Some y) (is x refl)
 
 -- each slot is found once
 pub IsDistinct-each_once : (found : List (Option ℕ)) → IsDistinct nat_eq (each_once found)

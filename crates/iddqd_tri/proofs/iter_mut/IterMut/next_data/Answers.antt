@@ -1,5 +1,7 @@
 use Rattle.std.proofs.Common.{List, ap, sym, ◌∙◌}
 use Rattle.std.specs.Prelude.{slice_get}
+use Rattle.std.specs.Option.{option_map}
+use Rattle.iddqd_store.proofs.SlotLemmas.Entries.{part_there}
 use Rattle.iddqd_tri.proofs.Iterating.{steps_to, counted_on}
 use Rattle.iddqd_tri.specs.IterMuts.{IsNextOf}
 use Rattle.iddqd_tri.proofs.iter_mut.IterMut.next_data.Goals as goal
@@ -20,7 +22,7 @@ returns-in-Some g c =
       record {
         lends = tt;
         next = next;
-        value = λ x is. c.data_mut_at.ensures.value x (c.in-Some.ensures.next.1 ∙ sym (ap (λ (l : List g.row.T.Denot). slice_get l 0) pass.comes) ∙ is);
+        value = part_there g.T.TriHashItemMut.payload _ _ c.in-Some.ensures.live c.data_mut_at.ensures.value ∙ ap (option_map g.T.TriHashItemMut.payload) (c.in-Some.ensures.next.1 ∙ sym (ap (λ (l : List g.row.T.Denot). slice_get l 0) pass.comes));
         end = tt;
         counted = λ f is. counted_on c.args.self.now f is next;
       },
