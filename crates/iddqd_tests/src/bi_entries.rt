@@ -3,7 +3,7 @@ ghost use Rattle.iddqd_bi.specs.Entries.{HasFound, Holds};
 
 use crate::alike::Alike;
 use crate::row::{Row, row_of};
-use crate::worked::{Answer, ONE, TWO, by_first, mismatch, refusal, reset, row};
+use crate::worked::{Answer, ONE, TWO, by_first, mismatch, pair, refusal, reset, row};
 use iddqd_bi::{
     BiHashItem, BiHashMap, Entry, KeyMismatch, OccupiedEntry, OccupiedEntryMut, OccupiedEntryRef,
 };
@@ -20,10 +20,6 @@ fn seen(found: OccupiedEntryRef<'_, Row>) -> Seen {
         found.by_key2().copied(),
         found.as_unique().copied(),
     ]
-}
-
-fn pair(items: UpToTwo<Row>) -> [Option<Row>; 2] {
-    [items.get(0).copied(), items.get(1).copied()]
 }
 
 /// Inserts an item where two keys found some. They find some afterwards, in or refused.
@@ -47,8 +43,9 @@ fn answer_of(inserted: Result<UpToTwo<Row>, KeyMismatch<Row>>) -> Answer {
     }
 }
 
-/// What two keys find, what becomes of two items that are inserted there one after the other, and what is found then.
-type Inserted = (Seen, [Answer; 2], Seen);
+/// What two keys find, what becomes of two items that are inserted there one after the other, and what is found then:
+/// whether one item has both keys and whether none has, and the items.
+type Inserted = (Seen, [Answer; 2], [bool; 2], Seen);
 
 fn insert_both<S: BuildHasher>(
     map: &mut BiHashMap<Row, S>,
@@ -61,7 +58,8 @@ fn insert_both<S: BuildHasher>(
             let before = seen(found.get());
             let first = answer_of(insert_at(&mut found, items[0]));
             let second = answer_of(insert_at(&mut found, items[1]));
-            Some((before, [first, second], seen(found.into_ref())))
+            let says = [found.is_unique(), found.is_non_unique()];
+            Some((before, [first, second], says, seen(found.into_ref())))
         }
     }
 }
@@ -97,30 +95,42 @@ const OVERWRITES: [((u64, u64), [Row; 2], Inserted, [Option<Row>; 2]); 3] = [
     (
         (1, 20),
         [LOW, NEW],
-        (APART, [Answer::Key2(LOW), Answer::In(BOTH)], [Some(NEW); 3]),
+        (
+            APART,
+            [Answer::Key2(LOW), Answer::In(BOTH)],
+            [true, false],
+            [Some(NEW); 3],
+        ),
         [Some(NEW), None],
     ),
     (
         (1, 20),
         [LOW, HIGH],
-        (APART, [Answer::Key2(LOW), Answer::Key1(HIGH)], APART),
+        (
+            APART,
+            [Answer::Key2(LOW), Answer::Key1(HIGH)],
+            [false, true],
+            APART,
+        ),
         BOTH,
     ),
     (
         (1, 99),
         [BESIDE; 2],
-        (HALF, [Answer::Key2(BESIDE); 2], HALF),
+        (HALF, [Answer::Key2(BESIDE); 2], [false, true], HALF),
         BOTH,
     ),
 ];
 
 fn occupied<S: BuildHasher>(map: &mut BiHashMap<Row, S>) -> bool {
+    let mut is_right = reset(map);
+    let capacity = map.capacity();
     for (keys, items, wanted, left) in OVERWRITES {
-        if !reset(map) || insert_both(map, keys, items) != Some(wanted) || by_first(map) != left {
-            return false;
-        }
+        is_right = is_right && reset(map) && insert_both(map, keys, items) == Some(wanted);
+        is_right = is_right && by_first(map) == left && map.capacity() == capacity;
     }
-    reset(map)
+    is_right
+        && reset(map)
         && take_out(map, 1, 99) == Some([Some(ONE), None])
         && map.len() == 1
         && map.get2(&10).is_none()

@@ -24,10 +24,10 @@ fn write2<S: BuildHasher>(map: &mut BiHashMap<Row, S>, key: u64, value: u64) {
     }
 }
 
-/// The item that has both keys, lent for writing.
+/// The item that has both keys, lent for writing and then to be read.
 fn of_both<S: BuildHasher>(map: &mut BiHashMap<Row, S>, key1: u64, key2: u64) -> Option<Row> {
     match map.get_mut_unique(&key1, &key2) {
-        Some(found) => Some(*found),
+        Some(found) => Some(*found.into_ref()),
         None => None,
     }
 }
@@ -38,7 +38,7 @@ fn walk<S: BuildHasher>(map: &mut BiHashMap<Row, S>) -> (bool, [Option<Row>; 2])
     let mut items = map.iter_mut();
     let mut is_right = true;
     let mut lent = [None; 2];
-    for left in [2, 1, 0, 0] {
+    for left in [2, 1, 0, 0, 0] {
         is_right = is_right && items.len() == left && items.count_remaining() == left;
         match items.next_mut() {
             Some(item) => lent = [lent[1], Some(*item)],
@@ -46,6 +46,21 @@ fn walk<S: BuildHasher>(map: &mut BiHashMap<Row, S>) -> (bool, [Option<Row>; 2])
         }
     }
     (is_right, lent)
+}
+
+/// Adds one to each value, in a walk with more steps than there are items. Whether it says at each step how many of two
+/// items are to come.
+fn raise<S: BuildHasher>(map: &mut BiHashMap<Row, S>) -> bool {
+    let mut items = map.iter_mut();
+    let mut is_right = true;
+    for left in [2, 1, 0, 0] {
+        is_right = is_right && items.len() == left;
+        match items.next_data() {
+            Some(value) => *value = value.wrapping_add(1),
+            None => is_right = is_right && left == 0,
+        }
+    }
+    is_right
 }
 
 /// Sets every value to 0, with more steps than there are items. Says how many items are lent.
@@ -76,21 +91,32 @@ fn replaced<S: BuildHasher>(map: &mut BiHashMap<Row, S>) -> bool {
 
 fn written<S: BuildHasher>(map: &mut BiHashMap<Row, S>) -> bool {
     let is_reset = reset(map);
+    let capacity = map.capacity();
     write2(map, 20, 9);
     is_reset
-        && by_first(map) == [Some(ONE), Some(NINE)]
         && of_both(map, 1, 20) == None
         && of_both(map, 2, 20) == Some(NINE)
+        && by_first(map) == [Some(ONE), Some(NINE)]
+        && map.len() == 2
+        && map.capacity() == capacity
 }
 
 fn walked<S: BuildHasher>(map: &mut BiHashMap<Row, S>) -> bool {
     let is_reset = reset(map);
+    let capacity = map.capacity();
     let (is_right, lent) = walk(map);
-    is_reset && is_right && (lent == [Some(ONE), Some(TWO)] || lent == [Some(TWO), Some(ONE)])
+    is_reset
+        && is_right
+        && (lent == [Some(ONE), Some(TWO)] || lent == [Some(TWO), Some(ONE)])
+        && by_first(map) == [Some(ONE), Some(TWO)]
+        && map.len() == 2
+        && map.capacity() == capacity
 }
 
 fn cleared<S: BuildHasher>(map: &mut BiHashMap<Row, S>) -> bool {
     reset(map)
+        && raise(map)
+        && by_first(map) == [Some(row!(1, 10, 101)), Some(row!(2, 20, 201))]
         && clear_values(map) == 2
         && by_first(map) == [Some(row!(1, 10, 0)), Some(row!(2, 20, 0))]
 }

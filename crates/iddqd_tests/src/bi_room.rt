@@ -24,6 +24,14 @@ fn shrunk<S: BuildHasher>(map: &mut BiHashMap<Row, S>) -> Result<[usize; 2], Try
     Ok([shrunk, map.capacity()])
 }
 
+/// Whether a map has the two items that were left in it, and no other.
+fn has_left<S: BuildHasher>(map: &BiHashMap<Row, S>) -> bool {
+    map.len() == 2
+        && map.get1(&37).copied() == Some(row_of(37, 37, 0))
+        && map.get2(&90).copied() == Some(row_of(90, 90, 0))
+        && map.get1(&36).is_none()
+}
+
 /// The capacity of a map that room was reserved in, where at most 62 are counted.
 fn reserved<S: BuildHasher>(map: &mut BiHashMap<Row, S>) -> Result<usize, TryReserveError> {
     map.reserve(50)?;
@@ -42,6 +50,7 @@ fn cleared<S: BuildHasher>(map: &mut BiHashMap<Row, S>) -> Result<usize, TryRese
 fn has_room<S: BuildHasher>(map: &mut BiHashMap<Row, S>) -> bool {
     fill(map);
     shrunk(map).ok() == Some([50, 2])
+        && has_left(map)
         && reserved(map).ok() == Some(62)
         && cleared(map).ok() == Some(0)
 }

@@ -13,6 +13,8 @@ pub use row::{Row, row_of};
 #[cfg(test)]
 mod bi_building;
 #[cfg(test)]
+mod bi_capacity;
+#[cfg(test)]
 mod bi_commands;
 #[cfg(test)]
 mod bi_copies;
@@ -24,6 +26,8 @@ mod bi_entries;
 mod bi_extend_unique;
 #[cfg(test)]
 mod bi_guards;
+#[cfg(test)]
+mod bi_lent;
 #[cfg(test)]
 mod bi_queries;
 #[cfg(test)]

@@ -1,6 +1,7 @@
 //! The map of two rows, and what calls answer on it.
 use crate::row::Row;
 use iddqd_bi::{BiHashMap, EntryError, ExtendUniqueError, ExtendUniqueReason, KeyMismatch};
+use iddqd_store::UpToTwo;
 use std::alloc::Global;
 use std::hash::BuildHasher;
 use std::process::Abort;
@@ -42,6 +43,11 @@ pub fn two<S: BuildHasher + Drop>(
 /// The items with the first keys 1 and 2.
 pub fn by_first<S: BuildHasher>(map: &BiHashMap<Row, S>) -> [Option<Row>; 2] {
     [map.get1(&1).copied(), map.get1(&2).copied()]
+}
+
+/// The items of a short list.
+pub fn pair(items: UpToTwo<Row>) -> [Option<Row>; 2] {
+    [items.get(0).copied(), items.get(1).copied()]
 }
 
 /// What becomes of an item that a call is given.

@@ -12,6 +12,8 @@ mod pointers;
 #[cfg(test)]
 mod tri_building;
 #[cfg(test)]
+mod tri_capacity;
+#[cfg(test)]
 mod tri_commands;
 #[cfg(test)]
 mod tri_copies;
@@ -19,6 +21,8 @@ mod tri_copies;
 mod tri_entries;
 #[cfg(test)]
 mod tri_guards;
+#[cfg(test)]
+mod tri_lent;
 #[cfg(test)]
 mod tri_queries;
 #[cfg(test)]

@@ -121,13 +121,21 @@ fn extend_unique_puts_all_in_or_none(rt: HostRuntime) {
     }
 }
 
+/// Whether a map has the two items that were left in it, and no other.
+fn has_left<S: BuildHasher>(map: &TriHashMap<Row, S>) -> bool {
+    map.len() == 2
+        && map.get1(&37).copied() == Some(row_of(37, 37, 37, 0))
+        && map.get3(&90).copied() == Some(row_of(90, 90, 90, 0))
+        && map.get2(&36).is_none()
+}
+
 /// Leaves two of a hundred items in a map. Says whether it has them and not another.
 fn fill<S: BuildHasher>(map: &mut TriHashMap<Row, S>) -> bool {
     for key in 1..=100 {
         let _ = map.insert_overwrite(row_of(key, key, key, 0));
     }
     map.retain(|row| row.key1 == 37 || row.key3 == 90);
-    map.contains_key1(&37) && map.contains_key3(&90) && !map.contains_key2(&36)
+    has_left(map)
 }
 
 /// The capacities of a map that is shrunk to 50, and to what it needs.
@@ -156,7 +164,7 @@ fn cleared<S: BuildHasher>(map: &mut TriHashMap<Row, S>) -> Result<usize, TryRes
 fn has_room<S: BuildHasher>(map: &mut TriHashMap<Row, S>) -> Result<bool, TryReserveError> {
     let is_filled = fill(map);
     let (shrunk, fitted) = shrunk(map)?;
-    let is_found = map.contains_key1(&37) && map.contains_key3(&90) && !map.contains_key2(&36);
+    let is_found = has_left(map);
     let is_shrunk = (50..=56).contains(&shrunk) && (2..=7).contains(&fitted);
     Ok(is_filled && is_found && is_shrunk && reserved(map)? >= 62 && cleared(map)? == 0)
 }

@@ -42,8 +42,9 @@ fn insert_at<T: TriHashItem, S: BuildHasher>(
     }
 }
 
-/// What three keys find, what becomes of an item that is inserted there, and what is found then.
-type Inserted = (Seen, Answer, Seen);
+/// What three keys find, what becomes of an item that is inserted there, and what is found then: whether one item has all
+/// keys and whether none has, and the items.
+type Inserted = (Seen, Answer, [bool; 2], Seen);
 
 fn answer_of(inserted: Result<UpToThree<Row>, KeyMismatch<Row>>) -> Answer {
     match inserted {
@@ -62,7 +63,8 @@ fn insert_over<S: BuildHasher>(
         Entry::Occupied(mut found) => {
             let before = seen(found.get());
             let answer = answer_of(insert_at(&mut found, item));
-            Some((before, answer, seen(found.into_ref())))
+            let says = [found.is_unique(), found.is_non_unique()];
+            Some((before, answer, says, seen(found.into_ref())))
         }
     }
 }
@@ -95,6 +97,7 @@ const OVERWRITES: [(Asked, Row, Inserted, Listed); 6] = [
         (
             (LAST_FIRST, None),
             Answer::In(LAST_FIRST),
+            [true, false],
             ([Some(NEW); 3], Some(NEW)),
         ),
         [Some(NEW), None, None],
@@ -105,6 +108,7 @@ const OVERWRITES: [(Asked, Row, Inserted, Listed); 6] = [
         (
             ([Some(TWO); 3], Some(TWO)),
             Answer::In([Some(TWO), None, None]),
+            [true, false],
             ([Some(SAME); 3], Some(SAME)),
         ),
         [Some(ONE), Some(SAME), Some(THREE)],
@@ -112,36 +116,42 @@ const OVERWRITES: [(Asked, Row, Inserted, Listed); 6] = [
     (
         (1, 20, 300),
         FIRST,
-        ((EACH, None), Answer::Key(1, FIRST), (EACH, None)),
+        (
+            (EACH, None),
+            Answer::Key(1, FIRST),
+            [false, true],
+            (EACH, None),
+        ),
         EACH,
     ),
     (
         (1, 99, 900),
         SECOND,
-        (HALF, Answer::Key(2, SECOND), HALF),
+        (HALF, Answer::Key(2, SECOND), [false, true], HALF),
         EACH,
     ),
     (
         (1, 10, 900),
         THIRD,
-        (TWICE, Answer::Key(3, THIRD), TWICE),
+        (TWICE, Answer::Key(3, THIRD), [false, true], TWICE),
         EACH,
     ),
     (
         (1, 10, 300),
         THIRD,
-        (TWICE_AND, Answer::Key(3, THIRD), TWICE_AND),
+        (TWICE_AND, Answer::Key(3, THIRD), [false, true], TWICE_AND),
         EACH,
     ),
 ];
 
 fn occupied<S: BuildHasher>(map: &mut TriHashMap<Row, S>) -> bool {
+    let mut is_right = reset(map);
+    let capacity = map.capacity();
     for (asked, item, wanted, left) in OVERWRITES {
-        if !reset(map) || insert_over(map, asked, item) != Some(wanted) || !has_all(map, left) {
-            return false;
-        }
+        is_right = is_right && reset(map) && insert_over(map, asked, item) == Some(wanted);
+        is_right = is_right && has_all(map, left) && map.capacity() == capacity;
     }
-    true
+    is_right
 }
 
 #[test]
@@ -327,7 +337,7 @@ fn modify_each<S: BuildHasher>(map: &mut TriHashMap<Row, S>, (key1, key2, key3):
 /// the map of three has then, from it on.
 const MODIFIED: [(bool, Asked, Listed, Listed); 4] = [
     (
-        true,
+        false,
         (1, 10, 300),
         [None, Some(ONE), Some(THREE)],
         [
@@ -337,7 +347,7 @@ const MODIFIED: [(bool, Asked, Listed, Listed); 4] = [
         ],
     ),
     (
-        false,
+        true,
         (3, 20, 100),
         [
             Some(row!(3, 30, 300, 10)),

@@ -26,11 +26,11 @@ fn write<S: BuildHasher>(map: &mut TriHashMap<Row, S>, (key3, key1): (u64, u64),
     }
 }
 
-/// The item that has all keys, lent for writing.
+/// The item that has all keys, lent for writing and then to be read.
 fn of_all<S: BuildHasher>(map: &mut TriHashMap<Row, S>, key1: u64, key3: u64) -> Option<Row> {
     let key2 = key1.wrapping_mul(10);
     match map.get_mut_unique(&key1, &key2, &key3) {
-        Some(found) => Some(*found),
+        Some(found) => Some(*found.into_ref()),
         None => None,
     }
 }
@@ -41,7 +41,7 @@ fn walk<S: BuildHasher>(map: &mut TriHashMap<Row, S>) -> (bool, u64) {
     let mut items = map.iter_mut();
     let mut is_right = true;
     let mut sum: u64 = 0;
-    for left in [3, 2, 1, 0, 0] {
+    for left in [3, 2, 1, 0, 0, 0] {
         is_right = is_right && items.len() == left && items.count_remaining() == left;
         match items.next_mut() {
             Some(item) => sum = sum.wrapping_add(item.value),
@@ -49,6 +49,21 @@ fn walk<S: BuildHasher>(map: &mut TriHashMap<Row, S>) -> (bool, u64) {
         }
     }
     (is_right, sum)
+}
+
+/// Adds one to each value, in a walk with more steps than there are items. Whether it says at each step how many of three
+/// items are to come.
+fn raise_by_data<S: BuildHasher>(map: &mut TriHashMap<Row, S>) -> bool {
+    let mut items = map.iter_mut();
+    let mut is_right = true;
+    for left in [3, 2, 1, 0, 0] {
+        is_right = is_right && items.len() == left;
+        match items.next_data() {
+            Some(value) => *value = value.wrapping_add(1),
+            None => is_right = is_right && left == 0,
+        }
+    }
+    is_right
 }
 
 /// Adds to every value, with more steps than there are items. Says how many items are lent.
@@ -91,7 +106,14 @@ fn replaced<S: BuildHasher>(map: &mut TriHashMap<Row, S>) -> bool {
     has_all(map, [Some(ONE), Some(NEW), Some(THREE)])
 }
 
-/// The items once the values of two are 2, and all values are raised by 10.
+/// The items once the values of two are 2.
+const WRITTEN: Listed = [
+    Some(row!(1, 10, 100, 2)),
+    Some(NEW),
+    Some(row!(3, 30, 300, 2)),
+];
+
+/// The same once all values are raised by 1, and then by 9.
 const RAISED: Listed = [
     Some(row!(1, 10, 100, 12)),
     Some(row!(2, 20, 200, 14)),
@@ -100,10 +122,15 @@ const RAISED: Listed = [
 
 fn written<S: BuildHasher>(map: &mut TriHashMap<Row, S>) -> bool {
     write(map, (300, 1), 2);
+    let capacity = map.capacity();
     of_all(map, 1, 300) == None
         && of_all(map, 2, 200) == Some(NEW)
+        && map.capacity() == capacity
         && walk(map) == (true, 8)
-        && raise(map, 10) == 3
+        && map.capacity() == capacity
+        && has_all(map, WRITTEN)
+        && raise_by_data(map)
+        && raise(map, 9) == 3
         && has_all(map, RAISED)
 }
 
