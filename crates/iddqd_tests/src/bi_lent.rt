@@ -4,25 +4,28 @@ ghost use Rattle.iddqd_bi.specs.Entries.{HasFound, Holds};
 use crate::alike::Alike;
 use crate::row::{Row, row_of};
 use crate::worked::{ONE, TWO, by_first, reset, row};
-use iddqd_bi::{BiHashItem, BiHashMap, Entry, OccupiedEntry, OccupiedEntryMut, RefMut};
+use iddqd_bi::{BiHashItem, BiHashMap, Entry, OccupiedEntry, OccupiedEntryMut};
 use std::hash::{BuildHasher, Hash};
 use std::test::*;
 
 /// What an entry lends for writing: by the first key, by the second, and by both.
 type Lent = [Option<Row>; 3];
 
-fn item_of<S: BuildHasher>(found: Option<RefMut<'_, Row, S>>) -> Option<Row> {
-    match found {
-        Some(item) => Some(*item),
-        None => None,
-    }
+/// The item that is lent for writing, if there is one.
+macro_rules! item_of {
+    ($found:expr) => {
+        match $found {
+            Some(item) => Some(*item),
+            None => None,
+        }
+    };
 }
 
 fn lent<S: BuildHasher>(found: &mut OccupiedEntryMut<'_, Row, S>) -> Lent {
     [
-        item_of(found.by_key1()),
-        item_of(found.by_key2()),
-        item_of(found.as_unique()),
+        item_of!(found.by_key1()),
+        item_of!(found.by_key2()),
+        item_of!(found.as_unique()),
     ]
 }
 
@@ -72,9 +75,9 @@ fn find_by<S: BuildHasher>(
         Entry::Occupied(found) => {
             let held = found.into_mut();
             match rank {
-                0 => item_of(held.into_by_key1()),
-                1 => item_of(held.into_by_key2()),
-                _ => item_of(held.into_unique()),
+                0 => item_of!(held.into_by_key1()),
+                1 => item_of!(held.into_by_key2()),
+                _ => item_of!(held.into_unique()),
             }
         }
     }

@@ -4,7 +4,7 @@ ghost use Rattle.iddqd_tri.specs.Entries.{HasFound, Holds};
 use crate::row::{Row, row_of};
 use crate::worked::{Listed, ONE, THREE, TWO, has_all, reset, row};
 use iddqd_tests::Alike;
-use iddqd_tri::{Entry, OccupiedEntry, OccupiedEntryMut, RefMut, TriHashItem, TriHashMap};
+use iddqd_tri::{Entry, OccupiedEntry, OccupiedEntryMut, TriHashItem, TriHashMap};
 use std::hash::{BuildHasher, Hash};
 use std::test::*;
 
@@ -14,20 +14,23 @@ type Asked = (u64, u64, u64);
 /// What an entry lends for writing: by each key, and by all.
 type Lent = (Listed, Option<Row>);
 
-fn item_of<S: BuildHasher>(found: Option<RefMut<'_, Row, S>>) -> Option<Row> {
-    match found {
-        Some(item) => Some(*item),
-        None => None,
-    }
+/// The item that is lent for writing, if there is one.
+macro_rules! item_of {
+    ($found:expr) => {
+        match $found {
+            Some(item) => Some(*item),
+            None => None,
+        }
+    };
 }
 
 fn lent<S: BuildHasher>(found: &mut OccupiedEntryMut<'_, Row, S>) -> Lent {
     let each = [
-        item_of(found.by_key1()),
-        item_of(found.by_key2()),
-        item_of(found.by_key3()),
+        item_of!(found.by_key1()),
+        item_of!(found.by_key2()),
+        item_of!(found.by_key3()),
     ];
-    (each, item_of(found.as_unique()))
+    (each, item_of!(found.as_unique()))
 }
 
 /// Whether one item has all keys, and whether none has, as the entry says and what it gives to read.
@@ -76,10 +79,10 @@ fn find_by<S: BuildHasher>(
         Entry::Occupied(found) => {
             let held = found.into_mut();
             match rank {
-                0 => item_of(held.into_by_key1()),
-                1 => item_of(held.into_by_key2()),
-                2 => item_of(held.into_by_key3()),
-                _ => item_of(held.into_unique()),
+                0 => item_of!(held.into_by_key1()),
+                1 => item_of!(held.into_by_key2()),
+                2 => item_of!(held.into_by_key3()),
+                _ => item_of!(held.into_unique()),
             }
         }
     }
