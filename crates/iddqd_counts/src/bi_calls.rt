@@ -3,7 +3,7 @@
 //! again in between. What only hands a call on stands apart from the calls, since each brings its contract.
 use crate::counting::Counts;
 use crate::pair::{Numbers, Pair, pair_of};
-use iddqd_bi::BiHashMap;
+use iddqd_bi::{BiHashMap, InsertError};
 use std::alloc::{AllocError, Global};
 use std::hash::BuildHasher;
 use std::process::Abort;
@@ -92,6 +92,8 @@ fn removes<S: BuildHasher>(map: &mut BiHashMap<Pair, S>, by: By, keys: &Pair) ->
 #[derive(Clone, Copy)]
 pub(crate) enum Insert {
     Unique,
+    /// `insert_unique`, which so many items are in the way of.
+    Refused(usize),
     /// `insert_overwrite`, which so many items have to give way to.
     Overwrite(usize),
 }
@@ -106,8 +108,17 @@ pub(crate) fn puts_in<S: BuildHasher>(
     let item = pair_of(counts, numbers)?;
     Ok(match insert {
         Insert::Unique => map.insert_unique(item).is_ok(),
+        Insert::Refused(many) => conflicts(map, item) == Some(many),
         Insert::Overwrite(many) => displaces(map, item) == Some(many),
     })
+}
+
+/// How many items are in the way of this one, if some are.
+fn conflicts<S: BuildHasher>(map: &mut BiHashMap<Pair, S>, item: Pair) -> Option<usize> {
+    match map.insert_unique(item) {
+        Err(InsertError::Duplicate(refused)) => Some(refused.duplicates().len()),
+        _ => None,
+    }
 }
 
 /// How many items give way to this one, if there is memory.
@@ -130,7 +141,7 @@ pub(crate) enum Extend {
 }
 
 /// Two items that conflict with none, and one that has this first key.
-fn three_items(counts: &Rc<Counts>, last: u64) -> Result<[Pair; 3], AllocError> {
+pub(crate) fn three_items(counts: &Rc<Counts>, last: u64) -> Result<[Pair; 3], AllocError> {
     Ok([
         pair_of(counts, (65, 75))?,
         pair_of(counts, (66, 76))?,

@@ -6,23 +6,25 @@ use std::alloc::AllocError;
 use std::hash::BuildHasher;
 use std::rc::Rc;
 
-/// What is done with an entry.
+/// What is done with an entry. Where an item is put in, whether that is granted.
 #[derive(Clone, Copy)]
 pub(crate) enum Enter {
-    /// It is made, and is vacant. The counts don't start again.
-    Vacant,
+    /// It is made, and is occupied or not. The counts don't start again.
+    Made(bool),
     /// `insert` where it is vacant.
-    Insert,
+    Insert(bool),
+    /// `insert_mut` where it is vacant.
+    InsertMut(bool),
     /// `insert_entry` where it is vacant.
-    InsertEntry,
-    OrInsert,
+    InsertEntry(bool),
+    OrInsert(bool),
+    OrInsertWith(bool),
     /// `insert` where it is occupied.
-    Over,
-    /// `insert` where it is occupied, of an item that has not its keys.
-    OverRefused,
+    Over(bool),
     /// `remove` of two items.
     Remove,
-    AndModify,
+    /// `and_modify` of an entry that is occupied or not.
+    AndModify(bool),
     ForEach,
 }
 
@@ -37,36 +39,51 @@ pub(crate) fn enters<S: BuildHasher>(
     let keys = pair_of(counts, asked)?;
     let item = pair_of(counts, given)?;
     Ok(match enter {
-        Enter::Vacant => is_vacant(map, &keys),
-        Enter::Insert => inserts(map, counts, &keys, item),
-        Enter::InsertEntry => inserts_entry(map, counts, &keys, item),
-        Enter::OrInsert => inserts_or_finds(map, counts, &keys, item),
-        Enter::Over => overwrites(map, counts, &keys, item) == Some(true),
-        Enter::OverRefused => overwrites(map, counts, &keys, item) == Some(false),
+        Enter::Made(occupied) => is_occupied(map, &keys) == occupied,
+        Enter::Insert(granted) => inserts(map, counts, &keys, item) == Some(granted),
+        Enter::InsertMut(granted) => inserts_mut(map, counts, &keys, item) == Some(granted),
+        Enter::InsertEntry(granted) => inserts_entry(map, counts, &keys, item) == Some(granted),
+        Enter::OrInsert(granted) => inserts_or_finds(map, counts, &keys, item) == granted,
+        Enter::OrInsertWith(granted) => makes_or_finds(map, counts, &keys, item) == granted,
+        Enter::Over(granted) => overwrites(map, counts, &keys, item) == Some(granted),
         Enter::Remove => removed(map, counts, &keys) == 2,
-        Enter::AndModify => modifies(map, counts, &keys),
+        Enter::AndModify(occupied) => modifies(map, counts, &keys) == occupied,
         Enter::ForEach => writes_each(map, counts, &keys),
     })
 }
 
-fn is_vacant<S: BuildHasher>(map: &mut BiHashMap<Pair, S>, keys: &Pair) -> bool {
+fn is_occupied<S: BuildHasher>(map: &mut BiHashMap<Pair, S>, keys: &Pair) -> bool {
     match map.entry(&keys.key1, &keys.key2) {
-        Entry::Vacant(_) => true,
-        Entry::Occupied(_) => false,
+        Entry::Vacant(_) => false,
+        Entry::Occupied(_) => true,
     }
 }
 
+/// Whether `insert` of a vacant entry takes the item, if the entry is vacant.
 fn inserts<S: BuildHasher>(
     map: &mut BiHashMap<Pair, S>,
     counts: &Rc<Counts>,
     keys: &Pair,
     item: Pair,
-) -> bool {
+) -> Option<bool> {
     let Entry::Vacant(entry) = map.entry(&keys.key1, &keys.key2) else {
-        return false;
+        return None;
     };
     counts.reset();
-    entry.insert(item).is_ok()
+    Some(entry.insert(item).is_ok())
+}
+
+fn inserts_mut<S: BuildHasher>(
+    map: &mut BiHashMap<Pair, S>,
+    counts: &Rc<Counts>,
+    keys: &Pair,
+    item: Pair,
+) -> Option<bool> {
+    let Entry::Vacant(entry) = map.entry(&keys.key1, &keys.key2) else {
+        return None;
+    };
+    counts.reset();
+    Some(entry.insert_mut(item).is_ok())
 }
 
 fn inserts_entry<S: BuildHasher>(
@@ -74,12 +91,12 @@ fn inserts_entry<S: BuildHasher>(
     counts: &Rc<Counts>,
     keys: &Pair,
     item: Pair,
-) -> bool {
+) -> Option<bool> {
     let Entry::Vacant(entry) = map.entry(&keys.key1, &keys.key2) else {
-        return false;
+        return None;
     };
     counts.reset();
-    entry.insert_entry(item).is_ok()
+    Some(entry.insert_entry(item).is_ok())
 }
 
 fn inserts_or_finds<S: BuildHasher>(
@@ -91,6 +108,17 @@ fn inserts_or_finds<S: BuildHasher>(
     let entry = map.entry(&keys.key1, &keys.key2);
     counts.reset();
     entry.or_insert(item).is_ok()
+}
+
+fn makes_or_finds<S: BuildHasher>(
+    map: &mut BiHashMap<Pair, S>,
+    counts: &Rc<Counts>,
+    keys: &Pair,
+    item: Pair,
+) -> bool {
+    let entry = map.entry(&keys.key1, &keys.key2);
+    counts.reset();
+    entry.or_insert_with(|| item).is_ok()
 }
 
 /// Whether `insert` of an occupied entry takes the item, if the entry is occupied.
@@ -149,10 +177,11 @@ fn writes_each<S: BuildHasher>(
 /// What is done with an item lent for writing.
 #[derive(Clone, Copy)]
 pub(crate) enum Write {
+    /// It is read, lent by the guard and by `into_ref`.
+    Read,
     DataMut,
-    Replace,
-    /// `replace`, refused.
-    ReplaceRefused,
+    /// `replace`, granted or not.
+    Replace(bool),
 }
 
 /// Whether the first item is written, or replaced by one of keys of these numbers.
@@ -165,10 +194,19 @@ pub(crate) fn writes<S: BuildHasher>(
     let first = pair_of(counts, (1, 11))?;
     let item = pair_of(counts, given)?;
     Ok(match write {
+        Write::Read => reads(map, counts, &first),
         Write::DataMut => writes_data(map, counts, &first),
-        Write::Replace => replaces(map, counts, &first, item) == Some(true),
-        Write::ReplaceRefused => replaces(map, counts, &first, item) == Some(false),
+        Write::Replace(granted) => replaces(map, counts, &first, item) == Some(granted),
     })
+}
+
+fn reads<S: BuildHasher>(map: &mut BiHashMap<Pair, S>, counts: &Rc<Counts>, keys: &Pair) -> bool {
+    let Some(found) = map.get1_mut(&keys.key1) else {
+        return false;
+    };
+    counts.reset();
+    let value = found.value;
+    found.into_ref().value == value
 }
 
 fn writes_data<S: BuildHasher>(

@@ -1,25 +1,36 @@
 //! Rows: how many keys each call of the two-key map compares and hashes, on a map of five items.
 use crate::bi_calls::{By, Extend, Insert, Search};
 use crate::bi_lending::{Enter, Write};
+use crate::bi_occupied::Use;
 use crate::bi_wholes::{Lent, Room, Walk, Whole};
 use crate::counting::Bounds;
 use crate::pair::Numbers;
 
 /// The keys of the first item.
-const FIRST: Numbers = (1, 11);
+pub(crate) const FIRST: Numbers = (1, 11);
 
 /// Keys of two items.
-const APART: Numbers = (1, 12);
+pub(crate) const APART: Numbers = (1, 12);
+
+/// The first key of the first item, beside keys that no item has.
+const KEY1: Numbers = (1, 75);
 
 /// The keys of the third item.
 pub(crate) const THIRD: Numbers = (3, 13);
+
+/// The keys of the third item, but for the first, which no item has.
+const NOT_KEY1: Numbers = (65, 13);
+
+/// The keys of the third item, but for the last, which no item has.
+const NOT_KEY2: Numbers = (3, 75);
 
 /// Keys that no item has. By their own hashes they have the homes of the keys of the first item.
 pub(crate) const NEW: Numbers = (65, 75);
 
 /// What a search is called; the search; and where it finds an item, how many keys it compares at least and at most, and
-/// how many it hashes. By keys that no item has it hashes one, and compares the five of the rank that it searches where
-/// all are hashed alike, and none where each has its own hash.
+/// how many it hashes. Where each key has its own hash it compares the least: one, and for all keys one a rank. By keys
+/// that no item has it hashes one, and compares the five of the rank that it searches where all are hashed alike, and
+/// none where each has its own hash.
 pub(crate) const SEARCHES: [(&str, Search, Bounds, u64); 12] = [
     ("get1", Search::Get(By::Key1), (1, 5), 1),
     ("get2", Search::Get(By::Key2), (1, 5), 1),
@@ -40,26 +51,98 @@ pub(crate) const SEARCHES: [(&str, Search, Bounds, u64); 12] = [
 pub(crate) enum Call {
     /// A search by the keys of the third item.
     Find(Search),
-    /// A search by keys that no item has.
-    Miss(Search),
+    /// A search by keys that no item has all of.
+    Miss(Search, Numbers),
     /// An item of these keys.
     Insert(Insert, Numbers),
     /// A list whose last item has this first key.
     Extend(Extend, u64),
     /// The entry of the first keys, and an item of the second.
     Enter(Enter, Numbers, Numbers),
+    /// The entry of these keys.
+    Use(Use, Numbers),
     /// The first item, and one of these keys.
     Write(Write, Numbers),
 }
 
 /// What a call is called; the call; how many keys it compares at least and at most where all are hashed alike, and how
 /// many where each has its own hash; and how many it hashes.
-pub(crate) const CALLS: [(&str, Call, Bounds, u64, u64); 24] = [
+pub(crate) const CALLS: [(&str, Call, Bounds, u64, u64); 25] = [
+    (
+        "get_unique, another key1",
+        Call::Miss(Search::Get(By::All), NOT_KEY1),
+        (5, 5),
+        0,
+        1,
+    ),
+    (
+        "get_unique, another key2",
+        Call::Miss(Search::Get(By::All), NOT_KEY2),
+        (2, 6),
+        2,
+        1,
+    ),
+    (
+        "contains_key_unique, another key1",
+        Call::Miss(Search::Contains(By::All), NOT_KEY1),
+        (5, 5),
+        0,
+        1,
+    ),
+    (
+        "contains_key_unique, another key2",
+        Call::Miss(Search::Contains(By::All), NOT_KEY2),
+        (2, 6),
+        2,
+        1,
+    ),
+    (
+        "get_mut_unique, another key1",
+        Call::Miss(Search::GetMut(By::All), NOT_KEY1),
+        (5, 5),
+        0,
+        1,
+    ),
+    (
+        "get_mut_unique, another key2",
+        Call::Miss(Search::GetMut(By::All), NOT_KEY2),
+        (2, 6),
+        2,
+        1,
+    ),
+    (
+        "remove_unique, another key1",
+        Call::Miss(Search::Remove(By::All), NOT_KEY1),
+        (5, 5),
+        0,
+        1,
+    ),
+    (
+        "remove_unique, another key2",
+        Call::Miss(Search::Remove(By::All), NOT_KEY2),
+        (2, 6),
+        2,
+        1,
+    ),
     (
         "insert_unique",
         Call::Insert(Insert::Unique, NEW),
         (10, 10),
         0,
+        2,
+    ),
+    (
+        "insert_unique, two items in the way",
+        Call::Insert(Insert::Refused(2), APART),
+        (2, 10),
+        2,
+        2,
+    ),
+    (
+        "insert_unique, one key in the way",
+        Call::Insert(Insert::Refused(1), KEY1),
+        (6, 10),
+        1,
         2,
     ),
     (
@@ -84,11 +167,32 @@ pub(crate) const CALLS: [(&str, Call, Bounds, u64, u64); 24] = [
         2,
     ),
     (
+        "insert_overwrite of one item by a key",
+        Call::Insert(Insert::Overwrite(1), KEY1),
+        (6, 10),
+        1,
+        3,
+    ),
+    (
         "extend",
         Call::Extend(Extend::Overwriting, 67),
         (36, 36),
         0,
         6,
+    ),
+    (
+        "extend, a key of the map",
+        Call::Extend(Extend::Overwriting, 3),
+        (30, 36),
+        1,
+        7,
+    ),
+    (
+        "extend, a key of the list",
+        Call::Extend(Extend::Overwriting, 65),
+        (30, 36),
+        1,
+        7,
     ),
     (
         "extend_unique",
@@ -112,153 +216,62 @@ pub(crate) const CALLS: [(&str, Call, Bounds, u64, u64); 24] = [
         10,
     ),
     (
-        "entry",
-        Call::Enter(Enter::Vacant, NEW, NEW),
+        "entry, vacant",
+        Call::Enter(Enter::Made(false), NEW, NEW),
         (10, 10),
         0,
         2,
     ),
     (
-        "insert of a vacant entry",
-        Call::Enter(Enter::Insert, NEW, NEW),
-        (2, 2),
-        2,
-        0,
-    ),
-    (
-        "insert_entry",
-        Call::Enter(Enter::InsertEntry, NEW, NEW),
-        (2, 2),
-        2,
-        0,
-    ),
-    (
-        "or_insert, vacant",
-        Call::Enter(Enter::OrInsert, NEW, NEW),
-        (2, 2),
-        2,
-        0,
-    ),
-    (
-        "or_insert, occupied",
-        Call::Enter(Enter::OrInsert, APART, NEW),
-        (0, 0),
-        0,
-        0,
-    ),
-    (
-        "insert in the place of one item",
-        Call::Enter(Enter::Over, FIRST, FIRST),
-        (2, 2),
+        "entry of one item",
+        Call::Enter(Enter::Made(true), FIRST, NEW),
+        (2, 10),
         2,
         2,
     ),
     (
-        "insert in the place of two items",
-        Call::Enter(Enter::Over, APART, APART),
-        (2, 2),
+        "entry of two items",
+        Call::Enter(Enter::Made(true), APART, NEW),
+        (2, 10),
         2,
-        4,
+        2,
     ),
     (
-        "insert of another key1 at an entry",
-        Call::Enter(Enter::OverRefused, APART, (2, 12)),
-        (1, 1),
+        "entry of one item by a key",
+        Call::Enter(Enter::Made(true), KEY1, NEW),
+        (6, 10),
         1,
-        0,
-    ),
-    (
-        "insert of another key2 at an entry",
-        Call::Enter(Enter::OverRefused, APART, (1, 11)),
-        (2, 2),
         2,
-        0,
-    ),
-    (
-        "remove of an entry",
-        Call::Enter(Enter::Remove, APART, NEW),
-        (0, 0),
-        0,
-        4,
-    ),
-    (
-        "and_modify",
-        Call::Enter(Enter::AndModify, APART, NEW),
-        (0, 0),
-        0,
-        0,
-    ),
-    (
-        "for_each",
-        Call::Enter(Enter::ForEach, APART, NEW),
-        (0, 0),
-        0,
-        0,
-    ),
-    ("data_mut", Call::Write(Write::DataMut, FIRST), (0, 0), 0, 0),
-    ("replace", Call::Write(Write::Replace, FIRST), (2, 2), 2, 0),
-    (
-        "replace by another key1",
-        Call::Write(Write::ReplaceRefused, (2, 11)),
-        (1, 1),
-        1,
-        0,
-    ),
-    (
-        "replace by another key2",
-        Call::Write(Write::ReplaceRefused, (1, 12)),
-        (2, 2),
-        2,
-        0,
     ),
 ];
 
-/// What a call on the map as a whole is called; the call; how many keys it compares at least and at most; and how many
-/// it hashes. Tables hold hashes, so growing and copying hash nothing. Shrinking fills new tables, by each key's hash.
-pub(crate) const WHOLES: [(&str, Whole, Bounds, u64); 15] = [
-    ("len", Whole::Lent(Lent::Len), (0, 0), 0),
-    ("capacity", Whole::Lent(Lent::Capacity), (0, 0), 0),
-    ("iter", Whole::Lent(Lent::Walk(Walk::Iter)), (0, 0), 0),
-    (
-        "iter_mut",
-        Whole::Lent(Lent::Walk(Walk::IterMut)),
-        (0, 0),
-        0,
-    ),
-    (
-        "next_from",
-        Whole::Lent(Lent::Walk(Walk::NextFrom)),
-        (0, 0),
-        0,
-    ),
-    ("into_iter", Whole::IntoIter, (0, 0), 0),
-    ("reserve", Whole::Lent(Lent::Room(Room::Reserve)), (0, 0), 0),
+/// What a call on the map as a whole is called; the call; how many keys it compares at most; and how many it
+/// hashes. Tables hold hashes, so growing and copying hash nothing. Shrinking fills new tables, by each key's hash.
+pub(crate) const WHOLES: [(&str, Whole, u64, u64); 16] = [
+    ("len", Whole::Lent(Lent::Len), 0, 0),
+    ("capacity", Whole::Lent(Lent::Capacity), 0, 0),
+    ("iter", Whole::Lent(Lent::Walk(Walk::Iter)), 0, 0),
+    ("next_mut", Whole::Lent(Lent::Walk(Walk::NextMut)), 0, 0),
+    ("next_data", Whole::Lent(Lent::Walk(Walk::NextData)), 0, 0),
+    ("next_from", Whole::Lent(Lent::Walk(Walk::NextFrom)), 0, 0),
+    ("into_iter", Whole::IntoIter, 0, 0),
+    ("reserve", Whole::Lent(Lent::Room(Room::Reserve)), 0, 0),
     (
         "try_reserve",
         Whole::Lent(Lent::Room(Room::TryReserve)),
-        (0, 0),
+        0,
         0,
     ),
-    (
-        "shrink_to",
-        Whole::Lent(Lent::Room(Room::ShrinkTo)),
-        (0, 0),
-        10,
-    ),
+    ("shrink_to", Whole::Lent(Lent::Room(Room::ShrinkTo)), 0, 10),
     (
         "shrink_to_fit",
         Whole::Lent(Lent::Room(Room::ShrinkToFit)),
-        (0, 0),
+        0,
         10,
     ),
-    ("retain of all", Whole::Lent(Lent::Retain(true)), (0, 0), 0),
-    (
-        "retain of none",
-        Whole::Lent(Lent::Retain(false)),
-        (0, 0),
-        10,
-    ),
-    ("clear", Whole::Lent(Lent::Clear), (0, 0), 0),
-    ("clone", Whole::Lent(Lent::Clone), (0, 0), 0),
-    ("==", Whole::Lent(Lent::Equal), (0, 50), 5),
+    ("retain of all", Whole::Lent(Lent::Retain(true)), 0, 0),
+    ("retain of none", Whole::Lent(Lent::Retain(false)), 0, 10),
+    ("clear", Whole::Lent(Lent::Clear), 0, 0),
+    ("clone", Whole::Lent(Lent::Clone), 0, 0),
+    ("==", Whole::Lent(Lent::Equal), 50, 5),
 ];

@@ -3,15 +3,23 @@
 #![tactic(auto)]
 
 #[cfg(test)]
+mod bi_builds;
+#[cfg(test)]
 mod bi_calls;
 #[cfg(test)]
 mod bi_checks;
 #[cfg(test)]
 mod bi_lending;
 #[cfg(test)]
+mod bi_lent_rows;
+#[cfg(test)]
+mod bi_occupied;
+#[cfg(test)]
 mod bi_rows;
 #[cfg(test)]
 mod bi_wholes;
+#[cfg(test)]
+mod builders;
 #[cfg(test)]
 mod counting;
 #[cfg(test)]
@@ -19,11 +27,17 @@ mod pair;
 #[cfg(test)]
 mod places;
 #[cfg(test)]
+mod tri_builds;
+#[cfg(test)]
 mod tri_calls;
 #[cfg(test)]
 mod tri_checks;
 #[cfg(test)]
 mod tri_lending;
+#[cfg(test)]
+mod tri_lent_rows;
+#[cfg(test)]
+mod tri_occupied;
 #[cfg(test)]
 mod tri_rows;
 #[cfg(test)]

@@ -3,7 +3,7 @@
 //! again in between. What only hands a call on stands apart from the calls, since each brings its contract.
 use crate::counting::Counts;
 use crate::triple::{Numbers, Triple, triple_of};
-use iddqd_tri::TriHashMap;
+use iddqd_tri::{InsertError, TriHashMap};
 use std::alloc::{AllocError, Global};
 use std::hash::BuildHasher;
 use std::process::Abort;
@@ -107,6 +107,8 @@ fn removes<S: BuildHasher>(map: &mut TriHashMap<Triple, S>, by: By, keys: &Tripl
 #[derive(Clone, Copy)]
 pub(crate) enum Insert {
     Unique,
+    /// `insert_unique`, which so many items are in the way of.
+    Refused(usize),
     /// `insert_overwrite`, which so many items have to give way to.
     Overwrite(usize),
 }
@@ -121,8 +123,17 @@ pub(crate) fn puts_in<S: BuildHasher>(
     let item = triple_of(counts, numbers)?;
     Ok(match insert {
         Insert::Unique => map.insert_unique(item).is_ok(),
+        Insert::Refused(many) => conflicts(map, item) == Some(many),
         Insert::Overwrite(many) => displaces(map, item) == Some(many),
     })
+}
+
+/// How many items are in the way of this one, if some are.
+fn conflicts<S: BuildHasher>(map: &mut TriHashMap<Triple, S>, item: Triple) -> Option<usize> {
+    match map.insert_unique(item) {
+        Err(InsertError::Duplicate(refused)) => Some(refused.duplicates().len()),
+        _ => None,
+    }
 }
 
 /// How many items give way to this one, if there is memory.
@@ -145,7 +156,7 @@ pub(crate) enum Extend {
 }
 
 /// Two items that conflict with none, and one that has this first key.
-fn three_items(counts: &Rc<Counts>, last: u64) -> Result<[Triple; 3], AllocError> {
+pub(crate) fn three_items(counts: &Rc<Counts>, last: u64) -> Result<[Triple; 3], AllocError> {
     Ok([
         triple_of(counts, (65, 75, 85))?,
         triple_of(counts, (66, 76, 86))?,

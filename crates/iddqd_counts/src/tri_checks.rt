@@ -1,7 +1,11 @@
 //! Whether the calls of the three-key map compare and hash as many keys as their rows say.
-use crate::counting::{Counts, Made, check};
+use crate::builders::{ByItself, ByZero};
+use crate::counting::{Bounds, Counts, Made, check};
+use crate::tri_builds::{BUILDS, built};
 use crate::tri_calls::{Extend, extends, finds, five, puts_in};
 use crate::tri_lending::{enters, writes};
+use crate::tri_lent_rows::LENT;
+use crate::tri_occupied::uses;
 use crate::tri_rows::{CALLS, Call, NEW, SEARCHES, THIRD, WHOLES};
 use crate::tri_wholes::{Whole, does};
 use crate::triple::Triple;
@@ -21,10 +25,11 @@ fn answers<S: BuildHasher>(
 ) -> Result<bool, AllocError> {
     match call {
         Call::Find(search) => finds(map, counts, search, THIRD),
-        Call::Miss(search) => Ok(!finds(map, counts, search, NEW)?),
+        Call::Miss(search, numbers) => Ok(!finds(map, counts, search, numbers)?),
         Call::Insert(insert, numbers) => puts_in(map, counts, insert, numbers),
         Call::Extend(extend, last) => extends(map, counts, extend, last),
         Call::Enter(enter, asked, given) => enters(map, counts, enter, asked, given),
+        Call::Use(asked, numbers) => uses(map, counts, asked, numbers),
         Call::Write(write, given) => writes(map, counts, write, given),
     }
 }
@@ -69,15 +74,21 @@ fn counted_whole(
     Ok((is_so, counts.read()))
 }
 
-/// The searches, each by the keys of an item.
+/// The bounds where each key has its own hash, and else these.
+fn bounds_of(is_own: bool, alike: Bounds, own: u64) -> Bounds {
+    if is_own { (own, own) } else { alike }
+}
+
+/// The searches, each by the keys of an item, under a builder that gives each key its own hash, or all the same.
 fn check_found<S: BuildHasher + Copy>(
     rt: &impl Abort,
     alloc: Global,
     hash_builder: S,
+    is_own: bool,
 ) -> Result<(), AllocError> {
-    for (name, search, bounds, hashes) in &SEARCHES {
+    for (name, search, alike, hashes) in &SEARCHES {
         let made = counted(rt, alloc, hash_builder, Call::Find(*search))?;
-        check(rt, name, made, *bounds, *hashes);
+        check(rt, name, made, bounds_of(is_own, *alike, alike.0), *hashes);
     }
     Ok(())
 }
@@ -90,25 +101,34 @@ fn check_absent<S: BuildHasher + Copy>(
     compared: u64,
 ) -> Result<(), AllocError> {
     for (name, search, _, _) in &SEARCHES {
-        let made = counted(rt, alloc, hash_builder, Call::Miss(*search))?;
+        let made = counted(rt, alloc, hash_builder, Call::Miss(*search, NEW))?;
         check(rt, name, made, (compared, compared), 1);
     }
     Ok(())
 }
 
-/// The calls, under a builder that gives all keys this hash.
-fn check_alike(rt: &impl Abort, alloc: Global, hash: u64) -> Result<(), AllocError> {
-    for (name, call, bounds, _, hashes) in &CALLS {
-        let made = counted(rt, alloc, Alike { hash }, *call)?;
-        check(rt, name, made, *bounds, *hashes);
+/// The calls.
+fn check_calls<S: BuildHasher + Copy>(
+    rt: &impl Abort,
+    alloc: Global,
+    hash_builder: S,
+    is_own: bool,
+) -> Result<(), AllocError> {
+    for (name, call, alike, own, hashes) in &CALLS {
+        let made = counted(rt, alloc, hash_builder, *call)?;
+        check(rt, name, made, bounds_of(is_own, *alike, *own), *hashes);
     }
     Ok(())
 }
 
-/// The calls, under a builder that hashes each key to itself.
-fn check_own(rt: &impl Abort, alloc: Global) -> Result<(), AllocError> {
-    for (name, call, _, compared, hashes) in &CALLS {
-        let made = counted(rt, alloc, OwnHash, *call)?;
+/// The calls of entries and guards.
+fn check_lent<S: BuildHasher + Copy>(
+    rt: &impl Abort,
+    alloc: Global,
+    hash_builder: S,
+) -> Result<(), AllocError> {
+    for (name, call, compared, hashes) in &LENT {
+        let made = counted(rt, alloc, hash_builder, *call)?;
         check(rt, name, made, (*compared, *compared), *hashes);
     }
     Ok(())
@@ -116,9 +136,30 @@ fn check_own(rt: &impl Abort, alloc: Global) -> Result<(), AllocError> {
 
 /// The calls on the map as a whole, under a builder that gives all keys this hash.
 fn check_wholes(rt: &impl Abort, alloc: Global, hash: u64) -> Result<(), AllocError> {
-    for (name, whole, bounds, hashes) in &WHOLES {
+    for (name, whole, most, hashes) in &WHOLES {
         let made = counted_whole(rt, alloc, hash, *whole)?;
-        check(rt, name, made, *bounds, *hashes);
+        check(rt, name, made, (0, *most), *hashes);
+    }
+    Ok(())
+}
+
+/// What builds a map of many items.
+fn check_builds<S: BuildHasher + Default + Drop>(
+    rt: &impl Abort,
+    alloc: Global,
+    is_own: bool,
+) -> Result<(), AllocError> {
+    for row in &BUILDS {
+        let counts = Rc::new(alloc, Counts::new())?;
+        let len = built::<S>(alloc, &counts, row.build, row.last)?;
+        let made = (len == row.len, counts.read());
+        check(
+            rt,
+            row.name,
+            made,
+            bounds_of(is_own, row.alike, row.own),
+            row.hashed,
+        );
     }
     Ok(())
 }
@@ -141,19 +182,23 @@ fn check_refused(rt: &impl Abort, alloc: Global, hash: u64) -> Result<(), AllocE
 #[test]
 fn three_keys_hashed_alike(rt: HostRuntime) -> Result<(), Fail> {
     for hash in [18446744073709551615, 0] {
-        check_found(&rt, rt.alloc(), Alike { hash })?;
+        check_found(&rt, rt.alloc(), Alike { hash }, false)?;
         check_absent(&rt, rt.alloc(), Alike { hash }, 5)?;
-        check_alike(&rt, rt.alloc(), hash)?;
+        check_calls(&rt, rt.alloc(), Alike { hash }, false)?;
+        check_lent(&rt, rt.alloc(), Alike { hash })?;
         check_wholes(&rt, rt.alloc(), hash)?;
         check_refused(&rt, rt.alloc(), hash)?;
     }
+    check_builds::<ByZero>(&rt, rt.alloc(), false)?;
     Ok(())
 }
 
 #[test]
 fn three_keys_hashed_to_themselves(rt: HostRuntime) -> Result<(), Fail> {
-    check_found(&rt, rt.alloc(), OwnHash)?;
+    check_found(&rt, rt.alloc(), OwnHash, true)?;
     check_absent(&rt, rt.alloc(), OwnHash, 0)?;
-    check_own(&rt, rt.alloc())?;
+    check_calls(&rt, rt.alloc(), OwnHash, true)?;
+    check_lent(&rt, rt.alloc(), OwnHash)?;
+    check_builds::<ByItself>(&rt, rt.alloc(), true)?;
     Ok(())
 }

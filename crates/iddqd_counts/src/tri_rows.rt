@@ -2,24 +2,35 @@
 use crate::counting::Bounds;
 use crate::tri_calls::{By, Extend, Insert, Search};
 use crate::tri_lending::{Enter, Write};
+use crate::tri_occupied::Use;
 use crate::tri_wholes::{Lent, Room, Walk, Whole};
 use crate::triple::Numbers;
 
 /// The keys of the first item.
-const FIRST: Numbers = (1, 11, 21);
+pub(crate) const FIRST: Numbers = (1, 11, 21);
 
 /// Keys of three items.
-const APART: Numbers = (1, 12, 23);
+pub(crate) const APART: Numbers = (1, 12, 23);
+
+/// The first key of the first item, beside keys that no item has.
+const KEY1: Numbers = (1, 75, 85);
 
 /// The keys of the third item.
 pub(crate) const THIRD: Numbers = (3, 13, 23);
+
+/// The keys of the third item, but for the first, which no item has.
+const NOT_KEY1: Numbers = (65, 13, 23);
+
+/// The keys of the third item, but for the last, which no item has.
+const NOT_KEY3: Numbers = (3, 13, 85);
 
 /// Keys that no item has. By their own hashes they have the homes of the keys of the first item.
 pub(crate) const NEW: Numbers = (65, 75, 85);
 
 /// What a search is called; the search; and where it finds an item, how many keys it compares at least and at most, and
-/// how many it hashes. By keys that no item has it hashes one, and compares the five of the rank that it searches where
-/// all are hashed alike, and none where each has its own hash.
+/// how many it hashes. Where each key has its own hash it compares the least: one, and for all keys one a rank. By keys
+/// that no item has it hashes one, and compares the five of the rank that it searches where all are hashed alike, and
+/// none where each has its own hash.
 pub(crate) const SEARCHES: [(&str, Search, Bounds, u64); 16] = [
     ("get1", Search::Get(By::Key1), (1, 5), 1),
     ("get2", Search::Get(By::Key2), (1, 5), 1),
@@ -44,26 +55,98 @@ pub(crate) const SEARCHES: [(&str, Search, Bounds, u64); 16] = [
 pub(crate) enum Call {
     /// A search by the keys of the third item.
     Find(Search),
-    /// A search by keys that no item has.
-    Miss(Search),
+    /// A search by keys that no item has all of.
+    Miss(Search, Numbers),
     /// An item of these keys.
     Insert(Insert, Numbers),
     /// A list whose last item has this first key.
     Extend(Extend, u64),
     /// The entry of the first keys, and an item of the second.
     Enter(Enter, Numbers, Numbers),
+    /// The entry of these keys.
+    Use(Use, Numbers),
     /// The first item, and one of these keys.
     Write(Write, Numbers),
 }
 
 /// What a call is called; the call; how many keys it compares at least and at most where all are hashed alike, and how
 /// many where each has its own hash; and how many it hashes.
-pub(crate) const CALLS: [(&str, Call, Bounds, u64, u64); 26] = [
+pub(crate) const CALLS: [(&str, Call, Bounds, u64, u64); 25] = [
+    (
+        "get_unique, another key1",
+        Call::Miss(Search::Get(By::All), NOT_KEY1),
+        (5, 5),
+        0,
+        1,
+    ),
+    (
+        "get_unique, another key3",
+        Call::Miss(Search::Get(By::All), NOT_KEY3),
+        (3, 7),
+        3,
+        1,
+    ),
+    (
+        "contains_key_unique, another key1",
+        Call::Miss(Search::Contains(By::All), NOT_KEY1),
+        (5, 5),
+        0,
+        1,
+    ),
+    (
+        "contains_key_unique, another key3",
+        Call::Miss(Search::Contains(By::All), NOT_KEY3),
+        (3, 7),
+        3,
+        1,
+    ),
+    (
+        "get_mut_unique, another key1",
+        Call::Miss(Search::GetMut(By::All), NOT_KEY1),
+        (5, 5),
+        0,
+        1,
+    ),
+    (
+        "get_mut_unique, another key3",
+        Call::Miss(Search::GetMut(By::All), NOT_KEY3),
+        (3, 7),
+        3,
+        1,
+    ),
+    (
+        "remove_unique, another key1",
+        Call::Miss(Search::Remove(By::All), NOT_KEY1),
+        (5, 5),
+        0,
+        1,
+    ),
+    (
+        "remove_unique, another key3",
+        Call::Miss(Search::Remove(By::All), NOT_KEY3),
+        (3, 7),
+        3,
+        1,
+    ),
     (
         "insert_unique",
         Call::Insert(Insert::Unique, NEW),
         (15, 15),
         0,
+        3,
+    ),
+    (
+        "insert_unique, three items in the way",
+        Call::Insert(Insert::Refused(3), APART),
+        (3, 15),
+        3,
+        3,
+    ),
+    (
+        "insert_unique, one key in the way",
+        Call::Insert(Insert::Refused(1), KEY1),
+        (11, 15),
+        1,
         3,
     ),
     (
@@ -88,11 +171,32 @@ pub(crate) const CALLS: [(&str, Call, Bounds, u64, u64); 26] = [
         3,
     ),
     (
+        "insert_overwrite of one item by a key",
+        Call::Insert(Insert::Overwrite(1), KEY1),
+        (11, 15),
+        1,
+        5,
+    ),
+    (
         "extend",
         Call::Extend(Extend::Overwriting, 67),
         (54, 54),
         0,
         9,
+    ),
+    (
+        "extend, a key of the map",
+        Call::Extend(Extend::Overwriting, 3),
+        (48, 54),
+        1,
+        11,
+    ),
+    (
+        "extend, a key of the list",
+        Call::Extend(Extend::Overwriting, 65),
+        (48, 54),
+        1,
+        11,
     ),
     (
         "extend_unique",
@@ -116,167 +220,62 @@ pub(crate) const CALLS: [(&str, Call, Bounds, u64, u64); 26] = [
         15,
     ),
     (
-        "entry",
-        Call::Enter(Enter::Vacant, NEW, NEW),
+        "entry, vacant",
+        Call::Enter(Enter::Made(false), NEW, NEW),
         (15, 15),
         0,
         3,
     ),
     (
-        "insert of a vacant entry",
-        Call::Enter(Enter::Insert, NEW, NEW),
-        (3, 3),
-        3,
-        0,
-    ),
-    (
-        "insert_entry",
-        Call::Enter(Enter::InsertEntry, NEW, NEW),
-        (3, 3),
-        3,
-        0,
-    ),
-    (
-        "or_insert, vacant",
-        Call::Enter(Enter::OrInsert, NEW, NEW),
-        (3, 3),
-        3,
-        0,
-    ),
-    (
-        "or_insert, occupied",
-        Call::Enter(Enter::OrInsert, APART, NEW),
-        (0, 0),
-        0,
-        0,
-    ),
-    (
-        "insert in the place of one item",
-        Call::Enter(Enter::Over, FIRST, FIRST),
-        (3, 3),
+        "entry of one item",
+        Call::Enter(Enter::Made(true), FIRST, NEW),
+        (3, 15),
         3,
         3,
     ),
     (
-        "insert in the place of three items",
-        Call::Enter(Enter::Over, APART, APART),
-        (3, 3),
+        "entry of three items",
+        Call::Enter(Enter::Made(true), APART, NEW),
+        (3, 15),
         3,
-        9,
+        3,
     ),
     (
-        "insert of another key1 at an entry",
-        Call::Enter(Enter::OverRefused, APART, (2, 12, 23)),
-        (1, 1),
+        "entry of one item by a key",
+        Call::Enter(Enter::Made(true), KEY1, NEW),
+        (11, 15),
         1,
-        0,
-    ),
-    (
-        "insert of another key2 at an entry",
-        Call::Enter(Enter::OverRefused, APART, (1, 11, 23)),
-        (2, 2),
-        2,
-        0,
-    ),
-    (
-        "insert of another key3 at an entry",
-        Call::Enter(Enter::OverRefused, APART, (1, 12, 21)),
-        (3, 3),
         3,
-        0,
-    ),
-    (
-        "remove of an entry",
-        Call::Enter(Enter::Remove, APART, NEW),
-        (0, 0),
-        0,
-        9,
-    ),
-    (
-        "and_modify",
-        Call::Enter(Enter::AndModify, APART, NEW),
-        (0, 0),
-        0,
-        0,
-    ),
-    (
-        "for_each",
-        Call::Enter(Enter::ForEach, APART, NEW),
-        (0, 0),
-        0,
-        0,
-    ),
-    ("data_mut", Call::Write(Write::DataMut, FIRST), (0, 0), 0, 0),
-    ("replace", Call::Write(Write::Replace, FIRST), (3, 3), 3, 0),
-    (
-        "replace by another key1",
-        Call::Write(Write::ReplaceRefused, (2, 11, 21)),
-        (1, 1),
-        1,
-        0,
-    ),
-    (
-        "replace by another key2",
-        Call::Write(Write::ReplaceRefused, (1, 12, 21)),
-        (2, 2),
-        2,
-        0,
-    ),
-    (
-        "replace by another key3",
-        Call::Write(Write::ReplaceRefused, (1, 11, 22)),
-        (3, 3),
-        3,
-        0,
     ),
 ];
 
-/// What a call on the map as a whole is called; the call; how many keys it compares at least and at most; and how many
-/// it hashes. Tables hold hashes, so growing and copying hash nothing. Shrinking fills new tables, by each key's hash.
-pub(crate) const WHOLES: [(&str, Whole, Bounds, u64); 15] = [
-    ("len", Whole::Lent(Lent::Len), (0, 0), 0),
-    ("capacity", Whole::Lent(Lent::Capacity), (0, 0), 0),
-    ("iter", Whole::Lent(Lent::Walk(Walk::Iter)), (0, 0), 0),
-    (
-        "iter_mut",
-        Whole::Lent(Lent::Walk(Walk::IterMut)),
-        (0, 0),
-        0,
-    ),
-    (
-        "next_from",
-        Whole::Lent(Lent::Walk(Walk::NextFrom)),
-        (0, 0),
-        0,
-    ),
-    ("into_iter", Whole::IntoIter, (0, 0), 0),
-    ("reserve", Whole::Lent(Lent::Room(Room::Reserve)), (0, 0), 0),
+/// What a call on the map as a whole is called; the call; how many keys it compares at most; and how many it
+/// hashes. Tables hold hashes, so growing and copying hash nothing. Shrinking fills new tables, by each key's hash.
+pub(crate) const WHOLES: [(&str, Whole, u64, u64); 16] = [
+    ("len", Whole::Lent(Lent::Len), 0, 0),
+    ("capacity", Whole::Lent(Lent::Capacity), 0, 0),
+    ("iter", Whole::Lent(Lent::Walk(Walk::Iter)), 0, 0),
+    ("next_mut", Whole::Lent(Lent::Walk(Walk::NextMut)), 0, 0),
+    ("next_data", Whole::Lent(Lent::Walk(Walk::NextData)), 0, 0),
+    ("next_from", Whole::Lent(Lent::Walk(Walk::NextFrom)), 0, 0),
+    ("into_iter", Whole::IntoIter, 0, 0),
+    ("reserve", Whole::Lent(Lent::Room(Room::Reserve)), 0, 0),
     (
         "try_reserve",
         Whole::Lent(Lent::Room(Room::TryReserve)),
-        (0, 0),
+        0,
         0,
     ),
-    (
-        "shrink_to",
-        Whole::Lent(Lent::Room(Room::ShrinkTo)),
-        (0, 0),
-        15,
-    ),
+    ("shrink_to", Whole::Lent(Lent::Room(Room::ShrinkTo)), 0, 15),
     (
         "shrink_to_fit",
         Whole::Lent(Lent::Room(Room::ShrinkToFit)),
-        (0, 0),
+        0,
         15,
     ),
-    ("retain of all", Whole::Lent(Lent::Retain(true)), (0, 0), 0),
-    (
-        "retain of none",
-        Whole::Lent(Lent::Retain(false)),
-        (0, 0),
-        15,
-    ),
-    ("clear", Whole::Lent(Lent::Clear), (0, 0), 0),
-    ("clone", Whole::Lent(Lent::Clone), (0, 0), 0),
-    ("==", Whole::Lent(Lent::Equal), (0, 75), 5),
+    ("retain of all", Whole::Lent(Lent::Retain(true)), 0, 0),
+    ("retain of none", Whole::Lent(Lent::Retain(false)), 0, 15),
+    ("clear", Whole::Lent(Lent::Clear), 0, 0),
+    ("clone", Whole::Lent(Lent::Clone), 0, 0),
+    ("==", Whole::Lent(Lent::Equal), 75, 5),
 ];

@@ -32,7 +32,9 @@ pub(crate) enum Lent {
 #[derive(Clone, Copy)]
 pub(crate) enum Walk {
     Iter,
-    IterMut,
+    NextMut,
+    /// One step of `next_data`, and how many are to come.
+    NextData,
     NextFrom,
 }
 
@@ -70,7 +72,8 @@ fn does_lent(map: &mut TriHashMap<Triple, Alike>, counts: &Rc<Counts>, lent: Len
 fn passed<S: BuildHasher>(map: &mut TriHashMap<Triple, S>, walk: Walk) -> usize {
     match walk {
         Walk::Iter => map.iter().count(),
-        Walk::IterMut => lent_by_a_walk(map),
+        Walk::NextMut => lent_by_a_walk(map),
+        Walk::NextData => written_and_to_come(map),
         Walk::NextFrom => lent_by_a_cursor(map),
     }
 }
@@ -97,6 +100,15 @@ fn lent_by_a_walk<S: BuildHasher>(map: &mut TriHashMap<Triple, S>) -> usize {
         }
     }
     items
+}
+
+/// How many items there are by the first step of a walk for writing, and by what it says is to come.
+fn written_and_to_come<S: BuildHasher>(map: &mut TriHashMap<Triple, S>) -> usize {
+    let mut walk = map.iter_mut();
+    if walk.next_data().is_none() || walk.len() != walk.count_remaining() {
+        return 0;
+    }
+    walk.len().wrapping_add(1)
 }
 
 fn is_granted<S: BuildHasher>(map: &mut TriHashMap<Triple, S>, room: Room) -> bool {

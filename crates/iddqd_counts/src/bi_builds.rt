@@ -1,0 +1,97 @@
+//! Maps with two keys that are built of many items at once, and how many keys that compares and hashes.
+use crate::bi_calls::three_items;
+use crate::counting::{Bounds, Counts};
+use crate::pair::Pair;
+use iddqd_bi::BiHashMap;
+use std::alloc::{AllocError, Global};
+use std::hash::BuildHasher;
+use std::rc::Rc;
+
+/// A call that builds a map.
+#[derive(Clone, Copy)]
+pub(crate) enum Build {
+    FromIter,
+    FromIterUnique,
+}
+
+/// What is built of three items of which the first two conflict with none, and the first key of the last one.
+pub(crate) struct BuildRow {
+    pub(crate) name: &'static str,
+    pub(crate) build: Build,
+    pub(crate) last: u64,
+    /// How many items there are then, if a map is built.
+    pub(crate) len: Option<usize>,
+    /// How many keys are compared where all are hashed alike.
+    pub(crate) alike: Bounds,
+    /// How many are compared where each has its own hash.
+    pub(crate) own: u64,
+    pub(crate) hashed: u64,
+}
+
+/// What is in the way of an item of `from_iter_unique` comes out by the hashes of both of its keys.
+pub(crate) const BUILDS: [BuildRow; 4] = [
+    BuildRow {
+        name: "from_iter",
+        build: Build::FromIter,
+        last: 67,
+        len: Some(3),
+        alike: (6, 6),
+        own: 0,
+        hashed: 6,
+    },
+    BuildRow {
+        name: "from_iter, a key of the list",
+        build: Build::FromIter,
+        last: 65,
+        len: Some(2),
+        alike: (5, 6),
+        own: 1,
+        hashed: 7,
+    },
+    BuildRow {
+        name: "from_iter_unique",
+        build: Build::FromIterUnique,
+        last: 67,
+        len: Some(3),
+        alike: (6, 6),
+        own: 0,
+        hashed: 6,
+    },
+    BuildRow {
+        name: "from_iter_unique, a key of the list",
+        build: Build::FromIterUnique,
+        last: 65,
+        len: None,
+        alike: (5, 6),
+        own: 1,
+        hashed: 8,
+    },
+];
+
+/// How many items there are in what is built of three of which the last has this first key, if a map is built.
+pub(crate) fn built<S: BuildHasher + Default + Drop>(
+    alloc: Global,
+    counts: &Rc<Counts>,
+    build: Build,
+    last: u64,
+) -> Result<Option<usize>, AllocError> {
+    let items = three_items(counts, last)?;
+    Ok(match build {
+        Build::FromIter => overwriting::<S>(alloc, items),
+        Build::FromIterUnique => unique::<S>(alloc, items),
+    })
+}
+
+fn overwriting<S: BuildHasher + Default + Drop>(alloc: Global, items: [Pair; 3]) -> Option<usize> {
+    match BiHashMap::<Pair, S>::from_iter(alloc, items) {
+        Ok(map) => Some(map.len()),
+        Err(_) => None,
+    }
+}
+
+fn unique<S: BuildHasher + Default + Drop>(alloc: Global, items: [Pair; 3]) -> Option<usize> {
+    match BiHashMap::<Pair, S>::from_iter_unique(alloc, items) {
+        Ok(map) => Some(map.len()),
+        Err(_) => None,
+    }
+}
