@@ -13,8 +13,20 @@ mod bi_copies;
 #[cfg(test)]
 mod bi_entries;
 #[cfg(test)]
+mod bi_silent;
+#[cfg(test)]
+mod bi_silent_entries;
+#[cfg(test)]
+mod bi_silent_guards;
+#[cfg(test)]
 mod granted;
 #[cfg(test)]
 mod tri;
 #[cfg(test)]
 mod tri_building;
+#[cfg(test)]
+mod tri_silent;
+#[cfg(test)]
+mod tri_silent_entries;
+#[cfg(test)]
+mod tri_silent_guards;

@@ -1,0 +1,313 @@
+//! Calls of the two-key map that ask for no memory, each on a full map.
+use crate::bi::{full, put};
+use crate::granted::{is_byte_granted, say_unless};
+use iddqd_bi::{BiHashMap, DefaultHashBuilder, InsertError};
+use iddqd_tests::Row;
+use std::alloc::Global;
+use std::mem;
+use std::process::Abort;
+use std::test::*;
+
+const ONE: Row = Row {
+    key1: 1,
+    key2: 10,
+    value: 100,
+};
+
+const TWO: Row = Row {
+    key1: 2,
+    key2: 20,
+    value: 200,
+};
+
+/// It has the first key of one row of a full map and the second key of another.
+const OVER: Row = Row {
+    key1: 1,
+    key2: 20,
+    value: 0,
+};
+
+/// It has a key of one row of a full map.
+const HALF_OVER: Row = Row {
+    key1: 9,
+    key2: 20,
+    value: 0,
+};
+
+/// It conflicts with no row of a full map.
+const BESIDE: Row = Row {
+    key1: 8,
+    key2: 80,
+    value: 0,
+};
+
+/// What is done with a full map.
+#[derive(Clone, Copy)]
+enum Call {
+    Build,
+    BuildWithHasher,
+    Count,
+    Get,
+    GetUnique,
+    Contain,
+    Remove1,
+    Remove2,
+    RemoveUnique,
+    RemoveAbsent,
+    Clear,
+    Retain,
+    Reserve,
+    ReserveLeft,
+    ShrinkToFitEmpty,
+    ShrinkToEmpty,
+    ShrinkToNothing,
+    Duplicate,
+    DuplicateParts,
+    OverwriteTwo,
+    OverwriteOne,
+    InsertBelow,
+    OverwriteBelow,
+    Often,
+    ExtendByNone,
+    Equal,
+    Walk,
+    WalkByValue,
+}
+
+const READS: &[Call] = &[
+    Call::Build,
+    Call::BuildWithHasher,
+    Call::Count,
+    Call::Get,
+    Call::GetUnique,
+    Call::Contain,
+    Call::Equal,
+    Call::Walk,
+    Call::WalkByValue,
+];
+
+const REMOVALS: &[Call] = &[
+    Call::Remove1,
+    Call::Remove2,
+    Call::RemoveUnique,
+    Call::RemoveAbsent,
+    Call::Clear,
+    Call::Retain,
+    Call::Reserve,
+    Call::ReserveLeft,
+    Call::ShrinkToFitEmpty,
+    Call::ShrinkToEmpty,
+    Call::ShrinkToNothing,
+];
+
+const INSERTS: &[Call] = &[
+    Call::Duplicate,
+    Call::DuplicateParts,
+    Call::OverwriteTwo,
+    Call::OverwriteOne,
+    Call::InsertBelow,
+    Call::OverwriteBelow,
+    Call::Often,
+    Call::ExtendByNone,
+];
+
+/// Makes a call, and says whether it answered as it should.
+fn is_right(alloc: Global, map: &mut BiHashMap<Row>, call: Call) -> bool {
+    match call {
+        Call::Build => build(alloc),
+        Call::BuildWithHasher => build_with_hasher(alloc),
+        Call::Count => count(map),
+        Call::Get => get(map),
+        Call::GetUnique => get_unique(map),
+        Call::Contain => contain(map),
+        Call::Remove1 => remove1(map, 1) == Some(ONE),
+        Call::Remove2 => remove2(map, 20) == Some(TWO),
+        Call::RemoveUnique => remove_unique(map, 1, 10) == Some(ONE),
+        Call::RemoveAbsent => remove_absent(map),
+        Call::Clear => clear(map),
+        Call::Retain => retain(map),
+        Call::Reserve => reserve(map),
+        Call::ReserveLeft => remove1(map, 7).is_some() && try_reserve(map, 1),
+        Call::ShrinkToFitEmpty => clear(map) && shrink_to_fit(map),
+        Call::ShrinkToEmpty => clear(map) && shrink_to(map, 0),
+        Call::ShrinkToNothing => clear(map) && shrink_to_fit(map) && shrink_to(map, 5),
+        Call::Duplicate => duplicate(map),
+        Call::DuplicateParts => duplicate_parts(map),
+        Call::OverwriteTwo => overwrite(map, OVER) == [Some(ONE), Some(TWO)],
+        Call::OverwriteOne => overwrite(map, HALF_OVER) == [Some(TWO), None],
+        Call::InsertBelow => remove2(map, 70).is_some() && put(map, BESIDE),
+        Call::OverwriteBelow => {
+            remove2(map, 70).is_some() && overwrite(map, BESIDE) == [None, None]
+        }
+        Call::Often => often(map),
+        Call::ExtendByNone => extend_by_none(map),
+        Call::Equal => equal(map),
+        Call::Walk => walk(map),
+        Call::WalkByValue => walk_by_value(alloc, map),
+    }
+}
+
+fn build(alloc: Global) -> bool {
+    let made: BiHashMap<Row> = BiHashMap::default(alloc);
+    BiHashMap::<Row>::new(alloc).len() == made.capacity()
+}
+
+fn build_with_hasher(alloc: Global) -> bool {
+    let made = BiHashMap::<Row>::with_hasher(alloc, DefaultHashBuilder::default());
+    let with_room = BiHashMap::<Row>::with_capacity_and_hasher(
+        alloc,
+        made.capacity(),
+        DefaultHashBuilder::default(),
+    );
+    with_room.is_ok() && BiHashMap::<Row>::with_capacity(alloc, 0).is_ok()
+}
+
+fn count(map: &BiHashMap<Row>) -> bool {
+    map.len() == map.capacity() && !map.is_empty()
+}
+
+fn get(map: &BiHashMap<Row>) -> bool {
+    map.get1(&1).copied() == Some(ONE)
+        && map.get2(&20).copied() == Some(TWO)
+        && map.get1(&9).is_none()
+}
+
+fn get_unique(map: &BiHashMap<Row>) -> bool {
+    map.get_unique(&1, &10).copied() == Some(ONE) && map.get_unique(&1, &20).is_none()
+}
+
+fn contain(map: &BiHashMap<Row>) -> bool {
+    map.contains_key1(&1) && map.contains_key2(&20) && map.contains_key_unique(&2, &20)
+}
+
+fn remove1(map: &mut BiHashMap<Row>, key: u64) -> Option<Row> {
+    map.remove1(&key)
+}
+
+fn remove2(map: &mut BiHashMap<Row>, key: u64) -> Option<Row> {
+    map.remove2(&key)
+}
+
+fn remove_unique(map: &mut BiHashMap<Row>, key1: u64, key2: u64) -> Option<Row> {
+    map.remove_unique(&key1, &key2)
+}
+
+fn remove_absent(map: &mut BiHashMap<Row>) -> bool {
+    remove1(map, 9).is_none() && remove2(map, 9).is_none() && remove_unique(map, 1, 20).is_none()
+}
+
+fn clear(map: &mut BiHashMap<Row>) -> bool {
+    map.clear();
+    map.is_empty()
+}
+
+fn retain(map: &mut BiHashMap<Row>) -> bool {
+    map.retain(|row| row.key1 != 1);
+    map.len() == 6
+}
+
+fn reserve(map: &mut BiHashMap<Row>) -> bool {
+    map.reserve(0).is_ok()
+}
+
+fn try_reserve(map: &mut BiHashMap<Row>, more: usize) -> bool {
+    map.try_reserve(more).is_ok()
+}
+
+fn shrink_to_fit(map: &mut BiHashMap<Row>) -> bool {
+    map.shrink_to_fit().is_ok()
+}
+
+fn shrink_to(map: &mut BiHashMap<Row>, least: usize) -> bool {
+    map.shrink_to(least).is_ok()
+}
+
+fn duplicate(map: &mut BiHashMap<Row>) -> bool {
+    match map.insert_unique(OVER) {
+        Err(InsertError::Duplicate(refusal)) => refusal.into_item() == OVER,
+        _ => false,
+    }
+}
+
+fn duplicate_parts(map: &mut BiHashMap<Row>) -> bool {
+    match map.insert_unique(HALF_OVER) {
+        Err(InsertError::Duplicate(refusal)) => {
+            let (_item, found) = refusal.into_parts();
+            found.get(0).copied().copied() == Some(TWO)
+        }
+        _ => false,
+    }
+}
+
+fn overwrite(map: &mut BiHashMap<Row>, item: Row) -> [Option<Row>; 2] {
+    match map.insert_overwrite(item) {
+        Ok(gone) => [gone.get(0).copied(), gone.get(1).copied()],
+        Err(refusal) => [Some(refusal.value), None],
+    }
+}
+
+/// Takes a row out and puts another one in, a thousand times.
+fn often(map: &mut BiHashMap<Row>) -> bool {
+    let mut is_right = remove1(map, 7).is_some();
+    for _ in 0..1000 {
+        is_right = is_right && put(map, BESIDE) && remove1(map, 8) == Some(BESIDE);
+    }
+    is_right
+}
+
+fn extend_by_none(map: &mut BiHashMap<Row>) -> bool {
+    let empty: [Row; 0] = [];
+    map.extend_unique(empty).is_ok()
+}
+
+fn equal(map: &BiHashMap<Row>) -> bool {
+    map == map
+}
+
+fn walk(map: &BiHashMap<Row>) -> bool {
+    let mut items: usize = 0;
+    for _ in map {
+        items = items.wrapping_add(1);
+    }
+    items == 7 && map.iter().len() == 7
+}
+
+fn walk_by_value(alloc: Global, map: &mut BiHashMap<Row>) -> bool {
+    let map = mem::replace(map, BiHashMap::new(alloc));
+    map.into_iter().count() == 7
+}
+
+/// Makes a call on a full map, and asks for one byte behind it. Says whether what the map and that byte need was
+/// granted: a request of the call itself is seen by neither.
+fn is_granted(rt: &impl Abort, alloc: Global, call: Call) -> bool {
+    match full(alloc) {
+        Some(mut map) => {
+            assert!(rt; is_right(alloc, &mut map, call));
+            is_byte_granted(alloc)
+        }
+        None => false,
+    }
+}
+
+fn are_granted(rt: &impl Abort, alloc: Global, calls: &[Call]) -> bool {
+    let mut all = true;
+    for call in calls {
+        all = is_granted(rt, alloc, *call) && all;
+    }
+    all
+}
+
+#[test]
+fn hides_none_in_reads(rt: HostRuntime) {
+    say_unless(&rt, are_granted(&rt, rt.alloc(), READS));
+}
+
+#[test]
+fn hides_none_in_removals(rt: HostRuntime) {
+    say_unless(&rt, are_granted(&rt, rt.alloc(), REMOVALS));
+}
+
+#[test]
+fn hides_none_in_inserts(rt: HostRuntime) {
+    say_unless(&rt, are_granted(&rt, rt.alloc(), INSERTS));
+}

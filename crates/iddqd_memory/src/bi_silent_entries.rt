@@ -1,0 +1,301 @@
+//! Entries of the two-key map that ask for no memory, each on a full map.
+ghost use Rattle.iddqd_bi.specs.Entries.{Holds};
+
+use crate::bi::full;
+use crate::granted::{is_byte_granted, say_unless};
+use iddqd_bi::{BiHashMap, Entry, EntryError, OccupiedEntryMut, OccupiedEntryRef};
+use iddqd_tests::Row;
+use std::alloc::Global;
+use std::process::Abort;
+use std::test::*;
+
+const ONE: Row = Row {
+    key1: 1,
+    key2: 10,
+    value: 100,
+};
+
+const TWO: Row = Row {
+    key1: 2,
+    key2: 20,
+    value: 200,
+};
+
+/// It has the keys of a row of a full map.
+const SAME: Row = Row {
+    key1: 1,
+    key2: 10,
+    value: 5,
+};
+
+/// It has the first key of one row of a full map and the second key of another.
+const OVER: Row = Row {
+    key1: 1,
+    key2: 20,
+    value: 0,
+};
+
+/// It conflicts with no row of a full map.
+const BESIDE: Row = Row {
+    key1: 8,
+    key2: 80,
+    value: 0,
+};
+
+/// What is done with a full map.
+#[derive(Clone, Copy)]
+enum Call {
+    Modify,
+    Seen,
+    SeenForGood,
+    Lent,
+    LentForGood,
+    ForEach,
+    Insert,
+    InsertRefused,
+    Remove,
+    Data1,
+    Data2,
+    Vacant,
+    VacantInsert,
+    VacantInsertMut,
+    VacantInsertEntry,
+    OrInsert,
+    OrInsertWith,
+    OrInsertRefused,
+    OrInsertWithRefused,
+}
+
+const OCCUPIED: &[Call] = &[
+    Call::Modify,
+    Call::Seen,
+    Call::SeenForGood,
+    Call::Lent,
+    Call::LentForGood,
+    Call::ForEach,
+    Call::Insert,
+    Call::InsertRefused,
+    Call::Remove,
+    Call::Data1,
+    Call::Data2,
+    Call::OrInsert,
+    Call::OrInsertWith,
+];
+
+const VACANT: &[Call] = &[
+    Call::Vacant,
+    Call::VacantInsert,
+    Call::VacantInsertMut,
+    Call::VacantInsertEntry,
+    Call::OrInsertRefused,
+    Call::OrInsertWithRefused,
+];
+
+/// Makes a call, and says whether it answered as it should.
+fn is_right(map: &mut BiHashMap<Row>, call: Call) -> bool {
+    match call {
+        Call::Modify => modify(map, OVER) == 2,
+        Call::Seen => see(map, OVER),
+        Call::SeenForGood => see_for_good(map, SAME),
+        Call::Lent => lend(map, OVER),
+        Call::LentForGood => lend_for_good(map, SAME),
+        Call::ForEach => for_each(map, OVER) == 2,
+        Call::Insert => insert(map, OVER, OVER) == Some(2),
+        Call::InsertRefused => insert(map, OVER, BESIDE) == Some(0),
+        Call::Remove => remove(map, OVER) == [Some(ONE), Some(TWO)],
+        Call::Data1 => write_data1(map, OVER),
+        Call::Data2 => write_data2(map, OVER),
+        Call::Vacant => is_vacant(map, BESIDE),
+        Call::VacantInsert => is_refused(map, BESIDE, SAME),
+        Call::VacantInsertMut => is_refused_mut(map, BESIDE, SAME),
+        Call::VacantInsertEntry => is_refused_entry(map, BESIDE, SAME),
+        Call::OrInsert => or_insert(map, OVER, BESIDE),
+        Call::OrInsertWith => or_insert_with(map, OVER, BESIDE),
+        Call::OrInsertRefused => !or_insert(map, BESIDE, SAME),
+        Call::OrInsertWithRefused => !or_insert_with(map, BESIDE, SAME),
+    }
+}
+
+fn modify(map: &mut BiHashMap<Row>, keys: Row) -> u64 {
+    let mut calls: u64 = 0;
+    let entry = map.entry(&keys.key1, &keys.key2).and_modify(|row| {
+        calls = calls.wrapping_add(1);
+        row.value
+    });
+    drop(entry);
+    calls
+}
+
+/// Whether each key is seen to have an item, and both of them another one or the same.
+fn are_seen(found: OccupiedEntryRef<'_, Row>) -> bool {
+    found.by_key1().is_some()
+        && found.by_key2().is_some()
+        && found.is_unique() == found.as_unique().is_some()
+        && found.is_unique() != found.is_non_unique()
+}
+
+fn see(map: &mut BiHashMap<Row>, keys: Row) -> bool {
+    match map.entry(&keys.key1, &keys.key2) {
+        Entry::Occupied(found) => found.is_non_unique() && are_seen(found.get()),
+        Entry::Vacant(_) => false,
+    }
+}
+
+fn see_for_good(map: &mut BiHashMap<Row>, keys: Row) -> bool {
+    match map.entry(&keys.key1, &keys.key2) {
+        Entry::Occupied(found) => found.is_unique() && are_seen(found.into_ref()),
+        Entry::Vacant(_) => false,
+    }
+}
+
+fn lend(map: &mut BiHashMap<Row>, keys: Row) -> bool {
+    match map.entry(&keys.key1, &keys.key2) {
+        Entry::Occupied(mut found) => {
+            let mut held = found.get_mut();
+            held.by_key1().is_some() && held.by_key2().is_some() && held.as_unique().is_none()
+        }
+        Entry::Vacant(_) => false,
+    }
+}
+
+fn lend_for_good(map: &mut BiHashMap<Row>, keys: Row) -> bool {
+    match map.entry(&keys.key1, &keys.key2) {
+        Entry::Occupied(found) => is_lent_for_good(found.into_mut()),
+        Entry::Vacant(_) => false,
+    }
+}
+
+fn is_lent_for_good(held: OccupiedEntryMut<'_, Row>) -> bool
+    requires { Holds held }
+{
+    held.is_unique() && !held.is_non_unique() && held.into_by_key2().is_some()
+}
+
+fn for_each(map: &mut BiHashMap<Row>, keys: Row) -> u64 {
+    let mut calls: u64 = 0;
+    match map.entry(&keys.key1, &keys.key2) {
+        Entry::Occupied(found) => found.into_mut().for_each(|row| {
+            calls = calls.wrapping_add(1);
+            row.value
+        }),
+        Entry::Vacant(_) => {}
+    }
+    calls
+}
+
+/// How many items an occupied entry gives for this one, which has its keys, or else none.
+fn insert(map: &mut BiHashMap<Row>, keys: Row, item: Row) -> Option<usize> {
+    match map.entry(&keys.key1, &keys.key2) {
+        Entry::Occupied(mut found) => match found.insert(item) {
+            Ok(gone) => Some(gone.len()),
+            Err(_error) => Some(0),
+        },
+        Entry::Vacant(_) => None,
+    }
+}
+
+fn remove(map: &mut BiHashMap<Row>, keys: Row) -> [Option<Row>; 2] {
+    match map.entry(&keys.key1, &keys.key2) {
+        Entry::Occupied(found) => {
+            let gone = found.remove();
+            [gone.get(0).copied(), gone.get(1).copied()]
+        }
+        Entry::Vacant(_) => [None; 2],
+    }
+}
+
+fn write_data1(map: &mut BiHashMap<Row>, keys: Row) -> bool {
+    match map.entry(&keys.key1, &keys.key2) {
+        Entry::Occupied(mut found) => found.data1_mut().is_some(),
+        Entry::Vacant(_) => false,
+    }
+}
+
+fn write_data2(map: &mut BiHashMap<Row>, keys: Row) -> bool {
+    match map.entry(&keys.key1, &keys.key2) {
+        Entry::Occupied(mut found) => found.data2_mut().is_some(),
+        Entry::Vacant(_) => false,
+    }
+}
+
+fn is_vacant(map: &mut BiHashMap<Row>, keys: Row) -> bool {
+    matches!(map.entry(&keys.key1, &keys.key2), Entry::Vacant(_))
+}
+
+/// Whether the refusal is for the first key.
+fn is_of_key1(error: EntryError<Row>) -> bool {
+    match error {
+        EntryError::Key1(item) => item == SAME,
+        _ => false,
+    }
+}
+
+fn is_refused(map: &mut BiHashMap<Row>, keys: Row, item: Row) -> bool {
+    match map.entry(&keys.key1, &keys.key2) {
+        Entry::Vacant(entry) => match entry.insert(item) {
+            Ok(_found) => false,
+            Err(error) => is_of_key1(error),
+        },
+        Entry::Occupied(_) => false,
+    }
+}
+
+fn is_refused_mut(map: &mut BiHashMap<Row>, keys: Row, item: Row) -> bool {
+    match map.entry(&keys.key1, &keys.key2) {
+        Entry::Vacant(entry) => match entry.insert_mut(item) {
+            Ok(_found) => false,
+            Err(error) => is_of_key1(error),
+        },
+        Entry::Occupied(_) => false,
+    }
+}
+
+fn is_refused_entry(map: &mut BiHashMap<Row>, keys: Row, item: Row) -> bool {
+    match map.entry(&keys.key1, &keys.key2) {
+        Entry::Vacant(entry) => match entry.insert_entry(item) {
+            Ok(_found) => false,
+            Err(refusal) => is_of_key1(refusal.into_error()),
+        },
+        Entry::Occupied(_) => false,
+    }
+}
+
+fn or_insert(map: &mut BiHashMap<Row>, keys: Row, item: Row) -> bool {
+    map.entry(&keys.key1, &keys.key2).or_insert(item).is_ok()
+}
+
+fn or_insert_with(map: &mut BiHashMap<Row>, keys: Row, item: Row) -> bool {
+    map.entry(&keys.key1, &keys.key2)
+        .or_insert_with(|| item)
+        .is_ok()
+}
+
+/// Makes a call on a full map, and asks for one byte behind it. Says whether what the map and that byte need was
+/// granted: a request of the call itself is seen by neither.
+fn is_granted(rt: &impl Abort, alloc: Global, call: Call) -> bool {
+    match full(alloc) {
+        Some(mut map) => {
+            assert!(rt; is_right(&mut map, call));
+            is_byte_granted(alloc)
+        }
+        None => false,
+    }
+}
+
+fn are_granted(rt: &impl Abort, alloc: Global, calls: &[Call]) -> bool {
+    let mut all = true;
+    for call in calls {
+        all = is_granted(rt, alloc, *call) && all;
+    }
+    all
+}
+
+#[test]
+fn hides_none_in_occupied_entries(rt: HostRuntime) {
+    say_unless(&rt, are_granted(&rt, rt.alloc(), OCCUPIED));
+}
+
+#[test]
+fn hides_none_in_vacant_entries(rt: HostRuntime) {
+    say_unless(&rt, are_granted(&rt, rt.alloc(), VACANT));
+}

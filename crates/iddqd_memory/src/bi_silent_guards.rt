@@ -1,0 +1,156 @@
+//! Guards and walks of the two-key map that ask for no memory, each on a full map.
+use crate::bi::full;
+use crate::granted::{is_byte_granted, say_unless};
+use iddqd_bi::{BiHashMap, Cursor};
+use iddqd_tests::Row;
+use std::alloc::Global;
+use std::process::Abort;
+use std::test::*;
+
+const ONE: Row = Row {
+    key1: 1,
+    key2: 10,
+    value: 100,
+};
+
+/// It has the keys of a row of a full map.
+const SAME: Row = Row {
+    key1: 1,
+    key2: 10,
+    value: 5,
+};
+
+/// It has the first key of one row of a full map and the second key of another.
+const OVER: Row = Row {
+    key1: 1,
+    key2: 20,
+    value: 0,
+};
+
+/// What is done with a full map.
+#[derive(Clone, Copy)]
+enum Call {
+    Get1,
+    Get2,
+    GetUnique,
+    IntoRef,
+    Replace,
+    ReplaceRefused,
+    NextFrom,
+    NextMut,
+    NextData,
+}
+
+const GUARDS: &[Call] = &[
+    Call::Get1,
+    Call::Get2,
+    Call::GetUnique,
+    Call::IntoRef,
+    Call::Replace,
+    Call::ReplaceRefused,
+    Call::NextFrom,
+    Call::NextMut,
+    Call::NextData,
+];
+
+/// Makes a call, and says whether it answered as it should.
+fn is_right(map: &mut BiHashMap<Row>, call: Call) -> bool {
+    match call {
+        Call::Get1 => write1(map, 1),
+        Call::Get2 => write2(map, 20),
+        Call::GetUnique => write_unique(map, SAME),
+        Call::IntoRef => lent_for_good(map, 1) == Some(ONE),
+        Call::Replace => replace(map, 1, SAME) == Some(true),
+        Call::ReplaceRefused => replace(map, 1, OVER) == Some(false),
+        Call::NextFrom => next_from(map),
+        Call::NextMut => next_mut(map),
+        Call::NextData => next_data(map),
+    }
+}
+
+fn write1(map: &mut BiHashMap<Row>, key: u64) -> bool {
+    match map.get1_mut(&key) {
+        Some(mut found) => {
+            *found.data_mut() = 5;
+            found.value == 5
+        }
+        None => false,
+    }
+}
+
+fn write2(map: &mut BiHashMap<Row>, key: u64) -> bool {
+    match map.get2_mut(&key) {
+        Some(mut found) => {
+            *found.data_mut() = 5;
+            true
+        }
+        None => false,
+    }
+}
+
+fn write_unique(map: &mut BiHashMap<Row>, keys: Row) -> bool {
+    match map.get_mut_unique(&keys.key1, &keys.key2) {
+        Some(mut found) => {
+            *found.data_mut() = 5;
+            true
+        }
+        None => false,
+    }
+}
+
+fn lent_for_good(map: &mut BiHashMap<Row>, key: u64) -> Option<Row> {
+    match map.get1_mut(&key) {
+        Some(found) => Some(*found.into_ref()),
+        None => None,
+    }
+}
+
+fn replace(map: &mut BiHashMap<Row>, key: u64, item: Row) -> Option<bool> {
+    match map.get1_mut(&key) {
+        Some(mut found) => Some(found.replace(item).is_ok()),
+        None => None,
+    }
+}
+
+fn next_from(map: &mut BiHashMap<Row>) -> bool {
+    let mut at = Cursor::new();
+    map.next_from(&mut at).is_some()
+}
+
+fn next_mut(map: &mut BiHashMap<Row>) -> bool {
+    let mut items = map.iter_mut();
+    items.next_mut().is_some() && items.len() == 6 && items.count_remaining() == 6
+}
+
+fn next_data(map: &mut BiHashMap<Row>) -> bool {
+    let mut items = map.iter_mut();
+    for _ in 0..7 {
+        let _ = items.next_data();
+    }
+    items.next_data().is_none()
+}
+
+/// Makes a call on a full map, and asks for one byte behind it. Says whether what the map and that byte need was
+/// granted: a request of the call itself is seen by neither.
+fn is_granted(rt: &impl Abort, alloc: Global, call: Call) -> bool {
+    match full(alloc) {
+        Some(mut map) => {
+            assert!(rt; is_right(&mut map, call));
+            is_byte_granted(alloc)
+        }
+        None => false,
+    }
+}
+
+fn are_granted(rt: &impl Abort, alloc: Global, calls: &[Call]) -> bool {
+    let mut all = true;
+    for call in calls {
+        all = is_granted(rt, alloc, *call) && all;
+    }
+    all
+}
+
+#[test]
+fn hides_none_in_guards(rt: HostRuntime) {
+    say_unless(&rt, are_granted(&rt, rt.alloc(), GUARDS));
+}
