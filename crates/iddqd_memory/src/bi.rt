@@ -92,22 +92,31 @@ pub(crate) fn row_behind(capacity: usize) -> Row {
 
 // Each scenario answers whether every request was granted. A set-up that is refused is an outcome that says nothing.
 
-fn reserve_twenty(rt: &impl Abort, map: &mut BiHashMap<Row>) -> bool {
+/// Whether room for twenty more is made, by `try_reserve` or by `reserve`.
+fn makes_room(map: &mut BiHashMap<Row>, by_try: bool) -> bool {
+    if by_try {
+        map.try_reserve(20).is_ok()
+    } else {
+        map.reserve(20).is_ok()
+    }
+}
+
+fn reserve_twenty(rt: &impl Abort, map: &mut BiHashMap<Row>, by_try: bool) -> bool {
     let capacity = map.capacity();
-    let granted = map.reserve(20).is_ok();
+    let granted = makes_room(map, by_try);
     assert!(rt; holds_two_rows(map));
     assert!(rt; map.capacity() >= capacity);
     if !granted {
-        assert!(rt; map.try_reserve(20).is_ok());
+        assert!(rt; makes_room(map, by_try));
     }
     assert!(rt; map.capacity() >= 22);
     assert!(rt; holds_two_rows(map));
     granted
 }
 
-fn reserve(rt: &impl Abort, alloc: Global) -> bool {
+fn reserve(rt: &impl Abort, alloc: Global, by_try: bool) -> bool {
     match two_rows(alloc) {
-        Some(mut map) => reserve_twenty(rt, &mut map),
+        Some(mut map) => reserve_twenty(rt, &mut map, by_try),
         None => false,
     }
 }
@@ -118,7 +127,11 @@ fn with_capacity(rt: &impl Abort, alloc: Global) -> bool {
             assert!(rt; map.capacity() >= 10);
             true
         }
-        None => false,
+        None => {
+            // The same call is granted where there is memory.
+            assert!(rt; empty(alloc, 10).is_some());
+            false
+        }
     }
 }
 
@@ -225,23 +238,33 @@ fn insert_and_remove_often(rt: &impl Abort, alloc: Global) -> bool {
     }
 }
 
-fn shrink_two(rt: &impl Abort, map: &mut BiHashMap<Row>) -> bool {
+/// Whether the room beyond so many rows is given back, by `shrink_to_fit` where they are none.
+fn is_shrunk(map: &mut BiHashMap<Row>, least: usize) -> bool {
+    if least == 0 {
+        map.shrink_to_fit().is_ok()
+    } else {
+        map.shrink_to(least).is_ok()
+    }
+}
+
+fn shrink_two(rt: &impl Abort, map: &mut BiHashMap<Row>, least: usize) -> bool {
     assert!(rt; put_two(map));
     let capacity = map.capacity();
-    let granted = map.shrink_to_fit().is_ok();
+    let granted = is_shrunk(map, least);
     assert!(rt; holds_two_rows(map));
     if !granted {
         same(rt, map.capacity(), capacity);
-        assert!(rt; map.shrink_to_fit().is_ok());
+        assert!(rt; is_shrunk(map, least));
     }
-    same(rt, map.capacity(), 2);
+    same(rt, map.capacity(), if least == 0 { 2 } else { least });
     assert!(rt; holds_two_rows(map));
     granted
 }
 
-fn shrink_to_fit(rt: &impl Abort, alloc: Global) -> bool {
+/// Gives back the room beyond so many rows.
+fn shrink(rt: &impl Abort, alloc: Global, least: usize) -> bool {
     match empty(alloc, 100) {
-        Some(mut map) => shrink_two(rt, &mut map),
+        Some(mut map) => shrink_two(rt, &mut map, least),
         None => false,
     }
 }
@@ -273,12 +296,16 @@ fn grants_with_capacity(rt: HostRuntime) {
 
 #[test]
 fn allows_reserve(rt: HostRuntime) {
-    let _ = reserve(&rt, rt.alloc());
+    for by_try in [false, true] {
+        let _ = reserve(&rt, rt.alloc(), by_try);
+    }
 }
 
 #[test]
 fn grants_reserve(rt: HostRuntime) {
-    granted(&rt, reserve(&rt, rt.alloc()));
+    for by_try in [false, true] {
+        granted(&rt, reserve(&rt, rt.alloc(), by_try));
+    }
 }
 
 #[test]
@@ -302,13 +329,17 @@ fn grants_refuse_a_duplicate_when_full(rt: HostRuntime) {
 }
 
 #[test]
-fn allows_shrink_to_fit(rt: HostRuntime) {
-    let _ = shrink_to_fit(&rt, rt.alloc());
+fn allows_shrink_to(rt: HostRuntime) {
+    for least in [0, 3] {
+        let _ = shrink(&rt, rt.alloc(), least);
+    }
 }
 
 #[test]
-fn grants_shrink_to_fit(rt: HostRuntime) {
-    granted(&rt, shrink_to_fit(&rt, rt.alloc()));
+fn grants_shrink_to(rt: HostRuntime) {
+    for least in [0, 3] {
+        granted(&rt, shrink(&rt, rt.alloc(), least));
+    }
 }
 
 #[test]

@@ -201,11 +201,16 @@ fn all_went_in(rt: &impl Abort, made: Result<bool, Row>) -> bool {
 }
 
 fn from_iter(rt: &impl Abort, alloc: Global) -> bool {
-    all_went_in(rt, made(alloc))
+    let granted = all_went_in(rt, made(alloc));
+    // After a refusal the same call is granted.
+    assert!(rt; granted || all_went_in(rt, made(alloc)));
+    granted
 }
 
 fn from_iter_unique(rt: &impl Abort, alloc: Global) -> bool {
-    all_went_in(rt, made_unique(alloc))
+    let granted = all_went_in(rt, made_unique(alloc));
+    assert!(rt; granted || all_went_in(rt, made_unique(alloc)));
+    granted
 }
 
 #[test]

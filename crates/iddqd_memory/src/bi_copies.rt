@@ -22,6 +22,8 @@ fn clone(rt: &impl Abort, alloc: Global) -> bool {
     match two_rows(alloc) {
         Some(map) => {
             let granted = is_cloned(rt, &map);
+            // After a refusal the same call is granted.
+            assert!(rt; granted || is_cloned(rt, &map));
             assert!(rt; holds_two_rows(&map));
             granted
         }

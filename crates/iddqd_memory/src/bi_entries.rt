@@ -96,13 +96,15 @@ fn is_as_filled(map: &BiHashMap<Row>, items: usize) -> bool {
         && has(map, row_of(2, 20, 200))
 }
 
-/// Puts an item into a full map by an entry, after another one that has not its first key.
+/// Puts an item into a full map by an entry, after one that has not its first key and one that has not its second.
 fn enter(rt: &impl Abort, map: &mut BiHashMap<Row>, way: Way) -> bool {
     let capacity = map.capacity();
     let item = row_behind(capacity);
     let other = row_of(0, item.key2, 5);
     // Whatever memory there is, a key that is not the entry's is answered as such.
     same(rt, put_in(map, item, way, other), Answer::Key1(other));
+    let second = row_of(item.key1, 0, 5);
+    same(rt, put_in(map, item, way, second), Answer::Key2(second));
     assert!(rt; is_as_filled(map, capacity));
     let answer = put_in(map, item, way, item);
     let granted = answer == Answer::In;

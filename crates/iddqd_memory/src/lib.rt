@@ -1,7 +1,11 @@
 //! Tests under refused memory. `tests/refused_memory` runs each with its first, second, .. request for memory refused.
 //!
 //! A test `allows_..` accepts exactly the outcomes that the definition allows, so it passes whichever request is
-//! refused. Its twin `grants_..` passes only where no request is refused: it tells the script when to stop.
+//! refused. Its twin `grants_..` passes only where no request is refused: it says that memory is found.
+//!
+//! A test `hides_none_..` makes calls that ask for no memory. It says so where a request of its own was refused, of the
+//! map that it makes or of the byte that it asks for behind each call. The script fails where a request is refused and
+//! it says nothing: that was a request of a call.
 #![tactic(auto)]
 
 #[cfg(test)]
@@ -24,6 +28,8 @@ mod granted;
 mod tri;
 #[cfg(test)]
 mod tri_building;
+#[cfg(test)]
+mod tri_room;
 #[cfg(test)]
 mod tri_silent;
 #[cfg(test)]

@@ -57,7 +57,7 @@ pub(crate) fn holds_two_of(map: &TriHashMap<Trio>, items: usize) -> bool {
 }
 
 /// Puts an item in that conflicts with none, and says whether there was memory.
-fn put(map: &mut TriHashMap<Trio>, item: Trio) -> bool {
+pub(crate) fn put(map: &mut TriHashMap<Trio>, item: Trio) -> bool {
     insert(map, item) == Answer::In
 }
 
@@ -93,7 +93,6 @@ fn fill(map: &mut TriHashMap<Trio>) -> bool {
 enum Way {
     Unique,
     Overwrite,
-    Extend,
     Entry(EntryWay),
 }
 
@@ -111,6 +110,7 @@ enum EntryWay {
 enum Answer {
     In,
     Memory(Trio),
+    Key1(Trio),
     Key3(Trio),
     Other,
 }
@@ -118,8 +118,9 @@ enum Answer {
 fn refusal(error: EntryError<Trio>) -> Answer {
     match error {
         EntryError::Memory(item) => Answer::Memory(item),
+        EntryError::Key1(item) => Answer::Key1(item),
         EntryError::Key3(item) => Answer::Key3(item),
-        EntryError::Key1(_) | EntryError::Key2(_) => Answer::Other,
+        EntryError::Key2(_) => Answer::Other,
     }
 }
 
@@ -128,7 +129,6 @@ fn put_in(map: &mut TriHashMap<Trio>, way: Way, item: Trio) -> Answer {
     match way {
         Way::Unique => insert(map, item),
         Way::Overwrite => overwrite(map, item),
-        Way::Extend => extend(map, item),
         Way::Entry(way) => enter(map, way, item, item),
     }
 }
@@ -147,14 +147,6 @@ fn insert(map: &mut TriHashMap<Trio>, item: Trio) -> Answer {
 fn overwrite(map: &mut TriHashMap<Trio>, item: Trio) -> Answer {
     match map.insert_overwrite(item) {
         Ok(_displaced) => Answer::In,
-        Err(refusal) => Answer::Memory(refusal.value),
-    }
-}
-
-fn extend(map: &mut TriHashMap<Trio>, item: Trio) -> Answer {
-    // A filter promises no item.
-    match map.extend([item].into_iter().filter(|_| true)) {
-        Ok(()) => Answer::In,
         Err(refusal) => Answer::Memory(refusal.value),
     }
 }
@@ -207,16 +199,38 @@ fn or_insert_with(map: &mut TriHashMap<Trio>, keys: Trio, item: Trio) -> Answer 
 
 // Each scenario answers whether every request was granted. A set-up that is refused is an outcome that says nothing.
 
+/// Whether the map holds what `full` filled it with, with its capacity, and no others.
+fn is_as_filled(map: &TriHashMap<Trio>) -> bool {
+    for k in 3..8 {
+        if !holds(map, trio_of(k, 10 * k, 100 * k)) {
+            return false;
+        }
+    }
+    holds_two_of(map, 7) && map.capacity() == 7
+}
+
+/// Gives an entry of a full map an item that has not its first key, and one that has not its third. Whatever memory
+/// there is, that is answered, and the map is as before.
+fn refuse(rt: &impl Abort, map: &mut TriHashMap<Trio>, way: EntryWay, keys: Trio) {
+    let first = trio_of(0, keys.key2, keys.key3);
+    same(rt, enter(map, way, keys, first), Answer::Key1(first));
+    let third = trio_of(keys.key1, keys.key2, 0);
+    same(rt, enter(map, way, keys, third), Answer::Key3(third));
+    assert!(rt; is_as_filled(map));
+}
+
 /// Puts one item more into a full map. Where that is refused the item is handed back and the map is as before, and a
 /// second try is granted.
 fn grow_full(rt: &impl Abort, map: &mut TriHashMap<Trio>, way: Way) -> bool {
     let item = trio_of(8, 80, 800);
+    if let Way::Entry(way) = way {
+        refuse(rt, map, way, item);
+    }
     let answer = put_in(map, way, item);
     let granted = answer == Answer::In;
     if !granted {
         same(rt, answer, Answer::Memory(item));
-        assert!(rt; holds_two_of(map, 7));
-        same(rt, map.capacity(), 7);
+        assert!(rt; is_as_filled(map));
         same(rt, put_in(map, way, item), Answer::In);
     }
     assert!(rt; holds_two_of(map, 8));
@@ -230,22 +244,6 @@ fn grow(rt: &impl Abort, alloc: Global, way: Way) -> bool {
         Some(mut map) => grow_full(rt, &mut map, way),
         None => false,
     }
-}
-
-/// Gives a full map of two what it refuses: an item that conflicts, and entries an item that has not their third key.
-fn refuse(rt: &impl Abort, map: &mut TriHashMap<Trio>) {
-    same(rt, insert(map, trio_of(1, 20, 300)), Answer::Other);
-    let keys = trio_of(3, 30, 400);
-    let other = trio_of(3, 30, 300);
-    for way in [
-        EntryWay::VacantInsert,
-        EntryWay::VacantInsertEntry,
-        EntryWay::OrInsert,
-        EntryWay::OrInsertWith,
-    ] {
-        same(rt, enter(map, way, keys, other), Answer::Key3(other));
-    }
-    assert!(rt; holds_two_of(map, 2));
 }
 
 /// How many items give way to this one, if there is memory.
@@ -275,10 +273,10 @@ fn put_and_remove(rt: &impl Abort, map: &mut TriHashMap<Trio>, item: Trio) {
     }
 }
 
-/// Calls that ask for no memory even where the map is full, whatever there is: conflicts, entries of another key, items
-/// that displace others, and as many inserts and removals as you like.
+/// Calls that ask for no memory even where the map is full, whatever there is: conflicts, items that displace
+/// others, and as many inserts and removals as you like.
 fn ask_for_none_of(rt: &impl Abort, map: &mut TriHashMap<Trio>) {
-    refuse(rt, map);
+    same(rt, insert(map, trio_of(1, 20, 300)), Answer::Other);
     let item = trio_of(1, 20, 300);
     same(rt, displaced(map, item), Some(2));
     assert!(rt; holds(map, item));
@@ -320,16 +318,6 @@ fn allows_insert_overwrite(rt: HostRuntime) {
 #[test]
 fn grants_insert_overwrite(rt: HostRuntime) {
     granted(&rt, grow(&rt, rt.alloc(), Way::Overwrite));
-}
-
-#[test]
-fn allows_extend(rt: HostRuntime) {
-    let _ = grow(&rt, rt.alloc(), Way::Extend);
-}
-
-#[test]
-fn grants_extend(rt: HostRuntime) {
-    granted(&rt, grow(&rt, rt.alloc(), Way::Extend));
 }
 
 #[test]

@@ -1,104 +1,12 @@
-//! The three-key map under refused memory: room, copies, and maps built of many items at once.
+//! Three-key maps built of many items at once, under refused memory.
 use crate::granted::{granted, same};
-use crate::tri::{Trio, full, holds, holds_two_of, trio_of, two_in};
+use crate::tri::{Trio, full, holds, holds_two_of, put, trio_of};
 use iddqd_tri::{ExtendUniqueReason, FromIterError, TriHashMap};
 use std::alloc::Global;
 use std::process::Abort;
 use std::test::*;
 
 // As in the other scenarios each answer says whether every request was granted.
-
-// An empty map gives all its room back, and asks for none.
-fn shrink_empty(rt: &impl Abort, map: &mut TriHashMap<Trio>) {
-    map.clear();
-    assert!(rt; map.shrink_to_fit().is_ok());
-    same(rt, map.capacity(), 0);
-}
-
-fn with_capacity(rt: &impl Abort, alloc: Global) -> bool {
-    match TriHashMap::<Trio>::with_capacity(alloc, 10) {
-        Ok(mut map) => {
-            same(rt, map.capacity(), 10);
-            shrink_empty(rt, &mut map);
-            true
-        }
-        Err(_) => false,
-    }
-}
-
-fn reserve_twenty(rt: &impl Abort, map: &mut TriHashMap<Trio>) -> bool {
-    let granted = map.reserve(20).is_ok();
-    assert!(rt; holds_two_of(map, 2));
-    assert!(rt; map.capacity() >= 2);
-    if !granted {
-        assert!(rt; map.try_reserve(20).is_ok());
-    }
-    assert!(rt; map.capacity() >= 22);
-    assert!(rt; holds_two_of(map, 2));
-    granted
-}
-
-fn reserve(rt: &impl Abort, alloc: Global) -> bool {
-    match two_in(alloc, 2) {
-        Some(mut map) => reserve_twenty(rt, &mut map),
-        None => false,
-    }
-}
-
-/// Whether the room beyond so many items is given back, by `shrink_to_fit` where they are none.
-fn is_shrunk(map: &mut TriHashMap<Trio>, least: usize) -> bool {
-    if least == 0 {
-        map.shrink_to_fit().is_ok()
-    } else {
-        map.shrink_to(least).is_ok()
-    }
-}
-
-fn shrink_two(rt: &impl Abort, map: &mut TriHashMap<Trio>, least: usize) -> bool {
-    let granted = is_shrunk(map, least);
-    assert!(rt; holds_two_of(map, 2));
-    if !granted {
-        same(rt, map.capacity(), 50);
-        assert!(rt; map.shrink_to(least).is_ok());
-    }
-    same(rt, map.capacity(), if least == 0 { 2 } else { least });
-    assert!(rt; holds_two_of(map, 2));
-    granted
-}
-
-/// Gives back the room beyond so many items.
-fn shrink(rt: &impl Abort, alloc: Global, least: usize) -> bool {
-    match two_in(alloc, 50) {
-        Some(mut map) => {
-            let granted = shrink_two(rt, &mut map, least);
-            shrink_empty(rt, &mut map);
-            granted
-        }
-        None => false,
-    }
-}
-
-/// Whether there is memory for a clone. It is equal to the map.
-fn is_cloned(rt: &impl Abort, map: &TriHashMap<Trio>) -> bool {
-    match map.clone() {
-        Ok(copy) => {
-            assert!(rt; copy == *map);
-            true
-        }
-        Err(_) => false,
-    }
-}
-
-fn clone(rt: &impl Abort, alloc: Global) -> bool {
-    match two_in(alloc, 2) {
-        Some(map) => {
-            let granted = is_cloned(rt, &map);
-            assert!(rt; holds_two_of(&map, 2));
-            granted
-        }
-        None => false,
-    }
-}
 
 /// Three items that do not conflict.
 fn three() -> [Trio; 3] {
@@ -151,11 +59,16 @@ fn all_went_in(rt: &impl Abort, made: Result<bool, Trio>) -> bool {
 }
 
 fn from_iter(rt: &impl Abort, alloc: Global) -> bool {
-    all_went_in(rt, made(alloc))
+    let granted = all_went_in(rt, made(alloc));
+    // After a refusal the same call is granted.
+    assert!(rt; granted || all_went_in(rt, made(alloc)));
+    granted
 }
 
 fn from_iter_unique(rt: &impl Abort, alloc: Global) -> bool {
-    all_went_in(rt, made_unique(alloc))
+    let granted = all_went_in(rt, made_unique(alloc));
+    assert!(rt; granted || all_went_in(rt, made_unique(alloc)));
+    granted
 }
 
 // Where the growth by the promise is refused, the inserts ask again, and are granted.
@@ -164,6 +77,37 @@ fn extend_by_what_is_promised(rt: &impl Abort, alloc: Global) -> bool {
     assert!(rt; map.extend(three()).is_ok());
     assert!(rt; holds_three(&map));
     true
+}
+
+/// What `extend` refuses, if it refuses an item.
+fn extend_by(map: &mut TriHashMap<Trio>, items: [Trio; 2]) -> Option<Trio> {
+    match map.extend(items.into_iter().filter(|_| true)) {
+        Ok(()) => None,
+        Err(refusal) => Some(refusal.value),
+    }
+}
+
+/// Extends a full map by an item that displaces one and by a new one. Where that is refused the first one stays in.
+fn extend_full(rt: &impl Abort, map: &mut TriHashMap<Trio>) -> bool {
+    let over = trio_of(1, 10, 101);
+    let next = trio_of(8, 80, 800);
+    let refused = extend_by(map, [over, next]);
+    let granted = refused.is_none();
+    if !granted {
+        same(rt, refused, Some(next));
+        same(rt, map.len(), 7);
+    }
+    assert!(rt; holds(map, over));
+    assert!(rt; granted || put(map, next));
+    same(rt, map.len(), 8);
+    granted
+}
+
+fn extend_when_full(rt: &impl Abort, alloc: Global) -> bool {
+    match full(alloc) {
+        Some(mut map) => extend_full(rt, &mut map),
+        None => false,
+    }
 }
 
 /// Whether the map has the items of `full` but its last ones, so many in all, and these after them.
@@ -255,53 +199,13 @@ fn extend_unique(rt: &impl Abort, alloc: Global, first: u64) -> bool {
 }
 
 #[test]
-fn allows_with_capacity(rt: HostRuntime) {
-    let _ = with_capacity(&rt, rt.alloc());
+fn allows_extend_when_full(rt: HostRuntime) {
+    let _ = extend_when_full(&rt, rt.alloc());
 }
 
 #[test]
-fn grants_with_capacity(rt: HostRuntime) {
-    granted(&rt, with_capacity(&rt, rt.alloc()));
-}
-
-#[test]
-fn allows_reserve(rt: HostRuntime) {
-    let _ = reserve(&rt, rt.alloc());
-}
-
-#[test]
-fn grants_reserve(rt: HostRuntime) {
-    granted(&rt, reserve(&rt, rt.alloc()));
-}
-
-#[test]
-fn allows_shrink_to(rt: HostRuntime) {
-    let _ = shrink(&rt, rt.alloc(), 3);
-}
-
-#[test]
-fn grants_shrink_to(rt: HostRuntime) {
-    granted(&rt, shrink(&rt, rt.alloc(), 3));
-}
-
-#[test]
-fn allows_shrink_to_fit(rt: HostRuntime) {
-    let _ = shrink(&rt, rt.alloc(), 0);
-}
-
-#[test]
-fn grants_shrink_to_fit(rt: HostRuntime) {
-    granted(&rt, shrink(&rt, rt.alloc(), 0));
-}
-
-#[test]
-fn allows_clone(rt: HostRuntime) {
-    let _ = clone(&rt, rt.alloc());
-}
-
-#[test]
-fn grants_clone(rt: HostRuntime) {
-    granted(&rt, clone(&rt, rt.alloc()));
+fn grants_extend_when_full(rt: HostRuntime) {
+    granted(&rt, extend_when_full(&rt, rt.alloc()));
 }
 
 #[test]
