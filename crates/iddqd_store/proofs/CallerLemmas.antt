@@ -1,6 +1,7 @@
 -- What a caller of a map cites: from a lookup's clause to membership and back, a lookup after an insert or a removal, batches, lengths, walks, and writes.
 pub mod Batches
 pub mod Entering
+pub mod Laws
 pub mod Named
 pub mod Walks
 use Rattle.std.specs.Prelude.{◌≡◌, ℕ, zero, suc, ◌+◌, ◌<◌, Bool, true, false, cond, not, List, [], ◌∷◌, ◌++◌, length, filter, IsPermutation, Contains, Option, Some, None}

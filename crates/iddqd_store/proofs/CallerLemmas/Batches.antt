@@ -40,7 +40,8 @@ module _ {T : Type 0} where
   Contains-in_the_way batch before behind x is =
       subst (λ l. Contains l x) (sym is) (Contains-append_right before (x ∷ behind) x (Contains-here x behind))
 
-  distinct_at : (first : Ranks T) (same : T → T → Bool) (rest : Ranks T) (xs : List T) → IsSound (first ++ same ∷ rest) xs → IsDistinct same xs
+  -- no two have equal keys of any rank
+  pub distinct_at : (first : Ranks T) (same : T → T → Bool) (rest : Ranks T) (xs : List T) → IsSound (first ++ same ∷ rest) xs → IsDistinct same xs
   distinct_at [] same rest xs sound = (IsSound-rank same rest xs sound).0
   distinct_at (other ∷ first) same rest xs sound = distinct_at first same rest xs (IsSound-rank other (first ++ same ∷ rest) xs sound).1
 
