@@ -1,15 +1,14 @@
 -- What several calls of a map say of each other.
-use Rattle.std.specs.Prelude.{◌≡◌, ◌+◌, Bool, true, false, cond, List, [], ◌∷◌, ◌++◌, length, filter, is_some, IsPermutation, Contains, Option}
+use Rattle.std.specs.Prelude.{◌≡◌, Bool, true, false, cond, List, [], ◌∷◌, ◌++◌, filter, is_some, IsPermutation, Contains, Option}
 use Rattle.std.specs.Borrow.{Bor}
 use Rattle.std.specs.Cmp.{IsEquivalence, IsPartialEquivalence, partial_equiv_from_equiv}
 use Rattle.std.specs.List.{AllByRecursion, AllZip, list_any}
-use Rattle.std.specs.Option.{option_to_list, option_copied}
+use Rattle.std.specs.Option.{option_copied}
 use Rattle.std.proofs.Common.{refl, sym, ap, subst, ◌∙◌}
 use Rattle.std.proofs.lemmas.Map.Keys.{IsDistinct-head}
 use Rattle.std.proofs.lemmas.List.Sorted.{IsPermutation-sym}
 use Rattle.iddqd_store.specs.Bag.{Ranks, AreLawful, IsOnly, IsSound, every_of, is_same, same_item}
 use Rattle.iddqd_store.specs.Rank.{agree}
-use Rattle.iddqd_store.proofs.BagLemmas.Exchanges.{split}
 use Rattle.iddqd_store.proofs.BagLemmas.Same.{agrees-refl, and-true}
 use Rattle.iddqd_store.proofs.BagLemmas.SameTest.{IsSameBag-is_same, is_same-partial, is_same-equivalence}
 use Rattle.iddqd_store.proofs.BagLemmas.Sound.{IsSound-IsPermutation, none_pass}
