@@ -7,14 +7,13 @@ use Rattle.std.specs.Option.{option_copied_mut, option_map, option_to_list, opti
 use Rattle.std.proofs.Common.{IsSome, inl, inr, refl, sym, ap, subst, ◌∙◌, arith, append-nil, append_assoc}
 use Rattle.std.proofs.lemmas.Bool.{false≢true}
 use Rattle.std.proofs.lemmas.Bool.Decides.{nat_tests}
-use Rattle.iddqd_store.specs.Bag.{IsOnly, listing, all_of, every_of, entry, entry_of, is_unique}
+use Rattle.iddqd_store.specs.Bag.{listing, all_of, every_of, entry, entry_of, is_unique}
 use Rattle.iddqd_store.specs.Slots.{get, IsLive, live_items}
 use Rattle.iddqd_store.specs.Slots.Found.{items_at, lists, with_found, each_once, is_at, found_by_all, head_of, FoundAt, AreFound, held_at, entry_at}
 use Rattle.iddqd_store.proofs.BagLemmas.Entries.{all_of-next}
 use Rattle.iddqd_store.proofs.BagLemmas.Exchanges.{split}
 use Rattle.iddqd_store.proofs.BagLemmas.Over.{IsDistinct-with_found}
 use Rattle.iddqd_store.proofs.BagLemmas.Sound.{each_passes, Contains-filter, IsDistinct-nil}
-use Rattle.iddqd_store.proofs.BagLemmas.Unique.{is_some-only}
 use Rattle.iddqd_store.proofs.RankLemmas.Index.{Contains-cons_cases, item_at, same_slot}
 use Rattle.iddqd_store.proofs.SlotLemmas.Found.{listing_found}
 
