@@ -1,0 +1,69 @@
+//! What lookups say of each other.
+ghost use Rattle.std.specs.Prelude.{◌≡◌, true};
+
+use iddqd_tri::{Equivalent, TriHashItem, TriHashMap};
+use std::hash::{BuildHasher, Hash};
+
+/// Whether an item is given by its first key exactly where the map has one with that key, and has that key itself.
+pub fn found1_where_contained<T: TriHashItem, S: BuildHasher, Q: Equivalent<T::K1>>(
+    map: &TriHashMap<T, S>,
+    query: &Q,
+) -> bool
+    ensures { result ≡ true }
+{
+    match map.get1(query) {
+        Some(item) => map.contains_key1(query) && query.equivalent(item.key1()),
+        None => !map.contains_key1(query),
+    }
+}
+
+/// Whether an item is given by its second key exactly where the map has one with that key, and has that key itself.
+pub fn found2_where_contained<T: TriHashItem, S: BuildHasher, Q: Equivalent<T::K2>>(
+    map: &TriHashMap<T, S>,
+    query: &Q,
+) -> bool
+    ensures { result ≡ true }
+{
+    match map.get2(query) {
+        Some(item) => map.contains_key2(query) && query.equivalent(item.key2()),
+        None => !map.contains_key2(query),
+    }
+}
+
+/// Whether an item is given by its third key exactly where the map has one with that key, and has that key itself.
+pub fn found3_where_contained<T: TriHashItem, S: BuildHasher, Q: Equivalent<T::K3>>(
+    map: &TriHashMap<T, S>,
+    query: &Q,
+) -> bool
+    ensures { result ≡ true }
+{
+    match map.get3(query) {
+        Some(item) => map.contains_key3(query) && query.equivalent(item.key3()),
+        None => !map.contains_key3(query),
+    }
+}
+
+/// Whether an item is given by all keys exactly where the item of the first key has the other ones too.
+pub fn unique_where_all<
+    T: TriHashItem,
+    S: BuildHasher,
+    Q1: Equivalent<T::K1>,
+    Q2: Equivalent<T::K2>,
+    Q3: Equivalent<T::K3>,
+>(map: &TriHashMap<T, S>, query1: &Q1, query2: &Q2, query3: &Q3) -> bool
+    ensures { result ≡ true }
+{
+    let given = map.get_unique(query1, query2, query3).is_some();
+    match map.get1(query1) {
+        Some(item) => {
+            if query2.equivalent(item.key2()) {
+                if query3.equivalent(item.key3()) {
+                    return given;
+                }
+                return !given;
+            }
+            !given
+        }
+        None => !given,
+    }
+}

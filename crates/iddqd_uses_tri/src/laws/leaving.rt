@@ -1,0 +1,94 @@
+//! What is so once items have left.
+ghost use Rattle.std.specs.Prelude.{◌≡◌, true, false};
+
+use iddqd_tri::{TriHashItem, TriHashMap};
+use std::hash::{BuildHasher, Hash};
+
+/// Takes out the item with a first key, and says whether one of its keys is still found. None is.
+pub fn remove1_and_find_keys<T: TriHashItem + Drop, S: BuildHasher>(
+    map: &mut TriHashMap<T, S>,
+    key: &T::K1,
+) -> bool
+    ensures { result ≡ false }
+{
+    let _len = map.len();
+    match map.remove1(key) {
+        Some(item) => {
+            if map.contains_key1(item.key1()) {
+                return true;
+            }
+            if map.contains_key2(item.key2()) {
+                return true;
+            }
+            map.contains_key3(item.key3())
+        }
+        None => false,
+    }
+}
+
+/// Takes out the item with a second key, and says whether one of its keys is still found. None is.
+pub fn remove2_and_find_keys<T: TriHashItem + Drop, S: BuildHasher>(
+    map: &mut TriHashMap<T, S>,
+    key: &T::K2,
+) -> bool
+    ensures { result ≡ false }
+{
+    let _len = map.len();
+    match map.remove2(key) {
+        Some(item) => {
+            if map.contains_key1(item.key1()) {
+                return true;
+            }
+            if map.contains_key2(item.key2()) {
+                return true;
+            }
+            map.contains_key3(item.key3())
+        }
+        None => false,
+    }
+}
+
+/// Takes out the item with a third key, and says whether one of its keys is still found. None is.
+pub fn remove3_and_find_keys<T: TriHashItem + Drop, S: BuildHasher>(
+    map: &mut TriHashMap<T, S>,
+    key: &T::K3,
+) -> bool
+    ensures { result ≡ false }
+{
+    let _len = map.len();
+    match map.remove3(key) {
+        Some(item) => {
+            if map.contains_key1(item.key1()) {
+                return true;
+            }
+            if map.contains_key2(item.key2()) {
+                return true;
+            }
+            map.contains_key3(item.key3())
+        }
+        None => false,
+    }
+}
+
+/// Whether the map has one item more after an overwrite, less those that are given back, which are three at most.
+pub fn overwritten_length<T: TriHashItem + Drop, S: BuildHasher>(
+    map: &mut TriHashMap<T, S>,
+    item: T,
+) -> bool
+    ensures { result ≡ true }
+{
+    let before = map.len();
+    let _ = map.capacity();
+    match map.insert_overwrite(item) {
+        Ok(gone) => {
+            let count = gone.len();
+            drop(gone);
+            let _ = map.capacity();
+            count <= 3 && map.len() + count == before + 1
+        }
+        Err(refusal) => {
+            drop(refusal);
+            map.len() == before
+        }
+    }
+}

@@ -1,0 +1,92 @@
+//! What room that was made is good for, and that making it keeps the items.
+ghost use Rattle.std.specs.Prelude.{◌≡◌, ◌∷◌, ◌<◌, ◌≤◌, ◌⊎◌, true, length, IsPermutation};
+ghost use Rattle.iddqd_tri.specs.Map.{bag};
+
+use iddqd_tri::{InsertError, TriHashItem, TriHashMap};
+use std::hash::{BuildHasher, Hash};
+
+/// Whether an insert finds memory once room was made for one item.
+pub fn insert_after_reserve<T: TriHashItem + Drop, S: BuildHasher>(
+    map: &mut TriHashMap<T, S>,
+    item: T,
+) -> bool
+    ensures { result ≡ true }
+{
+    if map.try_reserve(1).is_err() {
+        return true;
+    }
+    insert_or_lack(map, item)
+}
+
+/// Puts an item in where nothing is in its way, drops it elsewhere, and says whether memory was no reason for that.
+fn insert_or_lack<T: TriHashItem + Drop, S: BuildHasher>(
+    map: &mut TriHashMap<T, S>,
+    item: T,
+) -> bool
+    ensures memory { length (bag map.old) < map.old.capacity → result ≡ true }
+    ensures one_at_most { IsPermutation (bag map.new) (item ∷ bag map.old) ⊎ (map.new ≡ map.old) }
+    ensures no_less_room { map.old.capacity ≤ map.new.capacity }
+{
+    match map.insert_unique(item) {
+        Ok(()) => true,
+        Err(InsertError::Duplicate(refusal)) => {
+            drop(refusal);
+            true
+        }
+        Err(InsertError::Memory(refusal)) => {
+            drop(refusal);
+            false
+        }
+    }
+}
+
+/// Whether the items of a vector find memory one after another, once room was made for as many.
+pub fn insert_all_after_reserve<T: TriHashItem + Drop, S: BuildHasher>(
+    map: &mut TriHashMap<T, S>,
+    mut items: Vec<T>,
+) -> bool
+    ensures { result ≡ true }
+{
+    if map.try_reserve(items.len()).is_err() {
+        return true;
+    }
+    while let Some(item) = items.pop() {
+        if !insert_or_lack(map, item) {
+            return false;
+        }
+    }
+    true
+}
+
+/// Whether the items of a vector find memory once room was made for as many.
+pub fn extend_after_reserve<T: TriHashItem + Drop, S: BuildHasher>(
+    map: &mut TriHashMap<T, S>,
+    items: Vec<T>,
+) -> bool
+    ensures { result ≡ true }
+{
+    if map.try_reserve(items.len()).is_err() {
+        return true;
+    }
+    map.extend(items).is_ok()
+}
+
+/// Makes room, and says whether it could. The items stay either way.
+pub fn reserve_keeps<T: TriHashItem, S: BuildHasher>(
+    map: &mut TriHashMap<T, S>,
+    more: usize,
+) -> bool
+    ensures { bag map.new ≡ bag map.old }
+{
+    map.reserve(more).is_ok()
+}
+
+/// Gives room back, and says whether it could. The items stay either way.
+pub fn shrink_keeps<T: TriHashItem + Drop, S: BuildHasher>(
+    map: &mut TriHashMap<T, S>,
+    least: usize,
+) -> bool
+    ensures { bag map.new ≡ bag map.old }
+{
+    map.shrink_to(least).is_ok() && map.shrink_to_fit().is_ok()
+}
