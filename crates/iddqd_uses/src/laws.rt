@@ -8,8 +8,12 @@ mod walking;
 pub use comparing::{
     equal_through_a_third, equal_to_itself, equal_to_the_same_items, equal_turned_round,
 };
-pub use finding::{found1_where_contained, found2_where_contained, unique_where_both};
-pub use leaving::{overwritten_length, remove1_and_find_keys, remove2_and_find_keys};
+pub use finding::{
+    found1_where_contained, found2_where_contained, unique_where_both, unique_where_contained,
+};
+pub use leaving::{
+    overwritten_length, remove_unique_and_find_keys, remove1_and_find_keys, remove2_and_find_keys,
+};
 pub use rooming::{
     extend_after_reserve, insert_after_reserve, insert_all_after_reserve, reserve_keeps,
     shrink_keeps,

@@ -26,7 +26,8 @@ pub use laws::{
     all_given, equal_through_a_third, equal_to_itself, equal_to_the_same_items, equal_turned_round,
     extend_after_reserve, found1_where_contained, found2_where_contained, insert_after_reserve,
     insert_all_after_reserve, length_is_exact, none_again, overwritten_length,
-    remove1_and_find_keys, remove2_and_find_keys, reserve_keeps, shrink_keeps, unique_where_both,
+    remove_unique_and_find_keys, remove1_and_find_keys, remove2_and_find_keys, reserve_keeps,
+    shrink_keeps, unique_where_both, unique_where_contained,
 };
 pub use loading::load;
 pub use users::{User, by_login, register, register_all};

@@ -10,9 +10,11 @@ pub use comparing::{
 };
 pub use finding::{
     found1_where_contained, found2_where_contained, found3_where_contained, unique_where_all,
+    unique_where_contained,
 };
 pub use leaving::{
-    overwritten_length, remove1_and_find_keys, remove2_and_find_keys, remove3_and_find_keys,
+    overwritten_length, remove_unique_and_find_keys, remove1_and_find_keys, remove2_and_find_keys,
+    remove3_and_find_keys,
 };
 pub use rooming::{
     extend_after_reserve, insert_after_reserve, insert_all_after_reserve, reserve_keeps,

@@ -35,6 +35,10 @@ module _ {T : Type 0} where
   pub given-listed : (test : T → Bool) (bag : List T) (x : T) → x ∷ [] ≡ filter test bag → list_any test bag ≡ true
   given-listed test bag x is = any_listed test bag ∙ ap some_item (sym is)
 
+  -- a lookup gives something exactly where a member passes
+  pub given-some : (test : T → Bool) (bag : List T) (given : Option (Bor T)) → IsOnly test bag (option_copied given) → is_some given ≡ list_any test bag
+  given-some test bag given only = is_some-found test bag given only
+
   -- where it gives nothing, none does
   pub none-listed : (test : T → Bool) (bag : List T) → [] ≡ filter test bag → list_any test bag ≡ false
   none-listed test bag is = any_listed test bag ∙ ap some_item (sym is)

@@ -51,3 +51,20 @@ pub fn unique_where_both<
         None => !given,
     }
 }
+
+/// Whether an item is given by both keys exactly where the map has one with both.
+pub fn unique_where_contained<
+    T: BiHashItem,
+    S: BuildHasher,
+    Q1: Equivalent<T::K1>,
+    Q2: Equivalent<T::K2>,
+>(map: &BiHashMap<T, S>, query1: &Q1, query2: &Q2) -> bool
+    ensures { result ≡ true }
+{
+    let given = map.get_unique(query1, query2).is_some();
+    if map.contains_key_unique(query1, query2) {
+        given
+    } else {
+        !given
+    }
+}

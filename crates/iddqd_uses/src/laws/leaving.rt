@@ -42,6 +42,26 @@ pub fn remove2_and_find_keys<T: BiHashItem + Drop, S: BuildHasher>(
     }
 }
 
+/// Takes out the item with both keys, and says whether one of its keys is still found. None is.
+pub fn remove_unique_and_find_keys<T: BiHashItem + Drop, S: BuildHasher>(
+    map: &mut BiHashMap<T, S>,
+    key1: &T::K1,
+    key2: &T::K2,
+) -> bool
+    ensures { result ≡ false }
+{
+    let _len = map.len();
+    match map.remove_unique(key1, key2) {
+        Some(item) => {
+            if map.contains_key1(item.key1()) {
+                return true;
+            }
+            map.contains_key2(item.key2())
+        }
+        None => false,
+    }
+}
+
 /// Whether the map has one item more after an overwrite, less those that are given back, which are two at most.
 pub fn overwritten_length<T: BiHashItem + Drop, S: BuildHasher>(
     map: &mut BiHashMap<T, S>,

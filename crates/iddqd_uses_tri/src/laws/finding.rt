@@ -67,3 +67,21 @@ pub fn unique_where_all<
         None => !given,
     }
 }
+
+/// Whether an item is given by all keys exactly where the map has one with all.
+pub fn unique_where_contained<
+    T: TriHashItem,
+    S: BuildHasher,
+    Q1: Equivalent<T::K1>,
+    Q2: Equivalent<T::K2>,
+    Q3: Equivalent<T::K3>,
+>(map: &TriHashMap<T, S>, query1: &Q1, query2: &Q2, query3: &Q3) -> bool
+    ensures { result ≡ true }
+{
+    let given = map.get_unique(query1, query2, query3).is_some();
+    if map.contains_key_unique(query1, query2, query3) {
+        given
+    } else {
+        !given
+    }
+}

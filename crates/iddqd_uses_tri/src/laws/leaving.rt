@@ -70,6 +70,30 @@ pub fn remove3_and_find_keys<T: TriHashItem + Drop, S: BuildHasher>(
     }
 }
 
+/// Takes out the item with all keys, and says whether one of its keys is still found. None is.
+pub fn remove_unique_and_find_keys<T: TriHashItem + Drop, S: BuildHasher>(
+    map: &mut TriHashMap<T, S>,
+    key1: &T::K1,
+    key2: &T::K2,
+    key3: &T::K3,
+) -> bool
+    ensures { result ≡ false }
+{
+    let _len = map.len();
+    match map.remove_unique(key1, key2, key3) {
+        Some(item) => {
+            if map.contains_key1(item.key1()) {
+                return true;
+            }
+            if map.contains_key2(item.key2()) {
+                return true;
+            }
+            map.contains_key3(item.key3())
+        }
+        None => false,
+    }
+}
+
 /// Whether the map has one item more after an overwrite, less those that are given back, which are three at most.
 pub fn overwritten_length<T: TriHashItem + Drop, S: BuildHasher>(
     map: &mut TriHashMap<T, S>,
