@@ -1,5 +1,10 @@
 //! Values that refusals and displacements hold are dropped once.
-use iddqd_bi::{BiHashItem, BiHashMap, FromIterError, InsertError};
+ghost use Rattle.std.specs.Prelude.{⊤};
+ghost use Rattle.std.proofs.Common.{rules};
+
+use iddqd_bi::{
+    BiCommand, BiHashItem, BiHashItemMut, BiHashMap, BiReply, BiSink, FromIterError, InsertError,
+};
 use iddqd_store::{ExtendUniqueError, UpToTwo};
 use std::alloc::{AllocError, Global};
 use std::rc::Rc;
@@ -28,6 +33,24 @@ impl BiHashItem for Held {
 
     fn key2(&self) -> &u64 {
         &self.key2
+    }
+}
+
+impl BiHashItemMut for Held {
+    type Data = Rc<()>;
+
+    ghost payload = { λ x. x.alive };
+
+    ghost put = { λ x d. record x { alive = d } };
+
+    ghost keeps_key1 = { Prim.search rules };
+
+    ghost keeps_key2 = { Prim.search rules };
+
+    ghost put_shows = { Prim.search rules };
+
+    fn data_mut(&mut self) -> &mut Rc<()> {
+        &mut self.alive
     }
 }
 
@@ -245,5 +268,76 @@ fn replaced_items_are_dropped_once(rt: HostRuntime) -> Result<(), Fail> {
         drop(map);
         assert!(rt; Rc::strong_count(&alive) == 1);
     }
+    Ok(())
+}
+
+/// The counts once an entry of these keys answered an item, and once the answer, or the item that it hands back, is gone.
+fn turned_down(
+    map: &mut BiHashMap<Held>,
+    (key1, key2): (u64, u64),
+    item: Held,
+    alive: &Rc<()>,
+    is_taken: bool,
+) -> [usize; 2] {
+    match map.entry(&key1, &key2).or_insert(item) {
+        Ok(_) => [Rc::strong_count(alive); 2],
+        Err(refusal) => {
+            let during = Rc::strong_count(alive);
+            if is_taken {
+                drop(refusal.into_error().into_item());
+            } else {
+                drop(refusal);
+            }
+            [during, Rc::strong_count(alive)]
+        }
+    }
+}
+
+// An entry that is vacant refuses an item with other keys, and one that is occupied drops it.
+#[test]
+fn items_that_entries_refuse_are_dropped_once(rt: HostRuntime) -> Result<(), Fail> {
+    for (keys, is_taken, during) in [((9, 90), false, 4), ((9, 90), true, 4), ((1, 20), true, 3)] {
+        let alive = Rc::new(rt.alloc(), ())?;
+        let (mut map, item) = two_and(rt.alloc(), &alive, (3, 30))?;
+        assert!(rt; turned_down(&mut map, keys, item, &alive, is_taken) == [during, 3]);
+        assert!(rt; map.len() == 2);
+    }
+    Ok(())
+}
+
+/// Takes no reply.
+#[derive(Drop)]
+struct Deaf;
+
+impl BiSink<Held> for Deaf {
+    type Fault = ();
+
+    ghost took = { λ _ _ _ _. ⊤ };
+
+    fn take(&mut self, reply: BiReply<'_, Held>) -> Result<(), ()>
+        ensures { ⊤ }
+    {
+        drop(reply);
+        Err(())
+    }
+}
+
+/// An insert of each item.
+fn inserts(alloc: Global, items: Vec<Held>) -> Result<Vec<BiCommand<Held>>, AllocError> {
+    let mut commands = Vec::new(alloc);
+    for item in items {
+        commands.push(BiCommand::InsertUnique(item))?;
+    }
+    Ok(commands)
+}
+
+#[test]
+fn what_a_run_leaves_is_dropped_once(rt: HostRuntime) -> Result<(), Fail> {
+    let alive = Rc::new(rt.alloc(), ())?;
+    let commands = inserts(rt.alloc(), listed(rt.alloc(), &alive, FOUR)?)?;
+    let mut map = BiHashMap::<Held>::new(rt.alloc());
+    assert!(rt; map.run(commands, &mut Deaf).is_err());
+    // The first item went in, and the commands behind it are gone with theirs.
+    assert!(rt; map.len() == 1 && Rc::strong_count(&alive) == 2);
     Ok(())
 }

@@ -1,7 +1,11 @@
 //! Items that are counted, whose own clone may refuse: they are dropped once, and copies of a map are whole or none.
-ghost use Rattle.std.specs.Prelude.{◌≡◌};
+ghost use Rattle.std.specs.Prelude.{◌≡◌, ⊤};
+ghost use Rattle.std.proofs.Common.{rules};
 
-use iddqd_tri::{ExtendUniqueError, FromIterError, InsertError, TriHashItem, TriHashMap};
+use iddqd_tri::{
+    ExtendUniqueError, FromIterError, InsertError, TriCommand, TriHashItem, TriHashItemMut,
+    TriHashMap, TriReply, TriSink,
+};
 use std::alloc::{AllocError, Global};
 use std::cell::Cell;
 use std::rc::Rc;
@@ -58,6 +62,26 @@ impl TriHashItem for Held {
 
     fn key3(&self) -> &u64 {
         &self.key3
+    }
+}
+
+impl TriHashItemMut for Held {
+    type Data = Rc<Cell<u64>>;
+
+    ghost payload = { λ x. x.left };
+
+    ghost put = { λ x d. record x { left = d } };
+
+    ghost keeps_key1 = { Prim.search rules };
+
+    ghost keeps_key2 = { Prim.search rules };
+
+    ghost keeps_key3 = { Prim.search rules };
+
+    ghost put_shows = { Prim.search rules };
+
+    fn data_mut(&mut self) -> &mut Rc<Cell<u64>> {
+        &mut self.left
     }
 }
 
@@ -286,5 +310,81 @@ fn lent_items_are_dropped_once(rt: HostRuntime) -> Result<(), Fail> {
         drop(map);
         assert!(rt; Rc::strong_count(&alive) == 1);
     }
+    Ok(())
+}
+
+/// The counts once an entry of these keys answered an item, and once the answer, or the item that it hands back, is gone.
+fn turned_down(
+    map: &mut TriHashMap<Held>,
+    (key1, key2, key3): Keys,
+    item: Held,
+    alive: &Rc<Cell<u64>>,
+    is_taken: bool,
+) -> [usize; 2] {
+    match map.entry(&key1, &key2, &key3).or_insert(item) {
+        Ok(_) => [Rc::strong_count(alive); 2],
+        Err(refusal) => {
+            let during = Rc::strong_count(alive);
+            if is_taken {
+                drop(refusal.into_error().into_item());
+            } else {
+                drop(refusal);
+            }
+            [during, Rc::strong_count(alive)]
+        }
+    }
+}
+
+// An entry that is vacant refuses an item with other keys, and one that is occupied drops it.
+#[test]
+fn items_that_entries_refuse_are_dropped_once(rt: HostRuntime) -> Result<(), Fail> {
+    let vacant = (9, 90, 900);
+    for (keys, is_taken, during) in [
+        (vacant, false, 6),
+        (vacant, true, 6),
+        ((1, 20, 900), true, 5),
+    ] {
+        let alive = Rc::new(rt.alloc(), Cell::new(0))?;
+        let (mut map, item) = four_and(rt.alloc(), &alive, (5, 50, 500))?;
+        assert!(rt; turned_down(&mut map, keys, item, &alive, is_taken) == [during, 5]);
+        assert!(rt; map.len() == 4);
+    }
+    Ok(())
+}
+
+/// Takes no reply.
+#[derive(Drop)]
+struct Deaf;
+
+impl TriSink<Held> for Deaf {
+    type Fault = ();
+
+    ghost took = { λ _ _ _ _. ⊤ };
+
+    fn take(&mut self, reply: TriReply<'_, Held>) -> Result<(), ()>
+        ensures { ⊤ }
+    {
+        drop(reply);
+        Err(())
+    }
+}
+
+/// An insert of each item.
+fn inserts(alloc: Global, items: Vec<Held>) -> Result<Vec<TriCommand<Held>>, AllocError> {
+    let mut commands = Vec::new(alloc);
+    for item in items {
+        commands.push(TriCommand::InsertUnique(item))?;
+    }
+    Ok(commands)
+}
+
+#[test]
+fn what_a_run_leaves_is_dropped_once(rt: HostRuntime) -> Result<(), Fail> {
+    let alive = Rc::new(rt.alloc(), Cell::new(0))?;
+    let commands = inserts(rt.alloc(), listed(rt.alloc(), &alive, FOUR)?)?;
+    let mut map = TriHashMap::<Held>::new(rt.alloc());
+    assert!(rt; map.run(commands, &mut Deaf).is_err());
+    // The first item went in, and the commands behind it are gone with theirs.
+    assert!(rt; map.len() == 1 && Rc::strong_count(&alive) == 2);
     Ok(())
 }
