@@ -91,6 +91,13 @@ module _ {T S K1 K2 H : Type 0} where
     pub unchanged : IfOk result (λ m. m.map.now ≡ o.map.now)
     pub holds : HasFound of eq1 eq2 o → IfOk result (HoldsFound of eq1 eq2 o)
 
+  -- the entry in whose map the item with the first key is changed so, and that with another
+  abbrev pub entry_with1 : OccupiedEntry T S K1 K2 H → (T → T) → OccupiedEntry T S K1 K2 H
+  entry_with1 o f = record o { map = record o.map { now = map_with_if o.map.now o.slot1 f } }
+
+  abbrev pub entry_with2 : OccupiedEntry T S K1 K2 H → (T → T) → OccupiedEntry T S K1 K2 H
+  entry_with2 o f = record o { map = record o.map { now = map_with_if o.map.now o.slot2 f } }
+
 module _ {T S Q K1 K2 H : Type 0} {of : item.Ghosts T K1 K2} {eq1 : equal.Ghosts K1} {input1 : hash.Ghosts K1} {eq2 : equal.Ghosts K2} {input2 : hash.Ghosts K2} {build : builder.Ghosts S H} {hashes : hasher.Ghosts H} {q : pair.Ghosts Q K1 K2} where
   -- the reference to the map
   abbrev pub entry_lender : Entry T S Q K1 K2 H of eq1 input1 eq2 input2 build hashes q → GName
@@ -179,7 +186,7 @@ module _ (T S K1 K2 H : RattleType) (of : item.Ghosts T.Denot K1.Denot K2.Denot)
 
   -- the item with the first key has the last data written through r, and that with the second
   abbrev pub lends_data1 : (D : RattleType) → (T.Denot → D.Denot → T.Denot) → MutBor (OccupiedEntry T.Denot S.Denot K1.Denot K2.Denot H.Denot) → Option (MutBor D.Denot) → Fml
-  lends_data1 D put m r = LendsIf entry_row D m r (λ d. record m.now { map = record m.now.map { now = map_with_if m.now.map.now m.now.slot1 (λ x. put x d) } }) m.now
+  lends_data1 D put m r = LendsIf entry_row D m r (λ d. entry_with1 m.now (λ x. put x d)) m.now
 
   abbrev pub lends_data2 : (D : RattleType) → (T.Denot → D.Denot → T.Denot) → MutBor (OccupiedEntry T.Denot S.Denot K1.Denot K2.Denot H.Denot) → Option (MutBor D.Denot) → Fml
-  lends_data2 D put m r = LendsIf entry_row D m r (λ d. record m.now { map = record m.now.map { now = map_with_if m.now.map.now m.now.slot2 (λ x. put x d) } }) m.now
+  lends_data2 D put m r = LendsIf entry_row D m r (λ d. entry_with2 m.now (λ x. put x d)) m.now

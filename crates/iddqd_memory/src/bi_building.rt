@@ -233,6 +233,40 @@ fn grants_extend_by_what_is_promised(rt: HostRuntime) {
     granted(&rt, extend_by_what_is_promised(&rt, rt.alloc()));
 }
 
+/// Five rows that do not conflict: more than a map has room for after its first growth.
+fn five_rows() -> [Row; 5] {
+    [
+        row_of(1, 10, 0),
+        row_of(2, 20, 0),
+        row_of(3, 30, 0),
+        row_of(4, 40, 0),
+        row_of(5, 50, 0),
+    ]
+}
+
+/// Whether a map of these is made by this call, which asks for room for as many as the iterator promises, at once.
+fn is_made_of_what_is_promised(alloc: Global, call: u64) -> bool {
+    match call {
+        0 => extend_by_five(alloc),
+        1 => BiHashMap::<Row>::from_iter(alloc, five_rows()).is_ok(),
+        _ => BiHashMap::<Row>::from_iter_unique(alloc, five_rows()).is_ok(),
+    }
+}
+
+fn extend_by_five(alloc: Global) -> bool {
+    let mut map = BiHashMap::<Row>::new(alloc);
+    map.extend(five_rows()).is_ok()
+}
+
+// Each of them makes one request for the slots and one for each table.
+#[test]
+fn allows_what_is_promised(rt: HostRuntime) {
+    for call in 0..3 {
+        assert!(rt; is_made_of_what_is_promised(rt.alloc(), call));
+    }
+    let _ = println!(rt; "requests: 9");
+}
+
 #[test]
 fn allows_from_iter(rt: HostRuntime) {
     let _ = from_iter(&rt, rt.alloc());

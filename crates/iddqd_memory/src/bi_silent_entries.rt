@@ -42,6 +42,13 @@ const BESIDE: Row = Row {
     value: 0,
 };
 
+/// It has the first key that is asked for, and another second one.
+const OTHER2: Row = Row {
+    key1: 8,
+    key2: 10,
+    value: 0,
+};
+
 /// What is done with a full map.
 #[derive(Clone, Copy)]
 enum Call {
@@ -50,6 +57,7 @@ enum Call {
     SeenForGood,
     Lent,
     LentForGood,
+    UniqueForGood,
     ForEach,
     Insert,
     InsertRefused,
@@ -58,6 +66,7 @@ enum Call {
     Data2,
     Vacant,
     VacantInsert,
+    VacantInsert2,
     VacantInsertMut,
     VacantInsertEntry,
     OrInsert,
@@ -72,6 +81,7 @@ const OCCUPIED: &[Call] = &[
     Call::SeenForGood,
     Call::Lent,
     Call::LentForGood,
+    Call::UniqueForGood,
     Call::ForEach,
     Call::Insert,
     Call::InsertRefused,
@@ -85,6 +95,7 @@ const OCCUPIED: &[Call] = &[
 const VACANT: &[Call] = &[
     Call::Vacant,
     Call::VacantInsert,
+    Call::VacantInsert2,
     Call::VacantInsertMut,
     Call::VacantInsertEntry,
     Call::OrInsertRefused,
@@ -99,6 +110,7 @@ fn is_right(map: &mut BiHashMap<Row>, call: Call) -> bool {
         Call::SeenForGood => see_for_good(map, SAME),
         Call::Lent => lend(map, OVER),
         Call::LentForGood => lend_for_good(map, SAME),
+        Call::UniqueForGood => lend_unique_for_good(map, SAME),
         Call::ForEach => for_each(map, OVER) == 2,
         Call::Insert => insert(map, OVER, OVER) == Some(2),
         Call::InsertRefused => insert(map, OVER, BESIDE) == Some(0),
@@ -107,6 +119,7 @@ fn is_right(map: &mut BiHashMap<Row>, call: Call) -> bool {
         Call::Data2 => write_data2(map, OVER),
         Call::Vacant => is_vacant(map, BESIDE),
         Call::VacantInsert => is_refused(map, BESIDE, SAME),
+        Call::VacantInsert2 => is_refused_behind(map, BESIDE, OTHER2),
         Call::VacantInsertMut => is_refused_mut(map, BESIDE, SAME),
         Call::VacantInsertEntry => is_refused_entry(map, BESIDE, SAME),
         Call::OrInsert => or_insert(map, OVER, BESIDE),
@@ -171,6 +184,13 @@ fn is_lent_for_good(held: OccupiedEntryMut<'_, Row>) -> bool
     held.is_unique() && !held.is_non_unique() && held.into_by_key2().is_some()
 }
 
+fn lend_unique_for_good(map: &mut BiHashMap<Row>, keys: Row) -> bool {
+    match map.entry(&keys.key1, &keys.key2) {
+        Entry::Occupied(found) => found.into_mut().into_unique().is_some(),
+        Entry::Vacant(_) => false,
+    }
+}
+
 fn for_each(map: &mut BiHashMap<Row>, keys: Row) -> u64 {
     let mut calls: u64 = 0;
     match map.entry(&keys.key1, &keys.key2) {
@@ -230,11 +250,30 @@ fn is_of_key1(error: EntryError<Row>) -> bool {
     }
 }
 
+/// Whether the refusal is for a key behind the first one.
+fn is_of_later_key(error: EntryError<Row>) -> bool {
+    match error {
+        EntryError::Key1(_) | EntryError::Memory(_) => false,
+        _ => true,
+    }
+}
+
 fn is_refused(map: &mut BiHashMap<Row>, keys: Row, item: Row) -> bool {
     match map.entry(&keys.key1, &keys.key2) {
         Entry::Vacant(entry) => match entry.insert(item) {
             Ok(_found) => false,
             Err(error) => is_of_key1(error),
+        },
+        Entry::Occupied(_) => false,
+    }
+}
+
+/// Whether the refusal is for a key behind the first one, and not for want of memory.
+fn is_refused_behind(map: &mut BiHashMap<Row>, keys: Row, item: Row) -> bool {
+    match map.entry(&keys.key1, &keys.key2) {
+        Entry::Vacant(entry) => match entry.insert(item) {
+            Ok(_found) => false,
+            Err(error) => is_of_later_key(error),
         },
         Entry::Occupied(_) => false,
     }

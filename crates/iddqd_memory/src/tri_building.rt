@@ -208,6 +208,40 @@ fn grants_extend_when_full(rt: HostRuntime) {
     granted(&rt, extend_when_full(&rt, rt.alloc()));
 }
 
+/// Five items that do not conflict: more than a map has room for after its first growth.
+fn five() -> [Trio; 5] {
+    [
+        trio_of(1, 10, 100),
+        trio_of(2, 20, 200),
+        trio_of(3, 30, 300),
+        trio_of(4, 40, 400),
+        trio_of(5, 50, 500),
+    ]
+}
+
+/// Whether a map of these is made by this call, which asks for room for as many as the iterator promises, at once.
+fn is_made_of_what_is_promised(alloc: Global, call: u64) -> bool {
+    match call {
+        0 => extend_by_all_five(alloc),
+        1 => TriHashMap::<Trio>::from_iter(alloc, five()).is_ok(),
+        _ => TriHashMap::<Trio>::from_iter_unique(alloc, five()).is_ok(),
+    }
+}
+
+fn extend_by_all_five(alloc: Global) -> bool {
+    let mut map = TriHashMap::<Trio>::new(alloc);
+    map.extend(five()).is_ok()
+}
+
+// Each of them makes one request for the slots and one for each table.
+#[test]
+fn allows_what_is_promised(rt: HostRuntime) {
+    for call in 0..3 {
+        assert!(rt; is_made_of_what_is_promised(rt.alloc(), call));
+    }
+    let _ = println!(rt; "requests: 12");
+}
+
 #[test]
 fn allows_from_iter(rt: HostRuntime) {
     let _ = from_iter(&rt, rt.alloc());

@@ -54,6 +54,22 @@ const BESIDE: Row = Row {
     value: 0,
 };
 
+/// It has the first key that is asked for, and another second one.
+const OTHER2: Row = Row {
+    key1: 8,
+    key2: 10,
+    key3: 800,
+    value: 0,
+};
+
+/// It has the first two keys that are asked for, and another third one.
+const OTHER3: Row = Row {
+    key1: 8,
+    key2: 80,
+    key3: 100,
+    value: 0,
+};
+
 /// What is done with a full map.
 #[derive(Clone, Copy)]
 enum Call {
@@ -62,6 +78,7 @@ enum Call {
     SeenForGood,
     Lent,
     LentForGood,
+    UniqueForGood,
     ForEach,
     Insert,
     InsertRefused,
@@ -71,6 +88,8 @@ enum Call {
     Data3,
     Vacant,
     VacantInsert,
+    VacantInsert2,
+    VacantInsert3,
     VacantInsertMut,
     VacantInsertEntry,
     OrInsert,
@@ -85,6 +104,7 @@ const OCCUPIED: &[Call] = &[
     Call::SeenForGood,
     Call::Lent,
     Call::LentForGood,
+    Call::UniqueForGood,
     Call::ForEach,
     Call::Insert,
     Call::InsertRefused,
@@ -99,6 +119,8 @@ const OCCUPIED: &[Call] = &[
 const VACANT: &[Call] = &[
     Call::Vacant,
     Call::VacantInsert,
+    Call::VacantInsert2,
+    Call::VacantInsert3,
     Call::VacantInsertMut,
     Call::VacantInsertEntry,
     Call::OrInsertRefused,
@@ -113,6 +135,7 @@ fn is_right(map: &mut TriHashMap<Row>, call: Call) -> bool {
         Call::SeenForGood => see_for_good(map, SAME),
         Call::Lent => lend(map, OVER),
         Call::LentForGood => lend_for_good(map, SAME),
+        Call::UniqueForGood => lend_unique_for_good(map, SAME),
         Call::ForEach => for_each(map, OVER) == 3,
         Call::Insert => insert(map, OVER, OVER) == Some(3),
         Call::InsertRefused => insert(map, OVER, BESIDE) == Some(0),
@@ -122,6 +145,8 @@ fn is_right(map: &mut TriHashMap<Row>, call: Call) -> bool {
         Call::Data3 => write_data3(map, OVER),
         Call::Vacant => is_vacant(map, BESIDE),
         Call::VacantInsert => is_refused(map, BESIDE, SAME),
+        Call::VacantInsert2 => is_refused_behind(map, BESIDE, OTHER2),
+        Call::VacantInsert3 => is_refused_behind(map, BESIDE, OTHER3),
         Call::VacantInsertMut => is_refused_mut(map, BESIDE, SAME),
         Call::VacantInsertEntry => is_refused_entry(map, BESIDE, SAME),
         Call::OrInsert => or_insert(map, OVER, BESIDE),
@@ -190,6 +215,13 @@ fn is_lent_for_good(held: OccupiedEntryMut<'_, Row>) -> bool
     requires { Holds held }
 {
     held.is_unique() && !held.is_non_unique() && held.into_by_key3().is_some()
+}
+
+fn lend_unique_for_good(map: &mut TriHashMap<Row>, keys: Row) -> bool {
+    match map.entry(&keys.key1, &keys.key2, &keys.key3) {
+        Entry::Occupied(found) => found.into_mut().into_unique().is_some(),
+        Entry::Vacant(_) => false,
+    }
 }
 
 fn for_each(map: &mut TriHashMap<Row>, keys: Row) -> u64 {
@@ -265,11 +297,30 @@ fn is_of_key1(error: EntryError<Row>) -> bool {
     }
 }
 
+/// Whether the refusal is for a key behind the first one.
+fn is_of_later_key(error: EntryError<Row>) -> bool {
+    match error {
+        EntryError::Key1(_) | EntryError::Memory(_) => false,
+        _ => true,
+    }
+}
+
 fn is_refused(map: &mut TriHashMap<Row>, keys: Row, item: Row) -> bool {
     match map.entry(&keys.key1, &keys.key2, &keys.key3) {
         Entry::Vacant(entry) => match entry.insert(item) {
             Ok(_found) => false,
             Err(error) => is_of_key1(error),
+        },
+        Entry::Occupied(_) => false,
+    }
+}
+
+/// Whether the refusal is for a key behind the first one, and not for want of memory.
+fn is_refused_behind(map: &mut TriHashMap<Row>, keys: Row, item: Row) -> bool {
+    match map.entry(&keys.key1, &keys.key2, &keys.key3) {
+        Entry::Vacant(entry) => match entry.insert(item) {
+            Ok(_found) => false,
+            Err(error) => is_of_later_key(error),
         },
         Entry::Occupied(_) => false,
     }

@@ -7,6 +7,7 @@ mod entries;
 mod finding;
 mod inserting;
 mod laws;
+mod lent;
 mod loading;
 mod users;
 mod walking;
@@ -29,6 +30,7 @@ pub use laws::{
     remove_unique_and_find_keys, remove1_and_find_keys, remove2_and_find_keys, reserve_keeps,
     shrink_keeps, unique_where_both, unique_where_contained,
 };
+pub use lent::{insert_held, write_by_key1, write_data1};
 pub use loading::load;
 pub use users::{User, by_login, register, register_all};
 pub use walking::{write_all, write_first, write_first_and_count};

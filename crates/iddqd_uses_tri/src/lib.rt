@@ -6,6 +6,7 @@ mod entries;
 mod finding;
 mod inserting;
 mod laws;
+mod lent;
 mod loading;
 mod sessions;
 mod walking;
@@ -27,6 +28,7 @@ pub use laws::{
     overwritten_length, remove_unique_and_find_keys, remove1_and_find_keys, remove2_and_find_keys,
     remove3_and_find_keys, reserve_keeps, shrink_keeps, unique_where_all, unique_where_contained,
 };
+pub use lent::{insert_held, write_by_key1, write_data1};
 pub use loading::load;
 pub use sessions::{Session, by_token, close_of_user, open, open_all};
 pub use walking::{write_all, write_first, write_first_and_count};

@@ -3,10 +3,10 @@ ghost use Rattle.std.specs.Prelude.{◌≡◌, None, Some, not, filter, map, IfO
 ghost use Rattle.std.specs.Option.{option_copied_mut, option_to_list};
 ghost use Rattle.std.specs.Borrow.{sem};
 ghost use Rattle.std.specs.Fn.{CalledAt};
-ghost use Rattle.iddqd_store.specs.Bag.{IsOnly, differ, entry, is_unique, listing, over, unique};
+ghost use Rattle.iddqd_store.specs.Bag.{IsOnly, differ, entry, is_unique, listing, over, swap, unique};
 ghost use Rattle.iddqd_store.specs.Bag.Storing.{Stores};
 ghost use Rattle.iddqd_store.specs.Map.{bag, Loses};
-ghost use Rattle.iddqd_bi.specs.Entries.{FindsSame, HasFound, HoldsFound, sought, lends_data1, lends_data2, lends_held};
+ghost use Rattle.iddqd_bi.specs.Entries.{FindsSame, HasFound, HoldsFound, entry_with1, entry_with2, sought, lends_data1, lends_data2, lends_held};
 ghost use Rattle.iddqd_bi.specs.Keys.{has1, has2, ranks};
 ghost use Rattle.iddqd_bi.specs.Mismatch.{mismatch_item, mismatch_rank};
 ghost use Rattle.iddqd_bi.specs.OccupiedRefs.{is_one, seen1, seen2};
@@ -171,6 +171,10 @@ impl<'a, T: BiHashItemMut, S: BuildHasher> OccupiedEntry<'a, T, S> {
             T.BiHashItem T.K1.Hash T.K2.Hash S.BuildHasher S.Hasher.Hasher T.Data.row T.put self.entry result) }
         ensures value { option_to_list (option_copied_mut result)
             ≡ map T.payload (filter (has1 T.BiHashItem T.K1.eq self.old.key1.now) (bag self.old.map.now)) }
+        ensures swaps { (x : T) (d : T.Data)
+            → IsOnly (has1 T.BiHashItem T.K1.eq self.old.key1.now) (bag self.old.map.now) (Some x)
+            → IsPermutation (bag (entry_with1 self.old (λ y. T.put y d)).map.now)
+            (swap (ranks T.BiHashItem T.K1.eq T.K2.eq) (bag self.old.map.now) x (T.put x d)) }
     {
         let slot1 = self.slot1;
         self.map.data_of(slot1)
@@ -183,6 +187,10 @@ impl<'a, T: BiHashItemMut, S: BuildHasher> OccupiedEntry<'a, T, S> {
             T.BiHashItem T.K1.Hash T.K2.Hash S.BuildHasher S.Hasher.Hasher T.Data.row T.put self.entry result) }
         ensures value { option_to_list (option_copied_mut result)
             ≡ map T.payload (filter (has2 T.BiHashItem T.K2.eq self.old.key2.now) (bag self.old.map.now)) }
+        ensures swaps { (x : T) (d : T.Data)
+            → IsOnly (has2 T.BiHashItem T.K2.eq self.old.key2.now) (bag self.old.map.now) (Some x)
+            → IsPermutation (bag (entry_with2 self.old (λ y. T.put y d)).map.now)
+            (swap (ranks T.BiHashItem T.K1.eq T.K2.eq) (bag self.old.map.now) x (T.put x d)) }
     {
         let slot2 = self.slot2;
         self.map.data_of(slot2)

@@ -20,6 +20,11 @@ use Rattle.iddqd_store.proofs.SlotLemmas.Found.{listing_found}
 itself : (a : ℕ) → nat_eq a a ≡ true
 itself a = grind (arith, nat_tests)
 
+-- what a search found is the one member that passes
+pub found_only : {T : Type 0} (found : Option T) (x : T) (xs : List T) → option_to_list found ≡ xs → x ∷ [] ≡ xs → found ≡ Some x
+found_only None x xs is only = absurd (cc (is, only))
+found_only (Some y) x xs is only = let same : y ≡ x = cc (is, only) in ap Some same
+
 -- what is a part of the item in a slot is the part of what is there
 pub part_there : {T D : Type 0} (part : T → D) (d : D) (o : Option T) → IsSome o → ((x : T) → o ≡ Some x → d ≡ part x) → Some d ≡ option_map part o
 part_there part d None some is = absurd (cc)

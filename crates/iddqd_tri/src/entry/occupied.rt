@@ -3,10 +3,10 @@ ghost use Rattle.std.specs.Prelude.{◌≡◌, None, Some, not, filter, map, IfO
 ghost use Rattle.std.specs.Option.{option_copied_mut, option_to_list};
 ghost use Rattle.std.specs.Borrow.{sem};
 ghost use Rattle.std.specs.Fn.{CalledAt};
-ghost use Rattle.iddqd_store.specs.Bag.{IsOnly, differ, entry, is_unique, listing, over, unique};
+ghost use Rattle.iddqd_store.specs.Bag.{IsOnly, differ, entry, is_unique, listing, over, swap, unique};
 ghost use Rattle.iddqd_store.specs.Bag.Storing.{Stores};
 ghost use Rattle.iddqd_store.specs.Map.{bag, Loses};
-ghost use Rattle.iddqd_tri.specs.Entries.{FindsSame, HasFound, HoldsFound, sought, lends_data1, lends_data2, lends_data3, lends_held};
+ghost use Rattle.iddqd_tri.specs.Entries.{FindsSame, HasFound, HoldsFound, entry_with1, entry_with2, entry_with3, sought, lends_data1, lends_data2, lends_data3, lends_held};
 ghost use Rattle.iddqd_tri.specs.Keys.{has1, has2, has3, ranks};
 ghost use Rattle.iddqd_tri.specs.Mismatch.{mismatch_item, mismatch_rank};
 ghost use Rattle.iddqd_tri.specs.OccupiedRefs.{is_one, seen1, seen2, seen3};
@@ -206,6 +206,10 @@ impl<'a, T: TriHashItemMut, S: BuildHasher> OccupiedEntry<'a, T, S> {
             T.Data.row T.put self.entry result) }
         ensures value { option_to_list (option_copied_mut result)
             ≡ map T.payload (filter (has1 T.TriHashItem T.K1.eq self.old.key1.now) (bag self.old.map.now)) }
+        ensures swaps { (x : T) (d : T.Data)
+            → IsOnly (has1 T.TriHashItem T.K1.eq self.old.key1.now) (bag self.old.map.now) (Some x)
+            → IsPermutation (bag (entry_with1 self.old (λ y. T.put y d)).map.now)
+            (swap (ranks T.TriHashItem T.K1.eq T.K2.eq T.K3.eq) (bag self.old.map.now) x (T.put x d)) }
     {
         let slot1 = self.slot1;
         self.map.data_of(slot1)
@@ -219,6 +223,10 @@ impl<'a, T: TriHashItemMut, S: BuildHasher> OccupiedEntry<'a, T, S> {
             T.Data.row T.put self.entry result) }
         ensures value { option_to_list (option_copied_mut result)
             ≡ map T.payload (filter (has2 T.TriHashItem T.K2.eq self.old.key2.now) (bag self.old.map.now)) }
+        ensures swaps { (x : T) (d : T.Data)
+            → IsOnly (has2 T.TriHashItem T.K2.eq self.old.key2.now) (bag self.old.map.now) (Some x)
+            → IsPermutation (bag (entry_with2 self.old (λ y. T.put y d)).map.now)
+            (swap (ranks T.TriHashItem T.K1.eq T.K2.eq T.K3.eq) (bag self.old.map.now) x (T.put x d)) }
     {
         let slot2 = self.slot2;
         self.map.data_of(slot2)
@@ -232,6 +240,10 @@ impl<'a, T: TriHashItemMut, S: BuildHasher> OccupiedEntry<'a, T, S> {
             T.Data.row T.put self.entry result) }
         ensures value { option_to_list (option_copied_mut result)
             ≡ map T.payload (filter (has3 T.TriHashItem T.K3.eq self.old.key3.now) (bag self.old.map.now)) }
+        ensures swaps { (x : T) (d : T.Data)
+            → IsOnly (has3 T.TriHashItem T.K3.eq self.old.key3.now) (bag self.old.map.now) (Some x)
+            → IsPermutation (bag (entry_with3 self.old (λ y. T.put y d)).map.now)
+            (swap (ranks T.TriHashItem T.K1.eq T.K2.eq T.K3.eq) (bag self.old.map.now) x (T.put x d)) }
     {
         let slot3 = self.slot3;
         self.map.data_of(slot3)

@@ -8,7 +8,7 @@ ghost use Rattle.iddqd_store.specs.Bag.{IsSound, agrees, swap};
 ghost use Rattle.iddqd_store.specs.Bag.Storing.{Stores};
 ghost use Rattle.iddqd_store.specs.Map.{bag};
 ghost use Rattle.iddqd_store.specs.Map.Walk.{IsNextSlot, Passes, to_come};
-ghost use Rattle.iddqd_store.specs.Map.Written.{map_with};
+ghost use Rattle.iddqd_store.specs.Map.Written.{map_with, map_with_if};
 ghost use Rattle.iddqd_store.specs.Slots.{get, IsLive};
 ghost use Rattle.iddqd_store.specs.Slots.Found.{held_at, items_at};
 ghost use Rattle.iddqd_store.specs.Slots.Kept.{KeepsKeys};
@@ -91,6 +91,9 @@ impl<T: BiHashItemMut, S: BuildHasher> BiHashMap<T, S> {
         ensures some { is_some result ≡ is_some slot }
         ensures value { (x : T) → option_and_then (get self.old.slots) slot ≡ Some x
             → IfSome result (λ r. r.now ≡ T.payload x) }
+        ensures swaps { (x : T) (d : T.Data) → option_and_then (get self.old.slots) slot ≡ Some x
+            → IsPermutation (bag (map_with_if self.old slot (λ y. T.put y d)))
+            (swap (ranks T.BiHashItem T.K1.eq T.K2.eq) (bag self.old) x (T.put x d)) }
     {
         match slot {
             Some(ix) => Some(self.data_mut_at(ix)),

@@ -1,5 +1,5 @@
 use Rattle.std.proofs.Common.{rules}
-use Rattle.iddqd_store.proofs.SlotLemmas.Entries.{found_data}
+use Rattle.iddqd_store.proofs.SlotLemmas.Entries.{found_data, found_only}
 use Rattle.iddqd_bi.proofs.entry.OccupiedEntry.data2_mut.Goals as goal
 
 pub returns : goal.returns
@@ -8,5 +8,6 @@ returns g c = (
   record {
     lends = tt;
     value = found_data _ g.T.BiHashItemMut.payload _ _ c.requires.found.1.0 c.data_of.result c.data_of.ensures.some c.data_of.ensures.value;
+    swaps = λ x d is. c.data_of.ensures.swaps x d (found_only _ x _ c.requires.found.1.0.only is);
   },
 )

@@ -10,5 +10,6 @@ returns-in-Some g c = (
     writes_back = tt;
     some = search rules;
     value = λ x is. c.data_mut_at.ensures.value x (sym (ap (option_and_then (get c.args.self.now.slots)) c.in-Some.is) ∙ is);
+    swaps = λ x d is. rw c.in-Some.is (c.data_mut_at.ensures.swaps x d (sym (ap (option_and_then (get c.args.self.now.slots)) c.in-Some.is) ∙ is));
   },
 )

@@ -1,0 +1,73 @@
+//! What a caller knows of a map after it wrote what an entry lends of one key.
+ghost use Rattle.std.specs.Prelude.{◌≡◌, ◌∷◌, Some, None, IsPermutation, OnOk, OnErr, IfErr};
+ghost use Rattle.iddqd_tri.specs.Bag.{IsOnly, swap};
+ghost use Rattle.iddqd_tri.specs.Map.{bag};
+ghost use Rattle.iddqd_tri.specs.Keys.{has1, ranks};
+ghost use Rattle.iddqd_tri.specs.Mismatch.{error_item};
+
+use iddqd_tri::{Entry, EntryError, TriHashItem, TriHashItemMut, TriHashMap};
+use std::hash::{BuildHasher, Hash};
+
+/// Writes the data of the item that has the first of three keys, if there is one, by what an entry lends of it.
+pub fn write_data1<'a, T: TriHashItemMut, S: BuildHasher>(
+    map: &'a mut TriHashMap<T, S>,
+    key1: &'a T::K1,
+    key2: &'a T::K2,
+    key3: &'a T::K3,
+    d: T::Data,
+)
+where
+    T::Data: Drop,
+    ensures present { (x : T) → IsOnly (has1 T.TriHashItem T.K1.eq key1.now) (bag map.old) (Some x)
+        → IsPermutation (bag map.new) (swap (ranks T.TriHashItem T.K1.eq T.K2.eq T.K3.eq) (bag map.old) x (T.put x d)) }
+    ensures absent { IsOnly (has1 T.TriHashItem T.K1.eq key1.now) (bag map.old) None → map.new ≡ map.old }
+{
+    if let Entry::Occupied(mut found) = map.entry(key1, key2, key3) {
+        if let Some(data) = found.data1_mut() {
+            *data = d;
+        }
+    }
+}
+
+/// The same by a guard of that item, which is lent for as long as the map is.
+pub fn write_by_key1<'a, T: TriHashItemMut, S: BuildHasher>(
+    map: &'a mut TriHashMap<T, S>,
+    key1: &'a T::K1,
+    key2: &'a T::K2,
+    key3: &'a T::K3,
+    d: T::Data,
+)
+where
+    T::Data: Drop,
+    ensures present { (x : T) → IsOnly (has1 T.TriHashItem T.K1.eq key1.now) (bag map.old) (Some x)
+        → IsPermutation (bag map.new) (swap (ranks T.TriHashItem T.K1.eq T.K2.eq T.K3.eq) (bag map.old) x (T.put x d)) }
+    ensures absent { IsOnly (has1 T.TriHashItem T.K1.eq key1.now) (bag map.old) None → map.new ≡ map.old }
+{
+    if let Entry::Occupied(found) = map.entry(key1, key2, key3) {
+        if let Some(mut item) = found.into_mut().into_by_key1() {
+            *item.data_mut() = d;
+        }
+    }
+}
+
+/// Puts an item in through an entry that holds it then. It is handed back where it is refused, and where an item has
+/// one of the keys.
+pub fn insert_held<'a, T: TriHashItem, S: BuildHasher>(
+    map: &'a mut TriHashMap<T, S>,
+    key1: &'a T::K1,
+    key2: &'a T::K2,
+    key3: &'a T::K3,
+    item: T,
+) -> Result<(), EntryError<T>>
+    ensures gains { OnOk result (IsPermutation (bag map.new) (item ∷ bag map.old)) }
+    ensures kept { OnErr result (map.new ≡ map.old) }
+    ensures handed_back { IfErr result (λ e. error_item e ≡ item) }
+{
+    match map.entry(key1, key2, key3) {
+        Entry::Vacant(v) => match v.insert_mut(item) {
+            Ok(_held) => return Ok(()),
+            Err(e) => return Err(e),
+        },
+        Entry::Occupied(_o) => return Err(EntryError::Key1(item)),
+    }
+}
