@@ -2,7 +2,6 @@
 #![tactic(auto)]
 
 mod building;
-mod devices;
 mod entries;
 mod finding;
 mod inserting;
@@ -14,7 +13,6 @@ mod walking;
 mod writing;
 
 pub use building::extend_by_vec;
-pub use devices::{Device, at_port, plug_in, watts};
 pub use entries::{
     insert_or_write, insert_through, modify_both, or_insert_and_write, overwrite_through,
     remove_through,

@@ -1,16 +1,17 @@
-//! The devices of README's example.
+//! Devices, each known by its serial number and by the port that it is plugged into.
+#![tactic(auto)]
+
 ghost use Rattle.std.specs.Prelude.{◌≡◌, ◌∷◌, ◌==◌, IsPermutation, OnOk, OnErr, IfErr, option_copied};
 ghost use Rattle.iddqd_bi.specs.Bag.{IsOnly};
 ghost use Rattle.iddqd_bi.specs.Map.{bag};
 
 use iddqd_bi::{BiHashItem, BiHashMap, InsertError};
 
-/// A device, known by its serial number and by its port.
+/// A device.
 #[derive(Drop)]
 pub struct Device {
-    serial: u64,
-    port: u16,
-    watts: u32,
+    pub serial: u64,
+    pub port: u16,
 }
 
 impl BiHashItem for Device {
@@ -45,15 +46,8 @@ pub fn plug_in(devices: &mut BiHashMap<Device>, device: Device) -> Result<(), De
 }
 
 /// The device at a port, if there is one.
-pub fn at_port<'d>(devices: &'d BiHashMap<Device>, port: u16) -> Option<&'d Device>
+pub fn at_port(devices: &BiHashMap<Device>, port: u16) -> Option<&Device>
     ensures { IsOnly (λ d. port == d.port) (bag devices.now) (option_copied result) }
 {
     devices.get2(&port)
-}
-
-/// The power of the device.
-pub fn watts(device: &Device) -> u32
-    ensures { result ≡ device.now.watts }
-{
-    device.watts
 }

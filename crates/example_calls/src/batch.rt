@@ -1,0 +1,54 @@
+//! Many items at once: all of them go in, or none.
+ghost use Rattle.std.specs.Prelude.{◌≡◌, ◌++◌, IsPermutation, OnOk, OnErr};
+ghost use Rattle.iddqd_bi.specs.Map.{bag};
+
+use iddqd_bi::{BiHashItem, BiHashMap, ExtendUniqueReason};
+
+/// A record, known by its number and by its code.
+#[derive(Drop)]
+pub struct Record {
+    pub number: u64,
+    pub code: u32,
+}
+
+impl BiHashItem for Record {
+    type K1 = u64;
+
+    type K2 = u32;
+
+    ghost key1 = { λ r. r.number };
+
+    ghost key2 = { λ r. r.code };
+
+    fn key1(&self) -> &u64 {
+        &self.number
+    }
+
+    fn key2(&self) -> &u32 {
+        &self.code
+    }
+}
+
+/// Why a batch was not loaded: the record in the way, how many stood before it in the batch, and whether it conflicts
+/// with one of these or of the map. If not, there was no memory for it.
+#[derive(Drop)]
+pub struct Rejected {
+    pub record: Record,
+    pub index: usize,
+    pub is_duplicate: bool,
+}
+
+/// Loads a batch whole, or says which record is in the way.
+pub fn load(records: &mut BiHashMap<Record>, batch: Vec<Record>) -> Result<(), Rejected>
+    ensures all { OnOk result (IsPermutation (bag records.new) (batch.items ++ bag records.old)) }
+    ensures none { OnErr result (IsPermutation (bag records.new) (bag records.old)) }
+{
+    match records.extend_unique(batch) {
+        Ok(()) => Ok(()),
+        Err(refused) => Err(Rejected {
+            index: refused.taken.len(),
+            record: refused.value,
+            is_duplicate: refused.reason == ExtendUniqueReason::Conflict,
+        }),
+    }
+}

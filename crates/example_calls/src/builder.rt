@@ -1,0 +1,90 @@
+//! A map whose hashes a builder of one's own makes. For keys that are spread by themselves, a number is its own hash.
+ghost use Rattle.std.specs.Prelude.{◌≡◌, [], slice_index_or};
+ghost use Rattle.std.specs.Int.{from_le_bytes};
+ghost use mir.Syntax.{w64};
+ghost use Rattle.iddqd_bi.specs.Map.{bag};
+
+use iddqd_bi::{BiHashItem, BiHashMap};
+use std::alloc::Global;
+use std::hash::{BuildHasher, Hasher};
+
+/// Gives a `u64` itself.
+#[derive(Clone, Copy)]
+pub struct OwnHash;
+
+/// A hasher of `OwnHash`: the number of the last eight bytes written.
+#[derive(Clone, Copy)]
+pub struct OwnHasher {
+    number: u64,
+}
+
+fn byte(bytes: &[u8], at: usize) -> u8
+    ensures { result ≡ slice_index_or bytes.now at 0 }
+{
+    bytes.get(at).copied().unwrap_or(0)
+}
+
+impl Hasher for OwnHasher {
+    ghost write = { λ _ bytes. record { number = from_le_bytes w64 bytes } };
+
+    ghost finish = { λ s. s.number };
+
+    fn finish(&self) -> u64 {
+        self.number
+    }
+
+    fn write(&mut self, bytes: &[u8]) {
+        self.number = u64::from_le_bytes([
+            byte(bytes, 0),
+            byte(bytes, 1),
+            byte(bytes, 2),
+            byte(bytes, 3),
+            byte(bytes, 4),
+            byte(bytes, 5),
+            byte(bytes, 6),
+            byte(bytes, 7),
+        ]);
+    }
+}
+
+impl BuildHasher for OwnHash {
+    type Hasher = OwnHasher;
+
+    ghost build_hasher = { λ _. record { number = 0 } };
+
+    fn build_hasher(&self) -> OwnHasher {
+        OwnHasher { number: 0 }
+    }
+}
+
+/// An order, known by its number and by that of its payment.
+#[derive(Drop)]
+pub struct Order {
+    pub number: u64,
+    pub payment: u64,
+}
+
+impl BiHashItem for Order {
+    type K1 = u64;
+
+    type K2 = u64;
+
+    ghost key1 = { λ o. o.number };
+
+    ghost key2 = { λ o. o.payment };
+
+    fn key1(&self) -> &u64 {
+        &self.number
+    }
+
+    fn key2(&self) -> &u64 {
+        &self.payment
+    }
+}
+
+/// No orders yet.
+pub fn no_orders(alloc: Global) -> BiHashMap<Order, OwnHash>
+    ensures { bag result ≡ [] }
+{
+    BiHashMap::with_hasher(alloc, OwnHash)
+}

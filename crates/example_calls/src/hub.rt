@@ -1,0 +1,95 @@
+//! A registry as a type of its own, which contracts see as the list of its devices.
+ghost use Rattle.std.specs.Prelude.{◌≡◌, ◌∷◌, ◌==◌, [], length, IsPermutation, OnOk, OnErr, IfErr, IfSome, IfNone, option_copied};
+ghost use Rattle.iddqd_bi.specs.Bag.{IsOnly};
+
+use iddqd_bi::{BiHashItem, BiHashMap, InsertError};
+use std::alloc::Global;
+use std::marker::Model;
+
+/// A device, known by its serial number and by the port that it is plugged into.
+#[derive(Drop)]
+pub struct Device {
+    pub serial: u64,
+    pub port: u16,
+}
+
+impl BiHashItem for Device {
+    type K1 = u64;
+
+    type K2 = u16;
+
+    ghost key1 = { λ d. d.serial };
+
+    ghost key2 = { λ d. d.port };
+
+    fn key1(&self) -> &u64 {
+        &self.serial
+    }
+
+    fn key2(&self) -> &u16 {
+        &self.port
+    }
+}
+
+/// The devices that are plugged in.
+#[derive(Drop)]
+pub struct Hub {
+    devices: BiHashMap<Device>,
+}
+
+impl Model for Hub {
+    ghost use Rattle.std.specs.Prelude.{List};
+    ghost use Rattle.example_calls.specs.declared.hub.Device.{Device};
+    ghost use Rattle.iddqd_bi.specs.Map.{bag};
+
+    ghost Value = { List Device };
+
+    ghost view = { λ h. bag h.devices };
+}
+
+impl Hub {
+    /// A hub with nothing plugged in.
+    pub fn new(alloc: Global) -> Self
+        ensures { result ≡ [] }
+    {
+        Hub {
+            devices: BiHashMap::new(alloc),
+        }
+    }
+
+    /// Plugs a device in, or hands it back where its serial number or its port is taken, or memory is.
+    pub fn plug_in(&mut self, device: Device) -> Result<(), Device>
+        ensures went_in { OnOk result (IsPermutation self.new (device ∷ self.old)) }
+        ensures back { IfErr result (λ d. d ≡ device) }
+        ensures refused { OnErr result (self.new ≡ self.old) }
+    {
+        match self.devices.insert_unique(device) {
+            Ok(()) => Ok(()),
+            Err(InsertError::Duplicate(refusal)) => Err(refusal.into_item()),
+            Err(InsertError::Memory(refusal)) => Err(refusal.into_item()),
+        }
+    }
+
+    /// Takes out the device at a port, if there is one.
+    pub fn unplug(&mut self, port: u16) -> Option<Device>
+        ensures it { IsOnly (λ d. port == d.port) self.old result }
+        ensures gone { IfSome result (λ d. IsPermutation self.old (d ∷ self.new)) }
+        ensures none { IfNone result (self.new ≡ self.old) }
+    {
+        self.devices.remove2(&port)
+    }
+
+    /// The device at a port, if there is one.
+    pub fn at_port(&self, port: u16) -> Option<&Device>
+        ensures { IsOnly (λ d. port == d.port) self.now (option_copied result) }
+    {
+        self.devices.get2(&port)
+    }
+
+    /// How many devices are plugged in.
+    pub fn len(&self) -> usize
+        ensures { result ≡ length self.now }
+    {
+        self.devices.len()
+    }
+}

@@ -1,0 +1,26 @@
+//! What callers of the maps write, one module a need. docs/CALLING.md shows each of them whole.
+#![tactic(auto)]
+
+mod batch;
+mod builder;
+mod clone;
+mod entry;
+mod hub;
+mod names;
+mod overwrite;
+mod peers;
+mod refusals;
+mod retain;
+mod walk;
+
+pub use batch::{Record, Rejected, load};
+pub use builder::{Order, OwnHash, OwnHasher, no_orders};
+pub use clone::{Rate, backup};
+pub use entry::{Visit, note_visit, take_visits};
+pub use hub::{Device, Hub};
+pub use names::{Name, Symbol, define, resolve};
+pub use overwrite::{Guest, check_in, first_gone};
+pub use peers::{Peer, Session, touch, with_peer};
+pub use refusals::{Line, Refused, connect};
+pub use retain::{Lease, expire};
+pub use walk::{Sensor, count, is_any_hotter, sum_of_heat};

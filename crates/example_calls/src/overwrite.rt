@@ -1,0 +1,56 @@
+//! Putting an item in the place of all that are in its way, and what that gives back.
+ghost use Rattle.std.specs.Prelude.{◌≡◌, IsPermutation, OnOk, OnErr, IfOk, IfErr, slice_get};
+ghost use Rattle.iddqd_bi.specs.Bag.{order, over};
+ghost use Rattle.iddqd_bi.specs.Keys.{ranks};
+ghost use Rattle.iddqd_bi.specs.Map.{bag};
+
+use iddqd_bi::{BiHashItem, BiHashMap, MemoryRefused, UpToTwo};
+
+/// A guest, known by a passport and by a room.
+#[derive(Drop)]
+pub struct Guest {
+    pub passport: u64,
+    pub room: u32,
+}
+
+impl BiHashItem for Guest {
+    type K1 = u64;
+
+    type K2 = u32;
+
+    ghost key1 = { λ g. g.passport };
+
+    ghost key2 = { λ g. g.room };
+
+    fn key1(&self) -> &u64 {
+        &self.passport
+    }
+
+    fn key2(&self) -> &u32 {
+        &self.room
+    }
+}
+
+/// Checks a guest in. Whoever has the passport or the room is checked out and given back, first the one with the
+/// passport.
+pub fn check_in(
+    guests: &mut BiHashMap<Guest>,
+    guest: Guest,
+) -> Result<UpToTwo<Guest>, MemoryRefused<Guest>>
+    ensures in_and_out { OnOk result (IsPermutation (bag guests.new)
+        (over (ranks ⟦<Guest as BiHashItem>⟧ ⟦<u64 as PartialEq>⟧.eq ⟦<u32 as PartialEq>⟧.eq) (bag guests.old) guest)) }
+    ensures gone { IfOk result (λ gone. gone
+        ≡ order (ranks ⟦<Guest as BiHashItem>⟧ ⟦<u64 as PartialEq>⟧.eq ⟦<u32 as PartialEq>⟧.eq) (bag guests.old) guest) }
+    ensures refused { OnErr result (guests.new ≡ guests.old) }
+    ensures back { IfErr result (λ e. e.value ≡ guest) }
+{
+    guests.insert_overwrite(guest)
+}
+
+/// The first of those that were checked out, if there is one.
+pub fn first_gone(gone: UpToTwo<Guest>) -> Option<Guest>
+    ensures { result ≡ slice_get gone 0 }
+{
+    let mut gone = gone;
+    gone.pop_front()
+}

@@ -1,0 +1,63 @@
+//! An insert, and each of its refusals.
+ghost use Rattle.std.specs.Prelude.{◌≡◌, ◌∷◌, true, length, IsPermutation, OnOk, OnErr, IfErr};
+ghost use Rattle.iddqd_bi.specs.Map.{bag};
+
+use iddqd_bi::{BiHashItem, BiHashMap, InsertError};
+
+/// A telephone line, known by its number and by the desk that it ends at.
+#[derive(Drop)]
+pub struct Line {
+    pub number: u64,
+    pub desk: u32,
+}
+
+impl BiHashItem for Line {
+    type K1 = u64;
+
+    type K2 = u32;
+
+    ghost key1 = { λ l. l.number };
+
+    ghost key2 = { λ l. l.desk };
+
+    fn key1(&self) -> &u64 {
+        &self.number
+    }
+
+    fn key2(&self) -> &u32 {
+        &self.desk
+    }
+}
+
+/// A line that was not connected: so many lines are in its way, or there was no memory to grow.
+#[derive(Drop)]
+pub struct Refused {
+    pub line: Line,
+    pub in_the_way: usize,
+    pub lacks_memory: bool,
+}
+
+/// Connects a line whose number and desk are free.
+pub fn connect(lines: &mut BiHashMap<Line>, line: Line) -> Result<(), Refused>
+    ensures connected { OnOk result (IsPermutation (bag lines.new) (line ∷ bag lines.old)) }
+    ensures refused { OnErr result (lines.new ≡ lines.old) }
+    ensures back { IfErr result (λ r. r.line ≡ line) }
+    ensures full { IfErr result (λ r. r.lacks_memory ≡ true → length (bag lines.old) ≡ lines.old.capacity) }
+{
+    match lines.insert_unique(line) {
+        Ok(()) => Ok(()),
+        Err(InsertError::Duplicate(refusal)) => {
+            let in_the_way = refusal.duplicates().len();
+            Err(Refused {
+                line: refusal.into_item(),
+                in_the_way,
+                lacks_memory: false,
+            })
+        }
+        Err(InsertError::Memory(refusal)) => Err(Refused {
+            line: refusal.into_item(),
+            in_the_way: 0,
+            lacks_memory: true,
+        }),
+    }
+}

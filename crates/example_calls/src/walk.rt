@@ -1,0 +1,55 @@
+//! Going over all items.
+ghost use Rattle.std.specs.Prelude.{◌≡◌, length, nat_lt};
+ghost use Rattle.std.specs.List.{list_any};
+ghost use Rattle.iddqd_bi.specs.Map.{bag};
+
+use iddqd_bi::{BiHashItem, BiHashMap};
+
+/// A sensor, known by its number and by its place, and how hot it is there.
+#[derive(Drop)]
+pub struct Sensor {
+    pub number: u64,
+    pub place: u32,
+    pub heat: u32,
+}
+
+impl BiHashItem for Sensor {
+    type K1 = u64;
+
+    type K2 = u32;
+
+    ghost key1 = { λ s. s.number };
+
+    ghost key2 = { λ s. s.place };
+
+    fn key1(&self) -> &u64 {
+        &self.number
+    }
+
+    fn key2(&self) -> &u32 {
+        &self.place
+    }
+}
+
+/// How many sensors there are, counted one by one.
+pub fn count(sensors: &BiHashMap<Sensor>) -> usize
+    ensures { result ≡ length (bag sensors.now) }
+{
+    sensors.iter().count()
+}
+
+/// Whether some sensor is hotter than this.
+pub fn is_any_hotter(sensors: &BiHashMap<Sensor>, heat: u32) -> bool
+    ensures { result ≡ list_any (λ s. nat_lt heat s.heat) (bag sensors.now) }
+{
+    sensors.iter().any(|sensor| sensor.heat > heat)
+}
+
+/// The heat of all sensors together, as far as a number of 32 bits holds it.
+pub fn sum_of_heat(sensors: &BiHashMap<Sensor>) -> u32 {
+    let mut sum: u32 = 0;
+    for sensor in sensors {
+        sum = sum.saturating_add(sensor.heat);
+    }
+    sum
+}
