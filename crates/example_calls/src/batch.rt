@@ -1,5 +1,5 @@
 //! Many items at once: all of them go in, or none.
-ghost use Rattle.std.specs.Prelude.{◌≡◌, ◌++◌, IsPermutation, OnOk, OnErr};
+ghost use Rattle.std.specs.Prelude.{◌≡◌, ◌++◌, Some, IsPermutation, OnOk, OnErr, IfErr, slice_get};
 ghost use Rattle.iddqd_bi.specs.Map.{bag};
 
 use iddqd_bi::{BiHashItem, BiHashMap, ExtendUniqueReason};
@@ -42,6 +42,7 @@ pub struct Rejected {
 pub fn load(records: &mut BiHashMap<Record>, batch: Vec<Record>) -> Result<(), Rejected>
     ensures all { OnOk result (IsPermutation (bag records.new) (batch.items ++ bag records.old)) }
     ensures none { OnErr result (IsPermutation (bag records.new) (bag records.old)) }
+    ensures which { IfErr result (λ e. slice_get batch.items e.index ≡ Some e.record) }
 {
     match records.extend_unique(batch) {
         Ok(()) => Ok(()),

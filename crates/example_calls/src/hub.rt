@@ -2,7 +2,7 @@
 ghost use Rattle.std.specs.Prelude.{◌≡◌, ◌∷◌, ◌==◌, [], length, IsPermutation, OnOk, OnErr, IfErr, IfSome, IfNone, option_copied};
 ghost use Rattle.iddqd_bi.specs.Bag.{IsOnly};
 
-use iddqd_bi::{BiHashItem, BiHashMap, InsertError};
+use iddqd_bi::{BiHashItem, BiHashMap};
 use std::alloc::Global;
 use std::marker::Model;
 
@@ -63,11 +63,7 @@ impl Hub {
         ensures back { IfErr result (λ d. d ≡ device) }
         ensures refused { OnErr result (self.new ≡ self.old) }
     {
-        match self.devices.insert_unique(device) {
-            Ok(()) => Ok(()),
-            Err(InsertError::Duplicate(refusal)) => Err(refusal.into_item()),
-            Err(InsertError::Memory(refusal)) => Err(refusal.into_item()),
-        }
+        self.devices.insert_or_back(device)
     }
 
     /// Takes out the device at a port, if there is one.

@@ -1,13 +1,10 @@
 //! A text as a key: it is held as a `String`, and asked for by a `&str`.
-ghost use Rattle.std.specs.Prelude.{◌≡◌, ◌∷◌, nat_eq, string_bytes, IsPermutation, OnOk, OnErr, IfErr, option_copied};
-ghost use Rattle.std.proofs.Common.{rules};
-ghost use Rattle.std.specs.Cmp.Rules.{comparing, hashing};
+ghost use Rattle.std.specs.Prelude.{◌≡◌, ◌∷◌, nat_eq, string_bytes, IsPermutation, OnOk, OnErr, IfErr, IfSome, option_copied};
 ghost use Rattle.std.specs.Cmp.Lexicographic.{pointwise};
 ghost use Rattle.iddqd_bi.specs.Bag.{IsOnly};
 ghost use Rattle.iddqd_bi.specs.Map.{bag};
 
-use iddqd_bi::{BiHashItem, BiHashMap, Equivalent, InsertError};
-use std::hash::Hash;
+use iddqd_bi::{BiHashItem, BiHashMap};
 
 /// A symbol, known by its name and by its address.
 #[derive(Drop)]
@@ -34,40 +31,27 @@ impl BiHashItem for Symbol {
     }
 }
 
-/// A name that is asked for.
-#[derive(PartialEq, Eq, Hash, Clone, Copy)]
-pub struct Name<'a> {
-    pub text: &'a str,
-}
-
-impl<'a> Equivalent<String> for Name<'a> {
-    ghost equivalent = { λ q k. pointwise nat_eq q.text.now (string_bytes k) };
-
-    ghost respects_hash = { Prim.search (hashing, rules) };
-
-    ghost respects_eq = { Prim.search (comparing, rules) };
-
-    fn equivalent(&self, key: &String) -> bool {
-        self.text == key.as_str()
-    }
-}
-
 /// Defines a symbol, or hands it back.
 pub fn define(symbols: &mut BiHashMap<Symbol>, symbol: Symbol) -> Result<(), Symbol>
     ensures went_in { OnOk result (IsPermutation (bag symbols.new) (symbol ∷ bag symbols.old)) }
     ensures back { IfErr result (λ s. s ≡ symbol) }
     ensures refused { OnErr result (symbols.new ≡ symbols.old) }
 {
-    match symbols.insert_unique(symbol) {
-        Ok(()) => Ok(()),
-        Err(InsertError::Duplicate(refusal)) => Err(refusal.into_item()),
-        Err(InsertError::Memory(refusal)) => Err(refusal.into_item()),
-    }
+    symbols.insert_or_back(symbol)
 }
 
 /// The symbol of a name, if there is one.
 pub fn resolve<'s>(symbols: &'s BiHashMap<Symbol>, name: &str) -> Option<&'s Symbol>
     ensures { IsOnly (λ s. pointwise nat_eq name.now (string_bytes s.name)) (bag symbols.now) (option_copied result) }
 {
-    symbols.get1(&Name { text: name })
+    symbols.get1(&name)
+}
+
+/// Takes the symbol of a name out, if there is one. A removal takes a key and no query: so the symbol is looked up, and
+/// taken out by its address.
+pub fn undefine(symbols: &mut BiHashMap<Symbol>, name: &str) -> Option<Symbol>
+    ensures { IfSome result (λ s. IsPermutation (bag symbols.old) (s ∷ bag symbols.new)) }
+{
+    let address = symbols.get1(&name)?.address;
+    symbols.remove2(&address)
 }

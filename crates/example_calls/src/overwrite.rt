@@ -1,10 +1,11 @@
 //! Putting an item in the place of all that are in its way, and what that gives back.
-ghost use Rattle.std.specs.Prelude.{◌≡◌, IsPermutation, OnOk, OnErr, IfOk, IfErr, slice_get};
+ghost use Rattle.std.specs.Prelude.{◌≡◌, [], IsPermutation, OnOk, OnErr, IfOk, IfErr, slice_get};
 ghost use Rattle.iddqd_bi.specs.Bag.{order, over};
 ghost use Rattle.iddqd_bi.specs.Keys.{ranks};
 ghost use Rattle.iddqd_bi.specs.Map.{bag};
 
 use iddqd_bi::{BiHashItem, BiHashMap, MemoryRefused, UpToTwo};
+use std::alloc::{AllocError, Global};
 
 /// A guest, known by a passport and by a room.
 #[derive(Drop)]
@@ -31,6 +32,14 @@ impl BiHashItem for Guest {
     }
 }
 
+/// A house with nobody in it, and with memory for so many guests.
+pub fn open_house(alloc: Global, rooms: usize) -> Result<BiHashMap<Guest>, AllocError>
+    ensures { IfOk result (λ guests. bag guests ≡ []) }
+{
+    let guests = BiHashMap::with_capacity(alloc, rooms)?;
+    Ok(guests)
+}
+
 /// Checks a guest in. Whoever has the passport or the room is checked out and given back, first the one with the
 /// passport.
 pub fn check_in(
@@ -53,4 +62,15 @@ pub fn first_gone(gone: UpToTwo<Guest>) -> Option<Guest>
 {
     let mut gone = gone;
     gone.pop_front()
+}
+
+/// The highest of the rooms that those who were checked out had.
+pub fn highest_room(gone: &UpToTwo<Guest>) -> Option<u32> {
+    let mut highest = None;
+    for guest in gone {
+        if highest < Some(guest.room) {
+            highest = Some(guest.room);
+        }
+    }
+    highest
 }

@@ -5,7 +5,7 @@ ghost use Rattle.std.specs.Prelude.{◌≡◌, ◌∷◌, ◌==◌, IsPermutatio
 ghost use Rattle.iddqd_bi.specs.Bag.{IsOnly};
 ghost use Rattle.iddqd_bi.specs.Map.{bag};
 
-use iddqd_bi::{BiHashItem, BiHashMap, InsertError};
+use iddqd_bi::{BiHashItem, BiHashMap};
 
 /// A device.
 #[derive(Drop)]
@@ -38,11 +38,7 @@ pub fn plug_in(devices: &mut BiHashMap<Device>, device: Device) -> Result<(), De
     ensures back { IfErr result (λ d. d ≡ device) }
     ensures refused { OnErr result (devices.new ≡ devices.old) }
 {
-    match devices.insert_unique(device) {
-        Ok(()) => Ok(()),
-        Err(InsertError::Duplicate(refusal)) => Err(refusal.into_item()),
-        Err(InsertError::Memory(refusal)) => Err(refusal.into_item()),
-    }
+    devices.insert_or_back(device)
 }
 
 /// The device at a port, if there is one.

@@ -78,6 +78,15 @@ pub(crate) fn differ<T: BiHashItem>(item: &T, key1: &T::K1, key2: &T::K2) -> Opt
 }
 
 impl<T> KeyMismatch<T> {
+    /// The item that was refused, by value.
+    pub fn into_item(self) -> T
+        ensures { result ≡ mismatch_item self }
+    {
+        match self {
+            KeyMismatch::Key1(item) | KeyMismatch::Key2(item) => item,
+        }
+    }
+
     /// The refusal of an item whose key of this rank is not the one that is there.
     pub(crate) fn at(rank: usize, item: T) -> Self
         ensures item { mismatch_item result ≡ item }

@@ -26,5 +26,6 @@ pub use ref_mut::RefMut;
 // What the calls name of the parts that all maps share.
 pub use iddqd_store::{
     Cursor, DuplicateItem, Equivalent, ExtendUniqueError, ExtendUniqueReason, IntoIter, Iter,
-    KeyMatcher, MemoryRefused, Meter, TryReserveError, UpToTwo,
+    KeyMatcher, MemoryRefused, Meter, Pair, ShortIntoIter, ShortIter, Text, TryReserveError,
+    UpToTwo,
 };

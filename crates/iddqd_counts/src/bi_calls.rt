@@ -94,6 +94,8 @@ pub(crate) enum Insert {
     Unique,
     /// `insert_unique`, which so many items are in the way of.
     Refused(usize),
+    /// `insert_or_back`, by which the item goes in, or comes back.
+    OrBack(bool),
     /// `insert_overwrite`, which so many items have to give way to.
     Overwrite(usize),
 }
@@ -109,6 +111,7 @@ pub(crate) fn puts_in<S: BuildHasher>(
     Ok(match insert {
         Insert::Unique => map.insert_unique(item).is_ok(),
         Insert::Refused(many) => conflicts(map, item) == Some(many),
+        Insert::OrBack(goes_in) => map.insert_or_back(item).is_ok() == goes_in,
         Insert::Overwrite(many) => displaces(map, item) == Some(many),
     })
 }

@@ -67,7 +67,7 @@ pub(crate) enum Call {
 
 /// What a call is called; the call; how many keys it compares at least and at most where all are hashed alike, and how
 /// many where each has its own hash; and how many it hashes.
-pub(crate) const CALLS: [(&str, Call, Bounds, u64, u64); 25] = [
+pub(crate) const CALLS: [(&str, Call, Bounds, u64, u64); 27] = [
     (
         "get_unique, another key1",
         Call::Miss(Search::Get(By::All), NOT_KEY1),
@@ -143,6 +143,20 @@ pub(crate) const CALLS: [(&str, Call, Bounds, u64, u64); 25] = [
         Call::Insert(Insert::Refused(1), KEY1),
         (6, 10),
         1,
+        2,
+    ),
+    (
+        "insert_or_back",
+        Call::Insert(Insert::OrBack(true), NEW),
+        (10, 10),
+        0,
+        2,
+    ),
+    (
+        "insert_or_back, two items in the way",
+        Call::Insert(Insert::OrBack(false), APART),
+        (2, 10),
+        2,
         2,
     ),
     (

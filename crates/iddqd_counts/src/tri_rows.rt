@@ -71,7 +71,7 @@ pub(crate) enum Call {
 
 /// What a call is called; the call; how many keys it compares at least and at most where all are hashed alike, and how
 /// many where each has its own hash; and how many it hashes.
-pub(crate) const CALLS: [(&str, Call, Bounds, u64, u64); 25] = [
+pub(crate) const CALLS: [(&str, Call, Bounds, u64, u64); 27] = [
     (
         "get_unique, another key1",
         Call::Miss(Search::Get(By::All), NOT_KEY1),
@@ -147,6 +147,20 @@ pub(crate) const CALLS: [(&str, Call, Bounds, u64, u64); 25] = [
         Call::Insert(Insert::Refused(1), KEY1),
         (11, 15),
         1,
+        3,
+    ),
+    (
+        "insert_or_back",
+        Call::Insert(Insert::OrBack(true), NEW),
+        (15, 15),
+        0,
+        3,
+    ),
+    (
+        "insert_or_back, three items in the way",
+        Call::Insert(Insert::OrBack(false), APART),
+        (3, 15),
+        3,
         3,
     ),
     (

@@ -223,8 +223,9 @@ fn shrink_to(map: &mut BiHashMap<Row>, least: usize) -> bool {
 }
 
 fn duplicate(map: &mut BiHashMap<Row>) -> bool {
+    let is_back = map.insert_or_back(OVER) == Err(OVER);
     match map.insert_unique(OVER) {
-        Err(InsertError::Duplicate(refusal)) => refusal.into_item() == OVER,
+        Err(InsertError::Duplicate(refusal)) => is_back && refusal.into_item() == OVER,
         _ => false,
     }
 }

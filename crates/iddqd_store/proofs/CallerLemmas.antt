@@ -1,11 +1,12 @@
 -- What a caller of a map cites: from a lookup's clause to membership and back, a lookup after an insert or a removal, batches, lengths, walks, and writes.
+pub mod Asking
 pub mod Batches
 pub mod Entering
 pub mod Laws
 pub mod Named
 pub mod Walks
 use Rattle.std.specs.Prelude.{◌≡◌, ℕ, zero, suc, ◌+◌, ◌<◌, Bool, true, false, cond, not, List, [], ◌∷◌, ◌++◌, length, filter, IsPermutation, Contains, Option, Some, None}
-use Rattle.std.specs.List.{list_any}
+use Rattle.std.specs.List.{IsDistinct, list_any}
 use Rattle.std.specs.Option.{option_to_list}
 use Rattle.std.proofs.Common.{refl, sym, ap, subst, ◌∙◌, arith}
 use Rattle.std.proofs.lemmas.Map.Keys.{IsDistinct-head}
@@ -63,11 +64,17 @@ one_of : {T : Type 0} (found : Option T) (x : T) → option_to_list found ≡ x 
 one_of None x e = absurd (cc)
 one_of (Some y) x e = let same : y ≡ x = cc in ap Some same
 
--- In what follows `agree` is a rank: whether two items have equal keys there. `names` says that the test names one key.
-module _ {T : Type 0} (agree : T → T → Bool) (ranks : Ranks T) (test : T → Bool) (names : NamesOne agree test) (bag : List T) (sound : IsSound (agree ∷ ranks) bag) where
+-- no two members have equal keys of any rank; `first` and `rest` are the ranks before and behind
+pub distinct_at : {T : Type 0} (first rest : Ranks T) (agree : T → T → Bool) (bag : List T) → IsSound (first ++ agree ∷ rest) bag → IsDistinct agree bag
+distinct_at [] rest agree bag sound = (IsSound-rank agree rest bag sound).0
+distinct_at (other ∷ first) rest agree bag sound = distinct_at first rest agree bag (IsSound-rank other (first ++ agree ∷ rest) bag sound).1
+
+-- In what follows `agree` is a rank: whether two items have equal keys there; `first` and `rest` are the ranks before
+-- and behind it. `names` says that the test names one key.
+module _ {T : Type 0} (first rest : Ranks T) (agree : T → T → Bool) (test : T → Bool) (names : NamesOne agree test) (bag : List T) (sound : IsSound (first ++ agree ∷ rest) bag) where
   -- a member that passes is what the lookup gives
   pub found-member : (found : Option T) (x : T) → option_to_list found ≡ filter test bag → Contains bag x → test x ≡ true → found ≡ Some x
-  found-member found x is there passes = one_of found x (is ∙ named_is agree test names bag x (IsSound-rank agree ranks bag sound).0 passes there)
+  found-member found x is there passes = one_of found x (is ∙ named_is agree test names bag x (distinct_at first rest agree bag sound) passes there)
 
   -- an item that went in is found by its key
   pub found-inserted : (old : List T) (found : Option T) (x : T) → IsPermutation bag (x ∷ old) → option_to_list found ≡ filter test bag → test x ≡ true → found ≡ Some x
@@ -77,12 +84,12 @@ module _ {T : Type 0} (agree : T → T → Bool) (ranks : Ranks T) (test : T →
   -- and the map says that it has the key
   pub contains-inserted : (old : List T) (x : T) → IsPermutation bag (x ∷ old) → test x ≡ true → list_any test bag ≡ true
   contains-inserted old x went_in passes =
-      any_listed test bag ∙ ap some_item (named_is agree test names bag x (IsSound-rank agree ranks bag sound).0 passes (Contains-permutation (x ∷ old) bag x (IsPermutation-sym bag (x ∷ old) went_in) (Contains-here x old)))
+      any_listed test bag ∙ ap some_item (named_is agree test names bag x (distinct_at first rest agree bag sound) passes (Contains-permutation (x ∷ old) bag x (IsPermutation-sym bag (x ∷ old) went_in) (Contains-here x old)))
 
 -- an item that was taken out is found under its key no more
-pub none-removed : {T : Type 0} (agree : T → T → Bool) (ranks : Ranks T) → AreLawful (agree ∷ ranks) → (test : T → Bool) → NamesOne agree test → (old bag : List T) (x : T) → IsSound (agree ∷ ranks) old → IsPermutation old (x ∷ bag) → test x ≡ true → filter test bag ≡ []
-none-removed agree ranks laws test names old bag x sound taken passes =
-    let apart = (IsSound-rank agree ranks (x ∷ bag) (IsSound-IsPermutation (agree ∷ ranks) laws old (x ∷ bag) taken sound)).0 in
+pub none-removed : {T : Type 0} (first rest : Ranks T) (agree : T → T → Bool) → AreLawful (first ++ agree ∷ rest) → (test : T → Bool) → NamesOne agree test → (old bag : List T) (x : T) → IsSound (first ++ agree ∷ rest) old → IsPermutation old (x ∷ bag) → test x ≡ true → filter test bag ≡ []
+none-removed first rest agree laws test names old bag x sound taken passes =
+    let apart = distinct_at first rest agree (x ∷ bag) (IsSound-IsPermutation (first ++ agree ∷ rest) laws old (x ∷ bag) taken sound) in
     none_pass test bag (each_weaker _ _ (λ y other. NamesOne-apart agree test names x y passes other) bag (IsDistinct-head agree x bag apart))
 
 no_more : {T : Type 0} (xs : List T) → IsPermutation [] xs → xs ≡ []
@@ -90,12 +97,12 @@ no_more [] p = refl
 no_more (x ∷ xs) p = absurd (let more : suc (length xs) ≡ 0 = length_permutation [] (x ∷ xs) p in omega (arith, more))
 
 -- the map says that it has the key no more, whether a removal by it found an item or not
-pub contains-removed : {T : Type 0} (agree : T → T → Bool) (ranks : Ranks T) → AreLawful (agree ∷ ranks) → (test : T → Bool) → NamesOne agree test → (old bag : List T) (gone : Option T) → IsSound (agree ∷ ranks) old → option_to_list gone ≡ filter test old → IsPermutation old (option_to_list gone ++ bag) → list_any test bag ≡ false
-contains-removed agree ranks laws test names old bag None sound is left =
+pub contains-removed : {T : Type 0} (first rest : Ranks T) (agree : T → T → Bool) → AreLawful (first ++ agree ∷ rest) → (test : T → Bool) → NamesOne agree test → (old bag : List T) (gone : Option T) → IsSound (first ++ agree ∷ rest) old → option_to_list gone ≡ filter test old → IsPermutation old (option_to_list gone ++ bag) → list_any test bag ≡ false
+contains-removed first rest agree laws test names old bag None sound is left =
     let none : IsPermutation [] (filter test bag) = subst (λ l. IsPermutation l (filter test bag)) (sym is) (IsPermutation-filter test old bag left) in
     any_listed test bag ∙ ap some_item (no_more (filter test bag) none)
-contains-removed agree ranks laws test names old bag (Some x) sound is left =
-    any_listed test bag ∙ ap some_item (none-removed agree ranks laws test names old bag x sound left (member-found test old (Some x) is x refl).1)
+contains-removed first rest agree laws test names old bag (Some x) sound is left =
+    any_listed test bag ∙ ap some_item (none-removed first rest agree laws test names old bag x sound left (member-found test old (Some x) is x refl).1)
 
 -- one more after an insert
 pub length-inserted : {T : Type 0} (old new : List T) (x : T) → IsPermutation new (x ∷ old) → length new ≡ length old + 1

@@ -1,17 +1,64 @@
 //! Refusals.
 ghost use Rattle.std.specs.Prelude.{◌≡◌};
 
+use std::alloc::AllocError;
+use std::io;
 use std::marker::Model;
 
 /// A growth was refused: there is no memory for it, or its size is past `usize`.
 #[derive(Clone, Copy, Debug, PartialEq, Eq)]
 pub struct TryReserveError;
 
+/// So that `?` converts to `AllocError`.
+impl From<TryReserveError> for AllocError {
+    fn from(_refused: TryReserveError) -> AllocError {
+        AllocError
+    }
+}
+
+/// So that `?` converts to an `io::Result`.
+impl From<TryReserveError> for io::Error {
+    ghost use Rattle.std.specs.IoError.{error_kind};
+    ghost use Rattle.std.specs.declared.io.ErrorKind.TheVariants.{OutOfMemory};
+
+    ghost from_gives = { λ _ e. error_kind e ≡ OutOfMemory };
+
+    fn from(_refused: TryReserveError) -> io::Error {
+        io::Error::from(AllocError)
+    }
+}
+
 /// A growth was refused for this value, which comes back.
 #[derive(Drop)]
 pub struct MemoryRefused<T> {
     /// The value for which there was no room.
     pub value: T,
+}
+
+/// So that `?` converts to `AllocError`. The value is dropped.
+impl<T: Drop> From<MemoryRefused<T>> for AllocError {
+    fn from(_refused: MemoryRefused<T>) -> AllocError {
+        AllocError
+    }
+}
+
+/// So that `?` converts to an `io::Result`. The value is dropped.
+impl<T: Drop> From<MemoryRefused<T>> for io::Error {
+    ghost use Rattle.std.specs.IoError.{error_kind};
+    ghost use Rattle.std.specs.declared.io.ErrorKind.TheVariants.{OutOfMemory};
+
+    ghost from_gives = { λ _ e. error_kind e ≡ OutOfMemory };
+
+    fn from(_refused: MemoryRefused<T>) -> io::Error {
+        io::Error::from(AllocError)
+    }
+}
+
+/// So that `?` converts to `TryReserveError`. The value is dropped.
+impl<T: Drop> From<MemoryRefused<T>> for TryReserveError {
+    fn from(_refused: MemoryRefused<T>) -> TryReserveError {
+        TryReserveError
+    }
 }
 
 /// Why no map was built of some items. The map of the items before is dropped.

@@ -21,7 +21,7 @@ mod vacancy;
 
 pub use cursor::Cursor;
 pub use entered::Entered;
-pub use equivalent::Equivalent;
+pub use equivalent::{Equivalent, Pair, Text};
 pub use error::{
     DuplicateItem, ExtendUniqueError, ExtendUniqueReason, FromIterError, MemoryRefused,
     TryReserveError,
@@ -34,7 +34,7 @@ pub use matcher::Matcher;
 pub use meter::Meter;
 pub use rank::{ByQuery, KeyOf, Lookup, Sought};
 pub use reply::MapReply;
-pub use short_list::ShortList;
+pub use short_list::{ShortIntoIter, ShortIter, ShortList};
 pub use up_to_three::UpToThree;
 pub use up_to_two::UpToTwo;
 pub use vacancy::Vacancy;

@@ -1,9 +1,15 @@
 //! What the short lists share.
-ghost use Rattle.std.specs.Prelude.{◌≡◌, ◌++◌, List, slice_get};
+ghost use Rattle.std.specs.Prelude.{◌≡◌, ◌≤◌, ◌++◌, [], List, length, slice_get, IfNone};
 ghost use Rattle.std.specs.Option.{option_to_list};
 
 use crate::up_to_three::UpToThree;
 use crate::up_to_two::UpToTwo;
+
+mod into_iter;
+mod iter;
+
+pub use into_iter::ShortIntoIter;
+pub use iter::ShortIter;
 
 /// A short list, kept in place, whatever the most that it holds.
 pub trait ShortList {
@@ -12,16 +18,26 @@ pub trait ShortList {
     // The list.
     ghost list: { Self → List Self.Item };
 
+    /// The number of items.
+    fn len(&self) -> usize
+        ensures value { result ≡ length (list self.now) }
+        ensures short { result ≤ 3 };
+
     /// Takes the first item out. The others move up.
     fn pop_front(&mut self) -> Option<Self::Item>
         ensures first { result ≡ slice_get (list self.old) 0 }
-        ensures rest { list self.old ≡ option_to_list result ++ list self.new };
+        ensures rest { list self.old ≡ option_to_list result ++ list self.new }
+        ensures end { IfNone result (list self.new ≡ []) };
 }
 
 impl<T> ShortList for UpToTwo<T> {
     type Item = T;
 
     ghost list = { λ items. items };
+
+    fn len(&self) -> usize {
+        UpToTwo::len(self)
+    }
 
     fn pop_front(&mut self) -> Option<T> {
         UpToTwo::pop_front(self)
@@ -32,6 +48,10 @@ impl<T> ShortList for UpToThree<T> {
     type Item = T;
 
     ghost list = { λ items. items };
+
+    fn len(&self) -> usize {
+        UpToThree::len(self)
+    }
 
     fn pop_front(&mut self) -> Option<T> {
         UpToThree::pop_front(self)

@@ -1,8 +1,10 @@
 //! A list of at most three items, in place.
-ghost use Rattle.std.specs.Prelude.{◌≡◌, ◌<◌, ◌≤◌, ◌++◌, ◌∷◌, ◌==◌, [], length, option_copied, slice_get};
+ghost use Rattle.std.specs.Prelude.{◌≡◌, ◌<◌, ◌≤◌, ◌++◌, ◌∷◌, ◌==◌, [], length, option_copied, slice_get, IfNone};
 ghost use Rattle.std.specs.Option.{option_to_list};
 
 use crate::item_index::ItemIndex;
+use crate::short_list::{ShortIntoIter, ShortIter};
+use std::cmp::{Eq, PartialEq};
 use std::marker::Model;
 use std::mem;
 
@@ -69,6 +71,25 @@ impl<T> UpToThree<T> {
         }
     }
 
+    /// The first item.
+    pub fn first(&self) -> Option<&T>
+        ensures { option_copied result ≡ slice_get self.now 0 }
+    {
+        self.first.as_ref()
+    }
+
+    /// The items, lent, in their order.
+    pub fn iter(&self) -> ShortIter<'_, T>
+        ensures items { result ≡ self.now }
+        ensures short { length self.now ≤ 3 }
+    {
+        ShortIter {
+            first: self.first.as_ref(),
+            second: self.second.as_ref(),
+            third: self.third.as_ref(),
+        }
+    }
+
     /// Puts an item behind the others, of which there are fewer than three.
     pub fn push(&mut self, item: T)
         requires { length self.old < 3 }
@@ -105,11 +126,54 @@ impl<T> UpToThree<T> {
         ensures first { result ≡ slice_get self.old 0 }
         ensures rest { self.old ≡ option_to_list result ++ self.new }
         ensures fewer { length self.new < 3 }
+        ensures end { IfNone result (self.new ≡ []) }
     {
         let third = self.third.take();
         let second = mem::replace(&mut self.second, third);
         mem::replace(&mut self.first, second)
     }
+}
+
+impl<T: Drop> IntoIterator for UpToThree<T> {
+    type Item = T;
+
+    type IntoIter = ShortIntoIter<UpToThree<T>>;
+
+    ghost into_iter_gives = { λ s it. it.left ≡ s };
+
+    fn into_iter(self) -> ShortIntoIter<UpToThree<T>> {
+        ShortIntoIter::new(self)
+    }
+}
+
+impl<'a, T> IntoIterator for &'a UpToThree<T> {
+    type Item = &'a T;
+
+    type IntoIter = ShortIter<'a, T>;
+
+    ghost into_iter_gives = { λ s it. it ≡ s.now };
+
+    fn into_iter(self) -> ShortIter<'a, T> {
+        self.iter()
+    }
+}
+
+impl<T: PartialEq> PartialEq for UpToThree<T> {
+    ghost use Rattle.std.specs.Cmp.Lexicographic.{pointwise, lists_per};
+
+    ghost eq = { λ s t. pointwise T.eq s t };
+
+    ghost laws = { lists_per T.laws };
+
+    fn eq(&self, other: &Self) -> bool {
+        self.first == other.first && self.second == other.second && self.third == other.third
+    }
+}
+
+impl<T: Eq> Eq for UpToThree<T> {
+    ghost use Rattle.std.specs.Cmp.Lexicographic.{lists_equiv};
+
+    ghost laws = { lists_equiv T.Eq.laws };
 }
 
 impl UpToThree<ItemIndex> {

@@ -1,8 +1,10 @@
 //! A list of at most two items, in place.
-ghost use Rattle.std.specs.Prelude.{◌≡◌, ◌<◌, ◌≤◌, ◌++◌, ◌∷◌, ◌==◌, [], length, option_copied, slice_get};
+ghost use Rattle.std.specs.Prelude.{◌≡◌, ◌<◌, ◌≤◌, ◌++◌, ◌∷◌, ◌==◌, [], length, option_copied, slice_get, IfNone};
 ghost use Rattle.std.specs.Option.{option_to_list};
 
 use crate::item_index::ItemIndex;
+use crate::short_list::{ShortIntoIter, ShortIter};
+use std::cmp::{Eq, PartialEq};
 use std::marker::Model;
 use std::mem;
 
@@ -65,6 +67,25 @@ impl<T> UpToTwo<T> {
         }
     }
 
+    /// The first item.
+    pub fn first(&self) -> Option<&T>
+        ensures { option_copied result ≡ slice_get self.now 0 }
+    {
+        self.first.as_ref()
+    }
+
+    /// The items, lent, in their order.
+    pub fn iter(&self) -> ShortIter<'_, T>
+        ensures items { result ≡ self.now }
+        ensures short { length self.now ≤ 2 }
+    {
+        ShortIter {
+            first: self.first.as_ref(),
+            second: self.second.as_ref(),
+            third: None,
+        }
+    }
+
     /// Puts an item behind the others, of which there are fewer than two.
     pub fn push(&mut self, item: T)
         requires { length self.old < 2 }
@@ -98,10 +119,53 @@ impl<T> UpToTwo<T> {
         ensures first { result ≡ slice_get self.old 0 }
         ensures rest { self.old ≡ option_to_list result ++ self.new }
         ensures fewer { length self.new < 2 }
+        ensures end { IfNone result (self.new ≡ []) }
     {
         let second = self.second.take();
         mem::replace(&mut self.first, second)
     }
+}
+
+impl<T: Drop> IntoIterator for UpToTwo<T> {
+    type Item = T;
+
+    type IntoIter = ShortIntoIter<UpToTwo<T>>;
+
+    ghost into_iter_gives = { λ s it. it.left ≡ s };
+
+    fn into_iter(self) -> ShortIntoIter<UpToTwo<T>> {
+        ShortIntoIter::new(self)
+    }
+}
+
+impl<'a, T> IntoIterator for &'a UpToTwo<T> {
+    type Item = &'a T;
+
+    type IntoIter = ShortIter<'a, T>;
+
+    ghost into_iter_gives = { λ s it. it ≡ s.now };
+
+    fn into_iter(self) -> ShortIter<'a, T> {
+        self.iter()
+    }
+}
+
+impl<T: PartialEq> PartialEq for UpToTwo<T> {
+    ghost use Rattle.std.specs.Cmp.Lexicographic.{pointwise, lists_per};
+
+    ghost eq = { λ s t. pointwise T.eq s t };
+
+    ghost laws = { lists_per T.laws };
+
+    fn eq(&self, other: &Self) -> bool {
+        self.first == other.first && self.second == other.second
+    }
+}
+
+impl<T: Eq> Eq for UpToTwo<T> {
+    ghost use Rattle.std.specs.Cmp.Lexicographic.{lists_equiv};
+
+    ghost laws = { lists_equiv T.Eq.laws };
 }
 
 impl UpToTwo<ItemIndex> {

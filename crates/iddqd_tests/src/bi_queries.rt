@@ -132,10 +132,11 @@ const NUMBERS: [(&str, Option<u64>); 4] = [
     ("", None),
 ];
 
-/// Whether each text is found that should be, in the map of these.
+/// Whether each text is found that should be, in the map of these, also by the query that is there for lent texts.
 fn are_found(map: &BiHashMap<Word>) -> bool {
     for (text, wanted) in NUMBERS {
-        if number(map, text) != wanted {
+        let lent = map.get1(&iddqd_bi::Text(text)).map(|word| word.number);
+        if number(map, text) != wanted || lent != wanted {
             return false;
         }
     }

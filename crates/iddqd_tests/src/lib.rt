@@ -33,6 +33,8 @@ mod bi_queries;
 #[cfg(test)]
 mod bi_room;
 #[cfg(test)]
+mod bi_texts;
+#[cfg(test)]
 mod bi_walks;
 #[cfg(test)]
 mod pointers;

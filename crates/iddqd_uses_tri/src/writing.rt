@@ -4,7 +4,7 @@ ghost use Rattle.iddqd_tri.specs.Bag.{IsOnly, swap};
 ghost use Rattle.iddqd_tri.specs.Map.{bag};
 ghost use Rattle.iddqd_tri.specs.Keys.{has1, ranks};
 
-use iddqd_tri::{KeyMismatch, TriHashItem, TriHashItemMut, TriHashMap};
+use iddqd_tri::{TriHashItem, TriHashItemMut, TriHashMap};
 use std::hash::{BuildHasher, Hash};
 
 /// Writes the data of the item with a first key, if there is one.
@@ -60,9 +60,7 @@ pub fn replace1<T: TriHashItem, S: BuildHasher>(
     match map.get1_mut(key) {
         Some(mut found) => match found.replace(item) {
             Ok(old) => return Ok(old),
-            Err(KeyMismatch::Key1(item)) => return Err(item),
-            Err(KeyMismatch::Key2(item)) => return Err(item),
-            Err(KeyMismatch::Key3(item)) => return Err(item),
+            Err(refused) => return Err(refused.into_item()),
         },
         None => return Err(item),
     }

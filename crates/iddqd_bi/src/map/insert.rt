@@ -1,5 +1,5 @@
 //! Inserts.
-ghost use Rattle.std.specs.Prelude.{◌≡◌, ◌≢◌, ◌<◌, [], length, IsOk, OnOk, IfErr};
+ghost use Rattle.std.specs.Prelude.{◌≡◌, ◌≢◌, ◌<◌, ◌⊎◌, [], length, IsOk, OnOk, OnErr, IfErr};
 ghost use Rattle.std.specs.Borrow.{sem};
 ghost use Rattle.iddqd_store.specs.Bag.{clash};
 ghost use Rattle.iddqd_store.specs.Map.{bag, Gains, IsFullFor};
@@ -50,6 +50,28 @@ impl<T: BiHashItem, S: BuildHasher> BiHashMap<T, S> {
                 map: self,
                 new_item,
             })),
+        }
+    }
+
+    /// The same for a caller that doesn't ask why: a refusal hands the item back, and holds nothing else. The map is as
+    /// it was, and known.
+    ///
+    /// Each key of the item is hashed once and searched for once. It takes memory only where the map is full.
+    ///
+    /// `match map.insert_or_back(item) { Ok(()) => {}, Err(item) => keep_for_later(item) }`
+    pub fn insert_or_back(&mut self, item: T) -> Result<(), T>
+        ensures gains { OnOk result (Gains self.old item self.new) }
+        ensures free { OnOk result (clash (ranks T.BiHashItem T.K1.eq T.K2.eq) (bag self.old) item ≡ []) }
+        ensures granted { clash (ranks T.BiHashItem T.K1.eq T.K2.eq) (bag self.old) item ≡ []
+            → length (bag self.old) < self.old.capacity → IsOk result }
+        ensures handed_back { IfErr result (λ x. x ≡ item) }
+        ensures unchanged { OnErr result (self.new ≡ self.old) }
+        ensures reason { OnErr result ((clash (ranks T.BiHashItem T.K1.eq T.K2.eq) (bag self.old) item ≢ [])
+            ⊎ IsFullFor (ranks T.BiHashItem T.K1.eq T.K2.eq) self.old item) }
+    {
+        match self.try_insert(item) {
+            Ok(_ix) => Ok(()),
+            Err(Refusal::Duplicate(new_item, _)) | Err(Refusal::Memory(new_item)) => Err(new_item),
         }
     }
 }

@@ -1,11 +1,10 @@
 -- What a caller knows of a batch of items that a vector handed over.
-use Rattle.std.specs.Prelude.{◌≡◌, Bool, List, [], ◌∷◌, ◌++◌, Some, All, Contains, IsPermutation}
+use Rattle.std.specs.Prelude.{◌≡◌, Bool, List, [], ◌∷◌, ◌++◌, length, slice_get, Some, All, Contains, IsPermutation}
 use Rattle.std.specs.Cmp.{IsEquivalence}
 use Rattle.std.specs.Iterator.{Drains, YieldsThen}
-use Rattle.std.specs.List.{IsDistinct}
 use Rattle.std.specs.Vec.Iter.{into_iter_items, into_iter_steps}
 use Rattle.std.specs.declared.vec.IntoIter.{IntoIter}
-use Rattle.std.proofs.Common.{sym, subst, ◌∙◌}
+use Rattle.std.proofs.Common.{refl, sym, ap, subst, ◌∙◌}
 use Rattle.std.proofs.IntoIterSteps.{All-taken}
 use Rattle.std.proofs.lemmas.List.Elements.{All-contains_itself, All-weaker, Contains-append_left, Contains-append_right}
 use Rattle.std.proofs.lemmas.List.Sorted.{Contains-permutation, IsPermutation-sym}
@@ -15,8 +14,8 @@ use Rattle.iddqd_store.specs.Callers.{IsInTheWay}
 use Rattle.iddqd_store.specs.Rank.{agree}
 use Rattle.iddqd_store.specs.declared.error.ExtendUniqueReason.{ExtendUniqueReason}
 use Rattle.iddqd_store.proofs.BagLemmas.Building.{AddsTo-IsPermutation}
-use Rattle.iddqd_store.proofs.BagLemmas.Sound.{IsSound-rank, named_is}
-use Rattle.iddqd_store.proofs.CallerLemmas.{NamesOne-query}
+use Rattle.iddqd_store.proofs.BagLemmas.Sound.{named_is}
+use Rattle.iddqd_store.proofs.CallerLemmas.{NamesOne-query, distinct_at}
 use Rattle.iddqd_store.proofs.RankLemmas.Index.{Contains-here}
 use Rattle.iddqd_store.proofs.RunLemmas.Extending.{yielded_then}
 
@@ -27,28 +26,34 @@ module _ {T Z : Type 0} (ranks : Ranks T) (old batch : List T) (it : IntoIter T 
   batch-inserted new xs came added =
       subst (λ l. IsPermutation new (l ++ old)) (All-taken it xs came ∙ is) (AddsTo-IsPermutation ranks old new xs added)
 
-  -- a front of it came, and then the item in the way
+  -- a front of it came, then an item, and the rest is left
+  pub batch-split : (x : T) (taken xs : List T) (rest : IntoIter T Z) → YieldsThen into_iter_steps it xs (Some x) rest → xs ≡ taken → batch ≡ taken ++ x ∷ into_iter_items rest
+  batch-split x taken xs rest came same =
+      subst (λ l. batch ≡ l ++ x ∷ into_iter_items rest) same (sym is ∙ yielded_then (into_iter_steps {X = T} {Z = Z}) (λ (s : IntoIter T Z). into_iter_items s) (λ s t y step. step.0) xs it rest x came)
+
+  -- that item was in the way
   pub batch-refused : (x : T) (reason : ExtendUniqueReason) (taken xs : List T) (rest : IntoIter T Z) → YieldsThen into_iter_steps it xs (Some x) rest → xs ≡ taken → IsSound ranks (taken ++ old) → IsReason reason (clash ranks (taken ++ old) x) → IsInTheWay ranks old batch x reason
   batch-refused x reason taken xs rest came same apart why =
-      let split : batch ≡ xs ++ x ∷ into_iter_items rest =
-      sym is ∙ yielded_then (into_iter_steps {X = T} {Z = Z}) (λ (s : IntoIter T Z). into_iter_items s) (λ s t y step. step.0) xs it rest x came in
-      (taken, into_iter_items rest, subst (λ l. batch ≡ l ++ x ∷ into_iter_items rest) same split, apart, why)
+      (taken, into_iter_items rest, batch-split x taken xs rest came same, apart, why)
 
 module _ {T : Type 0} where
+  item_behind : (before behind : List T) (x : T) → slice_get (before ++ x ∷ behind) (length before) ≡ Some x
+  item_behind [] behind x = refl
+  item_behind (y ∷ before) behind x = item_behind before behind x
+
+  -- the item in the way stands behind as many of the batch as were taken
+  pub batch-index : (batch taken behind : List T) (x : T) → batch ≡ taken ++ x ∷ behind → slice_get batch (length taken) ≡ Some x
+  batch-index batch taken behind x is = ap (λ l. slice_get l (length taken)) is ∙ item_behind taken behind x
+
   -- the item in the way is one of the batch
   pub Contains-in_the_way : (batch before behind : List T) (x : T) → batch ≡ before ++ x ∷ behind → Contains batch x
   Contains-in_the_way batch before behind x is =
       subst (λ l. Contains l x) (sym is) (Contains-append_right before (x ∷ behind) x (Contains-here x behind))
 
-  -- no two have equal keys of any rank
-  pub distinct_at : (first : Ranks T) (same : T → T → Bool) (rest : Ranks T) (xs : List T) → IsSound (first ++ same ∷ rest) xs → IsDistinct same xs
-  distinct_at [] same rest xs sound = (IsSound-rank same rest xs sound).0
-  distinct_at (other ∷ first) same rest xs sound = distinct_at first same rest xs (IsSound-rank other (first ++ same ∷ rest) xs sound).1
-
   -- each of a batch that went in is the one that its key of a rank names; `first` and `rest` are the ranks before and behind
   pub batch-found : {K : Type 0} (first rest : Ranks T) (key : T → K) (eq : K → K → Bool) → IsEquivalence eq → (old new batch : List T) → IsSound (first ++ agree key eq ∷ rest) new → IsPermutation new (batch ++ old) → All (λ x. IsOnly (λ y. eq (key x) (key y)) new (Some x)) batch
   batch-found first rest key eq laws old new batch sound went_in =
-      let one = distinct_at first (agree key eq) rest new sound in
+      let one = distinct_at first rest (agree key eq) new sound in
       let in_it = λ (x : T) (there : Contains batch x). Contains-permutation (batch ++ old) new x (IsPermutation-sym new (batch ++ old) went_in) (Contains-append_left batch old x there) in
       All-weaker (Contains batch) (λ x. IsOnly (λ y. eq (key x) (key y)) new (Some x))
       (λ x there. sym (named_is (agree key eq) (λ y. eq (key x) (key y)) (NamesOne-query eq eq key (λ k l m same. laws.congr k l m same) (key x)) new x one (laws.refl (key x)) (in_it x there)))

@@ -13,8 +13,7 @@ use Rattle.iddqd_store.proofs.BagLemmas.Same.{agrees-refl, and-true}
 use Rattle.iddqd_store.proofs.BagLemmas.SameTest.{IsSameBag-is_same, is_same-partial, is_same-equivalence}
 use Rattle.iddqd_store.proofs.BagLemmas.Sound.{IsSound-IsPermutation, none_pass}
 use Rattle.iddqd_store.proofs.BagLemmas.Unique.{all_of-first, any_listed, is_some-found, some_item}
-use Rattle.iddqd_store.proofs.CallerLemmas.{passes-listed}
-use Rattle.iddqd_store.proofs.CallerLemmas.Batches.{distinct_at}
+use Rattle.iddqd_store.proofs.CallerLemmas.{distinct_at, passes-listed}
 use Rattle.iddqd_store.proofs.RankLemmas.Index.{Contains-here}
 
 module _ {T : Type 0} where
@@ -61,7 +60,7 @@ module _ {T : Type 0} where
   -- an item that left is found by its key of a rank no more; `first` and `rest` are the ranks before and behind
   pub gone-key : {K : Type 0} (first rest : Ranks T) (key : T → K) (eq : K → K → Bool) → AreLawful (first ++ agree key eq ∷ rest) → (old bag : List T) (x : T) (k : K) → IsSound (first ++ agree key eq ∷ rest) old → IsPermutation old (x ∷ bag) → k ≡ key x → list_any (λ y. eq k (key y)) bag ≡ false
   gone-key first rest key eq laws old bag x k sound taken is =
-      let apart = distinct_at first (agree key eq) rest (x ∷ bag) (IsSound-IsPermutation (first ++ agree key eq ∷ rest) laws old (x ∷ bag) taken sound) in
+      let apart = distinct_at first rest (agree key eq) (x ∷ bag) (IsSound-IsPermutation (first ++ agree key eq ∷ rest) laws old (x ∷ bag) taken sound) in
       rw is (any_listed (λ y. eq (key x) (key y)) bag ∙ ap some_item (none_pass (λ y. eq (key x) (key y)) bag (IsDistinct-head (agree key eq) x bag apart)))
 
 -- Equality of bags is an equivalence, where that of items is, and holds of bags with the same members.

@@ -1,15 +1,11 @@
-use Rattle.std.proofs.Common.{◌≡◌, filter, nat_le, IsPermutation, subst, rules}
-use Rattle.std.proofs.lemmas.Fn.{filter_same}
-use Rattle.std.proofs.lemmas.List.Sorted.{IsPermutation-sym, IsPermutation-trans}
+use Rattle.std.proofs.Common.{nat_le, rules}
 use Rattle.iddqd_bi.specs.Map.{bag}
-use Rattle.iddqd_store.proofs.BagLemmas.Exchanges.{IsPermutation-filter}
+use Rattle.iddqd_bi.proofs.CallerLemmas.Asking.{kept-filter}
 use Rattle.example_calls.specs.declared.retain.Lease.{Lease}
 use Rattle.example_calls.proofs.retain.expire.Goals as goal
 
+-- the closure answers the same of a lease whenever it is called
 pub returns : goal.returns
 returns c =
-    let kept = c.retain.ensures.kept in
     let test = λ (l : Lease). nat_le c.args.now l.until in
-    let left : kept.left ≡ filter test kept.listed = filter_same _ _ _ (λ x b f' k. search rules) _ _ kept.filtered in
-    IsPermutation-trans _ _ _ (subst (IsPermutation (bag c.retain.new.self)) left kept.are)
-    (IsPermutation-sym _ _ (IsPermutation-filter test (bag c.args.leases.now) kept.listed kept.same))
+    kept-filter _ test _ (λ x b f' k. search rules) (bag c.args.leases.now) (bag c.retain.new.self) c.retain.ensures.kept

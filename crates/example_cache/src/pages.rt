@@ -1,0 +1,126 @@
+//! A cache of a bounded number of pages, each known by its number and by the frame that it is in.
+ghost use Rattle.std.specs.Prelude.{◌≡◌, ◌≤◌, ◌<◌, ◌++◌, ◌==◌, [], List, Option, length, IfOk, Contains, IsPermutation, option_copied};
+ghost use Rattle.std.specs.Option.{option_to_list};
+ghost use Rattle.iddqd_bi.specs.Bag.{IsOnly, over};
+ghost use Rattle.iddqd_bi.specs.Keys.{ranks};
+ghost use Rattle.iddqd_bi.specs.Map.{bag};
+
+use iddqd_bi::{BiHashItem, BiHashMap, TryReserveError};
+use std::alloc::Global;
+
+/// A page in its frame, and what it holds.
+#[derive(Clone, Copy)]
+pub struct Page {
+    pub number: u64,
+    pub frame: u32,
+    pub value: u64,
+}
+
+impl BiHashItem for Page {
+    type K1 = u64;
+
+    type K2 = u32;
+
+    ghost key1 = { λ p. p.number };
+
+    ghost key2 = { λ p. p.frame };
+
+    fn key1(&self) -> &u64 {
+        &self.number
+    }
+
+    fn key2(&self) -> &u32 {
+        &self.frame
+    }
+}
+
+/// A cache of at most `limit` pages, all of whose memory was taken when it was made.
+#[derive(Drop)]
+pub struct Cache {
+    pages: BiHashMap<Page>,
+    limit: usize,
+    ghost some: { 0 < limit },
+    ghost bounded: { length (bag pages) ≤ limit },
+    ghost room: { limit ≤ pages.capacity },
+}
+
+impl Cache {
+    /// An empty cache. This is the one call that takes memory.
+    pub fn new(alloc: Global, limit: usize) -> Result<Self, TryReserveError>
+        requires { 0 < limit }
+        ensures empty { IfOk result (λ c. bag c.pages ≡ []) }
+        ensures limit { IfOk result (λ c. c.limit ≡ limit) }
+    {
+        Ok(Cache {
+            pages: BiHashMap::with_capacity(alloc, limit)?,
+            limit,
+        })
+    }
+
+    /// Puts a page in, in the place of those with its number or its frame, and of some other page where the cache is
+    /// full. All others stay. It takes no memory and is never refused.
+    pub fn put(&mut self, page: Page)
+        ensures in_it { Contains (bag self.new.pages) page }
+        ensures others { (gone : Option Page) × (rest : List Page)
+            × IsPermutation (bag self.old.pages) (option_to_list gone ++ rest)
+            × IsPermutation (bag self.new.pages)
+            (over (ranks ⟦<Page as BiHashItem>⟧ ⟦<u64 as PartialEq>⟧.eq ⟦<u32 as PartialEq>⟧.eq) rest page) }
+        ensures others_below_limit { length (bag self.old.pages) < self.old.limit
+            → IsPermutation (bag self.new.pages)
+            (over (ranks ⟦<Page as BiHashItem>⟧ ⟦<u64 as PartialEq>⟧.eq ⟦<u32 as PartialEq>⟧.eq) (bag self.old.pages) page) }
+        ensures limit { self.new.limit ≡ self.old.limit }
+        ensures same_memory { self.new.pages.capacity ≡ self.old.pages.capacity }
+    {
+        make_place(&mut self.pages, self.limit);
+        match self.pages.insert_overwrite(page) {
+            Ok(_) => {}
+            // Below the capacity an overwrite is never refused, as the map's contract says.
+            Err(_) => unreachable!(),
+        }
+    }
+
+    /// The page of a number, if it is in the cache.
+    pub fn page(&self, number: u64) -> Option<&Page>
+        ensures { IsOnly (λ p. number == p.number) (bag self.now.pages) (option_copied result) }
+    {
+        self.pages.get1(&number)
+    }
+
+    /// The page in a frame, if there is one.
+    pub fn in_frame(&self, frame: u32) -> Option<&Page>
+        ensures { IsOnly (λ p. frame == p.frame) (bag self.now.pages) (option_copied result) }
+    {
+        self.pages.get2(&frame)
+    }
+
+    /// How many pages there are.
+    pub fn len(&self) -> usize
+        ensures value { result ≡ length (bag self.now.pages) }
+        ensures bounded { result ≤ self.now.limit }
+    {
+        self.pages.len()
+    }
+}
+
+/// Takes some page out where there are as many as there may be.
+fn make_place(pages: &mut BiHashMap<Page>, limit: usize)
+    requires some { 0 < limit }
+    requires bounded { length (bag pages.old) ≤ limit }
+    ensures place { length (bag pages.new) < limit }
+    ensures at_most_one { (gone : Option Page) × IsPermutation (bag pages.old) (option_to_list gone ++ bag pages.new) }
+    ensures none_below_limit { length (bag pages.old) < limit → pages.new ≡ pages.old }
+    ensures same_room { pages.new.capacity ≡ pages.old.capacity }
+{
+    if pages.len() < limit {
+        return;
+    }
+    // The limit is not 0, so there is a page, and the map finds it by its own key.
+    let number = match pages.iter().next() {
+        Some(page) => page.number,
+        None => unreachable!(),
+    };
+    match pages.remove1(&number) {
+        Some(_page) => {}
+        None => unreachable!(),
+    }
+}

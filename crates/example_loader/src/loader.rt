@@ -1,0 +1,62 @@
+//! Records of persons, each known by a number and by a mail address. A batch of them goes in whole, or not at all.
+ghost use Rattle.std.specs.Prelude.{◌≡◌, ◌++◌, Some, slice_get, IsPermutation, OnOk, OnErr, IfErr};
+ghost use Rattle.iddqd_bi.specs.Callers.{IsInTheWay};
+ghost use Rattle.iddqd_bi.specs.Keys.{ranks};
+ghost use Rattle.iddqd_bi.specs.Map.{bag};
+
+use iddqd_bi::{BiHashItem, BiHashMap, ExtendUniqueReason};
+use serde::Deserialize;
+
+/// What is known of a person.
+#[derive(Drop, Deserialize)]
+pub struct Record {
+    pub id: u64,
+    pub mail: String,
+    pub year: u16,
+}
+
+impl BiHashItem for Record {
+    type K1 = u64;
+
+    type K2 = String;
+
+    ghost key1 = { λ r. r.id };
+
+    ghost key2 = { λ r. r.mail };
+
+    fn key1(&self) -> &u64 {
+        &self.id
+    }
+
+    fn key2(&self) -> &String {
+        &self.mail
+    }
+}
+
+/// Why a batch was not loaded: the record in the way, how many stood before it in the batch, and whether it conflicts
+/// with one of these or of the map, or found no memory.
+#[derive(Drop)]
+pub struct Rejected {
+    pub in_the_way: Record,
+    pub index: usize,
+    pub reason: ExtendUniqueReason,
+}
+
+/// Loads a batch whole, or says which record is in the way.
+pub fn load(records: &mut BiHashMap<Record>, batch: Vec<Record>) -> Result<(), Rejected>
+    ensures all { OnOk result (IsPermutation (bag records.new) (batch.items ++ bag records.old)) }
+    ensures none { OnErr result (IsPermutation (bag records.new) (bag records.old)) }
+    ensures which { IfErr result (λ e. slice_get batch.items e.index ≡ Some e.in_the_way) }
+    ensures why { IfErr result (λ e. IsInTheWay
+        (ranks ⟦<Record as BiHashItem>⟧ ⟦<u64 as PartialEq>⟧.eq ⟦<String as PartialEq>⟧.eq)
+        (bag records.old) batch.items e.in_the_way e.reason) }
+{
+    match records.extend_unique(batch) {
+        Ok(()) => Ok(()),
+        Err(refused) => Err(Rejected {
+            index: refused.taken.len(),
+            in_the_way: refused.value,
+            reason: refused.reason,
+        }),
+    }
+}

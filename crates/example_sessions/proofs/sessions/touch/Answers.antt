@@ -1,0 +1,17 @@
+use Rattle.std.specs.Prelude.{nat_eq}
+use Rattle.std.proofs.Common.{sym}
+use Rattle.iddqd_tri.specs.Keys.{ranks}
+use Rattle.iddqd_tri.specs.Map.{bag}
+use Rattle.iddqd_tri.specs.RefMuts.{ref_item, ref_map, ref_with}
+use Rattle.iddqd_tri.proofs.CallerLemmas.Named.{only_written}
+use Rattle.example_sessions.specs.contracts.sessions.SessionTriHashItem.TheImpl as item
+use Rattle.example_sessions.specs.contracts.sessions.PeerPartialEq.TheImpl as peer
+use Rattle.example_sessions.specs.declared.sessions.Session.{Session}
+use Rattle.example_sessions.proofs.sessions.touch.Goals as goal
+
+-- the item that is lent is the one that the token names
+pub returns-in-Some-clause-present : goal.returns-in-Some-clause-present
+returns-in-Some-clause-present c = λ s is.
+    (let one = c.in-Some.ensures in
+    let write : Session → Session = λ s. record s { seen = c.args.now } in
+    rw (c.sessions-1.given.1 (sym one.same_map)) (only_written (ranks item.ghosts nat_eq nat_eq (peer.ghosts).eq) write c.args.sessions.now (ref_map c.in-Some.session) (bag (ref_map (ref_with c.in-Some.session write))) (ref_item c.in-Some.session) s _ one.unchanged one.found is (c.data_mut.ensures.swaps c.args.now)))

@@ -1,0 +1,134 @@
+//! A table of sessions, each known by its number, by its token and by the peer that it is with.
+ghost use Rattle.std.specs.Prelude.{◌≡◌, ◌==◌, false, Some, None, filter, nat_le, length, IsPermutation, OnOk, OnErr, IfOk, IfErr, option_copied};
+ghost use Rattle.std.proofs.Common.{rules};
+ghost use Rattle.iddqd_tri.specs.Bag.{IsOnly, order, over, swap};
+ghost use Rattle.iddqd_tri.specs.Keys.{ranks};
+ghost use Rattle.iddqd_tri.specs.Map.{bag};
+
+use iddqd_tri::{MemoryRefused, TriHashItem, TriHashItemMut, TriHashMap, UpToThree};
+
+/// The address of a peer.
+#[derive(PartialEq, Eq, Hash, Clone, Copy)]
+pub struct Peer {
+    pub host: u32,
+    pub port: u16,
+}
+
+/// A session, and when it was seen last.
+#[derive(Drop)]
+pub struct Session {
+    pub id: u32,
+    pub token: u64,
+    pub peer: Peer,
+    pub seen: u64,
+}
+
+impl TriHashItem for Session {
+    type K1 = u32;
+
+    type K2 = u64;
+
+    type K3 = Peer;
+
+    ghost key1 = { λ s. s.id };
+
+    ghost key2 = { λ s. s.token };
+
+    ghost key3 = { λ s. s.peer };
+
+    fn key1(&self) -> &u32 {
+        &self.id
+    }
+
+    fn key2(&self) -> &u64 {
+        &self.token
+    }
+
+    fn key3(&self) -> &Peer {
+        &self.peer
+    }
+}
+
+impl TriHashItemMut for Session {
+    type Data = u64;
+
+    ghost payload = { λ s. s.seen };
+
+    ghost put = { λ s t. record s { seen = t } };
+
+    ghost keeps_key1 = { Prim.search rules };
+
+    ghost keeps_key2 = { Prim.search rules };
+
+    ghost keeps_key3 = { Prim.search rules };
+
+    ghost put_shows = { Prim.search rules };
+
+    fn data_mut(&mut self) -> &mut u64 {
+        &mut self.seen
+    }
+}
+
+/// Opens a session. Those with its number, its token or its peer are closed, and given back in this order.
+pub fn open(
+    sessions: &mut TriHashMap<Session>,
+    session: Session,
+) -> Result<UpToThree<Session>, MemoryRefused<Session>>
+    ensures opened { OnOk result (IsPermutation (bag sessions.new)
+        (over (ranks ⟦<Session as TriHashItem>⟧ ⟦<u32 as PartialEq>⟧.eq ⟦<u64 as PartialEq>⟧.eq ⟦<Peer as PartialEq>⟧.eq)
+        (bag sessions.old) session)) }
+    ensures closed { IfOk result (λ closed. closed
+        ≡ order (ranks ⟦<Session as TriHashItem>⟧ ⟦<u32 as PartialEq>⟧.eq ⟦<u64 as PartialEq>⟧.eq ⟦<Peer as PartialEq>⟧.eq)
+        (bag sessions.old) session) }
+    ensures refused { OnErr result (sessions.new ≡ sessions.old) }
+    ensures back { IfErr result (λ e. e.value ≡ session) }
+{
+    sessions.insert_overwrite(session)
+}
+
+/// The session with a token, if there is one.
+pub fn by_token(sessions: &TriHashMap<Session>, token: u64) -> Option<&Session>
+    ensures { IsOnly (λ s. token == s.token) (bag sessions.now) (option_copied result) }
+{
+    sessions.get2(&token)
+}
+
+/// The session with a peer, if there is one.
+pub fn with_peer<'s>(sessions: &'s TriHashMap<Session>, peer: &Peer) -> Option<&'s Session>
+    ensures { IsOnly (λ s. ⟦<Peer as PartialEq>⟧.eq peer.now s.peer) (bag sessions.now) (option_copied result) }
+{
+    sessions.get3(peer)
+}
+
+/// Notes when the session with a token was seen, and says whether there is one.
+pub fn touch(sessions: &mut TriHashMap<Session>, token: u64, now: u64) -> bool
+    ensures present { (s : Session) → IsOnly (λ s. token == s.token) (bag sessions.old) (Some s)
+        → IsPermutation (bag sessions.new)
+        (swap (ranks ⟦<Session as TriHashItem>⟧ ⟦<u32 as PartialEq>⟧.eq ⟦<u64 as PartialEq>⟧.eq ⟦<Peer as PartialEq>⟧.eq)
+        (bag sessions.old) s (record s { seen = now })) }
+    ensures absent { result ≡ false → IsOnly (λ s. token == s.token) (bag sessions.old) None }
+    ensures unchanged { result ≡ false → sessions.new ≡ sessions.old }
+    ensures none { IsOnly (λ s. token == s.token) (bag sessions.old) None → result ≡ false }
+{
+    match sessions.get2_mut(&token) {
+        Some(mut session) => {
+            *session.data_mut() = now;
+            true
+        }
+        None => false,
+    }
+}
+
+/// Closes the sessions that were not seen since.
+pub fn expire(sessions: &mut TriHashMap<Session>, since: u64)
+    ensures { IsPermutation (bag sessions.new) (filter (λ s. nat_le since s.seen) (bag sessions.old)) }
+{
+    sessions.retain(|session| session.seen >= since);
+}
+
+/// How many sessions are open.
+pub fn count(sessions: &TriHashMap<Session>) -> usize
+    ensures { result ≡ length (bag sessions.now) }
+{
+    sessions.len()
+}

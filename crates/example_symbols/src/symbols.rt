@@ -1,0 +1,74 @@
+//! A table of symbols, each known by its name and by its address.
+ghost use Rattle.std.specs.Prelude.{◌≡◌, ◌<◌, ◌∷◌, ◌==◌, [], nat_eq, string_bytes, length, IsOk, IsPermutation, OnOk, OnErr, IfErr, IfSome, IfNone, option_copied};
+ghost use Rattle.std.specs.Cmp.Lexicographic.{pointwise};
+ghost use Rattle.iddqd_bi.specs.Bag.{IsOnly, clash};
+ghost use Rattle.iddqd_bi.specs.Keys.{ranks};
+ghost use Rattle.iddqd_bi.specs.Map.{bag};
+
+use iddqd_bi::{BiHashItem, BiHashMap};
+
+/// A symbol.
+#[derive(Drop)]
+pub struct Symbol {
+    pub name: String,
+    pub address: u64,
+}
+
+impl BiHashItem for Symbol {
+    type K1 = String;
+
+    type K2 = u64;
+
+    ghost key1 = { λ s. s.name };
+
+    ghost key2 = { λ s. s.address };
+
+    fn key1(&self) -> &String {
+        &self.name
+    }
+
+    fn key2(&self) -> &u64 {
+        &self.address
+    }
+}
+
+/// Defines a symbol, or hands it back. With room for one more it comes back only where its name or its address is
+/// taken.
+pub fn define(symbols: &mut BiHashMap<Symbol>, symbol: Symbol) -> Result<(), Symbol>
+    ensures went_in { OnOk result (IsPermutation (bag symbols.new) (symbol ∷ bag symbols.old)) }
+    ensures free { OnOk result (clash (ranks ⟦<Symbol as BiHashItem>⟧ ⟦<String as PartialEq>⟧.eq ⟦<u64 as PartialEq>⟧.eq)
+        (bag symbols.old) symbol ≡ []) }
+    ensures granted { clash (ranks ⟦<Symbol as BiHashItem>⟧ ⟦<String as PartialEq>⟧.eq ⟦<u64 as PartialEq>⟧.eq)
+        (bag symbols.old) symbol ≡ [] → length (bag symbols.old) < symbols.old.capacity → IsOk result }
+    ensures back { IfErr result (λ s. s ≡ symbol) }
+    ensures refused { OnErr result (symbols.new ≡ symbols.old) }
+{
+    symbols.insert_or_back(symbol)
+}
+
+/// The symbol of a name, if there is one.
+pub fn resolve<'s>(symbols: &'s BiHashMap<Symbol>, name: &str) -> Option<&'s Symbol>
+    ensures { IsOnly (λ s. pointwise nat_eq name.now (string_bytes s.name)) (bag symbols.now) (option_copied result) }
+{
+    symbols.get1(&name)
+}
+
+/// The symbol at an address, if there is one.
+pub fn at_address(symbols: &BiHashMap<Symbol>, address: u64) -> Option<&Symbol>
+    ensures { IsOnly (λ s. address == s.address) (bag symbols.now) (option_copied result) }
+{
+    symbols.get2(&address)
+}
+
+/// Takes the symbol of a name out, if there is one. A removal takes a key, which for names is a `String`, and not a
+/// text: so the symbol is looked up by its name, and taken out by its address.
+pub fn undefine(symbols: &mut BiHashMap<Symbol>, name: &str) -> Option<Symbol>
+    ensures it { IsOnly (λ s. pointwise nat_eq name.now (string_bytes s.name)) (bag symbols.old) result }
+    ensures gone { IfSome result (λ s. IsPermutation (bag symbols.old) (s ∷ bag symbols.new)) }
+    ensures absent { IfNone result (symbols.new ≡ symbols.old) }
+{
+    // Says to the proof that no two symbols have one address.
+    let _len = symbols.len();
+    let address = symbols.get1(&name)?.address;
+    symbols.remove2(&address)
+}

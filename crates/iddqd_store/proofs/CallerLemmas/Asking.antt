@@ -1,0 +1,83 @@
+-- What a caller knows who asked first, who keeps some of the items, and who overwrites.
+use Rattle.std.specs.Prelude.{◌≡◌, ◌≤◌, ◌+◌, Bool, true, false, ◌||◌, List, [], ◌∷◌, ◌++◌, length, filter, IsPermutation, Result, Ok, Err, OnOk, OnErr}
+use Rattle.std.specs.Cmp.{IsEquivalence}
+use Rattle.std.specs.List.{AllByRecursion, IsDistinct, list_any}
+use Rattle.std.proofs.Common.{refl, sym, ap, subst, ◌∙◌, arith}
+use Rattle.std.proofs.lemmas.Fn.{filter_same}
+use Rattle.std.proofs.lemmas.Map.Keys.{IsDistinct-head}
+use Rattle.std.proofs.lemmas.List.Sorted.{IsPermutation-sym, IsPermutation-trans, list_any-IsPermutation}
+use Rattle.iddqd_store.specs.Bag.{Keeps, Ranks, AreLawful, IsSound, agrees, clash, like, over, some_of}
+use Rattle.iddqd_store.specs.Map.{Map, bag}
+use Rattle.iddqd_store.proofs.BagLemmas.Exchanges.{IsPermutation-filter}
+use Rattle.iddqd_store.proofs.BagLemmas.Same.{and-true}
+use Rattle.iddqd_store.proofs.BagLemmas.Sound.{IsSound-IsPermutation, IsSound-rank, each_weaker, none_pass}
+use Rattle.iddqd_store.proofs.BagLemmas.Unique.{any_listed, some_item}
+use Rattle.iddqd_store.proofs.CallerLemmas.{length-overwritten_by}
+
+or_none : (a b : Bool) → (a || b) ≡ false → (a ≡ false) × (b ≡ false)
+or_none true b h = absurd (cc h)
+or_none false b h = (refl, h)
+
+module _ {T : Type 0} where
+  -- no member passes any of the tests
+  abbrev pub PassNone : List (T → Bool) → List T → Type 0
+  PassNone tests bag = AllByRecursion (λ test. list_any test bag ≡ false) tests
+
+  none_here : (tests : List (T → Bool)) (x : T) (xs : List T) → PassNone tests (x ∷ xs) → (some_of tests x ≡ false) × PassNone tests xs
+  none_here [] x xs none = (refl, tt)
+  none_here (test ∷ tests) x xs none =
+      let first = or_none (test x) (list_any test xs) none.0 in
+      let rest = none_here tests x xs none.1 in
+      (rw first.0 rest.0, (first.1, rest.1))
+
+  none_left : (tests : List (T → Bool)) (bag : List T) → PassNone tests bag → filter (λ x. some_of tests x) bag ≡ []
+  none_left tests [] none = refl
+  none_left tests (x ∷ xs) none =
+      let both = none_here tests x xs none in
+      rw both.0 (none_left tests xs both.1)
+
+  -- nothing conflicts with an item where no member has its key of any rank
+  pub none-clash : (ranks : Ranks T) (bag : List T) (x : T) → PassNone (like ranks x) bag → clash ranks bag x ≡ []
+  none-clash ranks bag x none = none_left (like ranks x) bag none
+
+  -- no more does any of what is left where an item was taken out
+  pub none-left : (test : T → Bool) (old bag : List T) (x : T) → IsPermutation old (x ∷ bag) → list_any test old ≡ false → list_any test bag ≡ false
+  none-left test old bag x taken none =
+      (or_none (test x) (list_any test bag) (sym (list_any-IsPermutation test old (x ∷ bag) taken) ∙ none)).1
+
+  none_at : (agree : T → T → Bool) → IsEquivalence agree → (bag : List T) (x y : T) → IsDistinct agree (x ∷ bag) → agree x y ≡ true → list_any (agree y) bag ≡ false
+  none_at agree laws bag x y apart same =
+      any_listed (agree y) bag ∙ ap some_item (none_pass (agree y) bag (each_weaker _ _ (λ z other. sym (laws.congr x y z same) ∙ other) bag (IsDistinct-head agree x bag apart)))
+
+  none_elsewhere : (ranks : Ranks T) → AreLawful ranks → (bag : List T) (x y : T) → IsSound ranks (x ∷ bag) → agrees ranks x y ≡ true → PassNone (like ranks y) bag
+  none_elsewhere [] laws bag x y sound same = tt
+  none_elsewhere (agree ∷ ranks) laws bag x y sound same =
+      let both = and-true (agree x y) (agrees ranks x y) same in
+      let apart = IsSound-rank agree ranks (x ∷ bag) sound in
+      (none_at agree laws.0 bag x y apart.0 both.0, none_elsewhere ranks laws.1 bag x y apart.1 both.1)
+
+  none_again : (first rest : Ranks T) (agree : T → T → Bool) → AreLawful (first ++ agree ∷ rest) → (bag : List T) (x y : T) → IsSound (first ++ agree ∷ rest) (x ∷ bag) → agrees first x y ≡ true → agrees rest x y ≡ true → list_any (agree y) bag ≡ false → PassNone (like (first ++ agree ∷ rest) y) bag
+  none_again [] rest agree laws bag x y sound before behind none =
+      (none, none_elsewhere rest laws.1 bag x y (IsSound-rank agree rest (x ∷ bag) sound).1 behind)
+  none_again (other ∷ first) rest agree laws bag x y sound before behind none =
+      let both = and-true (other x y) (agrees first x y) before in
+      let apart = IsSound-rank other (first ++ agree ∷ rest) (x ∷ bag) sound in
+      (none_at other laws.0 bag x y apart.0 both.0, none_again first rest agree laws.1 bag x y apart.1 both.1 behind none)
+
+  -- an item x that was taken out can go in again as y, with another key of one rank, where no member had that key;
+  -- at the ranks before and behind it y has the keys of x
+  pub none-clash_again : (first rest : Ranks T) (agree : T → T → Bool) → AreLawful (first ++ agree ∷ rest) → (old bag : List T) (x y : T) → IsSound (first ++ agree ∷ rest) old → IsPermutation old (x ∷ bag) → agrees first x y ≡ true → agrees rest x y ≡ true → list_any (agree y) old ≡ false → clash (first ++ agree ∷ rest) bag y ≡ []
+  none-clash_again first rest agree laws old bag x y sound taken before behind none =
+      none-clash (first ++ agree ∷ rest) bag y
+      (none_again first rest agree laws bag x y (IsSound-IsPermutation (first ++ agree ∷ rest) laws old (x ∷ bag) taken sound) before behind (none-left (agree y) old bag x taken none))
+
+  -- `retain` with a closure that a call leaves as it is, and that answers `test`, keeps those that pass
+  pub kept-filter : {F : Type 0} (step : F → T → Bool → F → Type 0) (test : T → Bool) (f : F) → ((x : T) (b : Bool) (f' : F) → step f x b f' → (b ≡ test x) × (f' ≡ f)) → (old new : List T) → Keeps step f old new → IsPermutation new (filter test old)
+  kept-filter step test f answers old new kept =
+      let left : kept.left ≡ filter test kept.listed = filter_same step test f answers kept.listed kept.left kept.filtered in
+      IsPermutation-trans _ _ _ (subst (IsPermutation new) left kept.are) (IsPermutation-sym _ _ (IsPermutation-filter test old kept.listed kept.same))
+
+  -- one more at most after an overwrite, granted or refused
+  pub length-overwritten : {S A E : Type 0} (ranks : Ranks T) (old new : Map T S) (x : T) (r : Result A E) → OnOk r (IsPermutation (bag new) (over ranks (bag old) x)) → OnErr r (new ≡ old) → length (bag new) ≤ length (bag old) + 1
+  length-overwritten ranks old new x (Ok a) items same = omega (arith, length-overwritten_by ranks (bag old) (bag new) x items)
+  length-overwritten ranks old new x (Err e) items same = omega (arith, ap (λ m. length (bag m)) same)
