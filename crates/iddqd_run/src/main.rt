@@ -1,30 +1,13 @@
 //! Runs the lines of commands of standard input on a map, and writes the line of each reply to standard output.
 #![tactic(auto)]
 
-mod command;
-mod ends;
-mod from_read;
-mod item;
-mod lines;
-mod numbers;
-mod outcome;
-mod parse;
-mod print;
-mod read;
-mod run;
-mod sink;
 #[cfg(test)]
 mod tests;
-mod three_keys;
-mod to_write;
-mod two_keys;
-mod words;
-mod write;
 
-use crate::from_read::FromRead;
-use crate::outcome::{asked, ending};
-use crate::run::run_text;
-use crate::to_write::ToWrite;
+use iddqd_text::from_read::FromRead;
+use iddqd_text::outcome::{asked, ending};
+use iddqd_text::run::run_text;
+use iddqd_text::to_write::ToWrite;
 use std::process::ExitCode;
 use std::{env, io};
 

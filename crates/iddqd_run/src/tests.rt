@@ -1,10 +1,10 @@
 //! Readers and writers of which one call fails, and runs of which one request for memory is refused.
 mod refused;
 
-use crate::from_read::FromRead;
-use crate::outcome::{Kind, RunEnd, RunFault};
-use crate::run::run_text;
-use crate::to_write::ToWrite;
+use iddqd_text::from_read::FromRead;
+use iddqd_text::outcome::{Kind, RunEnd, RunFault};
+use iddqd_text::run::run_text;
+use iddqd_text::to_write::ToWrite;
 use std::alloc::Global;
 use std::io::{self, ErrorKind, Read, Write};
 use std::process::Abort;

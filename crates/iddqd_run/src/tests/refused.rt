@@ -2,10 +2,10 @@
 //!
 //! As in `iddqd_memory`, a test `allows_..` passes whichever request is refused. It says what its run met, since each
 //! outcome has to come at some request. A test `grants_..` passes where none is refused.
-use crate::from_read::FromRead;
-use crate::outcome::{Kind, RunEnd, RunFault};
-use crate::run::run_text;
-use crate::to_write::ToWrite;
+use iddqd_text::from_read::FromRead;
+use iddqd_text::outcome::{Kind, RunEnd, RunFault};
+use iddqd_text::run::run_text;
+use iddqd_text::to_write::ToWrite;
 use std::alloc::Global;
 use std::io::{self, Write};
 use std::process::Abort;

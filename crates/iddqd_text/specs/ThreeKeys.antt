@@ -1,0 +1,83 @@
+-- Kind `tri`: its items, what its words stand for, and what a run prints.
+use Rattle.std.specs.Prelude.{ℕ, nat_eq, List, [], ◌∷◌, Option, Some, None}
+use Rattle.std.specs.Option.{option_map}
+use Rattle.iddqd_store.specs.Runs.Reply.{Reply}
+use Rattle.iddqd_store.specs.Runs.Step.{State}
+use Rattle.iddqd_tri.specs.Step.{Step}
+use Rattle.iddqd_tri.specs.declared.item.TriHashItem as of
+use Rattle.iddqd_tri.specs.declared.command.TriCommand.{TriCommand}
+use Rattle.iddqd_tri.specs.declared.command.TriCommand.TheVariants as command
+use Rattle.iddqd_text.specs.Commands.{Spelled, single, add_all}
+use Rattle.iddqd_text.specs.Outputs as outputs
+use Rattle.iddqd_text.specs.Printed.{line_of}
+use Rattle.iddqd_text.specs.declared.item.tri.TriItem.{TriItem}
+use Rattle.iddqd_text.specs.declared.words.Word.{Word}
+use Rattle.iddqd_text.specs.declared.words.Word.TheVariants.{New, Get1, Get2, Get3, Del1, Both, Del2, Del3, DelBoth, Len, Put, Reserve, Fit, Clear, List as ListAll, Replace1, Set1, EntPut, EntDel, OrPut, AddAll}
+
+-- the numbers of an item
+abbrev pub numbers : TriItem → List ℕ
+numbers item = item.key1 ∷ item.key2 ∷ item.key3 ∷ item.value ∷ []
+
+-- the item of these numbers
+abbrev pub item : ℕ → ℕ → ℕ → ℕ → TriItem
+item k1 k2 k3 v = record { key1 = k1; key2 = k2; key3 = k3; value = v }
+
+-- the keys of an item
+abbrev pub keys : of.Ghosts TriItem ℕ ℕ ℕ
+keys = record { key1 = λ item. item.key1; key2 = λ item. item.key2; key3 = λ item. item.key3 }
+
+-- the item with other data
+abbrev pub with_value : TriItem → ℕ → TriItem
+with_value item value = record item { value = value }
+
+-- the commands of a map of these items
+abbrev pub Command : Type 0
+Command = TriCommand TriItem ℕ ℕ ℕ ℕ
+
+-- the command of a word with its numbers, where it holds no list
+abbrev pub single_of : Word → List ℕ → Option Command
+single_of New (k1 ∷ k2 ∷ k3 ∷ v ∷ []) = Some (command.InsertUnique (item k1 k2 k3 v))
+single_of Get1 (k ∷ []) = Some (command.Get1 k)
+single_of Get2 (k ∷ []) = Some (command.Get2 k)
+single_of Get3 (k ∷ []) = Some (command.Get3 k)
+single_of Del1 (k ∷ []) = Some (command.Remove1 k)
+single_of Both (k1 ∷ k2 ∷ k3 ∷ []) = Some (command.GetUnique k1 k2 k3)
+single_of Del2 (k ∷ []) = Some (command.Remove2 k)
+single_of Del3 (k ∷ []) = Some (command.Remove3 k)
+single_of DelBoth (k1 ∷ k2 ∷ k3 ∷ []) = Some (command.RemoveUnique k1 k2 k3)
+single_of Len [] = Some command.Len
+single_of Put (k1 ∷ k2 ∷ k3 ∷ v ∷ []) = Some (command.InsertOverwrite (item k1 k2 k3 v))
+single_of Reserve (n ∷ []) = Some (command.Reserve n)
+single_of Fit [] = Some command.ShrinkToFit
+single_of Clear [] = Some command.Clear
+single_of ListAll [] = Some command.Items
+single_of Replace1 (k ∷ x1 ∷ x2 ∷ x3 ∷ v ∷ []) = Some (command.Replace1 k (item x1 x2 x3 v))
+single_of Set1 (k ∷ v ∷ []) = Some (command.Set1 k v)
+single_of EntPut (k1 ∷ k2 ∷ k3 ∷ x1 ∷ x2 ∷ x3 ∷ v ∷ []) = Some (command.EntryInsert k1 k2 k3 (item x1 x2 x3 v))
+single_of EntDel (k1 ∷ k2 ∷ k3 ∷ []) = Some (command.EntryRemove k1 k2 k3)
+single_of OrPut (k1 ∷ k2 ∷ k3 ∷ x1 ∷ x2 ∷ x3 ∷ v ∷ []) = Some (command.OrInsert k1 k2 k3 (item x1 x2 x3 v))
+single_of word numbers = None
+
+-- the items of the numbers, four for each, if none is left over
+abbrev pub items_of : List ℕ → Option (List TriItem)
+items_of [] = Some []
+items_of (k1 ∷ k2 ∷ k3 ∷ v ∷ numbers) = option_map (λ items. item k1 k2 k3 v ∷ items) (items_of numbers)
+items_of numbers = None
+
+-- what a word with its numbers spells
+abbrev pub command_of : Word → List ℕ → Option (Spelled Command TriItem)
+command_of AddAll numbers = option_map add_all (items_of numbers)
+command_of word numbers = option_map single (single_of word numbers)
+
+-- what a command is spelled by
+abbrev pub spelled : Command → Spelled Command TriItem
+spelled (command.ExtendUnique xs) = add_all xs.items
+spelled other = single other
+
+-- what each command may answer
+abbrev pub Steps : State TriItem → Command → Reply TriItem ℕ → State TriItem → Type 0
+Steps = Step keys nat_eq nat_eq nat_eq with_value
+
+-- what a run of the commands on a new map prints
+abbrev pub Prints : List Command → List ℕ → Type 0
+Prints commands output = outputs.Prints Steps (line_of numbers) commands output

@@ -1,0 +1,21 @@
+//! A text of commands, run on a map with two keys or with three: what `iddqd_run` does between its reader and its
+//! writer.
+#![tactic(auto)]
+
+pub mod command;
+pub mod ends;
+pub mod from_read;
+pub mod item;
+pub mod lines;
+pub mod numbers;
+pub mod outcome;
+pub mod parse;
+pub mod print;
+pub mod read;
+pub mod run;
+pub mod sink;
+pub mod three_keys;
+pub mod to_write;
+pub mod two_keys;
+pub mod words;
+pub mod write;

@@ -1,0 +1,76 @@
+//! A text of commands, run on a new map.
+ghost use Rattle.std.specs.Prelude.{◌≡◌, Err, IfOk, IfSome, OnOk, string_bytes};
+ghost use Rattle.std.specs.Io.KnownBytes.{IsAtEnd, Keeps};
+ghost use Rattle.iddqd_text.specs.Faults.{reads_failed, writes_failed};
+ghost use Rattle.iddqd_text.specs.RunText.{IsAnswer, IsOutcome, Writes, WritesFront};
+
+use crate::command::Command;
+use crate::ends::{Out, Source};
+use crate::item::{BiItem, TriItem};
+use crate::outcome::{Kind, RunEnd, RunFault};
+use crate::parse::{Parsed, parse};
+use crate::print::bad_line_message;
+use crate::read::read_all;
+use crate::write::write_all;
+use iddqd_bi::BiCommand;
+use iddqd_tri::TriCommand;
+use std::alloc::{AllocError, Global};
+
+/// Reads to the end, reads all lines, then runs them on a new map of this kind, and writes the line
+/// of each reply.
+///
+/// Where a line is bad, no line is run, and one message that names the first bad line is written.
+///
+/// A read that fails ends it with `Read`, a write that fails with `Write`, and none is tried again.
+/// It keeps the input, the commands and the output in memory. Where memory is refused for these,
+/// also to an input that never ends, it answers `Memory`. Where it is refused to the map, that is a reply.
+pub fn run_text<R: Source, W: Out>(
+    alloc: Global,
+    kind: Kind,
+    source: &mut R,
+    out: &mut W,
+) -> Result<RunEnd, RunFault>
+    ensures ended { IfOk result (λ end. IfSome (R.left source.old) (λ input.
+        Writes kind input end (W.held out.old) (W.held out.new))) }
+    ensures front_at_write { result ≡ Err RunFault.Write → IfSome (R.left source.old) (λ input.
+        WritesFront kind input (W.held out.old) (W.held out.new)) }
+    ensures nothing_at_read { result ≡ Err RunFault.Read → Keeps (W.held out.old) (W.held out.new) }
+    ensures nothing_at_memory { result ≡ Err RunFault.Memory → Keeps (W.held out.old) (W.held out.new) }
+    ensures to_the_end { OnOk result (IsAtEnd (R.left source.new)) }
+    ensures reads_failed { R.failures source.new ≡ reads_failed result (R.failures source.old) }
+    ensures writes_failed { W.failures out.new ≡ writes_failed result (W.failures out.old) }
+{
+    let input = read_all(alloc, source)?;
+    let (end, output) = answer(alloc, kind, &input)?;
+    match write_all(out, output.as_bytes()) {
+        Ok(()) => Ok(end),
+        Err(_) => Err(RunFault::Write),
+    }
+}
+
+/// How the run of a text ends, and what it prints.
+fn answer(alloc: Global, kind: Kind, input: &[u8]) -> Result<(RunEnd, String), AllocError>
+    ensures { IfOk result (λ answer. IsOutcome kind input.now answer.0 (string_bytes answer.1)) }
+{
+    match kind {
+        Kind::Bi => answer_of::<BiCommand<BiItem>>(alloc, input),
+        Kind::Tri => answer_of::<TriCommand<TriItem>>(alloc, input),
+    }
+}
+
+/// The same, where the lines spell commands of this type.
+fn answer_of<C: Command>(alloc: Global, input: &[u8]) -> Result<(RunEnd, String), AllocError>
+    ensures { IfOk result (λ answer.
+        IsAnswer C.command_of C.spelled C.Prints input.now answer.0 (string_bytes answer.1)) }
+{
+    match parse::<C>(alloc, input)? {
+        Parsed::Commands(commands) => {
+            let output = C::run_commands(alloc, commands)?;
+            Ok((RunEnd::Done, output))
+        }
+        Parsed::BadLine(number) => {
+            let message = bad_line_message(alloc, number)?;
+            Ok((RunEnd::BadLine(number), message))
+        }
+    }
+}

@@ -1,0 +1,61 @@
+//! What takes the replies of a run.
+use crate::item::Numbers;
+use crate::print::line_of;
+use iddqd_store::{MapReply, ShortList};
+use std::alloc::{AllocError, Global};
+
+/// Keeps the line of each reply, one behind the other.
+#[derive(Drop)]
+pub struct LineSink {
+    alloc: Global,
+    // Room for one line: where memory for it is refused halfway, the text stays as it is.
+    line: String,
+    pub text: String,
+}
+
+impl LineSink {
+    ghost use Rattle.std.specs.Prelude.{◌≡◌, [], string_bytes};
+    ghost use Rattle.iddqd_store.specs.Runs.Values.{value_by};
+    ghost use Rattle.iddqd_text.specs.Outputs.{GrowsByLine};
+    ghost use Rattle.iddqd_text.specs.Printed.{line_of};
+
+    /// A sink with no line yet. It takes no memory.
+    pub fn new(alloc: Global) -> Self
+        ensures { string_bytes result.text ≡ [] }
+    {
+        LineSink {
+            alloc,
+            line: String::new(alloc),
+            text: String::new(alloc),
+        }
+    }
+
+    /// The lines.
+    pub fn into_text(self) -> String
+        ensures { result ≡ self.text }
+    {
+        let LineSink { text, .. } = self;
+        text
+    }
+
+    /// Puts the line of a reply behind the others, or leaves them where memory is refused.
+    pub fn push_line<
+        'm,
+        T: Numbers + Copy + Drop,
+        L: ShortList<Item = &'m T> + Drop,
+        G: ShortList<Item = T> + Drop,
+    >(&mut self, reply: MapReply<'m, T, u64, L, G>) -> Result<(), AllocError>
+        ensures { GrowsByLine (line_of T.numbers) (string_bytes self.old.text)
+            (value_by L.list G.list reply.entry) result (string_bytes self.new.text) }
+    {
+        match reply {
+            // The commonest lines need no room of their own: a word goes in whole, or not at all.
+            MapReply::Done => self.text.push_str("ok\n"),
+            MapReply::Found(None) => self.text.push_str("none\n"),
+            reply => {
+                line_of(self.alloc, reply, &mut self.line)?;
+                self.text.push_str(self.line.as_str())
+            }
+        }
+    }
+}

@@ -1,0 +1,212 @@
+//! Kind `tri`: what its words stand for, and how its commands run.
+ghost use Rattle.std.specs.Prelude.{◌≡◌, IfOk, string_bytes};
+ghost use Rattle.std.specs.Option.{option_map};
+ghost use Rattle.iddqd_store.specs.Runs.Values.{value_of};
+ghost use Rattle.iddqd_text.specs.Commands.{single};
+ghost use Rattle.iddqd_text.specs.Outputs.{GrowsByLine};
+ghost use Rattle.iddqd_text.specs.Printed.{line_of};
+ghost use Rattle.iddqd_text.specs.ThreeKeys.{command_of, items_of, numbers, single_of, spelled, Prints};
+
+use crate::command::Command;
+use crate::item::TriItem;
+use crate::sink::LineSink;
+use crate::words::Word;
+use iddqd_tri::{TriCommand, TriHashMap, TriReply, TriSink};
+use std::alloc::{AllocError, Global};
+
+impl Command for TriCommand<TriItem> {
+    type Item = TriItem;
+
+    ghost command_of = { command_of };
+
+    ghost spelled = { spelled };
+
+    ghost Prints = { Prints };
+
+    fn command_of(
+        alloc: Global,
+        word: Word,
+        numbers: &[u64],
+    ) -> Result<Option<TriCommand<TriItem>>, AllocError> {
+        if word != Word::AddAll {
+            return Ok(single_of(word, numbers));
+        }
+        match items_of(alloc, numbers)? {
+            Some(items) => Ok(Some(TriCommand::ExtendUnique(items))),
+            None => Ok(None),
+        }
+    }
+
+    fn run_commands(alloc: Global, commands: Vec<TriCommand<TriItem>>) -> Result<String, AllocError>
+        ensures { IfOk result (λ output. Prints commands.items (string_bytes output)) }
+    {
+        let mut map = TriHashMap::<TriItem>::new(alloc);
+        let mut sink = LineSink::new(alloc);
+        map.run(commands, &mut sink)?;
+        Ok(sink.into_text())
+    }
+}
+
+/// The command of a word with these numbers, where it holds no list.
+fn single_of(word: Word, numbers: &[u64]) -> Option<TriCommand<TriItem>>
+    ensures meaning { result ≡ single_of word numbers.now }
+    ensures spelling { option_map spelled result ≡ option_map single result }
+{
+    match word {
+        Word::New => match numbers {
+            [key1, key2, key3, value] => Some(TriCommand::InsertUnique(TriItem {
+                key1: *key1,
+                key2: *key2,
+                key3: *key3,
+                value: *value,
+            })),
+            _ => None,
+        },
+        Word::Get1 => match numbers {
+            [key] => Some(TriCommand::Get1(*key)),
+            _ => None,
+        },
+        Word::Get2 => match numbers {
+            [key] => Some(TriCommand::Get2(*key)),
+            _ => None,
+        },
+        Word::Get3 => match numbers {
+            [key] => Some(TriCommand::Get3(*key)),
+            _ => None,
+        },
+        Word::Del1 => match numbers {
+            [key] => Some(TriCommand::Remove1(*key)),
+            _ => None,
+        },
+        Word::Both => match numbers {
+            [key1, key2, key3] => Some(TriCommand::GetUnique(*key1, *key2, *key3)),
+            _ => None,
+        },
+        Word::Del2 => match numbers {
+            [key] => Some(TriCommand::Remove2(*key)),
+            _ => None,
+        },
+        Word::Del3 => match numbers {
+            [key] => Some(TriCommand::Remove3(*key)),
+            _ => None,
+        },
+        Word::DelBoth => match numbers {
+            [key1, key2, key3] => Some(TriCommand::RemoveUnique(*key1, *key2, *key3)),
+            _ => None,
+        },
+        Word::Len => match numbers {
+            [] => Some(TriCommand::Len),
+            _ => None,
+        },
+        Word::Put => match numbers {
+            [key1, key2, key3, value] => Some(TriCommand::InsertOverwrite(TriItem {
+                key1: *key1,
+                key2: *key2,
+                key3: *key3,
+                value: *value,
+            })),
+            _ => None,
+        },
+        Word::Reserve => match numbers {
+            [more] => Some(TriCommand::Reserve(*more as usize)),
+            _ => None,
+        },
+        Word::Fit => match numbers {
+            [] => Some(TriCommand::ShrinkToFit),
+            _ => None,
+        },
+        Word::Clear => match numbers {
+            [] => Some(TriCommand::Clear),
+            _ => None,
+        },
+        Word::List => match numbers {
+            [] => Some(TriCommand::Items),
+            _ => None,
+        },
+        Word::Replace1 => match numbers {
+            [key, item1, item2, item3, value] => Some(TriCommand::Replace1(
+                *key,
+                TriItem {
+                    key1: *item1,
+                    key2: *item2,
+                    key3: *item3,
+                    value: *value,
+                },
+            )),
+            _ => None,
+        },
+        Word::Set1 => match numbers {
+            [key, value] => Some(TriCommand::Set1(*key, *value)),
+            _ => None,
+        },
+        Word::EntPut => match numbers {
+            [key1, key2, key3, item1, item2, item3, value] => Some(TriCommand::EntryInsert(
+                *key1,
+                *key2,
+                *key3,
+                TriItem {
+                    key1: *item1,
+                    key2: *item2,
+                    key3: *item3,
+                    value: *value,
+                },
+            )),
+            _ => None,
+        },
+        Word::EntDel => match numbers {
+            [key1, key2, key3] => Some(TriCommand::EntryRemove(*key1, *key2, *key3)),
+            _ => None,
+        },
+        Word::OrPut => match numbers {
+            [key1, key2, key3, item1, item2, item3, value] => Some(TriCommand::OrInsert(
+                *key1,
+                *key2,
+                *key3,
+                TriItem {
+                    key1: *item1,
+                    key2: *item2,
+                    key3: *item3,
+                    value: *value,
+                },
+            )),
+            _ => None,
+        },
+        Word::AddAll => None,
+    }
+}
+
+/// The items of these numbers, four for each, if none is left over.
+fn items_of(alloc: Global, numbers: &[u64]) -> Result<Option<Vec<TriItem>>, AllocError>
+    ensures { IfOk result (λ found. option_map (λ v. v.items) found ≡ items_of numbers.now) }
+{
+    let mut items = Vec::new(alloc);
+    let mut rest = numbers;
+    while let [key1, key2, key3, value, after @ ..] = rest {
+        items.push(TriItem {
+            key1: *key1,
+            key2: *key2,
+            key3: *key3,
+            value: *value,
+        })?;
+        rest = after;
+    }
+    if rest.is_empty() {
+        Ok(Some(items))
+    } else {
+        Ok(None)
+    }
+}
+
+impl TriSink<TriItem> for LineSink {
+    type Fault = AllocError;
+
+    ghost took = { λ old reply answer new.
+        GrowsByLine (line_of numbers) (string_bytes old.text) reply answer (string_bytes new.text) };
+
+    fn take(&mut self, reply: TriReply<'_, TriItem>) -> Result<(), AllocError>
+        ensures { GrowsByLine (line_of numbers) (string_bytes self.old.text) (value_of reply.entry) result
+            (string_bytes self.new.text) }
+    {
+        self.push_line(reply)
+    }
+}
