@@ -1,4 +1,4 @@
-//! Why an insert is refused.
+//! Refusals: of an insert, of an item with other keys, and at an entry.
 ghost use Rattle.std.specs.Prelude.{◌≡◌, ◌<◌, IfSome, Some, map};
 ghost use Rattle.iddqd_store.specs.Map.{bag};
 ghost use Rattle.iddqd_store.specs.Bag.{differ, order};

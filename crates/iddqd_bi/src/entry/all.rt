@@ -60,12 +60,15 @@ impl<'a, T: BiHashItemMut, S: BuildHasher, Q: Keys<T::K1, T::K2>> Entry<'a, T, S
         F: Drop,
         requires callable { F.IsAlwaysCallable f }
         requires found { IsFound self }
+        // It holds the same map, and a vacant entry stays as it was.
         ensures same_map { entry_lender result ≡ entry_lender self.entry }
         ensures vacant { OnVacant self.entry (λ v. result ≡ self.entry) }
+        // Each item that was found gets the data that the function makes of it.
         ensures stores { OnOccupied self.entry (λ o.
             Stores (CalledAt F.FnMut) T.put (ranks T.BiHashItem T.K1.eq T.K2.eq) f
             (listing (sought T.BiHashItem T.K1.eq T.K2.eq o) (bag o.map.now)) (bag o.map.now)
             (bag (entry_map result))) }
+        // All else stays.
         ensures capacity { (entry_map result).capacity ≡ (entry_map self.entry).capacity }
         ensures builder { (entry_map result).builder ≡ (entry_map self.entry).builder }
         ensures places { IsSameEntry self.entry result }

@@ -16,10 +16,12 @@ impl<T: BiHashItem, S: BuildHasher> BiHashMap<T, S> {
     ///
     /// Each key is hashed once and searched for once.
     pub fn entry<'a>(&'a mut self, key1: &'a T::K1, key2: &'a T::K2) -> Entry<'a, T, S>
+        // It holds this very map, unchanged, and these keys.
         ensures same_map { entry_lender result ≡ self.entry.ghost_name }
         ensures unchanged { entry_map result ≡ self.old }
         ensures key1 { entry_key1 result ≡ key1.now }
         ensures key2 { entry_key2 result ≡ key2.now }
+        // It tells which items have the keys.
         ensures value { entry_value result
             ≡ entry (key_tests T.BiHashItem T.K1.eq T.K2.eq key1.now key2.now) (bag self.old) }
         ensures found { IsFound result }

@@ -23,12 +23,15 @@ impl<T: BiHashItem + Drop, S: BuildHasher> BiHashMap<T, S> {
     /// finds no memory comes back: those before it stay, and the iterator is dropped with the rest.
     pub fn extend<I: IntoIterator<Item = T>>(&mut self, iter: I) -> Result<(), MemoryRefused<T>>
         requires ends { IsFiniteIterable I.into_iter_gives I.IntoIter.can_next I.IntoIter.remaining iter }
+        // Each went in over what conflicts with it; at a refusal, those that the iterator gave before.
         ensures all { OnOk result (GivesAll I.into_iter_gives I.IntoIter.next_gives iter (λ xs.
             ExtendsTo (ranks T.BiHashItem T.K1.eq T.K2.eq) (state_of self.old) xs (state_of self.new))) }
         ensures refused { IfErr result (λ e. GivesThen I.into_iter_gives I.IntoIter.next_gives iter e.value (λ xs.
             ExtendsTo (ranks T.BiHashItem T.K1.eq T.K2.eq) (state_of self.old) xs (state_of self.new))) }
+        // It is refused only where the map is full and nothing conflicts.
         ensures free { IfErr result (λ e. clash (ranks T.BiHashItem T.K1.eq T.K2.eq) (bag self.new) e.value ≡ []) }
         ensures full { OnErr result (length (bag self.new) ≡ self.new.capacity) }
+        // Items that fit are never refused, and ask for no more room.
         ensures had_room { FitsOn I.into_iter_gives I.IntoIter.remaining iter (length (bag self.old)) self.old.capacity
             → IsOk result }
         ensures same_room { FitsOn I.into_iter_gives I.IntoIter.remaining iter (length (bag self.old)) self.old.capacity
@@ -73,15 +76,18 @@ impl<T: BiHashItem + Drop, S: BuildHasher> BiHashMap<T, S> {
         iter: I,
     ) -> Result<(), ExtendUniqueError<T>>
         requires ends { IsFiniteIterable I.into_iter_gives I.IntoIter.can_next I.IntoIter.remaining iter }
+        // All go in, or none: then those taken come back, and behind them the item that was refused.
         ensures all { OnOk result (GivesAll I.into_iter_gives I.IntoIter.next_gives iter
             (AddsTo (ranks T.BiHashItem T.K1.eq T.K2.eq) (bag self.old) (bag self.new))) }
         ensures refused { IfErr result (λ e. GivesThen I.into_iter_gives I.IntoIter.next_gives iter e.value
             (λ xs. xs ≡ e.taken.items)) }
         ensures same_items { OnErr result (IsPermutation (bag self.new) (bag self.old)) }
+        // It is refused for what conflicts with it in the map or among those taken, or for want of memory.
         ensures apart { IfErr result (λ e.
             IsSound (ranks T.BiHashItem T.K1.eq T.K2.eq) (e.taken.items ++ bag self.old)) }
         ensures reason { IfErr result (λ e. IsReason e.reason
             (clash (ranks T.BiHashItem T.K1.eq T.K2.eq) (e.taken.items ++ bag self.old) e.value)) }
+        // The map stays sound, and grows only where the items might not fit.
         ensures sound { IsSound (ranks T.BiHashItem T.K1.eq T.K2.eq) (bag self.new) }
         ensures same_room { FitsOn I.into_iter_gives I.IntoIter.remaining iter (length (bag self.old)) self.old.capacity
             → self.new.capacity ≡ self.old.capacity }
@@ -134,9 +140,11 @@ impl<T: BiHashItem + Drop, S: BuildHasher + Default + Drop> BiHashMap<T, S> {
         iter: I,
     ) -> Result<Self, FromIterError<T>>
         requires ends { IsFiniteIterable I.into_iter_gives I.IntoIter.can_next I.IntoIter.remaining iter }
+        // All that the iterator gave, with room for them.
         ensures all { IfOk result (λ map. GivesAll I.into_iter_gives I.IntoIter.next_gives iter
             (AddsTo (ranks T.BiHashItem T.K1.eq T.K2.eq) [] (bag map))) }
         ensures fits { IfOk result (λ map. length (bag map) ≤ map.capacity) }
+        // Else the first that could not go in, and why.
         ensures refused { IfErr result (λ e. MatchFromIterError e
             (λ x duplicates. GivesThen I.into_iter_gives I.IntoIter.next_gives iter x
             (RefusesFor (ranks T.BiHashItem T.K1.eq T.K2.eq) x duplicates))

@@ -23,13 +23,16 @@ impl<T: BiHashItem, S: BuildHasher> BiHashMap<T, S> {
     /// Each key of the item is hashed once and searched for once. It takes memory only where the map is full.
     #[inline(always)]
     pub fn insert_unique(&mut self, item: T) -> Result<(), InsertError<'_, T, S>>
+        // How the map ends, once the refusal is gone: with the item where it went in, else as it was.
         ensures* ends { sem 𝓛 (ends_as T.row S.row T.K1.row T.K2.row S.Hasher.row
             T.BiHashItem T.K1.Hash T.K2.Hash S.BuildHasher S.Hasher.Hasher
             self.entry result (λ new. Gains self.old item new)) }
         ensures same_map { IfErr result (λ e. (refusing_map e).ghost_name ≡ self.entry.ghost_name) }
+        // It goes in only where nothing conflicts, and then always where there is room.
         ensures free { OnOk result (clash (ranks T.BiHashItem T.K1.eq T.K2.eq) (bag self.old) item ≡ []) }
         ensures granted { clash (ranks T.BiHashItem T.K1.eq T.K2.eq) (bag self.old) item ≡ []
             → length (bag self.old) < self.old.capacity → IsOk result }
+        // Refused, the item comes back, and the map is held as it was.
         ensures handed_back { IfErr result (λ e. refused_item e ≡ item) }
         ensures unchanged { IfErr result (λ e. (refusing_map e).now ≡ self.old) }
         ensures duplicate { IfErr result (λ e. OnDuplicate e
@@ -60,10 +63,12 @@ impl<T: BiHashItem, S: BuildHasher> BiHashMap<T, S> {
     ///
     /// `match map.insert_or_back(item) { Ok(()) => {}, Err(item) => keep_for_later(item) }`
     pub fn insert_or_back(&mut self, item: T) -> Result<(), T>
+        // It goes in only where nothing conflicts, and then always where there is room.
         ensures gains { OnOk result (Gains self.old item self.new) }
         ensures free { OnOk result (clash (ranks T.BiHashItem T.K1.eq T.K2.eq) (bag self.old) item ≡ []) }
         ensures granted { clash (ranks T.BiHashItem T.K1.eq T.K2.eq) (bag self.old) item ≡ []
             → length (bag self.old) < self.old.capacity → IsOk result }
+        // Else it comes back, and the map is as it was.
         ensures handed_back { IfErr result (λ x. x ≡ item) }
         ensures unchanged { OnErr result (self.new ≡ self.old) }
         ensures reason { OnErr result ((clash (ranks T.BiHashItem T.K1.eq T.K2.eq) (bag self.old) item ≢ [])

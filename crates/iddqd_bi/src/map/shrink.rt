@@ -14,8 +14,10 @@ impl<T: BiHashItem + Drop, S: BuildHasher> BiHashMap<T, S> {
     /// It takes memory for the slots and the tables that are left, and hashes each key anew. It compares none. Where
     /// the memory is refused, the map is as before. An empty map that is to keep no room takes none.
     pub fn shrink_to(&mut self, least: usize) -> Result<(), TryReserveError>
+        // Items and builder stay.
         ensures items { bag self.new ≡ bag self.old }
         ensures builder { self.new.builder ≡ self.old.builder }
+        // The room is that asked for, but no less than the items and no more than before; refused, all is as it was.
         ensures granted { OnOk result (self.new.capacity ≡ max (length (bag self.old)) (min least self.old.capacity)) }
         ensures refused { OnErr result (0 < max (length (bag self.old)) (min least self.old.capacity)) }
         ensures unchanged { OnErr result (self.new ≡ self.old) }
@@ -35,8 +37,10 @@ impl<T: BiHashItem + Drop, S: BuildHasher> BiHashMap<T, S> {
 
     /// Gives back all the room beyond the map's items, as `shrink_to(0)` does.
     pub fn shrink_to_fit(&mut self) -> Result<(), TryReserveError>
+        // Items and builder stay.
         ensures items { bag self.new ≡ bag self.old }
         ensures builder { self.new.builder ≡ self.old.builder }
+        // The room is that of the items; refused, the map is as it was.
         ensures granted { OnOk result (self.new.capacity ≡ length (bag self.old)) }
         ensures refused { OnErr result (0 < length (bag self.old)) }
         ensures unchanged { OnErr result (self.new ≡ self.old) }

@@ -50,6 +50,7 @@ impl<T: BiHashItem, S: BuildHasher> RefMut<'_, T, S> {
     ///
     /// It compares the first keys, and the second ones where those are equal. It hashes none and takes no memory.
     pub fn replace(&mut self, item: T) -> Result<T, KeyMismatch<T>>
+        // The item that was lent comes back, and the new one, with the same keys, is in its place.
         ensures same_map { ref_lender self.new ≡ ref_lender self.old }
         ensures old { IfOk result (λ x. ref_item self.old ≡ Some x) }
         ensures new { OnOk result (ref_item self.new ≡ Some item) }
@@ -57,8 +58,10 @@ impl<T: BiHashItem, S: BuildHasher> RefMut<'_, T, S> {
             (swap (ranks T.BiHashItem T.K1.eq T.K2.eq) (bag (ref_map self.old)) x item)) }
         ensures same_keys { IfOk result (λ x.
             differ (like (ranks T.BiHashItem T.K1.eq T.K2.eq) x) item ≡ None) }
+        // The map's room and builder stay.
         ensures capacity { (ref_map self.new).capacity ≡ (ref_map self.old).capacity }
         ensures builder { (ref_map self.new).builder ≡ (ref_map self.old).builder }
+        // With another key it comes back, and nothing changes.
         ensures handed_back { IfErr result (λ e. mismatch_item e ≡ item) }
         ensures rank { IfErr result (λ e. IfSome (ref_item self.old) (λ x.
             differ (like (ranks T.BiHashItem T.K1.eq T.K2.eq) x) item ≡ Some (mismatch_rank e))) }

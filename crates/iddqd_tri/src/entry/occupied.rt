@@ -137,20 +137,24 @@ impl<'a, T: TriHashItem, S: BuildHasher> OccupiedEntry<'a, T, S> {
     /// memory.
     pub fn insert(&mut self, item: T) -> Result<UpToThree<T>, KeyMismatch<T>>
         requires { HasFound T.TriHashItem T.K1.eq T.K2.eq T.K3.eq self.old }
+        // It goes in only with the keys that the entry has. What these found comes back, in their order.
         ensures same_map { self.new.map.ghost_name ≡ self.old.map.ghost_name }
         ensures same_keys { OnOk result (differ (sought T.TriHashItem T.K1.eq T.K2.eq T.K3.eq self.old) item ≡ None) }
         ensures displaced { IfOk result (λ gone. gone
             ≡ listing (sought T.TriHashItem T.K1.eq T.K2.eq T.K3.eq self.old) (bag self.old.map.now)) }
         ensures items { OnOk result (IsPermutation (bag self.new.map.now)
             (over (ranks T.TriHashItem T.K1.eq T.K2.eq T.K3.eq) (bag self.old.map.now) item)) }
+        // The entry has found the item now.
         ensures found { OnOk result (HasFound T.TriHashItem T.K1.eq T.K2.eq T.K3.eq self.new) }
         ensures unique { OnOk result
             (entry (sought T.TriHashItem T.K1.eq T.K2.eq T.K3.eq self.new) (bag self.new.map.now)
             ≡ unique item) }
         ensures keys { OnOk result
             ((self.new.key1 ≡ self.old.key1) × (self.new.key2 ≡ self.old.key2) × (self.new.key3 ≡ self.old.key3)) }
+        // The map's room and builder stay.
         ensures capacity { self.new.map.now.capacity ≡ self.old.map.now.capacity }
         ensures builder { self.new.map.now.builder ≡ self.old.map.now.builder }
+        // With another key it comes back, and nothing changes.
         ensures handed_back { IfErr result (λ e. mismatch_item e ≡ item) }
         ensures rank { IfErr result (λ e.
             differ (sought T.TriHashItem T.K1.eq T.K2.eq T.K3.eq self.old) item ≡ Some (mismatch_rank e)) }

@@ -146,9 +146,11 @@ impl<'a, T: TriHashItemMut, S: BuildHasher> OccupiedEntryMut<'a, T, S> {
         T::Data: Drop,
         requires holds { Holds self.old }
         requires callable { F.IsAlwaysCallable f }
+        // Each item that is held gets the data that the function makes of it.
         ensures same_map { self.new.map.ghost_name ≡ self.old.map.ghost_name }
         ensures stores { Stores (CalledAt F.FnMut) T.put (ranks T.TriHashItem T.K1.eq T.K2.eq T.K3.eq) f
             (held self.old) (bag self.old.map.now) (bag self.new.map.now) }
+        // All else stays.
         ensures places { HoldsSame self.old self.new }
         ensures holds { Holds self.new }
         ensures capacity { self.new.map.now.capacity ≡ self.old.map.now.capacity }

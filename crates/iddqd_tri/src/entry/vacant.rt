@@ -23,16 +23,20 @@ impl<'a, T: TriHashItem, S: BuildHasher, Q: Keys<T::K1, T::K2, T::K3>> VacantEnt
     /// It compares the first keys, and those of the next rank where those are equal, and searches and
     /// hashes nothing. It takes memory only where the map is full.
     pub fn insert(self, item: T) -> Result<RefMut<'a, T, S>, EntryError<T>>
+        // Refused, the map ends as it was.
         ensures* unchanged_at_err { sem 𝓛 (rests_if_err T.row S.row T.K1.row T.K2.row T.K3.row S.Hasher.row
             self.entry.map result) }
+        // What is lent is the item, in this very map.
         ensures same_map { IfOk result (λ r. ref_lender r ≡ self.entry.map.ghost_name) }
         ensures item { IfOk result (λ r. ref_item r ≡ Some item) }
         ensures gains { IfOk result (λ r. Gains self.entry.map.now item (ref_map r)) }
+        // It goes in only with the keys that the entry has, and then always where there is room.
         ensures same_keys { OnOk result (differ (key_tests T.TriHashItem T.K1.eq T.K2.eq T.K3.eq
             (Q.first self.entry.keys) (Q.second self.entry.keys) (Q.third self.entry.keys)) item ≡ None) }
         ensures granted { differ (key_tests T.TriHashItem T.K1.eq T.K2.eq T.K3.eq
             (Q.first self.entry.keys) (Q.second self.entry.keys) (Q.third self.entry.keys)) item ≡ None
             → length (bag self.entry.map.now) < self.entry.map.now.capacity → IsOk result }
+        // Refused, the item comes back, with the reason.
         ensures handed_back { IfErr result (λ e. error_item e ≡ item) }
         ensures rank { IfErr result (λ e. differ (key_tests T.TriHashItem T.K1.eq T.K2.eq T.K3.eq
             (Q.first self.entry.keys) (Q.second self.entry.keys) (Q.third self.entry.keys)) item ≡ error_rank e) }
@@ -57,8 +61,10 @@ impl<'a, T: TriHashItem, S: BuildHasher, Q: Keys<T::K1, T::K2, T::K3>> VacantEnt
 
     /// The same as `insert`, and answers what an occupied entry answers in `into_mut`.
     pub fn insert_mut(self, item: T) -> Result<OccupiedEntryMut<'a, T, S>, EntryError<T>>
+        // Refused, the map ends as it was.
         ensures* unchanged_at_err { sem 𝓛 (held_rests_if_err T.row S.row T.K1.row T.K2.row T.K3.row S.Hasher.row
             T.TriHashItem T.K1.Hash T.K2.Hash T.K3.Hash S.BuildHasher S.Hasher.Hasher self.entry.map result) }
+        // What is lent holds this very map, with the item in it, which each key finds.
         ensures same_map { IfOk result (λ m. m.map.ghost_name ≡ self.entry.map.ghost_name) }
         ensures gains { IfOk result (λ m. Gains self.entry.map.now item m.map.now) }
         ensures holds { IfOk result Holds }
@@ -68,11 +74,13 @@ impl<'a, T: TriHashItem, S: BuildHasher, Q: Keys<T::K1, T::K2, T::K3>> VacantEnt
         ensures by_key1 { IfOk result (λ m. held1 m ≡ Some item) }
         ensures by_key2 { IfOk result (λ m. held2 m ≡ Some item) }
         ensures by_key3 { IfOk result (λ m. held3 m ≡ Some item) }
+        // It goes in only with the keys that the entry has, and then always where there is room.
         ensures same_keys { OnOk result (differ (key_tests T.TriHashItem T.K1.eq T.K2.eq T.K3.eq
             (Q.first self.entry.keys) (Q.second self.entry.keys) (Q.third self.entry.keys)) item ≡ None) }
         ensures granted { differ (key_tests T.TriHashItem T.K1.eq T.K2.eq T.K3.eq
             (Q.first self.entry.keys) (Q.second self.entry.keys) (Q.third self.entry.keys)) item ≡ None
             → length (bag self.entry.map.now) < self.entry.map.now.capacity → IsOk result }
+        // Refused, the item comes back, with the reason.
         ensures handed_back { IfErr result (λ e. error_item e ≡ item) }
         ensures rank { IfErr result (λ e. differ (key_tests T.TriHashItem T.K1.eq T.K2.eq T.K3.eq
             (Q.first self.entry.keys) (Q.second self.entry.keys) (Q.third self.entry.keys)) item ≡ error_rank e) }
@@ -104,6 +112,7 @@ impl<'a, T: TriHashItem, S: BuildHasher, Q: Keys<T::K1, T::K2, T::K3>> VacantEnt
 impl<'a, T: TriHashItem, S: BuildHasher> VacantEntry<'a, T, S> {
     /// The same as `insert`, and answers an entry, which is unique. Its refusal holds the map.
     pub fn insert_entry(self, item: T) -> Result<OccupiedEntry<'a, T, S>, EntryRefusal<'a, T, S>>
+        // The entry holds this very map, with the item in it, which all its keys find.
         ensures same_map { IfOk result (λ e. e.map.ghost_name ≡ self.entry.map.ghost_name) }
         ensures gains { IfOk result (λ e. Gains self.entry.map.now item e.map.now) }
         ensures keys { IfOk result (λ e. (e.key1 ≡ self.entry.keys.key1) × (e.key2 ≡ self.entry.keys.key2)
@@ -111,11 +120,13 @@ impl<'a, T: TriHashItem, S: BuildHasher> VacantEntry<'a, T, S> {
         ensures found { IfOk result (HasFound T.TriHashItem T.K1.eq T.K2.eq T.K3.eq) }
         ensures unique { IfOk result (λ e.
             entry (sought T.TriHashItem T.K1.eq T.K2.eq T.K3.eq e) (bag e.map.now) ≡ unique item) }
+        // It goes in only with the keys that the entry has, and then always where there is room.
         ensures same_keys { OnOk result (differ (key_tests T.TriHashItem T.K1.eq T.K2.eq T.K3.eq
             self.entry.keys.key1.now self.entry.keys.key2.now self.entry.keys.key3.now) item ≡ None) }
         ensures granted { differ (key_tests T.TriHashItem T.K1.eq T.K2.eq T.K3.eq
             self.entry.keys.key1.now self.entry.keys.key2.now self.entry.keys.key3.now) item ≡ None
             → length (bag self.entry.map.now) < self.entry.map.now.capacity → IsOk result }
+        // Refused, the map is held as it was, and the item comes back, with the reason.
         ensures same_map_at_err { IfErr result (λ e. e.map.ghost_name ≡ self.entry.map.ghost_name) }
         ensures unchanged { IfErr result (λ e. e.map.now ≡ self.entry.map.now) }
         ensures handed_back { IfErr result (λ e. error_item e.error ≡ item) }

@@ -69,9 +69,11 @@ impl<T: TriHashItem, S: BuildHasher> TriHashMap<T, S> {
     ) -> Result<Self, TryReserveError>
     where
         S: Drop,
+        // A new map has exactly the room asked for.
         ensures empty { IfOk result (λ map. bag map ≡ []) }
         ensures capacity { IfOk result (λ map. map.capacity ≡ items) }
         ensures builder { IfOk result (λ map. map.builder ≡ hash_builder) }
+        // No room is never refused, and more than a table can have always.
         ensures never_refused { items ≡ 0 → IsOk result }
         ensures past { 7 * 2 ^ 60 < items → IsErr result }
     {

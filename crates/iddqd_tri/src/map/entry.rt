@@ -21,11 +21,13 @@ impl<T: TriHashItem, S: BuildHasher> TriHashMap<T, S> {
         key2: &'a T::K2,
         key3: &'a T::K3,
     ) -> Entry<'a, T, S>
+        // It holds this very map, unchanged, and these keys.
         ensures same_map { entry_lender result ≡ self.entry.ghost_name }
         ensures unchanged { entry_map result ≡ self.old }
         ensures key1 { entry_key1 result ≡ key1.now }
         ensures key2 { entry_key2 result ≡ key2.now }
         ensures key3 { entry_key3 result ≡ key3.now }
+        // It tells which items have the keys.
         ensures value { entry_value result
             ≡ entry (key_tests T.TriHashItem T.K1.eq T.K2.eq T.K3.eq key1.now key2.now key3.now) (bag self.old) }
         ensures found { IsFound result }

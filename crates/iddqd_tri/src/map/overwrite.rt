@@ -16,10 +16,12 @@ impl<T: TriHashItem, S: BuildHasher> TriHashMap<T, S> {
     /// capacity stays. Otherwise the map grows only where it is full, and the item is handed back where there is no
     /// memory for that.
     pub fn insert_overwrite(&mut self, item: T) -> Result<UpToThree<T>, MemoryRefused<T>>
+        // What was in the way comes back, in the order of the item's keys, and the item is in.
         ensures displaced { IfOk result (λ gone.
             gone ≡ order (ranks T.TriHashItem T.K1.eq T.K2.eq T.K3.eq) (bag self.old) item) }
         ensures items { OnOk result (IsPermutation (bag self.new)
             (over (ranks T.TriHashItem T.K1.eq T.K2.eq T.K3.eq) (bag self.old) item)) }
+        // Where there is room it never fails. It grows only where the map is full and nothing conflicts.
         ensures granted { length (bag self.old) < self.old.capacity → IsOk result }
         ensures fits { length (bag self.new) ≤ self.new.capacity }
         ensures no_less_room { self.old.capacity ≤ self.new.capacity }
@@ -27,6 +29,7 @@ impl<T: TriHashItem, S: BuildHasher> TriHashMap<T, S> {
         ensures no_growth { clash (ranks T.TriHashItem T.K1.eq T.K2.eq T.K3.eq) (bag self.old) item ≢ []
             → self.new.capacity ≡ self.old.capacity }
         ensures builder { self.new.builder ≡ self.old.builder }
+        // Refused, the item comes back, and the map is as it was.
         ensures handed_back { IfErr result (λ e. e.value ≡ item) }
         ensures unchanged { OnErr result (self.new ≡ self.old) }
         ensures reason { OnErr result (IsFullFor (ranks T.TriHashItem T.K1.eq T.K2.eq T.K3.eq) self.old item) }

@@ -1,5 +1,5 @@
-//! What finds and changes items by slot. Every other file of the map goes through it: nothing else takes an item from
-//! its slot or puts one there.
+//! What finds, puts in and takes out single items, by slot. What is done to all slots at once (emptying, walking,
+//! copying and rebuilding them) goes to them itself.
 ghost use Rattle.std.specs.Prelude.{◌≡◌, ◌≢◌, ℕ, ◌+◌, ◌^◌, ◌<◌, ◌≤◌, [], ◌∷◌, length, map, drop, All, IsPermutation, OnOk, OnErr, IfOk, IfErr, Some, None, IfSome, IfNone, nat_eq, slice_set};
 ghost use Rattle.std.specs.List.{IsDistinct};
 ghost use Rattle.std.specs.Option.{option_and_then};

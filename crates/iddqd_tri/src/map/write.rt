@@ -97,12 +97,14 @@ impl<T: TriHashItem, S: BuildHasher> TriHashMap<T, S> {
     /// }
     /// ```
     pub fn next_from(&mut self, at: &mut Cursor) -> Option<RefMut<'_, T, S>>
+        // Where nothing is to come, the map ends as it was. Else the next item is lent, and the cursor passes it.
         ensures* rests_at_none { sem 𝓛
             (rests_if_none T.row S.row T.K1.row T.K2.row T.K3.row S.Hasher.row self.entry result) }
         ensures next { IfSome result (λ r. IfSome (ref_item r) (λ x.
             Passes self.old at.old x (λ f. ref_map (ref_with r f)) at.new)) }
         ensures end { IfNone result (to_come self.old at.old ≡ []) }
         ensures stays { IfNone result (at.new ≡ at.old) }
+        // What is lent holds this very map, unchanged so far.
         ensures unchanged { IfSome result (λ r. ref_map r ≡ self.old) }
         ensures same_map { IfSome result (λ r. ref_lender r ≡ self.entry.ghost_name) }
     {
@@ -117,8 +119,10 @@ impl<T: TriHashItem, S: BuildHasher> TriHashMap<T, S> {
 
     /// Each item once, for writing, in no promised order. It takes no memory.
     pub fn iter_mut(&mut self) -> IterMut<'_, T, S>
+        // It holds this very map, unchanged so far.
         ensures same_map { result.map.ghost_name ≡ self.entry.ghost_name }
         ensures unchanged { result.map.now ≡ self.old }
+        // Nothing is passed, and all items are to come.
         ensures start { done_of result ≡ [] }
         ensures items { rest_of result ≡ bag self.old }
         ensures counted { IsCounted result }

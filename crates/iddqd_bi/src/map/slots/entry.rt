@@ -1,4 +1,5 @@
-//! The slots that searches by all keys found.
+//! The slots that searches by all keys found, as an entry holds them: what they lend, and an item put where they
+//! found none.
 ghost use Rattle.std.specs.Prelude.{◌≡◌, [], ◌∷◌, Some, option_copied, IfOk, IfErr, IfSome, OnOk, OnErr};
 ghost use Rattle.std.specs.Borrow.{sem};
 ghost use Rattle.std.specs.Option.{option_and_then};
