@@ -10,7 +10,7 @@ use crate::builders::{ByItself, ByZero};
 use crate::counting::{Bounds, Counts, Made, check};
 use crate::pair::Pair;
 use iddqd_bi::BiHashMap;
-use iddqd_tests::{Alike, OwnHash};
+use iddqd_builders::{Alike, OwnHash};
 use std::alloc::{AllocError, Global};
 use std::hash::BuildHasher;
 use std::process::Abort;

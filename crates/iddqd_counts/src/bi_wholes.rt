@@ -2,7 +2,7 @@
 use crate::counting::Counts;
 use crate::pair::Pair;
 use iddqd_bi::{BiHashMap, Cursor};
-use iddqd_tests::Alike;
+use iddqd_builders::Alike;
 use std::hash::BuildHasher;
 use std::rc::Rc;
 

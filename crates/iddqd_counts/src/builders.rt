@@ -1,5 +1,5 @@
 //! Builders of hashers with a default, as what builds a map of many items asks for.
-use iddqd_tests::{Alike, AlikeHasher, OwnHash, OwnHasher};
+use iddqd_builders::{Alike, AlikeHasher, OwnHash, OwnHasher};
 use std::hash::BuildHasher;
 
 /// Gives every key the hash 0.

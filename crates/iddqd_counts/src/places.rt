@@ -3,7 +3,7 @@ use crate::counting::Counts;
 use crate::pair::{Pair, pair_of};
 use crate::triple::{Triple, triple_of};
 use iddqd_bi::BiHashMap;
-use iddqd_tests::OwnHash;
+use iddqd_builders::OwnHash;
 use iddqd_tri::TriHashMap;
 use std::alloc::AllocError;
 use std::process::Abort;

@@ -9,7 +9,7 @@ use crate::tri_occupied::uses;
 use crate::tri_rows::{CALLS, Call, NEW, SEARCHES, THIRD, WHOLES};
 use crate::tri_wholes::{Whole, does};
 use crate::triple::Triple;
-use iddqd_tests::{Alike, OwnHash};
+use iddqd_builders::{Alike, OwnHash};
 use iddqd_tri::TriHashMap;
 use std::alloc::{AllocError, Global};
 use std::hash::BuildHasher;

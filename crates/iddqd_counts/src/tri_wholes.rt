@@ -1,7 +1,7 @@
 //! Calls on the three-key map as a whole, as values.
 use crate::counting::Counts;
 use crate::triple::Triple;
-use iddqd_tests::Alike;
+use iddqd_builders::Alike;
 use iddqd_tri::{Cursor, TriHashMap};
 use std::hash::BuildHasher;
 use std::rc::Rc;

@@ -1,7 +1,7 @@
 //! The two-key map under refused memory.
 use crate::granted::{granted, same};
 use iddqd_bi::{BiHashMap, InsertError};
-use iddqd_tests::{Row, row_of};
+use iddqd_tests_bi::{Row, row_of};
 use std::alloc::Global;
 use std::process::Abort;
 use std::test::*;

@@ -2,7 +2,7 @@
 use crate::bi::{found1, found2, full, put, row_behind};
 use crate::granted::{granted, same};
 use iddqd_bi::{BiHashMap, ExtendUniqueReason, FromIterError};
-use iddqd_tests::{Row, row_of};
+use iddqd_tests_bi::{Row, row_of};
 use std::alloc::Global;
 use std::process::Abort;
 use std::test::*;

@@ -2,7 +2,7 @@
 use crate::bi::{holds_two_rows, two_rows};
 use crate::granted::granted;
 use iddqd_bi::BiHashMap;
-use iddqd_tests::Row;
+use iddqd_tests_bi::Row;
 use std::alloc::Global;
 use std::process::Abort;
 

@@ -2,7 +2,7 @@
 use crate::bi::{found1, found2, full, row_behind};
 use crate::granted::{granted, same};
 use iddqd_bi::{BiHashMap, Entry, EntryError};
-use iddqd_tests::{Row, row_of};
+use iddqd_tests_bi::{Row, row_of};
 use std::alloc::Global;
 use std::process::Abort;
 use std::test::*;

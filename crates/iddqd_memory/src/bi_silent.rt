@@ -2,7 +2,7 @@
 use crate::bi::{full, put};
 use crate::granted::{is_byte_granted, say_unless};
 use iddqd_bi::{BiHashMap, DefaultHashBuilder, InsertError};
-use iddqd_tests::Row;
+use iddqd_tests_bi::Row;
 use std::alloc::Global;
 use std::mem;
 use std::process::Abort;

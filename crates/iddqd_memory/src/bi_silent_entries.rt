@@ -4,7 +4,7 @@ ghost use Rattle.iddqd_bi.specs.Entries.{Holds};
 use crate::bi::full;
 use crate::granted::{is_byte_granted, say_unless};
 use iddqd_bi::{BiHashMap, Entry, EntryError, OccupiedEntryMut, OccupiedEntryRef};
-use iddqd_tests::Row;
+use iddqd_tests_bi::Row;
 use std::alloc::Global;
 use std::process::Abort;
 use std::test::*;

@@ -2,7 +2,7 @@
 use crate::bi::full;
 use crate::granted::{is_byte_granted, say_unless};
 use iddqd_bi::{BiHashMap, Cursor};
-use iddqd_tests::Row;
+use iddqd_tests_bi::Row;
 use std::alloc::Global;
 use std::process::Abort;
 use std::test::*;

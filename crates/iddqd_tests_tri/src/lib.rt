@@ -6,26 +6,26 @@ mod row;
 pub use row::{Row, row_of};
 
 #[cfg(test)]
+mod building;
+#[cfg(test)]
+mod capacity;
+#[cfg(test)]
+mod commands;
+#[cfg(test)]
+mod copies;
+#[cfg(test)]
+mod entries;
+#[cfg(test)]
+mod guards;
+#[cfg(test)]
+mod lent;
+#[cfg(test)]
 mod listener;
 #[cfg(test)]
 mod pointers;
 #[cfg(test)]
-mod tri_building;
+mod queries;
 #[cfg(test)]
-mod tri_capacity;
-#[cfg(test)]
-mod tri_commands;
-#[cfg(test)]
-mod tri_copies;
-#[cfg(test)]
-mod tri_entries;
-#[cfg(test)]
-mod tri_guards;
-#[cfg(test)]
-mod tri_lent;
-#[cfg(test)]
-mod tri_queries;
-#[cfg(test)]
-mod tri_walks;
+mod walks;
 #[cfg(test)]
 mod worked;

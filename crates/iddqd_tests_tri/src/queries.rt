@@ -6,7 +6,7 @@ ghost use Rattle.std.specs.Cmp.Lexicographic.{pointwise};
 
 use crate::row::Row;
 use crate::worked::{ONE, THREE, TWO, three};
-use iddqd_tests::OwnHash;
+use iddqd_builders::OwnHash;
 use iddqd_tri::{Equivalent, KeyMatcher, Meter, TriHashItem, TriHashMap};
 use std::hash::{BuildHasher, Hash, Hasher};
 use std::test::*;

@@ -3,7 +3,7 @@ use crate::row::{Row, row_of};
 use crate::worked::{
     Listed, NOTHING, ONE, Refused, THREE, TWO, conflict, has_all, listed, refused_list, row, three,
 };
-use iddqd_tests::Alike;
+use iddqd_builders::Alike;
 use iddqd_tri::{DefaultHashBuilder, FromIterError, TriHashMap, TryReserveError};
 use std::alloc::Global;
 use std::hash::BuildHasher;

@@ -1,7 +1,7 @@
 //! Walks over the three-key map, equality and copies.
 use crate::row::Row;
 use crate::worked::{Listed, NOTHING, ONE, THREE, TWO, has_all, row, three};
-use iddqd_tests::Alike;
+use iddqd_builders::Alike;
 use iddqd_tri::{DefaultHashBuilder, Iter, TriHashMap};
 use std::alloc::Global;
 use std::hash::BuildHasher;

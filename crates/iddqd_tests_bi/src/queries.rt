@@ -4,10 +4,10 @@ ghost use Rattle.std.proofs.Common.{rules, ◌∙◌, ap};
 ghost use Rattle.std.specs.Cmp.Rules.{comparing, hashing};
 ghost use Rattle.std.specs.Cmp.Lexicographic.{pointwise};
 
-use crate::own_hash::OwnHash;
 use crate::row::Row;
 use crate::worked::{ONE, TWO, two};
 use iddqd_bi::{BiHashItem, BiHashMap};
+use iddqd_builders::OwnHash;
 use iddqd_store::{Equivalent, KeyMatcher, Meter};
 use std::hash::{BuildHasher, Hash, Hasher};
 use std::test::*;

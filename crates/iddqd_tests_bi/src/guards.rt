@@ -1,8 +1,8 @@
 //! Worked rows on items of two-key maps that are lent for writing.
-use crate::alike::Alike;
 use crate::row::Row;
 use crate::worked::{Answer, ONE, TWO, by_first, mismatch, reset, row};
 use iddqd_bi::{BiHashMap, Cursor};
+use iddqd_builders::Alike;
 use std::hash::BuildHasher;
 use std::test::*;
 

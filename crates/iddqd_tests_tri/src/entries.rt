@@ -5,7 +5,7 @@ use crate::row::Row;
 use crate::worked::{
     Answer, Listed, NOTHING, ONE, THREE, TWO, has_all, listed, mismatch, refusal, reset, row,
 };
-use iddqd_tests::Alike;
+use iddqd_builders::Alike;
 use iddqd_tri::{
     Entry, KeyMismatch, OccupiedEntry, OccupiedEntryMut, OccupiedEntryRef, TriHashItem, TriHashMap,
     UpToThree,

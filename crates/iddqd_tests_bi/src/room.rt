@@ -1,8 +1,8 @@
 //! Room in two-key maps: each call that takes memory is granted.
-use crate::alike::Alike;
 use crate::row::{Row, row_of};
 use crate::worked::{ONE, TWO, two};
 use iddqd_bi::{BiHashMap, DefaultHashBuilder};
+use iddqd_builders::Alike;
 use iddqd_store::{IndexTable, TryReserveError};
 use std::alloc::Global;
 use std::hash::BuildHasher;

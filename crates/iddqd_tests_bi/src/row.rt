@@ -1,6 +1,6 @@
 //! Items with two numbers as keys.
 ghost use Rattle.std.proofs.Common.{rules};
-ghost use Rattle.iddqd_tests.specs.Row.{with_value};
+ghost use Rattle.iddqd_tests_bi.specs.Row.{with_value};
 
 use iddqd_bi::{BiHashItem, BiHashItemMut};
 

@@ -1,6 +1,6 @@
 -- Words on a row.
 use Rattle.std.specs.Prelude.{ℕ}
-use Rattle.iddqd_tests.specs.declared.row.Row.{Row}
+use Rattle.iddqd_tests_bi.specs.declared.row.Row.{Row}
 
 -- the row with another value
 abbrev pub with_value : Row → ℕ → Row

@@ -1,12 +1,12 @@
 //! Worked rows on entries of two-key maps.
 ghost use Rattle.iddqd_bi.specs.Entries.{HasFound, Holds};
 
-use crate::alike::Alike;
 use crate::row::{Row, row_of};
 use crate::worked::{Answer, ONE, TWO, by_first, mismatch, pair, refusal, reset, row};
 use iddqd_bi::{
     BiHashItem, BiHashMap, Entry, KeyMismatch, OccupiedEntry, OccupiedEntryMut, OccupiedEntryRef,
 };
+use iddqd_builders::Alike;
 use iddqd_store::UpToTwo;
 use std::hash::{BuildHasher, Hash};
 use std::test::*;

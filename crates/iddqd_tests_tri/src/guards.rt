@@ -1,7 +1,7 @@
 //! Worked rows on items of three-key maps that are lent for writing, one by one or by walks.
 use crate::row::Row;
 use crate::worked::{Answer, Listed, ONE, THREE, TWO, has_all, mismatch, reset, row};
-use iddqd_tests::Alike;
+use iddqd_builders::Alike;
 use iddqd_tri::{Cursor, TriHashMap};
 use std::hash::BuildHasher;
 

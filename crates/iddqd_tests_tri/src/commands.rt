@@ -2,7 +2,7 @@
 use crate::listener::{Heard, Listener, Stopped, listening};
 use crate::row::Row;
 use crate::worked::{Listed, NOTHING, ONE, THREE, TWO, conflict, has_all, row};
-use iddqd_tests::Alike;
+use iddqd_builders::Alike;
 use iddqd_tri::{DefaultHashBuilder, TriCommand, TriHashMap};
 use std::alloc::{AllocError, Global};
 use std::hash::BuildHasher;

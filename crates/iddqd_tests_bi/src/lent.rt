@@ -1,10 +1,10 @@
 //! Worked rows on what entries of two-key maps lend for writing: the map and the other items that are lent stay.
 ghost use Rattle.iddqd_bi.specs.Entries.{HasFound, Holds};
 
-use crate::alike::Alike;
 use crate::row::{Row, row_of};
 use crate::worked::{ONE, TWO, by_first, reset, row};
 use iddqd_bi::{BiHashItem, BiHashMap, Entry, OccupiedEntry, OccupiedEntryMut};
+use iddqd_builders::Alike;
 use std::hash::{BuildHasher, Hash};
 use std::test::*;
 

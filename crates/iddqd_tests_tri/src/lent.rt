@@ -3,7 +3,7 @@ ghost use Rattle.iddqd_tri.specs.Entries.{HasFound, Holds};
 
 use crate::row::{Row, row_of};
 use crate::worked::{Listed, ONE, THREE, TWO, has_all, reset, row};
-use iddqd_tests::Alike;
+use iddqd_builders::Alike;
 use iddqd_tri::{Entry, OccupiedEntry, OccupiedEntryMut, TriHashItem, TriHashMap};
 use std::hash::{BuildHasher, Hash};
 use std::test::*;

@@ -1,8 +1,8 @@
 //! Worked rows on lists that go into a two-key map whole or not at all.
-use crate::alike::Alike;
 use crate::row::Row;
 use crate::worked::{ONE, Refused, TWO, refused_list, reset, row};
 use iddqd_bi::{BiHashMap, ExtendUniqueReason};
+use iddqd_builders::Alike;
 use std::hash::BuildHasher;
 use std::test::*;
 

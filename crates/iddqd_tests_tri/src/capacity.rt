@@ -1,7 +1,7 @@
 //! Worked rows on the capacity of three-key maps, with the items that they keep: reserved, shrunk, cleared and full ones.
 use crate::row::{Row, row_of};
 use crate::worked::{Listed, NOTHING, ONE, THREE, TWO, has_all, listed, reset, row};
-use iddqd_tests::Alike;
+use iddqd_builders::Alike;
 use iddqd_tri::{Entry, TriHashMap};
 use std::hash::BuildHasher;
 use std::test::*;

@@ -1,10 +1,10 @@
 //! Worked rows on two-key maps, told by the replies that a sink of their own hears.
 ghost use Rattle.std.specs.Prelude.{⊤};
 
-use crate::alike::Alike;
 use crate::row::Row;
 use crate::worked::{ONE, Refused, TWO, refused_list, row};
 use iddqd_bi::{BiCommand, BiHashMap, BiReply, BiSink, DefaultHashBuilder, ExtendUniqueReason};
+use iddqd_builders::Alike;
 use std::alloc::{AllocError, Global};
 use std::hash::BuildHasher;
 use std::test::*;

@@ -1,8 +1,8 @@
 //! Worked rows on the capacity of two-key maps, with the items that they keep: reserved, shrunk, cleared and full ones.
-use crate::alike::Alike;
 use crate::row::{Row, row_of};
 use crate::worked::{ONE, TWO, by_first, pair, reset, row};
 use iddqd_bi::{BiHashMap, Entry};
+use iddqd_builders::Alike;
 use std::hash::BuildHasher;
 use std::test::*;
 
