@@ -6,7 +6,7 @@ ghost use Rattle.iddqd_store.specs.Slots.Found.{items_at};
 ghost use Rattle.iddqd_bi.specs.Keys.{key_tests, ranks};
 ghost use Rattle.iddqd_bi.specs.Mismatch.{error_item, error_rank, mismatch_item, mismatch_rank};
 
-use crate::item::BiHashItem;
+use crate::item::{BiHashItem, Ranked};
 use crate::map::{BiHashMap, DefaultHashBuilder};
 use iddqd_store::{ItemIndex, UpToTwo};
 use std::hash::{BuildHasher, Hash};
@@ -151,7 +151,7 @@ impl<T: BiHashItem, S: BuildHasher> EntryRefusal<'_, T, S> {
 /// Why no map was built of some items.
 pub type FromIterError<T> = iddqd_store::FromIterError<T, UpToTwo<T>>;
 
-impl<T: BiHashItem, S: BuildHasher> DuplicateError<'_, T, S> {
+impl<T: Ranked, S: BuildHasher> DuplicateError<'_, T, S> {
     /// The item that was refused.
     pub fn new_item(&self) -> &T
         ensures { result.now ≡ self.now.new_item }
@@ -161,8 +161,7 @@ impl<T: BiHashItem, S: BuildHasher> DuplicateError<'_, T, S> {
 
     /// The items of the map that conflict with it, in the order of the keys. Nothing is searched again.
     pub fn duplicates(&self) -> UpToTwo<&T>
-        ensures { map (λ item. item.now) result
-            ≡ order (ranks T.BiHashItem T.K1.eq T.K2.eq) (bag self.now.map.now) self.now.new_item }
+        ensures { map (λ item. item.now) result ≡ order T.ranks (bag self.now.map.now) self.now.new_item }
     {
         let map = &*self.map;
         map.items_of(&self.found)
@@ -182,12 +181,12 @@ impl<T: BiHashItem, S: BuildHasher> DuplicateError<'_, T, S> {
     }
 }
 
-impl<'a, T: BiHashItem, S: BuildHasher> DuplicateError<'a, T, S> {
+impl<'a, T: Ranked, S: BuildHasher> DuplicateError<'a, T, S> {
     /// The item that was refused, by value, with the items of the map that conflict with it, in the order of the keys.
     pub fn into_parts(self) -> (T, UpToTwo<&'a T>)
         ensures item { result.0 ≡ self.entry.new_item }
         ensures duplicates { map (λ item. item.now) result.1
-            ≡ order (ranks T.BiHashItem T.K1.eq T.K2.eq) (bag self.entry.map.now) self.entry.new_item }
+            ≡ order T.ranks (bag self.entry.map.now) self.entry.new_item }
     {
         let DuplicateError {
             map,

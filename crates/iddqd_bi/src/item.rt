@@ -1,6 +1,8 @@
 //! Items with two keys.
-ghost use Rattle.std.specs.Prelude.{◌≡◌, true};
+ghost use Rattle.std.specs.Prelude.{◌≡◌, true, refl, [], ◌∷◌};
 ghost use Rattle.std.specs.Borrow.{Lends, sem};
+ghost use Rattle.iddqd_store.specs.Bag.{Ranks};
+ghost use Rattle.iddqd_store.specs.Rank.{agree};
 
 use std::hash::Hash;
 
@@ -45,4 +47,18 @@ pub trait BiHashItemMut: BiHashItem {
     ghost keeps_key2: { (x : Self) (d : Self.Data) → Self.K2.eq (Self.key2 (put x d)) (Self.key2 x) ≡ true };
 
     ghost put_shows: { (x : Self) (d : Self.Data) → payload (put x d) ≡ d };
+}
+
+/// What contracts say of all keys of an item. Each item has it, and none writes it.
+pub trait Ranked: BiHashItem {
+    // For each rank, whether two items have equal keys.
+    ghost ranks: { Ranks Self };
+
+    ghost ranks_are: { ranks ≡ agree Self.key1 Self.K1.eq ∷ agree Self.key2 Self.K2.eq ∷ [] };
+}
+
+impl<T: BiHashItem> Ranked for T {
+    ghost ranks = { agree T.key1 T.K1.eq ∷ agree T.key2 T.K2.eq ∷ [] };
+
+    ghost ranks_are = { refl };
 }

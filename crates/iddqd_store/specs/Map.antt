@@ -1,7 +1,7 @@
 -- What a contract sees of a map, with any number of ranks.
 pub mod Walk
 pub mod Written
-use Rattle.std.specs.Prelude.{◌≡◌, ◌≢◌, ◌+◌, ◌*◌, ◌^◌, ◌≤◌, ◌<◌, ℕ, List, [], ◌∷◌, ◌++◌, Option, Result, IsErr, OnOk, OnErr, length, fold, refl, IsPermutation}
+use Rattle.std.specs.Prelude.{◌≡◌, ◌≢◌, ◌+◌, ◌≤◌, ◌<◌, ℕ, List, [], ◌∷◌, ◌++◌, Option, Result, IsErr, OnOk, OnErr, length, fold, refl, IsPermutation}
 use Rattle.std.specs.Coded.{Coded, code_by, coded×, coded_ℕ, coded_list, coded_option}
 use Rattle.std.specs.Hash.{HashWrites}
 use Rattle.std.specs.declared.hash.Hasher as hasher
@@ -9,6 +9,7 @@ use Rattle.std.specs.declared.hash.BuildHasher as builder
 use Rattle.iddqd_store.specs.Bag.{Ranks, clash, order}
 use Rattle.iddqd_store.specs.Slots.Found.{StandAt}
 use Rattle.iddqd_store.specs.Slots.{live_items}
+use Rattle.iddqd_store.specs.Table.Limit.{most_room}
 
 -- the items by their slots, how many fit, and what makes the hashes. Public clauses cite the slots as `bag` alone
 pub record Map (T S : Type 0) : Type 0 where
@@ -48,7 +49,7 @@ pub record MakesRoom {T S A E : Type 0} (old : Map T S) (more : ℕ) (result : R
   pub granted : OnOk result (length (bag old) + more ≤ new.capacity)
   pub refused : OnErr result (old.capacity < length (bag old) + more)
   pub still_short : OnErr result (new.capacity < length (bag old) + more)
-  pub past : 7 * 2 ^ 60 < length (bag old) + more → IsErr result
+  pub past : most_room < length (bag old) + more → IsErr result
   pub no_less_room : old.capacity ≤ new.capacity
   pub same_room : length (bag old) + more ≤ old.capacity → new.capacity ≡ old.capacity
   pub same_builder : new.builder ≡ old.builder

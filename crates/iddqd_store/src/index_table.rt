@@ -3,7 +3,7 @@ ghost use Rattle.std.specs.Prelude.{◌≡◌, ◌≢◌, ℕ, ◌+◌, ◌*◌,
 ghost use Rattle.std.specs.List.Sorted.{IsPermutation};
 ghost use Rattle.std.specs.Result.{result_ok};
 ghost use Rattle.iddqd_store.specs.Table.Ring.{cell, held, stretch, IsFull};
-ghost use Rattle.iddqd_store.specs.Table.Limit.{IsLeast, IsSize};
+ghost use Rattle.iddqd_store.specs.Table.Limit.{IsLeast, IsSize, most_room};
 ghost use Rattle.iddqd_store.specs.Table.{hashes, under, IsFree, IsTable, LooksUp, Table, table_of};
 
 use crate::TryReserveError;
@@ -98,7 +98,7 @@ impl IndexTable {
         ensures empty { IfOk result (λ t. t.pairs ≡ []) }
         ensures limit { IfOk result (λ t. IsLeast pairs t.limit) }
         ensures never_refused { pairs ≡ 0 → IsOk result }
-        ensures past { 7 * 2 ^ 60 < pairs → IsErr result }
+        ensures past { most_room < pairs → IsErr result }
     {
         if pairs == 0 {
             return Ok(IndexTable::new(alloc));
@@ -114,7 +114,7 @@ impl IndexTable {
         ensures empty { IfOk result (λ t. t.pairs ≡ []) }
         ensures limit { IfOk result (λ t. IsLeast pairs t.limit) }
         ensures never_refused { pairs ≡ 0 → IsOk result }
-        ensures past { 7 * 2 ^ 60 < pairs → IsErr result }
+        ensures past { most_room < pairs → IsErr result }
     {
         IndexTable::with_capacity(self.alloc, pairs)
     }
@@ -131,7 +131,7 @@ impl IndexTable {
     /// How many pairs fit without growing: seven eighths of the cells.
     pub fn capacity(&self) -> usize
         ensures value { result ≡ self.now.limit }
-        ensures most { result ≤ 7 * 2 ^ 60 }
+        ensures most { result ≤ most_room }
         ensures holds { length self.now.pairs ≤ result }
     {
         self.cells.len() / 8 * 7
@@ -160,7 +160,7 @@ impl IndexTable {
         ensures same { length self.old.pairs + more ≤ self.old.limit → self.new ≡ self.old }
         ensures refused { OnErr result (self.old.limit < length self.old.pairs + more) }
         ensures unchanged { OnErr result (self.new ≡ self.old) }
-        ensures past { 7 * 2 ^ 60 < length self.old.pairs + more → IsErr result }
+        ensures past { most_room < length self.old.pairs + more → IsErr result }
     {
         let limit = self.capacity();
         let Some(wanted) = self.count.checked_add(more) else {

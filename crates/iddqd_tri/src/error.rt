@@ -6,7 +6,7 @@ ghost use Rattle.iddqd_store.specs.Slots.Found.{items_at};
 ghost use Rattle.iddqd_tri.specs.Keys.{key_tests, ranks};
 ghost use Rattle.iddqd_tri.specs.Mismatch.{error_item, error_rank, mismatch_item, mismatch_rank};
 
-use crate::item::TriHashItem;
+use crate::item::{Ranked, TriHashItem};
 use crate::map::{DefaultHashBuilder, TriHashMap};
 use iddqd_store::{ItemIndex, UpToThree};
 use std::hash::{BuildHasher, Hash};
@@ -172,7 +172,7 @@ impl<T: TriHashItem, S: BuildHasher> EntryRefusal<'_, T, S> {
 /// Why no map was built of some items.
 pub type FromIterError<T> = iddqd_store::FromIterError<T, UpToThree<T>>;
 
-impl<T: TriHashItem, S: BuildHasher> DuplicateError<'_, T, S> {
+impl<T: Ranked, S: BuildHasher> DuplicateError<'_, T, S> {
     /// The item that was refused.
     pub fn new_item(&self) -> &T
         ensures { result.now ≡ self.now.new_item }
@@ -182,8 +182,7 @@ impl<T: TriHashItem, S: BuildHasher> DuplicateError<'_, T, S> {
 
     /// The items of the map that conflict with it, in the order of the keys. Nothing is searched again.
     pub fn duplicates(&self) -> UpToThree<&T>
-        ensures { map (λ item. item.now) result
-            ≡ order (ranks T.TriHashItem T.K1.eq T.K2.eq T.K3.eq) (bag self.now.map.now) self.now.new_item }
+        ensures { map (λ item. item.now) result ≡ order T.ranks (bag self.now.map.now) self.now.new_item }
     {
         let map = &*self.map;
         map.items_of(&self.found)
@@ -203,12 +202,12 @@ impl<T: TriHashItem, S: BuildHasher> DuplicateError<'_, T, S> {
     }
 }
 
-impl<'a, T: TriHashItem, S: BuildHasher> DuplicateError<'a, T, S> {
+impl<'a, T: Ranked, S: BuildHasher> DuplicateError<'a, T, S> {
     /// The item that was refused, by value, with the items of the map that conflict with it, in the order of the keys.
     pub fn into_parts(self) -> (T, UpToThree<&'a T>)
         ensures item { result.0 ≡ self.entry.new_item }
         ensures duplicates { map (λ item. item.now) result.1
-            ≡ order (ranks T.TriHashItem T.K1.eq T.K2.eq T.K3.eq) (bag self.entry.map.now) self.entry.new_item }
+            ≡ order T.ranks (bag self.entry.map.now) self.entry.new_item }
     {
         let DuplicateError {
             map,

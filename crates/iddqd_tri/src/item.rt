@@ -1,6 +1,8 @@
 //! Items with three keys.
-ghost use Rattle.std.specs.Prelude.{◌≡◌, true};
+ghost use Rattle.std.specs.Prelude.{◌≡◌, ◌∷◌, [], refl, true};
 ghost use Rattle.std.specs.Borrow.{Lends, sem};
+ghost use Rattle.iddqd_store.specs.Bag.{Ranks};
+ghost use Rattle.iddqd_store.specs.Rank.{agree};
 
 use std::hash::Hash;
 
@@ -55,4 +57,19 @@ pub trait TriHashItemMut: TriHashItem {
     ghost keeps_key3: { (x : Self) (d : Self.Data) → Self.K3.eq (Self.key3 (put x d)) (Self.key3 x) ≡ true };
 
     ghost put_shows: { (x : Self) (d : Self.Data) → payload (put x d) ≡ d };
+}
+
+/// What contracts say of all keys of an item. Each item has it, and none writes it.
+pub trait Ranked: TriHashItem {
+    // For each rank, whether two items have equal keys.
+    ghost ranks: { Ranks Self };
+
+    ghost ranks_are: { ranks
+        ≡ agree Self.key1 Self.K1.eq ∷ agree Self.key2 Self.K2.eq ∷ agree Self.key3 Self.K3.eq ∷ [] };
+}
+
+impl<T: TriHashItem> Ranked for T {
+    ghost ranks = { agree T.key1 T.K1.eq ∷ agree T.key2 T.K2.eq ∷ agree T.key3 T.K3.eq ∷ [] };
+
+    ghost ranks_are = { refl };
 }

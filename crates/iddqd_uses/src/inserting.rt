@@ -3,20 +3,16 @@ ghost use Rattle.std.specs.Prelude.{◌≡◌, ◌≢◌, ◌≤◌, ◌∷◌, 
 ghost use Rattle.std.specs.Bool.{OnTrue, OnFalse};
 ghost use Rattle.iddqd_bi.specs.Bag.{clash, order, over};
 ghost use Rattle.iddqd_bi.specs.Map.{bag};
-ghost use Rattle.iddqd_bi.specs.Keys.{ranks};
 ghost use Rattle.iddqd_bi.specs.Callers.{GainsBoth, MayRefuse};
 
-use iddqd_bi::{BiHashItem, BiHashMap, InsertError};
+use iddqd_bi::{BiHashItem, BiHashMap, InsertError, Ranked};
 use std::hash::{BuildHasher, Hash};
 
 /// Inserts an item, and drops it where it is refused. Says whether it went in.
-pub fn insert_or_drop<T: BiHashItem + Drop, S: BuildHasher>(
-    map: &mut BiHashMap<T, S>,
-    item: T,
-) -> bool
+pub fn insert_or_drop<T: Ranked + Drop, S: BuildHasher>(map: &mut BiHashMap<T, S>, item: T) -> bool
     ensures went_in { OnTrue result (IsPermutation (bag map.new) (item ∷ bag map.old)) }
     ensures refused { OnFalse result (map.new ≡ map.old) }
-    ensures reason { OnFalse result (MayRefuse (ranks T.BiHashItem T.K1.eq T.K2.eq) map.old item) }
+    ensures reason { OnFalse result (MayRefuse T.ranks map.old item) }
 {
     let answer = map.insert_unique(item);
     match answer {
@@ -33,14 +29,14 @@ pub fn insert_or_drop<T: BiHashItem + Drop, S: BuildHasher>(
 }
 
 /// Inserts an item, or hands it back.
-pub fn insert_or_back<T: BiHashItem, S: BuildHasher>(
+pub fn insert_or_back<T: Ranked, S: BuildHasher>(
     map: &mut BiHashMap<T, S>,
     item: T,
 ) -> Result<(), T>
     ensures went_in { OnOk result (IsPermutation (bag map.new) (item ∷ bag map.old)) }
     ensures back { IfErr result (λ x. x ≡ item) }
     ensures refused { OnErr result (map.new ≡ map.old) }
-    ensures reason { OnErr result (MayRefuse (ranks T.BiHashItem T.K1.eq T.K2.eq) map.old item) }
+    ensures reason { OnErr result (MayRefuse T.ranks map.old item) }
 {
     match map.insert_unique(item) {
         Ok(()) => Ok(()),
@@ -83,12 +79,11 @@ pub fn insert_both<T: BiHashItem + Drop, S: BuildHasher>(
 }
 
 /// Inserts an item. Where others conflict with it, it drops it and says how many, and the map is as before.
-pub fn count_conflicts<T: BiHashItem + Drop, S: BuildHasher>(
+pub fn count_conflicts<T: Ranked + Drop, S: BuildHasher>(
     map: &mut BiHashMap<T, S>,
     item: T,
 ) -> usize
-    ensures some { result ≢ 0
-        → (result ≡ length (order (ranks T.BiHashItem T.K1.eq T.K2.eq) (bag map.old) item)) × (map.new ≡ map.old) }
+    ensures some { result ≢ 0 → (result ≡ length (order T.ranks (bag map.old) item)) × (map.new ≡ map.old) }
 {
     let answer = map.insert_unique(item);
     match answer {
@@ -106,13 +101,12 @@ pub fn count_conflicts<T: BiHashItem + Drop, S: BuildHasher>(
 }
 
 /// Puts an item in for what conflicts with it, which is dropped. Says whether it went in.
-pub fn overwrite_or_drop<T: BiHashItem + Drop, S: BuildHasher>(
+pub fn overwrite_or_drop<T: Ranked + Drop, S: BuildHasher>(
     map: &mut BiHashMap<T, S>,
     item: T,
 ) -> bool
-    ensures went_in { OnTrue result
-        (IsPermutation (bag map.new) (over (ranks T.BiHashItem T.K1.eq T.K2.eq) (bag map.old) item)) }
-    ensures reason { OnFalse result (MayRefuse (ranks T.BiHashItem T.K1.eq T.K2.eq) map.old item) }
+    ensures went_in { OnTrue result (IsPermutation (bag map.new) (over T.ranks (bag map.old) item)) }
+    ensures reason { OnFalse result (MayRefuse T.ranks map.old item) }
 {
     map.insert_overwrite(item).is_ok()
 }

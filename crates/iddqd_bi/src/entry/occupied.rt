@@ -13,13 +13,13 @@ ghost use Rattle.iddqd_bi.specs.OccupiedRefs.{is_one, seen1, seen2};
 
 use super::{OccupiedEntry, OccupiedEntryMut, OccupiedEntryRef};
 use crate::error::{KeyMismatch, differ};
-use crate::item::{BiHashItem, BiHashItemMut};
+use crate::item::{BiHashItemMut, Ranked};
 use crate::map::BiHashMap;
 use crate::map::slots::entry::{each_once, one_of};
 use iddqd_store::{Sought, UpToTwo};
 use std::hash::{BuildHasher, Hash};
 
-impl<'a, T: BiHashItem, S: BuildHasher> OccupiedEntry<'a, T, S> {
+impl<'a, T: Ranked, S: BuildHasher> OccupiedEntry<'a, T, S> {
     /// Whether one item has both keys.
     pub fn is_unique(&self) -> bool
         requires { HasFound T.BiHashItem T.K1.eq T.K2.eq self.now }
@@ -120,8 +120,7 @@ impl<'a, T: BiHashItem, S: BuildHasher> OccupiedEntry<'a, T, S> {
         ensures same_keys { OnOk result (differ (sought T.BiHashItem T.K1.eq T.K2.eq self.old) item ≡ None) }
         ensures displaced { IfOk result (λ gone. gone
             ≡ listing (sought T.BiHashItem T.K1.eq T.K2.eq self.old) (bag self.old.map.now)) }
-        ensures items { OnOk result (IsPermutation (bag self.new.map.now)
-            (over (ranks T.BiHashItem T.K1.eq T.K2.eq) (bag self.old.map.now) item)) }
+        ensures items { OnOk result (IsPermutation (bag self.new.map.now) (over T.ranks (bag self.old.map.now) item)) }
         // The entry has found the item now.
         ensures found { OnOk result (HasFound T.BiHashItem T.K1.eq T.K2.eq self.new) }
         ensures unique { OnOk result (entry (sought T.BiHashItem T.K1.eq T.K2.eq self.new) (bag self.new.map.now)

@@ -4,17 +4,17 @@ ghost use Rattle.std.specs.Borrow.{sem};
 ghost use Rattle.iddqd_store.specs.Bag.{differ, entry, unique};
 ghost use Rattle.iddqd_store.specs.Map.{bag, Gains, IsFullFor};
 ghost use Rattle.iddqd_bi.specs.Entries.{HasFound, Holds, held, held1, held2, held_entry, held_unique, sought, rests_if_err, held_rests_if_err};
-ghost use Rattle.iddqd_bi.specs.Keys.{key_tests, ranks};
+ghost use Rattle.iddqd_bi.specs.Keys.{key_tests};
 ghost use Rattle.iddqd_bi.specs.Mismatch.{error_item, error_rank, OnNoMemory};
 ghost use Rattle.iddqd_bi.specs.RefMuts.{ref_lender, ref_map, ref_item};
 
 use super::{KeyPair, Keys, OccupiedEntry, OccupiedEntryMut, VacantEntry};
 use crate::error::{EntryError, EntryRefusal, differ};
-use crate::item::BiHashItem;
+use crate::item::Ranked;
 use crate::ref_mut::RefMut;
 use std::hash::{BuildHasher, Hash};
 
-impl<'a, T: BiHashItem, S: BuildHasher, Q: Keys<T::K1, T::K2>> VacantEntry<'a, T, S, Q> {
+impl<'a, T: Ranked, S: BuildHasher, Q: Keys<T::K1, T::K2>> VacantEntry<'a, T, S, Q> {
     /// Puts an item in that has the entry's keys.
     ///
     /// It is refused with the lowest rank at which its key is not the entry's, or else where the map is full and there
@@ -40,8 +40,7 @@ impl<'a, T: BiHashItem, S: BuildHasher, Q: Keys<T::K1, T::K2>> VacantEntry<'a, T
         ensures handed_back { IfErr result (λ e. error_item e ≡ item) }
         ensures rank { IfErr result (λ e. differ (key_tests T.BiHashItem T.K1.eq T.K2.eq
             (Q.first self.entry.keys) (Q.second self.entry.keys)) item ≡ error_rank e) }
-        ensures memory { IfErr result (λ e. OnNoMemory e
-            (IsFullFor (ranks T.BiHashItem T.K1.eq T.K2.eq) self.entry.map.now item)) }
+        ensures memory { IfErr result (λ e. OnNoMemory e (IsFullFor T.ranks self.entry.map.now item)) }
     {
         let VacantEntry {
             map,
@@ -82,8 +81,7 @@ impl<'a, T: BiHashItem, S: BuildHasher, Q: Keys<T::K1, T::K2>> VacantEntry<'a, T
         ensures handed_back { IfErr result (λ e. error_item e ≡ item) }
         ensures rank { IfErr result (λ e. differ (key_tests T.BiHashItem T.K1.eq T.K2.eq
             (Q.first self.entry.keys) (Q.second self.entry.keys)) item ≡ error_rank e) }
-        ensures memory { IfErr result (λ e. OnNoMemory e
-            (IsFullFor (ranks T.BiHashItem T.K1.eq T.K2.eq) self.entry.map.now item)) }
+        ensures memory { IfErr result (λ e. OnNoMemory e (IsFullFor T.ranks self.entry.map.now item)) }
     {
         let VacantEntry {
             map,
@@ -105,7 +103,7 @@ impl<'a, T: BiHashItem, S: BuildHasher, Q: Keys<T::K1, T::K2>> VacantEntry<'a, T
     }
 }
 
-impl<'a, T: BiHashItem, S: BuildHasher> VacantEntry<'a, T, S> {
+impl<'a, T: Ranked, S: BuildHasher> VacantEntry<'a, T, S> {
     /// The same as `insert`, and answers an entry, which is unique. Its refusal holds the map.
     pub fn insert_entry(self, item: T) -> Result<OccupiedEntry<'a, T, S>, EntryRefusal<'a, T, S>>
         // The entry holds this very map, with the item in it, which all its keys find.
@@ -127,8 +125,7 @@ impl<'a, T: BiHashItem, S: BuildHasher> VacantEntry<'a, T, S> {
         ensures handed_back { IfErr result (λ e. error_item e.error ≡ item) }
         ensures rank { IfErr result (λ e. differ (key_tests T.BiHashItem T.K1.eq T.K2.eq
             self.entry.keys.key1.now self.entry.keys.key2.now) item ≡ error_rank e.error) }
-        ensures memory { IfErr result (λ e. OnNoMemory e.error
-            (IsFullFor (ranks T.BiHashItem T.K1.eq T.K2.eq) self.entry.map.now item)) }
+        ensures memory { IfErr result (λ e. OnNoMemory e.error (IsFullFor T.ranks self.entry.map.now item)) }
     {
         let VacantEntry {
             map,

@@ -2,19 +2,18 @@
 ghost use Rattle.std.specs.Prelude.{◌≡◌, ◌≤◌, [], length, ◌==◌};
 ghost use Rattle.iddqd_store.specs.Bag.{IsSound};
 ghost use Rattle.iddqd_store.specs.Map.{bag, MakesRoom};
-ghost use Rattle.iddqd_store.specs.Runs.Step.{most_room};
-ghost use Rattle.iddqd_bi.specs.Keys.{ranks};
+ghost use Rattle.iddqd_store.specs.Table.Limit.{most_room};
 
 use super::BiHashMap;
-use crate::item::BiHashItem;
+use crate::item::Ranked;
 use iddqd_store::TryReserveError;
 use std::hash::{BuildHasher, Hash};
 
-impl<T: BiHashItem, S: BuildHasher> BiHashMap<T, S> {
+impl<T: Ranked, S: BuildHasher> BiHashMap<T, S> {
     /// The number of items.
     pub fn len(&self) -> usize
         ensures value { result ≡ length (bag self.now) }
-        ensures sound { IsSound (ranks T.BiHashItem T.K1.eq T.K2.eq) (bag self.now) }
+        ensures sound { IsSound T.ranks (bag self.now) }
     {
         self.items.len()
     }

@@ -5,17 +5,16 @@ ghost use Rattle.iddqd_store.specs.Bag.{IsSound, clash, overs};
 ghost use Rattle.iddqd_store.specs.Bag.Building.{GivesAll, GivesThen, FitsOn, AddsTo, RefusesFor, HasPlaceFor, IsReason, MatchFromIterError};
 ghost use Rattle.iddqd_store.specs.Map.{bag};
 ghost use Rattle.iddqd_store.specs.Runs.Step.{ExtendsTo, state_of, empty_state};
-ghost use Rattle.iddqd_bi.specs.Keys.{ranks};
 
 use super::BiHashMap;
 use super::slots::Refusal;
 use crate::error::FromIterError;
-use crate::item::BiHashItem;
+use crate::item::Ranked;
 use iddqd_store::{DuplicateItem, ExtendUniqueError, MemoryRefused, Sought};
 use std::alloc::Global;
 use std::hash::{BuildHasher, Hash};
 
-impl<T: BiHashItem + Drop, S: BuildHasher> BiHashMap<T, S> {
+impl<T: Ranked + Drop, S: BuildHasher> BiHashMap<T, S> {
     /// Puts the items in one by one, each in the place of those that conflict with it, which are dropped.
     ///
     /// It first asks for room for as many as the iterator promises, or for half as many where the map has items, since
@@ -25,11 +24,11 @@ impl<T: BiHashItem + Drop, S: BuildHasher> BiHashMap<T, S> {
         requires ends { IsFiniteIterable I.into_iter_gives I.IntoIter.can_next I.IntoIter.remaining iter }
         // Each went in over what conflicts with it; at a refusal, those that the iterator gave before.
         ensures all { OnOk result (GivesAll I.into_iter_gives I.IntoIter.next_gives iter (λ xs.
-            ExtendsTo (ranks T.BiHashItem T.K1.eq T.K2.eq) (state_of self.old) xs (state_of self.new))) }
+            ExtendsTo T.ranks (state_of self.old) xs (state_of self.new))) }
         ensures refused { IfErr result (λ e. GivesThen I.into_iter_gives I.IntoIter.next_gives iter e.value (λ xs.
-            ExtendsTo (ranks T.BiHashItem T.K1.eq T.K2.eq) (state_of self.old) xs (state_of self.new))) }
+            ExtendsTo T.ranks (state_of self.old) xs (state_of self.new))) }
         // It is refused only where the map is full and nothing conflicts.
-        ensures free { IfErr result (λ e. clash (ranks T.BiHashItem T.K1.eq T.K2.eq) (bag self.new) e.value ≡ []) }
+        ensures free { IfErr result (λ e. clash T.ranks (bag self.new) e.value ≡ []) }
         ensures full { OnErr result (length (bag self.new) ≡ self.new.capacity) }
         // Items that fit are never refused, and ask for no more room.
         ensures had_room { FitsOn I.into_iter_gives I.IntoIter.remaining iter (length (bag self.old)) self.old.capacity
@@ -78,17 +77,15 @@ impl<T: BiHashItem + Drop, S: BuildHasher> BiHashMap<T, S> {
         requires ends { IsFiniteIterable I.into_iter_gives I.IntoIter.can_next I.IntoIter.remaining iter }
         // All go in, or none: then those taken come back, and behind them the item that was refused.
         ensures all { OnOk result (GivesAll I.into_iter_gives I.IntoIter.next_gives iter
-            (AddsTo (ranks T.BiHashItem T.K1.eq T.K2.eq) (bag self.old) (bag self.new))) }
+            (AddsTo T.ranks (bag self.old) (bag self.new))) }
         ensures refused { IfErr result (λ e. GivesThen I.into_iter_gives I.IntoIter.next_gives iter e.value
             (λ xs. xs ≡ e.taken.items)) }
         ensures same_items { OnErr result (IsPermutation (bag self.new) (bag self.old)) }
         // It is refused for what conflicts with it in the map or among those taken, or for want of memory.
-        ensures apart { IfErr result (λ e.
-            IsSound (ranks T.BiHashItem T.K1.eq T.K2.eq) (e.taken.items ++ bag self.old)) }
-        ensures reason { IfErr result (λ e. IsReason e.reason
-            (clash (ranks T.BiHashItem T.K1.eq T.K2.eq) (e.taken.items ++ bag self.old) e.value)) }
+        ensures apart { IfErr result (λ e. IsSound T.ranks (e.taken.items ++ bag self.old)) }
+        ensures reason { IfErr result (λ e. IsReason e.reason (clash T.ranks (e.taken.items ++ bag self.old) e.value)) }
         // The map stays sound, and grows only where the items might not fit.
-        ensures sound { IsSound (ranks T.BiHashItem T.K1.eq T.K2.eq) (bag self.new) }
+        ensures sound { IsSound T.ranks (bag self.new) }
         ensures same_room { FitsOn I.into_iter_gives I.IntoIter.remaining iter (length (bag self.old)) self.old.capacity
             → self.new.capacity ≡ self.old.capacity }
         ensures no_less_room { self.old.capacity ≤ self.new.capacity }
@@ -109,7 +106,7 @@ impl<T: BiHashItem + Drop, S: BuildHasher> BiHashMap<T, S> {
     }
 }
 
-impl<T: BiHashItem + Drop, S: BuildHasher + Default + Drop> BiHashMap<T, S> {
+impl<T: Ranked + Drop, S: BuildHasher + Default + Drop> BiHashMap<T, S> {
     /// The map of these items, each in the place of those before it that conflict with it, which are dropped.
     ///
     /// It asks for room as `extend` does. Where an item finds no memory it comes back, and there is no map.
@@ -119,10 +116,9 @@ impl<T: BiHashItem + Drop, S: BuildHasher + Default + Drop> BiHashMap<T, S> {
     ) -> Result<Self, MemoryRefused<T>>
         requires ends { IsFiniteIterable I.into_iter_gives I.IntoIter.can_next I.IntoIter.remaining iter }
         ensures all { IfOk result (λ map. GivesAll I.into_iter_gives I.IntoIter.next_gives iter (λ xs.
-            ExtendsTo (ranks T.BiHashItem T.K1.eq T.K2.eq) empty_state xs (state_of map))) }
+            ExtendsTo T.ranks empty_state xs (state_of map))) }
         ensures refused { IfErr result (λ e. GivesThen I.into_iter_gives I.IntoIter.next_gives iter e.value (λ xs.
-            clash (ranks T.BiHashItem T.K1.eq T.K2.eq)
-            (overs (ranks T.BiHashItem T.K1.eq T.K2.eq) [] xs) e.value ≡ [])) }
+            clash T.ranks (overs T.ranks [] xs) e.value ≡ [])) }
         ensures builder { IfOk result (λ map. S.is_default map.builder) }
     {
         let mut map = BiHashMap::default(alloc);
@@ -142,14 +138,14 @@ impl<T: BiHashItem + Drop, S: BuildHasher + Default + Drop> BiHashMap<T, S> {
         requires ends { IsFiniteIterable I.into_iter_gives I.IntoIter.can_next I.IntoIter.remaining iter }
         // All that the iterator gave, with room for them.
         ensures all { IfOk result (λ map. GivesAll I.into_iter_gives I.IntoIter.next_gives iter
-            (AddsTo (ranks T.BiHashItem T.K1.eq T.K2.eq) [] (bag map))) }
+            (AddsTo T.ranks [] (bag map))) }
         ensures fits { IfOk result (λ map. length (bag map) ≤ map.capacity) }
         // Else the first that could not go in, and why.
         ensures refused { IfErr result (λ e. MatchFromIterError e
             (λ x duplicates. GivesThen I.into_iter_gives I.IntoIter.next_gives iter x
-            (RefusesFor (ranks T.BiHashItem T.K1.eq T.K2.eq) x duplicates))
+            (RefusesFor T.ranks x duplicates))
             (λ x. GivesThen I.into_iter_gives I.IntoIter.next_gives iter x
-            (HasPlaceFor (ranks T.BiHashItem T.K1.eq T.K2.eq) x))) }
+            (HasPlaceFor T.ranks x))) }
         ensures builder { IfOk result (λ map. S.is_default map.builder) }
     {
         let mut map = BiHashMap::default(alloc);

@@ -3,15 +3,14 @@ ghost use Rattle.std.specs.Prelude.{◌≡◌, ◌≢◌, ◌<◌, ◌⊎◌, []
 ghost use Rattle.std.specs.Borrow.{sem};
 ghost use Rattle.iddqd_store.specs.Bag.{clash};
 ghost use Rattle.iddqd_store.specs.Map.{bag, Gains, IsFullFor};
-ghost use Rattle.iddqd_bi.specs.Keys.{ranks};
 
 use super::BiHashMap;
 use super::slots::Refusal;
 use crate::error::{DuplicateError, InsertError, MemoryError};
-use crate::item::BiHashItem;
+use crate::item::Ranked;
 use std::hash::{BuildHasher, Hash};
 
-impl<T: BiHashItem, S: BuildHasher> BiHashMap<T, S> {
+impl<T: Ranked, S: BuildHasher> BiHashMap<T, S> {
     ghost use Rattle.iddqd_bi.specs.Refused.{OnDuplicate, OnMemory, refusing_map, refused_item, ends_as};
 
     /// Puts an item in where none conflicts with it.
@@ -29,16 +28,14 @@ impl<T: BiHashItem, S: BuildHasher> BiHashMap<T, S> {
             self.entry result (λ new. Gains self.old item new)) }
         ensures same_map { IfErr result (λ e. (refusing_map e).ghost_name ≡ self.entry.ghost_name) }
         // It goes in only where nothing conflicts, and then always where there is room.
-        ensures free { OnOk result (clash (ranks T.BiHashItem T.K1.eq T.K2.eq) (bag self.old) item ≡ []) }
-        ensures granted { clash (ranks T.BiHashItem T.K1.eq T.K2.eq) (bag self.old) item ≡ []
+        ensures free { OnOk result (clash T.ranks (bag self.old) item ≡ []) }
+        ensures granted { clash T.ranks (bag self.old) item ≡ []
             → length (bag self.old) < self.old.capacity → IsOk result }
         // Refused, the item comes back, and the map is held as it was.
         ensures handed_back { IfErr result (λ e. refused_item e ≡ item) }
         ensures unchanged { IfErr result (λ e. (refusing_map e).now ≡ self.old) }
-        ensures duplicate { IfErr result (λ e. OnDuplicate e
-            (clash (ranks T.BiHashItem T.K1.eq T.K2.eq) (bag self.old) item ≢ [])) }
-        ensures memory { IfErr result (λ e. OnMemory e
-            (IsFullFor (ranks T.BiHashItem T.K1.eq T.K2.eq) self.old item)) }
+        ensures duplicate { IfErr result (λ e. OnDuplicate e (clash T.ranks (bag self.old) item ≢ [])) }
+        ensures memory { IfErr result (λ e. OnMemory e (IsFullFor T.ranks self.old item)) }
     {
         match self.try_insert(item) {
             Ok(_) => Ok(()),
@@ -65,14 +62,13 @@ impl<T: BiHashItem, S: BuildHasher> BiHashMap<T, S> {
     pub fn insert_or_back(&mut self, item: T) -> Result<(), T>
         // It goes in only where nothing conflicts, and then always where there is room.
         ensures gains { OnOk result (Gains self.old item self.new) }
-        ensures free { OnOk result (clash (ranks T.BiHashItem T.K1.eq T.K2.eq) (bag self.old) item ≡ []) }
-        ensures granted { clash (ranks T.BiHashItem T.K1.eq T.K2.eq) (bag self.old) item ≡ []
+        ensures free { OnOk result (clash T.ranks (bag self.old) item ≡ []) }
+        ensures granted { clash T.ranks (bag self.old) item ≡ []
             → length (bag self.old) < self.old.capacity → IsOk result }
         // Else it comes back, and the map is as it was.
         ensures handed_back { IfErr result (λ x. x ≡ item) }
         ensures unchanged { OnErr result (self.new ≡ self.old) }
-        ensures reason { OnErr result ((clash (ranks T.BiHashItem T.K1.eq T.K2.eq) (bag self.old) item ≢ [])
-            ⊎ IsFullFor (ranks T.BiHashItem T.K1.eq T.K2.eq) self.old item) }
+        ensures reason { OnErr result ((clash T.ranks (bag self.old) item ≢ []) ⊎ IsFullFor T.ranks self.old item) }
     {
         match self.try_insert(item) {
             Ok(_ix) => Ok(()),

@@ -2,14 +2,13 @@
 ghost use Rattle.std.specs.Prelude.{◌≡◌, ◌≢◌, ◌<◌, ◌≤◌, [], length, IsPermutation, IsOk, IfOk, IfErr, OnOk, OnErr};
 ghost use Rattle.iddqd_store.specs.Bag.{clash, order, over};
 ghost use Rattle.iddqd_store.specs.Map.{bag, IsFullFor};
-ghost use Rattle.iddqd_bi.specs.Keys.{ranks};
 
 use super::BiHashMap;
-use crate::item::BiHashItem;
+use crate::item::Ranked;
 use iddqd_store::{MemoryRefused, UpToTwo};
 use std::hash::{BuildHasher, Hash};
 
-impl<T: BiHashItem, S: BuildHasher> BiHashMap<T, S> {
+impl<T: Ranked, S: BuildHasher> BiHashMap<T, S> {
     /// Puts an item in, and gives back those that conflict with it, in the order of the keys and each once.
     ///
     /// Each key of the item is hashed once and searched for once. Where an item conflicts, it takes no memory and the
@@ -17,22 +16,19 @@ impl<T: BiHashItem, S: BuildHasher> BiHashMap<T, S> {
     /// memory for that.
     pub fn insert_overwrite(&mut self, item: T) -> Result<UpToTwo<T>, MemoryRefused<T>>
         // What was in the way comes back, in the order of the item's keys, and the item is in.
-        ensures displaced { IfOk result (λ gone.
-            gone ≡ order (ranks T.BiHashItem T.K1.eq T.K2.eq) (bag self.old) item) }
-        ensures items { OnOk result (IsPermutation (bag self.new)
-            (over (ranks T.BiHashItem T.K1.eq T.K2.eq) (bag self.old) item)) }
+        ensures displaced { IfOk result (λ gone. gone ≡ order T.ranks (bag self.old) item) }
+        ensures items { OnOk result (IsPermutation (bag self.new) (over T.ranks (bag self.old) item)) }
         // Where there is room it never fails. It grows only where the map is full and nothing conflicts.
         ensures granted { length (bag self.old) < self.old.capacity → IsOk result }
         ensures fits { length (bag self.new) ≤ self.new.capacity }
         ensures no_less_room { self.old.capacity ≤ self.new.capacity }
         ensures same_room { length (bag self.old) < self.old.capacity → self.new.capacity ≡ self.old.capacity }
-        ensures no_growth { clash (ranks T.BiHashItem T.K1.eq T.K2.eq) (bag self.old) item ≢ []
-            → self.new.capacity ≡ self.old.capacity }
+        ensures no_growth { clash T.ranks (bag self.old) item ≢ [] → self.new.capacity ≡ self.old.capacity }
         ensures builder { self.new.builder ≡ self.old.builder }
         // Refused, the item comes back, and the map is as it was.
         ensures handed_back { IfErr result (λ e. e.value ≡ item) }
         ensures unchanged { OnErr result (self.new ≡ self.old) }
-        ensures reason { OnErr result (IsFullFor (ranks T.BiHashItem T.K1.eq T.K2.eq) self.old item) }
+        ensures reason { OnErr result (IsFullFor T.ranks self.old item) }
     {
         let hash1 = self.hash_builder.hash_one(item.key1());
         let hash2 = self.hash_builder.hash_one(item.key2());

@@ -9,7 +9,7 @@ use Rattle.std.proofs.Math.Pow.{pow_mono}
 use Rattle.std.proofs.lemmas.Nat.{and_mask, pow-add, pow_below, pow_pos}
 use Rattle.std.proofs.lemmas.List.{length-replicate}
 use Rattle.iddqd_store.specs.Table.Ring.{gap, held, cell}
-use Rattle.iddqd_store.specs.Table.Limit.{IsLeast, IsSize}
+use Rattle.iddqd_store.specs.Table.Limit.{IsLeast, IsSize, most_room}
 use Rattle.iddqd_store.specs.Table.{IsTable}
 
 pub doubled : (k : ℕ) → 2 ^ (k + 1) ≡ 2 * 2 ^ k
@@ -122,7 +122,7 @@ mask_steps a b n size fits la lb =
     (cases_lt b a)
 
 -- no more pairs than these fit into cells that a `usize` counts
-pub size_most : (n : ℕ) → IsSize n → n < 2 ^ 64 → n / 8 * 7 ≤ 7 * 2 ^ 60
+pub size_most : (n : ℕ) → IsSize n → n < 2 ^ 64 → n / 8 * 7 ≤ most_room
 size_most n size fits =
     ⊎_elim (λ (none : n ≡ 0). omega arith)
     (λ (p : (k : ℕ) × (n ≡ 8 * 2 ^ k)).

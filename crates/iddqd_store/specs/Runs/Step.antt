@@ -1,20 +1,17 @@
 -- One step of a map, for any number of ranks: what a command may answer, and what the map holds then.
-use Rattle.std.specs.Prelude.{◌≡◌, ◌≢◌, ◌+◌, ◌*◌, ◌^◌, ◌<◌, ◌≤◌, ℕ, min, max, List, [], ◌∷◌, ◌++◌, Bool, Some, None, filter, length, take, IsPermutation}
+use Rattle.std.specs.Prelude.{◌≡◌, ◌≢◌, ◌+◌, ◌<◌, ◌≤◌, ℕ, min, max, List, [], ◌∷◌, ◌++◌, Bool, Some, None, filter, length, take, IsPermutation}
 use Rattle.std.specs.List.{list_any}
 use Rattle.std.specs.Option.{option_to_list}
 use Rattle.iddqd_store.specs.Bag.{Ranks, IsOnly, IsSound, clash, differ, like, listing, order, over, overs, swap}
 use Rattle.iddqd_store.specs.Bag.Building.{AddsTo, IsReason}
 use Rattle.iddqd_store.specs.Map.{Map, bag}
+use Rattle.iddqd_store.specs.Table.Limit.{most_room}
 use Rattle.iddqd_store.specs.Runs.Reply.{Reply, done, duplicate, displaced, found, present, taken, memory, refused, size, items, kept, key, absent, absent_data, extend_refused}
 
 -- a bag of items, as a list of which the order means nothing, and how many fit
 pub record State (T : Type 0) : Type 0 where
   pub items : List T
   pub capacity : ℕ
-
--- no map has room for more items: so many pairs fit into the most cells that a `usize` counts
-abbrev pub most_room : ℕ
-most_room = 7 * 2 ^ 60
 
 -- the items fit, in room that a map can have
 abbrev pub Fits : {T : Type 0} → State T → Type 0

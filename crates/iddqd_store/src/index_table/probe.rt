@@ -2,7 +2,7 @@
 ghost use Rattle.std.specs.Prelude.{◌≡◌, ◌≢◌, ℕ, ◌+◌, ◌-◌, ◌*◌, ◌/◌, ◌%◌, ◌^◌, ◌∷◌, ◌<◌, ◌≤◌, if◌then◌else◌, nat_lt, None, Some, length, IfSome, IsNone, ◌↔◌, Contains};
 ghost use Rattle.std.specs.List.Sorted.{IsPermutation};
 ghost use Rattle.iddqd_store.specs.Table.Ring.{cell, gap, held, stretch};
-ghost use Rattle.iddqd_store.specs.Table.Limit.{IsLeast, IsSize};
+ghost use Rattle.iddqd_store.specs.Table.Limit.{IsLeast, IsSize, most_room};
 ghost use Rattle.iddqd_store.specs.Table.{hashes, IsTable, IsFirstEmpty, IsWayTo};
 
 use crate::cells::Cells;
@@ -20,7 +20,7 @@ pub(super) fn after(at: usize, count: usize) -> usize
 
 // How many cells hold so many pairs, if `usize` holds that number.
 pub(super) fn cells_for(pairs: usize) -> Option<usize>
-    ensures past { IsNone result ↔ (7 * 2 ^ 60 < pairs) }
+    ensures past { IsNone result ↔ (most_room < pairs) }
     ensures least { IfSome result (λ count. IsLeast pairs (count / 8 * 7)) }
     ensures size { IfSome result IsSize }
 {

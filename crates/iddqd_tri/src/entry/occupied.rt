@@ -13,13 +13,13 @@ ghost use Rattle.iddqd_tri.specs.OccupiedRefs.{is_one, seen1, seen2, seen3};
 
 use super::{OccupiedEntry, OccupiedEntryMut, OccupiedEntryRef};
 use crate::error::{KeyMismatch, differ};
-use crate::item::{TriHashItem, TriHashItemMut};
+use crate::item::{Ranked, TriHashItemMut};
 use crate::map::TriHashMap;
 use crate::map::slots::entry::{each_once, one_of};
 use iddqd_store::{Sought, UpToThree};
 use std::hash::{BuildHasher, Hash};
 
-impl<'a, T: TriHashItem, S: BuildHasher> OccupiedEntry<'a, T, S> {
+impl<'a, T: Ranked, S: BuildHasher> OccupiedEntry<'a, T, S> {
     /// Whether one item has all keys.
     pub fn is_unique(&self) -> bool
         requires { HasFound T.TriHashItem T.K1.eq T.K2.eq T.K3.eq self.now }
@@ -142,8 +142,7 @@ impl<'a, T: TriHashItem, S: BuildHasher> OccupiedEntry<'a, T, S> {
         ensures same_keys { OnOk result (differ (sought T.TriHashItem T.K1.eq T.K2.eq T.K3.eq self.old) item ≡ None) }
         ensures displaced { IfOk result (λ gone. gone
             ≡ listing (sought T.TriHashItem T.K1.eq T.K2.eq T.K3.eq self.old) (bag self.old.map.now)) }
-        ensures items { OnOk result (IsPermutation (bag self.new.map.now)
-            (over (ranks T.TriHashItem T.K1.eq T.K2.eq T.K3.eq) (bag self.old.map.now) item)) }
+        ensures items { OnOk result (IsPermutation (bag self.new.map.now) (over T.ranks (bag self.old.map.now) item)) }
         // The entry has found the item now.
         ensures found { OnOk result (HasFound T.TriHashItem T.K1.eq T.K2.eq T.K3.eq self.new) }
         ensures unique { OnOk result

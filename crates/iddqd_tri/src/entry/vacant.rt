@@ -4,17 +4,17 @@ ghost use Rattle.std.specs.Borrow.{sem};
 ghost use Rattle.iddqd_store.specs.Bag.{differ, entry, unique};
 ghost use Rattle.iddqd_store.specs.Map.{bag, Gains, IsFullFor};
 ghost use Rattle.iddqd_tri.specs.Entries.{HasFound, Holds, held, held1, held2, held3, held_entry, held_unique, sought, rests_if_err, held_rests_if_err};
-ghost use Rattle.iddqd_tri.specs.Keys.{key_tests, ranks};
+ghost use Rattle.iddqd_tri.specs.Keys.{key_tests};
 ghost use Rattle.iddqd_tri.specs.Mismatch.{error_item, error_rank, OnNoMemory};
 ghost use Rattle.iddqd_tri.specs.RefMuts.{ref_lender, ref_map, ref_item};
 
 use super::{KeyTriple, Keys, OccupiedEntry, OccupiedEntryMut, VacantEntry};
 use crate::error::{EntryError, EntryRefusal, differ};
-use crate::item::TriHashItem;
+use crate::item::Ranked;
 use crate::ref_mut::RefMut;
 use std::hash::{BuildHasher, Hash};
 
-impl<'a, T: TriHashItem, S: BuildHasher, Q: Keys<T::K1, T::K2, T::K3>> VacantEntry<'a, T, S, Q> {
+impl<'a, T: Ranked, S: BuildHasher, Q: Keys<T::K1, T::K2, T::K3>> VacantEntry<'a, T, S, Q> {
     /// Puts an item in that has the entry's keys.
     ///
     /// It is refused with the lowest rank at which its key is not the entry's, or else where the map is full and there
@@ -40,8 +40,7 @@ impl<'a, T: TriHashItem, S: BuildHasher, Q: Keys<T::K1, T::K2, T::K3>> VacantEnt
         ensures handed_back { IfErr result (λ e. error_item e ≡ item) }
         ensures rank { IfErr result (λ e. differ (key_tests T.TriHashItem T.K1.eq T.K2.eq T.K3.eq
             (Q.first self.entry.keys) (Q.second self.entry.keys) (Q.third self.entry.keys)) item ≡ error_rank e) }
-        ensures memory { IfErr result (λ e. OnNoMemory e
-            (IsFullFor (ranks T.TriHashItem T.K1.eq T.K2.eq T.K3.eq) self.entry.map.now item)) }
+        ensures memory { IfErr result (λ e. OnNoMemory e (IsFullFor T.ranks self.entry.map.now item)) }
     {
         let VacantEntry {
             map,
@@ -84,8 +83,7 @@ impl<'a, T: TriHashItem, S: BuildHasher, Q: Keys<T::K1, T::K2, T::K3>> VacantEnt
         ensures handed_back { IfErr result (λ e. error_item e ≡ item) }
         ensures rank { IfErr result (λ e. differ (key_tests T.TriHashItem T.K1.eq T.K2.eq T.K3.eq
             (Q.first self.entry.keys) (Q.second self.entry.keys) (Q.third self.entry.keys)) item ≡ error_rank e) }
-        ensures memory { IfErr result (λ e. OnNoMemory e
-            (IsFullFor (ranks T.TriHashItem T.K1.eq T.K2.eq T.K3.eq) self.entry.map.now item)) }
+        ensures memory { IfErr result (λ e. OnNoMemory e (IsFullFor T.ranks self.entry.map.now item)) }
     {
         let VacantEntry {
             map,
@@ -109,7 +107,7 @@ impl<'a, T: TriHashItem, S: BuildHasher, Q: Keys<T::K1, T::K2, T::K3>> VacantEnt
     }
 }
 
-impl<'a, T: TriHashItem, S: BuildHasher> VacantEntry<'a, T, S> {
+impl<'a, T: Ranked, S: BuildHasher> VacantEntry<'a, T, S> {
     /// The same as `insert`, and answers an entry, which is unique. Its refusal holds the map.
     pub fn insert_entry(self, item: T) -> Result<OccupiedEntry<'a, T, S>, EntryRefusal<'a, T, S>>
         // The entry holds this very map, with the item in it, which all its keys find.
@@ -132,8 +130,7 @@ impl<'a, T: TriHashItem, S: BuildHasher> VacantEntry<'a, T, S> {
         ensures handed_back { IfErr result (λ e. error_item e.error ≡ item) }
         ensures rank { IfErr result (λ e. differ (key_tests T.TriHashItem T.K1.eq T.K2.eq T.K3.eq
             self.entry.keys.key1.now self.entry.keys.key2.now self.entry.keys.key3.now) item ≡ error_rank e.error) }
-        ensures memory { IfErr result (λ e. OnNoMemory e.error
-            (IsFullFor (ranks T.TriHashItem T.K1.eq T.K2.eq T.K3.eq) self.entry.map.now item)) }
+        ensures memory { IfErr result (λ e. OnNoMemory e.error (IsFullFor T.ranks self.entry.map.now item)) }
     {
         let VacantEntry {
             map,

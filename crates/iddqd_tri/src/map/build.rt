@@ -1,6 +1,7 @@
 //! New maps.
-ghost use Rattle.std.specs.Prelude.{◌≡◌, ◌*◌, ◌^◌, ◌<◌, [], IfOk, IsOk, IsErr};
+ghost use Rattle.std.specs.Prelude.{◌≡◌, ◌<◌, [], IfOk, IsOk, IsErr};
 ghost use Rattle.iddqd_store.specs.Map.{bag};
+ghost use Rattle.iddqd_store.specs.Table.Limit.{most_room};
 
 use super::{DefaultHashBuilder, TriHashMap};
 use crate::item::TriHashItem;
@@ -25,7 +26,7 @@ impl<T: TriHashItem> TriHashMap<T, DefaultHashBuilder> {
         ensures empty { IfOk result (λ map. bag map ≡ []) }
         ensures capacity { IfOk result (λ map. map.capacity ≡ items) }
         ensures never_refused { items ≡ 0 → IsOk result }
-        ensures past { 7 * 2 ^ 60 < items → IsErr result }
+        ensures past { most_room < items → IsErr result }
     {
         TriHashMap::with_capacity_and_hasher(alloc, items, DefaultHashBuilder::default())
     }
@@ -75,7 +76,7 @@ impl<T: TriHashItem, S: BuildHasher> TriHashMap<T, S> {
         ensures builder { IfOk result (λ map. map.builder ≡ hash_builder) }
         // No room is never refused, and more than a table can have always.
         ensures never_refused { items ≡ 0 → IsOk result }
-        ensures past { 7 * 2 ^ 60 < items → IsErr result }
+        ensures past { most_room < items → IsErr result }
     {
         let first = IndexTable::with_capacity(alloc, items)?;
         let second = IndexTable::with_capacity(alloc, items)?;

@@ -2,19 +2,18 @@
 ghost use Rattle.std.specs.Prelude.{◌≡◌, ◌≤◌, [], length, ◌==◌};
 ghost use Rattle.iddqd_store.specs.Bag.{IsSound};
 ghost use Rattle.iddqd_store.specs.Map.{bag, MakesRoom};
-ghost use Rattle.iddqd_store.specs.Runs.Step.{most_room};
-ghost use Rattle.iddqd_tri.specs.Keys.{ranks};
+ghost use Rattle.iddqd_store.specs.Table.Limit.{most_room};
 
 use super::TriHashMap;
-use crate::item::TriHashItem;
+use crate::item::Ranked;
 use iddqd_store::TryReserveError;
 use std::hash::{BuildHasher, Hash};
 
-impl<T: TriHashItem, S: BuildHasher> TriHashMap<T, S> {
+impl<T: Ranked, S: BuildHasher> TriHashMap<T, S> {
     /// The number of items.
     pub fn len(&self) -> usize
         ensures value { result ≡ length (bag self.now) }
-        ensures sound { IsSound (ranks T.TriHashItem T.K1.eq T.K2.eq T.K3.eq) (bag self.now) }
+        ensures sound { IsSound T.ranks (bag self.now) }
     {
         self.items.len()
     }

@@ -9,7 +9,7 @@ ghost use Rattle.iddqd_tri.specs.RefMuts.{ref_lender, ref_map, ref_item, ref_wit
 
 use super::RefMut;
 use crate::error::{KeyMismatch, differ};
-use crate::item::{TriHashItem, TriHashItemMut};
+use crate::item::{Ranked, TriHashItem, TriHashItemMut};
 use crate::map::TriHashMap;
 use std::hash::{BuildHasher, Hash};
 use std::ops::Deref;
@@ -44,7 +44,7 @@ impl<T: TriHashItemMut, S: BuildHasher> RefMut<'_, T, S> {
     }
 }
 
-impl<T: TriHashItem, S: BuildHasher> RefMut<'_, T, S> {
+impl<T: Ranked, S: BuildHasher> RefMut<'_, T, S> {
     /// Puts an item with the same keys in the place of this one, which it gives back. Else the item is handed back with
     /// the lowest rank at which the keys differ, and nothing changes.
     ///
@@ -56,16 +56,15 @@ impl<T: TriHashItem, S: BuildHasher> RefMut<'_, T, S> {
         ensures old { IfOk result (λ x. ref_item self.old ≡ Some x) }
         ensures new { OnOk result (ref_item self.new ≡ Some item) }
         ensures swaps { IfOk result (λ x. IsPermutation (bag (ref_map self.new))
-            (swap (ranks T.TriHashItem T.K1.eq T.K2.eq T.K3.eq) (bag (ref_map self.old)) x item)) }
-        ensures same_keys { IfOk result (λ x.
-            differ (like (ranks T.TriHashItem T.K1.eq T.K2.eq T.K3.eq) x) item ≡ None) }
+            (swap T.ranks (bag (ref_map self.old)) x item)) }
+        ensures same_keys { IfOk result (λ x. differ (like T.ranks x) item ≡ None) }
         // The map's room and builder stay.
         ensures capacity { (ref_map self.new).capacity ≡ (ref_map self.old).capacity }
         ensures builder { (ref_map self.new).builder ≡ (ref_map self.old).builder }
         // With another key it comes back, and nothing changes.
         ensures handed_back { IfErr result (λ e. mismatch_item e ≡ item) }
         ensures rank { IfErr result (λ e. IfSome (ref_item self.old) (λ x.
-            differ (like (ranks T.TriHashItem T.K1.eq T.K2.eq T.K3.eq) x) item ≡ Some (mismatch_rank e))) }
+            differ (like T.ranks x) item ≡ Some (mismatch_rank e))) }
         ensures unchanged { OnErr result (self.new ≡ self.old) }
     {
         if let Some(rank) = differ(&item, self.key1(), self.key2(), self.key3()) {

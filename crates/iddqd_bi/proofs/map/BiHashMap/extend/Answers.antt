@@ -6,12 +6,11 @@ use Rattle.iddqd_store.specs.Map.{bag}
 use Rattle.iddqd_store.specs.Runs.Step.{state_of}
 use Rattle.iddqd_store.proofs.RunLemmas.Extending.{ExtendsTo-push}
 use Rattle.iddqd_store.proofs.BagLemmas.Building.{length-overwritten}
-use Rattle.iddqd_bi.specs.Keys.{ranks}
 use Rattle.iddqd_bi.proofs.map.BiHashMap.extend.Goals as goal
 
 pub loop-item-preserved : goal.loop-item-preserved
 loop-item-preserved g c =
-    let by = ranks g.T.BiHashItem g.T.K1.PartialEq.eq g.T.K2.PartialEq.eq in
+    let by = g.T.Ranked.ranks in
     let so_far = c.loop-item.invariant in
     let put = c.insert_overwrite.ensures in
     let nearer = (on c.in-Some.item c.in-Some.is c.next.ensures.goes so_far.ending).2 in

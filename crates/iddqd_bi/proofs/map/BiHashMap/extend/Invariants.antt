@@ -3,7 +3,6 @@ use Rattle.std.specs.Iterator.{size}
 use Rattle.iddqd_store.specs.Map.{bag}
 use Rattle.iddqd_store.specs.Runs.Step.{ExtendsTo, state_of}
 use Rattle.iddqd_store.specs.Bag.Building.{FitsOn}
-use Rattle.iddqd_bi.specs.Keys.{ranks}
 use Rattle.iddqd_bi.proofs.map.BiHashMap.extend.Given as goal
 
 -- the items that came so far went in
@@ -11,7 +10,7 @@ abbrev pub invariant-loop-item : goal.invariant-loop-item
 invariant-loop-item g l = record {
   callable : (goal.iterator-loop-item g).can_next l.item-iterator;
   ending : (goal.iterator-loop-item g).is_finite l.item-iterator;
-  extends : ExtendsTo (ranks g.T.BiHashItem g.T.K1.PartialEq.eq g.T.K2.PartialEq.eq) (state_of l.fn.self) l.yielded (state_of l.self);
+  extends : ExtendsTo g.T.Ranked.ranks (state_of l.fn.self) l.yielded (state_of l.self);
   no_less_room : l.fn.self.capacity ≤ l.self.capacity;
   fits : FitsOn g.I.IntoIterator.into_iter_gives g.I.IntoIter.Iterator.remaining l.fn.iter (length (bag l.fn.self)) l.fn.self.capacity → (length (bag l.self) + size (g.I.IntoIter.Iterator.remaining l.item-iterator) ≤ l.self.capacity) × (l.self.capacity ≡ l.fn.self.capacity);
   builder : l.self.builder ≡ l.fn.self.builder;

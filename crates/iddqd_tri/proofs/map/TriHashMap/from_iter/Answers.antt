@@ -3,7 +3,6 @@ use Rattle.std.specs.Prelude.{IsPermutation, IfErr}
 use Rattle.iddqd_store.specs.Bag.{overs}
 use Rattle.iddqd_store.specs.Map.{bag}
 use Rattle.iddqd_store.proofs.BagLemmas.Building.{GivesThen-weaker, clash-none}
-use Rattle.iddqd_tri.specs.Keys.{ranks}
 use Rattle.iddqd_tri.proofs.map.TriHashMap.from_iter.Goals as goal
 
 at_err : {A E : Type 0} (r : Result A E) (e : E) (P : E → Type 0) → r ≡ Err e → P e → IfErr r P
@@ -11,7 +10,7 @@ at_err {A} {E} r e P is p = subst (λ (r : Result A E). IfErr r P) (sym is) p
 
 pub returns-in_err-extend-clause-refused : goal.returns-in_err-extend-clause-refused
 returns-in_err-extend-clause-refused g c =
-    let by = ranks g.T.TriHashItem g.T.K1.PartialEq.eq g.T.K2.PartialEq.eq g.T.K3.PartialEq.eq in
+    let by = g.T.Ranked.ranks in
     let x = c.in_err-extend.field-0.0.value in
     at_err c.from_residual.result c.in_err-extend.field-0.0 _ (search rules)
     (GivesThen-weaker g.I.IntoIterator.into_iter_gives g.I.IntoIter.Iterator.next_gives c.args.iter x _ _

@@ -14,9 +14,9 @@ put_over-displaced-requires-clause-room g c =
 pub returns-in_default-clause-displaced : goal.returns-in_default-clause-displaced
 returns-in_default-clause-displaced g c =
     let by = ranks g.T.TriHashItem g.T.K1.PartialEq.eq g.T.K2.PartialEq.eq g.T.K3.PartialEq.eq in
-    c.new.ensures ∙ sym (order_none by (bag c.args.self.now) c.args.item c.in-Ok.ensures.free)
+    rw g.met.T.Ranked.ranks_are (c.new.ensures ∙ sym (order_none by (bag c.args.self.now) c.args.item c.in-Ok.ensures.free))
 
 pub returns-in_default-clause-items : goal.returns-in_default-clause-items
 returns-in_default-clause-items g c =
     let by = ranks g.T.TriHashItem g.T.K1.PartialEq.eq g.T.K2.PartialEq.eq g.T.K3.PartialEq.eq in
-    over_none by (bag c.args.self.now) c.args.item c.in-Ok.ensures.free (bag c.put.new.self) (rw c.make_room.ensures.slots at c.put.ensures.items)
+    rw g.met.T.Ranked.ranks_are (over_none by (bag c.args.self.now) c.args.item c.in-Ok.ensures.free (bag c.put.new.self) (rw c.make_room.ensures.slots at c.put.ensures.items))
