@@ -2,10 +2,9 @@
 ghost use Rattle.std.specs.Prelude.{◌≡◌, ◌≤◌, ◌<◌, ◌++◌, ◌==◌, [], List, Option, length, IfOk, Contains, IsPermutation, option_copied};
 ghost use Rattle.std.specs.Option.{option_to_list};
 ghost use Rattle.iddqd_bi.specs.Bag.{IsOnly, over};
-ghost use Rattle.iddqd_bi.specs.Keys.{ranks};
 ghost use Rattle.iddqd_bi.specs.Map.{bag};
 
-use iddqd_bi::{BiHashItem, BiHashMap, TryReserveError};
+use iddqd_bi::{BiHashItem, BiHashMap, Ranked, TryReserveError};
 use std::alloc::Global;
 
 /// A page in its frame, and what it holds.
@@ -64,10 +63,9 @@ impl Cache {
         ensures others { (gone : Option Page) × (rest : List Page)
             × IsPermutation (bag self.old.pages) (option_to_list gone ++ rest)
             × IsPermutation (bag self.new.pages)
-            (over (ranks ⟦<Page as BiHashItem>⟧ ⟦<u64 as PartialEq>⟧.eq ⟦<u32 as PartialEq>⟧.eq) rest page) }
+            (over ⟦<Page as Ranked>⟧.ranks rest page) }
         ensures others_below_limit { length (bag self.old.pages) < self.old.limit
-            → IsPermutation (bag self.new.pages)
-            (over (ranks ⟦<Page as BiHashItem>⟧ ⟦<u64 as PartialEq>⟧.eq ⟦<u32 as PartialEq>⟧.eq) (bag self.old.pages) page) }
+            → IsPermutation (bag self.new.pages) (over ⟦<Page as Ranked>⟧.ranks (bag self.old.pages) page) }
         ensures limit { self.new.limit ≡ self.old.limit }
         ensures same_memory { self.new.pages.capacity ≡ self.old.pages.capacity }
     {

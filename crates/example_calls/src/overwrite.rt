@@ -1,10 +1,9 @@
 //! Putting an item in the place of all that are in its way, and what that gives back.
 ghost use Rattle.std.specs.Prelude.{◌≡◌, [], IsPermutation, OnOk, OnErr, IfOk, IfErr, slice_get};
 ghost use Rattle.iddqd_bi.specs.Bag.{order, over};
-ghost use Rattle.iddqd_bi.specs.Keys.{ranks};
-ghost use Rattle.iddqd_bi.specs.Map.{bag};
+ghost use Rattle.iddqd_bi.specs.Map.{IsFullFor, bag};
 
-use iddqd_bi::{BiHashItem, BiHashMap, MemoryRefused, UpToTwo};
+use iddqd_bi::{BiHashItem, BiHashMap, MemoryRefused, Ranked, UpToTwo};
 use std::alloc::{AllocError, Global};
 
 /// A guest, known by a passport and by a room.
@@ -47,10 +46,10 @@ pub fn check_in(
     guest: Guest,
 ) -> Result<UpToTwo<Guest>, MemoryRefused<Guest>>
     ensures in_and_out { OnOk result (IsPermutation (bag guests.new)
-        (over (ranks ⟦<Guest as BiHashItem>⟧ ⟦<u64 as PartialEq>⟧.eq ⟦<u32 as PartialEq>⟧.eq) (bag guests.old) guest)) }
-    ensures gone { IfOk result (λ gone. gone
-        ≡ order (ranks ⟦<Guest as BiHashItem>⟧ ⟦<u64 as PartialEq>⟧.eq ⟦<u32 as PartialEq>⟧.eq) (bag guests.old) guest) }
+        (over ⟦<Guest as Ranked>⟧.ranks (bag guests.old) guest)) }
+    ensures gone { IfOk result (λ gone. gone ≡ order ⟦<Guest as Ranked>⟧.ranks (bag guests.old) guest) }
     ensures refused { OnErr result (guests.new ≡ guests.old) }
+    ensures reason { OnErr result (IsFullFor ⟦<Guest as Ranked>⟧.ranks guests.old guest) }
     ensures back { IfErr result (λ e. e.value ≡ guest) }
 {
     guests.insert_overwrite(guest)

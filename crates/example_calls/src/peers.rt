@@ -2,10 +2,9 @@
 ghost use Rattle.std.specs.Prelude.{◌≡◌, ◌==◌, Some, None, IsPermutation, option_copied};
 ghost use Rattle.std.proofs.Common.{rules};
 ghost use Rattle.iddqd_bi.specs.Bag.{IsOnly, swap};
-ghost use Rattle.iddqd_bi.specs.Keys.{ranks};
 ghost use Rattle.iddqd_bi.specs.Map.{bag};
 
-use iddqd_bi::{BiHashItem, BiHashItemMut, BiHashMap};
+use iddqd_bi::{BiHashItem, BiHashItemMut, BiHashMap, Ranked};
 
 /// The address of a peer.
 #[derive(PartialEq, Eq, Hash, Clone, Copy)]
@@ -69,8 +68,7 @@ pub fn with_peer<'s>(sessions: &'s BiHashMap<Session>, peer: &Peer) -> Option<&'
 pub fn touch(sessions: &mut BiHashMap<Session>, token: u64, now: u64)
     ensures present { (s : Session) → IsOnly (λ s. token == s.token) (bag sessions.old) (Some s)
         → IsPermutation (bag sessions.new)
-        (swap (ranks ⟦<Session as BiHashItem>⟧ ⟦<u64 as PartialEq>⟧.eq ⟦<Peer as PartialEq>⟧.eq)
-        (bag sessions.old) s (record s { seen = now })) }
+        (swap ⟦<Session as Ranked>⟧.ranks (bag sessions.old) s (record s { seen = now })) }
     ensures absent { IsOnly (λ s. token == s.token) (bag sessions.old) None → sessions.new ≡ sessions.old }
 {
     if let Some(mut session) = sessions.get1_mut(&token) {

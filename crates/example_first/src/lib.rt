@@ -1,11 +1,11 @@
 //! Devices, each known by its serial number and by the port that it is plugged into.
 #![tactic(auto)]
 
-ghost use Rattle.std.specs.Prelude.{◌≡◌, ◌∷◌, ◌==◌, IsPermutation, OnOk, OnErr, IfErr, option_copied};
-ghost use Rattle.iddqd_bi.specs.Bag.{IsOnly};
+ghost use Rattle.std.specs.Prelude.{◌≡◌, ◌<◌, ◌∷◌, ◌==◌, [], length, IsOk, IsPermutation, OnOk, OnErr, IfErr, option_copied};
+ghost use Rattle.iddqd_bi.specs.Bag.{IsOnly, clash};
 ghost use Rattle.iddqd_bi.specs.Map.{bag};
 
-use iddqd_bi::{BiHashItem, BiHashMap};
+use iddqd_bi::{BiHashItem, BiHashMap, Ranked};
 
 /// A device.
 #[derive(Drop)]
@@ -35,6 +35,8 @@ impl BiHashItem for Device {
 /// Plugs a device in, or hands it back where its serial number or its port is taken, or memory is.
 pub fn plug_in(devices: &mut BiHashMap<Device>, device: Device) -> Result<(), Device>
     ensures went_in { OnOk result (IsPermutation (bag devices.new) (device ∷ bag devices.old)) }
+    ensures granted { clash ⟦<Device as Ranked>⟧.ranks (bag devices.old) device ≡ []
+        → length (bag devices.old) < devices.old.capacity → IsOk result }
     ensures back { IfErr result (λ d. d ≡ device) }
     ensures refused { OnErr result (devices.new ≡ devices.old) }
 {

@@ -1,10 +1,9 @@
 //! Records of persons, each known by a number and by a mail address. A batch of them goes in whole, or not at all.
 ghost use Rattle.std.specs.Prelude.{◌≡◌, ◌++◌, Some, slice_get, IsPermutation, OnOk, OnErr, IfErr};
 ghost use Rattle.iddqd_bi.specs.Callers.{IsInTheWay};
-ghost use Rattle.iddqd_bi.specs.Keys.{ranks};
 ghost use Rattle.iddqd_bi.specs.Map.{bag};
 
-use iddqd_bi::{BiHashItem, BiHashMap, ExtendUniqueReason};
+use iddqd_bi::{BiHashItem, BiHashMap, ExtendUniqueReason, Ranked};
 use serde::Deserialize;
 
 /// What is known of a person.
@@ -48,8 +47,7 @@ pub fn load(records: &mut BiHashMap<Record>, batch: Vec<Record>) -> Result<(), R
     ensures none { OnErr result (IsPermutation (bag records.new) (bag records.old)) }
     ensures which { IfErr result (λ e. slice_get batch.items e.index ≡ Some e.in_the_way) }
     ensures why { IfErr result (λ e. IsInTheWay
-        (ranks ⟦<Record as BiHashItem>⟧ ⟦<u64 as PartialEq>⟧.eq ⟦<String as PartialEq>⟧.eq)
-        (bag records.old) batch.items e.in_the_way e.reason) }
+        ⟦<Record as Ranked>⟧.ranks (bag records.old) batch.items e.in_the_way e.reason) }
 {
     match records.extend_unique(batch) {
         Ok(()) => Ok(()),

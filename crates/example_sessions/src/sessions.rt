@@ -2,10 +2,9 @@
 ghost use Rattle.std.specs.Prelude.{◌≡◌, ◌==◌, false, Some, None, filter, nat_le, length, IsPermutation, OnOk, OnErr, IfOk, IfErr, option_copied};
 ghost use Rattle.std.proofs.Common.{rules};
 ghost use Rattle.iddqd_tri.specs.Bag.{IsOnly, order, over, swap};
-ghost use Rattle.iddqd_tri.specs.Keys.{ranks};
-ghost use Rattle.iddqd_tri.specs.Map.{bag};
+ghost use Rattle.iddqd_tri.specs.Map.{IsFullFor, bag};
 
-use iddqd_tri::{MemoryRefused, TriHashItem, TriHashItemMut, TriHashMap, UpToThree};
+use iddqd_tri::{MemoryRefused, Ranked, TriHashItem, TriHashItemMut, TriHashMap, UpToThree};
 
 /// The address of a peer.
 #[derive(PartialEq, Eq, Hash, Clone, Copy)]
@@ -75,12 +74,10 @@ pub fn open(
     session: Session,
 ) -> Result<UpToThree<Session>, MemoryRefused<Session>>
     ensures opened { OnOk result (IsPermutation (bag sessions.new)
-        (over (ranks ⟦<Session as TriHashItem>⟧ ⟦<u32 as PartialEq>⟧.eq ⟦<u64 as PartialEq>⟧.eq ⟦<Peer as PartialEq>⟧.eq)
-        (bag sessions.old) session)) }
-    ensures closed { IfOk result (λ closed. closed
-        ≡ order (ranks ⟦<Session as TriHashItem>⟧ ⟦<u32 as PartialEq>⟧.eq ⟦<u64 as PartialEq>⟧.eq ⟦<Peer as PartialEq>⟧.eq)
-        (bag sessions.old) session) }
+        (over ⟦<Session as Ranked>⟧.ranks (bag sessions.old) session)) }
+    ensures closed { IfOk result (λ closed. closed ≡ order ⟦<Session as Ranked>⟧.ranks (bag sessions.old) session) }
     ensures refused { OnErr result (sessions.new ≡ sessions.old) }
+    ensures reason { OnErr result (IsFullFor ⟦<Session as Ranked>⟧.ranks sessions.old session) }
     ensures back { IfErr result (λ e. e.value ≡ session) }
 {
     sessions.insert_overwrite(session)
@@ -104,8 +101,7 @@ pub fn with_peer<'s>(sessions: &'s TriHashMap<Session>, peer: &Peer) -> Option<&
 pub fn touch(sessions: &mut TriHashMap<Session>, token: u64, now: u64) -> bool
     ensures present { (s : Session) → IsOnly (λ s. token == s.token) (bag sessions.old) (Some s)
         → IsPermutation (bag sessions.new)
-        (swap (ranks ⟦<Session as TriHashItem>⟧ ⟦<u32 as PartialEq>⟧.eq ⟦<u64 as PartialEq>⟧.eq ⟦<Peer as PartialEq>⟧.eq)
-        (bag sessions.old) s (record s { seen = now })) }
+        (swap ⟦<Session as Ranked>⟧.ranks (bag sessions.old) s (record s { seen = now })) }
     ensures absent { result ≡ false → IsOnly (λ s. token == s.token) (bag sessions.old) None }
     ensures unchanged { result ≡ false → sessions.new ≡ sessions.old }
     ensures none { IsOnly (λ s. token == s.token) (bag sessions.old) None → result ≡ false }

@@ -2,10 +2,9 @@
 ghost use Rattle.std.specs.Prelude.{◌≡◌, ◌<◌, ◌∷◌, ◌==◌, [], nat_eq, string_bytes, length, IsOk, IsPermutation, OnOk, OnErr, IfErr, IfSome, IfNone, option_copied};
 ghost use Rattle.std.specs.Cmp.Lexicographic.{pointwise};
 ghost use Rattle.iddqd_bi.specs.Bag.{IsOnly, clash};
-ghost use Rattle.iddqd_bi.specs.Keys.{ranks};
 ghost use Rattle.iddqd_bi.specs.Map.{bag};
 
-use iddqd_bi::{BiHashItem, BiHashMap};
+use iddqd_bi::{BiHashItem, BiHashMap, Ranked};
 
 /// A symbol.
 #[derive(Drop)]
@@ -36,10 +35,9 @@ impl BiHashItem for Symbol {
 /// taken.
 pub fn define(symbols: &mut BiHashMap<Symbol>, symbol: Symbol) -> Result<(), Symbol>
     ensures went_in { OnOk result (IsPermutation (bag symbols.new) (symbol ∷ bag symbols.old)) }
-    ensures free { OnOk result (clash (ranks ⟦<Symbol as BiHashItem>⟧ ⟦<String as PartialEq>⟧.eq ⟦<u64 as PartialEq>⟧.eq)
-        (bag symbols.old) symbol ≡ []) }
-    ensures granted { clash (ranks ⟦<Symbol as BiHashItem>⟧ ⟦<String as PartialEq>⟧.eq ⟦<u64 as PartialEq>⟧.eq)
-        (bag symbols.old) symbol ≡ [] → length (bag symbols.old) < symbols.old.capacity → IsOk result }
+    ensures free { OnOk result (clash ⟦<Symbol as Ranked>⟧.ranks (bag symbols.old) symbol ≡ []) }
+    ensures granted { clash ⟦<Symbol as Ranked>⟧.ranks (bag symbols.old) symbol ≡ []
+        → length (bag symbols.old) < symbols.old.capacity → IsOk result }
     ensures back { IfErr result (λ s. s ≡ symbol) }
     ensures refused { OnErr result (symbols.new ≡ symbols.old) }
 {
