@@ -35,8 +35,8 @@ impl BiHashItem for Visit {
 /// Notes a visit where no other has its number or its page. Else it comes back, as it does where there is no memory.
 pub fn note_visit(visits: &mut BiHashMap<Visit>, visit: Visit) -> Result<(), EntryError<Visit>>
     ensures noted { OnOk result (IsPermutation (bag visits.new) (visit ∷ bag visits.old)) }
-    ensures kept { OnErr result (visits.new ≡ visits.old) }
-    ensures back { IfErr result (λ e. error_item e ≡ visit) }
+    ensures unchanged { OnErr result (visits.new ≡ visits.old) }
+    ensures handed_back { IfErr result (λ e. error_item e ≡ visit) }
 {
     let number = visit.number;
     let page = visit.page;

@@ -60,8 +60,8 @@ impl Hub {
     /// Plugs a device in, or hands it back where its serial number or its port is taken, or memory is.
     pub fn plug_in(&mut self, device: Device) -> Result<(), Device>
         ensures went_in { OnOk result (IsPermutation self.new (device ∷ self.old)) }
-        ensures back { IfErr result (λ d. d ≡ device) }
-        ensures refused { OnErr result (self.new ≡ self.old) }
+        ensures handed_back { IfErr result (λ d. d ≡ device) }
+        ensures unchanged { OnErr result (self.new ≡ self.old) }
     {
         self.devices.insert_or_back(device)
     }

@@ -34,8 +34,8 @@ impl BiHashItem for Symbol {
 /// Defines a symbol, or hands it back.
 pub fn define(symbols: &mut BiHashMap<Symbol>, symbol: Symbol) -> Result<(), Symbol>
     ensures went_in { OnOk result (IsPermutation (bag symbols.new) (symbol ∷ bag symbols.old)) }
-    ensures back { IfErr result (λ s. s ≡ symbol) }
-    ensures refused { OnErr result (symbols.new ≡ symbols.old) }
+    ensures handed_back { IfErr result (λ s. s ≡ symbol) }
+    ensures unchanged { OnErr result (symbols.new ≡ symbols.old) }
 {
     symbols.insert_or_back(symbol)
 }

@@ -48,9 +48,9 @@ pub fn check_in(
     ensures in_and_out { OnOk result (IsPermutation (bag guests.new)
         (over ⟦<Guest as Ranked>⟧.ranks (bag guests.old) guest)) }
     ensures gone { IfOk result (λ gone. gone ≡ order ⟦<Guest as Ranked>⟧.ranks (bag guests.old) guest) }
-    ensures refused { OnErr result (guests.new ≡ guests.old) }
+    ensures unchanged { OnErr result (guests.new ≡ guests.old) }
     ensures reason { OnErr result (IsFullFor ⟦<Guest as Ranked>⟧.ranks guests.old guest) }
-    ensures back { IfErr result (λ e. e.value ≡ guest) }
+    ensures handed_back { IfErr result (λ e. e.value ≡ guest) }
 {
     guests.insert_overwrite(guest)
 }

@@ -40,8 +40,8 @@ pub struct Refused {
 /// Connects a line whose number and desk are free.
 pub fn connect(lines: &mut BiHashMap<Line>, line: Line) -> Result<(), Refused>
     ensures connected { OnOk result (IsPermutation (bag lines.new) (line ∷ bag lines.old)) }
-    ensures refused { OnErr result (lines.new ≡ lines.old) }
-    ensures back { IfErr result (λ r. r.line ≡ line) }
+    ensures unchanged { OnErr result (lines.new ≡ lines.old) }
+    ensures handed_back { IfErr result (λ r. r.line ≡ line) }
     ensures full { IfErr result (λ r. r.lacks_memory ≡ true → length (bag lines.old) ≡ lines.old.capacity) }
 {
     match lines.insert_unique(line) {

@@ -64,7 +64,7 @@ pub fn with_limit(alloc: Global, limit: usize) -> Result<BiHashMap<Device>, TryR
 /// Plugs a device in where its serial number and its port are free and the limit allows it.
 pub fn plug_in(devices: &mut BiHashMap<Device>, device: Device) -> Result<(), PlugError>
     ensures went_in { OnOk result (IsPermutation (bag devices.new) (device ∷ bag devices.old)) }
-    ensures refused { OnErr result (devices.new ≡ devices.old) }
+    ensures unchanged { OnErr result (devices.new ≡ devices.old) }
     ensures serial_taken { IsErrOf result PlugError.SerialTaken
         → list_any (λ d. device.serial == d.serial) (bag devices.old) ≡ true }
     ensures port_taken { IsErrOf result PlugError.PortTaken
@@ -117,7 +117,7 @@ pub fn move_to(devices: &mut BiHashMap<Device>, serial: u64, port: u16) -> Resul
     ensures moved { IfOk result (λ had. (others : List Device)
         × IsPermutation (bag devices.old) (record { serial = serial; port = had } ∷ others)
         × IsPermutation (bag devices.new) (record { serial = serial; port = port } ∷ others)) }
-    ensures refused { OnErr result (devices.new ≡ devices.old) }
+    ensures unchanged { OnErr result (devices.new ≡ devices.old) }
     ensures no_device { IsErrOf result MoveError.NoDevice
         → list_any (λ d. serial == d.serial) (bag devices.old) ≡ false }
     ensures port_taken { IsErrOf result MoveError.PortTaken

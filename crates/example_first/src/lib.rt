@@ -37,8 +37,8 @@ pub fn plug_in(devices: &mut BiHashMap<Device>, device: Device) -> Result<(), De
     ensures went_in { OnOk result (IsPermutation (bag devices.new) (device ∷ bag devices.old)) }
     ensures granted { clash ⟦<Device as Ranked>⟧.ranks (bag devices.old) device ≡ []
         → length (bag devices.old) < devices.old.capacity → IsOk result }
-    ensures back { IfErr result (λ d. d ≡ device) }
-    ensures refused { OnErr result (devices.new ≡ devices.old) }
+    ensures handed_back { IfErr result (λ d. d ≡ device) }
+    ensures unchanged { OnErr result (devices.new ≡ devices.old) }
 {
     devices.insert_or_back(device)
 }

@@ -76,9 +76,9 @@ pub fn open(
     ensures opened { OnOk result (IsPermutation (bag sessions.new)
         (over ⟦<Session as Ranked>⟧.ranks (bag sessions.old) session)) }
     ensures closed { IfOk result (λ closed. closed ≡ order ⟦<Session as Ranked>⟧.ranks (bag sessions.old) session) }
-    ensures refused { OnErr result (sessions.new ≡ sessions.old) }
+    ensures unchanged { OnErr result (sessions.new ≡ sessions.old) }
     ensures reason { OnErr result (IsFullFor ⟦<Session as Ranked>⟧.ranks sessions.old session) }
-    ensures back { IfErr result (λ e. e.value ≡ session) }
+    ensures handed_back { IfErr result (λ e. e.value ≡ session) }
 {
     sessions.insert_overwrite(session)
 }

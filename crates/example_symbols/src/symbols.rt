@@ -38,8 +38,8 @@ pub fn define(symbols: &mut BiHashMap<Symbol>, symbol: Symbol) -> Result<(), Sym
     ensures free { OnOk result (clash ⟦<Symbol as Ranked>⟧.ranks (bag symbols.old) symbol ≡ []) }
     ensures granted { clash ⟦<Symbol as Ranked>⟧.ranks (bag symbols.old) symbol ≡ []
         → length (bag symbols.old) < symbols.old.capacity → IsOk result }
-    ensures back { IfErr result (λ s. s ≡ symbol) }
-    ensures refused { OnErr result (symbols.new ≡ symbols.old) }
+    ensures handed_back { IfErr result (λ s. s ≡ symbol) }
+    ensures unchanged { OnErr result (symbols.new ≡ symbols.old) }
 {
     symbols.insert_or_back(symbol)
 }

@@ -53,10 +53,10 @@ module _ {T S : Type 0} where
   Loses-nothing m = record { items = IsPermutation-refl (bag m); same_room = refl; same_builder = refl }
 
   -- room is refused, where so many items don't fit
-  pub MakesRoom-refused : {A E : Type 0} {old new : Map T S} {more : ℕ} (r : Result A E) (e : E) → r ≡ Err e → new.capacity < length (bag old) + more → old.capacity ≤ new.capacity → new.builder ≡ old.builder → MakesRoom old more r new
-  MakesRoom-refused {A = A} {E = E} {old = old} {new = new} {more = more} r e is short no_less same = subst (λ (x : Result A E). MakesRoom old more x new) (sym is) record {
-    granted = tt;
-    refused = omega (arith, short, no_less);
+  pub MakesRoom-err : {A E : Type 0} {old new : Map T S} {more : ℕ} (r : Result A E) (e : E) → r ≡ Err e → new.capacity < length (bag old) + more → old.capacity ≤ new.capacity → new.builder ≡ old.builder → MakesRoom old more r new
+  MakesRoom-err {A = A} {E = E} {old = old} {new = new} {more = more} r e is short no_less same = subst (λ (x : Result A E). MakesRoom old more x new) (sym is) record {
+    room = tt;
+    reason = omega (arith, short, no_less);
     still_short = short;
     past = λ _. refl;
     no_less_room = no_less;

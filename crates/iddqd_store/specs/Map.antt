@@ -46,8 +46,8 @@ pub record Loses {T S : Type 0} (old : Map T S) (gone : List T) (new : Map T S) 
 
 -- room is made for so many more items, or refused. It is refused only where they don't fit, and grows only there
 pub record MakesRoom {T S A E : Type 0} (old : Map T S) (more : ℕ) (result : Result A E) (new : Map T S) : Type 0 where
-  pub granted : OnOk result (length (bag old) + more ≤ new.capacity)
-  pub refused : OnErr result (old.capacity < length (bag old) + more)
+  pub room : OnOk result (length (bag old) + more ≤ new.capacity)
+  pub reason : OnErr result (old.capacity < length (bag old) + more)
   pub still_short : OnErr result (new.capacity < length (bag old) + more)
   pub past : most_room < length (bag old) + more → IsErr result
   pub no_less_room : old.capacity ≤ new.capacity

@@ -42,7 +42,7 @@ impl<T> Entered<T> {
     /// Makes room to note one more.
     pub fn reserve_one(&mut self) -> Result<(), TryReserveError>
         ensures slots { self.new.slots ≡ self.old.slots }
-        ensures granted { OnOk result (length self.new.slots < self.new.room) }
+        ensures room { OnOk result (length self.new.slots < self.new.room) }
     {
         if self.slots.reserve(1).is_err() {
             return Err(TryReserveError);

@@ -132,7 +132,7 @@ impl IndexTable {
     pub fn capacity(&self) -> usize
         ensures value { result ≡ self.now.limit }
         ensures most { result ≤ most_room }
-        ensures holds { length self.now.pairs ≤ result }
+        ensures fits { length self.now.pairs ≤ result }
     {
         self.cells.len() / 8 * 7
     }
@@ -154,11 +154,11 @@ impl IndexTable {
     pub fn try_reserve(&mut self, more: usize) -> Result<(), TryReserveError>
         ensures pairs { IsPermutation self.old.pairs self.new.pairs }
         ensures limit { self.old.limit ≤ self.new.limit }
-        ensures granted { OnOk result (length self.old.pairs + more ≤ self.new.limit) }
+        ensures room { OnOk result (length self.old.pairs + more ≤ self.new.limit) }
         ensures grown { OnOk result (self.old.limit < length self.old.pairs + more
             → IsLeast (length self.old.pairs + more) self.new.limit) }
-        ensures same { length self.old.pairs + more ≤ self.old.limit → self.new ≡ self.old }
-        ensures refused { OnErr result (self.old.limit < length self.old.pairs + more) }
+        ensures same_room { length self.old.pairs + more ≤ self.old.limit → self.new ≡ self.old }
+        ensures reason { OnErr result (self.old.limit < length self.old.pairs + more) }
         ensures unchanged { OnErr result (self.new ≡ self.old) }
         ensures past { most_room < length self.old.pairs + more → IsErr result }
     {
@@ -191,7 +191,7 @@ impl IndexTable {
         ensures accepted { IfSome result (λ ix. M.accepts matcher.old ix ≡ true) }
         ensures none { IfNone result ((ix : ℕ) → Contains self.now.pairs (hash, ix)
             → M.accepts matcher.old ix ≡ false) }
-        ensures kept { M.IsKept matcher.old matcher.new }
+        ensures is_kept { M.IsKept matcher.old matcher.new }
 
         // Only pairs under the hash are asked about, each at most once.
         ensures asked { M.asked matcher.new ≤ M.asked matcher.old
@@ -226,8 +226,8 @@ impl IndexTable {
             → M.accepts matcher.old ix ≡ false) }
         ensures hash { IfErr result (λ spot. spot.hash ≡ hash) }
         ensures cells { IfErr result (λ spot. spot.cells ≡ length self.now.row) }
-        ensures free { IfErr result (IsFree (hashes self.now.pairs)) }
-        ensures kept { M.IsKept matcher.old matcher.new }
+        ensures vacant { IfErr result (IsFree (hashes self.now.pairs)) }
+        ensures is_kept { M.IsKept matcher.old matcher.new }
         ensures asked { M.asked matcher.new ≤ M.asked matcher.old
             + count_by (under hash) self.now.pairs }
         ensures looks { LooksUp (hashes self.now.pairs) (length self.now.row) hash
@@ -275,7 +275,7 @@ impl IndexTable {
     #[inline(always)]
     pub fn insert_at(&mut self, spot: Vacancy, ix: ItemIndex, meter: &mut Meter)
         requires room { length self.old.pairs < self.old.limit }
-        requires free { IsFree (hashes self.old.pairs) spot }
+        requires vacant { IsFree (hashes self.old.pairs) spot }
         ensures added { IsPermutation ((spot.hash, ix) ∷ self.old.pairs) self.new.pairs }
         ensures cells { length self.new.row ≡ length self.old.row }
         ensures limit { self.new.limit ≡ self.old.limit }

@@ -167,7 +167,7 @@ impl<T> ItemSet<T> {
     /// The first live slot from this number on. It looks at each slot up to that one.
     pub fn next_live(&self, from: usize) -> Option<ItemIndex>
         ensures next { NextLive self.now.slots from result }
-        ensures fits { length self.now.slots < 2 ^ 64 }
+        ensures countable { length self.now.slots < 2 ^ 64 }
     {
         // Most slots are live, so this one is looked at before the loop: then the loop of a caller is one, and not two of
         // which one stands in the other.
@@ -203,11 +203,11 @@ impl<T> ItemSet<T> {
     /// for more slots is.
     pub fn try_reserve(&mut self, more: usize) -> Result<(), TryReserveError>
         ensures slots { self.new.slots ≡ self.old.slots }
-        ensures capacity { self.old.capacity ≤ self.new.capacity }
-        ensures ok { OnOk result (live_count self.old.slots + more ≤ self.new.capacity) }
-        ensures had_room { live_count self.old.slots + more ≤ self.old.capacity
+        ensures no_less_room { self.old.capacity ≤ self.new.capacity }
+        ensures room { OnOk result (live_count self.old.slots + more ≤ self.new.capacity) }
+        ensures same_room { live_count self.old.slots + more ≤ self.old.capacity
             → self.new.capacity ≡ self.old.capacity }
-        ensures err { OnErr result (self.old.capacity < live_count self.old.slots + more) }
+        ensures reason { OnErr result (self.old.capacity < live_count self.old.slots + more) }
         ensures unchanged { OnErr result (self.new ≡ self.old) }
     {
         if self.slots.capacity() - self.live >= more {
@@ -223,7 +223,7 @@ impl<T> ItemSet<T> {
     /// Puts an item into a free slot: the one that was freed last, or a new one where every slot is live.
     pub fn insert_reserved(&mut self, item: T) -> ItemIndex
         requires { live_count self.old.slots < self.old.capacity }
-        ensures free { get self.old.slots result ≡ None }
+        ensures vacant { get self.old.slots result ≡ None }
         ensures updates { Updates self.old.slots self.new.slots result (Some item) }
         ensures members { IsPermutation (members self.new.slots) ((result, item) ∷ members self.old.slots) }
         ensures count { live_count self.new.slots ≡ live_count self.old.slots + 1 }

@@ -15,7 +15,7 @@ pub trait KeyMatcher<K> {
     /// Whether this key is the one that is sought.
     fn matches(&mut self, key: &K) -> bool
         ensures value { result ≡ accepts self.old key.now }
-        ensures kept { IsKept self.old self.new }
+        ensures is_kept { IsKept self.old self.new }
         ensures asked { asked self.new ≡ asked self.old + 1 };
 
     ghost accepts_kept: { (m n : Self) (key : K) → IsKept m n → accepts n key ≡ accepts m key };

@@ -19,7 +19,7 @@ pub trait Matcher {
     /// Whether the item of this index is the one that is sought.
     fn matches(&mut self, ix: ItemIndex) -> bool
         ensures value { result ≡ accepts self.old ix }
-        ensures kept { IsKept self.old self.new }
+        ensures is_kept { IsKept self.old self.new }
         ensures asked { asked self.new ≤ asked self.old + 1 };
 
     ghost accepts_kept: { (m n : Self) (ix : ℕ) → IsKept m n → accepts n ix ≡ accepts m ix };

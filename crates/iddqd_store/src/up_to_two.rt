@@ -76,7 +76,7 @@ impl<T> UpToTwo<T> {
 
     /// The items, lent, in their order.
     pub fn iter(&self) -> ShortIter<'_, T>
-        ensures items { result ≡ self.now }
+        ensures gives { result ≡ self.now }
         ensures short { length self.now ≤ 2 }
     {
         ShortIter {

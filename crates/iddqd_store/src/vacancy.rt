@@ -26,7 +26,7 @@ impl Vacancy {
     pub fn unknown(hash: u64) -> Vacancy
         ensures hash { result.hash ≡ hash }
         ensures nowhere { result.cells ≡ 0 }
-        ensures free { (hashes : List ℕ) → IsFree hashes result }
+        ensures vacant { (hashes : List ℕ) → IsFree hashes result }
     {
         Vacancy {
             hash,

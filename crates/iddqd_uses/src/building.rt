@@ -14,7 +14,7 @@ pub fn extend_by_vec<T: BiHashItem + Drop, S: BuildHasher>(
 ) -> Result<(), MemoryRefused<T>>
     ensures all { OnOk result
         (IsPermutation (bag map.new) (overs (ranks T.BiHashItem T.K1.eq T.K2.eq) (bag map.old) items.items)) }
-    ensures had_room { length (bag map.old) + length items.items ≤ map.old.capacity → IsOk result }
+    ensures granted { length (bag map.old) + length items.items ≤ map.old.capacity → IsOk result }
 {
     map.extend(items)
 }

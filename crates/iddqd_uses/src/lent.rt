@@ -57,7 +57,7 @@ pub fn insert_held<'a, T: BiHashItem, S: BuildHasher>(
     item: T,
 ) -> Result<(), EntryError<T>>
     ensures gains { OnOk result (IsPermutation (bag map.new) (item ∷ bag map.old)) }
-    ensures kept { OnErr result (map.new ≡ map.old) }
+    ensures unchanged { OnErr result (map.new ≡ map.old) }
     ensures handed_back { IfErr result (λ e. error_item e ≡ item) }
 {
     match map.entry(key1, key2) {

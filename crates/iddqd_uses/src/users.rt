@@ -35,7 +35,7 @@ impl BiHashItem for User {
 /// Registers a user, or hands the user back where the number or the login is taken, or memory is.
 pub fn register(users: &mut BiHashMap<User>, user: User) -> Result<(), User>
     ensures registered { OnOk result (IsPermutation (bag users.new) (user ∷ bag users.old)) }
-    ensures back { IfErr result (λ u. u ≡ user) }
+    ensures handed_back { IfErr result (λ u. u ≡ user) }
     ensures unchanged { OnErr result (users.new ≡ users.old) }
 {
     match users.insert_unique(user) {
@@ -52,7 +52,7 @@ pub fn register_all(users: &mut BiHashMap<User>, batch: Vec<User>) -> Result<(),
     ensures found { OnOk result (All (λ u.
         IsOnly (λ v. ⟦<String as PartialEq>⟧.eq u.login v.login) (bag users.new) (Some u)) batch.items) }
     ensures unchanged { OnErr result (IsPermutation (bag users.new) (bag users.old)) }
-    ensures back { IfErr result (λ u. Contains batch.items u) }
+    ensures handed_back { IfErr result (λ u. Contains batch.items u) }
 {
     match load(users, batch) {
         Ok(()) => Ok(()),

@@ -49,7 +49,7 @@ pub fn replace1<T: BiHashItem, S: BuildHasher>(
     ensures replaced { IfOk result (λ x. IsPermutation (bag map.new)
         (swap (ranks T.BiHashItem T.K1.eq T.K2.eq) (bag map.old) x item)) }
     ensures only { IfOk result (λ x. IsOnly (has1 T.BiHashItem T.K1.eq key.now) (bag map.old) (Some x)) }
-    ensures kept { OnErr result (map.new ≡ map.old) }
+    ensures unchanged { OnErr result (map.new ≡ map.old) }
     ensures handed_back { IfErr result (λ x. x ≡ item) }
 {
     match map.get1_mut(key) {

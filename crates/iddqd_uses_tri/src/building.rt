@@ -14,7 +14,7 @@ pub fn extend_by_vec<T: TriHashItem + Drop, S: BuildHasher>(
 ) -> Result<(), MemoryRefused<T>>
     ensures all { OnOk result
         (IsPermutation (bag map.new) (overs (ranks T.TriHashItem T.K1.eq T.K2.eq T.K3.eq) (bag map.old) items.items)) }
-    ensures had_room { length (bag map.old) + length items.items ≤ map.old.capacity → IsOk result }
+    ensures granted { length (bag map.old) + length items.items ≤ map.old.capacity → IsOk result }
 {
     map.extend(items)
 }

@@ -21,7 +21,7 @@ pub fn insert_through<'a, T: TriHashItem, S: BuildHasher>(
     item: T,
 ) -> Result<(), EntryError<T>>
     ensures gains { OnOk result (IsPermutation (bag map.new) (item ∷ bag map.old)) }
-    ensures kept { OnErr result (map.new ≡ map.old) }
+    ensures unchanged { OnErr result (map.new ≡ map.old) }
     ensures handed_back { IfErr result (λ e. error_item e ≡ item) }
 {
     let entry = map.entry(key1, key2, key3);
@@ -44,7 +44,7 @@ pub fn overwrite_through<'a, T: TriHashItem + Drop, S: BuildHasher>(
 ) -> bool
     ensures went_in { OnTrue result (IsPermutation (bag map.new)
         (over (ranks T.TriHashItem T.K1.eq T.K2.eq T.K3.eq) (bag map.old) item)) }
-    ensures kept { OnFalse result (map.new ≡ map.old) }
+    ensures unchanged { OnFalse result (map.new ≡ map.old) }
 {
     match map.entry(key1, key2, key3) {
         Entry::Vacant(_v) => return false,
@@ -112,11 +112,11 @@ pub fn or_insert_and_write<'a, T: TriHashItemMut + Drop, S: BuildHasher>(
 ) -> Result<(), EntryError<T>>
 where
     T::Data: Drop,
-    ensures granted { OnOk result (WritesEntry (ranks T.TriHashItem T.K1.eq T.K2.eq T.K3.eq)
+    ensures writes { OnOk result (WritesEntry (ranks T.TriHashItem T.K1.eq T.K2.eq T.K3.eq)
         (λ x. T.put x d) (bag map.old) item
         (entry (key_tests T.TriHashItem T.K1.eq T.K2.eq T.K3.eq key1.now key2.now key3.now) (bag map.old))
         (bag map.new)) }
-    ensures kept { OnErr result (map.new ≡ map.old) }
+    ensures unchanged { OnErr result (map.new ≡ map.old) }
     ensures handed_back { IfErr result (λ e. error_item e ≡ item) }
 {
     match map.entry(key1, key2, key3).or_insert(item) {
@@ -142,11 +142,11 @@ pub fn insert_or_write<'a, T: TriHashItemMut + Drop, S: BuildHasher>(
 ) -> Result<(), EntryError<T>>
 where
     T::Data: Drop,
-    ensures granted { OnOk result (InsertsOrWrites (ranks T.TriHashItem T.K1.eq T.K2.eq T.K3.eq)
+    ensures writes { OnOk result (InsertsOrWrites (ranks T.TriHashItem T.K1.eq T.K2.eq T.K3.eq)
         (λ x. T.put x d) (bag map.old) item
         (entry (key_tests T.TriHashItem T.K1.eq T.K2.eq T.K3.eq key1.now key2.now key3.now) (bag map.old))
         (bag map.new)) }
-    ensures kept { OnErr result (map.new ≡ map.old) }
+    ensures unchanged { OnErr result (map.new ≡ map.old) }
     ensures handed_back { IfErr result (λ e. error_item e ≡ item) }
 {
     match map.entry(key1, key2, key3) {

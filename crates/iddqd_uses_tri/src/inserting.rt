@@ -11,7 +11,7 @@ use std::hash::{BuildHasher, Hash};
 /// Inserts an item, and drops it where it is refused. Says whether it went in.
 pub fn insert_or_drop<T: Ranked + Drop, S: BuildHasher>(map: &mut TriHashMap<T, S>, item: T) -> bool
     ensures went_in { OnTrue result (IsPermutation (bag map.new) (item ∷ bag map.old)) }
-    ensures refused { OnFalse result (map.new ≡ map.old) }
+    ensures unchanged { OnFalse result (map.new ≡ map.old) }
     ensures reason { OnFalse result (MayRefuse T.ranks map.old item) }
 {
     let answer = map.insert_unique(item);
@@ -34,8 +34,8 @@ pub fn insert_or_back<T: Ranked, S: BuildHasher>(
     item: T,
 ) -> Result<(), T>
     ensures went_in { OnOk result (IsPermutation (bag map.new) (item ∷ bag map.old)) }
-    ensures back { IfErr result (λ x. x ≡ item) }
-    ensures refused { OnErr result (map.new ≡ map.old) }
+    ensures handed_back { IfErr result (λ x. x ≡ item) }
+    ensures unchanged { OnErr result (map.new ≡ map.old) }
     ensures reason { OnErr result (MayRefuse T.ranks map.old item) }
 {
     match map.insert_unique(item) {

@@ -48,7 +48,7 @@ pub fn open<S: BuildHasher>(
     session: Session,
 ) -> Result<(), Session>
     ensures opened { OnOk result (IsPermutation (bag sessions.new) (session ∷ bag sessions.old)) }
-    ensures back { IfErr result (λ s. s ≡ session) }
+    ensures handed_back { IfErr result (λ s. s ≡ session) }
     ensures unchanged { OnErr result (sessions.new ≡ sessions.old) }
 {
     match sessions.insert_unique(session) {
@@ -68,7 +68,7 @@ pub fn open_all<S: BuildHasher>(
     ensures found { OnOk result (All (λ s.
         IsOnly (λ t. ⟦<String as PartialEq>⟧.eq s.token t.token) (bag sessions.new) (Some s)) batch.items) }
     ensures unchanged { OnErr result (IsPermutation (bag sessions.new) (bag sessions.old)) }
-    ensures back { IfErr result (λ s. Contains batch.items s) }
+    ensures handed_back { IfErr result (λ s. Contains batch.items s) }
 {
     match load(sessions, batch) {
         Ok(()) => Ok(()),

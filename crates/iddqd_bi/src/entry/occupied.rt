@@ -40,7 +40,7 @@ impl<'a, T: Ranked, S: BuildHasher> OccupiedEntry<'a, T, S> {
     /// The items, to be read.
     pub fn get(&self) -> OccupiedEntryRef<'_, T>
         requires { HasFound T.BiHashItem T.K1.eq T.K2.eq self.now }
-        ensures unique { is_one result
+        ensures is_one { is_one result
             ≡ is_unique (entry (sought T.BiHashItem T.K1.eq T.K2.eq self.now) (bag self.now.map.now)) }
         ensures by_key1 { IsOnly (has1 T.BiHashItem T.K1.eq self.now.key1.now) (bag self.now.map.now) (seen1 result) }
         ensures by_key2 { IsOnly (has2 T.BiHashItem T.K2.eq self.now.key2.now) (bag self.now.map.now) (seen2 result) }
@@ -54,7 +54,7 @@ impl<'a, T: Ranked, S: BuildHasher> OccupiedEntry<'a, T, S> {
     /// The items, to be read for as long as the map is lent.
     pub fn into_ref(self) -> OccupiedEntryRef<'a, T>
         requires { HasFound T.BiHashItem T.K1.eq T.K2.eq self }
-        ensures unique { is_one result
+        ensures is_one { is_one result
             ≡ is_unique (entry (sought T.BiHashItem T.K1.eq T.K2.eq self.entry) (bag self.entry.map.now)) }
         ensures by_key1 { IsOnly (has1 T.BiHashItem T.K1.eq self.entry.key1.now) (bag self.entry.map.now)
             (seen1 result) }
@@ -122,7 +122,7 @@ impl<'a, T: Ranked, S: BuildHasher> OccupiedEntry<'a, T, S> {
             ≡ listing (sought T.BiHashItem T.K1.eq T.K2.eq self.old) (bag self.old.map.now)) }
         ensures items { OnOk result (IsPermutation (bag self.new.map.now) (over T.ranks (bag self.old.map.now) item)) }
         // The entry has found the item now.
-        ensures found { OnOk result (HasFound T.BiHashItem T.K1.eq T.K2.eq self.new) }
+        ensures has_found { OnOk result (HasFound T.BiHashItem T.K1.eq T.K2.eq self.new) }
         ensures unique { OnOk result (entry (sought T.BiHashItem T.K1.eq T.K2.eq self.new) (bag self.new.map.now)
             ≡ unique item) }
         ensures keys { OnOk result ((self.new.key1 ≡ self.old.key1) × (self.new.key2 ≡ self.old.key2)) }
@@ -203,7 +203,7 @@ impl<'a, T: BiHashItemMut, S: BuildHasher> OccupiedEntry<'a, T, S> {
     pub(crate) fn store<F: FnMut(&T) -> T::Data>(&mut self, f: F)
     where
         T::Data: Drop,
-        requires found { HasFound T.BiHashItem T.K1.eq T.K2.eq self.old }
+        requires has_found { HasFound T.BiHashItem T.K1.eq T.K2.eq self.old }
         requires callable { F.IsAlwaysCallable f }
         ensures same_map { self.new.map.ghost_name ≡ self.old.map.ghost_name }
         ensures stores { Stores (CalledAt F.FnMut) T.put (ranks T.BiHashItem T.K1.eq T.K2.eq) f
@@ -212,7 +212,7 @@ impl<'a, T: BiHashItemMut, S: BuildHasher> OccupiedEntry<'a, T, S> {
         ensures capacity { self.new.map.now.capacity ≡ self.old.map.now.capacity }
         ensures builder { self.new.map.now.builder ≡ self.old.map.now.builder }
         ensures places { FindsSame self.old self.new }
-        ensures found { HasFound T.BiHashItem T.K1.eq T.K2.eq self.new }
+        ensures has_found { HasFound T.BiHashItem T.K1.eq T.K2.eq self.new }
     {
         let slot1 = self.slot1;
         let slot2 = self.slot2;

@@ -21,7 +21,7 @@ impl<'a, T> OccupiedEntryRef<'a, T> {
     pub(crate) fn of(is_unique: bool, by_key1: Option<&'a T>, by_key2: Option<&'a T>) -> Self
         requires some { is_unique ≡ true → is_some by_key1 ≡ true }
         requires one2 { is_unique ≡ true → option_copied by_key1 ≡ option_copied by_key2 }
-        ensures unique { is_one result ≡ is_unique }
+        ensures is_one { is_one result ≡ is_unique }
         ensures by_key1 { seen1 result ≡ option_copied by_key1.entry }
         ensures by_key2 { seen2 result ≡ option_copied by_key2.entry }
     {

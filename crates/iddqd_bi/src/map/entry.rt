@@ -24,7 +24,7 @@ impl<T: BiHashItem, S: BuildHasher> BiHashMap<T, S> {
         // It tells which items have the keys.
         ensures value { entry_value result
             ≡ entry (key_tests T.BiHashItem T.K1.eq T.K2.eq key1.now key2.now) (bag self.old) }
-        ensures found { IsFound result }
+        ensures is_found { IsFound result }
     {
         let hash1 = self.hash_builder.hash_one(key1);
         let hash2 = self.hash_builder.hash_one(key2);

@@ -21,7 +21,7 @@ impl<T: Ranked + Drop, S: BuildHasher> BiHashMap<T, S> {
     /// their keys may be there already. Where that is refused it goes on, and the map grows as it fills. An item that
     /// finds no memory comes back: those before it stay, and the iterator is dropped with the rest.
     pub fn extend<I: IntoIterator<Item = T>>(&mut self, iter: I) -> Result<(), MemoryRefused<T>>
-        requires ends { IsFiniteIterable I.into_iter_gives I.IntoIter.can_next I.IntoIter.remaining iter }
+        requires finite { IsFiniteIterable I.into_iter_gives I.IntoIter.can_next I.IntoIter.remaining iter }
         // Each went in over what conflicts with it; at a refusal, those that the iterator gave before.
         ensures all { OnOk result (GivesAll I.into_iter_gives I.IntoIter.next_gives iter (λ xs.
             ExtendsTo T.ranks (state_of self.old) xs (state_of self.new))) }
@@ -31,7 +31,7 @@ impl<T: Ranked + Drop, S: BuildHasher> BiHashMap<T, S> {
         ensures free { IfErr result (λ e. clash T.ranks (bag self.new) e.value ≡ []) }
         ensures full { OnErr result (length (bag self.new) ≡ self.new.capacity) }
         // Items that fit are never refused, and ask for no more room.
-        ensures had_room { FitsOn I.into_iter_gives I.IntoIter.remaining iter (length (bag self.old)) self.old.capacity
+        ensures granted { FitsOn I.into_iter_gives I.IntoIter.remaining iter (length (bag self.old)) self.old.capacity
             → IsOk result }
         ensures same_room { FitsOn I.into_iter_gives I.IntoIter.remaining iter (length (bag self.old)) self.old.capacity
             → self.new.capacity ≡ self.old.capacity }
@@ -74,7 +74,7 @@ impl<T: Ranked + Drop, S: BuildHasher> BiHashMap<T, S> {
         &mut self,
         iter: I,
     ) -> Result<(), ExtendUniqueError<T>>
-        requires ends { IsFiniteIterable I.into_iter_gives I.IntoIter.can_next I.IntoIter.remaining iter }
+        requires finite { IsFiniteIterable I.into_iter_gives I.IntoIter.can_next I.IntoIter.remaining iter }
         // All go in, or none: then those taken come back, and behind them the item that was refused.
         ensures all { OnOk result (GivesAll I.into_iter_gives I.IntoIter.next_gives iter
             (AddsTo T.ranks (bag self.old) (bag self.new))) }
@@ -114,7 +114,7 @@ impl<T: Ranked + Drop, S: BuildHasher + Default + Drop> BiHashMap<T, S> {
         alloc: Global,
         iter: I,
     ) -> Result<Self, MemoryRefused<T>>
-        requires ends { IsFiniteIterable I.into_iter_gives I.IntoIter.can_next I.IntoIter.remaining iter }
+        requires finite { IsFiniteIterable I.into_iter_gives I.IntoIter.can_next I.IntoIter.remaining iter }
         ensures all { IfOk result (λ map. GivesAll I.into_iter_gives I.IntoIter.next_gives iter (λ xs.
             ExtendsTo T.ranks empty_state xs (state_of map))) }
         ensures refused { IfErr result (λ e. GivesThen I.into_iter_gives I.IntoIter.next_gives iter e.value (λ xs.
@@ -135,7 +135,7 @@ impl<T: Ranked + Drop, S: BuildHasher + Default + Drop> BiHashMap<T, S> {
         alloc: Global,
         iter: I,
     ) -> Result<Self, FromIterError<T>>
-        requires ends { IsFiniteIterable I.into_iter_gives I.IntoIter.can_next I.IntoIter.remaining iter }
+        requires finite { IsFiniteIterable I.into_iter_gives I.IntoIter.can_next I.IntoIter.remaining iter }
         // All that the iterator gave, with room for them.
         ensures all { IfOk result (λ map. GivesAll I.into_iter_gives I.IntoIter.next_gives iter
             (AddsTo T.ranks [] (bag map))) }

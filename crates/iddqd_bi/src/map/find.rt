@@ -87,7 +87,7 @@ impl<T: BiHashItem, S: BuildHasher> BiHashMap<T, S> {
             (key_hash T.key1 T.K1.hash_input S.BuildHasher S.Hasher.Hasher self.now.builder) hash
             (λ x. M.accepts matcher.old (T.key1 x)) (bag self.now) }
         ensures found { IsOnly (λ x. M.accepts matcher.old (T.key1 x)) (bag self.now) (option_copied result) }
-        ensures kept { M.IsKept matcher.old matcher.new }
+        ensures is_kept { M.IsKept matcher.old matcher.new }
         ensures costs { SearchCosts
             (key_hash T.key1 T.K1.hash_input S.BuildHasher S.Hasher.Hasher self.now.builder) (bag self.now)
             self.now.capacity hash result (M.asked matcher.old) (M.asked matcher.new) meter.old meter.new }
@@ -110,7 +110,7 @@ impl<T: BiHashItem, S: BuildHasher> BiHashMap<T, S> {
             (key_hash T.key2 T.K2.hash_input S.BuildHasher S.Hasher.Hasher self.now.builder) hash
             (λ x. M.accepts matcher.old (T.key2 x)) (bag self.now) }
         ensures found { IsOnly (λ x. M.accepts matcher.old (T.key2 x)) (bag self.now) (option_copied result) }
-        ensures kept { M.IsKept matcher.old matcher.new }
+        ensures is_kept { M.IsKept matcher.old matcher.new }
         ensures costs { SearchCosts
             (key_hash T.key2 T.K2.hash_input S.BuildHasher S.Hasher.Hasher self.now.builder) (bag self.now)
             self.now.capacity hash result (M.asked matcher.old) (M.asked matcher.new) meter.old meter.new }

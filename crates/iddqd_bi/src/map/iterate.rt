@@ -11,9 +11,9 @@ use std::hash::{BuildHasher, Hash};
 impl<T: BiHashItem, S: BuildHasher> BiHashMap<T, S> {
     /// Each item once, in no promised order. It takes no memory.
     pub fn iter(&self) -> Iter<'_, T>
-        ensures items { result ≡ bag self.now }
+        ensures gives { result ≡ bag self.now }
         ensures runs { ShowsInOrder (deref {X = T}) }
-        ensures fits { length (bag self.now) < 2 ^ 64 }
+        ensures countable { length (bag self.now) < 2 ^ 64 }
     {
         self.items.values()
     }

@@ -18,8 +18,8 @@ impl<T: BiHashItem + Drop, S: BuildHasher> BiHashMap<T, S> {
         ensures items { bag self.new ≡ bag self.old }
         ensures builder { self.new.builder ≡ self.old.builder }
         // The room is that asked for, but no less than the items and no more than before; refused, all is as it was.
-        ensures granted { OnOk result (self.new.capacity ≡ max (length (bag self.old)) (min least self.old.capacity)) }
-        ensures refused { OnErr result (0 < max (length (bag self.old)) (min least self.old.capacity)) }
+        ensures shrunk { OnOk result (self.new.capacity ≡ max (length (bag self.old)) (min least self.old.capacity)) }
+        ensures reason { OnErr result (0 < max (length (bag self.old)) (min least self.old.capacity)) }
         ensures unchanged { OnErr result (self.new ≡ self.old) }
     {
         let wanted = self.len().max(least.min(self.capacity()));
@@ -41,8 +41,8 @@ impl<T: BiHashItem + Drop, S: BuildHasher> BiHashMap<T, S> {
         ensures items { bag self.new ≡ bag self.old }
         ensures builder { self.new.builder ≡ self.old.builder }
         // The room is that of the items; refused, the map is as it was.
-        ensures granted { OnOk result (self.new.capacity ≡ length (bag self.old)) }
-        ensures refused { OnErr result (0 < length (bag self.old)) }
+        ensures shrunk { OnOk result (self.new.capacity ≡ length (bag self.old)) }
+        ensures reason { OnErr result (0 < length (bag self.old)) }
         ensures unchanged { OnErr result (self.new ≡ self.old) }
     {
         self.shrink_to(0)

@@ -262,9 +262,9 @@ impl<T: BiHashItem, S: BuildHasher> BiHashMap<T, S> {
         ensures slots { self.new.slots ≡ self.old.slots }
         ensures builder { self.new.builder ≡ self.old.builder }
         ensures no_less_room { self.old.capacity ≤ self.new.capacity }
-        ensures had_room { length (bag self.old) < self.old.capacity → self.new ≡ self.old }
-        ensures granted { OnOk result (length (bag self.old) < self.new.capacity) }
-        ensures refused { OnErr result (length (bag self.old) ≡ self.old.capacity) }
+        ensures same_room { length (bag self.old) < self.old.capacity → self.new ≡ self.old }
+        ensures room { OnOk result (length (bag self.old) < self.new.capacity) }
+        ensures reason { OnErr result (length (bag self.old) ≡ self.old.capacity) }
         ensures unchanged { OnErr result (self.new ≡ self.old) }
     {
         if self.len() == self.capacity() {

@@ -99,7 +99,7 @@ impl<T: BiHashItem, S: BuildHasher> BiHashMap<T, S> {
         ensures unchanged { result.map.now ≡ self.old }
         // Nothing is passed, and all items are to come.
         ensures start { done_of result ≡ [] }
-        ensures items { rest_of result ≡ bag self.old }
+        ensures gives { rest_of result ≡ bag self.old }
         ensures counted { IsCounted result }
     {
         let left = self.len();

@@ -40,8 +40,8 @@ impl<T: Drop> ItemSet<T> {
         ensures slots { OnOk result (self.new.slots ≡ map Some (live_items self.old.slots)) }
         ensures capacity { OnOk result (self.new.capacity
             ≡ max (live_count self.old.slots) (min least self.old.capacity)) }
-        ensures err { OnErr result (self.new ≡ self.old) }
-        ensures taken { OnErr result (0 < max (live_count self.old.slots) (min least self.old.capacity)) }
+        ensures unchanged { OnErr result (self.new ≡ self.old) }
+        ensures reason { OnErr result (0 < max (live_count self.old.slots) (min least self.old.capacity)) }
         ensures less { OnErr result
             (max (live_count self.old.slots) (min least self.old.capacity) < self.old.capacity) }
     {

@@ -156,9 +156,9 @@ impl<T: Drop> FusedIterator for IntoIter<T> {}
 impl<T> ItemSet<T> {
     /// Each item once, by slot. It takes no memory.
     pub fn values(&self) -> Iter<'_, T>
-        ensures items { result ≡ live_items self.now.slots }
+        ensures gives { result ≡ live_items self.now.slots }
         ensures len { length result ≡ live_count self.now.slots }
-        ensures fits { live_count self.now.slots < 2 ^ 64 }
+        ensures countable { live_count self.now.slots < 2 ^ 64 }
     {
         Iter {
             slots: self.slots.as_slice(),
@@ -170,9 +170,9 @@ impl<T> ItemSet<T> {
     pub fn into_values(self) -> IntoIter<T>
     where
         T: Drop,
-        ensures items { result ≡ live_items self.slots }
+        ensures gives { result ≡ live_items self.slots }
         ensures len { length result ≡ live_count self.slots }
-        ensures fits { live_count self.slots < 2 ^ 64 }
+        ensures countable { live_count self.slots < 2 ^ 64 }
     {
         let ItemSet {
             slots,

@@ -101,7 +101,7 @@ impl<'a, T, R: KeyOf<T>, S: BuildHasher> Lookup<'a, T, R, S> {
             (key_hash R.key R.Key.hash_input S.BuildHasher S.Hasher.Hasher self.now.builder) hash
             (λ x. M.accepts matcher.old (R.key x)) (bag self.now) }
         ensures found { IsOnly (λ x. M.accepts matcher.old (R.key x)) (bag self.now) (option_copied result) }
-        ensures kept { M.IsKept matcher.old matcher.new }
+        ensures is_kept { M.IsKept matcher.old matcher.new }
         ensures costs { SearchCosts
             (key_hash R.key R.Key.hash_input S.BuildHasher S.Hasher.Hasher self.now.builder) (bag self.now)
             self.now.capacity hash result (M.asked matcher.old) (M.asked matcher.new) meter.old meter.new }
@@ -154,7 +154,7 @@ impl<'a, T, R: KeyOf<T>, S: BuildHasher> Lookup<'a, T, R, S> {
         ensures live { IfSome result (IsLive self.now.slots) }
         ensures hashed { IfSome result (λ ix. HasHash
             (key_hash R.key R.Key.hash_input S.BuildHasher S.Hasher.Hasher self.now.builder) self.now.slots ix hash) }
-        ensures kept { M.IsKept matcher.old matcher.new }
+        ensures is_kept { M.IsKept matcher.old matcher.new }
         ensures costs { SearchCosts
             (key_hash R.key R.Key.hash_input S.BuildHasher S.Hasher.Hasher self.now.builder) (bag self.now)
             self.now.capacity hash result (M.asked matcher.old) (M.asked matcher.new) meter.old meter.new }
@@ -184,7 +184,7 @@ impl<'a, T, R: KeyOf<T>, S: BuildHasher> Lookup<'a, T, R, S> {
             (key_hash R.key R.Key.hash_input S.BuildHasher S.Hasher.Hasher self.now.builder) self.now.slots ix hash) }
         ensures vacant { IfErr result (IsVacantFor
             (key_hash R.key R.Key.hash_input S.BuildHasher S.Hasher.Hasher self.now.builder) (bag self.now) hash) }
-        ensures kept { M.IsKept matcher.old matcher.new }
+        ensures is_kept { M.IsKept matcher.old matcher.new }
         ensures costs { SearchCosts
             (key_hash R.key R.Key.hash_input S.BuildHasher S.Hasher.Hasher self.now.builder) (bag self.now)
             self.now.capacity hash (result_ok result) (M.asked matcher.old) (M.asked matcher.new)

@@ -23,7 +23,7 @@ impl<'a, T: TriHashItem, S: BuildHasher, Q: Keys<T::K1, T::K2, T::K3>> Entry<'a,
         ensures same_map { IfOk result (λ m. m.map.ghost_name ≡ entry_lender self.entry) }
         ensures same_map_at_err { IfErr result (λ e. e.map.ghost_name ≡ entry_lender self.entry) }
         ensures put { OnVacant self.entry (λ v. PutsIn v item result) }
-        ensures kept { OnOccupied self.entry (λ o. KeepsFound T.TriHashItem T.K1.eq T.K2.eq T.K3.eq o result) }
+        ensures keeps_found { OnOccupied self.entry (λ o. KeepsFound T.TriHashItem T.K1.eq T.K2.eq T.K3.eq o result) }
     {
         match self {
             Entry::Vacant(v) => v.put_in(item),
@@ -42,7 +42,7 @@ impl<'a, T: TriHashItem, S: BuildHasher, Q: Keys<T::K1, T::K2, T::K3>> Entry<'a,
         ensures same_map { IfOk result (λ m. m.map.ghost_name ≡ entry_lender self.entry) }
         ensures same_map_at_err { IfErr result (λ e. e.map.ghost_name ≡ entry_lender self.entry) }
         ensures put { OnVacant self.entry (λ v. (x : T) × F.post f x × PutsIn v x result) }
-        ensures kept { OnOccupied self.entry (λ o. KeepsFound T.TriHashItem T.K1.eq T.K2.eq T.K3.eq o result) }
+        ensures keeps_found { OnOccupied self.entry (λ o. KeepsFound T.TriHashItem T.K1.eq T.K2.eq T.K3.eq o result) }
     {
         match self {
             Entry::Vacant(v) => v.put_in(f()),
@@ -59,7 +59,7 @@ impl<'a, T: TriHashItemMut, S: BuildHasher, Q: Keys<T::K1, T::K2, T::K3>> Entry<
         T::Data: Drop,
         F: Drop,
         requires callable { F.IsAlwaysCallable f }
-        requires found { IsFound self }
+        requires is_found { IsFound self }
         // It holds the same map, and a vacant entry stays as it was.
         ensures same_map { entry_lender result ≡ entry_lender self.entry }
         ensures vacant { OnVacant self.entry (λ v. result ≡ self.entry) }
@@ -72,7 +72,7 @@ impl<'a, T: TriHashItemMut, S: BuildHasher, Q: Keys<T::K1, T::K2, T::K3>> Entry<
         ensures capacity { (entry_map result).capacity ≡ (entry_map self.entry).capacity }
         ensures builder { (entry_map result).builder ≡ (entry_map self.entry).builder }
         ensures places { IsSameEntry self.entry result }
-        ensures found { IsFound result }
+        ensures is_found { IsFound result }
     {
         match self {
             Entry::Vacant(v) => Entry::Vacant(v),

@@ -41,7 +41,7 @@ impl<'a, T: Ranked, S: BuildHasher> OccupiedEntry<'a, T, S> {
     /// The items, to be read.
     pub fn get(&self) -> OccupiedEntryRef<'_, T>
         requires { HasFound T.TriHashItem T.K1.eq T.K2.eq T.K3.eq self.now }
-        ensures unique { is_one result
+        ensures is_one { is_one result
             ≡ is_unique (entry (sought T.TriHashItem T.K1.eq T.K2.eq T.K3.eq self.now) (bag self.now.map.now)) }
         ensures by_key1 { IsOnly (has1 T.TriHashItem T.K1.eq self.now.key1.now) (bag self.now.map.now) (seen1 result) }
         ensures by_key2 { IsOnly (has2 T.TriHashItem T.K2.eq self.now.key2.now) (bag self.now.map.now) (seen2 result) }
@@ -57,7 +57,7 @@ impl<'a, T: Ranked, S: BuildHasher> OccupiedEntry<'a, T, S> {
     /// The items, to be read for as long as the map is lent.
     pub fn into_ref(self) -> OccupiedEntryRef<'a, T>
         requires { HasFound T.TriHashItem T.K1.eq T.K2.eq T.K3.eq self }
-        ensures unique { is_one result
+        ensures is_one { is_one result
             ≡ is_unique (entry (sought T.TriHashItem T.K1.eq T.K2.eq T.K3.eq self.entry) (bag self.entry.map.now)) }
         ensures by_key1 { IsOnly (has1 T.TriHashItem T.K1.eq self.entry.key1.now) (bag self.entry.map.now)
             (seen1 result) }
@@ -144,7 +144,7 @@ impl<'a, T: Ranked, S: BuildHasher> OccupiedEntry<'a, T, S> {
             ≡ listing (sought T.TriHashItem T.K1.eq T.K2.eq T.K3.eq self.old) (bag self.old.map.now)) }
         ensures items { OnOk result (IsPermutation (bag self.new.map.now) (over T.ranks (bag self.old.map.now) item)) }
         // The entry has found the item now.
-        ensures found { OnOk result (HasFound T.TriHashItem T.K1.eq T.K2.eq T.K3.eq self.new) }
+        ensures has_found { OnOk result (HasFound T.TriHashItem T.K1.eq T.K2.eq T.K3.eq self.new) }
         ensures unique { OnOk result
             (entry (sought T.TriHashItem T.K1.eq T.K2.eq T.K3.eq self.new) (bag self.new.map.now)
             ≡ unique item) }
@@ -256,7 +256,7 @@ impl<'a, T: TriHashItemMut, S: BuildHasher> OccupiedEntry<'a, T, S> {
     pub(crate) fn store<F: FnMut(&T) -> T::Data>(&mut self, f: F)
     where
         T::Data: Drop,
-        requires found { HasFound T.TriHashItem T.K1.eq T.K2.eq T.K3.eq self.old }
+        requires has_found { HasFound T.TriHashItem T.K1.eq T.K2.eq T.K3.eq self.old }
         requires callable { F.IsAlwaysCallable f }
         ensures same_map { self.new.map.ghost_name ≡ self.old.map.ghost_name }
         ensures stores { Stores (CalledAt F.FnMut) T.put (ranks T.TriHashItem T.K1.eq T.K2.eq T.K3.eq) f
@@ -265,7 +265,7 @@ impl<'a, T: TriHashItemMut, S: BuildHasher> OccupiedEntry<'a, T, S> {
         ensures capacity { self.new.map.now.capacity ≡ self.old.map.now.capacity }
         ensures builder { self.new.map.now.builder ≡ self.old.map.now.builder }
         ensures places { FindsSame self.old self.new }
-        ensures found { HasFound T.TriHashItem T.K1.eq T.K2.eq T.K3.eq self.new }
+        ensures has_found { HasFound T.TriHashItem T.K1.eq T.K2.eq T.K3.eq self.new }
     {
         let slot1 = self.slot1;
         let slot2 = self.slot2;

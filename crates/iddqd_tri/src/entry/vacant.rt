@@ -115,7 +115,7 @@ impl<'a, T: Ranked, S: BuildHasher> VacantEntry<'a, T, S> {
         ensures gains { IfOk result (λ e. Gains self.entry.map.now item e.map.now) }
         ensures keys { IfOk result (λ e. (e.key1 ≡ self.entry.keys.key1) × (e.key2 ≡ self.entry.keys.key2)
             × (e.key3 ≡ self.entry.keys.key3)) }
-        ensures found { IfOk result (HasFound T.TriHashItem T.K1.eq T.K2.eq T.K3.eq) }
+        ensures has_found { IfOk result (HasFound T.TriHashItem T.K1.eq T.K2.eq T.K3.eq) }
         ensures unique { IfOk result (λ e.
             entry (sought T.TriHashItem T.K1.eq T.K2.eq T.K3.eq e) (bag e.map.now) ≡ unique item) }
         // It goes in only with the keys that the entry has, and then always where there is room.

@@ -29,7 +29,7 @@ impl<T: Ranked, S: BuildHasher> TriHashMap<T, S> {
     /// the largest table holds whose cells a `usize` counts.
     pub fn capacity(&self) -> usize
         ensures value { result ≡ self.now.capacity }
-        ensures holds { length (bag self.now) ≤ result }
+        ensures fits { length (bag self.now) ≤ result }
         ensures most { result ≤ most_room }
     {
         self.items.capacity().min(

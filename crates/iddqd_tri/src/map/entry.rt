@@ -30,7 +30,7 @@ impl<T: TriHashItem, S: BuildHasher> TriHashMap<T, S> {
         // It tells which items have the keys.
         ensures value { entry_value result
             ≡ entry (key_tests T.TriHashItem T.K1.eq T.K2.eq T.K3.eq key1.now key2.now key3.now) (bag self.old) }
-        ensures found { IsFound result }
+        ensures is_found { IsFound result }
     {
         let hash1 = self.hash_builder.hash_one(key1);
         let hash2 = self.hash_builder.hash_one(key2);

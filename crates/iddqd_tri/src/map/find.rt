@@ -108,7 +108,7 @@ impl<T: TriHashItem, S: BuildHasher> TriHashMap<T, S> {
             (key_hash T.key1 T.K1.hash_input S.BuildHasher S.Hasher.Hasher self.now.builder) hash
             (λ x. M.accepts matcher.old (T.key1 x)) (bag self.now) }
         ensures found { IsOnly (λ x. M.accepts matcher.old (T.key1 x)) (bag self.now) (option_copied result) }
-        ensures kept { M.IsKept matcher.old matcher.new }
+        ensures is_kept { M.IsKept matcher.old matcher.new }
         ensures costs { SearchCosts
             (key_hash T.key1 T.K1.hash_input S.BuildHasher S.Hasher.Hasher self.now.builder) (bag self.now)
             self.now.capacity hash result (M.asked matcher.old) (M.asked matcher.new) meter.old meter.new }
@@ -131,7 +131,7 @@ impl<T: TriHashItem, S: BuildHasher> TriHashMap<T, S> {
             (key_hash T.key2 T.K2.hash_input S.BuildHasher S.Hasher.Hasher self.now.builder) hash
             (λ x. M.accepts matcher.old (T.key2 x)) (bag self.now) }
         ensures found { IsOnly (λ x. M.accepts matcher.old (T.key2 x)) (bag self.now) (option_copied result) }
-        ensures kept { M.IsKept matcher.old matcher.new }
+        ensures is_kept { M.IsKept matcher.old matcher.new }
         ensures costs { SearchCosts
             (key_hash T.key2 T.K2.hash_input S.BuildHasher S.Hasher.Hasher self.now.builder) (bag self.now)
             self.now.capacity hash result (M.asked matcher.old) (M.asked matcher.new) meter.old meter.new }
@@ -154,7 +154,7 @@ impl<T: TriHashItem, S: BuildHasher> TriHashMap<T, S> {
             (key_hash T.key3 T.K3.hash_input S.BuildHasher S.Hasher.Hasher self.now.builder) hash
             (λ x. M.accepts matcher.old (T.key3 x)) (bag self.now) }
         ensures found { IsOnly (λ x. M.accepts matcher.old (T.key3 x)) (bag self.now) (option_copied result) }
-        ensures kept { M.IsKept matcher.old matcher.new }
+        ensures is_kept { M.IsKept matcher.old matcher.new }
         ensures costs { SearchCosts
             (key_hash T.key3 T.K3.hash_input S.BuildHasher S.Hasher.Hasher self.now.builder) (bag self.now)
             self.now.capacity hash result (M.asked matcher.old) (M.asked matcher.new) meter.old meter.new }

@@ -33,7 +33,7 @@ impl<T: TriHashItemMut, S: BuildHasher> RefMut<'_, T, S> {
         ensures* writes_back { sem 𝓛 (lends_ref_data T.row S.row T.K1.row T.K2.row T.K3.row S.Hasher.row
             T.Data.row T.put self.entry result) }
         ensures value { IfSome (ref_item self.old) (λ x. result.now ≡ T.payload x) }
-        ensures item { (d : T.Data) → IfSome (ref_item self.old) (λ x.
+        ensures writes { (d : T.Data) → IfSome (ref_item self.old) (λ x.
             ref_item (ref_with self.old (λ y. T.put y d)) ≡ Some (T.put x d)) }
         ensures swaps { (d : T.Data) → IfSome (ref_item self.old) (λ x.
             IsPermutation (bag (ref_map (ref_with self.old (λ y. T.put y d))))

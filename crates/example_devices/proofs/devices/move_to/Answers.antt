@@ -24,7 +24,7 @@ unreachable-requires c =
     let free = none-clash_again (agree by_serial nat_eq ∷ []) [] (agree by_port nat_eq) (on_equiv by_serial nat_eq_equiv, (on_equiv by_port nat_eq_equiv, tt)) old (bag c.remove1.new.self) c.in-Some.device (record { serial = c.args.serial; port = c.args.port }) c.len-len.ensures.sound gone.loses.items (rw (same, nat_eq_equiv.refl c.args.serial) refl) refl (sym c.if-contains_key2.ensures) in
     let fewer = length_permutation _ _ gone.loses.items in
     let room = c.capacity-room.ensures in
-    cc (c.in-Err.ensures.granted free (omega (arith, fewer, gone.loses.same_room, room.holds, room.value)))
+    cc (c.in-Err.ensures.granted free (omega (arith, fewer, gone.loses.same_room, room.fits, room.value)))
 
 pub returns-clause-moved : goal.returns-clause-moved
 returns-clause-moved c =
@@ -39,4 +39,4 @@ returns-clause-same_limit c =
     let gone = c.in-Some.ensures in
     let fewer = length_permutation _ _ gone.loses.items in
     let room = c.capacity-room.ensures in
-    c.in-Ok.ensures.gains.same_room (omega (arith, fewer, gone.loses.same_room, room.holds, room.value)) ∙ gone.loses.same_room
+    c.in-Ok.ensures.gains.same_room (omega (arith, fewer, gone.loses.same_room, room.fits, room.value)) ∙ gone.loses.same_room

@@ -12,4 +12,4 @@ unreachable-requires c =
     let by = agree (λ (d : Device). d.serial) nat_eq ∷ agree (λ (d : Device). d.port) nat_eq ∷ [] in
     let free = none-clash by (bag c.args.devices.now) c.args.device (sym c.if-contains_key1.ensures, (sym c.if-contains_key2.ensures, tt)) in
     let room = c.capacity.ensures in
-    cc (c.in-Err.ensures.granted free (omega (arith, room.holds, room.value, c.len.ensures.value, c.if-len-capacity.false)))
+    cc (c.in-Err.ensures.granted free (omega (arith, room.fits, room.value, c.len.ensures.value, c.if-len-capacity.false)))

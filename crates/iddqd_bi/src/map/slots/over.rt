@@ -24,7 +24,7 @@ impl<T: BiHashItem, S: BuildHasher> BiHashMap<T, S> {
         by1: &Sought,
         by2: &Sought,
     ) -> (UpToTwo<T>, ItemIndex)
-        requires found { ListsConflicts (ranks T.BiHashItem T.K1.eq T.K2.eq) self.old item
+        requires conflicts { ListsConflicts (ranks T.BiHashItem T.K1.eq T.K2.eq) self.old item
             (each_once (by1.now.slot ∷ by2.now.slot ∷ [])) }
         requires room { length (each_once (by1.now.slot ∷ by2.now.slot ∷ [])) ≡ 0
             → length (bag self.old) < self.old.capacity }

@@ -126,7 +126,7 @@ impl<T: BiHashItemMut, S: BuildHasher> BiHashMap<T, S> {
         requires callable { F.IsAlwaysCallable f }
         ensures stores { Stores (CalledAt F.FnMut) T.put (ranks T.BiHashItem T.K1.eq T.K2.eq) f
             (items_at self.old.slots found.now) (bag self.old) (bag self.new) }
-        ensures kept { KeepsKeys (agrees (ranks T.BiHashItem T.K1.eq T.K2.eq)) self.old.slots self.new.slots }
+        ensures keeps_keys { KeepsKeys (agrees (ranks T.BiHashItem T.K1.eq T.K2.eq)) self.old.slots self.new.slots }
         ensures capacity { self.new.capacity ≡ self.old.capacity }
         ensures builder { self.new.builder ≡ self.old.builder }
         ensures live { (at : ℕ) → IsLive self.old.slots at → IsLive self.new.slots at }
@@ -152,7 +152,7 @@ impl<T: BiHashItemMut, S: BuildHasher> BiHashMap<T, S> {
         requires callable { F.IsAlwaysCallable f }
         ensures stores { Stores (CalledAt F.FnMut) T.put (ranks T.BiHashItem T.K1.eq T.K2.eq) f
             (held_at self.old.slots (slot1 ∷ slot2 ∷ [])) (bag self.old) (bag self.new) }
-        ensures kept { KeepsKeys (agrees (ranks T.BiHashItem T.K1.eq T.K2.eq)) self.old.slots self.new.slots }
+        ensures keeps_keys { KeepsKeys (agrees (ranks T.BiHashItem T.K1.eq T.K2.eq)) self.old.slots self.new.slots }
         ensures sound { IsSound (ranks T.BiHashItem T.K1.eq T.K2.eq) (bag self.new) }
         ensures capacity { self.new.capacity ≡ self.old.capacity }
         ensures builder { self.new.builder ≡ self.old.builder }

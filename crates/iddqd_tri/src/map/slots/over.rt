@@ -25,7 +25,7 @@ impl<T: TriHashItem, S: BuildHasher> TriHashMap<T, S> {
         by2: &Sought,
         by3: &Sought,
     ) -> (UpToThree<T>, ItemIndex)
-        requires found { ListsConflicts (ranks T.TriHashItem T.K1.eq T.K2.eq T.K3.eq) self.old item
+        requires conflicts { ListsConflicts (ranks T.TriHashItem T.K1.eq T.K2.eq T.K3.eq) self.old item
             (each_once (by1.now.slot ∷ by2.now.slot ∷ by3.now.slot ∷ [])) }
         requires room { length (each_once (by1.now.slot ∷ by2.now.slot ∷ by3.now.slot ∷ [])) ≡ 0
             → length (bag self.old) < self.old.capacity }

@@ -127,7 +127,7 @@ impl<T: TriHashItemMut, S: BuildHasher> TriHashMap<T, S> {
         requires callable { F.IsAlwaysCallable f }
         ensures stores { Stores (CalledAt F.FnMut) T.put (ranks T.TriHashItem T.K1.eq T.K2.eq T.K3.eq) f
             (items_at self.old.slots found.now) (bag self.old) (bag self.new) }
-        ensures kept { KeepsKeys (agrees (ranks T.TriHashItem T.K1.eq T.K2.eq T.K3.eq)) self.old.slots self.new.slots }
+        ensures keeps_keys { KeepsKeys (agrees (ranks T.TriHashItem T.K1.eq T.K2.eq T.K3.eq)) self.old.slots self.new.slots }
         ensures capacity { self.new.capacity ≡ self.old.capacity }
         ensures builder { self.new.builder ≡ self.old.builder }
         ensures live { (at : ℕ) → IsLive self.old.slots at → IsLive self.new.slots at }
@@ -155,7 +155,7 @@ impl<T: TriHashItemMut, S: BuildHasher> TriHashMap<T, S> {
         requires callable { F.IsAlwaysCallable f }
         ensures stores { Stores (CalledAt F.FnMut) T.put (ranks T.TriHashItem T.K1.eq T.K2.eq T.K3.eq) f
             (held_at self.old.slots (slot1 ∷ slot2 ∷ slot3 ∷ [])) (bag self.old) (bag self.new) }
-        ensures kept { KeepsKeys (agrees (ranks T.TriHashItem T.K1.eq T.K2.eq T.K3.eq)) self.old.slots self.new.slots }
+        ensures keeps_keys { KeepsKeys (agrees (ranks T.TriHashItem T.K1.eq T.K2.eq T.K3.eq)) self.old.slots self.new.slots }
         ensures sound { IsSound (ranks T.TriHashItem T.K1.eq T.K2.eq T.K3.eq) (bag self.new) }
         ensures capacity { self.new.capacity ≡ self.old.capacity }
         ensures builder { self.new.builder ≡ self.old.builder }

@@ -8,8 +8,8 @@ use Rattle.iddqd_bi.specs.Keys.{key_tests, ranks}
 use Rattle.iddqd_bi.proofs.MapLemmas.{AreKeyTests-keys, order-both}
 use Rattle.iddqd_bi.proofs.entry.OccupiedEntry.insert.Goals as goal
 
-pub put_over-displaced-requires-clause-found : goal.put_over-displaced-requires-clause-found
-put_over-displaced-requires-clause-found g c =
+pub put_over-displaced-requires-clause-conflicts : goal.put_over-displaced-requires-clause-conflicts
+put_over-displaced-requires-clause-conflicts g c =
     let o = c.args.self.now in
     let same1 : g.T.K1.PartialEq.eq o.key1.now (g.T.BiHashItem.key1 c.args.item) ≡ true = search rules in
     let same2 : g.T.K2.PartialEq.eq o.key2.now (g.T.BiHashItem.key2 c.args.item) ≡ true = search rules in
@@ -42,8 +42,8 @@ returns-clause-displaced g c =
     let same2 : g.T.K2.PartialEq.eq o.key2.now (g.T.BiHashItem.key2 c.args.item) ≡ true = search rules in
     c.put_over-displaced.ensures.displaced ∙ order-both g.T.BiHashItem g.T.K1.PartialEq.eq g.T.K2.PartialEq.eq g.met.T.K1.Eq.laws g.met.T.K2.Eq.laws c.args.item o.key1.now o.key2.now same1 same2 (bag o.map.now)
 
-pub returns-clause-found : goal.returns-clause-found
-returns-clause-found g c =
+pub returns-clause-has_found : goal.returns-clause-has_found
+returns-clause-has_found g c =
     let o = c.args.self.now in
     let put = c.put_over-displaced in
     let same1 : g.T.K1.PartialEq.eq o.key1.now (g.T.BiHashItem.key1 c.args.item) ≡ true = search rules in

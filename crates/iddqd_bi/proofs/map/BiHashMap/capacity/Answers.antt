@@ -2,8 +2,8 @@ use Rattle.std.proofs.Common.{arith}
 use Rattle.iddqd_store.proofs.RankLemmas.Index.{length-live_items, length-index}
 use Rattle.iddqd_bi.proofs.map.BiHashMap.capacity.Goals as goal
 
-pub returns-clause-holds : goal.returns-clause-holds
-returns-clause-holds g c =
+pub returns-clause-fits : goal.returns-clause-fits
+returns-clause-fits g c =
     let one = length-index c.self.invariant.indexes.0 in
     let two = length-index c.self.invariant.indexes.1.0 in
     let all = length-live_items c.self.inside.items.slots in

@@ -35,8 +35,8 @@ returns-in-Err-Ok-clause-value g c =
     let are : AreFound tests slots found = (first, (second, tt)) in
     found_entry laws slots c.by_key1.ensures.apart tests (None) (Some c.in-Err-Ok.slot2 ∷ []) are
 
-pub returns-in-Err-Ok-clause-found : goal.returns-in-Err-Ok-clause-found
-returns-in-Err-Ok-clause-found g c =
+pub returns-in-Err-Ok-clause-is_found : goal.returns-in-Err-Ok-clause-is_found
+returns-in-Err-Ok-clause-is_found g c =
     let tests = key_tests g.T.BiHashItem g.T.K1.PartialEq.eq g.T.K2.PartialEq.eq c.args.key1.now c.args.key2.now in
     let laws = (AreLawful-ranks g.T.BiHashItem g.met.T.K1.Eq.laws g.met.T.K2.Eq.laws).0 in
     let slots = c.args.self.now.slots in
@@ -63,8 +63,8 @@ returns-in-Ok-default-clause-value g c =
     let are : AreFound tests slots found = (first, (second, tt)) in
     found_entry laws slots c.by_key1.ensures.apart tests (Some c.in-Ok-default.slot1) (c.ok.result ∷ []) are
 
-pub returns-in-Ok-default-clause-found : goal.returns-in-Ok-default-clause-found
-returns-in-Ok-default-clause-found g c =
+pub returns-in-Ok-default-clause-is_found : goal.returns-in-Ok-default-clause-is_found
+returns-in-Ok-default-clause-is_found g c =
     let tests = key_tests g.T.BiHashItem g.T.K1.PartialEq.eq g.T.K2.PartialEq.eq c.args.key1.now c.args.key2.now in
     let laws = (AreLawful-ranks g.T.BiHashItem g.met.T.K1.Eq.laws g.met.T.K2.Eq.laws).0 in
     let slots = c.args.self.now.slots in

@@ -2,7 +2,7 @@ use Rattle.std.proofs.Common.{arith, rules, ap, refl, ◌≡◌, ℕ}
 use Rattle.std.specs.Prelude.{min}
 use Rattle.iddqd_store.proofs.RankLemmas.Index.{length-live_items, length-index}
 use Rattle.iddqd_store.proofs.RankLemmas.Invariant.{IsIndexed-reorder}
-use Rattle.iddqd_store.proofs.MapLemmas.{MakesRoom-refused}
+use Rattle.iddqd_store.proofs.MapLemmas.{MakesRoom-err}
 use Rattle.iddqd_bi.proofs.map.BiHashMap.grow.Goals as goal
 
 same_least : (a b c x y z : ℕ) → x ≡ a → y ≡ b → z ≡ c → min x (min y z) ≡ min a (min b c)
@@ -11,15 +11,15 @@ same_least a b c x y z p q r = rw (p, q, r) refl
 pub returns-in_err-try_reserve-clause-room : goal.returns-in_err-try_reserve-clause-room
 returns-in_err-try_reserve-clause-room g c =
     let same = ap (λ s. s.capacity) c.in_err-try_reserve.ensures.unchanged in
-    MakesRoom-refused _ _ (search rules)
-    (rw (← c.self.view_is) (omega (arith, same, c.in_err-try_reserve.ensures.err, length-live_items c.self.inside.items.slots)))
+    MakesRoom-err _ _ (search rules)
+    (rw (← c.self.view_is) (omega (arith, same, c.in_err-try_reserve.ensures.reason, length-live_items c.self.inside.items.slots)))
     (search rules) (search rules)
 
 pub returns-in_err-try_reserve-2-clause-room : goal.returns-in_err-try_reserve-2-clause-room
 returns-in_err-try_reserve-2-clause-room g c =
     let same = ap (λ t. t.limit) c.in_err-try_reserve-2.ensures.unchanged in
-    MakesRoom-refused _ _ (search rules)
-    (rw (← c.self.view_is) (omega (arith, same, c.in_err-try_reserve-2.ensures.refused, length-index c.self.invariant.indexes.0)))
+    MakesRoom-err _ _ (search rules)
+    (rw (← c.self.view_is) (omega (arith, same, c.in_err-try_reserve-2.ensures.reason, length-index c.self.invariant.indexes.0)))
     (search rules) (search rules)
 
 pub invariant_of-self-in_err-try_reserve-3 : goal.invariant_of-self-in_err-try_reserve-3
@@ -29,8 +29,8 @@ invariant_of-self-in_err-try_reserve-3 g c =
 pub returns-in_err-try_reserve-3-clause-room : goal.returns-in_err-try_reserve-3-clause-room
 returns-in_err-try_reserve-3-clause-room g c =
     let same = ap (λ t. t.limit) c.in_err-try_reserve-3.ensures.unchanged in
-    MakesRoom-refused _ _ (search rules)
-    (rw (← c.self.view_is) (omega (arith, same, c.in_err-try_reserve-3.ensures.refused, length-index c.self.invariant.indexes.1.0)))
+    MakesRoom-err _ _ (search rules)
+    (rw (← c.self.view_is) (omega (arith, same, c.in_err-try_reserve-3.ensures.reason, length-index c.self.invariant.indexes.1.0)))
     (search rules) (search rules)
 
 pub invariant_of-self-2 : goal.invariant_of-self-2
@@ -39,15 +39,15 @@ invariant_of-self-2 g c =
 
 pub returns-clause-room : goal.returns-clause-room
 returns-clause-room g c = record {
-  granted = rw (← c.self.view_is) (omega (arith, c.in_ok-try_reserve.ensures.ok, c.in_ok-try_reserve-2.ensures.granted, c.in_ok-try_reserve-3.ensures.granted, length-index c.self.invariant.indexes.0, length-index c.self.invariant.indexes.1.0, length-live_items c.self.inside.items.slots));
-  refused = tt;
+  room = rw (← c.self.view_is) (omega (arith, c.in_ok-try_reserve.ensures.room, c.in_ok-try_reserve-2.ensures.room, c.in_ok-try_reserve-3.ensures.room, length-index c.self.invariant.indexes.0, length-index c.self.invariant.indexes.1.0, length-live_items c.self.inside.items.slots));
+  reason = tt;
   still_short = tt;
   past = rw (← c.self.view_is) (λ past. c.in_ok-try_reserve-2.ensures.past (omega (arith, length-index c.self.invariant.indexes.0)));
-  no_less_room = rw (← c.self.view_is) (omega (arith, c.try_reserve.ensures.capacity, c.try_reserve-2.ensures.limit, c.try_reserve-3.ensures.limit));
+  no_less_room = rw (← c.self.view_is) (omega (arith, c.try_reserve.ensures.no_less_room, c.try_reserve-2.ensures.limit, c.try_reserve-3.ensures.limit));
   same_room =
       rw (← c.self.view_is) (λ room. same_least _ _ _ _ _ _
-      (c.try_reserve.ensures.had_room (omega (arith, length-live_items c.self.inside.items.slots)))
-      (ap (λ t. t.limit) (c.try_reserve-2.ensures.same (omega (arith, length-index c.self.invariant.indexes.0))))
-      (ap (λ t. t.limit) (c.try_reserve-3.ensures.same (omega (arith, length-index c.self.invariant.indexes.1.0)))));
+      (c.try_reserve.ensures.same_room (omega (arith, length-live_items c.self.inside.items.slots)))
+      (ap (λ t. t.limit) (c.try_reserve-2.ensures.same_room (omega (arith, length-index c.self.invariant.indexes.0))))
+      (ap (λ t. t.limit) (c.try_reserve-3.ensures.same_room (omega (arith, length-index c.self.invariant.indexes.1.0)))));
   same_builder = rw (← c.self.view_is) refl;
 }

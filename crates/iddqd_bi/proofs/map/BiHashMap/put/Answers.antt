@@ -18,16 +18,16 @@ insert_at-requires-clause-room g c =
     let room = rw (← c.self.view_is) at c.requires.room in
     omega (arith, length-index c.self.invariant.indexes.0)
 
-pub insert_at-requires-clause-free : goal.insert_at-requires-clause-free
-insert_at-requires-clause-free g c = place_in c.self.invariant.indexes.0 (rw (← c.self.view_is) at c.requires.first)
+pub insert_at-requires-clause-vacant : goal.insert_at-requires-clause-vacant
+insert_at-requires-clause-vacant g c = place_in c.self.invariant.indexes.0 (rw (← c.self.view_is) at c.requires.first)
 
 pub insert_at-requires-2-clause-room : goal.insert_at-requires-2-clause-room
 insert_at-requires-2-clause-room g c =
     let room = rw (← c.self.view_is) at c.requires.room in
     omega (arith, length-index c.self.invariant.indexes.1.0)
 
-pub insert_at-requires-2-clause-free : goal.insert_at-requires-2-clause-free
-insert_at-requires-2-clause-free g c = place_in c.self.invariant.indexes.1.0 (rw (← c.self.view_is) at c.requires.second)
+pub insert_at-requires-2-clause-vacant : goal.insert_at-requires-2-clause-vacant
+insert_at-requires-2-clause-vacant g c = place_in c.self.invariant.indexes.1.0 (rw (← c.self.view_is) at c.requires.second)
 
 pub invariant_of-self : goal.invariant_of-self
 invariant_of-self g c =

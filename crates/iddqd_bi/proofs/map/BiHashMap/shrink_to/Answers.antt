@@ -14,12 +14,12 @@ something count len slots kept wanted all is taken = omega arith
 exact : (count len slots room least wanted new first second : ℕ) → len ≡ count → len ≤ room → room ≤ slots → wanted ≡ max len (min least room) → new ≡ max count (min wanted slots) → wanted ≤ first → wanted ≤ second → min new (min first second) ≡ max len (min least room)
 exact count len slots room least wanted new first second all holds within is made enough1 enough2 = omega arith
 
-pub returns-in_err-shrink_to-clause-refused : goal.returns-in_err-shrink_to-clause-refused
-returns-in_err-shrink_to-clause-refused g c =
+pub returns-in_err-shrink_to-clause-reason : goal.returns-in_err-shrink_to-clause-reason
+returns-in_err-shrink_to-clause-reason g c =
     let all : length (bag c.args.self.now) ≡ live_count c.self.inside.items.slots = rw (← c.self.view_is) (length-live_items c.self.inside.items.slots) in
     let is : c.max-wanted.result ≡ max (length (bag c.args.self.now)) (min c.args.least c.args.self.now.capacity) =
     rw (c.max-wanted.ensures, c.min.ensures, c.len.ensures.value, c.capacity.ensures.value) refl in
-    on_err _ (something _ _ _ _ _ all is c.in_err-shrink_to.ensures.taken)
+    on_err _ (something _ _ _ _ _ all is c.in_err-shrink_to.ensures.reason)
 
 pub invariant_of-self-2 : goal.invariant_of-self-2
 invariant_of-self-2 g c =
@@ -29,12 +29,12 @@ invariant_of-self-2 g c =
 pub returns-clause-items : goal.returns-clause-items
 returns-clause-items g c = rw (← c.self.view_is) (live_items-compact c.self.inside.items.slots c.shrink_to.new.self.slots c.in_ok-shrink_to.ensures.slots)
 
-pub returns-clause-granted : goal.returns-clause-granted
-returns-clause-granted g c =
+pub returns-clause-shrunk : goal.returns-clause-shrunk
+returns-clause-shrunk g c =
     let all : length (bag c.args.self.now) ≡ live_count c.self.inside.items.slots = rw (← c.self.view_is) (length-live_items c.self.inside.items.slots) in
     let is : c.max-wanted.result ≡ max (length (bag c.args.self.now)) (min c.args.least c.args.self.now.capacity) =
     rw (c.max-wanted.ensures, c.min.ensures, c.len.ensures.value, c.capacity.ensures.value) refl in
-    let holds : length (bag c.args.self.now) ≤ c.args.self.now.capacity = rw c.capacity.ensures.value at c.capacity.ensures.holds in
+    let holds : length (bag c.args.self.now) ≤ c.args.self.now.capacity = rw c.capacity.ensures.value at c.capacity.ensures.fits in
     let within : c.args.self.now.capacity ≤ c.self.inside.items.capacity = rw (← c.self.view_is) (omega arith) in
     exact _ _ _ _ _ _ _ _ _ all holds within is c.in_ok-shrink_to.ensures.capacity
     (rw c.fill.ensures.limit c.in_ok-first.ensures.limit.enough)

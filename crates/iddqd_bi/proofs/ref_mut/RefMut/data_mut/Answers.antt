@@ -12,7 +12,7 @@ returns g c =
       record {
         writes_back = tt;
         value = if_some item (λ x is. c.data_mut_at.ensures.value x is);
-        item = λ d. if_some item (λ x is. item_written r.map.now r.slot (λ x. g.T.BiHashItemMut.put x d) x is);
+        writes = λ d. if_some item (λ x is. item_written r.map.now r.slot (λ x. g.T.BiHashItemMut.put x d) x is);
         swaps = λ d. if_some item (λ x is. c.data_mut_at.ensures.swaps x d is);
       },
     )

@@ -40,7 +40,7 @@ loop-pair-preserved g c =
             walk = walk';
             refused = refused_more row hash (g.M.Matcher.accepts c.args.matcher.now) s t c.loop-pair.at x more w at_x i.refused (λ _. no');
             count = rw w'.matcher-is (omega (arith, i.count, q, a));
-            kept = rw w'.matcher-is (g.met.M.Matcher.kept_trans _ _ _ i.kept w'.matches.ensures.kept);
+            kept = rw w'.matcher-is (g.met.M.Matcher.kept_trans _ _ _ i.kept w'.matches.ensures.is_kept);
           }
       | else-stored-hash-via-else-stored-hash w' ↦
           record {
@@ -81,8 +81,8 @@ returns-then-matches-clause-asked g c =
     let all : asked c.matches.new.self ≤ asked c.args.matcher.now + count_by (under hash) (held row) = omega (arith, i.count, q, m, a) in
     subst (λ (r : Table). asked c.matches.new.self ≤ asked c.args.matcher.now + count_by (under hash) r.pairs) c.self.view_is all
 
-pub returns-then-matches-clause-kept : goal.returns-then-matches-clause-kept
-returns-then-matches-clause-kept g c = g.met.M.Matcher.kept_trans _ _ _ c.loop-pair.invariant.kept c.matches.ensures.kept
+pub returns-then-matches-clause-is_kept : goal.returns-then-matches-clause-is_kept
+returns-then-matches-clause-is_kept g c = g.met.M.Matcher.kept_trans _ _ _ c.loop-pair.invariant.kept c.matches.ensures.is_kept
 
 pub returns-then-matches-clause-looks : goal.returns-then-matches-clause-looks
 returns-then-matches-clause-looks g c =
@@ -113,8 +113,8 @@ returns-clause-none g c index h =
     let k = walk_meets row c.args.hash c.loop-pair.at s index c.self.invariant.0 i.walk none (subst (λ (r : Table). Contains r.pairs (c.args.hash, index)) (sym c.self.view_is) h) in
     i.refused k.0 k.1 index k.2
 
-pub returns-clause-free : goal.returns-clause-free
-returns-clause-free g c =
+pub returns-clause-vacant : goal.returns-clause-vacant
+returns-clause-vacant g c =
     let row = c.self.inside.cells in
     let i = c.loop-pair.invariant in
     let s : ℕ = c.loop-pair.meter - c.args.meter.now in

@@ -6,8 +6,8 @@ use Rattle.iddqd_store.proofs.item_set.ItemSet.values.Goals as goal
 pub invariant_of-result : goal.invariant_of-result
 invariant_of-result g c = rw c.as_slice.ensures.value (c.self.invariant.counted ∙ sym (length-items_in (map item_of c.self.inside.slots.items)))
 
-pub returns-clause-items : goal.returns-clause-items
-returns-clause-items g c = rw (← c.self.view_is, c.as_slice.ensures.value) (sym (live_items-items_in (map item_of c.self.inside.slots.items)))
+pub returns-clause-gives : goal.returns-clause-gives
+returns-clause-gives g c = rw (← c.self.view_is, c.as_slice.ensures.value) (sym (live_items-items_in (map item_of c.self.inside.slots.items)))
 
 pub returns-clause-len : goal.returns-clause-len
 returns-clause-len g c = rw (← c.self.view_is, c.as_slice.ensures.value) (length-items_in (map item_of c.self.inside.slots.items))

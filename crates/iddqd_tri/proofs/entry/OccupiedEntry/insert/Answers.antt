@@ -8,8 +8,8 @@ use Rattle.iddqd_tri.specs.Keys.{key_tests, ranks}
 use Rattle.iddqd_tri.proofs.MapLemmas.{AreKeyTests-keys, order-all}
 use Rattle.iddqd_tri.proofs.entry.OccupiedEntry.insert.Goals as goal
 
-pub put_over-displaced-requires-clause-found : goal.put_over-displaced-requires-clause-found
-put_over-displaced-requires-clause-found g c =
+pub put_over-displaced-requires-clause-conflicts : goal.put_over-displaced-requires-clause-conflicts
+put_over-displaced-requires-clause-conflicts g c =
     let o = c.args.self.now in
     let same1 : g.T.K1.PartialEq.eq o.key1.now (g.T.TriHashItem.key1 c.args.item) ≡ true = search rules in
     let same2 : g.T.K2.PartialEq.eq o.key2.now (g.T.TriHashItem.key2 c.args.item) ≡ true = search rules in
@@ -52,8 +52,8 @@ returns-clause-displaced g c =
     let same3 : g.T.K3.PartialEq.eq o.key3.now (g.T.TriHashItem.key3 c.args.item) ≡ true = search rules in
     c.put_over-displaced.ensures.displaced ∙ order-all g.T.TriHashItem g.T.K1.PartialEq.eq g.T.K2.PartialEq.eq g.T.K3.PartialEq.eq g.met.T.K1.Eq.laws g.met.T.K2.Eq.laws g.met.T.K3.Eq.laws c.args.item o.key1.now o.key2.now o.key3.now same1 same2 same3 (bag o.map.now)
 
-pub returns-clause-found : goal.returns-clause-found
-returns-clause-found g c =
+pub returns-clause-has_found : goal.returns-clause-has_found
+returns-clause-has_found g c =
     let o = c.args.self.now in
     let put = c.put_over-displaced in
     let same1 : g.T.K1.PartialEq.eq o.key1.now (g.T.TriHashItem.key1 c.args.item) ≡ true = search rules in

@@ -39,8 +39,8 @@ returns-in-Err-Err-Ok-clause-value g c =
     let are : AreFound tests slots found = (first, (second, (third, tt))) in
     found_entry laws slots c.by_key1.ensures.apart tests (None) (None ∷ Some c.in-Err-Err-Ok.slot3 ∷ []) are
 
-pub returns-in-Err-Err-Ok-clause-found : goal.returns-in-Err-Err-Ok-clause-found
-returns-in-Err-Err-Ok-clause-found g c =
+pub returns-in-Err-Err-Ok-clause-is_found : goal.returns-in-Err-Err-Ok-clause-is_found
+returns-in-Err-Err-Ok-clause-is_found g c =
     let tests = key_tests g.T.TriHashItem g.T.K1.PartialEq.eq g.T.K2.PartialEq.eq g.T.K3.PartialEq.eq c.args.key1.now c.args.key2.now c.args.key3.now in
     let laws = (AreLawful-ranks g.T.TriHashItem g.met.T.K1.Eq.laws g.met.T.K2.Eq.laws g.met.T.K3.Eq.laws).0 in
     let slots = c.args.self.now.slots in
@@ -69,8 +69,8 @@ returns-in-Err-Ok-default-clause-value g c =
     let are : AreFound tests slots found = (first, (second, (third, tt))) in
     found_entry laws slots c.by_key1.ensures.apart tests (None) (Some c.in-Err-Ok-default.slot2 ∷ c.ok.result ∷ []) are
 
-pub returns-in-Err-Ok-default-clause-found : goal.returns-in-Err-Ok-default-clause-found
-returns-in-Err-Ok-default-clause-found g c =
+pub returns-in-Err-Ok-default-clause-is_found : goal.returns-in-Err-Ok-default-clause-is_found
+returns-in-Err-Ok-default-clause-is_found g c =
     let tests = key_tests g.T.TriHashItem g.T.K1.PartialEq.eq g.T.K2.PartialEq.eq g.T.K3.PartialEq.eq c.args.key1.now c.args.key2.now c.args.key3.now in
     let laws = (AreLawful-ranks g.T.TriHashItem g.met.T.K1.Eq.laws g.met.T.K2.Eq.laws g.met.T.K3.Eq.laws).0 in
     let slots = c.args.self.now.slots in
@@ -99,8 +99,8 @@ returns-in-Ok-default-default-clause-value g c =
     let are : AreFound tests slots found = (first, (second, (third, tt))) in
     found_entry laws slots c.by_key1.ensures.apart tests (Some c.in-Ok-default-default.slot1) (c.ok-in-Ok-default-default.result ∷ c.ok-in-Ok-default-default-2.result ∷ []) are
 
-pub returns-in-Ok-default-default-clause-found : goal.returns-in-Ok-default-default-clause-found
-returns-in-Ok-default-default-clause-found g c =
+pub returns-in-Ok-default-default-clause-is_found : goal.returns-in-Ok-default-default-clause-is_found
+returns-in-Ok-default-default-clause-is_found g c =
     let tests = key_tests g.T.TriHashItem g.T.K1.PartialEq.eq g.T.K2.PartialEq.eq g.T.K3.PartialEq.eq c.args.key1.now c.args.key2.now c.args.key3.now in
     let laws = (AreLawful-ranks g.T.TriHashItem g.met.T.K1.Eq.laws g.met.T.K2.Eq.laws g.met.T.K3.Eq.laws).0 in
     let slots = c.args.self.now.slots in

@@ -3,7 +3,7 @@ use Rattle.std.specs.Prelude.{min}
 use Rattle.std.proofs.lemmas.List.Sorted.{IsPermutation-refl}
 use Rattle.iddqd_store.proofs.RankLemmas.Index.{length-live_items, length-index}
 use Rattle.iddqd_store.proofs.RankLemmas.Invariant.{IsIndexed-reorder}
-use Rattle.iddqd_store.proofs.MapLemmas.{MakesRoom-refused}
+use Rattle.iddqd_store.proofs.MapLemmas.{MakesRoom-err}
 use Rattle.iddqd_tri.proofs.map.TriHashMap.grow.Goals as goal
 
 same_least : (a b c d x y z w : ℕ) → x ≡ a → y ≡ b → z ≡ c → w ≡ d → min x (min y (min z w)) ≡ min a (min b (min c d))
@@ -12,15 +12,15 @@ same_least a b c d x y z w p q r s = rw (p, q, r, s) refl
 pub returns-in_err-try_reserve-clause-room : goal.returns-in_err-try_reserve-clause-room
 returns-in_err-try_reserve-clause-room g c =
     let same = ap (λ s. s.capacity) c.in_err-try_reserve.ensures.unchanged in
-    MakesRoom-refused _ _ (search rules)
-    (rw (← c.self.view_is) (omega (arith, same, c.in_err-try_reserve.ensures.err, length-live_items c.self.inside.items.slots)))
+    MakesRoom-err _ _ (search rules)
+    (rw (← c.self.view_is) (omega (arith, same, c.in_err-try_reserve.ensures.reason, length-live_items c.self.inside.items.slots)))
     (search rules) (search rules)
 
 pub returns-in_err-try_reserve-2-clause-room : goal.returns-in_err-try_reserve-2-clause-room
 returns-in_err-try_reserve-2-clause-room g c =
     let same = ap (λ t. t.limit) c.in_err-try_reserve-2.ensures.unchanged in
-    MakesRoom-refused _ _ (search rules)
-    (rw (← c.self.view_is) (omega (arith, same, c.in_err-try_reserve-2.ensures.refused, length-index c.self.invariant.indexes.0)))
+    MakesRoom-err _ _ (search rules)
+    (rw (← c.self.view_is) (omega (arith, same, c.in_err-try_reserve-2.ensures.reason, length-index c.self.invariant.indexes.0)))
     (search rules) (search rules)
 
 pub invariant_of-self-in_err-try_reserve-3 : goal.invariant_of-self-in_err-try_reserve-3
@@ -30,8 +30,8 @@ invariant_of-self-in_err-try_reserve-3 g c =
 pub returns-in_err-try_reserve-3-clause-room : goal.returns-in_err-try_reserve-3-clause-room
 returns-in_err-try_reserve-3-clause-room g c =
     let same = ap (λ t. t.limit) c.in_err-try_reserve-3.ensures.unchanged in
-    MakesRoom-refused _ _ (search rules)
-    (rw (← c.self.view_is) (omega (arith, same, c.in_err-try_reserve-3.ensures.refused, length-index c.self.invariant.indexes.1.0)))
+    MakesRoom-err _ _ (search rules)
+    (rw (← c.self.view_is) (omega (arith, same, c.in_err-try_reserve-3.ensures.reason, length-index c.self.invariant.indexes.1.0)))
     (search rules) (search rules)
 
 pub invariant_of-self-in_err-try_reserve-4 : goal.invariant_of-self-in_err-try_reserve-4
@@ -41,8 +41,8 @@ invariant_of-self-in_err-try_reserve-4 g c =
 pub returns-in_err-try_reserve-4-clause-room : goal.returns-in_err-try_reserve-4-clause-room
 returns-in_err-try_reserve-4-clause-room g c =
     let same = ap (λ t. t.limit) c.in_err-try_reserve-4.ensures.unchanged in
-    MakesRoom-refused _ _ (search rules)
-    (rw (← c.self.view_is) (omega (arith, same, c.in_err-try_reserve-4.ensures.refused, length-index c.self.invariant.indexes.1.1.0)))
+    MakesRoom-err _ _ (search rules)
+    (rw (← c.self.view_is) (omega (arith, same, c.in_err-try_reserve-4.ensures.reason, length-index c.self.invariant.indexes.1.1.0)))
     (search rules) (search rules)
 
 pub invariant_of-self-2 : goal.invariant_of-self-2
@@ -51,16 +51,16 @@ invariant_of-self-2 g c =
 
 pub returns-clause-room : goal.returns-clause-room
 returns-clause-room g c = record {
-  granted = rw (← c.self.view_is) (omega (arith, c.in_ok-try_reserve.ensures.ok, c.in_ok-try_reserve-2.ensures.granted, c.in_ok-try_reserve-3.ensures.granted, c.in_ok-try_reserve-4.ensures.granted, length-index c.self.invariant.indexes.0, length-index c.self.invariant.indexes.1.0, length-index c.self.invariant.indexes.1.1.0, length-live_items c.self.inside.items.slots));
-  refused = tt;
+  room = rw (← c.self.view_is) (omega (arith, c.in_ok-try_reserve.ensures.room, c.in_ok-try_reserve-2.ensures.room, c.in_ok-try_reserve-3.ensures.room, c.in_ok-try_reserve-4.ensures.room, length-index c.self.invariant.indexes.0, length-index c.self.invariant.indexes.1.0, length-index c.self.invariant.indexes.1.1.0, length-live_items c.self.inside.items.slots));
+  reason = tt;
   still_short = tt;
   past = rw (← c.self.view_is) (λ past. c.in_ok-try_reserve-2.ensures.past (omega (arith, length-index c.self.invariant.indexes.0)));
-  no_less_room = rw (← c.self.view_is) (omega (arith, c.try_reserve.ensures.capacity, c.try_reserve-2.ensures.limit, c.try_reserve-3.ensures.limit, c.try_reserve-4.ensures.limit));
+  no_less_room = rw (← c.self.view_is) (omega (arith, c.try_reserve.ensures.no_less_room, c.try_reserve-2.ensures.limit, c.try_reserve-3.ensures.limit, c.try_reserve-4.ensures.limit));
   same_room =
       rw (← c.self.view_is) (λ room. same_least _ _ _ _ _ _ _ _
-      (c.try_reserve.ensures.had_room (omega (arith, length-live_items c.self.inside.items.slots)))
-      (ap (λ t. t.limit) (c.try_reserve-2.ensures.same (omega (arith, length-index c.self.invariant.indexes.0))))
-      (ap (λ t. t.limit) (c.try_reserve-3.ensures.same (omega (arith, length-index c.self.invariant.indexes.1.0))))
-      (ap (λ t. t.limit) (c.try_reserve-4.ensures.same (omega (arith, length-index c.self.invariant.indexes.1.1.0)))));
+      (c.try_reserve.ensures.same_room (omega (arith, length-live_items c.self.inside.items.slots)))
+      (ap (λ t. t.limit) (c.try_reserve-2.ensures.same_room (omega (arith, length-index c.self.invariant.indexes.0))))
+      (ap (λ t. t.limit) (c.try_reserve-3.ensures.same_room (omega (arith, length-index c.self.invariant.indexes.1.0))))
+      (ap (λ t. t.limit) (c.try_reserve-4.ensures.same_room (omega (arith, length-index c.self.invariant.indexes.1.1.0)))));
   same_builder = rw (← c.self.view_is) refl;
 }

@@ -15,13 +15,13 @@ use Rattle.iddqd_tri.proofs.map.TriHashMap.put_over.Goals as goal
 
 pub put-ix-requires-clause-free : goal.put-ix-requires-clause-free
 put-ix-requires-clause-free g c =
-    let stand = stand_in (rw (c.slot.ensures, c.slot-2.ensures, c.slot-3.ensures) at c.each_once-found.ensures) c.requires.found in
+    let stand = stand_in (rw (c.slot.ensures, c.slot-2.ensures, c.slot-3.ensures) at c.each_once-found.ensures) c.requires.conflicts in
     let by = ranks g.T.TriHashItem g.T.K1.PartialEq.eq g.T.K2.PartialEq.eq g.T.K3.PartialEq.eq in
     clash_none by c.args.self.now.slots c.args.item c.each_once-found.result stand.items (none_first c.each_once-found.result (sym c.pop_front.ensures.first ∙ c.in_default.is))
 
 pub returns-in_default-clause-items : goal.returns-in_default-clause-items
 returns-in_default-clause-items g c =
-    let stand = stand_in (rw (c.slot.ensures, c.slot-2.ensures, c.slot-3.ensures) at c.each_once-found.ensures) c.requires.found in
+    let stand = stand_in (rw (c.slot.ensures, c.slot-2.ensures, c.slot-3.ensures) at c.each_once-found.ensures) c.requires.conflicts in
     let by = ranks g.T.TriHashItem g.T.K1.PartialEq.eq g.T.K2.PartialEq.eq g.T.K3.PartialEq.eq in
     over_none by (bag c.args.self.now) c.args.item
     (clash_none by c.args.self.now.slots c.args.item c.each_once-found.result stand.items (none_first c.each_once-found.result (sym c.pop_front.ensures.first ∙ c.in_default.is)))
@@ -29,12 +29,12 @@ returns-in_default-clause-items g c =
 
 pub take_all-displaced-requires-clause-apart : goal.take_all-displaced-requires-clause-apart
 take_all-displaced-requires-clause-apart g c =
-    let stand = stand_in (rw (c.slot.ensures, c.slot-2.ensures, c.slot-3.ensures) at c.each_once-found.ensures) c.requires.found in
+    let stand = stand_in (rw (c.slot.ensures, c.slot-2.ensures, c.slot-3.ensures) at c.each_once-found.ensures) c.requires.conflicts in
     IsDistinct-tail nat_eq c.in-Some.ix c.pop_front.new.self (subst (IsDistinct nat_eq) c.in-Some.ensures.rest stand.apart)
 
 pub exchange-requires-clause-free : goal.exchange-requires-clause-free
 exchange-requires-clause-free g c =
-    let stand = stand_in (rw (c.slot.ensures, c.slot-2.ensures, c.slot-3.ensures) at c.each_once-found.ensures) c.requires.found in
+    let stand = stand_in (rw (c.slot.ensures, c.slot-2.ensures, c.slot-3.ensures) at c.each_once-found.ensures) c.requires.conflicts in
     let by = ranks g.T.TriHashItem g.T.K1.PartialEq.eq g.T.K2.PartialEq.eq g.T.K3.PartialEq.eq in
     let slots = c.args.self.now.slots in
     let ix = c.in-Some.ix in
@@ -63,7 +63,7 @@ exchange-requires-clause-under3 g c =
 
 pub returns-clause-items : goal.returns-clause-items
 returns-clause-items g c =
-    let stand = stand_in (rw (c.slot.ensures, c.slot-2.ensures, c.slot-3.ensures) at c.each_once-found.ensures) c.requires.found in
+    let stand = stand_in (rw (c.slot.ensures, c.slot-2.ensures, c.slot-3.ensures) at c.each_once-found.ensures) c.requires.conflicts in
     let by = ranks g.T.TriHashItem g.T.K1.PartialEq.eq g.T.K2.PartialEq.eq g.T.K3.PartialEq.eq in
     let slots = c.args.self.now.slots in
     let ix = c.in-Some.ix in

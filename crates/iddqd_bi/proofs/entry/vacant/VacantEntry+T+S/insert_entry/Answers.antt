@@ -17,8 +17,8 @@ put_free-requires g c =
       free = clash-both g.T.BiHashItem g.T.K1.PartialEq.eq g.T.K2.PartialEq.eq g.met.T.K1.Eq.laws g.met.T.K2.Eq.laws c.args.item _ _ same1 same2 _ v.vacant;
     }
 
-pub returns-in-Ok-clause-found : goal.returns-in-Ok-clause-found
-returns-in-Ok-clause-found g c =
+pub returns-in-Ok-clause-has_found : goal.returns-in-Ok-clause-has_found
+returns-in-Ok-clause-has_found g c =
     let v = c.args.self in
     let put = c.in-Ok.ensures in
     let same1 : g.T.K1.PartialEq.eq v.keys.key1.now (g.T.BiHashItem.key1 c.args.item) ≡ true = search rules in

@@ -16,4 +16,4 @@ pub returns-clause-hashed : goal.returns-clause-hashed
 returns-clause-hashed g c = rw (← c.self.view_is) (hash_found c.self.invariant c.args.hash c.find_or_vacancy.result c.find_or_vacancy.ensures.found)
 
 pub returns-clause-vacant : goal.returns-clause-vacant
-returns-clause-vacant g c = rw (← c.self.view_is) (vacant_found c.self.invariant c.args.hash c.find_or_vacancy.result c.find_or_vacancy.ensures.hash c.find_or_vacancy.ensures.free)
+returns-clause-vacant g c = rw (← c.self.view_is) (vacant_found c.self.invariant c.args.hash c.find_or_vacancy.result c.find_or_vacancy.ensures.hash c.find_or_vacancy.ensures.vacant)

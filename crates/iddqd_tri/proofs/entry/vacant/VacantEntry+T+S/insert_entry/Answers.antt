@@ -19,8 +19,8 @@ put_free-requires g c =
       free = clash-all g.T.TriHashItem g.T.K1.PartialEq.eq g.T.K2.PartialEq.eq g.T.K3.PartialEq.eq g.met.T.K1.Eq.laws g.met.T.K2.Eq.laws g.met.T.K3.Eq.laws c.args.item _ _ _ same1 same2 same3 _ v.vacant;
     }
 
-pub returns-in-Ok-clause-found : goal.returns-in-Ok-clause-found
-returns-in-Ok-clause-found g c =
+pub returns-in-Ok-clause-has_found : goal.returns-in-Ok-clause-has_found
+returns-in-Ok-clause-has_found g c =
     let v = c.args.self in
     let put = c.in-Ok.ensures in
     let same1 : g.T.K1.PartialEq.eq v.keys.key1.now (g.T.TriHashItem.key1 c.args.item) ≡ true = search rules in
