@@ -38,8 +38,8 @@ pub trait BiHashItemMut: BiHashItem {
 
     /// The data, for writing.
     fn data_mut(&mut self) -> &mut Self::Data
-        ensures* writes_back { sem 𝓛 (Lends Self.row Self.Data.row self.entry result (put self.old)) }
-        ensures value { result.now ≡ payload self.old };
+        ensures value { result.now ≡ payload self.old }
+        ensures* writes_back { sem 𝓛 (Lends Self.row Self.Data.row self.entry result (put self.old)) };
 
     // Each key of the item with other data equals its own.
     ghost keeps_key1: { (x : Self) (d : Self.Data) → Self.K1.eq (Self.key1 (put x d)) (Self.key1 x) ≡ true };

@@ -72,8 +72,8 @@ impl<T> Slot<T> {
 
     fn item_mut(&mut self) -> &mut T
         requires { IsSome (item_of self.old) }
-        ensures* lends { sem 𝓛 (Lends (the_row T.row) T.row self.entry result Slot.Live) }
         ensures value { item_of self.old ≡ Some result.now }
+        ensures* lends { sem 𝓛 (Lends (the_row T.row) T.row self.entry result Slot.Live) }
     {
         match self {
             Slot::Live(item) => item,
@@ -145,8 +145,8 @@ impl<T> ItemSet<T> {
 
     /// The item of a live slot, for writing, and `None` for any other number.
     pub fn get_mut(&mut self, ix: ItemIndex) -> Option<&mut T>
-        ensures* writes_back { sem 𝓛 (lends_get T.row self.entry ix result) }
         ensures value { option_copied_mut result ≡ get self.old.slots ix }
+        ensures* writes_back { sem 𝓛 (lends_get T.row self.entry ix result) }
     {
         if self.is_live(ix) {
             Some(self.item_mut(ix.number()))
@@ -158,8 +158,8 @@ impl<T> ItemSet<T> {
     /// The item of the live slot of this number, for writing.
     pub fn item_mut(&mut self, at: usize) -> &mut T
         requires { IsLive self.old.slots at }
-        ensures* writes_back { sem 𝓛 (lends_item T.row self.entry at result) }
         ensures value { get self.old.slots at ≡ Some result.now }
+        ensures* writes_back { sem 𝓛 (lends_item T.row self.entry at result) }
     {
         self.slots[at].item_mut()
     }

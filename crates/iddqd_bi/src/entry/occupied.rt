@@ -77,11 +77,11 @@ impl<'a, T: Ranked, S: BuildHasher> OccupiedEntry<'a, T, S> {
 
     /// The items, for writing, lent by the entry. A caller knows less of the map afterwards than after `into_mut`.
     pub fn get_mut(&mut self) -> OccupiedEntryMut<'_, T, S>
-        ensures* lends { sem 𝓛 (lends_held T.row S.row T.K1.row T.K2.row S.Hasher.row
-            T.BiHashItem T.K1.Hash T.K2.Hash S.BuildHasher S.Hasher.Hasher self.entry result) }
         ensures map { result.map.now ≡ self.old.map.now }
         ensures holds { HasFound T.BiHashItem T.K1.eq T.K2.eq self.old
             → HoldsFound T.BiHashItem T.K1.eq T.K2.eq self.old result }
+        ensures* lends { sem 𝓛 (lends_held T.row S.row T.K1.row T.K2.row S.Hasher.row
+            T.BiHashItem T.K1.Hash T.K2.Hash S.BuildHasher S.Hasher.Hasher self.entry result) }
     {
         let slot1 = self.slot1;
         let slot2 = self.slot2;
@@ -170,14 +170,14 @@ impl<'a, T: BiHashItemMut, S: BuildHasher> OccupiedEntry<'a, T, S> {
     /// The data of the item with the first key, for writing.
     pub fn data1_mut(&mut self) -> Option<&mut T::Data>
         requires { HasFound T.BiHashItem T.K1.eq T.K2.eq self.old }
-        ensures* lends { sem 𝓛 (lends_data1 T.row S.row T.K1.row T.K2.row S.Hasher.row
-            T.BiHashItem T.K1.Hash T.K2.Hash S.BuildHasher S.Hasher.Hasher T.Data.row T.put self.entry result) }
         ensures value { option_to_list (option_copied_mut result)
             ≡ map T.payload (filter (has1 T.BiHashItem T.K1.eq self.old.key1.now) (bag self.old.map.now)) }
         ensures swaps { (x : T) (d : T.Data)
             → IsOnly (has1 T.BiHashItem T.K1.eq self.old.key1.now) (bag self.old.map.now) (Some x)
             → IsPermutation (bag (entry_with1 self.old (λ y. T.put y d)).map.now)
             (swap (ranks T.BiHashItem T.K1.eq T.K2.eq) (bag self.old.map.now) x (T.put x d)) }
+        ensures* lends { sem 𝓛 (lends_data1 T.row S.row T.K1.row T.K2.row S.Hasher.row
+            T.BiHashItem T.K1.Hash T.K2.Hash S.BuildHasher S.Hasher.Hasher T.Data.row T.put self.entry result) }
     {
         let slot1 = self.slot1;
         self.map.data_of(slot1)
@@ -186,14 +186,14 @@ impl<'a, T: BiHashItemMut, S: BuildHasher> OccupiedEntry<'a, T, S> {
     /// The data of the item with the second key, for writing.
     pub fn data2_mut(&mut self) -> Option<&mut T::Data>
         requires { HasFound T.BiHashItem T.K1.eq T.K2.eq self.old }
-        ensures* lends { sem 𝓛 (lends_data2 T.row S.row T.K1.row T.K2.row S.Hasher.row
-            T.BiHashItem T.K1.Hash T.K2.Hash S.BuildHasher S.Hasher.Hasher T.Data.row T.put self.entry result) }
         ensures value { option_to_list (option_copied_mut result)
             ≡ map T.payload (filter (has2 T.BiHashItem T.K2.eq self.old.key2.now) (bag self.old.map.now)) }
         ensures swaps { (x : T) (d : T.Data)
             → IsOnly (has2 T.BiHashItem T.K2.eq self.old.key2.now) (bag self.old.map.now) (Some x)
             → IsPermutation (bag (entry_with2 self.old (λ y. T.put y d)).map.now)
             (swap (ranks T.BiHashItem T.K1.eq T.K2.eq) (bag self.old.map.now) x (T.put x d)) }
+        ensures* lends { sem 𝓛 (lends_data2 T.row S.row T.K1.row T.K2.row S.Hasher.row
+            T.BiHashItem T.K1.Hash T.K2.Hash S.BuildHasher S.Hasher.Hasher T.Data.row T.put self.entry result) }
     {
         let slot2 = self.slot2;
         self.map.data_of(slot2)

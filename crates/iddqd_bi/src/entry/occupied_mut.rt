@@ -62,11 +62,11 @@ impl<'a, T: BiHashItem, S: BuildHasher> OccupiedEntryMut<'a, T, S> {
 
     /// The item that has both keys, for writing, for as long as the map is lent.
     pub fn into_unique(self) -> Option<RefMut<'a, T, S>>
-        ensures* rests_at_none { sem 𝓛 (held_rests_if_none T.row S.row T.K1.row T.K2.row S.Hasher.row
-            self.entry.map result) }
         ensures item { option_and_then ref_item result ≡ held_unique self.entry }
         ensures unchanged { IfSome result (λ r. ref_map r ≡ self.entry.map.now) }
         ensures same_map { IfSome result (λ r. ref_lender r ≡ self.entry.map.ghost_name) }
+        ensures* rests_at_none { sem 𝓛 (held_rests_if_none T.row S.row T.K1.row T.K2.row S.Hasher.row
+            self.entry.map result) }
     {
         let OccupiedEntryMut { map, slot1, slot2 } = self;
         map.lend(one_of(slot1, slot2))
@@ -74,11 +74,11 @@ impl<'a, T: BiHashItem, S: BuildHasher> OccupiedEntryMut<'a, T, S> {
 
     /// The item with the first key, for writing, for as long as the map is lent.
     pub fn into_by_key1(self) -> Option<RefMut<'a, T, S>>
-        ensures* rests_at_none { sem 𝓛 (held_rests_if_none T.row S.row T.K1.row T.K2.row S.Hasher.row
-            self.entry.map result) }
         ensures item { option_and_then ref_item result ≡ held1 self.entry }
         ensures unchanged { IfSome result (λ r. ref_map r ≡ self.entry.map.now) }
         ensures same_map { IfSome result (λ r. ref_lender r ≡ self.entry.map.ghost_name) }
+        ensures* rests_at_none { sem 𝓛 (held_rests_if_none T.row S.row T.K1.row T.K2.row S.Hasher.row
+            self.entry.map result) }
     {
         let OccupiedEntryMut {
             map,
@@ -90,11 +90,11 @@ impl<'a, T: BiHashItem, S: BuildHasher> OccupiedEntryMut<'a, T, S> {
 
     /// The item with the second key, for writing, for as long as the map is lent.
     pub fn into_by_key2(self) -> Option<RefMut<'a, T, S>>
-        ensures* rests_at_none { sem 𝓛 (held_rests_if_none T.row S.row T.K1.row T.K2.row S.Hasher.row
-            self.entry.map result) }
         ensures item { option_and_then ref_item result ≡ held2 self.entry }
         ensures unchanged { IfSome result (λ r. ref_map r ≡ self.entry.map.now) }
         ensures same_map { IfSome result (λ r. ref_lender r ≡ self.entry.map.ghost_name) }
+        ensures* rests_at_none { sem 𝓛 (held_rests_if_none T.row S.row T.K1.row T.K2.row S.Hasher.row
+            self.entry.map result) }
     {
         let OccupiedEntryMut {
             map,

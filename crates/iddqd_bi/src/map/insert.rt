@@ -22,20 +22,20 @@ impl<T: Ranked, S: BuildHasher> BiHashMap<T, S> {
     /// Each key of the item is hashed once and searched for once. It takes memory only where the map is full.
     #[inline(always)]
     pub fn insert_unique(&mut self, item: T) -> Result<(), InsertError<'_, T, S>>
-        // How the map ends, once the refusal is gone: with the item where it went in, else as it was.
-        ensures* ends { sem 𝓛 (ends_as T.row S.row T.K1.row T.K2.row S.Hasher.row
-            T.BiHashItem T.K1.Hash T.K2.Hash S.BuildHasher S.Hasher.Hasher
-            self.entry result (λ new. Gains self.old item new)) }
-        ensures same_map { IfErr result (λ e. (refusing_map e).ghost_name ≡ self.entry.ghost_name) }
         // It goes in only where nothing conflicts, and then always where there is room.
         ensures free { OnOk result (clash T.ranks (bag self.old) item ≡ []) }
         ensures granted { clash T.ranks (bag self.old) item ≡ []
             → length (bag self.old) < self.old.capacity → IsOk result }
         // Refused, the item comes back, and the map is held as it was.
         ensures handed_back { IfErr result (λ e. refused_item e ≡ item) }
+        ensures same_map { IfErr result (λ e. (refusing_map e).ghost_name ≡ self.entry.ghost_name) }
         ensures unchanged { IfErr result (λ e. (refusing_map e).now ≡ self.old) }
         ensures duplicate { IfErr result (λ e. OnDuplicate e (clash T.ranks (bag self.old) item ≢ [])) }
         ensures memory { IfErr result (λ e. OnMemory e (IsFullFor T.ranks self.old item)) }
+        // How the map ends, once the refusal is gone: with the item where it went in, else as it was.
+        ensures* ends { sem 𝓛 (ends_as T.row S.row T.K1.row T.K2.row S.Hasher.row
+            T.BiHashItem T.K1.Hash T.K2.Hash S.BuildHasher S.Hasher.Hasher
+            self.entry result (λ new. Gains self.old item new)) }
     {
         match self.try_insert(item) {
             Ok(_) => Ok(()),

@@ -21,10 +21,10 @@ impl<T: BiHashItem, S: BuildHasher> BiHashMap<T, S> {
     ///
     /// Compares at most as many keys as items have the key's hash at the first rank.
     pub fn get1_mut(&mut self, key: &T::K1) -> Option<RefMut<'_, T, S>>
-        ensures* rests_at_none { sem 𝓛 (rests_if_none T.row S.row T.K1.row T.K2.row S.Hasher.row self.entry result) }
         ensures found { IsOnly (has1 T.BiHashItem T.K1.eq key.now) (bag self.old) (option_and_then ref_item result) }
         ensures unchanged { IfSome result (λ r. ref_map r ≡ self.old) }
         ensures same_map { IfSome result (λ r. ref_lender r ≡ self.entry.ghost_name) }
+        ensures* rests_at_none { sem 𝓛 (rests_if_none T.row S.row T.K1.row T.K2.row S.Hasher.row self.entry result) }
     {
         match self.by_key1().slot_of(key) {
             Some(slot) => Some(RefMut { map: self, slot }),
@@ -36,10 +36,10 @@ impl<T: BiHashItem, S: BuildHasher> BiHashMap<T, S> {
     ///
     /// Compares at most as many keys as items have the key's hash at the second rank.
     pub fn get2_mut(&mut self, key: &T::K2) -> Option<RefMut<'_, T, S>>
-        ensures* rests_at_none { sem 𝓛 (rests_if_none T.row S.row T.K1.row T.K2.row S.Hasher.row self.entry result) }
         ensures found { IsOnly (has2 T.BiHashItem T.K2.eq key.now) (bag self.old) (option_and_then ref_item result) }
         ensures unchanged { IfSome result (λ r. ref_map r ≡ self.old) }
         ensures same_map { IfSome result (λ r. ref_lender r ≡ self.entry.ghost_name) }
+        ensures* rests_at_none { sem 𝓛 (rests_if_none T.row S.row T.K1.row T.K2.row S.Hasher.row self.entry result) }
     {
         match self.by_key2().slot_of(key) {
             Some(slot) => Some(RefMut { map: self, slot }),
@@ -51,11 +51,11 @@ impl<T: BiHashItem, S: BuildHasher> BiHashMap<T, S> {
     ///
     /// Compares as many keys as `get1_mut` does, and the second key of the item found.
     pub fn get_mut_unique(&mut self, key1: &T::K1, key2: &T::K2) -> Option<RefMut<'_, T, S>>
-        ensures* rests_at_none { sem 𝓛 (rests_if_none T.row S.row T.K1.row T.K2.row S.Hasher.row self.entry result) }
         ensures found { IsOnly (has_both T.BiHashItem T.K1.eq T.K2.eq key1.now key2.now) (bag self.old)
             (option_and_then ref_item result) }
         ensures unchanged { IfSome result (λ r. ref_map r ≡ self.old) }
         ensures same_map { IfSome result (λ r. ref_lender r ≡ self.entry.ghost_name) }
+        ensures* rests_at_none { sem 𝓛 (rests_if_none T.row S.row T.K1.row T.K2.row S.Hasher.row self.entry result) }
     {
         match self.slot_of_both(key1, key2) {
             Some(slot) => Some(RefMut { map: self, slot }),
@@ -73,8 +73,7 @@ impl<T: BiHashItem, S: BuildHasher> BiHashMap<T, S> {
     /// }
     /// ```
     pub fn next_from(&mut self, at: &mut Cursor) -> Option<RefMut<'_, T, S>>
-        // Where nothing is to come, the map ends as it was. Else the next item is lent, and the cursor passes it.
-        ensures* rests_at_none { sem 𝓛 (rests_if_none T.row S.row T.K1.row T.K2.row S.Hasher.row self.entry result) }
+        // The next item is lent, and the cursor passes it, or nothing is to come.
         ensures next { IfSome result (λ r. IfSome (ref_item r) (λ x.
             Passes self.old at.old x (λ f. ref_map (ref_with r f)) at.new)) }
         ensures end { IfNone result (to_come self.old at.old ≡ []) }
@@ -82,6 +81,8 @@ impl<T: BiHashItem, S: BuildHasher> BiHashMap<T, S> {
         // What is lent holds this very map, unchanged so far.
         ensures unchanged { IfSome result (λ r. ref_map r ≡ self.old) }
         ensures same_map { IfSome result (λ r. ref_lender r ≡ self.entry.ghost_name) }
+        // Where nothing is to come, the map ends as it was.
+        ensures* rests_at_none { sem 𝓛 (rests_if_none T.row S.row T.K1.row T.K2.row S.Hasher.row self.entry result) }
     {
         match self.slot_from(at.next()) {
             Some(slot) => {

@@ -71,11 +71,11 @@ impl<'a, T: TriHashItem, S: BuildHasher> OccupiedEntryMut<'a, T, S> {
 
     /// The item that has all keys, for writing, for as long as the map is lent.
     pub fn into_unique(self) -> Option<RefMut<'a, T, S>>
-        ensures* rests_at_none { sem 𝓛 (held_rests_if_none T.row S.row T.K1.row T.K2.row T.K3.row S.Hasher.row
-            self.entry.map result) }
         ensures item { option_and_then ref_item result ≡ held_unique self.entry }
         ensures unchanged { IfSome result (λ r. ref_map r ≡ self.entry.map.now) }
         ensures same_map { IfSome result (λ r. ref_lender r ≡ self.entry.map.ghost_name) }
+        ensures* rests_at_none { sem 𝓛 (held_rests_if_none T.row S.row T.K1.row T.K2.row T.K3.row S.Hasher.row
+            self.entry.map result) }
     {
         let OccupiedEntryMut {
             map,
@@ -88,11 +88,11 @@ impl<'a, T: TriHashItem, S: BuildHasher> OccupiedEntryMut<'a, T, S> {
 
     /// The item with the first key, for writing, for as long as the map is lent.
     pub fn into_by_key1(self) -> Option<RefMut<'a, T, S>>
-        ensures* rests_at_none { sem 𝓛 (held_rests_if_none T.row S.row T.K1.row T.K2.row T.K3.row S.Hasher.row
-            self.entry.map result) }
         ensures item { option_and_then ref_item result ≡ held1 self.entry }
         ensures unchanged { IfSome result (λ r. ref_map r ≡ self.entry.map.now) }
         ensures same_map { IfSome result (λ r. ref_lender r ≡ self.entry.map.ghost_name) }
+        ensures* rests_at_none { sem 𝓛 (held_rests_if_none T.row S.row T.K1.row T.K2.row T.K3.row S.Hasher.row
+            self.entry.map result) }
     {
         let OccupiedEntryMut {
             map,
@@ -105,11 +105,11 @@ impl<'a, T: TriHashItem, S: BuildHasher> OccupiedEntryMut<'a, T, S> {
 
     /// The item with the second key, for writing, for as long as the map is lent.
     pub fn into_by_key2(self) -> Option<RefMut<'a, T, S>>
-        ensures* rests_at_none { sem 𝓛 (held_rests_if_none T.row S.row T.K1.row T.K2.row T.K3.row S.Hasher.row
-            self.entry.map result) }
         ensures item { option_and_then ref_item result ≡ held2 self.entry }
         ensures unchanged { IfSome result (λ r. ref_map r ≡ self.entry.map.now) }
         ensures same_map { IfSome result (λ r. ref_lender r ≡ self.entry.map.ghost_name) }
+        ensures* rests_at_none { sem 𝓛 (held_rests_if_none T.row S.row T.K1.row T.K2.row T.K3.row S.Hasher.row
+            self.entry.map result) }
     {
         let OccupiedEntryMut {
             map,
@@ -122,11 +122,11 @@ impl<'a, T: TriHashItem, S: BuildHasher> OccupiedEntryMut<'a, T, S> {
 
     /// The item with the third key, for writing, for as long as the map is lent.
     pub fn into_by_key3(self) -> Option<RefMut<'a, T, S>>
-        ensures* rests_at_none { sem 𝓛 (held_rests_if_none T.row S.row T.K1.row T.K2.row T.K3.row S.Hasher.row
-            self.entry.map result) }
         ensures item { option_and_then ref_item result ≡ held3 self.entry }
         ensures unchanged { IfSome result (λ r. ref_map r ≡ self.entry.map.now) }
         ensures same_map { IfSome result (λ r. ref_lender r ≡ self.entry.map.ghost_name) }
+        ensures* rests_at_none { sem 𝓛 (held_rests_if_none T.row S.row T.K1.row T.K2.row T.K3.row S.Hasher.row
+            self.entry.map result) }
     {
         let OccupiedEntryMut {
             map,

@@ -23,9 +23,6 @@ impl<'a, T: Ranked, S: BuildHasher, Q: Keys<T::K1, T::K2, T::K3>> VacantEntry<'a
     /// It compares the first keys, and those of the next rank where those are equal, and searches and
     /// hashes nothing. It takes memory only where the map is full.
     pub fn insert(self, item: T) -> Result<RefMut<'a, T, S>, EntryError<T>>
-        // Refused, the map ends as it was.
-        ensures* unchanged_at_err { sem 𝓛 (rests_if_err T.row S.row T.K1.row T.K2.row T.K3.row S.Hasher.row
-            self.entry.map result) }
         // What is lent is the item, in this very map.
         ensures same_map { IfOk result (λ r. ref_lender r ≡ self.entry.map.ghost_name) }
         ensures item { IfOk result (λ r. ref_item r ≡ Some item) }
@@ -41,6 +38,9 @@ impl<'a, T: Ranked, S: BuildHasher, Q: Keys<T::K1, T::K2, T::K3>> VacantEntry<'a
         ensures rank { IfErr result (λ e. differ (key_tests T.TriHashItem T.K1.eq T.K2.eq T.K3.eq
             (Q.first self.entry.keys) (Q.second self.entry.keys) (Q.third self.entry.keys)) item ≡ error_rank e) }
         ensures memory { IfErr result (λ e. OnNoMemory e (IsFullFor T.ranks self.entry.map.now item)) }
+        // Refused, the map ends as it was.
+        ensures* unchanged_at_err { sem 𝓛 (rests_if_err T.row S.row T.K1.row T.K2.row T.K3.row S.Hasher.row
+            self.entry.map result) }
     {
         let VacantEntry {
             map,
@@ -60,9 +60,6 @@ impl<'a, T: Ranked, S: BuildHasher, Q: Keys<T::K1, T::K2, T::K3>> VacantEntry<'a
 
     /// The same as `insert`, and answers what an occupied entry answers in `into_mut`.
     pub fn insert_mut(self, item: T) -> Result<OccupiedEntryMut<'a, T, S>, EntryError<T>>
-        // Refused, the map ends as it was.
-        ensures* unchanged_at_err { sem 𝓛 (held_rests_if_err T.row S.row T.K1.row T.K2.row T.K3.row S.Hasher.row
-            T.TriHashItem T.K1.Hash T.K2.Hash T.K3.Hash S.BuildHasher S.Hasher.Hasher self.entry.map result) }
         // What is lent holds this very map, with the item in it, which each key finds.
         ensures same_map { IfOk result (λ m. m.map.ghost_name ≡ self.entry.map.ghost_name) }
         ensures gains { IfOk result (λ m. Gains self.entry.map.now item m.map.now) }
@@ -84,6 +81,9 @@ impl<'a, T: Ranked, S: BuildHasher, Q: Keys<T::K1, T::K2, T::K3>> VacantEntry<'a
         ensures rank { IfErr result (λ e. differ (key_tests T.TriHashItem T.K1.eq T.K2.eq T.K3.eq
             (Q.first self.entry.keys) (Q.second self.entry.keys) (Q.third self.entry.keys)) item ≡ error_rank e) }
         ensures memory { IfErr result (λ e. OnNoMemory e (IsFullFor T.ranks self.entry.map.now item)) }
+        // Refused, the map ends as it was.
+        ensures* unchanged_at_err { sem 𝓛 (held_rests_if_err T.row S.row T.K1.row T.K2.row T.K3.row S.Hasher.row
+            T.TriHashItem T.K1.Hash T.K2.Hash T.K3.Hash S.BuildHasher S.Hasher.Hasher self.entry.map result) }
     {
         let VacantEntry {
             map,

@@ -52,15 +52,15 @@ impl<T: TriHashItem, S: BuildHasher> IterMut<'_, T, S> {
 impl<T: TriHashItemMut, S: BuildHasher> IterMut<'_, T, S> {
     /// The data of the next item, for writing.
     pub fn next_data(&mut self) -> Option<&mut T::Data>
-        // What is written through it ends in the item.
-        ensures* lends { sem 𝓛 (lends_next T.row S.row T.K1.row T.K2.row T.K3.row S.Hasher.row
-            T.TriHashItem T.K1.Hash T.K2.Hash T.K3.Hash S.BuildHasher S.Hasher.Hasher
-            T.Data.row T.put self.entry result) }
         // It is the data of the next item, and none at the end.
         ensures next { IfSome result (λ r. IsNextOf self.old) }
         ensures value { option_copied_mut result ≡ option_map T.payload (slice_get (rest_of self.old) 0) }
         ensures end { IfNone result (rest_of self.old ≡ []) }
         ensures counted { (f : T → T) → IsCounted self.old → IfSome result (λ r. IsCounted (stepped self.old f)) }
+        // What is written through it ends in the item.
+        ensures* lends { sem 𝓛 (lends_next T.row S.row T.K1.row T.K2.row T.K3.row S.Hasher.row
+            T.TriHashItem T.K1.Hash T.K2.Hash T.K3.Hash S.BuildHasher S.Hasher.Hasher
+            T.Data.row T.put self.entry result) }
     {
         match self.map.slot_from(self.next) {
             Some(ix) => {

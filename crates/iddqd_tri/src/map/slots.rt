@@ -132,7 +132,7 @@ impl<T: TriHashItem, S: BuildHasher> TriHashMap<T, S> {
     /// The first item in a slot of this number or a higher one, with its slot.
     pub(crate) fn item_from(&self, from: usize) -> Option<(ItemIndex, &T)>
         ensures next { IfSome result (λ p. ComesNext self.now.slots from p.0 p.1.now) }
-        ensures fits { IfSome result (λ p. p.0 + 1 < 2 ^ 64) }
+        ensures countable { IfSome result (λ p. p.0 + 1 < 2 ^ 64) }
         ensures none { IfNone result (items_in (drop from self.now.slots) ≡ []) }
     {
         let ix = self.items.next_live(from)?;

@@ -21,11 +21,11 @@ impl<T: TriHashItem, S: BuildHasher> TriHashMap<T, S> {
     ///
     /// Compares at most as many keys as items have the key's hash at the first rank.
     pub fn get1_mut(&mut self, key: &T::K1) -> Option<RefMut<'_, T, S>>
-        ensures* rests_at_none { sem 𝓛
-            (rests_if_none T.row S.row T.K1.row T.K2.row T.K3.row S.Hasher.row self.entry result) }
         ensures found { IsOnly (has1 T.TriHashItem T.K1.eq key.now) (bag self.old) (option_and_then ref_item result) }
         ensures unchanged { IfSome result (λ r. ref_map r ≡ self.old) }
         ensures same_map { IfSome result (λ r. ref_lender r ≡ self.entry.ghost_name) }
+        ensures* rests_at_none { sem 𝓛
+            (rests_if_none T.row S.row T.K1.row T.K2.row T.K3.row S.Hasher.row self.entry result) }
     {
         match self.by_key1().slot_of(key) {
             Some(slot) => Some(RefMut { map: self, slot }),
@@ -37,11 +37,11 @@ impl<T: TriHashItem, S: BuildHasher> TriHashMap<T, S> {
     ///
     /// Compares at most as many keys as items have the key's hash at the second rank.
     pub fn get2_mut(&mut self, key: &T::K2) -> Option<RefMut<'_, T, S>>
-        ensures* rests_at_none { sem 𝓛
-            (rests_if_none T.row S.row T.K1.row T.K2.row T.K3.row S.Hasher.row self.entry result) }
         ensures found { IsOnly (has2 T.TriHashItem T.K2.eq key.now) (bag self.old) (option_and_then ref_item result) }
         ensures unchanged { IfSome result (λ r. ref_map r ≡ self.old) }
         ensures same_map { IfSome result (λ r. ref_lender r ≡ self.entry.ghost_name) }
+        ensures* rests_at_none { sem 𝓛
+            (rests_if_none T.row S.row T.K1.row T.K2.row T.K3.row S.Hasher.row self.entry result) }
     {
         match self.by_key2().slot_of(key) {
             Some(slot) => Some(RefMut { map: self, slot }),
@@ -53,11 +53,11 @@ impl<T: TriHashItem, S: BuildHasher> TriHashMap<T, S> {
     ///
     /// Compares at most as many keys as items have the key's hash at the third rank.
     pub fn get3_mut(&mut self, key: &T::K3) -> Option<RefMut<'_, T, S>>
-        ensures* rests_at_none { sem 𝓛
-            (rests_if_none T.row S.row T.K1.row T.K2.row T.K3.row S.Hasher.row self.entry result) }
         ensures found { IsOnly (has3 T.TriHashItem T.K3.eq key.now) (bag self.old) (option_and_then ref_item result) }
         ensures unchanged { IfSome result (λ r. ref_map r ≡ self.old) }
         ensures same_map { IfSome result (λ r. ref_lender r ≡ self.entry.ghost_name) }
+        ensures* rests_at_none { sem 𝓛
+            (rests_if_none T.row S.row T.K1.row T.K2.row T.K3.row S.Hasher.row self.entry result) }
     {
         match self.by_key3().slot_of(key) {
             Some(slot) => Some(RefMut { map: self, slot }),
@@ -74,12 +74,12 @@ impl<T: TriHashItem, S: BuildHasher> TriHashMap<T, S> {
         key2: &T::K2,
         key3: &T::K3,
     ) -> Option<RefMut<'_, T, S>>
-        ensures* rests_at_none { sem 𝓛
-            (rests_if_none T.row S.row T.K1.row T.K2.row T.K3.row S.Hasher.row self.entry result) }
         ensures found { IsOnly (has_all T.TriHashItem T.K1.eq T.K2.eq T.K3.eq key1.now key2.now key3.now) (bag self.old)
             (option_and_then ref_item result) }
         ensures unchanged { IfSome result (λ r. ref_map r ≡ self.old) }
         ensures same_map { IfSome result (λ r. ref_lender r ≡ self.entry.ghost_name) }
+        ensures* rests_at_none { sem 𝓛
+            (rests_if_none T.row S.row T.K1.row T.K2.row T.K3.row S.Hasher.row self.entry result) }
     {
         match self.slot_of_all(key1, key2, key3) {
             Some(slot) => Some(RefMut { map: self, slot }),
@@ -97,9 +97,7 @@ impl<T: TriHashItem, S: BuildHasher> TriHashMap<T, S> {
     /// }
     /// ```
     pub fn next_from(&mut self, at: &mut Cursor) -> Option<RefMut<'_, T, S>>
-        // Where nothing is to come, the map ends as it was. Else the next item is lent, and the cursor passes it.
-        ensures* rests_at_none { sem 𝓛
-            (rests_if_none T.row S.row T.K1.row T.K2.row T.K3.row S.Hasher.row self.entry result) }
+        // The next item is lent, and the cursor passes it, or nothing is to come.
         ensures next { IfSome result (λ r. IfSome (ref_item r) (λ x.
             Passes self.old at.old x (λ f. ref_map (ref_with r f)) at.new)) }
         ensures end { IfNone result (to_come self.old at.old ≡ []) }
@@ -107,6 +105,9 @@ impl<T: TriHashItem, S: BuildHasher> TriHashMap<T, S> {
         // What is lent holds this very map, unchanged so far.
         ensures unchanged { IfSome result (λ r. ref_map r ≡ self.old) }
         ensures same_map { IfSome result (λ r. ref_lender r ≡ self.entry.ghost_name) }
+        // Where nothing is to come, the map ends as it was.
+        ensures* rests_at_none { sem 𝓛
+            (rests_if_none T.row S.row T.K1.row T.K2.row T.K3.row S.Hasher.row self.entry result) }
     {
         match self.slot_from(at.next()) {
             Some(slot) => {

@@ -30,14 +30,14 @@ impl<T: TriHashItem, S: BuildHasher> Deref for RefMut<'_, T, S> {
 impl<T: TriHashItemMut, S: BuildHasher> RefMut<'_, T, S> {
     /// The data of the item, for writing. No key changes, and none is compared or hashed.
     pub fn data_mut(&mut self) -> &mut T::Data
-        ensures* writes_back { sem 𝓛 (lends_ref_data T.row S.row T.K1.row T.K2.row T.K3.row S.Hasher.row
-            T.Data.row T.put self.entry result) }
         ensures value { IfSome (ref_item self.old) (λ x. result.now ≡ T.payload x) }
         ensures writes { (d : T.Data) → IfSome (ref_item self.old) (λ x.
             ref_item (ref_with self.old (λ y. T.put y d)) ≡ Some (T.put x d)) }
         ensures swaps { (d : T.Data) → IfSome (ref_item self.old) (λ x.
             IsPermutation (bag (ref_map (ref_with self.old (λ y. T.put y d))))
             (swap (ranks T.TriHashItem T.K1.eq T.K2.eq T.K3.eq) (bag (ref_map self.old)) x (T.put x d))) }
+        ensures* writes_back { sem 𝓛 (lends_ref_data T.row S.row T.K1.row T.K2.row T.K3.row S.Hasher.row
+            T.Data.row T.put self.entry result) }
     {
         let slot = self.slot;
         self.map.data_mut_at(slot)

@@ -63,10 +63,10 @@ impl<T: BiHashItem, S: BuildHasher> BiHashMap<T, S> {
 
     /// The item of a slot, if it has one, for writing.
     pub(crate) fn lend(&mut self, slot: Option<ItemIndex>) -> Option<RefMut<'_, T, S>>
-        ensures* rests_at_none { sem 𝓛 (rests_if_none T.row S.row T.K1.row T.K2.row S.Hasher.row self.entry result) }
         ensures item { option_and_then ref_item result ≡ option_and_then (get self.old.slots) slot }
         ensures unchanged { IfSome result (λ r. ref_map r ≡ self.old) }
         ensures same_map { IfSome result (λ r. ref_lender r ≡ self.entry.ghost_name) }
+        ensures* rests_at_none { sem 𝓛 (rests_if_none T.row S.row T.K1.row T.K2.row S.Hasher.row self.entry result) }
     {
         match self.if_live(slot) {
             Some(slot) => Some(RefMut { map: self, slot }),

@@ -72,13 +72,13 @@ impl<T: TriHashItemMut, S: BuildHasher> TriHashMap<T, S> {
     /// The data of the item of a live slot, for writing.
     pub(crate) fn data_mut_at(&mut self, ix: ItemIndex) -> &mut T::Data
         requires { IsLive self.old.slots ix }
-        ensures* writes_back { sem 𝓛 (lends_data T.row S.row T.K1.row T.K2.row T.K3.row S.Hasher.row
-            T.TriHashItem T.K1.Hash T.K2.Hash T.K3.Hash S.BuildHasher S.Hasher.Hasher
-            T.Data.row T.put self.entry ix result) }
         ensures value { (x : T) → get self.old.slots ix ≡ Some x → result.now ≡ T.payload x }
         ensures swaps { (x : T) (d : T.Data) → get self.old.slots ix ≡ Some x
             → IsPermutation (bag (map_with self.old ix (λ y. T.put y d)))
             (swap (ranks T.TriHashItem T.K1.eq T.K2.eq T.K3.eq) (bag self.old) x (T.put x d)) }
+        ensures* writes_back { sem 𝓛 (lends_data T.row S.row T.K1.row T.K2.row T.K3.row S.Hasher.row
+            T.TriHashItem T.K1.Hash T.K2.Hash T.K3.Hash S.BuildHasher S.Hasher.Hasher
+            T.Data.row T.put self.entry ix result) }
     {
         self.items.item_mut(ix.number()).data_mut()
     }
@@ -86,15 +86,15 @@ impl<T: TriHashItemMut, S: BuildHasher> TriHashMap<T, S> {
     /// The data of the item of the slot that there may be, for writing.
     pub(crate) fn data_of(&mut self, slot: Option<ItemIndex>) -> Option<&mut T::Data>
         requires { IfSome slot (IsLive self.old.slots) }
-        ensures* writes_back { sem 𝓛 (lends_data_if T.row S.row T.K1.row T.K2.row T.K3.row S.Hasher.row
-            T.TriHashItem T.K1.Hash T.K2.Hash T.K3.Hash S.BuildHasher S.Hasher.Hasher
-            T.Data.row T.put self.entry slot result) }
         ensures some { is_some result ≡ is_some slot }
         ensures value { (x : T) → option_and_then (get self.old.slots) slot ≡ Some x
             → IfSome result (λ r. r.now ≡ T.payload x) }
         ensures swaps { (x : T) (d : T.Data) → option_and_then (get self.old.slots) slot ≡ Some x
             → IsPermutation (bag (map_with_if self.old slot (λ y. T.put y d)))
             (swap (ranks T.TriHashItem T.K1.eq T.K2.eq T.K3.eq) (bag self.old) x (T.put x d)) }
+        ensures* writes_back { sem 𝓛 (lends_data_if T.row S.row T.K1.row T.K2.row T.K3.row S.Hasher.row
+            T.TriHashItem T.K1.Hash T.K2.Hash T.K3.Hash S.BuildHasher S.Hasher.Hasher
+            T.Data.row T.put self.entry slot result) }
     {
         match slot {
             Some(ix) => Some(self.data_mut_at(ix)),
