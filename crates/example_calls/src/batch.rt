@@ -1,8 +1,9 @@
 //! Many items at once: all of them go in, or none.
 ghost use Rattle.std.specs.Prelude.{◌≡◌, ◌++◌, Some, IsPermutation, OnOk, OnErr, IfErr, slice_get};
+ghost use Rattle.iddqd_bi.specs.Callers.{IsInTheWay};
 ghost use Rattle.iddqd_bi.specs.Map.{bag};
 
-use iddqd_bi::{BiHashItem, BiHashMap, ExtendUniqueReason};
+use iddqd_bi::{BiHashItem, BiHashMap, ExtendUniqueReason, Ranked};
 
 /// A record, known by its number and by its code.
 #[derive(Drop)]
@@ -30,26 +31,28 @@ impl BiHashItem for Record {
 }
 
 /// Why a batch was not loaded: the record in the way, how many stood before it in the batch, and whether it conflicts
-/// with one of these or of the map. If not, there was no memory for it.
+/// with one of these or of the map, or found no memory.
 #[derive(Drop)]
 pub struct Rejected {
-    pub record: Record,
+    pub in_the_way: Record,
     pub index: usize,
-    pub is_duplicate: bool,
+    pub reason: ExtendUniqueReason,
 }
 
 /// Loads a batch whole, or says which record is in the way.
 pub fn load(records: &mut BiHashMap<Record>, batch: Vec<Record>) -> Result<(), Rejected>
     ensures all { OnOk result (IsPermutation (bag records.new) (batch.items ++ bag records.old)) }
     ensures none { OnErr result (IsPermutation (bag records.new) (bag records.old)) }
-    ensures which { IfErr result (λ e. slice_get batch.items e.index ≡ Some e.record) }
+    ensures which { IfErr result (λ e. slice_get batch.items e.index ≡ Some e.in_the_way) }
+    ensures why { IfErr result (λ e. IsInTheWay
+        ⟦<Record as Ranked>⟧.ranks (bag records.old) batch.items e.in_the_way e.reason) }
 {
     match records.extend_unique(batch) {
         Ok(()) => Ok(()),
         Err(refused) => Err(Rejected {
             index: refused.taken.len(),
-            record: refused.value,
-            is_duplicate: refused.reason == ExtendUniqueReason::Conflict,
+            in_the_way: refused.value,
+            reason: refused.reason,
         }),
     }
 }

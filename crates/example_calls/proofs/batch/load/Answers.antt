@@ -1,25 +1,34 @@
 use Rattle.std.specs.Prelude.{◌≡◌, [], ◌∷◌, length, nat_eq}
 use Rattle.std.specs.Vec.Iter.{into_iter_items}
 use Rattle.std.proofs.Common.{rules}
+use Rattle.iddqd_bi.specs.Bag.{Ranks}
 use Rattle.iddqd_bi.specs.Map.{bag}
 use Rattle.iddqd_bi.specs.Rank.{agree}
-use Rattle.iddqd_bi.proofs.CallerLemmas.Batches.{batch-inserted, batch-split, batch-index}
+use Rattle.iddqd_bi.proofs.CallerLemmas.Batches.{batch-index, batch-inserted, batch-refused, batch-split}
 use Rattle.example_calls.specs.declared.batch.Record.{Record}
 use Rattle.example_calls.proofs.batch.load.Goals as goal
+
+abbrev by : Ranks Record
+by = agree (λ (r : Record). r.number) nat_eq ∷ agree (λ (r : Record). r.code) nat_eq ∷ []
 
 -- the items that the vector handed over are those of the batch
 pub returns-in-Ok-clause-all : goal.returns-in-Ok-clause-all
 returns-in-Ok-clause-all c =
-    let by = agree (λ (r : Record). r.number) nat_eq ∷ agree (λ (r : Record). r.code) nat_eq ∷ [] in
     let all = c.in-Ok.ensures.all in
     batch-inserted by (bag c.args.records.now) c.args.batch.items all.0 all.2.0 (bag c.extend_unique.new.self) all.1 all.3 all.4
 
--- it stands behind as many of the batch as were taken
+-- behind as many of the batch as were taken stands the one in the way
 pub returns-in-Err-clause-which : goal.returns-in-Err-clause-which
 returns-in-Err-clause-which c =
     let refused = c.in-Err.refused in
     let came = c.in-Err.ensures.refused in
-    let by = agree (λ (r : Record). r.number) nat_eq ∷ agree (λ (r : Record). r.code) nat_eq ∷ [] in
     let split = batch-split by (bag c.args.records.now) c.args.batch.items came.0 came.3.0 refused.value refused.taken.items came.1 came.2 came.4 came.5 in
     let same : c.len.result ≡ length refused.taken.items = search rules in
     rw same (batch-index c.args.batch.items refused.taken.items (into_iter_items came.2) refused.value split)
+
+-- those can all go in, and something conflicts with it exactly if that is the reason
+pub returns-in-Err-clause-why : goal.returns-in-Err-clause-why
+returns-in-Err-clause-why c =
+    let refused = c.in-Err.refused in
+    let came = c.in-Err.ensures.refused in
+    batch-refused by (bag c.args.records.now) c.args.batch.items came.0 came.3.0 refused.value refused.reason refused.taken.items came.1 came.2 came.4 came.5 c.in-Err.ensures.apart c.in-Err.ensures.reason

@@ -10,7 +10,7 @@ pub returns-in-Ok-clause-found : goal.returns-in-Ok-clause-found
 returns-in-Ok-clause-found g c =
     batch-found (_ ∷ _ ∷ []) [] (λ (s : Session). s.token) string_eq string_eq_equiv (bag c.args.sessions.now) (bag c.load.new.map) c.args.batch.items c.in-Ok.ensures.sound c.in-Ok.ensures.all
 
-pub returns-in-Err-clause-back : goal.returns-in-Err-clause-back
-returns-in-Err-clause-back g c =
+pub returns-in-Err-clause-handed_back : goal.returns-in-Err-clause-handed_back
+returns-in-Err-clause-handed_back g c =
     let way = c.in-Err.ensures.in_the_way in
     Contains-in_the_way c.args.batch.items way.0 way.1 c.in-Err.session way.2
