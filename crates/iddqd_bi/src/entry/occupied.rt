@@ -15,7 +15,7 @@ use super::{OccupiedEntry, OccupiedEntryMut, OccupiedEntryRef};
 use crate::error::{KeyMismatch, differ};
 use crate::item::{BiHashItemMut, Ranked};
 use crate::map::BiHashMap;
-use crate::map::slots::entry::{each_once, one_of};
+use crate::map::slots::found::{each_once, one_of};
 use iddqd_store::{Sought, UpToTwo};
 use std::hash::{BuildHasher, Hash};
 

@@ -12,7 +12,7 @@ ghost use Rattle.iddqd_bi.specs.RefMuts.{ref_lender, ref_map, ref_item};
 
 use super::OccupiedEntryMut;
 use crate::item::{BiHashItem, BiHashItemMut};
-use crate::map::slots::entry::one_of;
+use crate::map::slots::found::one_of;
 use crate::ref_mut::RefMut;
 use std::hash::{BuildHasher, Hash};
 

@@ -10,7 +10,7 @@ ghost use Rattle.iddqd_bi.specs.Keys.{ranks};
 ghost use Rattle.iddqd_store.proofs.MapLemmas.{IsEquivalence-key};
 
 use super::BiHashMap;
-use super::slots::has_others;
+use super::slots::found::has_others;
 use crate::item::BiHashItem;
 use std::hash::{BuildHasher, Hash};
 

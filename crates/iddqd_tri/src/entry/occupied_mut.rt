@@ -12,7 +12,7 @@ ghost use Rattle.iddqd_tri.specs.RefMuts.{ref_lender, ref_map, ref_item};
 
 use super::OccupiedEntryMut;
 use crate::item::{TriHashItem, TriHashItemMut};
-use crate::map::slots::entry::one_of;
+use crate::map::slots::found::one_of;
 use crate::ref_mut::RefMut;
 use std::hash::{BuildHasher, Hash};
 

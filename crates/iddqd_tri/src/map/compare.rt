@@ -10,7 +10,7 @@ ghost use Rattle.iddqd_tri.specs.Keys.{ranks};
 ghost use Rattle.iddqd_store.proofs.MapLemmas.{IsEquivalence-key};
 
 use super::TriHashMap;
-use super::slots::has_others;
+use super::slots::found::has_others;
 use crate::item::TriHashItem;
 use std::hash::{BuildHasher, Hash};
 

@@ -1,29 +1,27 @@
-//! What finds, puts in and takes out single items, by slot. What is done to all slots at once (emptying, walking,
-//! copying and rebuilding them) goes to them itself.
-ghost use Rattle.std.specs.Prelude.{◌≡◌, ◌≢◌, ℕ, ◌+◌, ◌^◌, ◌<◌, ◌≤◌, [], ◌∷◌, length, map, drop, All, IsPermutation, OnOk, OnErr, IfOk, IfErr, Some, None, IfSome, IfNone, nat_eq, slice_set};
+//! Single items, by slot: where one goes in, room for it, putting it in and taking it out. Its files: the slots that
+//! searches by all keys `found`, how to `walk` and `write`, to put an item `over` others, and to `enter` a list that may
+//! be refused. What is done to all slots at once (emptying, copying and rebuilding them) goes to them itself.
+ghost use Rattle.std.specs.Prelude.{◌≡◌, ◌≢◌, ℕ, ◌<◌, ◌≤◌, [], ◌∷◌, length, All, IsPermutation, OnOk, OnErr, IfOk, IfErr, Some, None, IfSome, nat_eq, slice_set};
 ghost use Rattle.std.specs.List.{IsDistinct};
-ghost use Rattle.std.specs.Option.{option_and_then};
-ghost use Rattle.iddqd_store.specs.Bag.{IsOnly, IsSound, clash, every_of, order, over};
+ghost use Rattle.iddqd_store.specs.Bag.{IsSound, clash};
 ghost use Rattle.iddqd_store.specs.Rank.Index.{HasHash};
-ghost use Rattle.iddqd_store.specs.Map.{bag, hash_of, Gains, Loses, MakesRoom, IsFullFor, ListsConflicts, IsBlockedAt};
+ghost use Rattle.iddqd_store.specs.Map.{bag, Gains, Loses, MakesRoom, IsFullFor, IsBlockedAt};
 ghost use Rattle.iddqd_store.specs.Rank.{agree, key_hash, IsPlaceOf, IsUnder};
-ghost use Rattle.iddqd_store.specs.Slots.Found.{each_once, items_at, FoundAt};
-ghost use Rattle.iddqd_store.specs.Slots.{get, items_in, live_items, IsLive, Updates};
-ghost use Rattle.iddqd_store.specs.Slots.Next.{ComesNext};
-ghost use Rattle.iddqd_tri.specs.Keys.{ranks, has2, has3, has_all};
+ghost use Rattle.iddqd_store.specs.Slots.Found.{each_once, items_at};
+ghost use Rattle.iddqd_store.specs.Slots.{get, IsLive, Updates};
+ghost use Rattle.iddqd_tri.specs.Keys.{ranks};
 
 mod enter;
-pub(crate) mod entry;
+pub(crate) mod found;
 mod over;
+mod walk;
 mod write;
 
-use self::entry::each_once;
+use self::found::each_once;
 use super::TriHashMap;
 use crate::item::TriHashItem;
 use crate::ranks::{First, Second, Third};
-use iddqd_store::{
-    Equivalent, ItemIndex, Lookup, Meter, Sought, TryReserveError, UpToThree, Vacancy,
-};
+use iddqd_store::{ItemIndex, Lookup, Meter, Sought, TryReserveError, UpToThree, Vacancy};
 use std::hash::{BuildHasher, Hash};
 
 /// An item that an insert refused, and why, with no hold on the map.
@@ -33,18 +31,6 @@ pub(crate) enum Refusal<T> {
     Duplicate(T, UpToThree<ItemIndex>),
     /// There was no memory for it.
     Memory(T),
-}
-
-/// Whether the item has the second and the third key that the queries stand for.
-pub(crate) fn has_others<T: TriHashItem, Q2: Equivalent<T::K2>, Q3: Equivalent<T::K3>>(
-    item: &T,
-    query2: &Q2,
-    query3: &Q3,
-) -> bool
-    ensures { result ≡ every_of
-        (has2 T.TriHashItem Q2.equivalent query2.now ∷ has3 T.TriHashItem Q3.equivalent query3.now ∷ []) item.now }
-{
-    query2.equivalent(item.key2()) && query3.equivalent(item.key3())
 }
 
 impl<T: TriHashItem, S: BuildHasher> TriHashMap<T, S> {
@@ -80,66 +66,25 @@ impl<T: TriHashItem, S: BuildHasher> TriHashMap<T, S> {
         Lookup::new(&self.items, &self.third, &self.hash_builder)
     }
 
-    /// The slot of the item that has all keys that the queries stand for, where this is the first query's hash.
-    pub(crate) fn slot_unique<Q1: Equivalent<T::K1>, Q2: Equivalent<T::K2>, Q3: Equivalent<T::K3>>(
-        &self,
-        hash: u64,
-        query1: &Q1,
-        query2: &Q2,
-        query3: &Q3,
-    ) -> Option<ItemIndex>
-        requires { hash ≡ hash_of S.BuildHasher S.Hasher.Hasher self.now.builder (Q1.hash_input query1.now) }
-        ensures found { IsOnly
-            (has_all T.TriHashItem Q1.equivalent Q2.equivalent Q3.equivalent query1.now query2.now query3.now)
-            (bag self.now) (option_and_then (get self.now.slots) result) }
-        ensures live { IfSome result (IsLive self.now.slots) }
-        ensures hashed { IfSome result (λ ix. HasHash
-            (key_hash T.key1 T.K1.hash_input S.BuildHasher S.Hasher.Hasher self.now.builder) self.now.slots ix hash) }
+    /// The hash of an item's first key.
+    pub(crate) fn hash_of1(&self, item: &T) -> u64
+        ensures { result ≡ key_hash T.key1 T.K1.hash_input S.BuildHasher S.Hasher.Hasher self.now.builder item.now }
     {
-        let ix = self.by_key1().slot(hash, query1)?;
-        let item = self.items.get(ix)?;
-        if has_others(item, query2, query3) {
-            Some(ix)
-        } else {
-            None
-        }
+        self.hash_builder.hash_one(item.key1())
     }
 
-    /// The slot of the item that has all keys.
-    pub(crate) fn slot_of_all(&self, key1: &T::K1, key2: &T::K2, key3: &T::K3) -> Option<ItemIndex>
-        ensures { FoundAt (has_all T.TriHashItem T.K1.eq T.K2.eq T.K3.eq key1.now key2.now key3.now)
-            self.now.slots result }
+    /// The hash of an item's second key.
+    pub(crate) fn hash_of2(&self, item: &T) -> u64
+        ensures { result ≡ key_hash T.key2 T.K2.hash_input S.BuildHasher S.Hasher.Hasher self.now.builder item.now }
     {
-        let hash = self.hash_builder.hash_one(key1);
-        self.slot_unique(hash, key1, key2, key3)
+        self.hash_builder.hash_one(item.key2())
     }
 
-    /// The items of these slots, lent.
-    pub(crate) fn items_of(&self, found: &UpToThree<ItemIndex>) -> UpToThree<&T>
-        ensures { map (λ item. item.now) result ≡ items_at self.now.slots found.now }
+    /// The hash of an item's third key.
+    pub(crate) fn hash_of3(&self, item: &T) -> u64
+        ensures { result ≡ key_hash T.key3 T.K3.hash_input S.BuildHasher S.Hasher.Hasher self.now.builder item.now }
     {
-        let mut items = UpToThree::new();
-        for at in 0..found.len() {
-            if let Some(ix) = found.get(at) {
-                if let Some(item) = self.items.get(*ix) {
-                    items.push(item);
-                }
-            }
-        }
-        items
-    }
-
-    /// The first item in a slot of this number or a higher one, with its slot.
-    pub(crate) fn item_from(&self, from: usize) -> Option<(ItemIndex, &T)>
-        ensures next { IfSome result (λ p. ComesNext self.now.slots from p.0 p.1.now) }
-        ensures countable { IfSome result (λ p. p.0 + 1 < 2 ^ 64) }
-        ensures none { IfNone result (items_in (drop from self.now.slots) ≡ []) }
-    {
-        let ix = self.items.next_live(from)?;
-        match self.items.get(ix) {
-            Some(item) => Some((ix, item)),
-            None => unreachable!(),
-        }
+        self.hash_builder.hash_one(item.key3())
     }
 
     /// Where an item goes in at each rank; or, where items conflict with it, what the search at each rank found.
@@ -231,6 +176,35 @@ impl<T: TriHashItem, S: BuildHasher> TriHashMap<T, S> {
         self.second.insert_at(at2, ix, &mut Meter::new());
         self.third.insert_at(at3, ix, &mut Meter::new());
         ix
+    }
+
+    /// Puts an item in that nothing conflicts with, or hands it back where there is no memory for it. It searches
+    /// and hashes nothing.
+    pub(crate) fn put_free(
+        &mut self,
+        item: T,
+        at1: Vacancy,
+        at2: Vacancy,
+        at3: Vacancy,
+    ) -> Result<ItemIndex, T>
+        requires free { clash (ranks T.TriHashItem T.K1.eq T.K2.eq T.K3.eq) (bag self.old) item ≡ [] }
+        requires first { IsPlaceOf
+            (key_hash T.key1 T.K1.hash_input S.BuildHasher S.Hasher.Hasher self.old.builder) (bag self.old) item at1 }
+        requires second { IsPlaceOf
+            (key_hash T.key2 T.K2.hash_input S.BuildHasher S.Hasher.Hasher self.old.builder) (bag self.old) item at2 }
+        requires third { IsPlaceOf
+            (key_hash T.key3 T.K3.hash_input S.BuildHasher S.Hasher.Hasher self.old.builder) (bag self.old) item at3 }
+        ensures gains { OnOk result (Gains self.old item self.new) }
+        ensures at { IfOk result (λ ix. get self.new.slots ix ≡ Some item) }
+        ensures sound { OnOk result (IsSound (ranks T.TriHashItem T.K1.eq T.K2.eq T.K3.eq) (bag self.new)) }
+        ensures handed_back { IfErr result (λ x. x ≡ item) }
+        ensures unchanged { OnErr result (self.new ≡ self.old) }
+        ensures full { OnErr result (IsFullFor (ranks T.TriHashItem T.K1.eq T.K2.eq T.K3.eq) self.old item) }
+    {
+        if let Err(_) = self.make_room() {
+            return Err(item);
+        }
+        Ok(self.put(item, at1, at2, at3))
     }
 
     /// Takes out the item of a slot. A key of it is hashed only where its hash isn't given.

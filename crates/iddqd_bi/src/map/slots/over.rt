@@ -8,7 +8,7 @@ ghost use Rattle.iddqd_store.specs.Slots.Found.{each_once};
 ghost use Rattle.iddqd_bi.specs.Keys.{ranks};
 
 use super::super::BiHashMap;
-use super::entry::each_once;
+use super::found::each_once;
 use crate::item::BiHashItem;
 use crate::ranks::{First, Second};
 use iddqd_store::{ItemIndex, Sought, UpToTwo, Vacancy};

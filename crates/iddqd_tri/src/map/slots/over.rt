@@ -8,7 +8,7 @@ ghost use Rattle.iddqd_store.specs.Slots.Found.{each_once};
 ghost use Rattle.iddqd_tri.specs.Keys.{ranks};
 
 use super::super::TriHashMap;
-use super::entry::each_once;
+use super::found::each_once;
 use crate::item::TriHashItem;
 use crate::ranks::{First, Second, Third};
 use iddqd_store::{ItemIndex, Sought, UpToThree, Vacancy};

@@ -1,5 +1,5 @@
 //! Reading and writing the items of slots that are known.
-ghost use Rattle.std.specs.Prelude.{◌≡◌, [], ◌∷◌, true, ℕ, All, length, nat_eq, Some, IsPermutation, IfSome, IfNone, is_some, ◌+◌};
+ghost use Rattle.std.specs.Prelude.{◌≡◌, [], ◌∷◌, true, ℕ, All, nat_eq, Some, IsPermutation, IfSome, is_some};
 ghost use Rattle.std.specs.Borrow.{sem};
 ghost use Rattle.std.specs.Fn.{CalledAt};
 ghost use Rattle.std.specs.List.{IsDistinct};
@@ -7,7 +7,6 @@ ghost use Rattle.std.specs.Option.{option_and_then};
 ghost use Rattle.iddqd_store.specs.Bag.{IsSound, agrees, swap};
 ghost use Rattle.iddqd_store.specs.Bag.Storing.{Stores};
 ghost use Rattle.iddqd_store.specs.Map.{bag};
-ghost use Rattle.iddqd_store.specs.Map.Walk.{IsNextSlot, Passes, to_come};
 ghost use Rattle.iddqd_store.specs.Map.Written.{map_with, map_with_if};
 ghost use Rattle.iddqd_store.specs.Slots.{get, IsLive};
 ghost use Rattle.iddqd_store.specs.Slots.Found.{held_at, items_at};
@@ -15,7 +14,7 @@ ghost use Rattle.iddqd_store.specs.Slots.Kept.{KeepsKeys};
 ghost use Rattle.iddqd_tri.specs.Keys.{ranks};
 
 use super::super::TriHashMap;
-use super::entry::each_once;
+use super::found::each_once;
 use crate::item::{TriHashItem, TriHashItemMut};
 use iddqd_store::{ItemIndex, UpToThree};
 use std::hash::{BuildHasher, Hash};
@@ -41,28 +40,6 @@ impl<T: TriHashItem, S: BuildHasher> TriHashMap<T, S> {
             (swap (ranks T.TriHashItem T.K1.eq T.K2.eq T.K3.eq) (bag self.old) result item) }
     {
         self.items.replace(ix, item)
-    }
-
-    /// How many items stand in slots of this number or a higher one.
-    pub(crate) fn count_from(&self, from: usize) -> usize
-        ensures { result ≡ length (to_come self.now from) }
-    {
-        self.items.count_from(from)
-    }
-
-    /// The first slot with an item of this number or a higher one.
-    pub(crate) fn slot_from(&self, from: usize) -> Option<ItemIndex>
-        ensures next { IfSome result (λ ix. (x : T) × (get self.now.slots ix ≡ Some x)
-            × Passes self.now from x (map_with self.now ix) (ix + 1)) }
-        ensures step { IfSome result (λ ix. (x : T) × (get self.now.slots ix ≡ Some x)
-            × IsNextSlot self.now.slots from ix x) }
-        ensures live { IfSome result (IsLive self.now.slots) }
-        ensures none { IfNone result (to_come self.now from ≡ []) }
-    {
-        match self.items.next_live(from) {
-            Some(ix) => Some(ix),
-            None => None,
-        }
     }
 }
 

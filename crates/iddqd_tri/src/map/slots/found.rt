@@ -1,0 +1,147 @@
+//! The slots that searches by all keys found: which they are, and their items, read or lent.
+ghost use Rattle.std.specs.Prelude.{◌≡◌, [], ◌∷◌, map, IfSome, option_copied};
+ghost use Rattle.std.specs.Option.{option_and_then};
+ghost use Rattle.iddqd_store.specs.Bag.{IsOnly, every_of};
+ghost use Rattle.iddqd_store.specs.Rank.Index.{HasHash};
+ghost use Rattle.iddqd_store.specs.Map.{bag, hash_of};
+ghost use Rattle.iddqd_store.specs.Rank.{key_hash};
+ghost use Rattle.iddqd_store.specs.Slots.Found.{each_once, items_at, FoundAt, found_by_all, head_of};
+ghost use Rattle.iddqd_store.specs.Slots.{get, IsLive};
+ghost use Rattle.iddqd_tri.specs.Keys.{has2, has3, has_all};
+ghost use Rattle.std.specs.Borrow.{sem};
+ghost use Rattle.iddqd_tri.specs.RefMuts.{ref_lender, ref_map, ref_item, rests_if_none};
+
+use super::super::TriHashMap;
+use crate::item::TriHashItem;
+use crate::ref_mut::RefMut;
+use iddqd_store::{Equivalent, ItemIndex, UpToThree};
+use std::hash::{BuildHasher, Hash};
+
+/// Whether the item has the second and the third key that the queries stand for.
+pub(crate) fn has_others<T: TriHashItem, Q2: Equivalent<T::K2>, Q3: Equivalent<T::K3>>(
+    item: &T,
+    query2: &Q2,
+    query3: &Q3,
+) -> bool
+    ensures { result ≡ every_of
+        (has2 T.TriHashItem Q2.equivalent query2.now ∷ has3 T.TriHashItem Q3.equivalent query3.now ∷ []) item.now }
+{
+    query2.equivalent(item.key2()) && query3.equivalent(item.key3())
+}
+
+/// The slot that all searches found.
+pub(crate) fn one_of(
+    slot1: Option<ItemIndex>,
+    slot2: Option<ItemIndex>,
+    slot3: Option<ItemIndex>,
+) -> Option<ItemIndex>
+    ensures { result ≡ head_of (found_by_all (slot1 ∷ slot2 ∷ slot3 ∷ [])) }
+{
+    match (slot1, slot2, slot3) {
+        (Some(a), Some(b), Some(c)) => { if a == b && a == c { Some(a) } else { None } }
+        _ => None,
+    }
+}
+
+/// The slots that searches found, each once.
+pub(crate) fn each_once(
+    slot1: Option<ItemIndex>,
+    slot2: Option<ItemIndex>,
+    slot3: Option<ItemIndex>,
+) -> UpToThree<ItemIndex>
+    ensures { result ≡ each_once (slot1 ∷ slot2 ∷ slot3 ∷ []) }
+{
+    let mut found = UpToThree::new();
+    found.push_found(slot1);
+    found.push_found(slot2);
+    found.push_found(slot3);
+    found
+}
+
+impl<T: TriHashItem, S: BuildHasher> TriHashMap<T, S> {
+    /// The slot of the item that has all keys that the queries stand for, where this is the first query's hash.
+    pub(crate) fn slot_unique<Q1: Equivalent<T::K1>, Q2: Equivalent<T::K2>, Q3: Equivalent<T::K3>>(
+        &self,
+        hash: u64,
+        query1: &Q1,
+        query2: &Q2,
+        query3: &Q3,
+    ) -> Option<ItemIndex>
+        requires { hash ≡ hash_of S.BuildHasher S.Hasher.Hasher self.now.builder (Q1.hash_input query1.now) }
+        ensures found { IsOnly
+            (has_all T.TriHashItem Q1.equivalent Q2.equivalent Q3.equivalent query1.now query2.now query3.now)
+            (bag self.now) (option_and_then (get self.now.slots) result) }
+        ensures live { IfSome result (IsLive self.now.slots) }
+        ensures hashed { IfSome result (λ ix. HasHash
+            (key_hash T.key1 T.K1.hash_input S.BuildHasher S.Hasher.Hasher self.now.builder) self.now.slots ix hash) }
+    {
+        let ix = self.by_key1().slot(hash, query1)?;
+        let item = self.items.get(ix)?;
+        if has_others(item, query2, query3) {
+            Some(ix)
+        } else {
+            None
+        }
+    }
+
+    /// The slot of the item that has all keys.
+    pub(crate) fn slot_of_all(&self, key1: &T::K1, key2: &T::K2, key3: &T::K3) -> Option<ItemIndex>
+        ensures { FoundAt (has_all T.TriHashItem T.K1.eq T.K2.eq T.K3.eq key1.now key2.now key3.now)
+            self.now.slots result }
+    {
+        let hash = self.hash_builder.hash_one(key1);
+        self.slot_unique(hash, key1, key2, key3)
+    }
+
+    /// The items of these slots, lent.
+    pub(crate) fn items_of(&self, found: &UpToThree<ItemIndex>) -> UpToThree<&T>
+        ensures { map (λ item. item.now) result ≡ items_at self.now.slots found.now }
+    {
+        let mut items = UpToThree::new();
+        for at in 0..found.len() {
+            if let Some(ix) = found.get(at) {
+                if let Some(item) = self.items.get(*ix) {
+                    items.push(item);
+                }
+            }
+        }
+        items
+    }
+
+    /// The item of a slot, if it has one.
+    pub(crate) fn item_of(&self, slot: Option<ItemIndex>) -> Option<&T>
+        ensures { option_copied result ≡ option_and_then (get self.now.slots) slot }
+    {
+        match slot {
+            Some(ix) => self.items.get(ix),
+            None => None,
+        }
+    }
+
+    /// The slot, if it has an item.
+    fn if_live(&self, slot: Option<ItemIndex>) -> Option<ItemIndex>
+        ensures live { IfSome result (IsLive self.now.slots) }
+        ensures item { option_and_then (get self.now.slots) result ≡ option_and_then (get self.now.slots) slot }
+    {
+        let ix = slot?;
+        if self.items.get(ix).is_some() {
+            Some(ix)
+        } else {
+            None
+        }
+    }
+
+    /// The item of a slot, if it has one, for writing.
+    pub(crate) fn lend(&mut self, slot: Option<ItemIndex>) -> Option<RefMut<'_, T, S>>
+        ensures item { option_and_then ref_item result ≡ option_and_then (get self.old.slots) slot }
+        ensures unchanged { IfSome result (λ r. ref_map r ≡ self.old) }
+        ensures same_map { IfSome result (λ r. ref_lender r ≡ self.entry.ghost_name) }
+        ensures* rests_at_none { sem 𝓛
+            (rests_if_none T.row S.row T.K1.row T.K2.row T.K3.row S.Hasher.row self.entry result) }
+    {
+        match self.if_live(slot) {
+            Some(slot) => Some(RefMut { map: self, slot }),
+            None => None,
+        }
+    }
+}
