@@ -1,0 +1,16 @@
+use Rattle.std.proofs.Common.{◌≡◌, refl, sym, ◌∙◌}
+use Rattle.std.specs.Prelude.{false}
+use Rattle.iddqd_bi.specs.Keys.{has_both}
+use Rattle.iddqd_bi.specs.Map.{bag}
+use Rattle.iddqd_bi.proofs.CallerLemmas.Laws.{given-some}
+use Rattle.iddqd_uses_bi.proofs.laws.finding.unique_where_contained.Goals as goal
+
+-- both say whether a member has the keys
+pub returns-then-contains_key_unique : goal.returns-then-contains_key_unique
+returns-then-contains_key_unique g c =
+    c.is_some-given.ensures ∙ given-some (has_both g.T.BiHashItem g.Q1.Equivalent.equivalent g.Q2.Equivalent.equivalent c.args.query1.now c.args.query2.now) (bag c.args.map.now) c.get_unique.result c.get_unique.ensures ∙ sym c.contains_key_unique.ensures ∙ c.if-contains_key_unique.true
+
+pub returns-else-contains_key_unique : goal.returns-else-contains_key_unique
+returns-else-contains_key_unique g c =
+    let no : c.is_some-given.result ≡ false = c.is_some-given.ensures ∙ given-some (has_both g.T.BiHashItem g.Q1.Equivalent.equivalent g.Q2.Equivalent.equivalent c.args.query1.now c.args.query2.now) (bag c.args.map.now) c.get_unique.result c.get_unique.ensures ∙ sym c.contains_key_unique.ensures ∙ c.if-contains_key_unique.false in
+    rw no refl
