@@ -1,87 +1,49 @@
 //! The three-key map under refused memory: each call that puts an item into a full map.
 use crate::granted::{granted, same};
-use iddqd_tri::{Entry, EntryError, InsertError, TriHashItem, TriHashMap};
+use iddqd_tests_tri::{Row, row_of};
+use iddqd_tri::{Entry, EntryError, InsertError, TriHashMap};
 use std::alloc::Global;
 use std::process::Abort;
 use std::test::*;
 
-/// An item that is three keys.
-#[derive(Clone, Copy, Debug, PartialEq, Eq)]
-pub(crate) struct Trio {
-    key1: u64,
-    key2: u64,
-    key3: u64,
-}
-
-impl TriHashItem for Trio {
-    type K1 = u64;
-
-    type K2 = u64;
-
-    type K3 = u64;
-
-    ghost key1 = { λ x. x.key1 };
-
-    ghost key2 = { λ x. x.key2 };
-
-    ghost key3 = { λ x. x.key3 };
-
-    fn key1(&self) -> &u64 {
-        &self.key1
-    }
-
-    fn key2(&self) -> &u64 {
-        &self.key2
-    }
-
-    fn key3(&self) -> &u64 {
-        &self.key3
-    }
-}
-
-/// An item of these keys.
-pub(crate) fn trio_of(key1: u64, key2: u64, key3: u64) -> Trio {
-    Trio { key1, key2, key3 }
-}
-
 /// Whether the map has the item by each of its keys.
-pub(crate) fn holds(map: &TriHashMap<Trio>, item: Trio) -> bool {
+pub(crate) fn holds(map: &TriHashMap<Row>, item: Row) -> bool {
     map.get1(&item.key1).copied() == Some(item)
         && map.get2(&item.key2).copied() == Some(item)
         && map.get3(&item.key3).copied() == Some(item)
 }
 
 /// Whether the map has the two items of `two_in` and so many in all.
-pub(crate) fn holds_two_of(map: &TriHashMap<Trio>, items: usize) -> bool {
-    map.len() == items && holds(map, trio_of(1, 10, 100)) && holds(map, trio_of(2, 20, 200))
+pub(crate) fn holds_two_of(map: &TriHashMap<Row>, items: usize) -> bool {
+    map.len() == items && holds(map, row_of(1, 10, 100, 0)) && holds(map, row_of(2, 20, 200, 0))
 }
 
 /// Puts an item in that conflicts with none, and says whether there was memory.
-pub(crate) fn put(map: &mut TriHashMap<Trio>, item: Trio) -> bool {
+pub(crate) fn put(map: &mut TriHashMap<Row>, item: Row) -> bool {
     insert(map, item) == Answer::In
 }
 
 /// The map of two items with this capacity, if there is memory.
-pub(crate) fn two_in(alloc: Global, capacity: usize) -> Option<TriHashMap<Trio>> {
+pub(crate) fn two_in(alloc: Global, capacity: usize) -> Option<TriHashMap<Row>> {
     let mut map = TriHashMap::with_capacity(alloc, capacity).ok()?;
     if put_two(&mut map) { Some(map) } else { None }
 }
 
-fn put_two(map: &mut TriHashMap<Trio>) -> bool {
-    put(map, trio_of(1, 10, 100)) && put(map, trio_of(2, 20, 200))
+fn put_two(map: &mut TriHashMap<Row>) -> bool {
+    put(map, row_of(1, 10, 100, 0)) && put(map, row_of(2, 20, 200, 0))
 }
 
 /// A full map, with those two items among others, if there is memory. Its tables have no room beyond its capacity, so
 /// that each of them has to grow for one item more.
-pub(crate) fn full(alloc: Global) -> Option<TriHashMap<Trio>> {
+pub(crate) fn full(alloc: Global) -> Option<TriHashMap<Row>> {
     let mut map = two_in(alloc, 7)?;
     if fill(&mut map) { Some(map) } else { None }
 }
 
 /// Puts the third item to the seventh in, and says whether there was memory.
-fn fill(map: &mut TriHashMap<Trio>) -> bool {
+fn fill(map: &mut TriHashMap<Row>) -> bool {
     for k in 3..8 {
-        if !put(map, trio_of(k, 10 * k, 100 * k)) {
+        if !put(map, row_of(k, 10 * k, 100 * k, 0)) {
             return false;
         }
     }
@@ -109,13 +71,13 @@ enum EntryWay {
 #[derive(Clone, Copy, Debug, PartialEq, Eq)]
 enum Answer {
     In,
-    Memory(Trio),
-    Key1(Trio),
-    Key3(Trio),
+    Memory(Row),
+    Key1(Row),
+    Key3(Row),
     Other,
 }
 
-fn refusal(error: EntryError<Trio>) -> Answer {
+fn refusal(error: EntryError<Row>) -> Answer {
     match error {
         EntryError::Memory(item) => Answer::Memory(item),
         EntryError::Key1(item) => Answer::Key1(item),
@@ -125,7 +87,7 @@ fn refusal(error: EntryError<Trio>) -> Answer {
 }
 
 /// Puts the item in, by the entry of its own keys where the call is one of an entry.
-fn put_in(map: &mut TriHashMap<Trio>, way: Way, item: Trio) -> Answer {
+fn put_in(map: &mut TriHashMap<Row>, way: Way, item: Row) -> Answer {
     match way {
         Way::Unique => insert(map, item),
         Way::Overwrite => overwrite(map, item),
@@ -133,7 +95,7 @@ fn put_in(map: &mut TriHashMap<Trio>, way: Way, item: Trio) -> Answer {
     }
 }
 
-fn insert(map: &mut TriHashMap<Trio>, item: Trio) -> Answer {
+fn insert(map: &mut TriHashMap<Row>, item: Row) -> Answer {
     match map.insert_unique(item) {
         Ok(()) => Answer::In,
         Err(InsertError::Memory(refusal)) => Answer::Memory(refusal.into_item()),
@@ -144,7 +106,7 @@ fn insert(map: &mut TriHashMap<Trio>, item: Trio) -> Answer {
     }
 }
 
-fn overwrite(map: &mut TriHashMap<Trio>, item: Trio) -> Answer {
+fn overwrite(map: &mut TriHashMap<Row>, item: Row) -> Answer {
     match map.insert_overwrite(item) {
         Ok(_displaced) => Answer::In,
         Err(refusal) => Answer::Memory(refusal.value),
@@ -152,7 +114,7 @@ fn overwrite(map: &mut TriHashMap<Trio>, item: Trio) -> Answer {
 }
 
 /// Puts an item in by the entry of the keys of another one.
-fn enter(map: &mut TriHashMap<Trio>, way: EntryWay, keys: Trio, item: Trio) -> Answer {
+fn enter(map: &mut TriHashMap<Row>, way: EntryWay, keys: Row, item: Row) -> Answer {
     match way {
         EntryWay::VacantInsert => vacant_insert(map, keys, item),
         EntryWay::VacantInsertEntry => insert_entry(map, keys, item),
@@ -161,7 +123,7 @@ fn enter(map: &mut TriHashMap<Trio>, way: EntryWay, keys: Trio, item: Trio) -> A
     }
 }
 
-fn vacant_insert(map: &mut TriHashMap<Trio>, keys: Trio, item: Trio) -> Answer {
+fn vacant_insert(map: &mut TriHashMap<Row>, keys: Row, item: Row) -> Answer {
     let Entry::Vacant(entry) = map.entry(&keys.key1, &keys.key2, &keys.key3) else {
         return Answer::Other;
     };
@@ -171,7 +133,7 @@ fn vacant_insert(map: &mut TriHashMap<Trio>, keys: Trio, item: Trio) -> Answer {
     }
 }
 
-fn insert_entry(map: &mut TriHashMap<Trio>, keys: Trio, item: Trio) -> Answer {
+fn insert_entry(map: &mut TriHashMap<Row>, keys: Row, item: Row) -> Answer {
     let Entry::Vacant(entry) = map.entry(&keys.key1, &keys.key2, &keys.key3) else {
         return Answer::Other;
     };
@@ -181,7 +143,7 @@ fn insert_entry(map: &mut TriHashMap<Trio>, keys: Trio, item: Trio) -> Answer {
     }
 }
 
-fn or_insert(map: &mut TriHashMap<Trio>, keys: Trio, item: Trio) -> Answer {
+fn or_insert(map: &mut TriHashMap<Row>, keys: Row, item: Row) -> Answer {
     let entry = map.entry(&keys.key1, &keys.key2, &keys.key3);
     match entry.or_insert(item) {
         Ok(_found) => Answer::In,
@@ -189,7 +151,7 @@ fn or_insert(map: &mut TriHashMap<Trio>, keys: Trio, item: Trio) -> Answer {
     }
 }
 
-fn or_insert_with(map: &mut TriHashMap<Trio>, keys: Trio, item: Trio) -> Answer {
+fn or_insert_with(map: &mut TriHashMap<Row>, keys: Row, item: Row) -> Answer {
     let entry = map.entry(&keys.key1, &keys.key2, &keys.key3);
     match entry.or_insert_with(|| item) {
         Ok(_found) => Answer::In,
@@ -200,9 +162,9 @@ fn or_insert_with(map: &mut TriHashMap<Trio>, keys: Trio, item: Trio) -> Answer 
 // Each scenario answers whether every request was granted. A set-up that is refused is an outcome that says nothing.
 
 /// Whether the map holds what `full` filled it with, with its capacity, and no others.
-fn is_as_filled(map: &TriHashMap<Trio>) -> bool {
+fn is_as_filled(map: &TriHashMap<Row>) -> bool {
     for k in 3..8 {
-        if !holds(map, trio_of(k, 10 * k, 100 * k)) {
+        if !holds(map, row_of(k, 10 * k, 100 * k, 0)) {
             return false;
         }
     }
@@ -211,18 +173,18 @@ fn is_as_filled(map: &TriHashMap<Trio>) -> bool {
 
 /// Gives an entry of a full map an item that has not its first key, and one that has not its third. Whatever memory
 /// there is, that is answered, and the map is as before.
-fn refuse(rt: &impl Abort, map: &mut TriHashMap<Trio>, way: EntryWay, keys: Trio) {
-    let first = trio_of(0, keys.key2, keys.key3);
+fn refuse(rt: &impl Abort, map: &mut TriHashMap<Row>, way: EntryWay, keys: Row) {
+    let first = row_of(0, keys.key2, keys.key3, 0);
     same(rt, enter(map, way, keys, first), Answer::Key1(first));
-    let third = trio_of(keys.key1, keys.key2, 0);
+    let third = row_of(keys.key1, keys.key2, 0, 0);
     same(rt, enter(map, way, keys, third), Answer::Key3(third));
     assert!(rt; is_as_filled(map));
 }
 
 /// Puts one item more into a full map. Where that is refused the item is handed back and the map is as before, and a
 /// second try is granted.
-fn grow_full(rt: &impl Abort, map: &mut TriHashMap<Trio>, way: Way) -> bool {
-    let item = trio_of(8, 80, 800);
+fn grow_full(rt: &impl Abort, map: &mut TriHashMap<Row>, way: Way) -> bool {
+    let item = row_of(8, 80, 800, 0);
     if let Way::Entry(way) = way {
         refuse(rt, map, way, item);
     }
@@ -247,7 +209,7 @@ fn grow(rt: &impl Abort, alloc: Global, way: Way) -> bool {
 }
 
 /// How many items give way to this one, if there is memory.
-fn displaced(map: &mut TriHashMap<Trio>, item: Trio) -> Option<usize> {
+fn displaced(map: &mut TriHashMap<Row>, item: Row) -> Option<usize> {
     match map.insert_overwrite(item) {
         Ok(displaced) => Some(displaced.len()),
         Err(_) => None,
@@ -255,7 +217,7 @@ fn displaced(map: &mut TriHashMap<Trio>, item: Trio) -> Option<usize> {
 }
 
 /// How many items an occupied entry gives for this one, if it is occupied and takes it.
-fn displaced_by_entry(map: &mut TriHashMap<Trio>, keys: Trio, item: Trio) -> Option<usize> {
+fn displaced_by_entry(map: &mut TriHashMap<Row>, keys: Row, item: Row) -> Option<usize> {
     let Entry::Occupied(mut found) = map.entry(&keys.key1, &keys.key2, &keys.key3) else {
         return None;
     };
@@ -266,7 +228,7 @@ fn displaced_by_entry(map: &mut TriHashMap<Trio>, keys: Trio, item: Trio) -> Opt
 }
 
 /// Puts an item into a map that has room for it, and takes it out again, many times.
-fn put_and_remove(rt: &impl Abort, map: &mut TriHashMap<Trio>, item: Trio) {
+fn put_and_remove(rt: &impl Abort, map: &mut TriHashMap<Row>, item: Row) {
     for _ in 0..100 {
         assert!(rt; put(map, item));
         same(rt, map.remove2(&item.key2), Some(item));
@@ -275,16 +237,16 @@ fn put_and_remove(rt: &impl Abort, map: &mut TriHashMap<Trio>, item: Trio) {
 
 /// Calls that ask for no memory even where the map is full, whatever there is: conflicts, items that displace
 /// others, and as many inserts and removals as you like.
-fn ask_for_none_of(rt: &impl Abort, map: &mut TriHashMap<Trio>) {
-    same(rt, insert(map, trio_of(1, 20, 300)), Answer::Other);
-    let item = trio_of(1, 20, 300);
+fn ask_for_none_of(rt: &impl Abort, map: &mut TriHashMap<Row>) {
+    same(rt, insert(map, row_of(1, 20, 300, 0)), Answer::Other);
+    let item = row_of(1, 20, 300, 0);
     same(rt, displaced(map, item), Some(2));
     assert!(rt; holds(map, item));
-    let other = trio_of(3, 30, 400);
+    let other = row_of(3, 30, 400, 0);
     put_and_remove(rt, map, other);
     same(rt, enter(map, EntryWay::OrInsert, other, other), Answer::In);
     // The entry of both items' keys, one of which displaces the other.
-    let keys = trio_of(1, 30, 300);
+    let keys = row_of(1, 30, 300, 0);
     same(rt, displaced_by_entry(map, keys, keys), Some(2));
     same(rt, map.len(), 1);
     same(rt, map.capacity(), 2);

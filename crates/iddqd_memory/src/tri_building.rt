@@ -1,6 +1,7 @@
 //! Three-key maps built of many items at once, under refused memory.
 use crate::granted::{granted, same};
-use crate::tri::{Trio, full, holds, holds_two_of, put, trio_of};
+use crate::tri::{full, holds, holds_two_of, put};
+use iddqd_tests_tri::{Row, row_of};
 use iddqd_tri::{ExtendUniqueReason, FromIterError, TriHashMap};
 use std::alloc::Global;
 use std::process::Abort;
@@ -9,32 +10,32 @@ use std::test::*;
 // As in the other scenarios each answer says whether every request was granted.
 
 /// Three items that do not conflict.
-fn three() -> [Trio; 3] {
+fn three() -> [Row; 3] {
     [
-        trio_of(1, 10, 100),
-        trio_of(2, 20, 200),
-        trio_of(3, 30, 300),
+        row_of(1, 10, 100, 0),
+        row_of(2, 20, 200, 0),
+        row_of(3, 30, 300, 0),
     ]
 }
 
 /// Whether the map has those and no others.
-fn holds_three(map: &TriHashMap<Trio>) -> bool {
-    holds_two_of(map, 3) && holds(map, trio_of(3, 30, 300))
+fn holds_three(map: &TriHashMap<Row>) -> bool {
+    holds_two_of(map, 3) && holds(map, row_of(3, 30, 300, 0))
 }
 
 // An iterator that filters promises no item.
 
 /// Whether `from_iter` makes a map of the three items, or the item that it refuses.
-fn made(alloc: Global) -> Result<bool, Trio> {
-    match TriHashMap::<Trio>::from_iter(alloc, three().into_iter().filter(|_| true)) {
+fn made(alloc: Global) -> Result<bool, Row> {
+    match TriHashMap::<Row>::from_iter(alloc, three().into_iter().filter(|_| true)) {
         Ok(map) => Ok(holds_three(&map)),
         Err(refusal) => Err(refusal.value),
     }
 }
 
 /// The same of `from_iter_unique`, which finds no conflict.
-fn made_unique(alloc: Global) -> Result<bool, Trio> {
-    match TriHashMap::<Trio>::from_iter_unique(alloc, three().into_iter().filter(|_| true)) {
+fn made_unique(alloc: Global) -> Result<bool, Row> {
+    match TriHashMap::<Row>::from_iter_unique(alloc, three().into_iter().filter(|_| true)) {
         Ok(map) => Ok(holds_three(&map)),
         Err(FromIterError::Duplicate(refusal)) => {
             drop(refusal);
@@ -45,7 +46,7 @@ fn made_unique(alloc: Global) -> Result<bool, Trio> {
 }
 
 /// Whether all three items went in. If not, one of them was refused.
-fn all_went_in(rt: &impl Abort, made: Result<bool, Trio>) -> bool {
+fn all_went_in(rt: &impl Abort, made: Result<bool, Row>) -> bool {
     match made {
         Ok(holds) => {
             assert!(rt; holds);
@@ -73,14 +74,14 @@ fn from_iter_unique(rt: &impl Abort, alloc: Global) -> bool {
 
 // Where the growth by the promise is refused, the inserts ask again, and are granted.
 fn extend_by_what_is_promised(rt: &impl Abort, alloc: Global) -> bool {
-    let mut map = TriHashMap::<Trio>::new(alloc);
+    let mut map = TriHashMap::<Row>::new(alloc);
     assert!(rt; map.extend(three()).is_ok());
     assert!(rt; holds_three(&map));
     true
 }
 
 /// What `extend` refuses, if it refuses an item.
-fn extend_by(map: &mut TriHashMap<Trio>, items: [Trio; 2]) -> Option<Trio> {
+fn extend_by(map: &mut TriHashMap<Row>, items: [Row; 2]) -> Option<Row> {
     match map.extend(items.into_iter().filter(|_| true)) {
         Ok(()) => None,
         Err(refusal) => Some(refusal.value),
@@ -88,9 +89,9 @@ fn extend_by(map: &mut TriHashMap<Trio>, items: [Trio; 2]) -> Option<Trio> {
 }
 
 /// Extends a full map by an item that displaces one and by a new one. Where that is refused the first one stays in.
-fn extend_full(rt: &impl Abort, map: &mut TriHashMap<Trio>) -> bool {
-    let over = trio_of(1, 10, 101);
-    let next = trio_of(8, 80, 800);
+fn extend_full(rt: &impl Abort, map: &mut TriHashMap<Row>) -> bool {
+    let over = row_of(1, 10, 101, 0);
+    let next = row_of(8, 80, 800, 0);
     let refused = extend_by(map, [over, next]);
     let granted = refused.is_none();
     if !granted {
@@ -111,9 +112,9 @@ fn extend_when_full(rt: &impl Abort, alloc: Global) -> bool {
 }
 
 /// Whether the map has the items of `full` but its last ones, so many in all, and these after them.
-fn holds_first(map: &TriHashMap<Trio>, first: u64, others: &[Trio]) -> bool {
+fn holds_first(map: &TriHashMap<Row>, first: u64, others: &[Row]) -> bool {
     for k in 1..=first {
-        if !holds(map, trio_of(k, k.wrapping_mul(10), k.wrapping_mul(100))) {
+        if !holds(map, row_of(k, k.wrapping_mul(10), k.wrapping_mul(100), 0)) {
             return false;
         }
     }
@@ -126,14 +127,14 @@ fn holds_first(map: &TriHashMap<Trio>, first: u64, others: &[Trio]) -> bool {
 }
 
 // Takes the items behind so many out of a full map.
-fn leave_first(map: &mut TriHashMap<Trio>, first: u64) {
+fn leave_first(map: &mut TriHashMap<Row>, first: u64) {
     for k in first.wrapping_add(1)..=7 {
         let _ = map.remove1(&k);
     }
 }
 
 /// Why `extend_unique` refuses one item, if it does.
-fn refusal_of(map: &mut TriHashMap<Trio>, item: Trio) -> Option<ExtendUniqueReason> {
+fn refusal_of(map: &mut TriHashMap<Row>, item: Row) -> Option<ExtendUniqueReason> {
     match map.extend_unique([item]) {
         Ok(()) => None,
         Err(refused) => Some(refused.reason),
@@ -141,19 +142,19 @@ fn refusal_of(map: &mut TriHashMap<Trio>, item: Trio) -> Option<ExtendUniqueReas
 }
 
 // No memory is asked for where no item is put in, also in a full map.
-fn extend_by_none(rt: &impl Abort, map: &mut TriHashMap<Trio>, first: u64) {
-    let empty: [Trio; 0] = [];
+fn extend_by_none(rt: &impl Abort, map: &mut TriHashMap<Row>, first: u64) {
+    let empty: [Row; 0] = [];
     assert!(rt; map.extend_unique(empty).is_ok());
     same(
         rt,
-        refusal_of(map, trio_of(77, 777, 100)),
+        refusal_of(map, row_of(77, 777, 100, 0)),
         Some(ExtendUniqueReason::Conflict),
     );
     assert!(rt; holds_first(map, first, &[]) && map.capacity() == 7);
 }
 
 /// The items that a refused `extend_unique` for want of memory hands back, in the order of the list, if it is refused.
-fn handed_back(rt: &impl Abort, map: &mut TriHashMap<Trio>, items: [Trio; 2]) -> Option<Vec<Trio>> {
+fn handed_back(rt: &impl Abort, map: &mut TriHashMap<Row>, items: [Row; 2]) -> Option<Vec<Row>> {
     match map.extend_unique(items) {
         Ok(()) => None,
         Err(refused) => {
@@ -166,7 +167,7 @@ fn handed_back(rt: &impl Abort, map: &mut TriHashMap<Trio>, items: [Trio; 2]) ->
 }
 
 // A second try with what came back is granted, and so is the rest of the list.
-fn try_again(rt: &impl Abort, map: &mut TriHashMap<Trio>, back: Vec<Trio>, items: &[Trio]) {
+fn try_again(rt: &impl Abort, map: &mut TriHashMap<Row>, back: Vec<Row>, items: &[Row]) {
     let (tried, rest) = items.split_at(back.len().min(items.len()));
     assert!(rt; back.as_slice() == tried);
     assert!(rt; map.extend_unique(back).is_ok());
@@ -175,10 +176,10 @@ fn try_again(rt: &impl Abort, map: &mut TriHashMap<Trio>, back: Vec<Trio>, items
 
 /// Puts two items into a map that has so many of seven. Where one is refused, it comes back with what is before it in
 /// the list, and the map is as before.
-fn extend_first(rt: &impl Abort, map: &mut TriHashMap<Trio>, first: u64) -> bool {
+fn extend_first(rt: &impl Abort, map: &mut TriHashMap<Row>, first: u64) -> bool {
     leave_first(map, first);
     extend_by_none(rt, map, first);
-    let items = [trio_of(8, 80, 800), trio_of(9, 90, 900)];
+    let items = [row_of(8, 80, 800, 0), row_of(9, 90, 900, 0)];
     let granted = match handed_back(rt, map, items) {
         None => true,
         Some(back) => {
@@ -209,13 +210,13 @@ fn grants_extend_when_full(rt: HostRuntime) {
 }
 
 /// Five items that do not conflict: more than a map has room for after its first growth.
-fn five() -> [Trio; 5] {
+fn five() -> [Row; 5] {
     [
-        trio_of(1, 10, 100),
-        trio_of(2, 20, 200),
-        trio_of(3, 30, 300),
-        trio_of(4, 40, 400),
-        trio_of(5, 50, 500),
+        row_of(1, 10, 100, 0),
+        row_of(2, 20, 200, 0),
+        row_of(3, 30, 300, 0),
+        row_of(4, 40, 400, 0),
+        row_of(5, 50, 500, 0),
     ]
 }
 
@@ -223,13 +224,13 @@ fn five() -> [Trio; 5] {
 fn is_made_of_what_is_promised(alloc: Global, call: u64) -> bool {
     match call {
         0 => extend_by_all_five(alloc),
-        1 => TriHashMap::<Trio>::from_iter(alloc, five()).is_ok(),
-        _ => TriHashMap::<Trio>::from_iter_unique(alloc, five()).is_ok(),
+        1 => TriHashMap::<Row>::from_iter(alloc, five()).is_ok(),
+        _ => TriHashMap::<Row>::from_iter_unique(alloc, five()).is_ok(),
     }
 }
 
 fn extend_by_all_five(alloc: Global) -> bool {
-    let mut map = TriHashMap::<Trio>::new(alloc);
+    let mut map = TriHashMap::<Row>::new(alloc);
     map.extend(five()).is_ok()
 }
 

@@ -1,6 +1,7 @@
 //! The three-key map under refused memory: room and copies.
 use crate::granted::{granted, same};
-use crate::tri::{Trio, holds_two_of, two_in};
+use crate::tri::{holds_two_of, two_in};
+use iddqd_tests_tri::Row;
 use iddqd_tri::TriHashMap;
 use std::alloc::Global;
 use std::process::Abort;
@@ -9,14 +10,14 @@ use std::test::*;
 // As in the other scenarios each answer says whether every request was granted.
 
 // An empty map gives all its room back, and asks for none.
-fn shrink_empty(rt: &impl Abort, map: &mut TriHashMap<Trio>) {
+fn shrink_empty(rt: &impl Abort, map: &mut TriHashMap<Row>) {
     map.clear();
     assert!(rt; map.shrink_to_fit().is_ok());
     same(rt, map.capacity(), 0);
 }
 
 fn with_capacity(rt: &impl Abort, alloc: Global) -> bool {
-    match TriHashMap::<Trio>::with_capacity(alloc, 10) {
+    match TriHashMap::<Row>::with_capacity(alloc, 10) {
         Ok(mut map) => {
             same(rt, map.capacity(), 10);
             shrink_empty(rt, &mut map);
@@ -24,14 +25,14 @@ fn with_capacity(rt: &impl Abort, alloc: Global) -> bool {
         }
         Err(_) => {
             // The same call is granted where there is memory.
-            assert!(rt; TriHashMap::<Trio>::with_capacity(alloc, 10).is_ok());
+            assert!(rt; TriHashMap::<Row>::with_capacity(alloc, 10).is_ok());
             false
         }
     }
 }
 
 /// Whether room for twenty more is made, by `try_reserve` or by `reserve`.
-fn makes_room(map: &mut TriHashMap<Trio>, by_try: bool) -> bool {
+fn makes_room(map: &mut TriHashMap<Row>, by_try: bool) -> bool {
     if by_try {
         map.try_reserve(20).is_ok()
     } else {
@@ -39,7 +40,7 @@ fn makes_room(map: &mut TriHashMap<Trio>, by_try: bool) -> bool {
     }
 }
 
-fn reserve_twenty(rt: &impl Abort, map: &mut TriHashMap<Trio>, by_try: bool) -> bool {
+fn reserve_twenty(rt: &impl Abort, map: &mut TriHashMap<Row>, by_try: bool) -> bool {
     let granted = makes_room(map, by_try);
     assert!(rt; holds_two_of(map, 2));
     assert!(rt; map.capacity() >= 2);
@@ -59,7 +60,7 @@ fn reserve(rt: &impl Abort, alloc: Global, by_try: bool) -> bool {
 }
 
 /// Whether the room beyond so many items is given back, by `shrink_to_fit` where they are none.
-fn is_shrunk(map: &mut TriHashMap<Trio>, least: usize) -> bool {
+fn is_shrunk(map: &mut TriHashMap<Row>, least: usize) -> bool {
     if least == 0 {
         map.shrink_to_fit().is_ok()
     } else {
@@ -67,7 +68,7 @@ fn is_shrunk(map: &mut TriHashMap<Trio>, least: usize) -> bool {
     }
 }
 
-fn shrink_two(rt: &impl Abort, map: &mut TriHashMap<Trio>, least: usize) -> bool {
+fn shrink_two(rt: &impl Abort, map: &mut TriHashMap<Row>, least: usize) -> bool {
     let granted = is_shrunk(map, least);
     assert!(rt; holds_two_of(map, 2));
     if !granted {
@@ -92,7 +93,7 @@ fn shrink(rt: &impl Abort, alloc: Global, least: usize) -> bool {
 }
 
 /// Whether there is memory for a clone. It is equal to the map.
-fn is_cloned(rt: &impl Abort, map: &TriHashMap<Trio>) -> bool {
+fn is_cloned(rt: &impl Abort, map: &TriHashMap<Row>) -> bool {
     match map.clone() {
         Ok(copy) => {
             assert!(rt; copy == *map);

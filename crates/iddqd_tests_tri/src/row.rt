@@ -5,7 +5,7 @@ ghost use Rattle.iddqd_tests_tri.specs.Row.{with_value};
 use iddqd_tri::{TriHashItem, TriHashItemMut};
 
 /// Three keys and a value.
-#[derive(Clone, Copy, PartialEq, Eq)]
+#[derive(Clone, Copy, Debug, PartialEq, Eq)]
 pub struct Row {
     pub key1: u64,
     pub key2: u64,
