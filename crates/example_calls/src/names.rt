@@ -1,10 +1,10 @@
 //! A text as a key: it is held as a `String`, and asked for by a `&str`.
-ghost use Rattle.std.specs.Prelude.{◌≡◌, ◌∷◌, nat_eq, string_bytes, IsPermutation, OnOk, OnErr, IfErr, IfSome, option_copied};
+ghost use Rattle.std.specs.Prelude.{◌≡◌, ◌<◌, ◌∷◌, [], nat_eq, string_bytes, length, IsOk, IsPermutation, OnOk, OnErr, IfErr, IfSome, IfNone, option_copied};
 ghost use Rattle.std.specs.Cmp.Lexicographic.{pointwise};
-ghost use Rattle.iddqd_bi.specs.Bag.{IsOnly};
+ghost use Rattle.iddqd_bi.specs.Bag.{IsOnly, clash};
 ghost use Rattle.iddqd_bi.specs.Map.{bag};
 
-use iddqd_bi::{BiHashItem, BiHashMap};
+use iddqd_bi::{BiHashItem, BiHashMap, Ranked};
 
 /// A symbol, known by its name and by its address.
 #[derive(Drop)]
@@ -34,6 +34,8 @@ impl BiHashItem for Symbol {
 /// Defines a symbol, or hands it back.
 pub fn define(symbols: &mut BiHashMap<Symbol>, symbol: Symbol) -> Result<(), Symbol>
     ensures went_in { OnOk result (IsPermutation (bag symbols.new) (symbol ∷ bag symbols.old)) }
+    ensures granted { clash ⟦<Symbol as Ranked>⟧.ranks (bag symbols.old) symbol ≡ []
+        → length (bag symbols.old) < symbols.old.capacity → IsOk result }
     ensures handed_back { IfErr result (λ s. s ≡ symbol) }
     ensures unchanged { OnErr result (symbols.new ≡ symbols.old) }
 {
@@ -50,8 +52,12 @@ pub fn resolve<'s>(symbols: &'s BiHashMap<Symbol>, name: &str) -> Option<&'s Sym
 /// Takes the symbol of a name out, if there is one. A removal takes a key and no query: so the symbol is looked up, and
 /// taken out by its address.
 pub fn undefine(symbols: &mut BiHashMap<Symbol>, name: &str) -> Option<Symbol>
-    ensures { IfSome result (λ s. IsPermutation (bag symbols.old) (s ∷ bag symbols.new)) }
+    ensures it { IsOnly (λ s. pointwise nat_eq name.now (string_bytes s.name)) (bag symbols.old) result }
+    ensures gone { IfSome result (λ s. IsPermutation (bag symbols.old) (s ∷ bag symbols.new)) }
+    ensures absent { IfNone result (symbols.new ≡ symbols.old) }
 {
+    // Says to the proof that no two symbols have one address.
+    let _len = symbols.len();
     let address = symbols.get1(&name)?.address;
     symbols.remove2(&address)
 }

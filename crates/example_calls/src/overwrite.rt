@@ -33,7 +33,8 @@ impl BiHashItem for Guest {
 
 /// A house with nobody in it, and with memory for so many guests.
 pub fn open_house(alloc: Global, rooms: usize) -> Result<BiHashMap<Guest>, AllocError>
-    ensures { IfOk result (λ guests. bag guests ≡ []) }
+    ensures empty { IfOk result (λ guests. bag guests ≡ []) }
+    ensures rooms { IfOk result (λ guests. guests.capacity ≡ rooms) }
 {
     let guests = BiHashMap::with_capacity(alloc, rooms)?;
     Ok(guests)
