@@ -1,5 +1,5 @@
 //! What two keys find, and what is done with it.
-ghost use Rattle.std.specs.Prelude.{◌≡◌, ◌∷◌, ◌++◌, ◌==◌, IsPermutation, OnOk, OnErr, IfErr};
+ghost use Rattle.std.specs.Prelude.{◌≡◌, ◌∷◌, ◌++◌, ◌==◌, IsPermutation, OnOk, OnErr, IfErr, IfSome, IfNone};
 ghost use Rattle.iddqd_bi.specs.Bag.{listing};
 ghost use Rattle.iddqd_bi.specs.Keys.{key_tests};
 ghost use Rattle.iddqd_bi.specs.Map.{bag};
@@ -50,11 +50,10 @@ pub fn note_visit(visits: &mut BiHashMap<Visit>, visit: Visit) -> Result<(), Ent
 }
 
 /// Takes out the visit with a number and the one of a page, which may be the same, if there are any.
-pub fn take_visits(
-    visits: &mut BiHashMap<Visit>,
-    number: u64,
-    page: u32,
-) -> Option<UpToTwo<Visit>> {
+pub fn take_visits(visits: &mut BiHashMap<Visit>, number: u64, page: u32) -> Option<UpToTwo<Visit>>
+    ensures gone { IfSome result (λ gone. IsPermutation (bag visits.old) (gone ++ bag visits.new)) }
+    ensures absent { IfNone result (visits.new ≡ visits.old) }
+{
     match visits.entry(&number, &page) {
         Entry::Vacant(_free) => None,
         Entry::Occupied(found) => Some(found.remove()),
