@@ -3,7 +3,7 @@ ghost use Rattle.std.specs.Prelude.{◌≡◌, ◌<◌, IfSome, Some, map};
 ghost use Rattle.iddqd_store.specs.Map.{bag};
 ghost use Rattle.iddqd_store.specs.Bag.{differ, order};
 ghost use Rattle.iddqd_store.specs.Slots.Found.{items_at};
-ghost use Rattle.iddqd_bi.specs.Keys.{key_tests, ranks};
+ghost use Rattle.iddqd_bi.specs.Keys.{ranks};
 ghost use Rattle.iddqd_bi.specs.Mismatch.{error_item, error_rank, mismatch_item, mismatch_rank};
 
 use crate::item::{BiHashItem, Ranked};
@@ -65,7 +65,7 @@ pub struct EntryRefusal<'a, T: BiHashItem, S: BuildHasher = DefaultHashBuilder> 
 /// The lowest rank, counted from 0, at which the item has not these keys. It compares the first keys, and those of the
 /// next rank where those are equal.
 pub(crate) fn differ<T: BiHashItem>(item: &T, key1: &T::K1, key2: &T::K2) -> Option<usize>
-    ensures rank { result ≡ differ (key_tests T.BiHashItem T.K1.eq T.K2.eq key1.now key2.now) item.now }
+    ensures rank { result ≡ differ (⟦<T as Ranked>⟧.key_tests key1.now key2.now) item.now }
     ensures below { IfSome result (λ rank. rank < 2) }
 {
     if *key1 != *item.key1() {

@@ -1,10 +1,10 @@
 //! Items with two keys.
-ghost use Rattle.std.specs.Prelude.{◌≡◌, true, refl, [], ◌∷◌};
+ghost use Rattle.std.specs.Prelude.{◌≡◌, ℕ, true, refl, Bool, List, [], ◌∷◌};
 ghost use Rattle.std.specs.Borrow.{Lends, sem};
 ghost use Rattle.iddqd_store.specs.Bag.{Ranks};
-ghost use Rattle.iddqd_store.specs.Rank.{agree};
+ghost use Rattle.iddqd_store.specs.Rank.{agree, key_hash};
 
-use std::hash::Hash;
+use std::hash::{BuildHasher, Hash};
 
 /// An item with two keys, which depend on its value alone.
 pub trait BiHashItem {
@@ -54,11 +54,44 @@ pub trait Ranked: BiHashItem {
     // For each rank, whether two items have equal keys.
     ghost ranks: { Ranks Self };
 
+    // For each rank, whether an item has the key.
+    ghost key_tests: { Self.K1 → Self.K2 → List (Self → Bool) };
+
     ghost ranks_are: { ranks ≡ agree Self.key1 Self.K1.eq ∷ agree Self.key2 Self.K2.eq ∷ [] };
+
+    ghost key_tests_are: { key_tests
+        ≡ (λ k1 k2. (λ x. Self.K1.eq k1 (Self.key1 x)) ∷ (λ x. Self.K2.eq k2 (Self.key2 x)) ∷ []) };
 }
 
 impl<T: BiHashItem> Ranked for T {
     ghost ranks = { agree T.key1 T.K1.eq ∷ agree T.key2 T.K2.eq ∷ [] };
 
+    ghost key_tests = { λ k1 k2. (λ x. T.K1.eq k1 (T.key1 x)) ∷ (λ x. T.K2.eq k2 (T.key2 x)) ∷ [] };
+
     ghost ranks_are = { refl };
+
+    ghost key_tests_are = { refl };
+}
+
+/// What contracts say of the hashes of an item's keys, where this builder makes the hashers. Each item has it, and none
+/// writes it.
+pub trait Hashed<S: BuildHasher>: BiHashItem {
+    // The hash of each key, by a builder.
+    ghost hash1: { S → Self → ℕ };
+
+    ghost hash2: { S → Self → ℕ };
+
+    ghost hash1_is: { hash1 ≡ key_hash Self.key1 Self.K1.hash_input S.BuildHasher S.Hasher.Hasher };
+
+    ghost hash2_is: { hash2 ≡ key_hash Self.key2 Self.K2.hash_input S.BuildHasher S.Hasher.Hasher };
+}
+
+impl<T: BiHashItem, S: BuildHasher> Hashed<S> for T {
+    ghost hash1 = { key_hash T.key1 T.K1.hash_input S.BuildHasher S.Hasher.Hasher };
+
+    ghost hash2 = { key_hash T.key2 T.K2.hash_input S.BuildHasher S.Hasher.Hasher };
+
+    ghost hash1_is = { refl };
+
+    ghost hash2_is = { refl };
 }

@@ -18,7 +18,7 @@ pub use entry::{
 pub use error::{
     DuplicateError, EntryError, EntryRefusal, FromIterError, InsertError, KeyMismatch, MemoryError,
 };
-pub use item::{BiHashItem, BiHashItemMut, Ranked};
+pub use item::{BiHashItem, BiHashItemMut, Hashed, Ranked};
 pub use iter_mut::IterMut;
 pub use map::{BiHashMap, DefaultHashBuilder};
 pub use ref_mut::RefMut;

@@ -1,24 +1,23 @@
 //! Maps with two keys that are built of many items at once, and how many keys that compares and hashes.
 use crate::bi_calls::three_items;
 use crate::counting::{Bounds, Counts};
-use crate::pair::Pair;
+use crate::pair::{Numbers, Pair};
 use iddqd_bi::BiHashMap;
 use std::alloc::{AllocError, Global};
 use std::hash::BuildHasher;
 use std::rc::Rc;
 
 /// A call that builds a map.
-#[derive(Clone, Copy)]
 pub(crate) enum Build {
     FromIter,
     FromIterUnique,
 }
 
-/// What is built of three items of which the first two conflict with none, and the first key of the last one.
+/// What is built of three items of which the first two conflict with none, and the keys of the last one.
 pub(crate) struct BuildRow {
     pub(crate) name: &'static str,
     pub(crate) build: Build,
-    pub(crate) last: u64,
+    pub(crate) last: Numbers,
     /// How many items there are then, if a map is built.
     pub(crate) len: Option<usize>,
     /// How many keys are compared where all are hashed alike.
@@ -33,7 +32,7 @@ pub(crate) const BUILDS: [BuildRow; 4] = [
     BuildRow {
         name: "from_iter",
         build: Build::FromIter,
-        last: 67,
+        last: (67, 77),
         len: Some(3),
         alike: (6, 6),
         own: 0,
@@ -42,7 +41,7 @@ pub(crate) const BUILDS: [BuildRow; 4] = [
     BuildRow {
         name: "from_iter, a key of the list",
         build: Build::FromIter,
-        last: 65,
+        last: (65, 77),
         len: Some(2),
         alike: (5, 6),
         own: 1,
@@ -51,7 +50,7 @@ pub(crate) const BUILDS: [BuildRow; 4] = [
     BuildRow {
         name: "from_iter_unique",
         build: Build::FromIterUnique,
-        last: 67,
+        last: (67, 77),
         len: Some(3),
         alike: (6, 6),
         own: 0,
@@ -60,7 +59,7 @@ pub(crate) const BUILDS: [BuildRow; 4] = [
     BuildRow {
         name: "from_iter_unique, a key of the list",
         build: Build::FromIterUnique,
-        last: 65,
+        last: (65, 77),
         len: None,
         alike: (5, 6),
         own: 1,
@@ -68,30 +67,21 @@ pub(crate) const BUILDS: [BuildRow; 4] = [
     },
 ];
 
-/// How many items there are in what is built of three of which the last has this first key, if a map is built.
+/// How many items there are in what a row builds, if a map is built.
 pub(crate) fn built<S: BuildHasher + Default + Drop>(
     alloc: Global,
     counts: &Rc<Counts>,
-    build: Build,
-    last: u64,
+    row: &BuildRow,
 ) -> Result<Option<usize>, AllocError> {
-    let items = three_items(counts, last)?;
-    Ok(match build {
-        Build::FromIter => overwriting::<S>(alloc, items),
-        Build::FromIterUnique => unique::<S>(alloc, items),
+    let items = three_items(counts, row.last)?;
+    Ok(match row.build {
+        Build::FromIter => match BiHashMap::<Pair, S>::from_iter(alloc, items) {
+            Ok(map) => Some(map.len()),
+            Err(_) => None,
+        },
+        Build::FromIterUnique => match BiHashMap::<Pair, S>::from_iter_unique(alloc, items) {
+            Ok(map) => Some(map.len()),
+            Err(_) => None,
+        },
     })
-}
-
-fn overwriting<S: BuildHasher + Default + Drop>(alloc: Global, items: [Pair; 3]) -> Option<usize> {
-    match BiHashMap::<Pair, S>::from_iter(alloc, items) {
-        Ok(map) => Some(map.len()),
-        Err(_) => None,
-    }
-}
-
-fn unique<S: BuildHasher + Default + Drop>(alloc: Global, items: [Pair; 3]) -> Option<usize> {
-    match BiHashMap::<Pair, S>::from_iter_unique(alloc, items) {
-        Ok(map) => Some(map.len()),
-        Err(_) => None,
-    }
 }

@@ -1,6 +1,6 @@
 //! Calls of the two-key map that look for items or put them in, as values. Each is carried out on the map of five
-//! items, and says whether it answered as its name says. Where a call needs another one before it, the counts start
-//! again in between. What only hands a call on stands apart from the calls, since each brings its contract.
+//! items, and says whether it answered as its name says. No function makes more than a handful of these calls, since
+//! each brings its contract.
 use crate::counting::Counts;
 use crate::pair::{Numbers, Pair, pair_of};
 use iddqd_bi::{BiHashMap, InsertError};
@@ -24,7 +24,6 @@ pub(crate) fn five<S: BuildHasher + Drop>(
 }
 
 /// The keys that a search goes by.
-#[derive(Clone, Copy)]
 pub(crate) enum By {
     Key1,
     Key2,
@@ -32,7 +31,6 @@ pub(crate) enum By {
 }
 
 /// A call that looks for an item.
-#[derive(Clone, Copy)]
 pub(crate) enum Search {
     Get(By),
     Contains(By),
@@ -40,23 +38,21 @@ pub(crate) enum Search {
     Remove(By),
 }
 
-/// Whether a search by keys of these numbers finds an item.
+/// Whether a search by these keys finds an item.
 pub(crate) fn finds<S: BuildHasher>(
     map: &mut BiHashMap<Pair, S>,
-    counts: &Rc<Counts>,
-    search: Search,
-    numbers: Numbers,
-) -> Result<bool, AllocError> {
-    let keys = pair_of(counts, numbers)?;
-    Ok(match search {
-        Search::Get(by) => gets(map, by, &keys),
-        Search::Contains(by) => contains(map, by, &keys),
-        Search::GetMut(by) => gets_mut(map, by, &keys),
-        Search::Remove(by) => removes(map, by, &keys),
-    })
+    search: &Search,
+    keys: &Pair,
+) -> bool {
+    match search {
+        Search::Get(by) => gets(map, by, keys),
+        Search::Contains(by) => contains(map, by, keys),
+        Search::GetMut(by) => gets_mut(map, by, keys),
+        Search::Remove(by) => removes(map, by, keys),
+    }
 }
 
-fn gets<S: BuildHasher>(map: &BiHashMap<Pair, S>, by: By, keys: &Pair) -> bool {
+fn gets<S: BuildHasher>(map: &BiHashMap<Pair, S>, by: &By, keys: &Pair) -> bool {
     match by {
         By::Key1 => map.get1(&keys.key1).is_some(),
         By::Key2 => map.get2(&keys.key2).is_some(),
@@ -64,7 +60,7 @@ fn gets<S: BuildHasher>(map: &BiHashMap<Pair, S>, by: By, keys: &Pair) -> bool {
     }
 }
 
-fn contains<S: BuildHasher>(map: &BiHashMap<Pair, S>, by: By, keys: &Pair) -> bool {
+fn contains<S: BuildHasher>(map: &BiHashMap<Pair, S>, by: &By, keys: &Pair) -> bool {
     match by {
         By::Key1 => map.contains_key1(&keys.key1),
         By::Key2 => map.contains_key2(&keys.key2),
@@ -72,7 +68,7 @@ fn contains<S: BuildHasher>(map: &BiHashMap<Pair, S>, by: By, keys: &Pair) -> bo
     }
 }
 
-fn gets_mut<S: BuildHasher>(map: &mut BiHashMap<Pair, S>, by: By, keys: &Pair) -> bool {
+fn gets_mut<S: BuildHasher>(map: &mut BiHashMap<Pair, S>, by: &By, keys: &Pair) -> bool {
     match by {
         By::Key1 => map.get1_mut(&keys.key1).is_some(),
         By::Key2 => map.get2_mut(&keys.key2).is_some(),
@@ -80,7 +76,7 @@ fn gets_mut<S: BuildHasher>(map: &mut BiHashMap<Pair, S>, by: By, keys: &Pair) -
     }
 }
 
-fn removes<S: BuildHasher>(map: &mut BiHashMap<Pair, S>, by: By, keys: &Pair) -> bool {
+fn removes<S: BuildHasher>(map: &mut BiHashMap<Pair, S>, by: &By, keys: &Pair) -> bool {
     match by {
         By::Key1 => map.remove1(&keys.key1).is_some(),
         By::Key2 => map.remove2(&keys.key2).is_some(),
@@ -89,7 +85,6 @@ fn removes<S: BuildHasher>(map: &mut BiHashMap<Pair, S>, by: By, keys: &Pair) ->
 }
 
 /// A call that puts one item in.
-#[derive(Clone, Copy)]
 pub(crate) enum Insert {
     Unique,
     /// `insert_unique`, which so many items are in the way of.
@@ -100,78 +95,58 @@ pub(crate) enum Insert {
     Overwrite(usize),
 }
 
-/// Whether the item of keys of these numbers goes in as it is to.
+/// Whether the item goes in as it is to.
 pub(crate) fn puts_in<S: BuildHasher>(
     map: &mut BiHashMap<Pair, S>,
-    counts: &Rc<Counts>,
-    insert: Insert,
-    numbers: Numbers,
-) -> Result<bool, AllocError> {
-    let item = pair_of(counts, numbers)?;
-    Ok(match insert {
+    insert: &Insert,
+    item: Pair,
+) -> bool {
+    match insert {
         Insert::Unique => map.insert_unique(item).is_ok(),
-        Insert::Refused(many) => conflicts(map, item) == Some(many),
-        Insert::OrBack(goes_in) => map.insert_or_back(item).is_ok() == goes_in,
-        Insert::Overwrite(many) => displaces(map, item) == Some(many),
-    })
-}
-
-/// How many items are in the way of this one, if some are.
-fn conflicts<S: BuildHasher>(map: &mut BiHashMap<Pair, S>, item: Pair) -> Option<usize> {
-    match map.insert_unique(item) {
-        Err(InsertError::Duplicate(refused)) => Some(refused.duplicates().len()),
-        _ => None,
-    }
-}
-
-/// How many items give way to this one, if there is memory.
-fn displaces<S: BuildHasher>(map: &mut BiHashMap<Pair, S>, item: Pair) -> Option<usize> {
-    match map.insert_overwrite(item) {
-        Ok(displaced) => Some(displaced.len()),
-        Err(_) => None,
+        Insert::Refused(many) => match map.insert_unique(item) {
+            Err(InsertError::Duplicate(refused)) => refused.duplicates().len() == *many,
+            _ => false,
+        },
+        Insert::OrBack(goes_in) => map.insert_or_back(item).is_ok() == *goes_in,
+        Insert::Overwrite(many) => match map.insert_overwrite(item) {
+            Ok(displaced) => displaced.len() == *many,
+            Err(_) => false,
+        },
     }
 }
 
 /// A call with a list of three items, of which the first two conflict with none.
-#[derive(Clone, Copy)]
 pub(crate) enum Extend {
     Overwriting,
-    Unique,
-    /// `extend_unique`, to which the last item conflicts.
-    Refused,
+    /// `extend_unique`, which takes the items, or to which the last one conflicts.
+    Unique(bool),
     /// One `insert_unique` after another, of which the last is refused.
     OneByOne,
 }
 
-/// Two items that conflict with none, and one that has this first key.
-pub(crate) fn three_items(counts: &Rc<Counts>, last: u64) -> Result<[Pair; 3], AllocError> {
+/// Two items that conflict with none, and one that has these keys.
+pub(crate) fn three_items(counts: &Rc<Counts>, last: Numbers) -> Result<[Pair; 3], AllocError> {
     Ok([
         pair_of(counts, (65, 75))?,
         pair_of(counts, (66, 76))?,
-        pair_of(counts, (last, 77))?,
+        pair_of(counts, last)?,
     ])
 }
 
-/// Whether a list of three whose last item has this first key goes in, or is refused where it is to be.
+/// Whether a list of three goes in, or is refused where it is to be.
 pub(crate) fn extends<S: BuildHasher>(
     map: &mut BiHashMap<Pair, S>,
-    counts: &Rc<Counts>,
-    extend: Extend,
-    last: u64,
-) -> Result<bool, AllocError> {
-    let items = three_items(counts, last)?;
-    Ok(match extend {
+    extend: &Extend,
+    items: [Pair; 3],
+) -> bool {
+    match extend {
         Extend::Overwriting => map.extend(items).is_ok(),
-        Extend::Unique => takes_all(map, items) == (true, 8),
-        Extend::Refused => takes_all(map, items) == (false, 5),
+        Extend::Unique(goes_in) => {
+            let is_in = map.extend_unique(items).is_ok();
+            is_in == *goes_in && map.len() == if *goes_in { 8 } else { 5 }
+        }
         Extend::OneByOne => put_one_by_one(map, items) == 7,
-    })
-}
-
-/// Whether `extend_unique` takes the items, and how many there are in the map behind it.
-fn takes_all<S: BuildHasher>(map: &mut BiHashMap<Pair, S>, items: [Pair; 3]) -> (bool, usize) {
-    let is_in = map.extend_unique(items).is_ok();
-    (is_in, map.len())
+    }
 }
 
 /// How many items there are behind one `insert_unique` of each item after another.

@@ -1,14 +1,14 @@
 //! Whether the calls of the two-key map compare and hash as many keys as their rows say.
 use crate::bi_builds::{BUILDS, built};
-use crate::bi_calls::{Extend, extends, finds, five, puts_in};
+use crate::bi_calls::{extends, finds, five, puts_in, three_items};
 use crate::bi_lending::{enters, writes};
 use crate::bi_lent_rows::LENT;
-use crate::bi_occupied::uses;
-use crate::bi_rows::{CALLS, Call, NEW, SEARCHES, THIRD, WHOLES};
+use crate::bi_occupied::{holds_each, holds_unique, lends, looks, turns};
+use crate::bi_rows::{CALLS, Call, NEW, ONE_BY_ONE, REFUSED, SEARCHES, THIRD, WHOLES};
 use crate::bi_wholes::{Whole, does};
 use crate::builders::{ByItself, ByZero};
-use crate::counting::{Bounds, Counts, Made, check};
-use crate::pair::Pair;
+use crate::counting::{Counts, Made, bounds_of, check};
+use crate::pair::{Numbers, Pair, pair_of};
 use iddqd_bi::BiHashMap;
 use iddqd_builders::{Alike, OwnHash};
 use std::alloc::{AllocError, Global};
@@ -17,45 +17,42 @@ use std::process::Abort;
 use std::rc::Rc;
 use std::test::Fail;
 
-/// Whether a call on the map of five answers as it is to.
+/// Whether a call on the map of five, by keys of these numbers, answers as it is to.
 fn answers<S: BuildHasher>(
     map: &mut BiHashMap<Pair, S>,
     counts: &Rc<Counts>,
-    call: Call,
+    call: &Call,
+    numbers: Numbers,
 ) -> Result<bool, AllocError> {
-    match call {
-        Call::Find(search) => finds(map, counts, search, THIRD),
-        Call::Miss(search, numbers) => Ok(!finds(map, counts, search, numbers)?),
-        Call::Insert(insert, numbers) => puts_in(map, counts, insert, numbers),
-        Call::Extend(extend, last) => extends(map, counts, extend, last),
-        Call::Enter(enter, asked, given) => enters(map, counts, enter, asked, given),
-        Call::Use(asked, numbers) => uses(map, counts, asked, numbers),
-        Call::Write(write, given) => writes(map, counts, write, given),
-    }
+    let keys = pair_of(counts, numbers)?;
+    Ok(match call {
+        Call::Find(search) => finds(map, search, &keys),
+        Call::Miss(search) => !finds(map, search, &keys),
+        Call::Insert(insert) => puts_in(map, insert, keys),
+        Call::Extend(extend) => extends(map, extend, three_items(counts, numbers)?),
+        Call::Enter(enter, given) => enters(map, counts, enter, &keys, pair_of(counts, *given)?),
+        Call::Look(look) => looks(map, counts, look, &keys),
+        Call::Lend(lend) => lends(map, counts, lend, &keys),
+        Call::HoldUnique => holds_unique(map, counts, &keys),
+        Call::HoldEach => holds_each(map, counts, &keys),
+        Call::Turn(turn) => turns(map, counts, turn, &keys),
+        Call::Write(write) => writes(map, counts, write, keys)?,
+    })
 }
 
-/// Whether a call on a new map answers as it is to, and how many keys it compares and hashes.
+/// Whether a call on a new map, by keys of these numbers, answers as it is to, and how many keys it compares and
+/// hashes.
 fn counted<S: BuildHasher + Drop>(
     rt: &impl Abort,
     alloc: Global,
     hash_builder: S,
-    call: Call,
-) -> Result<Made, AllocError> {
-    let counts = Rc::new(alloc, Counts::new())?;
-    counted_by(rt, alloc, hash_builder, &counts, call)
-}
-
-/// The same, by these counts.
-fn counted_by<S: BuildHasher + Drop>(
-    rt: &impl Abort,
-    alloc: Global,
-    hash_builder: S,
     counts: &Rc<Counts>,
-    call: Call,
+    call: &Call,
+    numbers: Numbers,
 ) -> Result<Made, AllocError> {
     let mut map = five(rt, alloc, hash_builder, counts)?;
     counts.reset();
-    let is_so = answers(&mut map, counts, call);
+    let is_so = answers(&mut map, counts, call, numbers);
     drop(map);
     Ok((is_so?, counts.read()))
 }
@@ -65,79 +62,68 @@ fn counted_whole(
     rt: &impl Abort,
     alloc: Global,
     hash: u64,
-    whole: Whole,
+    counts: &Rc<Counts>,
+    whole: &Whole,
 ) -> Result<Made, AllocError> {
-    let counts = Rc::new(alloc, Counts::new())?;
-    let map = five(rt, alloc, Alike { hash }, &counts)?;
+    let mut map = five(rt, alloc, Alike { hash }, counts)?;
     counts.reset();
-    let is_so = does(map, &counts, whole);
+    let is_so = match whole {
+        Whole::IntoIter => map.into_iter().count() == 5,
+        Whole::Lent(lent) => {
+            let is_so = does(&mut map, counts, lent);
+            drop(map);
+            is_so
+        }
+    };
     Ok((is_so, counts.read()))
 }
 
-/// The bounds where each key has its own hash, and else these.
-fn bounds_of(is_own: bool, alike: Bounds, own: u64) -> Bounds {
-    if is_own { (own, own) } else { alike }
-}
-
-/// The searches, each by the keys of an item, under a builder that gives each key its own hash, or all the same.
-fn check_found<S: BuildHasher + Copy>(
+/// The searches, each by the keys of an item and by keys that no item has, under a builder that gives each key its own
+/// hash, or all the same.
+fn check_searches<S: BuildHasher + Copy>(
     rt: &impl Abort,
     alloc: Global,
     hash_builder: S,
+    counts: &Rc<Counts>,
     is_own: bool,
 ) -> Result<(), AllocError> {
     for (name, search, alike, hashes) in &SEARCHES {
-        let made = counted(rt, alloc, hash_builder, Call::Find(*search))?;
-        check(rt, name, made, bounds_of(is_own, *alike, alike.0), *hashes);
+        let found = counted(rt, alloc, hash_builder, counts, search, THIRD)?;
+        check(rt, name, found, bounds_of(is_own, *alike, alike.0), *hashes);
+        let (is_found, read) = counted(rt, alloc, hash_builder, counts, search, NEW)?;
+        check(rt, name, (!is_found, read), bounds_of(is_own, (5, 5), 0), 1);
     }
     Ok(())
 }
 
-/// The searches, each by keys that no item has, of which it compares so many.
-fn check_absent<S: BuildHasher + Copy>(
-    rt: &impl Abort,
-    alloc: Global,
-    hash_builder: S,
-    compared: u64,
-) -> Result<(), AllocError> {
-    for (name, search, _, _) in &SEARCHES {
-        let made = counted(rt, alloc, hash_builder, Call::Miss(*search, NEW))?;
-        check(rt, name, made, (compared, compared), 1);
-    }
-    Ok(())
-}
-
-/// The calls.
+/// The calls, and behind them those of entries and guards.
 fn check_calls<S: BuildHasher + Copy>(
     rt: &impl Abort,
     alloc: Global,
     hash_builder: S,
+    counts: &Rc<Counts>,
     is_own: bool,
 ) -> Result<(), AllocError> {
-    for (name, call, alike, own, hashes) in &CALLS {
-        let made = counted(rt, alloc, hash_builder, *call)?;
+    for (name, call, numbers, alike, own, hashes) in &CALLS {
+        let made = counted(rt, alloc, hash_builder, counts, call, *numbers)?;
         check(rt, name, made, bounds_of(is_own, *alike, *own), *hashes);
     }
-    Ok(())
-}
-
-/// The calls of entries and guards.
-fn check_lent<S: BuildHasher + Copy>(
-    rt: &impl Abort,
-    alloc: Global,
-    hash_builder: S,
-) -> Result<(), AllocError> {
-    for (name, call, compared, hashes) in &LENT {
-        let made = counted(rt, alloc, hash_builder, *call)?;
+    for (name, call, numbers, compared, hashes) in &LENT {
+        let made = counted(rt, alloc, hash_builder, counts, call, *numbers)?;
         check(rt, name, made, (*compared, *compared), *hashes);
     }
     Ok(())
 }
 
 /// The calls on the map as a whole, under a builder that gives all keys this hash.
-fn check_wholes(rt: &impl Abort, alloc: Global, hash: u64) -> Result<(), AllocError> {
+fn check_wholes(
+    rt: &impl Abort,
+    alloc: Global,
+    hash: u64,
+    counts: &Rc<Counts>,
+) -> Result<(), AllocError> {
     for (name, whole, most, hashes) in &WHOLES {
-        let made = counted_whole(rt, alloc, hash, *whole)?;
+        let made = counted_whole(rt, alloc, hash, counts, whole)?;
         check(rt, name, made, (0, *most), *hashes);
     }
     Ok(())
@@ -147,30 +133,30 @@ fn check_wholes(rt: &impl Abort, alloc: Global, hash: u64) -> Result<(), AllocEr
 fn check_builds<S: BuildHasher + Default + Drop>(
     rt: &impl Abort,
     alloc: Global,
+    counts: &Rc<Counts>,
     is_own: bool,
 ) -> Result<(), AllocError> {
     for row in &BUILDS {
-        let counts = Rc::new(alloc, Counts::new())?;
-        let len = built::<S>(alloc, &counts, row.build, row.last)?;
+        counts.reset();
+        let len = built::<S>(alloc, counts, row)?;
         let made = (len == row.len, counts.read());
-        check(
-            rt,
-            row.name,
-            made,
-            bounds_of(is_own, row.alike, row.own),
-            row.hashed,
-        );
+        let bounds = bounds_of(is_own, row.alike, row.own);
+        check(rt, row.name, made, bounds, row.hashed);
     }
     Ok(())
 }
 
 /// Taking out what went in compares no key: what `extend_unique` compares is what its inserts do one by one.
-fn check_refused(rt: &impl Abort, alloc: Global, hash: u64) -> Result<(), AllocError> {
+fn check_refused(
+    rt: &impl Abort,
+    alloc: Global,
+    hash: u64,
+    counts: &Rc<Counts>,
+) -> Result<(), AllocError> {
     for last in [3, 65] {
-        let refused = Call::Extend(Extend::Refused, last);
-        let (_, (refused, _)) = counted(rt, alloc, Alike { hash }, refused)?;
-        let single = Call::Extend(Extend::OneByOne, last);
-        let (is_so, (single, _)) = counted(rt, alloc, Alike { hash }, single)?;
+        let (_, (refused, _)) = counted(rt, alloc, Alike { hash }, counts, &REFUSED, (last, 77))?;
+        let single = counted(rt, alloc, Alike { hash }, counts, &ONE_BY_ONE, (last, 77))?;
+        let (is_so, (single, _)) = single;
         assert!(rt;
             is_so && refused == single,
             "extend_unique, {last}: {refused}, {single}"
@@ -181,24 +167,22 @@ fn check_refused(rt: &impl Abort, alloc: Global, hash: u64) -> Result<(), AllocE
 
 #[test]
 fn two_keys_hashed_alike(rt: HostRuntime) -> Result<(), Fail> {
+    let counts = Rc::new(rt.alloc(), Counts::new())?;
     for hash in [18446744073709551615, 0] {
-        check_found(&rt, rt.alloc(), Alike { hash }, false)?;
-        check_absent(&rt, rt.alloc(), Alike { hash }, 5)?;
-        check_calls(&rt, rt.alloc(), Alike { hash }, false)?;
-        check_lent(&rt, rt.alloc(), Alike { hash })?;
-        check_wholes(&rt, rt.alloc(), hash)?;
-        check_refused(&rt, rt.alloc(), hash)?;
+        check_searches(&rt, rt.alloc(), Alike { hash }, &counts, false)?;
+        check_calls(&rt, rt.alloc(), Alike { hash }, &counts, false)?;
+        check_wholes(&rt, rt.alloc(), hash, &counts)?;
+        check_refused(&rt, rt.alloc(), hash, &counts)?;
     }
-    check_builds::<ByZero>(&rt, rt.alloc(), false)?;
+    check_builds::<ByZero>(&rt, rt.alloc(), &counts, false)?;
     Ok(())
 }
 
 #[test]
 fn two_keys_hashed_to_themselves(rt: HostRuntime) -> Result<(), Fail> {
-    check_found(&rt, rt.alloc(), OwnHash, true)?;
-    check_absent(&rt, rt.alloc(), OwnHash, 0)?;
-    check_calls(&rt, rt.alloc(), OwnHash, true)?;
-    check_lent(&rt, rt.alloc(), OwnHash)?;
-    check_builds::<ByItself>(&rt, rt.alloc(), true)?;
+    let counts = Rc::new(rt.alloc(), Counts::new())?;
+    check_searches(&rt, rt.alloc(), OwnHash, &counts, true)?;
+    check_calls(&rt, rt.alloc(), OwnHash, &counts, true)?;
+    check_builds::<ByItself>(&rt, rt.alloc(), &counts, true)?;
     Ok(())
 }

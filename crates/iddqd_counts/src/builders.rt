@@ -3,7 +3,7 @@ use iddqd_builders::{Alike, AlikeHasher, OwnHash, OwnHasher};
 use std::hash::BuildHasher;
 
 /// Gives every key the hash 0.
-#[derive(Clone, Copy, Default, Drop)]
+#[derive(Default, Drop)]
 pub(crate) struct ByZero;
 
 impl BuildHasher for ByZero {
@@ -17,7 +17,7 @@ impl BuildHasher for ByZero {
 }
 
 /// Gives a number itself.
-#[derive(Clone, Copy, Default, Drop)]
+#[derive(Default, Drop)]
 pub(crate) struct ByItself;
 
 impl BuildHasher for ByItself {

@@ -96,6 +96,11 @@ impl Hash for Key {
 /// The least and the most keys that a call may compare.
 pub(crate) type Bounds = (u64, u64);
 
+/// The bounds where each key has its own hash, and else these.
+pub(crate) fn bounds_of(is_own: bool, alike: Bounds, own: u64) -> Bounds {
+    if is_own { (own, own) } else { alike }
+}
+
 /// Whether a call answered as it is to, and how many keys it compared and hashed.
 pub(crate) type Made = (bool, (u64, u64));
 

@@ -1,7 +1,7 @@
 //! Keys that are their own hashes and have the same home: where an item goes out, the others are still found.
 use crate::counting::Counts;
 use crate::pair::{Pair, pair_of};
-use crate::triple::{Triple, triple_of};
+use crate::triple::{Numbers, Triple, triple_of};
 use iddqd_bi::BiHashMap;
 use iddqd_builders::OwnHash;
 use iddqd_tri::TriHashMap;
@@ -10,13 +10,13 @@ use std::process::Abort;
 use std::rc::Rc;
 use std::test::Fail;
 
-/// The keys of four items, of which the first one goes out again.
-const ITEMS: [(u64, u64, u64); 4] = [(7, 6, 5), (15, 14, 13), (23, 22, 21), (8, 7, 6)];
-
-/// The value that each key of an item of this first key is to find when the first item is out.
-fn wanted(key1: u64) -> Option<u64> {
-    if key1 == 7 { None } else { Some(key1) }
-}
+/// The keys of four items, of which the first one goes out again, and the value that each key is to find then.
+const ITEMS: [(Numbers, Option<u64>); 4] = [
+    ((7, 6, 5), None),
+    ((15, 14, 13), Some(15)),
+    ((23, 22, 21), Some(23)),
+    ((8, 7, 6), Some(8)),
+];
 
 /// Puts the items into a map with two keys, the first two of each item, and takes the first one out.
 fn close_up_two(
@@ -24,7 +24,7 @@ fn close_up_two(
     counts: &Rc<Counts>,
     map: &mut BiHashMap<Pair, OwnHash>,
 ) -> Result<(), AllocError> {
-    for (key1, key2, _) in ITEMS {
+    for ((key1, key2, _), _) in ITEMS {
         assert!(rt; map.insert_unique(pair_of(counts, (key1, key2))?).is_ok());
     }
     let first = pair_of(counts, (7, 6))?;
@@ -32,27 +32,23 @@ fn close_up_two(
     Ok(())
 }
 
-/// The values of what `get1` and `get2` find.
-fn values_of_two(map: &BiHashMap<Pair, OwnHash>, keys: &Pair) -> [Option<u64>; 2] {
-    let found1 = map.get1(&keys.key1).map(|found| found.value);
-    let found2 = map.get2(&keys.key2).map(|found| found.value);
-    [found1, found2]
-}
-
-/// Whether the map with two keys finds what is left.
+/// Whether `get1` and `get2` of the map with two keys find what is left.
 fn check_two(
     rt: &impl Abort,
     counts: &Rc<Counts>,
     map: &BiHashMap<Pair, OwnHash>,
 ) -> Result<(), AllocError> {
-    for (key1, key2, _) in ITEMS {
+    for ((key1, key2, _), value) in ITEMS {
         let keys = pair_of(counts, (key1, key2))?;
-        let value = wanted(key1);
-        assert_eq!(rt;
-            values_of_two(map, &keys),
-            [value, value],
-            "get1 and get2 of {key1}"
-        );
+        let found1 = match map.get1(&keys.key1) {
+            Some(found) => Some(found.value),
+            None => None,
+        };
+        let found2 = match map.get2(&keys.key2) {
+            Some(found) => Some(found.value),
+            None => None,
+        };
+        assert_eq!(rt; [found1, found2], [value, value], "get1 and get2 of {key1}");
     }
     Ok(())
 }
@@ -72,7 +68,7 @@ fn close_up_three(
     counts: &Rc<Counts>,
     map: &mut TriHashMap<Triple, OwnHash>,
 ) -> Result<(), AllocError> {
-    for numbers in ITEMS {
+    for (numbers, _) in ITEMS {
         assert!(rt; map.insert_unique(triple_of(counts, numbers)?).is_ok());
     }
     let first = triple_of(counts, (7, 6, 5))?;
@@ -80,25 +76,28 @@ fn close_up_three(
     Ok(())
 }
 
-/// The values of what `get1`, `get2` and `get3` find.
-fn values_of_three(map: &TriHashMap<Triple, OwnHash>, keys: &Triple) -> [Option<u64>; 3] {
-    let found1 = map.get1(&keys.key1).map(|found| found.value);
-    let found2 = map.get2(&keys.key2).map(|found| found.value);
-    let found3 = map.get3(&keys.key3).map(|found| found.value);
-    [found1, found2, found3]
-}
-
-/// Whether the map with three keys finds what is left.
+/// Whether `get1`, `get2` and `get3` of the map with three keys find what is left.
 fn check_three(
     rt: &impl Abort,
     counts: &Rc<Counts>,
     map: &TriHashMap<Triple, OwnHash>,
 ) -> Result<(), AllocError> {
-    for numbers in ITEMS {
+    for (numbers, value) in ITEMS {
         let keys = triple_of(counts, numbers)?;
-        let value = wanted(numbers.0);
+        let found1 = match map.get1(&keys.key1) {
+            Some(found) => Some(found.value),
+            None => None,
+        };
+        let found2 = match map.get2(&keys.key2) {
+            Some(found) => Some(found.value),
+            None => None,
+        };
+        let found3 = match map.get3(&keys.key3) {
+            Some(found) => Some(found.value),
+            None => None,
+        };
         assert_eq!(rt;
-            values_of_three(map, &keys),
+            [found1, found2, found3],
             [value, value, value],
             "get1, get2 and get3 of {}",
             numbers.0

@@ -1,6 +1,6 @@
 //! Calls of the three-key map that look for items or put them in, as values. Each is carried out on the map of five
-//! items, and says whether it answered as its name says. Where a call needs another one before it, the counts start
-//! again in between. What only hands a call on stands apart from the calls, since each brings its contract.
+//! items, and says whether it answered as its name says. No function makes more than a handful of these calls, since
+//! each brings its contract.
 use crate::counting::Counts;
 use crate::triple::{Numbers, Triple, triple_of};
 use iddqd_tri::{InsertError, TriHashMap};
@@ -30,7 +30,6 @@ pub(crate) fn five<S: BuildHasher + Drop>(
 }
 
 /// The keys that a search goes by.
-#[derive(Clone, Copy)]
 pub(crate) enum By {
     Key1,
     Key2,
@@ -39,7 +38,6 @@ pub(crate) enum By {
 }
 
 /// A call that looks for an item.
-#[derive(Clone, Copy)]
 pub(crate) enum Search {
     Get(By),
     Contains(By),
@@ -47,23 +45,21 @@ pub(crate) enum Search {
     Remove(By),
 }
 
-/// Whether a search by keys of these numbers finds an item.
+/// Whether a search by these keys finds an item.
 pub(crate) fn finds<S: BuildHasher>(
     map: &mut TriHashMap<Triple, S>,
-    counts: &Rc<Counts>,
-    search: Search,
-    numbers: Numbers,
-) -> Result<bool, AllocError> {
-    let keys = triple_of(counts, numbers)?;
-    Ok(match search {
-        Search::Get(by) => gets(map, by, &keys),
-        Search::Contains(by) => contains(map, by, &keys),
-        Search::GetMut(by) => gets_mut(map, by, &keys),
-        Search::Remove(by) => removes(map, by, &keys),
-    })
+    search: &Search,
+    keys: &Triple,
+) -> bool {
+    match search {
+        Search::Get(by) => gets(map, by, keys),
+        Search::Contains(by) => contains(map, by, keys),
+        Search::GetMut(by) => gets_mut(map, by, keys),
+        Search::Remove(by) => removes(map, by, keys),
+    }
 }
 
-fn gets<S: BuildHasher>(map: &TriHashMap<Triple, S>, by: By, keys: &Triple) -> bool {
+fn gets<S: BuildHasher>(map: &TriHashMap<Triple, S>, by: &By, keys: &Triple) -> bool {
     match by {
         By::Key1 => map.get1(&keys.key1).is_some(),
         By::Key2 => map.get2(&keys.key2).is_some(),
@@ -72,7 +68,7 @@ fn gets<S: BuildHasher>(map: &TriHashMap<Triple, S>, by: By, keys: &Triple) -> b
     }
 }
 
-fn contains<S: BuildHasher>(map: &TriHashMap<Triple, S>, by: By, keys: &Triple) -> bool {
+fn contains<S: BuildHasher>(map: &TriHashMap<Triple, S>, by: &By, keys: &Triple) -> bool {
     match by {
         By::Key1 => map.contains_key1(&keys.key1),
         By::Key2 => map.contains_key2(&keys.key2),
@@ -81,7 +77,7 @@ fn contains<S: BuildHasher>(map: &TriHashMap<Triple, S>, by: By, keys: &Triple) 
     }
 }
 
-fn gets_mut<S: BuildHasher>(map: &mut TriHashMap<Triple, S>, by: By, keys: &Triple) -> bool {
+fn gets_mut<S: BuildHasher>(map: &mut TriHashMap<Triple, S>, by: &By, keys: &Triple) -> bool {
     match by {
         By::Key1 => map.get1_mut(&keys.key1).is_some(),
         By::Key2 => map.get2_mut(&keys.key2).is_some(),
@@ -92,7 +88,7 @@ fn gets_mut<S: BuildHasher>(map: &mut TriHashMap<Triple, S>, by: By, keys: &Trip
     }
 }
 
-fn removes<S: BuildHasher>(map: &mut TriHashMap<Triple, S>, by: By, keys: &Triple) -> bool {
+fn removes<S: BuildHasher>(map: &mut TriHashMap<Triple, S>, by: &By, keys: &Triple) -> bool {
     match by {
         By::Key1 => map.remove1(&keys.key1).is_some(),
         By::Key2 => map.remove2(&keys.key2).is_some(),
@@ -104,7 +100,6 @@ fn removes<S: BuildHasher>(map: &mut TriHashMap<Triple, S>, by: By, keys: &Tripl
 }
 
 /// A call that puts one item in.
-#[derive(Clone, Copy)]
 pub(crate) enum Insert {
     Unique,
     /// `insert_unique`, which so many items are in the way of.
@@ -115,78 +110,58 @@ pub(crate) enum Insert {
     Overwrite(usize),
 }
 
-/// Whether the item of keys of these numbers goes in as it is to.
+/// Whether the item goes in as it is to.
 pub(crate) fn puts_in<S: BuildHasher>(
     map: &mut TriHashMap<Triple, S>,
-    counts: &Rc<Counts>,
-    insert: Insert,
-    numbers: Numbers,
-) -> Result<bool, AllocError> {
-    let item = triple_of(counts, numbers)?;
-    Ok(match insert {
+    insert: &Insert,
+    item: Triple,
+) -> bool {
+    match insert {
         Insert::Unique => map.insert_unique(item).is_ok(),
-        Insert::Refused(many) => conflicts(map, item) == Some(many),
-        Insert::OrBack(goes_in) => map.insert_or_back(item).is_ok() == goes_in,
-        Insert::Overwrite(many) => displaces(map, item) == Some(many),
-    })
-}
-
-/// How many items are in the way of this one, if some are.
-fn conflicts<S: BuildHasher>(map: &mut TriHashMap<Triple, S>, item: Triple) -> Option<usize> {
-    match map.insert_unique(item) {
-        Err(InsertError::Duplicate(refused)) => Some(refused.duplicates().len()),
-        _ => None,
-    }
-}
-
-/// How many items give way to this one, if there is memory.
-fn displaces<S: BuildHasher>(map: &mut TriHashMap<Triple, S>, item: Triple) -> Option<usize> {
-    match map.insert_overwrite(item) {
-        Ok(displaced) => Some(displaced.len()),
-        Err(_) => None,
+        Insert::Refused(many) => match map.insert_unique(item) {
+            Err(InsertError::Duplicate(refused)) => refused.duplicates().len() == *many,
+            _ => false,
+        },
+        Insert::OrBack(goes_in) => map.insert_or_back(item).is_ok() == *goes_in,
+        Insert::Overwrite(many) => match map.insert_overwrite(item) {
+            Ok(displaced) => displaced.len() == *many,
+            Err(_) => false,
+        },
     }
 }
 
 /// A call with a list of three items, of which the first two conflict with none.
-#[derive(Clone, Copy)]
 pub(crate) enum Extend {
     Overwriting,
-    Unique,
-    /// `extend_unique`, to which the last item conflicts.
-    Refused,
+    /// `extend_unique`, which takes the items, or to which the last one conflicts.
+    Unique(bool),
     /// One `insert_unique` after another, of which the last is refused.
     OneByOne,
 }
 
-/// Two items that conflict with none, and one that has this first key.
-pub(crate) fn three_items(counts: &Rc<Counts>, last: u64) -> Result<[Triple; 3], AllocError> {
+/// Two items that conflict with none, and one that has these keys.
+pub(crate) fn three_items(counts: &Rc<Counts>, last: Numbers) -> Result<[Triple; 3], AllocError> {
     Ok([
         triple_of(counts, (65, 75, 85))?,
         triple_of(counts, (66, 76, 86))?,
-        triple_of(counts, (last, 77, 87))?,
+        triple_of(counts, last)?,
     ])
 }
 
-/// Whether a list of three whose last item has this first key goes in, or is refused where it is to be.
+/// Whether a list of three goes in, or is refused where it is to be.
 pub(crate) fn extends<S: BuildHasher>(
     map: &mut TriHashMap<Triple, S>,
-    counts: &Rc<Counts>,
-    extend: Extend,
-    last: u64,
-) -> Result<bool, AllocError> {
-    let items = three_items(counts, last)?;
-    Ok(match extend {
+    extend: &Extend,
+    items: [Triple; 3],
+) -> bool {
+    match extend {
         Extend::Overwriting => map.extend(items).is_ok(),
-        Extend::Unique => takes_all(map, items) == (true, 8),
-        Extend::Refused => takes_all(map, items) == (false, 5),
+        Extend::Unique(goes_in) => {
+            let is_in = map.extend_unique(items).is_ok();
+            is_in == *goes_in && map.len() == if *goes_in { 8 } else { 5 }
+        }
         Extend::OneByOne => put_one_by_one(map, items) == 7,
-    })
-}
-
-/// Whether `extend_unique` takes the items, and how many there are in the map behind it.
-fn takes_all<S: BuildHasher>(map: &mut TriHashMap<Triple, S>, items: [Triple; 3]) -> (bool, usize) {
-    let is_in = map.extend_unique(items).is_ok();
-    (is_in, map.len())
+    }
 }
 
 /// How many items there are behind one `insert_unique` of each item after another.

@@ -1,129 +1,72 @@
 //! What an occupied entry of the three-key map lends. The counts start again once the entry is made.
 use crate::counting::Counts;
-use crate::triple::{Numbers, Triple, triple_of};
+use crate::triple::Triple;
 use iddqd_tri::{Entry, TriHashMap};
-use std::alloc::AllocError;
 use std::hash::BuildHasher;
 use std::rc::Rc;
 
-/// What is asked of an occupied entry.
-#[derive(Clone, Copy)]
-pub(crate) enum Use {
+/// What an entry lends for reading.
+pub(crate) enum Look {
     /// `is_unique`, `is_non_unique` and `get`.
     Get,
     IntoRef,
+}
+
+/// What an entry lends for writing.
+pub(crate) enum Lend {
     /// `get_mut`, and `as_unique` of what it lends.
     GetMut,
     Data1Mut,
     Data2Mut,
     Data3Mut,
-    /// `into_mut`, and of what is held then `is_unique`, `is_non_unique` and `as_unique`.
-    HeldUnique,
-    /// `into_mut`, and `by_key1`, `by_key2` and `by_key3`.
-    HeldEach,
+}
+
+/// What is made of what `into_mut` holds.
+pub(crate) enum Turn {
     IntoUnique,
     IntoByKey1,
     IntoByKey2,
     IntoByKey3,
 }
 
-/// Whether the entry of keys of these numbers lends the one item that has all.
-pub(crate) fn uses<S: BuildHasher>(
+/// Whether the entry of these keys lends the one item that has all, for reading.
+pub(crate) fn looks<S: BuildHasher>(
     map: &mut TriHashMap<Triple, S>,
     counts: &Rc<Counts>,
-    asked: Use,
-    numbers: Numbers,
-) -> Result<bool, AllocError> {
-    let keys = triple_of(counts, numbers)?;
-    Ok(match asked {
-        Use::Get => gets(map, counts, &keys),
-        Use::IntoRef => turns_into_ref(map, counts, &keys),
-        Use::GetMut => gets_mut(map, counts, &keys),
-        Use::Data1Mut => lends_data1(map, counts, &keys),
-        Use::Data2Mut => lends_data2(map, counts, &keys),
-        Use::Data3Mut => lends_data3(map, counts, &keys),
-        Use::HeldUnique => holds_unique(map, counts, &keys),
-        Use::HeldEach => holds_each(map, counts, &keys),
-        Use::IntoUnique => turns_into_unique(map, counts, &keys),
-        Use::IntoByKey1 => turns_into_key1(map, counts, &keys),
-        Use::IntoByKey2 => turns_into_key2(map, counts, &keys),
-        Use::IntoByKey3 => turns_into_key3(map, counts, &keys),
-    })
-}
-
-fn gets<S: BuildHasher>(
-    map: &mut TriHashMap<Triple, S>,
-    counts: &Rc<Counts>,
+    look: &Look,
     keys: &Triple,
 ) -> bool {
     let Entry::Occupied(entry) = map.entry(&keys.key1, &keys.key2, &keys.key3) else {
         return false;
     };
     counts.reset();
-    entry.is_unique() && !entry.is_non_unique() && entry.get().is_unique()
+    match look {
+        Look::Get => entry.is_unique() && !entry.is_non_unique() && entry.get().is_unique(),
+        Look::IntoRef => entry.into_ref().is_unique(),
+    }
 }
 
-fn turns_into_ref<S: BuildHasher>(
+/// Whether it lends that item for writing.
+pub(crate) fn lends<S: BuildHasher>(
     map: &mut TriHashMap<Triple, S>,
     counts: &Rc<Counts>,
-    keys: &Triple,
-) -> bool {
-    let Entry::Occupied(entry) = map.entry(&keys.key1, &keys.key2, &keys.key3) else {
-        return false;
-    };
-    counts.reset();
-    entry.into_ref().is_unique()
-}
-
-fn gets_mut<S: BuildHasher>(
-    map: &mut TriHashMap<Triple, S>,
-    counts: &Rc<Counts>,
+    lend: &Lend,
     keys: &Triple,
 ) -> bool {
     let Entry::Occupied(mut entry) = map.entry(&keys.key1, &keys.key2, &keys.key3) else {
         return false;
     };
     counts.reset();
-    entry.get_mut().as_unique().is_some()
+    match lend {
+        Lend::GetMut => entry.get_mut().as_unique().is_some(),
+        Lend::Data1Mut => entry.data1_mut().is_some(),
+        Lend::Data2Mut => entry.data2_mut().is_some(),
+        Lend::Data3Mut => entry.data3_mut().is_some(),
+    }
 }
 
-fn lends_data1<S: BuildHasher>(
-    map: &mut TriHashMap<Triple, S>,
-    counts: &Rc<Counts>,
-    keys: &Triple,
-) -> bool {
-    let Entry::Occupied(mut entry) = map.entry(&keys.key1, &keys.key2, &keys.key3) else {
-        return false;
-    };
-    counts.reset();
-    entry.data1_mut().is_some()
-}
-
-fn lends_data2<S: BuildHasher>(
-    map: &mut TriHashMap<Triple, S>,
-    counts: &Rc<Counts>,
-    keys: &Triple,
-) -> bool {
-    let Entry::Occupied(mut entry) = map.entry(&keys.key1, &keys.key2, &keys.key3) else {
-        return false;
-    };
-    counts.reset();
-    entry.data2_mut().is_some()
-}
-
-fn lends_data3<S: BuildHasher>(
-    map: &mut TriHashMap<Triple, S>,
-    counts: &Rc<Counts>,
-    keys: &Triple,
-) -> bool {
-    let Entry::Occupied(mut entry) = map.entry(&keys.key1, &keys.key2, &keys.key3) else {
-        return false;
-    };
-    counts.reset();
-    entry.data3_mut().is_some()
-}
-
-fn holds_unique<S: BuildHasher>(
+/// Whether what `into_mut` holds is one item, by `is_unique`, `is_non_unique` and `as_unique`.
+pub(crate) fn holds_unique<S: BuildHasher>(
     map: &mut TriHashMap<Triple, S>,
     counts: &Rc<Counts>,
     keys: &Triple,
@@ -137,7 +80,8 @@ fn holds_unique<S: BuildHasher>(
     is_unique && found.as_unique().is_some()
 }
 
-fn holds_each<S: BuildHasher>(
+/// Whether what `into_mut` holds lends that item by `by_key1`, `by_key2` and `by_key3`.
+pub(crate) fn holds_each<S: BuildHasher>(
     map: &mut TriHashMap<Triple, S>,
     counts: &Rc<Counts>,
     keys: &Triple,
@@ -150,50 +94,22 @@ fn holds_each<S: BuildHasher>(
     found.by_key1().is_some() && found.by_key2().is_some() && found.by_key3().is_some()
 }
 
-fn turns_into_unique<S: BuildHasher>(
+/// Whether what `into_mut` holds turns into that item.
+pub(crate) fn turns<S: BuildHasher>(
     map: &mut TriHashMap<Triple, S>,
     counts: &Rc<Counts>,
+    turn: &Turn,
     keys: &Triple,
 ) -> bool {
     let Entry::Occupied(entry) = map.entry(&keys.key1, &keys.key2, &keys.key3) else {
         return false;
     };
     counts.reset();
-    entry.into_mut().into_unique().is_some()
-}
-
-fn turns_into_key1<S: BuildHasher>(
-    map: &mut TriHashMap<Triple, S>,
-    counts: &Rc<Counts>,
-    keys: &Triple,
-) -> bool {
-    let Entry::Occupied(entry) = map.entry(&keys.key1, &keys.key2, &keys.key3) else {
-        return false;
-    };
-    counts.reset();
-    entry.into_mut().into_by_key1().is_some()
-}
-
-fn turns_into_key2<S: BuildHasher>(
-    map: &mut TriHashMap<Triple, S>,
-    counts: &Rc<Counts>,
-    keys: &Triple,
-) -> bool {
-    let Entry::Occupied(entry) = map.entry(&keys.key1, &keys.key2, &keys.key3) else {
-        return false;
-    };
-    counts.reset();
-    entry.into_mut().into_by_key2().is_some()
-}
-
-fn turns_into_key3<S: BuildHasher>(
-    map: &mut TriHashMap<Triple, S>,
-    counts: &Rc<Counts>,
-    keys: &Triple,
-) -> bool {
-    let Entry::Occupied(entry) = map.entry(&keys.key1, &keys.key2, &keys.key3) else {
-        return false;
-    };
-    counts.reset();
-    entry.into_mut().into_by_key3().is_some()
+    let found = entry.into_mut();
+    match turn {
+        Turn::IntoUnique => found.into_unique().is_some(),
+        Turn::IntoByKey1 => found.into_by_key1().is_some(),
+        Turn::IntoByKey2 => found.into_by_key2().is_some(),
+        Turn::IntoByKey3 => found.into_by_key3().is_some(),
+    }
 }

@@ -7,7 +7,6 @@ use std::hash::BuildHasher;
 use std::rc::Rc;
 
 /// A call on the map as a whole.
-#[derive(Clone, Copy)]
 pub(crate) enum Whole {
     /// The map by value, walked over.
     IntoIter,
@@ -15,7 +14,6 @@ pub(crate) enum Whole {
 }
 
 /// A call on the map as a whole, lent.
-#[derive(Clone, Copy)]
 pub(crate) enum Lent {
     Len,
     Capacity,
@@ -29,17 +27,15 @@ pub(crate) enum Lent {
 }
 
 /// A walk over all items.
-#[derive(Clone, Copy)]
 pub(crate) enum Walk {
     Iter,
     NextMut,
-    /// One step of `next_data`, and how many are to come.
+    /// One step of `next_data`, and how many are to come by what the walk says.
     NextData,
     NextFrom,
 }
 
 /// A call that takes room or gives it back.
-#[derive(Clone, Copy)]
 pub(crate) enum Room {
     Reserve,
     TryReserve,
@@ -48,32 +44,38 @@ pub(crate) enum Room {
 }
 
 /// Whether a call on a map of five does what it is to do.
-pub(crate) fn does(mut map: TriHashMap<Triple, Alike>, counts: &Rc<Counts>, whole: Whole) -> bool {
-    match whole {
-        Whole::IntoIter => map.into_iter().count() == 5,
-        Whole::Lent(lent) => does_lent(&mut map, counts, lent),
-    }
-}
-
-fn does_lent(map: &mut TriHashMap<Triple, Alike>, counts: &Rc<Counts>, lent: Lent) -> bool {
+pub(crate) fn does(map: &mut TriHashMap<Triple, Alike>, counts: &Rc<Counts>, lent: &Lent) -> bool {
     match lent {
         Lent::Len => map.len() == 5,
         Lent::Capacity => map.capacity() >= 5,
         Lent::Walk(walk) => passed(map, walk) == 5,
         Lent::Room(room) => is_granted(map, room),
-        Lent::Retain(keeps) => kept(map, keeps) == if keeps { 5 } else { 0 },
-        Lent::Clear => left_by_clear(map) == 0,
-        Lent::Clone => map.clone().is_ok(),
-        Lent::Equal => is_equal_to_its_copy(map, counts),
+        Lent::Retain(keeps) => {
+            let keeps = *keeps;
+            map.retain(|_| keeps);
+            map.len() == if keeps { 5 } else { 0 }
+        }
+        Lent::Clear => {
+            map.clear();
+            map.len() == 0
+        }
+        Lent::Clone => is_copied(map, counts, false),
+        Lent::Equal => is_copied(map, counts, true),
     }
 }
 
 /// How many items a walk passes.
-fn passed<S: BuildHasher>(map: &mut TriHashMap<Triple, S>, walk: Walk) -> usize {
+fn passed<S: BuildHasher>(map: &mut TriHashMap<Triple, S>, walk: &Walk) -> usize {
     match walk {
         Walk::Iter => map.iter().count(),
         Walk::NextMut => lent_by_a_walk(map),
-        Walk::NextData => written_and_to_come(map),
+        Walk::NextData => {
+            let mut items = map.iter_mut();
+            if items.next_data().is_none() || items.len() != items.count_remaining() {
+                return 0;
+            }
+            items.len().wrapping_add(1)
+        }
         Walk::NextFrom => lent_by_a_cursor(map),
     }
 }
@@ -102,16 +104,7 @@ fn lent_by_a_walk<S: BuildHasher>(map: &mut TriHashMap<Triple, S>) -> usize {
     items
 }
 
-/// How many items there are by the first step of a walk for writing, and by what it says is to come.
-fn written_and_to_come<S: BuildHasher>(map: &mut TriHashMap<Triple, S>) -> usize {
-    let mut walk = map.iter_mut();
-    if walk.next_data().is_none() || walk.len() != walk.count_remaining() {
-        return 0;
-    }
-    walk.len().wrapping_add(1)
-}
-
-fn is_granted<S: BuildHasher>(map: &mut TriHashMap<Triple, S>, room: Room) -> bool {
+fn is_granted<S: BuildHasher>(map: &mut TriHashMap<Triple, S>, room: &Room) -> bool {
     match room {
         Room::Reserve => map.reserve(100).is_ok(),
         Room::TryReserve => map.try_reserve(100).is_ok(),
@@ -120,21 +113,14 @@ fn is_granted<S: BuildHasher>(map: &mut TriHashMap<Triple, S>, room: Room) -> bo
     }
 }
 
-/// How many items are left behind `retain`, which keeps each or none.
-fn kept<S: BuildHasher>(map: &mut TriHashMap<Triple, S>, keeps: bool) -> usize {
-    map.retain(|_| keeps);
-    map.len()
-}
-
-fn left_by_clear<S: BuildHasher>(map: &mut TriHashMap<Triple, S>) -> usize {
-    map.clear();
-    map.len()
-}
-
-fn is_equal_to_its_copy(map: &TriHashMap<Triple, Alike>, counts: &Rc<Counts>) -> bool {
+/// Whether the map is cloned, and is then equal to its clone where it is compared. The counts start again in between.
+fn is_copied(map: &TriHashMap<Triple, Alike>, counts: &Rc<Counts>, is_compared: bool) -> bool {
     let Ok(copy) = map.clone() else {
         return false;
     };
+    if !is_compared {
+        return true;
+    }
     counts.reset();
     copy == *map
 }

@@ -1,18 +1,115 @@
-//! The two-key map under refused memory.
-use crate::granted::{granted, same};
-use iddqd_bi::{BiHashMap, InsertError};
+//! The two-key map under refused memory: each call that puts an item into a full map.
+use crate::granted::{same, say_unless};
+use iddqd_bi::{BiHashMap, Entry, EntryError, InsertError};
 use iddqd_tests_bi::{Row, row_of};
 use std::alloc::Global;
 use std::process::Abort;
 use std::test::*;
 
-/// What becomes of an item that `insert_unique` is given.
-#[derive(Clone, Copy, Debug, PartialEq, Eq)]
+/// The row of a full map with this first key. Behind the seventh they conflict with none of a full map.
+pub(crate) fn row_at(key1: u64) -> Row {
+    let value = if key1 < 3 { key1.wrapping_mul(100) } else { 0 };
+    row_of(key1, key1.wrapping_mul(10), value)
+}
+
+/// Whether the map has the row by each of its keys.
+pub(crate) fn has(map: &BiHashMap<Row>, row: Row) -> bool {
+    map.get1(&row.key1).copied() == Some(row) && map.get2(&row.key2).copied() == Some(row)
+}
+
+/// Whether the map has the first rows of a full one, so many, and these beside them, and no others.
+pub(crate) fn holds(map: &BiHashMap<Row>, first: u64, others: &[Row]) -> bool {
+    for k in 1..=first {
+        if !has(map, row_at(k)) {
+            return false;
+        }
+    }
+    for row in others {
+        if !has(map, *row) {
+            return false;
+        }
+    }
+    map.len() == others.len().wrapping_add(first as usize)
+}
+
+/// Puts an item in that conflicts with none, and says whether there was memory.
+pub(crate) fn put(map: &mut BiHashMap<Row>, item: Row) -> bool {
+    map.insert_unique(item).is_ok()
+}
+
+/// Puts so many rows into a map that has room for them. That takes no memory.
+fn fill(rt: &impl Abort, map: &mut BiHashMap<Row>, rows: u64) {
+    for k in 1..=rows {
+        assert!(rt; put(map, row_at(k)));
+    }
+}
+
+/// A map of this capacity with so many rows, if there is memory. With seven of seven it is full. Its tables have no
+/// room beyond its capacity, so that each of them has to grow for one item more.
+pub(crate) fn filled(
+    rt: &impl Abort,
+    alloc: Global,
+    capacity: usize,
+    rows: u64,
+) -> Option<BiHashMap<Row>> {
+    let mut map = BiHashMap::with_capacity(alloc, capacity).ok()?;
+    fill(rt, &mut map, rows);
+    Some(map)
+}
+
+/// A call that puts an item in.
+#[derive(Clone, Copy)]
+pub(crate) enum Way {
+    Unique,
+    Overwrite,
+    VacantInsert,
+    VacantInsertMut,
+    VacantInsertEntry,
+    OrInsert,
+    OrInsertWith,
+}
+
+/// What becomes of the item.
+#[derive(Clone, Copy, PartialEq)]
 pub(crate) enum Answer {
     In,
-    Conflict,
-    /// What the refusal shows, and what it hands back.
-    Memory(Row, Row),
+    Key1(Row),
+    Key2(Row),
+    Memory(Row),
+    /// An item has one of its keys, or one of the entry's.
+    Taken,
+    /// No answer that is allowed.
+    Wrong,
+}
+
+fn refusal(error: EntryError<Row>) -> Answer {
+    match error {
+        EntryError::Key1(item) => Answer::Key1(item),
+        EntryError::Key2(item) => Answer::Key2(item),
+        EntryError::Memory(item) => Answer::Memory(item),
+    }
+}
+
+/// Puts an item in, by the entry of the keys of another one where the call is one of an entry.
+pub(crate) fn put_in(map: &mut BiHashMap<Row>, way: Way, keys: Row, item: Row) -> Answer {
+    match way {
+        Way::Unique => insert(map, item),
+        Way::Overwrite => match overwrite(map, item) {
+            Ok(gone) => {
+                if gone == [None, None] {
+                    Answer::In
+                } else {
+                    Answer::Wrong
+                }
+            }
+            Err(item) => Answer::Memory(item),
+        },
+        Way::VacantInsert => vacant_insert(map, keys, item),
+        Way::VacantInsertMut => vacant_insert_mut(map, keys, item),
+        Way::VacantInsertEntry => insert_entry(map, keys, item),
+        Way::OrInsert => or_insert(map, keys, item),
+        Way::OrInsertWith => or_insert_with(map, keys, item),
+    }
 }
 
 fn insert(map: &mut BiHashMap<Row>, item: Row) -> Answer {
@@ -20,364 +117,189 @@ fn insert(map: &mut BiHashMap<Row>, item: Row) -> Answer {
         Ok(()) => Answer::In,
         Err(InsertError::Duplicate(refusal)) => {
             drop(refusal);
-            Answer::Conflict
+            Answer::Taken
         }
         Err(InsertError::Memory(refusal)) => {
             let shown = *refusal.new_item();
-            Answer::Memory(shown, refusal.into_item())
+            let back = refusal.into_item();
+            // What the refusal shows is what it hands back.
+            if shown == back {
+                Answer::Memory(back)
+            } else {
+                Answer::Wrong
+            }
         }
     }
-}
-
-/// Puts an item in that conflicts with none, and says whether there was memory.
-pub(crate) fn put(map: &mut BiHashMap<Row>, item: Row) -> bool {
-    insert(map, item) == Answer::In
-}
-
-/// The item with this first key.
-pub(crate) fn found1(map: &BiHashMap<Row>, key: u64) -> Option<Row> {
-    map.get1(&key).copied()
-}
-
-/// The item with this second key.
-pub(crate) fn found2(map: &BiHashMap<Row>, key: u64) -> Option<Row> {
-    map.get2(&key).copied()
-}
-
-/// An empty map of this capacity, if there is memory.
-fn empty(alloc: Global, capacity: usize) -> Option<BiHashMap<Row>> {
-    BiHashMap::with_capacity(alloc, capacity).ok()
-}
-
-/// Puts (1, 10, 100) and (2, 20, 200) in, and says whether there was memory.
-fn put_two(map: &mut BiHashMap<Row>) -> bool {
-    put(map, row_of(1, 10, 100)) && put(map, row_of(2, 20, 200))
-}
-
-/// Whether the map holds those two rows and has no others.
-pub(crate) fn holds_two_rows(map: &BiHashMap<Row>) -> bool {
-    map.len() == 2
-        && found1(map, 1) == Some(row_of(1, 10, 100))
-        && found2(map, 20) == Some(row_of(2, 20, 200))
-}
-
-/// The map of those two rows, if there is memory. Its tables have no room beyond its capacity, so that where it is full
-/// each of them has to grow.
-pub(crate) fn two_rows(alloc: Global) -> Option<BiHashMap<Row>> {
-    let mut map = empty(alloc, 7)?;
-    if put_two(&mut map) { Some(map) } else { None }
-}
-
-/// Puts rows in until the length of the map of two is its capacity, and says whether there was memory.
-fn fill(map: &mut BiHashMap<Row>) -> bool {
-    for k in 3..=map.capacity() as u64 {
-        if !put(map, row_of(k, k.wrapping_mul(10), 0)) {
-            return false;
-        }
-    }
-    true
-}
-
-/// A map filled until its length equals its capacity, if there is memory.
-pub(crate) fn full(alloc: Global) -> Option<BiHashMap<Row>> {
-    let mut map = two_rows(alloc)?;
-    if fill(&mut map) { Some(map) } else { None }
-}
-
-/// The row behind those of a full map of this capacity.
-pub(crate) fn row_behind(capacity: usize) -> Row {
-    let next = (capacity as u64).wrapping_add(1);
-    row_of(next, next.wrapping_mul(10), 0)
-}
-
-// Each scenario answers whether every request was granted. A set-up that is refused is an outcome that says nothing.
-
-/// Whether room for twenty more is made, by `try_reserve` or by `reserve`.
-fn makes_room(map: &mut BiHashMap<Row>, by_try: bool) -> bool {
-    if by_try {
-        map.try_reserve(20).is_ok()
-    } else {
-        map.reserve(20).is_ok()
-    }
-}
-
-fn reserve_twenty(rt: &impl Abort, map: &mut BiHashMap<Row>, by_try: bool) -> bool {
-    let capacity = map.capacity();
-    let granted = makes_room(map, by_try);
-    assert!(rt; holds_two_rows(map));
-    assert!(rt; map.capacity() >= capacity);
-    if !granted {
-        assert!(rt; makes_room(map, by_try));
-    }
-    assert!(rt; map.capacity() >= 22);
-    assert!(rt; holds_two_rows(map));
-    granted
-}
-
-fn reserve(rt: &impl Abort, alloc: Global, by_try: bool) -> bool {
-    match two_rows(alloc) {
-        Some(mut map) => reserve_twenty(rt, &mut map, by_try),
-        None => false,
-    }
-}
-
-fn with_capacity(rt: &impl Abort, alloc: Global) -> bool {
-    match empty(alloc, 10) {
-        Some(map) => {
-            assert!(rt; map.capacity() >= 10);
-            true
-        }
-        None => {
-            // The same call is granted where there is memory.
-            assert!(rt; empty(alloc, 10).is_some());
-            false
-        }
-    }
-}
-
-/// What is done with a full map.
-#[derive(Clone, Copy)]
-enum Change {
-    Insert,
-    /// An insert that conflicts.
-    Duplicate,
-    Overwrite,
-    /// An overwrite of two rows.
-    Displace,
-}
-
-fn when_full(rt: &impl Abort, alloc: Global, what: Change) -> bool {
-    match full(alloc) {
-        Some(mut map) => carry_out(rt, &mut map, what),
-        None => false,
-    }
-}
-
-fn carry_out(rt: &impl Abort, map: &mut BiHashMap<Row>, what: Change) -> bool {
-    match what {
-        Change::Insert => insert_behind(rt, map),
-        Change::Duplicate => {
-            // Whatever memory there is, a conflict is answered as one.
-            same(rt, insert(map, row_of(1, 77, 0)), Answer::Conflict);
-            true
-        }
-        Change::Overwrite => overwrite_none(rt, map),
-        Change::Displace => overwrite_two(rt, map),
-    }
-}
-
-fn insert_behind(rt: &impl Abort, map: &mut BiHashMap<Row>) -> bool {
-    let capacity = map.capacity();
-    let item = row_behind(capacity);
-    same(rt, map.len(), capacity);
-    let answer = insert(map, item);
-    let granted = answer == Answer::In;
-    if !granted {
-        same(rt, answer, Answer::Memory(item, item));
-        same(rt, map.len(), capacity);
-        same(rt, found1(map, item.key1), None);
-        assert!(rt; put(map, item));
-    }
-    same(rt, map.len(), capacity.wrapping_add(1));
-    same(rt, found2(map, item.key2), Some(item));
-    granted
 }
 
 /// The first two of the items that give way to this one, or the item where memory is refused.
-fn overwrite(map: &mut BiHashMap<Row>, item: Row) -> Result<[Option<Row>; 2], Row> {
+pub(crate) fn overwrite(map: &mut BiHashMap<Row>, item: Row) -> Result<[Option<Row>; 2], Row> {
     match map.insert_overwrite(item) {
-        Ok(displaced) => Ok([displaced.get(0).copied(), displaced.get(1).copied()]),
+        Ok(gone) => Ok([gone.get(0).copied(), gone.get(1).copied()]),
         Err(refusal) => Err(refusal.value),
     }
 }
 
-fn overwrite_none(rt: &impl Abort, map: &mut BiHashMap<Row>) -> bool {
-    let capacity = map.capacity();
-    let item = row_behind(capacity);
-    let answer = overwrite(map, item);
-    let granted = answer == Ok([None, None]);
-    if !granted {
-        same(rt, answer, Err(item));
-        same(rt, map.len(), capacity);
-        same(rt, overwrite(map, item), Ok([None, None]));
+fn vacant_insert(map: &mut BiHashMap<Row>, keys: Row, item: Row) -> Answer {
+    let Entry::Vacant(entry) = map.entry(&keys.key1, &keys.key2) else {
+        return Answer::Taken;
+    };
+    match entry.insert(item) {
+        Ok(_found) => Answer::In,
+        Err(error) => refusal(error),
     }
-    same(rt, map.len(), capacity.wrapping_add(1));
-    same(rt, found1(map, item.key1), Some(item));
+}
+
+fn vacant_insert_mut(map: &mut BiHashMap<Row>, keys: Row, item: Row) -> Answer {
+    let Entry::Vacant(entry) = map.entry(&keys.key1, &keys.key2) else {
+        return Answer::Taken;
+    };
+    match entry.insert_mut(item) {
+        Ok(_found) => Answer::In,
+        Err(error) => refusal(error),
+    }
+}
+
+fn insert_entry(map: &mut BiHashMap<Row>, keys: Row, item: Row) -> Answer {
+    let Entry::Vacant(entry) = map.entry(&keys.key1, &keys.key2) else {
+        return Answer::Taken;
+    };
+    match entry.insert_entry(item) {
+        Ok(_found) => Answer::In,
+        Err(error) => refusal(error.into_error()),
+    }
+}
+
+fn or_insert(map: &mut BiHashMap<Row>, keys: Row, item: Row) -> Answer {
+    match map.entry(&keys.key1, &keys.key2).or_insert(item) {
+        Ok(_found) => Answer::In,
+        Err(error) => refusal(error.into_error()),
+    }
+}
+
+fn or_insert_with(map: &mut BiHashMap<Row>, keys: Row, item: Row) -> Answer {
+    match map.entry(&keys.key1, &keys.key2).or_insert_with(|| item) {
+        Ok(_found) => Answer::In,
+        Err(error) => refusal(error.into_error()),
+    }
+}
+
+/// The first two of the items that an occupied entry gives for this one, which has its keys, or else none.
+pub(crate) fn overwrite_entry(
+    map: &mut BiHashMap<Row>,
+    keys: Row,
+    item: Row,
+) -> Option<[Option<Row>; 2]> {
+    let Entry::Occupied(mut found) = map.entry(&keys.key1, &keys.key2) else {
+        return None;
+    };
+    match found.insert(item) {
+        Ok(gone) => Some([gone.get(0).copied(), gone.get(1).copied()]),
+        Err(_error) => Some([None; 2]),
+    }
+}
+
+/// Gives an entry of a full map an item that has not its first key, and one that has not its second. Whatever memory
+/// there is, that is answered, and the map is as before.
+fn refuse(rt: &impl Abort, map: &mut BiHashMap<Row>, way: Way, keys: Row) {
+    let first = row_of(0, keys.key2, 5);
+    assert!(rt; put_in(map, way, keys, first) == Answer::Key1(first));
+    let second = row_of(keys.key1, 0, 5);
+    assert!(rt; put_in(map, way, keys, second) == Answer::Key2(second));
+    assert!(rt; holds(map, 7, &[]) && map.capacity() == 7);
+}
+
+/// Puts one item more into a full map, and says whether there was memory. Where it was refused the item is handed back
+/// and the map is as before, and a second try is granted.
+fn grow(rt: &impl Abort, map: &mut BiHashMap<Row>, way: Way) -> bool {
+    let item = row_at(8);
+    match way {
+        Way::Unique | Way::Overwrite => {}
+        _ => refuse(rt, map, way, item),
+    }
+    let answer = put_in(map, way, item, item);
+    let granted = answer == Answer::In;
+    if !granted {
+        assert!(rt; answer == Answer::Memory(item));
+        assert!(rt; holds(map, 7, &[]) && map.capacity() == 7);
+        assert!(rt; map.get1(&item.key1).is_none());
+        assert!(rt; put_in(map, way, item, item) == Answer::In);
+    }
+    assert!(rt; holds(map, 7, &[item]) && map.capacity() >= 8);
     granted
 }
 
-// Where items are displaced no memory is asked for, and the room that they leave takes the next item.
-fn overwrite_two(rt: &impl Abort, map: &mut BiHashMap<Row>) -> bool {
-    let capacity = map.capacity();
-    let gone = [Some(row_of(1, 10, 100)), Some(row_of(2, 20, 200))];
+// Calls that ask for no memory even where the map is full, whatever there is: conflicts, items that displace others,
+// and as many inserts and removals as you like below the capacity.
+
+fn displace(rt: &impl Abort, map: &mut BiHashMap<Row>) {
+    assert!(rt; insert(map, row_of(1, 77, 0)) == Answer::Taken);
+    let gone = [Some(row_at(1)), Some(row_at(2))];
     same(rt, overwrite(map, row_of(1, 20, 0)), Ok(gone));
-    same(rt, map.len().wrapping_add(1), capacity);
-    assert!(rt; put(map, row_behind(capacity)));
-    same(rt, map.len(), capacity);
-    same(rt, map.capacity(), capacity);
-    true
+    same(rt, map.len(), 6);
 }
 
-// Inserts and removals below the capacity ask for no memory, however many there were.
+/// Puts an item in and takes it out again, many times. At last it goes in by its entry.
 fn put_and_remove(rt: &impl Abort, map: &mut BiHashMap<Row>) {
-    let capacity = map.capacity();
+    let item = row_at(8);
     for _ in 0..1000 {
-        assert!(rt; put(map, row_of(5, 50, 0)));
-        same(rt, map.remove1(&5), Some(row_of(5, 50, 0)));
+        assert!(rt; put(map, item));
+        same(rt, map.remove1(&8), Some(item));
     }
-    same(rt, map.capacity(), capacity);
+    assert!(rt; put_in(map, Way::OrInsert, item, item) == Answer::In);
+    same(rt, map.len(), 7);
+    same(rt, map.capacity(), 7);
 }
 
-fn insert_and_remove_often(rt: &impl Abort, alloc: Global) -> bool {
-    match empty(alloc, 7) {
-        Some(mut map) => {
-            put_and_remove(rt, &mut map);
+/// Puts an item in the place of two by an entry of a full map.
+fn displace_by_entry(rt: &impl Abort, map: &mut BiHashMap<Row>) {
+    let item = row_of(3, 40, 300);
+    let gone = [Some(row_at(3)), Some(row_at(4))];
+    same(rt, overwrite_entry(map, item, item), Some(gone));
+    same(rt, map.len(), 6);
+    same(rt, map.capacity(), 7);
+    assert!(rt; has(map, item));
+}
+
+/// Carries a scenario out on a full map: one item more by this way, or what asks for no memory. Says whether every
+/// request was granted. A set-up that is refused is an outcome that says nothing.
+fn is_granted(rt: &impl Abort, alloc: Global, way: Option<Way>) -> bool {
+    match filled(rt, alloc, 7, 7) {
+        Some(mut map) => carry_out(rt, &mut map, way),
+        None => false,
+    }
+}
+
+fn carry_out(rt: &impl Abort, map: &mut BiHashMap<Row>, way: Option<Way>) -> bool {
+    match way {
+        Some(way) => grow(rt, map, way),
+        None => {
+            displace(rt, map);
+            put_and_remove(rt, map);
+            displace_by_entry(rt, map);
             true
         }
-        None => false,
-    }
-}
-
-/// Whether the room beyond so many rows is given back, by `shrink_to_fit` where they are none.
-fn is_shrunk(map: &mut BiHashMap<Row>, least: usize) -> bool {
-    if least == 0 {
-        map.shrink_to_fit().is_ok()
-    } else {
-        map.shrink_to(least).is_ok()
-    }
-}
-
-fn shrink_two(rt: &impl Abort, map: &mut BiHashMap<Row>, least: usize) -> bool {
-    assert!(rt; put_two(map));
-    let capacity = map.capacity();
-    let granted = is_shrunk(map, least);
-    assert!(rt; holds_two_rows(map));
-    if !granted {
-        same(rt, map.capacity(), capacity);
-        assert!(rt; is_shrunk(map, least));
-    }
-    same(rt, map.capacity(), if least == 0 { 2 } else { least });
-    assert!(rt; holds_two_rows(map));
-    granted
-}
-
-/// Gives back the room beyond so many rows.
-fn shrink(rt: &impl Abort, alloc: Global, least: usize) -> bool {
-    match empty(alloc, 100) {
-        Some(mut map) => shrink_two(rt, &mut map, least),
-        None => false,
-    }
-}
-
-fn shrink_empty(rt: &impl Abort, map: &mut BiHashMap<Row>) {
-    assert!(rt; map.shrink_to_fit().is_ok());
-    same(rt, map.capacity(), 0);
-}
-
-fn shrink_to_fit_when_empty(rt: &impl Abort, alloc: Global) -> bool {
-    match empty(alloc, 10) {
-        Some(mut map) => {
-            shrink_empty(rt, &mut map);
-            true
-        }
-        None => false,
     }
 }
 
 #[test]
-fn allows_with_capacity(rt: HostRuntime) {
-    let _ = with_capacity(&rt, rt.alloc());
-}
-
-#[test]
-fn grants_with_capacity(rt: HostRuntime) {
-    granted(&rt, with_capacity(&rt, rt.alloc()));
-}
-
-#[test]
-fn allows_reserve(rt: HostRuntime) {
-    for by_try in [false, true] {
-        let _ = reserve(&rt, rt.alloc(), by_try);
+fn allows_an_item_more_when_full(rt: HostRuntime) {
+    let mut all = true;
+    for way in [
+        Way::Unique,
+        Way::Overwrite,
+        Way::VacantInsert,
+        Way::VacantInsertMut,
+        Way::VacantInsertEntry,
+        Way::OrInsert,
+        Way::OrInsertWith,
+    ] {
+        all = is_granted(&rt, rt.alloc(), Some(way)) && all;
     }
+    say_unless(&rt, all);
 }
 
 #[test]
-fn grants_reserve(rt: HostRuntime) {
-    for by_try in [false, true] {
-        granted(&rt, reserve(&rt, rt.alloc(), by_try));
-    }
-}
-
-#[test]
-fn allows_insert_when_full(rt: HostRuntime) {
-    let _ = when_full(&rt, rt.alloc(), Change::Insert);
-}
-
-#[test]
-fn grants_insert_when_full(rt: HostRuntime) {
-    granted(&rt, when_full(&rt, rt.alloc(), Change::Insert));
-}
-
-#[test]
-fn allows_refuse_a_duplicate_when_full(rt: HostRuntime) {
-    let _ = when_full(&rt, rt.alloc(), Change::Duplicate);
-}
-
-#[test]
-fn grants_refuse_a_duplicate_when_full(rt: HostRuntime) {
-    granted(&rt, when_full(&rt, rt.alloc(), Change::Duplicate));
-}
-
-#[test]
-fn allows_shrink_to(rt: HostRuntime) {
-    for least in [0, 3] {
-        let _ = shrink(&rt, rt.alloc(), least);
-    }
-}
-
-#[test]
-fn grants_shrink_to(rt: HostRuntime) {
-    for least in [0, 3] {
-        granted(&rt, shrink(&rt, rt.alloc(), least));
-    }
-}
-
-#[test]
-fn allows_shrink_to_fit_when_empty(rt: HostRuntime) {
-    let _ = shrink_to_fit_when_empty(&rt, rt.alloc());
-}
-
-#[test]
-fn grants_shrink_to_fit_when_empty(rt: HostRuntime) {
-    granted(&rt, shrink_to_fit_when_empty(&rt, rt.alloc()));
-}
-
-#[test]
-fn allows_overwrite_when_full(rt: HostRuntime) {
-    let _ = when_full(&rt, rt.alloc(), Change::Overwrite);
-}
-
-#[test]
-fn grants_overwrite_when_full(rt: HostRuntime) {
-    granted(&rt, when_full(&rt, rt.alloc(), Change::Overwrite));
-}
-
-#[test]
-fn allows_overwrite_that_displaces_when_full(rt: HostRuntime) {
-    let _ = when_full(&rt, rt.alloc(), Change::Displace);
-}
-
-#[test]
-fn grants_overwrite_that_displaces_when_full(rt: HostRuntime) {
-    granted(&rt, when_full(&rt, rt.alloc(), Change::Displace));
-}
-
-#[test]
-fn allows_insert_and_remove_often(rt: HostRuntime) {
-    let _ = insert_and_remove_often(&rt, rt.alloc());
-}
-
-#[test]
-fn grants_insert_and_remove_often(rt: HostRuntime) {
-    granted(&rt, insert_and_remove_often(&rt, rt.alloc()));
+fn allows_what_asks_for_none_when_full(rt: HostRuntime) {
+    say_unless(&rt, is_granted(&rt, rt.alloc(), None));
 }

@@ -1,5 +1,6 @@
 //! Calls of the two-key map that ask for no memory, each on a full map.
-use crate::bi::{full, put};
+use crate::bi::{filled, overwrite, put};
+use crate::bi_room::{is_shrunk, makes_room};
 use crate::granted::{is_byte_granted, say_unless};
 use iddqd_bi::{BiHashMap, DefaultHashBuilder, InsertError};
 use iddqd_tests_bi::Row;
@@ -126,18 +127,18 @@ fn is_right(alloc: Global, map: &mut BiHashMap<Row>, call: Call) -> bool {
         Call::RemoveAbsent => remove_absent(map),
         Call::Clear => clear(map),
         Call::Retain => retain(map),
-        Call::Reserve => reserve(map),
-        Call::ReserveLeft => remove1(map, 7).is_some() && try_reserve(map, 1),
-        Call::ShrinkToFitEmpty => clear(map) && shrink_to_fit(map),
-        Call::ShrinkToEmpty => clear(map) && shrink_to(map, 0),
-        Call::ShrinkToNothing => clear(map) && shrink_to_fit(map) && shrink_to(map, 5),
+        Call::Reserve => makes_room(map, 0, false),
+        Call::ReserveLeft => remove1(map, 7).is_some() && makes_room(map, 1, true),
+        Call::ShrinkToFitEmpty => clear(map) && is_shrunk(map, None),
+        Call::ShrinkToEmpty => clear(map) && is_shrunk(map, Some(0)),
+        Call::ShrinkToNothing => clear(map) && is_shrunk(map, None) && is_shrunk(map, Some(5)),
         Call::Duplicate => duplicate(map),
         Call::DuplicateParts => duplicate_parts(map),
-        Call::OverwriteTwo => overwrite(map, OVER) == [Some(ONE), Some(TWO)],
-        Call::OverwriteOne => overwrite(map, HALF_OVER) == [Some(TWO), None],
+        Call::OverwriteTwo => overwrite(map, OVER) == Ok([Some(ONE), Some(TWO)]),
+        Call::OverwriteOne => overwrite(map, HALF_OVER) == Ok([Some(TWO), None]),
         Call::InsertBelow => remove2(map, 70).is_some() && put(map, BESIDE),
         Call::OverwriteBelow => {
-            remove2(map, 70).is_some() && overwrite(map, BESIDE) == [None, None]
+            remove2(map, 70).is_some() && overwrite(map, BESIDE) == Ok([None, None])
         }
         Call::Often => often(map),
         Call::ExtendByNone => extend_by_none(map),
@@ -206,22 +207,6 @@ fn retain(map: &mut BiHashMap<Row>) -> bool {
     map.len() == 6
 }
 
-fn reserve(map: &mut BiHashMap<Row>) -> bool {
-    map.reserve(0).is_ok()
-}
-
-fn try_reserve(map: &mut BiHashMap<Row>, more: usize) -> bool {
-    map.try_reserve(more).is_ok()
-}
-
-fn shrink_to_fit(map: &mut BiHashMap<Row>) -> bool {
-    map.shrink_to_fit().is_ok()
-}
-
-fn shrink_to(map: &mut BiHashMap<Row>, least: usize) -> bool {
-    map.shrink_to(least).is_ok()
-}
-
 fn duplicate(map: &mut BiHashMap<Row>) -> bool {
     let is_back = map.insert_or_back(OVER) == Err(OVER);
     match map.insert_unique(OVER) {
@@ -237,13 +222,6 @@ fn duplicate_parts(map: &mut BiHashMap<Row>) -> bool {
             found.get(0).copied().copied() == Some(TWO)
         }
         _ => false,
-    }
-}
-
-fn overwrite(map: &mut BiHashMap<Row>, item: Row) -> [Option<Row>; 2] {
-    match map.insert_overwrite(item) {
-        Ok(gone) => [gone.get(0).copied(), gone.get(1).copied()],
-        Err(refusal) => [Some(refusal.value), None],
     }
 }
 
@@ -281,7 +259,7 @@ fn walk_by_value(alloc: Global, map: &mut BiHashMap<Row>) -> bool {
 /// Makes a call on a full map, and asks for one byte behind it. Says whether what the map and that byte need was
 /// granted: a request of the call itself is seen by neither.
 fn is_granted(rt: &impl Abort, alloc: Global, call: Call) -> bool {
-    match full(alloc) {
+    match filled(rt, alloc, 7, 7) {
         Some(mut map) => {
             assert!(rt; is_right(alloc, &mut map, call));
             is_byte_granted(alloc)

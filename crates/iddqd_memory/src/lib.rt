@@ -1,7 +1,8 @@
 //! Tests under refused memory. `tests/refused_memory` runs each with its first, second, .. request for memory refused.
 //!
 //! A test `allows_..` accepts exactly the outcomes that the definition allows, so it passes whichever request is
-//! refused. Its twin `grants_..` passes only where no request is refused: it says that memory is found.
+//! refused. It says where not all that its scenarios asked for was granted, and the script fails where it says so
+//! though no request was refused: so memory is found.
 //!
 //! A test `hides_none_..` makes calls that ask for no memory. It says so where a request of its own was refused, of the
 //! map that it makes or of the byte that it asks for behind each call. The script fails where a request is refused and
@@ -13,9 +14,7 @@ mod bi;
 #[cfg(test)]
 mod bi_building;
 #[cfg(test)]
-mod bi_copies;
-#[cfg(test)]
-mod bi_entries;
+mod bi_room;
 #[cfg(test)]
 mod bi_silent;
 #[cfg(test)]

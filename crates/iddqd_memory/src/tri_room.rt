@@ -1,95 +1,82 @@
 //! The three-key map under refused memory: room and copies.
-use crate::granted::{granted, same};
-use crate::tri::{holds_two_of, two_in};
+use crate::granted::{same, say_unless};
+use crate::tri::{filled, holds};
 use iddqd_tests_tri::Row;
 use iddqd_tri::TriHashMap;
 use std::alloc::Global;
 use std::process::Abort;
 use std::test::*;
 
-// As in the other scenarios each answer says whether every request was granted.
-
-// An empty map gives all its room back, and asks for none.
-fn shrink_empty(rt: &impl Abort, map: &mut TriHashMap<Row>) {
-    map.clear();
-    assert!(rt; map.shrink_to_fit().is_ok());
-    same(rt, map.capacity(), 0);
+/// What is done with a map.
+#[derive(Clone, Copy)]
+enum Call {
+    Reserve,
+    TryReserve,
+    ShrinkTo,
+    ShrinkToFit,
+    ShrinkEmpty,
+    Clone,
 }
 
-fn with_capacity(rt: &impl Abort, alloc: Global) -> bool {
-    match TriHashMap::<Row>::with_capacity(alloc, 10) {
-        Ok(mut map) => {
-            same(rt, map.capacity(), 10);
-            shrink_empty(rt, &mut map);
-            true
-        }
-        Err(_) => {
-            // The same call is granted where there is memory.
-            assert!(rt; TriHashMap::<Row>::with_capacity(alloc, 10).is_ok());
-            false
-        }
-    }
-}
+/// A call, with the capacity of the map and how many rows are in it.
+type Scenario = (Call, usize, u64);
 
-/// Whether room for twenty more is made, by `try_reserve` or by `reserve`.
-fn makes_room(map: &mut TriHashMap<Row>, by_try: bool) -> bool {
+const SCENARIOS: [Scenario; 7] = [
+    (Call::Reserve, 2, 2),
+    (Call::TryReserve, 2, 2),
+    (Call::ShrinkTo, 50, 2),
+    (Call::ShrinkToFit, 50, 2),
+    (Call::ShrinkEmpty, 10, 0),
+    (Call::ShrinkEmpty, 50, 2),
+    (Call::Clone, 2, 2),
+];
+
+/// Whether room for so many more is made, by `try_reserve` or by `reserve`.
+pub(crate) fn makes_room(map: &mut TriHashMap<Row>, more: usize, by_try: bool) -> bool {
     if by_try {
-        map.try_reserve(20).is_ok()
+        map.try_reserve(more).is_ok()
     } else {
-        map.reserve(20).is_ok()
+        map.reserve(more).is_ok()
     }
 }
 
 fn reserve_twenty(rt: &impl Abort, map: &mut TriHashMap<Row>, by_try: bool) -> bool {
-    let granted = makes_room(map, by_try);
-    assert!(rt; holds_two_of(map, 2));
-    assert!(rt; map.capacity() >= 2);
+    let capacity = map.capacity();
+    let granted = makes_room(map, 20, by_try);
+    assert!(rt; holds(map, 2, &[]) && map.capacity() >= capacity);
     if !granted {
-        assert!(rt; makes_room(map, by_try));
+        assert!(rt; makes_room(map, 20, by_try));
     }
-    assert!(rt; map.capacity() >= 22);
-    assert!(rt; holds_two_of(map, 2));
+    assert!(rt; holds(map, 2, &[]) && map.capacity() >= 22);
     granted
 }
 
-fn reserve(rt: &impl Abort, alloc: Global, by_try: bool) -> bool {
-    match two_in(alloc, 2) {
-        Some(mut map) => reserve_twenty(rt, &mut map, by_try),
-        None => false,
+/// Whether the room beyond so many rows is given back, by `shrink_to_fit` where no number is given.
+pub(crate) fn is_shrunk(map: &mut TriHashMap<Row>, least: Option<usize>) -> bool {
+    match least {
+        Some(least) => map.shrink_to(least).is_ok(),
+        None => map.shrink_to_fit().is_ok(),
     }
 }
 
-/// Whether the room beyond so many items is given back, by `shrink_to_fit` where they are none.
-fn is_shrunk(map: &mut TriHashMap<Row>, least: usize) -> bool {
-    if least == 0 {
-        map.shrink_to_fit().is_ok()
-    } else {
-        map.shrink_to(least).is_ok()
-    }
-}
-
-fn shrink_two(rt: &impl Abort, map: &mut TriHashMap<Row>, least: usize) -> bool {
+fn shrink_two(rt: &impl Abort, map: &mut TriHashMap<Row>, least: Option<usize>) -> bool {
+    let capacity = map.capacity();
     let granted = is_shrunk(map, least);
-    assert!(rt; holds_two_of(map, 2));
+    assert!(rt; holds(map, 2, &[]));
     if !granted {
-        same(rt, map.capacity(), 50);
-        assert!(rt; map.shrink_to(least).is_ok());
+        same(rt, map.capacity(), capacity);
+        assert!(rt; is_shrunk(map, least));
     }
-    same(rt, map.capacity(), if least == 0 { 2 } else { least });
-    assert!(rt; holds_two_of(map, 2));
+    same(rt, map.capacity(), least.unwrap_or(2));
+    assert!(rt; holds(map, 2, &[]));
     granted
 }
 
-/// Gives back the room beyond so many items.
-fn shrink(rt: &impl Abort, alloc: Global, least: usize) -> bool {
-    match two_in(alloc, 50) {
-        Some(mut map) => {
-            let granted = shrink_two(rt, &mut map, least);
-            shrink_empty(rt, &mut map);
-            granted
-        }
-        None => false,
-    }
+// An empty map gives all its room back, and asks for none.
+fn shrink_empty(rt: &impl Abort, map: &mut TriHashMap<Row>) {
+    map.clear();
+    assert!(rt; is_shrunk(map, None));
+    same(rt, map.capacity(), 0);
 }
 
 /// Whether there is memory for a clone. It is equal to the map.
@@ -103,69 +90,49 @@ fn is_cloned(rt: &impl Abort, map: &TriHashMap<Row>) -> bool {
     }
 }
 
-fn clone(rt: &impl Abort, alloc: Global) -> bool {
-    match two_in(alloc, 2) {
-        Some(map) => {
-            let granted = is_cloned(rt, &map);
-            // After a refusal the same call is granted.
-            assert!(rt; granted || is_cloned(rt, &map));
-            assert!(rt; holds_two_of(&map, 2));
-            granted
+fn clone(rt: &impl Abort, map: &TriHashMap<Row>) -> bool {
+    let granted = is_cloned(rt, map);
+    // After a refusal the same call is granted.
+    assert!(rt; granted || is_cloned(rt, map));
+    assert!(rt; holds(map, 2, &[]));
+    granted
+}
+
+fn carry_out(rt: &impl Abort, map: &mut TriHashMap<Row>, call: Call) -> bool {
+    match call {
+        Call::Reserve => reserve_twenty(rt, map, false),
+        Call::TryReserve => reserve_twenty(rt, map, true),
+        Call::ShrinkTo => shrink_two(rt, map, Some(3)),
+        Call::ShrinkToFit => shrink_two(rt, map, None),
+        Call::ShrinkEmpty => {
+            shrink_empty(rt, map);
+            true
         }
-        None => false,
+        Call::Clone => clone(rt, map),
+    }
+}
+
+/// Carries a scenario out, and says whether every request was granted, that of `with_capacity` too.
+fn is_granted(rt: &impl Abort, alloc: Global, scenario: Scenario) -> bool {
+    let (call, capacity, rows) = scenario;
+    match filled(rt, alloc, capacity, rows) {
+        Some(mut map) => {
+            same(rt, map.capacity(), capacity);
+            carry_out(rt, &mut map, call)
+        }
+        None => {
+            // The same call is granted where there is memory.
+            assert!(rt; filled(rt, alloc, capacity, rows).is_some());
+            false
+        }
     }
 }
 
 #[test]
-fn allows_with_capacity(rt: HostRuntime) {
-    let _ = with_capacity(&rt, rt.alloc());
-}
-
-#[test]
-fn grants_with_capacity(rt: HostRuntime) {
-    granted(&rt, with_capacity(&rt, rt.alloc()));
-}
-
-#[test]
-fn allows_reserve(rt: HostRuntime) {
-    for by_try in [false, true] {
-        let _ = reserve(&rt, rt.alloc(), by_try);
+fn allows_room_and_copies(rt: HostRuntime) {
+    let mut all = true;
+    for scenario in SCENARIOS {
+        all = is_granted(&rt, rt.alloc(), scenario) && all;
     }
-}
-
-#[test]
-fn grants_reserve(rt: HostRuntime) {
-    for by_try in [false, true] {
-        granted(&rt, reserve(&rt, rt.alloc(), by_try));
-    }
-}
-
-#[test]
-fn allows_shrink_to(rt: HostRuntime) {
-    let _ = shrink(&rt, rt.alloc(), 3);
-}
-
-#[test]
-fn grants_shrink_to(rt: HostRuntime) {
-    granted(&rt, shrink(&rt, rt.alloc(), 3));
-}
-
-#[test]
-fn allows_shrink_to_fit(rt: HostRuntime) {
-    let _ = shrink(&rt, rt.alloc(), 0);
-}
-
-#[test]
-fn grants_shrink_to_fit(rt: HostRuntime) {
-    granted(&rt, shrink(&rt, rt.alloc(), 0));
-}
-
-#[test]
-fn allows_clone(rt: HostRuntime) {
-    let _ = clone(&rt, rt.alloc());
-}
-
-#[test]
-fn grants_clone(rt: HostRuntime) {
-    granted(&rt, clone(&rt, rt.alloc()));
+    say_unless(&rt, all);
 }

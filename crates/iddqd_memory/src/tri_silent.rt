@@ -1,6 +1,8 @@
 //! Calls of the three-key map that ask for no memory, each on a full map.
 use crate::granted::{is_byte_granted, say_unless};
-use iddqd_tests_tri::{Row, row_of};
+use crate::tri::{filled, overwrite, put};
+use crate::tri_room::{is_shrunk, makes_room};
+use iddqd_tests_tri::Row;
 use iddqd_tri::{DefaultHashBuilder, InsertError, TriHashMap};
 use std::alloc::Global;
 use std::mem;
@@ -140,18 +142,18 @@ fn is_right(alloc: Global, map: &mut TriHashMap<Row>, call: Call) -> bool {
         Call::RemoveAbsent => remove_absent(map),
         Call::Clear => clear(map),
         Call::Retain => retain(map),
-        Call::Reserve => reserve(map),
-        Call::ReserveLeft => remove1(map, 7).is_some() && try_reserve(map, 1),
-        Call::ShrinkToFitEmpty => clear(map) && shrink_to_fit(map),
-        Call::ShrinkToEmpty => clear(map) && shrink_to(map, 0),
-        Call::ShrinkToNothing => clear(map) && shrink_to_fit(map) && shrink_to(map, 5),
+        Call::Reserve => makes_room(map, 0, false),
+        Call::ReserveLeft => remove1(map, 7).is_some() && makes_room(map, 1, true),
+        Call::ShrinkToFitEmpty => clear(map) && is_shrunk(map, None),
+        Call::ShrinkToEmpty => clear(map) && is_shrunk(map, Some(0)),
+        Call::ShrinkToNothing => clear(map) && is_shrunk(map, None) && is_shrunk(map, Some(5)),
         Call::Duplicate => duplicate(map),
         Call::DuplicateParts => duplicate_parts(map),
-        Call::OverwriteTwo => overwrite(map, OVER) == [Some(ONE), Some(TWO), Some(THREE)],
-        Call::OverwriteOne => overwrite(map, HALF_OVER) == [Some(TWO), None, None],
+        Call::OverwriteTwo => overwrite(map, OVER) == Ok([Some(ONE), Some(TWO), Some(THREE)]),
+        Call::OverwriteOne => overwrite(map, HALF_OVER) == Ok([Some(TWO), None, None]),
         Call::InsertBelow => remove2(map, 70).is_some() && put(map, BESIDE),
         Call::OverwriteBelow => {
-            remove2(map, 70).is_some() && overwrite(map, BESIDE) == [None; 3]
+            remove2(map, 70).is_some() && overwrite(map, BESIDE) == Ok([None; 3])
         }
         Call::Often => often(map),
         Call::ExtendByNone => extend_by_none(map),
@@ -159,33 +161,6 @@ fn is_right(alloc: Global, map: &mut TriHashMap<Row>, call: Call) -> bool {
         Call::Walk => walk(map),
         Call::WalkByValue => walk_by_value(alloc, map),
     }
-}
-
-/// Puts an item in that conflicts with none, and says whether there was memory.
-fn put(map: &mut TriHashMap<Row>, item: Row) -> bool {
-    map.insert_unique(item).is_ok()
-}
-
-/// The row whose first key is this.
-fn row_at(key1: u64) -> Row {
-    let value = if key1 < 3 { key1.wrapping_mul(100) } else { 0 };
-    row_of(key1, key1.wrapping_mul(10), key1.wrapping_mul(100), value)
-}
-
-/// Puts seven rows in, and says whether there was memory.
-fn fill(map: &mut TriHashMap<Row>) -> bool {
-    for k in 1..8 {
-        if !put(map, row_at(k)) {
-            return false;
-        }
-    }
-    true
-}
-
-/// A full map of seven rows, if there is memory.
-pub(crate) fn full_of_rows(alloc: Global) -> Option<TriHashMap<Row>> {
-    let mut map = TriHashMap::with_capacity(alloc, 7).ok()?;
-    if fill(&mut map) { Some(map) } else { None }
 }
 
 fn build(alloc: Global) -> bool {
@@ -257,22 +232,6 @@ fn retain(map: &mut TriHashMap<Row>) -> bool {
     map.len() == 6
 }
 
-fn reserve(map: &mut TriHashMap<Row>) -> bool {
-    map.reserve(0).is_ok()
-}
-
-fn try_reserve(map: &mut TriHashMap<Row>, more: usize) -> bool {
-    map.try_reserve(more).is_ok()
-}
-
-fn shrink_to_fit(map: &mut TriHashMap<Row>) -> bool {
-    map.shrink_to_fit().is_ok()
-}
-
-fn shrink_to(map: &mut TriHashMap<Row>, least: usize) -> bool {
-    map.shrink_to(least).is_ok()
-}
-
 fn duplicate(map: &mut TriHashMap<Row>) -> bool {
     let is_back = map.insert_or_back(OVER) == Err(OVER);
     match map.insert_unique(OVER) {
@@ -288,17 +247,6 @@ fn duplicate_parts(map: &mut TriHashMap<Row>) -> bool {
             found.get(0).copied().copied() == Some(TWO)
         }
         _ => false,
-    }
-}
-
-fn overwrite(map: &mut TriHashMap<Row>, item: Row) -> [Option<Row>; 3] {
-    match map.insert_overwrite(item) {
-        Ok(gone) => [
-            gone.get(0).copied(),
-            gone.get(1).copied(),
-            gone.get(2).copied(),
-        ],
-        Err(refusal) => [Some(refusal.value), None, None],
     }
 }
 
@@ -336,7 +284,7 @@ fn walk_by_value(alloc: Global, map: &mut TriHashMap<Row>) -> bool {
 /// Makes a call on a full map, and asks for one byte behind it. Says whether what the map and that byte need was
 /// granted: a request of the call itself is seen by neither.
 fn is_granted(rt: &impl Abort, alloc: Global, call: Call) -> bool {
-    match full_of_rows(alloc) {
+    match filled(rt, alloc, 7, 7) {
         Some(mut map) => {
             assert!(rt; is_right(alloc, &mut map, call));
             is_byte_granted(alloc)

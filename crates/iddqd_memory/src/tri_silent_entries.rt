@@ -2,9 +2,9 @@
 ghost use Rattle.iddqd_tri.specs.Entries.{Holds};
 
 use crate::granted::{is_byte_granted, say_unless};
-use crate::tri_silent::full_of_rows;
+use crate::tri::{Answer, Way, filled, overwrite_entry, put_in};
 use iddqd_tests_tri::Row;
-use iddqd_tri::{Entry, EntryError, OccupiedEntryMut, OccupiedEntryRef, TriHashMap};
+use iddqd_tri::{Entry, OccupiedEntryMut, OccupiedEntryRef, TriHashMap};
 use std::alloc::Global;
 use std::process::Abort;
 use std::test::*;
@@ -137,22 +137,28 @@ fn is_right(map: &mut TriHashMap<Row>, call: Call) -> bool {
         Call::LentForGood => lend_for_good(map, SAME),
         Call::UniqueForGood => lend_unique_for_good(map, SAME),
         Call::ForEach => for_each(map, OVER) == 3,
-        Call::Insert => insert(map, OVER, OVER) == Some(3),
-        Call::InsertRefused => insert(map, OVER, BESIDE) == Some(0),
+        Call::Insert => overwrite_entry(map, OVER, OVER)
+            == Some([Some(ONE), Some(TWO), Some(THREE)]),
+        Call::InsertRefused => overwrite_entry(map, OVER, BESIDE) == Some([None; 3]),
         Call::Remove => remove(map, OVER) == [Some(ONE), Some(TWO), Some(THREE)],
         Call::Data1 => write_data1(map, OVER),
         Call::Data2 => write_data2(map, OVER),
         Call::Data3 => write_data3(map, OVER),
         Call::Vacant => is_vacant(map, BESIDE),
-        Call::VacantInsert => is_refused(map, BESIDE, SAME),
-        Call::VacantInsert2 => is_refused_behind(map, BESIDE, OTHER2),
-        Call::VacantInsert3 => is_refused_behind(map, BESIDE, OTHER3),
-        Call::VacantInsertMut => is_refused_mut(map, BESIDE, SAME),
-        Call::VacantInsertEntry => is_refused_entry(map, BESIDE, SAME),
-        Call::OrInsert => or_insert(map, OVER, BESIDE),
-        Call::OrInsertWith => or_insert_with(map, OVER, BESIDE),
-        Call::OrInsertRefused => !or_insert(map, BESIDE, SAME),
-        Call::OrInsertWithRefused => !or_insert_with(map, BESIDE, SAME),
+        Call::VacantInsert => put_in(map, Way::VacantInsert, BESIDE, SAME) == Answer::Key1(SAME),
+        Call::VacantInsert2 => put_in(map, Way::VacantInsert, BESIDE, OTHER2)
+            == Answer::Key2(OTHER2),
+        Call::VacantInsert3 => put_in(map, Way::VacantInsert, BESIDE, OTHER3)
+            == Answer::Key3(OTHER3),
+        Call::VacantInsertMut => put_in(map, Way::VacantInsertMut, BESIDE, SAME)
+            == Answer::Key1(SAME),
+        Call::VacantInsertEntry => put_in(map, Way::VacantInsertEntry, BESIDE, SAME)
+            == Answer::Key1(SAME),
+        Call::OrInsert => put_in(map, Way::OrInsert, OVER, BESIDE) == Answer::In,
+        Call::OrInsertWith => put_in(map, Way::OrInsertWith, OVER, BESIDE) == Answer::In,
+        Call::OrInsertRefused => put_in(map, Way::OrInsert, BESIDE, SAME) == Answer::Key1(SAME),
+        Call::OrInsertWithRefused => put_in(map, Way::OrInsertWith, BESIDE, SAME)
+            == Answer::Key1(SAME),
     }
 }
 
@@ -236,17 +242,6 @@ fn for_each(map: &mut TriHashMap<Row>, keys: Row) -> u64 {
     calls
 }
 
-/// How many items an occupied entry gives for this one, which has its keys, or else none.
-fn insert(map: &mut TriHashMap<Row>, keys: Row, item: Row) -> Option<usize> {
-    match map.entry(&keys.key1, &keys.key2, &keys.key3) {
-        Entry::Occupied(mut found) => match found.insert(item) {
-            Ok(gone) => Some(gone.len()),
-            Err(_error) => Some(0),
-        },
-        Entry::Vacant(_) => None,
-    }
-}
-
 fn remove(map: &mut TriHashMap<Row>, keys: Row) -> [Option<Row>; 3] {
     match map.entry(&keys.key1, &keys.key2, &keys.key3) {
         Entry::Occupied(found) => {
@@ -289,79 +284,10 @@ fn is_vacant(map: &mut TriHashMap<Row>, keys: Row) -> bool {
     )
 }
 
-/// Whether the refusal is for the first key.
-fn is_of_key1(error: EntryError<Row>) -> bool {
-    match error {
-        EntryError::Key1(item) => item == SAME,
-        _ => false,
-    }
-}
-
-/// Whether the refusal is for a key behind the first one.
-fn is_of_later_key(error: EntryError<Row>) -> bool {
-    match error {
-        EntryError::Key1(_) | EntryError::Memory(_) => false,
-        _ => true,
-    }
-}
-
-fn is_refused(map: &mut TriHashMap<Row>, keys: Row, item: Row) -> bool {
-    match map.entry(&keys.key1, &keys.key2, &keys.key3) {
-        Entry::Vacant(entry) => match entry.insert(item) {
-            Ok(_found) => false,
-            Err(error) => is_of_key1(error),
-        },
-        Entry::Occupied(_) => false,
-    }
-}
-
-/// Whether the refusal is for a key behind the first one, and not for want of memory.
-fn is_refused_behind(map: &mut TriHashMap<Row>, keys: Row, item: Row) -> bool {
-    match map.entry(&keys.key1, &keys.key2, &keys.key3) {
-        Entry::Vacant(entry) => match entry.insert(item) {
-            Ok(_found) => false,
-            Err(error) => is_of_later_key(error),
-        },
-        Entry::Occupied(_) => false,
-    }
-}
-
-fn is_refused_mut(map: &mut TriHashMap<Row>, keys: Row, item: Row) -> bool {
-    match map.entry(&keys.key1, &keys.key2, &keys.key3) {
-        Entry::Vacant(entry) => match entry.insert_mut(item) {
-            Ok(_found) => false,
-            Err(error) => is_of_key1(error),
-        },
-        Entry::Occupied(_) => false,
-    }
-}
-
-fn is_refused_entry(map: &mut TriHashMap<Row>, keys: Row, item: Row) -> bool {
-    match map.entry(&keys.key1, &keys.key2, &keys.key3) {
-        Entry::Vacant(entry) => match entry.insert_entry(item) {
-            Ok(_found) => false,
-            Err(refusal) => is_of_key1(refusal.into_error()),
-        },
-        Entry::Occupied(_) => false,
-    }
-}
-
-fn or_insert(map: &mut TriHashMap<Row>, keys: Row, item: Row) -> bool {
-    map.entry(&keys.key1, &keys.key2, &keys.key3)
-        .or_insert(item)
-        .is_ok()
-}
-
-fn or_insert_with(map: &mut TriHashMap<Row>, keys: Row, item: Row) -> bool {
-    map.entry(&keys.key1, &keys.key2, &keys.key3)
-        .or_insert_with(|| item)
-        .is_ok()
-}
-
 /// Makes a call on a full map, and asks for one byte behind it. Says whether what the map and that byte need was
 /// granted: a request of the call itself is seen by neither.
 fn is_granted(rt: &impl Abort, alloc: Global, call: Call) -> bool {
-    match full_of_rows(alloc) {
+    match filled(rt, alloc, 7, 7) {
         Some(mut map) => {
             assert!(rt; is_right(&mut map, call));
             is_byte_granted(alloc)

@@ -1,6 +1,6 @@
 //! Guards and walks of the three-key map that ask for no memory, each on a full map.
 use crate::granted::{is_byte_granted, say_unless};
-use crate::tri_silent::full_of_rows;
+use crate::tri::filled;
 use iddqd_tests_tri::Row;
 use iddqd_tri::{Cursor, TriHashMap};
 use std::alloc::Global;
@@ -149,7 +149,7 @@ fn next_data(map: &mut TriHashMap<Row>) -> bool {
 /// Makes a call on a full map, and asks for one byte behind it. Says whether what the map and that byte need was
 /// granted: a request of the call itself is seen by neither.
 fn is_granted(rt: &impl Abort, alloc: Global, call: Call) -> bool {
-    match full_of_rows(alloc) {
+    match filled(rt, alloc, 7, 7) {
         Some(mut map) => {
             assert!(rt; is_right(&mut map, call));
             is_byte_granted(alloc)
@@ -158,15 +158,11 @@ fn is_granted(rt: &impl Abort, alloc: Global, call: Call) -> bool {
     }
 }
 
-fn are_granted(rt: &impl Abort, alloc: Global, calls: &[Call]) -> bool {
-    let mut all = true;
-    for call in calls {
-        all = is_granted(rt, alloc, *call) && all;
-    }
-    all
-}
-
 #[test]
 fn hides_none_in_guards(rt: HostRuntime) {
-    say_unless(&rt, are_granted(&rt, rt.alloc(), GUARDS));
+    let mut all = true;
+    for call in GUARDS {
+        all = is_granted(&rt, rt.alloc(), *call) && all;
+    }
+    say_unless(&rt, all);
 }

@@ -26,13 +26,6 @@ const TWO: Row = row!(2, 20, 0);
 
 const LATE: Row = row!(2, 10, 5);
 
-#[test]
-fn building_names_the_first_conflict(rt: HostRuntime) {
-    let conflict = (LATE, [Some(TWO), Some(ONE)]);
-    assert!(rt; unique(rt.alloc(), [ONE, TWO, LATE]) == Err(conflict));
-    assert!(rt; unique(rt.alloc(), [ONE, row!(10, 1, 0), row!(20, 2, 0)]) == Ok(3));
-}
-
 /// The number of items of the map of these that may take the place of others, and the one with the first key 1.
 fn overwritten(alloc: Global, items: [Row; 3]) -> Option<(usize, Option<Row>)> {
     match BiHashMap::<Row>::from_iter(alloc, items) {
@@ -42,7 +35,10 @@ fn overwritten(alloc: Global, items: [Row; 3]) -> Option<(usize, Option<Row>)> {
 }
 
 #[test]
-fn building_overwrites(rt: HostRuntime) {
+fn building_names_the_first_conflict_or_overwrites(rt: HostRuntime) {
+    let conflict = (LATE, [Some(TWO), Some(ONE)]);
+    assert!(rt; unique(rt.alloc(), [ONE, TWO, LATE]) == Err(conflict));
+    assert!(rt; unique(rt.alloc(), [ONE, row!(10, 1, 0), row!(20, 2, 0)]) == Ok(3));
     let last = row!(1, 20, 5);
     assert!(rt; overwritten(rt.alloc(), [ONE, TWO, last]) == Some((1, Some(last))));
 }

@@ -1,5 +1,5 @@
 //! Worked rows on the capacity of two-key maps, with the items that they keep: reserved, shrunk, cleared and full ones.
-use crate::row::{Row, row_of};
+use crate::row::Row;
 use crate::worked::{ONE, TWO, by_first, pair, reset, row};
 use iddqd_bi::{BiHashMap, Entry};
 use iddqd_builders::Alike;
@@ -7,7 +7,6 @@ use std::hash::BuildHasher;
 use std::test::*;
 
 /// What is asked of a map.
-#[derive(Clone, Copy)]
 enum Asked {
     Nothing,
     Reserve(usize),
@@ -16,11 +15,11 @@ enum Asked {
 }
 
 /// Whether a map grants what is asked.
-fn grants(map: &mut BiHashMap<Row>, asked: Asked) -> bool {
+fn grants(map: &mut BiHashMap<Row>, asked: &Asked) -> bool {
     match asked {
         Asked::Nothing => true,
-        Asked::Reserve(more) => map.reserve(more).is_ok(),
-        Asked::ShrinkTo(room) => map.shrink_to(room).is_ok(),
+        Asked::Reserve(more) => map.reserve(*more).is_ok(),
+        Asked::ShrinkTo(room) => map.shrink_to(*room).is_ok(),
         Asked::ShrinkToFit => map.shrink_to_fit().is_ok(),
     }
 }
@@ -63,7 +62,7 @@ fn keeps(map: &mut BiHashMap<Row>, items: Two, asked: &[(Asked, usize, usize)]) 
     }
     let length = map.len();
     for (what, least, most) in asked {
-        is_right = is_right && grants(map, *what) && map.len() == length && by_first(map) == items;
+        is_right = is_right && grants(map, what) && map.len() == length && by_first(map) == items;
         is_right = is_right && map.capacity() >= *least && map.capacity() <= *most;
     }
     let capacity = map.capacity();
@@ -82,8 +81,10 @@ fn capacities_stand_within_their_bounds(rt: HostRuntime) -> Result<(), Fail> {
 }
 
 /// The item behind so many in a full map.
-fn row_at(key: u64) -> Row {
-    row_of(key, key.wrapping_mul(10), 0)
+macro_rules! row_at {
+    ($key:expr) => {
+        row!($key, $key.wrapping_mul(10), 0)
+    };
 }
 
 /// Fills the map of two until its length is its capacity, once a size that no memory holds was refused. Says whether
@@ -92,7 +93,7 @@ fn fill<S: BuildHasher>(map: &mut BiHashMap<Row, S>) -> bool {
     let mut is_right = reset(map) && map.reserve(usize::MAX).is_err();
     is_right = is_right && map.len() == 2 && by_first(map) == BOTH;
     for key in 3..=map.capacity() as u64 {
-        is_right = is_right && map.insert_unique(row_at(key)).is_ok();
+        is_right = is_right && map.insert_unique(row_at!(key)).is_ok();
     }
     is_right && map.len() == map.capacity()
 }
@@ -101,7 +102,7 @@ fn fill<S: BuildHasher>(map: &mut BiHashMap<Row, S>) -> bool {
 fn has_all<S: BuildHasher>(map: &BiHashMap<Row, S>, items: Two, last: u64) -> bool {
     let mut found = items.into_iter().flatten().count();
     for key in 3..=last {
-        if map.get_unique(&key, &key.wrapping_mul(10)).copied() != Some(row_at(key)) {
+        if map.get_unique(&key, &key.wrapping_mul(10)).copied() != Some(row_at!(key)) {
             return false;
         }
         found = found.wrapping_add(1);
@@ -131,12 +132,13 @@ fn gives_way<S: BuildHasher>(map: &mut BiHashMap<Row, S>, by_entry: bool) -> boo
     let is_filled = fill(map);
     let capacity = map.capacity();
     let last = capacity as u64;
+    let next = last.wrapping_add(1);
     let left = [Some(NEW), None];
     is_filled
         && displaced(map, by_entry, NEW) == Some(BOTH)
         && has_all(map, left, last)
-        && displaced(map, false, row_at(last.wrapping_add(1))) == Some(NEITHER)
-        && has_all(map, left, last.wrapping_add(1))
+        && displaced(map, false, row_at!(next)) == Some(NEITHER)
+        && has_all(map, left, next)
         && map.len() == capacity
         && map.capacity() == capacity
 }

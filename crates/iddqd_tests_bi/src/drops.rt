@@ -1,5 +1,5 @@
-//! Values that refusals and displacements hold are dropped once.
-ghost use Rattle.std.specs.Prelude.{⊤};
+//! Items that are counted: those that refusals and displacements hold are dropped once.
+ghost use Rattle.std.specs.Prelude.{◌≡◌, ⊤};
 ghost use Rattle.std.proofs.Common.{rules};
 
 use iddqd_bi::{
@@ -7,15 +7,34 @@ use iddqd_bi::{
 };
 use iddqd_store::{ExtendUniqueError, UpToTwo};
 use std::alloc::{AllocError, Global};
+use std::cell::Cell;
 use std::rc::Rc;
 use std::test::Fail;
 
-/// An item that is counted as long as it is there.
+/// An item that is counted as long as it is there, and lets so many clones be made of it and of those that share its
+/// number.
 #[derive(Drop)]
-struct Held {
-    key1: u64,
-    key2: u64,
-    alive: Rc<()>,
+pub struct Held {
+    pub key1: u64,
+    pub key2: u64,
+    pub left: Rc<Cell<u64>>,
+}
+
+impl Clone for Held {
+    ghost is_clone = { λ x c. (c.key1 ≡ x.key1) × (c.key2 ≡ x.key2) };
+
+    fn clone(&self) -> Result<Self, AllocError> {
+        let left = self.left.get();
+        if left == 0 {
+            return Err(AllocError);
+        }
+        self.left.set(left - 1);
+        Ok(Held {
+            key1: self.key1,
+            key2: self.key2,
+            left: self.left.clone()?,
+        })
+    }
 }
 
 impl BiHashItem for Held {
@@ -37,11 +56,11 @@ impl BiHashItem for Held {
 }
 
 impl BiHashItemMut for Held {
-    type Data = Rc<()>;
+    type Data = Rc<Cell<u64>>;
 
-    ghost payload = { λ x. x.alive };
+    ghost payload = { λ x. x.left };
 
-    ghost put = { λ x d. record x { alive = d } };
+    ghost put = { λ x d. record x { left = d } };
 
     ghost keeps_key1 = { Prim.search rules };
 
@@ -49,30 +68,29 @@ impl BiHashItemMut for Held {
 
     ghost put_shows = { Prim.search rules };
 
-    fn data_mut(&mut self) -> &mut Rc<()> {
-        &mut self.alive
+    fn data_mut(&mut self) -> &mut Rc<Cell<u64>> {
+        &mut self.left
     }
 }
 
-fn item_of(alive: &Rc<()>, (key1, key2): (u64, u64)) -> Result<Held, AllocError> {
-    Ok(Held {
-        key1,
-        key2,
-        alive: alive.clone()?,
-    })
-}
+/// The keys of an item.
+type Keys = (u64, u64);
 
 /// These items, in a list.
-fn listed(alloc: Global, alive: &Rc<()>, keys: &[(u64, u64)]) -> Result<Vec<Held>, AllocError> {
+pub fn listed(alloc: Global, left: &Rc<Cell<u64>>, keys: &[Keys]) -> Result<Vec<Held>, AllocError> {
     let mut items = Vec::new(alloc);
-    for keys in keys {
-        items.push(item_of(alive, *keys)?)?;
+    for (key1, key2) in keys {
+        items.push(Held {
+            key1: *key1,
+            key2: *key2,
+            left: left.clone()?,
+        })?;
     }
     Ok(items)
 }
 
 /// The map of these items.
-fn map_of(alloc: Global, items: Vec<Held>) -> BiHashMap<Held> {
+pub fn map_of(alloc: Global, items: Vec<Held>) -> BiHashMap<Held> {
     let mut map = BiHashMap::new(alloc);
     for item in items {
         let _ = map.insert_overwrite(item);
@@ -80,22 +98,22 @@ fn map_of(alloc: Global, items: Vec<Held>) -> BiHashMap<Held> {
     map
 }
 
-const TWO: &[(u64, u64)] = &[(1, 10), (2, 20)];
+const TWO: &[Keys] = &[(1, 10), (2, 20)];
 
-const FOUR: &[(u64, u64)] = &[(1, 10), (2, 20), (3, 30), (4, 40)];
+pub const FOUR: &[Keys] = &[(1, 10), (2, 20), (3, 30), (4, 40)];
 
 /// The map of two items, and one more.
 fn two_and(
     alloc: Global,
-    alive: &Rc<()>,
-    keys: (u64, u64),
+    left: &Rc<Cell<u64>>,
+    (key1, key2): Keys,
 ) -> Result<(BiHashMap<Held>, Held), AllocError> {
-    let items = listed(alloc, alive, TWO)?;
-    let item = item_of(alive, keys)?;
-    Ok((map_of(alloc, items), item))
+    let items = listed(alloc, left, TWO)?;
+    let left = left.clone()?;
+    Ok((map_of(alloc, items), Held { key1, key2, left }))
 }
 
-/// The first keys of short lists of items.
+/// The first keys of a short list of items.
 fn first_keys(found: UpToTwo<&Held>) -> [Option<u64>; 2] {
     [found.get(0).map(|x| x.key1), found.get(1).map(|x| x.key1)]
 }
@@ -129,7 +147,7 @@ fn refused(map: &mut BiHashMap<Held>, item: Held, way: u64) -> Option<(u64, [Opt
 #[test]
 fn refused_items_are_dropped_once(rt: HostRuntime) -> Result<(), Fail> {
     for way in 0..3 {
-        let alive = Rc::new(rt.alloc(), ())?;
+        let alive = Rc::new(rt.alloc(), Cell::new(0))?;
         let (mut map, item) = two_and(rt.alloc(), &alive, (2, 10))?;
         assert!(rt; refused(&mut map, item, way) == Some((2, [Some(2), Some(1)])));
         assert!(rt; map.len() == 2 && Rc::strong_count(&alive) == 3);
@@ -138,7 +156,7 @@ fn refused_items_are_dropped_once(rt: HostRuntime) -> Result<(), Fail> {
 }
 
 /// How many times an item is counted while those that it displaced are there, and once they are gone.
-fn displaced(map: &mut BiHashMap<Held>, item: Held, alive: &Rc<()>) -> [usize; 2] {
+fn displaced(map: &mut BiHashMap<Held>, item: Held, alive: &Rc<Cell<u64>>) -> [usize; 2] {
     let displaced = map.insert_overwrite(item);
     let during = Rc::strong_count(alive);
     drop(displaced);
@@ -147,7 +165,7 @@ fn displaced(map: &mut BiHashMap<Held>, item: Held, alive: &Rc<()>) -> [usize; 2
 
 #[test]
 fn displaced_items_are_dropped_once(rt: HostRuntime) -> Result<(), Fail> {
-    let alive = Rc::new(rt.alloc(), ())?;
+    let alive = Rc::new(rt.alloc(), Cell::new(0))?;
     let (mut map, item) = two_and(rt.alloc(), &alive, (1, 20))?;
     assert!(rt; displaced(&mut map, item, &alive) == [4, 2] && map.len() == 1);
     map.clear();
@@ -156,7 +174,7 @@ fn displaced_items_are_dropped_once(rt: HostRuntime) -> Result<(), Fail> {
 }
 
 /// Whether a list gives no map for a conflict, and the counts while the refusal is there and once it is gone.
-fn built(alloc: Global, items: Vec<Held>, alive: &Rc<()>) -> (bool, [usize; 2]) {
+fn built(alloc: Global, items: Vec<Held>, alive: &Rc<Cell<u64>>) -> (bool, [usize; 2]) {
     let built = BiHashMap::<Held>::from_iter_unique(alloc, items);
     let is_refused = matches!(built, Err(FromIterError::Duplicate(_)));
     let during = Rc::strong_count(alive);
@@ -169,7 +187,7 @@ fn built(alloc: Global, items: Vec<Held>, alive: &Rc<()>) -> (bool, [usize; 2]) 
 fn sent_back(
     map: &mut BiHashMap<Held>,
     items: Vec<Held>,
-    alive: &Rc<()>,
+    alive: &Rc<Cell<u64>>,
 ) -> Option<(usize, u64, [usize; 2])> {
     let Err(refused) = map.extend_unique(items) else {
         return None;
@@ -185,13 +203,13 @@ fn sent_back(
     Some((length, value.key1, [during, Rc::strong_count(alive)]))
 }
 
-const CLASHING: &[(u64, u64)] = &[(1, 10), (2, 20), (2, 10), (3, 30)];
+const CLASHING: &[Keys] = &[(1, 10), (2, 20), (2, 10), (3, 30)];
 
-const CLASHING_LATE: &[(u64, u64)] = &[(3, 30), (4, 40), (5, 30), (6, 60), (1, 10)];
+const CLASHING_LATE: &[Keys] = &[(3, 30), (4, 40), (5, 30), (6, 60), (1, 10)];
 
 #[test]
 fn a_refused_list_is_dropped_once(rt: HostRuntime) -> Result<(), Fail> {
-    let alive = Rc::new(rt.alloc(), ())?;
+    let alive = Rc::new(rt.alloc(), Cell::new(0))?;
     let items = listed(rt.alloc(), &alive, CLASHING)?;
     // The new item and the two in its way are left of the four.
     assert!(rt; built(rt.alloc(), items, &alive) == (true, [4, 1]));
@@ -207,7 +225,7 @@ fn a_refused_list_is_dropped_once(rt: HostRuntime) -> Result<(), Fail> {
 }
 
 /// Whether each of so many steps of a walk that gives the items takes one out, and the count once the walk ends there.
-fn walked(mut map: BiHashMap<Held>, alive: &Rc<()>, taken: usize) -> (bool, usize) {
+fn walked(mut map: BiHashMap<Held>, alive: &Rc<Cell<u64>>, taken: usize) -> (bool, usize) {
     map.retain(|item| item.key1 != 2);
     let mut items = map.into_iter();
     let mut is_right = true;
@@ -222,7 +240,7 @@ fn walked(mut map: BiHashMap<Held>, alive: &Rc<()>, taken: usize) -> (bool, usiz
 #[test]
 fn walked_items_are_dropped_once(rt: HostRuntime) -> Result<(), Fail> {
     for taken in 0..=3 {
-        let alive = Rc::new(rt.alloc(), ())?;
+        let alive = Rc::new(rt.alloc(), Cell::new(0))?;
         let map = map_of(rt.alloc(), listed(rt.alloc(), &alive, FOUR)?);
         assert!(rt; walked(map, &alive, taken) == (true, 1));
     }
@@ -230,7 +248,7 @@ fn walked_items_are_dropped_once(rt: HostRuntime) -> Result<(), Fail> {
 }
 
 /// Whether an item takes the place of the one with the first key 1, and the count while the answer is there.
-fn replaced(map: &mut BiHashMap<Held>, item: Held, alive: &Rc<()>) -> Option<(bool, usize)> {
+fn replaced(map: &mut BiHashMap<Held>, item: Held, alive: &Rc<Cell<u64>>) -> Option<(bool, usize)> {
     let mut found = map.get1_mut(&1)?;
     let answer = found.replace(item);
     Some((answer.is_ok(), Rc::strong_count(alive)))
@@ -241,29 +259,20 @@ fn is_lent(map: &mut BiHashMap<Held>) -> bool {
     map.iter_mut().next_mut().is_some()
 }
 
-// Guards and entries own no item: the map drops what they lent.
+// Guards and entries own no item: the map drops what they lent. What takes the place of an item, or is refused, is
+// dropped once with the answer.
 #[test]
-fn lent_items_are_dropped_once(rt: HostRuntime) -> Result<(), Fail> {
-    let alive = Rc::new(rt.alloc(), ())?;
-    let mut map = map_of(rt.alloc(), listed(rt.alloc(), &alive, TWO)?);
-    assert!(rt; is_lent(&mut map));
-    assert!(rt; Rc::strong_count(&alive) == 3 && map.len() == 2);
+fn lent_and_replaced_items_are_dropped_once(rt: HostRuntime) -> Result<(), Fail> {
     for (key1, key2) in [(1, 20), (1, 10), (1, 99), (9, 99)] {
-        drop(map.entry(&key1, &key2));
-        assert!(rt; Rc::strong_count(&alive) == 3 && map.len() == 2);
-    }
-    drop(map);
-    assert!(rt; Rc::strong_count(&alive) == 1);
-    Ok(())
-}
-
-// What takes the place of an item, or is refused, is dropped once with the answer.
-#[test]
-fn replaced_items_are_dropped_once(rt: HostRuntime) -> Result<(), Fail> {
-    for (key2, is_in) in [(20, false), (10, true)] {
-        let alive = Rc::new(rt.alloc(), ())?;
+        let alive = Rc::new(rt.alloc(), Cell::new(0))?;
         let (mut map, item) = two_and(rt.alloc(), &alive, (1, key2))?;
-        assert!(rt; replaced(&mut map, item, &alive) == Some((is_in, 4)));
+        assert!(rt; is_lent(&mut map) && Rc::strong_count(&alive) == 4 && map.len() == 2);
+        drop(map.entry(&key1, &key2));
+        assert!(rt; Rc::strong_count(&alive) == 4 && map.len() == 2);
+        assert!(rt;
+            replaced(&mut map, item, &alive) == Some((key2 == 10, 4)),
+            "{key2}"
+        );
         assert!(rt; Rc::strong_count(&alive) == 3 && map.len() == 2);
         drop(map);
         assert!(rt; Rc::strong_count(&alive) == 1);
@@ -276,7 +285,7 @@ fn turned_down(
     map: &mut BiHashMap<Held>,
     (key1, key2): (u64, u64),
     item: Held,
-    alive: &Rc<()>,
+    alive: &Rc<Cell<u64>>,
     is_taken: bool,
 ) -> [usize; 2] {
     match map.entry(&key1, &key2).or_insert(item) {
@@ -297,7 +306,7 @@ fn turned_down(
 #[test]
 fn items_that_entries_refuse_are_dropped_once(rt: HostRuntime) -> Result<(), Fail> {
     for (keys, is_taken, during) in [((9, 90), false, 4), ((9, 90), true, 4), ((1, 20), true, 3)] {
-        let alive = Rc::new(rt.alloc(), ())?;
+        let alive = Rc::new(rt.alloc(), Cell::new(0))?;
         let (mut map, item) = two_and(rt.alloc(), &alive, (3, 30))?;
         assert!(rt; turned_down(&mut map, keys, item, &alive, is_taken) == [during, 3]);
         assert!(rt; map.len() == 2);
@@ -333,7 +342,7 @@ fn inserts(alloc: Global, items: Vec<Held>) -> Result<Vec<BiCommand<Held>>, Allo
 
 #[test]
 fn what_a_run_leaves_is_dropped_once(rt: HostRuntime) -> Result<(), Fail> {
-    let alive = Rc::new(rt.alloc(), ())?;
+    let alive = Rc::new(rt.alloc(), Cell::new(0))?;
     let commands = inserts(rt.alloc(), listed(rt.alloc(), &alive, FOUR)?)?;
     let mut map = BiHashMap::<Held>::new(rt.alloc());
     assert!(rt; map.run(commands, &mut Deaf).is_err());

@@ -2,13 +2,15 @@
 ghost use Rattle.iddqd_bi.specs.Entries.{HasFound, Holds};
 
 use crate::row::{Row, row_of};
-use crate::worked::{Answer, ONE, TWO, by_first, mismatch, pair, refusal, reset, row};
+use crate::worked::{Answer, ONE, TWO, by_first, item_of, mismatch, pair, refusal, reset, row};
 use iddqd_bi::{
     BiHashItem, BiHashMap, Entry, KeyMismatch, OccupiedEntry, OccupiedEntryMut, OccupiedEntryRef,
+    Ranked,
 };
 use iddqd_builders::Alike;
 use iddqd_store::UpToTwo;
 use std::hash::{BuildHasher, Hash};
+use std::process::Abort;
 use std::test::*;
 
 /// What an entry finds: by the first key, by the second, and by both.
@@ -27,8 +29,8 @@ fn insert_at<T: BiHashItem, S: BuildHasher>(
     found: &mut OccupiedEntry<'_, T, S>,
     item: T,
 ) -> Result<UpToTwo<T>, KeyMismatch<T>>
-    requires { HasFound T.BiHashItem T.K1.eq T.K2.eq found.old }
-    ensures { HasFound T.BiHashItem T.K1.eq T.K2.eq found.new }
+    requires { HasFound ⟦<T as Ranked>⟧.key_tests found.old }
+    ensures { HasFound ⟦<T as Ranked>⟧.key_tests found.new }
 {
     match found.insert(item) {
         Ok(displaced) => Ok(displaced),
@@ -97,7 +99,7 @@ const OVERWRITES: [((u64, u64), [Row; 2], Inserted, [Option<Row>; 2]); 3] = [
         [LOW, NEW],
         (
             APART,
-            [Answer::Key2(LOW), Answer::In(BOTH)],
+            [Answer::Key(2, LOW), Answer::In(BOTH)],
             [true, false],
             [Some(NEW); 3],
         ),
@@ -108,7 +110,7 @@ const OVERWRITES: [((u64, u64), [Row; 2], Inserted, [Option<Row>; 2]); 3] = [
         [LOW, HIGH],
         (
             APART,
-            [Answer::Key2(LOW), Answer::Key1(HIGH)],
+            [Answer::Key(2, LOW), Answer::Key(1, HIGH)],
             [false, true],
             APART,
         ),
@@ -117,7 +119,12 @@ const OVERWRITES: [((u64, u64), [Row; 2], Inserted, [Option<Row>; 2]); 3] = [
     (
         (1, 99),
         [BESIDE; 2],
-        (HALF, [Answer::Key2(BESIDE); 2], [false, true], HALF),
+        (
+            HALF,
+            [Answer::Key(2, BESIDE), Answer::Key(2, BESIDE)],
+            [false, true],
+            HALF,
+        ),
         BOTH,
     ),
 ];
@@ -136,14 +143,6 @@ fn occupied<S: BuildHasher>(map: &mut BiHashMap<Row, S>) -> bool {
         && map.get2(&10).is_none()
 }
 
-#[test]
-fn occupied_entries_are_overwritten(rt: HostRuntime) {
-    assert!(rt; occupied(&mut BiHashMap::new(rt.alloc())));
-    for hash in [0, 3, 18446744073709551615] {
-        assert!(rt; occupied(&mut BiHashMap::with_hasher(rt.alloc(), Alike { hash })));
-    }
-}
-
 /// What becomes of an item that `insert` puts into a vacant entry.
 fn insert<S: BuildHasher>(
     map: &mut BiHashMap<Row, S>,
@@ -155,7 +154,7 @@ fn insert<S: BuildHasher>(
             Ok(found) => Answer::In([Some(*found), Some(*found.into_ref())]),
             Err(error) => refusal(error),
         },
-        Entry::Occupied(_) => Answer::Nowhere,
+        Entry::Occupied(_) => Answer::Absent(item),
     }
 }
 
@@ -173,36 +172,27 @@ fn insert_entry<S: BuildHasher>(
             }
             Err(error) => refusal(error.into_error()),
         },
-        Entry::Occupied(_) => Answer::Nowhere,
+        Entry::Occupied(_) => Answer::Absent(item),
     }
 }
 
-/// The item that is lent as the one that has both keys, while the entry stays and once it is gone.
-fn unique<S: BuildHasher>(mut found: OccupiedEntryMut<'_, Row, S>) -> Answer {
-    let first = match found.as_unique() {
-        Some(item) => Some(*item),
-        None => None,
-    };
-    match found.into_unique() {
-        Some(item) => Answer::In([first, Some(*item)]),
-        None => Answer::In([first, None]),
-    }
-}
-
-/// What becomes of an item that `or_insert` puts in, and whether it is lent as the one that has both keys.
+/// What becomes of an item that `or_insert` puts in: what is lent as the one item that has both keys, while the entry
+/// stays and once it is gone.
 fn or_insert<S: BuildHasher>(
     map: &mut BiHashMap<Row, S>,
     (key1, key2): (u64, u64),
     item: Row,
 ) -> Answer {
     match map.entry(&key1, &key2).or_insert(item) {
-        Ok(found) => unique(found),
+        Ok(mut found) => {
+            let first = item_of!(found.as_unique());
+            Answer::In([first, item_of!(found.into_unique())])
+        }
         Err(error) => refusal(error.into_error()),
     }
 }
 
 /// The way that an item takes into an entry.
-#[derive(Clone, Copy)]
 enum Way {
     Insert,
     InsertEntry,
@@ -213,7 +203,7 @@ enum Way {
 fn put_in<S: BuildHasher>(
     map: &mut BiHashMap<Row, S>,
     keys: (u64, u64),
-    way: Way,
+    way: &Way,
     item: Row,
 ) -> Answer {
     match way {
@@ -227,10 +217,12 @@ const ITEM: Row = row!(5, 50, 0);
 
 const OTHER: Row = row!(6, 50, 0);
 
+const WAYS: &[Way] = &[Way::Insert, Way::InsertEntry, Way::OrInsert];
+
 /// Whether an item with another key comes back from the entry of (5, 50), and one with its keys goes in, on an empty
 /// map.
-fn is_filled<S: BuildHasher>(map: &mut BiHashMap<Row, S>, way: Way) -> bool {
-    put_in(map, (5, 50), way, OTHER) == Answer::Key1(OTHER)
+fn is_filled<S: BuildHasher>(map: &mut BiHashMap<Row, S>, way: &Way) -> bool {
+    put_in(map, (5, 50), way, OTHER) == Answer::Key(1, OTHER)
         && map.len() == 0
         && put_in(map, (5, 50), way, ITEM) == Answer::In([Some(ITEM); 2])
         && map.get1(&5).copied() == Some(ITEM)
@@ -238,7 +230,7 @@ fn is_filled<S: BuildHasher>(map: &mut BiHashMap<Row, S>, way: Way) -> bool {
 }
 
 fn vacant<S: BuildHasher>(map: &mut BiHashMap<Row, S>) -> bool {
-    for way in [Way::Insert, Way::InsertEntry, Way::OrInsert] {
+    for way in WAYS {
         map.clear();
         if !is_filled(map, way) {
             return false;
@@ -256,14 +248,11 @@ fn by_each<S: BuildHasher>(mut found: OccupiedEntryMut<'_, Row, S>) -> (Answer, 
     requires { Holds found }
 {
     let is_unique = found.is_unique();
-    let first = match found.by_key1() {
-        Some(item) => Some(*item),
-        None => None,
-    };
-    match found.into_by_key2() {
-        Some(item) => (Answer::In([first, Some(*item)]), is_unique),
-        None => (Answer::In([first, None]), is_unique),
-    }
+    let first = item_of!(found.by_key1());
+    (
+        Answer::In([first, item_of!(found.into_by_key2())]),
+        is_unique,
+    )
 }
 
 /// Puts in by an entry what a closure answers. Says what becomes of that, whether it is unique then, and how often the
@@ -288,7 +277,7 @@ fn put_answer<S: BuildHasher>(
 /// The items that are put in one after the other by the entry of (5, 50), from the empty map on, and what becomes of
 /// each.
 const PUT: [(Row, ((Answer, bool), u64)); 3] = [
-    (OTHER, ((Answer::Key1(OTHER), false), 1)),
+    (OTHER, ((Answer::Key(1, OTHER), false), 1)),
     (ITEM, ((Answer::In([Some(ITEM); 2]), true), 1)),
     (OTHER, ((Answer::In([Some(ITEM); 2]), true), 0)),
 ];
@@ -302,16 +291,6 @@ fn answered<S: BuildHasher>(map: &mut BiHashMap<Row, S>) -> bool {
     }
     let found = ((Answer::In([Some(ONE); 2]), true), 0);
     reset(map) && put_answer(map, (1, 10), row!(1, 10, 0)) == found
-}
-
-#[test]
-fn vacant_entries_are_filled(rt: HostRuntime) {
-    let mut map = BiHashMap::new(rt.alloc());
-    assert!(rt; vacant(&mut map) && answered(&mut map));
-    for hash in [0, 3, 18446744073709551615] {
-        let mut map = BiHashMap::with_hasher(rt.alloc(), Alike { hash });
-        assert!(rt; vacant(&mut map) && answered(&mut map));
-    }
 }
 
 /// The last two items that were asked of, and how many there were.
@@ -372,10 +351,16 @@ fn modified<S: BuildHasher>(map: &mut BiHashMap<Row, S>) -> bool {
     is_right
 }
 
+fn check<S: BuildHasher>(rt: &impl Abort, map: &mut BiHashMap<Row, S>) {
+    assert!(rt; occupied(map));
+    assert!(rt; vacant(map) && answered(map));
+    assert!(rt; modified(map));
+}
+
 #[test]
-fn entries_are_modified(rt: HostRuntime) {
-    assert!(rt; modified(&mut BiHashMap::new(rt.alloc())));
+fn entries_are_overwritten_filled_and_modified(rt: HostRuntime) {
+    check(&rt, &mut BiHashMap::new(rt.alloc()));
     for hash in [0, 3, 18446744073709551615] {
-        assert!(rt; modified(&mut BiHashMap::with_hasher(rt.alloc(), Alike { hash })));
+        check(&rt, &mut BiHashMap::with_hasher(rt.alloc(), Alike { hash }));
     }
 }

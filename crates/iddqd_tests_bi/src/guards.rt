@@ -9,7 +9,7 @@ use std::test::*;
 /// What becomes of an item that is put in the place of the one with this first key.
 fn replace1<S: BuildHasher>(map: &mut BiHashMap<Row, S>, key: u64, item: Row) -> Answer {
     let Some(mut found) = map.get1_mut(&key) else {
-        return Answer::Nowhere;
+        return Answer::Absent(item);
     };
     match found.replace(item) {
         Ok(old) => Answer::In([Some(old), None]),
@@ -82,18 +82,16 @@ const NINE: Row = row!(2, 20, 9);
 
 const OTHER: Row = row!(1, 11, 0);
 
-fn replaced<S: BuildHasher>(map: &mut BiHashMap<Row, S>) -> bool {
-    reset(map)
-        && replace1(map, 1, OTHER) == Answer::Key2(OTHER)
-        && replace1(map, 1, SEVEN) == Answer::In([Some(ONE), None])
-        && by_first(map) == [Some(SEVEN), Some(TWO)]
-}
-
 fn written<S: BuildHasher>(map: &mut BiHashMap<Row, S>) -> bool {
+    let is_replaced = reset(map)
+        && replace1(map, 1, OTHER) == Answer::Key(2, OTHER)
+        && replace1(map, 1, SEVEN) == Answer::In([Some(ONE), None])
+        && by_first(map) == [Some(SEVEN), Some(TWO)];
     let is_reset = reset(map);
     let capacity = map.capacity();
     write2(map, 20, 9);
-    is_reset
+    is_replaced
+        && is_reset
         && of_both(map, 1, 20) == None
         && of_both(map, 2, 20) == Some(NINE)
         && by_first(map) == [Some(ONE), Some(NINE)]
@@ -111,24 +109,19 @@ fn walked<S: BuildHasher>(map: &mut BiHashMap<Row, S>) -> bool {
         && by_first(map) == [Some(ONE), Some(TWO)]
         && map.len() == 2
         && map.capacity() == capacity
-}
-
-fn cleared<S: BuildHasher>(map: &mut BiHashMap<Row, S>) -> bool {
-    reset(map)
+        && reset(map)
         && raise(map)
         && by_first(map) == [Some(row!(1, 10, 101)), Some(row!(2, 20, 201))]
         && clear_values(map) == 2
         && by_first(map) == [Some(row!(1, 10, 0)), Some(row!(2, 20, 0))]
 }
 
-fn check<S: BuildHasher>(map: &mut BiHashMap<Row, S>) -> bool {
-    replaced(map) && written(map) && walked(map) && cleared(map)
-}
-
 #[test]
 fn items_are_written(rt: HostRuntime) {
-    assert!(rt; check(&mut BiHashMap::new(rt.alloc())));
+    let mut map = BiHashMap::new(rt.alloc());
+    assert!(rt; written(&mut map) && walked(&mut map));
     for hash in [0, 3, 18446744073709551615] {
-        assert!(rt; check(&mut BiHashMap::with_hasher(rt.alloc(), Alike { hash })));
+        let mut map = BiHashMap::with_hasher(rt.alloc(), Alike { hash });
+        assert!(rt; written(&mut map) && walked(&mut map));
     }
 }

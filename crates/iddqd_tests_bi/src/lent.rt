@@ -2,24 +2,14 @@
 ghost use Rattle.iddqd_bi.specs.Entries.{HasFound, Holds};
 
 use crate::row::{Row, row_of};
-use crate::worked::{ONE, TWO, by_first, reset, row};
-use iddqd_bi::{BiHashItem, BiHashMap, Entry, OccupiedEntry, OccupiedEntryMut};
+use crate::worked::{ONE, TWO, by_first, item_of, reset, row};
+use iddqd_bi::{BiHashItem, BiHashMap, Entry, OccupiedEntry, OccupiedEntryMut, Ranked};
 use iddqd_builders::Alike;
 use std::hash::{BuildHasher, Hash};
 use std::test::*;
 
 /// What an entry lends for writing: by the first key, by the second, and by both.
 type Lent = [Option<Row>; 3];
-
-/// The item that is lent for writing, if there is one.
-macro_rules! item_of {
-    ($found:expr) => {
-        match $found {
-            Some(item) => Some(*item),
-            None => None,
-        }
-    };
-}
 
 fn lent<S: BuildHasher>(found: &mut OccupiedEntryMut<'_, Row, S>) -> Lent {
     [
@@ -31,7 +21,7 @@ fn lent<S: BuildHasher>(found: &mut OccupiedEntryMut<'_, Row, S>) -> Lent {
 
 /// Whether one item has both keys, and whether none has, as the entry says and what it gives to read.
 fn says<T: BiHashItem, S: BuildHasher>(found: &OccupiedEntry<'_, T, S>) -> [[bool; 2]; 2]
-    requires { HasFound T.BiHashItem T.K1.eq T.K2.eq found.now }
+    requires { HasFound ⟦<T as Ranked>⟧.key_tests found.now }
 {
     let seen = found.get();
     [

@@ -5,8 +5,9 @@ ghost use Rattle.std.specs.Cmp.Rules.{comparing, hashing};
 ghost use Rattle.std.specs.Cmp.Lexicographic.{pointwise};
 
 use crate::row::Row;
+use crate::texts::{Keyed, number_of};
 use crate::worked::{ONE, TWO, two};
-use iddqd_bi::{BiHashItem, BiHashMap};
+use iddqd_bi::BiHashMap;
 use iddqd_builders::OwnHash;
 use iddqd_store::{Equivalent, KeyMatcher, Meter};
 use std::hash::{BuildHasher, Hash, Hasher};
@@ -74,31 +75,6 @@ fn asks_only_keys_of_the_hash(rt: HostRuntime) {
     }
 }
 
-/// An item with a text as its first key.
-#[derive(Clone, Copy)]
-struct Word {
-    text: &'static str,
-    number: u64,
-}
-
-impl BiHashItem for Word {
-    type K1 = &'static str;
-
-    type K2 = u64;
-
-    ghost key1 = { λ x. x.text };
-
-    ghost key2 = { λ x. x.number };
-
-    fn key1(&self) -> &&'static str {
-        &self.text
-    }
-
-    fn key2(&self) -> &u64 {
-        &self.number
-    }
-}
-
 /// A text that stands for the keys that are equal to it.
 #[derive(PartialEq, Eq, Hash, Drop)]
 struct Text<'a> {
@@ -117,14 +93,7 @@ impl<'a> Equivalent<&'static str> for Text<'a> {
     }
 }
 
-/// The number of the item with this text.
-fn number(map: &BiHashMap<Word>, text: &str) -> Option<u64> {
-    match map.get1(&Text { text }) {
-        Some(word) => Some(word.number),
-        None => None,
-    }
-}
-
+/// A text, and the number of the item that has it as its first key.
 const NUMBERS: [(&str, Option<u64>); 4] = [
     ("cd", Some(2)),
     ("ab", Some(1)),
@@ -133,10 +102,10 @@ const NUMBERS: [(&str, Option<u64>); 4] = [
 ];
 
 /// Whether each text is found that should be, in the map of these, also by the query that is there for lent texts.
-fn are_found(map: &BiHashMap<Word>) -> bool {
+fn are_found(map: &BiHashMap<Keyed<&'static str, u64>>) -> bool {
     for (text, wanted) in NUMBERS {
-        let lent = map.get1(&iddqd_bi::Text(text)).map(|word| word.number);
-        if number(map, text) != wanted || lent != wanted {
+        let lent = number_of!(map.get1(&iddqd_bi::Text(text)));
+        if number_of!(map.get1(&Text { text })) != wanted || lent != wanted {
             return false;
         }
     }
@@ -146,8 +115,12 @@ fn are_found(map: &BiHashMap<Word>) -> bool {
 #[test]
 fn a_text_is_found_by_a_query(rt: HostRuntime) {
     let mut map = BiHashMap::new(rt.alloc());
-    for (text, number) in [("ab", 1), ("cd", 2)] {
-        let _ = map.insert_overwrite(Word { text, number });
+    for (first, number) in [("ab", 1), ("cd", 2)] {
+        let _ = map.insert_overwrite(Keyed {
+            first,
+            second: number,
+            number,
+        });
     }
     assert!(rt; are_found(&map));
     drop(map);

@@ -16,14 +16,6 @@ fn fill<S: BuildHasher>(map: &mut BiHashMap<Row, S>) {
     map.retain(|row| row.key1 == 37 || row.key1 == 90);
 }
 
-/// The capacities of a map that is shrunk to 50, and to what it needs.
-fn shrunk<S: BuildHasher>(map: &mut BiHashMap<Row, S>) -> Result<[usize; 2], TryReserveError> {
-    map.shrink_to(50)?;
-    let shrunk = map.capacity();
-    map.shrink_to_fit()?;
-    Ok([shrunk, map.capacity()])
-}
-
 /// Whether a map has the two items that were left in it, and no other.
 fn has_left<S: BuildHasher>(map: &BiHashMap<Row, S>) -> bool {
     map.len() == 2
@@ -32,36 +24,31 @@ fn has_left<S: BuildHasher>(map: &BiHashMap<Row, S>) -> bool {
         && map.get1(&36).is_none()
 }
 
-/// The capacity of a map that room was reserved in, where at most 62 are counted.
-fn reserved<S: BuildHasher>(map: &mut BiHashMap<Row, S>) -> Result<usize, TryReserveError> {
+/// Whether a map has room for as many items as each call asks for, and for no more than its tables then need: shrunk,
+/// fitted to what was left in it, reserved and cleared.
+fn has_room<S: BuildHasher>(map: &mut BiHashMap<Row, S>) -> Result<bool, TryReserveError> {
+    fill(map);
+    map.shrink_to(50)?;
+    let shrunk = map.capacity();
+    map.shrink_to_fit()?;
+    let is_fitted = shrunk == 50 && map.capacity() == 2 && has_left(map);
     map.reserve(50)?;
     map.try_reserve(60)?;
-    Ok(map.capacity().min(62))
-}
-
-/// The capacity of a map that was cleared and gave back its room.
-fn cleared<S: BuildHasher>(map: &mut BiHashMap<Row, S>) -> Result<usize, TryReserveError> {
+    let reserved = map.capacity();
     map.clear();
     map.shrink_to_fit()?;
-    Ok(map.capacity())
-}
-
-/// Whether an empty map has room for as many items as each call asks for, and for no more than the tables then need.
-fn has_room<S: BuildHasher>(map: &mut BiHashMap<Row, S>) -> bool {
-    fill(map);
-    shrunk(map).ok() == Some([50, 2])
-        && has_left(map)
-        && reserved(map).ok() == Some(62)
-        && cleared(map).ok() == Some(0)
+    Ok(is_fitted && reserved >= 62 && map.capacity() == 0)
 }
 
 #[test]
 fn room_is_granted(rt: HostRuntime) -> Result<(), Fail> {
     let alloc = rt.alloc();
-    assert!(rt; has_room(&mut BiHashMap::<Row>::default(alloc)));
-    assert!(rt; has_room(&mut BiHashMap::<Row>::with_capacity(alloc, 10)?));
+    assert!(rt; has_room(&mut BiHashMap::<Row>::default(alloc)).ok() == Some(true));
+    assert!(rt; has_room(&mut BiHashMap::<Row>::with_capacity(alloc, 10)?).ok() == Some(true));
     let builder = Alike { hash: 0 };
-    assert!(rt; has_room(&mut BiHashMap::with_capacity_and_hasher(alloc, 10, builder)?));
+    assert!(rt;
+        has_room(&mut BiHashMap::with_capacity_and_hasher(alloc, 10, builder)?).ok() == Some(true)
+    );
     Ok(())
 }
 

@@ -1,34 +1,47 @@
 //! Keys that are texts, lists of bytes and pairs, asked for by what is lent.
 use iddqd_bi::{BiHashItem, BiHashMap, Pair, Text};
+use std::hash::{Hash, Hasher};
 use std::test::Fail;
 
-/// A page, with a text and a list of bytes as its keys.
+/// An item with keys of any types.
 #[derive(Drop)]
-struct Page {
-    title: String,
-    tag: Vec<u8>,
-    number: u64,
+pub struct Keyed<A, B> {
+    pub first: A,
+    pub second: B,
+    pub number: u64,
 }
 
-impl BiHashItem for Page {
-    type K1 = String;
+impl<A: Eq + Hash, B: Eq + Hash> BiHashItem for Keyed<A, B> {
+    type K1 = A;
 
-    type K2 = Vec<u8>;
+    type K2 = B;
 
-    ghost key1 = { λ p. p.title };
+    ghost key1 = { λ x. x.first };
 
-    ghost key2 = { λ p. p.tag };
+    ghost key2 = { λ x. x.second };
 
-    fn key1(&self) -> &String {
-        &self.title
+    fn key1(&self) -> &A {
+        &self.first
     }
 
-    fn key2(&self) -> &Vec<u8> {
-        &self.tag
+    fn key2(&self) -> &B {
+        &self.second
     }
 }
 
-/// A text, the page of this title, and the page with the bytes of the text as its tag.
+/// The number of an item that was found, if it was.
+macro_rules! number_of {
+    ($found:expr) => {
+        match $found {
+            Some(item) => Some(item.number),
+            None => None,
+        }
+    };
+}
+
+pub(crate) use number_of;
+
+/// A text, the page that has it as its title, and the page that has its bytes as its tag.
 const PAGES: [(&str, Option<u64>, Option<u64>); 5] = [
     ("ab", Some(1), Some(2)),
     ("cd", Some(2), Some(1)),
@@ -41,46 +54,18 @@ const PAGES: [(&str, Option<u64>, Option<u64>); 5] = [
 fn lent_texts_and_slices_ask_for_owned_ones(rt: HostRuntime) -> Result<(), Fail> {
     let mut map = BiHashMap::new(rt.alloc());
     for (number, title, tag) in [(1, "ab", "cd"), (2, "cd", "ab")] {
-        let page = Page {
-            title: title.to_string(rt.alloc())?,
-            tag: tag.as_bytes().to_vec(rt.alloc())?,
+        let page = Keyed {
+            first: title.to_string(rt.alloc())?,
+            second: tag.as_bytes().to_vec(rt.alloc())?,
             number,
         };
         assert!(rt; map.insert_or_back(page).is_ok());
     }
     for (text, titled, tagged) in PAGES {
-        assert!(rt; map.get1(&text).map(|p| p.number) == titled, "{text}");
-        assert!(rt;
-            map.get2(&text.as_bytes()).map(|p| p.number) == tagged,
-            "{text}"
-        );
+        assert!(rt; number_of!(map.get1(&text)) == titled, "{text}");
+        assert!(rt; number_of!(map.get2(&text.as_bytes())) == tagged, "{text}");
     }
     Ok(())
-}
-
-/// A seat, with a row and a place in it as its first key, and a text as its second.
-#[derive(Drop)]
-struct Seat {
-    at: (u32, u16),
-    name: String,
-}
-
-impl BiHashItem for Seat {
-    type K1 = (u32, u16);
-
-    type K2 = String;
-
-    ghost key1 = { λ s. s.at };
-
-    ghost key2 = { λ s. s.name };
-
-    fn key1(&self) -> &(u32, u16) {
-        &self.at
-    }
-
-    fn key2(&self) -> &String {
-        &self.name
-    }
 }
 
 /// A row, a place in it and a text, and whether there is a seat of this row and place, and one of this name.
@@ -96,9 +81,12 @@ const SEATS: [(u32, u16, &str, bool, bool); 5] = [
 fn pairs_and_texts_ask_for_keys(rt: HostRuntime) -> Result<(), Fail> {
     let mut map = BiHashMap::new(rt.alloc());
     for (row, place, text) in [(1, 7, "left"), (2, 7, "right")] {
-        let name = text.to_string(rt.alloc())?;
-        let at = (row, place);
-        assert!(rt; map.insert_or_back(Seat { at, name }).is_ok());
+        let seat = Keyed {
+            first: (row, place),
+            second: text.to_string(rt.alloc())?,
+            number: 0,
+        };
+        assert!(rt; map.insert_or_back(seat).is_ok());
     }
     for (row, place, text, is_at, is_named) in SEATS {
         assert!(rt;

@@ -46,12 +46,6 @@ fn says_what_is_left(map: &BiHashMap<Row>) -> bool {
     is_right
 }
 
-#[test]
-fn iterators_say_how_many_are_left(rt: HostRuntime) {
-    let map = two(&rt, rt.alloc(), DefaultHashBuilder::default());
-    assert!(rt; says_what_is_left(&map) && Iter::<Row>::default().next().is_none());
-}
-
 /// The sum of the values of a map's items.
 fn sum_lent(map: &BiHashMap<Row>) -> u64 {
     let mut sum: u64 = 0;
@@ -61,20 +55,16 @@ fn sum_lent(map: &BiHashMap<Row>) -> u64 {
     sum
 }
 
-fn sum_given(items: Vec<Row>) -> u64 {
-    let mut sum: u64 = 0;
-    for item in items {
-        sum = sum.wrapping_add(item.value);
-    }
-    sum
-}
-
 #[test]
 fn walks_give_each_item_once(rt: HostRuntime) -> Result<(), Fail> {
     let alloc = rt.alloc();
     let map = two(&rt, alloc, DefaultHashBuilder::default());
+    assert!(rt; says_what_is_left(&map) && Iter::<Row>::default().next().is_none());
     assert!(rt; count_all(&map) == 2 && all_lent(alloc, &map)?.len() == 2);
-    assert!(rt; sum_lent(&map) == 300 && sum_given(all_given(alloc, map)?) == 300);
+    assert!(rt; sum_lent(&map) == 300);
+    let given = all_given(alloc, map)?;
+    let is_given = given.as_slice() == [ONE, TWO].as_slice();
+    assert!(rt; is_given || given.as_slice() == [TWO, ONE].as_slice());
     Ok(())
 }
 
@@ -107,12 +97,6 @@ fn are_compared(alloc: Global, map: &BiHashMap<Row>) -> bool {
     true
 }
 
-#[test]
-fn equality_is_of_the_items_alone(rt: HostRuntime) {
-    let map = two(&rt, rt.alloc(), DefaultHashBuilder::default());
-    assert!(rt; are_compared(rt.alloc(), &map));
-}
-
 /// Whether a map equals its copy once it is cleared, and with each of its two rows put back.
 fn equal_again(map: &mut BiHashMap<Row>, copy: &BiHashMap<Row>) -> [bool; 3] {
     map.clear();
@@ -131,12 +115,6 @@ fn is_cloned(map: &mut BiHashMap<Row>) -> bool {
     copy == *map && equal_again(map, &copy) == [false, false, true]
 }
 
-#[test]
-fn a_clone_is_a_map_of_its_own(rt: HostRuntime) {
-    let mut map = two(&rt, rt.alloc(), DefaultHashBuilder::default());
-    assert!(rt; is_cloned(&mut map));
-}
-
 /// How many items `retain` asks about, where it leaves that with the first key 2.
 fn asked(map: &mut BiHashMap<Row>) -> u64 {
     let mut calls: u64 = 0;
@@ -148,8 +126,10 @@ fn asked(map: &mut BiHashMap<Row>) -> u64 {
 }
 
 #[test]
-fn retain_asks_once_for_each_item(rt: HostRuntime) {
+fn maps_are_compared_cloned_and_filtered(rt: HostRuntime) {
     let mut map = two(&rt, rt.alloc(), DefaultHashBuilder::default());
+    assert!(rt; are_compared(rt.alloc(), &map));
+    assert!(rt; is_cloned(&mut map));
     let capacity = map.capacity();
     assert!(rt; asked(&mut map) == 2 && map.len() == 1 && map.capacity() == capacity);
     assert!(rt; map.contains_key2(&20));

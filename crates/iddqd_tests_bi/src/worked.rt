@@ -19,6 +19,18 @@ macro_rules! row {
 
 pub(crate) use row;
 
+/// The item that is lent for writing, if there is one.
+macro_rules! item_of {
+    ($found:expr) => {
+        match $found {
+            Some(item) => Some(*item),
+            None => None,
+        }
+    };
+}
+
+pub(crate) use item_of;
+
 pub const ONE: Row = row!(1, 10, 100);
 
 pub const TWO: Row = row!(2, 20, 200);
@@ -50,44 +62,9 @@ pub fn pair(items: UpToTwo<Row>) -> [Option<Row>; 2] {
     [items.get(0).copied(), items.get(1).copied()]
 }
 
-/// What becomes of an item that a call is given.
-#[derive(Clone, Copy, PartialEq, Eq)]
-pub enum Answer {
-    /// It went in, for these.
-    In([Option<Row>; 2]),
-    /// It came back, for its first key.
-    Key1(Row),
-    /// It came back, for its second key.
-    Key2(Row),
-    /// It came back for want of memory.
-    Memory(Row),
-    /// There was nothing to put it in.
-    Nowhere,
-}
-
-pub fn mismatch(error: KeyMismatch<Row>) -> Answer {
-    match error {
-        KeyMismatch::Key1(item) => Answer::Key1(item),
-        KeyMismatch::Key2(item) => Answer::Key2(item),
-    }
-}
-
-pub fn refusal(error: EntryError<Row>) -> Answer {
-    match error {
-        EntryError::Key1(item) => Answer::Key1(item),
-        EntryError::Key2(item) => Answer::Key2(item),
-        EntryError::Memory(item) => Answer::Memory(item),
-    }
-}
-
 /// Why a list did not go in: the items before the one that was refused, that one, and the reason. It shows two of the
 /// items before, which is one more than any row wants.
-#[derive(Clone, Copy, PartialEq, Eq)]
-pub struct Refused {
-    pub taken: [Option<Row>; 2],
-    pub value: Row,
-    pub reason: ExtendUniqueReason,
-}
+pub type Refused = ([Option<Row>; 2], Row, ExtendUniqueReason);
 
 pub fn refused_list(error: ExtendUniqueError<Row>) -> Refused {
     let ExtendUniqueError {
@@ -95,9 +72,45 @@ pub fn refused_list(error: ExtendUniqueError<Row>) -> Refused {
         value,
         reason,
     } = error;
-    Refused {
-        taken: [taken.get(0).copied(), taken.get(1).copied()],
-        value,
-        reason,
+    let before = [taken.get(0).copied(), taken.get(1).copied()];
+    (before, value, reason)
+}
+
+/// What a call or a command answers, with items as values and an iterator as its length.
+#[derive(PartialEq, Drop)]
+pub enum Answer {
+    Done,
+    Kept,
+    Refused,
+    Duplicate([Option<Row>; 2]),
+    /// An item went in, for these.
+    In([Option<Row>; 2]),
+    Found(Option<Row>),
+    Present(bool),
+    Taken(Option<Row>),
+    Length(usize),
+    Items(usize),
+    /// An item came back, for its key of this rank.
+    Key(u64, Row),
+    /// An item came back for want of memory.
+    Memory(Row),
+    /// An item came back, since there was nothing to put it in.
+    Absent(Row),
+    AbsentData(u64),
+    ExtendRefused(Refused),
+}
+
+pub fn mismatch(error: KeyMismatch<Row>) -> Answer {
+    match error {
+        KeyMismatch::Key1(item) => Answer::Key(1, item),
+        KeyMismatch::Key2(item) => Answer::Key(2, item),
+    }
+}
+
+pub fn refusal(error: EntryError<Row>) -> Answer {
+    match error {
+        EntryError::Key1(item) => Answer::Key(1, item),
+        EntryError::Key2(item) => Answer::Key(2, item),
+        EntryError::Memory(item) => Answer::Memory(item),
     }
 }

@@ -1,10 +1,12 @@
 //! Three-key maps that are built of many items at once, and their room.
 use crate::row::{Row, row_of};
 use crate::worked::{
-    Listed, NOTHING, ONE, Refused, THREE, TWO, conflict, has_all, listed, refused_list, row, three,
+    Listed, NOTHING, ONE, Refused, THREE, TWO, has_all, listed, refused_list, row, three,
 };
 use iddqd_builders::Alike;
-use iddqd_tri::{DefaultHashBuilder, FromIterError, TriHashMap, TryReserveError};
+use iddqd_tri::{
+    DefaultHashBuilder, ExtendUniqueReason, FromIterError, TriHashMap, TryReserveError,
+};
 use std::alloc::Global;
 use std::hash::BuildHasher;
 use std::test::Fail;
@@ -78,39 +80,45 @@ fn building_names_the_first_conflict_or_overwrites(rt: HostRuntime) {
     assert!(rt; unique(rt.alloc(), apart) == Ok(4));
 }
 
-/// Why the list did not go into the map, if it did not.
-fn refusal_of<S: BuildHasher>(map: &mut TriHashMap<Row, S>, items: &[Row]) -> Option<Refused> {
-    match map.extend_unique(items.iter().copied()) {
-        Ok(()) => None,
-        Err(error) => Some(refused_list(error)),
-    }
-}
-
 const SECOND: Row = row!(2, 20, 200, 0);
 
-/// Whether a list goes into the map of one item or not, with what is wanted then.
-fn is_whole<S: BuildHasher>(
-    map: &mut TriHashMap<Row, S>,
-    items: &[Row],
-    wanted: Option<Refused>,
-    left: Listed,
-) -> bool {
-    map.clear();
-    map.insert_unique(ONE).is_ok() && refusal_of(map, items) == wanted && has_all(map, left)
-}
+const CLASHING: Row = row!(3, 30, 100, 0);
 
-fn keeps_room<S: BuildHasher>(map: &mut TriHashMap<Row, S>) -> bool {
-    let capacity = map.capacity();
-    is_whole(map, &[], None, [Some(ONE), None, None]) && map.capacity() == capacity
-}
+const THIRD: Row = row!(3, 30, 300, 0);
 
+const ALONE: Listed = [Some(ONE), None, None];
+
+/// Lists that go into the map of one item, why they do not if they do not, and what the map has then.
+const LISTS: [(&[Row], Option<Refused>, Listed); 3] = [
+    (
+        &[SECOND, CLASHING],
+        Some((
+            [Some(SECOND), None, None],
+            CLASHING,
+            ExtendUniqueReason::Conflict,
+        )),
+        ALONE,
+    ),
+    (&[], None, ALONE),
+    (
+        &[SECOND, THIRD],
+        None,
+        [Some(ONE), Some(SECOND), Some(THIRD)],
+    ),
+];
+
+/// Whether each list goes in or not as it should, and the empty one leaves the capacity.
 fn are_whole<S: BuildHasher>(map: &mut TriHashMap<Row, S>) -> bool {
-    let (late, third) = (row!(3, 30, 100, 0), row!(3, 30, 300, 0));
-    let all = [Some(ONE), Some(SECOND), Some(third)];
-    let refused = Some(conflict(SECOND, late));
-    is_whole(map, &[SECOND, late], refused, [Some(ONE), None, None])
-        && keeps_room(map)
-        && is_whole(map, &[SECOND, third], None, all)
+    let mut is_right = true;
+    for (items, wanted, left) in LISTS {
+        map.clear();
+        is_right = is_right && map.insert_unique(ONE).is_ok();
+        let capacity = map.capacity();
+        let refused = map.extend_unique(items.iter().copied()).err();
+        is_right = is_right && refused.map(refused_list) == wanted && has_all(map, left);
+        is_right = is_right && (!items.is_empty() || map.capacity() == capacity);
+    }
+    is_right
 }
 
 #[test]
@@ -138,35 +146,21 @@ fn fill<S: BuildHasher>(map: &mut TriHashMap<Row, S>) -> bool {
     has_left(map)
 }
 
-/// The capacities of a map that is shrunk to 50, and to what it needs.
-fn shrunk<S: BuildHasher>(map: &mut TriHashMap<Row, S>) -> Result<(usize, usize), TryReserveError> {
+/// Whether a map has room for as many items as each call asks for, and for no more than its tables then need: shrunk,
+/// fitted to what was left in it, reserved and cleared.
+fn has_room<S: BuildHasher>(map: &mut TriHashMap<Row, S>) -> Result<bool, TryReserveError> {
+    let is_filled = fill(map);
     map.shrink_to(50)?;
     let shrunk = map.capacity();
     map.shrink_to_fit()?;
-    Ok((shrunk, map.capacity()))
-}
-
-/// The capacity of a map that room was reserved in.
-fn reserved<S: BuildHasher>(map: &mut TriHashMap<Row, S>) -> Result<usize, TryReserveError> {
+    let is_fitted = (50..=56).contains(&shrunk) && (2..=7).contains(&map.capacity());
+    let is_left = is_filled && is_fitted && has_left(map);
     map.reserve(50)?;
     map.try_reserve(60)?;
-    Ok(map.capacity())
-}
-
-/// The capacity of a map that was cleared and gave back its room.
-fn cleared<S: BuildHasher>(map: &mut TriHashMap<Row, S>) -> Result<usize, TryReserveError> {
+    let reserved = map.capacity();
     map.clear();
     map.shrink_to_fit()?;
-    Ok(map.capacity())
-}
-
-/// Whether a map has room for as many items as each call asks for, and for no more than its tables then need.
-fn has_room<S: BuildHasher>(map: &mut TriHashMap<Row, S>) -> Result<bool, TryReserveError> {
-    let is_filled = fill(map);
-    let (shrunk, fitted) = shrunk(map)?;
-    let is_found = has_left(map);
-    let is_shrunk = (50..=56).contains(&shrunk) && (2..=7).contains(&fitted);
-    Ok(is_filled && is_found && is_shrunk && reserved(map)? >= 62 && cleared(map)? == 0)
+    Ok(is_left && reserved >= 62 && map.capacity() == 0)
 }
 
 /// The length and the capacity of a map of so many items that was extended by nine promised ones, which all take the

@@ -1,5 +1,5 @@
 //! Worked rows on the capacity of three-key maps, with the items that they keep: reserved, shrunk, cleared and full ones.
-use crate::row::{Row, row_of};
+use crate::row::Row;
 use crate::worked::{Listed, NOTHING, ONE, THREE, TWO, has_all, listed, reset, row};
 use iddqd_builders::Alike;
 use iddqd_tri::{Entry, TriHashMap};
@@ -7,7 +7,6 @@ use std::hash::BuildHasher;
 use std::test::*;
 
 /// What is asked of a map.
-#[derive(Clone, Copy)]
 enum Asked {
     Nothing,
     Reserve(usize),
@@ -16,11 +15,11 @@ enum Asked {
 }
 
 /// Whether a map grants what is asked.
-fn grants(map: &mut TriHashMap<Row>, asked: Asked) -> bool {
+fn grants(map: &mut TriHashMap<Row>, asked: &Asked) -> bool {
     match asked {
         Asked::Nothing => true,
-        Asked::Reserve(more) => map.reserve(more).is_ok(),
-        Asked::ShrinkTo(room) => map.shrink_to(room).is_ok(),
+        Asked::Reserve(more) => map.reserve(*more).is_ok(),
+        Asked::ShrinkTo(room) => map.shrink_to(*room).is_ok(),
         Asked::ShrinkToFit => map.shrink_to_fit().is_ok(),
     }
 }
@@ -57,7 +56,7 @@ fn keeps(map: &mut TriHashMap<Row>, items: Listed, asked: &[(Asked, usize, usize
         is_right = is_right && map.insert_unique(item).is_ok();
     }
     for (what, least, most) in asked {
-        is_right = is_right && grants(map, *what) && has_all(map, items);
+        is_right = is_right && grants(map, what) && has_all(map, items);
         is_right = is_right && map.capacity() >= *least && map.capacity() <= *most;
     }
     let capacity = map.capacity();
@@ -76,8 +75,10 @@ fn capacities_stand_within_their_bounds(rt: HostRuntime) -> Result<(), Fail> {
 }
 
 /// The item behind so many in a full map.
-fn row_at(key: u64) -> Row {
-    row_of(key, key.wrapping_mul(10), key.wrapping_mul(100), 0)
+macro_rules! row_at {
+    ($key:expr) => {
+        row!($key, $key.wrapping_mul(10), $key.wrapping_mul(100), 0)
+    };
 }
 
 /// Fills the map of three until its length is its capacity, once a size that no memory holds was refused. Says whether
@@ -85,7 +86,7 @@ fn row_at(key: u64) -> Row {
 fn fill<S: BuildHasher>(map: &mut TriHashMap<Row, S>) -> bool {
     let mut is_right = reset(map) && map.reserve(usize::MAX).is_err() && has_all(map, EACH);
     for key in 4..=map.capacity() as u64 {
-        is_right = is_right && map.insert_unique(row_at(key)).is_ok();
+        is_right = is_right && map.insert_unique(row_at!(key)).is_ok();
     }
     is_right && map.len() == map.capacity()
 }
@@ -95,7 +96,7 @@ fn has_rest<S: BuildHasher>(map: &TriHashMap<Row, S>, [new, kept]: [Row; 2], las
     let mut is_right = map.get3(&new.key3) == Some(&new) && map.get3(&kept.key3) == Some(&kept);
     let mut found: usize = 2;
     for key in 4..=last {
-        is_right = is_right && map.get1(&key).copied() == Some(row_at(key));
+        is_right = is_right && map.get1(&key).copied() == Some(row_at!(key));
         found = found.wrapping_add(1);
     }
     is_right && map.len() == found
@@ -124,11 +125,12 @@ fn gives_way<S: BuildHasher>(map: &mut TriHashMap<Row, S>, by_entry: bool) -> bo
     let is_filled = fill(map);
     let capacity = map.capacity();
     let last = capacity as u64;
+    let next = last.wrapping_add(1);
     is_filled
         && displaced(map, by_entry, NEW) == Some([Some(ONE), Some(TWO), None])
         && has_rest(map, [NEW, THREE], last)
-        && displaced(map, false, row_at(last.wrapping_add(1))) == Some(NOTHING)
-        && has_rest(map, [NEW, THREE], last.wrapping_add(1))
+        && displaced(map, false, row_at!(next)) == Some(NOTHING)
+        && has_rest(map, [NEW, THREE], next)
         && map.len() == capacity
         && map.capacity() == capacity
 }

@@ -88,20 +88,16 @@ impl TriHashItemMut for Held {
 /// The keys of an item.
 type Keys = (u64, u64, u64);
 
-fn item_of(left: &Rc<Cell<u64>>, (key1, key2, key3): Keys) -> Result<Held, AllocError> {
-    Ok(Held {
-        key1,
-        key2,
-        key3,
-        left: left.clone()?,
-    })
-}
-
 /// These items, in a list.
 fn listed(alloc: Global, left: &Rc<Cell<u64>>, keys: &[Keys]) -> Result<Vec<Held>, AllocError> {
     let mut items = Vec::new(alloc);
-    for keys in keys {
-        items.push(item_of(left, *keys)?)?;
+    for (key1, key2, key3) in keys {
+        items.push(Held {
+            key1: *key1,
+            key2: *key2,
+            key3: *key3,
+            left: left.clone()?,
+        })?;
     }
     Ok(items)
 }
@@ -117,19 +113,19 @@ fn map_of(alloc: Global, items: Vec<Held>) -> TriHashMap<Held> {
 
 const FOUR: &[Keys] = &[(1, 10, 100), (2, 20, 200), (3, 30, 300), (4, 40, 400)];
 
-/// The map of four items.
-fn four(alloc: Global, left: &Rc<Cell<u64>>) -> Result<TriHashMap<Held>, AllocError> {
-    Ok(map_of(alloc, listed(alloc, left, FOUR)?))
-}
-
 /// The map of four items, and one more.
 fn four_and(
     alloc: Global,
     left: &Rc<Cell<u64>>,
-    keys: Keys,
+    (key1, key2, key3): Keys,
 ) -> Result<(TriHashMap<Held>, Held), AllocError> {
     let items = listed(alloc, left, FOUR)?;
-    let item = item_of(left, keys)?;
+    let item = Held {
+        key1,
+        key2,
+        key3,
+        left: left.clone()?,
+    };
     Ok((map_of(alloc, items), item))
 }
 
@@ -145,7 +141,7 @@ fn cloned(map: &TriHashMap<Held>) -> Option<usize> {
 fn an_item_that_is_not_cloned_gives_no_map(rt: HostRuntime) -> Result<(), Fail> {
     for (allowed, wanted) in [(0, None), (1, None), (2, None), (3, None), (4, Some(4))] {
         let left = Rc::new(rt.alloc(), Cell::new(allowed))?;
-        let map = four(rt.alloc(), &left)?;
+        let map = map_of(rt.alloc(), listed(rt.alloc(), &left, FOUR)?);
         assert!(rt; cloned(&map) == wanted && map.len() == 4 && map.contains_key3(&400));
         drop(map);
         assert!(rt; Rc::strong_count(&left) == 1);
@@ -250,7 +246,7 @@ fn refused_lists_are_dropped_once(rt: HostRuntime) -> Result<(), Fail> {
     // The new item and the two in its way are left of the four.
     assert!(rt; built(rt.alloc(), items, &alive) == (true, [4, 1]));
     let late = listed(rt.alloc(), &alive, CLASHING_LATE)?;
-    let mut map = four(rt.alloc(), &alive)?;
+    let mut map = map_of(rt.alloc(), listed(rt.alloc(), &alive, FOUR)?);
     assert!(rt; sent_back(&mut map, late, &alive) == Some((2, 7, [8, 6])));
     assert!(rt; map.len() == 4 && Rc::strong_count(&alive) == 5);
     drop(map);
@@ -275,7 +271,7 @@ fn walked(mut map: TriHashMap<Held>, alive: &Rc<Cell<u64>>, taken: u64) -> (usiz
 fn walked_items_are_dropped_once(rt: HostRuntime) -> Result<(), Fail> {
     for (taken, during) in [(0, 4), (1, 3), (3, 1), (4, 1)] {
         let alive = Rc::new(rt.alloc(), Cell::new(0))?;
-        let map = four(rt.alloc(), &alive)?;
+        let map = map_of(rt.alloc(), listed(rt.alloc(), &alive, FOUR)?);
         assert!(rt; walked(map, &alive, taken) == (during, 1));
     }
     Ok(())

@@ -3,14 +3,16 @@ ghost use Rattle.iddqd_tri.specs.Entries.{HasFound};
 
 use crate::row::Row;
 use crate::worked::{
-    Answer, Listed, NOTHING, ONE, THREE, TWO, has_all, listed, mismatch, refusal, reset, row,
+    Answer, Listed, NOTHING, ONE, THREE, TWO, has_all, item_of, listed, mismatch, refusal, reset,
+    row,
 };
 use iddqd_builders::Alike;
 use iddqd_tri::{
-    Entry, KeyMismatch, OccupiedEntry, OccupiedEntryMut, OccupiedEntryRef, TriHashItem, TriHashMap,
-    UpToThree,
+    Entry, KeyMismatch, OccupiedEntry, OccupiedEntryMut, OccupiedEntryRef, Ranked, TriHashItem,
+    TriHashMap, UpToThree,
 };
 use std::hash::{BuildHasher, Hash};
+use std::process::Abort;
 use std::test::*;
 
 /// Three keys that an entry is asked for by.
@@ -33,8 +35,8 @@ fn insert_at<T: TriHashItem, S: BuildHasher>(
     found: &mut OccupiedEntry<'_, T, S>,
     item: T,
 ) -> Result<UpToThree<T>, KeyMismatch<T>>
-    requires { HasFound T.TriHashItem T.K1.eq T.K2.eq T.K3.eq found.old }
-    ensures { HasFound T.TriHashItem T.K1.eq T.K2.eq T.K3.eq found.new }
+    requires { HasFound ⟦<T as Ranked>⟧.key_tests found.old }
+    ensures { HasFound ⟦<T as Ranked>⟧.key_tests found.new }
 {
     match found.insert(item) {
         Ok(displaced) => Ok(displaced),
@@ -46,13 +48,6 @@ fn insert_at<T: TriHashItem, S: BuildHasher>(
 /// keys and whether none has, and the items.
 type Inserted = (Seen, Answer, [bool; 2], Seen);
 
-fn answer_of(inserted: Result<UpToThree<Row>, KeyMismatch<Row>>) -> Answer {
-    match inserted {
-        Ok(displaced) => Answer::In(listed(displaced)),
-        Err(error) => mismatch(error),
-    }
-}
-
 fn insert_over<S: BuildHasher>(
     map: &mut TriHashMap<Row, S>,
     (key1, key2, key3): Asked,
@@ -62,7 +57,10 @@ fn insert_over<S: BuildHasher>(
         Entry::Vacant(_) => None,
         Entry::Occupied(mut found) => {
             let before = seen(found.get());
-            let answer = answer_of(insert_at(&mut found, item));
+            let answer = match insert_at(&mut found, item) {
+                Ok(displaced) => Answer::In(listed(displaced)),
+                Err(error) => mismatch(error),
+            };
             let says = [found.is_unique(), found.is_non_unique()];
             Some((before, answer, says, seen(found.into_ref())))
         }
@@ -154,14 +152,6 @@ fn occupied<S: BuildHasher>(map: &mut TriHashMap<Row, S>) -> bool {
     is_right
 }
 
-#[test]
-fn occupied_entries_are_overwritten(rt: HostRuntime) {
-    assert!(rt; occupied(&mut TriHashMap::new(rt.alloc())));
-    for hash in [0, 18446744073709551615] {
-        assert!(rt; occupied(&mut TriHashMap::with_hasher(rt.alloc(), Alike { hash })));
-    }
-}
-
 /// What becomes of an item that `insert` puts into a vacant entry.
 fn insert<S: BuildHasher>(
     map: &mut TriHashMap<Row, S>,
@@ -173,7 +163,7 @@ fn insert<S: BuildHasher>(
             Ok(found) => Answer::In([Some(*found), Some(*found), Some(*found.into_ref())]),
             Err(error) => refusal(error),
         },
-        Entry::Occupied(_) => Answer::Nowhere,
+        Entry::Occupied(_) => Answer::Absent(item),
     }
 }
 
@@ -188,24 +178,15 @@ fn insert_entry<S: BuildHasher>(
             Ok(found) => Answer::In(seen(found.into_ref()).0),
             Err(error) => refusal(error.into_error()),
         },
-        Entry::Occupied(_) => Answer::Nowhere,
+        Entry::Occupied(_) => Answer::Absent(item),
     }
 }
 
 /// The items that are lent for writing: by all keys, by the third and by the second.
 fn lent<S: BuildHasher>(mut found: OccupiedEntryMut<'_, Row, S>) -> Answer {
-    let unique = match found.as_unique() {
-        Some(item) => Some(*item),
-        None => None,
-    };
-    let third = match found.by_key3() {
-        Some(item) => Some(*item),
-        None => None,
-    };
-    match found.into_by_key2() {
-        Some(item) => Answer::In([unique, third, Some(*item)]),
-        None => Answer::In([unique, third, None]),
-    }
+    let unique = item_of!(found.as_unique());
+    let third = item_of!(found.by_key3());
+    Answer::In([unique, third, item_of!(found.into_by_key2())])
 }
 
 /// What becomes of an item that `or_insert` puts in.
@@ -239,7 +220,6 @@ fn or_insert_with<S: BuildHasher>(
 }
 
 /// The way that an item takes into an entry.
-#[derive(Clone, Copy)]
 enum Way {
     Insert,
     InsertEntry,
@@ -251,7 +231,7 @@ enum Way {
 fn put_in<S: BuildHasher>(
     map: &mut TriHashMap<Row, S>,
     asked: Asked,
-    way: Way,
+    way: &Way,
     item: Row,
 ) -> (Answer, u64) {
     match way {
@@ -274,7 +254,7 @@ const PUT: [(Row, Answer, usize); 4] = [
 ];
 
 /// Whether the items go this way as they should, where a closure is called so often for each.
-fn is_filled<S: BuildHasher>(map: &mut TriHashMap<Row, S>, way: Way, calls: u64) -> bool {
+fn is_filled<S: BuildHasher>(map: &mut TriHashMap<Row, S>, way: &Way, calls: u64) -> bool {
     let mut is_right = reset(map);
     for (item, answer, length) in PUT {
         is_right = is_right && put_in(map, (9, 90, 900), way, item) == (answer, calls);
@@ -284,7 +264,7 @@ fn is_filled<S: BuildHasher>(map: &mut TriHashMap<Row, S>, way: Way, calls: u64)
 }
 
 /// Whether nothing goes in where one of the keys finds an item. The new one is dropped.
-fn is_kept<S: BuildHasher>(map: &mut TriHashMap<Row, S>, way: Way) -> bool {
+fn is_kept<S: BuildHasher>(map: &mut TriHashMap<Row, S>, way: &Way) -> bool {
     let wanted = (Answer::In([None, None, Some(TWO)]), 0);
     reset(map)
         && put_in(map, (9, 20, 900), way, ITEM) == wanted
@@ -293,20 +273,12 @@ fn is_kept<S: BuildHasher>(map: &mut TriHashMap<Row, S>, way: Way) -> bool {
 }
 
 fn vacant<S: BuildHasher>(map: &mut TriHashMap<Row, S>) -> bool {
-    is_filled(map, Way::Insert, 0)
-        && is_filled(map, Way::InsertEntry, 0)
-        && is_filled(map, Way::OrInsert, 0)
-        && is_filled(map, Way::OrInsertWith, 1)
-        && is_kept(map, Way::OrInsert)
-        && is_kept(map, Way::OrInsertWith)
-}
-
-#[test]
-fn vacant_entries_are_filled(rt: HostRuntime) {
-    assert!(rt; vacant(&mut TriHashMap::new(rt.alloc())));
-    for hash in [0, 18446744073709551615] {
-        assert!(rt; vacant(&mut TriHashMap::with_hasher(rt.alloc(), Alike { hash })));
-    }
+    is_filled(map, &Way::Insert, 0)
+        && is_filled(map, &Way::InsertEntry, 0)
+        && is_filled(map, &Way::OrInsert, 0)
+        && is_filled(map, &Way::OrInsertWith, 1)
+        && is_kept(map, &Way::OrInsert)
+        && is_kept(map, &Way::OrInsertWith)
 }
 
 /// Adds one to each value that three keys find, by the entry itself. Says the last three items that this is asked of.
@@ -388,10 +360,19 @@ fn modified<S: BuildHasher>(map: &mut TriHashMap<Row, S>) -> bool {
     is_right
 }
 
+fn check<S: BuildHasher>(rt: &impl Abort, map: &mut TriHashMap<Row, S>) {
+    assert!(rt; occupied(map));
+    assert!(rt; vacant(map));
+    assert!(rt; modified(map));
+}
+
 #[test]
-fn entries_are_modified(rt: HostRuntime) {
-    assert!(rt; modified(&mut TriHashMap::new(rt.alloc())));
+fn entries_are_overwritten_filled_and_modified(rt: HostRuntime) {
+    check(&rt, &mut TriHashMap::new(rt.alloc()));
     for hash in [0, 18446744073709551615] {
-        assert!(rt; modified(&mut TriHashMap::with_hasher(rt.alloc(), Alike { hash })));
+        check(
+            &rt,
+            &mut TriHashMap::with_hasher(rt.alloc(), Alike { hash }),
+        );
     }
 }

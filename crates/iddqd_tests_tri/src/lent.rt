@@ -2,9 +2,9 @@
 ghost use Rattle.iddqd_tri.specs.Entries.{HasFound, Holds};
 
 use crate::row::{Row, row_of};
-use crate::worked::{Listed, ONE, THREE, TWO, has_all, reset, row};
+use crate::worked::{Listed, ONE, THREE, TWO, has_all, item_of, reset, row};
 use iddqd_builders::Alike;
-use iddqd_tri::{Entry, OccupiedEntry, OccupiedEntryMut, TriHashItem, TriHashMap};
+use iddqd_tri::{Entry, OccupiedEntry, OccupiedEntryMut, Ranked, TriHashItem, TriHashMap};
 use std::hash::{BuildHasher, Hash};
 use std::test::*;
 
@@ -13,16 +13,6 @@ type Asked = (u64, u64, u64);
 
 /// What an entry lends for writing: by each key, and by all.
 type Lent = (Listed, Option<Row>);
-
-/// The item that is lent for writing, if there is one.
-macro_rules! item_of {
-    ($found:expr) => {
-        match $found {
-            Some(item) => Some(*item),
-            None => None,
-        }
-    };
-}
 
 fn lent<S: BuildHasher>(found: &mut OccupiedEntryMut<'_, Row, S>) -> Lent {
     let each = [
@@ -35,7 +25,7 @@ fn lent<S: BuildHasher>(found: &mut OccupiedEntryMut<'_, Row, S>) -> Lent {
 
 /// Whether one item has all keys, and whether none has, as the entry says and what it gives to read.
 fn says<T: TriHashItem, S: BuildHasher>(found: &OccupiedEntry<'_, T, S>) -> [[bool; 2]; 2]
-    requires { HasFound T.TriHashItem T.K1.eq T.K2.eq T.K3.eq found.now }
+    requires { HasFound ⟦<T as Ranked>⟧.key_tests found.now }
 {
     let seen = found.get();
     [

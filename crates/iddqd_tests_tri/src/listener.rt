@@ -2,92 +2,57 @@
 ghost use Rattle.std.specs.Prelude.{⊤};
 
 use crate::row::Row;
-use crate::worked::{Listed, Refused, listed, refused_list};
+use crate::worked::{Answer, listed, refused_list};
 use iddqd_tri::{TriReply, TriSink};
-use std::alloc::Global;
 
-/// A reply, with items as values and an iterator as its length.
-#[derive(Clone, Copy, PartialEq, Eq)]
-pub enum Heard {
-    Done,
-    Kept,
-    Refused,
-    Duplicate(Listed),
-    Displaced(Listed),
-    Found(Option<Row>),
-    Taken(Option<Row>),
-    Present(bool),
-    Length(usize),
-    Key(u8, Row),
-    Memory(Row),
-    Absent(Row),
-    AbsentData(u64),
-    ExtendRefused(Refused),
-}
-
-fn hear(reply: TriReply<'_, Row>) -> Heard {
+fn hear(reply: TriReply<'_, Row>) -> Answer {
     match reply {
-        TriReply::Done => Heard::Done,
-        TriReply::Kept => Heard::Kept,
-        TriReply::Refused => Heard::Refused,
+        TriReply::Done => Answer::Done,
+        TriReply::Kept => Answer::Kept,
+        TriReply::Refused => Answer::Refused,
         TriReply::Duplicate(refused) => {
             let found = refused.duplicates();
-            Heard::Duplicate([
+            Answer::Duplicate([
                 found.get(0).copied().copied(),
                 found.get(1).copied().copied(),
                 found.get(2).copied().copied(),
             ])
         }
-        TriReply::Displaced(items) => Heard::Displaced(listed(items)),
-        TriReply::Found(item) => Heard::Found(item.copied()),
-        TriReply::Taken(item) => Heard::Taken(item),
-        TriReply::Present(answer) => Heard::Present(answer),
-        TriReply::Length(length) => Heard::Length(length),
-        TriReply::Items(items) => Heard::Length(items.count()),
-        TriReply::Key1(item) => Heard::Key(1, item),
-        TriReply::Key2(item) => Heard::Key(2, item),
-        TriReply::Key3(item) => Heard::Key(3, item),
-        TriReply::Memory(item) => Heard::Memory(item),
-        TriReply::Absent(item) => Heard::Absent(item),
-        TriReply::AbsentData(value) => Heard::AbsentData(value),
-        TriReply::ExtendRefused(error) => Heard::ExtendRefused(refused_list(error)),
+        TriReply::Displaced(items) => Answer::In(listed(items)),
+        TriReply::Found(item) => Answer::Found(item.copied()),
+        TriReply::Taken(item) => Answer::Taken(item),
+        TriReply::Present(answer) => Answer::Present(answer),
+        TriReply::Length(length) => Answer::Length(length),
+        TriReply::Items(items) => Answer::Length(items.count()),
+        TriReply::Key1(item) => Answer::Key(1, item),
+        TriReply::Key2(item) => Answer::Key(2, item),
+        TriReply::Key3(item) => Answer::Key(3, item),
+        TriReply::Memory(item) => Answer::Memory(item),
+        TriReply::Absent(item) => Answer::Absent(item),
+        TriReply::AbsentData(value) => Answer::AbsentData(value),
+        TriReply::ExtendRefused(error) => Answer::ExtendRefused(refused_list(error)),
     }
 }
 
-/// Why a listener stops a run.
-#[derive(Clone, Copy, PartialEq, Eq)]
-pub enum Stopped {
-    Enough,
-    Memory,
-}
-
-/// Keeps each reply. It takes so many of them well, and answers a fault at the next one.
+/// Keeps each reply. It takes so many of them well, and answers a fault at the next one: whether it kept that.
 #[derive(Drop)]
 pub struct Listener {
-    pub heard: Vec<Heard>,
+    pub heard: Vec<Answer>,
     pub most: usize,
 }
 
 impl TriSink<Row> for Listener {
-    type Fault = Stopped;
+    type Fault = bool;
 
     ghost took = { λ _ _ _ _. ⊤ };
 
-    fn take(&mut self, reply: TriReply<'_, Row>) -> Result<(), Stopped>
+    fn take(&mut self, reply: TriReply<'_, Row>) -> Result<(), bool>
         ensures { ⊤ }
     {
         match self.heard.push(hear(reply)) {
-            Ok(()) if self.heard.len() > self.most => Err(Stopped::Enough),
+            Ok(()) if self.heard.len() > self.most => Err(true),
             Ok(()) => Ok(()),
-            Err(_) => Err(Stopped::Memory),
+            Err(_) => Err(false),
         }
-    }
-}
-
-/// A listener that takes so many replies well.
-pub fn listening(alloc: Global, most: usize) -> Listener {
-    Listener {
-        heard: Vec::new(alloc),
-        most,
     }
 }

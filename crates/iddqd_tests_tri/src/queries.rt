@@ -75,7 +75,7 @@ fn asks_only_keys_of_the_hash(rt: HostRuntime) {
 }
 
 /// An item with a text as its third key.
-#[derive(Clone, Copy)]
+#[derive(Drop)]
 struct Word {
     first: u64,
     second: u64,
@@ -126,14 +126,7 @@ impl<'a> Equivalent<&'static str> for Text<'a> {
     }
 }
 
-/// The first key of the item with this text.
-fn number(map: &TriHashMap<Word>, text: &str) -> Option<u64> {
-    match map.get3(&Text { text }) {
-        Some(word) => Some(word.first),
-        None => None,
-    }
-}
-
+/// A text, and the first key of the item that has it as its third.
 const NUMBERS: [(&str, Option<u64>); 4] = [
     ("cd", Some(2)),
     ("ab", Some(1)),
@@ -144,7 +137,11 @@ const NUMBERS: [(&str, Option<u64>); 4] = [
 /// Whether each text is found that should be, in the map of these.
 fn are_found(map: &TriHashMap<Word>) -> bool {
     for (text, wanted) in NUMBERS {
-        if number(map, text) != wanted {
+        let found = match map.get3(&Text { text }) {
+            Some(word) => Some(word.first),
+            None => None,
+        };
+        if found != wanted {
             return false;
         }
     }

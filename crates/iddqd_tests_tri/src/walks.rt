@@ -105,15 +105,6 @@ fn are_compared<S: BuildHasher + Copy + Drop>(
     true
 }
 
-#[test]
-fn equality_is_of_the_items_alone(rt: HostRuntime) {
-    let alloc = rt.alloc();
-    let default = DefaultHashBuilder::default();
-    assert!(rt; are_compared(alloc, &three(&rt, alloc, default), default));
-    let map = three(&rt, alloc, Alike { hash: 0 });
-    assert!(rt; are_compared(alloc, &map, Alike { hash: 3 }));
-}
-
 /// How many items `retain` asks about, where it leaves that with the first key 2.
 fn asked(map: &mut TriHashMap<Row>) -> u64 {
     let mut calls: u64 = 0;
@@ -152,7 +143,12 @@ fn is_cloned(map: &mut TriHashMap<Row>) -> bool {
 }
 
 #[test]
-fn a_clone_is_a_map_of_its_own(rt: HostRuntime) {
-    let mut map = three(&rt, rt.alloc(), DefaultHashBuilder::default());
+fn maps_are_compared_cloned_and_filtered(rt: HostRuntime) {
+    let alloc = rt.alloc();
+    let default = DefaultHashBuilder::default();
+    let mut map = three(&rt, alloc, default);
+    assert!(rt; are_compared(alloc, &map, default));
     assert!(rt; is_cloned(&mut map));
+    let map = three(&rt, alloc, Alike { hash: 0 });
+    assert!(rt; are_compared(alloc, &map, Alike { hash: 3 }));
 }

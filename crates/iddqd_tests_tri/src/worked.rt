@@ -21,6 +21,18 @@ macro_rules! row {
 
 pub(crate) use row;
 
+/// The item that is lent for writing, if there is one.
+macro_rules! item_of {
+    ($found:expr) => {
+        match $found {
+            Some(item) => Some(*item),
+            None => None,
+        }
+    };
+}
+
+pub(crate) use item_of;
+
 pub const ONE: Row = row!(1, 10, 100, 7);
 
 pub const TWO: Row = row!(2, 20, 200, 8);
@@ -72,17 +84,45 @@ pub fn has_all<S: BuildHasher>(map: &TriHashMap<Row, S>, items: Listed) -> bool 
     map.len() == found
 }
 
-/// What becomes of an item that a call is given.
-#[derive(Clone, Copy, PartialEq, Eq)]
+/// Why a list did not go in: the items before the one that was refused, that one, and the reason. It shows three of the
+/// items before, which is more than any row wants.
+pub type Refused = (Listed, Row, ExtendUniqueReason);
+
+pub fn refused_list(error: ExtendUniqueError<Row>) -> Refused {
+    let ExtendUniqueError {
+        taken,
+        value,
+        reason,
+    } = error;
+    let before = [
+        taken.get(0).copied(),
+        taken.get(1).copied(),
+        taken.get(2).copied(),
+    ];
+    (before, value, reason)
+}
+
+/// What a call or a command answers, with items as values and an iterator as its length.
+#[derive(PartialEq, Drop)]
 pub enum Answer {
-    /// It went in, for these.
+    Done,
+    Kept,
+    Refused,
+    Duplicate(Listed),
+    /// An item went in, for these.
     In(Listed),
-    /// It came back, for its key of this rank.
+    Found(Option<Row>),
+    Present(bool),
+    Taken(Option<Row>),
+    Length(usize),
+    /// An item came back, for its key of this rank.
     Key(u8, Row),
-    /// It came back for want of memory.
+    /// An item came back for want of memory.
     Memory(Row),
-    /// There was nothing to put it in.
-    Nowhere,
+    /// An item came back, since there was nothing to put it in.
+    Absent(Row),
+    AbsentData(u64),
+    ExtendRefused(Refused),
 }
 
 pub fn mismatch(error: KeyMismatch<Row>) -> Answer {
@@ -99,40 +139,5 @@ pub fn refusal(error: EntryError<Row>) -> Answer {
         EntryError::Key2(item) => Answer::Key(2, item),
         EntryError::Key3(item) => Answer::Key(3, item),
         EntryError::Memory(item) => Answer::Memory(item),
-    }
-}
-
-/// Why a list did not go in: the items before the one that was refused, that one, and the reason. It shows three of the
-/// items before, which is more than any row wants.
-#[derive(Clone, Copy, PartialEq, Eq)]
-pub struct Refused {
-    pub taken: Listed,
-    pub value: Row,
-    pub reason: ExtendUniqueReason,
-}
-
-/// The refusal of this item for a conflict, after this one.
-pub fn conflict(taken: Row, value: Row) -> Refused {
-    Refused {
-        taken: [Some(taken), None, None],
-        value,
-        reason: ExtendUniqueReason::Conflict,
-    }
-}
-
-pub fn refused_list(error: ExtendUniqueError<Row>) -> Refused {
-    let ExtendUniqueError {
-        taken,
-        value,
-        reason,
-    } = error;
-    Refused {
-        taken: [
-            taken.get(0).copied(),
-            taken.get(1).copied(),
-            taken.get(2).copied(),
-        ],
-        value,
-        reason,
     }
 }

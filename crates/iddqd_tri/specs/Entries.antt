@@ -32,15 +32,15 @@ use Rattle.iddqd_tri.specs.contracts.map.TriHashMap.{the_row as row_of_map}
 
 module _ {T S K1 K2 K3 H : Type 0} where
   -- for each rank, whether an item has the entry's key
-  abbrev pub sought : item.Ghosts T K1 K2 K3 → (K1 → K1 → Bool) → (K2 → K2 → Bool) → (K3 → K3 → Bool) → OccupiedEntry T S K1 K2 K3 H → List (T → Bool)
-  sought of eq1 eq2 eq3 o = key_tests of eq1 eq2 eq3 o.key1.now o.key2.now o.key3.now
+  abbrev pub sought : (K1 → K2 → K3 → List (T → Bool)) → OccupiedEntry T S K1 K2 K3 H → List (T → Bool)
+  sought tests o = tests o.key1.now o.key2.now o.key3.now
 
   -- the entry has found what its keys name, which is some item at least. `entry` ensures it
-  pub record HasFound (of : item.Ghosts T K1 K2 K3) (eq1 : K1 → K1 → Bool) (eq2 : K2 → K2 → Bool) (eq3 : K3 → K3 → Bool) (o : OccupiedEntry T S K1 K2 K3 H) : Type 0 where
-    pub found : AreFound (sought of eq1 eq2 eq3 o) o.map.now.slots (o.slot1 ∷ o.slot2 ∷ o.slot3 ∷ [])
-    pub value : entry_at o.map.now.slots (o.slot1 ∷ o.slot2 ∷ o.slot3 ∷ []) ≡ entry (sought of eq1 eq2 eq3 o) (bag o.map.now)
-    pub listed : held_at o.map.now.slots (o.slot1 ∷ o.slot2 ∷ o.slot3 ∷ []) ≡ listing (sought of eq1 eq2 eq3 o) (bag o.map.now)
-    pub some : listing (sought of eq1 eq2 eq3 o) (bag o.map.now) ≢ []
+  pub record HasFound (tests : K1 → K2 → K3 → List (T → Bool)) (o : OccupiedEntry T S K1 K2 K3 H) : Type 0 where
+    pub found : AreFound (sought tests o) o.map.now.slots (o.slot1 ∷ o.slot2 ∷ o.slot3 ∷ [])
+    pub value : entry_at o.map.now.slots (o.slot1 ∷ o.slot2 ∷ o.slot3 ∷ []) ≡ entry (sought tests o) (bag o.map.now)
+    pub listed : held_at o.map.now.slots (o.slot1 ∷ o.slot2 ∷ o.slot3 ∷ []) ≡ listing (sought tests o) (bag o.map.now)
+    pub some : listing (sought tests o) (bag o.map.now) ≢ []
 
   -- the items that are held for writing are in the map. `into_mut` ensures it
   pub record Holds (m : OccupiedEntryMut T S K1 K2 K3 H) : Type 0 where
@@ -87,8 +87,8 @@ module _ {T S K1 K2 K3 H : Type 0} where
   -- what is held for writing is what the entry found
   pub record HoldsFound (of : item.Ghosts T K1 K2 K3) (eq1 : K1 → K1 → Bool) (eq2 : K2 → K2 → Bool) (eq3 : K3 → K3 → Bool) (o : OccupiedEntry T S K1 K2 K3 H) (m : OccupiedEntryMut T S K1 K2 K3 H) : Type 0 where
     pub holds : Holds m
-    pub listed : held m ≡ listing (sought of eq1 eq2 eq3 o) (bag o.map.now)
-    pub value : held_entry m ≡ entry (sought of eq1 eq2 eq3 o) (bag o.map.now)
+    pub listed : held m ≡ listing (sought (key_tests of eq1 eq2 eq3) o) (bag o.map.now)
+    pub value : held_entry m ≡ entry (sought (key_tests of eq1 eq2 eq3) o) (bag o.map.now)
     pub by_key1 : IsOnly (has1 of eq1 o.key1.now) (bag o.map.now) (held1 m)
     pub by_key2 : IsOnly (has2 of eq2 o.key2.now) (bag o.map.now) (held2 m)
     pub by_key3 : IsOnly (has3 of eq3 o.key3.now) (bag o.map.now) (held3 m)
@@ -97,7 +97,7 @@ module _ {T S K1 K2 K3 H : Type 0} where
   pub record KeepsFound {E : Type 0} (of : item.Ghosts T K1 K2 K3) (eq1 : K1 → K1 → Bool) (eq2 : K2 → K2 → Bool) (eq3 : K3 → K3 → Bool) (o : OccupiedEntry T S K1 K2 K3 H) (result : Result (OccupiedEntryMut T S K1 K2 K3 H) E) : Type 0 where
     pub granted : IsOk result
     pub unchanged : IfOk result (λ m. m.map.now ≡ o.map.now)
-    pub holds : HasFound of eq1 eq2 eq3 o → IfOk result (HoldsFound of eq1 eq2 eq3 o)
+    pub holds : HasFound (key_tests of eq1 eq2 eq3) o → IfOk result (HoldsFound of eq1 eq2 eq3 o)
 
   -- the entry in whose map the item with the first key is changed so, and that with another
   abbrev pub entry_with1 : OccupiedEntry T S K1 K2 K3 H → (T → T) → OccupiedEntry T S K1 K2 K3 H
@@ -138,6 +138,10 @@ module _ {T S Q K1 K2 K3 H : Type 0} {of : item.Ghosts T K1 K2 K3} {eq1 : equal.
   entry_value (Vacant e) = vacant
   entry_value (Occupied e) = entry_at e.map.now.slots (e.slot1 ∷ e.slot2 ∷ e.slot3 ∷ [])
 
+  -- for each rank, whether an item has the key that a vacant entry is for
+  abbrev pub wanted : VacantEntry T S Q K1 K2 K3 H of eq1 input1 eq2 input2 eq3 input3 build hashes q → List (T → Bool)
+  wanted e = key_tests of eq1.eq eq2.eq eq3.eq (q.first e.keys) (q.second e.keys) (q.third e.keys)
+
   -- P of a vacant entry
   abbrev pub OnVacant : Entry T S Q K1 K2 K3 H of eq1 input1 eq2 input2 eq3 input3 build hashes q → (VacantEntry T S Q K1 K2 K3 H of eq1 input1 eq2 input2 eq3 input3 build hashes q → Type 0) → Type 0
   OnVacant (Vacant e) P = P e
@@ -159,11 +163,11 @@ module _ {T S Q K1 K2 K3 H : Type 0} {of : item.Ghosts T K1 K2 K3} {eq1 : equal.
     pub by_key1 : IfOk result (λ m. held1 m ≡ Some x)
     pub by_key2 : IfOk result (λ m. held2 m ≡ Some x)
     pub by_key3 : IfOk result (λ m. held3 m ≡ Some x)
-    pub same_keys : OnOk result (differ (key_tests of eq1.eq eq2.eq eq3.eq (q.first e.keys) (q.second e.keys) (q.third e.keys)) x ≡ None)
-    pub granted : differ (key_tests of eq1.eq eq2.eq eq3.eq (q.first e.keys) (q.second e.keys) (q.third e.keys)) x ≡ None → length (bag e.map.now) < e.map.now.capacity → IsOk result
+    pub same_keys : OnOk result (differ (wanted e) x ≡ None)
+    pub granted : differ (wanted e) x ≡ None → length (bag e.map.now) < e.map.now.capacity → IsOk result
     pub unchanged : IfErr result (λ refusal. refusal.map.now ≡ e.map.now)
     pub handed_back : IfErr result (λ refusal. error_item refusal.error ≡ x)
-    pub rank : IfErr result (λ refusal. differ (key_tests of eq1.eq eq2.eq eq3.eq (q.first e.keys) (q.second e.keys) (q.third e.keys)) x ≡ error_rank refusal.error)
+    pub rank : IfErr result (λ refusal. differ (wanted e) x ≡ error_rank refusal.error)
     pub memory : IfErr result (λ refusal. OnNoMemory refusal.error (IsFullFor (ranks of eq1.eq eq2.eq eq3.eq) e.map.now x))
 
   -- both are vacant, or both occupied with the same keys and places
@@ -176,7 +180,7 @@ module _ {T S Q K1 K2 K3 H : Type 0} {of : item.Ghosts T K1 K2 K3} {eq1 : equal.
   -- an occupied entry has found what its keys name
   abbrev pub IsFound : Entry T S Q K1 K2 K3 H of eq1 input1 eq2 input2 eq3 input3 build hashes q → Type 0
   IsFound (Vacant e) = ⊤
-  IsFound (Occupied e) = HasFound of eq1.eq eq2.eq eq3.eq e
+  IsFound (Occupied e) = HasFound (key_tests of eq1.eq eq2.eq eq3.eq) e
 
 module _ (T S K1 K2 K3 H : RattleType) {of : item.Ghosts T.Denot K1.Denot K2.Denot K3.Denot} {eq1 : equal.Ghosts K1.Denot} {input1 : hash.Ghosts K1.Denot} {eq2 : equal.Ghosts K2.Denot} {input2 : hash.Ghosts K2.Denot} {eq3 : equal.Ghosts K3.Denot} {input3 : hash.Ghosts K3.Denot} {build : builder.Ghosts S.Denot H.Denot} {hashes : hasher.Ghosts H.Denot} where
   -- where no item is lent, the map stays

@@ -3,7 +3,7 @@ ghost use Rattle.std.specs.Prelude.{◌≡◌, ◌<◌, IfSome, Some, map};
 ghost use Rattle.iddqd_store.specs.Map.{bag};
 ghost use Rattle.iddqd_store.specs.Bag.{differ, order};
 ghost use Rattle.iddqd_store.specs.Slots.Found.{items_at};
-ghost use Rattle.iddqd_tri.specs.Keys.{key_tests, ranks};
+ghost use Rattle.iddqd_tri.specs.Keys.{ranks};
 ghost use Rattle.iddqd_tri.specs.Mismatch.{error_item, error_rank, mismatch_item, mismatch_rank};
 
 use crate::item::{Ranked, TriHashItem};
@@ -74,8 +74,7 @@ pub(crate) fn differ<T: TriHashItem>(
     key2: &T::K2,
     key3: &T::K3,
 ) -> Option<usize>
-    ensures rank { result
-        ≡ differ (key_tests T.TriHashItem T.K1.eq T.K2.eq T.K3.eq key1.now key2.now key3.now) item.now }
+    ensures rank { result ≡ differ (⟦<T as Ranked>⟧.key_tests key1.now key2.now key3.now) item.now }
     ensures below { IfSome result (λ rank. rank < 3) }
 {
     if *key1 != *item.key1() {

@@ -18,7 +18,7 @@ pub use entry::{
 pub use error::{
     DuplicateError, EntryError, EntryRefusal, FromIterError, InsertError, KeyMismatch, MemoryError,
 };
-pub use item::{Ranked, TriHashItem, TriHashItemMut};
+pub use item::{Hashed, Ranked, TriHashItem, TriHashItemMut};
 pub use iter_mut::IterMut;
 pub use map::{DefaultHashBuilder, TriHashMap};
 pub use ref_mut::RefMut;

@@ -5,11 +5,10 @@ ghost use Rattle.std.specs.Fn.{CalledAt};
 ghost use Rattle.iddqd_bi.specs.Bag.{entry, listing, over};
 ghost use Rattle.iddqd_bi.specs.Storing.{Stores};
 ghost use Rattle.iddqd_bi.specs.Map.{bag};
-ghost use Rattle.iddqd_bi.specs.Keys.{key_tests, ranks};
 ghost use Rattle.iddqd_bi.specs.Mismatch.{error_item};
 ghost use Rattle.iddqd_bi.specs.Callers.{InsertsOrWrites, WritesEntry};
 
-use iddqd_bi::{BiHashItem, BiHashItemMut, BiHashMap, Entry, EntryError};
+use iddqd_bi::{BiHashItem, BiHashItemMut, BiHashMap, Entry, EntryError, Ranked};
 use std::hash::{BuildHasher, Hash};
 
 /// Puts an item in through an entry. It is handed back where it is refused, and where an item has one of the keys.
@@ -41,7 +40,7 @@ pub fn overwrite_through<'a, T: BiHashItem + Drop, S: BuildHasher>(
     item: T,
 ) -> bool
     ensures went_in { OnTrue result (IsPermutation (bag map.new)
-        (over (ranks T.BiHashItem T.K1.eq T.K2.eq) (bag map.old) item)) }
+        (over ⟦<T as Ranked>⟧.ranks (bag map.old) item)) }
     ensures unchanged { OnFalse result (map.new ≡ map.old) }
 {
     match map.entry(key1, key2) {
@@ -60,10 +59,10 @@ pub fn remove_through<'a, T: BiHashItem + Drop, S: BuildHasher>(
     key2: &'a T::K2,
 ) -> bool
     ensures taken { OnTrue result (IsPermutation (bag map.old)
-        (listing (key_tests T.BiHashItem T.K1.eq T.K2.eq key1.now key2.now) (bag map.old) ++ bag map.new)) }
+        (listing (⟦<T as Ranked>⟧.key_tests key1.now key2.now) (bag map.old) ++ bag map.new)) }
     ensures none { OnFalse result (map.new ≡ map.old) }
     ensures reason { OnFalse result
-        (listing (key_tests T.BiHashItem T.K1.eq T.K2.eq key1.now key2.now) (bag map.old) ≡ []) }
+        (listing (⟦<T as Ranked>⟧.key_tests key1.now key2.now) (bag map.old) ≡ []) }
 {
     match map.entry(key1, key2) {
         Entry::Vacant(_v) => return false,
@@ -85,8 +84,8 @@ where
     T::Data: Drop,
     F: Drop,
     requires callable { F.IsAlwaysCallable f }
-    ensures { Stores (CalledAt F.FnMut) T.put (ranks T.BiHashItem T.K1.eq T.K2.eq) f
-        (listing (key_tests T.BiHashItem T.K1.eq T.K2.eq key1.now key2.now) (bag map.old)) (bag map.old)
+    ensures { Stores (CalledAt F.FnMut) T.put ⟦<T as Ranked>⟧.ranks f
+        (listing (⟦<T as Ranked>⟧.key_tests key1.now key2.now) (bag map.old)) (bag map.old)
         (bag map.new) }
 {
     match map.entry(key1, key2).and_modify(f) {
@@ -105,8 +104,8 @@ pub fn or_insert_and_write<'a, T: BiHashItemMut + Drop, S: BuildHasher>(
 ) -> Result<(), EntryError<T>>
 where
     T::Data: Drop,
-    ensures writes { OnOk result (WritesEntry (ranks T.BiHashItem T.K1.eq T.K2.eq) (λ x. T.put x d) (bag map.old) item
-        (entry (key_tests T.BiHashItem T.K1.eq T.K2.eq key1.now key2.now) (bag map.old)) (bag map.new)) }
+    ensures writes { OnOk result (WritesEntry ⟦<T as Ranked>⟧.ranks (λ x. T.put x d) (bag map.old) item
+        (entry (⟦<T as Ranked>⟧.key_tests key1.now key2.now) (bag map.old)) (bag map.new)) }
     ensures unchanged { OnErr result (map.new ≡ map.old) }
     ensures handed_back { IfErr result (λ e. error_item e ≡ item) }
 {
@@ -132,8 +131,8 @@ pub fn insert_or_write<'a, T: BiHashItemMut + Drop, S: BuildHasher>(
 ) -> Result<(), EntryError<T>>
 where
     T::Data: Drop,
-    ensures writes { OnOk result (InsertsOrWrites (ranks T.BiHashItem T.K1.eq T.K2.eq) (λ x. T.put x d) (bag map.old)
-        item (entry (key_tests T.BiHashItem T.K1.eq T.K2.eq key1.now key2.now) (bag map.old)) (bag map.new)) }
+    ensures writes { OnOk result (InsertsOrWrites ⟦<T as Ranked>⟧.ranks (λ x. T.put x d) (bag map.old)
+        item (entry (⟦<T as Ranked>⟧.key_tests key1.now key2.now) (bag map.old)) (bag map.new)) }
     ensures unchanged { OnErr result (map.new ≡ map.old) }
     ensures handed_back { IfErr result (λ e. error_item e ≡ item) }
 {

@@ -3,9 +3,8 @@ ghost use Rattle.std.specs.Prelude.{◌≡◌, ◌++◌, IsPermutation, OnOk, On
 ghost use Rattle.iddqd_bi.specs.Bag.{IsSound};
 ghost use Rattle.iddqd_bi.specs.Callers.{IsInTheWay};
 ghost use Rattle.iddqd_bi.specs.Map.{bag};
-ghost use Rattle.iddqd_bi.specs.Keys.{ranks};
 
-use iddqd_bi::{BiHashItem, BiHashMap, ExtendUniqueReason};
+use iddqd_bi::{BiHashItem, BiHashMap, ExtendUniqueReason, Ranked};
 use std::hash::{BuildHasher, Hash};
 
 /// Puts all items of a batch in, or none of them. Then it hands back the one that is in the way, and says why.
@@ -16,8 +15,8 @@ pub fn load<T: BiHashItem + Drop, S: BuildHasher>(
     ensures all { OnOk result (IsPermutation (bag map.new) (batch.items ++ bag map.old)) }
     ensures none { OnErr result (IsPermutation (bag map.new) (bag map.old)) }
     ensures in_the_way { IfErr result (λ e.
-        IsInTheWay (ranks T.BiHashItem T.K1.eq T.K2.eq) (bag map.old) batch.items e.0 e.1) }
-    ensures sound { IsSound (ranks T.BiHashItem T.K1.eq T.K2.eq) (bag map.new) }
+        IsInTheWay ⟦<T as Ranked>⟧.ranks (bag map.old) batch.items e.0 e.1) }
+    ensures sound { IsSound ⟦<T as Ranked>⟧.ranks (bag map.new) }
 {
     match map.extend_unique(batch) {
         Ok(()) => Ok(()),

@@ -2,9 +2,8 @@
 ghost use Rattle.std.specs.Prelude.{◌≡◌, ◌+◌, ◌≤◌, length, IsPermutation, OnOk, IsOk};
 ghost use Rattle.iddqd_tri.specs.Bag.{overs};
 ghost use Rattle.iddqd_tri.specs.Map.{bag};
-ghost use Rattle.iddqd_tri.specs.Keys.{ranks};
 
-use iddqd_tri::{MemoryRefused, TriHashItem, TriHashMap};
+use iddqd_tri::{MemoryRefused, Ranked, TriHashItem, TriHashMap};
 use std::hash::{BuildHasher, Hash};
 
 /// Puts the items of a vector in one after another. It is not refused where there is room for all.
@@ -13,7 +12,7 @@ pub fn extend_by_vec<T: TriHashItem + Drop, S: BuildHasher>(
     items: Vec<T>,
 ) -> Result<(), MemoryRefused<T>>
     ensures all { OnOk result
-        (IsPermutation (bag map.new) (overs (ranks T.TriHashItem T.K1.eq T.K2.eq T.K3.eq) (bag map.old) items.items)) }
+        (IsPermutation (bag map.new) (overs ⟦<T as Ranked>⟧.ranks (bag map.old) items.items)) }
     ensures granted { length (bag map.old) + length items.items ≤ map.old.capacity → IsOk result }
 {
     map.extend(items)

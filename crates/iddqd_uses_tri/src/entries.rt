@@ -5,11 +5,10 @@ ghost use Rattle.std.specs.Fn.{CalledAt};
 ghost use Rattle.iddqd_tri.specs.Bag.{entry, listing, over};
 ghost use Rattle.iddqd_tri.specs.Storing.{Stores};
 ghost use Rattle.iddqd_tri.specs.Map.{bag};
-ghost use Rattle.iddqd_tri.specs.Keys.{key_tests, ranks};
 ghost use Rattle.iddqd_tri.specs.Mismatch.{error_item};
 ghost use Rattle.iddqd_tri.specs.Callers.{InsertsOrWrites, WritesEntry};
 
-use iddqd_tri::{Entry, EntryError, TriHashItem, TriHashItemMut, TriHashMap};
+use iddqd_tri::{Entry, EntryError, Ranked, TriHashItem, TriHashItemMut, TriHashMap};
 use std::hash::{BuildHasher, Hash};
 
 /// Puts an item in through an entry. It is handed back where it is refused, and where an item has one of the keys.
@@ -43,7 +42,7 @@ pub fn overwrite_through<'a, T: TriHashItem + Drop, S: BuildHasher>(
     item: T,
 ) -> bool
     ensures went_in { OnTrue result (IsPermutation (bag map.new)
-        (over (ranks T.TriHashItem T.K1.eq T.K2.eq T.K3.eq) (bag map.old) item)) }
+        (over ⟦<T as Ranked>⟧.ranks (bag map.old) item)) }
     ensures unchanged { OnFalse result (map.new ≡ map.old) }
 {
     match map.entry(key1, key2, key3) {
@@ -63,11 +62,11 @@ pub fn remove_through<'a, T: TriHashItem + Drop, S: BuildHasher>(
     key3: &'a T::K3,
 ) -> bool
     ensures taken { OnTrue result (IsPermutation (bag map.old)
-        (listing (key_tests T.TriHashItem T.K1.eq T.K2.eq T.K3.eq key1.now key2.now key3.now)
+        (listing (⟦<T as Ranked>⟧.key_tests key1.now key2.now key3.now)
         (bag map.old) ++ bag map.new)) }
     ensures none { OnFalse result (map.new ≡ map.old) }
     ensures reason { OnFalse result
-        (listing (key_tests T.TriHashItem T.K1.eq T.K2.eq T.K3.eq key1.now key2.now key3.now) (bag map.old) ≡ []) }
+        (listing (⟦<T as Ranked>⟧.key_tests key1.now key2.now key3.now) (bag map.old) ≡ []) }
 {
     match map.entry(key1, key2, key3) {
         Entry::Vacant(_v) => return false,
@@ -90,8 +89,8 @@ where
     T::Data: Drop,
     F: Drop,
     requires callable { F.IsAlwaysCallable f }
-    ensures { Stores (CalledAt F.FnMut) T.put (ranks T.TriHashItem T.K1.eq T.K2.eq T.K3.eq) f
-        (listing (key_tests T.TriHashItem T.K1.eq T.K2.eq T.K3.eq key1.now key2.now key3.now) (bag map.old))
+    ensures { Stores (CalledAt F.FnMut) T.put ⟦<T as Ranked>⟧.ranks f
+        (listing (⟦<T as Ranked>⟧.key_tests key1.now key2.now key3.now) (bag map.old))
         (bag map.old) (bag map.new) }
 {
     match map.entry(key1, key2, key3).and_modify(f) {
@@ -112,9 +111,9 @@ pub fn or_insert_and_write<'a, T: TriHashItemMut + Drop, S: BuildHasher>(
 ) -> Result<(), EntryError<T>>
 where
     T::Data: Drop,
-    ensures writes { OnOk result (WritesEntry (ranks T.TriHashItem T.K1.eq T.K2.eq T.K3.eq)
+    ensures writes { OnOk result (WritesEntry ⟦<T as Ranked>⟧.ranks
         (λ x. T.put x d) (bag map.old) item
-        (entry (key_tests T.TriHashItem T.K1.eq T.K2.eq T.K3.eq key1.now key2.now key3.now) (bag map.old))
+        (entry (⟦<T as Ranked>⟧.key_tests key1.now key2.now key3.now) (bag map.old))
         (bag map.new)) }
     ensures unchanged { OnErr result (map.new ≡ map.old) }
     ensures handed_back { IfErr result (λ e. error_item e ≡ item) }
@@ -142,9 +141,9 @@ pub fn insert_or_write<'a, T: TriHashItemMut + Drop, S: BuildHasher>(
 ) -> Result<(), EntryError<T>>
 where
     T::Data: Drop,
-    ensures writes { OnOk result (InsertsOrWrites (ranks T.TriHashItem T.K1.eq T.K2.eq T.K3.eq)
+    ensures writes { OnOk result (InsertsOrWrites ⟦<T as Ranked>⟧.ranks
         (λ x. T.put x d) (bag map.old) item
-        (entry (key_tests T.TriHashItem T.K1.eq T.K2.eq T.K3.eq key1.now key2.now key3.now) (bag map.old))
+        (entry (⟦<T as Ranked>⟧.key_tests key1.now key2.now key3.now) (bag map.old))
         (bag map.new)) }
     ensures unchanged { OnErr result (map.new ≡ map.old) }
     ensures handed_back { IfErr result (λ e. error_item e ≡ item) }

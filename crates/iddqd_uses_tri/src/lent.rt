@@ -2,10 +2,10 @@
 ghost use Rattle.std.specs.Prelude.{◌≡◌, ◌∷◌, Some, None, IsPermutation, OnOk, OnErr, IfErr};
 ghost use Rattle.iddqd_tri.specs.Bag.{IsOnly, swap};
 ghost use Rattle.iddqd_tri.specs.Map.{bag};
-ghost use Rattle.iddqd_tri.specs.Keys.{has1, ranks};
+ghost use Rattle.iddqd_tri.specs.Keys.{has1};
 ghost use Rattle.iddqd_tri.specs.Mismatch.{error_item};
 
-use iddqd_tri::{Entry, EntryError, TriHashItem, TriHashItemMut, TriHashMap};
+use iddqd_tri::{Entry, EntryError, Ranked, TriHashItem, TriHashItemMut, TriHashMap};
 use std::hash::{BuildHasher, Hash};
 
 /// Writes the data of the item that has the first of three keys, if there is one, by what an entry lends of it.
@@ -19,7 +19,7 @@ pub fn write_data1<'a, T: TriHashItemMut, S: BuildHasher>(
 where
     T::Data: Drop,
     ensures present { (x : T) → IsOnly (has1 T.TriHashItem T.K1.eq key1.now) (bag map.old) (Some x)
-        → IsPermutation (bag map.new) (swap (ranks T.TriHashItem T.K1.eq T.K2.eq T.K3.eq) (bag map.old) x (T.put x d)) }
+        → IsPermutation (bag map.new) (swap ⟦<T as Ranked>⟧.ranks (bag map.old) x (T.put x d)) }
     ensures absent { IsOnly (has1 T.TriHashItem T.K1.eq key1.now) (bag map.old) None → map.new ≡ map.old }
 {
     if let Entry::Occupied(mut found) = map.entry(key1, key2, key3) {
@@ -40,7 +40,7 @@ pub fn write_by_key1<'a, T: TriHashItemMut, S: BuildHasher>(
 where
     T::Data: Drop,
     ensures present { (x : T) → IsOnly (has1 T.TriHashItem T.K1.eq key1.now) (bag map.old) (Some x)
-        → IsPermutation (bag map.new) (swap (ranks T.TriHashItem T.K1.eq T.K2.eq T.K3.eq) (bag map.old) x (T.put x d)) }
+        → IsPermutation (bag map.new) (swap ⟦<T as Ranked>⟧.ranks (bag map.old) x (T.put x d)) }
     ensures absent { IsOnly (has1 T.TriHashItem T.K1.eq key1.now) (bag map.old) None → map.new ≡ map.old }
 {
     if let Entry::Occupied(found) = map.entry(key1, key2, key3) {

@@ -3,9 +3,8 @@ ghost use Rattle.std.specs.Prelude.{◌≡◌, ◌++◌, IsPermutation, OnOk, On
 ghost use Rattle.iddqd_tri.specs.Bag.{IsSound};
 ghost use Rattle.iddqd_tri.specs.Callers.{IsInTheWay};
 ghost use Rattle.iddqd_tri.specs.Map.{bag};
-ghost use Rattle.iddqd_tri.specs.Keys.{ranks};
 
-use iddqd_tri::{ExtendUniqueReason, TriHashItem, TriHashMap};
+use iddqd_tri::{ExtendUniqueReason, Ranked, TriHashItem, TriHashMap};
 use std::hash::{BuildHasher, Hash};
 
 /// Puts all items of a batch in, or none of them. Then it hands back the one that is in the way, and says why.
@@ -16,8 +15,8 @@ pub fn load<T: TriHashItem + Drop, S: BuildHasher>(
     ensures all { OnOk result (IsPermutation (bag map.new) (batch.items ++ bag map.old)) }
     ensures none { OnErr result (IsPermutation (bag map.new) (bag map.old)) }
     ensures in_the_way { IfErr result (λ e.
-        IsInTheWay (ranks T.TriHashItem T.K1.eq T.K2.eq T.K3.eq) (bag map.old) batch.items e.0 e.1) }
-    ensures sound { IsSound (ranks T.TriHashItem T.K1.eq T.K2.eq T.K3.eq) (bag map.new) }
+        IsInTheWay ⟦<T as Ranked>⟧.ranks (bag map.old) batch.items e.0 e.1) }
+    ensures sound { IsSound ⟦<T as Ranked>⟧.ranks (bag map.new) }
 {
     match map.extend_unique(batch) {
         Ok(()) => Ok(()),

@@ -2,9 +2,9 @@
 ghost use Rattle.std.specs.Prelude.{◌≡◌, Some, None, IsPermutation, IfOk, IfErr, OnErr};
 ghost use Rattle.iddqd_tri.specs.Bag.{IsOnly, swap};
 ghost use Rattle.iddqd_tri.specs.Map.{bag};
-ghost use Rattle.iddqd_tri.specs.Keys.{has1, ranks};
+ghost use Rattle.iddqd_tri.specs.Keys.{has1};
 
-use iddqd_tri::{TriHashItem, TriHashItemMut, TriHashMap};
+use iddqd_tri::{Ranked, TriHashItem, TriHashItemMut, TriHashMap};
 use std::hash::{BuildHasher, Hash};
 
 /// Writes the data of the item with a first key, if there is one.
@@ -17,7 +17,7 @@ where
     T::Data: Drop,
     ensures present { (x : T) → IsOnly (has1 T.TriHashItem T.K1.eq key.now) (bag map.old) (Some x)
         → IsPermutation (bag map.new)
-        (swap (ranks T.TriHashItem T.K1.eq T.K2.eq T.K3.eq) (bag map.old) x (T.put x d)) }
+        (swap ⟦<T as Ranked>⟧.ranks (bag map.old) x (T.put x d)) }
     ensures absent { IsOnly (has1 T.TriHashItem T.K1.eq key.now) (bag map.old) None → map.new ≡ map.old }
 {
     if let Some(mut item) = map.get1_mut(key) {
@@ -36,7 +36,7 @@ where
     T::Data: Drop,
     ensures present { (x : T) → IsOnly (has1 T.TriHashItem T.K1.eq key.now) (bag map.old) (Some x)
         → IsPermutation (bag map.new)
-        (swap (ranks T.TriHashItem T.K1.eq T.K2.eq T.K3.eq) (bag map.old) x (T.put (T.put x first) last)) }
+        (swap ⟦<T as Ranked>⟧.ranks (bag map.old) x (T.put (T.put x first) last)) }
     ensures absent { IsOnly (has1 T.TriHashItem T.K1.eq key.now) (bag map.old) None → map.new ≡ map.old }
 {
     if let Some(mut item) = map.get1_mut(key) {
@@ -52,7 +52,7 @@ pub fn replace1<T: TriHashItem, S: BuildHasher>(
     item: T,
 ) -> Result<T, T>
     ensures replaced { IfOk result (λ x. IsPermutation (bag map.new)
-        (swap (ranks T.TriHashItem T.K1.eq T.K2.eq T.K3.eq) (bag map.old) x item)) }
+        (swap ⟦<T as Ranked>⟧.ranks (bag map.old) x item)) }
     ensures only { IfOk result (λ x. IsOnly (has1 T.TriHashItem T.K1.eq key.now) (bag map.old) (Some x)) }
     ensures unchanged { OnErr result (map.new ≡ map.old) }
     ensures handed_back { IfErr result (λ x. x ≡ item) }

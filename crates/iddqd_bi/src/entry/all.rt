@@ -5,11 +5,10 @@ ghost use Rattle.iddqd_store.specs.Bag.{listing};
 ghost use Rattle.iddqd_store.specs.Bag.Storing.{Stores};
 ghost use Rattle.iddqd_store.specs.Map.{bag};
 ghost use Rattle.iddqd_bi.specs.Entries.{IsFound, IsSameEntry, KeepsFound, OnOccupied, OnVacant, PutsIn, entry_lender, entry_map, sought};
-ghost use Rattle.iddqd_bi.specs.Keys.{ranks};
 
 use super::{Entry, Keys, OccupiedEntryMut, VacantEntry};
 use crate::error::{EntryError, EntryRefusal, differ};
-use crate::item::{BiHashItem, BiHashItemMut};
+use crate::item::{BiHashItem, BiHashItemMut, Ranked};
 use std::hash::{BuildHasher, Hash};
 
 impl<'a, T: BiHashItem, S: BuildHasher, Q: Keys<T::K1, T::K2>> Entry<'a, T, S, Q> {
@@ -64,9 +63,8 @@ impl<'a, T: BiHashItemMut, S: BuildHasher, Q: Keys<T::K1, T::K2>> Entry<'a, T, S
         ensures same_map { entry_lender result ≡ entry_lender self.entry }
         ensures vacant { OnVacant self.entry (λ v. result ≡ self.entry) }
         // Each item that was found gets the data that the function makes of it.
-        ensures stores { OnOccupied self.entry (λ o.
-            Stores (CalledAt F.FnMut) T.put (ranks T.BiHashItem T.K1.eq T.K2.eq) f
-            (listing (sought T.BiHashItem T.K1.eq T.K2.eq o) (bag o.map.now)) (bag o.map.now)
+        ensures stores { OnOccupied self.entry (λ o. Stores (CalledAt F.FnMut) T.put ⟦<T as Ranked>⟧.ranks f
+            (listing (sought ⟦<T as Ranked>⟧.key_tests o) (bag o.map.now)) (bag o.map.now)
             (bag (entry_map result))) }
         // All else stays.
         ensures capacity { (entry_map result).capacity ≡ (entry_map self.entry).capacity }

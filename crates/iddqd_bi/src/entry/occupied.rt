@@ -7,41 +7,41 @@ ghost use Rattle.iddqd_store.specs.Bag.{IsOnly, differ, entry, is_unique, listin
 ghost use Rattle.iddqd_store.specs.Bag.Storing.{Stores};
 ghost use Rattle.iddqd_store.specs.Map.{bag, Loses};
 ghost use Rattle.iddqd_bi.specs.Entries.{FindsSame, HasFound, HoldsFound, entry_with1, entry_with2, sought, lends_data1, lends_data2, lends_held};
-ghost use Rattle.iddqd_bi.specs.Keys.{has1, has2, ranks};
+ghost use Rattle.iddqd_bi.specs.Keys.{has1, has2};
 ghost use Rattle.iddqd_bi.specs.Mismatch.{mismatch_item, mismatch_rank};
 ghost use Rattle.iddqd_bi.specs.OccupiedRefs.{is_one, seen1, seen2};
 
 use super::{OccupiedEntry, OccupiedEntryMut, OccupiedEntryRef};
 use crate::error::{KeyMismatch, differ};
-use crate::item::{BiHashItemMut, Ranked};
+use crate::item::{BiHashItem, BiHashItemMut, Ranked};
 use crate::map::BiHashMap;
 use crate::map::slots::found::{each_once, one_of};
 use iddqd_store::{Sought, UpToTwo};
 use std::hash::{BuildHasher, Hash};
 
-impl<'a, T: Ranked, S: BuildHasher> OccupiedEntry<'a, T, S> {
+impl<'a, T: BiHashItem, S: BuildHasher> OccupiedEntry<'a, T, S> {
     /// Whether one item has both keys.
     pub fn is_unique(&self) -> bool
-        requires { HasFound T.BiHashItem T.K1.eq T.K2.eq self.now }
-        ensures { result ≡ is_unique (entry (sought T.BiHashItem T.K1.eq T.K2.eq self.now) (bag self.now.map.now)) }
+        requires { HasFound ⟦<T as Ranked>⟧.key_tests self.now }
+        ensures { result ≡ is_unique (entry (sought ⟦<T as Ranked>⟧.key_tests self.now) (bag self.now.map.now)) }
     {
         one_of(self.slot1, self.slot2).is_some()
     }
 
     /// Whether no item has both keys. One of the keys may be absent.
     pub fn is_non_unique(&self) -> bool
-        requires { HasFound T.BiHashItem T.K1.eq T.K2.eq self.now }
+        requires { HasFound ⟦<T as Ranked>⟧.key_tests self.now }
         ensures { result
-            ≡ not (is_unique (entry (sought T.BiHashItem T.K1.eq T.K2.eq self.now) (bag self.now.map.now))) }
+            ≡ not (is_unique (entry (sought ⟦<T as Ranked>⟧.key_tests self.now) (bag self.now.map.now))) }
     {
         !self.is_unique()
     }
 
     /// The items, to be read.
     pub fn get(&self) -> OccupiedEntryRef<'_, T>
-        requires { HasFound T.BiHashItem T.K1.eq T.K2.eq self.now }
+        requires { HasFound ⟦<T as Ranked>⟧.key_tests self.now }
         ensures is_one { is_one result
-            ≡ is_unique (entry (sought T.BiHashItem T.K1.eq T.K2.eq self.now) (bag self.now.map.now)) }
+            ≡ is_unique (entry (sought ⟦<T as Ranked>⟧.key_tests self.now) (bag self.now.map.now)) }
         ensures by_key1 { IsOnly (has1 T.BiHashItem T.K1.eq self.now.key1.now) (bag self.now.map.now) (seen1 result) }
         ensures by_key2 { IsOnly (has2 T.BiHashItem T.K2.eq self.now.key2.now) (bag self.now.map.now) (seen2 result) }
     {
@@ -53,9 +53,9 @@ impl<'a, T: Ranked, S: BuildHasher> OccupiedEntry<'a, T, S> {
 
     /// The items, to be read for as long as the map is lent.
     pub fn into_ref(self) -> OccupiedEntryRef<'a, T>
-        requires { HasFound T.BiHashItem T.K1.eq T.K2.eq self }
+        requires { HasFound ⟦<T as Ranked>⟧.key_tests self }
         ensures is_one { is_one result
-            ≡ is_unique (entry (sought T.BiHashItem T.K1.eq T.K2.eq self.entry) (bag self.entry.map.now)) }
+            ≡ is_unique (entry (sought ⟦<T as Ranked>⟧.key_tests self.entry) (bag self.entry.map.now)) }
         ensures by_key1 { IsOnly (has1 T.BiHashItem T.K1.eq self.entry.key1.now) (bag self.entry.map.now)
             (seen1 result) }
         ensures by_key2 { IsOnly (has2 T.BiHashItem T.K2.eq self.entry.key2.now) (bag self.entry.map.now)
@@ -78,7 +78,7 @@ impl<'a, T: Ranked, S: BuildHasher> OccupiedEntry<'a, T, S> {
     /// The items, for writing, lent by the entry. A caller knows less of the map afterwards than after `into_mut`.
     pub fn get_mut(&mut self) -> OccupiedEntryMut<'_, T, S>
         ensures map { result.map.now ≡ self.old.map.now }
-        ensures holds { HasFound T.BiHashItem T.K1.eq T.K2.eq self.old
+        ensures holds { HasFound ⟦<T as Ranked>⟧.key_tests self.old
             → HoldsFound T.BiHashItem T.K1.eq T.K2.eq self.old result }
         ensures* lends { sem 𝓛 (lends_held T.row S.row T.K1.row T.K2.row S.Hasher.row
             T.BiHashItem T.K1.Hash T.K2.Hash S.BuildHasher S.Hasher.Hasher self.entry result) }
@@ -93,7 +93,7 @@ impl<'a, T: Ranked, S: BuildHasher> OccupiedEntry<'a, T, S> {
     pub fn into_mut(self) -> OccupiedEntryMut<'a, T, S>
         ensures same_map { result.map.ghost_name ≡ self.entry.map.ghost_name }
         ensures map { result.map.now ≡ self.entry.map.now }
-        ensures holds { HasFound T.BiHashItem T.K1.eq T.K2.eq self.entry
+        ensures holds { HasFound ⟦<T as Ranked>⟧.key_tests self.entry
             → HoldsFound T.BiHashItem T.K1.eq T.K2.eq self.entry result }
     {
         let OccupiedEntry {
@@ -114,16 +114,17 @@ impl<'a, T: Ranked, S: BuildHasher> OccupiedEntry<'a, T, S> {
     ///
     /// It compares the first keys, and the second ones where those are equal, and searches nothing. It takes no memory.
     pub fn insert(&mut self, item: T) -> Result<UpToTwo<T>, KeyMismatch<T>>
-        requires { HasFound T.BiHashItem T.K1.eq T.K2.eq self.old }
+        requires { HasFound ⟦<T as Ranked>⟧.key_tests self.old }
         // It goes in only with the keys that the entry has. What these found comes back, in their order.
         ensures same_map { self.new.map.ghost_name ≡ self.old.map.ghost_name }
-        ensures same_keys { OnOk result (differ (sought T.BiHashItem T.K1.eq T.K2.eq self.old) item ≡ None) }
+        ensures same_keys { OnOk result (differ (sought ⟦<T as Ranked>⟧.key_tests self.old) item ≡ None) }
         ensures displaced { IfOk result (λ gone. gone
-            ≡ listing (sought T.BiHashItem T.K1.eq T.K2.eq self.old) (bag self.old.map.now)) }
-        ensures items { OnOk result (IsPermutation (bag self.new.map.now) (over T.ranks (bag self.old.map.now) item)) }
+            ≡ listing (sought ⟦<T as Ranked>⟧.key_tests self.old) (bag self.old.map.now)) }
+        ensures items { OnOk result (IsPermutation (bag self.new.map.now)
+            (over ⟦<T as Ranked>⟧.ranks (bag self.old.map.now) item)) }
         // The entry has found the item now.
-        ensures has_found { OnOk result (HasFound T.BiHashItem T.K1.eq T.K2.eq self.new) }
-        ensures unique { OnOk result (entry (sought T.BiHashItem T.K1.eq T.K2.eq self.new) (bag self.new.map.now)
+        ensures has_found { OnOk result (HasFound ⟦<T as Ranked>⟧.key_tests self.new) }
+        ensures unique { OnOk result (entry (sought ⟦<T as Ranked>⟧.key_tests self.new) (bag self.new.map.now)
             ≡ unique item) }
         ensures keys { OnOk result ((self.new.key1 ≡ self.old.key1) × (self.new.key2 ≡ self.old.key2)) }
         // The map's room and builder stay.
@@ -132,7 +133,7 @@ impl<'a, T: Ranked, S: BuildHasher> OccupiedEntry<'a, T, S> {
         // With another key it comes back, and nothing changes.
         ensures handed_back { IfErr result (λ e. mismatch_item e ≡ item) }
         ensures rank { IfErr result (λ e.
-            differ (sought T.BiHashItem T.K1.eq T.K2.eq self.old) item ≡ Some (mismatch_rank e)) }
+            differ (sought ⟦<T as Ranked>⟧.key_tests self.old) item ≡ Some (mismatch_rank e)) }
         ensures unchanged { OnErr result (self.new ≡ self.old) }
     {
         if let Some(rank) = differ(&item, self.key1, self.key2) {
@@ -150,8 +151,8 @@ impl<'a, T: Ranked, S: BuildHasher> OccupiedEntry<'a, T, S> {
     ///
     /// It compares no key.
     pub fn remove(self) -> UpToTwo<T>
-        requires { HasFound T.BiHashItem T.K1.eq T.K2.eq self }
-        ensures taken { result ≡ listing (sought T.BiHashItem T.K1.eq T.K2.eq self.entry) (bag self.entry.map.now) }
+        requires { HasFound ⟦<T as Ranked>⟧.key_tests self }
+        ensures taken { result ≡ listing (sought ⟦<T as Ranked>⟧.key_tests self.entry) (bag self.entry.map.now) }
         ensures loses { Loses self.entry.map.now result self.exit.0.now }
     {
         let OccupiedEntry {
@@ -169,13 +170,13 @@ impl<'a, T: Ranked, S: BuildHasher> OccupiedEntry<'a, T, S> {
 impl<'a, T: BiHashItemMut, S: BuildHasher> OccupiedEntry<'a, T, S> {
     /// The data of the item with the first key, for writing.
     pub fn data1_mut(&mut self) -> Option<&mut T::Data>
-        requires { HasFound T.BiHashItem T.K1.eq T.K2.eq self.old }
+        requires { HasFound ⟦<T as Ranked>⟧.key_tests self.old }
         ensures value { option_to_list (option_copied_mut result)
             ≡ map T.payload (filter (has1 T.BiHashItem T.K1.eq self.old.key1.now) (bag self.old.map.now)) }
         ensures swaps { (x : T) (d : T.Data)
             → IsOnly (has1 T.BiHashItem T.K1.eq self.old.key1.now) (bag self.old.map.now) (Some x)
             → IsPermutation (bag (entry_with1 self.old (λ y. T.put y d)).map.now)
-            (swap (ranks T.BiHashItem T.K1.eq T.K2.eq) (bag self.old.map.now) x (T.put x d)) }
+            (swap ⟦<T as Ranked>⟧.ranks (bag self.old.map.now) x (T.put x d)) }
         ensures* lends { sem 𝓛 (lends_data1 T.row S.row T.K1.row T.K2.row S.Hasher.row
             T.BiHashItem T.K1.Hash T.K2.Hash S.BuildHasher S.Hasher.Hasher T.Data.row T.put self.entry result) }
     {
@@ -185,13 +186,13 @@ impl<'a, T: BiHashItemMut, S: BuildHasher> OccupiedEntry<'a, T, S> {
 
     /// The data of the item with the second key, for writing.
     pub fn data2_mut(&mut self) -> Option<&mut T::Data>
-        requires { HasFound T.BiHashItem T.K1.eq T.K2.eq self.old }
+        requires { HasFound ⟦<T as Ranked>⟧.key_tests self.old }
         ensures value { option_to_list (option_copied_mut result)
             ≡ map T.payload (filter (has2 T.BiHashItem T.K2.eq self.old.key2.now) (bag self.old.map.now)) }
         ensures swaps { (x : T) (d : T.Data)
             → IsOnly (has2 T.BiHashItem T.K2.eq self.old.key2.now) (bag self.old.map.now) (Some x)
             → IsPermutation (bag (entry_with2 self.old (λ y. T.put y d)).map.now)
-            (swap (ranks T.BiHashItem T.K1.eq T.K2.eq) (bag self.old.map.now) x (T.put x d)) }
+            (swap ⟦<T as Ranked>⟧.ranks (bag self.old.map.now) x (T.put x d)) }
         ensures* lends { sem 𝓛 (lends_data2 T.row S.row T.K1.row T.K2.row S.Hasher.row
             T.BiHashItem T.K1.Hash T.K2.Hash S.BuildHasher S.Hasher.Hasher T.Data.row T.put self.entry result) }
     {
@@ -203,16 +204,16 @@ impl<'a, T: BiHashItemMut, S: BuildHasher> OccupiedEntry<'a, T, S> {
     pub(crate) fn store<F: FnMut(&T) -> T::Data>(&mut self, f: F)
     where
         T::Data: Drop,
-        requires has_found { HasFound T.BiHashItem T.K1.eq T.K2.eq self.old }
+        requires has_found { HasFound ⟦<T as Ranked>⟧.key_tests self.old }
         requires callable { F.IsAlwaysCallable f }
         ensures same_map { self.new.map.ghost_name ≡ self.old.map.ghost_name }
-        ensures stores { Stores (CalledAt F.FnMut) T.put (ranks T.BiHashItem T.K1.eq T.K2.eq) f
-            (listing (sought T.BiHashItem T.K1.eq T.K2.eq self.old) (bag self.old.map.now))
+        ensures stores { Stores (CalledAt F.FnMut) T.put ⟦<T as Ranked>⟧.ranks f
+            (listing (sought ⟦<T as Ranked>⟧.key_tests self.old) (bag self.old.map.now))
             (bag self.old.map.now) (bag self.new.map.now) }
         ensures capacity { self.new.map.now.capacity ≡ self.old.map.now.capacity }
         ensures builder { self.new.map.now.builder ≡ self.old.map.now.builder }
         ensures places { FindsSame self.old self.new }
-        ensures has_found { HasFound T.BiHashItem T.K1.eq T.K2.eq self.new }
+        ensures has_found { HasFound ⟦<T as Ranked>⟧.key_tests self.new }
     {
         let slot1 = self.slot1;
         let slot2 = self.slot2;

@@ -3,11 +3,10 @@ ghost use Rattle.std.specs.Prelude.{◌≡◌};
 ghost use Rattle.iddqd_store.specs.Bag.{entry};
 ghost use Rattle.iddqd_store.specs.Map.{bag};
 ghost use Rattle.iddqd_bi.specs.Entries.{IsFound, entry_key1, entry_key2, entry_lender, entry_map, entry_value};
-ghost use Rattle.iddqd_bi.specs.Keys.{key_tests};
 
 use super::BiHashMap;
 use crate::entry::{Entry, KeyPair, OccupiedEntry, VacantEntry};
-use crate::item::BiHashItem;
+use crate::item::{BiHashItem, Ranked};
 use std::hash::{BuildHasher, Hash};
 
 impl<T: BiHashItem, S: BuildHasher> BiHashMap<T, S> {
@@ -23,7 +22,7 @@ impl<T: BiHashItem, S: BuildHasher> BiHashMap<T, S> {
         ensures key2 { entry_key2 result ≡ key2.now }
         // It tells which items have the keys.
         ensures value { entry_value result
-            ≡ entry (key_tests T.BiHashItem T.K1.eq T.K2.eq key1.now key2.now) (bag self.old) }
+            ≡ entry (⟦<T as Ranked>⟧.key_tests key1.now key2.now) (bag self.old) }
         ensures is_found { IsFound result }
     {
         let hash1 = self.hash_builder.hash_one(key1);

@@ -30,9 +30,7 @@ impl<T: Ranked, S: BuildHasher> BiHashMap<T, S> {
         ensures unchanged { OnErr result (self.new ≡ self.old) }
         ensures reason { OnErr result (IsFullFor T.ranks self.old item) }
     {
-        let hash1 = self.hash_builder.hash_one(item.key1());
-        let hash2 = self.hash_builder.hash_one(item.key2());
-        match self.places(&item, hash1, hash2) {
+        match self.places(&item) {
             Ok((at1, at2)) => {
                 if let Err(_) = self.make_room() {
                     return Err(MemoryRefused { value: item });

@@ -22,10 +22,9 @@ impl<T: BiHashItem, S: BuildHasher> BiHashMap<T, S> {
         ensures builder { self.new.builder ≡ self.old.builder }
     {
         let mut from = 0;
-        while let Some(found) = self.item_from(from) {
-            let (ix, item) = found;
+        while let Some(ix) = self.slot_from(from) {
             from = ix.number() + 1;
-            if !f(item) {
+            if !f(self.item_at(ix)) {
                 drop(self.take(ix, None, None));
             }
         }

@@ -5,14 +5,14 @@ ghost use Rattle.iddqd_store.specs.Runs.Reply.{found, present, duplicate, items,
 ghost use Rattle.iddqd_store.specs.Runs.Step.{Fits, state_of, Gets, InsertsUnique, InsertsOverwrite, Reserves, ShrinksTo, Extends, ExtendsUnique};
 ghost use Rattle.iddqd_store.specs.Runs.Run.{Applies, Run};
 ghost use Rattle.iddqd_store.specs.Slots.Found.{items_at};
-ghost use Rattle.iddqd_bi.specs.Keys.{ranks, has1, has2, has_both};
+ghost use Rattle.iddqd_bi.specs.Keys.{has1, has2, has_both};
 ghost use Rattle.iddqd_bi.specs.Step.{Step};
 ghost use Rattle.iddqd_store.specs.Runs.Values.{value_of};
 
 use super::BiHashMap;
 use super::slots::Refusal;
 use crate::command::{BiCommand, BiReply, BiSink};
-use crate::item::BiHashItemMut;
+use crate::item::{BiHashItemMut, Ranked};
 use iddqd_store::{DuplicateItem, ItemIndex, MemoryRefused, UpToTwo};
 use std::hash::{BuildHasher, Hash};
 
@@ -92,7 +92,7 @@ where
     }
 
     fn apply_insert_unique<K: BiSink<T>>(&mut self, item: T, sink: &mut K) -> Result<(), K::Fault>
-        ensures step { Applies (InsertsUnique (ranks T.BiHashItem T.K1.eq T.K2.eq)) K.took
+        ensures step { Applies (InsertsUnique ⟦<T as Ranked>⟧.ranks) K.took
             (state_of self.old) sink.old item result (state_of self.new) sink.new }
         ensures builder { self.new.builder ≡ self.old.builder }
     {
@@ -108,7 +108,7 @@ where
         item: T,
         sink: &mut K,
     ) -> Result<(), K::Fault>
-        ensures step { Applies (InsertsOverwrite (ranks T.BiHashItem T.K1.eq T.K2.eq)) K.took
+        ensures step { Applies (InsertsOverwrite ⟦<T as Ranked>⟧.ranks) K.took
             (state_of self.old) sink.old item result (state_of self.new) sink.new }
         ensures builder { self.new.builder ≡ self.old.builder }
     {
@@ -119,7 +119,7 @@ where
     }
 
     fn apply_extend<K: BiSink<T>>(&mut self, items: Vec<T>, sink: &mut K) -> Result<(), K::Fault>
-        ensures step { Applies (Extends (ranks T.BiHashItem T.K1.eq T.K2.eq)) K.took
+        ensures step { Applies (Extends ⟦<T as Ranked>⟧.ranks) K.took
             (state_of self.old) sink.old items.items result (state_of self.new) sink.new }
         ensures builder { self.new.builder ≡ self.old.builder }
     {
@@ -134,7 +134,7 @@ where
         items: Vec<T>,
         sink: &mut K,
     ) -> Result<(), K::Fault>
-        ensures step { Applies (ExtendsUnique (ranks T.BiHashItem T.K1.eq T.K2.eq)) K.took
+        ensures step { Applies (ExtendsUnique ⟦<T as Ranked>⟧.ranks) K.took
             (state_of self.old) sink.old items.items result (state_of self.new) sink.new }
         ensures builder { self.new.builder ≡ self.old.builder }
     {

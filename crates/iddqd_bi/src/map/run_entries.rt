@@ -3,7 +3,7 @@ ghost use Rattle.std.specs.Prelude.{◌≡◌, [], ◌∷◌};
 ghost use Rattle.iddqd_store.specs.Runs.Reply.{displaced, key};
 ghost use Rattle.iddqd_store.specs.Runs.Step.{state_of, EntryInserts, EntryRemoves, OrInserts, Replaces, Sets};
 ghost use Rattle.iddqd_store.specs.Runs.Values.{value_of};
-ghost use Rattle.iddqd_bi.specs.Keys.{ranks, has1, has2, key_tests};
+ghost use Rattle.iddqd_bi.specs.Keys.{has1, has2};
 ghost use Rattle.iddqd_bi.specs.Mismatch.{mismatch_item, mismatch_rank};
 ghost use Rattle.iddqd_bi.specs.Refusals.{refusal_value};
 
@@ -11,7 +11,7 @@ use super::BiHashMap;
 use crate::command::BiReply;
 use crate::entry::Entry;
 use crate::error::{EntryError, KeyMismatch};
-use crate::item::BiHashItemMut;
+use crate::item::{BiHashItemMut, Ranked};
 use iddqd_store::UpToTwo;
 use std::hash::{BuildHasher, Hash};
 
@@ -28,8 +28,7 @@ where
         key2: &'a T::K2,
         item: T,
     ) -> BiReply<'m, T>
-        ensures step { EntryInserts (ranks T.BiHashItem T.K1.eq T.K2.eq)
-            (key_tests T.BiHashItem T.K1.eq T.K2.eq key1.now key2.now)
+        ensures step { EntryInserts ⟦<T as Ranked>⟧.ranks (⟦<T as Ranked>⟧.key_tests key1.now key2.now)
             (state_of self.old) item (value_of result) (state_of self.new) }
         ensures builder { self.new.builder ≡ self.old.builder }
     {
@@ -51,7 +50,7 @@ where
         key1: &'a T::K1,
         key2: &'a T::K2,
     ) -> BiReply<'m, T>
-        ensures step { EntryRemoves (key_tests T.BiHashItem T.K1.eq T.K2.eq key1.now key2.now)
+        ensures step { EntryRemoves (⟦<T as Ranked>⟧.key_tests key1.now key2.now)
             (state_of self.old) (value_of result) (state_of self.new) }
         ensures builder { self.new.builder ≡ self.old.builder }
     {
@@ -68,8 +67,7 @@ where
         key2: &'a T::K2,
         item: T,
     ) -> BiReply<'m, T>
-        ensures step { OrInserts (ranks T.BiHashItem T.K1.eq T.K2.eq)
-            (key_tests T.BiHashItem T.K1.eq T.K2.eq key1.now key2.now)
+        ensures step { OrInserts ⟦<T as Ranked>⟧.ranks (⟦<T as Ranked>⟧.key_tests key1.now key2.now)
             (state_of self.old) item (value_of result) (state_of self.new) }
         ensures builder { self.new.builder ≡ self.old.builder }
     {
@@ -84,7 +82,7 @@ where
 
     /// Puts the item in the place of that with this first key.
     pub(super) fn replace1<'m>(&mut self, key: &T::K1, item: T) -> BiReply<'m, T>
-        ensures step { Replaces (ranks T.BiHashItem T.K1.eq T.K2.eq) (has1 T.BiHashItem T.K1.eq key.now)
+        ensures step { Replaces ⟦<T as Ranked>⟧.ranks (has1 T.BiHashItem T.K1.eq key.now)
             (state_of self.old) item (value_of result) (state_of self.new) }
         ensures builder { self.new.builder ≡ self.old.builder }
     {
@@ -99,7 +97,7 @@ where
 
     /// Puts the item in the place of that with this second key.
     pub(super) fn replace2<'m>(&mut self, key: &T::K2, item: T) -> BiReply<'m, T>
-        ensures step { Replaces (ranks T.BiHashItem T.K1.eq T.K2.eq) (has2 T.BiHashItem T.K2.eq key.now)
+        ensures step { Replaces ⟦<T as Ranked>⟧.ranks (has2 T.BiHashItem T.K2.eq key.now)
             (state_of self.old) item (value_of result) (state_of self.new) }
         ensures builder { self.new.builder ≡ self.old.builder }
     {
@@ -114,7 +112,7 @@ where
 
     /// Writes the data of the item with this first key.
     pub(super) fn set1<'m>(&mut self, key1: &T::K1, new_data: T::Data) -> BiReply<'m, T>
-        ensures step { Sets (ranks T.BiHashItem T.K1.eq T.K2.eq) T.put (has1 T.BiHashItem T.K1.eq key1.now)
+        ensures step { Sets ⟦<T as Ranked>⟧.ranks T.put (has1 T.BiHashItem T.K1.eq key1.now)
             (state_of self.old) new_data (value_of result) (state_of self.new) }
         ensures builder { self.new.builder ≡ self.old.builder }
     {
@@ -129,7 +127,7 @@ where
 
     /// Writes the data of the item with this second key.
     pub(super) fn set2<'m>(&mut self, key2: &T::K2, new_data: T::Data) -> BiReply<'m, T>
-        ensures step { Sets (ranks T.BiHashItem T.K1.eq T.K2.eq) T.put (has2 T.BiHashItem T.K2.eq key2.now)
+        ensures step { Sets ⟦<T as Ranked>⟧.ranks T.put (has2 T.BiHashItem T.K2.eq key2.now)
             (state_of self.old) new_data (value_of result) (state_of self.new) }
         ensures builder { self.new.builder ≡ self.old.builder }
     {

@@ -6,7 +6,7 @@ ghost use Rattle.std.specs.List.{IsDistinct};
 ghost use Rattle.iddqd_store.specs.Bag.{IsSound, clash};
 ghost use Rattle.iddqd_store.specs.Rank.Index.{HasHash};
 ghost use Rattle.iddqd_store.specs.Map.{bag, Gains, Loses, MakesRoom, IsFullFor, IsBlockedAt};
-ghost use Rattle.iddqd_store.specs.Rank.{agree, key_hash, IsPlaceOf, IsUnder};
+ghost use Rattle.iddqd_store.specs.Rank.{agree, IsPlaceOf, IsUnder};
 ghost use Rattle.iddqd_store.specs.Slots.Found.{each_once, items_at};
 ghost use Rattle.iddqd_store.specs.Slots.{get, IsLive, Updates};
 ghost use Rattle.iddqd_bi.specs.Keys.{ranks};
@@ -19,7 +19,7 @@ mod write;
 
 use self::found::each_once;
 use super::BiHashMap;
-use crate::item::BiHashItem;
+use crate::item::{BiHashItem, Hashed, Ranked};
 use crate::ranks::{First, Second};
 use iddqd_store::{ItemIndex, Lookup, Meter, Sought, TryReserveError, UpToTwo, Vacancy};
 use std::hash::{BuildHasher, Hash};
@@ -57,50 +57,41 @@ impl<T: BiHashItem, S: BuildHasher> BiHashMap<T, S> {
     }
 
     /// The hash of an item's first key.
+    #[inline(always)]
     pub(crate) fn hash_of1(&self, item: &T) -> u64
-        ensures { result ≡ key_hash T.key1 T.K1.hash_input S.BuildHasher S.Hasher.Hasher self.now.builder item.now }
+        ensures { result ≡ ⟦<T as Hashed<S>>⟧.hash1 self.now.builder item.now }
     {
         self.hash_builder.hash_one(item.key1())
     }
 
     /// The hash of an item's second key.
+    #[inline(always)]
     pub(crate) fn hash_of2(&self, item: &T) -> u64
-        ensures { result ≡ key_hash T.key2 T.K2.hash_input S.BuildHasher S.Hasher.Hasher self.now.builder item.now }
+        ensures { result ≡ ⟦<T as Hashed<S>>⟧.hash2 self.now.builder item.now }
     {
         self.hash_builder.hash_one(item.key2())
     }
 
-    /// Where an item goes in at each rank; or, where items conflict with it, what the search at each rank found.
+    /// Where an item goes in at each rank; or, where items conflict with it, what the search at each rank found. Each key
+    /// is hashed once and searched for once.
     #[inline(always)]
-    pub(crate) fn places(
-        &self,
-        item: &T,
-        hash1: u64,
-        hash2: u64,
-    ) -> Result<(Vacancy, Vacancy), (Sought, Sought)>
-        requires hash1 { hash1
-            ≡ key_hash T.key1 T.K1.hash_input S.BuildHasher S.Hasher.Hasher self.now.builder item.now }
-        requires hash2 { hash2
-            ≡ key_hash T.key2 T.K2.hash_input S.BuildHasher S.Hasher.Hasher self.now.builder item.now }
-        ensures free { OnOk result (clash (ranks T.BiHashItem T.K1.eq T.K2.eq) (bag self.now) item.now ≡ []) }
-        ensures first { IfOk result (λ at. IsPlaceOf
-            (key_hash T.key1 T.K1.hash_input S.BuildHasher S.Hasher.Hasher self.now.builder)
+    pub(crate) fn places(&self, item: &T) -> Result<(Vacancy, Vacancy), (Sought, Sought)>
+        ensures free { OnOk result (clash ⟦<T as Ranked>⟧.ranks (bag self.now) item.now ≡ []) }
+        ensures first { IfOk result (λ at. IsPlaceOf (⟦<T as Hashed<S>>⟧.hash1 self.now.builder)
             (bag self.now) item.now at.0) }
-        ensures second { IfOk result (λ at. IsPlaceOf
-            (key_hash T.key2 T.K2.hash_input S.BuildHasher S.Hasher.Hasher self.now.builder)
+        ensures second { IfOk result (λ at. IsPlaceOf (⟦<T as Hashed<S>>⟧.hash2 self.now.builder)
             (bag self.now) item.now at.1) }
-        ensures blocked { IfErr result (λ found.
-            IsBlockedAt (ranks T.BiHashItem T.K1.eq T.K2.eq) self.now item.now
+        ensures blocked { IfErr result (λ found. IsBlockedAt ⟦<T as Ranked>⟧.ranks self.now item.now
             (each_once (found.0.slot ∷ found.1.slot ∷ []))) }
-        ensures under1 { IfErr result (λ found. IsUnder
-            (key_hash T.key1 T.K1.hash_input S.BuildHasher S.Hasher.Hasher self.now.builder)
+        ensures under1 { IfErr result (λ found. IsUnder (⟦<T as Hashed<S>>⟧.hash1 self.now.builder)
             self.now.slots found.0) }
-        ensures hash1 { IfErr result (λ found. found.0.hash ≡ hash1) }
-        ensures under2 { IfErr result (λ found. IsUnder
-            (key_hash T.key2 T.K2.hash_input S.BuildHasher S.Hasher.Hasher self.now.builder)
+        ensures hash1 { IfErr result (λ found. found.0.hash ≡ ⟦<T as Hashed<S>>⟧.hash1 self.now.builder item.now) }
+        ensures under2 { IfErr result (λ found. IsUnder (⟦<T as Hashed<S>>⟧.hash2 self.now.builder)
             self.now.slots found.1) }
-        ensures hash2 { IfErr result (λ found. found.1.hash ≡ hash2) }
+        ensures hash2 { IfErr result (λ found. found.1.hash ≡ ⟦<T as Hashed<S>>⟧.hash2 self.now.builder item.now) }
     {
+        let hash1 = self.hash_of1(item);
+        let hash2 = self.hash_of2(item);
         let by1 = self.by_key1().search(hash1, item.key1());
         let by2 = self.by_key2().search(hash2, item.key2());
         match (by1, by2) {
@@ -114,16 +105,14 @@ impl<T: BiHashItem, S: BuildHasher> BiHashMap<T, S> {
     #[inline(always)]
     pub(crate) fn put(&mut self, item: T, at1: Vacancy, at2: Vacancy) -> ItemIndex
         requires room { length (bag self.old) < self.old.capacity }
-        requires free { clash (ranks T.BiHashItem T.K1.eq T.K2.eq) (bag self.old) item ≡ [] }
-        requires first { IsPlaceOf
-            (key_hash T.key1 T.K1.hash_input S.BuildHasher S.Hasher.Hasher self.old.builder) (bag self.old) item at1 }
-        requires second { IsPlaceOf
-            (key_hash T.key2 T.K2.hash_input S.BuildHasher S.Hasher.Hasher self.old.builder) (bag self.old) item at2 }
+        requires free { clash ⟦<T as Ranked>⟧.ranks (bag self.old) item ≡ [] }
+        requires first { IsPlaceOf (⟦<T as Hashed<S>>⟧.hash1 self.old.builder) (bag self.old) item at1 }
+        requires second { IsPlaceOf (⟦<T as Hashed<S>>⟧.hash2 self.old.builder) (bag self.old) item at2 }
         ensures at { get self.new.slots result ≡ Some item }
         ensures was_free { get self.old.slots result ≡ None }
         ensures updates { Updates self.old.slots self.new.slots result (Some item) }
         ensures items { IsPermutation (bag self.new) (item ∷ bag self.old) }
-        ensures sound { IsSound (ranks T.BiHashItem T.K1.eq T.K2.eq) (bag self.new) }
+        ensures sound { IsSound ⟦<T as Ranked>⟧.ranks (bag self.new) }
         ensures fits { length (bag self.new) ≤ self.new.capacity }
         ensures capacity { self.new.capacity ≡ self.old.capacity }
         ensures builder { self.new.builder ≡ self.old.builder }
@@ -137,17 +126,15 @@ impl<T: BiHashItem, S: BuildHasher> BiHashMap<T, S> {
     /// Puts an item in that nothing conflicts with, or hands it back where there is no memory for it. It searches
     /// and hashes nothing.
     pub(crate) fn put_free(&mut self, item: T, at1: Vacancy, at2: Vacancy) -> Result<ItemIndex, T>
-        requires free { clash (ranks T.BiHashItem T.K1.eq T.K2.eq) (bag self.old) item ≡ [] }
-        requires first { IsPlaceOf
-            (key_hash T.key1 T.K1.hash_input S.BuildHasher S.Hasher.Hasher self.old.builder) (bag self.old) item at1 }
-        requires second { IsPlaceOf
-            (key_hash T.key2 T.K2.hash_input S.BuildHasher S.Hasher.Hasher self.old.builder) (bag self.old) item at2 }
+        requires free { clash ⟦<T as Ranked>⟧.ranks (bag self.old) item ≡ [] }
+        requires first { IsPlaceOf (⟦<T as Hashed<S>>⟧.hash1 self.old.builder) (bag self.old) item at1 }
+        requires second { IsPlaceOf (⟦<T as Hashed<S>>⟧.hash2 self.old.builder) (bag self.old) item at2 }
         ensures gains { OnOk result (Gains self.old item self.new) }
         ensures at { IfOk result (λ ix. get self.new.slots ix ≡ Some item) }
-        ensures sound { OnOk result (IsSound (ranks T.BiHashItem T.K1.eq T.K2.eq) (bag self.new)) }
+        ensures sound { OnOk result (IsSound ⟦<T as Ranked>⟧.ranks (bag self.new)) }
         ensures handed_back { IfErr result (λ x. x ≡ item) }
         ensures unchanged { OnErr result (self.new ≡ self.old) }
-        ensures full { OnErr result (IsFullFor (ranks T.BiHashItem T.K1.eq T.K2.eq) self.old item) }
+        ensures full { OnErr result (IsFullFor ⟦<T as Ranked>⟧.ranks self.old item) }
     {
         if let Err(_) = self.make_room() {
             return Err(item);
@@ -158,10 +145,8 @@ impl<T: BiHashItem, S: BuildHasher> BiHashMap<T, S> {
     /// Takes out the item of a slot. A key of it is hashed only where its hash isn't given.
     pub(crate) fn take(&mut self, ix: ItemIndex, hash1: Option<u64>, hash2: Option<u64>) -> T
         requires live { IsLive self.old.slots ix }
-        requires hash1 { IfSome hash1 (HasHash
-            (key_hash T.key1 T.K1.hash_input S.BuildHasher S.Hasher.Hasher self.old.builder) self.old.slots ix) }
-        requires hash2 { IfSome hash2 (HasHash
-            (key_hash T.key2 T.K2.hash_input S.BuildHasher S.Hasher.Hasher self.old.builder) self.old.slots ix) }
+        requires hash1 { IfSome hash1 (HasHash (⟦<T as Hashed<S>>⟧.hash1 self.old.builder) self.old.slots ix) }
+        requires hash2 { IfSome hash2 (HasHash (⟦<T as Hashed<S>>⟧.hash2 self.old.builder) self.old.slots ix) }
         ensures value { get self.old.slots ix ≡ Some result }
         ensures slots { self.new.slots ≡ slice_set self.old.slots ix None }
         ensures loses { Loses self.old (result ∷ []) self.new }
@@ -190,10 +175,8 @@ impl<T: BiHashItem, S: BuildHasher> BiHashMap<T, S> {
     ) -> UpToTwo<T>
         requires live { All (IsLive self.old.slots) found.now }
         requires apart { IsDistinct nat_eq found.now }
-        requires by1 { IsUnder (key_hash T.key1 T.K1.hash_input S.BuildHasher S.Hasher.Hasher self.old.builder)
-            self.old.slots by1.now }
-        requires by2 { IsUnder (key_hash T.key2 T.K2.hash_input S.BuildHasher S.Hasher.Hasher self.old.builder)
-            self.old.slots by2.now }
+        requires by1 { IsUnder (⟦<T as Hashed<S>>⟧.hash1 self.old.builder) self.old.slots by1.now }
+        requires by2 { IsUnder (⟦<T as Hashed<S>>⟧.hash2 self.old.builder) self.old.slots by2.now }
         ensures values { result ≡ items_at self.old.slots found.now }
         ensures loses { Loses self.old result self.new }
         ensures room { length found.now ≢ 0 → length (bag self.new) < self.new.capacity }
@@ -249,16 +232,14 @@ impl<T: BiHashItem, S: BuildHasher> BiHashMap<T, S> {
     pub(crate) fn try_insert(&mut self, item: T) -> Result<ItemIndex, Refusal<T>>
         ensures gains { OnOk result (Gains self.old item self.new) }
         ensures at { IfOk result (λ ix. get self.new.slots ix ≡ Some item) }
-        ensures free { OnOk result (clash (ranks T.BiHashItem T.K1.eq T.K2.eq) (bag self.old) item ≡ []) }
+        ensures free { OnOk result (clash ⟦<T as Ranked>⟧.ranks (bag self.old) item ≡ []) }
         ensures handed_back { IfErr result (λ e. refusal_item e ≡ item) }
         ensures unchanged { OnErr result (self.new ≡ self.old) }
         ensures reason { IfErr result (λ e. MatchRefusal e
-            (λ found. IsBlockedAt (ranks T.BiHashItem T.K1.eq T.K2.eq) self.old item found)
-            (IsFullFor (ranks T.BiHashItem T.K1.eq T.K2.eq) self.old item)) }
+            (λ found. IsBlockedAt ⟦<T as Ranked>⟧.ranks self.old item found)
+            (IsFullFor ⟦<T as Ranked>⟧.ranks self.old item)) }
     {
-        let hash1 = self.hash_builder.hash_one(item.key1());
-        let hash2 = self.hash_builder.hash_one(item.key2());
-        let (at1, at2) = match self.places(&item, hash1, hash2) {
+        let (at1, at2) = match self.places(&item) {
             Ok(places) => places,
             Err((by1, by2)) => {
                 return Err(Refusal::Duplicate(item, each_once(by1.slot(), by2.slot())));

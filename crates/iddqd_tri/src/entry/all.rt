@@ -5,11 +5,10 @@ ghost use Rattle.iddqd_store.specs.Bag.{listing};
 ghost use Rattle.iddqd_store.specs.Bag.Storing.{Stores};
 ghost use Rattle.iddqd_store.specs.Map.{bag};
 ghost use Rattle.iddqd_tri.specs.Entries.{IsFound, IsSameEntry, KeepsFound, OnOccupied, OnVacant, PutsIn, entry_lender, entry_map, sought};
-ghost use Rattle.iddqd_tri.specs.Keys.{ranks};
 
 use super::{Entry, Keys, OccupiedEntryMut, VacantEntry};
 use crate::error::{EntryError, EntryRefusal, differ};
-use crate::item::{TriHashItem, TriHashItemMut};
+use crate::item::{Ranked, TriHashItem, TriHashItemMut};
 use std::hash::{BuildHasher, Hash};
 
 impl<'a, T: TriHashItem, S: BuildHasher, Q: Keys<T::K1, T::K2, T::K3>> Entry<'a, T, S, Q> {
@@ -64,9 +63,8 @@ impl<'a, T: TriHashItemMut, S: BuildHasher, Q: Keys<T::K1, T::K2, T::K3>> Entry<
         ensures same_map { entry_lender result ≡ entry_lender self.entry }
         ensures vacant { OnVacant self.entry (λ v. result ≡ self.entry) }
         // Each item that was found gets the data that the function makes of it.
-        ensures stores { OnOccupied self.entry (λ o.
-            Stores (CalledAt F.FnMut) T.put (ranks T.TriHashItem T.K1.eq T.K2.eq T.K3.eq) f
-            (listing (sought T.TriHashItem T.K1.eq T.K2.eq T.K3.eq o) (bag o.map.now)) (bag o.map.now)
+        ensures stores { OnOccupied self.entry (λ o. Stores (CalledAt F.FnMut) T.put ⟦<T as Ranked>⟧.ranks f
+            (listing (sought ⟦<T as Ranked>⟧.key_tests o) (bag o.map.now)) (bag o.map.now)
             (bag (entry_map result))) }
         // All else stays.
         ensures capacity { (entry_map result).capacity ≡ (entry_map self.entry).capacity }

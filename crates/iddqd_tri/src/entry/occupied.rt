@@ -7,42 +7,42 @@ ghost use Rattle.iddqd_store.specs.Bag.{IsOnly, differ, entry, is_unique, listin
 ghost use Rattle.iddqd_store.specs.Bag.Storing.{Stores};
 ghost use Rattle.iddqd_store.specs.Map.{bag, Loses};
 ghost use Rattle.iddqd_tri.specs.Entries.{FindsSame, HasFound, HoldsFound, entry_with1, entry_with2, entry_with3, sought, lends_data1, lends_data2, lends_data3, lends_held};
-ghost use Rattle.iddqd_tri.specs.Keys.{has1, has2, has3, ranks};
+ghost use Rattle.iddqd_tri.specs.Keys.{has1, has2, has3};
 ghost use Rattle.iddqd_tri.specs.Mismatch.{mismatch_item, mismatch_rank};
 ghost use Rattle.iddqd_tri.specs.OccupiedRefs.{is_one, seen1, seen2, seen3};
 
 use super::{OccupiedEntry, OccupiedEntryMut, OccupiedEntryRef};
 use crate::error::{KeyMismatch, differ};
-use crate::item::{Ranked, TriHashItemMut};
+use crate::item::{Ranked, TriHashItem, TriHashItemMut};
 use crate::map::TriHashMap;
 use crate::map::slots::found::{each_once, one_of};
 use iddqd_store::{Sought, UpToThree};
 use std::hash::{BuildHasher, Hash};
 
-impl<'a, T: Ranked, S: BuildHasher> OccupiedEntry<'a, T, S> {
+impl<'a, T: TriHashItem, S: BuildHasher> OccupiedEntry<'a, T, S> {
     /// Whether one item has all keys.
     pub fn is_unique(&self) -> bool
-        requires { HasFound T.TriHashItem T.K1.eq T.K2.eq T.K3.eq self.now }
+        requires { HasFound ⟦<T as Ranked>⟧.key_tests self.now }
         ensures { result ≡ is_unique
-            (entry (sought T.TriHashItem T.K1.eq T.K2.eq T.K3.eq self.now) (bag self.now.map.now)) }
+            (entry (sought ⟦<T as Ranked>⟧.key_tests self.now) (bag self.now.map.now)) }
     {
         one_of(self.slot1, self.slot2, self.slot3).is_some()
     }
 
     /// Whether no item has all keys. One of the keys may be absent.
     pub fn is_non_unique(&self) -> bool
-        requires { HasFound T.TriHashItem T.K1.eq T.K2.eq T.K3.eq self.now }
+        requires { HasFound ⟦<T as Ranked>⟧.key_tests self.now }
         ensures { result
-            ≡ not (is_unique (entry (sought T.TriHashItem T.K1.eq T.K2.eq T.K3.eq self.now) (bag self.now.map.now))) }
+            ≡ not (is_unique (entry (sought ⟦<T as Ranked>⟧.key_tests self.now) (bag self.now.map.now))) }
     {
         !self.is_unique()
     }
 
     /// The items, to be read.
     pub fn get(&self) -> OccupiedEntryRef<'_, T>
-        requires { HasFound T.TriHashItem T.K1.eq T.K2.eq T.K3.eq self.now }
+        requires { HasFound ⟦<T as Ranked>⟧.key_tests self.now }
         ensures is_one { is_one result
-            ≡ is_unique (entry (sought T.TriHashItem T.K1.eq T.K2.eq T.K3.eq self.now) (bag self.now.map.now)) }
+            ≡ is_unique (entry (sought ⟦<T as Ranked>⟧.key_tests self.now) (bag self.now.map.now)) }
         ensures by_key1 { IsOnly (has1 T.TriHashItem T.K1.eq self.now.key1.now) (bag self.now.map.now) (seen1 result) }
         ensures by_key2 { IsOnly (has2 T.TriHashItem T.K2.eq self.now.key2.now) (bag self.now.map.now) (seen2 result) }
         ensures by_key3 { IsOnly (has3 T.TriHashItem T.K3.eq self.now.key3.now) (bag self.now.map.now) (seen3 result) }
@@ -56,9 +56,9 @@ impl<'a, T: Ranked, S: BuildHasher> OccupiedEntry<'a, T, S> {
 
     /// The items, to be read for as long as the map is lent.
     pub fn into_ref(self) -> OccupiedEntryRef<'a, T>
-        requires { HasFound T.TriHashItem T.K1.eq T.K2.eq T.K3.eq self }
+        requires { HasFound ⟦<T as Ranked>⟧.key_tests self }
         ensures is_one { is_one result
-            ≡ is_unique (entry (sought T.TriHashItem T.K1.eq T.K2.eq T.K3.eq self.entry) (bag self.entry.map.now)) }
+            ≡ is_unique (entry (sought ⟦<T as Ranked>⟧.key_tests self.entry) (bag self.entry.map.now)) }
         ensures by_key1 { IsOnly (has1 T.TriHashItem T.K1.eq self.entry.key1.now) (bag self.entry.map.now)
             (seen1 result) }
         ensures by_key2 { IsOnly (has2 T.TriHashItem T.K2.eq self.entry.key2.now) (bag self.entry.map.now)
@@ -86,7 +86,7 @@ impl<'a, T: Ranked, S: BuildHasher> OccupiedEntry<'a, T, S> {
     /// The items, for writing, lent by the entry. A caller knows less of the map afterwards than after `into_mut`.
     pub fn get_mut(&mut self) -> OccupiedEntryMut<'_, T, S>
         ensures map { result.map.now ≡ self.old.map.now }
-        ensures holds { HasFound T.TriHashItem T.K1.eq T.K2.eq T.K3.eq self.old
+        ensures holds { HasFound ⟦<T as Ranked>⟧.key_tests self.old
             → HoldsFound T.TriHashItem T.K1.eq T.K2.eq T.K3.eq self.old result }
         ensures* lends { sem 𝓛 (lends_held T.row S.row T.K1.row T.K2.row T.K3.row S.Hasher.row
             T.TriHashItem T.K1.Hash T.K2.Hash T.K3.Hash S.BuildHasher S.Hasher.Hasher self.entry result) }
@@ -107,7 +107,7 @@ impl<'a, T: Ranked, S: BuildHasher> OccupiedEntry<'a, T, S> {
     pub fn into_mut(self) -> OccupiedEntryMut<'a, T, S>
         ensures same_map { result.map.ghost_name ≡ self.entry.map.ghost_name }
         ensures map { result.map.now ≡ self.entry.map.now }
-        ensures holds { HasFound T.TriHashItem T.K1.eq T.K2.eq T.K3.eq self.entry
+        ensures holds { HasFound ⟦<T as Ranked>⟧.key_tests self.entry
             → HoldsFound T.TriHashItem T.K1.eq T.K2.eq T.K3.eq self.entry result }
     {
         let OccupiedEntry {
@@ -136,17 +136,17 @@ impl<'a, T: Ranked, S: BuildHasher> OccupiedEntry<'a, T, S> {
     /// It compares the first keys, and those of the next rank where those are equal, and searches nothing. It takes no
     /// memory.
     pub fn insert(&mut self, item: T) -> Result<UpToThree<T>, KeyMismatch<T>>
-        requires { HasFound T.TriHashItem T.K1.eq T.K2.eq T.K3.eq self.old }
+        requires { HasFound ⟦<T as Ranked>⟧.key_tests self.old }
         // It goes in only with the keys that the entry has. What these found comes back, in their order.
         ensures same_map { self.new.map.ghost_name ≡ self.old.map.ghost_name }
-        ensures same_keys { OnOk result (differ (sought T.TriHashItem T.K1.eq T.K2.eq T.K3.eq self.old) item ≡ None) }
+        ensures same_keys { OnOk result (differ (sought ⟦<T as Ranked>⟧.key_tests self.old) item ≡ None) }
         ensures displaced { IfOk result (λ gone. gone
-            ≡ listing (sought T.TriHashItem T.K1.eq T.K2.eq T.K3.eq self.old) (bag self.old.map.now)) }
-        ensures items { OnOk result (IsPermutation (bag self.new.map.now) (over T.ranks (bag self.old.map.now) item)) }
+            ≡ listing (sought ⟦<T as Ranked>⟧.key_tests self.old) (bag self.old.map.now)) }
+        ensures items { OnOk result (IsPermutation (bag self.new.map.now)
+            (over ⟦<T as Ranked>⟧.ranks (bag self.old.map.now) item)) }
         // The entry has found the item now.
-        ensures has_found { OnOk result (HasFound T.TriHashItem T.K1.eq T.K2.eq T.K3.eq self.new) }
-        ensures unique { OnOk result
-            (entry (sought T.TriHashItem T.K1.eq T.K2.eq T.K3.eq self.new) (bag self.new.map.now)
+        ensures has_found { OnOk result (HasFound ⟦<T as Ranked>⟧.key_tests self.new) }
+        ensures unique { OnOk result (entry (sought ⟦<T as Ranked>⟧.key_tests self.new) (bag self.new.map.now)
             ≡ unique item) }
         ensures keys { OnOk result
             ((self.new.key1 ≡ self.old.key1) × (self.new.key2 ≡ self.old.key2) × (self.new.key3 ≡ self.old.key3)) }
@@ -156,7 +156,7 @@ impl<'a, T: Ranked, S: BuildHasher> OccupiedEntry<'a, T, S> {
         // With another key it comes back, and nothing changes.
         ensures handed_back { IfErr result (λ e. mismatch_item e ≡ item) }
         ensures rank { IfErr result (λ e.
-            differ (sought T.TriHashItem T.K1.eq T.K2.eq T.K3.eq self.old) item ≡ Some (mismatch_rank e)) }
+            differ (sought ⟦<T as Ranked>⟧.key_tests self.old) item ≡ Some (mismatch_rank e)) }
         ensures unchanged { OnErr result (self.new ≡ self.old) }
     {
         if let Some(rank) = differ(&item, self.key1, self.key2, self.key3) {
@@ -176,9 +176,9 @@ impl<'a, T: Ranked, S: BuildHasher> OccupiedEntry<'a, T, S> {
     ///
     /// It compares no key.
     pub fn remove(self) -> UpToThree<T>
-        requires { HasFound T.TriHashItem T.K1.eq T.K2.eq T.K3.eq self }
+        requires { HasFound ⟦<T as Ranked>⟧.key_tests self }
         ensures taken { result
-            ≡ listing (sought T.TriHashItem T.K1.eq T.K2.eq T.K3.eq self.entry) (bag self.entry.map.now) }
+            ≡ listing (sought ⟦<T as Ranked>⟧.key_tests self.entry) (bag self.entry.map.now) }
         ensures loses { Loses self.entry.map.now result self.exit.0.now }
     {
         let OccupiedEntry {
@@ -203,13 +203,13 @@ impl<'a, T: Ranked, S: BuildHasher> OccupiedEntry<'a, T, S> {
 impl<'a, T: TriHashItemMut, S: BuildHasher> OccupiedEntry<'a, T, S> {
     /// The data of the item with the first key, for writing.
     pub fn data1_mut(&mut self) -> Option<&mut T::Data>
-        requires { HasFound T.TriHashItem T.K1.eq T.K2.eq T.K3.eq self.old }
+        requires { HasFound ⟦<T as Ranked>⟧.key_tests self.old }
         ensures value { option_to_list (option_copied_mut result)
             ≡ map T.payload (filter (has1 T.TriHashItem T.K1.eq self.old.key1.now) (bag self.old.map.now)) }
         ensures swaps { (x : T) (d : T.Data)
             → IsOnly (has1 T.TriHashItem T.K1.eq self.old.key1.now) (bag self.old.map.now) (Some x)
             → IsPermutation (bag (entry_with1 self.old (λ y. T.put y d)).map.now)
-            (swap (ranks T.TriHashItem T.K1.eq T.K2.eq T.K3.eq) (bag self.old.map.now) x (T.put x d)) }
+            (swap ⟦<T as Ranked>⟧.ranks (bag self.old.map.now) x (T.put x d)) }
         ensures* lends { sem 𝓛 (lends_data1 T.row S.row T.K1.row T.K2.row T.K3.row S.Hasher.row
             T.TriHashItem T.K1.Hash T.K2.Hash T.K3.Hash S.BuildHasher S.Hasher.Hasher
             T.Data.row T.put self.entry result) }
@@ -220,13 +220,13 @@ impl<'a, T: TriHashItemMut, S: BuildHasher> OccupiedEntry<'a, T, S> {
 
     /// The data of the item with the second key, for writing.
     pub fn data2_mut(&mut self) -> Option<&mut T::Data>
-        requires { HasFound T.TriHashItem T.K1.eq T.K2.eq T.K3.eq self.old }
+        requires { HasFound ⟦<T as Ranked>⟧.key_tests self.old }
         ensures value { option_to_list (option_copied_mut result)
             ≡ map T.payload (filter (has2 T.TriHashItem T.K2.eq self.old.key2.now) (bag self.old.map.now)) }
         ensures swaps { (x : T) (d : T.Data)
             → IsOnly (has2 T.TriHashItem T.K2.eq self.old.key2.now) (bag self.old.map.now) (Some x)
             → IsPermutation (bag (entry_with2 self.old (λ y. T.put y d)).map.now)
-            (swap (ranks T.TriHashItem T.K1.eq T.K2.eq T.K3.eq) (bag self.old.map.now) x (T.put x d)) }
+            (swap ⟦<T as Ranked>⟧.ranks (bag self.old.map.now) x (T.put x d)) }
         ensures* lends { sem 𝓛 (lends_data2 T.row S.row T.K1.row T.K2.row T.K3.row S.Hasher.row
             T.TriHashItem T.K1.Hash T.K2.Hash T.K3.Hash S.BuildHasher S.Hasher.Hasher
             T.Data.row T.put self.entry result) }
@@ -237,13 +237,13 @@ impl<'a, T: TriHashItemMut, S: BuildHasher> OccupiedEntry<'a, T, S> {
 
     /// The data of the item with the third key, for writing.
     pub fn data3_mut(&mut self) -> Option<&mut T::Data>
-        requires { HasFound T.TriHashItem T.K1.eq T.K2.eq T.K3.eq self.old }
+        requires { HasFound ⟦<T as Ranked>⟧.key_tests self.old }
         ensures value { option_to_list (option_copied_mut result)
             ≡ map T.payload (filter (has3 T.TriHashItem T.K3.eq self.old.key3.now) (bag self.old.map.now)) }
         ensures swaps { (x : T) (d : T.Data)
             → IsOnly (has3 T.TriHashItem T.K3.eq self.old.key3.now) (bag self.old.map.now) (Some x)
             → IsPermutation (bag (entry_with3 self.old (λ y. T.put y d)).map.now)
-            (swap (ranks T.TriHashItem T.K1.eq T.K2.eq T.K3.eq) (bag self.old.map.now) x (T.put x d)) }
+            (swap ⟦<T as Ranked>⟧.ranks (bag self.old.map.now) x (T.put x d)) }
         ensures* lends { sem 𝓛 (lends_data3 T.row S.row T.K1.row T.K2.row T.K3.row S.Hasher.row
             T.TriHashItem T.K1.Hash T.K2.Hash T.K3.Hash S.BuildHasher S.Hasher.Hasher
             T.Data.row T.put self.entry result) }
@@ -256,16 +256,16 @@ impl<'a, T: TriHashItemMut, S: BuildHasher> OccupiedEntry<'a, T, S> {
     pub(crate) fn store<F: FnMut(&T) -> T::Data>(&mut self, f: F)
     where
         T::Data: Drop,
-        requires has_found { HasFound T.TriHashItem T.K1.eq T.K2.eq T.K3.eq self.old }
+        requires has_found { HasFound ⟦<T as Ranked>⟧.key_tests self.old }
         requires callable { F.IsAlwaysCallable f }
         ensures same_map { self.new.map.ghost_name ≡ self.old.map.ghost_name }
-        ensures stores { Stores (CalledAt F.FnMut) T.put (ranks T.TriHashItem T.K1.eq T.K2.eq T.K3.eq) f
-            (listing (sought T.TriHashItem T.K1.eq T.K2.eq T.K3.eq self.old) (bag self.old.map.now))
+        ensures stores { Stores (CalledAt F.FnMut) T.put ⟦<T as Ranked>⟧.ranks f
+            (listing (sought ⟦<T as Ranked>⟧.key_tests self.old) (bag self.old.map.now))
             (bag self.old.map.now) (bag self.new.map.now) }
         ensures capacity { self.new.map.now.capacity ≡ self.old.map.now.capacity }
         ensures builder { self.new.map.now.builder ≡ self.old.map.now.builder }
         ensures places { FindsSame self.old self.new }
-        ensures has_found { HasFound T.TriHashItem T.K1.eq T.K2.eq T.K3.eq self.new }
+        ensures has_found { HasFound ⟦<T as Ranked>⟧.key_tests self.new }
     {
         let slot1 = self.slot1;
         let slot2 = self.slot2;

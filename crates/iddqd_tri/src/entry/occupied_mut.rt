@@ -7,11 +7,10 @@ ghost use Rattle.iddqd_store.specs.Bag.{is_unique};
 ghost use Rattle.iddqd_store.specs.Bag.Storing.{Stores};
 ghost use Rattle.iddqd_store.specs.Map.{bag};
 ghost use Rattle.iddqd_tri.specs.Entries.{Holds, HoldsSame, held, held1, held2, held3, held_entry, held_unique, held_rests_if_none};
-ghost use Rattle.iddqd_tri.specs.Keys.{ranks};
 ghost use Rattle.iddqd_tri.specs.RefMuts.{ref_lender, ref_map, ref_item};
 
 use super::OccupiedEntryMut;
-use crate::item::{TriHashItem, TriHashItemMut};
+use crate::item::{Ranked, TriHashItem, TriHashItemMut};
 use crate::map::slots::found::one_of;
 use crate::ref_mut::RefMut;
 use std::hash::{BuildHasher, Hash};
@@ -148,7 +147,7 @@ impl<'a, T: TriHashItemMut, S: BuildHasher> OccupiedEntryMut<'a, T, S> {
         requires callable { F.IsAlwaysCallable f }
         // Each item that is held gets the data that the function makes of it.
         ensures same_map { self.new.map.ghost_name ≡ self.old.map.ghost_name }
-        ensures stores { Stores (CalledAt F.FnMut) T.put (ranks T.TriHashItem T.K1.eq T.K2.eq T.K3.eq) f
+        ensures stores { Stores (CalledAt F.FnMut) T.put ⟦<T as Ranked>⟧.ranks f
             (held self.old) (bag self.old.map.now) (bag self.new.map.now) }
         // All else stays.
         ensures places { HoldsSame self.old self.new }

@@ -3,14 +3,13 @@ ghost use Rattle.std.specs.Prelude.{◌≡◌, ◌<◌, [], ◌∷◌, length, N
 ghost use Rattle.std.specs.Borrow.{sem};
 ghost use Rattle.iddqd_store.specs.Bag.{differ, entry, unique};
 ghost use Rattle.iddqd_store.specs.Map.{bag, Gains, IsFullFor};
-ghost use Rattle.iddqd_tri.specs.Entries.{HasFound, Holds, held, held1, held2, held3, held_entry, held_unique, sought, rests_if_err, held_rests_if_err};
-ghost use Rattle.iddqd_tri.specs.Keys.{key_tests};
+ghost use Rattle.iddqd_tri.specs.Entries.{HasFound, Holds, held, held1, held2, held3, held_entry, held_unique, sought, wanted, rests_if_err, held_rests_if_err};
 ghost use Rattle.iddqd_tri.specs.Mismatch.{error_item, error_rank, OnNoMemory};
 ghost use Rattle.iddqd_tri.specs.RefMuts.{ref_lender, ref_map, ref_item};
 
 use super::{KeyTriple, Keys, OccupiedEntry, OccupiedEntryMut, VacantEntry};
 use crate::error::{EntryError, EntryRefusal, differ};
-use crate::item::Ranked;
+use crate::item::{Ranked, TriHashItem};
 use crate::ref_mut::RefMut;
 use std::hash::{BuildHasher, Hash};
 
@@ -28,15 +27,12 @@ impl<'a, T: Ranked, S: BuildHasher, Q: Keys<T::K1, T::K2, T::K3>> VacantEntry<'a
         ensures item { IfOk result (λ r. ref_item r ≡ Some item) }
         ensures gains { IfOk result (λ r. Gains self.entry.map.now item (ref_map r)) }
         // It goes in only with the keys that the entry has, and then always where there is room.
-        ensures same_keys { OnOk result (differ (key_tests T.TriHashItem T.K1.eq T.K2.eq T.K3.eq
-            (Q.first self.entry.keys) (Q.second self.entry.keys) (Q.third self.entry.keys)) item ≡ None) }
-        ensures granted { differ (key_tests T.TriHashItem T.K1.eq T.K2.eq T.K3.eq
-            (Q.first self.entry.keys) (Q.second self.entry.keys) (Q.third self.entry.keys)) item ≡ None
+        ensures same_keys { OnOk result (differ (wanted self.entry) item ≡ None) }
+        ensures granted { differ (wanted self.entry) item ≡ None
             → length (bag self.entry.map.now) < self.entry.map.now.capacity → IsOk result }
         // Refused, the item comes back, with the reason.
         ensures handed_back { IfErr result (λ e. error_item e ≡ item) }
-        ensures rank { IfErr result (λ e. differ (key_tests T.TriHashItem T.K1.eq T.K2.eq T.K3.eq
-            (Q.first self.entry.keys) (Q.second self.entry.keys) (Q.third self.entry.keys)) item ≡ error_rank e) }
+        ensures rank { IfErr result (λ e. differ (wanted self.entry) item ≡ error_rank e) }
         ensures memory { IfErr result (λ e. OnNoMemory e (IsFullFor T.ranks self.entry.map.now item)) }
         // Refused, the map ends as it was.
         ensures* unchanged_at_err { sem 𝓛 (rests_if_err T.row S.row T.K1.row T.K2.row T.K3.row S.Hasher.row
@@ -71,15 +67,12 @@ impl<'a, T: Ranked, S: BuildHasher, Q: Keys<T::K1, T::K2, T::K3>> VacantEntry<'a
         ensures by_key2 { IfOk result (λ m. held2 m ≡ Some item) }
         ensures by_key3 { IfOk result (λ m. held3 m ≡ Some item) }
         // It goes in only with the keys that the entry has, and then always where there is room.
-        ensures same_keys { OnOk result (differ (key_tests T.TriHashItem T.K1.eq T.K2.eq T.K3.eq
-            (Q.first self.entry.keys) (Q.second self.entry.keys) (Q.third self.entry.keys)) item ≡ None) }
-        ensures granted { differ (key_tests T.TriHashItem T.K1.eq T.K2.eq T.K3.eq
-            (Q.first self.entry.keys) (Q.second self.entry.keys) (Q.third self.entry.keys)) item ≡ None
+        ensures same_keys { OnOk result (differ (wanted self.entry) item ≡ None) }
+        ensures granted { differ (wanted self.entry) item ≡ None
             → length (bag self.entry.map.now) < self.entry.map.now.capacity → IsOk result }
         // Refused, the item comes back, with the reason.
         ensures handed_back { IfErr result (λ e. error_item e ≡ item) }
-        ensures rank { IfErr result (λ e. differ (key_tests T.TriHashItem T.K1.eq T.K2.eq T.K3.eq
-            (Q.first self.entry.keys) (Q.second self.entry.keys) (Q.third self.entry.keys)) item ≡ error_rank e) }
+        ensures rank { IfErr result (λ e. differ (wanted self.entry) item ≡ error_rank e) }
         ensures memory { IfErr result (λ e. OnNoMemory e (IsFullFor T.ranks self.entry.map.now item)) }
         // Refused, the map ends as it was.
         ensures* unchanged_at_err { sem 𝓛 (held_rests_if_err T.row S.row T.K1.row T.K2.row T.K3.row S.Hasher.row
@@ -107,7 +100,7 @@ impl<'a, T: Ranked, S: BuildHasher, Q: Keys<T::K1, T::K2, T::K3>> VacantEntry<'a
     }
 }
 
-impl<'a, T: Ranked, S: BuildHasher> VacantEntry<'a, T, S> {
+impl<'a, T: TriHashItem, S: BuildHasher> VacantEntry<'a, T, S> {
     /// The same as `insert`, and answers an entry, which is unique. Its refusal holds the map.
     pub fn insert_entry(self, item: T) -> Result<OccupiedEntry<'a, T, S>, EntryRefusal<'a, T, S>>
         // The entry holds this very map, with the item in it, which all its keys find.
@@ -115,22 +108,20 @@ impl<'a, T: Ranked, S: BuildHasher> VacantEntry<'a, T, S> {
         ensures gains { IfOk result (λ e. Gains self.entry.map.now item e.map.now) }
         ensures keys { IfOk result (λ e. (e.key1 ≡ self.entry.keys.key1) × (e.key2 ≡ self.entry.keys.key2)
             × (e.key3 ≡ self.entry.keys.key3)) }
-        ensures has_found { IfOk result (HasFound T.TriHashItem T.K1.eq T.K2.eq T.K3.eq) }
+        ensures has_found { IfOk result (HasFound ⟦<T as Ranked>⟧.key_tests) }
         ensures unique { IfOk result (λ e.
-            entry (sought T.TriHashItem T.K1.eq T.K2.eq T.K3.eq e) (bag e.map.now) ≡ unique item) }
+            entry (sought ⟦<T as Ranked>⟧.key_tests e) (bag e.map.now) ≡ unique item) }
         // It goes in only with the keys that the entry has, and then always where there is room.
-        ensures same_keys { OnOk result (differ (key_tests T.TriHashItem T.K1.eq T.K2.eq T.K3.eq
-            self.entry.keys.key1.now self.entry.keys.key2.now self.entry.keys.key3.now) item ≡ None) }
-        ensures granted { differ (key_tests T.TriHashItem T.K1.eq T.K2.eq T.K3.eq
-            self.entry.keys.key1.now self.entry.keys.key2.now self.entry.keys.key3.now) item ≡ None
+        ensures same_keys { OnOk result (differ (wanted self.entry) item ≡ None) }
+        ensures granted { differ (wanted self.entry) item ≡ None
             → length (bag self.entry.map.now) < self.entry.map.now.capacity → IsOk result }
         // Refused, the map is held as it was, and the item comes back, with the reason.
         ensures same_map_at_err { IfErr result (λ e. e.map.ghost_name ≡ self.entry.map.ghost_name) }
         ensures unchanged { IfErr result (λ e. e.map.now ≡ self.entry.map.now) }
         ensures handed_back { IfErr result (λ e. error_item e.error ≡ item) }
-        ensures rank { IfErr result (λ e. differ (key_tests T.TriHashItem T.K1.eq T.K2.eq T.K3.eq
-            self.entry.keys.key1.now self.entry.keys.key2.now self.entry.keys.key3.now) item ≡ error_rank e.error) }
-        ensures memory { IfErr result (λ e. OnNoMemory e.error (IsFullFor T.ranks self.entry.map.now item)) }
+        ensures rank { IfErr result (λ e. differ (wanted self.entry) item ≡ error_rank e.error) }
+        ensures memory { IfErr result (λ e.
+            OnNoMemory e.error (IsFullFor ⟦<T as Ranked>⟧.ranks self.entry.map.now item)) }
     {
         let VacantEntry {
             map,

@@ -3,11 +3,10 @@ ghost use Rattle.std.specs.Prelude.{◌≡◌};
 ghost use Rattle.iddqd_store.specs.Bag.{entry};
 ghost use Rattle.iddqd_store.specs.Map.{bag};
 ghost use Rattle.iddqd_tri.specs.Entries.{IsFound, entry_key1, entry_key2, entry_key3, entry_lender, entry_map, entry_value};
-ghost use Rattle.iddqd_tri.specs.Keys.{key_tests};
 
 use super::TriHashMap;
 use crate::entry::{Entry, KeyTriple, OccupiedEntry, VacantEntry};
-use crate::item::TriHashItem;
+use crate::item::{Ranked, TriHashItem};
 use std::hash::{BuildHasher, Hash};
 
 impl<T: TriHashItem, S: BuildHasher> TriHashMap<T, S> {
@@ -29,7 +28,7 @@ impl<T: TriHashItem, S: BuildHasher> TriHashMap<T, S> {
         ensures key3 { entry_key3 result ≡ key3.now }
         // It tells which items have the keys.
         ensures value { entry_value result
-            ≡ entry (key_tests T.TriHashItem T.K1.eq T.K2.eq T.K3.eq key1.now key2.now key3.now) (bag self.old) }
+            ≡ entry (⟦<T as Ranked>⟧.key_tests key1.now key2.now key3.now) (bag self.old) }
         ensures is_found { IsFound result }
     {
         let hash1 = self.hash_builder.hash_one(key1);

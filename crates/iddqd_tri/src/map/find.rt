@@ -3,11 +3,11 @@ ghost use Rattle.std.specs.Prelude.{◌≡◌, option_copied};
 ghost use Rattle.std.specs.List.{list_any};
 ghost use Rattle.iddqd_store.specs.Bag.{IsOnly};
 ghost use Rattle.iddqd_store.specs.Map.{bag};
-ghost use Rattle.iddqd_store.specs.Rank.{agree, key_hash, NamesOneUnder, SearchCosts};
+ghost use Rattle.iddqd_store.specs.Rank.{agree, NamesOneUnder, SearchCosts};
 ghost use Rattle.iddqd_tri.specs.Keys.{has1, has2, has3, has_all};
 
 use super::TriHashMap;
-use crate::item::TriHashItem;
+use crate::item::{Hashed, TriHashItem};
 use iddqd_store::{Equivalent, KeyMatcher, Meter};
 use std::hash::{BuildHasher, Hash};
 
@@ -104,13 +104,11 @@ impl<T: TriHashItem, S: BuildHasher> TriHashMap<T, S> {
         matcher: &mut M,
         meter: &mut Meter,
     ) -> Option<&T>
-        requires { NamesOneUnder (agree T.key1 T.K1.eq)
-            (key_hash T.key1 T.K1.hash_input S.BuildHasher S.Hasher.Hasher self.now.builder) hash
+        requires { NamesOneUnder (agree T.key1 T.K1.eq) (⟦<T as Hashed<S>>⟧.hash1 self.now.builder) hash
             (λ x. M.accepts matcher.old (T.key1 x)) (bag self.now) }
         ensures found { IsOnly (λ x. M.accepts matcher.old (T.key1 x)) (bag self.now) (option_copied result) }
         ensures is_kept { M.IsKept matcher.old matcher.new }
-        ensures costs { SearchCosts
-            (key_hash T.key1 T.K1.hash_input S.BuildHasher S.Hasher.Hasher self.now.builder) (bag self.now)
+        ensures costs { SearchCosts (⟦<T as Hashed<S>>⟧.hash1 self.now.builder) (bag self.now)
             self.now.capacity hash result (M.asked matcher.old) (M.asked matcher.new) meter.old meter.new }
     {
         self.by_key1().find_with(hash, matcher, meter)
@@ -127,13 +125,11 @@ impl<T: TriHashItem, S: BuildHasher> TriHashMap<T, S> {
         matcher: &mut M,
         meter: &mut Meter,
     ) -> Option<&T>
-        requires { NamesOneUnder (agree T.key2 T.K2.eq)
-            (key_hash T.key2 T.K2.hash_input S.BuildHasher S.Hasher.Hasher self.now.builder) hash
+        requires { NamesOneUnder (agree T.key2 T.K2.eq) (⟦<T as Hashed<S>>⟧.hash2 self.now.builder) hash
             (λ x. M.accepts matcher.old (T.key2 x)) (bag self.now) }
         ensures found { IsOnly (λ x. M.accepts matcher.old (T.key2 x)) (bag self.now) (option_copied result) }
         ensures is_kept { M.IsKept matcher.old matcher.new }
-        ensures costs { SearchCosts
-            (key_hash T.key2 T.K2.hash_input S.BuildHasher S.Hasher.Hasher self.now.builder) (bag self.now)
+        ensures costs { SearchCosts (⟦<T as Hashed<S>>⟧.hash2 self.now.builder) (bag self.now)
             self.now.capacity hash result (M.asked matcher.old) (M.asked matcher.new) meter.old meter.new }
     {
         self.by_key2().find_with(hash, matcher, meter)
@@ -150,13 +146,11 @@ impl<T: TriHashItem, S: BuildHasher> TriHashMap<T, S> {
         matcher: &mut M,
         meter: &mut Meter,
     ) -> Option<&T>
-        requires { NamesOneUnder (agree T.key3 T.K3.eq)
-            (key_hash T.key3 T.K3.hash_input S.BuildHasher S.Hasher.Hasher self.now.builder) hash
+        requires { NamesOneUnder (agree T.key3 T.K3.eq) (⟦<T as Hashed<S>>⟧.hash3 self.now.builder) hash
             (λ x. M.accepts matcher.old (T.key3 x)) (bag self.now) }
         ensures found { IsOnly (λ x. M.accepts matcher.old (T.key3 x)) (bag self.now) (option_copied result) }
         ensures is_kept { M.IsKept matcher.old matcher.new }
-        ensures costs { SearchCosts
-            (key_hash T.key3 T.K3.hash_input S.BuildHasher S.Hasher.Hasher self.now.builder) (bag self.now)
+        ensures costs { SearchCosts (⟦<T as Hashed<S>>⟧.hash3 self.now.builder) (bag self.now)
             self.now.capacity hash result (M.asked matcher.old) (M.asked matcher.new) meter.old meter.new }
     {
         self.by_key3().find_with(hash, matcher, meter)

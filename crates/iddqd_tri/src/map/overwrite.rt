@@ -30,10 +30,7 @@ impl<T: Ranked, S: BuildHasher> TriHashMap<T, S> {
         ensures unchanged { OnErr result (self.new ≡ self.old) }
         ensures reason { OnErr result (IsFullFor T.ranks self.old item) }
     {
-        let hash1 = self.hash_builder.hash_one(item.key1());
-        let hash2 = self.hash_builder.hash_one(item.key2());
-        let hash3 = self.hash_builder.hash_one(item.key3());
-        match self.places(&item, hash1, hash2, hash3) {
+        match self.places(&item) {
             Ok((at1, at2, at3)) => {
                 if let Err(_) = self.make_room() {
                     return Err(MemoryRefused { value: item });

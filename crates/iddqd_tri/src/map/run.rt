@@ -5,14 +5,14 @@ ghost use Rattle.iddqd_store.specs.Runs.Reply.{found, present, duplicate, items,
 ghost use Rattle.iddqd_store.specs.Runs.Step.{Fits, state_of, Gets, InsertsUnique, InsertsOverwrite, Reserves, ShrinksTo, Extends, ExtendsUnique};
 ghost use Rattle.iddqd_store.specs.Runs.Run.{Applies, Run};
 ghost use Rattle.iddqd_store.specs.Slots.Found.{items_at};
-ghost use Rattle.iddqd_tri.specs.Keys.{ranks, has1, has2, has3, has_all};
+ghost use Rattle.iddqd_tri.specs.Keys.{has1, has2, has3, has_all};
 ghost use Rattle.iddqd_tri.specs.Step.{Step};
 ghost use Rattle.iddqd_store.specs.Runs.Values.{value_of};
 
 use super::TriHashMap;
 use super::slots::Refusal;
 use crate::command::{TriCommand, TriReply, TriSink};
-use crate::item::TriHashItemMut;
+use crate::item::{Ranked, TriHashItemMut};
 use iddqd_store::{DuplicateItem, ItemIndex, MemoryRefused, UpToThree};
 use std::hash::{BuildHasher, Hash};
 
@@ -106,7 +106,7 @@ where
     }
 
     fn apply_insert_unique<K: TriSink<T>>(&mut self, item: T, sink: &mut K) -> Result<(), K::Fault>
-        ensures step { Applies (InsertsUnique (ranks T.TriHashItem T.K1.eq T.K2.eq T.K3.eq)) K.took
+        ensures step { Applies (InsertsUnique ⟦<T as Ranked>⟧.ranks) K.took
             (state_of self.old) sink.old item result (state_of self.new) sink.new }
         ensures builder { self.new.builder ≡ self.old.builder }
     {
@@ -122,7 +122,7 @@ where
         item: T,
         sink: &mut K,
     ) -> Result<(), K::Fault>
-        ensures step { Applies (InsertsOverwrite (ranks T.TriHashItem T.K1.eq T.K2.eq T.K3.eq)) K.took
+        ensures step { Applies (InsertsOverwrite ⟦<T as Ranked>⟧.ranks) K.took
             (state_of self.old) sink.old item result (state_of self.new) sink.new }
         ensures builder { self.new.builder ≡ self.old.builder }
     {
@@ -133,7 +133,7 @@ where
     }
 
     fn apply_extend<K: TriSink<T>>(&mut self, items: Vec<T>, sink: &mut K) -> Result<(), K::Fault>
-        ensures step { Applies (Extends (ranks T.TriHashItem T.K1.eq T.K2.eq T.K3.eq)) K.took
+        ensures step { Applies (Extends ⟦<T as Ranked>⟧.ranks) K.took
             (state_of self.old) sink.old items.items result (state_of self.new) sink.new }
         ensures builder { self.new.builder ≡ self.old.builder }
     {
@@ -148,7 +148,7 @@ where
         items: Vec<T>,
         sink: &mut K,
     ) -> Result<(), K::Fault>
-        ensures step { Applies (ExtendsUnique (ranks T.TriHashItem T.K1.eq T.K2.eq T.K3.eq)) K.took
+        ensures step { Applies (ExtendsUnique ⟦<T as Ranked>⟧.ranks) K.took
             (state_of self.old) sink.old items.items result (state_of self.new) sink.new }
         ensures builder { self.new.builder ≡ self.old.builder }
     {

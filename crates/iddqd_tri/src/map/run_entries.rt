@@ -3,7 +3,7 @@ ghost use Rattle.std.specs.Prelude.{◌≡◌, [], ◌∷◌};
 ghost use Rattle.iddqd_store.specs.Runs.Reply.{displaced, key};
 ghost use Rattle.iddqd_store.specs.Runs.Step.{state_of, EntryInserts, EntryRemoves, OrInserts, Replaces, Sets};
 ghost use Rattle.iddqd_store.specs.Runs.Values.{value_of};
-ghost use Rattle.iddqd_tri.specs.Keys.{ranks, has1, has2, has3, key_tests};
+ghost use Rattle.iddqd_tri.specs.Keys.{has1, has2, has3};
 ghost use Rattle.iddqd_tri.specs.Mismatch.{mismatch_item, mismatch_rank};
 ghost use Rattle.iddqd_tri.specs.Refusals.{refusal_value};
 
@@ -11,7 +11,7 @@ use super::TriHashMap;
 use crate::command::TriReply;
 use crate::entry::Entry;
 use crate::error::{EntryError, KeyMismatch};
-use crate::item::TriHashItemMut;
+use crate::item::{Ranked, TriHashItemMut};
 use iddqd_store::UpToThree;
 use std::hash::{BuildHasher, Hash};
 
@@ -30,8 +30,7 @@ where
         key3: &'a T::K3,
         item: T,
     ) -> TriReply<'m, T>
-        ensures step { EntryInserts (ranks T.TriHashItem T.K1.eq T.K2.eq T.K3.eq)
-            (key_tests T.TriHashItem T.K1.eq T.K2.eq T.K3.eq key1.now key2.now key3.now)
+        ensures step { EntryInserts ⟦<T as Ranked>⟧.ranks (⟦<T as Ranked>⟧.key_tests key1.now key2.now key3.now)
             (state_of self.old) item (value_of result) (state_of self.new) }
         ensures builder { self.new.builder ≡ self.old.builder }
     {
@@ -54,7 +53,7 @@ where
         key2: &'a T::K2,
         key3: &'a T::K3,
     ) -> TriReply<'m, T>
-        ensures step { EntryRemoves (key_tests T.TriHashItem T.K1.eq T.K2.eq T.K3.eq key1.now key2.now key3.now)
+        ensures step { EntryRemoves (⟦<T as Ranked>⟧.key_tests key1.now key2.now key3.now)
             (state_of self.old) (value_of result) (state_of self.new) }
         ensures builder { self.new.builder ≡ self.old.builder }
     {
@@ -72,8 +71,7 @@ where
         key3: &'a T::K3,
         item: T,
     ) -> TriReply<'m, T>
-        ensures step { OrInserts (ranks T.TriHashItem T.K1.eq T.K2.eq T.K3.eq)
-            (key_tests T.TriHashItem T.K1.eq T.K2.eq T.K3.eq key1.now key2.now key3.now)
+        ensures step { OrInserts ⟦<T as Ranked>⟧.ranks (⟦<T as Ranked>⟧.key_tests key1.now key2.now key3.now)
             (state_of self.old) item (value_of result) (state_of self.new) }
         ensures builder { self.new.builder ≡ self.old.builder }
     {
@@ -88,7 +86,7 @@ where
 
     /// Puts the item in the place of that with this first key.
     pub(super) fn replace1<'m>(&mut self, key: &T::K1, item: T) -> TriReply<'m, T>
-        ensures step { Replaces (ranks T.TriHashItem T.K1.eq T.K2.eq T.K3.eq) (has1 T.TriHashItem T.K1.eq key.now)
+        ensures step { Replaces ⟦<T as Ranked>⟧.ranks (has1 T.TriHashItem T.K1.eq key.now)
             (state_of self.old) item (value_of result) (state_of self.new) }
         ensures builder { self.new.builder ≡ self.old.builder }
     {
@@ -103,7 +101,7 @@ where
 
     /// Puts the item in the place of that with this second key.
     pub(super) fn replace2<'m>(&mut self, key: &T::K2, item: T) -> TriReply<'m, T>
-        ensures step { Replaces (ranks T.TriHashItem T.K1.eq T.K2.eq T.K3.eq) (has2 T.TriHashItem T.K2.eq key.now)
+        ensures step { Replaces ⟦<T as Ranked>⟧.ranks (has2 T.TriHashItem T.K2.eq key.now)
             (state_of self.old) item (value_of result) (state_of self.new) }
         ensures builder { self.new.builder ≡ self.old.builder }
     {
@@ -118,7 +116,7 @@ where
 
     /// Puts the item in the place of that with this third key.
     pub(super) fn replace3<'m>(&mut self, key: &T::K3, item: T) -> TriReply<'m, T>
-        ensures step { Replaces (ranks T.TriHashItem T.K1.eq T.K2.eq T.K3.eq) (has3 T.TriHashItem T.K3.eq key.now)
+        ensures step { Replaces ⟦<T as Ranked>⟧.ranks (has3 T.TriHashItem T.K3.eq key.now)
             (state_of self.old) item (value_of result) (state_of self.new) }
         ensures builder { self.new.builder ≡ self.old.builder }
     {
@@ -133,7 +131,7 @@ where
 
     /// Writes the data of the item with this first key.
     pub(super) fn set1<'m>(&mut self, key1: &T::K1, new_data: T::Data) -> TriReply<'m, T>
-        ensures step { Sets (ranks T.TriHashItem T.K1.eq T.K2.eq T.K3.eq) T.put (has1 T.TriHashItem T.K1.eq key1.now)
+        ensures step { Sets ⟦<T as Ranked>⟧.ranks T.put (has1 T.TriHashItem T.K1.eq key1.now)
             (state_of self.old) new_data (value_of result) (state_of self.new) }
         ensures builder { self.new.builder ≡ self.old.builder }
     {
@@ -148,7 +146,7 @@ where
 
     /// Writes the data of the item with this second key.
     pub(super) fn set2<'m>(&mut self, key2: &T::K2, new_data: T::Data) -> TriReply<'m, T>
-        ensures step { Sets (ranks T.TriHashItem T.K1.eq T.K2.eq T.K3.eq) T.put (has2 T.TriHashItem T.K2.eq key2.now)
+        ensures step { Sets ⟦<T as Ranked>⟧.ranks T.put (has2 T.TriHashItem T.K2.eq key2.now)
             (state_of self.old) new_data (value_of result) (state_of self.new) }
         ensures builder { self.new.builder ≡ self.old.builder }
     {
@@ -163,7 +161,7 @@ where
 
     /// Writes the data of the item with this third key.
     pub(super) fn set3<'m>(&mut self, key3: &T::K3, new_data: T::Data) -> TriReply<'m, T>
-        ensures step { Sets (ranks T.TriHashItem T.K1.eq T.K2.eq T.K3.eq) T.put (has3 T.TriHashItem T.K3.eq key3.now)
+        ensures step { Sets ⟦<T as Ranked>⟧.ranks T.put (has3 T.TriHashItem T.K3.eq key3.now)
             (state_of self.old) new_data (value_of result) (state_of self.new) }
         ensures builder { self.new.builder ≡ self.old.builder }
     {

@@ -6,7 +6,7 @@ ghost use Rattle.std.specs.List.{IsDistinct};
 ghost use Rattle.iddqd_store.specs.Bag.{IsSound, clash};
 ghost use Rattle.iddqd_store.specs.Rank.Index.{HasHash};
 ghost use Rattle.iddqd_store.specs.Map.{bag, Gains, Loses, MakesRoom, IsFullFor, IsBlockedAt};
-ghost use Rattle.iddqd_store.specs.Rank.{agree, key_hash, IsPlaceOf, IsUnder};
+ghost use Rattle.iddqd_store.specs.Rank.{agree, IsPlaceOf, IsUnder};
 ghost use Rattle.iddqd_store.specs.Slots.Found.{each_once, items_at};
 ghost use Rattle.iddqd_store.specs.Slots.{get, IsLive, Updates};
 ghost use Rattle.iddqd_tri.specs.Keys.{ranks};
@@ -19,7 +19,7 @@ mod write;
 
 use self::found::each_once;
 use super::TriHashMap;
-use crate::item::TriHashItem;
+use crate::item::{Hashed, Ranked, TriHashItem};
 use crate::ranks::{First, Second, Third};
 use iddqd_store::{ItemIndex, Lookup, Meter, Sought, TryReserveError, UpToThree, Vacancy};
 use std::hash::{BuildHasher, Hash};
@@ -67,67 +67,58 @@ impl<T: TriHashItem, S: BuildHasher> TriHashMap<T, S> {
     }
 
     /// The hash of an item's first key.
+    #[inline(always)]
     pub(crate) fn hash_of1(&self, item: &T) -> u64
-        ensures { result ≡ key_hash T.key1 T.K1.hash_input S.BuildHasher S.Hasher.Hasher self.now.builder item.now }
+        ensures { result ≡ ⟦<T as Hashed<S>>⟧.hash1 self.now.builder item.now }
     {
         self.hash_builder.hash_one(item.key1())
     }
 
     /// The hash of an item's second key.
+    #[inline(always)]
     pub(crate) fn hash_of2(&self, item: &T) -> u64
-        ensures { result ≡ key_hash T.key2 T.K2.hash_input S.BuildHasher S.Hasher.Hasher self.now.builder item.now }
+        ensures { result ≡ ⟦<T as Hashed<S>>⟧.hash2 self.now.builder item.now }
     {
         self.hash_builder.hash_one(item.key2())
     }
 
     /// The hash of an item's third key.
+    #[inline(always)]
     pub(crate) fn hash_of3(&self, item: &T) -> u64
-        ensures { result ≡ key_hash T.key3 T.K3.hash_input S.BuildHasher S.Hasher.Hasher self.now.builder item.now }
+        ensures { result ≡ ⟦<T as Hashed<S>>⟧.hash3 self.now.builder item.now }
     {
         self.hash_builder.hash_one(item.key3())
     }
 
-    /// Where an item goes in at each rank; or, where items conflict with it, what the search at each rank found.
+    /// Where an item goes in at each rank; or, where items conflict with it, what the search at each rank found. Each key
+    /// is hashed once and searched for once.
     #[inline(always)]
     pub(crate) fn places(
         &self,
         item: &T,
-        hash1: u64,
-        hash2: u64,
-        hash3: u64,
     ) -> Result<(Vacancy, Vacancy, Vacancy), (Sought, Sought, Sought)>
-        requires hash1 { hash1
-            ≡ key_hash T.key1 T.K1.hash_input S.BuildHasher S.Hasher.Hasher self.now.builder item.now }
-        requires hash2 { hash2
-            ≡ key_hash T.key2 T.K2.hash_input S.BuildHasher S.Hasher.Hasher self.now.builder item.now }
-        requires hash3 { hash3
-            ≡ key_hash T.key3 T.K3.hash_input S.BuildHasher S.Hasher.Hasher self.now.builder item.now }
-        ensures free { OnOk result (clash (ranks T.TriHashItem T.K1.eq T.K2.eq T.K3.eq) (bag self.now) item.now ≡ []) }
-        ensures first { IfOk result (λ at. IsPlaceOf
-            (key_hash T.key1 T.K1.hash_input S.BuildHasher S.Hasher.Hasher self.now.builder)
+        ensures free { OnOk result (clash ⟦<T as Ranked>⟧.ranks (bag self.now) item.now ≡ []) }
+        ensures first { IfOk result (λ at. IsPlaceOf (⟦<T as Hashed<S>>⟧.hash1 self.now.builder)
             (bag self.now) item.now at.0) }
-        ensures second { IfOk result (λ at. IsPlaceOf
-            (key_hash T.key2 T.K2.hash_input S.BuildHasher S.Hasher.Hasher self.now.builder)
+        ensures second { IfOk result (λ at. IsPlaceOf (⟦<T as Hashed<S>>⟧.hash2 self.now.builder)
             (bag self.now) item.now at.1) }
-        ensures third { IfOk result (λ at. IsPlaceOf
-            (key_hash T.key3 T.K3.hash_input S.BuildHasher S.Hasher.Hasher self.now.builder)
+        ensures third { IfOk result (λ at. IsPlaceOf (⟦<T as Hashed<S>>⟧.hash3 self.now.builder)
             (bag self.now) item.now at.2) }
-        ensures blocked { IfErr result (λ found.
-            IsBlockedAt (ranks T.TriHashItem T.K1.eq T.K2.eq T.K3.eq) self.now item.now
+        ensures blocked { IfErr result (λ found. IsBlockedAt ⟦<T as Ranked>⟧.ranks self.now item.now
             (each_once (found.0.slot ∷ found.1.slot ∷ found.2.slot ∷ []))) }
-        ensures under1 { IfErr result (λ found. IsUnder
-            (key_hash T.key1 T.K1.hash_input S.BuildHasher S.Hasher.Hasher self.now.builder)
+        ensures under1 { IfErr result (λ found. IsUnder (⟦<T as Hashed<S>>⟧.hash1 self.now.builder)
             self.now.slots found.0) }
-        ensures hash1 { IfErr result (λ found. found.0.hash ≡ hash1) }
-        ensures under2 { IfErr result (λ found. IsUnder
-            (key_hash T.key2 T.K2.hash_input S.BuildHasher S.Hasher.Hasher self.now.builder)
+        ensures hash1 { IfErr result (λ found. found.0.hash ≡ ⟦<T as Hashed<S>>⟧.hash1 self.now.builder item.now) }
+        ensures under2 { IfErr result (λ found. IsUnder (⟦<T as Hashed<S>>⟧.hash2 self.now.builder)
             self.now.slots found.1) }
-        ensures hash2 { IfErr result (λ found. found.1.hash ≡ hash2) }
-        ensures under3 { IfErr result (λ found. IsUnder
-            (key_hash T.key3 T.K3.hash_input S.BuildHasher S.Hasher.Hasher self.now.builder)
+        ensures hash2 { IfErr result (λ found. found.1.hash ≡ ⟦<T as Hashed<S>>⟧.hash2 self.now.builder item.now) }
+        ensures under3 { IfErr result (λ found. IsUnder (⟦<T as Hashed<S>>⟧.hash3 self.now.builder)
             self.now.slots found.2) }
-        ensures hash3 { IfErr result (λ found. found.2.hash ≡ hash3) }
+        ensures hash3 { IfErr result (λ found. found.2.hash ≡ ⟦<T as Hashed<S>>⟧.hash3 self.now.builder item.now) }
     {
+        let hash1 = self.hash_of1(item);
+        let hash2 = self.hash_of2(item);
+        let hash3 = self.hash_of3(item);
         let by1 = self.by_key1().search(hash1, item.key1());
         let by2 = self.by_key2().search(hash2, item.key2());
         let by3 = self.by_key3().search(hash3, item.key3());
@@ -155,18 +146,15 @@ impl<T: TriHashItem, S: BuildHasher> TriHashMap<T, S> {
     #[inline(always)]
     pub(crate) fn put(&mut self, item: T, at1: Vacancy, at2: Vacancy, at3: Vacancy) -> ItemIndex
         requires room { length (bag self.old) < self.old.capacity }
-        requires free { clash (ranks T.TriHashItem T.K1.eq T.K2.eq T.K3.eq) (bag self.old) item ≡ [] }
-        requires first { IsPlaceOf
-            (key_hash T.key1 T.K1.hash_input S.BuildHasher S.Hasher.Hasher self.old.builder) (bag self.old) item at1 }
-        requires second { IsPlaceOf
-            (key_hash T.key2 T.K2.hash_input S.BuildHasher S.Hasher.Hasher self.old.builder) (bag self.old) item at2 }
-        requires third { IsPlaceOf
-            (key_hash T.key3 T.K3.hash_input S.BuildHasher S.Hasher.Hasher self.old.builder) (bag self.old) item at3 }
+        requires free { clash ⟦<T as Ranked>⟧.ranks (bag self.old) item ≡ [] }
+        requires first { IsPlaceOf (⟦<T as Hashed<S>>⟧.hash1 self.old.builder) (bag self.old) item at1 }
+        requires second { IsPlaceOf (⟦<T as Hashed<S>>⟧.hash2 self.old.builder) (bag self.old) item at2 }
+        requires third { IsPlaceOf (⟦<T as Hashed<S>>⟧.hash3 self.old.builder) (bag self.old) item at3 }
         ensures at { get self.new.slots result ≡ Some item }
         ensures was_free { get self.old.slots result ≡ None }
         ensures updates { Updates self.old.slots self.new.slots result (Some item) }
         ensures items { IsPermutation (bag self.new) (item ∷ bag self.old) }
-        ensures sound { IsSound (ranks T.TriHashItem T.K1.eq T.K2.eq T.K3.eq) (bag self.new) }
+        ensures sound { IsSound ⟦<T as Ranked>⟧.ranks (bag self.new) }
         ensures fits { length (bag self.new) ≤ self.new.capacity }
         ensures capacity { self.new.capacity ≡ self.old.capacity }
         ensures builder { self.new.builder ≡ self.old.builder }
@@ -187,19 +175,16 @@ impl<T: TriHashItem, S: BuildHasher> TriHashMap<T, S> {
         at2: Vacancy,
         at3: Vacancy,
     ) -> Result<ItemIndex, T>
-        requires free { clash (ranks T.TriHashItem T.K1.eq T.K2.eq T.K3.eq) (bag self.old) item ≡ [] }
-        requires first { IsPlaceOf
-            (key_hash T.key1 T.K1.hash_input S.BuildHasher S.Hasher.Hasher self.old.builder) (bag self.old) item at1 }
-        requires second { IsPlaceOf
-            (key_hash T.key2 T.K2.hash_input S.BuildHasher S.Hasher.Hasher self.old.builder) (bag self.old) item at2 }
-        requires third { IsPlaceOf
-            (key_hash T.key3 T.K3.hash_input S.BuildHasher S.Hasher.Hasher self.old.builder) (bag self.old) item at3 }
+        requires free { clash ⟦<T as Ranked>⟧.ranks (bag self.old) item ≡ [] }
+        requires first { IsPlaceOf (⟦<T as Hashed<S>>⟧.hash1 self.old.builder) (bag self.old) item at1 }
+        requires second { IsPlaceOf (⟦<T as Hashed<S>>⟧.hash2 self.old.builder) (bag self.old) item at2 }
+        requires third { IsPlaceOf (⟦<T as Hashed<S>>⟧.hash3 self.old.builder) (bag self.old) item at3 }
         ensures gains { OnOk result (Gains self.old item self.new) }
         ensures at { IfOk result (λ ix. get self.new.slots ix ≡ Some item) }
-        ensures sound { OnOk result (IsSound (ranks T.TriHashItem T.K1.eq T.K2.eq T.K3.eq) (bag self.new)) }
+        ensures sound { OnOk result (IsSound ⟦<T as Ranked>⟧.ranks (bag self.new)) }
         ensures handed_back { IfErr result (λ x. x ≡ item) }
         ensures unchanged { OnErr result (self.new ≡ self.old) }
-        ensures full { OnErr result (IsFullFor (ranks T.TriHashItem T.K1.eq T.K2.eq T.K3.eq) self.old item) }
+        ensures full { OnErr result (IsFullFor ⟦<T as Ranked>⟧.ranks self.old item) }
     {
         if let Err(_) = self.make_room() {
             return Err(item);
@@ -216,12 +201,9 @@ impl<T: TriHashItem, S: BuildHasher> TriHashMap<T, S> {
         hash3: Option<u64>,
     ) -> T
         requires live { IsLive self.old.slots ix }
-        requires hash1 { IfSome hash1 (HasHash
-            (key_hash T.key1 T.K1.hash_input S.BuildHasher S.Hasher.Hasher self.old.builder) self.old.slots ix) }
-        requires hash2 { IfSome hash2 (HasHash
-            (key_hash T.key2 T.K2.hash_input S.BuildHasher S.Hasher.Hasher self.old.builder) self.old.slots ix) }
-        requires hash3 { IfSome hash3 (HasHash
-            (key_hash T.key3 T.K3.hash_input S.BuildHasher S.Hasher.Hasher self.old.builder) self.old.slots ix) }
+        requires hash1 { IfSome hash1 (HasHash (⟦<T as Hashed<S>>⟧.hash1 self.old.builder) self.old.slots ix) }
+        requires hash2 { IfSome hash2 (HasHash (⟦<T as Hashed<S>>⟧.hash2 self.old.builder) self.old.slots ix) }
+        requires hash3 { IfSome hash3 (HasHash (⟦<T as Hashed<S>>⟧.hash3 self.old.builder) self.old.slots ix) }
         ensures value { get self.old.slots ix ≡ Some result }
         ensures slots { self.new.slots ≡ slice_set self.old.slots ix None }
         ensures loses { Loses self.old (result ∷ []) self.new }
@@ -253,12 +235,9 @@ impl<T: TriHashItem, S: BuildHasher> TriHashMap<T, S> {
     ) -> UpToThree<T>
         requires live { All (IsLive self.old.slots) found.now }
         requires apart { IsDistinct nat_eq found.now }
-        requires by1 { IsUnder (key_hash T.key1 T.K1.hash_input S.BuildHasher S.Hasher.Hasher self.old.builder)
-            self.old.slots by1.now }
-        requires by2 { IsUnder (key_hash T.key2 T.K2.hash_input S.BuildHasher S.Hasher.Hasher self.old.builder)
-            self.old.slots by2.now }
-        requires by3 { IsUnder (key_hash T.key3 T.K3.hash_input S.BuildHasher S.Hasher.Hasher self.old.builder)
-            self.old.slots by3.now }
+        requires by1 { IsUnder (⟦<T as Hashed<S>>⟧.hash1 self.old.builder) self.old.slots by1.now }
+        requires by2 { IsUnder (⟦<T as Hashed<S>>⟧.hash2 self.old.builder) self.old.slots by2.now }
+        requires by3 { IsUnder (⟦<T as Hashed<S>>⟧.hash3 self.old.builder) self.old.slots by3.now }
         ensures values { result ≡ items_at self.old.slots found.now }
         ensures loses { Loses self.old result self.new }
         ensures room { length found.now ≢ 0 → length (bag self.new) < self.new.capacity }
@@ -315,17 +294,14 @@ impl<T: TriHashItem, S: BuildHasher> TriHashMap<T, S> {
     pub(crate) fn try_insert(&mut self, item: T) -> Result<ItemIndex, Refusal<T>>
         ensures gains { OnOk result (Gains self.old item self.new) }
         ensures at { IfOk result (λ ix. get self.new.slots ix ≡ Some item) }
-        ensures free { OnOk result (clash (ranks T.TriHashItem T.K1.eq T.K2.eq T.K3.eq) (bag self.old) item ≡ []) }
+        ensures free { OnOk result (clash ⟦<T as Ranked>⟧.ranks (bag self.old) item ≡ []) }
         ensures handed_back { IfErr result (λ e. refusal_item e ≡ item) }
         ensures unchanged { OnErr result (self.new ≡ self.old) }
         ensures reason { IfErr result (λ e. MatchRefusal e
-            (λ found. IsBlockedAt (ranks T.TriHashItem T.K1.eq T.K2.eq T.K3.eq) self.old item found)
-            (IsFullFor (ranks T.TriHashItem T.K1.eq T.K2.eq T.K3.eq) self.old item)) }
+            (λ found. IsBlockedAt ⟦<T as Ranked>⟧.ranks self.old item found)
+            (IsFullFor ⟦<T as Ranked>⟧.ranks self.old item)) }
     {
-        let hash1 = self.hash_builder.hash_one(item.key1());
-        let hash2 = self.hash_builder.hash_one(item.key2());
-        let hash3 = self.hash_builder.hash_one(item.key3());
-        let (at1, at2, at3) = match self.places(&item, hash1, hash2, hash3) {
+        let (at1, at2, at3) = match self.places(&item) {
             Ok(places) => places,
             Err((by1, by2, by3)) => {
                 let found = each_once(by1.slot(), by2.slot(), by3.slot());

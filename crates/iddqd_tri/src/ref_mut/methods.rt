@@ -3,7 +3,6 @@ ghost use Rattle.std.specs.Prelude.{◌≡◌, Some, None, IfSome, IfOk, IfErr, 
 ghost use Rattle.std.specs.Borrow.{sem};
 ghost use Rattle.iddqd_store.specs.Bag.{differ, like, swap};
 ghost use Rattle.iddqd_store.specs.Map.{bag};
-ghost use Rattle.iddqd_tri.specs.Keys.{ranks};
 ghost use Rattle.iddqd_tri.specs.Mismatch.{mismatch_item, mismatch_rank};
 ghost use Rattle.iddqd_tri.specs.RefMuts.{ref_lender, ref_map, ref_item, ref_with, lends_ref_data};
 
@@ -35,7 +34,7 @@ impl<T: TriHashItemMut, S: BuildHasher> RefMut<'_, T, S> {
             ref_item (ref_with self.old (λ y. T.put y d)) ≡ Some (T.put x d)) }
         ensures swaps { (d : T.Data) → IfSome (ref_item self.old) (λ x.
             IsPermutation (bag (ref_map (ref_with self.old (λ y. T.put y d))))
-            (swap (ranks T.TriHashItem T.K1.eq T.K2.eq T.K3.eq) (bag (ref_map self.old)) x (T.put x d))) }
+            (swap ⟦<T as Ranked>⟧.ranks (bag (ref_map self.old)) x (T.put x d))) }
         ensures* writes_back { sem 𝓛 (lends_ref_data T.row S.row T.K1.row T.K2.row T.K3.row S.Hasher.row
             T.Data.row T.put self.entry result) }
     {

@@ -4,10 +4,10 @@ ghost use Rattle.std.specs.Prelude.{◌≡◌};
 ghost use Rattle.iddqd_store.specs.Runs.Step.{state_of, Removes, Replaces, Sets};
 ghost use Rattle.iddqd_store.specs.Runs.Step.{EntryInserts, EntryRemoves, OrInserts};
 ghost use Rattle.iddqd_store.specs.Runs.Run.{Applies};
-ghost use Rattle.iddqd_bi.specs.Keys.{ranks, has1, has2, has_both, key_tests};
+ghost use Rattle.iddqd_bi.specs.Keys.{has1, has2, has_both};
 
 use crate::command::{BiReply, BiSink};
-use crate::item::BiHashItemMut;
+use crate::item::{BiHashItemMut, Ranked};
 use crate::map::BiHashMap;
 use std::hash::{BuildHasher, Hash};
 
@@ -73,8 +73,7 @@ where
         item: T,
         sink: &mut K,
     ) -> Result<(), K::Fault>
-        ensures step { Applies (EntryInserts (ranks T.BiHashItem T.K1.eq T.K2.eq)
-            (key_tests T.BiHashItem T.K1.eq T.K2.eq key1 key2)) K.took
+        ensures step { Applies (EntryInserts ⟦<T as Ranked>⟧.ranks (⟦<T as Ranked>⟧.key_tests key1 key2)) K.took
             (state_of self.old) sink.old item result (state_of self.new) sink.new }
         ensures builder { self.new.builder ≡ self.old.builder }
     {
@@ -91,7 +90,7 @@ where
         sink: &mut K,
     ) -> Result<(), K::Fault>
         ensures step { Applies (λ old tests reply new. EntryRemoves tests old reply new) K.took
-            (state_of self.old) sink.old (key_tests T.BiHashItem T.K1.eq T.K2.eq key1 key2)
+            (state_of self.old) sink.old (⟦<T as Ranked>⟧.key_tests key1 key2)
             result (state_of self.new) sink.new }
         ensures builder { self.new.builder ≡ self.old.builder }
     {
@@ -108,8 +107,7 @@ where
         item: T,
         sink: &mut K,
     ) -> Result<(), K::Fault>
-        ensures step { Applies (OrInserts (ranks T.BiHashItem T.K1.eq T.K2.eq)
-            (key_tests T.BiHashItem T.K1.eq T.K2.eq key1 key2)) K.took
+        ensures step { Applies (OrInserts ⟦<T as Ranked>⟧.ranks (⟦<T as Ranked>⟧.key_tests key1 key2)) K.took
             (state_of self.old) sink.old item result (state_of self.new) sink.new }
         ensures builder { self.new.builder ≡ self.old.builder }
     {
@@ -125,8 +123,7 @@ where
         item: T,
         sink: &mut K,
     ) -> Result<(), K::Fault>
-        ensures step { Applies (Replaces (ranks T.BiHashItem T.K1.eq T.K2.eq)
-            (has1 T.BiHashItem T.K1.eq key)) K.took
+        ensures step { Applies (Replaces ⟦<T as Ranked>⟧.ranks (has1 T.BiHashItem T.K1.eq key)) K.took
             (state_of self.old) sink.old item result (state_of self.new) sink.new }
         ensures builder { self.new.builder ≡ self.old.builder }
     {
@@ -142,8 +139,7 @@ where
         item: T,
         sink: &mut K,
     ) -> Result<(), K::Fault>
-        ensures step { Applies (Replaces (ranks T.BiHashItem T.K1.eq T.K2.eq)
-            (has2 T.BiHashItem T.K2.eq key)) K.took
+        ensures step { Applies (Replaces ⟦<T as Ranked>⟧.ranks (has2 T.BiHashItem T.K2.eq key)) K.took
             (state_of self.old) sink.old item result (state_of self.new) sink.new }
         ensures builder { self.new.builder ≡ self.old.builder }
     {
@@ -159,8 +155,7 @@ where
         new_data: T::Data,
         sink: &mut K,
     ) -> Result<(), K::Fault>
-        ensures step { Applies (Sets (ranks T.BiHashItem T.K1.eq T.K2.eq) T.put
-            (has1 T.BiHashItem T.K1.eq key)) K.took
+        ensures step { Applies (Sets ⟦<T as Ranked>⟧.ranks T.put (has1 T.BiHashItem T.K1.eq key)) K.took
             (state_of self.old) sink.old new_data result (state_of self.new) sink.new }
         ensures builder { self.new.builder ≡ self.old.builder }
     {
@@ -176,8 +171,7 @@ where
         new_data: T::Data,
         sink: &mut K,
     ) -> Result<(), K::Fault>
-        ensures step { Applies (Sets (ranks T.BiHashItem T.K1.eq T.K2.eq) T.put
-            (has2 T.BiHashItem T.K2.eq key)) K.took
+        ensures step { Applies (Sets ⟦<T as Ranked>⟧.ranks T.put (has2 T.BiHashItem T.K2.eq key)) K.took
             (state_of self.old) sink.old new_data result (state_of self.new) sink.new }
         ensures builder { self.new.builder ≡ self.old.builder }
     {

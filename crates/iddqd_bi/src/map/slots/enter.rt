@@ -6,9 +6,8 @@ ghost use Rattle.iddqd_store.specs.Bag.Building.{IsReason};
 ghost use Rattle.iddqd_store.specs.Map.{bag, Gains, Loses};
 ghost use Rattle.iddqd_store.specs.Slots.{IsLive};
 ghost use Rattle.iddqd_store.specs.Slots.Found.{items_at, StandAt};
-ghost use Rattle.iddqd_bi.specs.Keys.{ranks};
 
-use crate::item::BiHashItem;
+use crate::item::{BiHashItem, Ranked};
 use crate::map::BiHashMap;
 use iddqd_store::{Entered, ExtendUniqueReason};
 use std::hash::{BuildHasher, Hash};
@@ -22,21 +21,18 @@ impl<T: BiHashItem, S: BuildHasher> BiHashMap<T, S> {
         entered: &mut Entered<T>,
     ) -> Result<(), (T, ExtendUniqueReason)>
         ensures gains { OnOk result (Gains self.old item self.new) }
-        ensures free { OnOk result (clash (ranks T.BiHashItem T.K1.eq T.K2.eq) (bag self.old) item ≡ []) }
+        ensures free { OnOk result (clash ⟦<T as Ranked>⟧.ranks (bag self.old) item ≡ []) }
         ensures noted { OnOk result ((xs : List T) → StandAt self.old.slots entered.old.slots xs
             → StandAt self.new.slots entered.new.slots (xs ++ item ∷ [])) }
         ensures handed_back { IfErr result (λ e. e.0 ≡ item) }
-        ensures reason { IfErr result (λ e.
-            IsReason e.1 (clash (ranks T.BiHashItem T.K1.eq T.K2.eq) (bag self.old) item)) }
+        ensures reason { IfErr result (λ e. IsReason e.1 (clash ⟦<T as Ranked>⟧.ranks (bag self.old) item)) }
         ensures slots { OnErr result (self.new.slots ≡ self.old.slots) }
         ensures same_notes { OnErr result (entered.new.slots ≡ entered.old.slots) }
         ensures no_less_room { self.old.capacity ≤ self.new.capacity }
         ensures same_room { length (bag self.old) < self.old.capacity → self.new.capacity ≡ self.old.capacity }
         ensures builder { self.new.builder ≡ self.old.builder }
     {
-        let hash1 = self.hash_builder.hash_one(item.key1());
-        let hash2 = self.hash_builder.hash_one(item.key2());
-        let (at1, at2) = match self.places(&item, hash1, hash2) {
+        let (at1, at2) = match self.places(&item) {
             Ok(places) => places,
             Err(_) => return Err((item, ExtendUniqueReason::Conflict)),
         };

@@ -4,7 +4,7 @@ ghost use Rattle.std.specs.Option.{option_and_then};
 ghost use Rattle.iddqd_store.specs.Bag.{IsOnly, every_of};
 ghost use Rattle.iddqd_store.specs.Rank.Index.{HasHash};
 ghost use Rattle.iddqd_store.specs.Map.{bag, hash_of};
-ghost use Rattle.iddqd_store.specs.Rank.{key_hash};
+ghost use Rattle.iddqd_store.specs.Rank.{};
 ghost use Rattle.iddqd_store.specs.Slots.Found.{each_once, items_at, FoundAt, found_by_all, head_of};
 ghost use Rattle.iddqd_store.specs.Slots.{get, IsLive};
 ghost use Rattle.iddqd_bi.specs.Keys.{has2, has_both};
@@ -12,7 +12,7 @@ ghost use Rattle.std.specs.Borrow.{sem};
 ghost use Rattle.iddqd_bi.specs.RefMuts.{ref_lender, ref_map, ref_item, rests_if_none};
 
 use super::super::BiHashMap;
-use crate::item::BiHashItem;
+use crate::item::{BiHashItem, Hashed};
 use crate::ref_mut::RefMut;
 use iddqd_store::{Equivalent, ItemIndex, UpToTwo};
 use std::hash::{BuildHasher, Hash};
@@ -57,7 +57,7 @@ impl<T: BiHashItem, S: BuildHasher> BiHashMap<T, S> {
             (bag self.now) (option_and_then (get self.now.slots) result) }
         ensures live { IfSome result (IsLive self.now.slots) }
         ensures hashed { IfSome result (λ ix. HasHash
-            (key_hash T.key1 T.K1.hash_input S.BuildHasher S.Hasher.Hasher self.now.builder) self.now.slots ix hash) }
+            (⟦<T as Hashed<S>>⟧.hash1 self.now.builder) self.now.slots ix hash) }
     {
         let ix = self.by_key1().slot(hash, query1)?;
         let item = self.items.get(ix)?;

@@ -1,6 +1,6 @@
 //! Walking the items by the numbers of their slots.
-ghost use Rattle.std.specs.Prelude.{◌≡◌, ◌+◌, ◌^◌, ◌<◌, [], length, drop, Some, IfSome, IfNone};
-ghost use Rattle.iddqd_store.specs.Slots.{get, items_in, IsLive};
+ghost use Rattle.std.specs.Prelude.{◌≡◌, ◌+◌, ◌^◌, ◌<◌, [], length, Some, IfSome, IfNone};
+ghost use Rattle.iddqd_store.specs.Slots.{get, IsLive};
 ghost use Rattle.iddqd_store.specs.Slots.Next.{ComesNext};
 ghost use Rattle.iddqd_store.specs.Map.Walk.{IsNextSlot, Passes, to_come};
 ghost use Rattle.iddqd_store.specs.Map.Written.{map_with};
@@ -11,26 +11,16 @@ use iddqd_store::ItemIndex;
 use std::hash::{BuildHasher, Hash};
 
 impl<T: BiHashItem, S: BuildHasher> BiHashMap<T, S> {
-    /// The first item in a slot of this number or a higher one, with its slot.
-    pub(crate) fn item_from(&self, from: usize) -> Option<(ItemIndex, &T)>
-        ensures next { IfSome result (λ p. ComesNext self.now.slots from p.0 p.1.now) }
-        ensures countable { IfSome result (λ p. p.0 + 1 < 2 ^ 64) }
-        ensures none { IfNone result (items_in (drop from self.now.slots) ≡ []) }
-    {
-        let ix = self.items.next_live(from)?;
-        match self.items.get(ix) {
-            Some(item) => Some((ix, item)),
-            None => unreachable!(),
-        }
-    }
-
     /// The first slot with an item of this number or a higher one.
     pub(crate) fn slot_from(&self, from: usize) -> Option<ItemIndex>
+        ensures comes { IfSome result (λ ix. (x : T) → get self.now.slots ix ≡ Some x
+            → ComesNext self.now.slots from ix x) }
         ensures next { IfSome result (λ ix. (x : T) × (get self.now.slots ix ≡ Some x)
             × Passes self.now from x (map_with self.now ix) (ix + 1)) }
         ensures step { IfSome result (λ ix. (x : T) × (get self.now.slots ix ≡ Some x)
             × IsNextSlot self.now.slots from ix x) }
         ensures live { IfSome result (IsLive self.now.slots) }
+        ensures countable { IfSome result (λ ix. ix + 1 < 2 ^ 64) }
         ensures none { IfNone result (to_come self.now from ≡ []) }
     {
         // By cases, so that the proof meets each outcome by itself.

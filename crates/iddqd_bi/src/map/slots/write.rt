@@ -11,11 +11,10 @@ ghost use Rattle.iddqd_store.specs.Map.Written.{map_with, map_with_if};
 ghost use Rattle.iddqd_store.specs.Slots.{get, IsLive};
 ghost use Rattle.iddqd_store.specs.Slots.Found.{held_at, items_at};
 ghost use Rattle.iddqd_store.specs.Slots.Kept.{KeepsKeys};
-ghost use Rattle.iddqd_bi.specs.Keys.{ranks};
 
 use super::super::BiHashMap;
 use super::found::each_once;
-use crate::item::{BiHashItem, BiHashItemMut};
+use crate::item::{BiHashItem, BiHashItemMut, Ranked};
 use iddqd_store::{ItemIndex, UpToTwo};
 use std::hash::{BuildHasher, Hash};
 
@@ -35,8 +34,7 @@ impl<T: BiHashItem, S: BuildHasher> BiHashMap<T, S> {
             → (T.K1.eq (T.key1 x) (T.key1 item) ≡ true) × (T.K2.eq (T.key2 x) (T.key2 item) ≡ true) }
         ensures old { get self.old.slots ix ≡ Some result }
         ensures new { self.new ≡ map_with self.old ix (λ x. item) }
-        ensures swaps { IsPermutation (bag self.new)
-            (swap (ranks T.BiHashItem T.K1.eq T.K2.eq) (bag self.old) result item) }
+        ensures swaps { IsPermutation (bag self.new) (swap ⟦<T as Ranked>⟧.ranks (bag self.old) result item) }
     {
         self.items.replace(ix, item)
     }
@@ -51,7 +49,7 @@ impl<T: BiHashItemMut, S: BuildHasher> BiHashMap<T, S> {
         ensures value { (x : T) → get self.old.slots ix ≡ Some x → result.now ≡ T.payload x }
         ensures swaps { (x : T) (d : T.Data) → get self.old.slots ix ≡ Some x
             → IsPermutation (bag (map_with self.old ix (λ y. T.put y d)))
-            (swap (ranks T.BiHashItem T.K1.eq T.K2.eq) (bag self.old) x (T.put x d)) }
+            (swap ⟦<T as Ranked>⟧.ranks (bag self.old) x (T.put x d)) }
         ensures* writes_back { sem 𝓛 (lends_data T.row S.row T.K1.row T.K2.row S.Hasher.row
             T.BiHashItem T.K1.Hash T.K2.Hash S.BuildHasher S.Hasher.Hasher
             T.Data.row T.put self.entry ix result) }
@@ -67,7 +65,7 @@ impl<T: BiHashItemMut, S: BuildHasher> BiHashMap<T, S> {
             → IfSome result (λ r. r.now ≡ T.payload x) }
         ensures swaps { (x : T) (d : T.Data) → option_and_then (get self.old.slots) slot ≡ Some x
             → IsPermutation (bag (map_with_if self.old slot (λ y. T.put y d)))
-            (swap (ranks T.BiHashItem T.K1.eq T.K2.eq) (bag self.old) x (T.put x d)) }
+            (swap ⟦<T as Ranked>⟧.ranks (bag self.old) x (T.put x d)) }
         ensures* writes_back { sem 𝓛 (lends_data_if T.row S.row T.K1.row T.K2.row S.Hasher.row
             T.BiHashItem T.K1.Hash T.K2.Hash S.BuildHasher S.Hasher.Hasher
             T.Data.row T.put self.entry slot result) }
@@ -86,8 +84,7 @@ impl<T: BiHashItemMut, S: BuildHasher> BiHashMap<T, S> {
         requires callable { F.IsAlwaysCallable f.old }
         ensures stored { (x : T) × (d : T.Data) × (get self.old.slots ix ≡ Some x)
             × (CalledAt F.FnMut) f.old x d f.new × (self.new ≡ map_with self.old ix (λ y. T.put y d))
-            × IsPermutation (bag self.new)
-            (swap (ranks T.BiHashItem T.K1.eq T.K2.eq) (bag self.old) x (T.put x d)) }
+            × IsPermutation (bag self.new) (swap ⟦<T as Ranked>⟧.ranks (bag self.old) x (T.put x d)) }
         ensures callable { F.IsAlwaysCallable f.new }
     {
         let d = f(self.item_at(ix));
@@ -101,9 +98,9 @@ impl<T: BiHashItemMut, S: BuildHasher> BiHashMap<T, S> {
         requires live { All (IsLive self.old.slots) found.now }
         requires apart { IsDistinct nat_eq found.now }
         requires callable { F.IsAlwaysCallable f }
-        ensures stores { Stores (CalledAt F.FnMut) T.put (ranks T.BiHashItem T.K1.eq T.K2.eq) f
+        ensures stores { Stores (CalledAt F.FnMut) T.put ⟦<T as Ranked>⟧.ranks f
             (items_at self.old.slots found.now) (bag self.old) (bag self.new) }
-        ensures keeps_keys { KeepsKeys (agrees (ranks T.BiHashItem T.K1.eq T.K2.eq)) self.old.slots self.new.slots }
+        ensures keeps_keys { KeepsKeys (agrees ⟦<T as Ranked>⟧.ranks) self.old.slots self.new.slots }
         ensures capacity { self.new.capacity ≡ self.old.capacity }
         ensures builder { self.new.builder ≡ self.old.builder }
         ensures live { (at : ℕ) → IsLive self.old.slots at → IsLive self.new.slots at }
@@ -127,10 +124,10 @@ impl<T: BiHashItemMut, S: BuildHasher> BiHashMap<T, S> {
         requires live1 { IfSome slot1 (IsLive self.old.slots) }
         requires live2 { IfSome slot2 (IsLive self.old.slots) }
         requires callable { F.IsAlwaysCallable f }
-        ensures stores { Stores (CalledAt F.FnMut) T.put (ranks T.BiHashItem T.K1.eq T.K2.eq) f
+        ensures stores { Stores (CalledAt F.FnMut) T.put ⟦<T as Ranked>⟧.ranks f
             (held_at self.old.slots (slot1 ∷ slot2 ∷ [])) (bag self.old) (bag self.new) }
-        ensures keeps_keys { KeepsKeys (agrees (ranks T.BiHashItem T.K1.eq T.K2.eq)) self.old.slots self.new.slots }
-        ensures sound { IsSound (ranks T.BiHashItem T.K1.eq T.K2.eq) (bag self.new) }
+        ensures keeps_keys { KeepsKeys (agrees ⟦<T as Ranked>⟧.ranks) self.old.slots self.new.slots }
+        ensures sound { IsSound ⟦<T as Ranked>⟧.ranks (bag self.new) }
         ensures capacity { self.new.capacity ≡ self.old.capacity }
         ensures builder { self.new.builder ≡ self.old.builder }
         ensures live { (at : ℕ) → IsLive self.old.slots at → IsLive self.new.slots at }

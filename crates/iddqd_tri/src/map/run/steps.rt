@@ -4,10 +4,10 @@ ghost use Rattle.std.specs.Prelude.{◌≡◌};
 ghost use Rattle.iddqd_store.specs.Runs.Step.{state_of, Removes, Replaces, Sets};
 ghost use Rattle.iddqd_store.specs.Runs.Step.{EntryInserts, EntryRemoves, OrInserts};
 ghost use Rattle.iddqd_store.specs.Runs.Run.{Applies};
-ghost use Rattle.iddqd_tri.specs.Keys.{ranks, has1, has2, has3, has_all, key_tests};
+ghost use Rattle.iddqd_tri.specs.Keys.{has1, has2, has3, has_all};
 
 use crate::command::{TriReply, TriSink};
-use crate::item::TriHashItemMut;
+use crate::item::{Ranked, TriHashItemMut};
 use crate::map::TriHashMap;
 use std::hash::{BuildHasher, Hash};
 
@@ -91,8 +91,8 @@ where
         item: T,
         sink: &mut K,
     ) -> Result<(), K::Fault>
-        ensures step { Applies (EntryInserts (ranks T.TriHashItem T.K1.eq T.K2.eq T.K3.eq)
-            (key_tests T.TriHashItem T.K1.eq T.K2.eq T.K3.eq key1 key2 key3)) K.took
+        ensures step { Applies (EntryInserts ⟦<T as Ranked>⟧.ranks
+            (⟦<T as Ranked>⟧.key_tests key1 key2 key3)) K.took
             (state_of self.old) sink.old item result (state_of self.new) sink.new }
         ensures builder { self.new.builder ≡ self.old.builder }
     {
@@ -110,7 +110,7 @@ where
         sink: &mut K,
     ) -> Result<(), K::Fault>
         ensures step { Applies (λ old tests reply new. EntryRemoves tests old reply new) K.took
-            (state_of self.old) sink.old (key_tests T.TriHashItem T.K1.eq T.K2.eq T.K3.eq key1 key2 key3)
+            (state_of self.old) sink.old (⟦<T as Ranked>⟧.key_tests key1 key2 key3)
             result (state_of self.new) sink.new }
         ensures builder { self.new.builder ≡ self.old.builder }
     {
@@ -128,8 +128,8 @@ where
         item: T,
         sink: &mut K,
     ) -> Result<(), K::Fault>
-        ensures step { Applies (OrInserts (ranks T.TriHashItem T.K1.eq T.K2.eq T.K3.eq)
-            (key_tests T.TriHashItem T.K1.eq T.K2.eq T.K3.eq key1 key2 key3)) K.took
+        ensures step { Applies (OrInserts ⟦<T as Ranked>⟧.ranks
+            (⟦<T as Ranked>⟧.key_tests key1 key2 key3)) K.took
             (state_of self.old) sink.old item result (state_of self.new) sink.new }
         ensures builder { self.new.builder ≡ self.old.builder }
     {
@@ -145,8 +145,7 @@ where
         item: T,
         sink: &mut K,
     ) -> Result<(), K::Fault>
-        ensures step { Applies (Replaces (ranks T.TriHashItem T.K1.eq T.K2.eq T.K3.eq)
-            (has1 T.TriHashItem T.K1.eq key)) K.took
+        ensures step { Applies (Replaces ⟦<T as Ranked>⟧.ranks (has1 T.TriHashItem T.K1.eq key)) K.took
             (state_of self.old) sink.old item result (state_of self.new) sink.new }
         ensures builder { self.new.builder ≡ self.old.builder }
     {
@@ -162,8 +161,7 @@ where
         item: T,
         sink: &mut K,
     ) -> Result<(), K::Fault>
-        ensures step { Applies (Replaces (ranks T.TriHashItem T.K1.eq T.K2.eq T.K3.eq)
-            (has2 T.TriHashItem T.K2.eq key)) K.took
+        ensures step { Applies (Replaces ⟦<T as Ranked>⟧.ranks (has2 T.TriHashItem T.K2.eq key)) K.took
             (state_of self.old) sink.old item result (state_of self.new) sink.new }
         ensures builder { self.new.builder ≡ self.old.builder }
     {
@@ -179,8 +177,7 @@ where
         item: T,
         sink: &mut K,
     ) -> Result<(), K::Fault>
-        ensures step { Applies (Replaces (ranks T.TriHashItem T.K1.eq T.K2.eq T.K3.eq)
-            (has3 T.TriHashItem T.K3.eq key)) K.took
+        ensures step { Applies (Replaces ⟦<T as Ranked>⟧.ranks (has3 T.TriHashItem T.K3.eq key)) K.took
             (state_of self.old) sink.old item result (state_of self.new) sink.new }
         ensures builder { self.new.builder ≡ self.old.builder }
     {
@@ -196,8 +193,7 @@ where
         new_data: T::Data,
         sink: &mut K,
     ) -> Result<(), K::Fault>
-        ensures step { Applies (Sets (ranks T.TriHashItem T.K1.eq T.K2.eq T.K3.eq) T.put
-            (has1 T.TriHashItem T.K1.eq key)) K.took
+        ensures step { Applies (Sets ⟦<T as Ranked>⟧.ranks T.put (has1 T.TriHashItem T.K1.eq key)) K.took
             (state_of self.old) sink.old new_data result (state_of self.new) sink.new }
         ensures builder { self.new.builder ≡ self.old.builder }
     {
@@ -213,8 +209,7 @@ where
         new_data: T::Data,
         sink: &mut K,
     ) -> Result<(), K::Fault>
-        ensures step { Applies (Sets (ranks T.TriHashItem T.K1.eq T.K2.eq T.K3.eq) T.put
-            (has2 T.TriHashItem T.K2.eq key)) K.took
+        ensures step { Applies (Sets ⟦<T as Ranked>⟧.ranks T.put (has2 T.TriHashItem T.K2.eq key)) K.took
             (state_of self.old) sink.old new_data result (state_of self.new) sink.new }
         ensures builder { self.new.builder ≡ self.old.builder }
     {
@@ -230,8 +225,7 @@ where
         new_data: T::Data,
         sink: &mut K,
     ) -> Result<(), K::Fault>
-        ensures step { Applies (Sets (ranks T.TriHashItem T.K1.eq T.K2.eq T.K3.eq) T.put
-            (has3 T.TriHashItem T.K3.eq key)) K.took
+        ensures step { Applies (Sets ⟦<T as Ranked>⟧.ranks T.put (has3 T.TriHashItem T.K3.eq key)) K.took
             (state_of self.old) sink.old new_data result (state_of self.new) sink.new }
         ensures builder { self.new.builder ≡ self.old.builder }
     {

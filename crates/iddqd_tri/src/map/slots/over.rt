@@ -2,14 +2,14 @@
 ghost use Rattle.std.specs.Prelude.{◌≡◌, ◌<◌, ◌≤◌, [], ◌∷◌, length, IsPermutation, None, Some, slice_set};
 ghost use Rattle.iddqd_store.specs.Bag.{IsSound, clash, order, over};
 ghost use Rattle.iddqd_store.specs.Map.{bag, ListsConflicts};
-ghost use Rattle.iddqd_store.specs.Rank.{key_hash, IsUnder};
+ghost use Rattle.iddqd_store.specs.Rank.{IsUnder};
 ghost use Rattle.iddqd_store.specs.Slots.{get, live_items, IsLive};
 ghost use Rattle.iddqd_store.specs.Slots.Found.{each_once};
 ghost use Rattle.iddqd_tri.specs.Keys.{ranks};
 
 use super::super::TriHashMap;
 use super::found::each_once;
-use crate::item::TriHashItem;
+use crate::item::{Hashed, Ranked, TriHashItem};
 use crate::ranks::{First, Second, Third};
 use iddqd_store::{ItemIndex, Sought, UpToThree, Vacancy};
 use std::hash::{BuildHasher, Hash};
@@ -25,27 +25,20 @@ impl<T: TriHashItem, S: BuildHasher> TriHashMap<T, S> {
         by2: &Sought,
         by3: &Sought,
     ) -> (UpToThree<T>, ItemIndex)
-        requires conflicts { ListsConflicts (ranks T.TriHashItem T.K1.eq T.K2.eq T.K3.eq) self.old item
+        requires conflicts { ListsConflicts ⟦<T as Ranked>⟧.ranks self.old item
             (each_once (by1.now.slot ∷ by2.now.slot ∷ by3.now.slot ∷ [])) }
         requires room { length (each_once (by1.now.slot ∷ by2.now.slot ∷ by3.now.slot ∷ [])) ≡ 0
             → length (bag self.old) < self.old.capacity }
-        requires hash1 { by1.now.hash
-            ≡ key_hash T.key1 T.K1.hash_input S.BuildHasher S.Hasher.Hasher self.old.builder item }
-        requires hash2 { by2.now.hash
-            ≡ key_hash T.key2 T.K2.hash_input S.BuildHasher S.Hasher.Hasher self.old.builder item }
-        requires hash3 { by3.now.hash
-            ≡ key_hash T.key3 T.K3.hash_input S.BuildHasher S.Hasher.Hasher self.old.builder item }
-        requires under1 { IsUnder (key_hash T.key1 T.K1.hash_input S.BuildHasher S.Hasher.Hasher self.old.builder)
-            self.old.slots by1.now }
-        requires under2 { IsUnder (key_hash T.key2 T.K2.hash_input S.BuildHasher S.Hasher.Hasher self.old.builder)
-            self.old.slots by2.now }
-        requires under3 { IsUnder (key_hash T.key3 T.K3.hash_input S.BuildHasher S.Hasher.Hasher self.old.builder)
-            self.old.slots by3.now }
-        ensures displaced { result.0 ≡ order (ranks T.TriHashItem T.K1.eq T.K2.eq T.K3.eq) (bag self.old) item }
+        requires hash1 { by1.now.hash ≡ ⟦<T as Hashed<S>>⟧.hash1 self.old.builder item }
+        requires hash2 { by2.now.hash ≡ ⟦<T as Hashed<S>>⟧.hash2 self.old.builder item }
+        requires hash3 { by3.now.hash ≡ ⟦<T as Hashed<S>>⟧.hash3 self.old.builder item }
+        requires under1 { IsUnder (⟦<T as Hashed<S>>⟧.hash1 self.old.builder) self.old.slots by1.now }
+        requires under2 { IsUnder (⟦<T as Hashed<S>>⟧.hash2 self.old.builder) self.old.slots by2.now }
+        requires under3 { IsUnder (⟦<T as Hashed<S>>⟧.hash3 self.old.builder) self.old.slots by3.now }
+        ensures displaced { result.0 ≡ order ⟦<T as Ranked>⟧.ranks (bag self.old) item }
         ensures at { get self.new.slots result.1 ≡ Some item }
-        ensures items { IsPermutation (bag self.new)
-            (over (ranks T.TriHashItem T.K1.eq T.K2.eq T.K3.eq) (bag self.old) item) }
-        ensures sound { IsSound (ranks T.TriHashItem T.K1.eq T.K2.eq T.K3.eq) (bag self.new) }
+        ensures items { IsPermutation (bag self.new) (over ⟦<T as Ranked>⟧.ranks (bag self.old) item) }
+        ensures sound { IsSound ⟦<T as Ranked>⟧.ranks (bag self.new) }
         ensures fits { length (bag self.new) ≤ self.new.capacity }
         ensures capacity { self.new.capacity ≡ self.old.capacity }
         ensures builder { self.new.builder ≡ self.old.builder }
@@ -69,25 +62,18 @@ impl<T: TriHashItem, S: BuildHasher> TriHashMap<T, S> {
     /// rank, the pair in its table stays.
     fn exchange(&mut self, ix: ItemIndex, item: T, by1: &Sought, by2: &Sought, by3: &Sought) -> T
         requires live { IsLive self.old.slots ix }
-        requires free { clash (ranks T.TriHashItem T.K1.eq T.K2.eq T.K3.eq)
-            (live_items (slice_set self.old.slots ix None)) item ≡ [] }
-        requires hash1 { by1.now.hash
-            ≡ key_hash T.key1 T.K1.hash_input S.BuildHasher S.Hasher.Hasher self.old.builder item }
-        requires hash2 { by2.now.hash
-            ≡ key_hash T.key2 T.K2.hash_input S.BuildHasher S.Hasher.Hasher self.old.builder item }
-        requires hash3 { by3.now.hash
-            ≡ key_hash T.key3 T.K3.hash_input S.BuildHasher S.Hasher.Hasher self.old.builder item }
-        requires under1 { IsUnder (key_hash T.key1 T.K1.hash_input S.BuildHasher S.Hasher.Hasher self.old.builder)
-            self.old.slots by1.now }
-        requires under2 { IsUnder (key_hash T.key2 T.K2.hash_input S.BuildHasher S.Hasher.Hasher self.old.builder)
-            self.old.slots by2.now }
-        requires under3 { IsUnder (key_hash T.key3 T.K3.hash_input S.BuildHasher S.Hasher.Hasher self.old.builder)
-            self.old.slots by3.now }
+        requires free { clash ⟦<T as Ranked>⟧.ranks (live_items (slice_set self.old.slots ix None)) item ≡ [] }
+        requires hash1 { by1.now.hash ≡ ⟦<T as Hashed<S>>⟧.hash1 self.old.builder item }
+        requires hash2 { by2.now.hash ≡ ⟦<T as Hashed<S>>⟧.hash2 self.old.builder item }
+        requires hash3 { by3.now.hash ≡ ⟦<T as Hashed<S>>⟧.hash3 self.old.builder item }
+        requires under1 { IsUnder (⟦<T as Hashed<S>>⟧.hash1 self.old.builder) self.old.slots by1.now }
+        requires under2 { IsUnder (⟦<T as Hashed<S>>⟧.hash2 self.old.builder) self.old.slots by2.now }
+        requires under3 { IsUnder (⟦<T as Hashed<S>>⟧.hash3 self.old.builder) self.old.slots by3.now }
         ensures value { get self.old.slots ix ≡ Some result }
         ensures at { get self.new.slots ix ≡ Some item }
         ensures left { IsPermutation (bag self.old) (result ∷ live_items (slice_set self.old.slots ix None)) }
         ensures items { IsPermutation (bag self.new) (item ∷ live_items (slice_set self.old.slots ix None)) }
-        ensures sound { IsSound (ranks T.TriHashItem T.K1.eq T.K2.eq T.K3.eq) (bag self.new) }
+        ensures sound { IsSound ⟦<T as Ranked>⟧.ranks (bag self.new) }
         ensures fits { length (bag self.new) ≤ self.new.capacity }
         ensures capacity { self.new.capacity ≡ self.old.capacity }
         ensures builder { self.new.builder ≡ self.old.builder }

@@ -11,11 +11,10 @@ ghost use Rattle.iddqd_store.specs.Map.Written.{map_with, map_with_if};
 ghost use Rattle.iddqd_store.specs.Slots.{get, IsLive};
 ghost use Rattle.iddqd_store.specs.Slots.Found.{held_at, items_at};
 ghost use Rattle.iddqd_store.specs.Slots.Kept.{KeepsKeys};
-ghost use Rattle.iddqd_tri.specs.Keys.{ranks};
 
 use super::super::TriHashMap;
 use super::found::each_once;
-use crate::item::{TriHashItem, TriHashItemMut};
+use crate::item::{Ranked, TriHashItem, TriHashItemMut};
 use iddqd_store::{ItemIndex, UpToThree};
 use std::hash::{BuildHasher, Hash};
 
@@ -36,8 +35,7 @@ impl<T: TriHashItem, S: BuildHasher> TriHashMap<T, S> {
             × (T.K3.eq (T.key3 x) (T.key3 item) ≡ true) }
         ensures old { get self.old.slots ix ≡ Some result }
         ensures new { self.new ≡ map_with self.old ix (λ x. item) }
-        ensures swaps { IsPermutation (bag self.new)
-            (swap (ranks T.TriHashItem T.K1.eq T.K2.eq T.K3.eq) (bag self.old) result item) }
+        ensures swaps { IsPermutation (bag self.new) (swap ⟦<T as Ranked>⟧.ranks (bag self.old) result item) }
     {
         self.items.replace(ix, item)
     }
@@ -52,7 +50,7 @@ impl<T: TriHashItemMut, S: BuildHasher> TriHashMap<T, S> {
         ensures value { (x : T) → get self.old.slots ix ≡ Some x → result.now ≡ T.payload x }
         ensures swaps { (x : T) (d : T.Data) → get self.old.slots ix ≡ Some x
             → IsPermutation (bag (map_with self.old ix (λ y. T.put y d)))
-            (swap (ranks T.TriHashItem T.K1.eq T.K2.eq T.K3.eq) (bag self.old) x (T.put x d)) }
+            (swap ⟦<T as Ranked>⟧.ranks (bag self.old) x (T.put x d)) }
         ensures* writes_back { sem 𝓛 (lends_data T.row S.row T.K1.row T.K2.row T.K3.row S.Hasher.row
             T.TriHashItem T.K1.Hash T.K2.Hash T.K3.Hash S.BuildHasher S.Hasher.Hasher
             T.Data.row T.put self.entry ix result) }
@@ -68,7 +66,7 @@ impl<T: TriHashItemMut, S: BuildHasher> TriHashMap<T, S> {
             → IfSome result (λ r. r.now ≡ T.payload x) }
         ensures swaps { (x : T) (d : T.Data) → option_and_then (get self.old.slots) slot ≡ Some x
             → IsPermutation (bag (map_with_if self.old slot (λ y. T.put y d)))
-            (swap (ranks T.TriHashItem T.K1.eq T.K2.eq T.K3.eq) (bag self.old) x (T.put x d)) }
+            (swap ⟦<T as Ranked>⟧.ranks (bag self.old) x (T.put x d)) }
         ensures* writes_back { sem 𝓛 (lends_data_if T.row S.row T.K1.row T.K2.row T.K3.row S.Hasher.row
             T.TriHashItem T.K1.Hash T.K2.Hash T.K3.Hash S.BuildHasher S.Hasher.Hasher
             T.Data.row T.put self.entry slot result) }
@@ -87,8 +85,7 @@ impl<T: TriHashItemMut, S: BuildHasher> TriHashMap<T, S> {
         requires callable { F.IsAlwaysCallable f.old }
         ensures stored { (x : T) × (d : T.Data) × (get self.old.slots ix ≡ Some x)
             × (CalledAt F.FnMut) f.old x d f.new × (self.new ≡ map_with self.old ix (λ y. T.put y d))
-            × IsPermutation (bag self.new)
-            (swap (ranks T.TriHashItem T.K1.eq T.K2.eq T.K3.eq) (bag self.old) x (T.put x d)) }
+            × IsPermutation (bag self.new) (swap ⟦<T as Ranked>⟧.ranks (bag self.old) x (T.put x d)) }
         ensures callable { F.IsAlwaysCallable f.new }
     {
         let d = f(self.item_at(ix));
@@ -102,9 +99,9 @@ impl<T: TriHashItemMut, S: BuildHasher> TriHashMap<T, S> {
         requires live { All (IsLive self.old.slots) found.now }
         requires apart { IsDistinct nat_eq found.now }
         requires callable { F.IsAlwaysCallable f }
-        ensures stores { Stores (CalledAt F.FnMut) T.put (ranks T.TriHashItem T.K1.eq T.K2.eq T.K3.eq) f
+        ensures stores { Stores (CalledAt F.FnMut) T.put ⟦<T as Ranked>⟧.ranks f
             (items_at self.old.slots found.now) (bag self.old) (bag self.new) }
-        ensures keeps_keys { KeepsKeys (agrees (ranks T.TriHashItem T.K1.eq T.K2.eq T.K3.eq)) self.old.slots self.new.slots }
+        ensures keeps_keys { KeepsKeys (agrees ⟦<T as Ranked>⟧.ranks) self.old.slots self.new.slots }
         ensures capacity { self.new.capacity ≡ self.old.capacity }
         ensures builder { self.new.builder ≡ self.old.builder }
         ensures live { (at : ℕ) → IsLive self.old.slots at → IsLive self.new.slots at }
@@ -130,10 +127,10 @@ impl<T: TriHashItemMut, S: BuildHasher> TriHashMap<T, S> {
         requires live2 { IfSome slot2 (IsLive self.old.slots) }
         requires live3 { IfSome slot3 (IsLive self.old.slots) }
         requires callable { F.IsAlwaysCallable f }
-        ensures stores { Stores (CalledAt F.FnMut) T.put (ranks T.TriHashItem T.K1.eq T.K2.eq T.K3.eq) f
+        ensures stores { Stores (CalledAt F.FnMut) T.put ⟦<T as Ranked>⟧.ranks f
             (held_at self.old.slots (slot1 ∷ slot2 ∷ slot3 ∷ [])) (bag self.old) (bag self.new) }
-        ensures keeps_keys { KeepsKeys (agrees (ranks T.TriHashItem T.K1.eq T.K2.eq T.K3.eq)) self.old.slots self.new.slots }
-        ensures sound { IsSound (ranks T.TriHashItem T.K1.eq T.K2.eq T.K3.eq) (bag self.new) }
+        ensures keeps_keys { KeepsKeys (agrees ⟦<T as Ranked>⟧.ranks) self.old.slots self.new.slots }
+        ensures sound { IsSound ⟦<T as Ranked>⟧.ranks (bag self.new) }
         ensures capacity { self.new.capacity ≡ self.old.capacity }
         ensures builder { self.new.builder ≡ self.old.builder }
         ensures live { (at : ℕ) → IsLive self.old.slots at → IsLive self.new.slots at }

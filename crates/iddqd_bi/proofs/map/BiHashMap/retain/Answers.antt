@@ -4,21 +4,21 @@ use Rattle.std.specs.Fn.{CalledAt}
 use Rattle.iddqd_store.proofs.SlotLemmas.Next.{past_kept, past_taken, none_behind}
 use Rattle.iddqd_bi.proofs.map.BiHashMap.retain.Goals as goal
 
-pub loop-found-preserved-then-not-f : goal.loop-found-preserved-then-not-f
-loop-found-preserved-then-not-f g c =
-    let at = c.loop-found in
+pub loop-ix-preserved-then-not-f : goal.loop-ix-preserved-then-not-f
+loop-ix-preserved-then-not-f g c =
+    let at = c.loop-ix in
     record {
-      completes = rw (c.number-from.ensures, c.take.ensures.slots) (past_taken (CalledAt g.F.FnMut) _ at.f c.f.new.self _ at.self.slots at.from c.in-Some.found.0 c.in-Some.found.1.now c.in-Some.ensures.next (called_at g.F.FnMut c.f.ensures c.if-not-f.true) at.invariant.completes);
+      completes = rw (c.number-from.ensures, c.take.ensures.slots) (past_taken (CalledAt g.F.FnMut) _ at.f c.f.new.self _ at.self.slots at.from c.in-Some.ix c.item_at.result.now (c.in-Some.ensures.comes _ c.item_at.ensures) (called_at g.F.FnMut c.f.ensures c.if-not-f.true) at.invariant.completes);
       callable = search of_calls;
       capacity = c.take.ensures.loses.same_room ∙ at.invariant.capacity;
       builder = c.take.ensures.loses.same_builder ∙ at.invariant.builder;
     }
 
-pub loop-found-preserved : goal.loop-found-preserved
-loop-found-preserved g c =
-    let at = c.loop-found in
+pub loop-ix-preserved : goal.loop-ix-preserved
+loop-ix-preserved g c =
+    let at = c.loop-ix in
     record {
-      completes = rw c.number-from.ensures (past_kept (CalledAt g.F.FnMut) _ at.f c.f.new.self _ at.self.slots at.from c.in-Some.found.0 c.in-Some.found.1.now c.in-Some.ensures.next (called_at g.F.FnMut c.f.ensures c.if-not-f.false) at.invariant.completes);
+      completes = rw c.number-from.ensures (past_kept (CalledAt g.F.FnMut) _ at.f c.f.new.self _ at.self.slots at.from c.in-Some.ix c.item_at.result.now (c.in-Some.ensures.comes _ c.item_at.ensures) (called_at g.F.FnMut c.f.ensures c.if-not-f.false) at.invariant.completes);
       callable = search of_calls;
       capacity = at.invariant.capacity;
       builder = at.invariant.builder;
@@ -26,5 +26,5 @@ loop-found-preserved g c =
 
 pub returns-clause-kept : goal.returns-clause-kept
 returns-clause-kept g c =
-    let at = c.loop-found in
+    let at = c.loop-ix in
     none_behind (CalledAt g.F.FnMut) c.args.f at.f c.args.self.now.slots at.self.slots at.from c.in_default.ensures.none at.invariant.completes

@@ -3,6 +3,9 @@ use Rattle.iddqd_store.proofs.SlotLemmas.Next.{comes_next, nothing_left}
 use Rattle.iddqd_store.proofs.MapLemmas.Walking.{passes, next_slot, live_is}
 use Rattle.iddqd_bi.proofs.map.BiHashMap.slot_from.Goals as goal
 
+pub returns-in-Some-clause-comes : goal.returns-in-Some-clause-comes
+returns-in-Some-clause-comes g c = rw (← c.self.view_is) (λ x is. comes_next c.self.inside.items.slots c.args.from c.in-Some.ix x c.in-Some.ensures.next.0 is c.in-Some.ensures.next.2)
+
 pub returns-in-Some-clause-next : goal.returns-in-Some-clause-next
 returns-in-Some-clause-next g c =
     let at = live_is (get c.self.inside.items.slots c.in-Some.ix) c.in-Some.ensures.next.1 in

@@ -4,13 +4,13 @@ use Rattle.iddqd_store.specs.Slots.{items_in}
 use Rattle.iddqd_store.proofs.SlotLemmas.Next.{Completes}
 use Rattle.iddqd_tri.proofs.map.TriHashMap.retain.Given as goal
 
-abbrev pub invariant-loop-found : goal.invariant-loop-found
-invariant-loop-found g l = record {
+abbrev pub invariant-loop-ix : goal.invariant-loop-ix
+invariant-loop-ix g l = record {
   completes : Completes (CalledAt g.F.FnMut) l.fn.f (items_in l.fn.self.slots) l.f l.self.slots l.from;
   callable : goal.F-IsAlwaysCallable g l.f;
   capacity : l.self.capacity ≡ l.fn.self.capacity;
   builder : l.self.builder ≡ l.fn.self.builder;
 }
 
-abbrev pub decreases-loop-found : goal.decreases-loop-found
-decreases-loop-found g l = length (items_in (drop l.from l.self.slots))
+abbrev pub decreases-loop-ix : goal.decreases-loop-ix
+decreases-loop-ix g l = length (items_in (drop l.from l.self.slots))

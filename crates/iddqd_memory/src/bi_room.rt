@@ -1,0 +1,138 @@
+//! The two-key map under refused memory: room and copies.
+use crate::bi::{filled, holds};
+use crate::granted::{same, say_unless};
+use iddqd_bi::BiHashMap;
+use iddqd_tests_bi::Row;
+use std::alloc::Global;
+use std::process::Abort;
+use std::test::*;
+
+/// What is done with a map.
+#[derive(Clone, Copy)]
+enum Call {
+    Reserve,
+    TryReserve,
+    ShrinkTo,
+    ShrinkToFit,
+    ShrinkEmpty,
+    Clone,
+}
+
+/// A call, with the capacity of the map and how many rows are in it.
+type Scenario = (Call, usize, u64);
+
+const SCENARIOS: [Scenario; 7] = [
+    (Call::Reserve, 7, 2),
+    (Call::TryReserve, 7, 2),
+    (Call::ShrinkTo, 100, 2),
+    (Call::ShrinkToFit, 100, 2),
+    (Call::ShrinkEmpty, 10, 0),
+    (Call::ShrinkEmpty, 50, 2),
+    (Call::Clone, 7, 2),
+];
+
+/// Whether room for so many more is made, by `try_reserve` or by `reserve`.
+pub(crate) fn makes_room(map: &mut BiHashMap<Row>, more: usize, by_try: bool) -> bool {
+    if by_try {
+        map.try_reserve(more).is_ok()
+    } else {
+        map.reserve(more).is_ok()
+    }
+}
+
+fn reserve_twenty(rt: &impl Abort, map: &mut BiHashMap<Row>, by_try: bool) -> bool {
+    let capacity = map.capacity();
+    let granted = makes_room(map, 20, by_try);
+    assert!(rt; holds(map, 2, &[]) && map.capacity() >= capacity);
+    if !granted {
+        assert!(rt; makes_room(map, 20, by_try));
+    }
+    assert!(rt; holds(map, 2, &[]) && map.capacity() >= 22);
+    granted
+}
+
+/// Whether the room beyond so many rows is given back, by `shrink_to_fit` where no number is given.
+pub(crate) fn is_shrunk(map: &mut BiHashMap<Row>, least: Option<usize>) -> bool {
+    match least {
+        Some(least) => map.shrink_to(least).is_ok(),
+        None => map.shrink_to_fit().is_ok(),
+    }
+}
+
+fn shrink_two(rt: &impl Abort, map: &mut BiHashMap<Row>, least: Option<usize>) -> bool {
+    let capacity = map.capacity();
+    let granted = is_shrunk(map, least);
+    assert!(rt; holds(map, 2, &[]));
+    if !granted {
+        same(rt, map.capacity(), capacity);
+        assert!(rt; is_shrunk(map, least));
+    }
+    same(rt, map.capacity(), least.unwrap_or(2));
+    assert!(rt; holds(map, 2, &[]));
+    granted
+}
+
+// An empty map gives all its room back, and asks for none.
+fn shrink_empty(rt: &impl Abort, map: &mut BiHashMap<Row>) {
+    map.clear();
+    assert!(rt; is_shrunk(map, None));
+    same(rt, map.capacity(), 0);
+}
+
+/// Whether there is memory for a clone. It is equal to the map.
+fn is_cloned(rt: &impl Abort, map: &BiHashMap<Row>) -> bool {
+    match map.clone() {
+        Ok(copy) => {
+            assert!(rt; copy == *map);
+            true
+        }
+        Err(_) => false,
+    }
+}
+
+fn clone(rt: &impl Abort, map: &BiHashMap<Row>) -> bool {
+    let granted = is_cloned(rt, map);
+    // After a refusal the same call is granted.
+    assert!(rt; granted || is_cloned(rt, map));
+    assert!(rt; holds(map, 2, &[]));
+    granted
+}
+
+fn carry_out(rt: &impl Abort, map: &mut BiHashMap<Row>, call: Call) -> bool {
+    match call {
+        Call::Reserve => reserve_twenty(rt, map, false),
+        Call::TryReserve => reserve_twenty(rt, map, true),
+        Call::ShrinkTo => shrink_two(rt, map, Some(3)),
+        Call::ShrinkToFit => shrink_two(rt, map, None),
+        Call::ShrinkEmpty => {
+            shrink_empty(rt, map);
+            true
+        }
+        Call::Clone => clone(rt, map),
+    }
+}
+
+/// Carries a scenario out, and says whether every request was granted, that of `with_capacity` too.
+fn is_granted(rt: &impl Abort, alloc: Global, scenario: Scenario) -> bool {
+    let (call, capacity, rows) = scenario;
+    match filled(rt, alloc, capacity, rows) {
+        Some(mut map) => {
+            same(rt, map.capacity(), capacity);
+            carry_out(rt, &mut map, call)
+        }
+        None => {
+            // The same call is granted where there is memory.
+            assert!(rt; filled(rt, alloc, capacity, rows).is_some());
+            false
+        }
+    }
+}
+
+#[test]
+fn allows_room_and_copies(rt: HostRuntime) {
+    let mut all = true;
+    for scenario in SCENARIOS {
+        all = is_granted(&rt, rt.alloc(), scenario) && all;
+    }
+    say_unless(&rt, all);
+}
