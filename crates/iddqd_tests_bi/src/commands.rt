@@ -264,15 +264,28 @@ fn extending_unique(alloc: Global) -> Result<Vec<BiCommand<Row>>, AllocError> {
     ]?)
 }
 
+/// The replies to a list of commands, and no more after the first place without one.
+type Replies = [Option<Answer>; 6];
+
+/// Whether these are the replies.
+fn are(heard: &[Answer], wanted: &Replies) -> bool {
+    for (at, reply) in wanted.iter().enumerate() {
+        if heard.get(at) != reply.as_ref() {
+            return false;
+        }
+    }
+    heard.len() <= wanted.len()
+}
+
 /// Whether a run ends so, where a sink takes so many replies well, and hears these.
 fn runs(
     map: &mut BiHashMap<Row>,
     commands: Vec<BiCommand<Row>>,
     mut sink: Listener,
     ended: Result<(), bool>,
-    heard: &[Answer],
+    wanted: &Replies,
 ) -> bool {
-    map.run(commands, &mut sink) == ended && sink.heard.as_slice() == heard
+    map.run(commands, &mut sink) == ended && are(&sink.heard, wanted)
 }
 
 /// How many items a map has, the one with the first key 1, and the one with the second key 20.
@@ -284,73 +297,75 @@ fn left(map: &BiHashMap<Row>) -> Left {
 
 const FAULT: Result<(), bool> = Err(true);
 
+const DONE: Option<Answer> = Some(Answer::Done);
+
+const TAKEN: Option<Answer> = Some(Answer::Taken(Some(ONE)));
+
+const CLASH: Option<Answer> = Some(Answer::ExtendRefused((
+    [Some(row!(3, 30, 0)), None],
+    row!(4, 30, 0),
+    ExtendUniqueReason::Conflict,
+)));
+
+const ABSENT: Option<Answer> = Some(Answer::Present(false));
+
 /// Lists of commands, how many replies are taken well, how the run on the empty map ends then, all replies, and what is
 /// left of the map.
-const RUNS: &[(List, usize, Result<(), bool>, &[Answer], Left)] = &[
-    (List::Empty, 0, Ok(()), &[], (0, None, None)),
-    (List::Four, 0, FAULT, &[Answer::Done], (1, Some(ONE), None)),
+const RUNS: [(List, usize, Result<(), bool>, Replies, Left); 7] = [
+    (
+        List::Empty,
+        0,
+        Ok(()),
+        [None, None, None, None, None, None],
+        (0, None, None),
+    ),
+    (
+        List::Four,
+        0,
+        FAULT,
+        [DONE, None, None, None, None, None],
+        (1, Some(ONE), None),
+    ),
     (
         List::Four,
         1,
         FAULT,
-        &[Answer::Done, Answer::Done],
+        [DONE, DONE, None, None, None, None],
         (2, Some(ONE), Some(TWO)),
     ),
     (
         List::Four,
         2,
         FAULT,
-        &[Answer::Done, Answer::Done, Answer::Taken(Some(ONE))],
+        [DONE, DONE, TAKEN, None, None, None],
         (1, None, Some(TWO)),
     ),
     (
         List::Four,
         3,
         FAULT,
-        &[
-            Answer::Done,
-            Answer::Done,
-            Answer::Taken(Some(ONE)),
-            Answer::Done,
-        ],
+        [DONE, DONE, TAKEN, DONE, None, None],
         (0, None, None),
     ),
     (
         List::Extending,
         5,
         Ok(()),
-        &[
-            Answer::Done,
-            Answer::Done,
-            Answer::Done,
-            Answer::Present(false),
-            Answer::Length(2),
-        ],
+        [DONE, DONE, DONE, ABSENT, Some(Answer::Length(2)), None],
         (2, Some(ONE), Some(row!(3, 20, 0))),
     ),
     (
         List::ExtendingUnique,
         6,
         Ok(()),
-        &[
-            Answer::Done,
-            Answer::Done,
-            Answer::ExtendRefused((
-                [Some(row!(3, 30, 0)), None],
-                row!(4, 30, 0),
-                ExtendUniqueReason::Conflict,
-            )),
-            Answer::Present(false),
-            Answer::Done,
-            Answer::Length(4),
-        ],
+        [DONE, DONE, CLASH, ABSENT, DONE, Some(Answer::Length(4))],
         (4, Some(ONE), Some(TWO)),
     ),
 ];
 
 #[test]
 fn runs_end_at_the_first_fault(rt: HostRuntime) -> Result<(), Fail> {
-    for (list, most, ended, replies, wanted) in RUNS {
+    for (list, most, ended, replies, wanted) in &RUNS {
         let commands = listing(rt.alloc(), list)?;
         let mut map = BiHashMap::new(rt.alloc());
         let sink = Listener {
