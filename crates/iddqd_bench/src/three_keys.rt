@@ -1,8 +1,7 @@
-//! The map with three keys: its items, and what prepares the loops over it.
-ghost use Rattle.std.specs.Prelude.{refl};
-ghost use Rattle.std.specs.Cmp.{nat_eq_equiv};
+//! The map with three keys: what prepares the loops over it.
 
-use iddqd_tri::{TriHashItem, TriHashItemMut, TriHashMap};
+use iddqd_tests_tri::Row;
+use iddqd_tri::TriHashMap;
 use std::alloc::Global;
 
 pub mod building;
@@ -10,66 +9,6 @@ pub mod changing;
 pub mod inserting;
 pub mod searching;
 pub mod walking;
-
-/// An item of four numbers.
-#[repr(C)]
-#[derive(Clone, Copy, PartialEq, Eq, Drop)]
-pub struct Row {
-    /// The key of the first rank.
-    pub key1: u64,
-    /// The key of the second rank.
-    pub key2: u64,
-    /// The key of the third rank.
-    pub key3: u64,
-    /// What the keys stand for.
-    pub value: u64,
-}
-
-impl TriHashItem for Row {
-    type K1 = u64;
-
-    type K2 = u64;
-
-    type K3 = u64;
-
-    ghost key1 = { λ x. x.key1 };
-
-    ghost key2 = { λ x. x.key2 };
-
-    ghost key3 = { λ x. x.key3 };
-
-    fn key1(&self) -> &u64 {
-        &self.key1
-    }
-
-    fn key2(&self) -> &u64 {
-        &self.key2
-    }
-
-    fn key3(&self) -> &u64 {
-        &self.key3
-    }
-}
-
-impl TriHashItemMut for Row {
-    type Data = u64;
-
-    ghost payload = { λ x. x.value };
-
-    ghost put = { λ x value. record x { value = value } };
-
-    ghost keeps_key1 = { λ x value. nat_eq_equiv.refl x.key1 };
-
-    ghost keeps_key2 = { λ x value. nat_eq_equiv.refl x.key2 };
-
-    ghost keeps_key3 = { λ x value. nat_eq_equiv.refl x.key3 };
-
-    ghost put_shows = { λ x value. refl };
-
-    fn data_mut(&mut self) -> &mut u64 {
-        &mut self.value
-    }
-}
 
 /// Puts the rows in, and counts those that are refused.
 fn fill(map: &mut TriHashMap<Row>, rows: &[Row]) -> u64 {

@@ -9,7 +9,6 @@ mod error;
 mod index_table;
 mod item_index;
 mod item_set;
-mod key_matcher;
 mod matcher;
 mod meter;
 mod rank;
@@ -29,8 +28,7 @@ pub use error::{
 pub use index_table::IndexTable;
 pub use item_index::ItemIndex;
 pub use item_set::{IntoIter, ItemSet, Iter};
-pub use key_matcher::KeyMatcher;
-pub use matcher::Matcher;
+pub use matcher::{KeyMatcher, Matcher};
 pub use meter::Meter;
 pub use rank::{ByQuery, KeyOf, Lookup, Sought};
 pub use reply::MapReply;

@@ -4,7 +4,8 @@ ghost use Rattle.iddqd_tests_bi.specs.Row.{with_value};
 
 use iddqd_bi::{BiHashItem, BiHashItemMut};
 
-/// Two keys and a value.
+/// Two keys and a value, as a program that is not Rattle lays them out (`bench/run`).
+#[repr(C)]
 #[derive(Clone, Copy, Debug, PartialEq, Eq)]
 pub struct Row {
     pub key1: u64,

@@ -1,7 +1,7 @@
 //! Single items, by slot: where one goes in, room for it, putting it in and taking it out. Its files: the slots that
 //! searches by all keys `found`, how to `walk` and `write`, to put an item `over` others, and to `enter` a list that may
 //! be refused. What is done to all slots at once (emptying, copying and rebuilding them) goes to them itself.
-ghost use Rattle.std.specs.Prelude.{◌≡◌, ◌≢◌, ℕ, ◌<◌, ◌≤◌, [], ◌∷◌, length, All, IsPermutation, OnOk, OnErr, IfOk, IfErr, Some, None, IfSome, nat_eq, slice_set};
+ghost use Rattle.std.specs.Prelude.{◌≡◌, ◌≢◌, ◌==◌, ℕ, ◌<◌, ◌≤◌, [], ◌∷◌, length, All, IsPermutation, OnOk, OnErr, IfOk, IfErr, Some, None, IfSome, nat_eq, slice_set};
 ghost use Rattle.std.specs.List.{IsDistinct};
 ghost use Rattle.iddqd_store.specs.Bag.{IsSound, clash};
 ghost use Rattle.iddqd_store.specs.Rank.Index.{HasHash};
@@ -9,6 +9,7 @@ ghost use Rattle.iddqd_store.specs.Map.{bag, Gains, Loses, MakesRoom, IsFullFor,
 ghost use Rattle.iddqd_store.specs.Rank.{agree, IsPlaceOf, IsUnder};
 ghost use Rattle.iddqd_store.specs.Slots.Found.{each_once, items_at};
 ghost use Rattle.iddqd_store.specs.Slots.{get, IsLive, Updates};
+ghost use Rattle.iddqd_store.specs.Table.Limit.{most_room};
 ghost use Rattle.iddqd_bi.specs.Keys.{ranks};
 
 mod enter;
@@ -193,6 +194,26 @@ impl<T: BiHashItem, S: BuildHasher> BiHashMap<T, S> {
         taken
     }
 
+    /// How many items there is room for: the least of what the slots and each table hold.
+    pub(crate) fn room(&self) -> usize
+        ensures value { result ≡ self.now.capacity }
+        ensures fits { length (bag self.now) ≤ result }
+        ensures most { result ≤ most_room }
+    {
+        self.items
+            .capacity()
+            .min(self.first.capacity().min(self.second.capacity()))
+    }
+
+    /// Whether there is no room for one more item.
+    #[inline(always)]
+    fn is_full(&self) -> bool
+        ensures value { result ≡ (length (bag self.now) == self.now.capacity) }
+        ensures fits { length (bag self.now) ≤ self.now.capacity }
+    {
+        self.items.len() == self.room()
+    }
+
     /// Makes room for so many more items. It stays out of the way of an insert, which seldom grows.
     #[cold]
     #[inline(never)]
@@ -217,7 +238,7 @@ impl<T: BiHashItem, S: BuildHasher> BiHashMap<T, S> {
         ensures reason { OnErr result (length (bag self.old) ≡ self.old.capacity) }
         ensures unchanged { OnErr result (self.new ≡ self.old) }
     {
-        if self.len() == self.capacity() {
+        if self.is_full() {
             self.grow(1)?;
         }
         Ok(())

@@ -10,14 +10,13 @@ ghost use Rattle.iddqd_store.specs.Slots.Found.{FoundAt};
 ghost use Rattle.iddqd_store.specs.Slots.{get, IsLive};
 ghost use Rattle.iddqd_store.specs.Rank.{agree, key_hash, IsVacantFor, NamesOneUnder, SearchCosts, IsSearchable};
 
-use super::by_key::ByKey;
-use super::by_query::ByQuery;
 use super::key_of::KeyOf;
+use super::matchers::{ByKey, ByQuery};
 use crate::equivalent::Equivalent;
 use crate::index_table::IndexTable;
 use crate::item_index::ItemIndex;
 use crate::item_set::ItemSet;
-use crate::key_matcher::KeyMatcher;
+use crate::matcher::KeyMatcher;
 use crate::meter::Meter;
 use crate::vacancy::Vacancy;
 use std::hash::{BuildHasher, Hash};

@@ -32,11 +32,7 @@ impl<T: Ranked, S: BuildHasher> TriHashMap<T, S> {
         ensures fits { length (bag self.now) ≤ result }
         ensures most { result ≤ most_room }
     {
-        self.items.capacity().min(
-            self.first
-                .capacity()
-                .min(self.second.capacity().min(self.third.capacity())),
-        )
+        self.room()
     }
 
     /// Makes room for so many more items. It takes no memory where they fit already, and compares no key.

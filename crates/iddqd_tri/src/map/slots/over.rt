@@ -79,7 +79,7 @@ impl<T: TriHashItem, S: BuildHasher> TriHashMap<T, S> {
         ensures builder { self.new.builder ≡ self.old.builder }
     {
         // That the items fit, for the clause `fits`.
-        let _ = self.capacity();
+        let _ = self.room();
         let gone = self.items.replace(ix, item);
         self.first
             .rehash::<T, First, S>(&self.hash_builder, &gone, ix, by1.hash_at(ix), by1.hash());

@@ -1,6 +1,6 @@
 use Rattle.std.proofs.Common.{arith}
 use Rattle.iddqd_store.proofs.RankLemmas.Index.{length-live_items, length-index}
-use Rattle.iddqd_bi.proofs.map.BiHashMap.capacity.Goals as goal
+use Rattle.iddqd_bi.proofs.map.BiHashMap.room.Goals as goal
 
 pub returns-clause-fits : goal.returns-clause-fits
 returns-clause-fits g c =

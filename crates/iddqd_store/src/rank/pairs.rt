@@ -1,0 +1,78 @@
+//! The pairs of items that leave, or that others are put over: each stands under the hash of its item's key, which is
+//! known where a search found the item.
+ghost use Rattle.std.specs.Prelude.{◌≡◌, ◌<◌, ◌∷◌, length, Contains, IfSome};
+ghost use Rattle.std.specs.List.Sorted.{IsPermutation};
+ghost use Rattle.iddqd_store.specs.Rank.{key_hash};
+ghost use Rattle.iddqd_store.specs.Table.{MovesPair};
+
+use super::key_of::KeyOf;
+use crate::index_table::IndexTable;
+use crate::item_index::ItemIndex;
+use crate::meter::Meter;
+use std::hash::{BuildHasher, Hash};
+
+/// The hash of an item's key of the rank, which is hashed only where its hash isn't known.
+fn hash_of_key<T, R: KeyOf<T>, S: BuildHasher>(
+    hash_builder: &S,
+    item: &T,
+    known: Option<u64>,
+) -> u64
+    requires { IfSome known (λ hash.
+        key_hash R.key R.Key.hash_input S.BuildHasher S.Hasher.Hasher hash_builder.now item.now ≡ hash) }
+    ensures { result ≡ key_hash R.key R.Key.hash_input S.BuildHasher S.Hasher.Hasher hash_builder.now item.now }
+{
+    match known {
+        Some(hash) => hash,
+        None => hash_builder.hash_one(R::key(item)),
+    }
+}
+
+impl IndexTable {
+    /// Takes out the pair of an item that stood in this slot. Its key is hashed only where the hash isn't known.
+    pub fn forget<T, R: KeyOf<T>, S: BuildHasher>(
+        &mut self,
+        hash_builder: &S,
+        item: &T,
+        ix: ItemIndex,
+        known: Option<u64>,
+    )
+        requires known { IfSome known (λ hash.
+            key_hash R.key R.Key.hash_input S.BuildHasher S.Hasher.Hasher hash_builder.now item.now ≡ hash) }
+        requires paired { Contains self.old.pairs
+            (key_hash R.key R.Key.hash_input S.BuildHasher S.Hasher.Hasher hash_builder.now item.now, ix) }
+        ensures taken { IsPermutation self.old.pairs
+            ((key_hash R.key R.Key.hash_input S.BuildHasher S.Hasher.Hasher hash_builder.now item.now, ix)
+            ∷ self.new.pairs) }
+        ensures limit { self.new.limit ≡ self.old.limit }
+        ensures room { length self.new.pairs < self.new.limit }
+    {
+        let hash = hash_of_key::<T, R, S>(hash_builder, item, known);
+        self.remove(hash, ix, &mut Meter::new());
+    }
+
+    /// Puts a slot under another hash than that of the item that stood there, whose key is hashed only where its hash
+    /// isn't known. Where both are equal nothing is done.
+    pub fn rehash<T, R: KeyOf<T>, S: BuildHasher>(
+        &mut self,
+        hash_builder: &S,
+        gone: &T,
+        ix: ItemIndex,
+        known: Option<u64>,
+        hash: u64,
+    )
+        requires known { IfSome known (λ before.
+            key_hash R.key R.Key.hash_input S.BuildHasher S.Hasher.Hasher hash_builder.now gone.now ≡ before) }
+        requires paired { Contains self.old.pairs
+            (key_hash R.key R.Key.hash_input S.BuildHasher S.Hasher.Hasher hash_builder.now gone.now, ix) }
+        ensures moved { MovesPair self.old.pairs self.new.pairs
+            (key_hash R.key R.Key.hash_input S.BuildHasher S.Hasher.Hasher hash_builder.now gone.now) hash ix }
+        ensures limit { self.new.limit ≡ self.old.limit }
+    {
+        let before = hash_of_key::<T, R, S>(hash_builder, gone, known);
+        if before == hash {
+            return;
+        }
+        self.remove(before, ix, &mut Meter::new());
+        self.insert_reserved(hash, ix, &mut Meter::new());
+    }
+}
