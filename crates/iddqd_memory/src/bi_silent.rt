@@ -1,44 +1,18 @@
 //! Calls of the two-key map that ask for no memory, each on a full map.
-use crate::bi::{filled, overwrite, put};
+use crate::bi::{overwrite, put};
+use crate::bi_full::{BESIDE, ONE, OVER, Silent, TWO, are_granted};
 use crate::bi_room::{is_shrunk, makes_room};
-use crate::granted::{is_byte_granted, say_unless};
+use crate::granted::say_unless;
 use iddqd_bi::{BiHashMap, DefaultHashBuilder, InsertError};
 use iddqd_tests_bi::Row;
 use std::alloc::Global;
 use std::mem;
-use std::process::Abort;
 use std::test::*;
-
-const ONE: Row = Row {
-    key1: 1,
-    key2: 10,
-    value: 100,
-};
-
-const TWO: Row = Row {
-    key1: 2,
-    key2: 20,
-    value: 200,
-};
-
-/// It has the first key of one row of a full map and the second key of another.
-const OVER: Row = Row {
-    key1: 1,
-    key2: 20,
-    value: 0,
-};
 
 /// It has a key of one row of a full map.
 const HALF_OVER: Row = Row {
     key1: 9,
     key2: 20,
-    value: 0,
-};
-
-/// It conflicts with no row of a full map.
-const BESIDE: Row = Row {
-    key1: 8,
-    key2: 80,
     value: 0,
 };
 
@@ -112,39 +86,40 @@ const INSERTS: &[Call] = &[
     Call::ExtendByNone,
 ];
 
-/// Makes a call, and says whether it answered as it should.
-fn is_right(alloc: Global, map: &mut BiHashMap<Row>, call: Call) -> bool {
-    match call {
-        Call::Build => build(alloc),
-        Call::BuildWithHasher => build_with_hasher(alloc),
-        Call::Count => count(map),
-        Call::Get => get(map),
-        Call::GetUnique => get_unique(map),
-        Call::Contain => contain(map),
-        Call::Remove1 => remove1(map, 1) == Some(ONE),
-        Call::Remove2 => remove2(map, 20) == Some(TWO),
-        Call::RemoveUnique => remove_unique(map, 1, 10) == Some(ONE),
-        Call::RemoveAbsent => remove_absent(map),
-        Call::Clear => clear(map),
-        Call::Retain => retain(map),
-        Call::Reserve => makes_room(map, 0, false),
-        Call::ReserveLeft => remove1(map, 7).is_some() && makes_room(map, 1, true),
-        Call::ShrinkToFitEmpty => clear(map) && is_shrunk(map, None),
-        Call::ShrinkToEmpty => clear(map) && is_shrunk(map, Some(0)),
-        Call::ShrinkToNothing => clear(map) && is_shrunk(map, None) && is_shrunk(map, Some(5)),
-        Call::Duplicate => duplicate(map),
-        Call::DuplicateParts => duplicate_parts(map),
-        Call::OverwriteTwo => overwrite(map, OVER) == Ok([Some(ONE), Some(TWO)]),
-        Call::OverwriteOne => overwrite(map, HALF_OVER) == Ok([Some(TWO), None]),
-        Call::InsertBelow => remove2(map, 70).is_some() && put(map, BESIDE),
-        Call::OverwriteBelow => {
-            remove2(map, 70).is_some() && overwrite(map, BESIDE) == Ok([None, None])
+impl Silent for Call {
+    fn is_right(self, alloc: Global, map: &mut BiHashMap<Row>) -> bool {
+        match self {
+            Call::Build => build(alloc),
+            Call::BuildWithHasher => build_with_hasher(alloc),
+            Call::Count => count(map),
+            Call::Get => get(map),
+            Call::GetUnique => get_unique(map),
+            Call::Contain => contain(map),
+            Call::Remove1 => remove1(map, 1) == Some(ONE),
+            Call::Remove2 => remove2(map, 20) == Some(TWO),
+            Call::RemoveUnique => remove_unique(map, 1, 10) == Some(ONE),
+            Call::RemoveAbsent => remove_absent(map),
+            Call::Clear => clear(map),
+            Call::Retain => retain(map),
+            Call::Reserve => makes_room(map, 0, false),
+            Call::ReserveLeft => remove1(map, 7).is_some() && makes_room(map, 1, true),
+            Call::ShrinkToFitEmpty => clear(map) && is_shrunk(map, None),
+            Call::ShrinkToEmpty => clear(map) && is_shrunk(map, Some(0)),
+            Call::ShrinkToNothing => clear(map) && is_shrunk(map, None) && is_shrunk(map, Some(5)),
+            Call::Duplicate => duplicate(map),
+            Call::DuplicateParts => duplicate_parts(map),
+            Call::OverwriteTwo => overwrite(map, OVER) == Ok([Some(ONE), Some(TWO)]),
+            Call::OverwriteOne => overwrite(map, HALF_OVER) == Ok([Some(TWO), None]),
+            Call::InsertBelow => remove2(map, 70).is_some() && put(map, BESIDE),
+            Call::OverwriteBelow => {
+                remove2(map, 70).is_some() && overwrite(map, BESIDE) == Ok([None, None])
+            }
+            Call::Often => often(map),
+            Call::ExtendByNone => extend_by_none(map),
+            Call::Equal => equal(map),
+            Call::Walk => walk(map),
+            Call::WalkByValue => walk_by_value(alloc, map),
         }
-        Call::Often => often(map),
-        Call::ExtendByNone => extend_by_none(map),
-        Call::Equal => equal(map),
-        Call::Walk => walk(map),
-        Call::WalkByValue => walk_by_value(alloc, map),
     }
 }
 
@@ -254,26 +229,6 @@ fn walk(map: &BiHashMap<Row>) -> bool {
 fn walk_by_value(alloc: Global, map: &mut BiHashMap<Row>) -> bool {
     let map = mem::replace(map, BiHashMap::new(alloc));
     map.into_iter().count() == 7
-}
-
-/// Makes a call on a full map, and asks for one byte behind it. Says whether what the map and that byte need was
-/// granted: a request of the call itself is seen by neither.
-fn is_granted(rt: &impl Abort, alloc: Global, call: Call) -> bool {
-    match filled(rt, alloc, 7, 7) {
-        Some(mut map) => {
-            assert!(rt; is_right(alloc, &mut map, call));
-            is_byte_granted(alloc)
-        }
-        None => false,
-    }
-}
-
-fn are_granted(rt: &impl Abort, alloc: Global, calls: &[Call]) -> bool {
-    let mut all = true;
-    for call in calls {
-        all = is_granted(rt, alloc, *call) && all;
-    }
-    all
 }
 
 #[test]

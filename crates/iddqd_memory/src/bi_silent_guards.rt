@@ -1,31 +1,10 @@
 //! Guards and walks of the two-key map that ask for no memory, each on a full map.
-use crate::bi::filled;
-use crate::granted::{is_byte_granted, say_unless};
+use crate::bi_full::{ONE, OVER, SAME, Silent, are_granted};
+use crate::granted::say_unless;
 use iddqd_bi::{BiHashMap, Cursor};
 use iddqd_tests_bi::Row;
 use std::alloc::Global;
-use std::process::Abort;
 use std::test::*;
-
-const ONE: Row = Row {
-    key1: 1,
-    key2: 10,
-    value: 100,
-};
-
-/// It has the keys of a row of a full map.
-const SAME: Row = Row {
-    key1: 1,
-    key2: 10,
-    value: 5,
-};
-
-/// It has the first key of one row of a full map and the second key of another.
-const OVER: Row = Row {
-    key1: 1,
-    key2: 20,
-    value: 0,
-};
 
 /// What is done with a full map.
 #[derive(Clone, Copy)]
@@ -53,18 +32,19 @@ const GUARDS: &[Call] = &[
     Call::NextData,
 ];
 
-/// Makes a call, and says whether it answered as it should.
-fn is_right(map: &mut BiHashMap<Row>, call: Call) -> bool {
-    match call {
-        Call::Get1 => write1(map, 1),
-        Call::Get2 => write2(map, 20),
-        Call::GetUnique => write_unique(map, SAME),
-        Call::IntoRef => lent_for_good(map, 1) == Some(ONE),
-        Call::Replace => replace(map, 1, SAME) == Some(true),
-        Call::ReplaceRefused => replace(map, 1, OVER) == Some(false),
-        Call::NextFrom => next_from(map),
-        Call::NextMut => next_mut(map),
-        Call::NextData => next_data(map),
+impl Silent for Call {
+    fn is_right(self, _alloc: Global, map: &mut BiHashMap<Row>) -> bool {
+        match self {
+            Call::Get1 => write1(map, 1),
+            Call::Get2 => write2(map, 20),
+            Call::GetUnique => write_unique(map, SAME),
+            Call::IntoRef => lent_for_good(map, 1) == Some(ONE),
+            Call::Replace => replace(map, 1, SAME) == Some(true),
+            Call::ReplaceRefused => replace(map, 1, OVER) == Some(false),
+            Call::NextFrom => next_from(map),
+            Call::NextMut => next_mut(map),
+            Call::NextData => next_data(map),
+        }
     }
 }
 
@@ -130,23 +110,7 @@ fn next_data(map: &mut BiHashMap<Row>) -> bool {
     items.next_data().is_none()
 }
 
-/// Makes a call on a full map, and asks for one byte behind it. Says whether what the map and that byte need was
-/// granted: a request of the call itself is seen by neither.
-fn is_granted(rt: &impl Abort, alloc: Global, call: Call) -> bool {
-    match filled(rt, alloc, 7, 7) {
-        Some(mut map) => {
-            assert!(rt; is_right(&mut map, call));
-            is_byte_granted(alloc)
-        }
-        None => false,
-    }
-}
-
 #[test]
 fn hides_none_in_guards(rt: HostRuntime) {
-    let mut all = true;
-    for call in GUARDS {
-        all = is_granted(&rt, rt.alloc(), *call) && all;
-    }
-    say_unless(&rt, all);
+    say_unless(&rt, are_granted(&rt, rt.alloc(), GUARDS));
 }

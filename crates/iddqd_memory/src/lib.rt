@@ -14,6 +14,8 @@ mod bi;
 #[cfg(test)]
 mod bi_building;
 #[cfg(test)]
+mod bi_full;
+#[cfg(test)]
 mod bi_room;
 #[cfg(test)]
 mod bi_silent;
@@ -27,6 +29,8 @@ mod granted;
 mod tri;
 #[cfg(test)]
 mod tri_building;
+#[cfg(test)]
+mod tri_full;
 #[cfg(test)]
 mod tri_room;
 #[cfg(test)]

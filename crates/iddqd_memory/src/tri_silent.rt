@@ -1,56 +1,19 @@
 //! Calls of the three-key map that ask for no memory, each on a full map.
-use crate::granted::{is_byte_granted, say_unless};
-use crate::tri::{filled, overwrite, put};
+use crate::granted::say_unless;
+use crate::tri::{overwrite, put};
+use crate::tri_full::{BESIDE, ONE, OVER, Silent, THREE, TWO, are_granted};
 use crate::tri_room::{is_shrunk, makes_room};
 use iddqd_tests_tri::Row;
 use iddqd_tri::{DefaultHashBuilder, InsertError, TriHashMap};
 use std::alloc::Global;
 use std::mem;
-use std::process::Abort;
 use std::test::*;
-
-const ONE: Row = Row {
-    key1: 1,
-    key2: 10,
-    key3: 100,
-    value: 100,
-};
-
-const TWO: Row = Row {
-    key1: 2,
-    key2: 20,
-    key3: 200,
-    value: 200,
-};
-
-const THREE: Row = Row {
-    key1: 3,
-    key2: 30,
-    key3: 300,
-    value: 0,
-};
-
-/// It has the first key of one row of a full map, the second key of another and the third key of a third one.
-const OVER: Row = Row {
-    key1: 1,
-    key2: 20,
-    key3: 300,
-    value: 0,
-};
 
 /// It has a key of one row of a full map.
 const HALF_OVER: Row = Row {
     key1: 9,
     key2: 90,
     key3: 200,
-    value: 0,
-};
-
-/// It conflicts with no row of a full map.
-const BESIDE: Row = Row {
-    key1: 8,
-    key2: 80,
-    key3: 800,
     value: 0,
 };
 
@@ -126,40 +89,41 @@ const INSERTS: &[Call] = &[
     Call::ExtendByNone,
 ];
 
-/// Makes a call, and says whether it answered as it should.
-fn is_right(alloc: Global, map: &mut TriHashMap<Row>, call: Call) -> bool {
-    match call {
-        Call::Build => build(alloc),
-        Call::BuildWithHasher => build_with_hasher(alloc),
-        Call::Count => count(map),
-        Call::Get => get(map),
-        Call::GetUnique => get_unique(map),
-        Call::Contain => contain(map),
-        Call::Remove1 => remove1(map, 1) == Some(ONE),
-        Call::Remove2 => remove2(map, 20) == Some(TWO),
-        Call::Remove3 => remove3(map, 300) == Some(THREE),
-        Call::RemoveUnique => remove_unique(map, ONE) == Some(ONE),
-        Call::RemoveAbsent => remove_absent(map),
-        Call::Clear => clear(map),
-        Call::Retain => retain(map),
-        Call::Reserve => makes_room(map, 0, false),
-        Call::ReserveLeft => remove1(map, 7).is_some() && makes_room(map, 1, true),
-        Call::ShrinkToFitEmpty => clear(map) && is_shrunk(map, None),
-        Call::ShrinkToEmpty => clear(map) && is_shrunk(map, Some(0)),
-        Call::ShrinkToNothing => clear(map) && is_shrunk(map, None) && is_shrunk(map, Some(5)),
-        Call::Duplicate => duplicate(map),
-        Call::DuplicateParts => duplicate_parts(map),
-        Call::OverwriteTwo => overwrite(map, OVER) == Ok([Some(ONE), Some(TWO), Some(THREE)]),
-        Call::OverwriteOne => overwrite(map, HALF_OVER) == Ok([Some(TWO), None, None]),
-        Call::InsertBelow => remove2(map, 70).is_some() && put(map, BESIDE),
-        Call::OverwriteBelow => {
-            remove2(map, 70).is_some() && overwrite(map, BESIDE) == Ok([None; 3])
+impl Silent for Call {
+    fn is_right(self, alloc: Global, map: &mut TriHashMap<Row>) -> bool {
+        match self {
+            Call::Build => build(alloc),
+            Call::BuildWithHasher => build_with_hasher(alloc),
+            Call::Count => count(map),
+            Call::Get => get(map),
+            Call::GetUnique => get_unique(map),
+            Call::Contain => contain(map),
+            Call::Remove1 => remove1(map, 1) == Some(ONE),
+            Call::Remove2 => remove2(map, 20) == Some(TWO),
+            Call::Remove3 => remove3(map, 300) == Some(THREE),
+            Call::RemoveUnique => remove_unique(map, ONE) == Some(ONE),
+            Call::RemoveAbsent => remove_absent(map),
+            Call::Clear => clear(map),
+            Call::Retain => retain(map),
+            Call::Reserve => makes_room(map, 0, false),
+            Call::ReserveLeft => remove1(map, 7).is_some() && makes_room(map, 1, true),
+            Call::ShrinkToFitEmpty => clear(map) && is_shrunk(map, None),
+            Call::ShrinkToEmpty => clear(map) && is_shrunk(map, Some(0)),
+            Call::ShrinkToNothing => clear(map) && is_shrunk(map, None) && is_shrunk(map, Some(5)),
+            Call::Duplicate => duplicate(map),
+            Call::DuplicateParts => duplicate_parts(map),
+            Call::OverwriteTwo => overwrite(map, OVER) == Ok([Some(ONE), Some(TWO), Some(THREE)]),
+            Call::OverwriteOne => overwrite(map, HALF_OVER) == Ok([Some(TWO), None, None]),
+            Call::InsertBelow => remove2(map, 70).is_some() && put(map, BESIDE),
+            Call::OverwriteBelow => {
+                remove2(map, 70).is_some() && overwrite(map, BESIDE) == Ok([None; 3])
+            }
+            Call::Often => often(map),
+            Call::ExtendByNone => extend_by_none(map),
+            Call::Equal => equal(map),
+            Call::Walk => walk(map),
+            Call::WalkByValue => walk_by_value(alloc, map),
         }
-        Call::Often => often(map),
-        Call::ExtendByNone => extend_by_none(map),
-        Call::Equal => equal(map),
-        Call::Walk => walk(map),
-        Call::WalkByValue => walk_by_value(alloc, map),
     }
 }
 
@@ -279,26 +243,6 @@ fn walk(map: &TriHashMap<Row>) -> bool {
 fn walk_by_value(alloc: Global, map: &mut TriHashMap<Row>) -> bool {
     let map = mem::replace(map, TriHashMap::new(alloc));
     map.into_iter().count() == 7
-}
-
-/// Makes a call on a full map, and asks for one byte behind it. Says whether what the map and that byte need was
-/// granted: a request of the call itself is seen by neither.
-fn is_granted(rt: &impl Abort, alloc: Global, call: Call) -> bool {
-    match filled(rt, alloc, 7, 7) {
-        Some(mut map) => {
-            assert!(rt; is_right(alloc, &mut map, call));
-            is_byte_granted(alloc)
-        }
-        None => false,
-    }
-}
-
-fn are_granted(rt: &impl Abort, alloc: Global, calls: &[Call]) -> bool {
-    let mut all = true;
-    for call in calls {
-        all = is_granted(rt, alloc, *call) && all;
-    }
-    all
 }
 
 #[test]

@@ -1,58 +1,13 @@
 //! Entries of the three-key map that ask for no memory, each on a full map.
 ghost use Rattle.iddqd_tri.specs.Entries.{Holds};
 
-use crate::granted::{is_byte_granted, say_unless};
-use crate::tri::{Answer, Way, filled, overwrite_entry, put_in};
+use crate::granted::say_unless;
+use crate::tri::{Answer, Way, overwrite_entry, put_in};
+use crate::tri_full::{BESIDE, ONE, OVER, SAME, Silent, THREE, TWO, are_granted};
 use iddqd_tests_tri::Row;
 use iddqd_tri::{Entry, OccupiedEntryMut, OccupiedEntryRef, TriHashMap};
 use std::alloc::Global;
-use std::process::Abort;
 use std::test::*;
-
-const ONE: Row = Row {
-    key1: 1,
-    key2: 10,
-    key3: 100,
-    value: 100,
-};
-
-const TWO: Row = Row {
-    key1: 2,
-    key2: 20,
-    key3: 200,
-    value: 200,
-};
-
-const THREE: Row = Row {
-    key1: 3,
-    key2: 30,
-    key3: 300,
-    value: 0,
-};
-
-/// It has the keys of a row of a full map.
-const SAME: Row = Row {
-    key1: 1,
-    key2: 10,
-    key3: 100,
-    value: 5,
-};
-
-/// It has the first key of one row of a full map, the second key of another and the third key of a third one.
-const OVER: Row = Row {
-    key1: 1,
-    key2: 20,
-    key3: 300,
-    value: 0,
-};
-
-/// It conflicts with no row of a full map.
-const BESIDE: Row = Row {
-    key1: 8,
-    key2: 80,
-    key3: 800,
-    value: 0,
-};
 
 /// It has the first key that is asked for, and another second one.
 const OTHER2: Row = Row {
@@ -127,38 +82,40 @@ const VACANT: &[Call] = &[
     Call::OrInsertWithRefused,
 ];
 
-/// Makes a call, and says whether it answered as it should.
-fn is_right(map: &mut TriHashMap<Row>, call: Call) -> bool {
-    match call {
-        Call::Modify => modify(map, OVER) == 3,
-        Call::Seen => see(map, OVER),
-        Call::SeenForGood => see_for_good(map, SAME),
-        Call::Lent => lend(map, OVER),
-        Call::LentForGood => lend_for_good(map, SAME),
-        Call::UniqueForGood => lend_unique_for_good(map, SAME),
-        Call::ForEach => for_each(map, OVER) == 3,
-        Call::Insert => overwrite_entry(map, OVER, OVER)
-            == Some([Some(ONE), Some(TWO), Some(THREE)]),
-        Call::InsertRefused => overwrite_entry(map, OVER, BESIDE) == Some([None; 3]),
-        Call::Remove => remove(map, OVER) == [Some(ONE), Some(TWO), Some(THREE)],
-        Call::Data1 => write_data1(map, OVER),
-        Call::Data2 => write_data2(map, OVER),
-        Call::Data3 => write_data3(map, OVER),
-        Call::Vacant => is_vacant(map, BESIDE),
-        Call::VacantInsert => put_in(map, Way::VacantInsert, BESIDE, SAME) == Answer::Key1(SAME),
-        Call::VacantInsert2 => put_in(map, Way::VacantInsert, BESIDE, OTHER2)
-            == Answer::Key2(OTHER2),
-        Call::VacantInsert3 => put_in(map, Way::VacantInsert, BESIDE, OTHER3)
-            == Answer::Key3(OTHER3),
-        Call::VacantInsertMut => put_in(map, Way::VacantInsertMut, BESIDE, SAME)
-            == Answer::Key1(SAME),
-        Call::VacantInsertEntry => put_in(map, Way::VacantInsertEntry, BESIDE, SAME)
-            == Answer::Key1(SAME),
-        Call::OrInsert => put_in(map, Way::OrInsert, OVER, BESIDE) == Answer::In,
-        Call::OrInsertWith => put_in(map, Way::OrInsertWith, OVER, BESIDE) == Answer::In,
-        Call::OrInsertRefused => put_in(map, Way::OrInsert, BESIDE, SAME) == Answer::Key1(SAME),
-        Call::OrInsertWithRefused => put_in(map, Way::OrInsertWith, BESIDE, SAME)
-            == Answer::Key1(SAME),
+impl Silent for Call {
+    fn is_right(self, _alloc: Global, map: &mut TriHashMap<Row>) -> bool {
+        match self {
+            Call::Modify => modify(map, OVER) == 3,
+            Call::Seen => see(map, OVER),
+            Call::SeenForGood => see_for_good(map, SAME),
+            Call::Lent => lend(map, OVER),
+            Call::LentForGood => lend_for_good(map, SAME),
+            Call::UniqueForGood => lend_unique_for_good(map, SAME),
+            Call::ForEach => for_each(map, OVER) == 3,
+            Call::Insert => overwrite_entry(map, OVER, OVER)
+                == Some([Some(ONE), Some(TWO), Some(THREE)]),
+            Call::InsertRefused => overwrite_entry(map, OVER, BESIDE) == Some([None; 3]),
+            Call::Remove => remove(map, OVER) == [Some(ONE), Some(TWO), Some(THREE)],
+            Call::Data1 => write_data1(map, OVER),
+            Call::Data2 => write_data2(map, OVER),
+            Call::Data3 => write_data3(map, OVER),
+            Call::Vacant => is_vacant(map, BESIDE),
+            Call::VacantInsert => put_in(map, Way::VacantInsert, BESIDE, SAME)
+                == Answer::Key1(SAME),
+            Call::VacantInsert2 => put_in(map, Way::VacantInsert, BESIDE, OTHER2)
+                == Answer::Key2(OTHER2),
+            Call::VacantInsert3 => put_in(map, Way::VacantInsert, BESIDE, OTHER3)
+                == Answer::Key3(OTHER3),
+            Call::VacantInsertMut => put_in(map, Way::VacantInsertMut, BESIDE, SAME)
+                == Answer::Key1(SAME),
+            Call::VacantInsertEntry => put_in(map, Way::VacantInsertEntry, BESIDE, SAME)
+                == Answer::Key1(SAME),
+            Call::OrInsert => put_in(map, Way::OrInsert, OVER, BESIDE) == Answer::In,
+            Call::OrInsertWith => put_in(map, Way::OrInsertWith, OVER, BESIDE) == Answer::In,
+            Call::OrInsertRefused => put_in(map, Way::OrInsert, BESIDE, SAME) == Answer::Key1(SAME),
+            Call::OrInsertWithRefused => put_in(map, Way::OrInsertWith, BESIDE, SAME)
+                == Answer::Key1(SAME),
+        }
     }
 }
 
@@ -282,26 +239,6 @@ fn is_vacant(map: &mut TriHashMap<Row>, keys: Row) -> bool {
         map.entry(&keys.key1, &keys.key2, &keys.key3),
         Entry::Vacant(_)
     )
-}
-
-/// Makes a call on a full map, and asks for one byte behind it. Says whether what the map and that byte need was
-/// granted: a request of the call itself is seen by neither.
-fn is_granted(rt: &impl Abort, alloc: Global, call: Call) -> bool {
-    match filled(rt, alloc, 7, 7) {
-        Some(mut map) => {
-            assert!(rt; is_right(&mut map, call));
-            is_byte_granted(alloc)
-        }
-        None => false,
-    }
-}
-
-fn are_granted(rt: &impl Abort, alloc: Global, calls: &[Call]) -> bool {
-    let mut all = true;
-    for call in calls {
-        all = is_granted(rt, alloc, *call) && all;
-    }
-    all
 }
 
 #[test]

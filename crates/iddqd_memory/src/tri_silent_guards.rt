@@ -1,34 +1,10 @@
 //! Guards and walks of the three-key map that ask for no memory, each on a full map.
-use crate::granted::{is_byte_granted, say_unless};
-use crate::tri::filled;
+use crate::granted::say_unless;
+use crate::tri_full::{ONE, OVER, SAME, Silent, are_granted};
 use iddqd_tests_tri::Row;
 use iddqd_tri::{Cursor, TriHashMap};
 use std::alloc::Global;
-use std::process::Abort;
 use std::test::*;
-
-const ONE: Row = Row {
-    key1: 1,
-    key2: 10,
-    key3: 100,
-    value: 100,
-};
-
-/// It has the keys of a row of a full map.
-const SAME: Row = Row {
-    key1: 1,
-    key2: 10,
-    key3: 100,
-    value: 5,
-};
-
-/// It has the first key of one row of a full map, the second key of another and the third key of a third one.
-const OVER: Row = Row {
-    key1: 1,
-    key2: 20,
-    key3: 300,
-    value: 0,
-};
 
 /// What is done with a full map.
 #[derive(Clone, Copy)]
@@ -58,19 +34,20 @@ const GUARDS: &[Call] = &[
     Call::NextData,
 ];
 
-/// Makes a call, and says whether it answered as it should.
-fn is_right(map: &mut TriHashMap<Row>, call: Call) -> bool {
-    match call {
-        Call::Get1 => write1(map, 1),
-        Call::Get2 => write2(map, 20),
-        Call::Get3 => write3(map, 300),
-        Call::GetUnique => write_unique(map, SAME),
-        Call::IntoRef => lent_for_good(map, 1) == Some(ONE),
-        Call::Replace => replace(map, 1, SAME) == Some(true),
-        Call::ReplaceRefused => replace(map, 1, OVER) == Some(false),
-        Call::NextFrom => next_from(map),
-        Call::NextMut => next_mut(map),
-        Call::NextData => next_data(map),
+impl Silent for Call {
+    fn is_right(self, _alloc: Global, map: &mut TriHashMap<Row>) -> bool {
+        match self {
+            Call::Get1 => write1(map, 1),
+            Call::Get2 => write2(map, 20),
+            Call::Get3 => write3(map, 300),
+            Call::GetUnique => write_unique(map, SAME),
+            Call::IntoRef => lent_for_good(map, 1) == Some(ONE),
+            Call::Replace => replace(map, 1, SAME) == Some(true),
+            Call::ReplaceRefused => replace(map, 1, OVER) == Some(false),
+            Call::NextFrom => next_from(map),
+            Call::NextMut => next_mut(map),
+            Call::NextData => next_data(map),
+        }
     }
 }
 
@@ -146,23 +123,7 @@ fn next_data(map: &mut TriHashMap<Row>) -> bool {
     items.next_data().is_none()
 }
 
-/// Makes a call on a full map, and asks for one byte behind it. Says whether what the map and that byte need was
-/// granted: a request of the call itself is seen by neither.
-fn is_granted(rt: &impl Abort, alloc: Global, call: Call) -> bool {
-    match filled(rt, alloc, 7, 7) {
-        Some(mut map) => {
-            assert!(rt; is_right(&mut map, call));
-            is_byte_granted(alloc)
-        }
-        None => false,
-    }
-}
-
 #[test]
 fn hides_none_in_guards(rt: HostRuntime) {
-    let mut all = true;
-    for call in GUARDS {
-        all = is_granted(&rt, rt.alloc(), *call) && all;
-    }
-    say_unless(&rt, all);
+    say_unless(&rt, are_granted(&rt, rt.alloc(), GUARDS));
 }

@@ -7,7 +7,7 @@ ghost use Rattle.iddqd_store.specs.Map.{bag};
 ghost use Rattle.iddqd_bi.specs.Entries.{IsFound, IsSameEntry, KeepsFound, OnOccupied, OnVacant, PutsIn, entry_lender, entry_map, sought};
 
 use super::{Entry, Keys, OccupiedEntryMut, VacantEntry};
-use crate::error::{EntryError, EntryRefusal, differ};
+use crate::error::EntryRefusal;
 use crate::item::{BiHashItem, BiHashItemMut, Ranked};
 use std::hash::{BuildHasher, Hash};
 
@@ -95,22 +95,13 @@ impl<'a, T: BiHashItem, S: BuildHasher, Q: Keys<T::K1, T::K2>> VacantEntry<'a, T
             at1,
             at2,
         } = self;
-        if let Some(rank) = differ(&item, keys.first(), keys.second()) {
-            return Err(EntryRefusal {
-                map,
-                error: EntryError::at(rank, item),
-            });
-        }
-        match map.put_free(item, at1, at2) {
+        match map.put_free(item, keys.first(), keys.second(), at1, at2) {
             Ok(slot) => Ok(OccupiedEntryMut {
                 map,
                 slot1: Some(slot),
                 slot2: Some(slot),
             }),
-            Err(item) => Err(EntryRefusal {
-                map,
-                error: EntryError::Memory(item),
-            }),
+            Err(error) => Err(EntryRefusal { map, error }),
         }
     }
 }

@@ -8,7 +8,7 @@ ghost use Rattle.iddqd_bi.specs.Mismatch.{error_item, error_rank, OnNoMemory};
 ghost use Rattle.iddqd_bi.specs.RefMuts.{ref_lender, ref_map, ref_item};
 
 use super::{KeyPair, Keys, OccupiedEntry, OccupiedEntryMut, VacantEntry};
-use crate::error::{EntryError, EntryRefusal, differ};
+use crate::error::{EntryError, EntryRefusal};
 use crate::item::{BiHashItem, Ranked};
 use crate::ref_mut::RefMut;
 use std::hash::{BuildHasher, Hash};
@@ -44,12 +44,9 @@ impl<'a, T: Ranked, S: BuildHasher, Q: Keys<T::K1, T::K2>> VacantEntry<'a, T, S,
             at1,
             at2,
         } = self;
-        if let Some(rank) = differ(&item, keys.first(), keys.second()) {
-            return Err(EntryError::at(rank, item));
-        }
-        match map.put_free(item, at1, at2) {
+        match map.put_free(item, keys.first(), keys.second(), at1, at2) {
             Ok(slot) => Ok(RefMut { map, slot }),
-            Err(item) => Err(EntryError::Memory(item)),
+            Err(error) => Err(error),
         }
     }
 
@@ -82,16 +79,13 @@ impl<'a, T: Ranked, S: BuildHasher, Q: Keys<T::K1, T::K2>> VacantEntry<'a, T, S,
             at1,
             at2,
         } = self;
-        if let Some(rank) = differ(&item, keys.first(), keys.second()) {
-            return Err(EntryError::at(rank, item));
-        }
-        match map.put_free(item, at1, at2) {
+        match map.put_free(item, keys.first(), keys.second(), at1, at2) {
             Ok(slot) => Ok(OccupiedEntryMut {
                 map,
                 slot1: Some(slot),
                 slot2: Some(slot),
             }),
-            Err(item) => Err(EntryError::Memory(item)),
+            Err(error) => Err(error),
         }
     }
 }
@@ -125,13 +119,7 @@ impl<'a, T: BiHashItem, S: BuildHasher> VacantEntry<'a, T, S> {
             at2,
         } = self;
         let KeyPair { key1, key2 } = keys;
-        if let Some(rank) = differ(&item, key1, key2) {
-            return Err(EntryRefusal {
-                map,
-                error: EntryError::at(rank, item),
-            });
-        }
-        match map.put_free(item, at1, at2) {
+        match map.put_free(item, key1, key2, at1, at2) {
             Ok(slot) => Ok(OccupiedEntry {
                 map,
                 key1,
@@ -139,10 +127,7 @@ impl<'a, T: BiHashItem, S: BuildHasher> VacantEntry<'a, T, S> {
                 slot1: Some(slot),
                 slot2: Some(slot),
             }),
-            Err(item) => Err(EntryRefusal {
-                map,
-                error: EntryError::Memory(item),
-            }),
+            Err(error) => Err(EntryRefusal { map, error }),
         }
     }
 }

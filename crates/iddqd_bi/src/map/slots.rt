@@ -3,14 +3,15 @@
 //! be refused. What is done to all slots at once (emptying, copying and rebuilding them) goes to them itself.
 ghost use Rattle.std.specs.Prelude.{◌≡◌, ◌≢◌, ◌==◌, ℕ, ◌<◌, ◌≤◌, [], ◌∷◌, length, All, IsPermutation, OnOk, OnErr, IfOk, IfErr, Some, None, IfSome, nat_eq, slice_set};
 ghost use Rattle.std.specs.List.{IsDistinct};
-ghost use Rattle.iddqd_store.specs.Bag.{IsSound, clash};
+ghost use Rattle.iddqd_store.specs.Bag.{IsSound, clash, differ, listing};
 ghost use Rattle.iddqd_store.specs.Rank.Index.{HasHash};
-ghost use Rattle.iddqd_store.specs.Map.{bag, Gains, Loses, MakesRoom, IsFullFor, IsBlockedAt};
-ghost use Rattle.iddqd_store.specs.Rank.{agree, IsPlaceOf, IsUnder};
+ghost use Rattle.iddqd_store.specs.Map.{bag, hash_of, Gains, Loses, MakesRoom, IsFullFor, IsBlockedAt};
+ghost use Rattle.iddqd_store.specs.Rank.{agree, IsPlaceOf, IsUnder, IsVacantFor};
 ghost use Rattle.iddqd_store.specs.Slots.Found.{each_once, items_at};
 ghost use Rattle.iddqd_store.specs.Slots.{get, IsLive, Updates};
 ghost use Rattle.iddqd_store.specs.Table.Limit.{most_room};
 ghost use Rattle.iddqd_bi.specs.Keys.{ranks};
+ghost use Rattle.iddqd_bi.specs.Mismatch.{error_item, error_rank, OnNoMemory};
 
 mod enter;
 pub(crate) mod found;
@@ -20,6 +21,7 @@ mod write;
 
 use self::found::each_once;
 use super::BiHashMap;
+use crate::error::{EntryError, differ};
 use crate::item::{BiHashItem, Hashed, Ranked};
 use crate::ranks::{First, Second};
 use iddqd_store::{ItemIndex, Lookup, Meter, Sought, TryReserveError, UpToTwo, Vacancy};
@@ -124,21 +126,36 @@ impl<T: BiHashItem, S: BuildHasher> BiHashMap<T, S> {
         ix
     }
 
-    /// Puts an item in that nothing conflicts with, or hands it back where there is no memory for it. It searches
+    /// Puts an item in that has these keys, which no item of the map has, and answers its slot. It is refused with the
+    /// lowest rank at which its key is another one, or where there is no memory. It compares the keys given, and searches
     /// and hashes nothing.
-    pub(crate) fn put_free(&mut self, item: T, at1: Vacancy, at2: Vacancy) -> Result<ItemIndex, T>
-        requires free { clash ⟦<T as Ranked>⟧.ranks (bag self.old) item ≡ [] }
-        requires first { IsPlaceOf (⟦<T as Hashed<S>>⟧.hash1 self.old.builder) (bag self.old) item at1 }
-        requires second { IsPlaceOf (⟦<T as Hashed<S>>⟧.hash2 self.old.builder) (bag self.old) item at2 }
+    pub(crate) fn put_free(
+        &mut self,
+        item: T,
+        key1: &T::K1,
+        key2: &T::K2,
+        at1: Vacancy,
+        at2: Vacancy,
+    ) -> Result<ItemIndex, EntryError<T>>
+        requires vacant { listing (⟦<T as Ranked>⟧.key_tests key1.now key2.now) (bag self.old) ≡ [] }
+        requires first { IsVacantFor (⟦<T as Hashed<S>>⟧.hash1 self.old.builder) (bag self.old)
+            (hash_of S.BuildHasher S.Hasher.Hasher self.old.builder (T.K1.hash_input key1.now)) at1 }
+        requires second { IsVacantFor (⟦<T as Hashed<S>>⟧.hash2 self.old.builder) (bag self.old)
+            (hash_of S.BuildHasher S.Hasher.Hasher self.old.builder (T.K2.hash_input key2.now)) at2 }
         ensures gains { OnOk result (Gains self.old item self.new) }
         ensures at { IfOk result (λ ix. get self.new.slots ix ≡ Some item) }
         ensures sound { OnOk result (IsSound ⟦<T as Ranked>⟧.ranks (bag self.new)) }
-        ensures handed_back { IfErr result (λ x. x ≡ item) }
+        ensures same_keys { OnOk result (differ (⟦<T as Ranked>⟧.key_tests key1.now key2.now) item ≡ None) }
+        ensures handed_back { IfErr result (λ e. error_item e ≡ item) }
+        ensures rank { IfErr result (λ e. differ (⟦<T as Ranked>⟧.key_tests key1.now key2.now) item ≡ error_rank e) }
         ensures unchanged { OnErr result (self.new ≡ self.old) }
-        ensures full { OnErr result (IsFullFor ⟦<T as Ranked>⟧.ranks self.old item) }
+        ensures memory { IfErr result (λ e. OnNoMemory e (IsFullFor ⟦<T as Ranked>⟧.ranks self.old item)) }
     {
+        if let Some(rank) = differ(&item, key1, key2) {
+            return Err(EntryError::at(rank, item));
+        }
         if let Err(_) = self.make_room() {
-            return Err(item);
+            return Err(EntryError::Memory(item));
         }
         Ok(self.put(item, at1, at2))
     }

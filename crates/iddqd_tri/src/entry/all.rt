@@ -7,7 +7,7 @@ ghost use Rattle.iddqd_store.specs.Map.{bag};
 ghost use Rattle.iddqd_tri.specs.Entries.{IsFound, IsSameEntry, KeepsFound, OnOccupied, OnVacant, PutsIn, entry_lender, entry_map, sought};
 
 use super::{Entry, Keys, OccupiedEntryMut, VacantEntry};
-use crate::error::{EntryError, EntryRefusal, differ};
+use crate::error::EntryRefusal;
 use crate::item::{Ranked, TriHashItem, TriHashItemMut};
 use std::hash::{BuildHasher, Hash};
 
@@ -96,23 +96,22 @@ impl<'a, T: TriHashItem, S: BuildHasher, Q: Keys<T::K1, T::K2, T::K3>> VacantEnt
             at2,
             at3,
         } = self;
-        if let Some(rank) = differ(&item, keys.first(), keys.second(), keys.third()) {
-            return Err(EntryRefusal {
-                map,
-                error: EntryError::at(rank, item),
-            });
-        }
-        match map.put_free(item, at1, at2, at3) {
+        match map.put_free(
+            item,
+            keys.first(),
+            keys.second(),
+            keys.third(),
+            at1,
+            at2,
+            at3,
+        ) {
             Ok(slot) => Ok(OccupiedEntryMut {
                 map,
                 slot1: Some(slot),
                 slot2: Some(slot),
                 slot3: Some(slot),
             }),
-            Err(item) => Err(EntryRefusal {
-                map,
-                error: EntryError::Memory(item),
-            }),
+            Err(error) => Err(EntryRefusal { map, error }),
         }
     }
 }

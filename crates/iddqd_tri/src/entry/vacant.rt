@@ -8,7 +8,7 @@ ghost use Rattle.iddqd_tri.specs.Mismatch.{error_item, error_rank, OnNoMemory};
 ghost use Rattle.iddqd_tri.specs.RefMuts.{ref_lender, ref_map, ref_item};
 
 use super::{KeyTriple, Keys, OccupiedEntry, OccupiedEntryMut, VacantEntry};
-use crate::error::{EntryError, EntryRefusal, differ};
+use crate::error::{EntryError, EntryRefusal};
 use crate::item::{Ranked, TriHashItem};
 use crate::ref_mut::RefMut;
 use std::hash::{BuildHasher, Hash};
@@ -45,12 +45,17 @@ impl<'a, T: Ranked, S: BuildHasher, Q: Keys<T::K1, T::K2, T::K3>> VacantEntry<'a
             at2,
             at3,
         } = self;
-        if let Some(rank) = differ(&item, keys.first(), keys.second(), keys.third()) {
-            return Err(EntryError::at(rank, item));
-        }
-        match map.put_free(item, at1, at2, at3) {
+        match map.put_free(
+            item,
+            keys.first(),
+            keys.second(),
+            keys.third(),
+            at1,
+            at2,
+            at3,
+        ) {
             Ok(slot) => Ok(RefMut { map, slot }),
-            Err(item) => Err(EntryError::Memory(item)),
+            Err(error) => Err(error),
         }
     }
 
@@ -85,17 +90,22 @@ impl<'a, T: Ranked, S: BuildHasher, Q: Keys<T::K1, T::K2, T::K3>> VacantEntry<'a
             at2,
             at3,
         } = self;
-        if let Some(rank) = differ(&item, keys.first(), keys.second(), keys.third()) {
-            return Err(EntryError::at(rank, item));
-        }
-        match map.put_free(item, at1, at2, at3) {
+        match map.put_free(
+            item,
+            keys.first(),
+            keys.second(),
+            keys.third(),
+            at1,
+            at2,
+            at3,
+        ) {
             Ok(slot) => Ok(OccupiedEntryMut {
                 map,
                 slot1: Some(slot),
                 slot2: Some(slot),
                 slot3: Some(slot),
             }),
-            Err(item) => Err(EntryError::Memory(item)),
+            Err(error) => Err(error),
         }
     }
 }
@@ -131,13 +141,7 @@ impl<'a, T: TriHashItem, S: BuildHasher> VacantEntry<'a, T, S> {
             at3,
         } = self;
         let KeyTriple { key1, key2, key3 } = keys;
-        if let Some(rank) = differ(&item, key1, key2, key3) {
-            return Err(EntryRefusal {
-                map,
-                error: EntryError::at(rank, item),
-            });
-        }
-        match map.put_free(item, at1, at2, at3) {
+        match map.put_free(item, key1, key2, key3, at1, at2, at3) {
             Ok(slot) => Ok(OccupiedEntry {
                 map,
                 key1,
@@ -147,10 +151,7 @@ impl<'a, T: TriHashItem, S: BuildHasher> VacantEntry<'a, T, S> {
                 slot2: Some(slot),
                 slot3: Some(slot),
             }),
-            Err(item) => Err(EntryRefusal {
-                map,
-                error: EntryError::Memory(item),
-            }),
+            Err(error) => Err(EntryRefusal { map, error }),
         }
     }
 }

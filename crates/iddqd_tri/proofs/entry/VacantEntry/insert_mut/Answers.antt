@@ -1,18 +1,4 @@
-use Rattle.std.proofs.Common.{rules, ◌≡◌, true, ap, ◌∙◌}
-use Rattle.iddqd_store.specs.Map.{hash_of}
-use Rattle.iddqd_tri.proofs.MapLemmas.{clash-all}
 use Rattle.iddqd_tri.proofs.entry.VacantEntry.insert_mut.Goals as goal
 
-pub put_free-requires : goal.put_free-requires
-put_free-requires g c =
-    let v = c.args.self in
-    let same1 : g.T.K1.PartialEq.eq (g.Q.Keys.first v.keys) (g.T.TriHashItem.key1 c.args.item) ≡ true = search rules in
-    let same2 : g.T.K2.PartialEq.eq (g.Q.Keys.second v.keys) (g.T.TriHashItem.key2 c.args.item) ≡ true = search rules in
-    let same3 : g.T.K3.PartialEq.eq (g.Q.Keys.third v.keys) (g.T.TriHashItem.key3 c.args.item) ≡ true = search rules in
-    let hash = hash_of g.S.BuildHasher g.S.Hasher.Hasher v.map.now.builder in
-    record {
-      first = record { same = v.place1.same ∙ ap hash (g.met.T.K1.Hash.respects_eq _ _ same1); free = v.place1.free };
-      second = record { same = v.place2.same ∙ ap hash (g.met.T.K2.Hash.respects_eq _ _ same2); free = v.place2.free };
-      third = record { same = v.place3.same ∙ ap hash (g.met.T.K3.Hash.respects_eq _ _ same3); free = v.place3.free };
-      free = clash-all g.T.TriHashItem g.T.K1.PartialEq.eq g.T.K2.PartialEq.eq g.T.K3.PartialEq.eq g.met.T.K1.Eq.laws g.met.T.K2.Eq.laws g.met.T.K3.Eq.laws c.args.item _ _ _ same1 same2 same3 _ v.vacant;
-    }
+pub put_free-requires-clause-vacant : goal.put_free-requires-clause-vacant
+put_free-requires-clause-vacant g c = rw (c.first.ensures, c.second.ensures, c.third.ensures) c.args.self.vacant
