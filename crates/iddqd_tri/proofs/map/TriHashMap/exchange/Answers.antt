@@ -57,8 +57,8 @@ returns-clause-sound g c =
 pub returns-clause-fits : goal.returns-clause-fits
 returns-clause-fits g c =
     let slots = c.self.inside.items.slots in
-    let holds = rw (← c.self.view_is) at c.capacity.ensures.fits in
-    let value = rw (← c.self.view_is) at c.capacity.ensures.value in
+    let holds = rw (← c.self.view_is) at c.room.ensures.fits in
+    let value = rw (← c.self.view_is) at c.room.ensures.value in
     let out = length_permutation _ _ (left c.replace-gone.result c.args.item c.args.ix slots c.replace-gone.ensures.value) in
     let into = length_permutation _ _ (come c.replace-gone.result c.args.item c.args.ix slots c.replace-gone.ensures.value) in
     rw c.replace-gone.ensures.slots (omega (arith, holds, value, out, into, c.replace-gone.ensures.capacity, c.rehash.ensures.limit, c.rehash-2.ensures.limit, c.rehash-3.ensures.limit))
