@@ -1,10 +1,11 @@
 //! Pairs of a hash and a slot's index, found by the hash, in cells with open addressing and no marks of deleted pairs.
-ghost use Rattle.std.specs.Prelude.{◌≡◌, ◌≢◌, ◌+◌, ◌*◌, ◌/◌, ◌∷◌, ◌<◌, ◌≤◌, ◌&&◌, [], length, IsSome, IsOk, IsErr, ◌↔◌, IfOk, OnOk, OnErr, IfErr, Contains};
+ghost use Rattle.std.specs.Prelude.{◌≡◌, ◌≢◌, ◌+◌, ◌*◌, ◌/◌, ◌∷◌, ◌<◌, ◌≤◌, ◌&&◌, [], length, IsSome, IsOk, IsErr, ◌↔◌, IfOk, OnErr, IfErr, Contains};
 ghost use Rattle.std.specs.List.Sorted.{IsPermutation};
 ghost use Rattle.std.specs.Result.{result_ok};
 ghost use Rattle.iddqd_store.specs.Table.Ring.{cell, held, stretch, IsFull};
 ghost use Rattle.iddqd_store.specs.Table.Limit.{IsLeast, IsSize, most_room};
-ghost use Rattle.iddqd_store.specs.Table.Search.{CostsUnder, FindsUnder, IsSized, IsVacantUnder};
+ghost use Rattle.iddqd_store.specs.Table.Room.{GrowsFor, IsSized};
+ghost use Rattle.iddqd_store.specs.Table.Search.{CostsUnder, FindsUnder, IsVacantUnder};
 ghost use Rattle.iddqd_store.specs.Table.{hashes, IsFree, IsTable, Table, table_of};
 
 use crate::TryReserveError;
@@ -152,15 +153,13 @@ impl IndexTable {
     /// All cells are made before the first pair moves. Pairs move by the hashes in their cells: no matcher is asked,
     /// and no item is seen.
     pub fn try_reserve(&mut self, more: usize) -> Result<(), TryReserveError>
+        // Room is made, or refused.
+        ensures room { GrowsFor self.old more result self.new }
+        ensures unchanged { OnErr result (self.new ≡ self.old) }
+        // The pairs stay. It grows only where it lacks room.
         ensures pairs { IsPermutation self.old.pairs self.new.pairs }
         ensures limit { self.old.limit ≤ self.new.limit }
-        ensures room { OnOk result (length self.old.pairs + more ≤ self.new.limit) }
-        ensures grown { OnOk result (self.old.limit < length self.old.pairs + more
-            → IsLeast (length self.old.pairs + more) self.new.limit) }
         ensures same_room { length self.old.pairs + more ≤ self.old.limit → self.new ≡ self.old }
-        ensures reason { OnErr result (self.old.limit < length self.old.pairs + more) }
-        ensures unchanged { OnErr result (self.new ≡ self.old) }
-        ensures past { most_room < length self.old.pairs + more → IsErr result }
     {
         let limit = self.capacity();
         let Some(wanted) = self.count.checked_add(more) else {

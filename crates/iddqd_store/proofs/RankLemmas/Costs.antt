@@ -9,7 +9,8 @@ use Rattle.std.proofs.lemmas.List.Sorted.{IsPermutation-sym}
 use Rattle.iddqd_store.specs.Rank.Index.{HasHash, IsIndex, passes_at}
 use Rattle.iddqd_store.specs.Bag.{IsOnly}
 use Rattle.iddqd_store.specs.Rank.{IsSearchable, IsVacantFor, NamesOneUnder, SearchCosts}
-use Rattle.iddqd_store.specs.Table.Search.{CostsUnder, FindsUnder, IsSized, IsVacantUnder}
+use Rattle.iddqd_store.specs.Table.Room.{IsSized}
+use Rattle.iddqd_store.specs.Table.Search.{CostsUnder, FindsUnder, IsVacantUnder}
 use Rattle.iddqd_store.specs.Table.{hashes, IsFree, Spot, Table}
 use Rattle.iddqd_store.proofs.RankLemmas.Search.{search_among}
 use Rattle.iddqd_store.proofs.RankLemmas.Index.{hash_at, crowd_is}

@@ -1,6 +1,5 @@
 -- What a search of a table says.
-use Rattle.std.specs.Prelude.{ℕ, ◌+◌, ◌/◌, ◌*◌, ◌^◌, ◌≡◌, ◌<◌, ◌≤◌, Bool, true, false, Option, Contains, IfSome, IfNone, length, count_by}
-use Rattle.iddqd_store.specs.Table.Limit.{IsSize}
+use Rattle.std.specs.Prelude.{ℕ, ◌+◌, ◌≡◌, ◌≤◌, Bool, true, false, Option, Contains, IfSome, IfNone, length, count_by}
 use Rattle.iddqd_store.specs.Table.Ring.{stretch}
 use Rattle.iddqd_store.specs.Table.{hashes, under, IsFree, LooksUp, Spot, Table}
 
@@ -21,10 +20,3 @@ pub record CostsUnder {A : Type 0} (table : Table) (hash : ℕ) (answer : Option
   pub asked : asks_then ≤ asks + count_by (under hash) table.pairs
   pub looks : LooksUp (hashes table.pairs) (length table.row) hash answer look look_then
   pub within : stretch (hashes table.pairs) (length table.row) hash ≤ length table.pairs
-
--- a `usize` counts the cells, of which there are 0 or a power of two from 8 on, and an eighth of them stays empty
-pub record IsSized (table : Table) : Type 0 where
-  pub size : IsSize (length table.row)
-  pub counted : length table.row < 2 ^ 64
-  pub limit : table.limit ≡ length table.row / 8 * 7
-  pub fits : length table.pairs ≤ table.limit
