@@ -2,6 +2,8 @@
 pub mod Cell
 pub mod Limit
 pub mod Ring
+pub mod Room
+pub mod Search
 use Rattle.std.specs.Prelude.{ℕ, ◌+◌, ◌*◌, ◌/◌, ◌%◌, ◌^◌, ◌≡◌, ◌<◌, ◌≤◌, ◌==◌, Bool, List, ◌∷◌, Option, None, ◌≢◌, length, map, IfNone, OnSome}
 use Rattle.std.specs.List.Sorted.{IsPermutation}
 use Rattle.iddqd_store.specs.Table.Limit.{IsSize}

@@ -1,10 +1,12 @@
 //! Pairs of a hash and a slot's index, found by the hash, in cells with open addressing and no marks of deleted pairs.
-ghost use Rattle.std.specs.Prelude.{◌≡◌, ◌≢◌, ℕ, ◌+◌, ◌*◌, ◌/◌, ◌^◌, ◌∷◌, ◌<◌, ◌≤◌, ◌&&◌, [], true, false, length, IsSome, IsOk, IsErr, ◌↔◌, IfOk, OnOk, OnErr, IfErr, IfSome, IfNone, Contains, count_by};
+ghost use Rattle.std.specs.Prelude.{◌≡◌, ◌≢◌, ◌+◌, ◌*◌, ◌/◌, ◌∷◌, ◌<◌, ◌≤◌, ◌&&◌, [], length, IsSome, IsOk, IsErr, ◌↔◌, IfOk, OnErr, IfErr, Contains};
 ghost use Rattle.std.specs.List.Sorted.{IsPermutation};
 ghost use Rattle.std.specs.Result.{result_ok};
 ghost use Rattle.iddqd_store.specs.Table.Ring.{cell, held, stretch, IsFull};
 ghost use Rattle.iddqd_store.specs.Table.Limit.{IsLeast, IsSize, most_room};
-ghost use Rattle.iddqd_store.specs.Table.{hashes, under, IsFree, IsTable, LooksUp, Table, table_of};
+ghost use Rattle.iddqd_store.specs.Table.Room.{GrowsFor, IsSized};
+ghost use Rattle.iddqd_store.specs.Table.Search.{CostsUnder, FindsUnder, IsVacantUnder};
+ghost use Rattle.iddqd_store.specs.Table.{hashes, IsFree, IsTable, Table, table_of};
 
 use crate::TryReserveError;
 use crate::cells::Cells;
@@ -140,8 +142,7 @@ impl IndexTable {
     /// How many cells there are: none, or a power of two from 8 on.
     pub fn cells(&self) -> usize
         ensures value { result ≡ length self.now.row }
-        ensures size { IsSize result }
-        ensures limit { self.now.limit ≡ result / 8 * 7 }
+        ensures sized { IsSized self.now }
     {
         self.cells.len()
     }
@@ -152,15 +153,13 @@ impl IndexTable {
     /// All cells are made before the first pair moves. Pairs move by the hashes in their cells: no matcher is asked,
     /// and no item is seen.
     pub fn try_reserve(&mut self, more: usize) -> Result<(), TryReserveError>
+        // Room is made, or refused.
+        ensures room { GrowsFor self.old more result self.new }
+        ensures unchanged { OnErr result (self.new ≡ self.old) }
+        // The pairs stay. It grows only where it lacks room.
         ensures pairs { IsPermutation self.old.pairs self.new.pairs }
         ensures limit { self.old.limit ≤ self.new.limit }
-        ensures room { OnOk result (length self.old.pairs + more ≤ self.new.limit) }
-        ensures grown { OnOk result (self.old.limit < length self.old.pairs + more
-            → IsLeast (length self.old.pairs + more) self.new.limit) }
         ensures same_room { length self.old.pairs + more ≤ self.old.limit → self.new ≡ self.old }
-        ensures reason { OnErr result (self.old.limit < length self.old.pairs + more) }
-        ensures unchanged { OnErr result (self.new ≡ self.old) }
-        ensures past { most_room < length self.old.pairs + more → IsErr result }
     {
         let limit = self.capacity();
         let Some(wanted) = self.count.checked_add(more) else {
@@ -187,24 +186,11 @@ impl IndexTable {
         matcher: &mut M,
         meter: &mut Meter,
     ) -> Option<ItemIndex>
-        ensures found { IfSome result (λ ix. Contains self.now.pairs (hash, ix)) }
-        ensures accepted { IfSome result (λ ix. M.accepts matcher.old ix ≡ true) }
-        ensures none { IfNone result ((ix : ℕ) → Contains self.now.pairs (hash, ix)
-            → M.accepts matcher.old ix ≡ false) }
+        ensures found { FindsUnder self.now hash (M.accepts matcher.old) result }
         ensures is_kept { M.IsKept matcher.old matcher.new }
-
-        // Only pairs under the hash are asked about, each at most once.
-        ensures asked { M.asked matcher.new ≤ M.asked matcher.old
-            + count_by (under hash) self.now.pairs }
-
-        ensures looks { LooksUp (hashes self.now.pairs) (length self.now.row) hash
-            result meter.old meter.new }
-        ensures within { stretch (hashes self.now.pairs) (length self.now.row) hash
-            ≤ length self.now.pairs }
-        ensures size { IsSize (length self.now.row) }
-        ensures counted { length self.now.row < 2 ^ 64 }
-        ensures limit { self.now.limit ≡ length self.now.row / 8 * 7 }
-        ensures fits { length self.now.pairs ≤ self.now.limit }
+        ensures costs { CostsUnder self.now hash result (M.asked matcher.old) (M.asked matcher.new)
+            meter.old meter.new }
+        ensures sized { IsSized self.now }
     {
         match self.find_or_vacancy(hash, matcher, meter) {
             Ok(ix) => Some(ix),
@@ -220,24 +206,14 @@ impl IndexTable {
         matcher: &mut M,
         meter: &mut Meter,
     ) -> Result<ItemIndex, Vacancy>
-        ensures found { IfOk result (λ ix. Contains self.now.pairs (hash, ix)) }
-        ensures accepted { IfOk result (λ ix. M.accepts matcher.old ix ≡ true) }
-        ensures none { OnErr result ((ix : ℕ) → Contains self.now.pairs (hash, ix)
-            → M.accepts matcher.old ix ≡ false) }
-        ensures hash { IfErr result (λ spot. spot.hash ≡ hash) }
-        ensures cells { IfErr result (λ spot. spot.cells ≡ length self.now.row) }
-        ensures vacant { IfErr result (IsFree (hashes self.now.pairs)) }
+        // What it answers.
+        ensures found { FindsUnder self.now hash (M.accepts matcher.old) (result_ok result) }
+        ensures vacant { IfErr result (IsVacantUnder self.now hash) }
+        // What it costs, by the size of the table.
         ensures is_kept { M.IsKept matcher.old matcher.new }
-        ensures asked { M.asked matcher.new ≤ M.asked matcher.old
-            + count_by (under hash) self.now.pairs }
-        ensures looks { LooksUp (hashes self.now.pairs) (length self.now.row) hash
-            (result_ok result) meter.old meter.new }
-        ensures within { stretch (hashes self.now.pairs) (length self.now.row) hash
-            ≤ length self.now.pairs }
-        ensures size { IsSize (length self.now.row) }
-        ensures counted { length self.now.row < 2 ^ 64 }
-        ensures limit { self.now.limit ≡ length self.now.row / 8 * 7 }
-        ensures fits { length self.now.pairs ≤ self.now.limit }
+        ensures costs { CostsUnder self.now hash (result_ok result) (M.asked matcher.old) (M.asked matcher.new)
+            meter.old meter.new }
+        ensures sized { IsSized self.now }
     {
         let count = self.cells.len();
         if count == 0 {

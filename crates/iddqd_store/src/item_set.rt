@@ -1,8 +1,8 @@
 //! Items in slots.
-ghost use Rattle.std.specs.Prelude.{◌≡◌, ◌+◌, ◌-◌, ◌<◌, ◌≤◌, ◌^◌, [], ◌∷◌, IsSome, OnSome, IfNone, IfSome, is_some, MatchOption, OnOk, OnErr, Some, IsPermutation, option_copied, drop, length, ℕ, None, slice_set};
+ghost use Rattle.std.specs.Prelude.{◌≡◌, ◌+◌, ◌-◌, ◌<◌, ◌≤◌, ◌^◌, [], ◌∷◌, IsSome, IfNone, IfSome, is_some, MatchOption, OnOk, OnErr, Some, IsPermutation, option_copied, drop, length, ℕ, None, slice_set};
 ghost use Rattle.std.specs.Option.{option_copied_mut};
 ghost use Rattle.std.specs.Borrow.{Lends, sem};
-ghost use Rattle.iddqd_store.specs.Slots.{get, items_in, IsLive, live_count, members, Updates, Exchanges, NextLive};
+ghost use Rattle.iddqd_store.specs.Slots.{get, items_in, IsLive, live_count, members, Updates, Exchanges, NextLive, TakesOut};
 ghost use Rattle.iddqd_store.specs.Slots.Chain.{item_of};
 
 mod build;
@@ -247,13 +247,12 @@ impl<T> ItemSet<T> {
 
     /// Takes an item out and frees its slot, which is the next to be used.
     pub fn remove(&mut self, ix: ItemIndex) -> Option<T>
+        // The item comes out of its slot, or nothing changes.
         ensures value { result ≡ get self.old.slots ix }
-        ensures slots { OnSome result (self.new.slots ≡ slice_set self.old.slots ix None) }
-        ensures updates { Updates self.old.slots self.new.slots ix None }
-        ensures members { IfSome result (λ x.
-            IsPermutation (members self.old.slots) ((ix, x) ∷ members self.new.slots)) }
-        ensures room { OnSome result (live_count self.new.slots < self.new.capacity) }
+        ensures taken { IfSome result (λ item. TakesOut self.old ix item self.new) }
         ensures absent { IfNone result (self.new ≡ self.old) }
+        // No other slot changes, and no capacity.
+        ensures updates { Updates self.old.slots self.new.slots ix None }
         ensures capacity { self.new.capacity ≡ self.old.capacity }
     {
         if self.is_live(ix) {

@@ -1,41 +1,41 @@
 -- What a search by one rank finds, and what it costs.
-use Rattle.std.specs.Prelude.{◌≡◌, ℕ, ◌+◌, ◌*◌, ◌/◌, ◌^◌, ◌<◌, ◌≤◌, Bool, true, false, List, Option, Some, None, Contains, count_by}
+use Rattle.std.specs.Prelude.{ℕ, ◌≤◌, Bool, List, Option, length}
 use Rattle.std.specs.Option.{option_and_then}
-use Rattle.std.specs.Prelude.{Result, Ok, Err, IfOk, IfErr, OnErr}
+use Rattle.std.specs.Prelude.{Result, Ok, Err, IfOk, IfErr}
 use Rattle.std.specs.Result.{result_ok}
 use Rattle.std.proofs.Common.{arith}
-use Rattle.iddqd_store.specs.Table.Limit.{IsSize}
 use Rattle.iddqd_store.specs.Slots.{live_items, get}
 use Rattle.std.proofs.lemmas.List.Sorted.{IsPermutation-sym}
-use Rattle.iddqd_store.specs.Rank.Index.{IsIndex, passes_at}
+use Rattle.iddqd_store.specs.Rank.Index.{HasHash, IsIndex, passes_at}
 use Rattle.iddqd_store.specs.Bag.{IsOnly}
 use Rattle.iddqd_store.specs.Rank.{IsSearchable, IsVacantFor, NamesOneUnder, SearchCosts}
-use Rattle.iddqd_store.specs.Table.{hashes, under, IsFree, LooksUp, Spot}
+use Rattle.iddqd_store.specs.Table.Room.{IsSized}
+use Rattle.iddqd_store.specs.Table.Search.{CostsUnder, FindsUnder, IsVacantUnder}
+use Rattle.iddqd_store.specs.Table.{hashes, IsFree, Spot, Table}
 use Rattle.iddqd_store.proofs.RankLemmas.Search.{search_among}
 use Rattle.iddqd_store.proofs.RankLemmas.Index.{hash_at, crowd_is}
 use Rattle.iddqd_store.proofs.RankLemmas.Looks.{hashes-index, looks_within, looks_within_most}
 use Rattle.iddqd_store.proofs.TableLemmas.Spot.{free_permutation}
 
-module _ {T : Type 0} {agree : T → T → Bool} {hash : T → ℕ} {slots : List (Option T)} {pairs : List (ℕ × ℕ)} (rank : IsSearchable agree hash slots pairs) where
-  pub searches : {E : Type 0} (test : T → Bool) (h : ℕ) (r : Result ℕ E) → NamesOneUnder agree hash h test (live_items slots) → IfOk r (λ at. passes_at test slots at ≡ true) → OnErr r ((at : ℕ) → Contains pairs (h, at) → passes_at test slots at ≡ false) → IsOnly test (live_items slots) (option_and_then (get slots) (result_ok r))
-  searches test h (Ok at) names some none = search_among agree test hash h slots pairs (Some at) names.one rank.apart rank.index names.hashed some tt
-  searches test h (Err e) names some none = search_among agree test hash h slots pairs None names.one rank.apart rank.index names.hashed tt none
+module _ {T : Type 0} {agree : T → T → Bool} {hash : T → ℕ} {slots : List (Option T)} (table : Table) (rank : IsSearchable agree hash slots table.pairs) where
+  pub searches : (test : T → Bool) (h : ℕ) (r : Option ℕ) → NamesOneUnder agree hash h test (live_items slots) → FindsUnder table h (passes_at test slots) r → IsOnly test (live_items slots) (option_and_then (get slots) r)
+  searches test h r names finds = search_among agree test hash h slots table.pairs r names.one rank.apart rank.index names.hashed finds.accepted finds.none
 
-  pub costs : (cells room h : ℕ) (r : Option ℕ) (asks asks_then look look_then : ℕ) → IsSize cells → cells < 2 ^ 64 → room ≤ cells / 8 * 7 → asks_then ≤ asks + count_by (under h) pairs → LooksUp (hashes pairs) cells h r look look_then → SearchCosts hash (live_items slots) room h r asks asks_then look look_then
-  costs cells room h r asks asks_then look look_then size counted fits crowd looks = record {
-    asked = omega (arith, crowd, crowd_is hash h slots pairs rank.index);
-    looks = looks_within hash slots pairs cells room h r look look_then rank.index size counted fits looks;
-    at_most = looks_within_most hash slots pairs cells h r look look_then rank.index looks;
+  pub costs : (h : ℕ) (r : Option ℕ) (asks asks_then look look_then : ℕ) → IsSized table → CostsUnder table h r asks asks_then look look_then → SearchCosts hash (live_items slots) table.limit h r asks asks_then look look_then
+  costs h r asks asks_then look look_then sized own = record {
+    asked = omega (arith, own.asked, crowd_is hash h slots table.pairs rank.index);
+    looks = looks_within hash slots table.pairs (length table.row) table.limit h r look look_then rank.index sized.size sized.counted (omega (arith, sized.limit)) own.looks;
+    at_most = looks_within_most hash slots table.pairs (length table.row) h r look look_then rank.index own.looks;
   }
 
-  pub hash_found : {E : Type 0} (h : ℕ) (r : Result ℕ E) → IfOk r (λ at. Contains pairs (h, at)) → IfOk r (λ at. (x : T) → get slots at ≡ Some x → hash x ≡ h)
-  hash_found h (Err e) found = tt
-  hash_found h (Ok at) found = λ x stands. hash_at at h x rank.index found stands
+  pub hash_found : {E : Type 0} {accepts : ℕ → Bool} (h : ℕ) (r : Result ℕ E) → FindsUnder table h accepts (result_ok r) → IfOk r (λ at. HasHash hash slots at h)
+  hash_found h (Err e) finds = tt
+  hash_found h (Ok at) finds = λ x stands. hash_at at h x rank.index finds.found stands
 
   -- the cell at which the table's search ended is for the members' hashes
-  pub vacant_found : (h : ℕ) (r : Result ℕ Spot) → IfErr r (λ spot. spot.hash ≡ h) → IfErr r (IsFree (hashes pairs)) → IfErr r (IsVacantFor hash (live_items slots) h)
-  vacant_found h (Ok at) same free = tt
-  vacant_found h (Err spot) same free = record { same = same; free = free_permutation _ _ spot (hashes-index hash slots pairs rank.index) free }
+  pub vacant_found : (h : ℕ) (r : Result ℕ Spot) → IfErr r (IsVacantUnder table h) → IfErr r (IsVacantFor hash (live_items slots) h)
+  vacant_found h (Ok at) vacant = tt
+  vacant_found h (Err spot) vacant = record { same = vacant.hash; free = free_permutation _ _ spot (hashes-index hash slots table.pairs rank.index) vacant.vacant }
 
 -- where a pair of the members' hashes goes in, it does in a table that indexes them
 pub place_in : {T : Type 0} {hash : T → ℕ} {slots : List (Option T)} {pairs : List (ℕ × ℕ)} {h : ℕ} {spot : Spot} → IsIndex hash slots pairs → IsVacantFor hash (live_items slots) h spot → IsFree (hashes pairs) spot

@@ -3,7 +3,8 @@ use Rattle.std.specs.Prelude.{◌≢◌, nat_lt, if◌then◌else◌}
 use Rattle.std.specs.List.{Contains, count_by}
 use Rattle.iddqd_store.specs.Table.{Table}
 use Rattle.iddqd_store.specs.Table.Ring.{cell, held, stretch}
-use Rattle.iddqd_store.specs.Table.{IsFree, LooksUp, hashes, under}
+use Rattle.iddqd_store.specs.Table.Search.{CostsUnder, IsVacantUnder}
+use Rattle.iddqd_store.specs.Table.{hashes, table_of, under}
 use Rattle.iddqd_store.proofs.TableLemmas.Stretch.{place}
 use Rattle.iddqd_store.proofs.TableLemmas.StretchBound.{stretch_le_pairs}
 use Rattle.iddqd_store.proofs.TableLemmas.Spot.{walk_free}
@@ -56,62 +57,60 @@ pub returns-then-matches-clause-found : goal.returns-then-matches-clause-found
 returns-then-matches-clause-found g c =
     let row = c.self.inside.cells in
     let at_x : cell row c.loop-pair.at ≡ Some c.in-Some.pair = sym c.cell_at.ensures.value ∙ c.in-Some.is in
-    subst (λ (r : Table). Contains r.pairs (c.args.hash, c.in-Some.pair.1)) c.self.view_is (found_there row c.loop-pair.at c.args.hash c.in-Some.pair at_x c.if-stored-hash.true)
+    record {
+      found = subst (λ (r : Table). Contains r.pairs (c.args.hash, c.in-Some.pair.1)) c.self.view_is (found_there row c.loop-pair.at c.args.hash c.in-Some.pair at_x c.if-stored-hash.true);
+      accepted = sym (g.met.M.Matcher.accepts_kept _ _ c.in-Some.pair.1 c.loop-pair.invariant.kept) ∙ (sym c.matches.ensures.value ∙ c.if-matches.true);
+      none = tt;
+    }
 
-pub returns-then-matches-clause-accepted : goal.returns-then-matches-clause-accepted
-returns-then-matches-clause-accepted g c =
-    sym (g.met.M.Matcher.accepts_kept _ _ c.in-Some.pair.1 c.loop-pair.invariant.kept) ∙ (sym c.matches.ensures.value ∙ c.if-matches.true)
+pub returns-then-matches-clause-is_kept : goal.returns-then-matches-clause-is_kept
+returns-then-matches-clause-is_kept g c = g.met.M.Matcher.kept_trans _ _ _ c.loop-pair.invariant.kept c.matches.ensures.is_kept
 
-pub returns-then-matches-clause-asked : goal.returns-then-matches-clause-asked
-returns-then-matches-clause-asked g c =
+pub returns-then-matches-clause-costs : goal.returns-then-matches-clause-costs
+returns-then-matches-clause-costs g c =
     let row = c.self.inside.cells in
     let hash = c.args.hash in
     let home = hash % length row in
     let i = c.loop-pair.invariant in
     let s : ℕ = c.loop-pair.meter - c.args.meter.now in
+    let t : ℕ = c.cell_at.new.meter - c.args.meter.now in
+    let look : c.cell_at.new.meter ≡ c.loop-pair.meter + 1 = c.cell_at.ensures.look in
     let w : Walk row home c.loop-pair.at s = i.walk in
-    let lh : home < length row = omega (arith, w.within) in
+    let within : s < length row = w.within in
+    let lh : home < length row = omega arith in
     let x : ℕ × ℕ = c.in-Some.pair in
     let asked = g.M.Matcher.asked in
     let at_x : cell row c.loop-pair.at ≡ Some x = sym c.cell_at.ensures.value ∙ c.in-Some.is in
+    let there : cell row c.loop-pair.at ≢ None = λ e. cc (e, at_x) in
     let placed : cell row (place (length row) home s) ≡ Some x = sym (ap (cell row) w.at_is) ∙ at_x in
-    let q : met (under hash) row home (s + 1) ≡ met (under hash) row home s + 1 = met_under hash row home s x lh w.within placed c.if-stored-hash.true (s + 1) refl in
+    let q : met (under hash) row home (s + 1) ≡ met (under hash) row home s + 1 = met_under hash row home s x lh within placed c.if-stored-hash.true (s + 1) refl in
     let m : met (under hash) row home (s + 1) ≤ count_by (under hash) (held row) = met_within (under hash) row home (s + 1) in
     let a : asked c.matches.new.self ≤ asked c.loop-pair.matcher + 1 = c.matches.ensures.asked in
-    let all : asked c.matches.new.self ≤ asked c.args.matcher.now + count_by (under hash) (held row) = omega (arith, i.count, q, m, a) in
-    subst (λ (r : Table). asked c.matches.new.self ≤ asked c.args.matcher.now + count_by (under hash) r.pairs) c.self.view_is all
-
-pub returns-then-matches-clause-is_kept : goal.returns-then-matches-clause-is_kept
-returns-then-matches-clause-is_kept g c = g.met.M.Matcher.kept_trans _ _ _ c.loop-pair.invariant.kept c.matches.ensures.is_kept
-
-pub returns-then-matches-clause-looks : goal.returns-then-matches-clause-looks
-returns-then-matches-clause-looks g c =
-    let row = c.self.inside.cells in
-    let i = c.loop-pair.invariant in
-    let s : ℕ = c.loop-pair.meter - c.args.meter.now in
-    let t : ℕ = c.cell_at.new.meter - c.args.meter.now in
-    let look : c.cell_at.new.meter ≡ c.loop-pair.meter + 1 = c.cell_at.ensures.look in
-    let x : ℕ × ℕ = c.in-Some.pair in
-    let at_x : cell row c.loop-pair.at ≡ Some x = sym c.cell_at.ensures.value ∙ c.in-Some.is in
-    let there : cell row c.loop-pair.at ≢ None = λ e. cc (e, at_x) in
-    let l : t ≤ stretch (hashes (held row)) (length row) c.args.hash = walk_found row c.args.hash c.loop-pair.at s t c.self.invariant.0 i.walk there (omega (arith, i.looked, look)) in
-    let within : s < length row = i.walk.within in
-    let all : LooksUp (hashes (held row)) (length row) c.args.hash (Some x.1) c.args.meter.now c.cell_at.new.meter = record {
-      no_cells = λ z. absurd (omega arith);
-      miss = λ _. tt;
-      hit_least = omega (arith, i.looked, look);
-      hit_most = omega (arith, i.looked, look, l);
+    let l : t ≤ stretch (hashes (held row)) (length row) hash = walk_found row hash c.loop-pair.at s t c.self.invariant.0 w there (omega (arith, i.looked, look)) in
+    let all : CostsUnder (table_of row) hash (Some x.1) (asked c.args.matcher.now) (asked c.matches.new.self) c.args.meter.now c.cell_at.new.meter = record {
+      asked = omega (arith, i.count, q, m, a);
+      looks = record {
+        no_cells = λ z. absurd (omega arith);
+        miss = λ _. tt;
+        hit_least = omega (arith, i.looked, look);
+        hit_most = omega (arith, i.looked, look, l);
+      };
+      within = stretch_le_pairs (held row) (length row) hash;
     } in
-    subst (λ (r : Table). LooksUp (hashes r.pairs) (length r.row) c.args.hash (Some x.1) c.args.meter.now c.cell_at.new.meter) c.self.view_is all
+    subst (λ (r : Table). CostsUnder r hash (Some x.1) (asked c.args.matcher.now) (asked c.matches.new.self) c.args.meter.now c.cell_at.new.meter) c.self.view_is all
 
-pub returns-clause-none : goal.returns-clause-none
-returns-clause-none g c index h =
-    let row = c.self.inside.cells in
-    let i = c.loop-pair.invariant in
-    let s : ℕ = c.loop-pair.meter - c.args.meter.now in
-    let none : cell row c.loop-pair.at ≡ None = sym c.cell_at.ensures.value ∙ c.in_default.is in
-    let k = walk_meets row c.args.hash c.loop-pair.at s index c.self.invariant.0 i.walk none (subst (λ (r : Table). Contains r.pairs (c.args.hash, index)) (sym c.self.view_is) h) in
-    i.refused k.0 k.1 index k.2
+pub returns-clause-found : goal.returns-clause-found
+returns-clause-found g c = record {
+  found = tt;
+  accepted = tt;
+  none = λ index h.
+      let row = c.self.inside.cells in
+      let i = c.loop-pair.invariant in
+      let s : ℕ = c.loop-pair.meter - c.args.meter.now in
+      let none : cell row c.loop-pair.at ≡ None = sym c.cell_at.ensures.value ∙ c.in_default.is in
+      let k = walk_meets row c.args.hash c.loop-pair.at s index c.self.invariant.0 i.walk none (subst (λ (r : Table). Contains r.pairs (c.args.hash, index)) (sym c.self.view_is) h) in
+      i.refused k.0 k.1 index k.2;
+}
 
 pub returns-clause-vacant : goal.returns-clause-vacant
 returns-clause-vacant g c =
@@ -120,36 +119,33 @@ returns-clause-vacant g c =
     let s : ℕ = c.loop-pair.meter - c.args.meter.now in
     let none : cell row c.loop-pair.at ≡ None = sym c.cell_at.ensures.value ∙ c.in_default.is in
     let within : s < length row = i.walk.within in
-    let free : IsFree (hashes (held row)) (record { hash = c.args.hash; cells = length row; at = c.loop-pair.at }) = walk_free row c.args.hash c.loop-pair.at s c.self.invariant.0 (omega arith) i.walk none in
-    rw (c.new.ensures, c.len-count.ensures) (subst (λ (r : Table). IsFree (hashes r.pairs) (record { hash = c.args.hash; cells = length row; at = c.loop-pair.at })) c.self.view_is free)
+    let free : IsVacantUnder (table_of row) c.args.hash (record { hash = c.args.hash; cells = length row; at = c.loop-pair.at }) = record {
+      hash = refl;
+      cells = refl;
+      vacant = walk_free row c.args.hash c.loop-pair.at s c.self.invariant.0 (omega arith) i.walk none;
+    } in
+    rw (c.new.ensures, c.len-count.ensures) (subst (λ (r : Table). IsVacantUnder r c.args.hash (record { hash = c.args.hash; cells = length row; at = c.loop-pair.at })) c.self.view_is free)
 
-pub returns-clause-asked : goal.returns-clause-asked
-returns-clause-asked g c =
+pub returns-clause-costs : goal.returns-clause-costs
+returns-clause-costs g c =
     let row = c.self.inside.cells in
-    let i = c.loop-pair.invariant in
-    let m = met_within (under c.args.hash) row (c.args.hash % length row) (c.loop-pair.meter - c.args.meter.now) in
-    let all : g.M.Matcher.asked c.loop-pair.matcher ≤ g.M.Matcher.asked c.args.matcher.now + count_by (under c.args.hash) (held row) = omega (arith, i.count, m) in
-    subst (λ (r : Table). g.M.Matcher.asked c.loop-pair.matcher ≤ g.M.Matcher.asked c.args.matcher.now + count_by (under c.args.hash) r.pairs) c.self.view_is all
-
-pub returns-clause-looks : goal.returns-clause-looks
-returns-clause-looks g c =
-    let row = c.self.inside.cells in
+    let hash = c.args.hash in
     let i = c.loop-pair.invariant in
     let s : ℕ = c.loop-pair.meter - c.args.meter.now in
     let look : c.cell_at.new.meter ≡ c.loop-pair.meter + 1 = c.cell_at.ensures.look in
     let none : cell row c.loop-pair.at ≡ None = sym c.cell_at.ensures.value ∙ c.in_default.is in
-    let e : stretch (hashes (held row)) (length row) c.args.hash ≡ s = walk_end row c.args.hash c.loop-pair.at s c.self.invariant.0 i.walk none in
+    let asked = g.M.Matcher.asked in
+    let m = met_within (under hash) row (hash % length row) s in
+    let e : stretch (hashes (held row)) (length row) hash ≡ s = walk_end row hash c.loop-pair.at s c.self.invariant.0 i.walk none in
     let within : s < length row = i.walk.within in
-    let all : LooksUp {A = ℕ} (hashes (held row)) (length row) c.args.hash None c.args.meter.now c.cell_at.new.meter = record {
-      no_cells = λ z. absurd (omega arith);
-      miss = λ _. omega (arith, i.looked, look, e);
-      hit_least = tt;
-      hit_most = tt;
+    let all : CostsUnder {A = ℕ} (table_of row) hash None (asked c.args.matcher.now) (asked c.loop-pair.matcher) c.args.meter.now c.cell_at.new.meter = record {
+      asked = omega (arith, i.count, m);
+      looks = record {
+        no_cells = λ z. absurd (omega arith);
+        miss = λ _. omega (arith, i.looked, look, e);
+        hit_least = tt;
+        hit_most = tt;
+      };
+      within = stretch_le_pairs (held row) (length row) hash;
     } in
-    subst (λ (r : Table). LooksUp {A = ℕ} (hashes r.pairs) (length r.row) c.args.hash None c.args.meter.now c.cell_at.new.meter) c.self.view_is all
-
-pub returns-then-matches-clause-within : goal.returns-then-matches-clause-within
-returns-then-matches-clause-within g c = stretch_le_pairs c.args.self.now.pairs (length c.args.self.now.row) c.args.hash
-
-pub returns-clause-within : goal.returns-clause-within
-returns-clause-within g c = stretch_le_pairs c.args.self.now.pairs (length c.args.self.now.row) c.args.hash
+    subst (λ (r : Table). CostsUnder {A = ℕ} r hash None (asked c.args.matcher.now) (asked c.loop-pair.matcher) c.args.meter.now c.cell_at.new.meter) c.self.view_is all

@@ -1,7 +1,12 @@
+use Rattle.std.proofs.Common.{refl}
 use Rattle.iddqd_store.proofs.SlotLemmas.Chain.{members-take}
 use Rattle.iddqd_store.proofs.item_set.ItemSet.remove.Goals as goal
 
-pub returns-then-is_live-clause-members : goal.returns-then-is_live-clause-members
-returns-then-is_live-clause-members g c =
+pub returns-then-is_live-clause-taken : goal.returns-then-is_live-clause-taken
+returns-then-is_live-clause-taken g c =
     let found = rw c.number.ensures at c.take.ensures.value in
-    rw (c.take.ensures.slots, c.number.ensures) (members-take _ _ _ found)
+    record {
+      slots = rw (c.take.ensures.slots, c.number.ensures) refl;
+      members = rw (c.take.ensures.slots, c.number.ensures) (members-take _ _ _ found);
+      room = c.take.ensures.room;
+    }

@@ -20,7 +20,7 @@ pub returns-in_err-try_reserve-2-clause-room : goal.returns-in_err-try_reserve-2
 returns-in_err-try_reserve-2-clause-room g c =
     let same = ap (λ t. t.limit) c.in_err-try_reserve-2.ensures.unchanged in
     MakesRoom-err _ _ (search rules)
-    (rw (← c.self.view_is) (omega (arith, same, c.in_err-try_reserve-2.ensures.reason, length-index c.self.invariant.indexes.0)))
+    (rw (← c.self.view_is) (omega (arith, same, c.in_err-try_reserve-2.ensures.room.reason, length-index c.self.invariant.indexes.0)))
     (search rules) (search rules)
 
 pub invariant_of-self-in_err-try_reserve-3 : goal.invariant_of-self-in_err-try_reserve-3
@@ -31,7 +31,7 @@ pub returns-in_err-try_reserve-3-clause-room : goal.returns-in_err-try_reserve-3
 returns-in_err-try_reserve-3-clause-room g c =
     let same = ap (λ t. t.limit) c.in_err-try_reserve-3.ensures.unchanged in
     MakesRoom-err _ _ (search rules)
-    (rw (← c.self.view_is) (omega (arith, same, c.in_err-try_reserve-3.ensures.reason, length-index c.self.invariant.indexes.1.0)))
+    (rw (← c.self.view_is) (omega (arith, same, c.in_err-try_reserve-3.ensures.room.reason, length-index c.self.invariant.indexes.1.0)))
     (search rules) (search rules)
 
 pub invariant_of-self-in_err-try_reserve-4 : goal.invariant_of-self-in_err-try_reserve-4
@@ -42,7 +42,7 @@ pub returns-in_err-try_reserve-4-clause-room : goal.returns-in_err-try_reserve-4
 returns-in_err-try_reserve-4-clause-room g c =
     let same = ap (λ t. t.limit) c.in_err-try_reserve-4.ensures.unchanged in
     MakesRoom-err _ _ (search rules)
-    (rw (← c.self.view_is) (omega (arith, same, c.in_err-try_reserve-4.ensures.reason, length-index c.self.invariant.indexes.1.1.0)))
+    (rw (← c.self.view_is) (omega (arith, same, c.in_err-try_reserve-4.ensures.room.reason, length-index c.self.invariant.indexes.1.1.0)))
     (search rules) (search rules)
 
 pub invariant_of-self-2 : goal.invariant_of-self-2
@@ -51,10 +51,10 @@ invariant_of-self-2 g c =
 
 pub returns-clause-room : goal.returns-clause-room
 returns-clause-room g c = record {
-  room = rw (← c.self.view_is) (omega (arith, c.in_ok-try_reserve.ensures.room, c.in_ok-try_reserve-2.ensures.room, c.in_ok-try_reserve-3.ensures.room, c.in_ok-try_reserve-4.ensures.room, length-index c.self.invariant.indexes.0, length-index c.self.invariant.indexes.1.0, length-index c.self.invariant.indexes.1.1.0, length-live_items c.self.inside.items.slots));
+  room = rw (← c.self.view_is) (omega (arith, c.in_ok-try_reserve.ensures.room, c.in_ok-try_reserve-2.ensures.room.room, c.in_ok-try_reserve-3.ensures.room.room, c.in_ok-try_reserve-4.ensures.room.room, length-index c.self.invariant.indexes.0, length-index c.self.invariant.indexes.1.0, length-index c.self.invariant.indexes.1.1.0, length-live_items c.self.inside.items.slots));
   reason = tt;
   still_short = tt;
-  past = rw (← c.self.view_is) (λ past. c.in_ok-try_reserve-2.ensures.past (omega (arith, length-index c.self.invariant.indexes.0)));
+  past = rw (← c.self.view_is) (λ past. c.in_ok-try_reserve-2.ensures.room.past (omega (arith, length-index c.self.invariant.indexes.0)));
   no_less_room = rw (← c.self.view_is) (omega (arith, c.try_reserve.ensures.no_less_room, c.try_reserve-2.ensures.limit, c.try_reserve-3.ensures.limit, c.try_reserve-4.ensures.limit));
   same_room =
       rw (← c.self.view_is) (λ room. same_least _ _ _ _ _ _ _ _

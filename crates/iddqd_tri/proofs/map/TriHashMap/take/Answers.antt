@@ -31,12 +31,12 @@ forget-requires-in-Some-2 g c =
 
 pub invariant_of-self : goal.invariant_of-self
 invariant_of-self g c =
-    IsIndexed-remove c.in-Some.item (AreLawful-ranks g.T.TriHashItem g.met.T.K1.Eq.laws g.met.T.K2.Eq.laws g.met.T.K3.Eq.laws) c.self.invariant c.in-Some.ensures.members
+    IsIndexed-remove c.in-Some.item (AreLawful-ranks g.T.TriHashItem g.met.T.K1.Eq.laws g.met.T.K2.Eq.laws g.met.T.K3.Eq.laws) c.self.invariant c.in-Some.ensures.taken.members
     (c.forget.ensures.taken, (c.forget-in-Some.ensures.taken, (c.forget-in-Some-2.ensures.taken, tt)))
 
 pub returns-clause-loses : goal.returns-clause-loses
 returns-clause-loses g c = record {
-  items = rw (← c.self.view_is) (IsPermutation-map (λ m. m.1) _ _ c.in-Some.ensures.members);
+  items = rw (← c.self.view_is) (IsPermutation-map (λ m. m.1) _ _ c.in-Some.ensures.taken.members);
   same_room = rw (← c.self.view_is, c.remove.ensures.capacity, c.forget.ensures.limit, c.forget-in-Some.ensures.limit, c.forget-in-Some-2.ensures.limit) refl;
   same_builder = rw (← c.self.view_is) refl;
 }
@@ -44,5 +44,5 @@ returns-clause-loses g c = record {
 pub returns-clause-room : goal.returns-clause-room
 returns-clause-room g c =
     let fewer = length-live_items c.remove.new.self.slots in
-    let one = length_permutation _ _ (IsPermutation-map (λ m. m.1) _ _ c.in-Some.ensures.members) in
-    omega (arith, fewer, one, c.in-Some.ensures.room, c.forget.ensures.room, c.forget-in-Some.ensures.room, c.forget-in-Some-2.ensures.room, length_permutation _ _ c.forget.ensures.taken, length_permutation _ _ c.forget-in-Some.ensures.taken, length_permutation _ _ c.forget-in-Some-2.ensures.taken, length-index c.self.invariant.indexes.0, length-index c.self.invariant.indexes.1.0, length-index c.self.invariant.indexes.1.1.0)
+    let one = length_permutation _ _ (IsPermutation-map (λ m. m.1) _ _ c.in-Some.ensures.taken.members) in
+    omega (arith, fewer, one, c.in-Some.ensures.taken.room, c.forget.ensures.room, c.forget-in-Some.ensures.room, c.forget-in-Some-2.ensures.room, length_permutation _ _ c.forget.ensures.taken, length_permutation _ _ c.forget-in-Some.ensures.taken, length_permutation _ _ c.forget-in-Some-2.ensures.taken, length-index c.self.invariant.indexes.0, length-index c.self.invariant.indexes.1.0, length-index c.self.invariant.indexes.1.1.0)

@@ -1,0 +1,18 @@
+-- How many pairs fit into a table.
+use Rattle.std.specs.Prelude.{ℕ, ◌+◌, ◌*◌, ◌/◌, ◌^◌, ◌≡◌, ◌<◌, ◌≤◌, Result, IsErr, OnOk, OnErr, length}
+use Rattle.iddqd_store.specs.Table.Limit.{IsLeast, IsSize, most_room}
+use Rattle.iddqd_store.specs.Table.{Table}
+
+-- a `usize` counts the cells, of which there are 0 or a power of two from 8 on, and an eighth of them stays empty
+pub record IsSized (table : Table) : Type 0 where
+  pub size : IsSize (length table.row)
+  pub counted : length table.row < 2 ^ 64
+  pub limit : table.limit ≡ length table.row / 8 * 7
+  pub fits : length table.pairs ≤ table.limit
+
+-- so many more pairs fit then, in the fewest cells for them where they didn't yet, or they don't fit and it is refused
+pub record GrowsFor {A E : Type 0} (old : Table) (more : ℕ) (result : Result A E) (new : Table) : Type 0 where
+  pub room : OnOk result (length old.pairs + more ≤ new.limit)
+  pub grown : OnOk result (old.limit < length old.pairs + more → IsLeast (length old.pairs + more) new.limit)
+  pub reason : OnErr result (old.limit < length old.pairs + more)
+  pub past : most_room < length old.pairs + more → IsErr result
