@@ -6,7 +6,7 @@ use Rattle.std.specs.Coded.{Coded, code_by, coded×, coded_ℕ, coded_list, code
 use Rattle.std.specs.Hash.{HashWrites}
 use Rattle.std.specs.declared.hash.Hasher as hasher
 use Rattle.std.specs.declared.hash.BuildHasher as builder
-use Rattle.iddqd_store.specs.Bag.{Ranks, clash, order}
+use Rattle.iddqd_store.specs.Bag.{Ranks, clash, order, over}
 use Rattle.iddqd_store.specs.Slots.Found.{StandAt}
 use Rattle.iddqd_store.specs.Slots.{live_items}
 use Rattle.iddqd_store.specs.Table.Limit.{most_room}
@@ -42,6 +42,21 @@ pub record Gains {T S : Type 0} (old : Map T S) (item : T) (new : Map T S) : Typ
 pub record Loses {T S : Type 0} (old : Map T S) (gone : List T) (new : Map T S) : Type 0 where
   pub items : IsPermutation (bag old) (gone ++ bag new)
   pub same_room : new.capacity ≡ old.capacity
+  pub same_builder : new.builder ≡ old.builder
+
+-- the map with the item in the place of those that conflict with it. It grows only where it is full and nothing conflicts
+pub record Overwrites {T S : Type 0} (ranks : Ranks T) (old : Map T S) (item : T) (new : Map T S) : Type 0 where
+  pub items : IsPermutation (bag new) (over ranks (bag old) item)
+  pub fits : length (bag new) ≤ new.capacity
+  pub no_less_room : old.capacity ≤ new.capacity
+  pub same_room : length (bag old) < old.capacity → new.capacity ≡ old.capacity
+  pub no_growth : clash ranks (bag old) item ≢ [] → new.capacity ≡ old.capacity
+  pub same_builder : new.builder ≡ old.builder
+
+-- the room is no less, and as before where the items surely fit. The builder stays
+pub record GrowsUnless {T S : Type 0} (fits : Type 0) (old new : Map T S) : Type 0 where
+  pub no_less_room : old.capacity ≤ new.capacity
+  pub same_room : fits → new.capacity ≡ old.capacity
   pub same_builder : new.builder ≡ old.builder
 
 -- room is made for so many more items, or refused. It is refused only where they don't fit, and grows only there

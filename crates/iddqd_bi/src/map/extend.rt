@@ -1,9 +1,9 @@
 //! Many items at once.
-ghost use Rattle.std.specs.Prelude.{◌≡◌, ◌≤◌, ◌++◌, [], length, IsPermutation, IfOk, IfErr, OnOk, OnErr, IsOk};
+ghost use Rattle.std.specs.Prelude.{◌≡◌, ◌≤◌, [], length, IsPermutation, IfOk, IfErr, OnOk, OnErr, IsOk};
 ghost use Rattle.std.specs.Iterator.{IsFiniteIterable};
 ghost use Rattle.iddqd_store.specs.Bag.{IsSound, clash, overs};
-ghost use Rattle.iddqd_store.specs.Bag.Building.{GivesAll, GivesThen, FitsOn, AddsTo, RefusesFor, HasPlaceFor, IsReason, MatchFromIterError};
-ghost use Rattle.iddqd_store.specs.Map.{bag};
+ghost use Rattle.iddqd_store.specs.Bag.Building.{GivesAll, GivesThen, FitsOn, AddsTo, RefusesFor, HasPlaceFor, IsRefusedBehind, MatchFromIterError};
+ghost use Rattle.iddqd_store.specs.Map.{bag, GrowsUnless, IsFullFor};
 ghost use Rattle.iddqd_store.specs.Runs.Step.{ExtendsTo, state_of, empty_state};
 
 use super::BiHashMap;
@@ -28,15 +28,13 @@ impl<T: Ranked + Drop, S: BuildHasher> BiHashMap<T, S> {
         ensures refused { IfErr result (λ e. GivesThen I.into_iter_gives I.IntoIter.next_gives iter e.value (λ xs.
             ExtendsTo T.ranks (state_of self.old) xs (state_of self.new))) }
         // It is refused only where the map is full and nothing conflicts.
-        ensures free { IfErr result (λ e. clash T.ranks (bag self.new) e.value ≡ []) }
-        ensures full { OnErr result (length (bag self.new) ≡ self.new.capacity) }
+        ensures full { IfErr result (λ e. IsFullFor T.ranks self.new e.value) }
         // Items that fit are never refused, and ask for no more room.
         ensures granted { FitsOn I.into_iter_gives I.IntoIter.remaining iter (length (bag self.old)) self.old.capacity
             → IsOk result }
-        ensures same_room { FitsOn I.into_iter_gives I.IntoIter.remaining iter (length (bag self.old)) self.old.capacity
-            → self.new.capacity ≡ self.old.capacity }
-        ensures no_less_room { self.old.capacity ≤ self.new.capacity }
-        ensures builder { self.new.builder ≡ self.old.builder }
+        ensures room { GrowsUnless
+            (FitsOn I.into_iter_gives I.IntoIter.remaining iter (length (bag self.old)) self.old.capacity)
+            self.old self.new }
     {
         let items = iter.into_iter();
         let promised = items.size_hint().0;
@@ -82,14 +80,12 @@ impl<T: Ranked + Drop, S: BuildHasher> BiHashMap<T, S> {
             (λ xs. xs ≡ e.taken.items)) }
         ensures same_items { OnErr result (IsPermutation (bag self.new) (bag self.old)) }
         // It is refused for what conflicts with it in the map or among those taken, or for want of memory.
-        ensures apart { IfErr result (λ e. IsSound T.ranks (e.taken.items ++ bag self.old)) }
-        ensures reason { IfErr result (λ e. IsReason e.reason (clash T.ranks (e.taken.items ++ bag self.old) e.value)) }
+        ensures reason { IfErr result (λ e. IsRefusedBehind T.ranks (bag self.old) e.taken.items e.value e.reason) }
         // The map stays sound, and grows only where the items might not fit.
         ensures sound { IsSound T.ranks (bag self.new) }
-        ensures same_room { FitsOn I.into_iter_gives I.IntoIter.remaining iter (length (bag self.old)) self.old.capacity
-            → self.new.capacity ≡ self.old.capacity }
-        ensures no_less_room { self.old.capacity ≤ self.new.capacity }
-        ensures builder { self.new.builder ≡ self.old.builder }
+        ensures room { GrowsUnless
+            (FitsOn I.into_iter_gives I.IntoIter.remaining iter (length (bag self.old)) self.old.capacity)
+            self.old self.new }
     {
         let mut entered = self.items.entered();
         for item in iter {

@@ -6,8 +6,8 @@ use Rattle.std.proofs.Common.{refl, sym, ap, subst, ◌∙◌, arith}
 use Rattle.std.proofs.lemmas.Fn.{filter_same}
 use Rattle.std.proofs.lemmas.Map.Keys.{IsDistinct-head}
 use Rattle.std.proofs.lemmas.List.Sorted.{IsPermutation-sym, IsPermutation-trans, list_any-IsPermutation}
-use Rattle.iddqd_store.specs.Bag.{Keeps, Ranks, AreLawful, IsSound, agrees, clash, like, over, some_of}
-use Rattle.iddqd_store.specs.Map.{Map, bag}
+use Rattle.iddqd_store.specs.Bag.{Keeps, Ranks, AreLawful, IsSound, agrees, clash, like, some_of}
+use Rattle.iddqd_store.specs.Map.{Map, Overwrites, bag}
 use Rattle.iddqd_store.proofs.BagLemmas.Exchanges.{IsPermutation-filter}
 use Rattle.iddqd_store.proofs.BagLemmas.Same.{and-true}
 use Rattle.iddqd_store.proofs.BagLemmas.Sound.{IsSound-IsPermutation, IsSound-rank, each_weaker, none_pass}
@@ -78,6 +78,6 @@ module _ {T : Type 0} where
       IsPermutation-trans _ _ _ (subst (IsPermutation new) left kept.are) (IsPermutation-sym _ _ (IsPermutation-filter test old kept.listed kept.same))
 
   -- one more at most after an overwrite, granted or refused
-  pub length-overwritten : {S A E : Type 0} (ranks : Ranks T) (old new : Map T S) (x : T) (r : Result A E) → OnOk r (IsPermutation (bag new) (over ranks (bag old) x)) → OnErr r (new ≡ old) → length (bag new) ≤ length (bag old) + 1
-  length-overwritten ranks old new x (Ok a) items same = omega (arith, length-overwritten_by ranks (bag old) (bag new) x items)
-  length-overwritten ranks old new x (Err e) items same = omega (arith, ap (λ m. length (bag m)) same)
+  pub length-overwritten : {S A E : Type 0} (ranks : Ranks T) (old new : Map T S) (x : T) (r : Result A E) → OnOk r (Overwrites ranks old x new) → OnErr r (new ≡ old) → length (bag new) ≤ length (bag old) + 1
+  length-overwritten ranks old new x (Ok a) put same = omega (arith, length-overwritten_by ranks (bag old) (bag new) x put.items)
+  length-overwritten ranks old new x (Err e) put same = omega (arith, ap (λ m. length (bag m)) same)

@@ -1,7 +1,7 @@
 -- What is built of the items that an iterator gives.
-use Rattle.std.specs.Prelude.{◌≡◌, ◌≢◌, ◌+◌, ◌≤◌, ℕ, List, [], ◌∷◌, Option, Some, Ok, Err, IsPermutation}
+use Rattle.std.specs.Prelude.{◌≡◌, ◌≢◌, ◌+◌, ◌≤◌, ℕ, List, [], ◌∷◌, ◌++◌, Option, Some, Ok, Err, IsPermutation}
 use Rattle.std.specs.Iterator.{Count, Drains, YieldsThen, size}
-use Rattle.iddqd_store.specs.Bag.{Ranks, add, adds}
+use Rattle.iddqd_store.specs.Bag.{Ranks, IsSound, add, adds, clash}
 use Rattle.iddqd_store.specs.declared.error.FromIterError.{FromIterError}
 use Rattle.iddqd_store.specs.declared.error.FromIterError.TheVariants as from_iter
 use Rattle.iddqd_store.specs.declared.error.ExtendUniqueReason.{ExtendUniqueReason}
@@ -37,6 +37,11 @@ module _ {T : Type 0} (ranks : Ranks T) where
 abbrev pub IsReason : {T : Type 0} → ExtendUniqueReason → List T → Type 0
 IsReason Conflict found = found ≢ []
 IsReason Memory found = found ≡ []
+
+-- those taken can all stand beside what is there, and something of both conflicts with x exactly if that is the reason
+pub record IsRefusedBehind {T : Type 0} (ranks : Ranks T) (old taken : List T) (x : T) (why : ExtendUniqueReason) : Type 0 where
+  pub apart : IsSound ranks (taken ++ old)
+  pub reason : IsReason why (clash ranks (taken ++ old) x)
 
 -- P of the item and those that conflict with it, and Q of the item where there is no memory
 abbrev pub MatchFromIterError : {T L : Type 0} → FromIterError T L → (T → L → Type 0) → (T → Type 0) → Type 0

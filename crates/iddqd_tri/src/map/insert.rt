@@ -11,7 +11,7 @@ use crate::item::Ranked;
 use std::hash::{BuildHasher, Hash};
 
 impl<T: Ranked, S: BuildHasher> TriHashMap<T, S> {
-    ghost use Rattle.iddqd_tri.specs.Refused.{OnDuplicate, OnMemory, refusing_map, refused_item, ends_as};
+    ghost use Rattle.iddqd_tri.specs.Refused.{HandsBack, OnDuplicate, OnMemory, ends_as};
 
     /// Puts an item in where none conflicts with it.
     ///
@@ -27,9 +27,7 @@ impl<T: Ranked, S: BuildHasher> TriHashMap<T, S> {
         ensures granted { clash T.ranks (bag self.old) item ≡ []
             → length (bag self.old) < self.old.capacity → IsOk result }
         // Refused, the item comes back, and the map is held as it was.
-        ensures handed_back { IfErr result (λ e. refused_item e ≡ item) }
-        ensures same_map { IfErr result (λ e. (refusing_map e).ghost_name ≡ self.entry.ghost_name) }
-        ensures unchanged { IfErr result (λ e. (refusing_map e).now ≡ self.old) }
+        ensures handed_back { IfErr result (λ e. HandsBack self.entry item e) }
         ensures duplicate { IfErr result (λ e. OnDuplicate e (clash T.ranks (bag self.old) item ≢ [])) }
         ensures memory { IfErr result (λ e. OnMemory e (IsFullFor T.ranks self.old item)) }
         // How the map ends, once the refusal is gone: with the item where it went in, else as it was.

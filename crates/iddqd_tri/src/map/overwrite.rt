@@ -1,7 +1,7 @@
 //! Overwriting.
-ghost use Rattle.std.specs.Prelude.{◌≡◌, ◌≢◌, ◌<◌, ◌≤◌, [], length, IsPermutation, IsOk, IfOk, IfErr, OnOk, OnErr};
-ghost use Rattle.iddqd_store.specs.Bag.{clash, order, over};
-ghost use Rattle.iddqd_store.specs.Map.{bag, IsFullFor};
+ghost use Rattle.std.specs.Prelude.{◌≡◌, ◌<◌, length, IsOk, IfOk, IfErr, OnOk, OnErr};
+ghost use Rattle.iddqd_store.specs.Bag.{order};
+ghost use Rattle.iddqd_store.specs.Map.{bag, IsFullFor, Overwrites};
 
 use super::TriHashMap;
 use crate::item::Ranked;
@@ -17,14 +17,9 @@ impl<T: Ranked, S: BuildHasher> TriHashMap<T, S> {
     pub fn insert_overwrite(&mut self, item: T) -> Result<UpToThree<T>, MemoryRefused<T>>
         // What was in the way comes back, in the order of the item's keys, and the item is in.
         ensures displaced { IfOk result (λ gone. gone ≡ order T.ranks (bag self.old) item) }
-        ensures items { OnOk result (IsPermutation (bag self.new) (over T.ranks (bag self.old) item)) }
-        // Where there is room it never fails. It grows only where the map is full and nothing conflicts.
+        ensures overwrites { OnOk result (Overwrites T.ranks self.old item self.new) }
+        // Where there is room it never fails.
         ensures granted { length (bag self.old) < self.old.capacity → IsOk result }
-        ensures fits { length (bag self.new) ≤ self.new.capacity }
-        ensures no_less_room { self.old.capacity ≤ self.new.capacity }
-        ensures same_room { length (bag self.old) < self.old.capacity → self.new.capacity ≡ self.old.capacity }
-        ensures no_growth { clash T.ranks (bag self.old) item ≢ [] → self.new.capacity ≡ self.old.capacity }
-        ensures builder { self.new.builder ≡ self.old.builder }
         // Refused, the item comes back, and the map is as it was.
         ensures handed_back { IfErr result (λ e. e.value ≡ item) }
         ensures unchanged { OnErr result (self.new ≡ self.old) }

@@ -32,4 +32,4 @@ pub returns-in-Err-clause-why : goal.returns-in-Err-clause-why
 returns-in-Err-clause-why c =
     let refused = c.in-Err.refused in
     let came = c.in-Err.ensures.refused in
-    batch-refused by (bag c.args.records.now) c.args.batch.items came.0 came.3.0 refused.value refused.reason refused.taken.items came.1 came.2 came.4 came.5 c.in-Err.ensures.apart c.in-Err.ensures.reason
+    batch-refused by (bag c.args.records.now) c.args.batch.items came.0 came.3.0 refused.value refused.reason refused.taken.items came.1 came.2 came.4 came.5 c.in-Err.ensures.reason.apart c.in-Err.ensures.reason.reason

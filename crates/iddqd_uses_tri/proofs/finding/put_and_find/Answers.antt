@@ -16,4 +16,4 @@ returns-in-Ok g c =
     ∙ contains-inserted [] (agree g.T.TriHashItem.key2 g.T.K2.PartialEq.eq ∷ agree g.T.TriHashItem.key3 g.T.K3.PartialEq.eq ∷ []) (agree g.T.TriHashItem.key1 eq1)
     (has1 g.T.TriHashItem eq1 c.args.key.now) (NamesOne-query eq1 eq1 g.T.TriHashItem.key1 g.met.T.K1.Eq.laws.congr c.args.key.now)
     (bag c.insert_overwrite.new.self) c.len-len.ensures.sound
-    (without (like by c.args.item) (bag c.args.map.now)) c.args.item c.in-Ok.ensures.items c.requires.has
+    (without (like by c.args.item) (bag c.args.map.now)) c.args.item c.in-Ok.ensures.overwrites.items c.requires.has

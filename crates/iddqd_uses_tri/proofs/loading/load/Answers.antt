@@ -15,4 +15,4 @@ returns-in-Err-clause-in_the_way g c =
     let by = ranks g.T.TriHashItem g.T.K1.PartialEq.eq g.T.K2.PartialEq.eq g.T.K3.PartialEq.eq in
     let refused = c.in-Err.refused in
     let came = c.in-Err.ensures.refused in
-    batch-refused by (bag c.args.map.now) c.args.batch.items came.0 came.3.0 refused.value refused.reason refused.taken.items came.1 came.2 came.4 came.5 c.in-Err.ensures.apart c.in-Err.ensures.reason
+    batch-refused by (bag c.args.map.now) c.args.batch.items came.0 came.3.0 refused.value refused.reason refused.taken.items came.1 came.2 came.4 came.5 c.in-Err.ensures.reason.apart c.in-Err.ensures.reason.reason

@@ -1,4 +1,4 @@
-use Rattle.std.proofs.Common.{sym, ◌∙◌}
+use Rattle.std.proofs.Common.{sym, ◌∙◌, rules}
 use Rattle.iddqd_store.specs.Map.{bag}
 use Rattle.iddqd_store.proofs.MapLemmas.Places.{order_none, over_none}
 use Rattle.iddqd_store.proofs.SlotLemmas.Found.{clash_none}
@@ -16,7 +16,14 @@ returns-in_default-clause-displaced g c =
     let by = ranks g.T.BiHashItem g.T.K1.PartialEq.eq g.T.K2.PartialEq.eq in
     rw g.met.T.Ranked.ranks_are (c.new.ensures ∙ sym (order_none by (bag c.args.self.now) c.args.item c.in-Ok.ensures.free))
 
-pub returns-in_default-clause-items : goal.returns-in_default-clause-items
-returns-in_default-clause-items g c =
+pub returns-in_default-clause-overwrites : goal.returns-in_default-clause-overwrites
+returns-in_default-clause-overwrites g c =
     let by = ranks g.T.BiHashItem g.T.K1.PartialEq.eq g.T.K2.PartialEq.eq in
-    rw g.met.T.Ranked.ranks_are (over_none by (bag c.args.self.now) c.args.item c.in-Ok.ensures.free (bag c.put.new.self) (rw c.make_room.ensures.slots at c.put.ensures.items))
+    record {
+      items = rw g.met.T.Ranked.ranks_are (over_none by (bag c.args.self.now) c.args.item c.in-Ok.ensures.free (bag c.put.new.self) (rw c.make_room.ensures.slots at c.put.ensures.items));
+      fits = search rules;
+      no_less_room = search rules;
+      same_room = search rules;
+      no_growth = search rules;
+      same_builder = search rules;
+    }

@@ -15,8 +15,8 @@ returns-in-Ok-clause-step g c =
     let all = c.in-Ok.ensures.all in
     let same = All-taken all.0 all.1 all.3 ∙ all.2.0 in
     let added = subst (λ (xs : List g.row.T.Denot). AddsTo by (bag c.args.self.now) (bag c.extend_unique.new.self) xs) same all.4 in
-    let same_room = λ (room : length (bag c.args.self.now) + length c.args.items.items ≤ c.args.self.now.capacity). c.in-Ok.ensures.same_room (λ it gives. omega (arith, room, ap length gives.0)) in
-    (done, (added, c.in-Ok.ensures.sound, (c.in-Ok.ensures.no_less_room, same_room)), c.tell.ensures.fits, c.tell.ensures.took)
+    let same_room = λ (room : length (bag c.args.self.now) + length c.args.items.items ≤ c.args.self.now.capacity). c.in-Ok.ensures.room.same_room (λ it gives. omega (arith, room, ap length gives.0)) in
+    (done, (added, c.in-Ok.ensures.sound, (c.in-Ok.ensures.room.no_less_room, same_room)), c.tell.ensures.fits, c.tell.ensures.took)
 
 pub returns-in-Err-clause-step : goal.returns-in-Err-clause-step
 returns-in-Err-clause-step g c =
@@ -26,15 +26,15 @@ returns-in-Err-clause-step g c =
     let split : c.args.items.items ≡ refused.1 ++ refusal.value ∷ into_iter_items refused.2 =
     sym refused.3.0 ∙ yielded_then (into_iter_steps {X = g.row.T.Denot} {Z = Global}) (λ (it : IntoIter g.row.T.Denot Global). into_iter_items it) (λ s t x step. step.0) refused.1 refused.0 refused.2 refusal.value refused.4 in
     let whole = subst (λ (xs : List g.row.T.Denot). c.args.items.items ≡ xs ++ refusal.value ∷ into_iter_items refused.2) came split in
-    let same_room = λ (room : length (bag c.args.self.now) + length c.args.items.items ≤ c.args.self.now.capacity). c.in-Err.ensures.same_room (λ it gives. omega (arith, room, ap length gives.0)) in (
+    let same_room = λ (room : length (bag c.args.self.now) + length c.args.items.items ≤ c.args.self.now.capacity). c.in-Err.ensures.room.same_room (λ it gives. omega (arith, room, ap length gives.0)) in (
       extend_refused refusal.reason refusal.taken.items refusal.value,
       (
         into_iter_items refused.2,
         whole,
         c.in-Err.ensures.same_items,
-        c.in-Err.ensures.apart,
-        c.in-Err.ensures.reason,
-        (c.in-Err.ensures.no_less_room, same_room),
+        c.in-Err.ensures.reason.apart,
+        c.in-Err.ensures.reason.reason,
+        (c.in-Err.ensures.room.no_less_room, same_room),
       ),
       c.tell-in-Err.ensures.fits,
       c.tell-in-Err.ensures.took,

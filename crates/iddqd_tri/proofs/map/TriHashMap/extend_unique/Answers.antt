@@ -76,14 +76,14 @@ module _ (g : given.Over) (c : goal.After-drop-item-iterator g) where
 pub returns-in-Err-clause-same_items : goal.returns-in-Err-clause-same_items
 returns-in-Err-clause-same_items g c = left_same (by g) (omega arith) (laws g) (old g c) (held g c) (new g c) _ (taken g c) (sound g c) c.loop-item.invariant.added (all g c) (out g c)
 
-pub returns-in-Err-clause-apart : goal.returns-in-Err-clause-apart
-returns-in-Err-clause-apart g c = rw g.met.T.Ranked.ranks_are (taken_sound (by g) (omega arith) (laws g) (old g c) (held g c) (new g c) _ (taken g c) (sound g c) c.loop-item.invariant.added (all g c) (out g c))
-
 pub returns-in-Err-clause-reason : goal.returns-in-Err-clause-reason
 returns-in-Err-clause-reason g c =
     let item : c.in-Err.value ≡ c.in-Some.item = rw c.in-Err.value-is at c.in-Err.ensures.handed_back in
     let reason : IsReason c.in-Err.reason (clash (by g) (held g c) c.in-Some.item) = rw c.in-Err.reason-is at c.in-Err.ensures.reason in
-    rw (g.met.T.Ranked.ranks_are, item) (taken_reason (by g) (omega arith) (laws g) (old g c) (held g c) (new g c) _ (taken g c) (sound g c) c.loop-item.invariant.added (all g c) (out g c) c.in-Err.reason c.in-Some.item reason)
+    record {
+      apart = rw g.met.T.Ranked.ranks_are (taken_sound (by g) (omega arith) (laws g) (old g c) (held g c) (new g c) _ (taken g c) (sound g c) c.loop-item.invariant.added (all g c) (out g c));
+      reason = rw (g.met.T.Ranked.ranks_are, item) (taken_reason (by g) (omega arith) (laws g) (old g c) (held g c) (new g c) _ (taken g c) (sound g c) c.loop-item.invariant.added (all g c) (out g c) c.in-Err.reason c.in-Some.item reason);
+    }
 
 pub returns-in-Err-clause-sound : goal.returns-in-Err-clause-sound
 returns-in-Err-clause-sound g c = rw g.met.T.Ranked.ranks_are (left_sound (by g) (omega arith) (laws g) (old g c) (held g c) (new g c) _ (taken g c) (sound g c) c.loop-item.invariant.added (all g c) (out g c))
