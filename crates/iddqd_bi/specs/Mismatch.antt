@@ -1,5 +1,7 @@
 -- Why an item may not stand where others do: the item, and the rank at which its key differs, counted from 0.
-use Rattle.std.specs.Prelude.{ℕ, Option, Some, None, ⊤}
+use Rattle.std.specs.Prelude.{◌≡◌, ℕ, Bool, List, Option, Some, None, ⊤}
+use Rattle.iddqd_store.specs.Bag.{Ranks, differ}
+use Rattle.iddqd_store.specs.Map.{Map, IsFullFor}
 use Rattle.iddqd_bi.specs.declared.error.KeyMismatch.{KeyMismatch}
 use Rattle.iddqd_bi.specs.declared.error.KeyMismatch.TheVariants as mismatch
 use Rattle.iddqd_bi.specs.declared.error.EntryError.{EntryError}
@@ -30,3 +32,9 @@ module _ {T : Type 0} where
   OnNoMemory (Key1 x) P = ⊤
   OnNoMemory (Key2 x) P = ⊤
   OnNoMemory (Memory x) P = P
+
+  -- the item comes back for the lowest rank at which it fails its test, or else since the map is full and lacks memory
+  pub record HandsBack {S : Type 0} (ranks : Ranks T) (tests : List (T → Bool)) (m : Map T S) (x : T) (error : EntryError T) : Type 0 where
+    pub handed_back : error_item error ≡ x
+    pub rank : differ tests x ≡ error_rank error
+    pub memory : OnNoMemory error (IsFullFor ranks m x)

@@ -1,12 +1,13 @@
 -- What a contract says of a `RefMut`.
-use Rattle.std.specs.Prelude.{◌≡◌, ℕ, [], Option}
+use Rattle.std.specs.Prelude.{◌≡◌, ℕ, [], Option, Some, None, IsPermutation}
 use Rattle.std.specs.Borrow.{Fml, GName, RattleType, MutBor, RestsIfNone, follows}
 use Rattle.std.specs.declared.cmp.PartialEq as equal
 use Rattle.std.specs.declared.hash.Hash as hash
 use Rattle.std.specs.declared.hash.Hasher as hasher
 use Rattle.std.specs.declared.hash.BuildHasher as builder
 use mir.Syntax.{named}
-use Rattle.iddqd_store.specs.Map.{Map}
+use Rattle.iddqd_store.specs.Bag.{Ranks, differ, like, swap}
+use Rattle.iddqd_store.specs.Map.{Map, bag}
 use Rattle.iddqd_store.specs.Slots.{get}
 use Rattle.iddqd_bi.specs.declared.item.BiHashItem as item
 use Rattle.iddqd_store.specs.Map.Written.{map_with, still_live}
@@ -30,6 +31,16 @@ module _ {T S K1 K2 H : Type 0} {of : item.Ghosts T K1 K2} {eq1 : equal.Ghosts K
   -- the item
   abbrev pub ref_item : RefMut T S K1 K2 H of eq1 input1 eq2 input2 build hashes → Option T
   ref_item r = get r.map.now.slots r.slot
+
+  -- x, which was lent, comes back, and the item, which has its keys, is in its place. The room and the builder stay
+  pub record Replaces (ranks : Ranks T) (before : RefMut T S K1 K2 H of eq1 input1 eq2 input2 build hashes) (item x : T) (after : RefMut T S K1 K2 H of eq1 input1 eq2 input2 build hashes) : Type 0 where
+    pub same_map : ref_lender after ≡ ref_lender before
+    pub old : ref_item before ≡ Some x
+    pub new : ref_item after ≡ Some item
+    pub swaps : IsPermutation (bag (ref_map after)) (swap ranks (bag (ref_map before)) x item)
+    pub same_keys : differ (like ranks x) item ≡ None
+    pub capacity : (ref_map after).capacity ≡ (ref_map before).capacity
+    pub builder : (ref_map after).builder ≡ (ref_map before).builder
 
   -- the reference, with f of its item
   abbrev pub ref_with : RefMut T S K1 K2 H of eq1 input1 eq2 input2 build hashes → (T → T) → RefMut T S K1 K2 H of eq1 input1 eq2 input2 build hashes

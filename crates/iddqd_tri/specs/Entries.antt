@@ -1,5 +1,5 @@
 -- What contracts say of entries.
-use Rattle.std.specs.Prelude.{◌≡◌, ◌≢◌, ◌<◌, length, Bool, [], ◌∷◌, List, Option, Some, None, Result, IsOk, IfOk, IfErr, OnOk, OnErr, ⊤}
+use Rattle.std.specs.Prelude.{◌≡◌, ◌≢◌, ◌<◌, length, Bool, [], ◌∷◌, List, Option, Some, None, Result, IsOk, IfOk, IfErr, OnOk, OnErr, ⊤, IsPermutation}
 use Rattle.std.specs.Option.{option_and_then, IfSome}
 use Rattle.std.specs.Borrow.{Fml, GName, RattleType, MutBor, LendsIf, follows, follows_so, name_if_ok}
 use Rattle.std.specs.HashMap.Lent.{HashMembers}
@@ -8,17 +8,18 @@ use Rattle.std.specs.declared.hash.Hash as hash
 use Rattle.std.specs.declared.hash.Hasher as hasher
 use Rattle.std.specs.declared.hash.BuildHasher as builder
 use mir.Syntax.{named}
-use Rattle.iddqd_store.specs.Bag.{IsOnly, differ, entry, listing, unique, vacant}
+use Rattle.iddqd_store.specs.Bag.{IsOnly, Ranks, differ, entry, listing, over, unique, vacant}
 use Rattle.iddqd_store.specs.Bag as bags
-use Rattle.iddqd_store.specs.Map.{Map, bag, Gains, IsFullFor}
+use Rattle.iddqd_store.specs.Map.{Map, bag, Gains}
 use Rattle.iddqd_store.specs.Map.Written.{map_with_if}
 use Rattle.iddqd_store.specs.Slots.{get, IsLive}
 use Rattle.iddqd_store.specs.Slots.Found.{AreFound, entry_at, found_by_all, head_of, held_at}
 use Rattle.iddqd_tri.specs.Keys.{has1, has2, has3, key_tests, ranks}
-use Rattle.iddqd_tri.specs.Mismatch.{error_item, error_rank, OnNoMemory}
+use Rattle.iddqd_tri.specs.Mismatch.{HandsBack}
 use Rattle.iddqd_tri.specs.Refused.{map_row}
-use Rattle.iddqd_tri.specs.RefMuts.{ref_lender, rests_if_none}
+use Rattle.iddqd_tri.specs.RefMuts.{ref_item, ref_lender, ref_map, rests_if_none}
 use Rattle.iddqd_tri.specs.declared.item.TriHashItem as item
+use Rattle.iddqd_tri.specs.declared.entry.keys.KeyTriple.{KeyTriple}
 use Rattle.iddqd_tri.specs.declared.entry.keys.Keys as pair
 use Rattle.iddqd_tri.specs.declared.entry.Entry.{Entry}
 use Rattle.iddqd_tri.specs.declared.entry.Entry.TheVariants.{Vacant, Occupied}
@@ -29,6 +30,12 @@ use Rattle.iddqd_tri.specs.declared.error.EntryRefusal.{EntryRefusal}
 use Rattle.iddqd_tri.specs.declared.ref_mut.RefMut.{RefMut}
 use Rattle.iddqd_tri.specs.contracts.entry.OccupiedEntry.{the_row as occupied_row}
 use Rattle.iddqd_tri.specs.contracts.map.TriHashMap.{the_row as row_of_map}
+
+module _ {T S : Type 0} where
+  -- the reference is to the same map, which is as it was
+  pub record IsSameMap (before after : MutBor (Map T S)) : Type 0 where
+    pub same_map : after.ghost_name ≡ before.ghost_name
+    pub unchanged : after.now ≡ before.now
 
 module _ {T S K1 K2 K3 H : Type 0} where
   -- for each rank, whether an item has the entry's key
@@ -62,6 +69,16 @@ module _ {T S K1 K2 K3 H : Type 0} where
     pub same1 : p.slot1 ≡ o.slot1
     pub same2 : p.slot2 ≡ o.slot2
     pub same3 : p.slot3 ≡ o.slot3
+
+  -- the item stands in the same map for those in its way, and the entry, with its keys, finds it alone. All else stays
+  pub record PutsOver (ranks : Ranks T) (tests : K1 → K2 → K3 → List (T → Bool)) (before : OccupiedEntry T S K1 K2 K3 H) (item : T) (after : OccupiedEntry T S K1 K2 K3 H) : Type 0 where
+    pub same_map : after.map.ghost_name ≡ before.map.ghost_name
+    pub items : IsPermutation (bag after.map.now) (over ranks (bag before.map.now) item)
+    pub has_found : HasFound tests after
+    pub unique : entry (sought tests after) (bag after.map.now) ≡ unique item
+    pub keys : (after.key1 ≡ before.key1) × (after.key2 ≡ before.key2) × (after.key3 ≡ before.key3)
+    pub capacity : after.map.now.capacity ≡ before.map.now.capacity
+    pub builder : after.map.now.builder ≡ before.map.now.builder
 
   -- those items, each once
   abbrev pub held : OccupiedEntryMut T S K1 K2 K3 H → List T
@@ -152,23 +169,32 @@ module _ {T S Q K1 K2 K3 H : Type 0} {of : item.Ghosts T K1 K2 K3} {eq1 : equal.
   OnOccupied (Vacant e) P = ⊤
   OnOccupied (Occupied e) P = P e
 
+  -- the item went into this very map, and is lent
+  pub record GainsAndLends (e : VacantEntry T S Q K1 K2 K3 H of eq1 input1 eq2 input2 eq3 input3 build hashes q) (x : T) (r : RefMut T S K1 K2 K3 H of eq1 input1 eq2 input2 eq3 input3 build hashes) : Type 0 where
+    pub same_map : ref_lender r ≡ e.map.ghost_name
+    pub item : ref_item r ≡ Some x
+    pub gains : Gains e.map.now x (ref_map r)
+
+  -- the item went into this very map, and is held for writing, by each of its keys
+  pub record GainsAndHolds (e : VacantEntry T S Q K1 K2 K3 H of eq1 input1 eq2 input2 eq3 input3 build hashes q) (x : T) (m : OccupiedEntryMut T S K1 K2 K3 H) : Type 0 where
+    pub same_map : m.map.ghost_name ≡ e.map.ghost_name
+    pub gains : Gains e.map.now x m.map.now
+    pub holds : Holds m
+    pub held : held m ≡ x ∷ []
+    pub unique : held_entry m ≡ unique x
+    pub unique_held : held_unique m ≡ Some x
+    pub by_key1 : held1 m ≡ Some x
+    pub by_key2 : held2 m ≡ Some x
+    pub by_key3 : held3 m ≡ Some x
+
   -- the item went in where the entry is vacant, which holds it then; or it is refused for the lowest rank at which its
   -- key is not the entry's, or else for want of memory
   pub record PutsIn (e : VacantEntry T S Q K1 K2 K3 H of eq1 input1 eq2 input2 eq3 input3 build hashes q) (x : T) (result : Result (OccupiedEntryMut T S K1 K2 K3 H) (EntryRefusal T S K1 K2 K3 H)) : Type 0 where
-    pub gains : IfOk result (λ m. Gains e.map.now x m.map.now)
-    pub holds : IfOk result Holds
-    pub listed : IfOk result (λ m. held m ≡ x ∷ [])
-    pub unique_item : IfOk result (λ m. held_entry m ≡ unique x)
-    pub unique_held : IfOk result (λ m. held_unique m ≡ Some x)
-    pub by_key1 : IfOk result (λ m. held1 m ≡ Some x)
-    pub by_key2 : IfOk result (λ m. held2 m ≡ Some x)
-    pub by_key3 : IfOk result (λ m. held3 m ≡ Some x)
+    pub gains_and_holds : IfOk result (GainsAndHolds e x)
     pub same_keys : OnOk result (differ (wanted e) x ≡ None)
     pub granted : differ (wanted e) x ≡ None → length (bag e.map.now) < e.map.now.capacity → IsOk result
     pub unchanged : IfErr result (λ refusal. refusal.map.now ≡ e.map.now)
-    pub handed_back : IfErr result (λ refusal. error_item refusal.error ≡ x)
-    pub rank : IfErr result (λ refusal. differ (wanted e) x ≡ error_rank refusal.error)
-    pub memory : IfErr result (λ refusal. OnNoMemory refusal.error (IsFullFor (ranks of eq1.eq eq2.eq eq3.eq) e.map.now x))
+    pub hands_back : IfErr result (λ refusal. HandsBack (ranks of eq1.eq eq2.eq eq3.eq) (wanted e) e.map.now x refusal.error)
 
   -- both are vacant, or both occupied with the same keys and places
   abbrev pub IsSameEntry : Entry T S Q K1 K2 K3 H of eq1 input1 eq2 input2 eq3 input3 build hashes q → Entry T S Q K1 K2 K3 H of eq1 input1 eq2 input2 eq3 input3 build hashes q → Type 0
@@ -181,6 +207,15 @@ module _ {T S Q K1 K2 K3 H : Type 0} {of : item.Ghosts T K1 K2 K3} {eq1 : equal.
   abbrev pub IsFound : Entry T S Q K1 K2 K3 H of eq1 input1 eq2 input2 eq3 input3 build hashes q → Type 0
   IsFound (Vacant e) = ⊤
   IsFound (Occupied e) = HasFound (key_tests of eq1.eq eq2.eq eq3.eq) e
+
+module _ {T S K1 K2 K3 H : Type 0} {of : item.Ghosts T K1 K2 K3} {eq1 : equal.Ghosts K1} {input1 : hash.Ghosts K1} {eq2 : equal.Ghosts K2} {input2 : hash.Ghosts K2} {eq3 : equal.Ghosts K3} {input3 : hash.Ghosts K3} {build : builder.Ghosts S H} {hashes : hasher.Ghosts H} {q : pair.Ghosts (KeyTriple K1 K2 K3) K1 K2 K3} where
+  -- the item went into this very map, and the entry, with the keys of the vacant one, finds it alone
+  pub record GainsAndFinds (tests : K1 → K2 → K3 → List (T → Bool)) (e : VacantEntry T S (KeyTriple K1 K2 K3) K1 K2 K3 H of eq1 input1 eq2 input2 eq3 input3 build hashes q) (x : T) (o : OccupiedEntry T S K1 K2 K3 H) : Type 0 where
+    pub same_map : o.map.ghost_name ≡ e.map.ghost_name
+    pub gains : Gains e.map.now x o.map.now
+    pub keys : (o.key1 ≡ e.keys.key1) × (o.key2 ≡ e.keys.key2) × (o.key3 ≡ e.keys.key3)
+    pub has_found : HasFound tests o
+    pub unique : entry (sought tests o) (bag o.map.now) ≡ unique x
 
 module _ (T S K1 K2 K3 H : RattleType) {of : item.Ghosts T.Denot K1.Denot K2.Denot K3.Denot} {eq1 : equal.Ghosts K1.Denot} {input1 : hash.Ghosts K1.Denot} {eq2 : equal.Ghosts K2.Denot} {input2 : hash.Ghosts K2.Denot} {eq3 : equal.Ghosts K3.Denot} {input3 : hash.Ghosts K3.Denot} {build : builder.Ghosts S.Denot H.Denot} {hashes : hasher.Ghosts H.Denot} where
   -- where no item is lent, the map stays

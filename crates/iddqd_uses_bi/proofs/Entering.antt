@@ -56,6 +56,6 @@ module _ {T S Q K1 K2 H : Type 0} {of : item.Ghosts T K1 K2} {eq1 : equal.Ghosts
       entry_key1 e ≡ k1 → entry_key2 e ≡ k2 → entry_map e ≡ old →
       Entered (bag old) x (bags.entry (key_tests of eq1.eq eq2.eq k1 k2) (bag old)) (bag m.map.now) (held_entry m)
   entered (Vacant v) m x k1 k2 old put kept found is1 is2 is =
-      rw (← is1, ← is2, ← is, v.vacant) (put.gains.items, put.unique_item)
+      rw (← is1, ← is2, ← is, v.vacant) (put.gains_and_holds.gains.items, put.gains_and_holds.unique)
   entered (Occupied o) m x k1 k2 old put kept found is1 is2 is =
       rw (← is1, ← is2, ← is) (occupied_as (bag o.map.now) x (listing (sought (key_tests of eq1.eq eq2.eq) o) (bag o.map.now)) _ (bag m.map.now) (held_entry m) found.some (ap (λ (n : Map T S). bag n) kept.unchanged) (kept.holds found).value)

@@ -3,10 +3,10 @@ ghost use Rattle.std.specs.Prelude.{◌≡◌, None, Some, not, filter, map, IfO
 ghost use Rattle.std.specs.Option.{option_copied_mut, option_to_list};
 ghost use Rattle.std.specs.Borrow.{sem};
 ghost use Rattle.std.specs.Fn.{CalledAt};
-ghost use Rattle.iddqd_store.specs.Bag.{IsOnly, differ, entry, is_unique, listing, over, swap, unique};
+ghost use Rattle.iddqd_store.specs.Bag.{IsOnly, differ, entry, is_unique, listing, swap};
 ghost use Rattle.iddqd_store.specs.Bag.Storing.{Stores};
 ghost use Rattle.iddqd_store.specs.Map.{bag, Loses};
-ghost use Rattle.iddqd_bi.specs.Entries.{FindsSame, HasFound, HoldsFound, entry_with1, entry_with2, sought, lends_data1, lends_data2, lends_held};
+ghost use Rattle.iddqd_bi.specs.Entries.{FindsSame, HasFound, HoldsFound, PutsOver, entry_with1, entry_with2, sought, lends_data1, lends_data2, lends_held};
 ghost use Rattle.iddqd_bi.specs.Keys.{has1, has2};
 ghost use Rattle.iddqd_bi.specs.Mismatch.{mismatch_item, mismatch_rank};
 ghost use Rattle.iddqd_bi.specs.OccupiedRefs.{is_one, seen1, seen2};
@@ -116,20 +116,12 @@ impl<'a, T: BiHashItem, S: BuildHasher> OccupiedEntry<'a, T, S> {
     pub fn insert(&mut self, item: T) -> Result<UpToTwo<T>, KeyMismatch<T>>
         requires { HasFound ⟦<T as Ranked>⟧.key_tests self.old }
         // It goes in only with the keys that the entry has. What these found comes back, in their order.
-        ensures same_map { self.new.map.ghost_name ≡ self.old.map.ghost_name }
         ensures same_keys { OnOk result (differ (sought ⟦<T as Ranked>⟧.key_tests self.old) item ≡ None) }
         ensures displaced { IfOk result (λ gone. gone
             ≡ listing (sought ⟦<T as Ranked>⟧.key_tests self.old) (bag self.old.map.now)) }
-        ensures items { OnOk result (IsPermutation (bag self.new.map.now)
-            (over ⟦<T as Ranked>⟧.ranks (bag self.old.map.now) item)) }
         // The entry has found the item now.
-        ensures has_found { OnOk result (HasFound ⟦<T as Ranked>⟧.key_tests self.new) }
-        ensures unique { OnOk result (entry (sought ⟦<T as Ranked>⟧.key_tests self.new) (bag self.new.map.now)
-            ≡ unique item) }
-        ensures keys { OnOk result ((self.new.key1 ≡ self.old.key1) × (self.new.key2 ≡ self.old.key2)) }
-        // The map's room and builder stay.
-        ensures capacity { self.new.map.now.capacity ≡ self.old.map.now.capacity }
-        ensures builder { self.new.map.now.builder ≡ self.old.map.now.builder }
+        ensures puts_over { OnOk result
+            (PutsOver ⟦<T as Ranked>⟧.ranks ⟦<T as Ranked>⟧.key_tests self.old item self.new) }
         // With another key it comes back, and nothing changes.
         ensures handed_back { IfErr result (λ e. mismatch_item e ≡ item) }
         ensures rank { IfErr result (λ e.

@@ -1,10 +1,10 @@
 //! What can be done with an item that is lent for writing.
-ghost use Rattle.std.specs.Prelude.{◌≡◌, Some, None, IfSome, IfOk, IfErr, OnOk, OnErr, IsPermutation};
+ghost use Rattle.std.specs.Prelude.{◌≡◌, Some, IfSome, IfOk, IfErr, OnErr, IsPermutation};
 ghost use Rattle.std.specs.Borrow.{sem};
 ghost use Rattle.iddqd_store.specs.Bag.{differ, like, swap};
 ghost use Rattle.iddqd_store.specs.Map.{bag};
 ghost use Rattle.iddqd_bi.specs.Mismatch.{mismatch_item, mismatch_rank};
-ghost use Rattle.iddqd_bi.specs.RefMuts.{ref_lender, ref_map, ref_item, ref_with, lends_ref_data};
+ghost use Rattle.iddqd_bi.specs.RefMuts.{Replaces, ref_map, ref_item, ref_with, lends_ref_data};
 
 use super::RefMut;
 use crate::error::{KeyMismatch, differ};
@@ -50,15 +50,7 @@ impl<T: Ranked, S: BuildHasher> RefMut<'_, T, S> {
     /// It compares the first keys, and the second ones where those are equal. It hashes none and takes no memory.
     pub fn replace(&mut self, item: T) -> Result<T, KeyMismatch<T>>
         // The item that was lent comes back, and the new one, with the same keys, is in its place.
-        ensures same_map { ref_lender self.new ≡ ref_lender self.old }
-        ensures old { IfOk result (λ x. ref_item self.old ≡ Some x) }
-        ensures new { OnOk result (ref_item self.new ≡ Some item) }
-        ensures swaps { IfOk result (λ x. IsPermutation (bag (ref_map self.new))
-            (swap T.ranks (bag (ref_map self.old)) x item)) }
-        ensures same_keys { IfOk result (λ x. differ (like T.ranks x) item ≡ None) }
-        // The map's room and builder stay.
-        ensures capacity { (ref_map self.new).capacity ≡ (ref_map self.old).capacity }
-        ensures builder { (ref_map self.new).builder ≡ (ref_map self.old).builder }
+        ensures replaces { IfOk result (λ x. Replaces T.ranks self.old item x self.new) }
         // With another key it comes back, and nothing changes.
         ensures handed_back { IfErr result (λ e. mismatch_item e ≡ item) }
         ensures rank { IfErr result (λ e. IfSome (ref_item self.old) (λ x.

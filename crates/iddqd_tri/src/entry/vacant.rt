@@ -1,11 +1,10 @@
 //! Putting an item in by keys that no item has.
-ghost use Rattle.std.specs.Prelude.{◌≡◌, ◌<◌, [], ◌∷◌, length, None, Some, IsOk, IfOk, IfErr, OnOk};
+ghost use Rattle.std.specs.Prelude.{◌≡◌, ◌<◌, length, None, IsOk, IfOk, IfErr, OnOk};
 ghost use Rattle.std.specs.Borrow.{sem};
-ghost use Rattle.iddqd_store.specs.Bag.{differ, entry, unique};
-ghost use Rattle.iddqd_store.specs.Map.{bag, Gains, IsFullFor};
-ghost use Rattle.iddqd_tri.specs.Entries.{HasFound, Holds, held, held1, held2, held3, held_entry, held_unique, sought, wanted, rests_if_err, held_rests_if_err};
-ghost use Rattle.iddqd_tri.specs.Mismatch.{error_item, error_rank, OnNoMemory};
-ghost use Rattle.iddqd_tri.specs.RefMuts.{ref_lender, ref_map, ref_item};
+ghost use Rattle.iddqd_store.specs.Bag.{differ};
+ghost use Rattle.iddqd_store.specs.Map.{bag};
+ghost use Rattle.iddqd_tri.specs.Entries.{GainsAndFinds, GainsAndHolds, GainsAndLends, IsSameMap, wanted, rests_if_err, held_rests_if_err};
+ghost use Rattle.iddqd_tri.specs.Mismatch.{HandsBack};
 
 use super::{KeyTriple, Keys, OccupiedEntry, OccupiedEntryMut, VacantEntry};
 use crate::error::{EntryError, EntryRefusal};
@@ -23,18 +22,13 @@ impl<'a, T: Ranked, S: BuildHasher, Q: Keys<T::K1, T::K2, T::K3>> VacantEntry<'a
     /// hashes nothing. It takes memory only where the map is full.
     pub fn insert(self, item: T) -> Result<RefMut<'a, T, S>, EntryError<T>>
         // What is lent is the item, in this very map.
-        ensures same_map { IfOk result (λ r. ref_lender r ≡ self.entry.map.ghost_name) }
-        ensures item { IfOk result (λ r. ref_item r ≡ Some item) }
-        ensures gains { IfOk result (λ r. Gains self.entry.map.now item (ref_map r)) }
+        ensures gains_and_lends { IfOk result (GainsAndLends self.entry item) }
         // It goes in only with the keys that the entry has, and then always where there is room.
         ensures same_keys { OnOk result (differ (wanted self.entry) item ≡ None) }
         ensures granted { differ (wanted self.entry) item ≡ None
             → length (bag self.entry.map.now) < self.entry.map.now.capacity → IsOk result }
-        // Refused, the item comes back, with the reason.
-        ensures handed_back { IfErr result (λ e. error_item e ≡ item) }
-        ensures rank { IfErr result (λ e. differ (wanted self.entry) item ≡ error_rank e) }
-        ensures memory { IfErr result (λ e. OnNoMemory e (IsFullFor T.ranks self.entry.map.now item)) }
-        // Refused, the map ends as it was.
+        // Refused, the item comes back, with the reason, and the map ends as it was.
+        ensures hands_back { IfErr result (HandsBack T.ranks (wanted self.entry) self.entry.map.now item) }
         ensures* unchanged_at_err { sem 𝓛 (rests_if_err T.row S.row T.K1.row T.K2.row T.K3.row S.Hasher.row
             self.entry.map result) }
     {
@@ -62,24 +56,13 @@ impl<'a, T: Ranked, S: BuildHasher, Q: Keys<T::K1, T::K2, T::K3>> VacantEntry<'a
     /// The same as `insert`, and answers what an occupied entry answers in `into_mut`.
     pub fn insert_mut(self, item: T) -> Result<OccupiedEntryMut<'a, T, S>, EntryError<T>>
         // What is lent holds this very map, with the item in it, which each key finds.
-        ensures same_map { IfOk result (λ m. m.map.ghost_name ≡ self.entry.map.ghost_name) }
-        ensures gains { IfOk result (λ m. Gains self.entry.map.now item m.map.now) }
-        ensures holds { IfOk result Holds }
-        ensures held { IfOk result (λ m. held m ≡ item ∷ []) }
-        ensures unique { IfOk result (λ m. held_entry m ≡ unique item) }
-        ensures unique_held { IfOk result (λ m. held_unique m ≡ Some item) }
-        ensures by_key1 { IfOk result (λ m. held1 m ≡ Some item) }
-        ensures by_key2 { IfOk result (λ m. held2 m ≡ Some item) }
-        ensures by_key3 { IfOk result (λ m. held3 m ≡ Some item) }
+        ensures gains_and_holds { IfOk result (GainsAndHolds self.entry item) }
         // It goes in only with the keys that the entry has, and then always where there is room.
         ensures same_keys { OnOk result (differ (wanted self.entry) item ≡ None) }
         ensures granted { differ (wanted self.entry) item ≡ None
             → length (bag self.entry.map.now) < self.entry.map.now.capacity → IsOk result }
-        // Refused, the item comes back, with the reason.
-        ensures handed_back { IfErr result (λ e. error_item e ≡ item) }
-        ensures rank { IfErr result (λ e. differ (wanted self.entry) item ≡ error_rank e) }
-        ensures memory { IfErr result (λ e. OnNoMemory e (IsFullFor T.ranks self.entry.map.now item)) }
-        // Refused, the map ends as it was.
+        // Refused, the item comes back, with the reason, and the map ends as it was.
+        ensures hands_back { IfErr result (HandsBack T.ranks (wanted self.entry) self.entry.map.now item) }
         ensures* unchanged_at_err { sem 𝓛 (held_rests_if_err T.row S.row T.K1.row T.K2.row T.K3.row S.Hasher.row
             T.TriHashItem T.K1.Hash T.K2.Hash T.K3.Hash S.BuildHasher S.Hasher.Hasher self.entry.map result) }
     {
@@ -114,24 +97,15 @@ impl<'a, T: TriHashItem, S: BuildHasher> VacantEntry<'a, T, S> {
     /// The same as `insert`, and answers an entry, which is unique. Its refusal holds the map.
     pub fn insert_entry(self, item: T) -> Result<OccupiedEntry<'a, T, S>, EntryRefusal<'a, T, S>>
         // The entry holds this very map, with the item in it, which all its keys find.
-        ensures same_map { IfOk result (λ e. e.map.ghost_name ≡ self.entry.map.ghost_name) }
-        ensures gains { IfOk result (λ e. Gains self.entry.map.now item e.map.now) }
-        ensures keys { IfOk result (λ e. (e.key1 ≡ self.entry.keys.key1) × (e.key2 ≡ self.entry.keys.key2)
-            × (e.key3 ≡ self.entry.keys.key3)) }
-        ensures has_found { IfOk result (HasFound ⟦<T as Ranked>⟧.key_tests) }
-        ensures unique { IfOk result (λ e.
-            entry (sought ⟦<T as Ranked>⟧.key_tests e) (bag e.map.now) ≡ unique item) }
+        ensures gains_and_finds { IfOk result (GainsAndFinds ⟦<T as Ranked>⟧.key_tests self.entry item) }
         // It goes in only with the keys that the entry has, and then always where there is room.
         ensures same_keys { OnOk result (differ (wanted self.entry) item ≡ None) }
         ensures granted { differ (wanted self.entry) item ≡ None
             → length (bag self.entry.map.now) < self.entry.map.now.capacity → IsOk result }
         // Refused, the map is held as it was, and the item comes back, with the reason.
-        ensures same_map_at_err { IfErr result (λ e. e.map.ghost_name ≡ self.entry.map.ghost_name) }
-        ensures unchanged { IfErr result (λ e. e.map.now ≡ self.entry.map.now) }
-        ensures handed_back { IfErr result (λ e. error_item e.error ≡ item) }
-        ensures rank { IfErr result (λ e. differ (wanted self.entry) item ≡ error_rank e.error) }
-        ensures memory { IfErr result (λ e.
-            OnNoMemory e.error (IsFullFor ⟦<T as Ranked>⟧.ranks self.entry.map.now item)) }
+        ensures is_same_map { IfErr result (λ e. IsSameMap self.entry.map e.map) }
+        ensures hands_back { IfErr result (λ e.
+            HandsBack ⟦<T as Ranked>⟧.ranks (wanted self.entry) self.entry.map.now item e.error) }
     {
         let VacantEntry {
             map,

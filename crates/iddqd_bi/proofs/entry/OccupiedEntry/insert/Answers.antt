@@ -1,4 +1,4 @@
-use Rattle.std.proofs.Common.{rules, arith, ◌≡◌, [], ◌∷◌, true, sym, ap, ◌∙◌}
+use Rattle.std.proofs.Common.{rules, arith, refl, ◌≡◌, [], ◌∷◌, true, sym, ap, ◌∙◌}
 use Rattle.iddqd_store.specs.Map.{bag, hash_of}
 use Rattle.iddqd_store.proofs.MapLemmas.Storing.{live_found}
 use Rattle.iddqd_store.proofs.RankLemmas.Sought.{found_under}
@@ -42,8 +42,8 @@ returns-clause-displaced g c =
     let same2 : g.T.K2.PartialEq.eq o.key2.now (g.T.BiHashItem.key2 c.args.item) ≡ true = search rules in
     c.put_over-displaced.ensures.displaced ∙ order-both g.T.BiHashItem g.T.K1.PartialEq.eq g.T.K2.PartialEq.eq g.met.T.K1.Eq.laws g.met.T.K2.Eq.laws c.args.item o.key1.now o.key2.now same1 same2 (bag o.map.now)
 
-pub returns-clause-has_found : goal.returns-clause-has_found
-returns-clause-has_found g c =
+pub returns-clause-puts_over : goal.returns-clause-puts_over
+returns-clause-puts_over g c =
     let o = c.args.self.now in
     let put = c.put_over-displaced in
     let same1 : g.T.K1.PartialEq.eq o.key1.now (g.T.BiHashItem.key1 c.args.item) ≡ true = search rules in
@@ -51,15 +51,12 @@ returns-clause-has_found g c =
     let tests = key_tests g.T.BiHashItem g.T.K1.PartialEq.eq g.T.K2.PartialEq.eq o.key1.now o.key2.now in
     let keys = AreKeyTests-keys g.T.BiHashItem g.T.K1.PartialEq.eq g.T.K2.PartialEq.eq g.met.T.K1.Eq.laws g.met.T.K2.Eq.laws o.key1.now o.key2.now in
     let here = finds_here (ranks g.T.BiHashItem g.T.K1.PartialEq.eq g.T.K2.PartialEq.eq) tests (omega arith) keys put.new.self.slots put.result.1 c.args.item (same1, (same2, tt)) put.ensures.sound put.ensures.at in
-    record { found = here.found; value = here.value; listed = here.listed; some = here.some }
-
-pub returns-clause-unique : goal.returns-clause-unique
-returns-clause-unique g c =
-    let o = c.args.self.now in
-    let put = c.put_over-displaced in
-    let same1 : g.T.K1.PartialEq.eq o.key1.now (g.T.BiHashItem.key1 c.args.item) ≡ true = search rules in
-    let same2 : g.T.K2.PartialEq.eq o.key2.now (g.T.BiHashItem.key2 c.args.item) ≡ true = search rules in
-    let tests = key_tests g.T.BiHashItem g.T.K1.PartialEq.eq g.T.K2.PartialEq.eq o.key1.now o.key2.now in
-    let keys = AreKeyTests-keys g.T.BiHashItem g.T.K1.PartialEq.eq g.T.K2.PartialEq.eq g.met.T.K1.Eq.laws g.met.T.K2.Eq.laws o.key1.now o.key2.now in
-    let here = finds_here (ranks g.T.BiHashItem g.T.K1.PartialEq.eq g.T.K2.PartialEq.eq) tests (omega arith) keys put.new.self.slots put.result.1 c.args.item (same1, (same2, tt)) put.ensures.sound put.ensures.at in
-    here.unique_item
+    record {
+      same_map = refl;
+      items = put.ensures.items;
+      has_found = record { found = here.found; value = here.value; listed = here.listed; some = here.some };
+      unique = here.unique_item;
+      keys = (refl, refl);
+      capacity = put.ensures.capacity;
+      builder = put.ensures.builder;
+    }

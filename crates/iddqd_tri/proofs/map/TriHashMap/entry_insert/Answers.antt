@@ -21,4 +21,4 @@ returns-in-Ok-insert-clause-step g c =
     let eq3 = g.T.K3.PartialEq.eq in
     let keys = AreKeyTests-keys g.T.TriHashItem eq1 eq2 eq3 g.met.T.K1.Eq.laws g.met.T.K2.Eq.laws g.met.T.K3.Eq.laws c.args.key1.now c.args.key2.now c.args.key3.now in
     entry_inserts_occupied g.row.T-Data.Denot (ranks g.T.TriHashItem eq1 eq2 eq3) (key_tests g.T.TriHashItem eq1 eq2 eq3 c.args.key1.now c.args.key2.now c.args.key3.now) keys (state_of c.args.self.now) _ c.args.item
-    (search rules) _ (search rules) (search (rules, c.in-Ok-insert.ensures.items)) (search rules)
+    (search rules) _ (search rules) (search (rules, c.in-Ok-insert.ensures.puts_over.items)) (search rules)

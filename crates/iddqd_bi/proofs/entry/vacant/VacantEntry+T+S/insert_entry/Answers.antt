@@ -1,11 +1,11 @@
-use Rattle.std.proofs.Common.{rules, arith, ◌≡◌, true}
+use Rattle.std.proofs.Common.{rules, arith, refl, ◌≡◌, true}
 use Rattle.iddqd_store.proofs.SlotLemmas.Here.{finds_here}
 use Rattle.iddqd_bi.specs.Keys.{key_tests, ranks}
 use Rattle.iddqd_bi.proofs.MapLemmas.{AreKeyTests-keys}
 use Rattle.iddqd_bi.proofs.entry.vacant.VacantEntry+T+S.insert_entry.Goals as goal
 
-pub returns-in-Ok-clause-has_found : goal.returns-in-Ok-clause-has_found
-returns-in-Ok-clause-has_found g c =
+pub returns-in-Ok-clause-gains_and_finds : goal.returns-in-Ok-clause-gains_and_finds
+returns-in-Ok-clause-gains_and_finds g c =
     let v = c.args.self in
     let put = c.in-Ok.ensures in
     let same1 : g.T.K1.PartialEq.eq v.keys.key1.now (g.T.BiHashItem.key1 c.args.item) ≡ true = search rules in
@@ -13,15 +13,10 @@ returns-in-Ok-clause-has_found g c =
     let tests = key_tests g.T.BiHashItem g.T.K1.PartialEq.eq g.T.K2.PartialEq.eq v.keys.key1.now v.keys.key2.now in
     let keys = AreKeyTests-keys g.T.BiHashItem g.T.K1.PartialEq.eq g.T.K2.PartialEq.eq g.met.T.K1.Eq.laws g.met.T.K2.Eq.laws v.keys.key1.now v.keys.key2.now in
     let here = finds_here (ranks g.T.BiHashItem g.T.K1.PartialEq.eq g.T.K2.PartialEq.eq) tests (omega arith) keys c.put_free.new.self.slots c.in-Ok.slot c.args.item (same1, (same2, tt)) put.sound put.at in
-    record { found = here.found; value = here.value; listed = here.listed; some = here.some }
-
-pub returns-in-Ok-clause-unique : goal.returns-in-Ok-clause-unique
-returns-in-Ok-clause-unique g c =
-    let v = c.args.self in
-    let put = c.in-Ok.ensures in
-    let same1 : g.T.K1.PartialEq.eq v.keys.key1.now (g.T.BiHashItem.key1 c.args.item) ≡ true = search rules in
-    let same2 : g.T.K2.PartialEq.eq v.keys.key2.now (g.T.BiHashItem.key2 c.args.item) ≡ true = search rules in
-    let tests = key_tests g.T.BiHashItem g.T.K1.PartialEq.eq g.T.K2.PartialEq.eq v.keys.key1.now v.keys.key2.now in
-    let keys = AreKeyTests-keys g.T.BiHashItem g.T.K1.PartialEq.eq g.T.K2.PartialEq.eq g.met.T.K1.Eq.laws g.met.T.K2.Eq.laws v.keys.key1.now v.keys.key2.now in
-    let here = finds_here (ranks g.T.BiHashItem g.T.K1.PartialEq.eq g.T.K2.PartialEq.eq) tests (omega arith) keys c.put_free.new.self.slots c.in-Ok.slot c.args.item (same1, (same2, tt)) put.sound put.at in
-    here.unique_item
+    record {
+      same_map = refl;
+      gains = put.gains;
+      keys = (refl, refl);
+      has_found = record { found = here.found; value = here.value; listed = here.listed; some = here.some };
+      unique = here.unique_item;
+    }
