@@ -37,7 +37,7 @@ module _ {T S K1 K2 K3 H : Type 0} {of : item.Ghosts T K1 K2 K3} {eq1 : equal.Gh
   refused_item (Memory d) = d.new_item
 
   -- the refusal has the item, and holds this very map as it was
-  pub record HandsBack (m : MutBor (Map T S)) (x : T) (e : InsertError T S K1 K2 K3 H of eq1 input1 eq2 input2 eq3 input3 build hashes) : Type 0 where
+  pub record HandsBackAndHolds (m : MutBor (Map T S)) (x : T) (e : InsertError T S K1 K2 K3 H of eq1 input1 eq2 input2 eq3 input3 build hashes) : Type 0 where
     pub handed_back : refused_item e ≡ x
     pub same_map : (refusing_map e).ghost_name ≡ m.ghost_name
     pub unchanged : (refusing_map e).now ≡ m.now

@@ -11,7 +11,7 @@ use crate::item::Ranked;
 use std::hash::{BuildHasher, Hash};
 
 impl<T: Ranked, S: BuildHasher> TriHashMap<T, S> {
-    ghost use Rattle.iddqd_tri.specs.Refused.{HandsBack, OnDuplicate, OnMemory, ends_as};
+    ghost use Rattle.iddqd_tri.specs.Refused.{HandsBackAndHolds, OnDuplicate, OnMemory, ends_as};
 
     /// Puts an item in where none conflicts with it.
     ///
@@ -27,7 +27,7 @@ impl<T: Ranked, S: BuildHasher> TriHashMap<T, S> {
         ensures granted { clash T.ranks (bag self.old) item ≡ []
             → length (bag self.old) < self.old.capacity → IsOk result }
         // Refused, the item comes back, and the map is held as it was.
-        ensures handed_back { IfErr result (λ e. HandsBack self.entry item e) }
+        ensures handed_back { IfErr result (λ e. HandsBackAndHolds self.entry item e) }
         ensures duplicate { IfErr result (λ e. OnDuplicate e (clash T.ranks (bag self.old) item ≢ [])) }
         ensures memory { IfErr result (λ e. OnMemory e (IsFullFor T.ranks self.old item)) }
         // How the map ends, once the refusal is gone: with the item where it went in, else as it was.
