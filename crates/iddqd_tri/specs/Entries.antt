@@ -150,6 +150,12 @@ module _ {T S Q K1 K2 K3 H : Type 0} {of : item.Ghosts T K1 K2 K3} {eq1 : equal.
   entry_key3 (Vacant e) = q.third e.keys
   entry_key3 (Occupied e) = e.key3.now
 
+  -- the entry is that of these keys
+  pub record HasKeys (e : Entry T S Q K1 K2 K3 H of eq1 input1 eq2 input2 eq3 input3 build hashes q) (k1 : K1) (k2 : K2) (k3 : K3) : Type 0 where
+    pub key1 : entry_key1 e ≡ k1
+    pub key2 : entry_key2 e ≡ k2
+    pub key3 : entry_key3 e ≡ k3
+
   -- what it holds
   abbrev pub entry_value : Entry T S Q K1 K2 K3 H of eq1 input1 eq2 input2 eq3 input3 build hashes q → bags.Entry T
   entry_value (Vacant e) = vacant
@@ -202,6 +208,13 @@ module _ {T S Q K1 K2 K3 H : Type 0} {of : item.Ghosts T K1 K2 K3} {eq1 : equal.
   IsSameEntry (Vacant e) (Occupied p) = ⊥
   IsSameEntry (Occupied o) (Vacant f) = ⊥
   IsSameEntry (Occupied o) (Occupied p) = FindsSame o p
+
+  -- the entry is of the same map and kind, with the same keys and places. The room and the builder stay
+  pub record KeepsEntry (before after : Entry T S Q K1 K2 K3 H of eq1 input1 eq2 input2 eq3 input3 build hashes q) : Type 0 where
+    pub same_map : entry_lender after ≡ entry_lender before
+    pub capacity : (entry_map after).capacity ≡ (entry_map before).capacity
+    pub builder : (entry_map after).builder ≡ (entry_map before).builder
+    pub places : IsSameEntry before after
 
   -- an occupied entry has found what its keys name
   abbrev pub IsFound : Entry T S Q K1 K2 K3 H of eq1 input1 eq2 input2 eq3 input3 build hashes q → Type 0

@@ -4,7 +4,7 @@ ghost use Rattle.std.specs.Fn.{CalledAt};
 ghost use Rattle.iddqd_store.specs.Bag.{listing};
 ghost use Rattle.iddqd_store.specs.Bag.Storing.{Stores};
 ghost use Rattle.iddqd_store.specs.Map.{bag};
-ghost use Rattle.iddqd_bi.specs.Entries.{IsFound, IsSameEntry, KeepsFound, OnOccupied, OnVacant, PutsIn, entry_lender, entry_map, sought};
+ghost use Rattle.iddqd_bi.specs.Entries.{IsFound, KeepsEntry, KeepsFound, OnOccupied, OnVacant, PutsIn, entry_lender, entry_map, sought};
 
 use super::{Entry, Keys, OccupiedEntryMut, VacantEntry};
 use crate::error::EntryRefusal;
@@ -59,17 +59,13 @@ impl<'a, T: BiHashItemMut, S: BuildHasher, Q: Keys<T::K1, T::K2>> Entry<'a, T, S
         F: Drop,
         requires callable { F.IsAlwaysCallable f }
         requires is_found { IsFound self }
-        // It holds the same map, and a vacant entry stays as it was.
-        ensures same_map { entry_lender result ≡ entry_lender self.entry }
+        // A vacant entry stays as it was. Each item that was found gets the data that the function makes of it.
         ensures vacant { OnVacant self.entry (λ v. result ≡ self.entry) }
-        // Each item that was found gets the data that the function makes of it.
         ensures stores { OnOccupied self.entry (λ o. Stores (CalledAt F.FnMut) T.put ⟦<T as Ranked>⟧.ranks f
             (listing (sought ⟦<T as Ranked>⟧.key_tests o) (bag o.map.now)) (bag o.map.now)
             (bag (entry_map result))) }
-        // All else stays.
-        ensures capacity { (entry_map result).capacity ≡ (entry_map self.entry).capacity }
-        ensures builder { (entry_map result).builder ≡ (entry_map self.entry).builder }
-        ensures places { IsSameEntry self.entry result }
+        // It holds the same map, and what it found is found still. All else stays.
+        ensures keeps_entry { KeepsEntry self.entry result }
         ensures is_found { IsFound result }
     {
         match self {

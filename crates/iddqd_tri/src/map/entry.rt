@@ -2,7 +2,7 @@
 ghost use Rattle.std.specs.Prelude.{◌≡◌};
 ghost use Rattle.iddqd_store.specs.Bag.{entry};
 ghost use Rattle.iddqd_store.specs.Map.{bag};
-ghost use Rattle.iddqd_tri.specs.Entries.{IsFound, entry_key1, entry_key2, entry_key3, entry_lender, entry_map, entry_value};
+ghost use Rattle.iddqd_tri.specs.Entries.{HasKeys, IsFound, entry_lender, entry_map, entry_value};
 
 use super::TriHashMap;
 use crate::entry::{Entry, KeyTriple, OccupiedEntry, VacantEntry};
@@ -23,9 +23,7 @@ impl<T: TriHashItem, S: BuildHasher> TriHashMap<T, S> {
         // It holds this very map, unchanged, and these keys.
         ensures same_map { entry_lender result ≡ self.entry.ghost_name }
         ensures unchanged { entry_map result ≡ self.old }
-        ensures key1 { entry_key1 result ≡ key1.now }
-        ensures key2 { entry_key2 result ≡ key2.now }
-        ensures key3 { entry_key3 result ≡ key3.now }
+        ensures keys { HasKeys result key1.now key2.now key3.now }
         // It tells which items have the keys.
         ensures value { entry_value result
             ≡ entry (⟦<T as Ranked>⟧.key_tests key1.now key2.now key3.now) (bag self.old) }
