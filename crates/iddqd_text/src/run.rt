@@ -1,5 +1,5 @@
 //! A text of commands, run on a new map.
-ghost use Rattle.std.specs.Prelude.{◌≡◌, Err, IfOk, IfSome, OnOk, string_bytes};
+ghost use Rattle.std.specs.Prelude.{◌≡◌, ◌≢◌, Err, IfOk, IfSome, OnErr, OnOk, string_bytes};
 ghost use Rattle.std.specs.Io.KnownBytes.{IsAtEnd, Keeps};
 ghost use Rattle.iddqd_text.specs.Faults.{reads_failed, writes_failed};
 ghost use Rattle.iddqd_text.specs.RunText.{IsAnswer, IsOutcome, Writes, WritesFront};
@@ -30,12 +30,13 @@ pub fn run_text<R: Source, W: Out>(
     source: &mut R,
     out: &mut W,
 ) -> Result<RunEnd, RunFault>
+    // What is written: all of it, a front where a write fails, and else nothing.
     ensures ended { IfOk result (λ end. IfSome (R.left source.old) (λ input.
         Writes kind input end (W.held out.old) (W.held out.new))) }
     ensures front_at_write { result ≡ Err RunFault.Write → IfSome (R.left source.old) (λ input.
         WritesFront kind input (W.held out.old) (W.held out.new)) }
-    ensures nothing_at_read { result ≡ Err RunFault.Read → Keeps (W.held out.old) (W.held out.new) }
-    ensures nothing_at_memory { result ≡ Err RunFault.Memory → Keeps (W.held out.old) (W.held out.new) }
+    ensures nothing_before { OnErr result (result ≢ Err RunFault.Write → Keeps (W.held out.old) (W.held out.new)) }
+    // What is read, and which reads and writes failed.
     ensures to_the_end { OnOk result (IsAtEnd (R.left source.new)) }
     ensures reads_failed { R.failures source.new ≡ reads_failed result (R.failures source.old) }
     ensures writes_failed { W.failures out.new ≡ writes_failed result (W.failures out.old) }
