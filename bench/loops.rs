@@ -198,10 +198,9 @@ pub fn equal<const N: usize>(load: &Workload<N>, whole: bool) -> u64 {
 pub fn retain<const N: usize>(load: &Workload<N>, whole: bool) -> u64 {
     each_map(load, |rows, _| {
         each_copy(load, &ByHand::filled(rows), |mut copy| {
-            if !whole {
-                return 0;
+            if whole {
+                copy.retain(|row| row.keys[0] % 2 == 0);
             }
-            copy.retain(|row| row.keys[0] % 2 == 0);
             copy.len() as u64
         })
     })

@@ -3,6 +3,13 @@ use super::{Row, fill, filled};
 use iddqd_tri::TriHashMap;
 use std::alloc::Global;
 
+/// Puts rows into a new map, and counts those that are refused, with the items that it has then.
+fn filled_anew(alloc: Global, rows: &[Row]) -> u64 {
+    let mut map = TriHashMap::new(alloc);
+    let refused = fill(&mut map, rows);
+    refused.wrapping_add(map.len() as u64)
+}
+
 /// Fills a new map from each part of so many rows.
 #[unsafe(no_mangle)]
 pub extern "C" fn tri_insert(
@@ -14,11 +21,56 @@ pub extern "C" fn tri_insert(
 ) -> u64 {
     let mut sum = 0u64;
     for rows in rows.chunks(number.max(1)) {
-        let mut map = TriHashMap::new(alloc);
         if whole {
-            sum = sum.wrapping_add(fill(&mut map, rows));
-            sum = sum.wrapping_add(map.len() as u64);
+            sum = sum.wrapping_add(filled_anew(alloc, rows));
         }
+    }
+    sum
+}
+
+/// The way that rows take into a map.
+#[derive(Clone, Copy)]
+enum Way {
+    /// None goes in.
+    Nowhere,
+    Unique,
+    Entry,
+}
+
+/// Puts the rows in through their entries, and counts those that are refused.
+fn enter(map: &mut TriHashMap<Row>, rows: &[Row]) -> u64 {
+    let mut refused = 0u64;
+    for row in rows {
+        if map
+            .entry(&row.key1, &row.key2, &row.key3)
+            .or_insert(*row)
+            .is_err()
+        {
+            refused = refused.wrapping_add(1);
+        }
+    }
+    refused
+}
+
+/// Puts rows into a new map, made with room for so many items. It counts those that are refused, with the items that
+/// the map has then.
+fn filled_with_room(alloc: Global, rows: &[Row], room: usize, way: Way) -> u64 {
+    let Ok(mut map) = TriHashMap::with_capacity(alloc, room) else {
+        return 0;
+    };
+    let refused = match way {
+        Way::Nowhere => 0,
+        Way::Unique => fill(&mut map, rows),
+        Way::Entry => enter(&mut map, rows),
+    };
+    refused.wrapping_add(map.len() as u64)
+}
+
+/// The same of each part of so many rows.
+fn fill_parts(alloc: Global, rows: &[Row], number: usize, way: Way) -> u64 {
+    let mut sum = 0u64;
+    for rows in rows.chunks(number.max(1)) {
+        sum = sum.wrapping_add(filled_with_room(alloc, rows, number, way));
     }
     sum
 }
@@ -32,16 +84,8 @@ pub extern "C" fn tri_insert_with_room(
     number: usize,
     whole: bool,
 ) -> u64 {
-    let mut sum = 0u64;
-    for rows in rows.chunks(number.max(1)) {
-        if let Ok(mut map) = TriHashMap::with_capacity(alloc, number) {
-            if whole {
-                sum = sum.wrapping_add(fill(&mut map, rows));
-            }
-            sum = sum.wrapping_add(map.len() as u64);
-        }
-    }
-    sum
+    let way = if whole { Way::Unique } else { Way::Nowhere };
+    fill_parts(alloc, rows, number, way)
 }
 
 /// Fills a map, and asks for inserts of rows one of whose keys is taken.
@@ -66,24 +110,19 @@ pub extern "C" fn tri_entry_vacant(
     number: usize,
     whole: bool,
 ) -> u64 {
-    let mut sum = 0u64;
-    for rows in rows.chunks(number.max(1)) {
-        if let Ok(mut map) = TriHashMap::with_capacity(alloc, number) {
-            if whole {
-                for row in rows {
-                    if map
-                        .entry(&row.key1, &row.key2, &row.key3)
-                        .or_insert(*row)
-                        .is_err()
-                    {
-                        sum = sum.wrapping_add(1);
-                    }
-                }
-            }
-            sum = sum.wrapping_add(map.len() as u64);
-        }
+    let way = if whole { Way::Entry } else { Way::Nowhere };
+    fill_parts(alloc, rows, number, way)
+}
+
+/// The second key of the item that an entry of the row's keys holds.
+fn held_key2(map: &mut TriHashMap<Row>, row: &Row) -> u64 {
+    if let Ok(held) = map.entry(&row.key1, &row.key2, &row.key3).or_insert(*row)
+        && let Some(found) = held.into_unique()
+    {
+        found.key2
+    } else {
+        0
     }
-    sum
 }
 
 /// Fills a map, and asks for entries that have an item.
@@ -99,11 +138,7 @@ pub extern "C" fn tri_entry_occupied(
     let mut sum = 0u64;
     if whole {
         for row in asked {
-            if let Ok(held) = map.entry(&row.key1, &row.key2, &row.key3).or_insert(*row)
-                && let Some(found) = held.into_unique()
-            {
-                sum = sum.wrapping_add(found.key2);
-            }
+            sum = sum.wrapping_add(held_key2(&mut map, row));
         }
     }
     sum

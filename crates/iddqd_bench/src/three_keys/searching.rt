@@ -1,5 +1,6 @@
 //! Loops that look items of the map with three keys up, write to them or take them out.
 use super::{Row, filled, take_out};
+use iddqd_tri::TriHashMap;
 use std::alloc::Global;
 
 /// Looks each row's first key up. No look-up needs the answer of the one before.
@@ -89,6 +90,15 @@ pub extern "C" fn tri_remove(
     sum
 }
 
+/// Takes an item out and puts another in: its second key, and one more where the other was refused.
+fn remove_insert(map: &mut TriHashMap<Row>, old: &Row, new: &Row) -> u64 {
+    let gone = match map.remove1(&old.key1) {
+        Some(gone) => gone.key2,
+        None => 0,
+    };
+    gone.wrapping_add(u64::from(map.insert_unique(*new).is_err()))
+}
+
 /// Takes an item out and puts another in, for each two rows.
 #[unsafe(no_mangle)]
 pub extern "C" fn tri_remove_insert(
@@ -100,16 +110,10 @@ pub extern "C" fn tri_remove_insert(
 ) -> u64 {
     let mut map = filled(alloc, rows);
     let mut sum = 0u64;
-    if !whole {
-        return sum;
-    }
-    for two in asked.chunks(2) {
-        if let [old, new] = two {
-            if let Some(gone) = map.remove1(&old.key1) {
-                sum = sum.wrapping_add(gone.key2);
-            }
-            if map.insert_unique(*new).is_err() {
-                sum = sum.wrapping_add(1);
+    if whole {
+        for two in asked.chunks(2) {
+            if let [old, new] = two {
+                sum = sum.wrapping_add(remove_insert(&mut map, old, new));
             }
         }
     }

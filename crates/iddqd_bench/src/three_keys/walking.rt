@@ -1,6 +1,7 @@
 //! Loops over all items of the map with three keys.
 use super::{Row, filled};
 use crate::copies;
+use iddqd_tri::TriHashMap;
 use std::alloc::Global;
 
 /// Walks over all items so many times.
@@ -68,6 +69,29 @@ pub extern "C" fn tri_iter_mut(
     sum
 }
 
+/// Walks over a copy by value.
+fn walk_copy(map: &TriHashMap<Row>, whole: bool) -> u64 {
+    let mut sum = 0u64;
+    if let Ok(copy) = map.clone() {
+        if whole {
+            for row in copy {
+                sum = sum.wrapping_add(row.key1);
+            }
+        }
+    }
+    sum
+}
+
+/// Fills a map with rows, and walks over so many copies by value.
+fn walk_copies(alloc: Global, rows: &[Row], times: usize, whole: bool) -> u64 {
+    let map = filled(alloc, rows);
+    let mut sum = 0u64;
+    for _ in 0..times {
+        sum = sum.wrapping_add(walk_copy(&map, whole));
+    }
+    sum
+}
+
 /// Fills a map with each part of so many rows, and walks over its copies by value.
 #[unsafe(no_mangle)]
 pub extern "C" fn tri_for_owned(
@@ -79,16 +103,18 @@ pub extern "C" fn tri_for_owned(
 ) -> u64 {
     let mut sum = 0u64;
     for rows in rows.chunks(number.max(1)) {
-        let map = filled(alloc, rows);
-        for _ in 0..copies(number) {
-            if let Ok(copy) = map.clone() {
-                if whole {
-                    for row in copy {
-                        sum = sum.wrapping_add(row.key1);
-                    }
-                }
-            }
-        }
+        sum = sum.wrapping_add(walk_copies(alloc, rows, copies(number), whole));
+    }
+    sum
+}
+
+/// Fills two maps with the same rows in two orders, and counts how often they are equal of so many times.
+fn count_equal(alloc: Global, rows: &[Row], asked: &[Row], times: usize) -> u64 {
+    let map = filled(alloc, rows);
+    let other = filled(alloc, asked);
+    let mut sum = 0u64;
+    for _ in 0..times {
+        sum = sum.wrapping_add(u64::from(map == other));
     }
     sum
 }
@@ -103,15 +129,10 @@ pub extern "C" fn tri_equal(
     whole: bool,
 ) -> u64 {
     let mut sum = 0u64;
+    let times = if whole { copies(number) } else { 0 };
     let number = number.max(1);
     for (rows, asked) in rows.chunks(number).zip(asked.chunks(number)) {
-        let map = filled(alloc, rows);
-        let other = filled(alloc, asked);
-        for _ in 0..copies(number) {
-            if whole && map == other {
-                sum = sum.wrapping_add(1);
-            }
-        }
+        sum = sum.wrapping_add(count_equal(alloc, rows, asked, times));
     }
     sum
 }

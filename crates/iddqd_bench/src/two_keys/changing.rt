@@ -1,7 +1,65 @@
 //! Loops that change or copy the whole map with two keys.
 use super::{Row, filled, take_out};
 use crate::copies;
+use iddqd_bi::BiHashMap;
 use std::alloc::Global;
+
+/// What a loop does with each copy of a map.
+#[derive(Clone, Copy)]
+enum Change {
+    Nothing,
+    /// Keep about half of the items.
+    Retain,
+    Clear,
+    Shrink,
+    /// Make room for so many more.
+    Reserve(usize),
+}
+
+/// Changes a map, and says whether that was refused.
+fn is_refused(map: &mut BiHashMap<Row>, change: Change) -> bool {
+    match change {
+        Change::Nothing => false,
+        Change::Retain => {
+            map.retain(|row| row.key1 % 2 == 0);
+            false
+        }
+        Change::Clear => {
+            map.clear();
+            false
+        }
+        Change::Shrink => map.shrink_to_fit().is_err(),
+        Change::Reserve(more) => map.reserve(more).is_err(),
+    }
+}
+
+/// Makes a copy and changes it: how many items it has then, and one more where that was refused.
+fn changed(map: &BiHashMap<Row>, change: Change) -> u64 {
+    let Ok(mut copy) = map.clone() else {
+        return 0;
+    };
+    let refused = is_refused(&mut copy, change);
+    u64::from(refused).wrapping_add(copy.len() as u64)
+}
+
+/// Changes so many copies of a map.
+fn changed_times(map: &BiHashMap<Row>, change: Change, times: usize) -> u64 {
+    let mut sum = 0u64;
+    for _ in 0..times {
+        sum = sum.wrapping_add(changed(map, change));
+    }
+    sum
+}
+
+/// Fills a map with each part of so many rows, and changes its copies.
+fn change_parts(alloc: Global, rows: &[Row], number: usize, change: Change) -> u64 {
+    let mut sum = 0u64;
+    for rows in rows.chunks(number.max(1)) {
+        let map = filled(alloc, rows);
+        sum = sum.wrapping_add(changed_times(&map, change, copies(number)));
+    }
+    sum
+}
 
 /// Fills a map with each part of so many rows, and keeps about half of the items of its copies.
 #[unsafe(no_mangle)]
@@ -12,19 +70,12 @@ pub extern "C" fn bi_retain(
     number: usize,
     whole: bool,
 ) -> u64 {
-    let mut sum = 0u64;
-    for rows in rows.chunks(number.max(1)) {
-        let map = filled(alloc, rows);
-        for _ in 0..copies(number) {
-            if let Ok(mut copy) = map.clone() {
-                if whole {
-                    copy.retain(|row| row.key1 % 2 == 0);
-                    sum = sum.wrapping_add(copy.len() as u64);
-                }
-            }
-        }
-    }
-    sum
+    let change = if whole {
+        Change::Retain
+    } else {
+        Change::Nothing
+    };
+    change_parts(alloc, rows, number, change)
 }
 
 /// Makes a copy so many times.
@@ -37,13 +88,7 @@ pub extern "C" fn bi_clone(
     whole: bool,
 ) -> u64 {
     let map = filled(alloc, rows);
-    let mut sum = 0u64;
-    for _ in 0..if whole { number } else { 0 } {
-        if let Ok(copy) = map.clone() {
-            sum = sum.wrapping_add(copy.len() as u64);
-        }
-    }
-    sum
+    changed_times(&map, Change::Nothing, if whole { number } else { 0 })
 }
 
 /// Fills a map with each part of so many rows, and drops the items of its copies.
@@ -55,19 +100,19 @@ pub extern "C" fn bi_clear(
     number: usize,
     whole: bool,
 ) -> u64 {
-    let mut sum = 0u64;
-    for rows in rows.chunks(number.max(1)) {
-        let map = filled(alloc, rows);
-        for _ in 0..copies(number) {
-            if let Ok(mut copy) = map.clone() {
-                if whole {
-                    copy.clear();
-                }
-                sum = sum.wrapping_add(copy.len() as u64);
-            }
-        }
-    }
-    sum
+    let change = if whole {
+        Change::Clear
+    } else {
+        Change::Nothing
+    };
+    change_parts(alloc, rows, number, change)
+}
+
+/// Fills a map with rows, takes others out, and shrinks its copies to fit, so many.
+fn shrink_part(alloc: Global, rows: &[Row], asked: &[Row], change: Change, times: usize) -> u64 {
+    let mut map = filled(alloc, rows);
+    let taken = take_out(&mut map, asked);
+    taken.wrapping_add(changed_times(&map, change, times))
 }
 
 /// Fills a map with each part of so many rows, takes half of the items out, and shrinks its copies to fit.
@@ -79,19 +124,16 @@ pub extern "C" fn bi_shrink(
     number: usize,
     whole: bool,
 ) -> u64 {
+    let change = if whole {
+        Change::Shrink
+    } else {
+        Change::Nothing
+    };
     let mut sum = 0u64;
     let parts = rows.chunks(number.max(1));
     for (rows, asked) in parts.zip(asked.chunks((number / 2).max(1))) {
-        let mut map = filled(alloc, rows);
-        sum = sum.wrapping_add(take_out(&mut map, asked));
-        for _ in 0..copies(number) {
-            if let Ok(mut copy) = map.clone() {
-                if whole && copy.shrink_to_fit().is_err() {
-                    sum = sum.wrapping_add(1);
-                }
-                sum = sum.wrapping_add(copy.len() as u64);
-            }
-        }
+        let part = shrink_part(alloc, rows, asked, change, copies(number));
+        sum = sum.wrapping_add(part);
     }
     sum
 }
@@ -105,17 +147,10 @@ pub extern "C" fn bi_reserve(
     number: usize,
     whole: bool,
 ) -> u64 {
-    let mut sum = 0u64;
-    for rows in rows.chunks(number.max(1)) {
-        let map = filled(alloc, rows);
-        for _ in 0..copies(number) {
-            if let Ok(mut copy) = map.clone() {
-                if whole && copy.reserve(number).is_err() {
-                    sum = sum.wrapping_add(1);
-                }
-                sum = sum.wrapping_add(copy.len() as u64);
-            }
-        }
-    }
-    sum
+    let change = if whole {
+        Change::Reserve(number)
+    } else {
+        Change::Nothing
+    };
+    change_parts(alloc, rows, number, change)
 }
