@@ -25,21 +25,32 @@ use std::process::ExitCode;
 
 /// The exit status is 0 where all replies agree, and 1 where one differs or memory is refused.
 fn main(rt: HostRuntime) -> io::Result<ExitCode> {
-    let alloc = rt.alloc();
-    let alike = Alike { hash: 7 };
-    let map = BiHashMap::new(alloc);
-    let two = run(&rt, "two keys, default builder", map, &TWO, 200_000)?;
-    let map = BiHashMap::with_hasher(alloc, alike);
-    let two_alike = run(&rt, "two keys, all hashes alike", map, &TWO, 20_000)?;
-    let map = TriHashMap::new(alloc);
-    let three = run(&rt, "three keys, default builder", map, &THREE, 200_000)?;
-    let map = TriHashMap::with_hasher(alloc, alike);
-    let three_alike = run(&rt, "three keys, all hashes alike", map, &THREE, 20_000)?;
-    if two && two_alike && three && three_alike {
+    let two = run_two(&rt)?;
+    let three = run_three(&rt)?;
+    if two && three {
         Ok(ExitCode::SUCCESS)
     } else {
         Ok(ExitCode::FAILURE)
     }
+}
+
+/// The builder that gives all keys the same hash.
+const ALIKE: Alike = Alike { hash: 7 };
+
+/// Runs commands on maps with two keys. Says whether all replies agree.
+fn run_two(rt: &HostRuntime) -> io::Result<bool> {
+    let map = BiHashMap::new(rt.alloc());
+    let is_right = run(rt, "two keys, default builder", map, &TWO, 200_000)?;
+    let map = BiHashMap::with_hasher(rt.alloc(), ALIKE);
+    Ok(run(rt, "two keys, all hashes alike", map, &TWO, 20_000)? && is_right)
+}
+
+/// Runs commands on maps with three keys. Says whether all replies agree.
+fn run_three(rt: &HostRuntime) -> io::Result<bool> {
+    let map = TriHashMap::new(rt.alloc());
+    let is_right = run(rt, "three keys, default builder", map, &THREE, 200_000)?;
+    let map = TriHashMap::with_hasher(rt.alloc(), ALIKE);
+    Ok(run(rt, "three keys, all hashes alike", map, &THREE, 20_000)? && is_right)
 }
 
 /// Runs so many commands on an empty map, prints how that ended, and answers whether all replies agree.

@@ -44,19 +44,31 @@ fn by_all(keys: Keys, asked: AskedByAll) -> TriCommand<Item> {
     }
 }
 
-/// The map becomes its clone, in which the value of the item with this first key is one more.
-fn copy<S: Builder + Drop>(map: &mut TriHashMap<Item, S>, key: u64) -> Result<Kind, AllocError> {
-    let Ok(mut copy) = map.clone() else {
-        return Err(AllocError);
-    };
-    let is_same = copy == *map;
-    if let Some(mut found) = copy.get1_mut(&key) {
+/// Adds one to the value of the item with this first key.
+fn write_more<S: Builder>(map: &mut TriHashMap<Item, S>, key: u64) {
+    if let Some(mut found) = map.get1_mut(&key) {
         let value = found.value.wrapping_add(1);
         *found.data_mut() = value;
     }
-    let stays = copy == *map;
+}
+
+/// Whether a map equals its copy, and whether it does once that is written to.
+fn compare<S: Builder>(
+    map: &TriHashMap<Item, S>,
+    copy: &mut TriHashMap<Item, S>,
+    key: u64,
+) -> Kind {
+    let is_same = *copy == *map;
+    write_more(copy, key);
+    Kind::Equal(is_same, *copy == *map)
+}
+
+/// The map becomes its clone, in which the value of the item with this first key is one more.
+fn copy<S: Builder + Drop>(map: &mut TriHashMap<Item, S>, key: u64) -> Result<Kind, AllocError> {
+    let mut copy = map.clone()?;
+    let kind = compare(map, &mut copy, key);
     *map = copy;
-    Ok(Kind::Equal(is_same, stays))
+    Ok(kind)
 }
 
 impl<S: Builder + Drop> Table for TriHashMap<Item, S> {
