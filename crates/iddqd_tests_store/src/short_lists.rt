@@ -3,33 +3,6 @@ use iddqd_store::{DuplicateItem, MemoryRefused, TryReserveError, UpToThree, UpTo
 use std::alloc::AllocError;
 use std::io;
 
-#[test]
-fn short_lists_keep_their_order(rt: HostRuntime) {
-    let mut two = UpToTwo::new();
-    let mut three = UpToThree::new();
-    for x in [10, 20, 30] {
-        if two.len() < 2 {
-            two.push(x);
-        }
-        assert!(rt; three.len() < 3);
-        three.push(x);
-    }
-    let refused = DuplicateItem::new(MemoryRefused { value: 5 }, two);
-    assert_eq!(rt;
-        (refused.new_item().value, refused.duplicates().len()),
-        (5, 2)
-    );
-    let (_, mut two) = refused.into_parts();
-    for (first, second) in [(Some(10), Some(10)), (Some(20), Some(20)), (None, Some(30))] {
-        assert_eq!(rt;
-            (two.get(0).copied(), three.get(0).copied()),
-            (first, second)
-        );
-        assert_eq!(rt; (two.pop_front(), three.pop_front()), (first, second));
-    }
-    assert!(rt; two.is_empty() && three.is_empty());
-}
-
 /// A list of two.
 fn two(first: u32, second: u32) -> UpToTwo<u32> {
     let mut list = UpToTwo::new();
@@ -47,40 +20,93 @@ fn three(first: u32, second: u32, third: u32) -> UpToThree<u32> {
     list
 }
 
+/// The list of two that a refusal of a list of two gives back, if it shows what it has.
+fn refused_for(list: UpToTwo<u32>) -> Option<UpToTwo<u32>> {
+    let refused = DuplicateItem::new(MemoryRefused { value: 5 }, list);
+    let is_shown = refused.new_item().value == 5 && refused.duplicates().len() == 2;
+    let (_, list) = refused.into_parts();
+    if is_shown { Some(list) } else { None }
+}
+
+/// Whether these are the first items of both lists, and come out of them.
+fn pop(two: &mut UpToTwo<u32>, three: &mut UpToThree<u32>, firsts: [Option<u32>; 2]) -> bool {
+    let [first, second] = firsts;
+    let are_first = two.get(0).copied() == first && three.get(0).copied() == second;
+    are_first && two.pop_front() == first && three.pop_front() == second
+}
+
+/// Whether items come out of both lists in the order in which they went in, until there are none.
+fn keep_their_order(two: &mut UpToTwo<u32>, three: &mut UpToThree<u32>) -> bool {
+    pop(two, three, [Some(10), Some(10)])
+        && pop(two, three, [Some(20), Some(20)])
+        && pop(two, three, [None, Some(30)])
+        && two.is_empty()
+        && three.is_empty()
+}
+
+#[test]
+fn short_lists_keep_their_order(rt: HostRuntime) {
+    let mut three = three(10, 20, 30);
+    match refused_for(two(10, 20)) {
+        Some(mut two) => assert!(rt; keep_their_order(&mut two, &mut three)),
+        None => assert!(rt; false),
+    }
+}
+
+fn is_two(list: &UpToTwo<u32>) -> bool {
+    *list == two(10, 20) && *list != two(20, 10) && *list != UpToTwo::new()
+}
+
+fn lends_two(list: &UpToTwo<u32>) -> bool {
+    let mut lent = list.iter();
+    lent.len() == 2
+        && lent.next() == Some(&10)
+        && lent.clone().len() == 1
+        && lent.next() == Some(&20)
+        && lent.next() == None
+}
+
+fn gives_two(list: UpToTwo<u32>) -> bool {
+    let mut given = list.into_iter();
+    given.len() == 2 && given.next() == Some(10) && given.next() == Some(20) && given.next() == None
+}
+
 #[test]
 fn a_list_of_two_is_walked(rt: HostRuntime) {
     let list = two(10, 20);
-    assert!(rt; list == two(10, 20) && list != two(20, 10) && list != UpToTwo::new());
-    assert!(rt; list.first() == Some(&10));
-    let mut lent = list.iter();
-    assert_eq!(rt; (lent.len(), lent.next().copied()), (2, Some(10)));
-    assert_eq!(rt;
-        (lent.clone().len(), lent.next().copied(), lent.next()),
-        (1, Some(20), None)
-    );
+    assert!(rt; is_two(&list) && list.first() == Some(&10));
+    assert!(rt; lends_two(&list));
+    assert!(rt; gives_two(list));
+}
+
+fn is_three(list: &UpToThree<u32>) -> bool {
+    *list == three(10, 20, 30) && *list != three(10, 20, 31)
+}
+
+/// The numbers of a list that is lent, each as two digits.
+fn digits(list: &UpToThree<u32>) -> u32 {
+    let mut digits: u32 = 0;
+    for x in list {
+        digits = digits.wrapping_mul(100).wrapping_add(*x);
+    }
+    digits
+}
+
+fn gives_three(list: UpToThree<u32>) -> bool {
     let mut given = list.into_iter();
-    assert_eq!(rt;
-        (given.len(), given.next(), given.next(), given.next()),
-        (2, Some(10), Some(20), None)
-    );
+    given.next() == Some(10)
+        && given.len() == 2
+        && given.next() == Some(20)
+        && given.next() == Some(30)
+        && given.next() == None
 }
 
 #[test]
 fn a_list_of_three_is_walked(rt: HostRuntime) {
     let list = three(10, 20, 30);
-    assert!(rt; list == three(10, 20, 30) && list != three(10, 20, 31));
-    assert!(rt; list.first() == Some(&10));
-    let mut digits: u32 = 0;
-    for x in &list {
-        digits = digits.wrapping_mul(100).wrapping_add(*x);
-    }
-    assert_eq!(rt; digits, 10_20_30);
-    let mut given = list.into_iter();
-    assert_eq!(rt;
-        (given.next(), given.len(), given.next(), given.next()),
-        (Some(10), 2, Some(20), Some(30))
-    );
-    assert_eq!(rt; given.next(), None);
+    assert!(rt; is_three(&list) && list.first() == Some(&10));
+    assert!(rt; digits(&list) == 10_20_30);
+    assert!(rt; gives_three(list));
 }
 
 /// Some call that is refused memory, and hands a number back.

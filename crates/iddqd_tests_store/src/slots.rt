@@ -54,22 +54,35 @@ fn slots_are_copied_and_compacted(rt: HostRuntime) -> Result<(), Fail> {
     Ok(())
 }
 
+/// A set of four items that share this one.
+fn shared_by_four(alloc: Global, alive: &Rc<()>) -> Result<ItemSet<Rc<()>>, Fail> {
+    let mut set = ItemSet::new(alloc);
+    set.try_reserve(4)?;
+    for _ in 0..4 {
+        if set.len() < set.capacity() {
+            set.insert_reserved(alive.clone()?);
+        }
+    }
+    Ok(set)
+}
+
+/// How many share an item once a walk has taken one out of the set, and once it is gone.
+fn walked(set: ItemSet<Rc<()>>, alive: &Rc<()>) -> [usize; 2] {
+    let mut values = set.into_values();
+    drop(values.next());
+    let behind_one = Rc::strong_count(alive);
+    drop(values);
+    [behind_one, Rc::strong_count(alive)]
+}
+
 #[test]
 fn each_item_is_dropped_once(rt: HostRuntime) -> Result<(), Fail> {
     let alive = Rc::new(rt.alloc(), ())?;
-    let mut set = ItemSet::new(rt.alloc());
-    set.try_reserve(4)?;
-    for _ in 0..4 {
-        assert!(rt; set.len() < set.capacity());
-        set.insert_reserved(alive.clone()?);
-    }
+    let mut set = shared_by_four(rt.alloc(), &alive)?;
+    assert!(rt; Rc::strong_count(&alive) == 5);
     drop(set.remove(ItemIndex::new(1)));
     set.shrink_to(0)?;
     assert!(rt; Rc::strong_count(&alive) == 4);
-    let mut values = set.into_values();
-    drop(values.next());
-    assert!(rt; Rc::strong_count(&alive) == 3);
-    drop(values);
-    assert!(rt; Rc::strong_count(&alive) == 1);
+    assert!(rt; walked(set, &alive) == [3, 1]);
     Ok(())
 }
