@@ -1,7 +1,7 @@
 //! Two-key maps built of many items at once, under refused memory.
 use crate::bi::{filled, has, holds, put, row_at};
-use crate::granted::{same, say_unless};
-use iddqd_bi::{BiHashMap, ExtendUniqueReason, FromIterError};
+use crate::granted::{is_done, is_given, right, same, say_unless};
+use iddqd_bi::{BiHashMap, ExtendUniqueError, ExtendUniqueReason, FromIterError, MemoryRefused};
 use iddqd_tests_bi::{Row, row_of};
 use std::alloc::Global;
 use std::process::Abort;
@@ -17,6 +17,14 @@ enum Call {
     FromIter,
     FromIterUnique,
 }
+
+const CALLS: &[Call] = &[
+    Call::Extend,
+    Call::ExtendUnique,
+    Call::ExtendUniqueBelow,
+    Call::FromIter,
+    Call::FromIterUnique,
+];
 
 /// Five rows that do not conflict: more than a map has room for after its first growth.
 fn five_rows() -> [Row; 5] {
@@ -43,8 +51,8 @@ fn extend_full(rt: &impl Abort, map: &mut BiHashMap<Row>) -> bool {
         same(rt, refused, Some(next));
         same(rt, map.len(), 7);
     }
-    assert!(rt; has(map, over));
-    assert!(rt; granted || put(map, next));
+    right(rt, has(map, over));
+    right(rt, granted || put(map, next));
     same(rt, map.len(), 8);
     granted
 }
@@ -57,37 +65,55 @@ fn refusal_of(map: &mut BiHashMap<Row>, row: Row) -> Option<ExtendUniqueReason> 
     }
 }
 
+/// Whether a map is extended by no row.
+pub(crate) fn is_extended_by_none(map: &mut BiHashMap<Row>) -> bool {
+    let empty: [Row; 0] = [];
+    is_done(map.extend_unique(empty))
+}
+
 // No memory is asked for where no item is put in, also in a full map.
 fn extend_by_none(rt: &impl Abort, map: &mut BiHashMap<Row>, first: u64) {
-    let empty: [Row; 0] = [];
-    assert!(rt; map.extend_unique(empty).is_ok());
+    right(rt, is_extended_by_none(map));
     same(
         rt,
         refusal_of(map, row_of(1, 77, 0)),
         Some(ExtendUniqueReason::Conflict),
     );
-    assert!(rt; holds(map, first, &[]) && map.capacity() == 7);
+    right(rt, holds(map, first, &[]));
+    same(rt, map.capacity(), 7);
 }
 
 /// The rows that a refused `extend_unique` for want of memory hands back, in the order of the list, if it is refused.
 fn handed_back(rt: &impl Abort, map: &mut BiHashMap<Row>, rows: [Row; 2]) -> Option<Vec<Row>> {
     match map.extend_unique(rows) {
         Ok(()) => None,
-        Err(refused) => {
-            same(rt, refused.reason, ExtendUniqueReason::Memory);
-            let mut back = refused.taken;
-            assert!(rt; back.push(refused.value).is_ok());
-            Some(back)
-        }
+        Err(refused) => Some(all_of(rt, refused)),
     }
+}
+
+fn all_of(rt: &impl Abort, refused: ExtendUniqueError<Row>) -> Vec<Row> {
+    same(rt, refused.reason, ExtendUniqueReason::Memory);
+    let mut back = refused.taken;
+    right(rt, is_done(back.push(refused.value)));
+    back
+}
+
+/// Whether a map is extended by what it handed back.
+fn is_extended_by(map: &mut BiHashMap<Row>, back: Vec<Row>) -> bool {
+    is_done(map.extend_unique(back))
+}
+
+/// Whether a map is extended by the rest of a list.
+fn is_extended_by_rest(map: &mut BiHashMap<Row>, rest: &[Row]) -> bool {
+    is_done(map.extend_unique(rest.iter().copied()))
 }
 
 // A second try with what came back is granted, and so is the rest of the list.
 fn try_again(rt: &impl Abort, map: &mut BiHashMap<Row>, back: Vec<Row>, rows: &[Row]) {
     let (tried, rest) = rows.split_at(back.len().min(rows.len()));
-    assert!(rt; back.as_slice() == tried);
-    assert!(rt; map.extend_unique(back).is_ok());
-    assert!(rt; map.extend_unique(rest.iter().copied()).is_ok());
+    right(rt, back.as_slice() == tried);
+    right(rt, is_extended_by(map, back));
+    right(rt, is_extended_by_rest(map, rest));
 }
 
 /// Puts two rows into a map that has so many of seven. Where one is refused, it comes back with what is before it in
@@ -98,19 +124,28 @@ fn extend_first(rt: &impl Abort, map: &mut BiHashMap<Row>, first: u64) -> bool {
     let granted = match handed_back(rt, map, rows) {
         None => true,
         Some(back) => {
-            assert!(rt; holds(map, first, &[]));
+            right(rt, holds(map, first, &[]));
             try_again(rt, map, back, &rows);
             false
         }
     };
-    assert!(rt; holds(map, first, &rows));
+    right(rt, holds(map, first, &rows));
     granted
+}
+
+/// Whether a map that was made has the five rows.
+fn has_five(map: BiHashMap<Row>) -> bool {
+    holds(&map, 5, &[])
 }
 
 /// Whether `from_iter` makes a map of the five rows, or the row that it refuses.
 fn made(alloc: Global) -> Result<bool, Row> {
-    match BiHashMap::<Row>::from_iter(alloc, five_rows().into_iter().filter(|_| true)) {
-        Ok(map) => Ok(holds(&map, 5, &[])),
+    made_or_row(BiHashMap::from_iter(alloc, five_rows().into_iter().filter(|_| true)))
+}
+
+fn made_or_row(made: Result<BiHashMap<Row>, MemoryRefused<Row>>) -> Result<bool, Row> {
+    match made {
+        Ok(map) => Ok(has_five(map)),
         Err(refusal) => Err(refusal.value),
     }
 }
@@ -118,12 +153,18 @@ fn made(alloc: Global) -> Result<bool, Row> {
 /// The same of `from_iter_unique`, which finds no conflict.
 fn made_unique(alloc: Global) -> Result<bool, Row> {
     match BiHashMap::<Row>::from_iter_unique(alloc, five_rows().into_iter().filter(|_| true)) {
-        Ok(map) => Ok(holds(&map, 5, &[])),
-        Err(FromIterError::Duplicate(refusal)) => {
+        Ok(map) => Ok(has_five(map)),
+        Err(refusal) => row_of_refusal(refusal),
+    }
+}
+
+fn row_of_refusal(refusal: FromIterError<Row>) -> Result<bool, Row> {
+    match refusal {
+        FromIterError::Duplicate(refusal) => {
             drop(refusal);
             Ok(false)
         }
-        Err(FromIterError::Memory(item)) => Err(item),
+        FromIterError::Memory(item) => Err(item),
     }
 }
 
@@ -136,20 +177,25 @@ fn all_went_in(rt: &impl Abort, alloc: Global, unique: bool) -> bool {
     };
     match made {
         Ok(holds) => {
-            assert!(rt; holds);
+            right(rt, holds);
             true
         }
         Err(refused) => {
-            assert!(rt; five_rows().contains(&refused));
+            right(rt, five_rows().contains(&refused));
             false
         }
     }
 }
 
+fn extend_below(rt: &impl Abort, map: &mut BiHashMap<Row>) -> bool {
+    right(rt, is_given(map.remove1(&7)));
+    extend_first(rt, map, 6)
+}
+
 fn from_iter(rt: &impl Abort, alloc: Global, unique: bool) -> bool {
     let granted = all_went_in(rt, alloc, unique);
     // After a refusal the same call is granted.
-    assert!(rt; granted || all_went_in(rt, alloc, unique));
+    right(rt, granted || all_went_in(rt, alloc, unique));
     granted
 }
 
@@ -158,10 +204,7 @@ fn carry_out(rt: &impl Abort, alloc: Global, map: &mut BiHashMap<Row>, call: Cal
     match call {
         Call::Extend => extend_full(rt, map),
         Call::ExtendUnique => extend_first(rt, map, 7),
-        Call::ExtendUniqueBelow => {
-            assert!(rt; map.remove1(&7).is_some());
-            extend_first(rt, map, 6)
-        }
+        Call::ExtendUniqueBelow => extend_below(rt, map),
         Call::FromIter => from_iter(rt, alloc, false),
         Call::FromIterUnique => from_iter(rt, alloc, true),
     }
@@ -178,14 +221,8 @@ fn is_granted(rt: &impl Abort, alloc: Global, call: Call) -> bool {
 #[test]
 fn allows_many_items_at_once(rt: HostRuntime) {
     let mut all = true;
-    for call in [
-        Call::Extend,
-        Call::ExtendUnique,
-        Call::ExtendUniqueBelow,
-        Call::FromIter,
-        Call::FromIterUnique,
-    ] {
-        all = is_granted(&rt, rt.alloc(), call) && all;
+    for call in CALLS {
+        all = is_granted(&rt, rt.alloc(), *call) && all;
     }
     say_unless(&rt, all);
 }
@@ -194,14 +231,18 @@ fn allows_many_items_at_once(rt: HostRuntime) {
 fn is_made_of_what_is_promised(alloc: Global, call: u64) -> bool {
     match call {
         0 => extend_by_five(alloc),
-        1 => BiHashMap::<Row>::from_iter(alloc, five_rows()).is_ok(),
-        _ => BiHashMap::<Row>::from_iter_unique(alloc, five_rows()).is_ok(),
+        1 => is_done(BiHashMap::<Row>::from_iter(alloc, five_rows())),
+        _ => is_done(BiHashMap::<Row>::from_iter_unique(alloc, five_rows())),
     }
 }
 
 fn extend_by_five(alloc: Global) -> bool {
     let mut map = BiHashMap::<Row>::new(alloc);
-    map.extend(five_rows()).is_ok() && holds(&map, 5, &[])
+    is_extended_by_five(&mut map)
+}
+
+fn is_extended_by_five(map: &mut BiHashMap<Row>) -> bool {
+    is_done(map.extend(five_rows())) && holds(map, 5, &[])
 }
 
 // Each of them makes one request for the slots and one for each table. Where one of these is refused, the inserts ask
@@ -209,7 +250,7 @@ fn extend_by_five(alloc: Global) -> bool {
 #[test]
 fn allows_what_is_promised(rt: HostRuntime) {
     for call in 0..3 {
-        assert!(rt; is_made_of_what_is_promised(rt.alloc(), call));
+        right(&rt, is_made_of_what_is_promised(rt.alloc(), call));
     }
     let _ = println!(rt; "requests: 9");
 }

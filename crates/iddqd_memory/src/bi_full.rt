@@ -1,6 +1,6 @@
 //! A full map with two keys, rows that are in it or in the way of those that are, and calls on it that ask for no memory.
 use crate::bi::filled;
-use crate::granted::is_byte_granted;
+use crate::granted::{is_byte_granted, right};
 use iddqd_bi::BiHashMap;
 use iddqd_tests_bi::Row;
 use std::alloc::Global;
@@ -49,12 +49,19 @@ pub(crate) trait Silent: Copy {
 /// granted: a request of the call itself is seen by neither.
 fn is_granted<C: Silent>(rt: &impl Abort, alloc: Global, call: C) -> bool {
     match filled(rt, alloc, 7, 7) {
-        Some(mut map) => {
-            assert!(rt; call.is_right(alloc, &mut map));
-            is_byte_granted(alloc)
-        }
+        Some(mut map) => is_granted_behind(rt, alloc, &mut map, call),
         None => false,
     }
+}
+
+fn is_granted_behind<C: Silent>(
+    rt: &impl Abort,
+    alloc: Global,
+    map: &mut BiHashMap<Row>,
+    call: C,
+) -> bool {
+    right(rt, call.is_right(alloc, map));
+    is_byte_granted(alloc)
 }
 
 /// Makes these calls, each on a map of its own, and says whether all that they needed was granted.

@@ -1,8 +1,9 @@
 //! Calls of the two-key map that ask for no memory, each on a full map.
 use crate::bi::{overwrite, put};
+use crate::bi_building::is_extended_by_none;
 use crate::bi_full::{BESIDE, ONE, OVER, Silent, TWO, are_granted};
 use crate::bi_room::{is_shrunk, makes_room};
-use crate::granted::say_unless;
+use crate::granted::{is_done, is_given, say_unless};
 use iddqd_bi::{BiHashMap, DefaultHashBuilder, InsertError};
 use iddqd_tests_bi::Row;
 use std::alloc::Global;
@@ -95,27 +96,25 @@ impl Silent for Call {
             Call::Get => get(map),
             Call::GetUnique => get_unique(map),
             Call::Contain => contain(map),
-            Call::Remove1 => remove1(map, 1) == Some(ONE),
-            Call::Remove2 => remove2(map, 20) == Some(TWO),
-            Call::RemoveUnique => remove_unique(map, 1, 10) == Some(ONE),
+            Call::Remove1 => is_removed1(map),
+            Call::Remove2 => is_removed2(map),
+            Call::RemoveUnique => is_removed_unique(map),
             Call::RemoveAbsent => remove_absent(map),
             Call::Clear => clear(map),
             Call::Retain => retain(map),
             Call::Reserve => makes_room(map, 0, false),
-            Call::ReserveLeft => remove1(map, 7).is_some() && makes_room(map, 1, true),
-            Call::ShrinkToFitEmpty => clear(map) && is_shrunk(map, None),
-            Call::ShrinkToEmpty => clear(map) && is_shrunk(map, Some(0)),
-            Call::ShrinkToNothing => clear(map) && is_shrunk(map, None) && is_shrunk(map, Some(5)),
+            Call::ReserveLeft => reserve_left(map),
+            Call::ShrinkToFitEmpty => shrink_cleared(map, None),
+            Call::ShrinkToEmpty => shrink_cleared(map, Some(0)),
+            Call::ShrinkToNothing => shrink_to_nothing(map),
             Call::Duplicate => duplicate(map),
             Call::DuplicateParts => duplicate_parts(map),
-            Call::OverwriteTwo => overwrite(map, OVER) == Ok([Some(ONE), Some(TWO)]),
-            Call::OverwriteOne => overwrite(map, HALF_OVER) == Ok([Some(TWO), None]),
-            Call::InsertBelow => remove2(map, 70).is_some() && put(map, BESIDE),
-            Call::OverwriteBelow => {
-                remove2(map, 70).is_some() && overwrite(map, BESIDE) == Ok([None, None])
-            }
+            Call::OverwriteTwo => is_overwritten(map, OVER, [Some(ONE), Some(TWO)]),
+            Call::OverwriteOne => is_overwritten(map, HALF_OVER, [Some(TWO), None]),
+            Call::InsertBelow => insert_below(map),
+            Call::OverwriteBelow => overwrite_below(map),
             Call::Often => often(map),
-            Call::ExtendByNone => extend_by_none(map),
+            Call::ExtendByNone => is_extended_by_none(map),
             Call::Equal => equal(map),
             Call::Walk => walk(map),
             Call::WalkByValue => walk_by_value(alloc, map),
@@ -123,19 +122,32 @@ impl Silent for Call {
     }
 }
 
+/// How many items a map has that was made.
+fn size(map: BiHashMap<Row>) -> usize {
+    map.len()
+}
+
+/// For how many items a map has room that was made.
+fn room(map: BiHashMap<Row>) -> usize {
+    map.capacity()
+}
+
 fn build(alloc: Global) -> bool {
-    let made: BiHashMap<Row> = BiHashMap::default(alloc);
-    BiHashMap::<Row>::new(alloc).len() == made.capacity()
+    let room = room(BiHashMap::default(alloc));
+    size(BiHashMap::new(alloc)) == room
 }
 
 fn build_with_hasher(alloc: Global) -> bool {
-    let made = BiHashMap::<Row>::with_hasher(alloc, DefaultHashBuilder::default());
-    let with_room = BiHashMap::<Row>::with_capacity_and_hasher(
+    let none = room(BiHashMap::with_hasher(alloc, DefaultHashBuilder::default()));
+    is_built(alloc, none) && is_done(BiHashMap::<Row>::with_capacity(alloc, 0))
+}
+
+fn is_built(alloc: Global, capacity: usize) -> bool {
+    is_done(BiHashMap::<Row>::with_capacity_and_hasher(
         alloc,
-        made.capacity(),
+        capacity,
         DefaultHashBuilder::default(),
-    );
-    with_room.is_ok() && BiHashMap::<Row>::with_capacity(alloc, 0).is_ok()
+    ))
 }
 
 fn count(map: &BiHashMap<Row>) -> bool {
@@ -160,12 +172,24 @@ fn remove1(map: &mut BiHashMap<Row>, key: u64) -> Option<Row> {
     map.remove1(&key)
 }
 
+fn is_removed1(map: &mut BiHashMap<Row>) -> bool {
+    remove1(map, 1) == Some(ONE)
+}
+
 fn remove2(map: &mut BiHashMap<Row>, key: u64) -> Option<Row> {
     map.remove2(&key)
 }
 
+fn is_removed2(map: &mut BiHashMap<Row>) -> bool {
+    remove2(map, 20) == Some(TWO)
+}
+
 fn remove_unique(map: &mut BiHashMap<Row>, key1: u64, key2: u64) -> Option<Row> {
     map.remove_unique(&key1, &key2)
+}
+
+fn is_removed_unique(map: &mut BiHashMap<Row>) -> bool {
+    remove_unique(map, 1, 10) == Some(ONE)
 }
 
 fn remove_absent(map: &mut BiHashMap<Row>) -> bool {
@@ -182,10 +206,26 @@ fn retain(map: &mut BiHashMap<Row>) -> bool {
     map.len() == 6
 }
 
+fn reserve_left(map: &mut BiHashMap<Row>) -> bool {
+    is_given(remove1(map, 7)) && makes_room(map, 1, true)
+}
+
+fn shrink_cleared(map: &mut BiHashMap<Row>, least: Option<usize>) -> bool {
+    clear(map) && is_shrunk(map, least)
+}
+
+fn shrink_to_nothing(map: &mut BiHashMap<Row>) -> bool {
+    shrink_cleared(map, None) && is_shrunk(map, Some(5))
+}
+
 fn duplicate(map: &mut BiHashMap<Row>) -> bool {
     let is_back = map.insert_or_back(OVER) == Err(OVER);
+    is_refused(map) && is_back
+}
+
+fn is_refused(map: &mut BiHashMap<Row>) -> bool {
     match map.insert_unique(OVER) {
-        Err(InsertError::Duplicate(refusal)) => is_back && refusal.into_item() == OVER,
+        Err(InsertError::Duplicate(refusal)) => refusal.into_item() == OVER,
         _ => false,
     }
 }
@@ -200,30 +240,47 @@ fn duplicate_parts(map: &mut BiHashMap<Row>) -> bool {
     }
 }
 
+/// Whether these are the first two of the rows that give way to this one.
+fn is_overwritten(map: &mut BiHashMap<Row>, item: Row, gone: [Option<Row>; 2]) -> bool {
+    overwrite(map, item) == Ok(gone)
+}
+
+fn insert_below(map: &mut BiHashMap<Row>) -> bool {
+    is_given(remove2(map, 70)) && put(map, BESIDE)
+}
+
+fn overwrite_below(map: &mut BiHashMap<Row>) -> bool {
+    is_given(remove2(map, 70)) && is_overwritten(map, BESIDE, [None, None])
+}
+
 /// Takes a row out and puts another one in, a thousand times.
 fn often(map: &mut BiHashMap<Row>) -> bool {
-    let mut is_right = remove1(map, 7).is_some();
+    let mut is_right = is_given(remove1(map, 7));
     for _ in 0..1000 {
-        is_right = is_right && put(map, BESIDE) && remove1(map, 8) == Some(BESIDE);
+        is_right = is_right && put_and_remove(map);
     }
     is_right
 }
 
-fn extend_by_none(map: &mut BiHashMap<Row>) -> bool {
-    let empty: [Row; 0] = [];
-    map.extend_unique(empty).is_ok()
+fn put_and_remove(map: &mut BiHashMap<Row>) -> bool {
+    put(map, BESIDE) && remove1(map, 8) == Some(BESIDE)
 }
 
 fn equal(map: &BiHashMap<Row>) -> bool {
     map == map
 }
 
-fn walk(map: &BiHashMap<Row>) -> bool {
+/// How many rows a walk gives.
+fn walked(map: &BiHashMap<Row>) -> usize {
     let mut items: usize = 0;
     for _ in map {
         items = items.wrapping_add(1);
     }
-    items == 7 && map.iter().len() == 7
+    items
+}
+
+fn walk(map: &BiHashMap<Row>) -> bool {
+    walked(map) == 7 && map.iter().len() == 7
 }
 
 fn walk_by_value(alloc: Global, map: &mut BiHashMap<Row>) -> bool {

@@ -79,27 +79,42 @@ impl Silent for Call {
             Call::LentForGood => lend_for_good(map, SAME),
             Call::UniqueForGood => lend_unique_for_good(map, SAME),
             Call::ForEach => for_each(map, OVER) == 2,
-            Call::Insert => overwrite_entry(map, OVER, OVER) == Some([Some(ONE), Some(TWO)]),
-            Call::InsertRefused => overwrite_entry(map, OVER, BESIDE) == Some([None; 2]),
-            Call::Remove => remove(map, OVER) == [Some(ONE), Some(TWO)],
+            Call::Insert => is_overwritten(map, OVER, [Some(ONE), Some(TWO)]),
+            Call::InsertRefused => is_overwritten(map, BESIDE, [None; 2]),
+            Call::Remove => is_removed(map),
             Call::Data1 => write_data1(map, OVER),
             Call::Data2 => write_data2(map, OVER),
             Call::Vacant => is_vacant(map, BESIDE),
-            Call::VacantInsert => put_in(map, Way::VacantInsert, BESIDE, SAME)
-                == Answer::Key1(SAME),
-            Call::VacantInsert2 => put_in(map, Way::VacantInsert, BESIDE, OTHER2)
-                == Answer::Key2(OTHER2),
-            Call::VacantInsertMut => put_in(map, Way::VacantInsertMut, BESIDE, SAME)
-                == Answer::Key1(SAME),
-            Call::VacantInsertEntry => put_in(map, Way::VacantInsertEntry, BESIDE, SAME)
-                == Answer::Key1(SAME),
-            Call::OrInsert => put_in(map, Way::OrInsert, OVER, BESIDE) == Answer::In,
-            Call::OrInsertWith => put_in(map, Way::OrInsertWith, OVER, BESIDE) == Answer::In,
-            Call::OrInsertRefused => put_in(map, Way::OrInsert, BESIDE, SAME) == Answer::Key1(SAME),
-            Call::OrInsertWithRefused => put_in(map, Way::OrInsertWith, BESIDE, SAME)
-                == Answer::Key1(SAME),
+            Call::VacantInsert => is_refused(map, Way::VacantInsert),
+            Call::VacantInsert2 => is_refused2(map, Way::VacantInsert),
+            Call::VacantInsertMut => is_refused(map, Way::VacantInsertMut),
+            Call::VacantInsertEntry => is_refused(map, Way::VacantInsertEntry),
+            Call::OrInsert => is_found(map, Way::OrInsert),
+            Call::OrInsertWith => is_found(map, Way::OrInsertWith),
+            Call::OrInsertRefused => is_refused(map, Way::OrInsert),
+            Call::OrInsertWithRefused => is_refused(map, Way::OrInsertWith),
         }
     }
+}
+
+/// Whether these are the first two of the rows that the entry gives for this one.
+fn is_overwritten(map: &mut BiHashMap<Row>, item: Row, gone: [Option<Row>; 2]) -> bool {
+    overwrite_entry(map, OVER, item) == Some(gone)
+}
+
+/// Whether a row is refused that has not the first key that is asked for.
+fn is_refused(map: &mut BiHashMap<Row>, way: Way) -> bool {
+    put_in(map, way, BESIDE, SAME) == Answer::Key1(SAME)
+}
+
+/// The same of one that has it, and not the second key.
+fn is_refused2(map: &mut BiHashMap<Row>, way: Way) -> bool {
+    put_in(map, way, BESIDE, OTHER2) == Answer::Key2(OTHER2)
+}
+
+/// Whether no row is put in where there are rows that have the keys.
+fn is_found(map: &mut BiHashMap<Row>, way: Way) -> bool {
+    put_in(map, way, OVER, BESIDE) == Answer::In
 }
 
 fn modify(map: &mut BiHashMap<Row>, keys: Row) -> u64 {
@@ -184,6 +199,10 @@ fn remove(map: &mut BiHashMap<Row>, keys: Row) -> [Option<Row>; 2] {
         }
         Entry::Vacant(_) => [None; 2],
     }
+}
+
+fn is_removed(map: &mut BiHashMap<Row>) -> bool {
+    remove(map, OVER) == [Some(ONE), Some(TWO)]
 }
 
 fn write_data1(map: &mut BiHashMap<Row>, keys: Row) -> bool {

@@ -1,7 +1,7 @@
 //! The three-key map under refused memory: each call that puts an item into a full map.
-use crate::granted::{same, say_unless};
+use crate::granted::{is_done, right, same, say_unless};
 use iddqd_tests_tri::{Row, row_of};
-use iddqd_tri::{Entry, EntryError, InsertError, TriHashMap};
+use iddqd_tri::{DefaultHashBuilder, Entry, EntryError, InsertError, MemoryError, TriHashMap};
 use std::alloc::Global;
 use std::process::Abort;
 use std::test::*;
@@ -36,13 +36,13 @@ pub(crate) fn holds(map: &TriHashMap<Row>, first: u64, others: &[Row]) -> bool {
 
 /// Puts an item in that conflicts with none, and says whether there was memory.
 pub(crate) fn put(map: &mut TriHashMap<Row>, item: Row) -> bool {
-    map.insert_unique(item).is_ok()
+    is_done(map.insert_unique(item))
 }
 
 /// Puts so many rows into a map that has room for them. That takes no memory.
 fn fill(rt: &impl Abort, map: &mut TriHashMap<Row>, rows: u64) {
     for k in 1..=rows {
-        assert!(rt; put(map, row_at(k)));
+        right(rt, put(map, row_at(k)));
     }
 }
 
@@ -98,16 +98,7 @@ fn refusal(error: EntryError<Row>) -> Answer {
 pub(crate) fn put_in(map: &mut TriHashMap<Row>, way: Way, keys: Row, item: Row) -> Answer {
     match way {
         Way::Unique => insert(map, item),
-        Way::Overwrite => match overwrite(map, item) {
-            Ok(gone) => {
-                if gone == [None; 3] {
-                    Answer::In
-                } else {
-                    Answer::Wrong
-                }
-            }
-            Err(item) => Answer::Memory(item),
-        },
+        Way::Overwrite => overwrite_none(map, item),
         Way::VacantInsert => vacant_insert(map, keys, item),
         Way::VacantInsertMut => vacant_insert_mut(map, keys, item),
         Way::VacantInsertEntry => insert_entry(map, keys, item),
@@ -123,16 +114,32 @@ fn insert(map: &mut TriHashMap<Row>, item: Row) -> Answer {
             drop(refusal);
             Answer::Taken
         }
-        Err(InsertError::Memory(refusal)) => {
-            let shown = *refusal.new_item();
-            let back = refusal.into_item();
-            // What the refusal shows is what it hands back.
-            if shown == back {
-                Answer::Memory(back)
+        Err(InsertError::Memory(refusal)) => handed_back(refusal),
+    }
+}
+
+/// What the refusal shows is what it hands back.
+fn handed_back(refusal: MemoryError<'_, Row, DefaultHashBuilder>) -> Answer {
+    let shown = *refusal.new_item();
+    let back = refusal.into_item();
+    if shown == back {
+        Answer::Memory(back)
+    } else {
+        Answer::Wrong
+    }
+}
+
+/// Puts an item in that displaces none.
+fn overwrite_none(map: &mut TriHashMap<Row>, item: Row) -> Answer {
+    match overwrite(map, item) {
+        Ok(gone) => {
+            if gone == [None; 3] {
+                Answer::In
             } else {
                 Answer::Wrong
             }
         }
+        Err(item) => Answer::Memory(item),
     }
 }
 
@@ -217,14 +224,24 @@ pub(crate) fn overwrite_entry(
     }
 }
 
+/// Whether a map has the seven rows of a full one and no others, and has not grown.
+fn is_full(map: &TriHashMap<Row>) -> bool {
+    holds(map, 7, &[]) && map.capacity() == 7
+}
+
+/// Whether a full map has this row beside its own, for which it has grown.
+fn has_grown(map: &TriHashMap<Row>, item: Row) -> bool {
+    holds(map, 7, &[item]) && map.capacity() >= 8
+}
+
 /// Gives an entry of a full map an item that has not its first key, and one that has not its third. Whatever memory
 /// there is, that is answered, and the map is as before.
 fn refuse(rt: &impl Abort, map: &mut TriHashMap<Row>, way: Way, keys: Row) {
     let first = row_of(0, keys.key2, keys.key3, 5);
-    assert!(rt; put_in(map, way, keys, first) == Answer::Key1(first));
+    right(rt, put_in(map, way, keys, first) == Answer::Key1(first));
     let third = row_of(keys.key1, keys.key2, 0, 5);
-    assert!(rt; put_in(map, way, keys, third) == Answer::Key3(third));
-    assert!(rt; holds(map, 7, &[]) && map.capacity() == 7);
+    right(rt, put_in(map, way, keys, third) == Answer::Key3(third));
+    right(rt, is_full(map));
 }
 
 /// Puts one item more into a full map, and says whether there was memory. Where it was refused the item is handed back
@@ -238,20 +255,25 @@ fn grow(rt: &impl Abort, map: &mut TriHashMap<Row>, way: Way) -> bool {
     let answer = put_in(map, way, item, item);
     let granted = answer == Answer::In;
     if !granted {
-        assert!(rt; answer == Answer::Memory(item));
-        assert!(rt; holds(map, 7, &[]) && map.capacity() == 7);
-        assert!(rt; map.get1(&item.key1).is_none());
-        assert!(rt; put_in(map, way, item, item) == Answer::In);
+        right(rt, answer == Answer::Memory(item));
+        grow_again(rt, map, way, item);
     }
-    assert!(rt; holds(map, 7, &[item]) && map.capacity() >= 8);
+    right(rt, has_grown(map, item));
     granted
+}
+
+/// The map is as before, and this time the item goes in.
+fn grow_again(rt: &impl Abort, map: &mut TriHashMap<Row>, way: Way, item: Row) {
+    right(rt, is_full(map));
+    right(rt, map.get1(&item.key1).is_none());
+    right(rt, put_in(map, way, item, item) == Answer::In);
 }
 
 // Calls that ask for no memory even where the map is full, whatever there is: conflicts, items that displace others,
 // and as many inserts and removals as you like below the capacity.
 
 fn displace(rt: &impl Abort, map: &mut TriHashMap<Row>) {
-    assert!(rt; insert(map, row_of(1, 77, 777, 0)) == Answer::Taken);
+    right(rt, insert(map, row_of(1, 77, 777, 0)) == Answer::Taken);
     let gone = [Some(row_at(1)), Some(row_at(2)), None];
     same(rt, overwrite(map, row_of(1, 20, 900, 0)), Ok(gone));
     same(rt, map.len(), 6);
@@ -261,10 +283,10 @@ fn displace(rt: &impl Abort, map: &mut TriHashMap<Row>) {
 fn put_and_remove(rt: &impl Abort, map: &mut TriHashMap<Row>) {
     let item = row_at(8);
     for _ in 0..1000 {
-        assert!(rt; put(map, item));
+        right(rt, put(map, item));
         same(rt, map.remove2(&80), Some(item));
     }
-    assert!(rt; put_in(map, Way::OrInsert, item, item) == Answer::In);
+    right(rt, put_in(map, Way::OrInsert, item, item) == Answer::In);
     same(rt, map.len(), 7);
     same(rt, map.capacity(), 7);
 }
@@ -276,7 +298,7 @@ fn displace_by_entry(rt: &impl Abort, map: &mut TriHashMap<Row>) {
     same(rt, overwrite_entry(map, item, item), Some(gone));
     same(rt, map.len(), 6);
     same(rt, map.capacity(), 7);
-    assert!(rt; has(map, item));
+    right(rt, has(map, item));
 }
 
 /// Carries a scenario out on a full map: one item more by this way, or what asks for no memory. Says whether every

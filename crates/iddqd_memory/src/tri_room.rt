@@ -1,5 +1,5 @@
 //! The three-key map under refused memory: room and copies.
-use crate::granted::{same, say_unless};
+use crate::granted::{is_done, is_given, right, same, say_unless};
 use crate::tri::{filled, holds};
 use iddqd_tests_tri::Row;
 use iddqd_tri::TriHashMap;
@@ -21,7 +21,7 @@ enum Call {
 /// A call, with the capacity of the map and how many rows are in it.
 type Scenario = (Call, usize, u64);
 
-const SCENARIOS: [Scenario; 7] = [
+const SCENARIOS: &[Scenario] = &[
     (Call::Reserve, 2, 2),
     (Call::TryReserve, 2, 2),
     (Call::ShrinkTo, 50, 2),
@@ -34,48 +34,52 @@ const SCENARIOS: [Scenario; 7] = [
 /// Whether room for so many more is made, by `try_reserve` or by `reserve`.
 pub(crate) fn makes_room(map: &mut TriHashMap<Row>, more: usize, by_try: bool) -> bool {
     if by_try {
-        map.try_reserve(more).is_ok()
+        is_done(map.try_reserve(more))
     } else {
-        map.reserve(more).is_ok()
+        is_done(map.reserve(more))
     }
+}
+
+/// Whether the map has two rows, and room for so many at least.
+fn has_two(map: &TriHashMap<Row>, least: usize) -> bool {
+    holds(map, 2, &[]) && map.capacity() >= least
 }
 
 fn reserve_twenty(rt: &impl Abort, map: &mut TriHashMap<Row>, by_try: bool) -> bool {
     let capacity = map.capacity();
     let granted = makes_room(map, 20, by_try);
-    assert!(rt; holds(map, 2, &[]) && map.capacity() >= capacity);
-    if !granted {
-        assert!(rt; makes_room(map, 20, by_try));
-    }
-    assert!(rt; holds(map, 2, &[]) && map.capacity() >= 22);
+    right(rt, has_two(map, capacity));
+    // After a refusal the same call is granted.
+    right(rt, granted || makes_room(map, 20, by_try));
+    right(rt, has_two(map, 22));
     granted
 }
 
 /// Whether the room beyond so many rows is given back, by `shrink_to_fit` where no number is given.
 pub(crate) fn is_shrunk(map: &mut TriHashMap<Row>, least: Option<usize>) -> bool {
     match least {
-        Some(least) => map.shrink_to(least).is_ok(),
-        None => map.shrink_to_fit().is_ok(),
+        Some(least) => is_done(map.shrink_to(least)),
+        None => is_done(map.shrink_to_fit()),
     }
 }
 
 fn shrink_two(rt: &impl Abort, map: &mut TriHashMap<Row>, least: Option<usize>) -> bool {
     let capacity = map.capacity();
     let granted = is_shrunk(map, least);
-    assert!(rt; holds(map, 2, &[]));
+    right(rt, holds(map, 2, &[]));
     if !granted {
         same(rt, map.capacity(), capacity);
-        assert!(rt; is_shrunk(map, least));
+        right(rt, is_shrunk(map, least));
     }
     same(rt, map.capacity(), least.unwrap_or(2));
-    assert!(rt; holds(map, 2, &[]));
+    right(rt, holds(map, 2, &[]));
     granted
 }
 
 // An empty map gives all its room back, and asks for none.
 fn shrink_empty(rt: &impl Abort, map: &mut TriHashMap<Row>) {
     map.clear();
-    assert!(rt; is_shrunk(map, None));
+    right(rt, is_shrunk(map, None));
     same(rt, map.capacity(), 0);
 }
 
@@ -83,7 +87,7 @@ fn shrink_empty(rt: &impl Abort, map: &mut TriHashMap<Row>) {
 fn is_cloned(rt: &impl Abort, map: &TriHashMap<Row>) -> bool {
     match map.clone() {
         Ok(copy) => {
-            assert!(rt; copy == *map);
+            right(rt, copy == *map);
             true
         }
         Err(_) => false,
@@ -93,8 +97,8 @@ fn is_cloned(rt: &impl Abort, map: &TriHashMap<Row>) -> bool {
 fn clone(rt: &impl Abort, map: &TriHashMap<Row>) -> bool {
     let granted = is_cloned(rt, map);
     // After a refusal the same call is granted.
-    assert!(rt; granted || is_cloned(rt, map));
-    assert!(rt; holds(map, 2, &[]));
+    right(rt, granted || is_cloned(rt, map));
+    right(rt, holds(map, 2, &[]));
     granted
 }
 
@@ -112,17 +116,25 @@ fn carry_out(rt: &impl Abort, map: &mut TriHashMap<Row>, call: Call) -> bool {
     }
 }
 
+/// Carries a call out on a map that has this capacity.
+fn carry_out_in(rt: &impl Abort, map: &mut TriHashMap<Row>, call: Call, capacity: usize) -> bool {
+    same(rt, map.capacity(), capacity);
+    carry_out(rt, map, call)
+}
+
+/// Whether a map is made and filled.
+fn is_filled(rt: &impl Abort, alloc: Global, capacity: usize, rows: u64) -> bool {
+    is_given(filled(rt, alloc, capacity, rows))
+}
+
 /// Carries a scenario out, and says whether every request was granted, that of `with_capacity` too.
 fn is_granted(rt: &impl Abort, alloc: Global, scenario: Scenario) -> bool {
     let (call, capacity, rows) = scenario;
     match filled(rt, alloc, capacity, rows) {
-        Some(mut map) => {
-            same(rt, map.capacity(), capacity);
-            carry_out(rt, &mut map, call)
-        }
+        Some(mut map) => carry_out_in(rt, &mut map, call, capacity),
         None => {
             // The same call is granted where there is memory.
-            assert!(rt; filled(rt, alloc, capacity, rows).is_some());
+            right(rt, is_filled(rt, alloc, capacity, rows));
             false
         }
     }
@@ -132,7 +144,7 @@ fn is_granted(rt: &impl Abort, alloc: Global, scenario: Scenario) -> bool {
 fn allows_room_and_copies(rt: HostRuntime) {
     let mut all = true;
     for scenario in SCENARIOS {
-        all = is_granted(&rt, rt.alloc(), scenario) && all;
+        all = is_granted(&rt, rt.alloc(), *scenario) && all;
     }
     say_unless(&rt, all);
 }

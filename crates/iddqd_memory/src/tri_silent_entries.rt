@@ -92,31 +92,49 @@ impl Silent for Call {
             Call::LentForGood => lend_for_good(map, SAME),
             Call::UniqueForGood => lend_unique_for_good(map, SAME),
             Call::ForEach => for_each(map, OVER) == 3,
-            Call::Insert => overwrite_entry(map, OVER, OVER)
-                == Some([Some(ONE), Some(TWO), Some(THREE)]),
-            Call::InsertRefused => overwrite_entry(map, OVER, BESIDE) == Some([None; 3]),
-            Call::Remove => remove(map, OVER) == [Some(ONE), Some(TWO), Some(THREE)],
+            Call::Insert => is_overwritten(map, OVER, [Some(ONE), Some(TWO), Some(THREE)]),
+            Call::InsertRefused => is_overwritten(map, BESIDE, [None; 3]),
+            Call::Remove => is_removed(map),
             Call::Data1 => write_data1(map, OVER),
             Call::Data2 => write_data2(map, OVER),
             Call::Data3 => write_data3(map, OVER),
             Call::Vacant => is_vacant(map, BESIDE),
-            Call::VacantInsert => put_in(map, Way::VacantInsert, BESIDE, SAME)
-                == Answer::Key1(SAME),
-            Call::VacantInsert2 => put_in(map, Way::VacantInsert, BESIDE, OTHER2)
-                == Answer::Key2(OTHER2),
-            Call::VacantInsert3 => put_in(map, Way::VacantInsert, BESIDE, OTHER3)
-                == Answer::Key3(OTHER3),
-            Call::VacantInsertMut => put_in(map, Way::VacantInsertMut, BESIDE, SAME)
-                == Answer::Key1(SAME),
-            Call::VacantInsertEntry => put_in(map, Way::VacantInsertEntry, BESIDE, SAME)
-                == Answer::Key1(SAME),
-            Call::OrInsert => put_in(map, Way::OrInsert, OVER, BESIDE) == Answer::In,
-            Call::OrInsertWith => put_in(map, Way::OrInsertWith, OVER, BESIDE) == Answer::In,
-            Call::OrInsertRefused => put_in(map, Way::OrInsert, BESIDE, SAME) == Answer::Key1(SAME),
-            Call::OrInsertWithRefused => put_in(map, Way::OrInsertWith, BESIDE, SAME)
-                == Answer::Key1(SAME),
+            Call::VacantInsert => is_refused(map, Way::VacantInsert),
+            Call::VacantInsert2 => is_refused2(map, Way::VacantInsert),
+            Call::VacantInsert3 => is_refused3(map, Way::VacantInsert),
+            Call::VacantInsertMut => is_refused(map, Way::VacantInsertMut),
+            Call::VacantInsertEntry => is_refused(map, Way::VacantInsertEntry),
+            Call::OrInsert => is_found(map, Way::OrInsert),
+            Call::OrInsertWith => is_found(map, Way::OrInsertWith),
+            Call::OrInsertRefused => is_refused(map, Way::OrInsert),
+            Call::OrInsertWithRefused => is_refused(map, Way::OrInsertWith),
         }
     }
+}
+
+/// Whether these are the rows that the entry gives for this one.
+fn is_overwritten(map: &mut TriHashMap<Row>, item: Row, gone: [Option<Row>; 3]) -> bool {
+    overwrite_entry(map, OVER, item) == Some(gone)
+}
+
+/// Whether a row is refused that has not the first key that is asked for.
+fn is_refused(map: &mut TriHashMap<Row>, way: Way) -> bool {
+    put_in(map, way, BESIDE, SAME) == Answer::Key1(SAME)
+}
+
+/// The same of one that has it, and not the second key.
+fn is_refused2(map: &mut TriHashMap<Row>, way: Way) -> bool {
+    put_in(map, way, BESIDE, OTHER2) == Answer::Key2(OTHER2)
+}
+
+/// The same of one that has both, and not the third key.
+fn is_refused3(map: &mut TriHashMap<Row>, way: Way) -> bool {
+    put_in(map, way, BESIDE, OTHER3) == Answer::Key3(OTHER3)
+}
+
+/// Whether no row is put in where there are rows that have the keys.
+fn is_found(map: &mut TriHashMap<Row>, way: Way) -> bool {
+    put_in(map, way, OVER, BESIDE) == Answer::In
 }
 
 fn modify(map: &mut TriHashMap<Row>, keys: Row) -> u64 {
@@ -211,6 +229,10 @@ fn remove(map: &mut TriHashMap<Row>, keys: Row) -> [Option<Row>; 3] {
         }
         Entry::Vacant(_) => [None; 3],
     }
+}
+
+fn is_removed(map: &mut TriHashMap<Row>) -> bool {
+    remove(map, OVER) == [Some(ONE), Some(TWO), Some(THREE)]
 }
 
 fn write_data1(map: &mut TriHashMap<Row>, keys: Row) -> bool {
