@@ -1,7 +1,7 @@
 //! Entries of the two-key map that ask for no memory, each on a full map.
 ghost use Rattle.iddqd_bi.specs.Entries.{Holds};
 
-use crate::bi::{Answer, Way, overwrite_entry, put_in};
+use crate::bi::{Answer, Reason, Way, overwrite_entry, put_in};
 use crate::bi_full::{BESIDE, ONE, OVER, SAME, Silent, TWO, are_granted};
 use crate::granted::say_unless;
 use iddqd_bi::{BiHashMap, Entry, OccupiedEntryMut, OccupiedEntryRef};
@@ -104,12 +104,12 @@ fn is_overwritten(map: &mut BiHashMap<Row>, item: Row, gone: [Option<Row>; 2]) -
 
 /// Whether a row is refused that has not the first key that is asked for.
 fn is_refused(map: &mut BiHashMap<Row>, way: Way) -> bool {
-    put_in(map, way, BESIDE, SAME) == Answer::Key1(SAME)
+    put_in(map, way, BESIDE, SAME) == Answer::Refused(Reason::Key1, SAME)
 }
 
 /// The same of one that has it, and not the second key.
 fn is_refused2(map: &mut BiHashMap<Row>, way: Way) -> bool {
-    put_in(map, way, BESIDE, OTHER2) == Answer::Key2(OTHER2)
+    put_in(map, way, BESIDE, OTHER2) == Answer::Refused(Reason::Key2, OTHER2)
 }
 
 /// Whether no row is put in where there are rows that have the keys.

@@ -71,14 +71,30 @@ pub(crate) enum Way {
     OrInsertWith,
 }
 
+const WAYS: &[Way] = &[
+    Way::Unique,
+    Way::Overwrite,
+    Way::VacantInsert,
+    Way::VacantInsertMut,
+    Way::VacantInsertEntry,
+    Way::OrInsert,
+    Way::OrInsertWith,
+];
+
+/// Why an item is handed back: it has not this key of the entry, or memory is refused.
+#[derive(Clone, Copy, PartialEq)]
+pub(crate) enum Reason {
+    Key1,
+    Key2,
+    Key3,
+    Memory,
+}
+
 /// What becomes of the item.
 #[derive(Clone, Copy, PartialEq)]
 pub(crate) enum Answer {
     In,
-    Key1(Row),
-    Key2(Row),
-    Key3(Row),
-    Memory(Row),
+    Refused(Reason, Row),
     /// An item has one of its keys, or one of the entry's.
     Taken,
     /// No answer that is allowed.
@@ -87,10 +103,10 @@ pub(crate) enum Answer {
 
 fn refusal(error: EntryError<Row>) -> Answer {
     match error {
-        EntryError::Key1(item) => Answer::Key1(item),
-        EntryError::Key2(item) => Answer::Key2(item),
-        EntryError::Key3(item) => Answer::Key3(item),
-        EntryError::Memory(item) => Answer::Memory(item),
+        EntryError::Key1(item) => Answer::Refused(Reason::Key1, item),
+        EntryError::Key2(item) => Answer::Refused(Reason::Key2, item),
+        EntryError::Key3(item) => Answer::Refused(Reason::Key3, item),
+        EntryError::Memory(item) => Answer::Refused(Reason::Memory, item),
     }
 }
 
@@ -123,7 +139,7 @@ fn handed_back(refusal: MemoryError<'_, Row, DefaultHashBuilder>) -> Answer {
     let shown = *refusal.new_item();
     let back = refusal.into_item();
     if shown == back {
-        Answer::Memory(back)
+        Answer::Refused(Reason::Memory, back)
     } else {
         Answer::Wrong
     }
@@ -139,7 +155,7 @@ fn overwrite_none(map: &mut TriHashMap<Row>, item: Row) -> Answer {
                 Answer::Wrong
             }
         }
-        Err(item) => Answer::Memory(item),
+        Err(item) => Answer::Refused(Reason::Memory, item),
     }
 }
 
@@ -238,9 +254,15 @@ fn has_grown(map: &TriHashMap<Row>, item: Row) -> bool {
 /// there is, that is answered, and the map is as before.
 fn refuse(rt: &impl Abort, map: &mut TriHashMap<Row>, way: Way, keys: Row) {
     let first = row_of(0, keys.key2, keys.key3, 5);
-    right(rt, put_in(map, way, keys, first) == Answer::Key1(first));
+    right(
+        rt,
+        put_in(map, way, keys, first) == Answer::Refused(Reason::Key1, first),
+    );
     let third = row_of(keys.key1, keys.key2, 0, 5);
-    right(rt, put_in(map, way, keys, third) == Answer::Key3(third));
+    right(
+        rt,
+        put_in(map, way, keys, third) == Answer::Refused(Reason::Key3, third),
+    );
     right(rt, is_full(map));
 }
 
@@ -255,7 +277,7 @@ fn grow(rt: &impl Abort, map: &mut TriHashMap<Row>, way: Way) -> bool {
     let answer = put_in(map, way, item, item);
     let granted = answer == Answer::In;
     if !granted {
-        right(rt, answer == Answer::Memory(item));
+        right(rt, answer == Answer::Refused(Reason::Memory, item));
         grow_again(rt, map, way, item);
     }
     right(rt, has_grown(map, item));
@@ -325,16 +347,8 @@ fn carry_out(rt: &impl Abort, map: &mut TriHashMap<Row>, way: Option<Way>) -> bo
 #[test]
 fn allows_an_item_more_when_full(rt: HostRuntime) {
     let mut all = true;
-    for way in [
-        Way::Unique,
-        Way::Overwrite,
-        Way::VacantInsert,
-        Way::VacantInsertMut,
-        Way::VacantInsertEntry,
-        Way::OrInsert,
-        Way::OrInsertWith,
-    ] {
-        all = is_granted(&rt, rt.alloc(), Some(way)) && all;
+    for way in WAYS {
+        all = is_granted(&rt, rt.alloc(), Some(*way)) && all;
     }
     say_unless(&rt, all);
 }

@@ -231,9 +231,17 @@ fn allows_many_items_at_once(rt: HostRuntime) {
 fn is_made_of_what_is_promised(alloc: Global, call: u64) -> bool {
     match call {
         0 => extend_by_five(alloc),
-        1 => is_done(TriHashMap::<Row>::from_iter(alloc, five_rows())),
-        _ => is_done(TriHashMap::<Row>::from_iter_unique(alloc, five_rows())),
+        1 => is_made(alloc),
+        _ => is_made_unique(alloc),
     }
+}
+
+fn is_made(alloc: Global) -> bool {
+    is_done(TriHashMap::<Row>::from_iter(alloc, five_rows()))
+}
+
+fn is_made_unique(alloc: Global) -> bool {
+    is_done(TriHashMap::<Row>::from_iter_unique(alloc, five_rows()))
 }
 
 fn extend_by_five(alloc: Global) -> bool {

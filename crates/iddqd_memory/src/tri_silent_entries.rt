@@ -2,7 +2,7 @@
 ghost use Rattle.iddqd_tri.specs.Entries.{Holds};
 
 use crate::granted::say_unless;
-use crate::tri::{Answer, Way, overwrite_entry, put_in};
+use crate::tri::{Answer, Reason, Way, overwrite_entry, put_in};
 use crate::tri_full::{BESIDE, ONE, OVER, SAME, Silent, THREE, TWO, are_granted};
 use iddqd_tests_tri::Row;
 use iddqd_tri::{Entry, OccupiedEntryMut, OccupiedEntryRef, TriHashMap};
@@ -119,17 +119,17 @@ fn is_overwritten(map: &mut TriHashMap<Row>, item: Row, gone: [Option<Row>; 3]) 
 
 /// Whether a row is refused that has not the first key that is asked for.
 fn is_refused(map: &mut TriHashMap<Row>, way: Way) -> bool {
-    put_in(map, way, BESIDE, SAME) == Answer::Key1(SAME)
+    put_in(map, way, BESIDE, SAME) == Answer::Refused(Reason::Key1, SAME)
 }
 
 /// The same of one that has it, and not the second key.
 fn is_refused2(map: &mut TriHashMap<Row>, way: Way) -> bool {
-    put_in(map, way, BESIDE, OTHER2) == Answer::Key2(OTHER2)
+    put_in(map, way, BESIDE, OTHER2) == Answer::Refused(Reason::Key2, OTHER2)
 }
 
 /// The same of one that has both, and not the third key.
 fn is_refused3(map: &mut TriHashMap<Row>, way: Way) -> bool {
-    put_in(map, way, BESIDE, OTHER3) == Answer::Key3(OTHER3)
+    put_in(map, way, BESIDE, OTHER3) == Answer::Refused(Reason::Key3, OTHER3)
 }
 
 /// Whether no row is put in where there are rows that have the keys.
