@@ -75,13 +75,17 @@ pub(crate) fn built<S: BuildHasher + Default + Drop>(
 ) -> Result<Option<usize>, AllocError> {
     let items = three_items(counts, row.last)?;
     Ok(match row.build {
-        Build::FromIter => match BiHashMap::<Pair, S>::from_iter(alloc, items) {
-            Ok(map) => Some(map.len()),
-            Err(_) => None,
-        },
-        Build::FromIterUnique => match BiHashMap::<Pair, S>::from_iter_unique(alloc, items) {
-            Ok(map) => Some(map.len()),
-            Err(_) => None,
-        },
+        Build::FromIter => overwriting::<S>(alloc, items),
+        Build::FromIterUnique => unique::<S>(alloc, items),
     })
+}
+
+fn overwriting<S: BuildHasher + Default + Drop>(alloc: Global, items: [Pair; 3]) -> Option<usize> {
+    let map = BiHashMap::<Pair, S>::from_iter(alloc, items).ok()?;
+    Some(map.len())
+}
+
+fn unique<S: BuildHasher + Default + Drop>(alloc: Global, items: [Pair; 3]) -> Option<usize> {
+    let map = BiHashMap::<Pair, S>::from_iter_unique(alloc, items).ok()?;
+    Some(map.len())
 }

@@ -25,18 +25,30 @@ fn answers<S: BuildHasher>(
     numbers: Numbers,
 ) -> Result<bool, AllocError> {
     let keys = pair_of(counts, numbers)?;
+    let is_so = answers_by(map, counts, call, numbers, &keys);
+    drop(keys);
+    is_so
+}
+
+fn answers_by<S: BuildHasher>(
+    map: &mut BiHashMap<Pair, S>,
+    counts: &Rc<Counts>,
+    call: &Call,
+    numbers: Numbers,
+    keys: &Pair,
+) -> Result<bool, AllocError> {
     Ok(match call {
-        Call::Find(search) => finds(map, search, &keys),
-        Call::Miss(search) => !finds(map, search, &keys),
-        Call::Insert(insert) => puts_in(map, insert, keys),
+        Call::Find(search) => finds(map, search, keys),
+        Call::Miss(search) => !finds(map, search, keys),
+        Call::Insert(insert) => puts_in(map, insert, pair_of(counts, numbers)?),
         Call::Extend(extend) => extends(map, extend, three_items(counts, numbers)?),
-        Call::Enter(enter, given) => enters(map, counts, enter, &keys, pair_of(counts, *given)?),
-        Call::Look(look) => looks(map, counts, look, &keys),
-        Call::Lend(lend) => lends(map, counts, lend, &keys),
-        Call::HoldUnique => holds_unique(map, counts, &keys),
-        Call::HoldEach => holds_each(map, counts, &keys),
-        Call::Turn(turn) => turns(map, counts, turn, &keys),
-        Call::Write(write) => writes(map, counts, write, keys)?,
+        Call::Enter(enter, given) => enters(map, counts, enter, keys, pair_of(counts, *given)?),
+        Call::Look(look) => looks(map, counts, look, keys),
+        Call::Lend(lend) => lends(map, counts, lend, keys),
+        Call::HoldUnique => holds_unique(map, counts, keys),
+        Call::HoldEach => holds_each(map, counts, keys),
+        Call::Turn(turn) => turns(map, counts, turn, keys),
+        Call::Write(write) => writes(map, counts, write, numbers)?,
     })
 }
 
