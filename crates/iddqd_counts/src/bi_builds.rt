@@ -81,11 +81,17 @@ pub(crate) fn built<S: BuildHasher + Default + Drop>(
 }
 
 fn overwriting<S: BuildHasher + Default + Drop>(alloc: Global, items: [Pair; 3]) -> Option<usize> {
-    let map = BiHashMap::<Pair, S>::from_iter(alloc, items).ok()?;
-    Some(map.len())
+    len_of(BiHashMap::<Pair, S>::from_iter(alloc, items).ok())
 }
 
 fn unique<S: BuildHasher + Default + Drop>(alloc: Global, items: [Pair; 3]) -> Option<usize> {
-    let map = BiHashMap::<Pair, S>::from_iter_unique(alloc, items).ok()?;
-    Some(map.len())
+    len_of(BiHashMap::<Pair, S>::from_iter_unique(alloc, items).ok())
+}
+
+/// How many items there are in a map, if it was built.
+fn len_of<S: BuildHasher + Drop>(built: Option<BiHashMap<Pair, S>>) -> Option<usize> {
+    let map = built?;
+    let len = map.len();
+    drop(map);
+    Some(len)
 }

@@ -1,6 +1,7 @@
 //! Calls of the two-key map that look for items or put them in, as values. Each is carried out on the map of five
 //! items, and says whether it answered as its name says. No function makes more than a handful of these calls, since
 //! each brings its contract.
+use crate::answers::{was_found, was_granted};
 use crate::counting::Counts;
 use crate::pair::{Numbers, Pair, pair_of};
 use iddqd_bi::{BiHashMap, InsertError};
@@ -17,10 +18,20 @@ pub(crate) fn five<S: BuildHasher + Drop>(
     counts: &Rc<Counts>,
 ) -> Result<BiHashMap<Pair, S>, AllocError> {
     let mut map = BiHashMap::with_hasher(alloc, hash_builder);
-    for numbers in [(1, 11), (2, 12), (3, 13), (4, 14), (5, 15)] {
-        assert!(rt; map.insert_unique(pair_of(counts, numbers)?).is_ok());
+    for numbers in &[(1, 11), (2, 12), (3, 13), (4, 14), (5, 15)] {
+        assert!(rt; goes_in(&mut map, counts, *numbers)?);
     }
     Ok(map)
+}
+
+/// Whether an item of these keys goes in.
+fn goes_in<S: BuildHasher>(
+    map: &mut BiHashMap<Pair, S>,
+    counts: &Rc<Counts>,
+    numbers: Numbers,
+) -> Result<bool, AllocError> {
+    let item = pair_of(counts, numbers)?;
+    Ok(was_granted(map.insert_unique(item), true))
 }
 
 /// The keys that a search goes by.
@@ -70,17 +81,17 @@ fn contains<S: BuildHasher>(map: &BiHashMap<Pair, S>, by: &By, keys: &Pair) -> b
 
 fn gets_mut<S: BuildHasher>(map: &mut BiHashMap<Pair, S>, by: &By, keys: &Pair) -> bool {
     match by {
-        By::Key1 => map.get1_mut(&keys.key1).is_some(),
-        By::Key2 => map.get2_mut(&keys.key2).is_some(),
-        By::All => map.get_mut_unique(&keys.key1, &keys.key2).is_some(),
+        By::Key1 => was_found(map.get1_mut(&keys.key1)),
+        By::Key2 => was_found(map.get2_mut(&keys.key2)),
+        By::All => was_found(map.get_mut_unique(&keys.key1, &keys.key2)),
     }
 }
 
 fn removes<S: BuildHasher>(map: &mut BiHashMap<Pair, S>, by: &By, keys: &Pair) -> bool {
     match by {
-        By::Key1 => map.remove1(&keys.key1).is_some(),
-        By::Key2 => map.remove2(&keys.key2).is_some(),
-        By::All => map.remove_unique(&keys.key1, &keys.key2).is_some(),
+        By::Key1 => was_found(map.remove1(&keys.key1)),
+        By::Key2 => was_found(map.remove2(&keys.key2)),
+        By::All => was_found(map.remove_unique(&keys.key1, &keys.key2)),
     }
 }
 
@@ -102,17 +113,33 @@ pub(crate) fn puts_in<S: BuildHasher>(
     item: Pair,
 ) -> bool {
     match insert {
-        Insert::Unique => map.insert_unique(item).is_ok(),
-        Insert::Refused(many) => match map.insert_unique(item) {
-            Err(InsertError::Duplicate(refused)) => refused.duplicates().len() == *many,
-            _ => false,
-        },
-        Insert::OrBack(goes_in) => map.insert_or_back(item).is_ok() == *goes_in,
-        Insert::Overwrite(many) => match map.insert_overwrite(item) {
-            Ok(displaced) => displaced.len() == *many,
-            Err(_) => false,
-        },
+        Insert::Unique => was_granted(map.insert_unique(item), true),
+        Insert::Refused(many) => is_refused(map, item, *many),
+        Insert::OrBack(goes_in) => was_granted(map.insert_or_back(item), *goes_in),
+        Insert::Overwrite(many) => displaces(map, item, *many),
     }
+}
+
+/// Whether so many items are in the way of this one.
+fn is_refused<S: BuildHasher>(map: &mut BiHashMap<Pair, S>, item: Pair, many: usize) -> bool {
+    let answer = map.insert_unique(item);
+    let is_so = match &answer {
+        Err(InsertError::Duplicate(refused)) => refused.duplicates().len() == many,
+        _ => false,
+    };
+    drop(answer);
+    is_so
+}
+
+/// Whether so many items have to give way to this one.
+fn displaces<S: BuildHasher>(map: &mut BiHashMap<Pair, S>, item: Pair, many: usize) -> bool {
+    let answer = map.insert_overwrite(item);
+    let is_so = match &answer {
+        Ok(displaced) => displaced.len() == many,
+        Err(_) => false,
+    };
+    drop(answer);
+    is_so
 }
 
 /// A call with a list of three items, of which the first two conflict with none.
@@ -140,10 +167,10 @@ pub(crate) fn extends<S: BuildHasher>(
     items: [Pair; 3],
 ) -> bool {
     match extend {
-        Extend::Overwriting => map.extend(items).is_ok(),
+        Extend::Overwriting => was_granted(map.extend(items), true),
         Extend::Unique(goes_in) => {
-            let is_in = map.extend_unique(items).is_ok();
-            is_in == *goes_in && map.len() == if *goes_in { 8 } else { 5 }
+            let is_so = was_granted(map.extend_unique(items), *goes_in);
+            is_so && map.len() == if *goes_in { 8 } else { 5 }
         }
         Extend::OneByOne => put_one_by_one(map, items) == 7,
     }
@@ -152,7 +179,7 @@ pub(crate) fn extends<S: BuildHasher>(
 /// How many items there are behind one `insert_unique` of each item after another.
 fn put_one_by_one<S: BuildHasher>(map: &mut BiHashMap<Pair, S>, items: [Pair; 3]) -> usize {
     for item in items {
-        let _ = map.insert_unique(item).is_ok();
+        let _ = was_granted(map.insert_unique(item), true);
     }
     map.len()
 }

@@ -120,6 +120,16 @@ fn check_calls<S: BuildHasher + Copy>(
         let made = counted(rt, alloc, hash_builder, counts, call, *numbers)?;
         check(rt, name, made, bounds_of(is_own, *alike, *own), *hashes);
     }
+    check_lent(rt, alloc, hash_builder, counts)
+}
+
+/// The calls of entries and guards.
+fn check_lent<S: BuildHasher + Copy>(
+    rt: &impl Abort,
+    alloc: Global,
+    hash_builder: S,
+    counts: &Rc<Counts>,
+) -> Result<(), AllocError> {
     for (name, call, numbers, compared, hashes) in &LENT {
         let made = counted(rt, alloc, hash_builder, counts, call, *numbers)?;
         check(rt, name, made, (*compared, *compared), *hashes);
@@ -165,16 +175,30 @@ fn check_refused(
     hash: u64,
     counts: &Rc<Counts>,
 ) -> Result<(), AllocError> {
-    for last in [3, 65] {
-        let (_, (refused, _)) = counted(rt, alloc, Alike { hash }, counts, &REFUSED, (last, 77))?;
-        let single = counted(rt, alloc, Alike { hash }, counts, &ONE_BY_ONE, (last, 77))?;
-        let (is_so, (single, _)) = single;
+    for last in &[3, 65] {
+        let numbers = (*last, 77);
+        let refused = compared(rt, alloc, hash, counts, &REFUSED, numbers)?;
+        let (is_so, single) = compared(rt, alloc, hash, counts, &ONE_BY_ONE, numbers)?;
         assert!(rt;
-            is_so && refused == single,
-            "extend_unique, {last}: {refused}, {single}"
+            is_so && refused.1 == single,
+            "extend_unique, {last}: {}, {single}",
+            refused.1
         );
     }
     Ok(())
+}
+
+/// Whether a call answers as it is to, and how many keys it compares.
+fn compared(
+    rt: &impl Abort,
+    alloc: Global,
+    hash: u64,
+    counts: &Rc<Counts>,
+    call: &Call,
+    numbers: Numbers,
+) -> Result<(bool, u64), AllocError> {
+    let (is_so, (compared, _)) = counted(rt, alloc, Alike { hash }, counts, call, numbers)?;
+    Ok((is_so, compared))
 }
 
 #[test]
