@@ -18,14 +18,29 @@ pub(crate) fn five<S: BuildHasher + Drop>(
     counts: &Rc<Counts>,
 ) -> Result<BiHashMap<Pair, S>, AllocError> {
     let mut map = BiHashMap::with_hasher(alloc, hash_builder);
-    for numbers in &[(1, 11), (2, 12), (3, 13), (4, 14), (5, 15)] {
-        assert!(rt; goes_in(&mut map, counts, *numbers)?);
+    match fill(rt, &mut map, counts) {
+        Ok(()) => Ok(map),
+        Err(error) => {
+            drop(map);
+            Err(error)
+        }
     }
-    Ok(map)
+}
+
+/// Puts the five in.
+fn fill<S: BuildHasher>(
+    rt: &impl Abort,
+    map: &mut BiHashMap<Pair, S>,
+    counts: &Rc<Counts>,
+) -> Result<(), AllocError> {
+    for numbers in &[(1, 11), (2, 12), (3, 13), (4, 14), (5, 15)] {
+        assert!(rt; goes_in(map, counts, *numbers)?);
+    }
+    Ok(())
 }
 
 /// Whether an item of these keys goes in.
-fn goes_in<S: BuildHasher>(
+pub(crate) fn goes_in<S: BuildHasher>(
     map: &mut BiHashMap<Pair, S>,
     counts: &Rc<Counts>,
     numbers: Numbers,
@@ -106,18 +121,20 @@ pub(crate) enum Insert {
     Overwrite(usize),
 }
 
-/// Whether the item goes in as it is to.
+/// Whether an item of these keys goes in as it is to.
 pub(crate) fn puts_in<S: BuildHasher>(
     map: &mut BiHashMap<Pair, S>,
+    counts: &Rc<Counts>,
     insert: &Insert,
-    item: Pair,
-) -> bool {
-    match insert {
+    numbers: Numbers,
+) -> Result<bool, AllocError> {
+    let item = pair_of(counts, numbers)?;
+    Ok(match insert {
         Insert::Unique => was_granted(map.insert_unique(item), true),
         Insert::Refused(many) => is_refused(map, item, *many),
         Insert::OrBack(goes_in) => was_granted(map.insert_or_back(item), *goes_in),
         Insert::Overwrite(many) => displaces(map, item, *many),
-    }
+    })
 }
 
 /// Whether so many items are in the way of this one.
@@ -160,20 +177,22 @@ pub(crate) fn three_items(counts: &Rc<Counts>, last: Numbers) -> Result<[Pair; 3
     ])
 }
 
-/// Whether a list of three goes in, or is refused where it is to be.
+/// Whether a list of three goes in, or is refused where it is to be. Its last item has these keys.
 pub(crate) fn extends<S: BuildHasher>(
     map: &mut BiHashMap<Pair, S>,
+    counts: &Rc<Counts>,
     extend: &Extend,
-    items: [Pair; 3],
-) -> bool {
-    match extend {
+    last: Numbers,
+) -> Result<bool, AllocError> {
+    let items = three_items(counts, last)?;
+    Ok(match extend {
         Extend::Overwriting => was_granted(map.extend(items), true),
         Extend::Unique(goes_in) => {
             let is_so = was_granted(map.extend_unique(items), *goes_in);
             is_so && map.len() == if *goes_in { 8 } else { 5 }
         }
         Extend::OneByOne => put_one_by_one(map, items) == 7,
-    }
+    })
 }
 
 /// How many items there are behind one `insert_unique` of each item after another.

@@ -1,6 +1,6 @@
 //! Whether the calls of the two-key map compare and hash as many keys as their rows say.
 use crate::bi_builds::{BUILDS, built};
-use crate::bi_calls::{extends, finds, five, puts_in, three_items};
+use crate::bi_calls::{extends, finds, five, puts_in};
 use crate::bi_lending::{enters, writes};
 use crate::bi_lent_rows::LENT;
 use crate::bi_occupied::{holds_each, holds_unique, lends, looks, turns};
@@ -37,19 +37,19 @@ fn answers_by<S: BuildHasher>(
     numbers: Numbers,
     keys: &Pair,
 ) -> Result<bool, AllocError> {
-    Ok(match call {
-        Call::Find(search) => finds(map, search, keys),
-        Call::Miss(search) => !finds(map, search, keys),
-        Call::Insert(insert) => puts_in(map, insert, pair_of(counts, numbers)?),
-        Call::Extend(extend) => extends(map, extend, three_items(counts, numbers)?),
-        Call::Enter(enter, given) => enters(map, counts, enter, keys, pair_of(counts, *given)?),
-        Call::Look(look) => looks(map, counts, look, keys),
-        Call::Lend(lend) => lends(map, counts, lend, keys),
-        Call::HoldUnique => holds_unique(map, counts, keys),
-        Call::HoldEach => holds_each(map, counts, keys),
-        Call::Turn(turn) => turns(map, counts, turn, keys),
-        Call::Write(write) => writes(map, counts, write, numbers)?,
-    })
+    match call {
+        Call::Find(search) => Ok(finds(map, search, keys)),
+        Call::Miss(search) => Ok(!finds(map, search, keys)),
+        Call::Insert(insert) => puts_in(map, counts, insert, numbers),
+        Call::Extend(extend) => extends(map, counts, extend, numbers),
+        Call::Enter(enter, given) => enters(map, counts, enter, keys, *given),
+        Call::Look(look) => Ok(looks(map, counts, look, keys)),
+        Call::Lend(lend) => Ok(lends(map, counts, lend, keys)),
+        Call::HoldUnique => Ok(holds_unique(map, counts, keys)),
+        Call::HoldEach => Ok(holds_each(map, counts, keys)),
+        Call::Turn(turn) => Ok(turns(map, counts, turn, keys)),
+        Call::Write(write) => writes(map, counts, write, numbers),
+    }
 }
 
 /// Whether a call on a new map, by keys of these numbers, answers as it is to, and how many keys it compares and
@@ -201,24 +201,34 @@ fn compared(
     Ok((is_so, compared))
 }
 
+/// All of these under builders that hash all keys alike.
+fn check_alike(rt: &impl Abort, alloc: Global, counts: &Rc<Counts>) -> Result<(), AllocError> {
+    for hash in [18446744073709551615, 0] {
+        check_searches(rt, alloc, Alike { hash }, counts, false)?;
+        check_calls(rt, alloc, Alike { hash }, counts, false)?;
+        check_wholes(rt, alloc, hash, counts)?;
+        check_refused(rt, alloc, hash, counts)?;
+    }
+    check_builds::<ByZero>(rt, alloc, counts, false)
+}
+
+/// Those that do not ask for keys that are hashed alike, under builders that give each key its own hash.
+fn check_own(rt: &impl Abort, alloc: Global, counts: &Rc<Counts>) -> Result<(), AllocError> {
+    check_searches(rt, alloc, OwnHash, counts, true)?;
+    check_calls(rt, alloc, OwnHash, counts, true)?;
+    check_builds::<ByItself>(rt, alloc, counts, true)
+}
+
 #[test]
 fn two_keys_hashed_alike(rt: HostRuntime) -> Result<(), Fail> {
     let counts = Rc::new(rt.alloc(), Counts::new())?;
-    for hash in [18446744073709551615, 0] {
-        check_searches(&rt, rt.alloc(), Alike { hash }, &counts, false)?;
-        check_calls(&rt, rt.alloc(), Alike { hash }, &counts, false)?;
-        check_wholes(&rt, rt.alloc(), hash, &counts)?;
-        check_refused(&rt, rt.alloc(), hash, &counts)?;
-    }
-    check_builds::<ByZero>(&rt, rt.alloc(), &counts, false)?;
+    check_alike(&rt, rt.alloc(), &counts)?;
     Ok(())
 }
 
 #[test]
 fn two_keys_hashed_to_themselves(rt: HostRuntime) -> Result<(), Fail> {
     let counts = Rc::new(rt.alloc(), Counts::new())?;
-    check_searches(&rt, rt.alloc(), OwnHash, &counts, true)?;
-    check_calls(&rt, rt.alloc(), OwnHash, &counts, true)?;
-    check_builds::<ByItself>(&rt, rt.alloc(), &counts, true)?;
+    check_own(&rt, rt.alloc(), &counts)?;
     Ok(())
 }

@@ -43,15 +43,16 @@ pub(crate) enum Occupied {
     ForEach,
 }
 
-/// Whether the entry of these keys does what it is to do with the item.
+/// Whether the entry of these keys does what it is to do with an item of those that are given.
 pub(crate) fn enters<S: BuildHasher>(
     map: &mut BiHashMap<Pair, S>,
-    counts: &Counts,
+    counts: &Rc<Counts>,
     enter: &Enter,
     keys: &Pair,
-    item: Pair,
-) -> bool {
-    match enter {
+    given: Numbers,
+) -> Result<bool, AllocError> {
+    let item = pair_of(counts, given)?;
+    Ok(match enter {
         Enter::Made(occupied) => {
             drop(item);
             is_occupied(&map.entry(&keys.key1, &keys.key2)) == *occupied
@@ -59,7 +60,7 @@ pub(crate) fn enters<S: BuildHasher>(
         Enter::Vacant(vacant) => enters_vacant(map, counts, vacant, keys, item),
         Enter::Either(either) => enters_either(map, counts, either, keys, item),
         Enter::Occupied(occupied) => enters_occupied(map, counts, occupied, keys, item),
-    }
+    })
 }
 
 fn is_occupied<S: BuildHasher>(entry: &Entry<'_, Pair, S>) -> bool {

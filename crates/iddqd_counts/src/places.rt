@@ -1,7 +1,9 @@
 //! Keys that are their own hashes and have the same home: where an item goes out, the others are still found.
+use crate::answers::was_found;
 use crate::counting::Counts;
 use crate::pair::{Pair, pair_of};
 use crate::triple::{Numbers, Triple, triple_of};
+use crate::{bi_calls, tri_calls};
 use iddqd_bi::BiHashMap;
 use iddqd_builders::OwnHash;
 use iddqd_tri::TriHashMap;
@@ -24,12 +26,27 @@ fn close_up_two(
     counts: &Rc<Counts>,
     map: &mut BiHashMap<Pair, OwnHash>,
 ) -> Result<(), AllocError> {
-    for ((key1, key2, _), _) in ITEMS {
-        assert!(rt; map.insert_unique(pair_of(counts, (key1, key2))?).is_ok());
+    for ((key1, key2, _), _) in &ITEMS {
+        assert!(rt; bi_calls::goes_in(map, counts, (*key1, *key2))?);
     }
     let first = pair_of(counts, (7, 6))?;
-    assert!(rt; map.remove1(&first.key1).is_some());
+    let is_gone = was_found(map.remove1(&first.key1));
+    drop(first);
+    assert!(rt; is_gone);
     Ok(())
+}
+
+/// The values that `get1` and `get2` find.
+fn found_by_two(map: &BiHashMap<Pair, OwnHash>, keys: &Pair) -> [Option<u64>; 2] {
+    let found1 = match map.get1(&keys.key1) {
+        Some(found) => Some(found.value),
+        None => None,
+    };
+    let found2 = match map.get2(&keys.key2) {
+        Some(found) => Some(found.value),
+        None => None,
+    };
+    [found1, found2]
 }
 
 /// Whether `get1` and `get2` of the map with two keys find what is left.
@@ -38,17 +55,11 @@ fn check_two(
     counts: &Rc<Counts>,
     map: &BiHashMap<Pair, OwnHash>,
 ) -> Result<(), AllocError> {
-    for ((key1, key2, _), value) in ITEMS {
-        let keys = pair_of(counts, (key1, key2))?;
-        let found1 = match map.get1(&keys.key1) {
-            Some(found) => Some(found.value),
-            None => None,
-        };
-        let found2 = match map.get2(&keys.key2) {
-            Some(found) => Some(found.value),
-            None => None,
-        };
-        assert_eq!(rt; [found1, found2], [value, value], "get1 and get2 of {key1}");
+    for ((key1, key2, _), value) in &ITEMS {
+        let keys = pair_of(counts, (*key1, *key2))?;
+        let found = found_by_two(map, &keys);
+        drop(keys);
+        assert_eq!(rt; found, [*value, *value], "get1 and get2 of {key1}");
     }
     Ok(())
 }
@@ -68,12 +79,31 @@ fn close_up_three(
     counts: &Rc<Counts>,
     map: &mut TriHashMap<Triple, OwnHash>,
 ) -> Result<(), AllocError> {
-    for (numbers, _) in ITEMS {
-        assert!(rt; map.insert_unique(triple_of(counts, numbers)?).is_ok());
+    for (numbers, _) in &ITEMS {
+        assert!(rt; tri_calls::goes_in(map, counts, *numbers)?);
     }
     let first = triple_of(counts, (7, 6, 5))?;
-    assert!(rt; map.remove1(&first.key1).is_some());
+    let is_gone = was_found(map.remove1(&first.key1));
+    drop(first);
+    assert!(rt; is_gone);
     Ok(())
+}
+
+/// The values that `get1`, `get2` and `get3` find.
+fn found_by_three(map: &TriHashMap<Triple, OwnHash>, keys: &Triple) -> [Option<u64>; 3] {
+    let found1 = match map.get1(&keys.key1) {
+        Some(found) => Some(found.value),
+        None => None,
+    };
+    let found2 = match map.get2(&keys.key2) {
+        Some(found) => Some(found.value),
+        None => None,
+    };
+    let found3 = match map.get3(&keys.key3) {
+        Some(found) => Some(found.value),
+        None => None,
+    };
+    [found1, found2, found3]
 }
 
 /// Whether `get1`, `get2` and `get3` of the map with three keys find what is left.
@@ -82,23 +112,13 @@ fn check_three(
     counts: &Rc<Counts>,
     map: &TriHashMap<Triple, OwnHash>,
 ) -> Result<(), AllocError> {
-    for (numbers, value) in ITEMS {
-        let keys = triple_of(counts, numbers)?;
-        let found1 = match map.get1(&keys.key1) {
-            Some(found) => Some(found.value),
-            None => None,
-        };
-        let found2 = match map.get2(&keys.key2) {
-            Some(found) => Some(found.value),
-            None => None,
-        };
-        let found3 = match map.get3(&keys.key3) {
-            Some(found) => Some(found.value),
-            None => None,
-        };
+    for (numbers, value) in &ITEMS {
+        let keys = triple_of(counts, *numbers)?;
+        let found = found_by_three(map, &keys);
+        drop(keys);
         assert_eq!(rt;
-            [found1, found2, found3],
-            [value, value, value],
+            found,
+            [*value, *value, *value],
             "get1, get2 and get3 of {}",
             numbers.0
         );

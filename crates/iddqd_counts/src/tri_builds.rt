@@ -75,13 +75,26 @@ pub(crate) fn built<S: BuildHasher + Default + Drop>(
 ) -> Result<Option<usize>, AllocError> {
     let items = three_items(counts, row.last)?;
     Ok(match row.build {
-        Build::FromIter => match TriHashMap::<Triple, S>::from_iter(alloc, items) {
-            Ok(map) => Some(map.len()),
-            Err(_) => None,
-        },
-        Build::FromIterUnique => match TriHashMap::<Triple, S>::from_iter_unique(alloc, items) {
-            Ok(map) => Some(map.len()),
-            Err(_) => None,
-        },
+        Build::FromIter => overwriting::<S>(alloc, items),
+        Build::FromIterUnique => unique::<S>(alloc, items),
     })
+}
+
+fn overwriting<S: BuildHasher + Default + Drop>(
+    alloc: Global,
+    items: [Triple; 3],
+) -> Option<usize> {
+    len_of(TriHashMap::<Triple, S>::from_iter(alloc, items).ok())
+}
+
+fn unique<S: BuildHasher + Default + Drop>(alloc: Global, items: [Triple; 3]) -> Option<usize> {
+    len_of(TriHashMap::<Triple, S>::from_iter_unique(alloc, items).ok())
+}
+
+/// How many items there are in a map, if it was built.
+fn len_of<S: BuildHasher + Drop>(built: Option<TriHashMap<Triple, S>>) -> Option<usize> {
+    let map = built?;
+    let len = map.len();
+    drop(map);
+    Some(len)
 }

@@ -1,6 +1,7 @@
 //! Calls of the three-key map that look for items or put them in, as values. Each is carried out on the map of five
 //! items, and says whether it answered as its name says. No function makes more than a handful of these calls, since
 //! each brings its contract.
+use crate::answers::{was_found, was_granted};
 use crate::counting::Counts;
 use crate::triple::{Numbers, Triple, triple_of};
 use iddqd_tri::{InsertError, TriHashMap};
@@ -17,16 +18,41 @@ pub(crate) fn five<S: BuildHasher + Drop>(
     counts: &Rc<Counts>,
 ) -> Result<TriHashMap<Triple, S>, AllocError> {
     let mut map = TriHashMap::with_hasher(alloc, hash_builder);
-    for numbers in [
+    match fill(rt, &mut map, counts) {
+        Ok(()) => Ok(map),
+        Err(error) => {
+            drop(map);
+            Err(error)
+        }
+    }
+}
+
+/// Puts the five in.
+fn fill<S: BuildHasher>(
+    rt: &impl Abort,
+    map: &mut TriHashMap<Triple, S>,
+    counts: &Rc<Counts>,
+) -> Result<(), AllocError> {
+    for numbers in &[
         (1, 11, 21),
         (2, 12, 22),
         (3, 13, 23),
         (4, 14, 24),
         (5, 15, 25),
     ] {
-        assert!(rt; map.insert_unique(triple_of(counts, numbers)?).is_ok());
+        assert!(rt; goes_in(map, counts, *numbers)?);
     }
-    Ok(map)
+    Ok(())
+}
+
+/// Whether an item of these keys goes in.
+pub(crate) fn goes_in<S: BuildHasher>(
+    map: &mut TriHashMap<Triple, S>,
+    counts: &Rc<Counts>,
+    numbers: Numbers,
+) -> Result<bool, AllocError> {
+    let item = triple_of(counts, numbers)?;
+    Ok(was_granted(map.insert_unique(item), true))
 }
 
 /// The keys that a search goes by.
@@ -79,23 +105,19 @@ fn contains<S: BuildHasher>(map: &TriHashMap<Triple, S>, by: &By, keys: &Triple)
 
 fn gets_mut<S: BuildHasher>(map: &mut TriHashMap<Triple, S>, by: &By, keys: &Triple) -> bool {
     match by {
-        By::Key1 => map.get1_mut(&keys.key1).is_some(),
-        By::Key2 => map.get2_mut(&keys.key2).is_some(),
-        By::Key3 => map.get3_mut(&keys.key3).is_some(),
-        By::All => map
-            .get_mut_unique(&keys.key1, &keys.key2, &keys.key3)
-            .is_some(),
+        By::Key1 => was_found(map.get1_mut(&keys.key1)),
+        By::Key2 => was_found(map.get2_mut(&keys.key2)),
+        By::Key3 => was_found(map.get3_mut(&keys.key3)),
+        By::All => was_found(map.get_mut_unique(&keys.key1, &keys.key2, &keys.key3)),
     }
 }
 
 fn removes<S: BuildHasher>(map: &mut TriHashMap<Triple, S>, by: &By, keys: &Triple) -> bool {
     match by {
-        By::Key1 => map.remove1(&keys.key1).is_some(),
-        By::Key2 => map.remove2(&keys.key2).is_some(),
-        By::Key3 => map.remove3(&keys.key3).is_some(),
-        By::All => map
-            .remove_unique(&keys.key1, &keys.key2, &keys.key3)
-            .is_some(),
+        By::Key1 => was_found(map.remove1(&keys.key1)),
+        By::Key2 => was_found(map.remove2(&keys.key2)),
+        By::Key3 => was_found(map.remove3(&keys.key3)),
+        By::All => was_found(map.remove_unique(&keys.key1, &keys.key2, &keys.key3)),
     }
 }
 
@@ -110,24 +132,42 @@ pub(crate) enum Insert {
     Overwrite(usize),
 }
 
-/// Whether the item goes in as it is to.
+/// Whether an item of these keys goes in as it is to.
 pub(crate) fn puts_in<S: BuildHasher>(
     map: &mut TriHashMap<Triple, S>,
+    counts: &Rc<Counts>,
     insert: &Insert,
-    item: Triple,
-) -> bool {
-    match insert {
-        Insert::Unique => map.insert_unique(item).is_ok(),
-        Insert::Refused(many) => match map.insert_unique(item) {
-            Err(InsertError::Duplicate(refused)) => refused.duplicates().len() == *many,
-            _ => false,
-        },
-        Insert::OrBack(goes_in) => map.insert_or_back(item).is_ok() == *goes_in,
-        Insert::Overwrite(many) => match map.insert_overwrite(item) {
-            Ok(displaced) => displaced.len() == *many,
-            Err(_) => false,
-        },
-    }
+    numbers: Numbers,
+) -> Result<bool, AllocError> {
+    let item = triple_of(counts, numbers)?;
+    Ok(match insert {
+        Insert::Unique => was_granted(map.insert_unique(item), true),
+        Insert::Refused(many) => is_refused(map, item, *many),
+        Insert::OrBack(goes_in) => was_granted(map.insert_or_back(item), *goes_in),
+        Insert::Overwrite(many) => displaces(map, item, *many),
+    })
+}
+
+/// Whether so many items are in the way of this one.
+fn is_refused<S: BuildHasher>(map: &mut TriHashMap<Triple, S>, item: Triple, many: usize) -> bool {
+    let answer = map.insert_unique(item);
+    let is_so = match &answer {
+        Err(InsertError::Duplicate(refused)) => refused.duplicates().len() == many,
+        _ => false,
+    };
+    drop(answer);
+    is_so
+}
+
+/// Whether so many items have to give way to this one.
+fn displaces<S: BuildHasher>(map: &mut TriHashMap<Triple, S>, item: Triple, many: usize) -> bool {
+    let answer = map.insert_overwrite(item);
+    let is_so = match &answer {
+        Ok(displaced) => displaced.len() == many,
+        Err(_) => false,
+    };
+    drop(answer);
+    is_so
 }
 
 /// A call with a list of three items, of which the first two conflict with none.
@@ -148,26 +188,28 @@ pub(crate) fn three_items(counts: &Rc<Counts>, last: Numbers) -> Result<[Triple;
     ])
 }
 
-/// Whether a list of three goes in, or is refused where it is to be.
+/// Whether a list of three goes in, or is refused where it is to be. Its last item has these keys.
 pub(crate) fn extends<S: BuildHasher>(
     map: &mut TriHashMap<Triple, S>,
+    counts: &Rc<Counts>,
     extend: &Extend,
-    items: [Triple; 3],
-) -> bool {
-    match extend {
-        Extend::Overwriting => map.extend(items).is_ok(),
+    last: Numbers,
+) -> Result<bool, AllocError> {
+    let items = three_items(counts, last)?;
+    Ok(match extend {
+        Extend::Overwriting => was_granted(map.extend(items), true),
         Extend::Unique(goes_in) => {
-            let is_in = map.extend_unique(items).is_ok();
-            is_in == *goes_in && map.len() == if *goes_in { 8 } else { 5 }
+            let is_so = was_granted(map.extend_unique(items), *goes_in);
+            is_so && map.len() == if *goes_in { 8 } else { 5 }
         }
         Extend::OneByOne => put_one_by_one(map, items) == 7,
-    }
+    })
 }
 
 /// How many items there are behind one `insert_unique` of each item after another.
 fn put_one_by_one<S: BuildHasher>(map: &mut TriHashMap<Triple, S>, items: [Triple; 3]) -> usize {
     for item in items {
-        let _ = map.insert_unique(item).is_ok();
+        let _ = was_granted(map.insert_unique(item), true);
     }
     map.len()
 }

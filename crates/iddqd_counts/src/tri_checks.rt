@@ -2,7 +2,7 @@
 use crate::builders::{ByItself, ByZero};
 use crate::counting::{Counts, Made, bounds_of, check};
 use crate::tri_builds::{BUILDS, built};
-use crate::tri_calls::{extends, finds, five, puts_in, three_items};
+use crate::tri_calls::{extends, finds, five, puts_in};
 use crate::tri_lending::{enters, writes};
 use crate::tri_lent_rows::LENT;
 use crate::tri_occupied::{holds_each, holds_unique, lends, looks, turns};
@@ -25,19 +25,31 @@ fn answers<S: BuildHasher>(
     numbers: Numbers,
 ) -> Result<bool, AllocError> {
     let keys = triple_of(counts, numbers)?;
-    Ok(match call {
-        Call::Find(search) => finds(map, search, &keys),
-        Call::Miss(search) => !finds(map, search, &keys),
-        Call::Insert(insert) => puts_in(map, insert, keys),
-        Call::Extend(extend) => extends(map, extend, three_items(counts, numbers)?),
-        Call::Enter(enter, given) => enters(map, counts, enter, &keys, triple_of(counts, *given)?),
-        Call::Look(look) => looks(map, counts, look, &keys),
-        Call::Lend(lend) => lends(map, counts, lend, &keys),
-        Call::HoldUnique => holds_unique(map, counts, &keys),
-        Call::HoldEach => holds_each(map, counts, &keys),
-        Call::Turn(turn) => turns(map, counts, turn, &keys),
-        Call::Write(write) => writes(map, counts, write, keys)?,
-    })
+    let is_so = answers_by(map, counts, call, numbers, &keys);
+    drop(keys);
+    is_so
+}
+
+fn answers_by<S: BuildHasher>(
+    map: &mut TriHashMap<Triple, S>,
+    counts: &Rc<Counts>,
+    call: &Call,
+    numbers: Numbers,
+    keys: &Triple,
+) -> Result<bool, AllocError> {
+    match call {
+        Call::Find(search) => Ok(finds(map, search, keys)),
+        Call::Miss(search) => Ok(!finds(map, search, keys)),
+        Call::Insert(insert) => puts_in(map, counts, insert, numbers),
+        Call::Extend(extend) => extends(map, counts, extend, numbers),
+        Call::Enter(enter, given) => enters(map, counts, enter, keys, *given),
+        Call::Look(look) => Ok(looks(map, counts, look, keys)),
+        Call::Lend(lend) => Ok(lends(map, counts, lend, keys)),
+        Call::HoldUnique => Ok(holds_unique(map, counts, keys)),
+        Call::HoldEach => Ok(holds_each(map, counts, keys)),
+        Call::Turn(turn) => Ok(turns(map, counts, turn, keys)),
+        Call::Write(write) => writes(map, counts, write, numbers),
+    }
 }
 
 /// Whether a call on a new map, by keys of these numbers, answers as it is to, and how many keys it compares and
@@ -108,6 +120,16 @@ fn check_calls<S: BuildHasher + Copy>(
         let made = counted(rt, alloc, hash_builder, counts, call, *numbers)?;
         check(rt, name, made, bounds_of(is_own, *alike, *own), *hashes);
     }
+    check_lent(rt, alloc, hash_builder, counts)
+}
+
+/// The calls of entries and guards.
+fn check_lent<S: BuildHasher + Copy>(
+    rt: &impl Abort,
+    alloc: Global,
+    hash_builder: S,
+    counts: &Rc<Counts>,
+) -> Result<(), AllocError> {
     for (name, call, numbers, compared, hashes) in &LENT {
         let made = counted(rt, alloc, hash_builder, counts, call, *numbers)?;
         check(rt, name, made, (*compared, *compared), *hashes);
@@ -153,50 +175,60 @@ fn check_refused(
     hash: u64,
     counts: &Rc<Counts>,
 ) -> Result<(), AllocError> {
-    for last in [3, 65] {
-        let (_, (refused, _)) = counted(
-            rt,
-            alloc,
-            Alike { hash },
-            counts,
-            &REFUSED,
-            (last, 77, 87),
-        )?;
-        let single = counted(
-            rt,
-            alloc,
-            Alike { hash },
-            counts,
-            &ONE_BY_ONE,
-            (last, 77, 87),
-        )?;
-        let (is_so, (single, _)) = single;
+    for last in &[3, 65] {
+        let numbers = (*last, 77, 87);
+        let refused = compared(rt, alloc, hash, counts, &REFUSED, numbers)?;
+        let (is_so, single) = compared(rt, alloc, hash, counts, &ONE_BY_ONE, numbers)?;
         assert!(rt;
-            is_so && refused == single,
-            "extend_unique, {last}: {refused}, {single}"
+            is_so && refused.1 == single,
+            "extend_unique, {last}: {}, {single}",
+            refused.1
         );
     }
     Ok(())
 }
 
+/// Whether a call answers as it is to, and how many keys it compares.
+fn compared(
+    rt: &impl Abort,
+    alloc: Global,
+    hash: u64,
+    counts: &Rc<Counts>,
+    call: &Call,
+    numbers: Numbers,
+) -> Result<(bool, u64), AllocError> {
+    let (is_so, (compared, _)) = counted(rt, alloc, Alike { hash }, counts, call, numbers)?;
+    Ok((is_so, compared))
+}
+
+/// All of these under builders that hash all keys alike.
+fn check_alike(rt: &impl Abort, alloc: Global, counts: &Rc<Counts>) -> Result<(), AllocError> {
+    for hash in [18446744073709551615, 0] {
+        check_searches(rt, alloc, Alike { hash }, counts, false)?;
+        check_calls(rt, alloc, Alike { hash }, counts, false)?;
+        check_wholes(rt, alloc, hash, counts)?;
+        check_refused(rt, alloc, hash, counts)?;
+    }
+    check_builds::<ByZero>(rt, alloc, counts, false)
+}
+
+/// Those that do not ask for keys that are hashed alike, under builders that give each key its own hash.
+fn check_own(rt: &impl Abort, alloc: Global, counts: &Rc<Counts>) -> Result<(), AllocError> {
+    check_searches(rt, alloc, OwnHash, counts, true)?;
+    check_calls(rt, alloc, OwnHash, counts, true)?;
+    check_builds::<ByItself>(rt, alloc, counts, true)
+}
+
 #[test]
 fn three_keys_hashed_alike(rt: HostRuntime) -> Result<(), Fail> {
     let counts = Rc::new(rt.alloc(), Counts::new())?;
-    for hash in [18446744073709551615, 0] {
-        check_searches(&rt, rt.alloc(), Alike { hash }, &counts, false)?;
-        check_calls(&rt, rt.alloc(), Alike { hash }, &counts, false)?;
-        check_wholes(&rt, rt.alloc(), hash, &counts)?;
-        check_refused(&rt, rt.alloc(), hash, &counts)?;
-    }
-    check_builds::<ByZero>(&rt, rt.alloc(), &counts, false)?;
+    check_alike(&rt, rt.alloc(), &counts)?;
     Ok(())
 }
 
 #[test]
 fn three_keys_hashed_to_themselves(rt: HostRuntime) -> Result<(), Fail> {
     let counts = Rc::new(rt.alloc(), Counts::new())?;
-    check_searches(&rt, rt.alloc(), OwnHash, &counts, true)?;
-    check_calls(&rt, rt.alloc(), OwnHash, &counts, true)?;
-    check_builds::<ByItself>(&rt, rt.alloc(), &counts, true)?;
+    check_own(&rt, rt.alloc(), &counts)?;
     Ok(())
 }

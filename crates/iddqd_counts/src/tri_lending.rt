@@ -1,7 +1,9 @@
 //! Entries of the three-key map, and items that it lends for writing. The counts start again once it has lent them.
+use crate::answers::was_granted;
 use crate::counting::Counts;
-use crate::triple::{Triple, triple_of};
-use iddqd_tri::{Entry, TriHashMap};
+use crate::tri_occupied::occupied_of;
+use crate::triple::{Numbers, Triple, triple_of};
+use iddqd_tri::{Entry, TriHashMap, VacantEntry};
 use std::alloc::AllocError;
 use std::hash::BuildHasher;
 use std::rc::Rc;
@@ -41,46 +43,68 @@ pub(crate) enum Occupied {
     ForEach,
 }
 
-/// Whether the entry of these keys does what it is to do with the item.
+/// Whether the entry of these keys does what it is to do with an item of those that are given.
 pub(crate) fn enters<S: BuildHasher>(
     map: &mut TriHashMap<Triple, S>,
     counts: &Rc<Counts>,
     enter: &Enter,
     keys: &Triple,
-    item: Triple,
-) -> bool {
-    match enter {
-        Enter::Made(occupied) => match map.entry(&keys.key1, &keys.key2, &keys.key3) {
-            Entry::Vacant(_) => !*occupied,
-            Entry::Occupied(_) => *occupied,
-        },
+    given: Numbers,
+) -> Result<bool, AllocError> {
+    let item = triple_of(counts, given)?;
+    Ok(match enter {
+        Enter::Made(occupied) => {
+            drop(item);
+            is_occupied(&map.entry(&keys.key1, &keys.key2, &keys.key3)) == *occupied
+        }
         Enter::Vacant(vacant) => enters_vacant(map, counts, vacant, keys, item),
         Enter::Either(either) => enters_either(map, counts, either, keys, item),
         Enter::Occupied(occupied) => enters_occupied(map, counts, occupied, keys, item),
+    })
+}
+
+fn is_occupied<S: BuildHasher>(entry: &Entry<'_, Triple, S>) -> bool {
+    match entry {
+        Entry::Vacant(_) => false,
+        Entry::Occupied(_) => true,
+    }
+}
+
+/// The entry of these keys, where it is vacant. The counts start again.
+fn vacant_of<'a, S: BuildHasher>(
+    map: &'a mut TriHashMap<Triple, S>,
+    counts: &Counts,
+    keys: &'a Triple,
+) -> Option<VacantEntry<'a, Triple, S>> {
+    let entry = map.entry(&keys.key1, &keys.key2, &keys.key3);
+    counts.reset();
+    match entry {
+        Entry::Vacant(entry) => Some(entry),
+        Entry::Occupied(_) => None,
     }
 }
 
 fn enters_vacant<S: BuildHasher>(
     map: &mut TriHashMap<Triple, S>,
-    counts: &Rc<Counts>,
+    counts: &Counts,
     vacant: &Vacant,
     keys: &Triple,
     item: Triple,
 ) -> bool {
-    let Entry::Vacant(entry) = map.entry(&keys.key1, &keys.key2, &keys.key3) else {
+    let Some(entry) = vacant_of(map, counts, keys) else {
+        drop(item);
         return false;
     };
-    counts.reset();
     match vacant {
-        Vacant::Insert(granted) => entry.insert(item).is_ok() == *granted,
-        Vacant::InsertMut(granted) => entry.insert_mut(item).is_ok() == *granted,
-        Vacant::InsertEntry(granted) => entry.insert_entry(item).is_ok() == *granted,
+        Vacant::Insert(granted) => was_granted(entry.insert(item), *granted),
+        Vacant::InsertMut(granted) => was_granted(entry.insert_mut(item), *granted),
+        Vacant::InsertEntry(granted) => was_granted(entry.insert_entry(item), *granted),
     }
 }
 
 fn enters_either<S: BuildHasher>(
     map: &mut TriHashMap<Triple, S>,
-    counts: &Rc<Counts>,
+    counts: &Counts,
     either: &Either,
     keys: &Triple,
     item: Triple,
@@ -88,32 +112,37 @@ fn enters_either<S: BuildHasher>(
     let entry = map.entry(&keys.key1, &keys.key2, &keys.key3);
     counts.reset();
     match either {
-        Either::OrInsert(granted) => entry.or_insert(item).is_ok() == *granted,
-        Either::OrInsertWith(granted) => entry.or_insert_with(|| item).is_ok() == *granted,
+        Either::OrInsert(granted) => was_granted(entry.or_insert(item), *granted),
+        Either::OrInsertWith(granted) => was_granted(entry.or_insert_with(|| item), *granted),
         Either::AndModify(occupied) => {
-            match entry.and_modify(|found| found.value.wrapping_add(1)) {
-                Entry::Vacant(_) => !*occupied,
-                Entry::Occupied(_) => *occupied,
-            }
+            drop(item);
+            is_occupied(&entry.and_modify(|found| found.value.wrapping_add(1))) == *occupied
         }
     }
 }
 
 fn enters_occupied<S: BuildHasher>(
     map: &mut TriHashMap<Triple, S>,
-    counts: &Rc<Counts>,
+    counts: &Counts,
     occupied: &Occupied,
     keys: &Triple,
     item: Triple,
 ) -> bool {
-    let Entry::Occupied(mut entry) = map.entry(&keys.key1, &keys.key2, &keys.key3) else {
+    let Some(mut entry) = occupied_of(map, counts, keys) else {
+        drop(item);
         return false;
     };
-    counts.reset();
     match occupied {
-        Occupied::Insert(granted) => entry.insert(item).is_ok() == *granted,
-        Occupied::Remove => entry.remove().len() == 3,
+        Occupied::Insert(granted) => was_granted(entry.insert(item), *granted),
+        Occupied::Remove => {
+            drop(item);
+            let gone = entry.remove();
+            let is_so = gone.len() == 3;
+            drop(gone);
+            is_so
+        }
         Occupied::ForEach => {
+            drop(item);
             entry
                 .into_mut()
                 .for_each(|found| found.value.wrapping_add(1));
@@ -131,27 +160,62 @@ pub(crate) enum Write {
     Replace(bool),
 }
 
-/// Whether the first item is written, or replaced by this one.
+/// Whether the first item is written, or replaced by one of these keys.
 pub(crate) fn writes<S: BuildHasher>(
     map: &mut TriHashMap<Triple, S>,
     counts: &Rc<Counts>,
     write: &Write,
-    item: Triple,
+    numbers: Numbers,
 ) -> Result<bool, AllocError> {
     let first = triple_of(counts, (1, 11, 21))?;
+    let is_so = match write {
+        Write::Read => Ok(is_read(map, counts, &first)),
+        Write::DataMut => Ok(is_set(map, counts, &first)),
+        Write::Replace(granted) => is_replaced(map, counts, &first, numbers, *granted),
+    };
+    drop(first);
+    is_so
+}
+
+fn is_read<S: BuildHasher>(
+    map: &mut TriHashMap<Triple, S>,
+    counts: &Counts,
+    first: &Triple,
+) -> bool {
+    let Some(found) = map.get1_mut(&first.key1) else {
+        return false;
+    };
+    counts.reset();
+    let value = found.value;
+    found.into_ref().value == value
+}
+
+fn is_set<S: BuildHasher>(
+    map: &mut TriHashMap<Triple, S>,
+    counts: &Counts,
+    first: &Triple,
+) -> bool {
     let Some(mut found) = map.get1_mut(&first.key1) else {
+        return false;
+    };
+    counts.reset();
+    *found.data_mut() = 0;
+    true
+}
+
+/// Whether it is replaced, or not, as it is to be.
+fn is_replaced<S: BuildHasher>(
+    map: &mut TriHashMap<Triple, S>,
+    counts: &Rc<Counts>,
+    first: &Triple,
+    numbers: Numbers,
+    granted: bool,
+) -> Result<bool, AllocError> {
+    let item = triple_of(counts, numbers)?;
+    let Some(mut found) = map.get1_mut(&first.key1) else {
+        drop(item);
         return Ok(false);
     };
     counts.reset();
-    Ok(match write {
-        Write::Read => {
-            let value = found.value;
-            found.into_ref().value == value
-        }
-        Write::DataMut => {
-            *found.data_mut() = 0;
-            true
-        }
-        Write::Replace(granted) => found.replace(item).is_ok() == *granted,
-    })
+    Ok(was_granted(found.replace(item), granted))
 }

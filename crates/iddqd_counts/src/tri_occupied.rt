@@ -1,9 +1,12 @@
 //! What an occupied entry of the three-key map lends. The counts start again once the entry is made.
+ghost use Rattle.std.specs.Option.{IfSome};
+ghost use Rattle.iddqd_tri.specs.Entries.{HasFound, Holds};
+
+use crate::answers::was_found;
 use crate::counting::Counts;
 use crate::triple::Triple;
-use iddqd_tri::{Entry, TriHashMap};
+use iddqd_tri::{Entry, OccupiedEntry, OccupiedEntryMut, Ranked, TriHashMap};
 use std::hash::BuildHasher;
-use std::rc::Rc;
 
 /// What an entry lends for reading.
 pub(crate) enum Look {
@@ -29,17 +32,46 @@ pub(crate) enum Turn {
     IntoByKey3,
 }
 
+/// The entry of these keys, where it is occupied. The counts start again.
+pub(crate) fn occupied_of<'a, S: BuildHasher>(
+    map: &'a mut TriHashMap<Triple, S>,
+    counts: &Counts,
+    keys: &'a Triple,
+) -> Option<OccupiedEntry<'a, Triple, S>>
+    ensures { IfSome result (HasFound ⟦<Triple as Ranked>⟧.key_tests) }
+{
+    let entry = map.entry(&keys.key1, &keys.key2, &keys.key3);
+    counts.reset();
+    match entry {
+        Entry::Vacant(_) => None,
+        Entry::Occupied(entry) => Some(entry),
+    }
+}
+
+/// What it lends for writing, where it is occupied. The counts start again once the entry is made.
+fn held_by<'a, S: BuildHasher>(
+    map: &'a mut TriHashMap<Triple, S>,
+    counts: &Counts,
+    keys: &'a Triple,
+) -> Option<OccupiedEntryMut<'a, Triple, S>>
+    ensures { IfSome result Holds }
+{
+    match occupied_of(map, counts, keys) {
+        Some(entry) => Some(entry.into_mut()),
+        None => None,
+    }
+}
+
 /// Whether the entry of these keys lends the one item that has all, for reading.
 pub(crate) fn looks<S: BuildHasher>(
     map: &mut TriHashMap<Triple, S>,
-    counts: &Rc<Counts>,
+    counts: &Counts,
     look: &Look,
     keys: &Triple,
 ) -> bool {
-    let Entry::Occupied(entry) = map.entry(&keys.key1, &keys.key2, &keys.key3) else {
+    let Some(entry) = occupied_of(map, counts, keys) else {
         return false;
     };
-    counts.reset();
     match look {
         Look::Get => entry.is_unique() && !entry.is_non_unique() && entry.get().is_unique(),
         Look::IntoRef => entry.into_ref().is_unique(),
@@ -49,67 +81,60 @@ pub(crate) fn looks<S: BuildHasher>(
 /// Whether it lends that item for writing.
 pub(crate) fn lends<S: BuildHasher>(
     map: &mut TriHashMap<Triple, S>,
-    counts: &Rc<Counts>,
+    counts: &Counts,
     lend: &Lend,
     keys: &Triple,
 ) -> bool {
-    let Entry::Occupied(mut entry) = map.entry(&keys.key1, &keys.key2, &keys.key3) else {
+    let Some(mut entry) = occupied_of(map, counts, keys) else {
         return false;
     };
-    counts.reset();
     match lend {
-        Lend::GetMut => entry.get_mut().as_unique().is_some(),
-        Lend::Data1Mut => entry.data1_mut().is_some(),
-        Lend::Data2Mut => entry.data2_mut().is_some(),
-        Lend::Data3Mut => entry.data3_mut().is_some(),
+        Lend::GetMut => was_found(entry.get_mut().as_unique()),
+        Lend::Data1Mut => was_found(entry.data1_mut()),
+        Lend::Data2Mut => was_found(entry.data2_mut()),
+        Lend::Data3Mut => was_found(entry.data3_mut()),
     }
 }
 
 /// Whether what `into_mut` holds is one item, by `is_unique`, `is_non_unique` and `as_unique`.
 pub(crate) fn holds_unique<S: BuildHasher>(
     map: &mut TriHashMap<Triple, S>,
-    counts: &Rc<Counts>,
+    counts: &Counts,
     keys: &Triple,
 ) -> bool {
-    let Entry::Occupied(entry) = map.entry(&keys.key1, &keys.key2, &keys.key3) else {
+    let Some(mut found) = held_by(map, counts, keys) else {
         return false;
     };
-    counts.reset();
-    let mut found = entry.into_mut();
     let is_unique = found.is_unique() && !found.is_non_unique();
-    is_unique && found.as_unique().is_some()
+    is_unique && was_found(found.as_unique())
 }
 
 /// Whether what `into_mut` holds lends that item by `by_key1`, `by_key2` and `by_key3`.
 pub(crate) fn holds_each<S: BuildHasher>(
     map: &mut TriHashMap<Triple, S>,
-    counts: &Rc<Counts>,
+    counts: &Counts,
     keys: &Triple,
 ) -> bool {
-    let Entry::Occupied(entry) = map.entry(&keys.key1, &keys.key2, &keys.key3) else {
+    let Some(mut found) = held_by(map, counts, keys) else {
         return false;
     };
-    counts.reset();
-    let mut found = entry.into_mut();
-    found.by_key1().is_some() && found.by_key2().is_some() && found.by_key3().is_some()
+    was_found(found.by_key1()) && was_found(found.by_key2()) && was_found(found.by_key3())
 }
 
 /// Whether what `into_mut` holds turns into that item.
 pub(crate) fn turns<S: BuildHasher>(
     map: &mut TriHashMap<Triple, S>,
-    counts: &Rc<Counts>,
+    counts: &Counts,
     turn: &Turn,
     keys: &Triple,
 ) -> bool {
-    let Entry::Occupied(entry) = map.entry(&keys.key1, &keys.key2, &keys.key3) else {
+    let Some(found) = held_by(map, counts, keys) else {
         return false;
     };
-    counts.reset();
-    let found = entry.into_mut();
     match turn {
-        Turn::IntoUnique => found.into_unique().is_some(),
-        Turn::IntoByKey1 => found.into_by_key1().is_some(),
-        Turn::IntoByKey2 => found.into_by_key2().is_some(),
-        Turn::IntoByKey3 => found.into_by_key3().is_some(),
+        Turn::IntoUnique => was_found(found.into_unique()),
+        Turn::IntoByKey1 => was_found(found.into_by_key1()),
+        Turn::IntoByKey2 => was_found(found.into_by_key2()),
+        Turn::IntoByKey3 => was_found(found.into_by_key3()),
     }
 }

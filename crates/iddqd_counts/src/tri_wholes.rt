@@ -50,11 +50,7 @@ pub(crate) fn does(map: &mut TriHashMap<Triple, Alike>, counts: &Rc<Counts>, len
         Lent::Capacity => map.capacity() >= 5,
         Lent::Walk(walk) => passed(map, walk) == 5,
         Lent::Room(room) => is_granted(map, room),
-        Lent::Retain(keeps) => {
-            let keeps = *keeps;
-            map.retain(|_| keeps);
-            map.len() == if keeps { 5 } else { 0 }
-        }
+        Lent::Retain(keeps) => are_retained(map, *keeps),
         Lent::Clear => {
             map.clear();
             map.len() == 0
@@ -64,20 +60,29 @@ pub(crate) fn does(map: &mut TriHashMap<Triple, Alike>, counts: &Rc<Counts>, len
     }
 }
 
+/// Whether each item stays, or none.
+fn are_retained(map: &mut TriHashMap<Triple, Alike>, keeps: bool) -> bool {
+    map.retain(|_| keeps);
+    map.len() == if keeps { 5 } else { 0 }
+}
+
 /// How many items a walk passes.
 fn passed<S: BuildHasher>(map: &mut TriHashMap<Triple, S>, walk: &Walk) -> usize {
     match walk {
         Walk::Iter => map.iter().count(),
         Walk::NextMut => lent_by_a_walk(map),
-        Walk::NextData => {
-            let mut items = map.iter_mut();
-            if items.next_data().is_none() || items.len() != items.count_remaining() {
-                return 0;
-            }
-            items.len().wrapping_add(1)
-        }
+        Walk::NextData => lent_and_to_come(map),
         Walk::NextFrom => lent_by_a_cursor(map),
     }
+}
+
+/// How many items there are by what a walk says behind its first step, and by what it counts.
+fn lent_and_to_come<S: BuildHasher>(map: &mut TriHashMap<Triple, S>) -> usize {
+    let mut items = map.iter_mut();
+    if items.next_data().is_none() || items.len() != items.count_remaining() {
+        return 0;
+    }
+    items.len().wrapping_add(1)
 }
 
 /// How many items a cursor lends until there are no more, at most nine.
