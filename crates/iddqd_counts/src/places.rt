@@ -7,7 +7,7 @@ use crate::{bi_calls, tri_calls};
 use iddqd_bi::BiHashMap;
 use iddqd_builders::OwnHash;
 use iddqd_tri::TriHashMap;
-use std::alloc::AllocError;
+use std::alloc::{AllocError, Global};
 use std::process::Abort;
 use std::rc::Rc;
 use std::test::Fail;
@@ -64,13 +64,28 @@ fn check_two(
     Ok(())
 }
 
+/// Closes up, and finds what is left.
+fn fill_and_check_two(
+    rt: &impl Abort,
+    counts: &Rc<Counts>,
+    map: &mut BiHashMap<Pair, OwnHash>,
+) -> Result<(), AllocError> {
+    close_up_two(rt, counts, map)?;
+    check_two(rt, counts, map)
+}
+
+/// The same on a new map with two keys.
+fn try_two(rt: &impl Abort, alloc: Global, counts: &Rc<Counts>) -> Result<(), Fail> {
+    let mut map = BiHashMap::with_capacity_and_hasher(alloc, 7, OwnHash)?;
+    let answer = fill_and_check_two(rt, counts, &mut map);
+    drop(map);
+    Ok(answer?)
+}
+
 #[test]
 fn a_removal_closes_up_two_keys(rt: HostRuntime) -> Result<(), Fail> {
     let counts = Rc::new(rt.alloc(), Counts::new())?;
-    let mut map = BiHashMap::with_capacity_and_hasher(rt.alloc(), 7, OwnHash)?;
-    close_up_two(&rt, &counts, &mut map)?;
-    check_two(&rt, &counts, &map)?;
-    Ok(())
+    try_two(&rt, rt.alloc(), &counts)
 }
 
 /// Puts the items into a map with three keys, and takes the first one out.
@@ -126,11 +141,26 @@ fn check_three(
     Ok(())
 }
 
+/// Closes up, and finds what is left.
+fn fill_and_check_three(
+    rt: &impl Abort,
+    counts: &Rc<Counts>,
+    map: &mut TriHashMap<Triple, OwnHash>,
+) -> Result<(), AllocError> {
+    close_up_three(rt, counts, map)?;
+    check_three(rt, counts, map)
+}
+
+/// The same on a new map with three keys.
+fn try_three(rt: &impl Abort, alloc: Global, counts: &Rc<Counts>) -> Result<(), Fail> {
+    let mut map = TriHashMap::with_capacity_and_hasher(alloc, 7, OwnHash)?;
+    let answer = fill_and_check_three(rt, counts, &mut map);
+    drop(map);
+    Ok(answer?)
+}
+
 #[test]
 fn a_removal_closes_up_three_keys(rt: HostRuntime) -> Result<(), Fail> {
     let counts = Rc::new(rt.alloc(), Counts::new())?;
-    let mut map = TriHashMap::with_capacity_and_hasher(rt.alloc(), 7, OwnHash)?;
-    close_up_three(&rt, &counts, &mut map)?;
-    check_three(&rt, &counts, &map)?;
-    Ok(())
+    try_three(&rt, rt.alloc(), &counts)
 }
