@@ -2,24 +2,27 @@
 ghost use Rattle.std.specs.Prelude.{⊤};
 
 use crate::row::Row;
-use crate::worked::{Answer, ONE, TWO, refused_list, row};
+use crate::worked::{Answer, ONE, TWO, pair, refused_list, row};
 use iddqd_bi::{BiCommand, BiHashMap, BiReply, BiSink, DefaultHashBuilder, ExtendUniqueReason};
 use iddqd_builders::Alike;
+use iddqd_store::UpToTwo;
 use std::alloc::{AllocError, Global};
 use std::hash::BuildHasher;
 use std::test::*;
 
+/// The items that a short list lends.
+fn lent_pair(found: &UpToTwo<&Row>) -> [Option<Row>; 2] {
+    [
+        found.get(0).copied().copied(),
+        found.get(1).copied().copied(),
+    ]
+}
+
 fn hear(reply: BiReply<'_, Row>) -> Answer {
     match reply {
         BiReply::Done => Answer::Done,
-        BiReply::Duplicate(refused) => {
-            let found = refused.duplicates();
-            Answer::Duplicate([
-                found.get(0).copied().copied(),
-                found.get(1).copied().copied(),
-            ])
-        }
-        BiReply::Displaced(items) => { Answer::In([items.get(0).copied(), items.get(1).copied()]) }
+        BiReply::Duplicate(refused) => Answer::Duplicate(lent_pair(refused.duplicates())),
+        BiReply::Displaced(items) => Answer::In(pair(items)),
         BiReply::Found(item) => Answer::Found(item.copied()),
         BiReply::Present(answer) => Answer::Present(answer),
         BiReply::Taken(item) => Answer::Taken(item),
@@ -175,20 +178,24 @@ fn answer<S: BuildHasher>(
     }
 }
 
-/// The place of the first command that is answered otherwise, on the empty map of this builder.
-fn first_wrong<S: BuildHasher + Drop>(
-    alloc: Global,
-    hash_builder: S,
+/// Whether a command is answered so.
+fn is_answered<S: BuildHasher>(
+    map: &mut BiHashMap<Row, S>,
+    (command, wanted): Answered,
+    sink: &mut Listener,
+) -> bool {
+    answer(map, command, sink) == Some(wanted)
+}
+
+/// The place of the first command that is answered otherwise.
+fn first_wrong<S: BuildHasher>(
+    map: &mut BiHashMap<Row, S>,
     rows: Vec<Answered>,
+    sink: &mut Listener,
 ) -> Option<usize> {
-    let mut map = BiHashMap::with_hasher(alloc, hash_builder);
-    let mut sink = Listener {
-        heard: Vec::new(alloc),
-        most: 1,
-    };
     let mut at: usize = 0;
-    for (command, wanted) in rows {
-        if answer(&mut map, command, &mut sink) != Some(wanted) {
+    for row in rows {
+        if !is_answered(map, row, sink) {
             return Some(at);
         }
         at = at.wrapping_add(1);
@@ -196,24 +203,55 @@ fn first_wrong<S: BuildHasher + Drop>(
     None
 }
 
-/// The first wrong place of each table, on empty maps of this builder.
-fn first_wrongs<S: BuildHasher + Copy + Drop>(
+/// A sink that takes so many replies well.
+fn sink_of(alloc: Global, most: usize) -> Listener {
+    Listener {
+        heard: Vec::new(alloc),
+        most,
+    }
+}
+
+fn items(alloc: Global) -> Result<Vec<Answered>, AllocError> {
+    Ok(Vec::from_array(alloc, ITEMS)?)
+}
+
+fn writes(alloc: Global) -> Result<Vec<Answered>, AllocError> {
+    Ok(Vec::from_array(alloc, WRITES)?)
+}
+
+fn room(alloc: Global) -> Result<Vec<Answered>, AllocError> {
+    Ok(Vec::from_array(alloc, ROOM)?)
+}
+
+/// The commands of the table at this place.
+fn table(alloc: Global, at: usize) -> Result<Vec<Answered>, AllocError> {
+    match at {
+        0 => items(alloc),
+        1 => writes(alloc),
+        _ => room(alloc),
+    }
+}
+
+/// The first wrong place of a table, on the empty map of this builder.
+fn first_wrong_of<S: BuildHasher + Drop>(
     alloc: Global,
     hash_builder: S,
-) -> Result<[Option<usize>; 3], AllocError> {
-    Ok([
-        first_wrong(alloc, hash_builder, Vec::from_array(alloc, ITEMS)?),
-        first_wrong(alloc, hash_builder, Vec::from_array(alloc, WRITES)?),
-        first_wrong(alloc, hash_builder, Vec::from_array(alloc, ROOM)?),
-    ])
+    rows: Vec<Answered>,
+) -> Option<usize> {
+    let mut map = BiHashMap::with_hasher(alloc, hash_builder);
+    first_wrong(&mut map, rows, &mut sink_of(alloc, 1))
 }
 
 #[test]
 fn commands_are_answered(rt: HostRuntime) -> Result<(), Fail> {
     let alloc = rt.alloc();
-    assert!(rt; first_wrongs(alloc, DefaultHashBuilder::default())? == [None; 3]);
-    for hash in [0, 3, 18446744073709551615] {
-        assert!(rt; first_wrongs(alloc, Alike { hash })? == [None; 3]);
+    for at in 0..3 {
+        let rows = table(alloc, at)?;
+        assert!(rt; first_wrong_of(alloc, DefaultHashBuilder::default(), rows) == None);
+        for hash in [0, 3, 18446744073709551615] {
+            let rows = table(alloc, at)?;
+            assert!(rt; first_wrong_of(alloc, Alike { hash }, rows) == None);
+        }
     }
     Ok(())
 }
@@ -309,16 +347,11 @@ const CLASH: Option<Answer> = Some(Answer::ExtendRefused((
 
 const ABSENT: Option<Answer> = Some(Answer::Present(false));
 
-/// Lists of commands, how many replies are taken well, how the run on the empty map ends then, all replies, and what is
+/// A list of commands, how many replies are taken well, how the run on the empty map ends then, all replies, and what is
 /// left of the map.
-const RUNS: [(List, usize, Result<(), bool>, Replies, Left); 7] = [
-    (
-        List::Empty,
-        0,
-        Ok(()),
-        [None, None, None, None, None, None],
-        (0, None, None),
-    ),
+type Run = (List, usize, Result<(), bool>, Replies, Left);
+
+const FAULTS: [Run; 4] = [
     (
         List::Four,
         0,
@@ -347,6 +380,17 @@ const RUNS: [(List, usize, Result<(), bool>, Replies, Left); 7] = [
         [DONE, DONE, TAKEN, DONE, None, None],
         (0, None, None),
     ),
+];
+
+/// The same of runs without a fault.
+const ENDED: [Run; 3] = [
+    (
+        List::Empty,
+        0,
+        Ok(()),
+        [None, None, None, None, None, None],
+        (0, None, None),
+    ),
     (
         List::Extending,
         5,
@@ -363,19 +407,34 @@ const RUNS: [(List, usize, Result<(), bool>, Replies, Left); 7] = [
     ),
 ];
 
+/// Whether a run of these commands ends so on the empty map, and leaves what it should.
+fn ends_so(
+    alloc: Global,
+    commands: Vec<BiCommand<Row>>,
+    (_, most, ended, replies, wanted): &Run,
+) -> bool {
+    let mut map = BiHashMap::new(alloc);
+    let sink = sink_of(alloc, *most);
+    runs(&mut map, commands, sink, *ended, replies) && left(&map) == *wanted
+}
+
+/// Whether each run ends as it should.
+fn end_so(alloc: Global, runs: &[Run]) -> Result<bool, AllocError> {
+    let mut is_right = true;
+    for run in runs {
+        is_right = is_right && ends_so(alloc, listing(alloc, &run.0)?, run);
+    }
+    Ok(is_right)
+}
+
 #[test]
 fn runs_end_at_the_first_fault(rt: HostRuntime) -> Result<(), Fail> {
-    for (list, most, ended, replies, wanted) in &RUNS {
-        let commands = listing(rt.alloc(), list)?;
-        let mut map = BiHashMap::new(rt.alloc());
-        let sink = Listener {
-            heard: Vec::new(rt.alloc()),
-            most: *most,
-        };
-        assert!(rt;
-            runs(&mut map, commands, sink, *ended, replies) && left(&map) == *wanted,
-            "of {most} replies"
-        );
-    }
+    assert!(rt; end_so(rt.alloc(), &FAULTS)?);
+    Ok(())
+}
+
+#[test]
+fn runs_without_a_fault_end(rt: HostRuntime) -> Result<(), Fail> {
+    assert!(rt; end_so(rt.alloc(), &ENDED)?);
     Ok(())
 }

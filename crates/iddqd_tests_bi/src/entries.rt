@@ -9,6 +9,7 @@ use iddqd_bi::{
 };
 use iddqd_builders::Alike;
 use iddqd_store::UpToTwo;
+use std::alloc::Global;
 use std::hash::{BuildHasher, Hash};
 use std::process::Abort;
 use std::test::*;
@@ -56,14 +57,23 @@ fn insert_both<S: BuildHasher>(
 ) -> Option<Inserted> {
     match map.entry(&key1, &key2) {
         Entry::Vacant(_) => None,
-        Entry::Occupied(mut found) => {
-            let before = seen(found.get());
-            let first = answer_of(insert_at(&mut found, items[0]));
-            let second = answer_of(insert_at(&mut found, items[1]));
-            let says = [found.is_unique(), found.is_non_unique()];
-            Some((before, [first, second], says, seen(found.into_ref())))
-        }
+        Entry::Occupied(found) => Some(insert_each(found, items)),
     }
+}
+
+fn insert_each<S: BuildHasher>(
+    mut found: OccupiedEntry<'_, Row, S>,
+    items: [Row; 2],
+) -> Inserted
+    requires { HasFound ⟦<Row as Ranked>⟧.key_tests found }
+{
+    let before = seen(found.get());
+    let answers = [
+        answer_of(insert_at(&mut found, items[0])),
+        answer_of(insert_at(&mut found, items[1])),
+    ];
+    let says = [found.is_unique(), found.is_non_unique()];
+    (before, answers, says, seen(found.into_ref()))
 }
 
 /// The items that two keys found and that are taken out.
@@ -93,7 +103,9 @@ const HIGH: Row = row!(9, 21, 0);
 const BESIDE: Row = row!(1, 98, 0);
 
 /// On the map of two: two keys, the items that are inserted there, what that answers, and what the map has then.
-const OVERWRITES: [((u64, u64), [Row; 2], Inserted, [Option<Row>; 2]); 3] = [
+type Overwrite = ((u64, u64), [Row; 2], Inserted, [Option<Row>; 2]);
+
+const OVERWRITES: [Overwrite; 3] = [
     (
         (1, 20),
         [LOW, NEW],
@@ -129,18 +141,27 @@ const OVERWRITES: [((u64, u64), [Row; 2], Inserted, [Option<Row>; 2]); 3] = [
     ),
 ];
 
-fn occupied<S: BuildHasher>(map: &mut BiHashMap<Row, S>) -> bool {
-    let mut is_right = reset(map);
-    let capacity = map.capacity();
-    for (keys, items, wanted, left) in OVERWRITES {
-        is_right = is_right && reset(map) && insert_both(map, keys, items) == Some(wanted);
-        is_right = is_right && by_first(map) == left && map.capacity() == capacity;
-    }
-    is_right
-        && reset(map)
+fn is_overwritten<S: BuildHasher>(
+    map: &mut BiHashMap<Row, S>,
+    (keys, items, wanted, left): &Overwrite,
+) -> bool {
+    reset(map) && insert_both(map, *keys, *items) == Some(*wanted) && by_first(map) == *left
+}
+
+fn is_taken_out<S: BuildHasher>(map: &mut BiHashMap<Row, S>) -> bool {
+    reset(map)
         && take_out(map, 1, 99) == Some([Some(ONE), None])
         && map.len() == 1
         && map.get2(&10).is_none()
+}
+
+fn occupied<S: BuildHasher>(map: &mut BiHashMap<Row, S>) -> bool {
+    let mut is_right = reset(map);
+    let capacity = map.capacity();
+    for overwrite in &OVERWRITES {
+        is_right = is_right && is_overwritten(map, overwrite) && map.capacity() == capacity;
+    }
+    is_right && is_taken_out(map)
 }
 
 /// What becomes of an item that `insert` puts into a vacant entry.
@@ -166,14 +187,19 @@ fn insert_entry<S: BuildHasher>(
 ) -> Answer {
     match map.entry(&key1, &key2) {
         Entry::Vacant(entry) => match entry.insert_entry(item) {
-            Ok(found) => {
-                let first = found.get().as_unique().copied();
-                Answer::In([first, found.into_ref().as_unique().copied()])
-            }
+            Ok(found) => twice_unique(found),
             Err(error) => refusal(error.into_error()),
         },
         Entry::Occupied(_) => Answer::Absent(item),
     }
+}
+
+/// The one item that has both keys, while the entry stays and once it is gone.
+fn twice_unique<S: BuildHasher>(found: OccupiedEntry<'_, Row, S>) -> Answer
+    requires { HasFound ⟦<Row as Ranked>⟧.key_tests found }
+{
+    let first = found.get().as_unique().copied();
+    Answer::In([first, found.into_ref().as_unique().copied()])
 }
 
 /// What becomes of an item that `or_insert` puts in: what is lent as the one item that has both keys, while the entry
@@ -225,8 +251,8 @@ fn is_filled<S: BuildHasher>(map: &mut BiHashMap<Row, S>, way: &Way) -> bool {
     put_in(map, (5, 50), way, OTHER) == Answer::Key(1, OTHER)
         && map.len() == 0
         && put_in(map, (5, 50), way, ITEM) == Answer::In([Some(ITEM); 2])
-        && map.get1(&5).copied() == Some(ITEM)
-        && map.get2(&50).copied() == Some(ITEM)
+        && map.get1(&5) == Some(&ITEM)
+        && map.get2(&50) == Some(&ITEM)
 }
 
 fn vacant<S: BuildHasher>(map: &mut BiHashMap<Row, S>) -> bool {
@@ -284,8 +310,8 @@ const PUT: [(Row, ((Answer, bool), u64)); 3] = [
 
 fn answered<S: BuildHasher>(map: &mut BiHashMap<Row, S>) -> bool {
     map.clear();
-    for (item, wanted) in PUT {
-        if put_answer(map, (5, 50), item) != wanted {
+    for (item, wanted) in &PUT {
+        if put_answer(map, (5, 50), *item) != *wanted {
             return false;
         }
     }
@@ -326,7 +352,9 @@ fn modify_each<S: BuildHasher>(map: &mut BiHashMap<Row, S>, (key1, key2): (u64, 
 
 /// Whether the entry itself modifies or the items that it lends, the keys, and of which items this is asked; and the
 /// values of the map of two then, from it on.
-const MODIFIED: [(bool, (u64, u64), Heard, [u64; 2]); 3] = [
+type Modified = (bool, (u64, u64), Heard, [u64; 2]);
+
+const MODIFIED: [Modified; 3] = [
     (true, (1, 20), ([Some(ONE), Some(TWO)], 2), [101, 201]),
     (
         false,
@@ -337,16 +365,24 @@ const MODIFIED: [(bool, (u64, u64), Heard, [u64; 2]); 3] = [
     (true, (5, 50), ([None, None], 0), [101, 202]),
 ];
 
+fn is_modified<S: BuildHasher>(
+    map: &mut BiHashMap<Row, S>,
+    (by_entry, keys, wanted, values): &Modified,
+) -> bool {
+    let heard = if *by_entry {
+        modify(map, *keys)
+    } else {
+        modify_each(map, *keys)
+    };
+    let [first, second] = *values;
+    let left = [Some(row_of(1, 10, first)), Some(row_of(2, 20, second))];
+    heard == *wanted && by_first(map) == left
+}
+
 fn modified<S: BuildHasher>(map: &mut BiHashMap<Row, S>) -> bool {
     let mut is_right = reset(map);
-    for (by_entry, keys, wanted, [first, second]) in MODIFIED {
-        let heard = if by_entry {
-            modify(map, keys)
-        } else {
-            modify_each(map, keys)
-        };
-        let left = [Some(row_of(1, 10, first)), Some(row_of(2, 20, second))];
-        is_right = is_right && heard == wanted && by_first(map) == left;
+    for row in &MODIFIED {
+        is_right = is_right && is_modified(map, row);
     }
     is_right
 }
@@ -357,10 +393,18 @@ fn check<S: BuildHasher>(rt: &impl Abort, map: &mut BiHashMap<Row, S>) {
     assert!(rt; modified(map));
 }
 
+fn check_new(rt: &impl Abort, alloc: Global) {
+    check(rt, &mut BiHashMap::new(alloc));
+}
+
+fn check_alike(rt: &impl Abort, alloc: Global, hash: u64) {
+    check(rt, &mut BiHashMap::with_hasher(alloc, Alike { hash }));
+}
+
 #[test]
 fn entries_are_overwritten_filled_and_modified(rt: HostRuntime) {
-    check(&rt, &mut BiHashMap::new(rt.alloc()));
+    check_new(&rt, rt.alloc());
     for hash in [0, 3, 18446744073709551615] {
-        check(&rt, &mut BiHashMap::with_hasher(rt.alloc(), Alike { hash }));
+        check_alike(&rt, rt.alloc(), hash);
     }
 }

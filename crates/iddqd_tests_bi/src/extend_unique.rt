@@ -3,19 +3,23 @@ use crate::row::Row;
 use crate::worked::{ONE, Refused, TWO, refused_list, reset, row};
 use iddqd_bi::{BiHashMap, ExtendUniqueReason};
 use iddqd_builders::Alike;
+use std::alloc::Global;
 use std::hash::BuildHasher;
 use std::test::*;
 
-/// Whether the map has each of these rows.
-fn has<S: BuildHasher>(map: &BiHashMap<Row, S>, rows: &[Row]) -> bool {
+/// Whether the map has this row.
+fn has<S: BuildHasher>(map: &BiHashMap<Row, S>, row: &Row) -> bool {
+    map.get1(&row.key1) == Some(row) && map.get2(&row.key2) == Some(row)
+}
+
+/// Whether the map has each of these rows, and no other.
+fn has_each<S: BuildHasher>(map: &BiHashMap<Row, S>, rows: &[Row]) -> bool {
     for row in rows {
-        if map.get1(&row.key1).copied() != Some(*row)
-            || map.get2(&row.key2).copied() != Some(*row)
-        {
+        if !has(map, row) {
             return false;
         }
     }
-    true
+    map.len() == rows.len()
 }
 
 const THIRD: Row = row!(3, 30, 0);
@@ -35,8 +39,10 @@ const ONE_TAKEN: [Option<Row>; 2] = [Some(THIRD), None];
 
 const CONFLICT: ExtendUniqueReason = ExtendUniqueReason::Conflict;
 
-/// Lists that go into the map of two, why they do not if they do not, and what the map has then.
-const LISTS: [(&[Row], Option<Refused>, &[Row]); 5] = [
+/// A list that goes into the map of two, why it does not if it does not, and what the map has then.
+type List = (&'static [Row], Option<Refused>, &'static [Row]);
+
+const LISTS: [List; 5] = [
     (
         &[THIRD, LATE, FIFTH],
         Some((ONE_TAKEN, LATE, CONFLICT)),
@@ -60,25 +66,49 @@ const LISTS: [(&[Row], Option<Refused>, &[Row]); 5] = [
     ),
 ];
 
-/// Whether each list goes in or not as it should, and the empty one leaves the capacity.
-fn are_whole<S: BuildHasher>(map: &mut BiHashMap<Row, S>) -> bool {
-    let mut is_right = true;
-    for (items, wanted, left) in LISTS {
-        is_right = is_right && reset(map);
-        let capacity = map.capacity();
-        let refused = map.extend_unique(items.iter().copied()).err();
-        is_right = is_right && refused.map(refused_list) == wanted;
-        is_right = is_right && has(map, left) && map.len() == left.len();
-        is_right = is_right && map.get1(&3).is_none();
-        is_right = is_right && (!items.is_empty() || map.capacity() == capacity);
+/// Why a list does not go into a map, if it does not.
+fn extended<S: BuildHasher>(map: &mut BiHashMap<Row, S>, items: &[Row]) -> Option<Refused> {
+    match map.extend_unique(items.iter().copied()) {
+        Ok(()) => None,
+        Err(error) => Some(refused_list(error)),
     }
+}
+
+/// Whether a list goes in or not as it should, and the empty one leaves the capacity.
+fn is_whole<S: BuildHasher>(
+    map: &mut BiHashMap<Row, S>,
+    (items, wanted, left): &List,
+) -> bool {
+    let is_reset = reset(map);
+    let capacity = map.capacity();
+    let is_right = is_reset && extended(map, items) == *wanted;
     is_right
+        && has_each(map, left)
+        && map.get1(&3).is_none()
+        && (!items.is_empty() || map.capacity() == capacity)
+}
+
+fn are_whole<S: BuildHasher>(map: &mut BiHashMap<Row, S>) -> bool {
+    for list in &LISTS {
+        if !is_whole(map, list) {
+            return false;
+        }
+    }
+    true
+}
+
+fn are_whole_in_new(alloc: Global) -> bool {
+    are_whole(&mut BiHashMap::new(alloc))
+}
+
+fn are_whole_in_alike(alloc: Global, hash: u64) -> bool {
+    are_whole(&mut BiHashMap::with_hasher(alloc, Alike { hash }))
 }
 
 #[test]
 fn extend_unique_puts_all_in_or_none(rt: HostRuntime) {
-    assert!(rt; are_whole(&mut BiHashMap::new(rt.alloc())));
+    assert!(rt; are_whole_in_new(rt.alloc()));
     for hash in [0, 18446744073709551615] {
-        assert!(rt; are_whole(&mut BiHashMap::with_hasher(rt.alloc(), Alike { hash })));
+        assert!(rt; are_whole_in_alike(rt.alloc(), hash));
     }
 }

@@ -3,6 +3,7 @@ use crate::row::Row;
 use crate::worked::{Answer, ONE, TWO, by_first, mismatch, reset, row};
 use iddqd_bi::{BiHashMap, Cursor};
 use iddqd_builders::Alike;
+use std::alloc::Global;
 use std::hash::BuildHasher;
 use std::test::*;
 
@@ -82,16 +83,18 @@ const NINE: Row = row!(2, 20, 9);
 
 const OTHER: Row = row!(1, 11, 0);
 
-fn written<S: BuildHasher>(map: &mut BiHashMap<Row, S>) -> bool {
-    let is_replaced = reset(map)
+fn replaced<S: BuildHasher>(map: &mut BiHashMap<Row, S>) -> bool {
+    reset(map)
         && replace1(map, 1, OTHER) == Answer::Key(2, OTHER)
         && replace1(map, 1, SEVEN) == Answer::In([Some(ONE), None])
-        && by_first(map) == [Some(SEVEN), Some(TWO)];
+        && by_first(map) == [Some(SEVEN), Some(TWO)]
+}
+
+fn written<S: BuildHasher>(map: &mut BiHashMap<Row, S>) -> bool {
     let is_reset = reset(map);
     let capacity = map.capacity();
     write2(map, 20, 9);
-    is_replaced
-        && is_reset
+    is_reset
         && of_both(map, 1, 20) == None
         && of_both(map, 2, 20) == Some(NINE)
         && by_first(map) == [Some(ONE), Some(NINE)]
@@ -99,29 +102,48 @@ fn written<S: BuildHasher>(map: &mut BiHashMap<Row, S>) -> bool {
         && map.capacity() == capacity
 }
 
+const BOTH: [Option<Row>; 2] = [Some(ONE), Some(TWO)];
+
 fn walked<S: BuildHasher>(map: &mut BiHashMap<Row, S>) -> bool {
     let is_reset = reset(map);
     let capacity = map.capacity();
     let (is_right, lent) = walk(map);
     is_reset
         && is_right
-        && (lent == [Some(ONE), Some(TWO)] || lent == [Some(TWO), Some(ONE)])
-        && by_first(map) == [Some(ONE), Some(TWO)]
+        && (lent == BOTH || lent == [Some(TWO), Some(ONE)])
+        && by_first(map) == BOTH
         && map.len() == 2
         && map.capacity() == capacity
-        && reset(map)
+}
+
+const RAISED: [Option<Row>; 2] = [Some(row!(1, 10, 101)), Some(row!(2, 20, 201))];
+
+const CLEARED: [Option<Row>; 2] = [Some(row!(1, 10, 0)), Some(row!(2, 20, 0))];
+
+fn raised_and_cleared<S: BuildHasher>(map: &mut BiHashMap<Row, S>) -> bool {
+    reset(map)
         && raise(map)
-        && by_first(map) == [Some(row!(1, 10, 101)), Some(row!(2, 20, 201))]
+        && by_first(map) == RAISED
         && clear_values(map) == 2
-        && by_first(map) == [Some(row!(1, 10, 0)), Some(row!(2, 20, 0))]
+        && by_first(map) == CLEARED
+}
+
+fn check<S: BuildHasher>(map: &mut BiHashMap<Row, S>) -> bool {
+    replaced(map) && written(map) && walked(map) && raised_and_cleared(map)
+}
+
+fn check_new(alloc: Global) -> bool {
+    check(&mut BiHashMap::new(alloc))
+}
+
+fn check_alike(alloc: Global, hash: u64) -> bool {
+    check(&mut BiHashMap::with_hasher(alloc, Alike { hash }))
 }
 
 #[test]
 fn items_are_written(rt: HostRuntime) {
-    let mut map = BiHashMap::new(rt.alloc());
-    assert!(rt; written(&mut map) && walked(&mut map));
+    assert!(rt; check_new(rt.alloc()));
     for hash in [0, 3, 18446744073709551615] {
-        let mut map = BiHashMap::with_hasher(rt.alloc(), Alike { hash });
-        assert!(rt; written(&mut map) && walked(&mut map));
+        assert!(rt; check_alike(rt.alloc(), hash));
     }
 }

@@ -3,8 +3,11 @@ ghost use Rattle.iddqd_bi.specs.Entries.{HasFound, Holds};
 
 use crate::row::{Row, row_of};
 use crate::worked::{ONE, TWO, by_first, item_of, reset, row};
-use iddqd_bi::{BiHashItem, BiHashMap, Entry, OccupiedEntry, OccupiedEntryMut, Ranked};
+use iddqd_bi::{
+    BiHashItem, BiHashMap, Entry, EntryError, OccupiedEntry, OccupiedEntryMut, Ranked,
+};
 use iddqd_builders::Alike;
+use std::alloc::Global;
 use std::hash::{BuildHasher, Hash};
 use std::test::*;
 
@@ -45,13 +48,17 @@ type Found = ([[bool; 2]; 3], [Lent; 3]);
 fn find<S: BuildHasher>(map: &mut BiHashMap<Row, S>, (key1, key2): (u64, u64)) -> Option<Found> {
     match map.entry(&key1, &key2) {
         Entry::Vacant(_) => None,
-        Entry::Occupied(mut found) => {
-            let [entry, seen] = says(&found);
-            let (held, [first, again]) = lends(&mut found.get_mut());
-            let last = lent(&mut found.get_mut());
-            Some(([entry, seen, held], [first, again, last]))
-        }
+        Entry::Occupied(found) => Some(find_each(found)),
     }
+}
+
+fn find_each<S: BuildHasher>(mut found: OccupiedEntry<'_, Row, S>) -> Found
+    requires { HasFound ⟦<Row as Ranked>⟧.key_tests found }
+{
+    let [entry, seen] = says(&found);
+    let (held, [first, again]) = lends(&mut found.get_mut());
+    let last = lent(&mut found.get_mut());
+    ([entry, seen, held], [first, again, last])
 }
 
 /// The item that an entry lends for as long as its map is lent, by the key of this rank, or by both.
@@ -62,14 +69,17 @@ fn find_by<S: BuildHasher>(
 ) -> Option<Row> {
     match map.entry(&key1, &key2) {
         Entry::Vacant(_) => None,
-        Entry::Occupied(found) => {
-            let held = found.into_mut();
-            match rank {
-                0 => item_of!(held.into_by_key1()),
-                1 => item_of!(held.into_by_key2()),
-                _ => item_of!(held.into_unique()),
-            }
-        }
+        Entry::Occupied(found) => held_by(found.into_mut(), rank),
+    }
+}
+
+fn held_by<S: BuildHasher>(held: OccupiedEntryMut<'_, Row, S>, rank: usize) -> Option<Row>
+    requires { Holds held }
+{
+    match rank {
+        0 => item_of!(held.into_by_key1()),
+        1 => item_of!(held.into_by_key2()),
+        _ => item_of!(held.into_unique()),
     }
 }
 
@@ -77,23 +87,34 @@ const BOTH: [Option<Row>; 2] = [Some(ONE), Some(TWO)];
 
 /// Two keys, whether one item of the map of two has both and whether none has, and what they find: by the first key, by
 /// the second, and by both.
-const FOUND: [((u64, u64), [bool; 2], Lent); 4] = [
+type Wanted = ((u64, u64), [bool; 2], Lent);
+
+const FOUND: [Wanted; 4] = [
     ((1, 20), [false, true], [Some(ONE), Some(TWO), None]),
     ((2, 20), [true, false], [Some(TWO); 3]),
     ((1, 99), [false, true], [Some(ONE), None, None]),
     ((9, 20), [false, true], [None, Some(TWO), None]),
 ];
 
-/// Whether each entry lends what it should, and leaves items and capacity as they are.
+/// Whether an entry lends what it should.
+fn is_lent<S: BuildHasher>(
+    map: &mut BiHashMap<Row, S>,
+    (keys, says, wanted): &Wanted,
+) -> bool {
+    let by_each = [
+        find_by(map, *keys, 0),
+        find_by(map, *keys, 1),
+        find_by(map, *keys, 2),
+    ];
+    find(map, *keys) == Some(([*says; 3], [*wanted; 3])) && by_each == *wanted
+}
+
+/// Whether each entry does, and leaves items and capacity as they are.
 fn are_lent<S: BuildHasher>(map: &mut BiHashMap<Row, S>) -> bool {
     let mut is_right = reset(map);
     let capacity = map.capacity();
-    for (keys, says, wanted) in FOUND {
-        is_right = is_right && find(map, keys) == Some(([says; 3], [wanted; 3]));
-        for rank in 0..3 {
-            is_right = is_right && find_by(map, keys, rank) == wanted[rank];
-        }
-        is_right = is_right && map.capacity() == capacity;
+    for row in &FOUND {
+        is_right = is_right && is_lent(map, row) && map.capacity() == capacity;
         is_right = is_right && map.len() == 2 && by_first(map) == BOTH;
     }
     is_right
@@ -145,6 +166,12 @@ fn are_written<S: BuildHasher>(map: &mut BiHashMap<Row, S>) -> bool {
 /// it and by value.
 type Put = Result<Lent, [Row; 2]>;
 
+/// The item that comes back, as the refusal shows it and by value.
+fn came_back(error: EntryError<Row>) -> [Row; 2] {
+    let shown = *error.item();
+    [shown, error.into_item()]
+}
+
 /// What becomes of an item that a vacant entry is given, for writing.
 fn put<S: BuildHasher>(
     map: &mut BiHashMap<Row, S>,
@@ -154,10 +181,7 @@ fn put<S: BuildHasher>(
     match map.entry(&key1, &key2) {
         Entry::Vacant(entry) => match entry.insert_mut(item) {
             Ok(mut found) => Some(Ok(lent(&mut found))),
-            Err(error) => {
-                let shown = *error.item();
-                Some(Err([shown, error.into_item()]))
-            }
+            Err(error) => Some(Err(came_back(error))),
         },
         Entry::Occupied(_) => None,
     }
@@ -192,15 +216,23 @@ const PUT: [(Row, Put, usize); 3] = [
     (ITEM, Ok([Some(ITEM); 3]), 3),
 ];
 
+fn put_either<S: BuildHasher>(
+    map: &mut BiHashMap<Row, S>,
+    item: Row,
+    may_keep: bool,
+) -> Option<Put> {
+    if may_keep {
+        Some(put_or_keep(map, (5, 50), item))
+    } else {
+        put(map, (5, 50), item)
+    }
+}
+
 fn are_put<S: BuildHasher>(map: &mut BiHashMap<Row, S>, may_keep: bool) -> bool {
     let mut is_right = reset(map);
-    for (item, wanted, length) in PUT {
-        let answer = if may_keep {
-            Some(put_or_keep(map, (5, 50), item))
-        } else {
-            put(map, (5, 50), item)
-        };
-        is_right = is_right && answer == Some(wanted) && map.len() == length;
+    for (item, wanted, length) in &PUT {
+        let answer = put_either(map, *item, may_keep);
+        is_right = is_right && answer == Some(*wanted) && map.len() == *length;
     }
     is_right && map.get_unique(&5, &50).copied() == Some(ITEM) && by_first(map) == BOTH
 }
@@ -209,8 +241,16 @@ fn check<S: BuildHasher>(map: &mut BiHashMap<Row, S>) -> bool {
     are_lent(map) && are_written(map) && are_put(map, false) && are_put(map, true)
 }
 
+fn check_new(alloc: Global) -> bool {
+    check(&mut BiHashMap::new(alloc))
+}
+
+fn check_alike(alloc: Global) -> bool {
+    check(&mut BiHashMap::with_hasher(alloc, Alike { hash: 0 }))
+}
+
 #[test]
 fn entries_lend_what_they_found(rt: HostRuntime) {
-    assert!(rt; check(&mut BiHashMap::new(rt.alloc())));
-    assert!(rt; check(&mut BiHashMap::with_hasher(rt.alloc(), Alike { hash: 0 })));
+    assert!(rt; check_new(rt.alloc()));
+    assert!(rt; check_alike(rt.alloc()));
 }

@@ -1,5 +1,6 @@
 //! Keys that are texts, lists of bytes and pairs, asked for by what is lent.
 use iddqd_bi::{BiHashItem, BiHashMap, Pair, Text};
+use std::alloc::{AllocError, Global};
 use std::hash::{Hash, Hasher};
 use std::test::Fail;
 
@@ -41,6 +42,34 @@ macro_rules! number_of {
 
 pub(crate) use number_of;
 
+/// A page with a title and a tag.
+type Page = Keyed<String, Vec<u8>>;
+
+fn page_of(alloc: Global, number: u64, title: &str, tag: &str) -> Result<Page, AllocError> {
+    let first = title.to_string(alloc)?;
+    let second = tag.as_bytes().to_vec(alloc)?;
+    Ok(Keyed {
+        first,
+        second,
+        number,
+    })
+}
+
+/// Whether a page goes into a map.
+fn is_added(map: &mut BiHashMap<Page>, page: Page) -> bool {
+    map.insert_or_back(page).is_ok()
+}
+
+/// The page that has this text as its title.
+fn titled(map: &BiHashMap<Page>, text: &str) -> Option<u64> {
+    number_of!(map.get1(&text))
+}
+
+/// The page that has the bytes of this text as its tag.
+fn tagged(map: &BiHashMap<Page>, text: &str) -> Option<u64> {
+    number_of!(map.get2(&text.as_bytes()))
+}
+
 /// A text, the page that has it as its title, and the page that has its bytes as its tag.
 const PAGES: [(&str, Option<u64>, Option<u64>); 5] = [
     ("ab", Some(1), Some(2)),
@@ -54,18 +83,36 @@ const PAGES: [(&str, Option<u64>, Option<u64>); 5] = [
 fn lent_texts_and_slices_ask_for_owned_ones(rt: HostRuntime) -> Result<(), Fail> {
     let mut map = BiHashMap::new(rt.alloc());
     for (number, title, tag) in [(1, "ab", "cd"), (2, "cd", "ab")] {
-        let page = Keyed {
-            first: title.to_string(rt.alloc())?,
-            second: tag.as_bytes().to_vec(rt.alloc())?,
-            number,
-        };
-        assert!(rt; map.insert_or_back(page).is_ok());
+        let page = page_of(rt.alloc(), number, title, tag)?;
+        assert!(rt; is_added(&mut map, page));
     }
-    for (text, titled, tagged) in PAGES {
-        assert!(rt; number_of!(map.get1(&text)) == titled, "{text}");
-        assert!(rt; number_of!(map.get2(&text.as_bytes())) == tagged, "{text}");
+    for (text, by_title, by_tag) in &PAGES {
+        assert!(rt; titled(&map, text) == *by_title && tagged(&map, text) == *by_tag, "{text}");
     }
     Ok(())
+}
+
+/// A seat with a row and a place in it, and a name.
+type Seat = Keyed<(u32, u16), String>;
+
+fn seat_of(alloc: Global, row: u32, place: u16, name: &str) -> Result<Seat, AllocError> {
+    let second = name.to_string(alloc)?;
+    Ok(Keyed {
+        first: (row, place),
+        second,
+        number: 0,
+    })
+}
+
+/// Whether a seat goes into a map.
+fn is_placed(map: &mut BiHashMap<Seat>, seat: Seat) -> bool {
+    map.insert_or_back(seat).is_ok()
+}
+
+/// Whether there is a seat of this row and place, and one of this name.
+fn has_seats(map: &BiHashMap<Seat>, row: u32, place: u16, text: &str) -> (bool, bool) {
+    let is_at = map.contains_key1(&Pair(row, place));
+    (is_at, map.contains_key2(&Text(text)))
 }
 
 /// A row, a place in it and a text, and whether there is a seat of this row and place, and one of this name.
@@ -81,19 +128,12 @@ const SEATS: [(u32, u16, &str, bool, bool); 5] = [
 fn pairs_and_texts_ask_for_keys(rt: HostRuntime) -> Result<(), Fail> {
     let mut map = BiHashMap::new(rt.alloc());
     for (row, place, text) in [(1, 7, "left"), (2, 7, "right")] {
-        let seat = Keyed {
-            first: (row, place),
-            second: text.to_string(rt.alloc())?,
-            number: 0,
-        };
-        assert!(rt; map.insert_or_back(seat).is_ok());
+        let seat = seat_of(rt.alloc(), row, place, text)?;
+        assert!(rt; is_placed(&mut map, seat));
     }
-    for (row, place, text, is_at, is_named) in SEATS {
-        assert!(rt;
-            map.contains_key1(&Pair(row, place)) == is_at,
-            "{row} {place}"
-        );
-        assert!(rt; map.contains_key2(&Text(text)) == is_named, "{text}");
+    for (row, place, text, is_at, is_named) in &SEATS {
+        let found = has_seats(&map, *row, *place, text);
+        assert!(rt; found == (*is_at, *is_named), "{row} {place} {text}");
     }
     Ok(())
 }

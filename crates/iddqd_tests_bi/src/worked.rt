@@ -35,10 +35,15 @@ pub const ONE: Row = row!(1, 10, 100);
 
 pub const TWO: Row = row!(2, 20, 200);
 
+/// Whether an item goes into a map that may have no other in its way.
+pub fn goes_in<S: BuildHasher>(map: &mut BiHashMap<Row, S>, item: Row) -> bool {
+    map.insert_unique(item).is_ok()
+}
+
 /// Makes a map that of (1, 10, 100) and (2, 20, 200). Says whether both went in.
 pub fn reset<S: BuildHasher>(map: &mut BiHashMap<Row, S>) -> bool {
     map.clear();
-    map.insert_unique(ONE).is_ok() && map.insert_unique(TWO).is_ok()
+    goes_in(map, ONE) && goes_in(map, TWO)
 }
 
 /// The map of (1, 10, 100) and (2, 20, 200).
@@ -77,7 +82,7 @@ pub fn refused_list(error: ExtendUniqueError<Row>) -> Refused {
 }
 
 /// What a call or a command answers, with items as values and an iterator as its length.
-#[derive(PartialEq, Drop)]
+#[derive(Clone, Copy, PartialEq)]
 pub enum Answer {
     Done,
     Kept,
