@@ -267,20 +267,24 @@ fn answer<S: BuildHasher>(
     }
 }
 
-/// The place of the first command that is answered otherwise, on the empty map of this builder.
-fn first_wrong<S: BuildHasher + Drop>(
-    alloc: Global,
-    hash_builder: S,
+/// Whether a command is answered so.
+fn is_answered<S: BuildHasher>(
+    map: &mut TriHashMap<Row, S>,
+    (command, wanted): Answered,
+    sink: &mut Listener,
+) -> bool {
+    answer(map, command, sink) == Some(wanted)
+}
+
+/// The place of the first command that is answered otherwise.
+fn first_wrong<S: BuildHasher>(
+    map: &mut TriHashMap<Row, S>,
     rows: Vec<Answered>,
+    sink: &mut Listener,
 ) -> Option<usize> {
-    let mut map = TriHashMap::with_hasher(alloc, hash_builder);
-    let mut sink = Listener {
-        heard: Vec::new(alloc),
-        most: 1,
-    };
     let mut at: usize = 0;
-    for (command, wanted) in rows {
-        if answer(&mut map, command, &mut sink) != Some(wanted) {
+    for row in rows {
+        if !is_answered(map, row, sink) {
             return Some(at);
         }
         at = at.wrapping_add(1);
@@ -288,26 +292,57 @@ fn first_wrong<S: BuildHasher + Drop>(
     None
 }
 
-/// The first wrong place of each table, on empty maps of this builder.
-fn first_wrongs<S: BuildHasher + Copy + Drop>(
+/// A sink that takes so many replies well.
+fn sink_of(alloc: Global, most: usize) -> Listener {
+    Listener {
+        heard: Vec::new(alloc),
+        most,
+    }
+}
+
+fn refusing(alloc: Global) -> Result<Vec<Answered>, AllocError> {
+    Ok(Vec::from_array(alloc, REFUSALS)?)
+}
+
+fn overwriting(alloc: Global) -> Result<Vec<Answered>, AllocError> {
+    Ok(Vec::from_array(alloc, OVERWRITES)?)
+}
+
+fn writing(alloc: Global) -> Result<Vec<Answered>, AllocError> {
+    Ok(Vec::from_array(alloc, WRITES)?)
+}
+
+/// The commands of the table at this place.
+fn table(alloc: Global, at: usize) -> Result<Vec<Answered>, AllocError> {
+    match at {
+        0 => refusing(alloc),
+        1 => overwriting(alloc),
+        2 => writing(alloc),
+        3 => filling(alloc),
+        _ => filling_whole(alloc),
+    }
+}
+
+/// The first wrong place of a table, on the empty map of this builder.
+fn first_wrong_of<S: BuildHasher + Drop>(
     alloc: Global,
     hash_builder: S,
-) -> Result<[Option<usize>; 5], AllocError> {
-    Ok([
-        first_wrong(alloc, hash_builder, Vec::from_array(alloc, REFUSALS)?),
-        first_wrong(alloc, hash_builder, Vec::from_array(alloc, OVERWRITES)?),
-        first_wrong(alloc, hash_builder, Vec::from_array(alloc, WRITES)?),
-        first_wrong(alloc, hash_builder, filling(alloc)?),
-        first_wrong(alloc, hash_builder, filling_whole(alloc)?),
-    ])
+    rows: Vec<Answered>,
+) -> Option<usize> {
+    let mut map = TriHashMap::with_hasher(alloc, hash_builder);
+    first_wrong(&mut map, rows, &mut sink_of(alloc, 1))
 }
 
 #[test]
 fn commands_are_answered(rt: HostRuntime) -> Result<(), Fail> {
     let alloc = rt.alloc();
-    assert!(rt; first_wrongs(alloc, DefaultHashBuilder::default())? == [None; 5]);
-    for hash in [0, 18446744073709551615] {
-        assert!(rt; first_wrongs(alloc, Alike { hash })? == [None; 5]);
+    for at in 0..5 {
+        let rows = table(alloc, at)?;
+        assert!(rt; first_wrong_of(alloc, DefaultHashBuilder::default(), rows) == None);
+        for hash in [0, 18446744073709551615] {
+            let rows = table(alloc, at)?;
+            assert!(rt; first_wrong_of(alloc, Alike { hash }, rows) == None);
+        }
     }
     Ok(())
 }
@@ -357,8 +392,9 @@ const TAKEN: Option<Answer> = Some(Answer::Taken(Some(ONE)));
 
 /// Whether the list is empty, how many replies are taken well, how the run on the empty map ends then, all replies, and
 /// what the map has.
-const RUNS: [(bool, usize, Result<(), bool>, Replies, Listed); 6] = [
-    (true, 0, Ok(()), [None, None, None, None], NOTHING),
+type Run = (bool, usize, Result<(), bool>, Replies, Listed);
+
+const FAULTS: [Run; 4] = [
     (
         false,
         0,
@@ -381,22 +417,42 @@ const RUNS: [(bool, usize, Result<(), bool>, Replies, Listed); 6] = [
         [Some(TWO), None, None],
     ),
     (false, 3, FAULT, [DONE, DONE, TAKEN, DONE], NOTHING),
+];
+
+/// The same of runs without a fault.
+const ENDED: [Run; 2] = [
+    (true, 0, Ok(()), [None, None, None, None], NOTHING),
     (false, 4, Ok(()), [DONE, DONE, TAKEN, DONE], NOTHING),
 ];
 
+/// Whether a run of these commands ends so on the empty map, and leaves what it should.
+fn ends_so(
+    alloc: Global,
+    commands: Vec<TriCommand<Row>>,
+    (_, most, ended, replies, left): &Run,
+) -> bool {
+    let mut map = TriHashMap::new(alloc);
+    let sink = sink_of(alloc, *most);
+    runs(&mut map, commands, sink, *ended, replies) && has_all(&map, *left)
+}
+
+/// Whether each run ends as it should.
+fn end_so(alloc: Global, runs: &[Run]) -> Result<bool, AllocError> {
+    let mut is_right = true;
+    for run in runs {
+        is_right = is_right && ends_so(alloc, listing(alloc, run.0)?, run);
+    }
+    Ok(is_right)
+}
+
 #[test]
 fn runs_end_at_the_first_fault(rt: HostRuntime) -> Result<(), Fail> {
-    for (is_empty, most, ended, replies, left) in &RUNS {
-        let commands = listing(rt.alloc(), *is_empty)?;
-        let mut map = TriHashMap::new(rt.alloc());
-        let sink = Listener {
-            heard: Vec::new(rt.alloc()),
-            most: *most,
-        };
-        assert!(rt;
-            runs(&mut map, commands, sink, *ended, replies) && has_all(&map, *left),
-            "of {most} replies"
-        );
-    }
+    assert!(rt; end_so(rt.alloc(), &FAULTS)?);
+    Ok(())
+}
+
+#[test]
+fn runs_without_a_fault_end(rt: HostRuntime) -> Result<(), Fail> {
+    assert!(rt; end_so(rt.alloc(), &ENDED)?);
     Ok(())
 }

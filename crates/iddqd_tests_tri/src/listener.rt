@@ -2,22 +2,24 @@
 ghost use Rattle.std.specs.Prelude.{⊤};
 
 use crate::row::Row;
-use crate::worked::{Answer, listed, refused_list};
-use iddqd_tri::{TriReply, TriSink};
+use crate::worked::{Answer, Listed, listed, refused_list};
+use iddqd_tri::{TriReply, TriSink, UpToThree};
+
+/// The items that a short list lends.
+fn lent_items(found: &UpToThree<&Row>) -> Listed {
+    [
+        found.get(0).copied().copied(),
+        found.get(1).copied().copied(),
+        found.get(2).copied().copied(),
+    ]
+}
 
 fn hear(reply: TriReply<'_, Row>) -> Answer {
     match reply {
         TriReply::Done => Answer::Done,
         TriReply::Kept => Answer::Kept,
         TriReply::Refused => Answer::Refused,
-        TriReply::Duplicate(refused) => {
-            let found = refused.duplicates();
-            Answer::Duplicate([
-                found.get(0).copied().copied(),
-                found.get(1).copied().copied(),
-                found.get(2).copied().copied(),
-            ])
-        }
+        TriReply::Duplicate(refused) => Answer::Duplicate(lent_items(refused.duplicates())),
         TriReply::Displaced(items) => Answer::In(listed(items)),
         TriReply::Found(item) => Answer::Found(item.copied()),
         TriReply::Taken(item) => Answer::Taken(item),

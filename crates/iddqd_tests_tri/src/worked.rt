@@ -44,12 +44,15 @@ pub type Listed = [Option<Row>; 3];
 
 pub const NOTHING: Listed = [None; 3];
 
+/// Whether an item goes into a map that may have no other in its way.
+pub fn goes_in<S: BuildHasher>(map: &mut TriHashMap<Row, S>, item: Row) -> bool {
+    map.insert_unique(item).is_ok()
+}
+
 /// Makes a map that of (1, 10, 100, 7), (2, 20, 200, 8) and (3, 30, 300, 9). Says whether all went in.
 pub fn reset<S: BuildHasher>(map: &mut TriHashMap<Row, S>) -> bool {
     map.clear();
-    map.insert_unique(ONE).is_ok()
-        && map.insert_unique(TWO).is_ok()
-        && map.insert_unique(THREE).is_ok()
+    goes_in(map, ONE) && goes_in(map, TWO) && goes_in(map, THREE)
 }
 
 /// The map of (1, 10, 100, 7), (2, 20, 200, 8) and (3, 30, 300, 9).
@@ -72,14 +75,21 @@ pub fn listed(items: UpToThree<Row>) -> Listed {
     ]
 }
 
+/// Whether a map has this item.
+fn has<S: BuildHasher>(map: &TriHashMap<Row, S>, item: &Row) -> bool {
+    map.get_unique(&item.key1, &item.key2, &item.key3) == Some(item)
+}
+
 /// Whether a map has these items, of different third keys, and no others.
 pub fn has_all<S: BuildHasher>(map: &TriHashMap<Row, S>, items: Listed) -> bool {
     let mut found: usize = 0;
-    for item in items.into_iter().flatten() {
-        if map.get_unique(&item.key1, &item.key2, &item.key3).copied() != Some(item) {
-            return false;
+    for item in &items {
+        if let Some(item) = item {
+            if !has(map, item) {
+                return false;
+            }
+            found = found.wrapping_add(1);
         }
-        found = found.wrapping_add(1);
     }
     map.len() == found
 }
@@ -103,7 +113,7 @@ pub fn refused_list(error: ExtendUniqueError<Row>) -> Refused {
 }
 
 /// What a call or a command answers, with items as values and an iterator as its length.
-#[derive(PartialEq, Drop)]
+#[derive(Clone, Copy, PartialEq)]
 pub enum Answer {
     Done,
     Kept,
