@@ -1,11 +1,11 @@
 //! Three-key maps that are built of many items at once, and their room.
 use crate::row::{Row, row_of};
 use crate::worked::{
-    Listed, NOTHING, ONE, Refused, THREE, TWO, has_all, listed, refused_list, row, three,
+    Listed, NOTHING, ONE, Refused, THREE, TWO, goes_in, has_all, listed, refused_list, row, three,
 };
 use iddqd_builders::Alike;
 use iddqd_tri::{
-    DefaultHashBuilder, ExtendUniqueReason, FromIterError, TriHashMap, TryReserveError,
+    DefaultHashBuilder, ExtendUniqueReason, FromIterError, TriHashMap,
 };
 use std::alloc::Global;
 use std::hash::BuildHasher;
@@ -62,15 +62,12 @@ const BUILT: [([Row; 4], (Row, Listed), Listed); 3] = [
 
 /// Whether maps are built of the items as they should be, and the map is extended by them.
 fn are_built(alloc: Global, map: &mut TriHashMap<Row>) -> bool {
-    for (items, conflict, wanted) in BUILT {
-        if unique(alloc, items) != Err(conflict)
-            || !overwritten(alloc, items, wanted)
-            || !extends(map, items, wanted)
-        {
-            return false;
-        }
+    let mut is_right = true;
+    for (items, conflict, wanted) in &BUILT {
+        is_right = is_right && unique(alloc, *items) == Err(*conflict);
+        is_right = is_right && overwritten(alloc, *items, *wanted) && extends(map, *items, *wanted);
     }
-    true
+    is_right
 }
 
 #[test]
@@ -88,8 +85,10 @@ const THIRD: Row = row!(3, 30, 300, 0);
 
 const ALONE: Listed = [Some(ONE), None, None];
 
-/// Lists that go into the map of one item, why they do not if they do not, and what the map has then.
-const LISTS: [(&[Row], Option<Refused>, Listed); 3] = [
+/// A list that goes into the map of one item, why it does not if it does not, and what the map has then.
+type List = (&'static [Row], Option<Refused>, Listed);
+
+const LISTS: [List; 3] = [
     (
         &[SECOND, CLASHING],
         Some((
@@ -107,25 +106,50 @@ const LISTS: [(&[Row], Option<Refused>, Listed); 3] = [
     ),
 ];
 
-/// Whether each list goes in or not as it should, and the empty one leaves the capacity.
-fn are_whole<S: BuildHasher>(map: &mut TriHashMap<Row, S>) -> bool {
-    let mut is_right = true;
-    for (items, wanted, left) in LISTS {
-        map.clear();
-        is_right = is_right && map.insert_unique(ONE).is_ok();
-        let capacity = map.capacity();
-        let refused = map.extend_unique(items.iter().copied()).err();
-        is_right = is_right && refused.map(refused_list) == wanted && has_all(map, left);
-        is_right = is_right && (!items.is_empty() || map.capacity() == capacity);
+/// Why a list does not go into a map, if it does not.
+fn refused_of<S: BuildHasher>(map: &mut TriHashMap<Row, S>, items: &[Row]) -> Option<Refused> {
+    match map.extend_unique(items.iter().copied()) {
+        Ok(()) => None,
+        Err(error) => Some(refused_list(error)),
     }
-    is_right
+}
+
+/// Whether a list goes in or not as it should, and the empty one leaves the capacity.
+fn is_whole<S: BuildHasher>(
+    map: &mut TriHashMap<Row, S>,
+    (items, wanted, left): &List,
+) -> bool {
+    map.clear();
+    let is_in = goes_in(map, ONE);
+    let capacity = map.capacity();
+    is_in
+        && refused_of(map, items) == *wanted
+        && has_all(map, *left)
+        && (!items.is_empty() || map.capacity() == capacity)
+}
+
+fn are_whole<S: BuildHasher>(map: &mut TriHashMap<Row, S>) -> bool {
+    for list in &LISTS {
+        if !is_whole(map, list) {
+            return false;
+        }
+    }
+    true
+}
+
+fn are_whole_in_new(alloc: Global) -> bool {
+    are_whole(&mut TriHashMap::new(alloc))
+}
+
+fn are_whole_in_alike(alloc: Global, hash: u64) -> bool {
+    are_whole(&mut TriHashMap::with_hasher(alloc, Alike { hash }))
 }
 
 #[test]
 fn extend_unique_puts_all_in_or_none(rt: HostRuntime) {
-    assert!(rt; are_whole(&mut TriHashMap::new(rt.alloc())));
+    assert!(rt; are_whole_in_new(rt.alloc()));
     for hash in [0, 18446744073709551615] {
-        assert!(rt; are_whole(&mut TriHashMap::with_hasher(rt.alloc(), Alike { hash })));
+        assert!(rt; are_whole_in_alike(rt.alloc(), hash));
     }
 }
 
@@ -148,71 +172,112 @@ fn fill<S: BuildHasher>(map: &mut TriHashMap<Row, S>) -> bool {
 
 /// Whether a map has room for as many items as each call asks for, and for no more than its tables then need: shrunk,
 /// fitted to what was left in it, reserved and cleared.
-fn has_room<S: BuildHasher>(map: &mut TriHashMap<Row, S>) -> Result<bool, TryReserveError> {
-    let is_filled = fill(map);
-    map.shrink_to(50)?;
-    let shrunk = map.capacity();
-    map.shrink_to_fit()?;
-    let is_fitted = (50..=56).contains(&shrunk) && (2..=7).contains(&map.capacity());
-    let is_left = is_filled && is_fitted && has_left(map);
-    map.reserve(50)?;
-    map.try_reserve(60)?;
-    let reserved = map.capacity();
+fn has_room<S: BuildHasher>(map: &mut TriHashMap<Row, S>) -> bool {
+    let is_right = fill(map) && is_shrunk(map) && is_fitted(map) && has_left(map);
+    let is_right = is_right && is_reserved(map);
     map.clear();
-    map.shrink_to_fit()?;
-    Ok(is_left && reserved >= 62 && map.capacity() == 0)
+    is_right && map.shrink_to_fit().is_ok() && map.capacity() == 0
 }
 
-/// The length and the capacity of a map of so many items that was extended by nine promised ones, which all take the
-/// place of the first.
-fn extended(alloc: Global, made: usize) -> Result<(usize, usize), Fail> {
-    let mut map = TriHashMap::<Row>::with_capacity(alloc, made)?;
-    for key in 1..=made as u64 {
-        let _ = map.insert_overwrite(row_of(key, key, key, 0));
+/// Whether a map is shrunk to 50 items.
+fn is_shrunk<S: BuildHasher>(map: &mut TriHashMap<Row, S>) -> bool {
+    map.shrink_to(50).is_ok() && is_within(map, 50, 56)
+}
+
+/// Whether a map is fitted to its two items.
+fn is_fitted<S: BuildHasher>(map: &mut TriHashMap<Row, S>) -> bool {
+    map.shrink_to_fit().is_ok() && is_within(map, 2, 7)
+}
+
+/// Whether a map has room for 60 more items than its two, once that is reserved.
+fn is_reserved<S: BuildHasher>(map: &mut TriHashMap<Row, S>) -> bool {
+    map.reserve(50).is_ok() && map.try_reserve(60).is_ok() && map.capacity() >= 62
+}
+
+/// Whether the capacity of a map is within these bounds.
+fn is_within<S: BuildHasher>(map: &TriHashMap<Row, S>, least: usize, most: usize) -> bool {
+    let capacity = map.capacity();
+    capacity >= least && capacity <= most
+}
+
+fn default_has_room(alloc: Global) -> bool {
+    let mut map = TriHashMap::<Row>::default(alloc);
+    map.capacity() == 0 && has_room(&mut map)
+}
+
+fn made_has_room(alloc: Global) -> bool {
+    match TriHashMap::<Row>::with_capacity(alloc, 15) {
+        Ok(mut map) => is_within(&map, 15, 28) && has_room(&mut map),
+        Err(_) => false,
     }
-    if map.extend([row_of(1, 1, 1, 0); 9]).is_err() {
-        Err("refused")?;
+}
+
+fn alike_has_room(alloc: Global) -> bool {
+    match TriHashMap::with_capacity_and_hasher(alloc, 10, Alike { hash: 0 }) {
+        Ok(mut map) => has_room(&mut map),
+        Err(_) => false,
     }
-    Ok((map.len(), map.capacity()))
 }
 
 #[test]
-fn room_is_granted(rt: HostRuntime) -> Result<(), Fail> {
-    let alloc = rt.alloc();
-    let mut map = TriHashMap::<Row>::default(alloc);
-    assert!(rt; map.capacity() == 0 && has_room(&mut map).ok() == Some(true));
-    let mut map = TriHashMap::<Row>::with_capacity(alloc, 15)?;
-    assert!(rt; (15..=28).contains(&map.capacity()) && has_room(&mut map).ok() == Some(true));
-    let mut map = TriHashMap::with_capacity_and_hasher(alloc, 10, Alike { hash: 0 })?;
-    assert!(rt; has_room(&mut map).ok() == Some(true));
-    Ok(())
+fn room_is_granted(rt: HostRuntime) {
+    assert!(rt; default_has_room(rt.alloc()));
+    assert!(rt; made_has_room(rt.alloc()));
+    assert!(rt; alike_has_room(rt.alloc()));
+}
+
+/// The length and the capacity of a map that gets so many items, and is extended by nine promised ones, which all take
+/// the place of the first.
+fn extended(map: &mut TriHashMap<Row>, made: usize) -> Option<(usize, usize)> {
+    for key in 1..=made as u64 {
+        let _ = map.insert_overwrite(row_of(key, key, key, 0));
+    }
+    match map.extend([row_of(1, 1, 1, 0); 9]) {
+        Ok(_) => Some((map.len(), map.capacity())),
+        Err(_) => None,
+    }
+}
+
+/// The same of a map that is made with room for so many.
+fn extended_in_room(alloc: Global, made: usize) -> Option<(usize, usize)> {
+    match TriHashMap::with_capacity(alloc, made) {
+        Ok(mut map) => extended(&mut map, made),
+        Err(_) => None,
+    }
 }
 
 // Where a map has items `extend` asks for half of what is promised, rounded up, and else for all of it.
 #[test]
 fn extending_asks_for_half_of_the_promise(rt: HostRuntime) -> Result<(), Fail> {
     for (made, length, least, most) in [(2, 2, 7, 7), (0, 1, 9, 14)] {
-        let (len, capacity) = extended(rt.alloc(), made)?;
+        let Some((len, capacity)) = extended_in_room(rt.alloc(), made) else {
+            return Err("refused")?;
+        };
         assert!(rt; len == length && capacity >= least && capacity <= most);
     }
     Ok(())
 }
 
+/// Whether a map refuses so much more room, both ways, with the capacity that it had at least.
+fn refuses(map: &mut TriHashMap<Row>, more: usize) -> bool {
+    let before = map.capacity();
+    map.reserve(more).is_err() && map.try_reserve(more).is_err() && map.capacity() >= before
+}
+
+/// Whether shrinking a map to more than it has leaves it the capacity that it had at least.
+fn is_not_shrunk(map: &mut TriHashMap<Row>) -> bool {
+    let before = map.capacity();
+    map.shrink_to(usize::MAX).is_ok() && map.capacity() >= before
+}
+
 /// Whether sizes that no memory holds are refused with the items as before, and small ones behind them granted.
 fn refuses_largest_sizes(map: &mut TriHashMap<Row>) -> bool {
     for more in [usize::MAX, usize::MAX - 2] {
-        let before = map.capacity();
-        if map.reserve(more).is_ok() || map.try_reserve(more).is_ok() || map.capacity() < before {
-            return false;
-        }
-        if map.reserve(20).is_err() {
+        if !refuses(map, more) || map.reserve(20).is_err() {
             return false;
         }
     }
-    let before = map.capacity();
-    map.shrink_to(usize::MAX).is_ok()
-        && map.capacity() >= before
-        && has_all(map, [Some(ONE), Some(TWO), Some(THREE)])
+    is_not_shrunk(map) && has_all(map, [Some(ONE), Some(TWO), Some(THREE)])
 }
 
 #[test]

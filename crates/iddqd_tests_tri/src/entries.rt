@@ -11,6 +11,7 @@ use iddqd_tri::{
     Entry, KeyMismatch, OccupiedEntry, OccupiedEntryMut, OccupiedEntryRef, Ranked, TriHashItem,
     TriHashMap, UpToThree,
 };
+use std::alloc::Global;
 use std::hash::{BuildHasher, Hash};
 use std::process::Abort;
 use std::test::*;
@@ -55,15 +56,23 @@ fn insert_over<S: BuildHasher>(
 ) -> Option<Inserted> {
     match map.entry(&key1, &key2, &key3) {
         Entry::Vacant(_) => None,
-        Entry::Occupied(mut found) => {
-            let before = seen(found.get());
-            let answer = match insert_at(&mut found, item) {
-                Ok(displaced) => Answer::In(listed(displaced)),
-                Err(error) => mismatch(error),
-            };
-            let says = [found.is_unique(), found.is_non_unique()];
-            Some((before, answer, says, seen(found.into_ref())))
-        }
+        Entry::Occupied(found) => Some(insert_into(found, item)),
+    }
+}
+
+fn insert_into<S: BuildHasher>(mut found: OccupiedEntry<'_, Row, S>, item: Row) -> Inserted
+    requires { HasFound ⟦<Row as Ranked>⟧.key_tests found }
+{
+    let before = seen(found.get());
+    let answer = answer_of(insert_at(&mut found, item));
+    let says = [found.is_unique(), found.is_non_unique()];
+    (before, answer, says, seen(found.into_ref()))
+}
+
+fn answer_of(inserted: Result<UpToThree<Row>, KeyMismatch<Row>>) -> Answer {
+    match inserted {
+        Ok(displaced) => Answer::In(listed(displaced)),
+        Err(error) => mismatch(error),
     }
 }
 
@@ -88,7 +97,9 @@ const TWICE: Seen = ([Some(ONE), Some(ONE), None], None);
 const TWICE_AND: Seen = ([Some(ONE), Some(ONE), Some(THREE)], None);
 
 /// On the map of three: three keys, the item that is inserted there, what that answers, and what the map has then.
-const OVERWRITES: [(Asked, Row, Inserted, Listed); 6] = [
+type Overwrite = (Asked, Row, Inserted, Listed);
+
+const OVERWRITES: [Overwrite; 6] = [
     (
         (3, 20, 100),
         NEW,
@@ -142,12 +153,18 @@ const OVERWRITES: [(Asked, Row, Inserted, Listed); 6] = [
     ),
 ];
 
+fn is_overwritten<S: BuildHasher>(
+    map: &mut TriHashMap<Row, S>,
+    (asked, item, wanted, left): &Overwrite,
+) -> bool {
+    reset(map) && insert_over(map, *asked, *item) == Some(*wanted) && has_all(map, *left)
+}
+
 fn occupied<S: BuildHasher>(map: &mut TriHashMap<Row, S>) -> bool {
     let mut is_right = reset(map);
     let capacity = map.capacity();
-    for (asked, item, wanted, left) in OVERWRITES {
-        is_right = is_right && reset(map) && insert_over(map, asked, item) == Some(wanted);
-        is_right = is_right && has_all(map, left) && map.capacity() == capacity;
+    for overwrite in &OVERWRITES {
+        is_right = is_right && is_overwritten(map, overwrite) && map.capacity() == capacity;
     }
     is_right
 }
@@ -256,9 +273,9 @@ const PUT: [(Row, Answer, usize); 4] = [
 /// Whether the items go this way as they should, where a closure is called so often for each.
 fn is_filled<S: BuildHasher>(map: &mut TriHashMap<Row, S>, way: &Way, calls: u64) -> bool {
     let mut is_right = reset(map);
-    for (item, answer, length) in PUT {
-        is_right = is_right && put_in(map, (9, 90, 900), way, item) == (answer, calls);
-        is_right = is_right && map.len() == length;
+    for (item, answer, length) in &PUT {
+        is_right = is_right && put_in(map, (9, 90, 900), way, *item) == (*answer, calls);
+        is_right = is_right && map.len() == *length;
     }
     is_right && map.get_unique(&9, &90, &900).copied() == Some(ITEM)
 }
@@ -347,15 +364,23 @@ const RAISED: Listed = [
     Some(row!(3, 30, 300, 11)),
 ];
 
+fn modify_either<S: BuildHasher>(
+    map: &mut TriHashMap<Row, S>,
+    by_entry: bool,
+    asked: Asked,
+) -> Listed {
+    if by_entry {
+        modify(map, asked)
+    } else {
+        modify_each(map, asked)
+    }
+}
+
 fn modified<S: BuildHasher>(map: &mut TriHashMap<Row, S>) -> bool {
     let mut is_right = reset(map);
-    for (by_entry, asked, wanted, left) in MODIFIED {
-        let heard = if by_entry {
-            modify(map, asked)
-        } else {
-            modify_each(map, asked)
-        };
-        is_right = is_right && heard == wanted && has_all(map, left);
+    for (by_entry, asked, wanted, left) in &MODIFIED {
+        let heard = modify_either(map, *by_entry, *asked);
+        is_right = is_right && heard == *wanted && has_all(map, *left);
     }
     is_right
 }
@@ -366,13 +391,18 @@ fn check<S: BuildHasher>(rt: &impl Abort, map: &mut TriHashMap<Row, S>) {
     assert!(rt; modified(map));
 }
 
+fn check_new(rt: &impl Abort, alloc: Global) {
+    check(rt, &mut TriHashMap::new(alloc));
+}
+
+fn check_alike(rt: &impl Abort, alloc: Global, hash: u64) {
+    check(rt, &mut TriHashMap::with_hasher(alloc, Alike { hash }));
+}
+
 #[test]
 fn entries_are_overwritten_filled_and_modified(rt: HostRuntime) {
-    check(&rt, &mut TriHashMap::new(rt.alloc()));
+    check_new(&rt, rt.alloc());
     for hash in [0, 18446744073709551615] {
-        check(
-            &rt,
-            &mut TriHashMap::with_hasher(rt.alloc(), Alike { hash }),
-        );
+        check_alike(&rt, rt.alloc(), hash);
     }
 }

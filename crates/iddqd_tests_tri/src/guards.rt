@@ -3,6 +3,7 @@ use crate::row::Row;
 use crate::worked::{Answer, Listed, ONE, THREE, TWO, has_all, mismatch, reset, row};
 use iddqd_builders::Alike;
 use iddqd_tri::{Cursor, TriHashMap};
+use std::alloc::Global;
 use std::hash::BuildHasher;
 
 /// What becomes of an item that is put in the place of the one with this second key.
@@ -99,8 +100,8 @@ const REPLACED: [(u64, Row, Answer); 5] = [
 
 fn replaced<S: BuildHasher>(map: &mut TriHashMap<Row, S>) -> bool {
     let mut is_right = reset(map);
-    for (key, item, wanted) in REPLACED {
-        is_right = is_right && replace2(map, key, item) == wanted;
+    for (key, item, wanted) in &REPLACED {
+        is_right = is_right && replace2(map, *key, *item) == *wanted;
     }
     is_right && has_all(map, [Some(ONE), Some(NEW), Some(THREE)])
 }
@@ -128,17 +129,29 @@ fn written<S: BuildHasher>(map: &mut TriHashMap<Row, S>) -> bool {
         && walk(map) == (true, 8)
         && map.capacity() == capacity
         && has_all(map, WRITTEN)
-        && raise_by_data(map)
-        && raise(map, 9) == 3
-        && has_all(map, RAISED)
+}
+
+/// Whether the values that are written so are raised.
+fn raised<S: BuildHasher>(map: &mut TriHashMap<Row, S>) -> bool {
+    raise_by_data(map) && raise(map, 9) == 3 && has_all(map, RAISED)
+}
+
+fn check<S: BuildHasher>(map: &mut TriHashMap<Row, S>) -> bool {
+    replaced(map) && written(map) && raised(map)
+}
+
+fn check_new(alloc: Global) -> bool {
+    check(&mut TriHashMap::new(alloc))
+}
+
+fn check_alike(alloc: Global, hash: u64) -> bool {
+    check(&mut TriHashMap::with_hasher(alloc, Alike { hash }))
 }
 
 #[test]
 fn items_are_written(rt: HostRuntime) {
-    let mut map = TriHashMap::new(rt.alloc());
-    assert!(rt; replaced(&mut map) && written(&mut map));
+    assert!(rt; check_new(rt.alloc()));
     for hash in [0, 18446744073709551615] {
-        let mut map = TriHashMap::with_hasher(rt.alloc(), Alike { hash });
-        assert!(rt; replaced(&mut map) && written(&mut map));
+        assert!(rt; check_alike(rt.alloc(), hash));
     }
 }

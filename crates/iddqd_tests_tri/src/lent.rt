@@ -4,7 +4,10 @@ ghost use Rattle.iddqd_tri.specs.Entries.{HasFound, Holds};
 use crate::row::{Row, row_of};
 use crate::worked::{Listed, ONE, THREE, TWO, has_all, item_of, reset, row};
 use iddqd_builders::Alike;
-use iddqd_tri::{Entry, OccupiedEntry, OccupiedEntryMut, Ranked, TriHashItem, TriHashMap};
+use iddqd_tri::{
+    Entry, EntryError, OccupiedEntry, OccupiedEntryMut, Ranked, TriHashItem, TriHashMap,
+};
+use std::alloc::Global;
 use std::hash::{BuildHasher, Hash};
 use std::test::*;
 
@@ -49,13 +52,17 @@ type Found = ([[bool; 2]; 3], [Lent; 3]);
 fn find<S: BuildHasher>(map: &mut TriHashMap<Row, S>, (key1, key2, key3): Asked) -> Option<Found> {
     match map.entry(&key1, &key2, &key3) {
         Entry::Vacant(_) => None,
-        Entry::Occupied(mut found) => {
-            let [entry, seen] = says(&found);
-            let (held, [first, again]) = lends(&mut found.get_mut());
-            let last = lent(&mut found.get_mut());
-            Some(([entry, seen, held], [first, again, last]))
-        }
+        Entry::Occupied(found) => Some(find_each(found)),
     }
+}
+
+fn find_each<S: BuildHasher>(mut found: OccupiedEntry<'_, Row, S>) -> Found
+    requires { HasFound ⟦<Row as Ranked>⟧.key_tests found }
+{
+    let [entry, seen] = says(&found);
+    let (held, [first, again]) = lends(&mut found.get_mut());
+    let last = lent(&mut found.get_mut());
+    ([entry, seen, held], [first, again, last])
 }
 
 /// The item that an entry lends for as long as its map is lent, by the key of this rank, or by all.
@@ -66,15 +73,18 @@ fn find_by<S: BuildHasher>(
 ) -> Option<Row> {
     match map.entry(&key1, &key2, &key3) {
         Entry::Vacant(_) => None,
-        Entry::Occupied(found) => {
-            let held = found.into_mut();
-            match rank {
-                0 => item_of!(held.into_by_key1()),
-                1 => item_of!(held.into_by_key2()),
-                2 => item_of!(held.into_by_key3()),
-                _ => item_of!(held.into_unique()),
-            }
-        }
+        Entry::Occupied(found) => held_by(found.into_mut(), rank),
+    }
+}
+
+fn held_by<S: BuildHasher>(held: OccupiedEntryMut<'_, Row, S>, rank: usize) -> Option<Row>
+    requires { Holds held }
+{
+    match rank {
+        0 => item_of!(held.into_by_key1()),
+        1 => item_of!(held.into_by_key2()),
+        2 => item_of!(held.into_by_key3()),
+        _ => item_of!(held.into_unique()),
     }
 }
 
@@ -82,7 +92,9 @@ const EACH: Listed = [Some(ONE), Some(TWO), Some(THREE)];
 
 /// Three keys, whether one item of the map of three has all and whether none has, and what they find: by each key, and
 /// by all.
-const FOUND: [(Asked, [bool; 2], Listed, Option<Row>); 7] = [
+type Wanted = (Asked, [bool; 2], Listed, Option<Row>);
+
+const FOUND: [Wanted; 7] = [
     (
         (1, 10, 300),
         [false, true],
@@ -102,16 +114,27 @@ const FOUND: [(Asked, [bool; 2], Listed, Option<Row>); 7] = [
     ),
 ];
 
-/// Whether each entry lends what it should, and leaves items and capacity as they are.
+/// Whether an entry lends what it should.
+fn is_lent<S: BuildHasher>(
+    map: &mut TriHashMap<Row, S>,
+    (asked, says, each, unique): &Wanted,
+) -> bool {
+    let by_each = [
+        find_by(map, *asked, 0),
+        find_by(map, *asked, 1),
+        find_by(map, *asked, 2),
+    ];
+    find(map, *asked) == Some(([*says; 3], [(*each, *unique); 3]))
+        && by_each == *each
+        && find_by(map, *asked, 3) == *unique
+}
+
+/// Whether each entry does, and leaves items and capacity as they are.
 fn are_lent<S: BuildHasher>(map: &mut TriHashMap<Row, S>) -> bool {
     let mut is_right = reset(map);
     let capacity = map.capacity();
-    for (asked, says, each, unique) in FOUND {
-        is_right = is_right && find(map, asked) == Some(([says; 3], [(each, unique); 3]));
-        for rank in 0..3 {
-            is_right = is_right && find_by(map, asked, rank) == each[rank];
-        }
-        is_right = is_right && find_by(map, asked, 3) == unique;
+    for row in &FOUND {
+        is_right = is_right && is_lent(map, row);
         is_right = is_right && map.capacity() == capacity && has_all(map, EACH);
     }
     is_right
@@ -170,6 +193,12 @@ fn are_written<S: BuildHasher>(map: &mut TriHashMap<Row, S>) -> bool {
 /// it and by value.
 type Put = Result<Lent, [Row; 2]>;
 
+/// The item that comes back, as the refusal shows it and by value.
+fn came_back(error: EntryError<Row>) -> [Row; 2] {
+    let shown = *error.item();
+    [shown, error.into_item()]
+}
+
 /// What becomes of an item that a vacant entry is given, for writing.
 fn put<S: BuildHasher>(
     map: &mut TriHashMap<Row, S>,
@@ -179,10 +208,7 @@ fn put<S: BuildHasher>(
     match map.entry(&key1, &key2, &key3) {
         Entry::Vacant(entry) => match entry.insert_mut(item) {
             Ok(mut found) => Some(Ok(lent(&mut found))),
-            Err(error) => {
-                let shown = *error.item();
-                Some(Err([shown, error.into_item()]))
-            }
+            Err(error) => Some(Err(came_back(error))),
         },
         Entry::Occupied(_) => None,
     }
@@ -220,15 +246,23 @@ const PUT: [(Row, Put, usize); 4] = [
     (ITEM, Ok(([Some(ITEM); 3], Some(ITEM))), 4),
 ];
 
+fn put_either<S: BuildHasher>(
+    map: &mut TriHashMap<Row, S>,
+    item: Row,
+    may_keep: bool,
+) -> Option<Put> {
+    if may_keep {
+        Some(put_or_keep(map, (9, 90, 900), item))
+    } else {
+        put(map, (9, 90, 900), item)
+    }
+}
+
 fn are_put<S: BuildHasher>(map: &mut TriHashMap<Row, S>, may_keep: bool) -> bool {
     let mut is_right = reset(map);
-    for (item, wanted, length) in PUT {
-        let answer = if may_keep {
-            Some(put_or_keep(map, (9, 90, 900), item))
-        } else {
-            put(map, (9, 90, 900), item)
-        };
-        is_right = is_right && answer == Some(wanted) && map.len() == length;
+    for (item, wanted, length) in &PUT {
+        let answer = put_either(map, *item, may_keep);
+        is_right = is_right && answer == Some(*wanted) && map.len() == *length;
     }
     is_right && map.remove_unique(&9, &90, &900) == Some(ITEM) && has_all(map, EACH)
 }
@@ -237,8 +271,16 @@ fn check<S: BuildHasher>(map: &mut TriHashMap<Row, S>) -> bool {
     are_lent(map) && are_written(map) && are_put(map, false) && are_put(map, true)
 }
 
+fn check_new(alloc: Global) -> bool {
+    check(&mut TriHashMap::new(alloc))
+}
+
+fn check_alike(alloc: Global) -> bool {
+    check(&mut TriHashMap::with_hasher(alloc, Alike { hash: 0 }))
+}
+
 #[test]
 fn entries_lend_what_they_found(rt: HostRuntime) {
-    assert!(rt; check(&mut TriHashMap::new(rt.alloc())));
-    assert!(rt; check(&mut TriHashMap::with_hasher(rt.alloc(), Alike { hash: 0 })));
+    assert!(rt; check_new(rt.alloc()));
+    assert!(rt; check_alike(rt.alloc()));
 }
