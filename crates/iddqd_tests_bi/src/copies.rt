@@ -13,13 +13,17 @@ fn cloned(map: &BiHashMap<Held>) -> Option<usize> {
     }
 }
 
+/// Whether the map of four has such a clone, and its items as before.
+fn is_cloned_so(map: BiHashMap<Held>, wanted: Option<usize>) -> bool {
+    cloned(&map) == wanted && map.len() == 4 && map.contains_key1(&4)
+}
+
 #[test]
 fn an_item_that_is_not_cloned_gives_no_map(rt: HostRuntime) -> Result<(), Fail> {
     for (allowed, wanted) in [(0, None), (1, None), (2, None), (3, None), (4, Some(4))] {
         let left = Rc::new(rt.alloc(), Cell::new(allowed))?;
-        let map = map_of(rt.alloc(), listed(rt.alloc(), &left, FOUR)?);
-        assert!(rt; cloned(&map) == wanted && map.len() == 4 && map.contains_key1(&4));
-        drop(map);
+        let items = listed(rt.alloc(), &left, FOUR)?;
+        assert!(rt; is_cloned_so(map_of(rt.alloc(), items), wanted));
         assert!(rt; Rc::strong_count(&left) == 1);
     }
     Ok(())

@@ -163,13 +163,18 @@ fn displaced(map: &mut BiHashMap<Held>, item: Held, alive: &Rc<Cell<u64>>) -> [u
     [during, Rc::strong_count(alive)]
 }
 
+/// Whether an item displaces the two of the map, and is gone, too, once that is cleared.
+fn displaces(map: &mut BiHashMap<Held>, item: Held, alive: &Rc<Cell<u64>>) -> bool {
+    let is_right = displaced(map, item, alive) == [4, 2] && map.len() == 1;
+    map.clear();
+    is_right && Rc::strong_count(alive) == 1
+}
+
 #[test]
 fn displaced_items_are_dropped_once(rt: HostRuntime) -> Result<(), Fail> {
     let alive = Rc::new(rt.alloc(), Cell::new(0))?;
     let (mut map, item) = two_and(rt.alloc(), &alive, (1, 20))?;
-    assert!(rt; displaced(&mut map, item, &alive) == [4, 2] && map.len() == 1);
-    map.clear();
-    assert!(rt; Rc::strong_count(&alive) == 1);
+    assert!(rt; displaces(&mut map, item, &alive));
     Ok(())
 }
 
@@ -207,19 +212,29 @@ const CLASHING: &[Keys] = &[(1, 10), (2, 20), (2, 10), (3, 30)];
 
 const CLASHING_LATE: &[Keys] = &[(3, 30), (4, 40), (5, 30), (6, 60), (1, 10)];
 
+/// Whether a list is sent back by the map of these items, which stay.
+fn sends_back(mut map: BiHashMap<Held>, late: Vec<Held>, alive: &Rc<Cell<u64>>) -> bool {
+    // Beside the two of the map, those that it took and gave back and the refused one are left of the five.
+    sent_back(&mut map, late, alive) == Some((2, 5, [6, 4]))
+        && map.len() == 2
+        && Rc::strong_count(alive) == 3
+}
+
 #[test]
-fn a_refused_list_is_dropped_once(rt: HostRuntime) -> Result<(), Fail> {
+fn a_list_that_gives_no_map_is_dropped_once(rt: HostRuntime) -> Result<(), Fail> {
     let alive = Rc::new(rt.alloc(), Cell::new(0))?;
     let items = listed(rt.alloc(), &alive, CLASHING)?;
     // The new item and the two in its way are left of the four.
     assert!(rt; built(rt.alloc(), items, &alive) == (true, [4, 1]));
+    Ok(())
+}
+
+#[test]
+fn a_refused_list_is_dropped_once(rt: HostRuntime) -> Result<(), Fail> {
+    let alive = Rc::new(rt.alloc(), Cell::new(0))?;
     let items = listed(rt.alloc(), &alive, TWO)?;
     let late = listed(rt.alloc(), &alive, CLASHING_LATE)?;
-    let mut map = map_of(rt.alloc(), items);
-    // Beside the two of the map, those that it took and gave back and the refused one are left of the five.
-    assert!(rt; sent_back(&mut map, late, &alive) == Some((2, 5, [6, 4])));
-    assert!(rt; map.len() == 2 && Rc::strong_count(&alive) == 3);
-    drop(map);
+    assert!(rt; sends_back(map_of(rt.alloc(), items), late, &alive));
     assert!(rt; Rc::strong_count(&alive) == 1);
     Ok(())
 }

@@ -5,16 +5,17 @@ use std::alloc::Global;
 use std::rc::Rc;
 use std::test::Fail;
 
+/// Whether a map finds an item by the keys 1 and 10.
+fn has_both<T: BiHashItem<K1 = u64, K2 = u64>>(map: &BiHashMap<T>) -> bool {
+    map.contains_key1(&1) && map.contains_key2(&10) && !map.contains_key1(&10)
+}
+
 /// Whether a map finds this item, which has the keys 1 and 10, by each of its keys.
 fn is_found<T: BiHashItem<K1 = u64, K2 = u64> + Drop>(alloc: Global, item: T) -> bool {
     let mut map = BiHashMap::new(alloc);
     let was_empty = map.is_empty();
     let _ = map.insert_overwrite(item);
-    was_empty
-        && !map.is_empty()
-        && map.contains_key1(&1)
-        && map.contains_key2(&10)
-        && !map.contains_key1(&10)
+    was_empty && !map.is_empty() && has_both(&map)
 }
 
 /// Writes the data of an item.

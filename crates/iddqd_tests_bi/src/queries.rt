@@ -67,12 +67,20 @@ const SEARCHES: [(bool, u64, (Option<Row>, u64)); 5] = [
     (false, 1, (None, 0)),
 ];
 
+/// Whether each search finds what it should, and asks so.
+fn are_asked(map: &BiHashMap<Row, OwnHash>) -> bool {
+    for (is_first, key, wanted) in &SEARCHES {
+        if search(map, *is_first, *key) != *wanted {
+            return false;
+        }
+    }
+    true
+}
+
 #[test]
 fn asks_only_keys_of_the_hash(rt: HostRuntime) {
     let map = two(&rt, rt.alloc(), OwnHash);
-    for (is_first, key, wanted) in SEARCHES {
-        assert!(rt; search(&map, is_first, key) == wanted, "at {key}");
-    }
+    assert!(rt; are_asked(&map));
 }
 
 /// A text that stands for the keys that are equal to it.
@@ -101,11 +109,20 @@ const NUMBERS: [(&str, Option<u64>); 4] = [
     ("", None),
 ];
 
+/// The number of the item with this text, asked for by the query of this file.
+fn number_asked(map: &BiHashMap<Keyed<&'static str, u64>>, text: &str) -> Option<u64> {
+    number_of!(map.get1(&Text { text }))
+}
+
+/// The same by the query that is there for lent texts.
+fn number_lent(map: &BiHashMap<Keyed<&'static str, u64>>, text: &str) -> Option<u64> {
+    number_of!(map.get1(&iddqd_bi::Text(text)))
+}
+
 /// Whether each text is found that should be, in the map of these, also by the query that is there for lent texts.
 fn are_found(map: &BiHashMap<Keyed<&'static str, u64>>) -> bool {
-    for (text, wanted) in NUMBERS {
-        let lent = number_of!(map.get1(&iddqd_bi::Text(text)));
-        if number_of!(map.get1(&Text { text })) != wanted || lent != wanted {
+    for (text, wanted) in &NUMBERS {
+        if number_asked(map, text) != *wanted || number_lent(map, text) != *wanted {
             return false;
         }
     }

@@ -55,16 +55,30 @@ fn sum_lent(map: &BiHashMap<Row>) -> u64 {
     sum
 }
 
+fn default_gives_nothing() -> bool {
+    Iter::<Row>::default().next().is_none()
+}
+
+/// How many items a map lends.
+fn number_lent(alloc: Global, map: &BiHashMap<Row>) -> Result<usize, AllocError> {
+    Ok(all_lent(alloc, map)?.len())
+}
+
+/// Whether a map gives its two items, in either order.
+fn gives_both(alloc: Global, map: BiHashMap<Row>) -> Result<bool, AllocError> {
+    let given = all_given(alloc, map)?;
+    let is_given = given.as_slice() == [ONE, TWO].as_slice();
+    Ok(is_given || given.as_slice() == [TWO, ONE].as_slice())
+}
+
 #[test]
 fn walks_give_each_item_once(rt: HostRuntime) -> Result<(), Fail> {
     let alloc = rt.alloc();
+    assert!(rt; default_gives_nothing());
     let map = two(&rt, alloc, DefaultHashBuilder::default());
-    assert!(rt; says_what_is_left(&map) && Iter::<Row>::default().next().is_none());
-    assert!(rt; count_all(&map) == 2 && all_lent(alloc, &map)?.len() == 2);
-    assert!(rt; sum_lent(&map) == 300);
-    let given = all_given(alloc, map)?;
-    let is_given = given.as_slice() == [ONE, TWO].as_slice();
-    assert!(rt; is_given || given.as_slice() == [TWO, ONE].as_slice());
+    assert!(rt; says_what_is_left(&map) && count_all(&map) == 2 && sum_lent(&map) == 300);
+    assert!(rt; number_lent(alloc, &map)? == 2);
+    assert!(rt; gives_both(alloc, map)?);
     Ok(())
 }
 
@@ -125,12 +139,15 @@ fn asked(map: &mut BiHashMap<Row>) -> u64 {
     calls
 }
 
+/// Whether it leaves that alone, and the capacity.
+fn is_filtered(map: &mut BiHashMap<Row>) -> bool {
+    let capacity = map.capacity();
+    asked(map) == 2 && map.len() == 1 && map.capacity() == capacity && map.contains_key2(&20)
+}
+
 #[test]
 fn maps_are_compared_cloned_and_filtered(rt: HostRuntime) {
     let mut map = two(&rt, rt.alloc(), DefaultHashBuilder::default());
     assert!(rt; are_compared(rt.alloc(), &map));
-    assert!(rt; is_cloned(&mut map));
-    let capacity = map.capacity();
-    assert!(rt; asked(&mut map) == 2 && map.len() == 1 && map.capacity() == capacity);
-    assert!(rt; map.contains_key2(&20));
+    assert!(rt; is_cloned(&mut map) && is_filtered(&mut map));
 }
