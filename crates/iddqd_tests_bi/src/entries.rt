@@ -61,10 +61,7 @@ fn insert_both<S: BuildHasher>(
     }
 }
 
-fn insert_each<S: BuildHasher>(
-    mut found: OccupiedEntry<'_, Row, S>,
-    items: [Row; 2],
-) -> Inserted
+fn insert_each<S: BuildHasher>(mut found: OccupiedEntry<'_, Row, S>, items: [Row; 2]) -> Inserted
     requires { HasFound ⟦<Row as Ranked>⟧.key_tests found }
 {
     let before = seen(found.get());

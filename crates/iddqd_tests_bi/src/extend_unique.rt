@@ -75,10 +75,7 @@ fn extended<S: BuildHasher>(map: &mut BiHashMap<Row, S>, items: &[Row]) -> Optio
 }
 
 /// Whether a list goes in or not as it should, and the empty one leaves the capacity.
-fn is_whole<S: BuildHasher>(
-    map: &mut BiHashMap<Row, S>,
-    (items, wanted, left): &List,
-) -> bool {
+fn is_whole<S: BuildHasher>(map: &mut BiHashMap<Row, S>, (items, wanted, left): &List) -> bool {
     let is_reset = reset(map);
     let capacity = map.capacity();
     let is_right = is_reset && extended(map, items) == *wanted;

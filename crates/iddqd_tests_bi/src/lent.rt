@@ -3,9 +3,7 @@ ghost use Rattle.iddqd_bi.specs.Entries.{HasFound, Holds};
 
 use crate::row::{Row, row_of};
 use crate::worked::{ONE, TWO, by_first, item_of, reset, row};
-use iddqd_bi::{
-    BiHashItem, BiHashMap, Entry, EntryError, OccupiedEntry, OccupiedEntryMut, Ranked,
-};
+use iddqd_bi::{BiHashItem, BiHashMap, Entry, EntryError, OccupiedEntry, OccupiedEntryMut, Ranked};
 use iddqd_builders::Alike;
 use std::alloc::Global;
 use std::hash::{BuildHasher, Hash};
@@ -97,10 +95,7 @@ const FOUND: [Wanted; 4] = [
 ];
 
 /// Whether an entry lends what it should.
-fn is_lent<S: BuildHasher>(
-    map: &mut BiHashMap<Row, S>,
-    (keys, says, wanted): &Wanted,
-) -> bool {
+fn is_lent<S: BuildHasher>(map: &mut BiHashMap<Row, S>, (keys, says, wanted): &Wanted) -> bool {
     let by_each = [
         find_by(map, *keys, 0),
         find_by(map, *keys, 1),

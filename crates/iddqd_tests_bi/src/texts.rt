@@ -87,7 +87,10 @@ fn lent_texts_and_slices_ask_for_owned_ones(rt: HostRuntime) -> Result<(), Fail>
         assert!(rt; is_added(&mut map, page));
     }
     for (text, by_title, by_tag) in &PAGES {
-        assert!(rt; titled(&map, text) == *by_title && tagged(&map, text) == *by_tag, "{text}");
+        assert!(rt;
+            titled(&map, text) == *by_title && tagged(&map, text) == *by_tag,
+            "{text}"
+        );
     }
     Ok(())
 }

@@ -4,9 +4,7 @@ use crate::worked::{
     Listed, NOTHING, ONE, Refused, THREE, TWO, goes_in, has_all, listed, refused_list, row, three,
 };
 use iddqd_builders::Alike;
-use iddqd_tri::{
-    DefaultHashBuilder, ExtendUniqueReason, FromIterError, TriHashMap,
-};
+use iddqd_tri::{DefaultHashBuilder, ExtendUniqueReason, FromIterError, TriHashMap};
 use std::alloc::Global;
 use std::hash::BuildHasher;
 use std::test::Fail;
@@ -115,10 +113,7 @@ fn refused_of<S: BuildHasher>(map: &mut TriHashMap<Row, S>, items: &[Row]) -> Op
 }
 
 /// Whether a list goes in or not as it should, and the empty one leaves the capacity.
-fn is_whole<S: BuildHasher>(
-    map: &mut TriHashMap<Row, S>,
-    (items, wanted, left): &List,
-) -> bool {
+fn is_whole<S: BuildHasher>(map: &mut TriHashMap<Row, S>, (items, wanted, left): &List) -> bool {
     map.clear();
     let is_in = goes_in(map, ONE);
     let capacity = map.capacity();

@@ -137,13 +137,17 @@ fn cloned(map: &TriHashMap<Held>) -> Option<usize> {
     }
 }
 
+/// Whether the map of four has such a clone, and its items as before.
+fn is_cloned_so(map: TriHashMap<Held>, wanted: Option<usize>) -> bool {
+    cloned(&map) == wanted && map.len() == 4 && map.contains_key3(&400)
+}
+
 #[test]
 fn an_item_that_is_not_cloned_gives_no_map(rt: HostRuntime) -> Result<(), Fail> {
     for (allowed, wanted) in [(0, None), (1, None), (2, None), (3, None), (4, Some(4))] {
         let left = Rc::new(rt.alloc(), Cell::new(allowed))?;
-        let map = map_of(rt.alloc(), listed(rt.alloc(), &left, FOUR)?);
-        assert!(rt; cloned(&map) == wanted && map.len() == 4 && map.contains_key3(&400));
-        drop(map);
+        let items = listed(rt.alloc(), &left, FOUR)?;
+        assert!(rt; is_cloned_so(map_of(rt.alloc(), items), wanted));
         assert!(rt; Rc::strong_count(&left) == 1);
     }
     Ok(())
@@ -193,13 +197,18 @@ fn displaced(map: &mut TriHashMap<Held>, item: Held, alive: &Rc<Cell<u64>>) -> [
     [during, Rc::strong_count(alive)]
 }
 
+/// Whether an item displaces three of the map, and is gone, too, once that is cleared.
+fn displaces(map: &mut TriHashMap<Held>, item: Held, alive: &Rc<Cell<u64>>) -> bool {
+    let is_right = displaced(map, item, alive) == [6, 3] && map.len() == 2;
+    map.clear();
+    is_right && Rc::strong_count(alive) == 1
+}
+
 #[test]
 fn displaced_items_are_dropped_once(rt: HostRuntime) -> Result<(), Fail> {
     let alive = Rc::new(rt.alloc(), Cell::new(0))?;
     let (mut map, item) = four_and(rt.alloc(), &alive, (1, 20, 300))?;
-    assert!(rt; displaced(&mut map, item, &alive) == [6, 3] && map.len() == 2);
-    map.clear();
-    assert!(rt; Rc::strong_count(&alive) == 1);
+    assert!(rt; displaces(&mut map, item, &alive));
     Ok(())
 }
 
@@ -237,19 +246,31 @@ const CLASHING: &[Keys] = &[(1, 10, 100), (2, 20, 200), (2, 30, 100), (3, 40, 30
 
 const CLASHING_LATE: &[Keys] = &[(5, 50, 500), (6, 60, 600), (7, 70, 500), (8, 80, 800)];
 
-// What is left of a list that gave no map is dropped with the refusal, and so is what is left of one that did not go
-// into a map: the items that it took and gave back, and the one that it refused.
+/// Whether a list is sent back by a map, whose items stay.
+fn sends_back(mut map: TriHashMap<Held>, late: Vec<Held>, alive: &Rc<Cell<u64>>) -> bool {
+    sent_back(&mut map, late, alive) == Some((2, 7, [8, 6]))
+        && map.len() == 4
+        && Rc::strong_count(alive) == 5
+}
+
+// What is left of a list that gave no map is dropped with the refusal.
 #[test]
-fn refused_lists_are_dropped_once(rt: HostRuntime) -> Result<(), Fail> {
+fn a_list_that_gives_no_map_is_dropped_once(rt: HostRuntime) -> Result<(), Fail> {
     let alive = Rc::new(rt.alloc(), Cell::new(0))?;
     let items = listed(rt.alloc(), &alive, CLASHING)?;
     // The new item and the two in its way are left of the four.
     assert!(rt; built(rt.alloc(), items, &alive) == (true, [4, 1]));
+    Ok(())
+}
+
+// So is what is left of one that did not go into a map: the items that it took and gave back, and the one that it
+// refused.
+#[test]
+fn refused_lists_are_dropped_once(rt: HostRuntime) -> Result<(), Fail> {
+    let alive = Rc::new(rt.alloc(), Cell::new(0))?;
     let late = listed(rt.alloc(), &alive, CLASHING_LATE)?;
-    let mut map = map_of(rt.alloc(), listed(rt.alloc(), &alive, FOUR)?);
-    assert!(rt; sent_back(&mut map, late, &alive) == Some((2, 7, [8, 6])));
-    assert!(rt; map.len() == 4 && Rc::strong_count(&alive) == 5);
-    drop(map);
+    let items = listed(rt.alloc(), &alive, FOUR)?;
+    assert!(rt; sends_back(map_of(rt.alloc(), items), late, &alive));
     assert!(rt; Rc::strong_count(&alive) == 1);
     Ok(())
 }

@@ -5,16 +5,17 @@ use std::alloc::Global;
 use std::rc::Rc;
 use std::test::Fail;
 
+/// Whether a map finds an item by the keys 1, 10 and 100.
+fn has_all<T: TriHashItem<K1 = u64, K2 = u64, K3 = u64>>(map: &TriHashMap<T>) -> bool {
+    map.contains_key_unique(&1, &10, &100) && !map.contains_key1(&10) && !map.contains_key3(&10)
+}
+
 /// Whether a map finds this item, which has the keys 1, 10 and 100, by each of its keys.
 fn is_found<T: TriHashItem<K1 = u64, K2 = u64, K3 = u64> + Drop>(alloc: Global, item: T) -> bool {
     let mut map = TriHashMap::new(alloc);
     let was_empty = map.is_empty();
     let _ = map.insert_overwrite(item);
-    was_empty
-        && !map.is_empty()
-        && map.contains_key_unique(&1, &10, &100)
-        && !map.contains_key1(&10)
-        && !map.contains_key3(&10)
+    was_empty && !map.is_empty() && has_all(&map)
 }
 
 /// Writes the data of an item.

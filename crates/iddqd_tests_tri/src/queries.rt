@@ -66,12 +66,20 @@ const SEARCHES: [(u8, u64, (Option<Row>, u64)); 6] = [
     (3, 30, (None, 0)),
 ];
 
+/// Whether each search finds what it should, and asks so.
+fn are_asked(map: &TriHashMap<Row, OwnHash>) -> bool {
+    for (rank, key, wanted) in &SEARCHES {
+        if search(map, *rank, *key) != *wanted {
+            return false;
+        }
+    }
+    true
+}
+
 #[test]
 fn asks_only_keys_of_the_hash(rt: HostRuntime) {
     let map = three(&rt, rt.alloc(), OwnHash);
-    for (rank, key, wanted) in SEARCHES {
-        assert!(rt; search(&map, rank, key) == wanted, "{rank}: {key}");
-    }
+    assert!(rt; are_asked(&map));
 }
 
 /// An item with a text as its third key.
@@ -134,14 +142,18 @@ const NUMBERS: [(&str, Option<u64>); 4] = [
     ("", None),
 ];
 
+/// The first key of the item with this text.
+fn number_of(map: &TriHashMap<Word>, text: &str) -> Option<u64> {
+    match map.get3(&Text { text }) {
+        Some(word) => Some(word.first),
+        None => None,
+    }
+}
+
 /// Whether each text is found that should be, in the map of these.
 fn are_found(map: &TriHashMap<Word>) -> bool {
-    for (text, wanted) in NUMBERS {
-        let found = match map.get3(&Text { text }) {
-            Some(word) => Some(word.first),
-            None => None,
-        };
-        if found != wanted {
+    for (text, wanted) in &NUMBERS {
+        if number_of(map, text) != *wanted {
             return false;
         }
     }
