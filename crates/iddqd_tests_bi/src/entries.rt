@@ -57,20 +57,14 @@ fn insert_both<S: BuildHasher>(
 ) -> Option<Inserted> {
     match map.entry(&key1, &key2) {
         Entry::Vacant(_) => None,
-        Entry::Occupied(found) => Some(insert_each(found, items)),
+        Entry::Occupied(mut found) => {
+            let before = seen(found.get());
+            let first = answer_of(insert_at(&mut found, items[0]));
+            let second = answer_of(insert_at(&mut found, items[1]));
+            let says = [found.is_unique(), found.is_non_unique()];
+            Some((before, [first, second], says, seen(found.into_ref())))
+        }
     }
-}
-
-fn insert_each<S: BuildHasher>(mut found: OccupiedEntry<'_, Row, S>, items: [Row; 2]) -> Inserted
-    requires { HasFound ⟦<Row as Ranked>⟧.key_tests found }
-{
-    let before = seen(found.get());
-    let answers = [
-        answer_of(insert_at(&mut found, items[0])),
-        answer_of(insert_at(&mut found, items[1])),
-    ];
-    let says = [found.is_unique(), found.is_non_unique()];
-    (before, answers, says, seen(found.into_ref()))
 }
 
 /// The items that two keys found and that are taken out.
@@ -184,19 +178,14 @@ fn insert_entry<S: BuildHasher>(
 ) -> Answer {
     match map.entry(&key1, &key2) {
         Entry::Vacant(entry) => match entry.insert_entry(item) {
-            Ok(found) => twice_unique(found),
+            Ok(found) => {
+                let first = found.get().as_unique().copied();
+                Answer::In([first, found.into_ref().as_unique().copied()])
+            }
             Err(error) => refusal(error.into_error()),
         },
         Entry::Occupied(_) => Answer::Absent(item),
     }
-}
-
-/// The one item that has both keys, while the entry stays and once it is gone.
-fn twice_unique<S: BuildHasher>(found: OccupiedEntry<'_, Row, S>) -> Answer
-    requires { HasFound ⟦<Row as Ranked>⟧.key_tests found }
-{
-    let first = found.get().as_unique().copied();
-    Answer::In([first, found.into_ref().as_unique().copied()])
 }
 
 /// What becomes of an item that `or_insert` puts in: what is lent as the one item that has both keys, while the entry

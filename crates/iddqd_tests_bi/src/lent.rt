@@ -46,17 +46,13 @@ type Found = ([[bool; 2]; 3], [Lent; 3]);
 fn find<S: BuildHasher>(map: &mut BiHashMap<Row, S>, (key1, key2): (u64, u64)) -> Option<Found> {
     match map.entry(&key1, &key2) {
         Entry::Vacant(_) => None,
-        Entry::Occupied(found) => Some(find_each(found)),
+        Entry::Occupied(mut found) => {
+            let [entry, seen] = says(&found);
+            let (held, [first, again]) = lends(&mut found.get_mut());
+            let last = lent(&mut found.get_mut());
+            Some(([entry, seen, held], [first, again, last]))
+        }
     }
-}
-
-fn find_each<S: BuildHasher>(mut found: OccupiedEntry<'_, Row, S>) -> Found
-    requires { HasFound ⟦<Row as Ranked>⟧.key_tests found }
-{
-    let [entry, seen] = says(&found);
-    let (held, [first, again]) = lends(&mut found.get_mut());
-    let last = lent(&mut found.get_mut());
-    ([entry, seen, held], [first, again, last])
 }
 
 /// The item that an entry lends for as long as its map is lent, by the key of this rank, or by both.
@@ -67,17 +63,14 @@ fn find_by<S: BuildHasher>(
 ) -> Option<Row> {
     match map.entry(&key1, &key2) {
         Entry::Vacant(_) => None,
-        Entry::Occupied(found) => held_by(found.into_mut(), rank),
-    }
-}
-
-fn held_by<S: BuildHasher>(held: OccupiedEntryMut<'_, Row, S>, rank: usize) -> Option<Row>
-    requires { Holds held }
-{
-    match rank {
-        0 => item_of!(held.into_by_key1()),
-        1 => item_of!(held.into_by_key2()),
-        _ => item_of!(held.into_unique()),
+        Entry::Occupied(found) => {
+            let held = found.into_mut();
+            match rank {
+                0 => item_of!(held.into_by_key1()),
+                1 => item_of!(held.into_by_key2()),
+                _ => item_of!(held.into_unique()),
+            }
+        }
     }
 }
 

@@ -56,17 +56,13 @@ fn insert_over<S: BuildHasher>(
 ) -> Option<Inserted> {
     match map.entry(&key1, &key2, &key3) {
         Entry::Vacant(_) => None,
-        Entry::Occupied(found) => Some(insert_into(found, item)),
+        Entry::Occupied(mut found) => {
+            let before = seen(found.get());
+            let answer = answer_of(insert_at(&mut found, item));
+            let says = [found.is_unique(), found.is_non_unique()];
+            Some((before, answer, says, seen(found.into_ref())))
+        }
     }
-}
-
-fn insert_into<S: BuildHasher>(mut found: OccupiedEntry<'_, Row, S>, item: Row) -> Inserted
-    requires { HasFound ⟦<Row as Ranked>⟧.key_tests found }
-{
-    let before = seen(found.get());
-    let answer = answer_of(insert_at(&mut found, item));
-    let says = [found.is_unique(), found.is_non_unique()];
-    (before, answer, says, seen(found.into_ref()))
 }
 
 fn answer_of(inserted: Result<UpToThree<Row>, KeyMismatch<Row>>) -> Answer {

@@ -52,17 +52,13 @@ type Found = ([[bool; 2]; 3], [Lent; 3]);
 fn find<S: BuildHasher>(map: &mut TriHashMap<Row, S>, (key1, key2, key3): Asked) -> Option<Found> {
     match map.entry(&key1, &key2, &key3) {
         Entry::Vacant(_) => None,
-        Entry::Occupied(found) => Some(find_each(found)),
+        Entry::Occupied(mut found) => {
+            let [entry, seen] = says(&found);
+            let (held, [first, again]) = lends(&mut found.get_mut());
+            let last = lent(&mut found.get_mut());
+            Some(([entry, seen, held], [first, again, last]))
+        }
     }
-}
-
-fn find_each<S: BuildHasher>(mut found: OccupiedEntry<'_, Row, S>) -> Found
-    requires { HasFound ⟦<Row as Ranked>⟧.key_tests found }
-{
-    let [entry, seen] = says(&found);
-    let (held, [first, again]) = lends(&mut found.get_mut());
-    let last = lent(&mut found.get_mut());
-    ([entry, seen, held], [first, again, last])
 }
 
 /// The item that an entry lends for as long as its map is lent, by the key of this rank, or by all.
@@ -73,18 +69,15 @@ fn find_by<S: BuildHasher>(
 ) -> Option<Row> {
     match map.entry(&key1, &key2, &key3) {
         Entry::Vacant(_) => None,
-        Entry::Occupied(found) => held_by(found.into_mut(), rank),
-    }
-}
-
-fn held_by<S: BuildHasher>(held: OccupiedEntryMut<'_, Row, S>, rank: usize) -> Option<Row>
-    requires { Holds held }
-{
-    match rank {
-        0 => item_of!(held.into_by_key1()),
-        1 => item_of!(held.into_by_key2()),
-        2 => item_of!(held.into_by_key3()),
-        _ => item_of!(held.into_unique()),
+        Entry::Occupied(found) => {
+            let held = found.into_mut();
+            match rank {
+                0 => item_of!(held.into_by_key1()),
+                1 => item_of!(held.into_by_key2()),
+                2 => item_of!(held.into_by_key3()),
+                _ => item_of!(held.into_unique()),
+            }
+        }
     }
 }
 
