@@ -30,6 +30,8 @@ mod queries;
 #[cfg(test)]
 mod room;
 #[cfg(test)]
+mod running;
+#[cfg(test)]
 mod texts;
 #[cfg(test)]
 mod walks;

@@ -26,6 +26,8 @@ mod pointers;
 #[cfg(test)]
 mod queries;
 #[cfg(test)]
+mod running;
+#[cfg(test)]
 mod walks;
 #[cfg(test)]
 mod worked;
