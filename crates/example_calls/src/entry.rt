@@ -1,11 +1,10 @@
 //! What two keys find, and what is done with it.
-ghost use Rattle.std.specs.Prelude.{◌≡◌, ◌∷◌, ◌++◌, ◌==◌, IsPermutation, OnOk, OnErr, IfErr, IfSome, IfNone};
-ghost use Rattle.iddqd_bi.specs.Bag.{listing};
-ghost use Rattle.iddqd_bi.specs.Keys.{key_tests};
+ghost use Rattle.std.specs.Prelude.{◌≡◌, ◌<◌, [], ◌∷◌, ◌++◌, length, IsOk, IsPermutation, OnOk, OnErr, IfErr};
+ghost use Rattle.iddqd_bi.specs.Bag.{clash, listing};
 ghost use Rattle.iddqd_bi.specs.Map.{bag};
 ghost use Rattle.iddqd_bi.specs.Mismatch.{error_item};
 
-use iddqd_bi::{BiHashItem, BiHashMap, Entry, EntryError, UpToTwo};
+use iddqd_bi::{BiHashItem, BiHashMap, Entry, EntryError, Ranked, UpToTwo};
 
 /// A visit, known by its number and by the page that is read.
 #[derive(Drop)]
@@ -35,6 +34,8 @@ impl BiHashItem for Visit {
 /// Notes a visit where no other has its number or its page. Else it comes back, as it does where there is no memory.
 pub fn note_visit(visits: &mut BiHashMap<Visit>, visit: Visit) -> Result<(), EntryError<Visit>>
     ensures noted { OnOk result (IsPermutation (bag visits.new) (visit ∷ bag visits.old)) }
+    ensures granted { clash ⟦<Visit as Ranked>⟧.ranks (bag visits.old) visit ≡ []
+        → length (bag visits.old) < visits.old.capacity → IsOk result }
     ensures unchanged { OnErr result (visits.new ≡ visits.old) }
     ensures handed_back { IfErr result (λ e. error_item e ≡ visit) }
 {
@@ -49,13 +50,13 @@ pub fn note_visit(visits: &mut BiHashMap<Visit>, visit: Visit) -> Result<(), Ent
     }
 }
 
-/// Takes out the visit with a number and the one of a page, which may be the same, if there are any.
-pub fn take_visits(visits: &mut BiHashMap<Visit>, number: u64, page: u32) -> Option<UpToTwo<Visit>>
-    ensures gone { IfSome result (λ gone. IsPermutation (bag visits.old) (gone ++ bag visits.new)) }
-    ensures absent { IfNone result (visits.new ≡ visits.old) }
+/// Takes out the visit with a number and then that of a page, which may be the same. Gives back those that there were.
+pub fn take_visits(visits: &mut BiHashMap<Visit>, number: u64, page: u32) -> UpToTwo<Visit>
+    ensures named { result ≡ listing (⟦<Visit as Ranked>⟧.key_tests number page) (bag visits.old) }
+    ensures left { IsPermutation (bag visits.old) (result ++ bag visits.new) }
 {
     match visits.entry(&number, &page) {
-        Entry::Vacant(_free) => None,
-        Entry::Occupied(found) => Some(found.remove()),
+        Entry::Vacant(_free) => UpToTwo::new(),
+        Entry::Occupied(found) => found.remove(),
     }
 }

@@ -1,8 +1,9 @@
 //! An insert, and each of its refusals.
-ghost use Rattle.std.specs.Prelude.{◌≡◌, ◌∷◌, true, length, IsPermutation, OnOk, OnErr, IfErr};
-ghost use Rattle.iddqd_bi.specs.Map.{bag};
+ghost use Rattle.std.specs.Prelude.{◌≡◌, ◌≢◌, [], ◌∷◌, true, false, length, IsPermutation, OnOk, OnErr, IfErr};
+ghost use Rattle.iddqd_bi.specs.Bag.{clash, order};
+ghost use Rattle.iddqd_bi.specs.Map.{IsFullFor, bag};
 
-use iddqd_bi::{BiHashItem, BiHashMap, InsertError};
+use iddqd_bi::{BiHashItem, BiHashMap, InsertError, Ranked};
 
 /// A telephone line, known by its number and by the desk that it ends at.
 #[derive(Drop)]
@@ -42,7 +43,9 @@ pub fn connect(lines: &mut BiHashMap<Line>, line: Line) -> Result<(), Refused>
     ensures connected { OnOk result (IsPermutation (bag lines.new) (line ∷ bag lines.old)) }
     ensures unchanged { OnErr result (lines.new ≡ lines.old) }
     ensures handed_back { IfErr result (λ r. r.line ≡ line) }
-    ensures full { IfErr result (λ r. r.lacks_memory ≡ true → length (bag lines.old) ≡ lines.old.capacity) }
+    ensures full { IfErr result (λ r. r.lacks_memory ≡ true → IsFullFor ⟦<Line as Ranked>⟧.ranks lines.old line) }
+    ensures taken { IfErr result (λ r. r.lacks_memory ≡ false → clash ⟦<Line as Ranked>⟧.ranks (bag lines.old) line ≢ []) }
+    ensures count { IfErr result (λ r. r.in_the_way ≡ length (order ⟦<Line as Ranked>⟧.ranks (bag lines.old) line)) }
 {
     match lines.insert_unique(line) {
         Ok(()) => Ok(()),

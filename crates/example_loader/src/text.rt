@@ -1,5 +1,5 @@
 //! Batches as text, a record a line.
-ghost use Rattle.std.specs.Prelude.{◌≡◌, ◌+◌, length, IsPermutation, IfOk, OnErr};
+ghost use Rattle.std.specs.Prelude.{◌≡◌, ◌++◌, List, length, IsPermutation, IfOk, OnErr};
 ghost use Rattle.iddqd_bi.specs.Map.{bag};
 
 use crate::loader::{Record, Rejected, load};
@@ -67,7 +67,8 @@ fn batch_of(alloc: Global, text: &str) -> Result<Vec<Record>, Fault> {
 
 /// Loads the records of a text, and answers how many they are. Where one of them can't go in, none does.
 pub fn load_text(alloc: Global, records: &mut BiHashMap<Record>, text: &str) -> Result<usize, Fault>
-    ensures all { IfOk result (λ count. length (bag records.new) ≡ count + length (bag records.old)) }
+    ensures all { IfOk result (λ count. (batch : List Record) × (length batch ≡ count)
+        × IsPermutation (bag records.new) (batch ++ bag records.old)) }
     ensures none { OnErr result (IsPermutation (bag records.new) (bag records.old)) }
 {
     let batch = batch_of(alloc, text)?;

@@ -5,6 +5,9 @@ pub mod Entering
 pub mod Laws
 pub mod Named
 pub mod Walks
+-- as many members conflict as are listed, and what conflicts with none conflicts with none in another order
+pub use Rattle.iddqd_store.proofs.BagLemmas.Steps.{length-clash}
+pub use Rattle.iddqd_store.proofs.BagLemmas.Building.{clash-none}
 use Rattle.std.specs.Prelude.{◌≡◌, ℕ, zero, suc, ◌+◌, ◌<◌, Bool, true, false, cond, not, List, [], ◌∷◌, ◌++◌, length, filter, IsPermutation, Contains, Option, Some, None}
 use Rattle.std.specs.List.{IsDistinct, list_any}
 use Rattle.std.specs.Option.{option_to_list}
@@ -16,7 +19,7 @@ use Rattle.iddqd_store.specs.Map.{Map, bag}
 use Rattle.iddqd_store.specs.Map.Walk.{passed, to_come}
 use Rattle.iddqd_store.proofs.BagLemmas.Exchanges.{split, IsPermutation-filter}
 use Rattle.iddqd_store.proofs.BagLemmas.Sound.{all_pass, each_passes, IsSound-rank, named_is, none_pass, each_weaker, NamesOne-apart, Contains-filter, IsSound-IsPermutation, length-over}
-use Rattle.iddqd_store.proofs.BagLemmas.Steps.{agrees-conflicts, length-clash}
+use Rattle.iddqd_store.proofs.BagLemmas.Steps.{agrees-conflicts}
 use Rattle.iddqd_store.proofs.BagLemmas.Theory.{conflicts-self, swap-IsPermutation}
 use Rattle.iddqd_store.proofs.RankLemmas.Index.{Contains-here, Contains-cons}
 use Rattle.iddqd_store.proofs.BagLemmas.Unique.{any_listed, some_item}

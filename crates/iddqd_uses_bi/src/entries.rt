@@ -1,8 +1,8 @@
 //! What a caller knows of a map after the calls of an entry.
-ghost use Rattle.std.specs.Prelude.{◌≡◌, [], ◌∷◌, ◌++◌, IsPermutation, OnOk, OnErr, IfErr};
+ghost use Rattle.std.specs.Prelude.{◌≡◌, ◌≢◌, ◌<◌, [], ◌∷◌, ◌++◌, true, length, None, IsOk, IsPermutation, OnOk, OnErr, IfErr};
 ghost use Rattle.std.specs.Bool.{OnTrue, OnFalse};
 ghost use Rattle.std.specs.Fn.{CalledAt};
-ghost use Rattle.iddqd_bi.specs.Bag.{entry, listing, over};
+ghost use Rattle.iddqd_bi.specs.Bag.{differ, entry, listing, over};
 ghost use Rattle.iddqd_bi.specs.Storing.{Stores};
 ghost use Rattle.iddqd_bi.specs.Map.{bag};
 ghost use Rattle.iddqd_bi.specs.Mismatch.{error_item};
@@ -19,6 +19,9 @@ pub fn insert_through<'a, T: BiHashItem, S: BuildHasher>(
     item: T,
 ) -> Result<(), EntryError<T>>
     ensures gains { OnOk result (IsPermutation (bag map.new) (item ∷ bag map.old)) }
+    ensures granted { listing (⟦<T as Ranked>⟧.key_tests key1.now key2.now) (bag map.old) ≡ []
+        → differ (⟦<T as Ranked>⟧.key_tests key1.now key2.now) item ≡ None
+        → length (bag map.old) < map.old.capacity → IsOk result }
     ensures unchanged { OnErr result (map.new ≡ map.old) }
     ensures handed_back { IfErr result (λ e. error_item e ≡ item) }
 {
@@ -32,7 +35,8 @@ pub fn insert_through<'a, T: BiHashItem, S: BuildHasher>(
     }
 }
 
-/// Puts an item in the place of those that have one of two keys, and says whether it went in.
+/// Puts an item in the place of those that have one of two keys, and says whether it went in: it does where there are
+/// such items and it has both keys.
 pub fn overwrite_through<'a, T: BiHashItem + Drop, S: BuildHasher>(
     map: &'a mut BiHashMap<T, S>,
     key1: &'a T::K1,
@@ -41,6 +45,8 @@ pub fn overwrite_through<'a, T: BiHashItem + Drop, S: BuildHasher>(
 ) -> bool
     ensures went_in { OnTrue result (IsPermutation (bag map.new)
         (over ⟦<T as Ranked>⟧.ranks (bag map.old) item)) }
+    ensures granted { listing (⟦<T as Ranked>⟧.key_tests key1.now key2.now) (bag map.old) ≢ []
+        → differ (⟦<T as Ranked>⟧.key_tests key1.now key2.now) item ≡ None → result ≡ true }
     ensures unchanged { OnFalse result (map.new ≡ map.old) }
 {
     match map.entry(key1, key2) {
@@ -106,6 +112,10 @@ where
     T::Data: Drop,
     ensures writes { OnOk result (WritesEntry ⟦<T as Ranked>⟧.ranks (λ x. T.put x d) (bag map.old) item
         (entry (⟦<T as Ranked>⟧.key_tests key1.now key2.now) (bag map.old)) (bag map.new)) }
+    ensures granted { differ (⟦<T as Ranked>⟧.key_tests key1.now key2.now) item ≡ None
+        → length (bag map.old) < map.old.capacity → IsOk result }
+    ensures occupied { listing (⟦<T as Ranked>⟧.key_tests key1.now key2.now) (bag map.old) ≢ []
+        → IsOk result }
     ensures unchanged { OnErr result (map.new ≡ map.old) }
     ensures handed_back { IfErr result (λ e. error_item e ≡ item) }
 {
@@ -133,6 +143,10 @@ where
     T::Data: Drop,
     ensures writes { OnOk result (InsertsOrWrites ⟦<T as Ranked>⟧.ranks (λ x. T.put x d) (bag map.old)
         item (entry (⟦<T as Ranked>⟧.key_tests key1.now key2.now) (bag map.old)) (bag map.new)) }
+    ensures granted { differ (⟦<T as Ranked>⟧.key_tests key1.now key2.now) item ≡ None
+        → length (bag map.old) < map.old.capacity → IsOk result }
+    ensures occupied { listing (⟦<T as Ranked>⟧.key_tests key1.now key2.now) (bag map.old) ≢ []
+        → IsOk result }
     ensures unchanged { OnErr result (map.new ≡ map.old) }
     ensures handed_back { IfErr result (λ e. error_item e ≡ item) }
 {

@@ -1,6 +1,6 @@
 //! What a caller knows of a map after it wrote what an entry lends of one key.
-ghost use Rattle.std.specs.Prelude.{◌≡◌, ◌∷◌, Some, None, IsPermutation, OnOk, OnErr, IfErr};
-ghost use Rattle.iddqd_bi.specs.Bag.{IsOnly, swap};
+ghost use Rattle.std.specs.Prelude.{◌≡◌, ◌<◌, [], ◌∷◌, length, Some, None, IsOk, IsPermutation, OnOk, OnErr, IfErr};
+ghost use Rattle.iddqd_bi.specs.Bag.{IsOnly, differ, listing, swap};
 ghost use Rattle.iddqd_bi.specs.Map.{bag};
 ghost use Rattle.iddqd_bi.specs.Keys.{has1};
 ghost use Rattle.iddqd_bi.specs.Mismatch.{error_item};
@@ -57,6 +57,9 @@ pub fn insert_held<'a, T: BiHashItem, S: BuildHasher>(
     item: T,
 ) -> Result<(), EntryError<T>>
     ensures gains { OnOk result (IsPermutation (bag map.new) (item ∷ bag map.old)) }
+    ensures granted { listing (⟦<T as Ranked>⟧.key_tests key1.now key2.now) (bag map.old) ≡ []
+        → differ (⟦<T as Ranked>⟧.key_tests key1.now key2.now) item ≡ None
+        → length (bag map.old) < map.old.capacity → IsOk result }
     ensures unchanged { OnErr result (map.new ≡ map.old) }
     ensures handed_back { IfErr result (λ e. error_item e ≡ item) }
 {

@@ -1,11 +1,11 @@
 //! A registry of users, who are known by a number and by a login.
-ghost use Rattle.std.specs.Prelude.{◌≡◌, ◌∷◌, ◌++◌, All, Contains, IsPermutation, OnOk, OnErr, IfErr, Some, filter, option_copied};
+ghost use Rattle.std.specs.Prelude.{◌≡◌, ◌<◌, [], ◌∷◌, ◌++◌, length, All, Contains, IsOk, IsPermutation, OnOk, OnErr, IfErr, Some, filter, option_copied};
 ghost use Rattle.std.specs.Option.{option_to_list};
-ghost use Rattle.iddqd_bi.specs.Bag.{IsOnly};
+ghost use Rattle.iddqd_bi.specs.Bag.{IsOnly, clash};
 ghost use Rattle.iddqd_bi.specs.Map.{bag};
 
 use crate::loading::load;
-use iddqd_bi::{BiHashItem, BiHashMap, InsertError};
+use iddqd_bi::{BiHashItem, BiHashMap, InsertError, Ranked};
 
 /// A user.
 #[derive(Drop)]
@@ -35,6 +35,8 @@ impl BiHashItem for User {
 /// Registers a user, or hands the user back where the number or the login is taken, or memory is.
 pub fn register(users: &mut BiHashMap<User>, user: User) -> Result<(), User>
     ensures registered { OnOk result (IsPermutation (bag users.new) (user ∷ bag users.old)) }
+    ensures granted { clash ⟦<User as Ranked>⟧.ranks (bag users.old) user ≡ []
+        → length (bag users.old) < users.old.capacity → IsOk result }
     ensures handed_back { IfErr result (λ u. u ≡ user) }
     ensures unchanged { OnErr result (users.new ≡ users.old) }
 {

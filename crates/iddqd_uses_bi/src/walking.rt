@@ -1,5 +1,5 @@
 //! What a caller knows of a map whose items were written in a walk.
-ghost use Rattle.std.specs.Prelude.{◌≡◌, ◌-◌, ◌∷◌, List, IsPermutation, length};
+ghost use Rattle.std.specs.Prelude.{◌≡◌, ◌⊎◌, ◌-◌, [], ◌∷◌, List, IsPermutation, length};
 ghost use Rattle.std.specs.Prelude.{map as each};
 ghost use Rattle.std.specs.Bool.{OnTrue, OnFalse};
 ghost use Rattle.iddqd_bi.specs.Map.{bag};
@@ -25,7 +25,7 @@ where
     T::Data: Drop,
     ensures some { OnTrue result ((x : T) × (rest : List T) × (bag map.old ≡ x ∷ rest)
         × (bag map.new ≡ T.put x d ∷ rest)) }
-    ensures none { OnFalse result (bag map.new ≡ bag map.old) }
+    ensures none { OnFalse result ((bag map.old ≡ []) × (bag map.new ≡ [])) }
 {
     let mut walk = map.iter_mut();
     if let Some(data) = walk.next_data() {
@@ -42,11 +42,14 @@ pub fn write_first_and_count<T: BiHashItemMut, S: BuildHasher>(
 ) -> usize
 where
     T::Data: Drop,
-    ensures { result ≡ length (bag map.old) - 1 }
+    ensures count { result ≡ length (bag map.old) - 1 }
+    ensures written { ((bag map.old ≡ []) × (bag map.new ≡ []))
+        ⊎ ((x : T) × (rest : List T) × (bag map.old ≡ x ∷ rest) × (bag map.new ≡ T.put x d ∷ rest)) }
 {
     let mut walk = map.iter_mut();
     if let Some(first) = walk.next_data() {
         *first = d;
+        return walk.len();
     }
-    walk.len()
+    return 0;
 }

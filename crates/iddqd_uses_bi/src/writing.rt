@@ -1,6 +1,6 @@
 //! What a caller knows of a map in which an item was written.
-ghost use Rattle.std.specs.Prelude.{◌≡◌, Some, None, IsPermutation, IfOk, IfErr, OnErr};
-ghost use Rattle.iddqd_bi.specs.Bag.{IsOnly, swap};
+ghost use Rattle.std.specs.Prelude.{◌≡◌, Some, None, IsOk, IsPermutation, IfOk, IfErr, OnErr};
+ghost use Rattle.iddqd_bi.specs.Bag.{IsOnly, differ, like, swap};
 ghost use Rattle.iddqd_bi.specs.Map.{bag};
 ghost use Rattle.iddqd_bi.specs.Keys.{has1};
 
@@ -49,6 +49,8 @@ pub fn replace1<T: BiHashItem, S: BuildHasher>(
     ensures replaced { IfOk result (λ x. IsPermutation (bag map.new)
         (swap ⟦<T as Ranked>⟧.ranks (bag map.old) x item)) }
     ensures only { IfOk result (λ x. IsOnly (has1 T.BiHashItem T.K1.eq key.now) (bag map.old) (Some x)) }
+    ensures granted { (x : T) → IsOnly (has1 T.BiHashItem T.K1.eq key.now) (bag map.old) (Some x)
+        → differ (like ⟦<T as Ranked>⟧.ranks x) item ≡ None → IsOk result }
     ensures unchanged { OnErr result (map.new ≡ map.old) }
     ensures handed_back { IfErr result (λ x. x ≡ item) }
 {

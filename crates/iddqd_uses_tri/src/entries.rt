@@ -1,8 +1,8 @@
 //! What a caller knows of a map after the calls of an entry.
-ghost use Rattle.std.specs.Prelude.{◌≡◌, [], ◌∷◌, ◌++◌, IsPermutation, OnOk, OnErr, IfErr};
+ghost use Rattle.std.specs.Prelude.{◌≡◌, ◌≢◌, ◌<◌, [], ◌∷◌, ◌++◌, true, length, None, IsOk, IsPermutation, OnOk, OnErr, IfErr};
 ghost use Rattle.std.specs.Bool.{OnTrue, OnFalse};
 ghost use Rattle.std.specs.Fn.{CalledAt};
-ghost use Rattle.iddqd_tri.specs.Bag.{entry, listing, over};
+ghost use Rattle.iddqd_tri.specs.Bag.{differ, entry, listing, over};
 ghost use Rattle.iddqd_tri.specs.Storing.{Stores};
 ghost use Rattle.iddqd_tri.specs.Map.{bag};
 ghost use Rattle.iddqd_tri.specs.Mismatch.{error_item};
@@ -20,6 +20,9 @@ pub fn insert_through<'a, T: TriHashItem, S: BuildHasher>(
     item: T,
 ) -> Result<(), EntryError<T>>
     ensures gains { OnOk result (IsPermutation (bag map.new) (item ∷ bag map.old)) }
+    ensures granted { listing (⟦<T as Ranked>⟧.key_tests key1.now key2.now key3.now) (bag map.old) ≡ []
+        → differ (⟦<T as Ranked>⟧.key_tests key1.now key2.now key3.now) item ≡ None
+        → length (bag map.old) < map.old.capacity → IsOk result }
     ensures unchanged { OnErr result (map.new ≡ map.old) }
     ensures handed_back { IfErr result (λ e. error_item e ≡ item) }
 {
@@ -33,7 +36,8 @@ pub fn insert_through<'a, T: TriHashItem, S: BuildHasher>(
     }
 }
 
-/// Puts an item in the place of those that have one of three keys, and says whether it went in.
+/// Puts an item in the place of those that have one of three keys, and says whether it went in: it does where there are
+/// such items and it has all keys.
 pub fn overwrite_through<'a, T: TriHashItem + Drop, S: BuildHasher>(
     map: &'a mut TriHashMap<T, S>,
     key1: &'a T::K1,
@@ -43,6 +47,9 @@ pub fn overwrite_through<'a, T: TriHashItem + Drop, S: BuildHasher>(
 ) -> bool
     ensures went_in { OnTrue result (IsPermutation (bag map.new)
         (over ⟦<T as Ranked>⟧.ranks (bag map.old) item)) }
+    ensures granted { listing (⟦<T as Ranked>⟧.key_tests key1.now key2.now key3.now) (bag map.old) ≢ []
+        → differ (⟦<T as Ranked>⟧.key_tests key1.now key2.now key3.now) item ≡ None
+        → result ≡ true }
     ensures unchanged { OnFalse result (map.new ≡ map.old) }
 {
     match map.entry(key1, key2, key3) {
@@ -115,6 +122,10 @@ where
         (λ x. T.put x d) (bag map.old) item
         (entry (⟦<T as Ranked>⟧.key_tests key1.now key2.now key3.now) (bag map.old))
         (bag map.new)) }
+    ensures granted { differ (⟦<T as Ranked>⟧.key_tests key1.now key2.now key3.now) item ≡ None
+        → length (bag map.old) < map.old.capacity → IsOk result }
+    ensures occupied { listing (⟦<T as Ranked>⟧.key_tests key1.now key2.now key3.now) (bag map.old) ≢ []
+        → IsOk result }
     ensures unchanged { OnErr result (map.new ≡ map.old) }
     ensures handed_back { IfErr result (λ e. error_item e ≡ item) }
 {
@@ -145,6 +156,10 @@ where
         (λ x. T.put x d) (bag map.old) item
         (entry (⟦<T as Ranked>⟧.key_tests key1.now key2.now key3.now) (bag map.old))
         (bag map.new)) }
+    ensures granted { differ (⟦<T as Ranked>⟧.key_tests key1.now key2.now key3.now) item ≡ None
+        → length (bag map.old) < map.old.capacity → IsOk result }
+    ensures occupied { listing (⟦<T as Ranked>⟧.key_tests key1.now key2.now key3.now) (bag map.old) ≢ []
+        → IsOk result }
     ensures unchanged { OnErr result (map.new ≡ map.old) }
     ensures handed_back { IfErr result (λ e. error_item e ≡ item) }
 {

@@ -1,11 +1,11 @@
 //! What a caller knows of a map after an insert, granted or refused.
-ghost use Rattle.std.specs.Prelude.{◌≡◌, ◌≢◌, ◌≤◌, ◌∷◌, [], length, IsPermutation, OnOk, OnErr, IfErr};
+ghost use Rattle.std.specs.Prelude.{◌≡◌, ◌≢◌, ◌<◌, ◌≤◌, ◌+◌, ◌∷◌, [], true, length, IsPermutation, OnOk, OnErr, IfErr};
 ghost use Rattle.std.specs.Bool.{OnTrue, OnFalse};
 ghost use Rattle.iddqd_tri.specs.Bag.{clash, order, over};
-ghost use Rattle.iddqd_tri.specs.Map.{bag};
+ghost use Rattle.iddqd_tri.specs.Map.{IsFullFor, bag};
 ghost use Rattle.iddqd_tri.specs.Callers.{GainsBoth, MayRefuse};
 
-use iddqd_tri::{InsertError, Ranked, TriHashItem, TriHashMap};
+use iddqd_tri::{InsertError, Ranked, TriHashMap};
 use std::hash::{BuildHasher, Hash};
 
 /// Inserts an item, and drops it where it is refused. Says whether it went in.
@@ -13,6 +13,7 @@ pub fn insert_or_drop<T: Ranked + Drop, S: BuildHasher>(map: &mut TriHashMap<T, 
     ensures went_in { OnTrue result (IsPermutation (bag map.new) (item ∷ bag map.old)) }
     ensures unchanged { OnFalse result (map.new ≡ map.old) }
     ensures reason { OnFalse result (MayRefuse T.ranks map.old item) }
+    ensures no_less_room { map.old.capacity ≤ map.new.capacity }
 {
     let answer = map.insert_unique(item);
     match answer {
@@ -45,45 +46,27 @@ pub fn insert_or_back<T: Ranked, S: BuildHasher>(
     }
 }
 
-/// Inserts two items, one after the other, and says whether both went in.
-pub fn insert_both<T: TriHashItem + Drop, S: BuildHasher>(
-    map: &mut TriHashMap<T, S>,
-    a: T,
-    b: T,
-) -> bool
+/// Inserts two items, one after the other, and says whether both went in: they do where nothing conflicts and there is
+/// room.
+pub fn insert_both<T: Ranked + Drop, S: BuildHasher>(map: &mut TriHashMap<T, S>, a: T, b: T) -> bool
     ensures both { OnTrue result (GainsBoth (bag map.old) a b (bag map.new)) }
+    ensures granted { clash T.ranks (bag map.old) a ≡ [] → clash T.ranks (a ∷ bag map.old) b ≡ []
+        → 1 + length (bag map.old) < map.old.capacity → result ≡ true }
 {
-    let first = match map.insert_unique(a) {
-        Ok(()) => true,
-        Err(InsertError::Duplicate(refusal)) => {
-            drop(refusal);
-            false
-        }
-        Err(InsertError::Memory(refusal)) => {
-            drop(refusal);
-            false
-        }
-    };
-    let second = match map.insert_unique(b) {
-        Ok(()) => true,
-        Err(InsertError::Duplicate(refusal)) => {
-            drop(refusal);
-            false
-        }
-        Err(InsertError::Memory(refusal)) => {
-            drop(refusal);
-            false
-        }
-    };
+    let first = insert_or_drop(map, a);
+    let second = insert_or_drop(map, b);
     first && second
 }
 
-/// Inserts an item. Where others conflict with it, it drops it and says how many, and the map is as before.
+/// Inserts an item, and says how many others conflict with it. Where some do, it drops it, and the map is as before.
 pub fn count_conflicts<T: Ranked + Drop, S: BuildHasher>(
     map: &mut TriHashMap<T, S>,
     item: T,
 ) -> usize
-    ensures some { result ≢ 0 → (result ≡ length (order T.ranks (bag map.old) item)) × (map.new ≡ map.old) }
+    ensures count { result ≡ length (order T.ranks (bag map.old) item) }
+    ensures went_in { result ≡ 0 → length (bag map.old) < map.old.capacity
+        → IsPermutation (bag map.new) (item ∷ bag map.old) }
+    ensures unchanged { result ≢ 0 → map.new ≡ map.old }
 {
     let answer = map.insert_unique(item);
     match answer {
@@ -106,7 +89,8 @@ pub fn overwrite_or_drop<T: Ranked + Drop, S: BuildHasher>(
     item: T,
 ) -> bool
     ensures went_in { OnTrue result (IsPermutation (bag map.new) (over T.ranks (bag map.old) item)) }
-    ensures reason { OnFalse result (MayRefuse T.ranks map.old item) }
+    ensures unchanged { OnFalse result (map.new ≡ map.old) }
+    ensures reason { OnFalse result (IsFullFor T.ranks map.old item) }
 {
     map.insert_overwrite(item).is_ok()
 }

@@ -1,6 +1,6 @@
 //! What a caller knows of a map after it wrote what an entry lends of one key.
-ghost use Rattle.std.specs.Prelude.{◌≡◌, ◌∷◌, Some, None, IsPermutation, OnOk, OnErr, IfErr};
-ghost use Rattle.iddqd_tri.specs.Bag.{IsOnly, swap};
+ghost use Rattle.std.specs.Prelude.{◌≡◌, ◌<◌, [], ◌∷◌, length, Some, None, IsOk, IsPermutation, OnOk, OnErr, IfErr};
+ghost use Rattle.iddqd_tri.specs.Bag.{IsOnly, differ, listing, swap};
 ghost use Rattle.iddqd_tri.specs.Map.{bag};
 ghost use Rattle.iddqd_tri.specs.Keys.{has1};
 ghost use Rattle.iddqd_tri.specs.Mismatch.{error_item};
@@ -60,6 +60,9 @@ pub fn insert_held<'a, T: TriHashItem, S: BuildHasher>(
     item: T,
 ) -> Result<(), EntryError<T>>
     ensures gains { OnOk result (IsPermutation (bag map.new) (item ∷ bag map.old)) }
+    ensures granted { listing (⟦<T as Ranked>⟧.key_tests key1.now key2.now key3.now) (bag map.old) ≡ []
+        → differ (⟦<T as Ranked>⟧.key_tests key1.now key2.now key3.now) item ≡ None
+        → length (bag map.old) < map.old.capacity → IsOk result }
     ensures unchanged { OnErr result (map.new ≡ map.old) }
     ensures handed_back { IfErr result (λ e. error_item e ≡ item) }
 {
