@@ -12,7 +12,9 @@
 //!     --table         prints tables for a page
 //!     --growth        prints tables of this side alone, of the calls that go over all items
 //!     --svg FILE      writes a picture of five operations at eight sizes
+//!     --chosen        prints what keys of one home cost under the default builder and under a random seed
 mod by_hand;
+mod chosen;
 mod loops;
 mod measure;
 mod operations;
@@ -32,6 +34,7 @@ struct Wanted {
     without: Option<String>,
     table: bool,
     growth: bool,
+    chosen: bool,
     picture: Option<String>,
 }
 
@@ -68,6 +71,7 @@ fn wanted(mut words: impl Iterator<Item = String>) -> Wanted {
         without: None,
         table: false,
         growth: false,
+        chosen: false,
         picture: None,
     };
     while let Some(word) = words.next() {
@@ -78,6 +82,7 @@ fn wanted(mut words: impl Iterator<Item = String>) -> Wanted {
             "--without" => wanted.without = Some(behind(&mut words, &word)),
             "--table" => wanted.table = true,
             "--growth" => wanted.growth = true,
+            "--chosen" => wanted.chosen = true,
             "--svg" => wanted.picture = Some(behind(&mut words, &word)),
             _ if word.starts_with(|c: char| c.is_ascii_digit()) => {
                 wanted.sizes = Some(word.split(',').map(size).collect());
@@ -143,6 +148,10 @@ fn main() {
         return;
     }
     println!("{}\n", report::circumstances(wanted.plan));
+    if wanted.chosen {
+        chosen::print();
+        return;
+    }
     wanted.print(operations::two_keys());
     wanted.print(operations::three_keys());
 }

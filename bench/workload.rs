@@ -28,7 +28,7 @@ fn mix(x: u64) -> u64 {
 }
 
 /// The rows numbered so. No two rows have a key in common.
-fn rows<const N: usize>(from: usize, to: usize) -> Vec<Row<N>> {
+pub fn rows<const N: usize>(from: usize, to: usize) -> Vec<Row<N>> {
     let key = |rank: usize, i: usize| mix(((rank as u64 + 1) << 40) + i as u64);
     (from..to)
         .map(|i| Row {

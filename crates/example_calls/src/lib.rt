@@ -11,6 +11,8 @@ mod overwrite;
 mod peers;
 mod refusals;
 mod retain;
+mod seed;
+mod updates;
 mod walk;
 
 pub use batch::{Record, Rejected, load};
@@ -23,4 +25,6 @@ pub use overwrite::{Guest, check_in, first_gone, highest_room, open_house};
 pub use peers::{Peer, Session, touch, with_peer};
 pub use refusals::{Line, Refused, connect};
 pub use retain::{Lease, expire};
+pub use seed::{Login, no_logins};
+pub use updates::{Card, LastUse, forget_doors, note_use};
 pub use walk::{Sensor, count, is_any_hotter, sum_of_heat};

@@ -46,18 +46,14 @@ pub fn define(symbols: &mut BiHashMap<Symbol>, symbol: Symbol) -> Result<(), Sym
 pub fn resolve<'s>(symbols: &'s BiHashMap<Symbol>, name: &str) -> Option<&'s Symbol>
     ensures { IsOnly (λ s. pointwise nat_eq name.now (string_bytes s.name)) (bag symbols.now) (option_copied result) }
 {
-    symbols.get1(&name)
+    symbols.get1(name)
 }
 
-/// Takes the symbol of a name out, if there is one. A removal takes a key and no query: so the symbol is looked up, and
-/// taken out by its address.
+/// Takes the symbol of a name out, if there is one.
 pub fn undefine(symbols: &mut BiHashMap<Symbol>, name: &str) -> Option<Symbol>
     ensures it { IsOnly (λ s. pointwise nat_eq name.now (string_bytes s.name)) (bag symbols.old) result }
     ensures gone { IfSome result (λ s. IsPermutation (bag symbols.old) (s ∷ bag symbols.new)) }
     ensures absent { IfNone result (symbols.new ≡ symbols.old) }
 {
-    // Says to the proof that no two symbols have one address.
-    let _len = symbols.len();
-    let address = symbols.get1(&name)?.address;
-    symbols.remove2(&address)
+    symbols.remove1(name)
 }

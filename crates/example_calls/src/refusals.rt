@@ -1,9 +1,9 @@
 //! An insert, and each of its refusals.
-ghost use Rattle.std.specs.Prelude.{◌≡◌, ◌≢◌, [], ◌∷◌, true, false, length, IsPermutation, OnOk, OnErr, IfErr};
+ghost use Rattle.std.specs.Prelude.{◌≡◌, ◌≢◌, [], ◌∷◌, length, IsPermutation, OnOk, OnErr, IfErr};
 ghost use Rattle.iddqd_bi.specs.Bag.{clash, order};
 ghost use Rattle.iddqd_bi.specs.Map.{IsFullFor, bag};
 
-use iddqd_bi::{BiHashItem, BiHashMap, InsertError, Ranked};
+use iddqd_bi::{BiHashItem, BiHashMap, InsertReason, Ranked};
 
 /// A telephone line, known by its number and by the desk that it ends at.
 #[derive(Drop)]
@@ -30,12 +30,12 @@ impl BiHashItem for Line {
     }
 }
 
-/// A line that was not connected: so many lines are in its way, or there was no memory to grow.
+/// A line that was not connected, and why, with the number of lines in its way.
 #[derive(Drop)]
 pub struct Refused {
     pub line: Line,
     pub in_the_way: usize,
-    pub lacks_memory: bool,
+    pub reason: InsertReason,
 }
 
 /// Connects a line whose number and desk are free.
@@ -43,24 +43,21 @@ pub fn connect(lines: &mut BiHashMap<Line>, line: Line) -> Result<(), Refused>
     ensures connected { OnOk result (IsPermutation (bag lines.new) (line ∷ bag lines.old)) }
     ensures unchanged { OnErr result (lines.new ≡ lines.old) }
     ensures handed_back { IfErr result (λ r. r.line ≡ line) }
-    ensures full { IfErr result (λ r. r.lacks_memory ≡ true → IsFullFor ⟦<Line as Ranked>⟧.ranks lines.old line) }
-    ensures taken { IfErr result (λ r. r.lacks_memory ≡ false → clash ⟦<Line as Ranked>⟧.ranks (bag lines.old) line ≢ []) }
+    ensures full { IfErr result (λ r. r.reason ≡ InsertReason.Memory → IsFullFor ⟦<Line as Ranked>⟧.ranks lines.old line) }
+    ensures taken { IfErr result (λ r. r.reason ≡ InsertReason.Duplicate
+        → clash ⟦<Line as Ranked>⟧.ranks (bag lines.old) line ≢ []) }
     ensures count { IfErr result (λ r. r.in_the_way ≡ length (order ⟦<Line as Ranked>⟧.ranks (bag lines.old) line)) }
 {
     match lines.insert_unique(line) {
         Ok(()) => Ok(()),
-        Err(InsertError::Duplicate(refusal)) => {
+        Err(refusal) => {
             let in_the_way = refusal.duplicates().len();
+            let reason = refusal.reason();
             Err(Refused {
                 line: refusal.into_item(),
                 in_the_way,
-                lacks_memory: false,
+                reason,
             })
         }
-        Err(InsertError::Memory(refusal)) => Err(Refused {
-            line: refusal.into_item(),
-            in_the_way: 0,
-            lacks_memory: true,
-        }),
     }
 }

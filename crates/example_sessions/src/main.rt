@@ -13,23 +13,20 @@
 
 mod sessions;
 
-use crate::sessions::{Peer, Session, by_token, count, expire, open, touch, with_peer};
+use crate::sessions::{Peer, Session, Sessions, by_token, count, expire, open, touch, with_peer};
 use iddqd_tri::TriHashMap;
+use std::hash::RandomState;
 use std::io;
 
 fn main(rt: HostRuntime) -> io::Result<()> {
-    let mut sessions = TriHashMap::new(rt.alloc());
+    let mut sessions = TriHashMap::with_hasher(rt.alloc(), RandomState::new(&rt)?);
     for line in rt.lines(rt.alloc()) {
         answer(&rt, &mut sessions, line?.as_str())?;
     }
     Ok(())
 }
 
-fn answer(
-    rt: &(impl Print + AllocGlobal),
-    sessions: &mut TriHashMap<Session>,
-    line: &str,
-) -> io::Result<()> {
+fn answer(rt: &(impl Print + AllocGlobal), sessions: &mut Sessions, line: &str) -> io::Result<()> {
     let words: Vec<&str> = line.split_whitespace().collect(rt.alloc())?;
     match words.as_slice() {
         ["open", id, token, host, port, now] => match parse_session(id, token, host, port, now) {
@@ -61,11 +58,7 @@ fn answer(
 }
 
 /// Where there is no memory for the session, the error says so and the program ends.
-fn answer_open(
-    rt: &impl Print,
-    sessions: &mut TriHashMap<Session>,
-    session: Session,
-) -> io::Result<()> {
+fn answer_open(rt: &impl Print, sessions: &mut Sessions, session: Session) -> io::Result<()> {
     for closed in open(sessions, session)? {
         let id = closed.id;
         println!(rt; "closed {id}")?;
@@ -75,7 +68,7 @@ fn answer_open(
 
 fn answer_touch(
     rt: &impl Print,
-    sessions: &mut TriHashMap<Session>,
+    sessions: &mut Sessions,
     token: &str,
     now: &str,
 ) -> io::Result<()> {

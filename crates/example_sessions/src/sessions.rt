@@ -5,6 +5,7 @@ ghost use Rattle.iddqd_tri.specs.Bag.{IsOnly, order, over, swap};
 ghost use Rattle.iddqd_tri.specs.Map.{IsFullFor, bag};
 
 use iddqd_tri::{MemoryRefused, Ranked, TriHashItem, TriHashItemMut, TriHashMap, UpToThree};
+use std::hash::RandomState;
 
 /// The address of a peer.
 #[derive(PartialEq, Eq, Hash, Clone, Copy)]
@@ -68,9 +69,13 @@ impl TriHashItemMut for Session {
     }
 }
 
+/// The open sessions. Strangers choose the tokens and the peers, so the seed of the hashes is random: with a fixed one they
+/// could choose keys of one hash, and each look-up would compare them all.
+pub type Sessions = TriHashMap<Session, RandomState>;
+
 /// Opens a session. Those with its number, its token or its peer are closed, and given back in this order.
 pub fn open(
-    sessions: &mut TriHashMap<Session>,
+    sessions: &mut Sessions,
     session: Session,
 ) -> Result<UpToThree<Session>, MemoryRefused<Session>>
     ensures opened { OnOk result (IsPermutation (bag sessions.new)
@@ -84,21 +89,21 @@ pub fn open(
 }
 
 /// The session with a token, if there is one.
-pub fn by_token(sessions: &TriHashMap<Session>, token: u64) -> Option<&Session>
+pub fn by_token(sessions: &Sessions, token: u64) -> Option<&Session>
     ensures { IsOnly (λ s. token == s.token) (bag sessions.now) (option_copied result) }
 {
     sessions.get2(&token)
 }
 
 /// The session with a peer, if there is one.
-pub fn with_peer<'s>(sessions: &'s TriHashMap<Session>, peer: &Peer) -> Option<&'s Session>
+pub fn with_peer<'s>(sessions: &'s Sessions, peer: &Peer) -> Option<&'s Session>
     ensures { IsOnly (λ s. ⟦<Peer as PartialEq>⟧.eq peer.now s.peer) (bag sessions.now) (option_copied result) }
 {
     sessions.get3(peer)
 }
 
 /// Notes when the session with a token was seen, and says whether there is one.
-pub fn touch(sessions: &mut TriHashMap<Session>, token: u64, now: u64) -> bool
+pub fn touch(sessions: &mut Sessions, token: u64, now: u64) -> bool
     ensures present { (s : Session) → IsOnly (λ s. token == s.token) (bag sessions.old) (Some s)
         → IsPermutation (bag sessions.new)
         (swap ⟦<Session as Ranked>⟧.ranks (bag sessions.old) s (record s { seen = now })) }
@@ -116,14 +121,14 @@ pub fn touch(sessions: &mut TriHashMap<Session>, token: u64, now: u64) -> bool
 }
 
 /// Closes the sessions that were not seen since.
-pub fn expire(sessions: &mut TriHashMap<Session>, since: u64)
+pub fn expire(sessions: &mut Sessions, since: u64)
     ensures { IsPermutation (bag sessions.new) (filter (λ s. nat_le since s.seen) (bag sessions.old)) }
 {
     sessions.retain(|session| session.seen >= since);
 }
 
 /// How many sessions are open.
-pub fn count(sessions: &TriHashMap<Session>) -> usize
+pub fn count(sessions: &Sessions) -> usize
     ensures { result ≡ length (bag sessions.now) }
 {
     sessions.len()

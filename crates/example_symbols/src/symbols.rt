@@ -48,7 +48,7 @@ pub fn define(symbols: &mut BiHashMap<Symbol>, symbol: Symbol) -> Result<(), Sym
 pub fn resolve<'s>(symbols: &'s BiHashMap<Symbol>, name: &str) -> Option<&'s Symbol>
     ensures { IsOnly (λ s. pointwise nat_eq name.now (string_bytes s.name)) (bag symbols.now) (option_copied result) }
 {
-    symbols.get1(&name)
+    symbols.get1(name)
 }
 
 /// The symbol at an address, if there is one.
@@ -58,15 +58,11 @@ pub fn at_address(symbols: &BiHashMap<Symbol>, address: u64) -> Option<&Symbol>
     symbols.get2(&address)
 }
 
-/// Takes the symbol of a name out, if there is one. A removal takes a key, which for names is a `String`, and not a
-/// text: so the symbol is looked up by its name, and taken out by its address.
+/// Takes the symbol of a name out, if there is one.
 pub fn undefine(symbols: &mut BiHashMap<Symbol>, name: &str) -> Option<Symbol>
     ensures it { IsOnly (λ s. pointwise nat_eq name.now (string_bytes s.name)) (bag symbols.old) result }
     ensures gone { IfSome result (λ s. IsPermutation (bag symbols.old) (s ∷ bag symbols.new)) }
     ensures absent { IfNone result (symbols.new ≡ symbols.old) }
 {
-    // Says to the proof that no two symbols have one address.
-    let _len = symbols.len();
-    let address = symbols.get1(&name)?.address;
-    symbols.remove2(&address)
+    symbols.remove1(name)
 }

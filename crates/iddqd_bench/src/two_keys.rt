@@ -8,6 +8,7 @@ pub mod building;
 pub mod changing;
 pub mod inserting;
 pub mod searching;
+pub mod seeded;
 pub mod walking;
 
 /// Puts the rows in, and counts those that are refused.

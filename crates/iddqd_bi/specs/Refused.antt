@@ -1,5 +1,5 @@
 -- What a refused insert says, and what the map ends as.
-use Rattle.std.specs.Prelude.{◌≡◌, List, ℕ, Result, Ok, Err, OnOk, OnErr, ⊤}
+use Rattle.std.specs.Prelude.{◌≡◌, List, ℕ, Result, Ok, Err, OnOk, OnErr}
 use Rattle.std.specs.Borrow.{RattleType, MutBor, Fml, GName, follows_so}
 use Rattle.std.specs.HashMap.Lent.{HashMembers}
 use Rattle.std.specs.declared.cmp.PartialEq as equal
@@ -12,7 +12,6 @@ use Rattle.iddqd_bi.specs.declared.item.BiHashItem as item
 use Rattle.iddqd_bi.specs.declared.map.slots.Refusal.{Refusal}
 use Rattle.iddqd_bi.specs.declared.map.slots.Refusal.TheVariants as refusal
 use Rattle.iddqd_bi.specs.declared.error.InsertError.{InsertError}
-use Rattle.iddqd_bi.specs.declared.error.InsertError.TheVariants.{Duplicate, Memory}
 use Rattle.iddqd_bi.specs.contracts.map.BiHashMap.{the_row}
 
 -- the item that was refused
@@ -26,35 +25,15 @@ MatchRefusal (refusal.Duplicate x found) P Q = P found
 MatchRefusal (refusal.Memory x) P Q = Q
 
 module _ {T S K1 K2 H : Type 0} {of : item.Ghosts T K1 K2} {eq1 : equal.Ghosts K1} {input1 : hash.Ghosts K1} {eq2 : equal.Ghosts K2} {input2 : hash.Ghosts K2} {build : builder.Ghosts S H} {hashes : hasher.Ghosts H} where
-  -- the reference to the map that refused
-  abbrev pub refusing_map : InsertError T S K1 K2 H of eq1 input1 eq2 input2 build hashes → MutBor (Map T S)
-  refusing_map (Duplicate d) = d.map
-  refusing_map (Memory d) = d.map
-
-  -- the item that was refused
-  abbrev pub refused_item : InsertError T S K1 K2 H of eq1 input1 eq2 input2 build hashes → T
-  refused_item (Duplicate d) = d.new_item
-  refused_item (Memory d) = d.new_item
-
   -- the refusal has the item, and holds this very map as it was
   pub record HandsBackAndHolds (m : MutBor (Map T S)) (x : T) (e : InsertError T S K1 K2 H of eq1 input1 eq2 input2 build hashes) : Type 0 where
-    pub handed_back : refused_item e ≡ x
-    pub same_map : (refusing_map e).ghost_name ≡ m.ghost_name
-    pub unchanged : (refusing_map e).now ≡ m.now
-
-  -- P, where items conflict
-  abbrev pub OnDuplicate : InsertError T S K1 K2 H of eq1 input1 eq2 input2 build hashes → Type 0 → Type 0
-  OnDuplicate (Duplicate d) P = P
-  OnDuplicate (Memory d) P = ⊤
-
-  -- P, where there is no memory
-  abbrev pub OnMemory : InsertError T S K1 K2 H of eq1 input1 eq2 input2 build hashes → Type 0 → Type 0
-  OnMemory (Duplicate d) P = ⊤
-  OnMemory (Memory d) P = P
+    pub handed_back : e.item ≡ x
+    pub same_map : e.map.ghost_name ≡ m.ghost_name
+    pub unchanged : e.map.now ≡ m.now
 
   abbrev pub refused_name : {X : Type 0} → Result X (InsertError T S K1 K2 H of eq1 input1 eq2 input2 build hashes) → maybe.Option GName
   refused_name (Ok _) = maybe.none
-  refused_name (Err e) = maybe.some (refusing_map e).ghost_name
+  refused_name (Err e) = maybe.some e.map.ghost_name
 
 module _ (T S K1 K2 H : RattleType) (of : item.Ghosts T.Denot K1.Denot K2.Denot) (keys1 : HashMembers K1.Denot) (keys2 : HashMembers K2.Denot) (build : builder.Ghosts S.Denot H.Denot) (hashes : hasher.Ghosts H.Denot) where
   -- the map's type, as the logic holds it

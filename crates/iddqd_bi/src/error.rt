@@ -1,38 +1,36 @@
 //! Refusals: of an insert, of an item with other keys, and at an entry.
-ghost use Rattle.std.specs.Prelude.{◌≡◌, ◌<◌, IfSome, Some, map};
+ghost use Rattle.std.specs.Prelude.{◌≡◌, ◌≢◌, ◌<◌, [], IfSome, Some, map};
 ghost use Rattle.iddqd_store.specs.Map.{bag};
-ghost use Rattle.iddqd_store.specs.Bag.{differ, order};
+ghost use Rattle.iddqd_store.specs.Bag.{clash, differ, order};
 ghost use Rattle.iddqd_store.specs.Slots.Found.{items_at};
 ghost use Rattle.iddqd_bi.specs.Keys.{ranks};
 ghost use Rattle.iddqd_bi.specs.Mismatch.{error_item, error_rank, mismatch_item, mismatch_rank};
 
 use crate::item::{BiHashItem, Ranked};
 use crate::map::{BiHashMap, DefaultHashBuilder};
-use iddqd_store::{ItemIndex, UpToTwo};
+use iddqd_store::{InsertReason, ItemIndex, UpToTwo};
 use std::hash::{BuildHasher, Hash};
 
-/// Why an insert was refused. It holds the map, so that the caller knows the map exactly.
-#[derive(Drop)]
-pub enum InsertError<'a, T: BiHashItem, S: BuildHasher> {
-    /// Items of the map conflict with the new one.
-    Duplicate(DuplicateError<'a, T, S>),
-    /// Nothing conflicts with the new item, but the map is full and there was no memory to grow.
-    Memory(MemoryError<'a, T, S>),
-}
+mod display;
 
-/// An item that was refused since others have its keys, with the map that has them.
-pub struct DuplicateError<'a, T: BiHashItem, S: BuildHasher> {
+/// An item that an insert refused, with the items of the map that conflict with it, or with none where there was no
+/// memory. It holds the map, which is as it was, so that the caller knows the map exactly.
+///
+/// ```
+/// match devices.insert_unique(device) {
+///     Ok(()) => Ok(()),
+///     Err(e) => match e.reason() {
+///         InsertReason::Duplicate => Err(Refused::Taken(e.into_item())),
+///         InsertReason::Memory => Err(Refused::Full(e.into_item())),
+///     },
+/// }
+/// ```
+pub struct InsertError<'a, T: BiHashItem, S: BuildHasher = DefaultHashBuilder> {
     pub(crate) map: &'a mut BiHashMap<T, S>,
-    pub(crate) new_item: T,
+    pub(crate) item: T,
     pub(crate) found: UpToTwo<ItemIndex>,
     ghost found_is: { items_at map.now.slots found
-        ≡ order (ranks T.BiHashItem T.K1.eq T.K2.eq) (bag map.now) new_item },
-}
-
-/// An item that was refused for want of memory, with the map that has no room for it.
-pub struct MemoryError<'a, T: BiHashItem, S: BuildHasher> {
-    pub(crate) map: &'a mut BiHashMap<T, S>,
-    pub(crate) new_item: T,
+        ≡ order (ranks T.BiHashItem T.K1.eq T.K2.eq) (bag map.now) item },
 }
 
 /// Why an item was not put in the place of others: the lowest rank at which its key is not theirs, with the item.
@@ -78,6 +76,15 @@ pub(crate) fn differ<T: BiHashItem>(item: &T, key1: &T::K1, key2: &T::K2) -> Opt
 }
 
 impl<T> KeyMismatch<T> {
+    /// The item that was refused.
+    pub fn item(&self) -> &T
+        ensures { result.now ≡ mismatch_item self.now }
+    {
+        match self {
+            KeyMismatch::Key1(item) | KeyMismatch::Key2(item) => item,
+        }
+    }
+
     /// The item that was refused, by value.
     pub fn into_item(self) -> T
         ensures { result ≡ mismatch_item self }
@@ -138,6 +145,22 @@ impl<T: BiHashItem, S: BuildHasher> EntryRefusal<'_, T, S> {
         &self.error
     }
 
+    /// The item that was refused.
+    pub fn item(&self) -> &T
+        ensures { result.now ≡ error_item self.now.error }
+    {
+        self.error.item()
+    }
+
+    /// The item that was refused, by value.
+    pub fn into_item(self) -> T
+        ensures item { result ≡ error_item self.entry.error }
+        ensures map { self.exit.0.now ≡ self.entry.map.now }
+    {
+        let EntryRefusal { map: _, error } = self;
+        error.into_item()
+    }
+
     /// Why, with the item by value.
     pub fn into_error(self) -> EntryError<T>
         ensures error { result ≡ self.entry.error }
@@ -151,90 +174,71 @@ impl<T: BiHashItem, S: BuildHasher> EntryRefusal<'_, T, S> {
 /// Why no map was built of some items.
 pub type FromIterError<T> = iddqd_store::FromIterError<T, UpToTwo<T>>;
 
-impl<T: Ranked, S: BuildHasher> DuplicateError<'_, T, S> {
+impl<T: Ranked, S: BuildHasher> InsertError<'_, T, S> {
     /// The item that was refused.
-    pub fn new_item(&self) -> &T
-        ensures { result.now ≡ self.now.new_item }
+    pub fn item(&self) -> &T
+        ensures { result.now ≡ self.now.item }
     {
-        &self.new_item
+        &self.item
+    }
+
+    /// Why it was refused. Where there was no memory, no item of the map conflicts with it.
+    pub fn reason(&self) -> InsertReason
+        ensures duplicate { result ≡ InsertReason.Duplicate → clash T.ranks (bag self.now.map.now) self.now.item ≢ [] }
+        ensures memory { result ≡ InsertReason.Memory → clash T.ranks (bag self.now.map.now) self.now.item ≡ [] }
+    {
+        if self.duplicates().is_empty() {
+            InsertReason::Memory
+        } else {
+            InsertReason::Duplicate
+        }
     }
 
     /// The items of the map that conflict with it, in the order of the keys. Nothing is searched again.
     pub fn duplicates(&self) -> UpToTwo<&T>
-        ensures { map (λ item. item.now) result ≡ order T.ranks (bag self.now.map.now) self.now.new_item }
+        ensures { map (λ item. item.now) result ≡ order T.ranks (bag self.now.map.now) self.now.item }
     {
         let map = &*self.map;
         map.items_of(&self.found)
     }
-
-    /// The item that was refused, by value.
-    pub fn into_item(self) -> T
-        ensures item { result ≡ self.entry.new_item }
-        ensures map { self.exit.0.now ≡ self.entry.map.now }
-    {
-        let DuplicateError {
-            map: _,
-            new_item,
-            found: _,
-        } = self;
-        new_item
-    }
 }
 
-impl<'a, T: Ranked, S: BuildHasher> DuplicateError<'a, T, S> {
+impl<'a, T: Ranked, S: BuildHasher> InsertError<'a, T, S> {
+    /// The item that was refused, by value.
+    pub fn into_item(self) -> T
+        ensures item { result ≡ self.entry.item }
+        ensures map { self.exit.0.now ≡ self.entry.map.now }
+    {
+        let InsertError {
+            map: _,
+            item,
+            found: _,
+        } = self;
+        item
+    }
+
     /// The item that was refused, by value, with the items of the map that conflict with it, in the order of the keys.
     pub fn into_parts(self) -> (T, UpToTwo<&'a T>)
-        ensures item { result.0 ≡ self.entry.new_item }
+        ensures item { result.0 ≡ self.entry.item }
         ensures duplicates { map (λ item. item.now) result.1
-            ≡ order T.ranks (bag self.entry.map.now) self.entry.new_item }
+            ≡ order T.ranks (bag self.entry.map.now) self.entry.item }
     {
-        let DuplicateError {
-            map,
-            new_item,
-            found,
-        } = self;
+        let InsertError { map, item, found } = self;
         let map: &'a BiHashMap<T, S> = map;
-        (new_item, map.items_of(&found))
+        (item, map.items_of(&found))
     }
 }
 
-impl<T: BiHashItem, S: BuildHasher> MemoryError<'_, T, S> {
-    /// The item that was refused.
-    pub fn new_item(&self) -> &T
-        ensures { result.now ≡ self.now.new_item }
-    {
-        &self.new_item
-    }
-
-    /// The item that was refused, by value.
-    pub fn into_item(self) -> T
-        ensures item { result ≡ self.entry.new_item }
-        ensures map { self.exit.0.now ≡ self.entry.map.now }
-    {
-        let MemoryError { map: _, new_item } = self;
-        new_item
-    }
-}
-
-impl<T: BiHashItem + Drop, S: BuildHasher> Drop for DuplicateError<'_, T, S> {
+impl<T: BiHashItem + Drop, S: BuildHasher> Drop for InsertError<'_, T, S> {
     fn drop(self)
         ensures { self.exit.0.now ≡ self.entry.map.now }
     {
-        let DuplicateError {
+        let InsertError {
             map: _,
-            new_item,
+            item,
             found: _,
         } = self;
-        drop(new_item);
-    }
-}
-
-impl<T: BiHashItem + Drop, S: BuildHasher> Drop for MemoryError<'_, T, S> {
-    fn drop(self)
-        ensures { self.exit.0.now ≡ self.entry.map.now }
-    {
-        let MemoryError { map: _, new_item } = self;
-        drop(new_item);
+        drop(item);
     }
 }
 

@@ -15,9 +15,7 @@ pub use command::{BiCommand, BiReply, BiSink};
 pub use entry::{
     Entry, KeyPair, Keys, OccupiedEntry, OccupiedEntryMut, OccupiedEntryRef, VacantEntry,
 };
-pub use error::{
-    DuplicateError, EntryError, EntryRefusal, FromIterError, InsertError, KeyMismatch, MemoryError,
-};
+pub use error::{EntryError, EntryRefusal, FromIterError, InsertError, KeyMismatch};
 pub use item::{BiHashItem, BiHashItemMut, Hashed, Ranked};
 pub use iter_mut::IterMut;
 pub use map::{BiHashMap, DefaultHashBuilder};
@@ -25,7 +23,7 @@ pub use ref_mut::RefMut;
 
 // What the calls name of the parts that all maps share.
 pub use iddqd_store::{
-    Cursor, DuplicateItem, Equivalent, ExtendUniqueError, ExtendUniqueReason, IntoIter, Iter,
-    KeyMatcher, MemoryRefused, Meter, Pair, ShortIntoIter, ShortIter, Text, TryReserveError,
-    UpToTwo,
+    Cursor, DuplicateItem, Equivalent, ExtendUniqueError, ExtendUniqueReason, InsertReason,
+    IntoIter, Iter, KeyMatcher, MemoryRefused, Meter, Query, ShortIntoIter, ShortIter,
+    TryReserveError, UpToTwo,
 };

@@ -20,6 +20,7 @@ mod run;
 mod run_entries;
 mod shrink;
 pub(crate) mod slots;
+mod update;
 mod write;
 
 /// The builder of hashers that a map has where none is named: std's, with its fixed seed. It gives no protection where

@@ -4,7 +4,7 @@
 use crate::answers::{was_found, was_granted};
 use crate::counting::Counts;
 use crate::pair::{Numbers, Pair, pair_of};
-use iddqd_bi::{BiHashMap, InsertError};
+use iddqd_bi::BiHashMap;
 use std::alloc::{AllocError, Global};
 use std::hash::BuildHasher;
 use std::process::Abort;
@@ -61,6 +61,7 @@ pub(crate) enum Search {
     Get(By),
     Contains(By),
     GetMut(By),
+    Update(By),
     Remove(By),
 }
 
@@ -74,6 +75,7 @@ pub(crate) fn finds<S: BuildHasher>(
         Search::Get(by) => gets(map, by, keys),
         Search::Contains(by) => contains(map, by, keys),
         Search::GetMut(by) => gets_mut(map, by, keys),
+        Search::Update(by) => updates(map, by, keys),
         Search::Remove(by) => removes(map, by, keys),
     }
 }
@@ -99,6 +101,14 @@ fn gets_mut<S: BuildHasher>(map: &mut BiHashMap<Pair, S>, by: &By, keys: &Pair) 
         By::Key1 => was_found(map.get1_mut(&keys.key1)),
         By::Key2 => was_found(map.get2_mut(&keys.key2)),
         By::All => was_found(map.get_mut_unique(&keys.key1, &keys.key2)),
+    }
+}
+
+fn updates<S: BuildHasher>(map: &mut BiHashMap<Pair, S>, by: &By, keys: &Pair) -> bool {
+    match by {
+        By::Key1 => map.update1(&keys.key1, |item| item.value),
+        By::Key2 => map.update2(&keys.key2, |item| item.value),
+        By::All => map.update_unique(&keys.key1, &keys.key2, |item| item.value),
     }
 }
 
@@ -141,7 +151,7 @@ pub(crate) fn puts_in<S: BuildHasher>(
 fn is_refused<S: BuildHasher>(map: &mut BiHashMap<Pair, S>, item: Pair, many: usize) -> bool {
     let answer = map.insert_unique(item);
     let is_so = match &answer {
-        Err(InsertError::Duplicate(refused)) => refused.duplicates().len() == many,
+        Err(refused) => refused.duplicates().len() == many,
         _ => false,
     };
     drop(answer);

@@ -13,7 +13,7 @@ const OTHER_KEY2: Numbers = (65, 76);
 
 /// What a call is called; the call; the keys that it is given; and how many keys it compares and hashes once the entry is
 /// made, or the item lent. Where an item is put in, its keys are compared from the first on, up to the first that differs.
-pub(crate) const LENT: [(&str, Call, Numbers, u64, u64); 40] = [
+pub(crate) const LENT: [(&str, Call, Numbers, u64, u64); 44] = [
     (
         "insert, vacant",
         Call::Enter(Enter::Vacant(Vacant::Insert(true)), NEW),
@@ -212,6 +212,34 @@ pub(crate) const LENT: [(&str, Call, Numbers, u64, u64); 40] = [
     ),
     ("data1_mut", Call::Lend(Lend::Data1Mut), FIRST, 0, 0),
     ("data2_mut", Call::Lend(Lend::Data2Mut), FIRST, 0, 0),
+    (
+        "for_each of an entry",
+        Call::Lend(Lend::ForEach),
+        FIRST,
+        0,
+        0,
+    ),
+    (
+        "data1_mut of what is held",
+        Call::Lend(Lend::HeldData1Mut),
+        FIRST,
+        0,
+        0,
+    ),
+    (
+        "data2_mut of what is held",
+        Call::Lend(Lend::HeldData2Mut),
+        FIRST,
+        0,
+        0,
+    ),
+    (
+        "data_unique_mut",
+        Call::Lend(Lend::HeldDataUniqueMut),
+        FIRST,
+        0,
+        0,
+    ),
     (
         "is_unique and as_unique of what is held",
         Call::HoldUnique,

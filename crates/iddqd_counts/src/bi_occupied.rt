@@ -21,6 +21,10 @@ pub(crate) enum Lend {
     GetMut,
     Data1Mut,
     Data2Mut,
+    ForEach,
+    HeldData1Mut,
+    HeldData2Mut,
+    HeldDataUniqueMut,
 }
 
 /// What is made of what `into_mut` holds.
@@ -90,6 +94,13 @@ pub(crate) fn lends<S: BuildHasher>(
         Lend::GetMut => was_found(entry.get_mut().as_unique()),
         Lend::Data1Mut => was_found(entry.data1_mut()),
         Lend::Data2Mut => was_found(entry.data2_mut()),
+        Lend::ForEach => {
+            entry.for_each(|item| item.value);
+            true
+        }
+        Lend::HeldData1Mut => was_found(entry.into_mut().data1_mut()),
+        Lend::HeldData2Mut => was_found(entry.into_mut().data2_mut()),
+        Lend::HeldDataUniqueMut => was_found(entry.into_mut().data_unique_mut()),
     }
 }
 

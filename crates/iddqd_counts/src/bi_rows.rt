@@ -31,7 +31,7 @@ pub(crate) const NEW: Numbers = (65, 75);
 /// how many it hashes. Where each key has its own hash it compares the least: one, and for all keys one a rank. By keys
 /// that no item has it hashes one, and compares the five of the rank that it searches where all are hashed alike, and
 /// none where each has its own hash.
-pub(crate) const SEARCHES: [(&str, Call, Bounds, u64); 12] = [
+pub(crate) const SEARCHES: [(&str, Call, Bounds, u64); 15] = [
     ("get1", Call::Find(Search::Get(By::Key1)), (1, 5), 1),
     ("get2", Call::Find(Search::Get(By::Key2)), (1, 5), 1),
     ("get_unique", Call::Find(Search::Get(By::All)), (2, 6), 1),
@@ -58,6 +58,14 @@ pub(crate) const SEARCHES: [(&str, Call, Bounds, u64); 12] = [
     (
         "get_mut_unique",
         Call::Find(Search::GetMut(By::All)),
+        (2, 6),
+        1,
+    ),
+    ("update1", Call::Find(Search::Update(By::Key1)), (1, 5), 1),
+    ("update2", Call::Find(Search::Update(By::Key2)), (1, 5), 1),
+    (
+        "update_unique",
+        Call::Find(Search::Update(By::All)),
         (2, 6),
         1,
     ),
@@ -322,13 +330,14 @@ pub(crate) const CALLS: [(&str, Call, Numbers, Bounds, u64, u64); 27] = [
 
 /// What a call on the map as a whole is called; the call; how many keys it compares at most; and how many it
 /// hashes. Tables hold hashes, so growing and copying hash nothing. Shrinking fills new tables, by each key's hash.
-pub(crate) const WHOLES: [(&str, Whole, u64, u64); 16] = [
+pub(crate) const WHOLES: [(&str, Whole, u64, u64); 17] = [
     ("len", Whole::Lent(Lent::Len), 0, 0),
     ("capacity", Whole::Lent(Lent::Capacity), 0, 0),
     ("iter", Whole::Lent(Lent::Walk(Walk::Iter)), 0, 0),
     ("next_mut", Whole::Lent(Lent::Walk(Walk::NextMut)), 0, 0),
     ("next_data", Whole::Lent(Lent::Walk(Walk::NextData)), 0, 0),
     ("next_from", Whole::Lent(Lent::Walk(Walk::NextFrom)), 0, 0),
+    ("update_all", Whole::Lent(Lent::Walk(Walk::UpdateAll)), 0, 0),
     ("into_iter", Whole::IntoIter, 0, 0),
     ("reserve", Whole::Lent(Lent::Room(Room::Reserve)), 0, 0),
     (

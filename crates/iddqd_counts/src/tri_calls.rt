@@ -4,7 +4,7 @@
 use crate::answers::{was_found, was_granted};
 use crate::counting::Counts;
 use crate::triple::{Numbers, Triple, triple_of};
-use iddqd_tri::{InsertError, TriHashMap};
+use iddqd_tri::TriHashMap;
 use std::alloc::{AllocError, Global};
 use std::hash::BuildHasher;
 use std::process::Abort;
@@ -68,6 +68,7 @@ pub(crate) enum Search {
     Get(By),
     Contains(By),
     GetMut(By),
+    Update(By),
     Remove(By),
 }
 
@@ -81,6 +82,7 @@ pub(crate) fn finds<S: BuildHasher>(
         Search::Get(by) => gets(map, by, keys),
         Search::Contains(by) => contains(map, by, keys),
         Search::GetMut(by) => gets_mut(map, by, keys),
+        Search::Update(by) => updates(map, by, keys),
         Search::Remove(by) => removes(map, by, keys),
     }
 }
@@ -109,6 +111,15 @@ fn gets_mut<S: BuildHasher>(map: &mut TriHashMap<Triple, S>, by: &By, keys: &Tri
         By::Key2 => was_found(map.get2_mut(&keys.key2)),
         By::Key3 => was_found(map.get3_mut(&keys.key3)),
         By::All => was_found(map.get_mut_unique(&keys.key1, &keys.key2, &keys.key3)),
+    }
+}
+
+fn updates<S: BuildHasher>(map: &mut TriHashMap<Triple, S>, by: &By, keys: &Triple) -> bool {
+    match by {
+        By::Key1 => map.update1(&keys.key1, |item| item.value),
+        By::Key2 => map.update2(&keys.key2, |item| item.value),
+        By::Key3 => map.update3(&keys.key3, |item| item.value),
+        By::All => map.update_unique(&keys.key1, &keys.key2, &keys.key3, |item| item.value),
     }
 }
 
@@ -152,7 +163,7 @@ pub(crate) fn puts_in<S: BuildHasher>(
 fn is_refused<S: BuildHasher>(map: &mut TriHashMap<Triple, S>, item: Triple, many: usize) -> bool {
     let answer = map.insert_unique(item);
     let is_so = match &answer {
-        Err(InsertError::Duplicate(refused)) => refused.duplicates().len() == many,
+        Err(refused) => refused.duplicates().len() == many,
         _ => false,
     };
     drop(answer);

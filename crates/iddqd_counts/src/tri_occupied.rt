@@ -22,6 +22,11 @@ pub(crate) enum Lend {
     Data1Mut,
     Data2Mut,
     Data3Mut,
+    ForEach,
+    HeldData1Mut,
+    HeldData2Mut,
+    HeldData3Mut,
+    HeldDataUniqueMut,
 }
 
 /// What is made of what `into_mut` holds.
@@ -93,6 +98,14 @@ pub(crate) fn lends<S: BuildHasher>(
         Lend::Data1Mut => was_found(entry.data1_mut()),
         Lend::Data2Mut => was_found(entry.data2_mut()),
         Lend::Data3Mut => was_found(entry.data3_mut()),
+        Lend::ForEach => {
+            entry.for_each(|item| item.value);
+            true
+        }
+        Lend::HeldData1Mut => was_found(entry.into_mut().data1_mut()),
+        Lend::HeldData2Mut => was_found(entry.into_mut().data2_mut()),
+        Lend::HeldData3Mut => was_found(entry.into_mut().data3_mut()),
+        Lend::HeldDataUniqueMut => was_found(entry.into_mut().data_unique_mut()),
     }
 }
 

@@ -33,6 +33,7 @@ pub(crate) enum Walk {
     /// One step of `next_data`, and how many are to come by what the walk says.
     NextData,
     NextFrom,
+    UpdateAll,
 }
 
 /// A call that takes room or gives it back.
@@ -73,6 +74,7 @@ fn passed<S: BuildHasher>(map: &mut TriHashMap<Triple, S>, walk: &Walk) -> usize
         Walk::NextMut => lent_by_a_walk(map),
         Walk::NextData => lent_and_to_come(map),
         Walk::NextFrom => lent_by_a_cursor(map),
+        Walk::UpdateAll => updated(map),
     }
 }
 
@@ -94,6 +96,16 @@ fn lent_by_a_cursor<S: BuildHasher>(map: &mut TriHashMap<Triple, S>) -> usize {
             items = items.wrapping_add(1);
         }
     }
+    items
+}
+
+/// How many items a function is called at that writes them all.
+fn updated<S: BuildHasher>(map: &mut TriHashMap<Triple, S>) -> usize {
+    let mut items: usize = 0;
+    map.update_all(|item| {
+        items = items.wrapping_add(1);
+        item.value
+    });
     items
 }
 

@@ -20,6 +20,7 @@ use iddqd_bi::BiHashMap;
 use iddqd_builders::Alike;
 use iddqd_tri::TriHashMap;
 use std::alloc::{AllocError, Global};
+use std::hash::RandomState;
 use std::io;
 use std::process::ExitCode;
 
@@ -41,6 +42,8 @@ const ALIKE: Alike = Alike { hash: 7 };
 fn run_two(rt: &HostRuntime) -> io::Result<bool> {
     let map = BiHashMap::new(rt.alloc());
     let is_right = run(rt, "two keys, default builder", map, &TWO, 200_000)?;
+    let map = BiHashMap::with_hasher(rt.alloc(), RandomState::new(rt)?);
+    let is_right = run(rt, "two keys, random seed", map, &TWO, 20_000)? && is_right;
     let map = BiHashMap::with_hasher(rt.alloc(), ALIKE);
     Ok(run(rt, "two keys, all hashes alike", map, &TWO, 20_000)? && is_right)
 }
@@ -49,6 +52,8 @@ fn run_two(rt: &HostRuntime) -> io::Result<bool> {
 fn run_three(rt: &HostRuntime) -> io::Result<bool> {
     let map = TriHashMap::new(rt.alloc());
     let is_right = run(rt, "three keys, default builder", map, &THREE, 200_000)?;
+    let map = TriHashMap::with_hasher(rt.alloc(), RandomState::new(rt)?);
+    let is_right = run(rt, "three keys, random seed", map, &THREE, 20_000)? && is_right;
     let map = TriHashMap::with_hasher(rt.alloc(), ALIKE);
     Ok(run(rt, "three keys, all hashes alike", map, &THREE, 20_000)? && is_right)
 }

@@ -7,7 +7,7 @@ use crate::reply::Sink;
 use iddqd_bi::DefaultHashBuilder;
 use iddqd_builders::Alike;
 use std::alloc::AllocError;
-use std::hash::BuildHasher;
+use std::hash::{BuildHasher, RandomState};
 
 /// A map of either kind.
 pub trait Table {
@@ -21,6 +21,10 @@ pub trait Builder: BuildHasher + Clone {
 }
 
 impl Builder for DefaultHashBuilder {
+    ghost clones = { Prim.search rules };
+}
+
+impl Builder for RandomState {
     ghost clones = { Prim.search rules };
 }
 

@@ -41,10 +41,7 @@ fn by_all(keys: Keys, asked: AskedByAll) -> BiCommand<Item> {
 
 /// Adds one to the value of the item with this first key.
 fn write_more<S: Builder>(map: &mut BiHashMap<Item, S>, key: u64) {
-    if let Some(mut found) = map.get1_mut(&key) {
-        let value = found.value.wrapping_add(1);
-        *found.data_mut() = value;
-    }
+    map.update1(&key, |found| found.value.wrapping_add(1));
 }
 
 /// Whether a map equals its copy, and whether it does once that is written to.

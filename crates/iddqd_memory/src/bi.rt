@@ -1,6 +1,6 @@
 //! The two-key map under refused memory: each call that puts an item into a full map.
 use crate::granted::{is_done, right, same, say_unless};
-use iddqd_bi::{BiHashMap, DefaultHashBuilder, Entry, EntryError, InsertError, MemoryError};
+use iddqd_bi::{BiHashMap, DefaultHashBuilder, Entry, EntryError, InsertError, InsertReason};
 use iddqd_tests_bi::{Row, row_of};
 use std::alloc::Global;
 use std::process::Abort;
@@ -122,17 +122,19 @@ pub(crate) fn put_in(map: &mut BiHashMap<Row>, way: Way, keys: Row, item: Row) -
 fn insert(map: &mut BiHashMap<Row>, item: Row) -> Answer {
     match map.insert_unique(item) {
         Ok(()) => Answer::In,
-        Err(InsertError::Duplicate(refusal)) => {
-            drop(refusal);
-            Answer::Taken
-        }
-        Err(InsertError::Memory(refusal)) => handed_back(refusal),
+        Err(refusal) => match refusal.reason() {
+            InsertReason::Memory => handed_back(refusal),
+            InsertReason::Duplicate => {
+                drop(refusal);
+                Answer::Taken
+            }
+        },
     }
 }
 
 /// What the refusal shows is what it hands back.
-fn handed_back(refusal: MemoryError<'_, Row, DefaultHashBuilder>) -> Answer {
-    let shown = *refusal.new_item();
+fn handed_back(refusal: InsertError<'_, Row, DefaultHashBuilder>) -> Answer {
+    let shown = *refusal.item();
     let back = refusal.into_item();
     if shown == back {
         Answer::Refused(Reason::Memory, back)

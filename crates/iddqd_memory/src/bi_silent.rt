@@ -4,9 +4,10 @@ use crate::bi_building::is_extended_by_none;
 use crate::bi_full::{BESIDE, ONE, OVER, Silent, TWO, are_granted};
 use crate::bi_room::{is_shrunk, makes_room};
 use crate::granted::{is_done, is_given, say_unless};
-use iddqd_bi::{BiHashMap, DefaultHashBuilder, InsertError};
+use iddqd_bi::{BiHashMap, DefaultHashBuilder, InsertReason};
 use iddqd_tests_bi::Row;
 use std::alloc::Global;
+use std::hash::{BuildHasher, Hash};
 use std::mem;
 use std::test::*;
 
@@ -26,6 +27,9 @@ enum Call {
     Get,
     GetUnique,
     Contain,
+    Update,
+    UpdateAll,
+    WriteLent,
     Remove1,
     Remove2,
     RemoveUnique,
@@ -57,6 +61,9 @@ const READS: &[Call] = &[
     Call::Get,
     Call::GetUnique,
     Call::Contain,
+    Call::Update,
+    Call::UpdateAll,
+    Call::WriteLent,
     Call::Equal,
     Call::Walk,
     Call::WalkByValue,
@@ -96,6 +103,9 @@ impl Silent for Call {
             Call::Get => get(map),
             Call::GetUnique => get_unique(map),
             Call::Contain => contain(map),
+            Call::Update => update(map),
+            Call::UpdateAll => update_all(map),
+            Call::WriteLent => write_lent(map),
             Call::Remove1 => is_removed1(map),
             Call::Remove2 => is_removed2(map),
             Call::RemoveUnique => is_removed_unique(map),
@@ -168,6 +178,36 @@ fn contain(map: &BiHashMap<Row>) -> bool {
     map.contains_key1(&1) && map.contains_key2(&20) && map.contains_key_unique(&2, &20)
 }
 
+/// The value of the row with this first key.
+fn value1(map: &BiHashMap<Row>, key: u64) -> u64 {
+    match map.get1(&key) {
+        Some(row) => row.value,
+        None => 0,
+    }
+}
+
+fn update(map: &mut BiHashMap<Row>) -> bool {
+    let is_found = map.update1(&1, |_row| 1)
+        && map.update2(&20, |_row| 2)
+        && map.update_unique(&1, &10, |row| row.value.wrapping_add(6));
+    let is_absent = !map.update1(&9, |_row| 0) && !map.update_unique(&1, &20, |_row| 0);
+    is_found && is_absent && value1(map, 1) == 7 && value1(map, 2) == 2
+}
+
+fn update_all(map: &mut BiHashMap<Row>) -> bool {
+    map.update_all(|row| row.key1);
+    value1(map, 1) == 1 && value1(map, 2) == 2
+}
+
+fn write_lent(map: &mut BiHashMap<Row>) -> bool {
+    if let Some(mut row) = map.get1_mut(&1) {
+        *row.reborrow().data_mut() = 5;
+        *row.data_mut() = row.value.wrapping_add(1);
+    }
+    value1(map, 1) == 6
+        && map.hasher().hash_one(1u64) == DefaultHashBuilder::default().hash_one(1u64)
+}
+
 fn remove1(map: &mut BiHashMap<Row>, key: u64) -> Option<Row> {
     map.remove1(&key)
 }
@@ -225,14 +265,17 @@ fn duplicate(map: &mut BiHashMap<Row>) -> bool {
 
 fn is_refused(map: &mut BiHashMap<Row>) -> bool {
     match map.insert_unique(OVER) {
-        Err(InsertError::Duplicate(refusal)) => refusal.into_item() == OVER,
+        Err(refusal) => {
+            let is_taken = refusal.reason() == InsertReason::Duplicate;
+            refusal.into_item() == OVER && is_taken
+        }
         _ => false,
     }
 }
 
 fn duplicate_parts(map: &mut BiHashMap<Row>) -> bool {
     match map.insert_unique(HALF_OVER) {
-        Err(InsertError::Duplicate(refusal)) => {
+        Err(refusal) => {
             let (_item, found) = refusal.into_parts();
             found.get(0).copied().copied() == Some(TWO)
         }

@@ -5,8 +5,9 @@ use crate::tri_building::is_extended_by_none;
 use crate::tri_full::{BESIDE, ONE, OVER, Silent, THREE, TWO, are_granted};
 use crate::tri_room::{is_shrunk, makes_room};
 use iddqd_tests_tri::Row;
-use iddqd_tri::{DefaultHashBuilder, InsertError, TriHashMap};
+use iddqd_tri::{DefaultHashBuilder, InsertReason, TriHashMap};
 use std::alloc::Global;
+use std::hash::{BuildHasher, Hash};
 use std::mem;
 use std::test::*;
 
@@ -27,6 +28,9 @@ enum Call {
     Get,
     GetUnique,
     Contain,
+    Update,
+    UpdateAll,
+    WriteLent,
     Remove1,
     Remove2,
     Remove3,
@@ -59,6 +63,9 @@ const READS: &[Call] = &[
     Call::Get,
     Call::GetUnique,
     Call::Contain,
+    Call::Update,
+    Call::UpdateAll,
+    Call::WriteLent,
     Call::Equal,
     Call::Walk,
     Call::WalkByValue,
@@ -99,6 +106,9 @@ impl Silent for Call {
             Call::Get => get(map),
             Call::GetUnique => get_unique(map),
             Call::Contain => contain(map),
+            Call::Update => update(map),
+            Call::UpdateAll => update_all(map),
+            Call::WriteLent => write_lent(map),
             Call::Remove1 => is_removed1(map),
             Call::Remove2 => is_removed2(map),
             Call::Remove3 => is_removed3(map),
@@ -176,6 +186,37 @@ fn contain(map: &TriHashMap<Row>) -> bool {
         && map.contains_key_unique(&2, &20, &200)
 }
 
+/// The value of the row with this first key.
+fn value1(map: &TriHashMap<Row>, key: u64) -> u64 {
+    match map.get1(&key) {
+        Some(row) => row.value,
+        None => 0,
+    }
+}
+
+fn update(map: &mut TriHashMap<Row>) -> bool {
+    let is_found = map.update1(&1, |_row| 1)
+        && map.update2(&20, |_row| 2)
+        && map.update3(&300, |_row| 3)
+        && map.update_unique(&1, &10, &100, |row| row.value.wrapping_add(6));
+    let is_absent = !map.update1(&9, |_row| 0) && !map.update_unique(&1, &20, &100, |_row| 0);
+    is_found && is_absent && value1(map, 1) == 7 && value1(map, 2) == 2
+}
+
+fn update_all(map: &mut TriHashMap<Row>) -> bool {
+    map.update_all(|row| row.key1);
+    value1(map, 1) == 1 && value1(map, 2) == 2
+}
+
+fn write_lent(map: &mut TriHashMap<Row>) -> bool {
+    if let Some(mut row) = map.get1_mut(&1) {
+        *row.reborrow().data_mut() = 5;
+        *row.data_mut() = row.value.wrapping_add(1);
+    }
+    value1(map, 1) == 6
+        && map.hasher().hash_one(1u64) == DefaultHashBuilder::default().hash_one(1u64)
+}
+
 fn remove1(map: &mut TriHashMap<Row>, key: u64) -> Option<Row> {
     map.remove1(&key)
 }
@@ -243,14 +284,17 @@ fn duplicate(map: &mut TriHashMap<Row>) -> bool {
 
 fn is_refused(map: &mut TriHashMap<Row>) -> bool {
     match map.insert_unique(OVER) {
-        Err(InsertError::Duplicate(refusal)) => refusal.into_item() == OVER,
+        Err(refusal) => {
+            let is_taken = refusal.reason() == InsertReason::Duplicate;
+            refusal.into_item() == OVER && is_taken
+        }
         _ => false,
     }
 }
 
 fn duplicate_parts(map: &mut TriHashMap<Row>) -> bool {
     match map.insert_unique(HALF_OVER) {
-        Err(InsertError::Duplicate(refusal)) => {
+        Err(refusal) => {
             let (_item, found) = refusal.into_parts();
             found.get(0).copied().copied() == Some(TWO)
         }

@@ -35,6 +35,9 @@ enum Call {
     LentForGood,
     UniqueForGood,
     ForEach,
+    ForEachFound,
+    HeldData,
+    HeldUnique,
     Insert,
     InsertRefused,
     Remove,
@@ -61,6 +64,9 @@ const OCCUPIED: &[Call] = &[
     Call::LentForGood,
     Call::UniqueForGood,
     Call::ForEach,
+    Call::ForEachFound,
+    Call::HeldData,
+    Call::HeldUnique,
     Call::Insert,
     Call::InsertRefused,
     Call::Remove,
@@ -92,6 +98,9 @@ impl Silent for Call {
             Call::LentForGood => lend_for_good(map, SAME),
             Call::UniqueForGood => lend_unique_for_good(map, SAME),
             Call::ForEach => for_each(map, OVER) == 3,
+            Call::ForEachFound => for_each_found(map, OVER) == 3,
+            Call::HeldData => write_held(map, OVER),
+            Call::HeldUnique => write_unique(map, SAME),
             Call::Insert => is_overwritten(map, OVER, [Some(ONE), Some(TWO), Some(THREE)]),
             Call::InsertRefused => is_overwritten(map, BESIDE, [None; 3]),
             Call::Remove => is_removed(map),
@@ -215,6 +224,32 @@ fn for_each(map: &mut TriHashMap<Row>, keys: Row) -> u64 {
         Entry::Vacant(_) => {}
     }
     calls
+}
+
+fn for_each_found(map: &mut TriHashMap<Row>, keys: Row) -> u64 {
+    let mut calls: u64 = 0;
+    match map.entry(&keys.key1, &keys.key2, &keys.key3) {
+        Entry::Occupied(mut found) => found.for_each(|row| {
+            calls = calls.wrapping_add(1);
+            row.value
+        }),
+        Entry::Vacant(_) => {}
+    }
+    calls
+}
+
+fn write_held(map: &mut TriHashMap<Row>, keys: Row) -> bool {
+    match map.entry(&keys.key1, &keys.key2, &keys.key3) {
+        Entry::Occupied(found) => found.into_mut().data3_mut().is_some(),
+        Entry::Vacant(_) => false,
+    }
+}
+
+fn write_unique(map: &mut TriHashMap<Row>, keys: Row) -> bool {
+    match map.entry(&keys.key1, &keys.key2, &keys.key3) {
+        Entry::Occupied(found) => found.into_mut().data_unique_mut().is_some(),
+        Entry::Vacant(_) => false,
+    }
 }
 
 fn remove(map: &mut TriHashMap<Row>, keys: Row) -> [Option<Row>; 3] {

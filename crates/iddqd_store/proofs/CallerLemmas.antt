@@ -4,6 +4,7 @@ pub mod Batches
 pub mod Entering
 pub mod Laws
 pub mod Named
+pub mod Updates
 pub mod Walks
 -- as many members conflict as are listed, and what conflicts with none conflicts with none in another order
 pub use Rattle.iddqd_store.proofs.BagLemmas.Steps.{length-clash}
@@ -46,7 +47,7 @@ passes-listed test (y ∷ ys) x there =
     (λ _ in_it. later test y x ys (rest in_it))
     there
 
--- In what follows `test` is what a lookup asks of an item, as `λ x. Q.equivalent query (T.key1 x)`, and `is` its clause.
+-- In what follows `test` is what a lookup asks of an item, as `λ x. Q.stands_for query (T.key1 x)`, and `is` its clause.
 module _ {T : Type 0} (test : T → Bool) (bag : List T) (found : Option T) (is : option_to_list found ≡ filter test bag) where
   -- what a lookup gives is a member and passes
   pub member-found : (x : T) → found ≡ Some x → Contains bag x × (test x ≡ true)

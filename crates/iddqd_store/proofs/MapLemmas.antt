@@ -2,6 +2,7 @@
 pub mod Entered
 pub mod Places
 pub mod Storing
+pub mod Updating
 pub mod Walking
 pub mod Written
 use Rattle.std.specs.Prelude.{◌≡◌, ◌+◌, ◌<◌, ◌≤◌, ℕ, Bool, List, [], ◌∷◌, length, IsPermutation, Option, Result, Ok, Err, OnErr}

@@ -5,6 +5,8 @@ use std::alloc::AllocError;
 use std::io;
 use std::marker::Model;
 
+mod display;
+
 /// A growth was refused: there is no memory for it, or its size is past `usize`.
 #[derive(Clone, Copy, Debug, PartialEq, Eq)]
 pub struct TryReserveError;
@@ -59,6 +61,15 @@ impl<T: Drop> From<MemoryRefused<T>> for TryReserveError {
     fn from(_refused: MemoryRefused<T>) -> TryReserveError {
         TryReserveError
     }
+}
+
+/// Why an insert refused an item.
+#[derive(Clone, Copy, Debug, PartialEq, Eq, Drop)]
+pub enum InsertReason {
+    /// Items of the map conflict with it.
+    Duplicate,
+    /// Nothing conflicts with it, but the map is full and there was no memory to grow.
+    Memory,
 }
 
 /// Why no map was built of some items. The map of the items before is dropped.

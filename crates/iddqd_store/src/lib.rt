@@ -11,6 +11,7 @@ mod item_index;
 mod item_set;
 mod matcher;
 mod meter;
+mod query;
 mod rank;
 mod reply;
 mod short_list;
@@ -20,16 +21,17 @@ mod vacancy;
 
 pub use cursor::Cursor;
 pub use entered::Entered;
-pub use equivalent::{Equivalent, Pair, Text};
+pub use equivalent::Equivalent;
 pub use error::{
-    DuplicateItem, ExtendUniqueError, ExtendUniqueReason, FromIterError, MemoryRefused,
-    TryReserveError,
+    DuplicateItem, ExtendUniqueError, ExtendUniqueReason, FromIterError, InsertReason,
+    MemoryRefused, TryReserveError,
 };
 pub use index_table::IndexTable;
 pub use item_index::ItemIndex;
 pub use item_set::{IntoIter, ItemSet, Iter};
 pub use matcher::{KeyMatcher, Matcher};
 pub use meter::Meter;
+pub use query::Query;
 pub use rank::{ByQuery, KeyOf, Lookup, Sought};
 pub use reply::MapReply;
 pub use short_list::{ShortIntoIter, ShortIter, ShortList};

@@ -5,6 +5,7 @@ ghost use Rattle.std.specs.Option.{option_to_list};
 use crate::item_index::ItemIndex;
 use crate::short_list::{ShortIntoIter, ShortIter};
 use std::cmp::{Eq, PartialEq};
+use std::fmt::{self, Debug, Formatter, Write};
 use std::marker::Model;
 use std::mem;
 
@@ -192,5 +193,11 @@ impl UpToTwo<ItemIndex> {
                 self.push(ix);
             }
         }
+    }
+}
+
+impl<T: Debug> Debug for UpToTwo<T> {
+    fn fmt<W: Write>(&self, f: &mut Formatter<W>) -> fmt::Result {
+        f.debug_list().entries(self.iter()).finish()
     }
 }

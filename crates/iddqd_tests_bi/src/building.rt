@@ -1,8 +1,9 @@
 //! Worked rows on two-key maps built of many items at once.
 use crate::row::Row;
-use crate::worked::row;
+use crate::worked::{goes_in, row};
 use iddqd_bi::{BiHashMap, FromIterError};
 use std::alloc::Global;
+use std::hash::{BuildHasher, RandomState};
 use std::test::*;
 
 /// An item that conflicts, and those in its way.
@@ -32,6 +33,20 @@ fn overwritten(alloc: Global, items: [Row; 3]) -> Option<(usize, Option<Row>)> {
         Ok(map) => Some((map.len(), map.get1(&1).copied())),
         Err(_) => None,
     }
+}
+
+/// Whether a map finds the rows that went in, and refuses one that has a key of them.
+fn holds<S: BuildHasher>(map: &mut BiHashMap<Row, S>) -> bool {
+    let went_in = goes_in(map, ONE) && goes_in(map, TWO) && !goes_in(map, LATE);
+    went_in && map.get1(&1).copied() == Some(ONE) && map.get2(&20).copied() == Some(TWO)
+}
+
+#[test]
+fn a_random_seed_serves_as_well(rt: HostRuntime) -> Result<(), Fail> {
+    let mut map = BiHashMap::with_hasher(rt.alloc(), RandomState::new(&rt)?);
+    assert!(rt; holds(&mut map));
+    drop(map);
+    Ok(())
 }
 
 #[test]

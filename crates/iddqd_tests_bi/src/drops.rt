@@ -3,7 +3,7 @@ ghost use Rattle.std.specs.Prelude.{◌≡◌, ⊤};
 ghost use Rattle.std.proofs.Common.{rules};
 
 use iddqd_bi::{
-    BiCommand, BiHashItem, BiHashItemMut, BiHashMap, BiReply, BiSink, FromIterError, InsertError,
+    BiCommand, BiHashItem, BiHashItemMut, BiHashMap, BiReply, BiSink, FromIterError, InsertReason,
 };
 use iddqd_store::{ExtendUniqueError, UpToTwo};
 use std::alloc::{AllocError, Global};
@@ -122,8 +122,12 @@ fn first_keys(found: UpToTwo<&Held>) -> [Option<u64>; 2] {
 /// item, or that and the items in its way.
 fn refused(map: &mut BiHashMap<Held>, item: Held, way: u64) -> Option<(u64, [Option<u64>; 2])> {
     match map.insert_unique(item) {
-        Err(InsertError::Duplicate(refusal)) => {
-            let key = refusal.new_item().key1;
+        Err(refusal) => {
+            if refusal.reason() != InsertReason::Duplicate {
+                drop(refusal);
+                return None;
+            }
+            let key = refusal.item().key1;
             let mut found = first_keys(refusal.duplicates());
             if way == 0 {
                 drop(refusal);
@@ -135,10 +139,6 @@ fn refused(map: &mut BiHashMap<Held>, item: Held, way: u64) -> Option<(u64, [Opt
                 drop(item);
             }
             Some((key, found))
-        }
-        Err(InsertError::Memory(refusal)) => {
-            drop(refusal);
-            None
         }
         Ok(()) => None,
     }

@@ -26,6 +26,8 @@ mod lent;
 #[cfg(test)]
 mod pointers;
 #[cfg(test)]
+mod printed;
+#[cfg(test)]
 mod queries;
 #[cfg(test)]
 mod room;

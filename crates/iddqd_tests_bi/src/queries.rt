@@ -116,7 +116,7 @@ fn number_asked(map: &BiHashMap<Keyed<&'static str, u64>>, text: &str) -> Option
 
 /// The same by the query that is there for lent texts.
 fn number_lent(map: &BiHashMap<Keyed<&'static str, u64>>, text: &str) -> Option<u64> {
-    number_of!(map.get1(&iddqd_bi::Text(text)))
+    number_of!(map.get1(text))
 }
 
 /// Whether each text is found that should be, in the map of these, also by the query that is there for lent texts.

@@ -1,5 +1,5 @@
 //! Keys that are texts, lists of bytes and pairs, asked for by what is lent.
-use iddqd_bi::{BiHashItem, BiHashMap, Pair, Text};
+use iddqd_bi::{BiHashItem, BiHashMap};
 use std::alloc::{AllocError, Global};
 use std::hash::{Hash, Hasher};
 use std::test::Fail;
@@ -60,14 +60,24 @@ fn is_added(map: &mut BiHashMap<Page>, page: Page) -> bool {
     map.insert_or_back(page).is_ok()
 }
 
-/// The page that has this text as its title.
+/// The page that has this text as its title, asked for by the text and by a reference to it.
 fn titled(map: &BiHashMap<Page>, text: &str) -> Option<u64> {
-    number_of!(map.get1(&text))
+    let found = number_of!(map.get1(text));
+    if number_of!(map.get1(&text)) == found {
+        found
+    } else {
+        None
+    }
 }
 
 /// The page that has the bytes of this text as its tag.
 fn tagged(map: &BiHashMap<Page>, text: &str) -> Option<u64> {
-    number_of!(map.get2(&text.as_bytes()))
+    let found = number_of!(map.get2(text.as_bytes()));
+    if number_of!(map.get2(&text.as_bytes())) == found {
+        found
+    } else {
+        None
+    }
 }
 
 /// A text, the page that has it as its title, and the page that has its bytes as its tag.
@@ -114,8 +124,8 @@ fn is_placed(map: &mut BiHashMap<Seat>, seat: Seat) -> bool {
 
 /// Whether there is a seat of this row and place, and one of this name.
 fn has_seats(map: &BiHashMap<Seat>, row: u32, place: u16, text: &str) -> (bool, bool) {
-    let is_at = map.contains_key1(&Pair(row, place));
-    (is_at, map.contains_key2(&Text(text)))
+    let is_at = map.contains_key1((&row, &place));
+    (is_at, map.contains_key2(text))
 }
 
 /// A row, a place in it and a text, and whether there is a seat of this row and place, and one of this name.

@@ -6,7 +6,7 @@ use crate::worked::{
 use iddqd_builders::Alike;
 use iddqd_tri::{DefaultHashBuilder, ExtendUniqueReason, FromIterError, TriHashMap};
 use std::alloc::Global;
-use std::hash::BuildHasher;
+use std::hash::{BuildHasher, RandomState};
 use std::test::Fail;
 
 /// The number of items of the map of these that may not conflict, or the item that conflicts and those in its way.
@@ -280,4 +280,18 @@ fn largest_sizes_are_refused(rt: HostRuntime) {
     assert!(rt; TriHashMap::<Row>::with_capacity(rt.alloc(), usize::MAX).is_err());
     let mut map = three(&rt, rt.alloc(), DefaultHashBuilder::default());
     assert!(rt; refuses_largest_sizes(&mut map));
+}
+
+/// Whether a map finds the rows that went in, and refuses one that has a key of them.
+fn holds<S: BuildHasher>(map: &mut TriHashMap<Row, S>) -> bool {
+    let went_in = goes_in(map, ONE) && goes_in(map, TWO) && !goes_in(map, row_of(9, 90, 100, 0));
+    went_in && map.get1(&1).copied() == Some(ONE) && map.get3(&200).copied() == Some(TWO)
+}
+
+#[test]
+fn a_random_seed_serves_as_well(rt: HostRuntime) -> Result<(), Fail> {
+    let mut map = TriHashMap::with_hasher(rt.alloc(), RandomState::new(&rt)?);
+    assert!(rt; holds(&mut map));
+    drop(map);
+    Ok(())
 }

@@ -3,7 +3,7 @@ ghost use Rattle.std.specs.Prelude.{◌≡◌, ⊤};
 ghost use Rattle.std.proofs.Common.{rules};
 
 use iddqd_tri::{
-    ExtendUniqueError, FromIterError, InsertError, TriCommand, TriHashItem, TriHashItemMut,
+    ExtendUniqueError, FromIterError, InsertReason, TriCommand, TriHashItem, TriHashItemMut,
     TriHashMap, TriReply, TriSink,
 };
 use std::alloc::{AllocError, Global};
@@ -157,7 +157,11 @@ fn an_item_that_is_not_cloned_gives_no_map(rt: HostRuntime) -> Result<(), Fail> 
 /// items in its way.
 fn refused(map: &mut TriHashMap<Held>, item: Held, way: u64) -> usize {
     match map.insert_unique(item) {
-        Err(InsertError::Duplicate(refusal)) => {
+        Err(refusal) => {
+            if refusal.reason() != InsertReason::Duplicate {
+                drop(refusal);
+                return 0;
+            }
             let mut in_way = refusal.duplicates().len();
             if way == 0 {
                 drop(refusal);
@@ -169,10 +173,6 @@ fn refused(map: &mut TriHashMap<Held>, item: Held, way: u64) -> usize {
                 drop(item);
             }
             in_way
-        }
-        Err(InsertError::Memory(refusal)) => {
-            drop(refusal);
-            0
         }
         Ok(()) => 0,
     }

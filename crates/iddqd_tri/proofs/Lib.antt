@@ -1,6 +1,7 @@
 pub mod Iterating
 pub mod MapLemmas
 pub mod RefLemmas
+pub mod Refusing
 pub mod Runs
 -- what callers cite
 pub use Rattle.iddqd_store.proofs.CallerLemmas

@@ -1,5 +1,5 @@
 -- What contracts say of entries.
-use Rattle.std.specs.Prelude.{◌≡◌, ◌≢◌, ◌<◌, length, Bool, [], ◌∷◌, List, Option, Some, None, Result, IsOk, IfOk, IfErr, OnOk, OnErr, ⊤, IsPermutation}
+use Rattle.std.specs.Prelude.{◌≡◌, ◌≢◌, ◌<◌, ℕ, length, Bool, [], ◌∷◌, List, Option, Some, None, Result, IsOk, IfOk, IfErr, OnOk, OnErr, ⊤, IsPermutation}
 use Rattle.std.specs.Option.{option_and_then, IfSome}
 use Rattle.std.specs.Borrow.{Fml, GName, RattleType, MutBor, LendsIf, follows, follows_so, name_if_ok}
 use Rattle.std.specs.HashMap.Lent.{HashMembers}
@@ -29,6 +29,7 @@ use Rattle.iddqd_tri.specs.declared.entry.OccupiedEntryMut.{OccupiedEntryMut}
 use Rattle.iddqd_tri.specs.declared.error.EntryRefusal.{EntryRefusal}
 use Rattle.iddqd_tri.specs.declared.ref_mut.RefMut.{RefMut}
 use Rattle.iddqd_tri.specs.contracts.entry.OccupiedEntry.{the_row as occupied_row}
+use Rattle.iddqd_tri.specs.contracts.entry.OccupiedEntryMut.{the_row as occupied_mut_row}
 use Rattle.iddqd_tri.specs.contracts.map.TriHashMap.{the_row as row_of_map}
 
 module _ {T S : Type 0} where
@@ -100,6 +101,23 @@ module _ {T S K1 K2 K3 H : Type 0} where
   -- the item that has all
   abbrev pub held_unique : OccupiedEntryMut T S K1 K2 K3 H → Option T
   held_unique m = option_and_then (get m.map.now.slots) (head_of (found_by_all (m.slot1 ∷ m.slot2 ∷ m.slot3 ∷ [])))
+
+  -- what is held, in a map in which the item of a place is changed so
+  abbrev held_with : OccupiedEntryMut T S K1 K2 K3 H → Option ℕ → (T → T) → OccupiedEntryMut T S K1 K2 K3 H
+  held_with m slot f = record m { map = record m.map { now = map_with_if m.map.now slot f } }
+
+  -- the same of the item with the first key, of that with the second, and of the one that has all
+  abbrev pub held_with1 : OccupiedEntryMut T S K1 K2 K3 H → (T → T) → OccupiedEntryMut T S K1 K2 K3 H
+  held_with1 m f = held_with m m.slot1 f
+
+  abbrev pub held_with2 : OccupiedEntryMut T S K1 K2 K3 H → (T → T) → OccupiedEntryMut T S K1 K2 K3 H
+  held_with2 m f = held_with m m.slot2 f
+
+  abbrev pub held_with3 : OccupiedEntryMut T S K1 K2 K3 H → (T → T) → OccupiedEntryMut T S K1 K2 K3 H
+  held_with3 m f = held_with m m.slot3 f
+
+  abbrev pub held_with_unique : OccupiedEntryMut T S K1 K2 K3 H → (T → T) → OccupiedEntryMut T S K1 K2 K3 H
+  held_with_unique m f = held_with m (head_of (found_by_all (m.slot1 ∷ m.slot2 ∷ m.slot3 ∷ []))) f
 
   -- what is held for writing is what the entry found
   pub record HoldsFound (of : item.Ghosts T K1 K2 K3) (eq1 : K1 → K1 → Bool) (eq2 : K2 → K2 → Bool) (eq3 : K3 → K3 → Bool) (o : OccupiedEntry T S K1 K2 K3 H) (m : OccupiedEntryMut T S K1 K2 K3 H) : Type 0 where
@@ -251,6 +269,22 @@ module _ (T S K1 K2 K3 H : RattleType) (of : item.Ghosts T.Denot K1.Denot K2.Den
   -- the entry has the map that is left
   abbrev pub lends_held : MutBor (OccupiedEntry T.Denot S.Denot K1.Denot K2.Denot K3.Denot H.Denot) → OccupiedEntryMut T.Denot S.Denot K1.Denot K2.Denot K3.Denot H.Denot → Fml
   lends_held m r = follows entry_row (map_row T S K1 K2 K3 H of keys1 keys2 keys3 build hashes) m.ghost_name r.map.ghost_name (λ n. record m.now { map = record m.now.map { now = n } })
+
+  abbrev held_row : RattleType
+  held_row = occupied_mut_row (record { mir = named 1; lft = [] }) T S K1 K2 K3 H of (record { eq = keys1.eq }) (record { hash_input = keys1.hash_input }) (record { eq = keys2.eq }) (record { hash_input = keys2.hash_input }) (record { eq = keys3.eq }) (record { hash_input = keys3.hash_input }) build hashes
+
+  -- the item with the first key has the last data written through r, that with the second, that with the third, and the one that has all
+  abbrev pub lends_held1 : (D : RattleType) → (T.Denot → D.Denot → T.Denot) → MutBor (OccupiedEntryMut T.Denot S.Denot K1.Denot K2.Denot K3.Denot H.Denot) → Option (MutBor D.Denot) → Fml
+  lends_held1 D put m r = LendsIf held_row D m r (λ d. held_with1 m.now (λ x. put x d)) m.now
+
+  abbrev pub lends_held2 : (D : RattleType) → (T.Denot → D.Denot → T.Denot) → MutBor (OccupiedEntryMut T.Denot S.Denot K1.Denot K2.Denot K3.Denot H.Denot) → Option (MutBor D.Denot) → Fml
+  lends_held2 D put m r = LendsIf held_row D m r (λ d. held_with2 m.now (λ x. put x d)) m.now
+
+  abbrev pub lends_held3 : (D : RattleType) → (T.Denot → D.Denot → T.Denot) → MutBor (OccupiedEntryMut T.Denot S.Denot K1.Denot K2.Denot K3.Denot H.Denot) → Option (MutBor D.Denot) → Fml
+  lends_held3 D put m r = LendsIf held_row D m r (λ d. held_with3 m.now (λ x. put x d)) m.now
+
+  abbrev pub lends_held_unique : (D : RattleType) → (T.Denot → D.Denot → T.Denot) → MutBor (OccupiedEntryMut T.Denot S.Denot K1.Denot K2.Denot K3.Denot H.Denot) → Option (MutBor D.Denot) → Fml
+  lends_held_unique D put m r = LendsIf held_row D m r (λ d. held_with_unique m.now (λ x. put x d)) m.now
 
   -- the item with the first key has the last data written through r, that with the second and that with the third
   abbrev pub lends_data1 : (D : RattleType) → (T.Denot → D.Denot → T.Denot) → MutBor (OccupiedEntry T.Denot S.Denot K1.Denot K2.Denot K3.Denot H.Denot) → Option (MutBor D.Denot) → Fml

@@ -5,7 +5,7 @@ ghost use Rattle.iddqd_bi.specs.Bag.{IsOnly, clash};
 ghost use Rattle.iddqd_bi.specs.Map.{bag};
 
 use crate::loading::load;
-use iddqd_bi::{BiHashItem, BiHashMap, InsertError, Ranked};
+use iddqd_bi::{BiHashItem, BiHashMap, Ranked};
 
 /// A user.
 #[derive(Drop)]
@@ -42,8 +42,7 @@ pub fn register(users: &mut BiHashMap<User>, user: User) -> Result<(), User>
 {
     match users.insert_unique(user) {
         Ok(()) => Ok(()),
-        Err(InsertError::Duplicate(refusal)) => Err(refusal.into_item()),
-        Err(InsertError::Memory(refusal)) => Err(refusal.into_item()),
+        Err(refusal) => Err(refusal.into_item()),
     }
 }
 

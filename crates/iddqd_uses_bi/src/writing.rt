@@ -4,7 +4,7 @@ ghost use Rattle.iddqd_bi.specs.Bag.{IsOnly, differ, like, swap};
 ghost use Rattle.iddqd_bi.specs.Map.{bag};
 ghost use Rattle.iddqd_bi.specs.Keys.{has1};
 
-use iddqd_bi::{BiHashItem, BiHashItemMut, BiHashMap, Ranked};
+use iddqd_bi::{BiHashItem, BiHashItemMut, BiHashMap, Query, Ranked};
 use std::hash::{BuildHasher, Hash};
 
 /// Writes the data of the item with a first key, if there is one.
@@ -37,6 +37,23 @@ where
     if let Some(mut item) = map.get1_mut(key) {
         *item.data_mut() = first;
         *item.data_mut() = last;
+    }
+}
+
+/// The same as `write1` through a guard that is lent again.
+pub fn write1_again<T: BiHashItemMut, S: BuildHasher, Q: Query<T::K1>>(
+    map: &mut BiHashMap<T, S>,
+    query: Q,
+    d: T::Data,
+)
+where
+    T::Data: Drop,
+    ensures present { (x : T) → IsOnly (has1 T.BiHashItem Q.stands_for query) (bag map.old) (Some x)
+        → IsPermutation (bag map.new) (swap ⟦<T as Ranked>⟧.ranks (bag map.old) x (T.put x d)) }
+    ensures absent { IsOnly (has1 T.BiHashItem Q.stands_for query) (bag map.old) None → map.new ≡ map.old }
+{
+    if let Some(mut item) = map.get1_mut(query) {
+        *item.reborrow().data_mut() = d;
     }
 }
 

@@ -8,7 +8,7 @@ ghost use Rattle.iddqd_tri.specs.Map.{bag};
 ghost use Rattle.iddqd_tri.specs.Mismatch.{error_item};
 ghost use Rattle.iddqd_tri.specs.Callers.{InsertsOrWrites, WritesEntry};
 
-use iddqd_tri::{Entry, EntryError, Ranked, TriHashItem, TriHashItemMut, TriHashMap};
+use iddqd_tri::{Entry, EntryError, Ranked, TriHashItem, TriHashItemMut, TriHashMap, UpToThree};
 use std::hash::{BuildHasher, Hash};
 
 /// Puts an item in through an entry. It is handed back where it is refused, and where an item has one of the keys.
@@ -103,6 +103,58 @@ where
     match map.entry(key1, key2, key3).and_modify(f) {
         Entry::Vacant(_v) => return,
         Entry::Occupied(_o) => return,
+    }
+}
+
+/// The same by a call of the occupied entry alone.
+pub fn modify_found<'a, T: TriHashItemMut, S: BuildHasher, F: FnMut(&T) -> T::Data>(
+    map: &'a mut TriHashMap<T, S>,
+    key1: &'a T::K1,
+    key2: &'a T::K2,
+    key3: &'a T::K3,
+    f: F,
+)
+where
+    T::Data: Drop,
+    F: Drop,
+    requires callable { F.IsAlwaysCallable f }
+    ensures { Stores (CalledAt F.FnMut) T.put ⟦<T as Ranked>⟧.ranks f
+        (listing (⟦<T as Ranked>⟧.key_tests key1.now key2.now key3.now) (bag map.old)) (bag map.old)
+        (bag map.new) }
+{
+    match map.entry(key1, key2, key3) {
+        Entry::Vacant(_v) => return,
+        Entry::Occupied(mut o) => {
+            o.for_each(f);
+            return;
+        }
+    }
+}
+
+/// Stores what `f` answers at each item that has one of three keys as its data, and then takes these items out: the entry
+/// knows still what it found.
+pub fn modify_and_take<'a, T: TriHashItemMut, S: BuildHasher, F: FnMut(&T) -> T::Data>(
+    map: &'a mut TriHashMap<T, S>,
+    key1: &'a T::K1,
+    key2: &'a T::K2,
+    key3: &'a T::K3,
+    f: F,
+) -> UpToThree<T>
+where
+    T::Data: Drop,
+    F: Drop,
+    requires callable { F.IsAlwaysCallable f }
+    ensures none { listing (⟦<T as Ranked>⟧.key_tests key1.now key2.now key3.now) (bag map.old) ≡ [] → map.new ≡ map.old }
+    ensures some { listing (⟦<T as Ranked>⟧.key_tests key1.now key2.now key3.now) (bag map.old) ≢ [] → result ≢ [] }
+    ensures capacity { map.new.capacity ≡ map.old.capacity }
+    ensures builder { map.new.builder ≡ map.old.builder }
+{
+    match map.entry(key1, key2, key3) {
+        Entry::Vacant(_v) => return UpToThree::new(),
+        Entry::Occupied(mut found) => {
+            found.for_each(f);
+            return found.remove();
+        }
     }
 }
 

@@ -5,7 +5,7 @@ ghost use Rattle.iddqd_tri.specs.Bag.{clash, order, over};
 ghost use Rattle.iddqd_tri.specs.Map.{IsFullFor, bag};
 ghost use Rattle.iddqd_tri.specs.Callers.{GainsBoth, MayRefuse};
 
-use iddqd_tri::{InsertError, Ranked, TriHashMap};
+use iddqd_tri::{Ranked, TriHashMap};
 use std::hash::{BuildHasher, Hash};
 
 /// Inserts an item, and drops it where it is refused. Says whether it went in.
@@ -18,11 +18,7 @@ pub fn insert_or_drop<T: Ranked + Drop, S: BuildHasher>(map: &mut TriHashMap<T, 
     let answer = map.insert_unique(item);
     match answer {
         Ok(()) => true,
-        Err(InsertError::Duplicate(conflict)) => {
-            drop(conflict);
-            false
-        }
-        Err(InsertError::Memory(refusal)) => {
+        Err(refusal) => {
             drop(refusal);
             false
         }
@@ -41,8 +37,7 @@ pub fn insert_or_back<T: Ranked, S: BuildHasher>(
 {
     match map.insert_unique(item) {
         Ok(()) => Ok(()),
-        Err(InsertError::Duplicate(refusal)) => Err(refusal.into_item()),
-        Err(InsertError::Memory(refusal)) => Err(refusal.into_item()),
+        Err(refusal) => Err(refusal.into_item()),
     }
 }
 
@@ -71,14 +66,10 @@ pub fn count_conflicts<T: Ranked + Drop, S: BuildHasher>(
     let answer = map.insert_unique(item);
     match answer {
         Ok(()) => 0,
-        Err(InsertError::Duplicate(refusal)) => {
+        Err(refusal) => {
             let count = refusal.duplicates().len();
             drop(refusal);
             count
-        }
-        Err(InsertError::Memory(refusal)) => {
-            drop(refusal);
-            0
         }
     }
 }

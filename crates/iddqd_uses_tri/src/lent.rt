@@ -50,6 +50,28 @@ where
     }
 }
 
+/// The same by the data that what is held lends of it, which goes on to hold it.
+pub fn write_held1<'a, T: TriHashItemMut, S: BuildHasher>(
+    map: &'a mut TriHashMap<T, S>,
+    key1: &'a T::K1,
+    key2: &'a T::K2,
+    key3: &'a T::K3,
+    d: T::Data,
+)
+where
+    T::Data: Drop,
+    ensures present { (x : T) → IsOnly (has1 T.TriHashItem T.K1.eq key1.now) (bag map.old) (Some x)
+        → IsPermutation (bag map.new) (swap ⟦<T as Ranked>⟧.ranks (bag map.old) x (T.put x d)) }
+    ensures absent { IsOnly (has1 T.TriHashItem T.K1.eq key1.now) (bag map.old) None → map.new ≡ map.old }
+{
+    if let Entry::Occupied(found) = map.entry(key1, key2, key3) {
+        let mut held = found.into_mut();
+        if let Some(written) = held.data1_mut() {
+            *written = d;
+        }
+    }
+}
+
 /// Puts an item in through an entry that holds it then. It is handed back where it is refused, and where an item has
 /// one of the keys.
 pub fn insert_held<'a, T: TriHashItem, S: BuildHasher>(

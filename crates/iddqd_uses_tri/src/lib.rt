@@ -1,6 +1,7 @@
 //! Callers of the map with three keys, proved from its public contracts alone.
 #![tactic(auto)]
 
+mod asking;
 mod building;
 mod entries;
 mod finding;
@@ -8,14 +9,20 @@ mod inserting;
 mod laws;
 mod lent;
 mod loading;
+mod refusing;
 mod sessions;
+mod updating;
 mod walking;
+mod words;
 mod writing;
 
+pub use asking::{
+    Symbol, by_key, by_query, entry_point, is_at, resize, resolve, take_by_query, undefine,
+};
 pub use building::extend_by_vec;
 pub use entries::{
-    insert_or_write, insert_through, modify_all, or_insert_and_write, overwrite_through,
-    remove_through,
+    insert_or_write, insert_through, modify_all, modify_and_take, modify_found,
+    or_insert_and_write, overwrite_through, remove_through,
 };
 pub use finding::{count_all, put_and_find, remove_and_find};
 pub use inserting::{
@@ -28,8 +35,13 @@ pub use laws::{
     overwritten_length, remove_unique_and_find_keys, remove1_and_find_keys, remove2_and_find_keys,
     remove3_and_find_keys, reserve_keeps, shrink_keeps, unique_where_all, unique_where_contained,
 };
-pub use lent::{insert_held, write_by_key1, write_data1};
+pub use lent::{insert_held, write_by_key1, write_data1, write_held1};
 pub use loading::load;
+pub use refusing::{
+    NotAdded, add, add_and_count, add_by_from, add_by_map_err, add_or_count, is_added,
+};
 pub use sessions::{Session, by_token, close_of_user, open, open_all};
+pub use updating::{File, note_opened, set_all, set1};
 pub use walking::{write_all, write_first, write_first_and_count};
-pub use writing::{replace1, write1, write1_twice};
+pub use words::{Word, add_word, forget_word, has_word};
+pub use writing::{replace1, write1, write1_again, write1_twice};

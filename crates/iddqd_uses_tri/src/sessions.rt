@@ -5,7 +5,7 @@ ghost use Rattle.iddqd_tri.specs.Bag.{IsOnly, clash};
 ghost use Rattle.iddqd_tri.specs.Map.{bag, Loses};
 
 use crate::loading::load;
-use iddqd_tri::{InsertError, Ranked, TriHashItem, TriHashMap};
+use iddqd_tri::{Ranked, TriHashItem, TriHashMap};
 use std::hash::BuildHasher;
 
 /// A session.
@@ -55,8 +55,7 @@ pub fn open<S: BuildHasher>(
 {
     match sessions.insert_unique(session) {
         Ok(()) => Ok(()),
-        Err(InsertError::Duplicate(refusal)) => Err(refusal.into_item()),
-        Err(InsertError::Memory(refusal)) => Err(refusal.into_item()),
+        Err(refusal) => Err(refusal.into_item()),
     }
 }
 

@@ -1,12 +1,12 @@
 //! Writing the items that two keys found.
-ghost use Rattle.std.specs.Prelude.{◌≡◌, not, None, IfSome};
+ghost use Rattle.std.specs.Prelude.{◌≡◌, not, map, None, Some, IfSome, IsPermutation};
 ghost use Rattle.std.specs.Borrow.{sem};
 ghost use Rattle.std.specs.Fn.{CalledAt};
-ghost use Rattle.std.specs.Option.{option_and_then};
-ghost use Rattle.iddqd_store.specs.Bag.{is_unique};
+ghost use Rattle.std.specs.Option.{option_and_then, option_copied_mut, option_to_list};
+ghost use Rattle.iddqd_store.specs.Bag.{is_unique, swap};
 ghost use Rattle.iddqd_store.specs.Bag.Storing.{Stores};
 ghost use Rattle.iddqd_store.specs.Map.{bag};
-ghost use Rattle.iddqd_bi.specs.Entries.{Holds, HoldsSame, held, held1, held2, held_entry, held_unique, held_rests_if_none};
+ghost use Rattle.iddqd_bi.specs.Entries.{Holds, HoldsSame, held, held1, held2, held_entry, held_unique, held_rests_if_none, held_with1, held_with2, held_with_unique, lends_held1, lends_held2, lends_held_unique};
 ghost use Rattle.iddqd_bi.specs.RefMuts.{ref_lender, ref_map, ref_item};
 
 use super::OccupiedEntryMut;
@@ -105,6 +105,51 @@ impl<'a, T: BiHashItem, S: BuildHasher> OccupiedEntryMut<'a, T, S> {
 }
 
 impl<'a, T: BiHashItemMut, S: BuildHasher> OccupiedEntryMut<'a, T, S> {
+    /// The data of the item with the first key, for writing. What the entry holds stays held.
+    pub fn data1_mut(&mut self) -> Option<&mut T::Data>
+        requires { Holds self.old }
+        ensures value { option_to_list (option_copied_mut result) ≡ map T.payload (option_to_list (held1 self.old)) }
+        ensures swaps { (x : T) (d : T.Data) → held1 self.old ≡ Some x
+            → IsPermutation (bag (held_with1 self.old (λ y. T.put y d)).map.now)
+            (swap ⟦<T as Ranked>⟧.ranks (bag self.old.map.now) x (T.put x d)) }
+        ensures holds { (f : T → T) → Holds (held_with1 self.old f) }
+        ensures* lends { sem 𝓛 (lends_held1 T.row S.row T.K1.row T.K2.row S.Hasher.row
+            T.BiHashItem T.K1.Hash T.K2.Hash S.BuildHasher S.Hasher.Hasher T.Data.row T.put self.entry result) }
+    {
+        let slot1 = self.slot1;
+        self.map.data_of(slot1)
+    }
+
+    /// The data of the item with the second key, for writing. What the entry holds stays held.
+    pub fn data2_mut(&mut self) -> Option<&mut T::Data>
+        requires { Holds self.old }
+        ensures value { option_to_list (option_copied_mut result) ≡ map T.payload (option_to_list (held2 self.old)) }
+        ensures swaps { (x : T) (d : T.Data) → held2 self.old ≡ Some x
+            → IsPermutation (bag (held_with2 self.old (λ y. T.put y d)).map.now)
+            (swap ⟦<T as Ranked>⟧.ranks (bag self.old.map.now) x (T.put x d)) }
+        ensures holds { (f : T → T) → Holds (held_with2 self.old f) }
+        ensures* lends { sem 𝓛 (lends_held2 T.row S.row T.K1.row T.K2.row S.Hasher.row
+            T.BiHashItem T.K1.Hash T.K2.Hash S.BuildHasher S.Hasher.Hasher T.Data.row T.put self.entry result) }
+    {
+        let slot2 = self.slot2;
+        self.map.data_of(slot2)
+    }
+
+    /// The data of the item that has both keys, for writing. What the entry holds stays held.
+    pub fn data_unique_mut(&mut self) -> Option<&mut T::Data>
+        requires { Holds self.old }
+        ensures value { option_to_list (option_copied_mut result) ≡ map T.payload (option_to_list (held_unique self.old)) }
+        ensures swaps { (x : T) (d : T.Data) → held_unique self.old ≡ Some x
+            → IsPermutation (bag (held_with_unique self.old (λ y. T.put y d)).map.now)
+            (swap ⟦<T as Ranked>⟧.ranks (bag self.old.map.now) x (T.put x d)) }
+        ensures holds { (f : T → T) → Holds (held_with_unique self.old f) }
+        ensures* lends { sem 𝓛 (lends_held_unique T.row S.row T.K1.row T.K2.row S.Hasher.row
+            T.BiHashItem T.K1.Hash T.K2.Hash S.BuildHasher S.Hasher.Hasher T.Data.row T.put self.entry result) }
+    {
+        let slot = one_of(self.slot1, self.slot2);
+        self.map.data_of(slot)
+    }
+
     /// Stores what `f` answers at each item as its data, that of the first key first and each item once. `f` sees each
     /// item as it stands then. It takes no memory and compares no key.
     pub fn for_each<F: FnMut(&T) -> T::Data>(&mut self, f: F)

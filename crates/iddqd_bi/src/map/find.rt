@@ -8,15 +8,15 @@ ghost use Rattle.iddqd_bi.specs.Keys.{has1, has2, has_both};
 
 use super::BiHashMap;
 use crate::item::{BiHashItem, Hashed};
-use iddqd_store::{Equivalent, KeyMatcher, Meter};
+use iddqd_store::{KeyMatcher, Meter, Query};
 use std::hash::{BuildHasher, Hash};
 
 impl<T: BiHashItem, S: BuildHasher> BiHashMap<T, S> {
     /// The item with the first key that the query stands for.
     ///
     /// Compares at most as many keys as items have the hash of the query at the first rank.
-    pub fn get1<Q: Equivalent<T::K1>>(&self, query: &Q) -> Option<&T>
-        ensures { IsOnly (has1 T.BiHashItem Q.equivalent query.now) (bag self.now) (option_copied result) }
+    pub fn get1<Q: Query<T::K1>>(&self, query: Q) -> Option<&T>
+        ensures { IsOnly (has1 T.BiHashItem Q.stands_for query) (bag self.now) (option_copied result) }
     {
         self.by_key1().get(query)
     }
@@ -24,8 +24,8 @@ impl<T: BiHashItem, S: BuildHasher> BiHashMap<T, S> {
     /// The item with the second key that the query stands for.
     ///
     /// Compares at most as many keys as items have the hash of the query at the second rank.
-    pub fn get2<Q: Equivalent<T::K2>>(&self, query: &Q) -> Option<&T>
-        ensures { IsOnly (has2 T.BiHashItem Q.equivalent query.now) (bag self.now) (option_copied result) }
+    pub fn get2<Q: Query<T::K2>>(&self, query: Q) -> Option<&T>
+        ensures { IsOnly (has2 T.BiHashItem Q.stands_for query) (bag self.now) (option_copied result) }
     {
         self.by_key2().get(query)
     }
@@ -33,12 +33,12 @@ impl<T: BiHashItem, S: BuildHasher> BiHashMap<T, S> {
     /// The item that has both keys that the queries stand for.
     ///
     /// Compares as many keys as `get1` does, and the second key of the item found.
-    pub fn get_unique<Q1: Equivalent<T::K1>, Q2: Equivalent<T::K2>>(
+    pub fn get_unique<Q1: Query<T::K1>, Q2: Query<T::K2>>(
         &self,
-        query1: &Q1,
-        query2: &Q2,
+        query1: Q1,
+        query2: Q2,
     ) -> Option<&T>
-        ensures { IsOnly (has_both T.BiHashItem Q1.equivalent Q2.equivalent query1.now query2.now)
+        ensures { IsOnly (has_both T.BiHashItem Q1.stands_for Q2.stands_for query1 query2)
             (bag self.now) (option_copied result) }
     {
         let hash = self.hash_builder.hash_one(query1);
@@ -47,27 +47,27 @@ impl<T: BiHashItem, S: BuildHasher> BiHashMap<T, S> {
     }
 
     /// Whether an item has the first key that the query stands for. Costs what `get1` does.
-    pub fn contains_key1<Q: Equivalent<T::K1>>(&self, query: &Q) -> bool
-        ensures { result ≡ list_any (has1 T.BiHashItem Q.equivalent query.now) (bag self.now) }
+    pub fn contains_key1<Q: Query<T::K1>>(&self, query: Q) -> bool
+        ensures { result ≡ list_any (has1 T.BiHashItem Q.stands_for query) (bag self.now) }
     {
         self.by_key1().contains_key(query)
     }
 
     /// Whether an item has the second key that the query stands for. Costs what `get2` does.
-    pub fn contains_key2<Q: Equivalent<T::K2>>(&self, query: &Q) -> bool
-        ensures { result ≡ list_any (has2 T.BiHashItem Q.equivalent query.now) (bag self.now) }
+    pub fn contains_key2<Q: Query<T::K2>>(&self, query: Q) -> bool
+        ensures { result ≡ list_any (has2 T.BiHashItem Q.stands_for query) (bag self.now) }
     {
         self.by_key2().contains_key(query)
     }
 
     /// Whether an item has both keys that the queries stand for. Costs what `get_unique` does.
-    pub fn contains_key_unique<Q1: Equivalent<T::K1>, Q2: Equivalent<T::K2>>(
+    pub fn contains_key_unique<Q1: Query<T::K1>, Q2: Query<T::K2>>(
         &self,
-        query1: &Q1,
-        query2: &Q2,
+        query1: Q1,
+        query2: Q2,
     ) -> bool
         ensures { result
-            ≡ list_any (has_both T.BiHashItem Q1.equivalent Q2.equivalent query1.now query2.now) (bag self.now) }
+            ≡ list_any (has_both T.BiHashItem Q1.stands_for Q2.stands_for query1 query2) (bag self.now) }
     {
         self.get_unique(query1, query2).is_some()
     }

@@ -6,12 +6,13 @@ ghost use Rattle.iddqd_store.specs.Map.{bag, Gains, IsFullFor};
 
 use super::BiHashMap;
 use super::slots::Refusal;
-use crate::error::{DuplicateError, InsertError, MemoryError};
+use crate::error::InsertError;
 use crate::item::Ranked;
+use iddqd_store::UpToTwo;
 use std::hash::{BuildHasher, Hash};
 
 impl<T: Ranked, S: BuildHasher> BiHashMap<T, S> {
-    ghost use Rattle.iddqd_bi.specs.Refused.{HandsBackAndHolds, OnDuplicate, OnMemory, ends_as};
+    ghost use Rattle.iddqd_bi.specs.Refused.{HandsBackAndHolds, ends_as};
 
     /// Puts an item in where none conflicts with it.
     ///
@@ -28,8 +29,7 @@ impl<T: Ranked, S: BuildHasher> BiHashMap<T, S> {
             → length (bag self.old) < self.old.capacity → IsOk result }
         // Refused, the item comes back, and the map is held as it was.
         ensures handed_back { IfErr result (λ e. HandsBackAndHolds self.entry item e) }
-        ensures duplicate { IfErr result (λ e. OnDuplicate e (clash T.ranks (bag self.old) item ≢ [])) }
-        ensures memory { IfErr result (λ e. OnMemory e (IsFullFor T.ranks self.old item)) }
+        ensures reason { OnErr result ((clash T.ranks (bag self.old) item ≢ []) ⊎ IsFullFor T.ranks self.old item) }
         // How the map ends, once the refusal is gone: with the item where it went in, else as it was.
         ensures* ends { sem 𝓛 (ends_as T.row S.row T.K1.row T.K2.row S.Hasher.row
             T.BiHashItem T.K1.Hash T.K2.Hash S.BuildHasher S.Hasher.Hasher
@@ -37,17 +37,16 @@ impl<T: Ranked, S: BuildHasher> BiHashMap<T, S> {
     {
         match self.try_insert(item) {
             Ok(_) => Ok(()),
-            Err(Refusal::Duplicate(new_item, found)) => Err(InsertError::Duplicate(
-                DuplicateError {
-                    map: self,
-                    new_item,
-                    found,
-                },
-            )),
-            Err(Refusal::Memory(new_item)) => Err(InsertError::Memory(MemoryError {
+            Err(Refusal::Duplicate(item, found)) => Err(InsertError {
                 map: self,
-                new_item,
-            })),
+                item,
+                found,
+            }),
+            Err(Refusal::Memory(item)) => Err(InsertError {
+                map: self,
+                item,
+                found: UpToTwo::new(),
+            }),
         }
     }
 

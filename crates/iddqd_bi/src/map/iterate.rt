@@ -6,6 +6,7 @@ ghost use Rattle.iddqd_store.specs.Map.{bag};
 use super::BiHashMap;
 use crate::item::BiHashItem;
 use iddqd_store::{IntoIter, Iter};
+use std::fmt::{self, Debug, Formatter, Write};
 use std::hash::{BuildHasher, Hash};
 
 impl<T: BiHashItem, S: BuildHasher> BiHashMap<T, S> {
@@ -46,5 +47,12 @@ impl<T: BiHashItem + Drop, S: BuildHasher + Drop> IntoIterator for BiHashMap<T, 
             hash_builder: _,
         } = self;
         items.into_values()
+    }
+}
+
+impl<T: BiHashItem + Debug, S: BuildHasher> Debug for BiHashMap<T, S> {
+    /// The items as a set, in the order of a walk.
+    fn fmt<W: Write>(&self, f: &mut Formatter<W>) -> fmt::Result {
+        f.debug_set().entries(self.iter()).finish()
     }
 }

@@ -13,20 +13,20 @@ use super::BiHashMap;
 use crate::item::BiHashItem;
 use crate::iter_mut::IterMut;
 use crate::ref_mut::RefMut;
-use iddqd_store::Cursor;
+use iddqd_store::{Cursor, Query};
 use std::hash::{BuildHasher, Hash};
 
 impl<T: BiHashItem, S: BuildHasher> BiHashMap<T, S> {
     /// The item with this first key, for writing. It takes no memory.
     ///
     /// Compares at most as many keys as items have the key's hash at the first rank.
-    pub fn get1_mut(&mut self, key: &T::K1) -> Option<RefMut<'_, T, S>>
-        ensures found { IsOnly (has1 T.BiHashItem T.K1.eq key.now) (bag self.old) (option_and_then ref_item result) }
+    pub fn get1_mut<Q: Query<T::K1>>(&mut self, query: Q) -> Option<RefMut<'_, T, S>>
+        ensures found { IsOnly (has1 T.BiHashItem Q.stands_for query) (bag self.old) (option_and_then ref_item result) }
         ensures unchanged { IfSome result (λ r. ref_map r ≡ self.old) }
         ensures same_map { IfSome result (λ r. ref_lender r ≡ self.entry.ghost_name) }
         ensures* rests_at_none { sem 𝓛 (rests_if_none T.row S.row T.K1.row T.K2.row S.Hasher.row self.entry result) }
     {
-        match self.by_key1().slot_of(key) {
+        match self.by_key1().slot_of(query) {
             Some(slot) => Some(RefMut { map: self, slot }),
             None => None,
         }
@@ -35,13 +35,13 @@ impl<T: BiHashItem, S: BuildHasher> BiHashMap<T, S> {
     /// The item with this second key, for writing. It takes no memory.
     ///
     /// Compares at most as many keys as items have the key's hash at the second rank.
-    pub fn get2_mut(&mut self, key: &T::K2) -> Option<RefMut<'_, T, S>>
-        ensures found { IsOnly (has2 T.BiHashItem T.K2.eq key.now) (bag self.old) (option_and_then ref_item result) }
+    pub fn get2_mut<Q: Query<T::K2>>(&mut self, query: Q) -> Option<RefMut<'_, T, S>>
+        ensures found { IsOnly (has2 T.BiHashItem Q.stands_for query) (bag self.old) (option_and_then ref_item result) }
         ensures unchanged { IfSome result (λ r. ref_map r ≡ self.old) }
         ensures same_map { IfSome result (λ r. ref_lender r ≡ self.entry.ghost_name) }
         ensures* rests_at_none { sem 𝓛 (rests_if_none T.row S.row T.K1.row T.K2.row S.Hasher.row self.entry result) }
     {
-        match self.by_key2().slot_of(key) {
+        match self.by_key2().slot_of(query) {
             Some(slot) => Some(RefMut { map: self, slot }),
             None => None,
         }
@@ -50,14 +50,18 @@ impl<T: BiHashItem, S: BuildHasher> BiHashMap<T, S> {
     /// The item that has both keys, for writing. It takes no memory.
     ///
     /// Compares as many keys as `get1_mut` does, and the second key of the item found.
-    pub fn get_mut_unique(&mut self, key1: &T::K1, key2: &T::K2) -> Option<RefMut<'_, T, S>>
-        ensures found { IsOnly (has_both T.BiHashItem T.K1.eq T.K2.eq key1.now key2.now) (bag self.old)
+    pub fn get_mut_unique<Q1: Query<T::K1>, Q2: Query<T::K2>>(
+        &mut self,
+        query1: Q1,
+        query2: Q2,
+    ) -> Option<RefMut<'_, T, S>>
+        ensures found { IsOnly (has_both T.BiHashItem Q1.stands_for Q2.stands_for query1 query2) (bag self.old)
             (option_and_then ref_item result) }
         ensures unchanged { IfSome result (λ r. ref_map r ≡ self.old) }
         ensures same_map { IfSome result (λ r. ref_lender r ≡ self.entry.ghost_name) }
         ensures* rests_at_none { sem 𝓛 (rests_if_none T.row S.row T.K1.row T.K2.row S.Hasher.row self.entry result) }
     {
-        match self.slot_of_both(key1, key2) {
+        match self.slot_of_both(query1, query2) {
             Some(slot) => Some(RefMut { map: self, slot }),
             None => None,
         }

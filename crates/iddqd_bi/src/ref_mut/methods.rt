@@ -66,6 +66,14 @@ impl<T: Ranked, S: BuildHasher> RefMut<'_, T, S> {
 }
 
 impl<'a, T: BiHashItem, S: BuildHasher> RefMut<'a, T, S> {
+    /// This very reference, lent for a while.
+    pub fn reborrow(&mut self) -> &mut RefMut<'a, T, S>
+        ensures itself { result.ghost_name ≡ self.entry.ghost_name }
+        ensures unchanged { result.now ≡ self.old }
+    {
+        self
+    }
+
     /// The item, to be read for as long as the map is lent.
     pub fn into_ref(self) -> &'a T
         ensures { ref_item self.entry ≡ Some result.now }

@@ -1,5 +1,5 @@
 -- How a bag changes: one item more, one in the place of others, one in the place of another, some taken away.
-use Rattle.std.specs.Prelude.{◌≡◌, ◌≢◌, ℕ, ◌==◌, Bool, true, false, cond, ◌&&◌, List, [], ◌∷◌, ◌++◌, length, filter, Result, Ok, Err, IsPermutation}
+use Rattle.std.specs.Prelude.{◌≡◌, ◌≢◌, ℕ, ◌==◌, Bool, true, false, cond, ◌&&◌, List, [], ◌∷◌, ◌++◌, length, map, filter, Result, Ok, Err, IsPermutation}
 use Rattle.std.specs.List.{AllByRecursion}
 use Rattle.std.proofs.Common.{refl, sym, ap, subst, ◌∙◌, arith}
 use Rattle.std.proofs.lemmas.Map.Keys.{IsDistinct-cons}
@@ -53,6 +53,17 @@ module _ {T : Type 0} where
 
   pub order-empty : (ranks : Ranks T) (bag : List T) (x : T) → clash ranks bag x ≡ [] → order ranks bag x ≡ []
   order-empty ranks bag x h = nothing (order ranks bag x) (sym (length-clash ranks bag x) ∙ ap length h)
+
+  -- none conflicts where none is listed, and some where some is
+  pub clash-unlisted : {X : Type 0} (f : X → T) (found : List X) (ranks : Ranks T) (bag : List T) (x : T) → map f found ≡ order ranks bag x → (length found == 0) ≡ true → clash ranks bag x ≡ []
+  clash-unlisted f [] ranks bag x is t = clash-empty ranks bag x (sym is)
+  clash-unlisted f (y ∷ found) ranks bag x is t =
+      let e : length (y ∷ found) ≡ 0 = grind (arith, nat_tests) in
+      absurd (omega (arith, e))
+
+  pub clash-listed : {X : Type 0} (f : X → T) (found : List X) (ranks : Ranks T) (bag : List T) (x : T) → map f found ≡ order ranks bag x → (length found == 0) ≡ false → clash ranks bag x ≢ []
+  clash-listed f [] ranks bag x is t = λ e. absurd (cc t)
+  clash-listed f (y ∷ found) ranks bag x is t = λ e. absurd (cc (is, order-empty ranks bag x e))
 
   pub IsSound-cons : (ranks : Ranks T) (bag : List T) (x : T) → order ranks bag x ≡ [] → IsSound ranks bag → IsSound ranks (x ∷ bag)
   IsSound-cons ranks bag x h sound = IsDistinct-cons (conflicts ranks) x bag (none_passes (conflicts ranks x) bag (clash-empty ranks bag x h)) sound

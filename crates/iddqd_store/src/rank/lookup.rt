@@ -12,12 +12,12 @@ ghost use Rattle.iddqd_store.specs.Rank.{agree, key_hash, IsVacantFor, NamesOneU
 
 use super::key_of::KeyOf;
 use super::matchers::{ByKey, ByQuery};
-use crate::equivalent::Equivalent;
 use crate::index_table::IndexTable;
 use crate::item_index::ItemIndex;
 use crate::item_set::ItemSet;
 use crate::matcher::KeyMatcher;
 use crate::meter::Meter;
+use crate::query::Query;
 use crate::vacancy::Vacancy;
 use std::hash::{BuildHasher, Hash};
 use std::marker::{Model, PhantomData};
@@ -67,24 +67,24 @@ impl<'a, T, R: KeyOf<T>, S: BuildHasher> Lookup<'a, T, R, S> {
     }
 
     /// The item whose key the query stands for.
-    pub fn get<Q: Equivalent<R::Key>>(&self, query: &Q) -> Option<&'a T>
-        ensures { IsOnly (λ x. Q.equivalent query.now (R.key x)) (bag self.now) (option_copied result) }
+    pub fn get<Q: Query<R::Key>>(&self, query: Q) -> Option<&'a T>
+        ensures { IsOnly (λ x. Q.stands_for query (R.key x)) (bag self.now) (option_copied result) }
     {
         let ix = self.slot_of(query)?;
         self.items.get(ix)
     }
 
     /// The slot of the item whose key the query stands for.
-    pub fn slot_of<Q: Equivalent<R::Key>>(&self, query: &Q) -> Option<ItemIndex>
-        ensures { FoundAt (λ x. Q.equivalent query.now (R.key x)) self.now.slots result }
+    pub fn slot_of<Q: Query<R::Key>>(&self, query: Q) -> Option<ItemIndex>
+        ensures { FoundAt (λ x. Q.stands_for query (R.key x)) self.now.slots result }
     {
         let hash = self.hash_builder.hash_one(query);
         self.slot(hash, query)
     }
 
     /// Whether there is such an item.
-    pub fn contains_key<Q: Equivalent<R::Key>>(&self, query: &Q) -> bool
-        ensures { result ≡ list_any (λ x. Q.equivalent query.now (R.key x)) (bag self.now) }
+    pub fn contains_key<Q: Query<R::Key>>(&self, query: Q) -> bool
+        ensures { result ≡ list_any (λ x. Q.stands_for query (R.key x)) (bag self.now) }
     {
         self.get(query).is_some()
     }
@@ -110,9 +110,9 @@ impl<'a, T, R: KeyOf<T>, S: BuildHasher> Lookup<'a, T, R, S> {
     }
 
     /// The slot of the item whose key the query stands for, where this is the query's hash.
-    pub fn slot<Q: Equivalent<R::Key>>(&self, hash: u64, query: &Q) -> Option<ItemIndex>
-        requires { hash ≡ hash_of S.BuildHasher S.Hasher.Hasher self.now.builder (Q.hash_input query.now) }
-        ensures found { IsOnly (λ x. Q.equivalent query.now (R.key x)) (bag self.now)
+    pub fn slot<Q: Query<R::Key>>(&self, hash: u64, query: Q) -> Option<ItemIndex>
+        requires { hash ≡ hash_of S.BuildHasher S.Hasher.Hasher self.now.builder (Q.hash_input query) }
+        ensures found { IsOnly (λ x. Q.stands_for query (R.key x)) (bag self.now)
             (option_and_then (get self.now.slots) result) }
         ensures live { IfSome result (IsLive self.now.slots) }
         ensures hashed { IfSome result (λ ix. HasHash
@@ -127,15 +127,15 @@ impl<'a, T, R: KeyOf<T>, S: BuildHasher> Lookup<'a, T, R, S> {
     /// The slot of the item whose key the query stands for, or where there is none the empty cell for a pair under this
     /// hash, which is the query's.
     #[inline(always)]
-    pub fn search<Q: Equivalent<R::Key>>(&self, hash: u64, query: &Q) -> Result<ItemIndex, Vacancy>
-        requires { hash ≡ hash_of S.BuildHasher S.Hasher.Hasher self.now.builder (Q.hash_input query.now) }
-        ensures found { FoundAt (λ x. Q.equivalent query.now (R.key x)) self.now.slots (result_ok result) }
+    pub fn search<Q: Query<R::Key>>(&self, hash: u64, query: Q) -> Result<ItemIndex, Vacancy>
+        requires { hash ≡ hash_of S.BuildHasher S.Hasher.Hasher self.now.builder (Q.hash_input query) }
+        ensures found { FoundAt (λ x. Q.stands_for query (R.key x)) self.now.slots (result_ok result) }
         ensures hashed { IfOk result (λ ix. HasHash
             (key_hash R.key R.Key.hash_input S.BuildHasher S.Hasher.Hasher self.now.builder) self.now.slots ix hash) }
         ensures vacant { IfErr result (IsVacantFor
             (key_hash R.key R.Key.hash_input S.BuildHasher S.Hasher.Hasher self.now.builder) (bag self.now) hash) }
     {
-        self.search_with(hash, &mut ByQuery::new(query), &mut Meter::new())
+        self.search_with(hash, &mut ByQuery::new(&query), &mut Meter::new())
     }
 
     /// The slot of the item whose key the matcher accepts.

@@ -5,11 +5,11 @@ ghost use Rattle.iddqd_store.specs.Rank.Asking.{passes_kept};
 ghost use Rattle.iddqd_store.specs.Rank.Index.{passes_at};
 
 use super::key_of::KeyOf;
-use crate::equivalent::Equivalent;
 use crate::item_index::ItemIndex;
 use crate::item_set::ItemSet;
 use crate::matcher::{KeyMatcher, Matcher};
 use crate::meter::Meter;
+use crate::query::Query;
 use std::hash::Hash;
 use std::marker::PhantomData;
 
@@ -64,14 +64,14 @@ impl<'a, Q> ByQuery<'a, Q> {
     }
 }
 
-impl<'a, K: Eq + Hash, Q: Equivalent<K>> KeyMatcher<K> for ByQuery<'a, Q> {
-    ghost accepts = { λ m key. Q.equivalent m.query.now key };
+impl<'a, K: Eq + Hash, Q: Query<K>> KeyMatcher<K> for ByQuery<'a, Q> {
+    ghost accepts = { λ m key. Q.stands_for m.query.now key };
 
     ghost asked = { λ m. m.asked };
 
     ghost IsKept = { λ m n. n.query ≡ m.query };
 
-    ghost accepts_kept = { λ m n key e. ap (λ q. Q.equivalent q.now key) e };
+    ghost accepts_kept = { λ m n key e. ap (λ q. Q.stands_for q.now key) e };
 
     ghost kept_refl = { λ m. refl };
 
@@ -79,6 +79,6 @@ impl<'a, K: Eq + Hash, Q: Equivalent<K>> KeyMatcher<K> for ByQuery<'a, Q> {
 
     fn matches(&mut self, key: &K) -> bool {
         self.asked.tick();
-        self.query.equivalent(key)
+        self.query.stands_for(key)
     }
 }

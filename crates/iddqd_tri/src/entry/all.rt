@@ -71,7 +71,7 @@ impl<'a, T: TriHashItemMut, S: BuildHasher, Q: Keys<T::K1, T::K2, T::K3>> Entry<
         match self {
             Entry::Vacant(v) => Entry::Vacant(v),
             Entry::Occupied(mut o) => {
-                o.store(f);
+                o.for_each(f);
                 Entry::Occupied(o)
             }
         }

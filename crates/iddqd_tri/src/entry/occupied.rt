@@ -243,8 +243,9 @@ impl<'a, T: TriHashItemMut, S: BuildHasher> OccupiedEntry<'a, T, S> {
         self.map.data_of(slot3)
     }
 
-    /// Stores what `f` answers at each item as its data, that of the first key first and each item once.
-    pub(crate) fn store<F: FnMut(&T) -> T::Data>(&mut self, f: F)
+    /// Stores what `f` answers at each item as its data, that of the first key first and each item once. What the entry
+    /// found stays found.
+    pub fn for_each<F: FnMut(&T) -> T::Data>(&mut self, f: F)
     where
         T::Data: Drop,
         requires has_found { HasFound ⟦<T as Ranked>⟧.key_tests self.old }

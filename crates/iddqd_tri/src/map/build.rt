@@ -59,6 +59,13 @@ impl<T: TriHashItem, S: BuildHasher> TriHashMap<T, S> {
         TriHashMap::with_hasher(alloc, S::default())
     }
 
+    /// The builder that the map's hashes come from.
+    pub fn hasher(&self) -> &S
+        ensures { result.now ≡ self.now.builder }
+    {
+        &self.hash_builder
+    }
+
     /// An empty map with room for so many items, whose hashes come from this builder.
     ///
     /// It takes memory for the slots and for each table. It is refused where there is none and where so many items are

@@ -8,15 +8,15 @@ ghost use Rattle.iddqd_tri.specs.Keys.{has1, has2, has3, has_all};
 
 use super::TriHashMap;
 use crate::item::{Hashed, TriHashItem};
-use iddqd_store::{Equivalent, KeyMatcher, Meter};
+use iddqd_store::{KeyMatcher, Meter, Query};
 use std::hash::{BuildHasher, Hash};
 
 impl<T: TriHashItem, S: BuildHasher> TriHashMap<T, S> {
     /// The item with the first key that the query stands for.
     ///
     /// Compares at most as many keys as items have the hash of the query at the first rank.
-    pub fn get1<Q: Equivalent<T::K1>>(&self, query: &Q) -> Option<&T>
-        ensures { IsOnly (has1 T.TriHashItem Q.equivalent query.now) (bag self.now) (option_copied result) }
+    pub fn get1<Q: Query<T::K1>>(&self, query: Q) -> Option<&T>
+        ensures { IsOnly (has1 T.TriHashItem Q.stands_for query) (bag self.now) (option_copied result) }
     {
         self.by_key1().get(query)
     }
@@ -24,8 +24,8 @@ impl<T: TriHashItem, S: BuildHasher> TriHashMap<T, S> {
     /// The item with the second key that the query stands for.
     ///
     /// Compares at most as many keys as items have the hash of the query at the second rank.
-    pub fn get2<Q: Equivalent<T::K2>>(&self, query: &Q) -> Option<&T>
-        ensures { IsOnly (has2 T.TriHashItem Q.equivalent query.now) (bag self.now) (option_copied result) }
+    pub fn get2<Q: Query<T::K2>>(&self, query: Q) -> Option<&T>
+        ensures { IsOnly (has2 T.TriHashItem Q.stands_for query) (bag self.now) (option_copied result) }
     {
         self.by_key2().get(query)
     }
@@ -33,8 +33,8 @@ impl<T: TriHashItem, S: BuildHasher> TriHashMap<T, S> {
     /// The item with the third key that the query stands for.
     ///
     /// Compares at most as many keys as items have the hash of the query at the third rank.
-    pub fn get3<Q: Equivalent<T::K3>>(&self, query: &Q) -> Option<&T>
-        ensures { IsOnly (has3 T.TriHashItem Q.equivalent query.now) (bag self.now) (option_copied result) }
+    pub fn get3<Q: Query<T::K3>>(&self, query: Q) -> Option<&T>
+        ensures { IsOnly (has3 T.TriHashItem Q.stands_for query) (bag self.now) (option_copied result) }
     {
         self.by_key3().get(query)
     }
@@ -42,14 +42,14 @@ impl<T: TriHashItem, S: BuildHasher> TriHashMap<T, S> {
     /// The item that has all keys that the queries stand for.
     ///
     /// Compares as many keys as `get1` does, and the other keys of the item found.
-    pub fn get_unique<Q1: Equivalent<T::K1>, Q2: Equivalent<T::K2>, Q3: Equivalent<T::K3>>(
+    pub fn get_unique<Q1: Query<T::K1>, Q2: Query<T::K2>, Q3: Query<T::K3>>(
         &self,
-        query1: &Q1,
-        query2: &Q2,
-        query3: &Q3,
+        query1: Q1,
+        query2: Q2,
+        query3: Q3,
     ) -> Option<&T>
         ensures { IsOnly
-            (has_all T.TriHashItem Q1.equivalent Q2.equivalent Q3.equivalent query1.now query2.now query3.now)
+            (has_all T.TriHashItem Q1.stands_for Q2.stands_for Q3.stands_for query1 query2 query3)
             (bag self.now) (option_copied result) }
     {
         let hash = self.hash_builder.hash_one(query1);
@@ -58,36 +58,36 @@ impl<T: TriHashItem, S: BuildHasher> TriHashMap<T, S> {
     }
 
     /// Whether an item has the first key that the query stands for. Costs what `get1` does.
-    pub fn contains_key1<Q: Equivalent<T::K1>>(&self, query: &Q) -> bool
-        ensures { result ≡ list_any (has1 T.TriHashItem Q.equivalent query.now) (bag self.now) }
+    pub fn contains_key1<Q: Query<T::K1>>(&self, query: Q) -> bool
+        ensures { result ≡ list_any (has1 T.TriHashItem Q.stands_for query) (bag self.now) }
     {
         self.by_key1().contains_key(query)
     }
 
     /// Whether an item has the second key that the query stands for. Costs what `get2` does.
-    pub fn contains_key2<Q: Equivalent<T::K2>>(&self, query: &Q) -> bool
-        ensures { result ≡ list_any (has2 T.TriHashItem Q.equivalent query.now) (bag self.now) }
+    pub fn contains_key2<Q: Query<T::K2>>(&self, query: Q) -> bool
+        ensures { result ≡ list_any (has2 T.TriHashItem Q.stands_for query) (bag self.now) }
     {
         self.by_key2().contains_key(query)
     }
 
     /// Whether an item has the third key that the query stands for. Costs what `get3` does.
-    pub fn contains_key3<Q: Equivalent<T::K3>>(&self, query: &Q) -> bool
-        ensures { result ≡ list_any (has3 T.TriHashItem Q.equivalent query.now) (bag self.now) }
+    pub fn contains_key3<Q: Query<T::K3>>(&self, query: Q) -> bool
+        ensures { result ≡ list_any (has3 T.TriHashItem Q.stands_for query) (bag self.now) }
     {
         self.by_key3().contains_key(query)
     }
 
     /// Whether an item has all keys that the queries stand for. Costs what `get_unique` does.
-    pub fn contains_key_unique<Q1: Equivalent<T::K1>, Q2: Equivalent<T::K2>, Q3: Equivalent<T::K3>>(
+    pub fn contains_key_unique<Q1: Query<T::K1>, Q2: Query<T::K2>, Q3: Query<T::K3>>(
         &self,
-        query1: &Q1,
-        query2: &Q2,
-        query3: &Q3,
+        query1: Q1,
+        query2: Q2,
+        query3: Q3,
     ) -> bool
         ensures { result
             ≡ list_any
-            (has_all T.TriHashItem Q1.equivalent Q2.equivalent Q3.equivalent query1.now query2.now query3.now)
+            (has_all T.TriHashItem Q1.stands_for Q2.stands_for Q3.stands_for query1 query2 query3)
             (bag self.now) }
     {
         self.get_unique(query1, query2, query3).is_some()

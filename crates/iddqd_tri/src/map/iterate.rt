@@ -6,6 +6,7 @@ ghost use Rattle.iddqd_store.specs.Map.{bag};
 use super::TriHashMap;
 use crate::item::TriHashItem;
 use iddqd_store::{IntoIter, Iter};
+use std::fmt::{self, Debug, Formatter, Write};
 use std::hash::{BuildHasher, Hash};
 
 impl<T: TriHashItem, S: BuildHasher> TriHashMap<T, S> {
@@ -47,5 +48,12 @@ impl<T: TriHashItem + Drop, S: BuildHasher + Drop> IntoIterator for TriHashMap<T
             hash_builder: _,
         } = self;
         items.into_values()
+    }
+}
+
+impl<T: TriHashItem + Debug, S: BuildHasher> Debug for TriHashMap<T, S> {
+    /// The items as a set, in the order of a walk.
+    fn fmt<W: Write>(&self, f: &mut Formatter<W>) -> fmt::Result {
+        f.debug_set().entries(self.iter()).finish()
     }
 }

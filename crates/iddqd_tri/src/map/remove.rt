@@ -7,59 +7,67 @@ ghost use Rattle.iddqd_tri.specs.Keys.{has1, has2, has3, has_all};
 
 use super::TriHashMap;
 use crate::item::TriHashItem;
+use iddqd_store::Query;
 use std::hash::{BuildHasher, Hash};
 
 impl<T: TriHashItem, S: BuildHasher> TriHashMap<T, S> {
     /// Takes out the item with this first key. It takes no memory, and the capacity stays.
     ///
     /// Compares at most as many keys as items have the key's hash at the first rank.
-    pub fn remove1(&mut self, key: &T::K1) -> Option<T>
-        ensures taken { IsOnly (has1 T.TriHashItem T.K1.eq key.now) (bag self.old) result }
+    pub fn remove1<Q: Query<T::K1>>(&mut self, query: Q) -> Option<T>
+        ensures taken { IsOnly (has1 T.TriHashItem Q.stands_for query) (bag self.old) result }
         ensures loses { Loses self.old (option_to_list result) self.new }
         ensures absent { IfNone result (self.new ≡ self.old) }
     {
-        let hash = self.hash_builder.hash_one(key);
-        let ix = self.by_key1().slot(hash, key)?;
+        let hash = self.hash_builder.hash_one(query);
+        let ix = self.by_key1().slot(hash, query)?;
         Some(self.take(ix, Some(hash), None, None))
     }
 
     /// Takes out the item with this second key. It takes no memory, and the capacity stays.
     ///
     /// Compares at most as many keys as items have the key's hash at the second rank.
-    pub fn remove2(&mut self, key: &T::K2) -> Option<T>
-        ensures taken { IsOnly (has2 T.TriHashItem T.K2.eq key.now) (bag self.old) result }
+    pub fn remove2<Q: Query<T::K2>>(&mut self, query: Q) -> Option<T>
+        ensures taken { IsOnly (has2 T.TriHashItem Q.stands_for query) (bag self.old) result }
         ensures loses { Loses self.old (option_to_list result) self.new }
         ensures absent { IfNone result (self.new ≡ self.old) }
     {
-        let hash = self.hash_builder.hash_one(key);
-        let ix = self.by_key2().slot(hash, key)?;
+        let hash = self.hash_builder.hash_one(query);
+        let ix = self.by_key2().slot(hash, query)?;
         Some(self.take(ix, None, Some(hash), None))
     }
 
     /// Takes out the item with this third key. It takes no memory, and the capacity stays.
     ///
     /// Compares at most as many keys as items have the key's hash at the third rank.
-    pub fn remove3(&mut self, key: &T::K3) -> Option<T>
-        ensures taken { IsOnly (has3 T.TriHashItem T.K3.eq key.now) (bag self.old) result }
+    pub fn remove3<Q: Query<T::K3>>(&mut self, query: Q) -> Option<T>
+        ensures taken { IsOnly (has3 T.TriHashItem Q.stands_for query) (bag self.old) result }
         ensures loses { Loses self.old (option_to_list result) self.new }
         ensures absent { IfNone result (self.new ≡ self.old) }
     {
-        let hash = self.hash_builder.hash_one(key);
-        let ix = self.by_key3().slot(hash, key)?;
+        let hash = self.hash_builder.hash_one(query);
+        let ix = self.by_key3().slot(hash, query)?;
         Some(self.take(ix, None, None, Some(hash)))
     }
 
     /// Takes out the item that has all keys. It takes no memory, and the capacity stays.
     ///
     /// Compares as many keys as `remove1` does, and the other keys of the item found.
-    pub fn remove_unique(&mut self, key1: &T::K1, key2: &T::K2, key3: &T::K3) -> Option<T>
-        ensures taken { IsOnly (has_all T.TriHashItem T.K1.eq T.K2.eq T.K3.eq key1.now key2.now key3.now)
+    pub fn remove_unique<Q1: Query<T::K1>, Q2: Query<T::K2>, Q3: Query<T::K3>>(
+        &mut self,
+        query1: Q1,
+        query2: Q2,
+        query3: Q3,
+    ) -> Option<T>
+        ensures taken { IsOnly (has_all T.TriHashItem Q1.stands_for Q2.stands_for Q3.stands_for query1 query2 query3)
             (bag self.old) result }
         ensures loses { Loses self.old (option_to_list result) self.new }
         ensures absent { IfNone result (self.new ≡ self.old) }
     {
-        let hash = self.hash_builder.hash_one(key1);
-        let ix = self.slot_unique(hash, key1, key2, key3)?;
-        Some(self.take(ix, Some(hash), None, None))
+        let hash = self.hash_builder.hash_one(query1);
+        match self.slot_unique(hash, query1, query2, query3) {
+            Some(ix) => Some(self.take(ix, Some(hash), None, None)),
+            None => None,
+        }
     }
 }

@@ -13,21 +13,21 @@ use super::TriHashMap;
 use crate::item::TriHashItem;
 use crate::iter_mut::IterMut;
 use crate::ref_mut::RefMut;
-use iddqd_store::Cursor;
+use iddqd_store::{Cursor, Query};
 use std::hash::{BuildHasher, Hash};
 
 impl<T: TriHashItem, S: BuildHasher> TriHashMap<T, S> {
     /// The item with this first key, for writing. It takes no memory.
     ///
     /// Compares at most as many keys as items have the key's hash at the first rank.
-    pub fn get1_mut(&mut self, key: &T::K1) -> Option<RefMut<'_, T, S>>
-        ensures found { IsOnly (has1 T.TriHashItem T.K1.eq key.now) (bag self.old) (option_and_then ref_item result) }
+    pub fn get1_mut<Q: Query<T::K1>>(&mut self, query: Q) -> Option<RefMut<'_, T, S>>
+        ensures found { IsOnly (has1 T.TriHashItem Q.stands_for query) (bag self.old) (option_and_then ref_item result) }
         ensures unchanged { IfSome result (λ r. ref_map r ≡ self.old) }
         ensures same_map { IfSome result (λ r. ref_lender r ≡ self.entry.ghost_name) }
         ensures* rests_at_none { sem 𝓛
             (rests_if_none T.row S.row T.K1.row T.K2.row T.K3.row S.Hasher.row self.entry result) }
     {
-        match self.by_key1().slot_of(key) {
+        match self.by_key1().slot_of(query) {
             Some(slot) => Some(RefMut { map: self, slot }),
             None => None,
         }
@@ -36,14 +36,14 @@ impl<T: TriHashItem, S: BuildHasher> TriHashMap<T, S> {
     /// The item with this second key, for writing. It takes no memory.
     ///
     /// Compares at most as many keys as items have the key's hash at the second rank.
-    pub fn get2_mut(&mut self, key: &T::K2) -> Option<RefMut<'_, T, S>>
-        ensures found { IsOnly (has2 T.TriHashItem T.K2.eq key.now) (bag self.old) (option_and_then ref_item result) }
+    pub fn get2_mut<Q: Query<T::K2>>(&mut self, query: Q) -> Option<RefMut<'_, T, S>>
+        ensures found { IsOnly (has2 T.TriHashItem Q.stands_for query) (bag self.old) (option_and_then ref_item result) }
         ensures unchanged { IfSome result (λ r. ref_map r ≡ self.old) }
         ensures same_map { IfSome result (λ r. ref_lender r ≡ self.entry.ghost_name) }
         ensures* rests_at_none { sem 𝓛
             (rests_if_none T.row S.row T.K1.row T.K2.row T.K3.row S.Hasher.row self.entry result) }
     {
-        match self.by_key2().slot_of(key) {
+        match self.by_key2().slot_of(query) {
             Some(slot) => Some(RefMut { map: self, slot }),
             None => None,
         }
@@ -52,14 +52,14 @@ impl<T: TriHashItem, S: BuildHasher> TriHashMap<T, S> {
     /// The item with this third key, for writing. It takes no memory.
     ///
     /// Compares at most as many keys as items have the key's hash at the third rank.
-    pub fn get3_mut(&mut self, key: &T::K3) -> Option<RefMut<'_, T, S>>
-        ensures found { IsOnly (has3 T.TriHashItem T.K3.eq key.now) (bag self.old) (option_and_then ref_item result) }
+    pub fn get3_mut<Q: Query<T::K3>>(&mut self, query: Q) -> Option<RefMut<'_, T, S>>
+        ensures found { IsOnly (has3 T.TriHashItem Q.stands_for query) (bag self.old) (option_and_then ref_item result) }
         ensures unchanged { IfSome result (λ r. ref_map r ≡ self.old) }
         ensures same_map { IfSome result (λ r. ref_lender r ≡ self.entry.ghost_name) }
         ensures* rests_at_none { sem 𝓛
             (rests_if_none T.row S.row T.K1.row T.K2.row T.K3.row S.Hasher.row self.entry result) }
     {
-        match self.by_key3().slot_of(key) {
+        match self.by_key3().slot_of(query) {
             Some(slot) => Some(RefMut { map: self, slot }),
             None => None,
         }
@@ -68,20 +68,20 @@ impl<T: TriHashItem, S: BuildHasher> TriHashMap<T, S> {
     /// The item that has all keys, for writing. It takes no memory.
     ///
     /// Compares as many keys as `get1_mut` does, and the other keys of the item found.
-    pub fn get_mut_unique(
+    pub fn get_mut_unique<Q1: Query<T::K1>, Q2: Query<T::K2>, Q3: Query<T::K3>>(
         &mut self,
-        key1: &T::K1,
-        key2: &T::K2,
-        key3: &T::K3,
+        query1: Q1,
+        query2: Q2,
+        query3: Q3,
     ) -> Option<RefMut<'_, T, S>>
-        ensures found { IsOnly (has_all T.TriHashItem T.K1.eq T.K2.eq T.K3.eq key1.now key2.now key3.now) (bag self.old)
+        ensures found { IsOnly (has_all T.TriHashItem Q1.stands_for Q2.stands_for Q3.stands_for query1 query2 query3) (bag self.old)
             (option_and_then ref_item result) }
         ensures unchanged { IfSome result (λ r. ref_map r ≡ self.old) }
         ensures same_map { IfSome result (λ r. ref_lender r ≡ self.entry.ghost_name) }
         ensures* rests_at_none { sem 𝓛
             (rests_if_none T.row S.row T.K1.row T.K2.row T.K3.row S.Hasher.row self.entry result) }
     {
-        match self.slot_of_all(key1, key2, key3) {
+        match self.slot_of_all(query1, query2, query3) {
             Some(slot) => Some(RefMut { map: self, slot }),
             None => None,
         }

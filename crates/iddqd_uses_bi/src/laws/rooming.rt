@@ -2,7 +2,7 @@
 ghost use Rattle.std.specs.Prelude.{◌≡◌, ◌∷◌, ◌<◌, ◌≤◌, ◌⊎◌, true, length, IsPermutation};
 ghost use Rattle.iddqd_bi.specs.Map.{bag};
 
-use iddqd_bi::{BiHashItem, BiHashMap, InsertError};
+use iddqd_bi::{BiHashItem, BiHashMap, InsertReason};
 use std::hash::{BuildHasher, Hash};
 
 /// Whether an insert finds memory once room was made for one item.
@@ -26,13 +26,10 @@ fn insert_or_lack<T: BiHashItem + Drop, S: BuildHasher>(map: &mut BiHashMap<T, S
 {
     match map.insert_unique(item) {
         Ok(()) => true,
-        Err(InsertError::Duplicate(refusal)) => {
+        Err(refusal) => {
+            let is_taken = refusal.reason() == InsertReason::Duplicate;
             drop(refusal);
-            true
-        }
-        Err(InsertError::Memory(refusal)) => {
-            drop(refusal);
-            false
+            is_taken
         }
     }
 }

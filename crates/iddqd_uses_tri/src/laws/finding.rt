@@ -1,44 +1,44 @@
 //! What lookups say of each other.
 ghost use Rattle.std.specs.Prelude.{◌≡◌, true};
 
-use iddqd_tri::{Equivalent, TriHashItem, TriHashMap};
+use iddqd_tri::{Query, TriHashItem, TriHashMap};
 use std::hash::{BuildHasher, Hash};
 
 /// Whether an item is given by its first key exactly where the map has one with that key, and has that key itself.
-pub fn found1_where_contained<T: TriHashItem, S: BuildHasher, Q: Equivalent<T::K1>>(
+pub fn found1_where_contained<T: TriHashItem, S: BuildHasher, Q: Query<T::K1>>(
     map: &TriHashMap<T, S>,
-    query: &Q,
+    query: Q,
 ) -> bool
     ensures { result ≡ true }
 {
     match map.get1(query) {
-        Some(item) => map.contains_key1(query) && query.equivalent(item.key1()),
+        Some(item) => map.contains_key1(query) && query.stands_for(item.key1()),
         None => !map.contains_key1(query),
     }
 }
 
 /// Whether an item is given by its second key exactly where the map has one with that key, and has that key itself.
-pub fn found2_where_contained<T: TriHashItem, S: BuildHasher, Q: Equivalent<T::K2>>(
+pub fn found2_where_contained<T: TriHashItem, S: BuildHasher, Q: Query<T::K2>>(
     map: &TriHashMap<T, S>,
-    query: &Q,
+    query: Q,
 ) -> bool
     ensures { result ≡ true }
 {
     match map.get2(query) {
-        Some(item) => map.contains_key2(query) && query.equivalent(item.key2()),
+        Some(item) => map.contains_key2(query) && query.stands_for(item.key2()),
         None => !map.contains_key2(query),
     }
 }
 
 /// Whether an item is given by its third key exactly where the map has one with that key, and has that key itself.
-pub fn found3_where_contained<T: TriHashItem, S: BuildHasher, Q: Equivalent<T::K3>>(
+pub fn found3_where_contained<T: TriHashItem, S: BuildHasher, Q: Query<T::K3>>(
     map: &TriHashMap<T, S>,
-    query: &Q,
+    query: Q,
 ) -> bool
     ensures { result ≡ true }
 {
     match map.get3(query) {
-        Some(item) => map.contains_key3(query) && query.equivalent(item.key3()),
+        Some(item) => map.contains_key3(query) && query.stands_for(item.key3()),
         None => !map.contains_key3(query),
     }
 }
@@ -47,17 +47,17 @@ pub fn found3_where_contained<T: TriHashItem, S: BuildHasher, Q: Equivalent<T::K
 pub fn unique_where_all<
     T: TriHashItem,
     S: BuildHasher,
-    Q1: Equivalent<T::K1>,
-    Q2: Equivalent<T::K2>,
-    Q3: Equivalent<T::K3>,
->(map: &TriHashMap<T, S>, query1: &Q1, query2: &Q2, query3: &Q3) -> bool
+    Q1: Query<T::K1>,
+    Q2: Query<T::K2>,
+    Q3: Query<T::K3>,
+>(map: &TriHashMap<T, S>, query1: Q1, query2: Q2, query3: Q3) -> bool
     ensures { result ≡ true }
 {
     let given = map.get_unique(query1, query2, query3).is_some();
     match map.get1(query1) {
         Some(item) => {
-            if query2.equivalent(item.key2()) {
-                if query3.equivalent(item.key3()) {
+            if query2.stands_for(item.key2()) {
+                if query3.stands_for(item.key3()) {
                     return given;
                 }
                 return !given;
@@ -72,10 +72,10 @@ pub fn unique_where_all<
 pub fn unique_where_contained<
     T: TriHashItem,
     S: BuildHasher,
-    Q1: Equivalent<T::K1>,
-    Q2: Equivalent<T::K2>,
-    Q3: Equivalent<T::K3>,
->(map: &TriHashMap<T, S>, query1: &Q1, query2: &Q2, query3: &Q3) -> bool
+    Q1: Query<T::K1>,
+    Q2: Query<T::K2>,
+    Q3: Query<T::K3>,
+>(map: &TriHashMap<T, S>, query1: Q1, query2: Q2, query3: Q3) -> bool
     ensures { result ≡ true }
 {
     let given = map.get_unique(query1, query2, query3).is_some();

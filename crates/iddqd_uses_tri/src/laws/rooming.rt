@@ -2,7 +2,7 @@
 ghost use Rattle.std.specs.Prelude.{◌≡◌, ◌∷◌, ◌<◌, ◌≤◌, ◌⊎◌, true, length, IsPermutation};
 ghost use Rattle.iddqd_tri.specs.Map.{bag};
 
-use iddqd_tri::{InsertError, TriHashItem, TriHashMap};
+use iddqd_tri::{InsertReason, TriHashItem, TriHashMap};
 use std::hash::{BuildHasher, Hash};
 
 /// Whether an insert finds memory once room was made for one item.
@@ -29,13 +29,10 @@ fn insert_or_lack<T: TriHashItem + Drop, S: BuildHasher>(
 {
     match map.insert_unique(item) {
         Ok(()) => true,
-        Err(InsertError::Duplicate(refusal)) => {
+        Err(refusal) => {
+            let is_taken = refusal.reason() == InsertReason::Duplicate;
             drop(refusal);
-            true
-        }
-        Err(InsertError::Memory(refusal)) => {
-            drop(refusal);
-            false
+            is_taken
         }
     }
 }

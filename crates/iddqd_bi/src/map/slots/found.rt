@@ -14,14 +14,14 @@ ghost use Rattle.iddqd_bi.specs.RefMuts.{ref_lender, ref_map, ref_item, rests_if
 use super::super::BiHashMap;
 use crate::item::{BiHashItem, Hashed};
 use crate::ref_mut::RefMut;
-use iddqd_store::{Equivalent, ItemIndex, UpToTwo};
+use iddqd_store::{ItemIndex, Query, UpToTwo};
 use std::hash::{BuildHasher, Hash};
 
 /// Whether the item has the second key that the query stands for.
-pub(crate) fn has_others<T: BiHashItem, Q2: Equivalent<T::K2>>(item: &T, query2: &Q2) -> bool
-    ensures { result ≡ every_of (has2 T.BiHashItem Q2.equivalent query2.now ∷ []) item.now }
+pub(crate) fn has_others<T: BiHashItem, Q2: Query<T::K2>>(item: &T, query2: Q2) -> bool
+    ensures { result ≡ every_of (has2 T.BiHashItem Q2.stands_for query2 ∷ []) item.now }
 {
-    query2.equivalent(item.key2())
+    query2.stands_for(item.key2())
 }
 
 /// The slot that both searches found.
@@ -46,14 +46,14 @@ pub(crate) fn each_once(slot1: Option<ItemIndex>, slot2: Option<ItemIndex>) -> U
 
 impl<T: BiHashItem, S: BuildHasher> BiHashMap<T, S> {
     /// The slot of the item that has both keys that the queries stand for, where this is the first query's hash.
-    pub(crate) fn slot_unique<Q1: Equivalent<T::K1>, Q2: Equivalent<T::K2>>(
+    pub(crate) fn slot_unique<Q1: Query<T::K1>, Q2: Query<T::K2>>(
         &self,
         hash: u64,
-        query1: &Q1,
-        query2: &Q2,
+        query1: Q1,
+        query2: Q2,
     ) -> Option<ItemIndex>
-        requires { hash ≡ hash_of S.BuildHasher S.Hasher.Hasher self.now.builder (Q1.hash_input query1.now) }
-        ensures found { IsOnly (has_both T.BiHashItem Q1.equivalent Q2.equivalent query1.now query2.now)
+        requires { hash ≡ hash_of S.BuildHasher S.Hasher.Hasher self.now.builder (Q1.hash_input query1) }
+        ensures found { IsOnly (has_both T.BiHashItem Q1.stands_for Q2.stands_for query1 query2)
             (bag self.now) (option_and_then (get self.now.slots) result) }
         ensures live { IfSome result (IsLive self.now.slots) }
         ensures hashed { IfSome result (λ ix. HasHash
@@ -68,12 +68,16 @@ impl<T: BiHashItem, S: BuildHasher> BiHashMap<T, S> {
         }
     }
 
-    /// The slot of the item that has both keys.
-    pub(crate) fn slot_of_both(&self, key1: &T::K1, key2: &T::K2) -> Option<ItemIndex>
-        ensures { FoundAt (has_both T.BiHashItem T.K1.eq T.K2.eq key1.now key2.now) self.now.slots result }
+    /// The slot of the item that has both keys that the queries stand for.
+    pub(crate) fn slot_of_both<Q1: Query<T::K1>, Q2: Query<T::K2>>(
+        &self,
+        query1: Q1,
+        query2: Q2,
+    ) -> Option<ItemIndex>
+        ensures { FoundAt (has_both T.BiHashItem Q1.stands_for Q2.stands_for query1 query2) self.now.slots result }
     {
-        let hash = self.hash_builder.hash_one(key1);
-        self.slot_unique(hash, key1, key2)
+        let hash = self.hash_builder.hash_one(query1);
+        self.slot_unique(hash, query1, query2)
     }
 
     /// The items of these slots, lent.

@@ -1,7 +1,7 @@
 //! Reading and writing the items of slots that are known.
 ghost use Rattle.std.specs.Prelude.{◌≡◌, [], ◌∷◌, true, ℕ, All, nat_eq, Some, IsPermutation, IfSome, is_some};
 ghost use Rattle.std.specs.Borrow.{sem};
-ghost use Rattle.std.specs.Fn.{CalledAt};
+ghost use Rattle.std.specs.Fn.{CalledAt, FnOnceReturnsAt, FnOnceTakesAt};
 ghost use Rattle.std.specs.List.{IsDistinct};
 ghost use Rattle.std.specs.Option.{option_and_then};
 ghost use Rattle.iddqd_store.specs.Bag.{IsSound, agrees, swap};
@@ -86,6 +86,20 @@ impl<T: BiHashItemMut, S: BuildHasher> BiHashMap<T, S> {
             × (CalledAt F.FnMut) f.old x d f.new × (self.new ≡ map_with self.old ix (λ y. T.put y d))
             × IsPermutation (bag self.new) (swap ⟦<T as Ranked>⟧.ranks (bag self.old) x (T.put x d)) }
         ensures callable { F.IsAlwaysCallable f.new }
+    {
+        let d = f(self.item_at(ix));
+        *self.data_mut_at(ix) = d;
+    }
+
+    /// Stores what a function answers at the item of a slot, which is called no more.
+    pub(crate) fn store_once<F: FnOnce(&T) -> T::Data>(&mut self, ix: ItemIndex, f: F)
+    where
+        T::Data: Drop,
+        requires live { IsLive self.old.slots ix }
+        requires callable { (x : T) → get self.old.slots ix ≡ Some x → FnOnceTakesAt F.FnOnce f x }
+        ensures stored { (x : T) × (d : T.Data) × (get self.old.slots ix ≡ Some x)
+            × FnOnceReturnsAt F.FnOnce f x d × (self.new ≡ map_with self.old ix (λ y. T.put y d))
+            × IsPermutation (bag self.new) (swap ⟦<T as Ranked>⟧.ranks (bag self.old) x (T.put x d)) }
     {
         let d = f(self.item_at(ix));
         *self.data_mut_at(ix) = d;

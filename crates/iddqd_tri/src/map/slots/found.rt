@@ -14,19 +14,19 @@ ghost use Rattle.iddqd_tri.specs.RefMuts.{ref_lender, ref_map, ref_item, rests_i
 use super::super::TriHashMap;
 use crate::item::{Hashed, TriHashItem};
 use crate::ref_mut::RefMut;
-use iddqd_store::{Equivalent, ItemIndex, UpToThree};
+use iddqd_store::{ItemIndex, Query, UpToThree};
 use std::hash::{BuildHasher, Hash};
 
 /// Whether the item has the second and the third key that the queries stand for.
-pub(crate) fn has_others<T: TriHashItem, Q2: Equivalent<T::K2>, Q3: Equivalent<T::K3>>(
+pub(crate) fn has_others<T: TriHashItem, Q2: Query<T::K2>, Q3: Query<T::K3>>(
     item: &T,
-    query2: &Q2,
-    query3: &Q3,
+    query2: Q2,
+    query3: Q3,
 ) -> bool
     ensures { result ≡ every_of
-        (has2 T.TriHashItem Q2.equivalent query2.now ∷ has3 T.TriHashItem Q3.equivalent query3.now ∷ []) item.now }
+        (has2 T.TriHashItem Q2.stands_for query2 ∷ has3 T.TriHashItem Q3.stands_for query3 ∷ []) item.now }
 {
-    query2.equivalent(item.key2()) && query3.equivalent(item.key3())
+    query2.stands_for(item.key2()) && query3.stands_for(item.key3())
 }
 
 /// The slot that all searches found.
@@ -60,16 +60,16 @@ pub(crate) fn each_once(
 
 impl<T: TriHashItem, S: BuildHasher> TriHashMap<T, S> {
     /// The slot of the item that has all keys that the queries stand for, where this is the first query's hash.
-    pub(crate) fn slot_unique<Q1: Equivalent<T::K1>, Q2: Equivalent<T::K2>, Q3: Equivalent<T::K3>>(
+    pub(crate) fn slot_unique<Q1: Query<T::K1>, Q2: Query<T::K2>, Q3: Query<T::K3>>(
         &self,
         hash: u64,
-        query1: &Q1,
-        query2: &Q2,
-        query3: &Q3,
+        query1: Q1,
+        query2: Q2,
+        query3: Q3,
     ) -> Option<ItemIndex>
-        requires { hash ≡ hash_of S.BuildHasher S.Hasher.Hasher self.now.builder (Q1.hash_input query1.now) }
+        requires { hash ≡ hash_of S.BuildHasher S.Hasher.Hasher self.now.builder (Q1.hash_input query1) }
         ensures found { IsOnly
-            (has_all T.TriHashItem Q1.equivalent Q2.equivalent Q3.equivalent query1.now query2.now query3.now)
+            (has_all T.TriHashItem Q1.stands_for Q2.stands_for Q3.stands_for query1 query2 query3)
             (bag self.now) (option_and_then (get self.now.slots) result) }
         ensures live { IfSome result (IsLive self.now.slots) }
         ensures hashed { IfSome result (λ ix. HasHash
@@ -85,12 +85,17 @@ impl<T: TriHashItem, S: BuildHasher> TriHashMap<T, S> {
     }
 
     /// The slot of the item that has all keys.
-    pub(crate) fn slot_of_all(&self, key1: &T::K1, key2: &T::K2, key3: &T::K3) -> Option<ItemIndex>
-        ensures { FoundAt (has_all T.TriHashItem T.K1.eq T.K2.eq T.K3.eq key1.now key2.now key3.now)
+    pub(crate) fn slot_of_all<Q1: Query<T::K1>, Q2: Query<T::K2>, Q3: Query<T::K3>>(
+        &self,
+        query1: Q1,
+        query2: Q2,
+        query3: Q3,
+    ) -> Option<ItemIndex>
+        ensures { FoundAt (has_all T.TriHashItem Q1.stands_for Q2.stands_for Q3.stands_for query1 query2 query3)
             self.now.slots result }
     {
-        let hash = self.hash_builder.hash_one(key1);
-        self.slot_unique(hash, key1, key2, key3)
+        let hash = self.hash_builder.hash_one(query1);
+        self.slot_unique(hash, query1, query2, query3)
     }
 
     /// The items of these slots, lent.

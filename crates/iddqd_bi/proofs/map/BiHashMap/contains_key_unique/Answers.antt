@@ -6,6 +6,6 @@ use Rattle.iddqd_bi.proofs.map.BiHashMap.contains_key_unique.Goals as goal
 
 pub returns : goal.returns
 returns g c =
-    let test1 = λ (x : g.row.T.Denot). g.Q1.Equivalent.equivalent c.args.query1.now (g.T.BiHashItem.key1 x) in
-    let test2 = λ (x : g.row.T.Denot). g.Q2.Equivalent.equivalent c.args.query2.now (g.T.BiHashItem.key2 x) in
+    let test1 = λ (x : g.row.T.Denot). g.Q1.Query.stands_for c.args.query1 (g.T.BiHashItem.key1 x) in
+    let test2 = λ (x : g.row.T.Denot). g.Q2.Query.stands_for c.args.query2 (g.T.BiHashItem.key2 x) in
     c.is_some.ensures ∙ is_some-found (every_of (test1 ∷ test2 ∷ [])) (bag c.args.self.now) c.get_unique.result c.get_unique.ensures

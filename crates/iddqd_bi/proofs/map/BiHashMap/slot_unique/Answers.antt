@@ -8,16 +8,16 @@ use Rattle.iddqd_bi.proofs.map.BiHashMap.slot_unique.Goals as goal
 pub returns-in_err-ix-clause-found : goal.returns-in_err-ix-clause-found
 returns-in_err-ix-clause-found g c =
     let slots = c.by_key1.ensures.slots in
-    let test1 = λ (x : g.row.T.Denot). g.Q1.Equivalent.equivalent c.args.query1.now (g.T.BiHashItem.key1 x) in
-    let test2 = λ (x : g.row.T.Denot). g.Q2.Equivalent.equivalent c.args.query2.now (g.T.BiHashItem.key2 x) in
+    let test1 = λ (x : g.row.T.Denot). g.Q1.Query.stands_for c.args.query1 (g.T.BiHashItem.key1 x) in
+    let test2 = λ (x : g.row.T.Denot). g.Q2.Query.stands_for c.args.query2 (g.T.BiHashItem.key2 x) in
     ap (λ o. option_to_list (option_and_then (get c.args.self.now.slots) o)) c.from_residual.ensures
     ∙ all_of-none test1 (test2 ∷ []) (bag c.args.self.now) (rw slots at c.in_err-ix.ensures.found)
 
 pub returns-then-has_others-clause-found : goal.returns-then-has_others-clause-found
 returns-then-has_others-clause-found g c =
     let slots = c.by_key1.ensures.slots in
-    let test1 = λ (x : g.row.T.Denot). g.Q1.Equivalent.equivalent c.args.query1.now (g.T.BiHashItem.key1 x) in
-    let test2 = λ (x : g.row.T.Denot). g.Q2.Equivalent.equivalent c.args.query2.now (g.T.BiHashItem.key2 x) in
+    let test1 = λ (x : g.row.T.Denot). g.Q1.Query.stands_for c.args.query1 (g.T.BiHashItem.key1 x) in
+    let test2 = λ (x : g.row.T.Denot). g.Q2.Query.stands_for c.args.query2 (g.T.BiHashItem.key2 x) in
     all_of-kept test1 (test2 ∷ []) (bag c.args.self.now) _ c.in_ok-item.item.now
     (sym (c.in_ok-item.ensures ∙ ap (λ (m : Map g.row.T.Denot g.row.S.Denot). get m.slots c.in_ok-ix.ix) c.self.view_is)) (rw slots at c.in_ok-ix.ensures.found)
     (sym c.has_others.ensures ∙ c.if-has_others.true)
@@ -25,8 +25,8 @@ returns-then-has_others-clause-found g c =
 pub returns-else-has_others-clause-found : goal.returns-else-has_others-clause-found
 returns-else-has_others-clause-found g c =
     let slots = c.by_key1.ensures.slots in
-    let test1 = λ (x : g.row.T.Denot). g.Q1.Equivalent.equivalent c.args.query1.now (g.T.BiHashItem.key1 x) in
-    let test2 = λ (x : g.row.T.Denot). g.Q2.Equivalent.equivalent c.args.query2.now (g.T.BiHashItem.key2 x) in
+    let test1 = λ (x : g.row.T.Denot). g.Q1.Query.stands_for c.args.query1 (g.T.BiHashItem.key1 x) in
+    let test2 = λ (x : g.row.T.Denot). g.Q2.Query.stands_for c.args.query2 (g.T.BiHashItem.key2 x) in
     all_of-lost test1 (test2 ∷ []) (bag c.args.self.now) _ c.in_ok-item.item.now
     (sym (c.in_ok-item.ensures ∙ ap (λ (m : Map g.row.T.Denot g.row.S.Denot). get m.slots c.in_ok-ix.ix) c.self.view_is)) (rw slots at c.in_ok-ix.ensures.found)
     (sym c.has_others.ensures ∙ c.if-has_others.false)

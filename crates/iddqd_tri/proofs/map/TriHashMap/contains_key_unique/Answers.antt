@@ -6,7 +6,7 @@ use Rattle.iddqd_tri.proofs.map.TriHashMap.contains_key_unique.Goals as goal
 
 pub returns : goal.returns
 returns g c =
-    let test1 = λ (x : g.row.T.Denot). g.Q1.Equivalent.equivalent c.args.query1.now (g.T.TriHashItem.key1 x) in
-    let test2 = λ (x : g.row.T.Denot). g.Q2.Equivalent.equivalent c.args.query2.now (g.T.TriHashItem.key2 x) in
-    let test3 = λ (x : g.row.T.Denot). g.Q3.Equivalent.equivalent c.args.query3.now (g.T.TriHashItem.key3 x) in
+    let test1 = λ (x : g.row.T.Denot). g.Q1.Query.stands_for c.args.query1 (g.T.TriHashItem.key1 x) in
+    let test2 = λ (x : g.row.T.Denot). g.Q2.Query.stands_for c.args.query2 (g.T.TriHashItem.key2 x) in
+    let test3 = λ (x : g.row.T.Denot). g.Q3.Query.stands_for c.args.query3 (g.T.TriHashItem.key3 x) in
     c.is_some.ensures ∙ is_some-found (every_of (test1 ∷ test2 ∷ test3 ∷ [])) (bag c.args.self.now) c.get_unique.result c.get_unique.ensures

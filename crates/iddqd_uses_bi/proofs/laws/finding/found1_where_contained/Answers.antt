@@ -7,13 +7,13 @@ use Rattle.iddqd_uses_bi.proofs.laws.finding.found1_where_contained.Goals as goa
 -- an item that is given has the key
 pub returns-then-contains_key1 : goal.returns-then-contains_key1
 returns-then-contains_key1 g c =
-    c.equivalent.ensures ∙ rw c.key1.ensures (given-has (has1 g.T.BiHashItem g.Q.Equivalent.equivalent c.args.query.now) (bag c.args.map.now) c.in-Some.item.now c.in-Some.ensures)
+    c.stands_for.ensures ∙ rw c.key1.ensures (given-has (has1 g.T.BiHashItem g.Q.Query.stands_for c.args.query) (bag c.args.map.now) c.in-Some.item.now c.in-Some.ensures)
 
 pub returns-else-contains_key1 : goal.returns-else-contains_key1
 returns-else-contains_key1 g c =
-    c.contains_key1.ensures ∙ given-listed (has1 g.T.BiHashItem g.Q.Equivalent.equivalent c.args.query.now) (bag c.args.map.now) c.in-Some.item.now c.in-Some.ensures
+    c.contains_key1.ensures ∙ given-listed (has1 g.T.BiHashItem g.Q.Query.stands_for c.args.query) (bag c.args.map.now) c.in-Some.item.now c.in-Some.ensures
 
 -- and where none is given, none has it
 pub returns-in-None : goal.returns-in-None
 returns-in-None g c =
-    rw (c.contains_key1-in-None.ensures ∙ none-listed (has1 g.T.BiHashItem g.Q.Equivalent.equivalent c.args.query.now) (bag c.args.map.now) c.in-None.ensures) refl
+    rw (c.contains_key1-in-None.ensures ∙ none-listed (has1 g.T.BiHashItem g.Q.Query.stands_for c.args.query) (bag c.args.map.now) c.in-None.ensures) refl

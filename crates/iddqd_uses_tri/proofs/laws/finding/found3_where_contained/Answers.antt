@@ -7,13 +7,13 @@ use Rattle.iddqd_uses_tri.proofs.laws.finding.found3_where_contained.Goals as go
 -- an item that is given has the key
 pub returns-then-contains_key3 : goal.returns-then-contains_key3
 returns-then-contains_key3 g c =
-    c.equivalent.ensures ∙ rw c.key3.ensures (given-has (has3 g.T.TriHashItem g.Q.Equivalent.equivalent c.args.query.now) (bag c.args.map.now) c.in-Some.item.now c.in-Some.ensures)
+    c.stands_for.ensures ∙ rw c.key3.ensures (given-has (has3 g.T.TriHashItem g.Q.Query.stands_for c.args.query) (bag c.args.map.now) c.in-Some.item.now c.in-Some.ensures)
 
 pub returns-else-contains_key3 : goal.returns-else-contains_key3
 returns-else-contains_key3 g c =
-    c.contains_key3.ensures ∙ given-listed (has3 g.T.TriHashItem g.Q.Equivalent.equivalent c.args.query.now) (bag c.args.map.now) c.in-Some.item.now c.in-Some.ensures
+    c.contains_key3.ensures ∙ given-listed (has3 g.T.TriHashItem g.Q.Query.stands_for c.args.query) (bag c.args.map.now) c.in-Some.item.now c.in-Some.ensures
 
 -- and where none is given, none has it
 pub returns-in-None : goal.returns-in-None
 returns-in-None g c =
-    rw (c.contains_key3-in-None.ensures ∙ none-listed (has3 g.T.TriHashItem g.Q.Equivalent.equivalent c.args.query.now) (bag c.args.map.now) c.in-None.ensures) refl
+    rw (c.contains_key3-in-None.ensures ∙ none-listed (has3 g.T.TriHashItem g.Q.Query.stands_for c.args.query) (bag c.args.map.now) c.in-None.ensures) refl

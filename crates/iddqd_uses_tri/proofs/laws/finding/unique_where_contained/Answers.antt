@@ -8,9 +8,9 @@ use Rattle.iddqd_uses_tri.proofs.laws.finding.unique_where_contained.Goals as go
 -- both say whether a member has the keys
 pub returns-then-contains_key_unique : goal.returns-then-contains_key_unique
 returns-then-contains_key_unique g c =
-    c.is_some-given.ensures ∙ given-some (has_all g.T.TriHashItem g.Q1.Equivalent.equivalent g.Q2.Equivalent.equivalent g.Q3.Equivalent.equivalent c.args.query1.now c.args.query2.now c.args.query3.now) (bag c.args.map.now) c.get_unique.result c.get_unique.ensures ∙ sym c.contains_key_unique.ensures ∙ c.if-contains_key_unique.true
+    c.is_some-given.ensures ∙ given-some (has_all g.T.TriHashItem g.Q1.Query.stands_for g.Q2.Query.stands_for g.Q3.Query.stands_for c.args.query1 c.args.query2 c.args.query3) (bag c.args.map.now) c.get_unique.result c.get_unique.ensures ∙ sym c.contains_key_unique.ensures ∙ c.if-contains_key_unique.true
 
 pub returns-else-contains_key_unique : goal.returns-else-contains_key_unique
 returns-else-contains_key_unique g c =
-    let no : c.is_some-given.result ≡ false = c.is_some-given.ensures ∙ given-some (has_all g.T.TriHashItem g.Q1.Equivalent.equivalent g.Q2.Equivalent.equivalent g.Q3.Equivalent.equivalent c.args.query1.now c.args.query2.now c.args.query3.now) (bag c.args.map.now) c.get_unique.result c.get_unique.ensures ∙ sym c.contains_key_unique.ensures ∙ c.if-contains_key_unique.false in
+    let no : c.is_some-given.result ≡ false = c.is_some-given.ensures ∙ given-some (has_all g.T.TriHashItem g.Q1.Query.stands_for g.Q2.Query.stands_for g.Q3.Query.stands_for c.args.query1 c.args.query2 c.args.query3) (bag c.args.map.now) c.get_unique.result c.get_unique.ensures ∙ sym c.contains_key_unique.ensures ∙ c.if-contains_key_unique.false in
     rw no refl

@@ -5,5 +5,5 @@ use Rattle.iddqd_store.proofs.rank.lookup.Lookup.contains_key.Goals as goal
 
 pub returns : goal.returns
 returns g c =
-    let test = λ (x : g.row.T.Denot). g.Q.Equivalent.equivalent c.args.query.now (g.R.KeyOf.key x) in
+    let test = λ (x : g.row.T.Denot). g.Q.Query.stands_for c.args.query (g.R.KeyOf.key x) in
     c.is_some.ensures ∙ is_some-found test (bag c.args.self.now) c.get.result c.get.ensures

@@ -14,6 +14,6 @@ found_at test slots (Err e) only live = record { only = only; live = tt }
 pub returns-clause-found : goal.returns-clause-found
 returns-clause-found g c =
     let slots = c.args.self.now.slots in
-    let test = λ (x : g.row.T.Denot). g.Q.Equivalent.equivalent c.args.query.now (g.R.KeyOf.key x) in
+    let test = λ (x : g.row.T.Denot). g.Q.Query.stands_for c.args.query (g.R.KeyOf.key x) in
     let only : IsOnly test (live_items slots) (option_and_then (get slots) (result_ok c.search_with.result)) = search rules in
     found_at test slots c.search_with.result only c.search_with.ensures.live

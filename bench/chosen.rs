@@ -1,0 +1,107 @@
+//! What somebody gains who chooses keys for the default builder, whose seed is fixed, and what a random seed costs and
+//! takes from them: the map with two keys alone.
+use crate::by_hand;
+use crate::workload::{Row, rows};
+use std::time::Instant;
+
+/// How many items a map has.
+const ITEMS: usize = 20_000;
+
+/// The least number of cells that holds them. The home of a hash is its lowest bits.
+const CELLS: u64 = 32_768;
+
+/// How often each loop is timed. The least time counts.
+const TURNS: usize = 5;
+
+type Exported = unsafe extern "C" fn(
+    rows: *const Row<2>,
+    len: usize,
+    asked: *const Row<2>,
+    count: usize,
+    number: usize,
+    whole: bool,
+) -> u64;
+
+unsafe extern "C" {
+    fn bi_insert_with_room(
+        rows: *const Row<2>,
+        len: usize,
+        asked: *const Row<2>,
+        count: usize,
+        number: usize,
+        whole: bool,
+    ) -> u64;
+    fn bi_insert_seeded(
+        rows: *const Row<2>,
+        len: usize,
+        asked: *const Row<2>,
+        count: usize,
+        number: usize,
+        whole: bool,
+    ) -> u64;
+    fn bi_get(
+        rows: *const Row<2>,
+        len: usize,
+        asked: *const Row<2>,
+        count: usize,
+        number: usize,
+        whole: bool,
+    ) -> u64;
+    fn bi_get_seeded(
+        rows: *const Row<2>,
+        len: usize,
+        asked: *const Row<2>,
+        count: usize,
+        number: usize,
+        whole: bool,
+    ) -> u64;
+}
+
+/// The rows, with first keys of one home under the default builder.
+fn of_one_home(rows: &[Row<2>]) -> Vec<Row<2>> {
+    let keys = (0..).filter(|key| by_hand::hash(*key) % CELLS == 0);
+    rows.iter()
+        .zip(keys)
+        .map(|(row, key)| Row {
+            keys: [key, row.keys[1]],
+            ..*row
+        })
+        .collect()
+}
+
+/// Seconds that the loop takes, with what prepares it or without.
+fn seconds(exported: Exported, rows: &[Row<2>], whole: bool) -> f64 {
+    let began = Instant::now();
+    let (at, len) = (rows.as_ptr(), rows.len());
+    std::hint::black_box(unsafe { exported(at, len, at, len, ITEMS, whole) });
+    began.elapsed().as_secs_f64()
+}
+
+fn least(exported: Exported, rows: &[Row<2>], whole: bool) -> f64 {
+    let all = (0..TURNS).map(|_| seconds(exported, rows, whole));
+    all.fold(f64::INFINITY, f64::min)
+}
+
+/// Nanoseconds an item.
+fn time(exported: Exported, rows: &[Row<2>]) -> f64 {
+    let spent = least(exported, rows, true) - least(exported, rows, false);
+    spent.max(0.0) * 1e9 / ITEMS as f64
+}
+
+/// Prints a table of times an item.
+pub fn print() {
+    let spread = rows::<2>(0, ITEMS);
+    let together = of_one_home(&spread);
+    println!("| {ITEMS} items, nanoseconds an item | default builder | random seed |");
+    println!("|---|---|---|");
+    let loops: [(&str, Exported, Exported); 2] = [
+        ("insert with room", bi_insert_with_room, bi_insert_seeded),
+        ("look-up that hits", bi_get, bi_get_seeded),
+    ];
+    for (name, default, seeded) in loops {
+        for (keys, rows) in [("spread keys", &spread), ("keys of one home", &together)] {
+            let (here, there) = (time(default, rows), time(seeded, rows));
+            println!("| {name}, {keys} | {here:.0} | {there:.0} |");
+        }
+    }
+}

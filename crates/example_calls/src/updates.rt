@@ -1,0 +1,79 @@
+//! Writing by functions, with two fields that may be written.
+ghost use Rattle.std.specs.Prelude.{◌≡◌, ◌==◌, true, false, map, Some, IsPermutation};
+ghost use Rattle.std.proofs.Common.{rules};
+ghost use Rattle.iddqd_bi.specs.Bag.{IsOnly, swap};
+ghost use Rattle.iddqd_bi.specs.Map.{bag};
+
+use iddqd_bi::{BiHashItem, BiHashItemMut, BiHashMap, Ranked};
+
+/// When and at which door a card was used last.
+#[derive(Clone, Copy)]
+pub struct LastUse {
+    pub time: u64,
+    pub door: u32,
+}
+
+/// A card, known by its number and by its holder.
+#[derive(Drop)]
+pub struct Card {
+    pub number: u64,
+    pub holder: u32,
+    pub last: LastUse,
+}
+
+impl BiHashItem for Card {
+    type K1 = u64;
+
+    type K2 = u32;
+
+    ghost key1 = { λ c. c.number };
+
+    ghost key2 = { λ c. c.holder };
+
+    fn key1(&self) -> &u64 {
+        &self.number
+    }
+
+    fn key2(&self) -> &u32 {
+        &self.holder
+    }
+}
+
+impl BiHashItemMut for Card {
+    type Data = LastUse;
+
+    ghost payload = { λ c. c.last };
+
+    ghost put = { λ c u. record c { last = u } };
+
+    ghost keeps_key1 = { Prim.search rules };
+
+    ghost keeps_key2 = { Prim.search rules };
+
+    ghost put_shows = { Prim.search rules };
+
+    fn data_mut(&mut self) -> &mut LastUse {
+        &mut self.last
+    }
+}
+
+/// Notes that a card was used, and says whether there is such a card.
+pub fn note_use(cards: &mut BiHashMap<Card>, number: u64, time: u64, door: u32) -> bool
+    ensures noted { result ≡ true → (c : Card) × IsOnly (λ c. number == c.number) (bag cards.old) (Some c)
+        × IsPermutation (bag cards.new) (swap ⟦<Card as Ranked>⟧.ranks (bag cards.old) c
+        (record c { last = record { time = time; door = door } })) }
+    ensures absent { result ≡ false → cards.new ≡ cards.old }
+{
+    cards.update1(&number, |_card| LastUse { time, door })
+}
+
+/// Forgets at which doors the cards were used, but not when.
+pub fn forget_doors(cards: &mut BiHashMap<Card>)
+    ensures { IsPermutation (bag cards.new)
+        (map (λ (c : Card). record c { last = record { time = c.last.time; door = 0 } }) (bag cards.old)) }
+{
+    cards.update_all(|card| LastUse {
+        time: card.last.time,
+        door: 0,
+    });
+}

@@ -1,0 +1,14 @@
+-- What a refusal for memory says.
+use Rattle.std.specs.Prelude.{◌≡◌, ℕ, List}
+use Rattle.std.proofs.Common.{sym, ap, subst, ◌∙◌}
+use Rattle.iddqd_bi.specs.Refused.{MatchRefusal, refusal_item}
+use Rattle.iddqd_bi.specs.declared.map.slots.Refusal.{Refusal}
+use Rattle.iddqd_bi.specs.declared.map.slots.Refusal.TheVariants.{Memory}
+
+-- of a refusal for memory, the reason and the item
+module _ {T : Type 0} (r : Refusal T) (x : T) (is : r ≡ Memory x) where
+  pub memory_reason : (P : List ℕ → Type 0) (Q : Type 0) → MatchRefusal r P Q → Q
+  memory_reason P Q reason = subst (λ s. MatchRefusal s P Q) is reason
+
+  pub memory_item : (y : T) → refusal_item r ≡ y → x ≡ y
+  memory_item y item = sym (ap refusal_item is) ∙ item

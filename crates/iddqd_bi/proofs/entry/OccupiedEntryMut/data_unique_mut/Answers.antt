@@ -1,0 +1,22 @@
+use Rattle.std.proofs.Common.{rules, ◌≡◌, [], ◌∷◌, map, subst, sym}
+use Rattle.std.specs.Option.{IfSome, option_and_then, option_copied_mut, option_to_list}
+use Rattle.iddqd_store.specs.Slots.{IsLive, get}
+use Rattle.iddqd_store.specs.Slots.Found.{found_by_all, head_of}
+use Rattle.iddqd_store.proofs.MapLemmas.Updating.{held_data, held_live}
+use Rattle.iddqd_bi.proofs.entry.OccupiedEntryMut.data_unique_mut.Goals as goal
+
+pub returns : goal.returns
+returns g c =
+    let m = c.args.self.now.map.now in
+    let slot = head_of (found_by_all (c.args.self.now.slot1 ∷ c.args.self.now.slot2 ∷ [])) in
+    let same = c.one_of-slot.ensures in
+    let live : IfSome slot (IsLive m.slots) = search rules in
+    let part = g.T.BiHashItemMut.payload in (
+      search rules,
+      record {
+        lends = tt;
+        value = subst (λ s. option_to_list (option_copied_mut c.data_of.result) ≡ map part (option_to_list (option_and_then (get m.slots) s))) same (held_data part m.slots c.one_of-slot.result c.data_of.result (subst (λ s. IfSome s (IsLive m.slots)) (sym same) live) c.data_of.ensures.some c.data_of.ensures.value);
+        swaps = rw same at c.data_of.ensures.swaps;
+        holds = λ f. record { live1 = held_live f m slot c.args.self.now.slot1 c.requires.live1; live2 = held_live f m slot c.args.self.now.slot2 c.requires.live2 };
+      },
+    )

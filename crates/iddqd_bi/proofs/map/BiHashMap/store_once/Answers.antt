@@ -1,0 +1,7 @@
+use Rattle.std.proofs.Common.{refl}
+use Rattle.iddqd_bi.proofs.map.BiHashMap.store_once.Goals as goal
+
+pub returns : goal.returns
+returns g c = record {
+  stored = (c.item_at.result.now, c.f-d.result, c.item_at.ensures, (c.item_at.result, c.f-d.ensures, refl), refl, c.data_mut_at.ensures.swaps _ _ c.item_at.ensures);
+}

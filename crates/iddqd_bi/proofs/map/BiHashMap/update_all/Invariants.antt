@@ -1,0 +1,16 @@
+use Rattle.std.proofs.Common.{◌≡◌, drop, length}
+use Rattle.std.specs.Fn.{CalledAt}
+use Rattle.iddqd_store.specs.Slots.{items_in}
+use Rattle.iddqd_store.proofs.MapLemmas.Updating.{Completes}
+use Rattle.iddqd_bi.proofs.map.BiHashMap.update_all.Given as goal
+
+abbrev pub invariant-loop-ix : goal.invariant-loop-ix
+invariant-loop-ix g l = record {
+  completes : Completes (CalledAt g.F.FnMut) g.T.BiHashItemMut.put l.fn.f (items_in l.fn.self.slots) l.f l.self l.from;
+  callable : goal.F-IsAlwaysCallable g l.f;
+  capacity : l.self.capacity ≡ l.fn.self.capacity;
+  builder : l.self.builder ≡ l.fn.self.builder;
+}
+
+abbrev pub decreases-loop-ix : goal.decreases-loop-ix
+decreases-loop-ix g l = length (items_in (drop l.from l.self.slots))

@@ -1,0 +1,115 @@
+//! Writing by a function, which is called at items and answers their data.
+ghost use Rattle.std.specs.Prelude.{◌≡◌, Some, true, false};
+ghost use Rattle.std.specs.Fn.{CalledAt, FnOnceReturnsAt, FnOnceTakesAt};
+ghost use Rattle.std.specs.List.{list_any};
+ghost use Rattle.iddqd_store.specs.Bag.{IsOnly};
+ghost use Rattle.iddqd_store.specs.Bag.Storing.{StoresInAll, StoresOne};
+ghost use Rattle.iddqd_store.specs.Map.{bag};
+ghost use Rattle.iddqd_bi.specs.Keys.{has1, has2, has_both};
+
+use super::BiHashMap;
+use crate::item::{BiHashItemMut, Ranked};
+use iddqd_store::Query;
+use std::hash::{BuildHasher, Hash};
+
+impl<T: BiHashItemMut, S: BuildHasher> BiHashMap<T, S> {
+    /// Stores what `f` answers at the item with the first key that the query stands for as its data, and says whether
+    /// there is one. Else `f` is not called, and nothing changes. It takes no memory, and costs what `get1` does.
+    ///
+    /// `map.update1("main", |symbol| symbol.address + 16)`
+    pub fn update1<Q: Query<T::K1>, F: FnOnce(&T) -> T::Data>(&mut self, query: Q, f: F) -> bool
+    where
+        T::Data: Drop,
+        F: Drop,
+        requires { (x : T) → IsOnly (has1 T.BiHashItem Q.stands_for query) (bag self.old) (Some x)
+            → FnOnceTakesAt F.FnOnce f x }
+        ensures found { result ≡ list_any (has1 T.BiHashItem Q.stands_for query) (bag self.old) }
+        ensures stores { result ≡ true → StoresOne (FnOnceReturnsAt F.FnOnce f) T.put ⟦<T as Ranked>⟧.ranks
+            (has1 T.BiHashItem Q.stands_for query) (bag self.old) (bag self.new) }
+        ensures absent { result ≡ false → self.new ≡ self.old }
+        ensures capacity { self.new.capacity ≡ self.old.capacity }
+        ensures builder { self.new.builder ≡ self.old.builder }
+    {
+        match self.by_key1().slot_of(query) {
+            Some(ix) => {
+                self.store_once(ix, f);
+                true
+            }
+            None => false,
+        }
+    }
+
+    /// Stores what `f` answers at the item with the second key that the query stands for as its data, and says whether
+    /// there is one. Else `f` is not called, and nothing changes. It takes no memory, and costs what `get2` does.
+    pub fn update2<Q: Query<T::K2>, F: FnOnce(&T) -> T::Data>(&mut self, query: Q, f: F) -> bool
+    where
+        T::Data: Drop,
+        F: Drop,
+        requires { (x : T) → IsOnly (has2 T.BiHashItem Q.stands_for query) (bag self.old) (Some x)
+            → FnOnceTakesAt F.FnOnce f x }
+        ensures found { result ≡ list_any (has2 T.BiHashItem Q.stands_for query) (bag self.old) }
+        ensures stores { result ≡ true → StoresOne (FnOnceReturnsAt F.FnOnce f) T.put ⟦<T as Ranked>⟧.ranks
+            (has2 T.BiHashItem Q.stands_for query) (bag self.old) (bag self.new) }
+        ensures absent { result ≡ false → self.new ≡ self.old }
+        ensures capacity { self.new.capacity ≡ self.old.capacity }
+        ensures builder { self.new.builder ≡ self.old.builder }
+    {
+        match self.by_key2().slot_of(query) {
+            Some(ix) => {
+                self.store_once(ix, f);
+                true
+            }
+            None => false,
+        }
+    }
+
+    /// Stores what `f` answers at the item that has both keys that the queries stand for as its data, and says whether
+    /// there is one. Else `f` is not called, and nothing changes. It takes no memory, and costs what `get_unique` does.
+    pub fn update_unique<Q1: Query<T::K1>, Q2: Query<T::K2>, F: FnOnce(&T) -> T::Data>(
+        &mut self,
+        query1: Q1,
+        query2: Q2,
+        f: F,
+    ) -> bool
+    where
+        T::Data: Drop,
+        F: Drop,
+        requires { (x : T) → IsOnly (has_both T.BiHashItem Q1.stands_for Q2.stands_for query1 query2)
+            (bag self.old) (Some x) → FnOnceTakesAt F.FnOnce f x }
+        ensures found { result
+            ≡ list_any (has_both T.BiHashItem Q1.stands_for Q2.stands_for query1 query2) (bag self.old) }
+        ensures stores { result ≡ true → StoresOne (FnOnceReturnsAt F.FnOnce f) T.put ⟦<T as Ranked>⟧.ranks
+            (has_both T.BiHashItem Q1.stands_for Q2.stands_for query1 query2) (bag self.old) (bag self.new) }
+        ensures absent { result ≡ false → self.new ≡ self.old }
+        ensures capacity { self.new.capacity ≡ self.old.capacity }
+        ensures builder { self.new.builder ≡ self.old.builder }
+    {
+        match self.slot_of_both(query1, query2) {
+            Some(ix) => {
+                self.store_once(ix, f);
+                true
+            }
+            None => false,
+        }
+    }
+
+    /// Stores what `f` answers at each item as its data. `f` is called once for each item, in no promised order.
+    ///
+    /// It takes no memory, and compares and hashes no key.
+    ///
+    /// `map.update_all(|session| session.seen.wrapping_add(1))`
+    pub fn update_all<F: FnMut(&T) -> T::Data>(&mut self, mut f: F)
+    where
+        T::Data: Drop,
+        requires { F.IsAlwaysCallable f }
+        ensures stores { StoresInAll (CalledAt F.FnMut) T.put f (bag self.old) (bag self.new) }
+        ensures capacity { self.new.capacity ≡ self.old.capacity }
+        ensures builder { self.new.builder ≡ self.old.builder }
+    {
+        let mut from = 0;
+        while let Some(ix) = self.slot_from(from) {
+            from = ix.number() + 1;
+            self.store_at(ix, &mut f);
+        }
+    }
+}

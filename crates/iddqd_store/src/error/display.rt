@@ -1,0 +1,99 @@
+//! What the errors that hold no map print, so that `?` goes into `anyhow::Error`. Nothing is asked of the items but `Drop`.
+use super::{
+    DuplicateItem, ExtendUniqueError, ExtendUniqueReason, FromIterError, InsertReason,
+    MemoryRefused, TryReserveError,
+};
+use std::error::Error;
+use std::fmt::{self, Debug, Display, Formatter, Write};
+
+impl Display for TryReserveError {
+    fn fmt<W: Write>(&self, f: &mut Formatter<W>) -> fmt::Result {
+        f.write_str("out of memory: the map did not grow")
+    }
+}
+
+impl Error for TryReserveError {}
+
+impl<T> Debug for MemoryRefused<T> {
+    fn fmt<W: Write>(&self, f: &mut Formatter<W>) -> fmt::Result {
+        f.debug_struct("MemoryRefused").finish_non_exhaustive()
+    }
+}
+
+impl<T> Display for MemoryRefused<T> {
+    fn fmt<W: Write>(&self, f: &mut Formatter<W>) -> fmt::Result {
+        f.write_str("out of memory: the item was not put in")
+    }
+}
+
+impl<T: Drop> Error for MemoryRefused<T> {}
+
+impl Display for InsertReason {
+    fn fmt<W: Write>(&self, f: &mut Formatter<W>) -> fmt::Result {
+        match self {
+            InsertReason::Duplicate => f.write_str("an item with an equal key is there already"),
+            InsertReason::Memory => f.write_str("out of memory: the item was not put in"),
+        }
+    }
+}
+
+impl<T, L> Debug for FromIterError<T, L> {
+    fn fmt<W: Write>(&self, f: &mut Formatter<W>) -> fmt::Result {
+        match self {
+            FromIterError::Duplicate(duplicate) => f
+                .debug_tuple("Duplicate")
+                .field(duplicate)
+                .finish(),
+            FromIterError::Memory(_item) => f.debug_struct("Memory").finish_non_exhaustive(),
+        }
+    }
+}
+
+impl<T, L> Display for FromIterError<T, L> {
+    fn fmt<W: Write>(&self, f: &mut Formatter<W>) -> fmt::Result {
+        match self {
+            FromIterError::Duplicate(duplicate) => Display::fmt(duplicate, f),
+            FromIterError::Memory(_item) => f.write_str("out of memory: the map was not built"),
+        }
+    }
+}
+
+impl<T: Drop, L: Drop> Error for FromIterError<T, L> {}
+
+impl<T> Debug for ExtendUniqueError<T> {
+    fn fmt<W: Write>(&self, f: &mut Formatter<W>) -> fmt::Result {
+        f.debug_struct("ExtendUniqueError")
+            .field("reason", &self.reason)
+            .field("taken", &self.taken.len())
+            .finish_non_exhaustive()
+    }
+}
+
+impl<T> Display for ExtendUniqueError<T> {
+    fn fmt<W: Write>(&self, f: &mut Formatter<W>) -> fmt::Result {
+        let at = self.taken.len();
+        match self.reason {
+            ExtendUniqueReason::Conflict => write!(
+                f,
+                "item {at} has a key that another one has: none was put in"
+            ),
+            ExtendUniqueReason::Memory => write!(f, "out of memory at item {at}: none was put in"),
+        }
+    }
+}
+
+impl<T: Drop> Error for ExtendUniqueError<T> {}
+
+impl<T, L> Debug for DuplicateItem<T, L> {
+    fn fmt<W: Write>(&self, f: &mut Formatter<W>) -> fmt::Result {
+        f.debug_struct("DuplicateItem").finish_non_exhaustive()
+    }
+}
+
+impl<T, L> Display for DuplicateItem<T, L> {
+    fn fmt<W: Write>(&self, f: &mut Formatter<W>) -> fmt::Result {
+        f.write_str("an item has a key that another one has")
+    }
+}
+
+impl<T: Drop, L: Drop> Error for DuplicateItem<T, L> {}

@@ -1,0 +1,40 @@
+//! What a look-up takes.
+ghost use Rattle.std.specs.Prelude.{◌≡◌, Bool, true};
+
+use crate::equivalent::Equivalent;
+use std::hash::Hash;
+
+mod pair;
+mod slices;
+mod texts;
+
+/// What a look-up takes by value: a reference to a key or to any `Equivalent` of it, a lent text or slice, or a pair of
+/// queries for a pair of keys. So `get1(&7)`, `get1(&name)`, `get1("main")` and `get2((section, &offset))` all work.
+///
+/// A query type of one's own implements `Equivalent`, and is passed by reference.
+pub trait Query<K: Eq + Hash>: Copy + Hash {
+    // What `stands_for` answers.
+    ghost stands_for: { Self → K → Bool };
+
+    /// Whether this stands for the key.
+    fn stands_for(&self, key: &K) -> bool
+        ensures { result ≡ stands_for self.now key.now };
+
+    // A query is hashed as the keys that it stands for.
+    ghost respects_hash: { (q : Self) (k : K) → stands_for q k ≡ true → Self.hash_input q ≡ K.hash_input k };
+
+    // A query that stands for a key stands for the keys that are equal to it, and for no other.
+    ghost respects_eq: { (q : Self) (x y : K) → stands_for q x ≡ true → stands_for q y ≡ K.eq x y };
+}
+
+impl<K: Eq + Hash, Q: Equivalent<K>> Query<K> for &Q {
+    ghost stands_for = { λ q. Q.equivalent q.now };
+
+    ghost respects_hash = { λ q. Q.respects_hash q.now };
+
+    ghost respects_eq = { λ q. Q.Equivalent.respects_eq q.now };
+
+    fn stands_for(&self, key: &K) -> bool {
+        (**self).equivalent(key)
+    }
+}

@@ -1,0 +1,155 @@
+//! What maps, short lists and errors print, and `?` into an error of any kind.
+use crate::row::{Row, row_of};
+use crate::worked::two;
+use iddqd_bi::{
+    BiHashMap, DefaultHashBuilder, DuplicateItem, Entry, EntryError, ExtendUniqueError,
+    ExtendUniqueReason, FromIterError, InsertError, KeyMismatch, MemoryRefused, TryReserveError,
+};
+use std::alloc::Global;
+use std::fmt::{Debug, Display};
+use std::test::*;
+
+/// Whether a value prints this for a reader, and this for a developer.
+fn prints<T: Debug + Display>(alloc: Global, value: &T, told: &str, shown: &str) -> bool {
+    match format!(in alloc; "{value}|{value:?}") {
+        Ok(text) => match text.as_str().split_once("|") {
+            Some((to_reader, to_developer)) => to_reader == told && to_developer == shown,
+            None => false,
+        },
+        Err(_) => false,
+    }
+}
+
+/// Whether a value prints this for a developer.
+fn shows<T: Debug>(alloc: Global, value: &T, shown: &str) -> bool {
+    match format!(in alloc; "{value:?}") {
+        Ok(text) => text.as_str() == shown,
+        Err(_) => false,
+    }
+}
+
+/// The text of a conflict.
+const TAKEN: &str = "an item with an equal key is there already";
+
+/// Whether what an insert refuses prints so, and its list.
+fn refusal_prints(alloc: Global, map: &mut BiHashMap<Row>) -> bool {
+    match map.insert_unique(row_of(1, 20, 0)) {
+        Ok(()) => false,
+        Err(refusal) => {
+            prints(
+                alloc,
+                &refusal,
+                TAKEN,
+                "InsertError { reason: Duplicate, .. }",
+            ) && shows(
+                alloc,
+                &refusal.duplicates(),
+                "[Row { key1: 1, key2: 10, value: 100 }, Row { key1: 2, key2: 20, value: 200 }]",
+            )
+        }
+    }
+}
+
+/// Whether what an entry refuses prints so.
+fn entry_prints(alloc: Global, map: &mut BiHashMap<Row>) -> bool {
+    match map.entry(&3, &30).or_insert(row_of(3, 31, 0)) {
+        Ok(_held) => false,
+        Err(refusal) => prints(
+            alloc,
+            &refusal,
+            "the second key is not the entry's",
+            "EntryRefusal { error: Key2 { .. }, .. }",
+        ),
+    }
+}
+
+#[test]
+fn a_map_and_what_holds_it_print(rt: HostRuntime) {
+    let alloc = rt.alloc();
+    let mut map = two(&rt, alloc, DefaultHashBuilder::default());
+    assert!(rt; refusal_prints(alloc, &mut map));
+    assert!(rt; entry_prints(alloc, &mut map));
+    assert!(rt;
+        shows(
+            alloc,
+            &map,
+            "{Row { key1: 1, key2: 10, value: 100 }, Row { key1: 2, key2: 20, value: 200 }}"
+        )
+    );
+}
+
+/// Makes room, and says by an error of any kind where it can't.
+fn grow(map: &mut BiHashMap<Row>, more: usize) -> anyhow::Result<()> {
+    map.reserve(more)?;
+    Ok(())
+}
+
+/// Whether errors that tell of memory print so.
+fn memory_prints(alloc: Global) -> bool {
+    let row = row_of(1, 10, 100);
+    let refused = MemoryRefused { value: row };
+    let entry = EntryError::Memory(row);
+    let built: FromIterError<Row> = FromIterError::Memory(row);
+    prints(
+        alloc,
+        &TryReserveError,
+        "out of memory: the map did not grow",
+        "TryReserveError",
+    ) && prints(
+        alloc,
+        &refused,
+        "out of memory: the item was not put in",
+        "MemoryRefused { .. }",
+    ) && prints(
+        alloc,
+        &entry,
+        "out of memory: the item was not put in",
+        "Memory { .. }",
+    ) && prints(
+        alloc,
+        &built,
+        "out of memory: the map was not built",
+        "Memory { .. }",
+    )
+}
+
+/// Whether errors that tell of keys print so.
+fn keys_print(alloc: Global) -> bool {
+    let row = row_of(1, 10, 100);
+    prints(
+        alloc,
+        &KeyMismatch::Key1(row),
+        "the first key is another one",
+        "Key1 { .. }",
+    ) && prints(
+        alloc,
+        &DuplicateItem::new(row, row),
+        "an item has a key that another one has",
+        "DuplicateItem { .. }",
+    )
+}
+
+/// Whether the refusal of a list prints so.
+fn list_prints(alloc: Global) -> bool {
+    let error = ExtendUniqueError {
+        taken: Vec::new(alloc),
+        value: row_of(1, 10, 100),
+        reason: ExtendUniqueReason::Conflict,
+    };
+    prints(
+        alloc,
+        &error,
+        "item 0 has a key that another one has: none was put in",
+        "ExtendUniqueError { reason: Conflict, taken: 0, .. }",
+    )
+}
+
+#[test]
+fn errors_print_and_are_errors_of_any_kind(rt: HostRuntime) {
+    let alloc = rt.alloc();
+    assert!(rt; memory_prints(alloc));
+    assert!(rt; keys_print(alloc));
+    assert!(rt; list_prints(alloc));
+    let mut map = BiHashMap::new(alloc);
+    assert!(rt; grow(&mut map, 1).is_ok() && grow(&mut map, usize::MAX).is_err());
+}

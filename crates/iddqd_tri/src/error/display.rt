@@ -1,0 +1,82 @@
+//! What the errors print. Nothing is asked of the items but `Drop`.
+use super::{EntryError, EntryRefusal, InsertError, KeyMismatch};
+use crate::item::{Ranked, TriHashItem};
+use std::error::Error;
+use std::fmt::{self, Debug, Display, Formatter, Write};
+use std::hash::{BuildHasher, Hash};
+
+impl<T> Debug for KeyMismatch<T> {
+    fn fmt<W: Write>(&self, f: &mut Formatter<W>) -> fmt::Result {
+        let name = match self {
+            KeyMismatch::Key1(_item) => "Key1",
+            KeyMismatch::Key2(_item) => "Key2",
+            KeyMismatch::Key3(_item) => "Key3",
+        };
+        f.debug_struct(name).finish_non_exhaustive()
+    }
+}
+
+impl<T> Display for KeyMismatch<T> {
+    fn fmt<W: Write>(&self, f: &mut Formatter<W>) -> fmt::Result {
+        f.write_str(match self {
+            KeyMismatch::Key1(_item) => "the first key is another one",
+            KeyMismatch::Key2(_item) => "the second key is another one",
+            KeyMismatch::Key3(_item) => "the third key is another one",
+        })
+    }
+}
+
+impl<T: Drop> Error for KeyMismatch<T> {}
+
+impl<T> Debug for EntryError<T> {
+    fn fmt<W: Write>(&self, f: &mut Formatter<W>) -> fmt::Result {
+        let name = match self {
+            EntryError::Key1(_item) => "Key1",
+            EntryError::Key2(_item) => "Key2",
+            EntryError::Key3(_item) => "Key3",
+            EntryError::Memory(_item) => "Memory",
+        };
+        f.debug_struct(name).finish_non_exhaustive()
+    }
+}
+
+impl<T> Display for EntryError<T> {
+    fn fmt<W: Write>(&self, f: &mut Formatter<W>) -> fmt::Result {
+        f.write_str(match self {
+            EntryError::Key1(_item) => "the first key is not the entry's",
+            EntryError::Key2(_item) => "the second key is not the entry's",
+            EntryError::Key3(_item) => "the third key is not the entry's",
+            EntryError::Memory(_item) => "out of memory: the item was not put in",
+        })
+    }
+}
+
+impl<T: Drop> Error for EntryError<T> {}
+
+impl<T: Ranked, S: BuildHasher> Debug for InsertError<'_, T, S> {
+    fn fmt<W: Write>(&self, f: &mut Formatter<W>) -> fmt::Result {
+        f.debug_struct("InsertError")
+            .field("reason", &self.reason())
+            .finish_non_exhaustive()
+    }
+}
+
+impl<T: Ranked, S: BuildHasher> Display for InsertError<'_, T, S> {
+    fn fmt<W: Write>(&self, f: &mut Formatter<W>) -> fmt::Result {
+        Display::fmt(&self.reason(), f)
+    }
+}
+
+impl<T: TriHashItem, S: BuildHasher> Debug for EntryRefusal<'_, T, S> {
+    fn fmt<W: Write>(&self, f: &mut Formatter<W>) -> fmt::Result {
+        f.debug_struct("EntryRefusal")
+            .field("error", &self.error)
+            .finish_non_exhaustive()
+    }
+}
+
+impl<T: TriHashItem, S: BuildHasher> Display for EntryRefusal<'_, T, S> {
+    fn fmt<W: Write>(&self, f: &mut Formatter<W>) -> fmt::Result {
+        Display::fmt(&self.error, f)
+    }
+}

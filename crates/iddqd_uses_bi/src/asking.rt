@@ -1,0 +1,129 @@
+//! Look-ups and removals by what is lent, and by any query.
+ghost use Rattle.std.specs.Prelude.{◌≡◌, ◌&&◌, ◌∷◌, [], nat_eq, string_bytes, IsPermutation, IfSome, IfNone, None, option_copied};
+ghost use Rattle.std.specs.Cmp.Lexicographic.{pointwise};
+ghost use Rattle.std.specs.Cmp.Rules.{comparing};
+ghost use Rattle.std.specs.List.{list_any};
+ghost use Rattle.std.proofs.Common.{rules};
+ghost use Rattle.iddqd_bi.specs.Bag.{IsOnly};
+ghost use Rattle.iddqd_bi.specs.Map.{bag};
+
+use iddqd_bi::{BiHashItem, BiHashItemMut, BiHashMap, Query};
+use std::hash::{BuildHasher, Hash};
+
+/// A symbol, known by its name and by where it lies: in which section, and how far from its start.
+#[derive(Drop)]
+pub struct Symbol {
+    pub name: String,
+    pub place: (String, u32),
+    pub size: u64,
+}
+
+impl BiHashItem for Symbol {
+    type K1 = String;
+
+    type K2 = (String, u32);
+
+    ghost key1 = { λ s. s.name };
+
+    ghost key2 = { λ s. s.place };
+
+    fn key1(&self) -> &String {
+        &self.name
+    }
+
+    fn key2(&self) -> &(String, u32) {
+        &self.place
+    }
+}
+
+impl BiHashItemMut for Symbol {
+    type Data = u64;
+
+    ghost payload = { λ s. s.size };
+
+    ghost put = { λ s n. record s { size = n } };
+
+    ghost keeps_key1 = { Prim.search (comparing, rules) };
+
+    ghost keeps_key2 = { Prim.search (comparing, rules) };
+
+    ghost put_shows = { Prim.search rules };
+
+    fn data_mut(&mut self) -> &mut u64 {
+        &mut self.size
+    }
+}
+
+/// The symbol of a lent name.
+pub fn resolve<'s>(symbols: &'s BiHashMap<Symbol>, name: &str) -> Option<&'s Symbol>
+    ensures { IsOnly (λ s. pointwise nat_eq name.now (string_bytes s.name)) (bag symbols.now) (option_copied result) }
+{
+    symbols.get1(name)
+}
+
+/// Where a program begins.
+pub fn entry_point(symbols: &BiHashMap<Symbol>) -> Option<&Symbol>
+    ensures { IsOnly (λ s. pointwise nat_eq (109 ∷ 97 ∷ 105 ∷ 110 ∷ []) (string_bytes s.name)) (bag symbols.now) (option_copied result) }
+{
+    symbols.get1("main")
+}
+
+/// Whether a symbol lies there, asked by a lent name and a number.
+pub fn is_at(symbols: &BiHashMap<Symbol>, section: &str, offset: u32) -> bool
+    ensures { result ≡ list_any (λ s. pointwise nat_eq section.now (string_bytes s.place.0) && nat_eq offset s.place.1)
+        (bag symbols.now) }
+{
+    symbols.contains_key2((section, &offset))
+}
+
+/// Takes the symbol of a lent name out.
+pub fn undefine(symbols: &mut BiHashMap<Symbol>, name: &str) -> Option<Symbol>
+    ensures it { IsOnly (λ s. pointwise nat_eq name.now (string_bytes s.name)) (bag symbols.old) result }
+    ensures gone { IfSome result (λ s. IsPermutation (bag symbols.old) (s ∷ bag symbols.new)) }
+    ensures absent { IfNone result (symbols.new ≡ symbols.old) }
+{
+    symbols.remove1(name)
+}
+
+/// Writes the size of the symbol of a lent name, if there is one, through a guard.
+pub fn resize(symbols: &mut BiHashMap<Symbol>, name: &str, size: u64)
+    ensures absent { IsOnly (λ s. pointwise nat_eq name.now (string_bytes s.name)) (bag symbols.old) None
+        → symbols.new ≡ symbols.old }
+    ensures capacity { symbols.new.capacity ≡ symbols.old.capacity }
+{
+    if let Some(mut symbol) = symbols.get1_mut(name) {
+        *symbol.data_mut() = size;
+    }
+}
+
+/// The item with a key.
+pub fn by_key<'m, T: BiHashItem, S: BuildHasher>(
+    map: &'m BiHashMap<T, S>,
+    key: &T::K1,
+) -> Option<&'m T>
+    ensures { IsOnly (λ x. T.K1.eq key.now (T.key1 x)) (bag map.now) (option_copied result) }
+{
+    map.get1(key)
+}
+
+/// The item with the key that a query stands for.
+pub fn by_query<'m, T: BiHashItem, S: BuildHasher, Q: Query<T::K1>>(
+    map: &'m BiHashMap<T, S>,
+    query: Q,
+) -> Option<&'m T>
+    ensures { IsOnly (λ x. Q.stands_for query (T.key1 x)) (bag map.now) (option_copied result) }
+{
+    map.get1(query)
+}
+
+/// Takes out the item with the key that a query stands for.
+pub fn take_by_query<T: BiHashItem, S: BuildHasher, Q: Query<T::K1>>(
+    map: &mut BiHashMap<T, S>,
+    query: Q,
+) -> Option<T>
+    ensures it { IsOnly (λ x. Q.stands_for query (T.key1 x)) (bag map.old) result }
+    ensures gone { IfSome result (λ x. IsPermutation (bag map.old) (x ∷ bag map.new)) }
+    ensures absent { IfNone result (map.new ≡ map.old) }
+{
+    map.remove1(query)
+}

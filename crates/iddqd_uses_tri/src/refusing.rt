@@ -1,0 +1,113 @@
+//! What a caller makes of a refused insert.
+ghost use Rattle.std.specs.Prelude.{◌≡◌, ◌≢◌, ◌∷◌, ◌<◌, [], true, false, length, IsOk, IsPermutation, OnOk, OnErr, IfErr};
+ghost use Rattle.std.specs.Bool.{OnTrue, OnFalse};
+ghost use Rattle.iddqd_tri.specs.Bag.{clash, order};
+ghost use Rattle.iddqd_tri.specs.Map.{IsFullFor, bag};
+
+use iddqd_tri::{InsertError, InsertReason, Ranked, TriHashMap};
+use std::hash::{BuildHasher, Hash};
+
+/// An item that was not added, and why.
+#[derive(Drop)]
+pub struct NotAdded<T> {
+    pub item: T,
+    pub reason: InsertReason,
+}
+
+/// So that `map_err` and `?` take a refusal.
+impl<T: Ranked, S: BuildHasher> From<InsertError<'_, T, S>> for NotAdded<T> {
+    ghost from_gives = { λ refusal e. e.item ≡ refusal.item };
+
+    fn from(refusal: InsertError<'_, T, S>) -> NotAdded<T> {
+        let reason = refusal.reason();
+        NotAdded {
+            item: refusal.into_item(),
+            reason,
+        }
+    }
+}
+
+/// Adds an item, or says why not.
+pub fn add<T: Ranked, S: BuildHasher>(
+    map: &mut TriHashMap<T, S>,
+    item: T,
+) -> Result<(), NotAdded<T>>
+    ensures went_in { OnOk result (IsPermutation (bag map.new) (item ∷ bag map.old)) }
+    ensures taken { IfErr result (λ e. e.reason ≡ InsertReason.Duplicate → clash T.ranks (bag map.old) item ≢ []) }
+    ensures full { IfErr result (λ e. e.reason ≡ InsertReason.Memory → IsFullFor T.ranks map.old item) }
+    ensures handed_back { IfErr result (λ e. e.item ≡ item) }
+    ensures unchanged { OnErr result (map.new ≡ map.old) }
+{
+    match map.insert_unique(item) {
+        Ok(()) => Ok(()),
+        Err(refusal) => {
+            let reason = refusal.reason();
+            Err(NotAdded {
+                item: refusal.into_item(),
+                reason,
+            })
+        }
+    }
+}
+
+/// The same by `From`, which tells the item alone: of the map nothing is known then.
+pub fn add_by_from<T: Ranked, S: BuildHasher>(
+    map: &mut TriHashMap<T, S>,
+    item: T,
+) -> Result<(), NotAdded<T>>
+    ensures { IfErr result (λ e. e.item ≡ item) }
+{
+    match map.insert_unique(item) {
+        Ok(()) => Ok(()),
+        Err(refusal) => Err(NotAdded::from(refusal)),
+    }
+}
+
+/// The same by `map_err` and `?`.
+pub fn add_by_map_err<T: Ranked, S: BuildHasher>(
+    map: &mut TriHashMap<T, S>,
+    item: T,
+) -> Result<(), NotAdded<T>>
+    ensures { IfErr result (λ e. e.item ≡ item) }
+{
+    map.insert_unique(item).map_err(NotAdded::from)?;
+    Ok(())
+}
+
+/// Whether an item went in. Refused, it is dropped.
+pub fn is_added<T: Ranked + Drop, S: BuildHasher>(map: &mut TriHashMap<T, S>, item: T) -> bool
+    ensures went_in { OnTrue result (IsPermutation (bag map.new) (item ∷ bag map.old)) }
+    ensures unchanged { OnFalse result (map.new ≡ map.old) }
+{
+    map.insert_unique(item).is_ok()
+}
+
+/// How many items there are once one was added or refused: the map is used behind the `match`.
+pub fn add_and_count<T: Ranked + Drop, S: BuildHasher>(map: &mut TriHashMap<T, S>, item: T) -> usize
+    ensures { result ≡ length (bag map.new) }
+{
+    match map.insert_unique(item) {
+        Ok(()) => {}
+        Err(refusal) => drop(refusal),
+    }
+    map.len()
+}
+
+/// The refused item, and how many items of the map conflict with it: the refusal is kept while they are read.
+pub fn add_or_count<T: Ranked + Drop, S: BuildHasher>(
+    map: &mut TriHashMap<T, S>,
+    item: T,
+) -> Result<(), (T, usize)>
+    ensures went_in { OnOk result (IsPermutation (bag map.new) (item ∷ bag map.old)) }
+    ensures count { IfErr result (λ e. e.1 ≡ length (order T.ranks (bag map.old) item)) }
+    ensures back { IfErr result (λ e. e.0 ≡ item) }
+    ensures unchanged { OnErr result (map.new ≡ map.old) }
+{
+    match map.insert_unique(item) {
+        Ok(()) => Ok(()),
+        Err(refusal) => {
+            let count = refusal.duplicates().len();
+            Err((refusal.into_item(), count))
+        }
+    }
+}

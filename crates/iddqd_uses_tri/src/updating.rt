@@ -1,0 +1,101 @@
+//! Writing by functions.
+ghost use Rattle.std.specs.Prelude.{◌≡◌, ◌==◌, ◌<◌, ◌+◌, ◌^◌, true, false, map, Some, IsPermutation};
+ghost use Rattle.std.specs.List.{list_any};
+ghost use Rattle.std.proofs.Common.{rules};
+ghost use Rattle.iddqd_tri.specs.Bag.{IsOnly, swap};
+ghost use Rattle.iddqd_tri.specs.Keys.{has1};
+ghost use Rattle.iddqd_tri.specs.Map.{bag};
+
+use iddqd_tri::{Query, Ranked, TriHashItem, TriHashItemMut, TriHashMap};
+use std::hash::{BuildHasher, Hash};
+
+/// A file, known by its number, by its place and by its handle, and how often it was opened.
+#[derive(Drop)]
+pub struct File {
+    pub number: u64,
+    pub place: u64,
+    pub handle: u64,
+    pub opened: u64,
+}
+
+impl TriHashItem for File {
+    type K1 = u64;
+
+    type K2 = u64;
+
+    type K3 = u64;
+
+    ghost key1 = { λ f. f.number };
+
+    ghost key2 = { λ f. f.place };
+
+    ghost key3 = { λ f. f.handle };
+
+    fn key1(&self) -> &u64 {
+        &self.number
+    }
+
+    fn key2(&self) -> &u64 {
+        &self.place
+    }
+
+    fn key3(&self) -> &u64 {
+        &self.handle
+    }
+}
+
+impl TriHashItemMut for File {
+    type Data = u64;
+
+    ghost payload = { λ f. f.opened };
+
+    ghost put = { λ f n. record f { opened = n } };
+
+    ghost keeps_key1 = { Prim.search rules };
+
+    ghost keeps_key2 = { Prim.search rules };
+
+    ghost keeps_key3 = { Prim.search rules };
+
+    ghost put_shows = { Prim.search rules };
+
+    fn data_mut(&mut self) -> &mut u64 {
+        &mut self.opened
+    }
+}
+
+/// Counts the file of a number once more, where it was opened less often than the largest number says.
+pub fn note_opened(files: &mut TriHashMap<File>, number: u64) -> bool
+    requires { (f : File) → IsOnly (λ f. number == f.number) (bag files.old) (Some f) → f.opened + 1 < 2 ^ 64 }
+    ensures counted { result ≡ true → (f : File) × IsOnly (λ f. number == f.number) (bag files.old) (Some f)
+        × IsPermutation (bag files.new)
+        (swap ⟦<File as Ranked>⟧.ranks (bag files.old) f (record f { opened = f.opened + 1 })) }
+    ensures absent { result ≡ false → files.new ≡ files.old }
+{
+    files.update1(&number, |file| file.opened + 1)
+}
+
+/// Stores these data in every item.
+pub fn set_all<T: TriHashItemMut, S: BuildHasher>(items: &mut TriHashMap<T, S>, d: T::Data)
+where
+    T::Data: Drop + Copy,
+    ensures { IsPermutation (bag items.new) (map (λ x. T.put x d) (bag items.old)) }
+{
+    items.update_all(|_x| d);
+}
+
+/// Stores these data in the item that a query names.
+pub fn set1<T: TriHashItemMut, S: BuildHasher, Q: Query<T::K1>>(
+    items: &mut TriHashMap<T, S>,
+    query: Q,
+    d: T::Data,
+) -> bool
+where
+    T::Data: Drop,
+    ensures found { result ≡ list_any (has1 T.TriHashItem Q.stands_for query) (bag items.old) }
+    ensures present { result ≡ true → (x : T) × IsOnly (has1 T.TriHashItem Q.stands_for query) (bag items.old) (Some x)
+        × IsPermutation (bag items.new) (swap ⟦<T as Ranked>⟧.ranks (bag items.old) x (T.put x d)) }
+    ensures absent { result ≡ false → items.new ≡ items.old }
+{
+    items.update1(query, |_x| d)
+}

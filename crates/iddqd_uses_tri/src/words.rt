@@ -1,0 +1,69 @@
+//! Items with a key that is a reference: callers of `insert_unique` and of entries have no proof for them on this toolchain,
+//! and these have.
+ghost use Rattle.std.specs.Prelude.{◌≡◌, ◌∷◌, ◌<◌, [], nat_eq, length, IsOk, IsPermutation, OnOk, OnErr, IfSome, IfNone};
+ghost use Rattle.std.specs.Cmp.Lexicographic.{pointwise};
+ghost use Rattle.std.specs.List.{list_any};
+ghost use Rattle.iddqd_tri.specs.Bag.{IsOnly, clash};
+ghost use Rattle.iddqd_tri.specs.Map.{bag};
+
+use iddqd_tri::{Ranked, TriHashItem, TriHashMap};
+
+/// A word, known by its text, by its number and by its code.
+#[derive(Drop)]
+pub struct Word {
+    pub text: &'static str,
+    pub number: u64,
+    pub code: u64,
+}
+
+impl TriHashItem for Word {
+    type K1 = &'static str;
+
+    type K2 = u64;
+
+    type K3 = u64;
+
+    ghost key1 = { λ w. w.text };
+
+    ghost key2 = { λ w. w.number };
+
+    ghost key3 = { λ w. w.code };
+
+    fn key1(&self) -> &&'static str {
+        &self.text
+    }
+
+    fn key2(&self) -> &u64 {
+        &self.number
+    }
+
+    fn key3(&self) -> &u64 {
+        &self.code
+    }
+}
+
+/// Adds a word.
+pub fn add_word(words: &mut TriHashMap<Word>, word: Word) -> Result<(), Word>
+    ensures went_in { OnOk result (IsPermutation (bag words.new) (word ∷ bag words.old)) }
+    ensures granted { clash ⟦<Word as Ranked>⟧.ranks (bag words.old) word ≡ []
+        → length (bag words.old) < words.old.capacity → IsOk result }
+    ensures unchanged { OnErr result (words.new ≡ words.old) }
+{
+    words.insert_or_back(word)
+}
+
+/// Whether there is a word of a text, which may be lent for less long than the keys.
+pub fn has_word(words: &TriHashMap<Word>, text: &str) -> bool
+    ensures { result ≡ list_any (λ w. pointwise nat_eq text.now w.text.now) (bag words.now) }
+{
+    words.contains_key1(text)
+}
+
+/// Takes a word out.
+pub fn forget_word(words: &mut TriHashMap<Word>, text: &str) -> Option<Word>
+    ensures it { IsOnly (λ w. pointwise nat_eq text.now w.text.now) (bag words.old) result }
+    ensures gone { IfSome result (λ w. IsPermutation (bag words.old) (w ∷ bag words.new)) }
+    ensures absent { IfNone result (words.new ≡ words.old) }
+{
+    words.remove1(text)
+}
