@@ -84,7 +84,7 @@ module _ {T S K1 K2 H : Type 0} where
   abbrev pub held_entry : OccupiedEntryMut T S K1 K2 H → bags.Entry T
   held_entry m = entry_at m.map.now.slots (m.slot1 ∷ m.slot2 ∷ [])
 
-  -- the item with the first key, and that with the second
+  -- for each rank, the item with the key of that rank
   abbrev pub held1 : OccupiedEntryMut T S K1 K2 H → Option T
   held1 m = option_and_then (get m.map.now.slots) m.slot1
 
@@ -253,7 +253,7 @@ module _ (T S K1 K2 H : RattleType) (of : item.Ghosts T.Denot K1.Denot K2.Denot)
   abbrev held_row : RattleType
   held_row = occupied_mut_row (record { mir = named 1; lft = [] }) T S K1 K2 H of (record { eq = keys1.eq }) (record { hash_input = keys1.hash_input }) (record { eq = keys2.eq }) (record { hash_input = keys2.hash_input }) build hashes
 
-  -- the item with the first key has the last data written through r, that with the second, and the one that has both
+  -- the item with the key of this rank, or the one that has both, has the last data written through r
   abbrev pub lends_held1 : (D : RattleType) → (T.Denot → D.Denot → T.Denot) → MutBor (OccupiedEntryMut T.Denot S.Denot K1.Denot K2.Denot H.Denot) → Option (MutBor D.Denot) → Fml
   lends_held1 D put m r = LendsIf held_row D m r (λ d. held_with1 m.now (λ x. put x d)) m.now
 
@@ -263,7 +263,7 @@ module _ (T S K1 K2 H : RattleType) (of : item.Ghosts T.Denot K1.Denot K2.Denot)
   abbrev pub lends_held_unique : (D : RattleType) → (T.Denot → D.Denot → T.Denot) → MutBor (OccupiedEntryMut T.Denot S.Denot K1.Denot K2.Denot H.Denot) → Option (MutBor D.Denot) → Fml
   lends_held_unique D put m r = LendsIf held_row D m r (λ d. held_with_unique m.now (λ x. put x d)) m.now
 
-  -- the item with the first key has the last data written through r, and that with the second
+  -- the item with the key of this rank has the last data written through r
   abbrev pub lends_data1 : (D : RattleType) → (T.Denot → D.Denot → T.Denot) → MutBor (OccupiedEntry T.Denot S.Denot K1.Denot K2.Denot H.Denot) → Option (MutBor D.Denot) → Fml
   lends_data1 D put m r = LendsIf entry_row D m r (λ d. entry_with1 m.now (λ x. put x d)) m.now
 

@@ -6,16 +6,16 @@ use Rattle.iddqd_bi.specs.declared.entry.occupied_ref.OccupiedEntryRef.TheVarian
 module _ {T : Type 0} where
   abbrev pub is_one : OccupiedEntryRef T → Bool
   is_one (Unique x) = true
-  is_one (NonUnique x y) = false
+  is_one (NonUnique x1 x2) = false
 
   abbrev pub seen_unique : OccupiedEntryRef T → Option T
   seen_unique (Unique x) = Some x.now
-  seen_unique (NonUnique x y) = None
+  seen_unique (NonUnique x1 x2) = None
 
   abbrev pub seen1 : OccupiedEntryRef T → Option T
   seen1 (Unique x) = Some x.now
-  seen1 (NonUnique x y) = option_copied x
+  seen1 (NonUnique x1 x2) = option_copied x1
 
   abbrev pub seen2 : OccupiedEntryRef T → Option T
   seen2 (Unique x) = Some x.now
-  seen2 (NonUnique x y) = option_copied y
+  seen2 (NonUnique x1 x2) = option_copied x2

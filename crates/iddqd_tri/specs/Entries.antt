@@ -88,7 +88,7 @@ module _ {T S K1 K2 K3 H : Type 0} where
   abbrev pub held_entry : OccupiedEntryMut T S K1 K2 K3 H → bags.Entry T
   held_entry m = entry_at m.map.now.slots (m.slot1 ∷ m.slot2 ∷ m.slot3 ∷ [])
 
-  -- the item with the first key, that with the second and that with the third
+  -- for each rank, the item with the key of that rank
   abbrev pub held1 : OccupiedEntryMut T S K1 K2 K3 H → Option T
   held1 m = option_and_then (get m.map.now.slots) m.slot1
 
@@ -273,7 +273,7 @@ module _ (T S K1 K2 K3 H : RattleType) (of : item.Ghosts T.Denot K1.Denot K2.Den
   abbrev held_row : RattleType
   held_row = occupied_mut_row (record { mir = named 1; lft = [] }) T S K1 K2 K3 H of (record { eq = keys1.eq }) (record { hash_input = keys1.hash_input }) (record { eq = keys2.eq }) (record { hash_input = keys2.hash_input }) (record { eq = keys3.eq }) (record { hash_input = keys3.hash_input }) build hashes
 
-  -- the item with the first key has the last data written through r, that with the second, that with the third, and the one that has all
+  -- the item with the key of this rank, or the one that has all, has the last data written through r
   abbrev pub lends_held1 : (D : RattleType) → (T.Denot → D.Denot → T.Denot) → MutBor (OccupiedEntryMut T.Denot S.Denot K1.Denot K2.Denot K3.Denot H.Denot) → Option (MutBor D.Denot) → Fml
   lends_held1 D put m r = LendsIf held_row D m r (λ d. held_with1 m.now (λ x. put x d)) m.now
 
@@ -286,7 +286,7 @@ module _ (T S K1 K2 K3 H : RattleType) (of : item.Ghosts T.Denot K1.Denot K2.Den
   abbrev pub lends_held_unique : (D : RattleType) → (T.Denot → D.Denot → T.Denot) → MutBor (OccupiedEntryMut T.Denot S.Denot K1.Denot K2.Denot K3.Denot H.Denot) → Option (MutBor D.Denot) → Fml
   lends_held_unique D put m r = LendsIf held_row D m r (λ d. held_with_unique m.now (λ x. put x d)) m.now
 
-  -- the item with the first key has the last data written through r, that with the second and that with the third
+  -- the item with the key of this rank has the last data written through r
   abbrev pub lends_data1 : (D : RattleType) → (T.Denot → D.Denot → T.Denot) → MutBor (OccupiedEntry T.Denot S.Denot K1.Denot K2.Denot K3.Denot H.Denot) → Option (MutBor D.Denot) → Fml
   lends_data1 D put m r = LendsIf entry_row D m r (λ d. entry_with1 m.now (λ x. put x d)) m.now
 

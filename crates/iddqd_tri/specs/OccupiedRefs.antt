@@ -6,20 +6,20 @@ use Rattle.iddqd_tri.specs.declared.entry.occupied_ref.OccupiedEntryRef.TheVaria
 module _ {T : Type 0} where
   abbrev pub is_one : OccupiedEntryRef T → Bool
   is_one (Unique x) = true
-  is_one (NonUnique x y z) = false
+  is_one (NonUnique x1 x2 x3) = false
 
   abbrev pub seen_unique : OccupiedEntryRef T → Option T
   seen_unique (Unique x) = Some x.now
-  seen_unique (NonUnique x y z) = None
+  seen_unique (NonUnique x1 x2 x3) = None
 
   abbrev pub seen1 : OccupiedEntryRef T → Option T
   seen1 (Unique x) = Some x.now
-  seen1 (NonUnique x y z) = option_copied x
+  seen1 (NonUnique x1 x2 x3) = option_copied x1
 
   abbrev pub seen2 : OccupiedEntryRef T → Option T
   seen2 (Unique x) = Some x.now
-  seen2 (NonUnique x y z) = option_copied y
+  seen2 (NonUnique x1 x2 x3) = option_copied x2
 
   abbrev pub seen3 : OccupiedEntryRef T → Option T
   seen3 (Unique x) = Some x.now
-  seen3 (NonUnique x y z) = option_copied z
+  seen3 (NonUnique x1 x2 x3) = option_copied x3

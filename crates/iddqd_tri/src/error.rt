@@ -36,11 +36,11 @@ pub struct InsertError<'a, T: TriHashItem, S: BuildHasher = DefaultHashBuilder> 
 /// Why an item was not put in the place of others: the lowest rank at which its key is not theirs, with the item.
 #[derive(Drop)]
 pub enum KeyMismatch<T> {
-    /// The first key differs.
+    /// The lowest rank at which the keys differ is the first.
     Key1(T),
-    /// The second key differs, and the first does not.
+    /// The lowest rank at which the keys differ is the second.
     Key2(T),
-    /// The third key differs, and no other does.
+    /// The lowest rank at which the keys differ is the third.
     Key3(T),
 }
 
@@ -48,11 +48,11 @@ pub enum KeyMismatch<T> {
 /// the item.
 #[derive(Drop)]
 pub enum EntryError<T> {
-    /// The first key differs.
+    /// The lowest rank at which the keys differ is the first.
     Key1(T),
-    /// The second key differs, and the first does not.
+    /// The lowest rank at which the keys differ is the second.
     Key2(T),
-    /// The third key differs, and no other does.
+    /// The lowest rank at which the keys differ is the third.
     Key3(T),
     /// All keys are the entry's, but the map is full and there was no memory to grow.
     Memory(T),

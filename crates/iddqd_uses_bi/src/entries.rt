@@ -150,7 +150,7 @@ where
     }
 }
 
-/// Puts an item in where no item has one of two keys. Then it writes data into the item that has both, if there is one.
+/// Puts an item in where no item has one of two keys. Then it writes data into the item that has both, if one has.
 pub fn or_insert_and_write<'a, T: BiHashItemMut + Drop, S: BuildHasher>(
     map: &'a mut BiHashMap<T, S>,
     key1: &'a T::K1,

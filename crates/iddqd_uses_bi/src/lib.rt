@@ -1,4 +1,4 @@
-//! Callers of the maps, proved from the maps' public contracts alone.
+//! Callers of the map with two keys, proved from its public contracts alone.
 #![tactic(auto)]
 
 mod asking;

@@ -29,7 +29,7 @@ pub struct KeyPair<'k, K, L> {
 impl<'k, K, L> Copy for KeyPair<'k, K, L> {}
 
 impl<'k, K, L> Clone for KeyPair<'k, K, L> {
-    ghost is_clone = { λ pair copy. copy ≡ pair };
+    ghost is_clone = { λ keys copy. copy ≡ keys };
 
     ghost is_infallible = { λ _. ⊤ };
 

@@ -112,7 +112,8 @@ impl<'a, T: BiHashItem, S: BuildHasher> OccupiedEntry<'a, T, S> {
     /// It is refused with the lowest rank at which the item's key is not the entry's, whether an item has that key or
     /// not. The refusal hands the item back, and nothing changes.
     ///
-    /// It compares the first keys, and the second ones where those are equal, and searches nothing. It takes no memory.
+    /// It compares the first keys, and those of the next rank where those are equal, and searches nothing. It takes no
+    /// memory.
     pub fn insert(&mut self, item: T) -> Result<UpToTwo<T>, KeyMismatch<T>>
         requires { HasFound ⟦<T as Ranked>⟧.key_tests self.old }
         // It goes in only with the keys that the entry has. What these found comes back, in their order.

@@ -18,8 +18,8 @@ impl<'a, T: Ranked, S: BuildHasher, Q: Keys<T::K1, T::K2>> VacantEntry<'a, T, S,
     /// It is refused with the lowest rank at which its key is not the entry's, or else where the map is full and there
     /// is no memory to grow. Each refusal hands the item back, and the map is as it was.
     ///
-    /// It compares the first keys, and the second ones where those are equal, and searches and hashes
-    /// nothing. It takes memory only where the map is full.
+    /// It compares the first keys, and those of the next rank where those are equal, and searches and
+    /// hashes nothing. It takes memory only where the map is full.
     pub fn insert(self, item: T) -> Result<RefMut<'a, T, S>, EntryError<T>>
         // What is lent is the item, in this very map.
         ensures gains_and_lends { IfOk result (GainsAndLends self.entry item) }

@@ -32,7 +32,7 @@ impl<T: BiHashItem, S: BuildHasher> BiHashMap<T, S> {
 
     /// The item that has both keys that the queries stand for.
     ///
-    /// Compares as many keys as `get1` does, and the second key of the item found.
+    /// Compares as many keys as `get1` does, and the other key of the item found.
     pub fn get_unique<Q1: Query<T::K1>, Q2: Query<T::K2>>(
         &self,
         query1: Q1,

@@ -39,7 +39,7 @@ impl<T: BiHashItem, S: BuildHasher> BiHashMap<T, S> {
 
     /// Takes out the item that has both keys that the queries stand for. It takes no memory, and the capacity stays.
     ///
-    /// Compares as many keys as `remove1` does, and the second key of the item found.
+    /// Compares as many keys as `remove1` does, and the other key of the item found.
     pub fn remove_unique<Q1: Query<T::K1>, Q2: Query<T::K2>>(
         &mut self,
         query1: Q1,

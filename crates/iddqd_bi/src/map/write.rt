@@ -49,7 +49,7 @@ impl<T: BiHashItem, S: BuildHasher> BiHashMap<T, S> {
 
     /// The item that has both keys, for writing. It takes no memory.
     ///
-    /// Compares as many keys as `get1_mut` does, and the second key of the item found.
+    /// Compares as many keys as `get1_mut` does, and the other key of the item found.
     pub fn get_mut_unique<Q1: Query<T::K1>, Q2: Query<T::K2>>(
         &mut self,
         query1: Q1,

@@ -47,7 +47,8 @@ impl<T: Ranked, S: BuildHasher> RefMut<'_, T, S> {
     /// Puts an item with the same keys in the place of this one, which it gives back. Else the item is handed back with
     /// the lowest rank at which the keys differ, and nothing changes.
     ///
-    /// It compares the first keys, and the second ones where those are equal. It hashes none and takes no memory.
+    /// It compares the first keys, and those of the next rank where those are equal. It hashes none and takes no
+    /// memory.
     pub fn replace(&mut self, item: T) -> Result<T, KeyMismatch<T>>
         // The item that was lent comes back, and the new one, with the same keys, is in its place.
         ensures replaces { IfOk result (λ x. Replaces T.ranks self.old item x self.new) }

@@ -36,7 +36,7 @@ pub struct KeyTriple<'k, K, L, M> {
 impl<'k, K, L, M> Copy for KeyTriple<'k, K, L, M> {}
 
 impl<'k, K, L, M> Clone for KeyTriple<'k, K, L, M> {
-    ghost is_clone = { λ triple copy. copy ≡ triple };
+    ghost is_clone = { λ keys copy. copy ≡ keys };
 
     ghost is_infallible = { λ _. ⊤ };
 

@@ -11,7 +11,7 @@ use iddqd_store::Query;
 use std::hash::{BuildHasher, Hash};
 
 impl<T: TriHashItem, S: BuildHasher> TriHashMap<T, S> {
-    /// Takes out the item with this first key. It takes no memory, and the capacity stays.
+    /// Takes out the item with the first key that the query stands for. It takes no memory, and the capacity stays.
     ///
     /// Compares at most as many keys as items have the key's hash at the first rank.
     pub fn remove1<Q: Query<T::K1>>(&mut self, query: Q) -> Option<T>
@@ -24,7 +24,7 @@ impl<T: TriHashItem, S: BuildHasher> TriHashMap<T, S> {
         Some(self.take(ix, Some(hash), None, None))
     }
 
-    /// Takes out the item with this second key. It takes no memory, and the capacity stays.
+    /// Takes out the item with the second key that the query stands for. It takes no memory, and the capacity stays.
     ///
     /// Compares at most as many keys as items have the key's hash at the second rank.
     pub fn remove2<Q: Query<T::K2>>(&mut self, query: Q) -> Option<T>
@@ -37,7 +37,7 @@ impl<T: TriHashItem, S: BuildHasher> TriHashMap<T, S> {
         Some(self.take(ix, None, Some(hash), None))
     }
 
-    /// Takes out the item with this third key. It takes no memory, and the capacity stays.
+    /// Takes out the item with the third key that the query stands for. It takes no memory, and the capacity stays.
     ///
     /// Compares at most as many keys as items have the key's hash at the third rank.
     pub fn remove3<Q: Query<T::K3>>(&mut self, query: Q) -> Option<T>
@@ -50,7 +50,7 @@ impl<T: TriHashItem, S: BuildHasher> TriHashMap<T, S> {
         Some(self.take(ix, None, None, Some(hash)))
     }
 
-    /// Takes out the item that has all keys. It takes no memory, and the capacity stays.
+    /// Takes out the item that has all keys that the queries stand for. It takes no memory, and the capacity stays.
     ///
     /// Compares as many keys as `remove1` does, and the other keys of the item found.
     pub fn remove_unique<Q1: Query<T::K1>, Q2: Query<T::K2>, Q3: Query<T::K3>>(

@@ -16,7 +16,7 @@ impl<T: TriHashItemMut, S: BuildHasher> TriHashMap<T, S> {
     /// Stores what `f` answers at the item with the first key that the query stands for as its data, and says whether
     /// there is one. Else `f` is not called, and nothing changes. It takes no memory, and costs what `get1` does.
     ///
-    /// `map.update1("main", |symbol| symbol.address + 16)`
+    /// `map.update1(key, |item| item.count + 1)`
     pub fn update1<Q: Query<T::K1>, F: FnOnce(&T) -> T::Data>(&mut self, query: Q, f: F) -> bool
     where
         T::Data: Drop,
@@ -41,6 +41,8 @@ impl<T: TriHashItemMut, S: BuildHasher> TriHashMap<T, S> {
 
     /// Stores what `f` answers at the item with the second key that the query stands for as its data, and says whether
     /// there is one. Else `f` is not called, and nothing changes. It takes no memory, and costs what `get2` does.
+    ///
+    /// `map.update2(key, |item| item.count + 1)`
     pub fn update2<Q: Query<T::K2>, F: FnOnce(&T) -> T::Data>(&mut self, query: Q, f: F) -> bool
     where
         T::Data: Drop,
@@ -65,6 +67,8 @@ impl<T: TriHashItemMut, S: BuildHasher> TriHashMap<T, S> {
 
     /// Stores what `f` answers at the item with the third key that the query stands for as its data, and says whether
     /// there is one. Else `f` is not called, and nothing changes. It takes no memory, and costs what `get3` does.
+    ///
+    /// `map.update3(key, |item| item.count + 1)`
     pub fn update3<Q: Query<T::K3>, F: FnOnce(&T) -> T::Data>(&mut self, query: Q, f: F) -> bool
     where
         T::Data: Drop,

@@ -30,7 +30,7 @@ pub fn found2_where_contained<T: BiHashItem, S: BuildHasher, Q: Query<T::K2>>(
     }
 }
 
-/// Whether an item is given by both keys exactly where the item of the first key has the second one too.
+/// Whether an item is given by both keys exactly where the item of the first key has the other key too.
 pub fn unique_where_both<T: BiHashItem, S: BuildHasher, Q1: Query<T::K1>, Q2: Query<T::K2>>(
     map: &BiHashMap<T, S>,
     query1: Q1,

@@ -43,7 +43,7 @@ pub fn found3_where_contained<T: TriHashItem, S: BuildHasher, Q: Query<T::K3>>(
     }
 }
 
-/// Whether an item is given by all keys exactly where the item of the first key has the other ones too.
+/// Whether an item is given by all keys exactly where the item of the first key has the other keys too.
 pub fn unique_where_all<
     T: TriHashItem,
     S: BuildHasher,

@@ -17,7 +17,7 @@ use crate::ref_mut::RefMut;
 use iddqd_store::{ItemIndex, Query, UpToTwo};
 use std::hash::{BuildHasher, Hash};
 
-/// Whether the item has the second key that the query stands for.
+/// Whether the item has each key behind the first that is asked for.
 pub(crate) fn has_others<T: BiHashItem, Q2: Query<T::K2>>(item: &T, query2: Q2) -> bool
     ensures { result ≡ every_of (has2 T.BiHashItem Q2.stands_for query2 ∷ []) item.now }
 {

@@ -17,7 +17,7 @@ use crate::ref_mut::RefMut;
 use iddqd_store::{ItemIndex, Query, UpToThree};
 use std::hash::{BuildHasher, Hash};
 
-/// Whether the item has the second and the third key that the queries stand for.
+/// Whether the item has each key behind the first that is asked for.
 pub(crate) fn has_others<T: TriHashItem, Q2: Query<T::K2>, Q3: Query<T::K3>>(
     item: &T,
     query2: Q2,
@@ -84,7 +84,7 @@ impl<T: TriHashItem, S: BuildHasher> TriHashMap<T, S> {
         }
     }
 
-    /// The slot of the item that has all keys.
+    /// The slot of the item that has all keys that the queries stand for.
     pub(crate) fn slot_of_all<Q1: Query<T::K1>, Q2: Query<T::K2>, Q3: Query<T::K3>>(
         &self,
         query1: Q1,
