@@ -1,4 +1,5 @@
-//! The cells of a table. One call reads a cell, and it ticks the meter that it is handed.
+//! The cells of a table. One call reads a cell, and it ticks the meter that it is handed; `clone` copies the row of cells
+//! whole. The script `tests/forms` lists each line that names the row.
 ghost use Rattle.std.specs.Prelude.{◌≡◌, ℕ, ◌+◌, ◌^◌, ◌<◌, List, [], Option, None, Some, length, slice_set, replicate, IfOk};
 ghost use Rattle.iddqd_store.specs.Table.Cell.{pair_of, hash_of, number_of};
 ghost use Rattle.iddqd_store.specs.Table.Ring.{cell};

@@ -28,8 +28,9 @@ mod probe;
 /// Contracts see its `pairs` in some order, its `limit`, which is how many fit, and its `row` of cells. Which cells
 /// are occupied is a function of the pairs' hashes and the number of cells (`cell_at`), whatever came before.
 ///
-/// A cell is looked at by one call alone, which ticks the meter that it is handed. No call but `try_reserve` makes a
-/// meter of its own, and `clone` copies the cells whole.
+/// A cell is looked at by one call alone, which ticks the meter that it is handed, and `clone` copies the cells whole.
+/// Here `try_reserve` alone makes a meter of its own. In other files `forget`, `rehash`, `fill`, `search` and the maps'
+/// `put` do: no clause of theirs speaks of looks. The script `tests/forms` lists all that make one.
 #[derive(Drop)]
 pub struct IndexTable {
     alloc: Global,

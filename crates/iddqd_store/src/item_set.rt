@@ -22,7 +22,8 @@ pub use values::{IntoIter, Iter};
 /// many items fit.
 ///
 /// A slot keeps its number until `compact` or `shrink_to`, and a freed slot is used again before a new one. Only
-/// `try_reserve`, `shrink_to` and `clone` take memory, and only the first two change how many items fit:
+/// `with_capacity`, `try_reserve`, `shrink_to` and `clone` take memory. Of a set that is there only `try_reserve` and
+/// `shrink_to` change how many items fit:
 ///
 /// ```
 /// let mut set = ItemSet::new(alloc);

@@ -46,7 +46,7 @@ impl Model for Meter {
 }
 
 impl Meter {
-    /// A meter at 0.
+    /// A meter at 0. The script `tests/forms` lists the functions that make one, each with the reason.
     pub fn new() -> Meter
         ensures { result ≡ 0 }
     {
