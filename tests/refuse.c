@@ -1,6 +1,11 @@
 // Loaded into a program by LD_PRELOAD, it refuses one of its requests for memory, the one whose number REFUSED says,
 // counted from 1, and says so on standard error. Where the program ends by itself, it says there too if memory was
-// never given back. It is no part of a crate: tests/refused_memory builds it, and loads it into tests that are proved.
+// never given back. It is no part of a crate: tests/refused_memory and tests/cases build it, and load it into programs
+// and tests that are proved.
+//
+// For iddqd_calls it counts the requests of each call. A request for BEGINS + N bytes says that a call begins, of which the
+// Nth request is to be refused, or none where N is 0. Of the requests for MADE + N bytes that follow, it refuses all but
+// the one where N is the number of requests that the call made: so the program learns that number.
 #define _GNU_SOURCE
 #include <dlfcn.h>
 #include <errno.h>
@@ -13,6 +18,10 @@ static void *(*asks)(size_t);
 static void *(*asks_again)(void *, size_t);
 static void (*gives_back)(void *);
 static long refused, requests, held;
+
+enum { BEGINS = 1000000, MADE = 2000000, MOST = 100 };
+static long made, refused_in_call;
+static int is_in_call;
 
 static void say(const char *text, long number) {
   char line[80];
@@ -33,8 +42,27 @@ __attribute__((destructor)) static void end(void) {
     say("%ld blocks of memory were never given back\n", held);
 }
 
-// Whether this request is the one to refuse. Those of the loader, before the program begins, do not count.
-static int is_refused(void) {
+// Whether a request of this size is refused as part of what the program asks about the requests of a call.
+static int is_refused_in_call(size_t size) {
+  if (size >= BEGINS && size < BEGINS + MOST) {
+    made = 0;
+    refused_in_call = size - BEGINS;
+    is_in_call = 1;
+    return 0;
+  }
+  if (is_in_call && size >= MADE && size < MADE + MOST) {
+    is_in_call = made != (long)size - MADE;
+    return is_in_call;
+  }
+  return is_in_call && ++made == refused_in_call;
+}
+
+// Whether this request is to be refused. Those of the loader, before the program begins, do not count.
+static int is_refused(size_t size) {
+  if (is_refused_in_call(size)) {
+    errno = ENOMEM;
+    return 1;
+  }
   if (!refused || ++requests != refused)
     return 0;
   say("request %ld was refused\n", refused);
@@ -45,7 +73,7 @@ static int is_refused(void) {
 void *malloc(size_t size) {
   if (!asks)
     begin();
-  if (is_refused())
+  if (is_refused(size))
     return NULL;
   void *block = asks(size);
   held += block != NULL;
@@ -55,7 +83,7 @@ void *malloc(size_t size) {
 void *realloc(void *block, size_t size) {
   if (!asks_again)
     begin();
-  if (is_refused())
+  if (is_refused(size))
     return NULL;
   void *moved = asks_again(block, size);
   held += !block && moved;

@@ -1,9 +1,82 @@
-//! Copies of the two-key map, of items whose own clone refuses.
-use crate::drops::{FOUR, Held, listed, map_of};
-use iddqd_bi::BiHashMap;
+//! Copies of the map with two keys, of items whose own clone refuses.
+ghost use Rattle.std.specs.Prelude.{◌≡◌};
+
+use iddqd_bi::{BiHashItem, BiHashMap};
+use std::alloc::{AllocError, Global};
 use std::cell::Cell;
 use std::rc::Rc;
 use std::test::Fail;
+
+/// An item that is counted as long as it is there, and lets so many clones be made of it and of those that share its
+/// number.
+#[derive(Drop)]
+struct Held {
+    key1: u64,
+    key2: u64,
+    left: Rc<Cell<u64>>,
+}
+
+impl Clone for Held {
+    ghost is_clone = { λ x c. (c.key1 ≡ x.key1) × (c.key2 ≡ x.key2) };
+
+    fn clone(&self) -> Result<Self, AllocError> {
+        let left = self.left.get();
+        if left == 0 {
+            return Err(AllocError);
+        }
+        self.left.set(left - 1);
+        Ok(Held {
+            key1: self.key1,
+            key2: self.key2,
+            left: self.left.clone()?,
+        })
+    }
+}
+
+impl BiHashItem for Held {
+    type K1 = u64;
+
+    type K2 = u64;
+
+    ghost key1 = { λ x. x.key1 };
+
+    ghost key2 = { λ x. x.key2 };
+
+    fn key1(&self) -> &u64 {
+        &self.key1
+    }
+
+    fn key2(&self) -> &u64 {
+        &self.key2
+    }
+}
+
+/// The keys of an item.
+type Keys = (u64, u64);
+
+/// These items, in a list.
+fn listed(alloc: Global, left: &Rc<Cell<u64>>, keys: &[Keys]) -> Result<Vec<Held>, AllocError> {
+    let mut items = Vec::new(alloc);
+    for (key1, key2) in keys {
+        items.push(Held {
+            key1: *key1,
+            key2: *key2,
+            left: left.clone()?,
+        })?;
+    }
+    Ok(items)
+}
+
+/// The map of these items.
+fn map_of(alloc: Global, items: Vec<Held>) -> BiHashMap<Held> {
+    let mut map = BiHashMap::new(alloc);
+    for item in items {
+        let _ = map.insert_overwrite(item);
+    }
+    map
+}
+
+const FOUR: &[Keys] = &[(1, 10), (2, 20), (3, 30), (4, 40)];
 
 /// The length of a map's clone, if there is one.
 fn cloned(map: &BiHashMap<Held>) -> Option<usize> {

@@ -1,4 +1,4 @@
-//! Tests of the map with two keys that would make its own crate's proof longer: worked rows, and what no clause says.
+//! Tests of the map with two keys on other items than those of `iddqd_calls`, and what maps and errors print.
 #![tactic(auto)]
 
 mod row;
@@ -8,21 +8,7 @@ pub use row::{Row, row_of};
 #[cfg(test)]
 mod building;
 #[cfg(test)]
-mod capacity;
-#[cfg(test)]
-mod commands;
-#[cfg(test)]
 mod copies;
-#[cfg(test)]
-mod drops;
-#[cfg(test)]
-mod entries;
-#[cfg(test)]
-mod extend_unique;
-#[cfg(test)]
-mod guards;
-#[cfg(test)]
-mod lent;
 #[cfg(test)]
 mod pointers;
 #[cfg(test)]
@@ -30,12 +16,4 @@ mod printed;
 #[cfg(test)]
 mod queries;
 #[cfg(test)]
-mod room;
-#[cfg(test)]
-mod running;
-#[cfg(test)]
 mod texts;
-#[cfg(test)]
-mod walks;
-#[cfg(test)]
-mod worked;

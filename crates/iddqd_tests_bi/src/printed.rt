@@ -1,9 +1,8 @@
 //! What maps, short lists and errors print, and `?` into an error of any kind.
 use crate::row::{Row, row_of};
-use crate::worked::two;
 use iddqd_bi::{
-    BiHashMap, DefaultHashBuilder, DuplicateItem, Entry, EntryError, ExtendUniqueError,
-    ExtendUniqueReason, FromIterError, InsertError, KeyMismatch, MemoryRefused, TryReserveError,
+    BiHashMap, DuplicateItem, Entry, EntryError, ExtendUniqueError, ExtendUniqueReason,
+    FromIterError, InsertError, KeyMismatch, MemoryRefused, TryReserveError,
 };
 use std::alloc::Global;
 use std::fmt::{Debug, Display};
@@ -66,7 +65,9 @@ fn entry_prints(alloc: Global, map: &mut BiHashMap<Row>) -> bool {
 #[test]
 fn a_map_and_what_holds_it_print(rt: HostRuntime) {
     let alloc = rt.alloc();
-    let mut map = two(&rt, alloc, DefaultHashBuilder::default());
+    let mut map = BiHashMap::new(alloc);
+    let _ = map.insert_overwrite(row_of(1, 10, 100));
+    let _ = map.insert_overwrite(row_of(2, 20, 200));
     assert!(rt; refusal_prints(alloc, &mut map));
     assert!(rt; entry_prints(alloc, &mut map));
     assert!(rt;

@@ -1,4 +1,4 @@
-//! Tests of the map with three keys that would make its own crate's proof longer: worked rows, and what no clause says.
+//! Tests of the map with three keys on other items than those of `iddqd_calls`.
 #![tactic(auto)]
 
 mod row;
@@ -8,26 +8,8 @@ pub use row::{Row, row_of};
 #[cfg(test)]
 mod building;
 #[cfg(test)]
-mod capacity;
-#[cfg(test)]
-mod commands;
-#[cfg(test)]
 mod copies;
-#[cfg(test)]
-mod entries;
-#[cfg(test)]
-mod guards;
-#[cfg(test)]
-mod lent;
-#[cfg(test)]
-mod listener;
 #[cfg(test)]
 mod pointers;
 #[cfg(test)]
 mod queries;
-#[cfg(test)]
-mod running;
-#[cfg(test)]
-mod walks;
-#[cfg(test)]
-mod worked;

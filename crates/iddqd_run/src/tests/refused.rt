@@ -1,7 +1,7 @@
 //! Runs of which one request for memory is refused. `tests/refused_memory` goes over the requests.
 //!
-//! As in `iddqd_memory`, a test `allows_..` passes whichever request is refused, and says where it saw a refusal, which
-//! it must not where none is refused. It also says what each run met, since each outcome has to come at some request.
+//! A test `allows_..` passes whichever request is refused, and says where it saw a refusal, which it must not where none is
+//! refused. It also says what each run met, since each outcome has to come at some request.
 use iddqd_text::from_read::FromRead;
 use iddqd_text::outcome::{Kind, RunEnd, RunFault};
 use iddqd_text::run::run_text;

@@ -1,0 +1,58 @@
+//! Lines.
+use std::alloc::{AllocError, Global};
+
+/// How many items a new map has, and the room that it is made with.
+pub(crate) type Begins = (u64, Option<usize>);
+
+/// What a line says.
+#[derive(Drop)]
+pub(crate) struct Line<'l> {
+    /// The map that it begins, if it begins one.
+    pub(crate) begins: Option<Begins>,
+    /// The request of the call that is refused, or 0.
+    pub(crate) refused: usize,
+    pub(crate) call: &'l str,
+    pub(crate) numbers: Vec<u64>,
+}
+
+/// Reads a line.
+pub(crate) fn line_of<'l>(alloc: Global, text: &'l str) -> Result<Line<'l>, AllocError> {
+    let mut line = Line {
+        begins: None,
+        refused: 0,
+        call: "",
+        numbers: Vec::new(alloc),
+    };
+    for word in text.split_whitespace() {
+        put(&mut line, word)?;
+    }
+    Ok(line)
+}
+
+/// Puts a word into its place: in front of the call, the call itself, or a number behind it.
+fn put<'l>(line: &mut Line<'l>, word: &'l str) -> Result<(), AllocError> {
+    if !line.call.is_empty() {
+        if let Ok(number) = word.parse::<u64>() {
+            line.numbers.push(number)?;
+        }
+    } else if let Some(request) = word.strip_prefix("!") {
+        line.refused = request.parse::<usize>().unwrap_or(0);
+    } else {
+        match begins_of(word) {
+            Some(begins) => line.begins = Some(begins),
+            None => line.call = word,
+        }
+    }
+    Ok(())
+}
+
+/// The map that a word begins, if it is no call.
+fn begins_of(word: &str) -> Option<Begins> {
+    match word.split_once("/") {
+        Some((items, room)) => {
+            let items = items.parse::<u64>().ok()?;
+            Some((items, Some(room.parse::<usize>().ok()?)))
+        }
+        None => Some((word.parse::<u64>().ok()?, None)),
+    }
+}

@@ -1,0 +1,190 @@
+//! The map with three keys: the calls of a line, by what they are given.
+mod commands;
+mod entries;
+mod guards;
+mod held;
+mod inserts;
+pub(crate) mod item;
+mod lists;
+mod lookups;
+mod vacant;
+mod wholes;
+
+use crate::answer::{Answer, push, row_shown};
+use crate::builder::Builder;
+use crate::counting::{Counts, Key};
+use crate::gauge::Gauge;
+use crate::line::Line;
+use crate::table::Table;
+use crate::three_keys::item::{Item, NUMBERS, item_of, nth, row_of};
+use iddqd_tri::TriHashMap;
+use std::alloc::{AllocError, Global};
+use std::rc::Rc;
+
+impl<S: Builder> Table for TriHashMap<Item, S> {
+    const WIDTH: usize = NUMBERS;
+
+    fn made(alloc: Global, room: Option<usize>) -> Result<Self, AllocError> {
+        match room {
+            None => Ok(TriHashMap::with_hasher(alloc, S::default())),
+            Some(room) => TriHashMap::with_capacity_and_hasher(alloc, room, S::default()).map_err(
+                |_| AllocError,
+            ),
+        }
+    }
+
+    fn put(&mut self, counts: &Rc<Counts>, number: u64) -> Result<(), AllocError> {
+        self.insert_or_back(nth(counts, number)?)
+            .map_err(|_| AllocError)
+    }
+
+    fn carry_out(
+        &mut self,
+        gauge: &mut Gauge,
+        line: &Line<'_>,
+    ) -> Result<Option<Answer>, AllocError> {
+        if let ("run", [most]) = (line.call, line.numbers.as_slice()) {
+            return Ok(Some(commands::run(self, gauge, *most as usize)?));
+        }
+        let given = given_of(gauge, line)?;
+        gauge.begin();
+        let answer = match line.call.strip_prefix("apply.") {
+            Some(call) => commands::answered(self, call, given),
+            None => answered(self, gauge, line.call, given),
+        };
+        gauge.end();
+        Ok(answer)
+    }
+
+    fn state(&self) -> [usize; 2] {
+        [self.len(), self.capacity()]
+    }
+
+    fn listed(&self, alloc: Global) -> Result<String, AllocError> {
+        let mut rows = Vec::new(alloc);
+        for item in self {
+            rows.push(row_of(item))?;
+        }
+        rows.sort()?;
+        let mut text = String::new(alloc);
+        for row in &rows {
+            let shown = row_shown(alloc, row, NUMBERS)?;
+            push(&mut text, shown.as_str())?;
+        }
+        Ok(text)
+    }
+}
+
+/// What a call is given. Keys are those of an item.
+#[derive(Drop)]
+enum Given {
+    Nothing,
+    /// A key, or the number of items that it stands for.
+    Key(Key),
+    Keys(Item),
+    Item(Item),
+    KeyAndItem(Key, Item),
+    KeysAndItem { keys: Item, item: Item },
+    Items(Vec<Item>),
+}
+
+/// What the numbers of a line give.
+fn given_of(gauge: &Gauge, line: &Line<'_>) -> Result<Given, AllocError> {
+    let counts = &gauge.counts;
+    let numbers = line.numbers.as_slice();
+    if lists::takes(line.call) {
+        return Ok(Given::Items(items_of(gauge, numbers)?));
+    }
+    Ok(match numbers {
+        [] => Given::Nothing,
+        [key] => Given::Key(Key::new(counts, *key)?),
+        [key1, key2, key3] => Given::Keys(item_of(counts, [*key1, *key2, *key3, 0])?),
+        [key1, key2, key3, value] => Given::Item(item_of(counts, [*key1, *key2, *key3, *value])?),
+        [key, rest @ ..] if rest.len() == NUMBERS => {
+            Given::KeyAndItem(Key::new(counts, *key)?, item_from(counts, rest)?)
+        }
+        _ => keys_and_item(counts, numbers)?,
+    })
+}
+
+/// All keys, and an item behind them.
+fn keys_and_item(counts: &Rc<Counts>, numbers: &[u64]) -> Result<Given, AllocError> {
+    match numbers {
+        [key1, key2, key3, rest @ ..] => {
+            let keys = item_of(counts, [*key1, *key2, *key3, 0])?;
+            let item = item_from(counts, rest)?;
+            Ok(Given::KeysAndItem { keys, item })
+        }
+        _ => Ok(Given::Nothing),
+    }
+}
+
+/// The item of these numbers, which are 0 where they are missing.
+fn item_from(counts: &Rc<Counts>, numbers: &[u64]) -> Result<Item, AllocError> {
+    match numbers {
+        [key1, key2, key3, value, ..] => item_of(counts, [*key1, *key2, *key3, *value]),
+        _ => item_of(counts, [0; NUMBERS]),
+    }
+}
+
+/// The items of these numbers.
+fn items_of(gauge: &Gauge, numbers: &[u64]) -> Result<Vec<Item>, AllocError> {
+    let mut items = Vec::new(gauge.alloc());
+    for numbers in numbers.chunks(NUMBERS) {
+        items.push(item_from(&gauge.counts, numbers)?)?;
+    }
+    Ok(items)
+}
+
+/// What the call of this name answers, if there is such a one that is given that.
+fn answered<S: Builder>(
+    map: &mut TriHashMap<Item, S>,
+    gauge: &mut Gauge,
+    call: &str,
+    given: Given,
+) -> Option<Answer> {
+    match given {
+        Given::Nothing => wholes::answered(map, gauge, call),
+        Given::Key(key) => {
+            let answer = by_key(map, gauge, call, &key);
+            drop(key);
+            answer
+        }
+        Given::Keys(keys) => {
+            let answer = by_keys(map, call, &keys);
+            drop(keys);
+            answer
+        }
+        Given::Item(item) => inserts::answered(map, call, item),
+        Given::KeyAndItem(key, item) => {
+            let answer = guards::replaced(map, call, &key, item);
+            drop(key);
+            answer
+        }
+        Given::KeysAndItem { keys, item } => {
+            let answer = vacant::answered(map, call, &keys, item);
+            drop(keys);
+            answer
+        }
+        Given::Items(items) => lists::answered(map, gauge.alloc(), call, items),
+    }
+}
+
+fn by_key<S: Builder>(
+    map: &mut TriHashMap<Item, S>,
+    gauge: &mut Gauge,
+    call: &str,
+    key: &Key,
+) -> Option<Answer> {
+    match wholes::answered_for(map, gauge, call, key) {
+        None => lookups::answered(map, call, key),
+        answer => answer,
+    }
+}
+
+fn by_keys<S: Builder>(map: &mut TriHashMap<Item, S>, call: &str, keys: &Item) -> Option<Answer> {
+    match call.strip_prefix("entry.") {
+        Some(call) => entries::answered(map, call, keys),
+        None => lookups::answered_by_all(map, call, keys),
+    }
+}

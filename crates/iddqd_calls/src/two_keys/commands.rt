@@ -1,0 +1,250 @@
+//! Commands, each applied to the map, and what its reply says.
+ghost use Rattle.std.specs.Prelude.{⊤};
+
+use crate::answer::Answer;
+use crate::counting::Key;
+use crate::gauge::Gauge;
+use crate::two_keys::Given;
+use crate::two_keys::guards::back;
+use crate::two_keys::inserts::with_lent;
+use crate::two_keys::item::{Item, nth, row_of};
+use crate::two_keys::lists::{displaced, refused};
+use crate::two_keys::lookups::{found, taken};
+use iddqd_bi::{BiCommand, BiHashMap, BiReply, BiSink};
+use std::alloc::AllocError;
+use std::hash::BuildHasher;
+
+/// Keeps the last reply. It takes so many of them well, and answers a fault at the next one.
+#[derive(Drop)]
+struct Heard {
+    answer: Answer,
+    replies: usize,
+    most: usize,
+}
+
+/// A sink that has heard nothing yet.
+fn nothing_heard(most: usize) -> Heard {
+    Heard {
+        answer: Answer::said("no reply"),
+        replies: 0,
+        most,
+    }
+}
+
+impl BiSink<Item> for Heard {
+    type Fault = ();
+
+    ghost took = { λ _ _ _ _. ⊤ };
+
+    fn take(&mut self, reply: BiReply<'_, Item>) -> Result<(), ()>
+        ensures { ⊤ }
+    {
+        self.answer = answer_of(reply);
+        self.replies = self.replies.saturating_add(1);
+        if self.replies > self.most {
+            Err(())
+        } else {
+            Ok(())
+        }
+    }
+}
+
+/// What a reply says.
+fn answer_of(reply: BiReply<'_, Item>) -> Answer {
+    match reply {
+        BiReply::Done => Answer::said("ok"),
+        BiReply::Kept => Answer::said("kept"),
+        BiReply::Refused => Answer::said("memory"),
+        BiReply::Present(answer) => Answer::is_so(answer),
+        BiReply::Length(length) => Answer::counted(length),
+        BiReply::Items(items) => Answer::said("items").at(items.len()),
+        BiReply::Found(item) => found(item),
+        BiReply::Taken(item) => taken(item),
+        BiReply::Displaced(items) => displaced(items),
+        reply => refusal_of(reply),
+    }
+}
+
+/// What a reply says that hands something back.
+fn refusal_of(reply: BiReply<'_, Item>) -> Answer {
+    match reply {
+        BiReply::Duplicate(refused) => {
+            let answer = Answer::of("dup", row_of(refused.new_item()));
+            let answer = with_lent(answer, refused.duplicates());
+            drop(refused);
+            answer
+        }
+        BiReply::Memory(item) => back(Answer::said("memory"), item),
+        BiReply::Key1(item) => back(Answer::said("key1"), item),
+        BiReply::Key2(item) => back(Answer::said("key2"), item),
+        BiReply::Absent(item) => back(Answer::said("absent"), item),
+        BiReply::AbsentData(value) => Answer::said("absent").at(value as usize),
+        BiReply::ExtendRefused(error) => refused(error),
+        reply => {
+            drop(reply);
+            Answer::said("another reply")
+        }
+    }
+}
+
+/// What the command of this name answers, if there is such a one that is given that.
+pub(crate) fn answered<S: BuildHasher>(
+    map: &mut BiHashMap<Item, S>,
+    call: &str,
+    given: Given,
+) -> Option<Answer> {
+    let mut heard = nothing_heard(1);
+    let _ = map.apply(command_of(call, given)?, &mut heard);
+    Some(heard.answer)
+}
+
+/// Runs the commands to put the items 1 and 2 in, to take the first one out and to clear the map, with a sink that takes
+/// so many replies well. Tells how many replies it gets. What it costs to make the list does not count.
+pub(crate) fn run<S: BuildHasher>(
+    map: &mut BiHashMap<Item, S>,
+    gauge: &mut Gauge,
+    most: usize,
+) -> Result<Answer, AllocError> {
+    let commands = list(gauge)?;
+    let mut heard = nothing_heard(most);
+    gauge.begin();
+    let word = match map.run(commands, &mut heard) {
+        Ok(()) => "ended",
+        Err(()) => "fault",
+    };
+    gauge.end();
+    Ok(Answer::said(word).at(heard.replies))
+}
+
+fn list(gauge: &Gauge) -> Result<Vec<BiCommand<Item>>, AllocError> {
+    let mut commands = Vec::new(gauge.alloc());
+    for number in 1..=2 {
+        commands.push(BiCommand::InsertUnique(nth(&gauge.counts, number)?))?;
+    }
+    commands.push(BiCommand::Remove1(Key::new(&gauge.counts, 1)?))?;
+    commands.push(BiCommand::Clear)?;
+    Ok(commands)
+}
+
+fn command_of(call: &str, given: Given) -> Option<BiCommand<Item>> {
+    match given {
+        Given::Nothing => alone(call),
+        Given::Key(key) => by_key(call, key),
+        Given::Keys(keys) => by_keys(call, keys),
+        Given::Item(item) => by_item(call, item),
+        Given::KeyAndItem(key, item) => by_key_and_item(call, key, item),
+        Given::KeysAndItem { keys, item } => by_keys_and_item(call, keys, item),
+        Given::Items(items) => by_items(call, items),
+    }
+}
+
+fn alone(call: &str) -> Option<BiCommand<Item>> {
+    match call {
+        "shrink_to_fit" => Some(BiCommand::ShrinkToFit),
+        "clear" => Some(BiCommand::Clear),
+        "len" => Some(BiCommand::Len),
+        "iter" => Some(BiCommand::Items),
+        _ => None,
+    }
+}
+
+fn by_key(call: &str, key: Key) -> Option<BiCommand<Item>> {
+    match call {
+        "get1" => Some(BiCommand::Get1(key)),
+        "get2" => Some(BiCommand::Get2(key)),
+        "contains_key1" => Some(BiCommand::Contains1(key)),
+        "contains_key2" => Some(BiCommand::Contains2(key)),
+        "remove1" => Some(BiCommand::Remove1(key)),
+        "remove2" => Some(BiCommand::Remove2(key)),
+        _ => {
+            let items = key.number() as usize;
+            drop(key);
+            by_number(call, items)
+        }
+    }
+}
+
+fn by_number(call: &str, items: usize) -> Option<BiCommand<Item>> {
+    match call {
+        "reserve" => Some(BiCommand::Reserve(items)),
+        "shrink_to" => Some(BiCommand::ShrinkTo(items)),
+        _ => None,
+    }
+}
+
+fn by_keys(call: &str, keys: Item) -> Option<BiCommand<Item>> {
+    let Item {
+        key1,
+        key2,
+        value: _,
+    } = keys;
+    match call {
+        "get_unique" => Some(BiCommand::GetUnique(key1, key2)),
+        "contains_key_unique" => Some(BiCommand::ContainsUnique(key1, key2)),
+        "remove_unique" => Some(BiCommand::RemoveUnique(key1, key2)),
+        "entry.remove" => Some(BiCommand::EntryRemove(key1, key2)),
+        _ => {
+            drop(key1);
+            drop(key2);
+            None
+        }
+    }
+}
+
+fn by_item(call: &str, item: Item) -> Option<BiCommand<Item>> {
+    match call {
+        "insert_unique" => Some(BiCommand::InsertUnique(item)),
+        "insert_overwrite" => Some(BiCommand::InsertOverwrite(item)),
+        _ => {
+            drop(item);
+            None
+        }
+    }
+}
+
+/// Data is written as the value of an item.
+fn by_key_and_item(call: &str, key: Key, item: Item) -> Option<BiCommand<Item>> {
+    let value = item.value;
+    match call {
+        "replace1" => return Some(BiCommand::Replace1(key, item)),
+        "replace2" => return Some(BiCommand::Replace2(key, item)),
+        _ => drop(item),
+    }
+    match call {
+        "data1_mut" => Some(BiCommand::Set1(key, value)),
+        "data2_mut" => Some(BiCommand::Set2(key, value)),
+        _ => {
+            drop(key);
+            None
+        }
+    }
+}
+
+fn by_keys_and_item(call: &str, keys: Item, item: Item) -> Option<BiCommand<Item>> {
+    let Item {
+        key1,
+        key2,
+        value: _,
+    } = keys;
+    match call {
+        "entry.insert" => Some(BiCommand::EntryInsert(key1, key2, item)),
+        "entry.or_insert" => Some(BiCommand::OrInsert(key1, key2, item)),
+        _ => {
+            drop(key1);
+            drop(key2);
+            drop(item);
+            None
+        }
+    }
+}
+
+fn by_items(call: &str, items: Vec<Item>) -> Option<BiCommand<Item>> {
+    match call {
+        "extend" => Some(BiCommand::Extend(items)),
+        "extend_unique" => Some(BiCommand::ExtendUnique(items)),
+        _ => {
+            drop(items);
+            None
+        }
+    }
+}

@@ -1,0 +1,104 @@
+//! Calls of what an entry lends for writing.
+ghost use Rattle.iddqd_bi.specs.Entries.{HasFound, Holds};
+
+use crate::answer::Answer;
+use crate::two_keys::guards::shown;
+use crate::two_keys::item::{Item, row_of};
+use crate::two_keys::lookups::more;
+use iddqd_bi::{BiHashMap, Entry, OccupiedEntry, OccupiedEntryMut, Ranked};
+use std::hash::{BuildHasher, Hash};
+
+/// Sets data that is lent to 7, and tells what it was.
+fn written(data: Option<&mut u64>) -> Answer {
+    match data {
+        Some(data) => {
+            let old = *data;
+            *data = 7;
+            Answer::said("was").at(old as usize)
+        }
+        None => Answer::said("none"),
+    }
+}
+
+/// The call of this name on an occupied entry, if there is such a one.
+pub(crate) fn answered<S: BuildHasher>(
+    mut entry: OccupiedEntry<'_, Item, S>,
+    call: &str,
+) -> Option<Answer>
+    requires { HasFound ⟦<Item as Ranked>⟧.key_tests entry }
+{
+    match call {
+        "data1_mut" => Some(written(entry.data1_mut())),
+        "data2_mut" => Some(written(entry.data2_mut())),
+        _ => of_held(&mut entry.get_mut(), call.strip_prefix("get_mut.")?),
+    }
+}
+
+/// The call of this name on what an entry holds, if there is such a one.
+fn of_held<S: BuildHasher>(held: &mut OccupiedEntryMut<'_, Item, S>, call: &str) -> Option<Answer>
+    requires { Holds held.old }
+{
+    match call {
+        "is_unique" => Some(Answer::is_so(held.is_unique())),
+        "is_non_unique" => Some(Answer::is_so(held.is_non_unique())),
+        "data1_mut" => Some(written(held.data1_mut())),
+        "data2_mut" => Some(written(held.data2_mut())),
+        "data_unique_mut" => Some(written(held.data_unique_mut())),
+        "for_each" => Some(for_each(held)),
+        _ => of_lent(held, call),
+    }
+}
+
+/// Each value is one more. Tells the items as they are seen, in order.
+fn for_each<S: BuildHasher>(held: &mut OccupiedEntryMut<'_, Item, S>) -> Answer
+    requires { Holds held.old }
+{
+    let mut answer = Answer::said("saw");
+    held.for_each(|item| {
+        answer = answer.with(row_of(item));
+        more(item)
+    });
+    answer
+}
+
+fn of_lent<S: BuildHasher>(held: &mut OccupiedEntryMut<'_, Item, S>, call: &str) -> Option<Answer> {
+    match call {
+        "by_key1" => Some(shown!(held.by_key1())),
+        "by_key2" => Some(shown!(held.by_key2())),
+        "as_unique" => Some(shown!(held.as_unique())),
+        "each" => Some(lent(held)),
+        _ => None,
+    }
+}
+
+/// What is held, lent one after the other by each key and by all, twice.
+pub(crate) fn lent<S: BuildHasher>(held: &mut OccupiedEntryMut<'_, Item, S>) -> Answer {
+    let first = lent_each(held);
+    let second = lent_each(held);
+    first.behind(second)
+}
+
+fn lent_each<S: BuildHasher>(held: &mut OccupiedEntryMut<'_, Item, S>) -> Answer {
+    let mut answer = Answer::said("holds");
+    answer = answer.behind(shown!(held.by_key1()));
+    answer = answer.behind(shown!(held.by_key2()));
+    answer.behind(shown!(held.as_unique()))
+}
+
+/// The call of this name on what the entry of all keys lends for as long as the map is lent.
+pub(crate) fn lent_for_good<S: BuildHasher>(
+    map: &mut BiHashMap<Item, S>,
+    call: &str,
+    keys: &Item,
+) -> Option<Answer> {
+    let Entry::Occupied(entry) = map.entry(&keys.key1, &keys.key2) else {
+        return Some(Answer::said("vacant"));
+    };
+    let held = entry.into_mut();
+    match call {
+        "into_by_key1" => Some(shown!(held.into_by_key1())),
+        "into_by_key2" => Some(shown!(held.into_by_key2())),
+        "into_unique" => Some(shown!(held.into_unique())),
+        _ => None,
+    }
+}
