@@ -1,7 +1,8 @@
--- The ranks of an item with two keys.
-use Rattle.std.specs.Prelude.{Bool, List, [], ◌∷◌}
+-- The ranks of an item with two keys, and the slots found by them.
+use Rattle.std.specs.Prelude.{ℕ, Bool, List, [], ◌∷◌, Option, None, Result, Ok, Err}
 use Rattle.iddqd_store.specs.Bag.{Ranks, every_of}
-use Rattle.iddqd_store.specs.Rank.{agree}
+use Rattle.iddqd_store.specs.Rank.{agree, SlotUnder}
+use Rattle.iddqd_store.specs.Table.{Spot}
 use Rattle.iddqd_bi.specs.declared.item.BiHashItem as item
 
 module _ {T K1 K2 : Type 0} (of : item.Ghosts T K1 K2) where
@@ -23,3 +24,8 @@ module _ {T K1 K2 : Type 0} (of : item.Ghosts T K1 K2) where
   -- whether an item has both keys
   abbrev pub has_both : {Q1 Q2 : Type 0} → (Q1 → K1 → Bool) → (Q2 → K2 → Bool) → Q1 → Q2 → T → Bool
   has_both stands1 stands2 q1 q2 = every_of (key_tests stands1 stands2 q1 q2)
+
+-- the slot that a search at each rank found, or none
+abbrev pub slots_found : Result (Spot × Spot) (SlotUnder × SlotUnder) → List (Option ℕ)
+slots_found (Ok at) = None ∷ None ∷ []
+slots_found (Err found) = found.0.slot ∷ found.1.slot ∷ []

@@ -1,5 +1,4 @@
 //! References and boxes of items are items.
-ghost use Rattle.std.specs.Borrow.{sem, Lends};
 ghost use denote.Ref.{at_last};
 ghost use Rattle.std.specs.Box.{with_value};
 

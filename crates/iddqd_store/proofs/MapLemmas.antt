@@ -49,10 +49,6 @@ on_err (Ok _) p = tt
 on_err (Err _) p = p
 
 module _ {T S : Type 0} where
-  -- nothing is taken out
-  pub Loses-nothing : (m : Map T S) → Loses m [] m
-  Loses-nothing m = record { items = IsPermutation-refl (bag m); same_room = refl; same_builder = refl }
-
   -- room is refused, where so many items don't fit
   pub MakesRoom-err : {A E : Type 0} {old new : Map T S} {more : ℕ} (r : Result A E) (e : E) → r ≡ Err e → new.capacity < length (bag old) + more → old.capacity ≤ new.capacity → new.builder ≡ old.builder → MakesRoom old more r new
   MakesRoom-err {A = A} {E = E} {old = old} {new = new} {more = more} r e is short no_less same = subst (λ (x : Result A E). MakesRoom old more x new) (sym is) record {

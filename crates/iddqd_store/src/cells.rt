@@ -89,10 +89,9 @@ impl Cells {
     pub fn with_len(alloc: Global, count: usize) -> Result<Cells, TryReserveError>
         ensures { IfOk result (λ c. c ≡ replicate count None) }
     {
-        match Vec::from_elem(alloc, Cell::empty(), count) {
-            Ok(row) => Ok(Cells { row }),
-            Err(_) => Err(TryReserveError),
-        }
+        Ok(Cells {
+            row: Vec::from_elem(alloc, Cell::empty(), count)?,
+        })
     }
 
     /// How many there are.
@@ -132,10 +131,9 @@ impl Cells {
     pub fn clone(&self) -> Result<Cells, TryReserveError>
         ensures { IfOk result (λ c. c ≡ self.now) }
     {
-        match self.row.clone() {
-            Ok(row) => Ok(Cells { row }),
-            Err(_) => Err(TryReserveError),
-        }
+        Ok(Cells {
+            row: self.row.clone()?,
+        })
     }
 
     /// Empties all cells.

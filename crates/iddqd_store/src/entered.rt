@@ -44,12 +44,8 @@ impl<T> Entered<T> {
         ensures slots { self.new.slots ≡ self.old.slots }
         ensures room { OnOk result (length self.new.slots < self.new.room) }
     {
-        if self.slots.reserve(1).is_err() {
-            return Err(TryReserveError);
-        }
-        if self.items.reserve(self.slots.len() + 1).is_err() {
-            return Err(TryReserveError);
-        }
+        self.slots.reserve(1)?;
+        self.items.reserve(self.slots.len() + 1)?;
         Ok(())
     }
 

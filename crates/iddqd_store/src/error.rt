@@ -11,6 +11,13 @@ mod display;
 #[derive(Clone, Copy, Debug, PartialEq, Eq)]
 pub struct TryReserveError;
 
+/// So that `?` converts a refusal of std.
+impl From<AllocError> for TryReserveError {
+    fn from(_refused: AllocError) -> TryReserveError {
+        TryReserveError
+    }
+}
+
 /// So that `?` converts to `AllocError`.
 impl From<TryReserveError> for AllocError {
     fn from(_refused: TryReserveError) -> AllocError {

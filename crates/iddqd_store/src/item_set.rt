@@ -1,5 +1,5 @@
 //! Items in slots.
-ghost use Rattle.std.specs.Prelude.{◌≡◌, ◌+◌, ◌-◌, ◌<◌, ◌≤◌, ◌^◌, [], ◌∷◌, IsSome, IfNone, IfSome, is_some, MatchOption, OnOk, OnErr, Some, IsPermutation, option_copied, drop, length, ℕ, None, slice_set};
+ghost use Rattle.std.specs.Prelude.{◌≡◌, ◌+◌, ◌-◌, ◌<◌, ◌≤◌, ◌^◌, [], ◌∷◌, IsSome, IfNone, IfSome, is_some, OnOk, OnErr, Some, IsPermutation, option_copied, drop, length, None, slice_set};
 ghost use Rattle.std.specs.Option.{option_copied_mut};
 ghost use Rattle.std.specs.Borrow.{Lends, sem};
 ghost use Rattle.iddqd_store.specs.Slots.{get, items_in, IsLive, live_count, members, Updates, Exchanges, NextLive, TakesOut};
@@ -215,10 +215,8 @@ impl<T> ItemSet<T> {
             return Ok(());
         }
         let missing = more - (self.slots.len() - self.live);
-        match self.slots.reserve(missing) {
-            Ok(()) => Ok(()),
-            Err(_) => Err(TryReserveError),
-        }
+        self.slots.reserve(missing)?;
+        Ok(())
     }
 
     /// Puts an item into a free slot: the one that was freed last, or a new one where every slot is live.

@@ -1,7 +1,8 @@
--- The ranks of an item with three keys.
-use Rattle.std.specs.Prelude.{Bool, List, [], ◌∷◌}
+-- The ranks of an item with three keys, and the slots found by them.
+use Rattle.std.specs.Prelude.{ℕ, Bool, List, [], ◌∷◌, Option, None, Result, Ok, Err}
 use Rattle.iddqd_store.specs.Bag.{Ranks, every_of}
-use Rattle.iddqd_store.specs.Rank.{agree}
+use Rattle.iddqd_store.specs.Rank.{agree, SlotUnder}
+use Rattle.iddqd_store.specs.Table.{Spot}
 use Rattle.iddqd_tri.specs.declared.item.TriHashItem as item
 
 module _ {T K1 K2 K3 : Type 0} (of : item.Ghosts T K1 K2 K3) where
@@ -26,3 +27,8 @@ module _ {T K1 K2 K3 : Type 0} (of : item.Ghosts T K1 K2 K3) where
   -- whether an item has all keys
   abbrev pub has_all : {Q1 Q2 Q3 : Type 0} → (Q1 → K1 → Bool) → (Q2 → K2 → Bool) → (Q3 → K3 → Bool) → Q1 → Q2 → Q3 → T → Bool
   has_all stands1 stands2 stands3 q1 q2 q3 = every_of (key_tests stands1 stands2 stands3 q1 q2 q3)
+
+-- the slot that a search at each rank found, or none
+abbrev pub slots_found : Result (Spot × Spot × Spot) (SlotUnder × SlotUnder × SlotUnder) → List (Option ℕ)
+slots_found (Ok at) = None ∷ None ∷ None ∷ []
+slots_found (Err found) = found.0.slot ∷ found.1.slot ∷ found.2.slot ∷ []

@@ -1,5 +1,5 @@
 -- What a contract says of a `RefMut`.
-use Rattle.std.specs.Prelude.{◌≡◌, ℕ, [], Option, Some, None, IsPermutation}
+use Rattle.std.specs.Prelude.{◌≡◌, [], Option, Some, None, IsPermutation}
 use Rattle.std.specs.Borrow.{Fml, GName, RattleType, MutBor, RestsIfNone, follows}
 use Rattle.std.specs.declared.cmp.PartialEq as equal
 use Rattle.std.specs.declared.hash.Hash as hash
@@ -23,10 +23,6 @@ module _ {T S K1 K2 K3 H : Type 0} {of : item.Ghosts T K1 K2 K3} {eq1 : equal.Gh
   -- the map, as the reference has it
   abbrev pub ref_map : RefMut T S K1 K2 K3 H of eq1 input1 eq2 input2 eq3 input3 build hashes → Map T S
   ref_map r = r.map.now
-
-  -- its slot
-  abbrev pub ref_slot : RefMut T S K1 K2 K3 H of eq1 input1 eq2 input2 eq3 input3 build hashes → ℕ
-  ref_slot r = r.slot
 
   -- the item
   abbrev pub ref_item : RefMut T S K1 K2 K3 H of eq1 input1 eq2 input2 eq3 input3 build hashes → Option T

@@ -1,5 +1,5 @@
 //! Writing the items that two keys found.
-ghost use Rattle.std.specs.Prelude.{◌≡◌, not, map, None, Some, IfSome, IsPermutation};
+ghost use Rattle.std.specs.Prelude.{◌≡◌, not, map, Some, IfSome, IsPermutation};
 ghost use Rattle.std.specs.Borrow.{sem};
 ghost use Rattle.std.specs.Fn.{CalledAt};
 ghost use Rattle.std.specs.Option.{option_and_then, option_copied_mut, option_to_list};

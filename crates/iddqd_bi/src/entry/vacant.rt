@@ -38,10 +38,8 @@ impl<'a, T: Ranked, S: BuildHasher, Q: Keys<T::K1, T::K2>> VacantEntry<'a, T, S,
             at1,
             at2,
         } = self;
-        match map.put_free(item, keys.first(), keys.second(), at1, at2) {
-            Ok(slot) => Ok(RefMut { map, slot }),
-            Err(error) => Err(error),
-        }
+        let slot = map.put_free(item, keys.first(), keys.second(), at1, at2)?;
+        Ok(RefMut { map, slot })
     }
 
     /// The same as `insert`, and answers what an occupied entry answers in `into_mut`.
@@ -63,14 +61,12 @@ impl<'a, T: Ranked, S: BuildHasher, Q: Keys<T::K1, T::K2>> VacantEntry<'a, T, S,
             at1,
             at2,
         } = self;
-        match map.put_free(item, keys.first(), keys.second(), at1, at2) {
-            Ok(slot) => Ok(OccupiedEntryMut {
-                map,
-                slot1: Some(slot),
-                slot2: Some(slot),
-            }),
-            Err(error) => Err(error),
-        }
+        let slot = map.put_free(item, keys.first(), keys.second(), at1, at2)?;
+        Ok(OccupiedEntryMut {
+            map,
+            slot1: Some(slot),
+            slot2: Some(slot),
+        })
     }
 }
 

@@ -2,7 +2,6 @@
 ghost use Rattle.std.specs.Prelude.{◌≡◌, ◌+◌, ◌-◌, [], slice_get, IfSome, IfNone};
 ghost use Rattle.std.specs.Borrow.{sem};
 ghost use Rattle.std.specs.Option.{option_and_then, option_copied_mut, option_map};
-ghost use Rattle.iddqd_store.specs.Map.Walk.{Passes};
 ghost use Rattle.iddqd_store.specs.Slots.{get, IsLive};
 ghost use Rattle.iddqd_bi.specs.IterMuts.{lends_next, stepped, IsNextOf, IsCounted, rest_of};
 ghost use Rattle.iddqd_bi.specs.RefMuts.{ref_item, ref_map};
@@ -20,13 +19,11 @@ impl<T: BiHashItem, S: BuildHasher> IterMut<'_, T, S> {
         ensures next { option_and_then ref_item result ≡ slice_get (rest_of self.old) 0 }
         ensures unchanged { IfSome result (λ r. ref_map r ≡ self.old.map.now) }
     {
-        match self.advance() {
-            Some(slot) => Some(RefMut {
-                map: self.map,
-                slot,
-            }),
-            None => None,
-        }
+        let slot = self.advance()?;
+        Some(RefMut {
+            map: self.map,
+            slot,
+        })
     }
 
     /// Goes on behind the next item, and answers its slot.
@@ -38,14 +35,10 @@ impl<T: BiHashItem, S: BuildHasher> IterMut<'_, T, S> {
         ensures map { self.new.map ≡ self.old.map }
         ensures rests { IfNone result (self.new ≡ self.old) }
     {
-        match self.map.slot_from(self.next) {
-            Some(slot) => {
-                self.next = slot.number() + 1;
-                self.left = self.left.saturating_sub(1);
-                Some(slot)
-            }
-            None => None,
-        }
+        let slot = self.map.slot_from(self.next)?;
+        self.next = slot.number() + 1;
+        self.left = self.left.saturating_sub(1);
+        Some(slot)
     }
 }
 
@@ -61,13 +54,9 @@ impl<T: BiHashItemMut, S: BuildHasher> IterMut<'_, T, S> {
         ensures* lends { sem 𝓛 (lends_next T.row S.row T.K1.row T.K2.row S.Hasher.row
             T.BiHashItem T.K1.Hash T.K2.Hash S.BuildHasher S.Hasher.Hasher T.Data.row T.put self.entry result) }
     {
-        match self.map.slot_from(self.next) {
-            Some(ix) => {
-                self.next = ix.number() + 1;
-                self.left = self.left.saturating_sub(1);
-                Some(self.map.data_mut_at(ix))
-            }
-            None => None,
-        }
+        let ix = self.map.slot_from(self.next)?;
+        self.next = ix.number() + 1;
+        self.left = self.left.saturating_sub(1);
+        Some(self.map.data_mut_at(ix))
     }
 }

@@ -27,9 +27,7 @@ impl<T: BiHashItem + Clone, S: BuildHasher + Clone> BiHashMap<T, S> {
         ensures fits { IfOk result (λ copy. length (bag copy) ≤ copy.capacity) }
         ensures builder { IfOk result (λ copy. S.is_clone self.now.builder copy.builder) }
     {
-        let Ok(hash_builder) = self.hash_builder.clone() else {
-            return Err(TryReserveError);
-        };
+        let hash_builder = self.hash_builder.clone()?;
         let copy = BiHashMap {
             items: self.items.clone()?,
             first: self.first.clone()?,

@@ -24,30 +24,19 @@ impl<T: BiHashItem, S: BuildHasher> BiHashMap<T, S> {
             ≡ entry (⟦<T as Ranked>⟧.key_tests key1.now key2.now) (bag self.old) }
         ensures is_found { IsFound result }
     {
-        let hash1 = self.hash_builder.hash_one(key1);
-        let hash2 = self.hash_builder.hash_one(key2);
-        let by1 = self.by_key1().search(hash1, key1);
-        let by2 = self.by_key2().search(hash2, key2);
-        match (by1, by2) {
-            (Err(at1), Err(at2)) => Entry::Vacant(VacantEntry {
+        match self.search_all(key1, key2) {
+            Ok((at1, at2)) => Entry::Vacant(VacantEntry {
                 map: self,
                 keys: KeyPair { key1, key2 },
                 at1,
                 at2,
             }),
-            (Ok(slot1), by2) => Entry::Occupied(OccupiedEntry {
+            Err((by1, by2)) => Entry::Occupied(OccupiedEntry {
                 map: self,
                 key1,
                 key2,
-                slot1: Some(slot1),
-                slot2: by2.ok(),
-            }),
-            (Err(_), Ok(slot2)) => Entry::Occupied(OccupiedEntry {
-                map: self,
-                key1,
-                key2,
-                slot1: None,
-                slot2: Some(slot2),
+                slot1: by1.slot(),
+                slot2: by2.slot(),
             }),
         }
     }

@@ -150,7 +150,7 @@ impl<T: Ranked + Drop, S: BuildHasher + Default + Drop> BiHashMap<T, S> {
         let _ = map.grow(items.size_hint().0);
         for item in items {
             match map.try_insert(item) {
-                Ok(_) => {}
+                Ok(()) => {}
                 Err(Refusal::Duplicate(item, found)) => {
                     let nothing = Sought::nothing();
                     let duplicates = map.take_all(&found, &nothing, &nothing);

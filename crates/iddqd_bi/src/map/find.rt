@@ -42,8 +42,7 @@ impl<T: BiHashItem, S: BuildHasher> BiHashMap<T, S> {
             (bag self.now) (option_copied result) }
     {
         let hash = self.hash_builder.hash_one(query1);
-        let ix = self.slot_unique(hash, query1, query2)?;
-        self.items.get(ix)
+        self.item_of(self.slot_unique(hash, query1, query2))
     }
 
     /// Whether an item has the first key that the query stands for. Costs what `get1` does.

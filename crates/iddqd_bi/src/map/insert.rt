@@ -36,7 +36,7 @@ impl<T: Ranked, S: BuildHasher> BiHashMap<T, S> {
             self.entry result (λ new. Gains self.old item new)) }
     {
         match self.try_insert(item) {
-            Ok(_) => Ok(()),
+            Ok(()) => Ok(()),
             Err(Refusal::Duplicate(item, found)) => Err(InsertError {
                 map: self,
                 item,
@@ -68,7 +68,7 @@ impl<T: Ranked, S: BuildHasher> BiHashMap<T, S> {
         ensures reason { OnErr result ((clash T.ranks (bag self.old) item ≢ []) ⊎ IsFullFor T.ranks self.old item) }
     {
         match self.try_insert(item) {
-            Ok(_ix) => Ok(()),
+            Ok(()) => Ok(()),
             Err(Refusal::Duplicate(new_item, _)) | Err(Refusal::Memory(new_item)) => Err(new_item),
         }
     }

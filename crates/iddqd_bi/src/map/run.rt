@@ -97,7 +97,7 @@ where
         ensures builder { self.new.builder ≡ self.old.builder }
     {
         match self.try_insert(item) {
-            Ok(_) => self.tell(BiReply::Done, sink),
+            Ok(()) => self.tell(BiReply::Done, sink),
             Err(Refusal::Duplicate(item, found)) => self.tell_duplicate(item, &found, sink),
             Err(Refusal::Memory(item)) => self.tell(BiReply::Memory(item), sink),
         }

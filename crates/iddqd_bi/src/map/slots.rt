@@ -1,16 +1,16 @@
 //! Single items, by slot: where one goes in, room for it, putting it in and taking it out. Its files: the slots that
 //! searches by all keys `found`, how to `walk` and `write`, to put an item `over` others, and to `enter` a list that may
 //! be refused. What is done to all slots at once (emptying, copying and rebuilding them) goes to them itself.
-ghost use Rattle.std.specs.Prelude.{◌≡◌, ◌≢◌, ◌==◌, ℕ, ◌<◌, ◌≤◌, [], ◌∷◌, length, All, IsPermutation, OnOk, OnErr, IfOk, IfErr, Some, None, IfSome, nat_eq, slice_set};
-ghost use Rattle.std.specs.List.{IsDistinct};
+ghost use Rattle.std.specs.Prelude.{◌≡◌, ◌≢◌, ◌==◌, ℕ, ◌<◌, ◌≤◌, [], ◌∷◌, length, All, IsPermutation, OnOk, OnErr, IfOk, IfErr, Some, None, IfSome, nat_eq, slice_set, is_some, true, false};
+ghost use Rattle.std.specs.List.{IsDistinct, list_any};
 ghost use Rattle.iddqd_store.specs.Bag.{IsSound, clash, differ, listing};
 ghost use Rattle.iddqd_store.specs.Rank.Index.{HasHash};
 ghost use Rattle.iddqd_store.specs.Map.{bag, hash_of, Gains, Loses, MakesRoom, IsFullFor, IsBlockedAt};
 ghost use Rattle.iddqd_store.specs.Rank.{agree, IsPlaceOf, IsUnder, IsVacantFor};
-ghost use Rattle.iddqd_store.specs.Slots.Found.{each_once, items_at};
+ghost use Rattle.iddqd_store.specs.Slots.Found.{AreFound, each_once, items_at};
 ghost use Rattle.iddqd_store.specs.Slots.{get, IsLive, Updates};
 ghost use Rattle.iddqd_store.specs.Table.Limit.{most_room};
-ghost use Rattle.iddqd_bi.specs.Keys.{ranks};
+ghost use Rattle.iddqd_bi.specs.Keys.{ranks, slots_found};
 ghost use Rattle.iddqd_bi.specs.Mismatch.{error_item, error_rank, OnNoMemory};
 
 mod enter;
@@ -75,6 +75,45 @@ impl<T: BiHashItem, S: BuildHasher> BiHashMap<T, S> {
         self.hash_builder.hash_one(item.key2())
     }
 
+    /// What a search at each rank by its key finds: the empty cells where no item has one of the keys, or else the slots.
+    /// Each key is hashed once and searched for once.
+    #[inline(always)]
+    pub(crate) fn search_all(
+        &self,
+        key1: &T::K1,
+        key2: &T::K2,
+    ) -> Result<(Vacancy, Vacancy), (Sought, Sought)>
+        // The slots, and whether there are some.
+        ensures found { AreFound (⟦<T as Ranked>⟧.key_tests key1.now key2.now) self.now.slots (slots_found result) }
+        ensures none { OnOk result (list_any is_some (slots_found result) ≡ false) }
+        ensures some { OnErr result (list_any is_some (slots_found result) ≡ true) }
+        ensures apart { IsDistinct (agree T.key1 T.K1.eq) (bag self.now) }
+        // The empty cells.
+        ensures first { IfOk result (λ at. IsVacantFor (⟦<T as Hashed<S>>⟧.hash1 self.now.builder) (bag self.now)
+            (hash_of S.BuildHasher S.Hasher.Hasher self.now.builder (T.K1.hash_input key1.now)) at.0) }
+        ensures second { IfOk result (λ at. IsVacantFor (⟦<T as Hashed<S>>⟧.hash2 self.now.builder) (bag self.now)
+            (hash_of S.BuildHasher S.Hasher.Hasher self.now.builder (T.K2.hash_input key2.now)) at.1) }
+        // The hashes that the slots were found by.
+        ensures under1 { IfErr result (λ found. IsUnder (⟦<T as Hashed<S>>⟧.hash1 self.now.builder)
+            self.now.slots found.0) }
+        ensures hash1 { IfErr result (λ found. found.0.hash
+            ≡ hash_of S.BuildHasher S.Hasher.Hasher self.now.builder (T.K1.hash_input key1.now)) }
+        ensures under2 { IfErr result (λ found. IsUnder (⟦<T as Hashed<S>>⟧.hash2 self.now.builder)
+            self.now.slots found.1) }
+        ensures hash2 { IfErr result (λ found. found.1.hash
+            ≡ hash_of S.BuildHasher S.Hasher.Hasher self.now.builder (T.K2.hash_input key2.now)) }
+    {
+        let hash1 = self.hash_builder.hash_one(key1);
+        let hash2 = self.hash_builder.hash_one(key2);
+        let by1 = self.by_key1().search(hash1, key1);
+        let by2 = self.by_key2().search(hash2, key2);
+        match (by1, by2) {
+            (Err(at1), Err(at2)) => Ok((at1, at2)),
+            (Ok(ix1), by2) => Err((Sought::new(Some(ix1), hash1), Sought::new(by2.ok(), hash2))),
+            (Err(_), Ok(ix2)) => Err((Sought::new(None, hash1), Sought::new(Some(ix2), hash2))),
+        }
+    }
+
     /// Where an item goes in at each rank; or, where items conflict with it, what the search at each rank found. Each key
     /// is hashed once and searched for once.
     #[inline(always)]
@@ -93,15 +132,7 @@ impl<T: BiHashItem, S: BuildHasher> BiHashMap<T, S> {
             self.now.slots found.1) }
         ensures hash2 { IfErr result (λ found. found.1.hash ≡ ⟦<T as Hashed<S>>⟧.hash2 self.now.builder item.now) }
     {
-        let hash1 = self.hash_of1(item);
-        let hash2 = self.hash_of2(item);
-        let by1 = self.by_key1().search(hash1, item.key1());
-        let by2 = self.by_key2().search(hash2, item.key2());
-        match (by1, by2) {
-            (Err(at1), Err(at2)) => Ok((at1, at2)),
-            (Ok(ix1), by2) => Err((Sought::new(Some(ix1), hash1), Sought::new(by2.ok(), hash2))),
-            (Err(_), Ok(ix2)) => Err((Sought::new(None, hash1), Sought::new(Some(ix2), hash2))),
-        }
+        self.search_all(item.key1(), item.key2())
     }
 
     /// Puts an item in that nothing conflicts with, where it goes in at each rank.
@@ -169,7 +200,6 @@ impl<T: BiHashItem, S: BuildHasher> BiHashMap<T, S> {
         ensures slots { self.new.slots ≡ slice_set self.old.slots ix None }
         ensures loses { Loses self.old (result ∷ []) self.new }
         ensures updates { Updates self.old.slots self.new.slots ix None }
-        ensures room { length (bag self.new) < self.new.capacity }
     {
         match self.items.remove(ix) {
             Some(item) => {
@@ -197,8 +227,6 @@ impl<T: BiHashItem, S: BuildHasher> BiHashMap<T, S> {
         requires by2 { IsUnder (⟦<T as Hashed<S>>⟧.hash2 self.old.builder) self.old.slots by2.now }
         ensures values { result ≡ items_at self.old.slots found.now }
         ensures loses { Loses self.old result self.new }
-        ensures room { length found.now ≢ 0 → length (bag self.new) < self.new.capacity }
-        ensures none { length found.now ≡ 0 → self.new ≡ self.old }
         ensures others { (at : ℕ) → IsDistinct nat_eq (at ∷ found.now) → get self.new.slots at ≡ get self.old.slots at }
         ensures left { (at : ℕ) (x : T) → get self.new.slots at ≡ Some x → get self.old.slots at ≡ Some x }
     {
@@ -261,15 +289,14 @@ impl<T: BiHashItem, S: BuildHasher> BiHashMap<T, S> {
         Ok(())
     }
 
-    /// Puts an item in where none conflicts with it, and answers its slot. It is refused with the slots of those that
-    /// do, or, where the map is full and cannot grow, for memory.
+    /// Puts an item in where none conflicts with it. It is refused with the slots of those that do, or, where the map is
+    /// full and cannot grow, for memory.
     ///
     /// It is one body with what it calls, but for growing: so a caller's loop looks at the outcome where it arises, and
     /// where the item goes in nothing is written to memory but the item and its pairs.
     #[inline(always)]
-    pub(crate) fn try_insert(&mut self, item: T) -> Result<ItemIndex, Refusal<T>>
+    pub(crate) fn try_insert(&mut self, item: T) -> Result<(), Refusal<T>>
         ensures gains { OnOk result (Gains self.old item self.new) }
-        ensures at { IfOk result (λ ix. get self.new.slots ix ≡ Some item) }
         ensures free { OnOk result (clash ⟦<T as Ranked>⟧.ranks (bag self.old) item ≡ []) }
         ensures handed_back { IfErr result (λ e. refusal_item e ≡ item) }
         ensures unchanged { OnErr result (self.new ≡ self.old) }
@@ -286,6 +313,7 @@ impl<T: BiHashItem, S: BuildHasher> BiHashMap<T, S> {
         if let Err(_) = self.make_room() {
             return Err(Refusal::Memory(item));
         }
-        Ok(self.put(item, at1, at2))
+        self.put(item, at1, at2);
+        Ok(())
     }
 }

@@ -26,10 +26,8 @@ impl<T: BiHashItem, S: BuildHasher> BiHashMap<T, S> {
         ensures same_map { IfSome result (λ r. ref_lender r ≡ self.entry.ghost_name) }
         ensures* rests_at_none { sem 𝓛 (rests_if_none T.row S.row T.K1.row T.K2.row S.Hasher.row self.entry result) }
     {
-        match self.by_key1().slot_of(query) {
-            Some(slot) => Some(RefMut { map: self, slot }),
-            None => None,
-        }
+        let slot = self.by_key1().slot_of(query)?;
+        Some(RefMut { map: self, slot })
     }
 
     /// The item with this second key, for writing. It takes no memory.
@@ -41,10 +39,8 @@ impl<T: BiHashItem, S: BuildHasher> BiHashMap<T, S> {
         ensures same_map { IfSome result (λ r. ref_lender r ≡ self.entry.ghost_name) }
         ensures* rests_at_none { sem 𝓛 (rests_if_none T.row S.row T.K1.row T.K2.row S.Hasher.row self.entry result) }
     {
-        match self.by_key2().slot_of(query) {
-            Some(slot) => Some(RefMut { map: self, slot }),
-            None => None,
-        }
+        let slot = self.by_key2().slot_of(query)?;
+        Some(RefMut { map: self, slot })
     }
 
     /// The item that has both keys, for writing. It takes no memory.
@@ -61,10 +57,8 @@ impl<T: BiHashItem, S: BuildHasher> BiHashMap<T, S> {
         ensures same_map { IfSome result (λ r. ref_lender r ≡ self.entry.ghost_name) }
         ensures* rests_at_none { sem 𝓛 (rests_if_none T.row S.row T.K1.row T.K2.row S.Hasher.row self.entry result) }
     {
-        match self.slot_of_both(query1, query2) {
-            Some(slot) => Some(RefMut { map: self, slot }),
-            None => None,
-        }
+        let slot = self.slot_of_both(query1, query2)?;
+        Some(RefMut { map: self, slot })
     }
 
     /// The next item of a walk over the map, for writing, and `None` behind the last one. The cursor goes on behind it.
@@ -88,13 +82,9 @@ impl<T: BiHashItem, S: BuildHasher> BiHashMap<T, S> {
         // Where nothing is to come, the map ends as it was.
         ensures* rests_at_none { sem 𝓛 (rests_if_none T.row S.row T.K1.row T.K2.row S.Hasher.row self.entry result) }
     {
-        match self.slot_from(at.next()) {
-            Some(slot) => {
-                at.pass(slot);
-                Some(RefMut { map: self, slot })
-            }
-            None => None,
-        }
+        let slot = self.slot_from(at.next())?;
+        at.pass(slot);
+        Some(RefMut { map: self, slot })
     }
 
     /// Each item once, for writing, in no promised order. It takes no memory.

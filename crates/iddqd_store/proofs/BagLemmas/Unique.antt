@@ -44,15 +44,6 @@ module _ {T : Type 0} where
   any_listed test (x ∷ xs) = split (λ b. (b || list_any test xs) ≡ some_item (cond b (x ∷ filter test xs) (filter test xs))) (test x) (λ _. refl) (λ _. any_listed test xs)
 
   -- a lookup gives something exactly if a member passes
-  pub is_some-only : (test : T → Bool) (xs : List T) (o : Option T) → option_to_list o ≡ filter test xs → is_some o ≡ list_any test xs
-  is_some-only test xs None is = ap some_item is ∙ sym (any_listed test xs)
-  is_some-only test xs (Some x) is = ap some_item is ∙ sym (any_listed test xs)
-
   pub is_some-found : (test : T → Bool) (xs : List T) (found : Option (Bor T)) → option_to_list (option_copied found) ≡ filter test xs → is_some found ≡ list_any test xs
   is_some-found test xs None is = ap some_item is ∙ sym (any_listed test xs)
   is_some-found test xs (Some b) is = ap some_item is ∙ sym (any_listed test xs)
-
--- one test alone
-pub every_one : (a b : Bool) → a ≡ b → (a && true) ≡ b
-every_one true b is = is
-every_one false b is = is

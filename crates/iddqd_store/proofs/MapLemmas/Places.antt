@@ -1,5 +1,5 @@
 -- What searches by each key of an item say of what conflicts with it.
-use Rattle.std.specs.Prelude.{◌≡◌, ℕ, Bool, true, false, List, [], ◌∷◌, ◌++◌, length, Option, Some, None, is_some, IsSome, IsPermutation, slice_get, slice_set}
+use Rattle.std.specs.Prelude.{◌≡◌, ℕ, Bool, true, false, List, [], ◌∷◌, ◌++◌, length, Option, Some, None, is_some, IsSome, IsPermutation, slice_set}
 use Rattle.std.specs.Cmp.{IsEquivalence}
 use Rattle.std.specs.List.{AllByRecursion, IsDistinct, list_any}
 use Rattle.std.specs.Option.{IfSome}
@@ -69,11 +69,6 @@ gives_way {T} ranks slots rest x ix ixs others items live same are taken = by_sl
         let all : IsPermutation (live_items slots) (y ∷ (others ++ left)) =
         IsPermutation-trans _ _ _ taken (IsPermutation-trans _ _ _ (IsPermutation-append others others _ _ (IsPermutation-refl others) out) (IsPermutation-middle others y left)) in
         subst (λ l. IsPermutation (live_items slots) (l ++ left)) (sym listed ∙ items) all
-
--- a list with no first number
-pub none_first : (ixs : List ℕ) → slice_get ixs 0 ≡ None → length ixs ≡ 0
-none_first [] none = refl
-none_first (ix ∷ ixs) none = absurd (cc none)
 
 -- items that stand in these slots stand in the same slots
 pub stand_in : {T : Type 0} {slots : List (Option T)} {xs : List T} {found others : List ℕ} → found ≡ others → StandAt slots others xs → StandAt slots found xs

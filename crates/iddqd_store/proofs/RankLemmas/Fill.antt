@@ -1,10 +1,10 @@
 -- How a table is filled from slots, one after another.
-use Rattle.std.specs.Prelude.{◌≡◌, ℕ, suc, ◌+◌, ◌<◌, ◌≤◌, List, [], ◌∷◌, ◌++◌, length, map, drop, IsPermutation, Option, Some, None}
+use Rattle.std.specs.Prelude.{◌≡◌, ℕ, suc, ◌+◌, ◌<◌, List, [], ◌∷◌, ◌++◌, length, map, drop, IsPermutation, Option, Some, None}
 use Rattle.std.proofs.Common.{refl, sym, ap, subst, ◌∙◌, arith}
-use Rattle.std.proofs.lemmas.List.{drop_more, append-nil, length-append, length-map, drop_all}
+use Rattle.std.proofs.lemmas.List.{drop_more, length-append, length-map}
 use Rattle.std.proofs.lemmas.List.Sorted.{IsPermutation-refl, IsPermutation-sym, IsPermutation-trans, IsPermutation-middle, IsPermutation-append_left, length_permutation}
 use Rattle.iddqd_store.specs.Slots.{get, live_count, live_items, items_in, members_from, members}
-use Rattle.iddqd_store.specs.Rank.Index.{pair_of, IsIndex}
+use Rattle.iddqd_store.specs.Rank.Index.{pair_of}
 use Rattle.iddqd_store.proofs.RankLemmas.Index.{length-members_from}
 use Rattle.iddqd_store.proofs.SlotLemmas.Chain.{live_items-items_in}
 
@@ -48,11 +48,6 @@ module _ {T : Type 0} (hash : T → ℕ) (slots : List (Option T)) where
       let both : length (pairs ++ pairs_from at) ≡ length pairs + length (pairs_from at) = length-append pairs (pairs_from at) in
       let count : length (map (pair_of hash) (members slots)) ≡ live_count slots = length-map (members slots) (pair_of hash) ∙ length-members_from 0 slots in
       omega (arith, all, some, both, count)
-
-  pub IsFilling-end : (at : ℕ) (pairs : List (ℕ × ℕ)) → length slots ≤ at → IsFilling at pairs → IsIndex hash slots pairs
-  IsFilling-end at pairs past filling =
-      let none : pairs_from at ≡ [] = rw (drop_all at slots past) refl in
-      record { paired = subst (λ all. IsPermutation all (map (pair_of hash) (members slots))) (ap (λ rest. pairs ++ rest) none ∙ append-nil pairs) filling }
 
 module _ {T : Type 0} where
   items_in-all : (xs : List T) → items_in (map Some xs) ≡ xs

@@ -2,10 +2,10 @@
 use Rattle.std.specs.Prelude.{◌≡◌, ℕ, zero, suc, Bool, true, false, cond, List, [], ◌∷◌, filter, Contains, Option, Some, None}
 use Rattle.std.specs.List.{IsDistinct, AllByRecursion}
 use Rattle.std.specs.Option.{option_map_or, option_to_list, option_and_then, IfSome, IfNone}
-use Rattle.std.proofs.Common.{IsSome, inl, inr, refl, sym, ap, subst, ◌∙◌, arith}
+use Rattle.std.proofs.Common.{inl, inr, refl, sym, ap, subst, ◌∙◌, arith}
 use Rattle.std.proofs.lemmas.Bool.{false≢true}
 use Rattle.std.proofs.lemmas.Map.Keys.{IsDistinct-head, IsDistinct-tail}
-use Rattle.iddqd_store.specs.Slots.{get, IsLive, live_items}
+use Rattle.iddqd_store.specs.Slots.{get, live_items}
 use Rattle.iddqd_store.specs.Rank.Index.{IsIndex, passes_at}
 use Rattle.iddqd_store.specs.Slots.Found.{NamesOneOf}
 use Rattle.iddqd_store.proofs.BagLemmas.Exchanges.{split}
@@ -60,12 +60,3 @@ module _ {T : Type 0} where
   pub search_among : (agree : T → T → Bool) (test : T → Bool) (hash : T → ℕ) (h : ℕ) (slots : List (Option T)) (pairs : List (ℕ × ℕ)) (r : Option ℕ) → NamesOneOf agree test (live_items slots) → IsDistinct agree (live_items slots) → IsIndex hash slots pairs → ((x : T) → Contains (live_items slots) x → test x ≡ true → hash x ≡ h) → IfSome r (λ at. passes_at test slots at ≡ true) → IfNone r ((at : ℕ) → Contains pairs (h, at) → passes_at test slots at ≡ false) → option_to_list (option_and_then (get slots) r) ≡ filter test (live_items slots)
   search_among agree test hash h slots pairs None names apart index alike some none = sym (none_is hash test h slots pairs index alike none)
   search_among agree test hash h slots pairs (Some at) names apart index alike some none = found_among agree test slots at names apart some
-
-  -- a slot whose item passes is live
-  pub live_among : (test : T → Bool) (slots : List (Option T)) (r : Option ℕ) → IfSome r (λ at. passes_at test slots at ≡ true) → IfSome r (IsLive slots)
-  live_among test slots None h = tt
-  live_among test slots (Some at) h = by_slot (get slots at) h
-    where
-      by_slot : (o : Option T) → option_map_or test o false ≡ true → IsSome o
-      by_slot None h = absurd (false≢true h)
-      by_slot (Some x) h = refl

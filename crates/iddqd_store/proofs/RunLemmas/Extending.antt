@@ -4,7 +4,7 @@ use Rattle.std.specs.Prelude.{IsPermutation}
 use Rattle.std.specs.Iterator.{Yields, YieldsThen}
 use Rattle.std.proofs.lemmas.Bool.{cases_lt}
 use Rattle.std.proofs.lemmas.List.{take_all, take-append-le}
-use Rattle.std.proofs.lemmas.List.Sorted.{IsPermutation-refl, length_permutation}
+use Rattle.std.proofs.lemmas.List.Sorted.{length_permutation}
 use Rattle.iddqd_store.specs.Bag.{Ranks, over, overs}
 use Rattle.iddqd_store.specs.Runs.Step.{State, FitsOnTheWay, ExtendsTo}
 use Rattle.iddqd_store.proofs.BagLemmas.Steps.{overs-step}
@@ -20,17 +20,6 @@ module _ {S T : Type 0} (steps : S → Option T → S → Type 0) (left : S → 
   yielded_then xs s u x run = yielded xs s run.0 run.1 ∙ ap (λ ys. xs ++ ys) (first run.0 u x run.2)
 
 module _ {T : Type 0} (ranks : Ranks T) where
-  -- nothing came yet
-  pub ExtendsTo-nil : (old new : State T) → new.items ≡ old.items → length new.items ≤ new.capacity → old.capacity ≤ new.capacity → ExtendsTo ranks old [] new
-  ExtendsTo-nil old new same fits no_less =
-      (subst (λ (l : List T). IsPermutation l old.items) (sym same) (IsPermutation-refl old.items), way, no_less)
-    where
-      way : FitsOnTheWay ranks old.items [] new.capacity
-      way n =
-          let none = take_all {A = T} n [] (omega arith) in
-          let least : length old.items ≤ new.capacity = omega (arith, ap length same) in
-          subst (λ (l : List T). length (overs ranks old.items l) ≤ new.capacity) (sym none) least
-
   -- one more item came
   pub ExtendsTo-push : (old held new : State T) (xs : List T) (x : T) → ExtendsTo ranks old xs held → IsPermutation new.items (over ranks held.items x)
       → length new.items ≤ new.capacity → held.capacity ≤ new.capacity → ExtendsTo ranks old (xs ++ x ∷ []) new

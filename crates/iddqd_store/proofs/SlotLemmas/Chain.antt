@@ -8,7 +8,7 @@ use Rattle.std.proofs.lemmas.Option.{slice_get_within, slice_get-get_or, slice_g
 use Rattle.iddqd_store.specs.declared.item_set.Slot.{Slot}
 use Rattle.iddqd_store.specs.declared.item_set.Slot.TheVariants.{Free, Live}
 use Rattle.iddqd_store.specs.Slots.Chain.{item_of, live_slots, IsChain, IsChained}
-use Rattle.iddqd_store.specs.Slots.{IsLive, live_count, Updates, Exchanges, members_from, live_items, items_in}
+use Rattle.iddqd_store.specs.Slots.{live_count, Updates, Exchanges, members_from, live_items, items_in}
 
 module _ {T : Type 0} where
   -- a key starts one list of vacant entries at most
@@ -226,10 +226,6 @@ module _ {T : Type 0} where
         had = members-take slots at x found;
         has = members-set slots at x y found;
       }
-
-  -- a live slot is among the slots
-  pub IsLive-within : (slots : List (Option T)) (key : ℕ) → IsLive slots key → key < length slots
-  IsLive-within slots key present = grind (arith, get_or_past)
 
 module _ {T : Type 0} where
   pub items_of-members_from : (first : ℕ) (slots : List (Option T)) → map (λ m. m.1) (members_from first slots) ≡ items_in slots

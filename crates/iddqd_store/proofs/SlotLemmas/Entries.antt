@@ -7,9 +7,9 @@ use Rattle.std.specs.Option.{option_copied_mut, option_map, option_to_list, opti
 use Rattle.std.proofs.Common.{IsSome, inl, inr, refl, sym, ap, subst, ◌∙◌, arith, append-nil, append_assoc}
 use Rattle.std.proofs.lemmas.Bool.{false≢true}
 use Rattle.std.proofs.lemmas.Bool.Decides.{nat_tests}
-use Rattle.iddqd_store.specs.Bag.{listing, all_of, every_of, entry, entry_of, is_unique}
-use Rattle.iddqd_store.specs.Slots.{get, IsLive, live_items}
-use Rattle.iddqd_store.specs.Slots.Found.{items_at, lists, with_found, each_once, is_at, found_by_all, head_of, FoundAt, AreFound, held_at, entry_at}
+use Rattle.iddqd_store.specs.Bag.{listing, all_of, every_of, entry, entry_of}
+use Rattle.iddqd_store.specs.Slots.{get, live_items}
+use Rattle.iddqd_store.specs.Slots.Found.{items_at, lists, with_found, each_once, is_at, found_by_all, FoundAt, AreFound, held_at, entry_at}
 use Rattle.iddqd_store.proofs.BagLemmas.Entries.{all_of-next}
 use Rattle.iddqd_store.proofs.BagLemmas.Exchanges.{split}
 use Rattle.iddqd_store.proofs.BagLemmas.Over.{IsDistinct-with_found}
@@ -108,7 +108,7 @@ module _ {T : Type 0} {agree : T → T → Bool} (laws : IsEquivalence agree) (s
       ap (λ l. entry_of l (items_at slots (found_by_all (at ∷ found)))) (found_listing (test ∷ tests) (at ∷ found) are)
       ∙ ap (entry_of (listing (test ∷ tests) (live_items slots))) (found_whole test tests (at ∷ found) are)
 
--- slots that searches found hold one item exactly if all found one slot
+-- what the slots that searches found hold
 module _ {T : Type 0} (slots : List (Option T)) where
   front_stays : (ix : ℕ) (l : List ℕ) (found : List (Option ℕ)) → (rest : List ℕ) × (fold with_found (ix ∷ l) found ≡ ix ∷ rest)
   front_stays ix l [] = (l, refl)
@@ -117,24 +117,6 @@ module _ {T : Type 0} (slots : List (Option T)) where
       split (λ t. (rest : List ℕ) × (fold with_found (if t then ix ∷ l else (ix ∷ l) ++ b ∷ []) found ≡ ix ∷ rest)) (lists (ix ∷ l) b)
       (λ _. front_stays ix l found)
       (λ _. front_stays ix (l ++ b ∷ []) found)
-
-  pub unique_at : (at : Option ℕ) (found : List (Option ℕ)) → IfSome at (IsLive slots) → is_unique (entry_at slots (at ∷ found)) ≡ is_some (head_of (found_by_all (at ∷ found)))
-  unique_at None found live = no_whole (held_at slots (None ∷ found))
-    where
-      no_whole : (l : List T) → is_unique (entry_of l []) ≡ false
-      no_whole [] = refl
-      no_whole (x ∷ l) = refl
-  unique_at (Some ix) found live = by_slot (get slots ix) refl live
-    where
-      by_slot : (o : Option T) → get slots ix ≡ o → IsSome o → is_unique (entry_at slots (Some ix ∷ found)) ≡ is_some (head_of (found_by_all (Some ix ∷ found)))
-      by_slot None there some = absurd (cc)
-      by_slot (Some x) there some =
-          let front = front_stays ix [] found in
-          let held : held_at slots (Some ix ∷ found) ≡ x ∷ items_at slots front.0 = ap (items_at slots) front.1 ∙ (rw there refl) in
-          ap (λ l. is_unique (entry_of l (items_at slots (found_by_all (Some ix ∷ found))))) held
-          ∙ split (λ b. is_unique (entry_of (x ∷ items_at slots front.0) (items_at slots (cond b (ix ∷ []) []))) ≡ is_some (head_of (cond b (ix ∷ []) []))) (list_all (is_at ix) found)
-          (λ _. rw there refl)
-          (λ _. refl)
 
   -- where a search found a slot, some item is held
   pub held_some : (tests : List (T → Bool)) (found : List (Option ℕ)) → AreFound tests slots found → list_any is_some found ≡ true → held_at slots found ≢ []

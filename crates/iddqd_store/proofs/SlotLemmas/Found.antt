@@ -132,13 +132,6 @@ module _ {T : Type 0} where
           items_at-push slots ixs b ∙ ap (λ o. items_at slots ixs ++ option_to_list o) at ∙ ap (λ l. l ++ y ∷ []) before
           ∙ sym (goal ∙ ap (λ t. listing tests bag ++ cond (not t) (y ∷ []) []) fails))
 
--- what `is_empty` says of a list
-pub none_found : (n : ℕ) (b : Bool) → b ≡ nat_eq n 0 → b ≡ true → n ≡ 0
-none_found n b is empty = grind (arith, nat_tests)
-
-pub some_found : (n : ℕ) (b : Bool) → b ≡ nat_eq n 0 → b ≡ false → n ≢ 0
-some_found n b is filled = grind (arith, nat_tests)
-
 module _ {T : Type 0} where
   -- where no conflicting slot is found, nothing conflicts
   pub clash_none : (ranks : Ranks T) (slots : List (Option T)) (x : T) (ixs : List ℕ) → items_at slots ixs ≡ order ranks (live_items slots) x → length ixs ≡ 0 → clash ranks (live_items slots) x ≡ []

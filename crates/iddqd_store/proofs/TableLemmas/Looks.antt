@@ -2,7 +2,6 @@
 use Rattle.std.proofs.Common.{◌≡◌, ℕ, ◌+◌, ◌<◌, ◌≤◌, List, Option, None, Some, length, ⊎_elim, arith}
 use Rattle.std.specs.List.Sorted.{IsPermutation}
 use Rattle.std.proofs.lemmas.Bool.{cases_lt}
-use Rattle.std.proofs.lemmas.List.Sorted.{IsPermutation-map}
 use Rattle.iddqd_store.specs.Table.Ring.{stretch}
 use Rattle.iddqd_store.specs.Table.{hashes, LooksUp}
 use Rattle.iddqd_store.proofs.TableLemmas.Stretch.{stretch_permutation}
@@ -29,7 +28,3 @@ looks_most hashes n hash (Some x) before after l =
     let s : stretch hashes n hash ≤ length hashes = stretch_le_length hashes n hash in
     let m : after ≤ before + stretch hashes n hash = l.hit_most in
     omega arith
-
--- pairs in another order
-pub looks_pairs : {A : Type 0} (ps qs : List (ℕ × ℕ)) (n hash : ℕ) (answer : Option A) (before after : ℕ) → IsPermutation ps qs → LooksUp (hashes ps) n hash answer before after → LooksUp (hashes qs) n hash answer before after
-looks_pairs ps qs n hash answer before after same l = looks_permutation (hashes ps) (hashes qs) n hash answer before after (IsPermutation-map (λ p. p.0) ps qs same) l

@@ -46,9 +46,6 @@ pub record Walk (row : List (Option (ℕ × ℕ))) (home at steps : ℕ) : Type 
 pub room : (row : List (Option (ℕ × ℕ))) → IsTable row → 0 < length row → Empty row
 room row t l = has_empty row (let f : length (held row) ≤ length row / 8 * 7 = t.fits in omega arith)
 
-pub walk_start : (row : List (Option (ℕ × ℕ))) (home : ℕ) → home < length row → Walk row home home 0
-walk_start row home l = record { within = omega arith; at_is = grind (arith, nat_tests); passed = λ k lk. absurd (omega arith) }
-
 pub walk_below : (row : List (Option (ℕ × ℕ))) (home at s : ℕ) → home < length row → Walk row home at s → at < length row
 walk_below row home at s l w = rw w.at_is (place_below (length row) home s l w.within)
 
@@ -93,9 +90,6 @@ walk_meets row hash at s index t w none c =
 
 abbrev pub Refused : List (Option (ℕ × ℕ)) → ℕ → (ℕ → Bool) → ℕ → Type 0
 Refused row hash accepts s = (k : ℕ) → k < s → (index : ℕ) → cell row (place (length row) (hash % length row) k) ≡ Some (hash, index) → accepts index ≡ false
-
-pub refused_none : (row : List (Option (ℕ × ℕ))) (hash : ℕ) (accepts : ℕ → Bool) (s : ℕ) → s ≡ 0 → Refused row hash accepts s
-refused_none row hash accepts s e k l = absurd (omega arith)
 
 pub refused_more : (row : List (Option (ℕ × ℕ))) (hash : ℕ) (accepts : ℕ → Bool) (s t at : ℕ) (x : ℕ × ℕ) → t ≡ s + 1 → Walk row (hash % length row) at s → cell row at ≡ Some x → Refused row hash accepts s → (x.0 ≡ hash → accepts x.1 ≡ false) → Refused row hash accepts t
 refused_more row hash accepts s t at x e w i r declines k l index j =
@@ -194,15 +188,6 @@ walk_to row home at l w = record {
       let g : gap (length row) home at < length row = gap_below (length row) home at l w.below in
       let e : gap (length row) home (place (length row) home k) ≡ k = gap_place (length row) home k l (omega arith) in
       w.first (place (length row) home k) (place_below (length row) home k l (omega arith)) (omega arith);
-}
-
-pub walk_way : (row : List (Option (ℕ × ℕ))) (home at s : ℕ) → home < length row → Walk row home at s → IsWayTo row home at
-walk_way row home at s l w = record {
-  below = walk_below row home at s l w;
-  first = λ q lq h.
-      let g : gap (length row) home at ≡ s = ap (gap (length row) home) w.at_is ∙ gap_place (length row) home s l w.within in
-      let f : cell row (place (length row) home (gap (length row) home q)) ≢ None = w.passed (gap (length row) home q) (subst (λ (m : ℕ). gap (length row) home q < m) g h) in
-      subst (λ (p : ℕ). cell row p ≢ None) (place_gap (length row) home q l lq) f;
 }
 
 pub walk_gap : (row : List (Option (ℕ × ℕ))) (home at s : ℕ) → home < length row → Walk row home at s → gap (length row) home at ≡ s

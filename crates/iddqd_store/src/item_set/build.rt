@@ -12,13 +12,10 @@ impl<T> ItemSet<T> {
         ensures capacity { IfOk result (λ s. s.capacity ≡ items) }
         ensures never_refused { items ≡ 0 → IsOk result }
     {
-        match Vec::with_capacity(alloc, items) {
-            Ok(slots) => Ok(ItemSet {
-                slots,
-                live: 0,
-                head: 0,
-            }),
-            Err(_) => Err(TryReserveError),
-        }
+        Ok(ItemSet {
+            slots: Vec::with_capacity(alloc, items)?,
+            live: 0,
+            head: 0,
+        })
     }
 }

@@ -1,5 +1,5 @@
 //! Copies of a set.
-ghost use Rattle.std.specs.Prelude.{◌≡◌, IfOk};
+ghost use Rattle.std.specs.Prelude.{IfOk};
 ghost use Rattle.std.specs.List.{AllZip};
 ghost use Rattle.iddqd_store.specs.Slots.{live_items, IsSlotClone};
 
@@ -27,13 +27,10 @@ impl<T: Clone> ItemSet<T> {
         ensures slots { IfOk result (λ copy. AllZip (IsSlotClone T.is_clone) self.now.slots copy.slots) }
         ensures items { IfOk result (λ copy. AllZip T.is_clone (live_items self.now.slots) (live_items copy.slots)) }
     {
-        match self.slots.clone() {
-            Ok(slots) => Ok(ItemSet {
-                slots,
-                live: self.live,
-                head: self.head,
-            }),
-            Err(_) => Err(TryReserveError),
-        }
+        Ok(ItemSet {
+            slots: self.slots.clone()?,
+            live: self.live,
+            head: self.head,
+        })
     }
 }

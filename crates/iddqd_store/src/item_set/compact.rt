@@ -1,5 +1,5 @@
 //! Sets without free slots.
-ghost use Rattle.std.specs.Prelude.{◌≡◌, ◌<◌, ◌≤◌, ◌++◌, [], length, map, min, max, Some, OnOk, OnErr, vec_capacity, count_by};
+ghost use Rattle.std.specs.Prelude.{◌≡◌, ◌<◌, ◌≤◌, [], length, map, min, max, Some, OnOk, OnErr, vec_capacity};
 ghost use Rattle.iddqd_store.specs.Slots.{live_items, live_count};
 ghost use Rattle.iddqd_store.specs.Slots.Chain.{live_slots};
 
@@ -51,9 +51,7 @@ impl<T: Drop> ItemSet<T> {
             return Ok(());
         }
         let alloc = *self.slots.allocator();
-        let Ok(fresh) = Vec::with_capacity(alloc, wanted) else {
-            return Err(TryReserveError);
-        };
+        let fresh = Vec::with_capacity(alloc, wanted)?;
         let slots = mem::replace(&mut self.slots, Vec::new(alloc));
         self.slots = gathered(slots, fresh);
         self.head = self.slots.len();

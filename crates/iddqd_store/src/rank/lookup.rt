@@ -105,8 +105,10 @@ impl<'a, T, R: KeyOf<T>, S: BuildHasher> Lookup<'a, T, R, S> {
             (key_hash R.key R.Key.hash_input S.BuildHasher S.Hasher.Hasher self.now.builder) (bag self.now)
             self.now.capacity hash result (M.asked matcher.old) (M.asked matcher.new) meter.old meter.new }
     {
-        let ix = self.slot_with(hash, matcher, meter)?;
-        self.items.get(ix)
+        match self.search_with(hash, matcher, meter) {
+            Ok(ix) => self.items.get(ix),
+            Err(_) => None,
+        }
     }
 
     /// The slot of the item whose key the query stands for, where this is the query's hash.
@@ -136,32 +138,6 @@ impl<'a, T, R: KeyOf<T>, S: BuildHasher> Lookup<'a, T, R, S> {
             (key_hash R.key R.Key.hash_input S.BuildHasher S.Hasher.Hasher self.now.builder) (bag self.now) hash) }
     {
         self.search_with(hash, &mut ByQuery::new(&query), &mut Meter::new())
-    }
-
-    /// The slot of the item whose key the matcher accepts.
-    pub fn slot_with<M: KeyMatcher<R::Key>>(
-        &self,
-        hash: u64,
-        matcher: &mut M,
-        meter: &mut Meter,
-    ) -> Option<ItemIndex>
-        requires { NamesOneUnder (agree R.key R.Key.eq)
-            (key_hash R.key R.Key.hash_input S.BuildHasher S.Hasher.Hasher self.now.builder) hash
-            (λ x. M.accepts matcher.old (R.key x)) (bag self.now) }
-        ensures found { IsOnly (λ x. M.accepts matcher.old (R.key x)) (bag self.now)
-            (option_and_then (get self.now.slots) result) }
-        ensures live { IfSome result (IsLive self.now.slots) }
-        ensures hashed { IfSome result (λ ix. HasHash
-            (key_hash R.key R.Key.hash_input S.BuildHasher S.Hasher.Hasher self.now.builder) self.now.slots ix hash) }
-        ensures is_kept { M.IsKept matcher.old matcher.new }
-        ensures costs { SearchCosts
-            (key_hash R.key R.Key.hash_input S.BuildHasher S.Hasher.Hasher self.now.builder) (bag self.now)
-            self.now.capacity hash result (M.asked matcher.old) (M.asked matcher.new) meter.old meter.new }
-    {
-        match self.search_with(hash, matcher, meter) {
-            Ok(ix) => Some(ix),
-            Err(_) => None,
-        }
     }
 
     /// The slot of the item whose key the matcher accepts, or where there is none the empty cell for a pair under the

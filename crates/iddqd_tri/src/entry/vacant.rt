@@ -39,7 +39,7 @@ impl<'a, T: Ranked, S: BuildHasher, Q: Keys<T::K1, T::K2, T::K3>> VacantEntry<'a
             at2,
             at3,
         } = self;
-        match map.put_free(
+        let slot = map.put_free(
             item,
             keys.first(),
             keys.second(),
@@ -47,10 +47,8 @@ impl<'a, T: Ranked, S: BuildHasher, Q: Keys<T::K1, T::K2, T::K3>> VacantEntry<'a
             at1,
             at2,
             at3,
-        ) {
-            Ok(slot) => Ok(RefMut { map, slot }),
-            Err(error) => Err(error),
-        }
+        )?;
+        Ok(RefMut { map, slot })
     }
 
     /// The same as `insert`, and answers what an occupied entry answers in `into_mut`.
@@ -73,7 +71,7 @@ impl<'a, T: Ranked, S: BuildHasher, Q: Keys<T::K1, T::K2, T::K3>> VacantEntry<'a
             at2,
             at3,
         } = self;
-        match map.put_free(
+        let slot = map.put_free(
             item,
             keys.first(),
             keys.second(),
@@ -81,15 +79,13 @@ impl<'a, T: Ranked, S: BuildHasher, Q: Keys<T::K1, T::K2, T::K3>> VacantEntry<'a
             at1,
             at2,
             at3,
-        ) {
-            Ok(slot) => Ok(OccupiedEntryMut {
-                map,
-                slot1: Some(slot),
-                slot2: Some(slot),
-                slot3: Some(slot),
-            }),
-            Err(error) => Err(error),
-        }
+        )?;
+        Ok(OccupiedEntryMut {
+            map,
+            slot1: Some(slot),
+            slot2: Some(slot),
+            slot3: Some(slot),
+        })
     }
 }
 

@@ -28,9 +28,7 @@ impl<T: TriHashItem + Clone, S: BuildHasher + Clone> TriHashMap<T, S> {
         ensures fits { IfOk result (λ copy. length (bag copy) ≤ copy.capacity) }
         ensures builder { IfOk result (λ copy. S.is_clone self.now.builder copy.builder) }
     {
-        let Ok(hash_builder) = self.hash_builder.clone() else {
-            return Err(TryReserveError);
-        };
+        let hash_builder = self.hash_builder.clone()?;
         let copy = TriHashMap {
             items: self.items.clone()?,
             first: self.first.clone()?,

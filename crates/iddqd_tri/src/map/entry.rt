@@ -29,46 +29,22 @@ impl<T: TriHashItem, S: BuildHasher> TriHashMap<T, S> {
             ≡ entry (⟦<T as Ranked>⟧.key_tests key1.now key2.now key3.now) (bag self.old) }
         ensures is_found { IsFound result }
     {
-        let hash1 = self.hash_builder.hash_one(key1);
-        let hash2 = self.hash_builder.hash_one(key2);
-        let hash3 = self.hash_builder.hash_one(key3);
-        let by1 = self.by_key1().search(hash1, key1);
-        let by2 = self.by_key2().search(hash2, key2);
-        let by3 = self.by_key3().search(hash3, key3);
-        match (by1, by2, by3) {
-            (Err(at1), Err(at2), Err(at3)) => Entry::Vacant(VacantEntry {
+        match self.search_all(key1, key2, key3) {
+            Ok((at1, at2, at3)) => Entry::Vacant(VacantEntry {
                 map: self,
                 keys: KeyTriple { key1, key2, key3 },
                 at1,
                 at2,
                 at3,
             }),
-            (Ok(slot1), by2, by3) => Entry::Occupied(OccupiedEntry {
+            Err((by1, by2, by3)) => Entry::Occupied(OccupiedEntry {
                 map: self,
                 key1,
                 key2,
                 key3,
-                slot1: Some(slot1),
-                slot2: by2.ok(),
-                slot3: by3.ok(),
-            }),
-            (Err(_), Ok(slot2), by3) => Entry::Occupied(OccupiedEntry {
-                map: self,
-                key1,
-                key2,
-                key3,
-                slot1: None,
-                slot2: Some(slot2),
-                slot3: by3.ok(),
-            }),
-            (Err(_), Err(_), Ok(slot3)) => Entry::Occupied(OccupiedEntry {
-                map: self,
-                key1,
-                key2,
-                key3,
-                slot1: None,
-                slot2: None,
-                slot3: Some(slot3),
+                slot1: by1.slot(),
+                slot2: by2.slot(),
+                slot3: by3.slot(),
             }),
         }
     }

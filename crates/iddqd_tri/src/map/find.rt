@@ -53,8 +53,7 @@ impl<T: TriHashItem, S: BuildHasher> TriHashMap<T, S> {
             (bag self.now) (option_copied result) }
     {
         let hash = self.hash_builder.hash_one(query1);
-        let ix = self.slot_unique(hash, query1, query2, query3)?;
-        self.items.get(ix)
+        self.item_of(self.slot_unique(hash, query1, query2, query3))
     }
 
     /// Whether an item has the first key that the query stands for. Costs what `get1` does.

@@ -111,7 +111,7 @@ where
         ensures builder { self.new.builder ≡ self.old.builder }
     {
         match self.try_insert(item) {
-            Ok(_) => self.tell(TriReply::Done, sink),
+            Ok(()) => self.tell(TriReply::Done, sink),
             Err(Refusal::Duplicate(item, found)) => self.tell_duplicate(item, &found, sink),
             Err(Refusal::Memory(item)) => self.tell(TriReply::Memory(item), sink),
         }

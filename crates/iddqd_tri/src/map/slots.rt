@@ -1,16 +1,16 @@
 //! Single items, by slot: where one goes in, room for it, putting it in and taking it out. Its files: the slots that
 //! searches by all keys `found`, how to `walk` and `write`, to put an item `over` others, and to `enter` a list that may
 //! be refused. What is done to all slots at once (emptying, copying and rebuilding them) goes to them itself.
-ghost use Rattle.std.specs.Prelude.{◌≡◌, ◌≢◌, ◌==◌, ℕ, ◌<◌, ◌≤◌, [], ◌∷◌, length, All, IsPermutation, OnOk, OnErr, IfOk, IfErr, Some, None, IfSome, nat_eq, slice_set};
-ghost use Rattle.std.specs.List.{IsDistinct};
+ghost use Rattle.std.specs.Prelude.{◌≡◌, ◌≢◌, ◌==◌, ℕ, ◌<◌, ◌≤◌, [], ◌∷◌, length, All, IsPermutation, OnOk, OnErr, IfOk, IfErr, Some, None, IfSome, nat_eq, slice_set, is_some, true, false};
+ghost use Rattle.std.specs.List.{IsDistinct, list_any};
 ghost use Rattle.iddqd_store.specs.Bag.{IsSound, clash, differ, listing};
 ghost use Rattle.iddqd_store.specs.Rank.Index.{HasHash};
 ghost use Rattle.iddqd_store.specs.Map.{bag, hash_of, Gains, Loses, MakesRoom, IsFullFor, IsBlockedAt};
 ghost use Rattle.iddqd_store.specs.Rank.{agree, IsPlaceOf, IsUnder, IsVacantFor};
-ghost use Rattle.iddqd_store.specs.Slots.Found.{each_once, items_at};
+ghost use Rattle.iddqd_store.specs.Slots.Found.{AreFound, each_once, items_at};
 ghost use Rattle.iddqd_store.specs.Slots.{get, IsLive, Updates};
 ghost use Rattle.iddqd_store.specs.Table.Limit.{most_room};
-ghost use Rattle.iddqd_tri.specs.Keys.{ranks};
+ghost use Rattle.iddqd_tri.specs.Keys.{ranks, slots_found};
 ghost use Rattle.iddqd_tri.specs.Mismatch.{error_item, error_rank, OnNoMemory};
 
 mod enter;
@@ -93,6 +93,68 @@ impl<T: TriHashItem, S: BuildHasher> TriHashMap<T, S> {
         self.hash_builder.hash_one(item.key3())
     }
 
+    /// What a search at each rank by its key finds: the empty cells where no item has one of the keys, or else the slots.
+    /// Each key is hashed once and searched for once.
+    #[inline(always)]
+    pub(crate) fn search_all(
+        &self,
+        key1: &T::K1,
+        key2: &T::K2,
+        key3: &T::K3,
+    ) -> Result<(Vacancy, Vacancy, Vacancy), (Sought, Sought, Sought)>
+        // The slots, and whether there are some.
+        ensures found { AreFound (⟦<T as Ranked>⟧.key_tests key1.now key2.now key3.now) self.now.slots
+            (slots_found result) }
+        ensures none { OnOk result (list_any is_some (slots_found result) ≡ false) }
+        ensures some { OnErr result (list_any is_some (slots_found result) ≡ true) }
+        ensures apart { IsDistinct (agree T.key1 T.K1.eq) (bag self.now) }
+        // The empty cells.
+        ensures first { IfOk result (λ at. IsVacantFor (⟦<T as Hashed<S>>⟧.hash1 self.now.builder) (bag self.now)
+            (hash_of S.BuildHasher S.Hasher.Hasher self.now.builder (T.K1.hash_input key1.now)) at.0) }
+        ensures second { IfOk result (λ at. IsVacantFor (⟦<T as Hashed<S>>⟧.hash2 self.now.builder) (bag self.now)
+            (hash_of S.BuildHasher S.Hasher.Hasher self.now.builder (T.K2.hash_input key2.now)) at.1) }
+        ensures third { IfOk result (λ at. IsVacantFor (⟦<T as Hashed<S>>⟧.hash3 self.now.builder) (bag self.now)
+            (hash_of S.BuildHasher S.Hasher.Hasher self.now.builder (T.K3.hash_input key3.now)) at.2) }
+        // The hashes that the slots were found by.
+        ensures under1 { IfErr result (λ found. IsUnder (⟦<T as Hashed<S>>⟧.hash1 self.now.builder)
+            self.now.slots found.0) }
+        ensures hash1 { IfErr result (λ found. found.0.hash
+            ≡ hash_of S.BuildHasher S.Hasher.Hasher self.now.builder (T.K1.hash_input key1.now)) }
+        ensures under2 { IfErr result (λ found. IsUnder (⟦<T as Hashed<S>>⟧.hash2 self.now.builder)
+            self.now.slots found.1) }
+        ensures hash2 { IfErr result (λ found. found.1.hash
+            ≡ hash_of S.BuildHasher S.Hasher.Hasher self.now.builder (T.K2.hash_input key2.now)) }
+        ensures under3 { IfErr result (λ found. IsUnder (⟦<T as Hashed<S>>⟧.hash3 self.now.builder)
+            self.now.slots found.2) }
+        ensures hash3 { IfErr result (λ found. found.2.hash
+            ≡ hash_of S.BuildHasher S.Hasher.Hasher self.now.builder (T.K3.hash_input key3.now)) }
+    {
+        let hash1 = self.hash_builder.hash_one(key1);
+        let hash2 = self.hash_builder.hash_one(key2);
+        let hash3 = self.hash_builder.hash_one(key3);
+        let by1 = self.by_key1().search(hash1, key1);
+        let by2 = self.by_key2().search(hash2, key2);
+        let by3 = self.by_key3().search(hash3, key3);
+        match (by1, by2, by3) {
+            (Err(at1), Err(at2), Err(at3)) => Ok((at1, at2, at3)),
+            (Ok(ix1), by2, by3) => Err((
+                Sought::new(Some(ix1), hash1),
+                Sought::new(by2.ok(), hash2),
+                Sought::new(by3.ok(), hash3),
+            )),
+            (Err(_), Ok(ix2), by3) => Err((
+                Sought::new(None, hash1),
+                Sought::new(Some(ix2), hash2),
+                Sought::new(by3.ok(), hash3),
+            )),
+            (Err(_), Err(_), Ok(ix3)) => Err((
+                Sought::new(None, hash1),
+                Sought::new(None, hash2),
+                Sought::new(Some(ix3), hash3),
+            )),
+        }
+    }
+
     /// Where an item goes in at each rank; or, where items conflict with it, what the search at each rank found. Each key
     /// is hashed once and searched for once.
     #[inline(always)]
@@ -119,30 +181,7 @@ impl<T: TriHashItem, S: BuildHasher> TriHashMap<T, S> {
             self.now.slots found.2) }
         ensures hash3 { IfErr result (λ found. found.2.hash ≡ ⟦<T as Hashed<S>>⟧.hash3 self.now.builder item.now) }
     {
-        let hash1 = self.hash_of1(item);
-        let hash2 = self.hash_of2(item);
-        let hash3 = self.hash_of3(item);
-        let by1 = self.by_key1().search(hash1, item.key1());
-        let by2 = self.by_key2().search(hash2, item.key2());
-        let by3 = self.by_key3().search(hash3, item.key3());
-        match (by1, by2, by3) {
-            (Err(at1), Err(at2), Err(at3)) => Ok((at1, at2, at3)),
-            (Ok(ix1), by2, by3) => Err((
-                Sought::new(Some(ix1), hash1),
-                Sought::new(by2.ok(), hash2),
-                Sought::new(by3.ok(), hash3),
-            )),
-            (Err(_), Ok(ix2), by3) => Err((
-                Sought::new(None, hash1),
-                Sought::new(Some(ix2), hash2),
-                Sought::new(by3.ok(), hash3),
-            )),
-            (Err(_), Err(_), Ok(ix3)) => Err((
-                Sought::new(None, hash1),
-                Sought::new(None, hash2),
-                Sought::new(Some(ix3), hash3),
-            )),
-        }
+        self.search_all(item.key1(), item.key2(), item.key3())
     }
 
     /// Puts an item in that nothing conflicts with, where it goes in at each rank.
@@ -223,7 +262,6 @@ impl<T: TriHashItem, S: BuildHasher> TriHashMap<T, S> {
         ensures slots { self.new.slots ≡ slice_set self.old.slots ix None }
         ensures loses { Loses self.old (result ∷ []) self.new }
         ensures updates { Updates self.old.slots self.new.slots ix None }
-        ensures room { length (bag self.new) < self.new.capacity }
     {
         match self.items.remove(ix) {
             Some(item) => {
@@ -255,8 +293,6 @@ impl<T: TriHashItem, S: BuildHasher> TriHashMap<T, S> {
         requires by3 { IsUnder (⟦<T as Hashed<S>>⟧.hash3 self.old.builder) self.old.slots by3.now }
         ensures values { result ≡ items_at self.old.slots found.now }
         ensures loses { Loses self.old result self.new }
-        ensures room { length found.now ≢ 0 → length (bag self.new) < self.new.capacity }
-        ensures none { length found.now ≡ 0 → self.new ≡ self.old }
         ensures others { (at : ℕ) → IsDistinct nat_eq (at ∷ found.now) → get self.new.slots at ≡ get self.old.slots at }
         ensures left { (at : ℕ) (x : T) → get self.new.slots at ≡ Some x → get self.old.slots at ≡ Some x }
     {
@@ -322,15 +358,14 @@ impl<T: TriHashItem, S: BuildHasher> TriHashMap<T, S> {
         Ok(())
     }
 
-    /// Puts an item in where none conflicts with it, and answers its slot. It is refused with the slots of those that
-    /// do, or, where the map is full and cannot grow, for memory.
+    /// Puts an item in where none conflicts with it. It is refused with the slots of those that do, or, where the map is
+    /// full and cannot grow, for memory.
     ///
     /// It is one body with what it calls, but for growing: so a caller's loop looks at the outcome where it arises, and
     /// where the item goes in nothing is written to memory but the item and its pairs.
     #[inline(always)]
-    pub(crate) fn try_insert(&mut self, item: T) -> Result<ItemIndex, Refusal<T>>
+    pub(crate) fn try_insert(&mut self, item: T) -> Result<(), Refusal<T>>
         ensures gains { OnOk result (Gains self.old item self.new) }
-        ensures at { IfOk result (λ ix. get self.new.slots ix ≡ Some item) }
         ensures free { OnOk result (clash ⟦<T as Ranked>⟧.ranks (bag self.old) item ≡ []) }
         ensures handed_back { IfErr result (λ e. refusal_item e ≡ item) }
         ensures unchanged { OnErr result (self.new ≡ self.old) }
@@ -348,6 +383,7 @@ impl<T: TriHashItem, S: BuildHasher> TriHashMap<T, S> {
         if let Err(_) = self.make_room() {
             return Err(Refusal::Memory(item));
         }
-        Ok(self.put(item, at1, at2, at3))
+        self.put(item, at1, at2, at3);
+        Ok(())
     }
 }

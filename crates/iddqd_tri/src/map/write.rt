@@ -27,10 +27,8 @@ impl<T: TriHashItem, S: BuildHasher> TriHashMap<T, S> {
         ensures* rests_at_none { sem 𝓛
             (rests_if_none T.row S.row T.K1.row T.K2.row T.K3.row S.Hasher.row self.entry result) }
     {
-        match self.by_key1().slot_of(query) {
-            Some(slot) => Some(RefMut { map: self, slot }),
-            None => None,
-        }
+        let slot = self.by_key1().slot_of(query)?;
+        Some(RefMut { map: self, slot })
     }
 
     /// The item with this second key, for writing. It takes no memory.
@@ -43,10 +41,8 @@ impl<T: TriHashItem, S: BuildHasher> TriHashMap<T, S> {
         ensures* rests_at_none { sem 𝓛
             (rests_if_none T.row S.row T.K1.row T.K2.row T.K3.row S.Hasher.row self.entry result) }
     {
-        match self.by_key2().slot_of(query) {
-            Some(slot) => Some(RefMut { map: self, slot }),
-            None => None,
-        }
+        let slot = self.by_key2().slot_of(query)?;
+        Some(RefMut { map: self, slot })
     }
 
     /// The item with this third key, for writing. It takes no memory.
@@ -59,10 +55,8 @@ impl<T: TriHashItem, S: BuildHasher> TriHashMap<T, S> {
         ensures* rests_at_none { sem 𝓛
             (rests_if_none T.row S.row T.K1.row T.K2.row T.K3.row S.Hasher.row self.entry result) }
     {
-        match self.by_key3().slot_of(query) {
-            Some(slot) => Some(RefMut { map: self, slot }),
-            None => None,
-        }
+        let slot = self.by_key3().slot_of(query)?;
+        Some(RefMut { map: self, slot })
     }
 
     /// The item that has all keys, for writing. It takes no memory.
@@ -81,10 +75,8 @@ impl<T: TriHashItem, S: BuildHasher> TriHashMap<T, S> {
         ensures* rests_at_none { sem 𝓛
             (rests_if_none T.row S.row T.K1.row T.K2.row T.K3.row S.Hasher.row self.entry result) }
     {
-        match self.slot_of_all(query1, query2, query3) {
-            Some(slot) => Some(RefMut { map: self, slot }),
-            None => None,
-        }
+        let slot = self.slot_of_all(query1, query2, query3)?;
+        Some(RefMut { map: self, slot })
     }
 
     /// The next item of a walk over the map, for writing, and `None` behind the last one. The cursor goes on behind it.
@@ -109,13 +101,9 @@ impl<T: TriHashItem, S: BuildHasher> TriHashMap<T, S> {
         ensures* rests_at_none { sem 𝓛
             (rests_if_none T.row S.row T.K1.row T.K2.row T.K3.row S.Hasher.row self.entry result) }
     {
-        match self.slot_from(at.next()) {
-            Some(slot) => {
-                at.pass(slot);
-                Some(RefMut { map: self, slot })
-            }
-            None => None,
-        }
+        let slot = self.slot_from(at.next())?;
+        at.pass(slot);
+        Some(RefMut { map: self, slot })
     }
 
     /// Each item once, for writing, in no promised order. It takes no memory.

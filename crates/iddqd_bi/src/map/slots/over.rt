@@ -1,5 +1,5 @@
 //! Putting an item in the place of others.
-ghost use Rattle.std.specs.Prelude.{◌≡◌, ◌<◌, ◌≤◌, [], ◌∷◌, length, IsPermutation, None, Some, slice_set};
+ghost use Rattle.std.specs.Prelude.{◌≡◌, ◌≢◌, ◌≤◌, [], ◌∷◌, length, IsPermutation, None, Some, slice_set};
 ghost use Rattle.iddqd_store.specs.Bag.{IsSound, clash, order, over};
 ghost use Rattle.iddqd_store.specs.Map.{bag, ListsConflicts};
 ghost use Rattle.iddqd_store.specs.Rank.{IsUnder};
@@ -11,13 +11,13 @@ use super::super::BiHashMap;
 use super::found::each_once;
 use crate::item::{BiHashItem, Hashed, Ranked};
 use crate::ranks::{First, Second};
-use iddqd_store::{ItemIndex, Sought, UpToTwo, Vacancy};
+use iddqd_store::{ItemIndex, Sought, UpToTwo};
 use std::hash::{BuildHasher, Hash};
 
 impl<T: BiHashItem, S: BuildHasher> BiHashMap<T, S> {
     /// Puts an item in the place of those that conflict with it, whose slots the searches by its keys found, and gives
-    /// them back with the slot of the new one. It goes into the slot of the first of them, once the others are out.
-    /// No key is hashed by which a search found its item.
+    /// them back with the slot of the new one. There is at least one. The item goes into the slot of the first of them,
+    /// once the others are out. No key is hashed by which a search found its item.
     pub(crate) fn put_over(
         &mut self,
         item: T,
@@ -26,8 +26,7 @@ impl<T: BiHashItem, S: BuildHasher> BiHashMap<T, S> {
     ) -> (UpToTwo<T>, ItemIndex)
         requires conflicts { ListsConflicts ⟦<T as Ranked>⟧.ranks self.old item
             (each_once (by1.now.slot ∷ by2.now.slot ∷ [])) }
-        requires room { length (each_once (by1.now.slot ∷ by2.now.slot ∷ [])) ≡ 0
-            → length (bag self.old) < self.old.capacity }
+        requires some { length (each_once (by1.now.slot ∷ by2.now.slot ∷ [])) ≢ 0 }
         requires hash1 { by1.now.hash ≡ ⟦<T as Hashed<S>>⟧.hash1 self.old.builder item }
         requires hash2 { by2.now.hash ≡ ⟦<T as Hashed<S>>⟧.hash2 self.old.builder item }
         requires under1 { IsUnder (⟦<T as Hashed<S>>⟧.hash1 self.old.builder) self.old.slots by1.now }
@@ -42,12 +41,7 @@ impl<T: BiHashItem, S: BuildHasher> BiHashMap<T, S> {
     {
         let mut found = each_once(by1.slot(), by2.slot());
         let Some(ix) = found.pop_front() else {
-            let ix = self.put(
-                item,
-                Vacancy::unknown(by1.hash()),
-                Vacancy::unknown(by2.hash()),
-            );
-            return (UpToTwo::new(), ix);
+            unreachable!()
         };
         let mut displaced = self.take_all(&found, by1, by2);
         displaced.push_front(self.exchange(ix, item, by1, by2));
@@ -65,7 +59,6 @@ impl<T: BiHashItem, S: BuildHasher> BiHashMap<T, S> {
         requires under2 { IsUnder (⟦<T as Hashed<S>>⟧.hash2 self.old.builder) self.old.slots by2.now }
         ensures value { get self.old.slots ix ≡ Some result }
         ensures at { get self.new.slots ix ≡ Some item }
-        ensures left { IsPermutation (bag self.old) (result ∷ live_items (slice_set self.old.slots ix None)) }
         ensures items { IsPermutation (bag self.new) (item ∷ live_items (slice_set self.old.slots ix None)) }
         ensures sound { IsSound ⟦<T as Ranked>⟧.ranks (bag self.new) }
         ensures fits { length (bag self.new) ≤ self.new.capacity }

@@ -4,7 +4,6 @@ ghost use Rattle.std.specs.Option.{option_and_then};
 ghost use Rattle.iddqd_store.specs.Bag.{IsOnly, every_of};
 ghost use Rattle.iddqd_store.specs.Rank.Index.{HasHash};
 ghost use Rattle.iddqd_store.specs.Map.{bag, hash_of};
-ghost use Rattle.iddqd_store.specs.Rank.{};
 ghost use Rattle.iddqd_store.specs.Slots.Found.{each_once, items_at, FoundAt, found_by_all, head_of};
 ghost use Rattle.iddqd_store.specs.Slots.{get, IsLive};
 ghost use Rattle.iddqd_tri.specs.Keys.{has2, has3, has_all};
@@ -117,10 +116,7 @@ impl<T: TriHashItem, S: BuildHasher> TriHashMap<T, S> {
     pub(crate) fn item_of(&self, slot: Option<ItemIndex>) -> Option<&T>
         ensures { option_copied result ≡ option_and_then (get self.now.slots) slot }
     {
-        match slot {
-            Some(ix) => self.items.get(ix),
-            None => None,
-        }
+        self.items.get(slot?)
     }
 
     /// The slot, if it has an item.
@@ -144,9 +140,7 @@ impl<T: TriHashItem, S: BuildHasher> TriHashMap<T, S> {
         ensures* rests_at_none { sem 𝓛
             (rests_if_none T.row S.row T.K1.row T.K2.row T.K3.row S.Hasher.row self.entry result) }
     {
-        match self.if_live(slot) {
-            Some(slot) => Some(RefMut { map: self, slot }),
-            None => None,
-        }
+        let slot = self.if_live(slot)?;
+        Some(RefMut { map: self, slot })
     }
 }

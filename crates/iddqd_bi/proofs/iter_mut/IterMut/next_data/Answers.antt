@@ -6,23 +6,23 @@ use Rattle.iddqd_bi.proofs.Iterating.{steps_to, counted_on}
 use Rattle.iddqd_bi.specs.IterMuts.{IsNextOf}
 use Rattle.iddqd_bi.proofs.iter_mut.IterMut.next_data.Goals as goal
 
-pub returns-in-Some : goal.returns-in-Some
-returns-in-Some g c =
-    let step = c.in-Some.ensures.step.2 in
-    let pass = c.in-Some.ensures.next.2 in
+pub returns : goal.returns
+returns g c =
+    let step = c.in_ok-ix.ensures.step.2 in
+    let pass = c.in_ok-ix.ensures.next.2 in
     let next : IsNextOf c.args.self.now = (
-      c.in-Some.ensures.next.0,
+      c.in_ok-ix.ensures.next.0,
       record {
         comes = rw step.after pass.comes;
         before = λ f. rw (step.after, step.writes f) (pass.before f);
         behind = λ f. rw (step.after, step.writes f) (pass.behind f);
       },
     ) in (
-      steps_to c.args.self.now (λ w x. g.T.BiHashItemMut.put x w) c.data_mut_at.result.ghost_name c.in-Some.ix c.number.result c.saturating_sub-self.result c.in-Some.ensures.step.0 c.number.ensures c.saturating_sub-self.ensures step,
+      steps_to c.args.self.now (λ w x. g.T.BiHashItemMut.put x w) c.data_mut_at.result.ghost_name c.in_ok-ix.ix c.number.result c.saturating_sub-self.result c.in_ok-ix.ensures.step.0 c.number.ensures c.saturating_sub-self.ensures step,
       record {
         lends = tt;
         next = next;
-        value = part_there g.T.BiHashItemMut.payload _ _ c.in-Some.ensures.live c.data_mut_at.ensures.value ∙ ap (option_map g.T.BiHashItemMut.payload) (c.in-Some.ensures.next.1 ∙ sym (ap (λ (l : List g.row.T.Denot). slice_get l 0) pass.comes));
+        value = part_there g.T.BiHashItemMut.payload _ _ c.in_ok-ix.ensures.live c.data_mut_at.ensures.value ∙ ap (option_map g.T.BiHashItemMut.payload) (c.in_ok-ix.ensures.next.1 ∙ sym (ap (λ (l : List g.row.T.Denot). slice_get l 0) pass.comes));
         end = tt;
         counted = λ f is. counted_on c.args.self.now f is next;
       },

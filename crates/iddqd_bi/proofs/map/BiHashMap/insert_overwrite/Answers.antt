@@ -5,8 +5,8 @@ use Rattle.iddqd_store.proofs.SlotLemmas.Found.{clash_none}
 use Rattle.iddqd_bi.specs.Keys.{ranks}
 use Rattle.iddqd_bi.proofs.map.BiHashMap.insert_overwrite.Goals as goal
 
-pub put_over-displaced-requires-clause-room : goal.put_over-displaced-requires-clause-room
-put_over-displaced-requires-clause-room g c =
+pub put_over-displaced-requires-clause-some : goal.put_over-displaced-requires-clause-some
+put_over-displaced-requires-clause-some g c =
     let by = ranks g.T.BiHashItem g.T.K1.PartialEq.eq g.T.K2.PartialEq.eq in
     let blocked = c.in-Err.ensures.blocked in
     λ short. absurd (blocked.some (clash_none by c.args.self.now.slots c.args.item _ blocked.found.items short))

@@ -7,25 +7,10 @@ use Rattle.iddqd_store.specs.Map.{bag}
 use Rattle.iddqd_store.specs.Slots.{IsLive}
 use Rattle.iddqd_store.specs.Slots.Found.{items_at}
 use Rattle.iddqd_store.proofs.BagLemmas.Over.{clash-taken, over-taken}
-use Rattle.iddqd_store.proofs.MapLemmas.Places.{gives_way, none_first, over_none, stand_in}
-use Rattle.iddqd_store.proofs.SlotLemmas.Found.{clash_none}
+use Rattle.iddqd_store.proofs.MapLemmas.Places.{gives_way, stand_in}
 use Rattle.iddqd_store.proofs.RankLemmas.Sought.{IsUnder-fewer}
 use Rattle.iddqd_bi.specs.Keys.{ranks}
 use Rattle.iddqd_bi.proofs.map.BiHashMap.put_over.Goals as goal
-
-pub put-ix-requires-clause-free : goal.put-ix-requires-clause-free
-put-ix-requires-clause-free g c =
-    let stand = stand_in (rw (c.slot.ensures, c.slot-2.ensures) at c.each_once-found.ensures) c.requires.conflicts in
-    let by = ranks g.T.BiHashItem g.T.K1.PartialEq.eq g.T.K2.PartialEq.eq in
-    clash_none by c.args.self.now.slots c.args.item c.each_once-found.result stand.items (none_first c.each_once-found.result (sym c.pop_front.ensures.first ∙ c.in_default.is))
-
-pub returns-in_default-clause-items : goal.returns-in_default-clause-items
-returns-in_default-clause-items g c =
-    let stand = stand_in (rw (c.slot.ensures, c.slot-2.ensures) at c.each_once-found.ensures) c.requires.conflicts in
-    let by = ranks g.T.BiHashItem g.T.K1.PartialEq.eq g.T.K2.PartialEq.eq in
-    over_none by (bag c.args.self.now) c.args.item
-    (clash_none by c.args.self.now.slots c.args.item c.each_once-found.result stand.items (none_first c.each_once-found.result (sym c.pop_front.ensures.first ∙ c.in_default.is)))
-    (bag c.put-ix.new.self) c.put-ix.ensures.items
 
 pub take_all-displaced-requires-clause-apart : goal.take_all-displaced-requires-clause-apart
 take_all-displaced-requires-clause-apart g c =

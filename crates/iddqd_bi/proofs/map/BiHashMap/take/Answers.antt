@@ -1,6 +1,6 @@
-use Rattle.std.proofs.Common.{sym, refl, ◌∙◌, arith}
-use Rattle.std.proofs.lemmas.List.Sorted.{IsPermutation-map, length_permutation}
-use Rattle.iddqd_store.proofs.RankLemmas.Index.{pair_in, hash_known, length-index, length-live_items}
+use Rattle.std.proofs.Common.{sym, refl, ◌∙◌}
+use Rattle.std.proofs.lemmas.List.Sorted.{IsPermutation-map}
+use Rattle.iddqd_store.proofs.RankLemmas.Index.{pair_in, hash_known}
 use Rattle.iddqd_store.proofs.RankLemmas.Invariant.{IsIndexed-remove}
 use Rattle.iddqd_bi.proofs.MapLemmas.{AreLawful-ranks}
 use Rattle.iddqd_bi.proofs.map.BiHashMap.take.Goals as goal
@@ -32,9 +32,3 @@ returns-clause-loses g c = record {
   same_room = rw (← c.self.view_is, c.remove.ensures.capacity, c.forget.ensures.limit, c.forget-in-Some.ensures.limit) refl;
   same_builder = rw (← c.self.view_is) refl;
 }
-
-pub returns-clause-room : goal.returns-clause-room
-returns-clause-room g c =
-    let fewer = length-live_items c.remove.new.self.slots in
-    let one = length_permutation _ _ (IsPermutation-map (λ m. m.1) _ _ c.in-Some.ensures.taken.members) in
-    omega (arith, fewer, one, c.in-Some.ensures.taken.room, c.forget.ensures.room, c.forget-in-Some.ensures.room, c.forget.ensures.limit, length_permutation _ _ c.forget.ensures.taken, length_permutation _ _ c.forget-in-Some.ensures.taken, length-index c.self.invariant.indexes.0, length-index c.self.invariant.indexes.1.0)

@@ -5,7 +5,7 @@ use Rattle.iddqd_store.proofs.item_set.ItemSet.shrink_to.Goals as goal
 
 pub gathered-requires-clause-room : goal.gathered-requires-clause-room
 gathered-requires-clause-room g c =
-    rw c.replace-slots.ensures.value (omega (arith, length-live_slots c.self.inside.slots.items, c.in-Ok.ensures.exact))
+    rw c.replace-slots.ensures.value (omega (arith, length-live_slots c.self.inside.slots.items, c.in_ok-fresh.ensures.exact))
 
 pub invariant_of-self : goal.invariant_of-self
 invariant_of-self g c =

@@ -1,4 +1,4 @@
-use Rattle.std.proofs.Common.{rules, ◌≡◌, [], ◌∷◌, map, Some, subst, sym, ◌∙◌}
+use Rattle.std.proofs.Common.{rules, ◌≡◌, [], ◌∷◌, map, subst, sym}
 use Rattle.std.specs.Option.{IfSome, option_and_then, option_copied_mut, option_to_list}
 use Rattle.iddqd_store.specs.Slots.{IsLive, get}
 use Rattle.iddqd_store.specs.Slots.Found.{found_by_all, head_of}

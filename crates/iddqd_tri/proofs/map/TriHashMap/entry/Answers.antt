@@ -1,5 +1,4 @@
-use Rattle.std.proofs.Common.{refl, ap, ℕ, List, Option, None, Some, [], ◌∷◌, sym, ◌∙◌}
-use Rattle.iddqd_store.specs.Map.{Map}
+use Rattle.std.proofs.Common.{refl, ℕ, List, Option, None, [], ◌∷◌, sym, ◌∙◌}
 use Rattle.iddqd_store.specs.Slots.Found.{AreFound}
 use Rattle.iddqd_store.proofs.SlotLemmas.Entries.{found_entry, found_listing, held_none, held_some}
 use Rattle.iddqd_tri.specs.Keys.{key_tests}
@@ -11,108 +10,31 @@ invariant_of-result g c =
     let tests = key_tests g.T.TriHashItem g.T.K1.PartialEq.eq g.T.K2.PartialEq.eq g.T.K3.PartialEq.eq c.args.key1.now c.args.key2.now c.args.key3.now in
     let laws = (AreLawful-ranks g.T.TriHashItem g.met.T.K1.Eq.laws g.met.T.K2.Eq.laws g.met.T.K3.Eq.laws).0 in
     let slots = c.args.self.now.slots in
-    let found : List (Option ℕ) = None ∷ None ∷ None ∷ [] in
-    let first = rw (c.by_key1.ensures.slots, c.in-Err-Err-Err.is-0) at c.search-by1.ensures.found in
-    let second = rw (c.by_key2.ensures.slots, c.in-Err-Err-Err.is-1) at c.search-by2.ensures.found in
-    let third = rw (c.by_key3.ensures.slots, c.in-Err-Err-Err.is-2) at c.search-by3.ensures.found in
-    let are : AreFound tests slots found = (first, (second, (third, tt))) in
-    let same = ap (λ (m : Map g.row.T.Denot g.row.S.Denot). m.builder) c.self.view_is in
-    let vacant1 = rw (c.by_key1.ensures.slots, c.by_key1.ensures.builder, c.in-Err-Err-Err.is-0, c.hash_one-hash1.ensures, same) at c.search-by1.ensures.vacant in
-    let vacant2 = rw (c.by_key2.ensures.slots, c.by_key2.ensures.builder, c.in-Err-Err-Err.is-1, c.hash_one-hash2.ensures, same) at c.search-by2.ensures.vacant in
-    let vacant3 = rw (c.by_key3.ensures.slots, c.by_key3.ensures.builder, c.in-Err-Err-Err.is-2, c.hash_one-hash3.ensures, same) at c.search-by3.ensures.vacant in
+    let none : List (Option ℕ) = None ∷ None ∷ None ∷ [] in
     record {
-      vacant = sym (found_listing laws slots c.by_key1.ensures.apart tests found are) ∙ held_none slots found refl;
-      place1 = vacant1;
-      place2 = vacant2;
-      place3 = vacant3;
+      vacant = sym (found_listing laws slots c.search_all.ensures.apart tests none c.in-Ok.ensures.found) ∙ held_none slots none refl;
+      place1 = c.in-Ok.ensures.first;
+      place2 = c.in-Ok.ensures.second;
+      place3 = c.in-Ok.ensures.third;
     }
 
-pub returns-in-Err-Err-Ok-clause-value : goal.returns-in-Err-Err-Ok-clause-value
-returns-in-Err-Err-Ok-clause-value g c =
+pub returns-in-Err-clause-value : goal.returns-in-Err-clause-value
+returns-in-Err-clause-value g c =
     let tests = key_tests g.T.TriHashItem g.T.K1.PartialEq.eq g.T.K2.PartialEq.eq g.T.K3.PartialEq.eq c.args.key1.now c.args.key2.now c.args.key3.now in
     let laws = (AreLawful-ranks g.T.TriHashItem g.met.T.K1.Eq.laws g.met.T.K2.Eq.laws g.met.T.K3.Eq.laws).0 in
-    let slots = c.args.self.now.slots in
-    let found : List (Option ℕ) = None ∷ None ∷ Some c.in-Err-Err-Ok.slot3 ∷ [] in
-    let first = rw (c.by_key1.ensures.slots, c.in-Err-Err-Ok.is-0) at c.search-by1.ensures.found in
-    let second = rw (c.by_key2.ensures.slots, c.in-Err-Err-Ok.is-1) at c.search-by2.ensures.found in
-    let third = rw (c.by_key3.ensures.slots, c.in-Err-Err-Ok.is-2) at c.search-by3.ensures.found in
-    let are : AreFound tests slots found = (first, (second, (third, tt))) in
-    found_entry laws slots c.by_key1.ensures.apart tests (None) (None ∷ Some c.in-Err-Err-Ok.slot3 ∷ []) are
+    rw (c.slot.ensures, c.slot-in-Err.ensures, c.slot-in-Err-2.ensures) (found_entry laws c.args.self.now.slots c.search_all.ensures.apart tests c.in-Err.by1.slot (c.in-Err.by2.slot ∷ c.in-Err.by3.slot ∷ []) c.in-Err.ensures.found)
 
-pub returns-in-Err-Err-Ok-clause-is_found : goal.returns-in-Err-Err-Ok-clause-is_found
-returns-in-Err-Err-Ok-clause-is_found g c =
+pub returns-in-Err-clause-is_found : goal.returns-in-Err-clause-is_found
+returns-in-Err-clause-is_found g c =
     let tests = key_tests g.T.TriHashItem g.T.K1.PartialEq.eq g.T.K2.PartialEq.eq g.T.K3.PartialEq.eq c.args.key1.now c.args.key2.now c.args.key3.now in
     let laws = (AreLawful-ranks g.T.TriHashItem g.met.T.K1.Eq.laws g.met.T.K2.Eq.laws g.met.T.K3.Eq.laws).0 in
     let slots = c.args.self.now.slots in
-    let found : List (Option ℕ) = None ∷ None ∷ Some c.in-Err-Err-Ok.slot3 ∷ [] in
-    let first = rw (c.by_key1.ensures.slots, c.in-Err-Err-Ok.is-0) at c.search-by1.ensures.found in
-    let second = rw (c.by_key2.ensures.slots, c.in-Err-Err-Ok.is-1) at c.search-by2.ensures.found in
-    let third = rw (c.by_key3.ensures.slots, c.in-Err-Err-Ok.is-2) at c.search-by3.ensures.found in
-    let are : AreFound tests slots found = (first, (second, (third, tt))) in
-    let listed = found_listing laws slots c.by_key1.ensures.apart tests found are in
-    record {
+    let found : List (Option ℕ) = c.in-Err.by1.slot ∷ c.in-Err.by2.slot ∷ c.in-Err.by3.slot ∷ [] in
+    let are : AreFound tests slots found = c.in-Err.ensures.found in
+    let listed = found_listing laws slots c.search_all.ensures.apart tests found are in
+    rw (c.slot.ensures, c.slot-in-Err.ensures, c.slot-in-Err-2.ensures) record {
       found = are;
-      value = found_entry laws slots c.by_key1.ensures.apart tests (None) (None ∷ Some c.in-Err-Err-Ok.slot3 ∷ []) are;
+      value = found_entry laws slots c.search_all.ensures.apart tests c.in-Err.by1.slot (c.in-Err.by2.slot ∷ c.in-Err.by3.slot ∷ []) are;
       listed = listed;
-      some = λ none. held_some slots tests found are refl (listed ∙ none);
-    }
-
-pub returns-in-Err-Ok-default-clause-value : goal.returns-in-Err-Ok-default-clause-value
-returns-in-Err-Ok-default-clause-value g c =
-    let tests = key_tests g.T.TriHashItem g.T.K1.PartialEq.eq g.T.K2.PartialEq.eq g.T.K3.PartialEq.eq c.args.key1.now c.args.key2.now c.args.key3.now in
-    let laws = (AreLawful-ranks g.T.TriHashItem g.met.T.K1.Eq.laws g.met.T.K2.Eq.laws g.met.T.K3.Eq.laws).0 in
-    let slots = c.args.self.now.slots in
-    let found : List (Option ℕ) = None ∷ Some c.in-Err-Ok-default.slot2 ∷ c.ok.result ∷ [] in
-    let first = rw (c.by_key1.ensures.slots, c.in-Err-Ok-default.is-0) at c.search-by1.ensures.found in
-    let second = rw (c.by_key2.ensures.slots, c.in-Err-Ok-default.is-1) at c.search-by2.ensures.found in
-    let third = rw (c.by_key3.ensures.slots, ← c.ok.ensures.value) at c.search-by3.ensures.found in
-    let are : AreFound tests slots found = (first, (second, (third, tt))) in
-    found_entry laws slots c.by_key1.ensures.apart tests (None) (Some c.in-Err-Ok-default.slot2 ∷ c.ok.result ∷ []) are
-
-pub returns-in-Err-Ok-default-clause-is_found : goal.returns-in-Err-Ok-default-clause-is_found
-returns-in-Err-Ok-default-clause-is_found g c =
-    let tests = key_tests g.T.TriHashItem g.T.K1.PartialEq.eq g.T.K2.PartialEq.eq g.T.K3.PartialEq.eq c.args.key1.now c.args.key2.now c.args.key3.now in
-    let laws = (AreLawful-ranks g.T.TriHashItem g.met.T.K1.Eq.laws g.met.T.K2.Eq.laws g.met.T.K3.Eq.laws).0 in
-    let slots = c.args.self.now.slots in
-    let found : List (Option ℕ) = None ∷ Some c.in-Err-Ok-default.slot2 ∷ c.ok.result ∷ [] in
-    let first = rw (c.by_key1.ensures.slots, c.in-Err-Ok-default.is-0) at c.search-by1.ensures.found in
-    let second = rw (c.by_key2.ensures.slots, c.in-Err-Ok-default.is-1) at c.search-by2.ensures.found in
-    let third = rw (c.by_key3.ensures.slots, ← c.ok.ensures.value) at c.search-by3.ensures.found in
-    let are : AreFound tests slots found = (first, (second, (third, tt))) in
-    let listed = found_listing laws slots c.by_key1.ensures.apart tests found are in
-    record {
-      found = are;
-      value = found_entry laws slots c.by_key1.ensures.apart tests (None) (Some c.in-Err-Ok-default.slot2 ∷ c.ok.result ∷ []) are;
-      listed = listed;
-      some = λ none. held_some slots tests found are refl (listed ∙ none);
-    }
-
-pub returns-in-Ok-default-default-clause-value : goal.returns-in-Ok-default-default-clause-value
-returns-in-Ok-default-default-clause-value g c =
-    let tests = key_tests g.T.TriHashItem g.T.K1.PartialEq.eq g.T.K2.PartialEq.eq g.T.K3.PartialEq.eq c.args.key1.now c.args.key2.now c.args.key3.now in
-    let laws = (AreLawful-ranks g.T.TriHashItem g.met.T.K1.Eq.laws g.met.T.K2.Eq.laws g.met.T.K3.Eq.laws).0 in
-    let slots = c.args.self.now.slots in
-    let found : List (Option ℕ) = Some c.in-Ok-default-default.slot1 ∷ c.ok-in-Ok-default-default.result ∷ c.ok-in-Ok-default-default-2.result ∷ [] in
-    let first = rw (c.by_key1.ensures.slots, c.in-Ok-default-default.is-0) at c.search-by1.ensures.found in
-    let second = rw (c.by_key2.ensures.slots, ← c.ok-in-Ok-default-default.ensures.value) at c.search-by2.ensures.found in
-    let third = rw (c.by_key3.ensures.slots, ← c.ok-in-Ok-default-default-2.ensures.value) at c.search-by3.ensures.found in
-    let are : AreFound tests slots found = (first, (second, (third, tt))) in
-    found_entry laws slots c.by_key1.ensures.apart tests (Some c.in-Ok-default-default.slot1) (c.ok-in-Ok-default-default.result ∷ c.ok-in-Ok-default-default-2.result ∷ []) are
-
-pub returns-in-Ok-default-default-clause-is_found : goal.returns-in-Ok-default-default-clause-is_found
-returns-in-Ok-default-default-clause-is_found g c =
-    let tests = key_tests g.T.TriHashItem g.T.K1.PartialEq.eq g.T.K2.PartialEq.eq g.T.K3.PartialEq.eq c.args.key1.now c.args.key2.now c.args.key3.now in
-    let laws = (AreLawful-ranks g.T.TriHashItem g.met.T.K1.Eq.laws g.met.T.K2.Eq.laws g.met.T.K3.Eq.laws).0 in
-    let slots = c.args.self.now.slots in
-    let found : List (Option ℕ) = Some c.in-Ok-default-default.slot1 ∷ c.ok-in-Ok-default-default.result ∷ c.ok-in-Ok-default-default-2.result ∷ [] in
-    let first = rw (c.by_key1.ensures.slots, c.in-Ok-default-default.is-0) at c.search-by1.ensures.found in
-    let second = rw (c.by_key2.ensures.slots, ← c.ok-in-Ok-default-default.ensures.value) at c.search-by2.ensures.found in
-    let third = rw (c.by_key3.ensures.slots, ← c.ok-in-Ok-default-default-2.ensures.value) at c.search-by3.ensures.found in
-    let are : AreFound tests slots found = (first, (second, (third, tt))) in
-    let listed = found_listing laws slots c.by_key1.ensures.apart tests found are in
-    record {
-      found = are;
-      value = found_entry laws slots c.by_key1.ensures.apart tests (Some c.in-Ok-default-default.slot1) (c.ok-in-Ok-default-default.result ∷ c.ok-in-Ok-default-default-2.result ∷ []) are;
-      listed = listed;
-      some = λ none. held_some slots tests found are refl (listed ∙ none);
+      some = λ none. held_some slots tests found are c.in-Err.ensures.some (listed ∙ none);
     }

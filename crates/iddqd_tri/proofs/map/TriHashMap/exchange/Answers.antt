@@ -40,10 +40,6 @@ invariant_of-self g c =
     (AreLawful-ranks g.T.TriHashItem g.met.T.K1.Eq.laws g.met.T.K2.Eq.laws g.met.T.K3.Eq.laws) c.self.invariant (rw (← c.self.view_is) at c.requires.free)
     ((_, c.hash.ensures ∙ hash1, c.rehash.ensures.moved), ((_, c.hash-2.ensures ∙ hash2, c.rehash-2.ensures.moved), ((_, c.hash-3.ensures ∙ hash3, c.rehash-3.ensures.moved), tt))))
 
-pub returns-clause-left : goal.returns-clause-left
-returns-clause-left g c =
-    rw (← c.self.view_is) (left c.replace-gone.result c.args.item c.args.ix c.self.inside.items.slots c.replace-gone.ensures.value)
-
 pub returns-clause-items : goal.returns-clause-items
 returns-clause-items g c =
     rw (← c.self.view_is, c.replace-gone.ensures.slots) (come c.replace-gone.result c.args.item c.args.ix c.self.inside.items.slots c.replace-gone.ensures.value)

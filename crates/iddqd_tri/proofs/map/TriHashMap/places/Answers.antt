@@ -1,59 +1,32 @@
-use Rattle.std.proofs.Common.{refl, ◌∷◌, [], ℕ, List, Option, None, Some}
-use Rattle.std.specs.Result.{result_ok}
-use Rattle.iddqd_store.specs.Bag.{like}
-use Rattle.iddqd_store.specs.Slots.Found.{AreFound}
+use Rattle.std.proofs.Common.{◌≡◌, ◌∷◌, [], Bool, false, true}
+use Rattle.std.specs.Prelude.{IfErr, OnErr, OnOk, Result, Ok, Err, is_some}
+use Rattle.std.specs.Cmp.{IsEquivalence}
+use Rattle.std.specs.List.{IsDistinct, list_any}
+use Rattle.iddqd_store.specs.Bag.{Ranks, clash, like}
+use Rattle.iddqd_store.specs.Map.{Map, bag, IsBlockedAt}
+use Rattle.iddqd_store.specs.Rank.{SlotUnder}
+use Rattle.iddqd_store.specs.Slots.Found.{AreFound, each_once}
+use Rattle.iddqd_store.specs.Table.{Spot}
 use Rattle.iddqd_store.proofs.MapLemmas.Places.{blocked_by, free_by}
-use Rattle.iddqd_tri.specs.Keys.{ranks}
+use Rattle.iddqd_tri.specs.Keys.{ranks, slots_found}
 use Rattle.iddqd_tri.proofs.MapLemmas.{AreLawful-ranks}
 use Rattle.iddqd_tri.proofs.map.TriHashMap.places.Goals as goal
 
-pub returns-in-Err-Err-Err-clause-free : goal.returns-in-Err-Err-Err-clause-free
-returns-in-Err-Err-Err-clause-free g c =
-    let by = ranks g.T.TriHashItem g.T.K1.PartialEq.eq g.T.K2.PartialEq.eq g.T.K3.PartialEq.eq in
-    let laws = (AreLawful-ranks g.T.TriHashItem g.met.T.K1.Eq.laws g.met.T.K2.Eq.laws g.met.T.K3.Eq.laws).0 in
-    let m = c.args.self.now in
-    let found : List (Option ℕ) = None ∷ None ∷ None ∷ [] in
-    let first = rw (c.key1.ensures, c.by_key1.ensures.slots, c.in-Err-Err-Err.is-0) at c.search-by1.ensures.found in
-    let second = rw (c.key2.ensures, c.by_key2.ensures.slots, c.in-Err-Err-Err.is-1) at c.search-by2.ensures.found in
-    let third = rw (c.key3.ensures, c.by_key3.ensures.slots, c.in-Err-Err-Err.is-2) at c.search-by3.ensures.found in
-    let are : AreFound (like by c.args.item.now) m.slots found = (first, (second, (third, tt))) in
-    free_by laws m c.by_key1.ensures.apart by c.args.item.now found are refl
+module _ {T S : Type 0} {agree : T → T → Bool} (laws : IsEquivalence agree) (m : Map T S) (apart : IsDistinct agree (bag m)) (by : Ranks T) (x : T) where
+  free : (r : Result (Spot × Spot × Spot) (SlotUnder × SlotUnder × SlotUnder)) → AreFound (like by x) m.slots (slots_found r) → OnOk r (list_any is_some (slots_found r) ≡ false) → OnOk r (clash by (bag m) x ≡ [])
+  free (Ok at) are none = free_by laws m apart by x (slots_found (Ok at)) are none
+  free (Err found) are none = tt
 
-pub returns-in-Err-Err-Ok-clause-blocked : goal.returns-in-Err-Err-Ok-clause-blocked
-returns-in-Err-Err-Ok-clause-blocked g c =
-    let by = ranks g.T.TriHashItem g.T.K1.PartialEq.eq g.T.K2.PartialEq.eq g.T.K3.PartialEq.eq in
-    let laws = (AreLawful-ranks g.T.TriHashItem g.met.T.K1.Eq.laws g.met.T.K2.Eq.laws g.met.T.K3.Eq.laws).0 in
-    let m = c.args.self.now in
-    let found : List (Option ℕ) = None ∷ None ∷ Some c.in-Err-Err-Ok.ix3 ∷ [] in
-    let first = rw (c.key1.ensures, c.by_key1.ensures.slots, c.in-Err-Err-Ok.is-0) at c.search-by1.ensures.found in
-    let second = rw (c.key2.ensures, c.by_key2.ensures.slots, c.in-Err-Err-Ok.is-1) at c.search-by2.ensures.found in
-    let third = rw (c.key3.ensures, c.by_key3.ensures.slots, c.in-Err-Err-Ok.is-2) at c.search-by3.ensures.found in
-    let are : AreFound (like by c.args.item.now) m.slots found = (first, (second, (third, tt))) in
-    let blocked = blocked_by laws m c.by_key1.ensures.apart by c.args.item.now found are refl in
-    rw (c.new.ensures, c.new-in-Err-Err-Ok.ensures, c.new-in-Err-Err-Ok-2.ensures) blocked
+  blocked : (r : Result (Spot × Spot × Spot) (SlotUnder × SlotUnder × SlotUnder)) → AreFound (like by x) m.slots (slots_found r) → OnErr r (list_any is_some (slots_found r) ≡ true) → IfErr r (λ found. IsBlockedAt by m x (each_once (found.0.slot ∷ found.1.slot ∷ found.2.slot ∷ [])))
+  blocked (Ok at) are some = tt
+  blocked (Err found) are some = blocked_by laws m apart by x (slots_found (Err found)) are some
 
-pub returns-in-Err-Ok-default-clause-blocked : goal.returns-in-Err-Ok-default-clause-blocked
-returns-in-Err-Ok-default-clause-blocked g c =
-    let by = ranks g.T.TriHashItem g.T.K1.PartialEq.eq g.T.K2.PartialEq.eq g.T.K3.PartialEq.eq in
-    let laws = (AreLawful-ranks g.T.TriHashItem g.met.T.K1.Eq.laws g.met.T.K2.Eq.laws g.met.T.K3.Eq.laws).0 in
-    let m = c.args.self.now in
-    let found : List (Option ℕ) = None ∷ Some c.in-Err-Ok-default.ix2 ∷ result_ok c.search-by3.result ∷ [] in
-    let first = rw (c.key1.ensures, c.by_key1.ensures.slots, c.in-Err-Ok-default.is-0) at c.search-by1.ensures.found in
-    let second = rw (c.key2.ensures, c.by_key2.ensures.slots, c.in-Err-Ok-default.is-1) at c.search-by2.ensures.found in
-    let third = rw (c.key3.ensures, c.by_key3.ensures.slots) at c.search-by3.ensures.found in
-    let are : AreFound (like by c.args.item.now) m.slots found = (first, (second, (third, tt))) in
-    let blocked = blocked_by laws m c.by_key1.ensures.apart by c.args.item.now found are refl in
-    rw (c.new-in-Err-Ok-default.ensures, c.new-in-Err-Ok-default-2.ensures, c.new-in-Err-Ok-default-3.ensures, c.ok.ensures.value) blocked
+pub returns-clause-free : goal.returns-clause-free
+returns-clause-free g c =
+    free (AreLawful-ranks g.T.TriHashItem g.met.T.K1.Eq.laws g.met.T.K2.Eq.laws g.met.T.K3.Eq.laws).0 c.args.self.now c.search_all.ensures.apart (ranks g.T.TriHashItem g.T.K1.PartialEq.eq g.T.K2.PartialEq.eq g.T.K3.PartialEq.eq) c.args.item.now c.search_all.result
+    (rw (c.key1.ensures, c.key2.ensures, c.key3.ensures) at c.search_all.ensures.found) c.search_all.ensures.none
 
-pub returns-in-Ok-default-default-clause-blocked : goal.returns-in-Ok-default-default-clause-blocked
-returns-in-Ok-default-default-clause-blocked g c =
-    let by = ranks g.T.TriHashItem g.T.K1.PartialEq.eq g.T.K2.PartialEq.eq g.T.K3.PartialEq.eq in
-    let laws = (AreLawful-ranks g.T.TriHashItem g.met.T.K1.Eq.laws g.met.T.K2.Eq.laws g.met.T.K3.Eq.laws).0 in
-    let m = c.args.self.now in
-    let found : List (Option ℕ) = Some c.in-Ok-default-default.ix1 ∷ result_ok c.search-by2.result ∷ result_ok c.search-by3.result ∷ [] in
-    let first = rw (c.key1.ensures, c.by_key1.ensures.slots, c.in-Ok-default-default.is-0) at c.search-by1.ensures.found in
-    let second = rw (c.key2.ensures, c.by_key2.ensures.slots) at c.search-by2.ensures.found in
-    let third = rw (c.key3.ensures, c.by_key3.ensures.slots) at c.search-by3.ensures.found in
-    let are : AreFound (like by c.args.item.now) m.slots found = (first, (second, (third, tt))) in
-    let blocked = blocked_by laws m c.by_key1.ensures.apart by c.args.item.now found are refl in
-    rw (c.new-in-Ok-default-default.ensures, c.new-in-Ok-default-default-2.ensures, c.new-in-Ok-default-default-3.ensures, c.ok-in-Ok-default-default.ensures.value, c.ok-in-Ok-default-default-2.ensures.value) blocked
+pub returns-clause-blocked : goal.returns-clause-blocked
+returns-clause-blocked g c =
+    blocked (AreLawful-ranks g.T.TriHashItem g.met.T.K1.Eq.laws g.met.T.K2.Eq.laws g.met.T.K3.Eq.laws).0 c.args.self.now c.search_all.ensures.apart (ranks g.T.TriHashItem g.T.K1.PartialEq.eq g.T.K2.PartialEq.eq g.T.K3.PartialEq.eq) c.args.item.now c.search_all.result
+    (rw (c.key1.ensures, c.key2.ensures, c.key3.ensures) at c.search_all.ensures.found) c.search_all.ensures.some

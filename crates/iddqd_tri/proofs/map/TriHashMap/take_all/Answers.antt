@@ -64,7 +64,6 @@ loop-at-preserved g c =
               same_builder = w.take.ensures.loses.same_builder ∙ so_far.loses.same_builder;
             };
             short = rw (w.taken-is, w.push.ensures) (omega (arith, length_push c.loop-at.taken w.take.result, so_far.short));
-            room = rw w.self-is (λ _. w.take.ensures.room);
             others = λ other apart_from.
                 let there : slice_get found at ≡ Some (get_or found at ix) = slice_get-get_or found at ix (omega (arith, c.loop-at-test.true, c.len-at-end.ensures.value)) in
                 let is : Some ix ≡ slice_get found at = w.in-Some.ensures in
@@ -72,7 +71,6 @@ loop-at-preserved g c =
                 let differs : nat_eq other ix ≡ false = each_at (λ (y : ℕ). nat_eq other y ≡ false) found ix (IsDistinct-head nat_eq other found apart_from) (at, omega (arith, c.loop-at-test.true, c.len-at-end.ensures.value), here) in
                 rw w.self-is (w.take.ensures.updates.others other (other_number other ix differs) ∙ so_far.others other apart_from);
             left = λ other x stands. so_far.left other x (stood slots _ ix other x w.take.ensures.updates (rw w.self-is at stands));
-            none = λ none. absurd (omega arith);
           }
       | in_default w ↦ absurd (let there = slice_get-get_or found at 0 (omega (arith, c.loop-at-test.true, c.len-at-end.ensures.value)) in let none = w.in_default.ensures in cc (there, none))
     ]

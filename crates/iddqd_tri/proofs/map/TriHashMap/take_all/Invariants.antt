@@ -1,7 +1,7 @@
-use Rattle.std.proofs.Common.{◌≡◌, ◌≤◌, ◌<◌, ◌++◌, ◌∷◌, ℕ, length, drop}
+use Rattle.std.proofs.Common.{◌≡◌, ◌≤◌, ◌++◌, ◌∷◌, ℕ, length, drop}
 use Rattle.std.specs.Prelude.{All, nat_eq, Some}
 use Rattle.std.specs.List.{IsDistinct}
-use Rattle.iddqd_store.specs.Map.{bag, Loses}
+use Rattle.iddqd_store.specs.Map.{Loses}
 use Rattle.iddqd_store.specs.Slots.{IsLive, get}
 use Rattle.iddqd_store.specs.Slots.Found.{items_at}
 use Rattle.iddqd_tri.proofs.map.TriHashMap.take_all.Given as goal
@@ -13,8 +13,6 @@ invariant-loop-at g l = record {
   values : l.taken ++ items_at l.self.slots (drop l.at l.found) ≡ items_at l.fn.self.slots l.found;
   loses : Loses l.fn.self l.taken l.self;
   short : length l.taken ≤ l.at;
-  room : 0 < l.at → length (bag l.self) < l.self.capacity;
   others : (at : ℕ) → IsDistinct nat_eq (at ∷ l.found) → get l.self.slots at ≡ get l.fn.self.slots at;
   left : (at : ℕ) (x : g.row.T.Denot) → get l.self.slots at ≡ Some x → get l.fn.self.slots at ≡ Some x;
-  none : l.at ≡ 0 → l.self ≡ l.fn.self;
 }
