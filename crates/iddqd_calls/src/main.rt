@@ -9,10 +9,11 @@
 //!
 //! With ITEMS it begins a new map, made with ROOM where that is given, into which so many items go: (1, 10, 100),
 //! (2, 20, 200) and so on with two keys, the value behind them. Else it goes on with the map of the line before. CALL is
-//! the functions that are called, one on what the one before answers, as `entry.or_insert`; NUMBERs are keys and items.
-//! The line's answer is the line itself, and behind a colon the reply, how many keys were compared, hashed and dropped,
-//! how many requests for memory were made, and how many of how many items fit. With !REQUEST that request of the call is
-//! refused. Requests are counted and refused by tests/refuse.c, if that is loaded; else their count is 0.
+//! the functions that are called, one on what the one before answers, as `entry.or_insert`; NUMBERs are keys, items, or
+//! how many items. The line's answer is the line itself, and behind a colon the reply; then, if `costs` are asked for, how
+//! many keys were compared, hashed and dropped, and how many requests for memory were made; then how many items there are, of
+//! how many that fit. With !REQUEST that request of the call is refused. Requests are counted and refused by
+//! tests/refuse.c, if that is loaded; else their count is 0.
 #![tactic(auto)]
 
 mod answer;
