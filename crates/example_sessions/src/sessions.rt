@@ -70,7 +70,7 @@ impl TriHashItemMut for Session {
 }
 
 /// The open sessions. Strangers choose the tokens and the peers, so the seed of the hashes is random: with a fixed one they
-/// could choose keys of one hash, and each look-up would compare them all.
+/// could choose keys that share a home in the table, and each look-up would walk over them all.
 pub type Sessions = TriHashMap<Session, RandomState>;
 
 /// Opens a session. Those with its number, its token or its peer are closed, and given back in this order.

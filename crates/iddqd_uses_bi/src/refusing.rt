@@ -47,7 +47,7 @@ pub fn add<T: Ranked, S: BuildHasher>(map: &mut BiHashMap<T, S>, item: T) -> Res
     }
 }
 
-/// The same by `From`, which tells the item alone: of the map nothing is known then.
+/// The same by `From`, which tells the item alone: after a refusal nothing is known of the map.
 pub fn add_by_from<T: Ranked, S: BuildHasher>(
     map: &mut BiHashMap<T, S>,
     item: T,
