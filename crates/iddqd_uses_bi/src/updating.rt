@@ -56,6 +56,7 @@ impl BiHashItemMut for File {
 /// Counts the file of a number once more, where it was opened less often than the largest number says.
 pub fn note_opened(files: &mut BiHashMap<File>, number: u64) -> bool
     requires { (f : File) → IsOnly (λ f. number == f.number) (bag files.old) (Some f) → f.opened + 1 < 2 ^ 64 }
+    ensures found { result ≡ list_any (λ f. number == f.number) (bag files.old) }
     ensures counted { result ≡ true → (f : File) × IsOnly (λ f. number == f.number) (bag files.old) (Some f)
         × IsPermutation (bag files.new)
         (swap ⟦<File as Ranked>⟧.ranks (bag files.old) f (record f { opened = f.opened + 1 })) }

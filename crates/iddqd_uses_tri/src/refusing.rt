@@ -77,6 +77,7 @@ pub fn add_by_map_err<T: Ranked, S: BuildHasher>(
 /// Whether an item went in. Refused, it is dropped.
 pub fn is_added<T: Ranked + Drop, S: BuildHasher>(map: &mut TriHashMap<T, S>, item: T) -> bool
     ensures went_in { OnTrue result (IsPermutation (bag map.new) (item ∷ bag map.old)) }
+    ensures granted { clash T.ranks (bag map.old) item ≡ [] → length (bag map.old) < map.old.capacity → result ≡ true }
     ensures unchanged { OnFalse result (map.new ≡ map.old) }
 {
     map.insert_unique(item).is_ok()
@@ -99,6 +100,7 @@ pub fn add_or_count<T: Ranked + Drop, S: BuildHasher>(
     item: T,
 ) -> Result<(), (T, usize)>
     ensures went_in { OnOk result (IsPermutation (bag map.new) (item ∷ bag map.old)) }
+    ensures granted { clash T.ranks (bag map.old) item ≡ [] → length (bag map.old) < map.old.capacity → IsOk result }
     ensures count { IfErr result (λ e. e.1 ≡ length (order T.ranks (bag map.old) item)) }
     ensures back { IfErr result (λ e. e.0 ≡ item) }
     ensures unchanged { OnErr result (map.new ≡ map.old) }
