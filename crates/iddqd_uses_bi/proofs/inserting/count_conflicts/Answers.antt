@@ -1,7 +1,7 @@
-use Rattle.std.proofs.Common.{rules, arith, ◌≡◌, ◌≢◌, [], length, ap, sym, ◌∙◌, inl, inr}
+use Rattle.std.proofs.Common.{rules, arith, ◌≡◌, [], length, ap, sym, ◌∙◌, inl, inr}
 use Rattle.std.proofs.lemmas.List.{nil_from_length}
 use Rattle.iddqd_bi.specs.Bag.{clash, order}
-use Rattle.iddqd_bi.specs.Map.{IsFullFor, bag}
+use Rattle.iddqd_bi.specs.Map.{bag}
 use Rattle.iddqd_bi.proofs.CallerLemmas.{length-clash}
 use Rattle.iddqd_uses_bi.proofs.inserting.count_conflicts.Goals as goal
 

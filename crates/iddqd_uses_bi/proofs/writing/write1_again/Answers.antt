@@ -2,7 +2,7 @@ use Rattle.std.proofs.Common.{sym, ap, ◌∙◌}
 use Rattle.std.specs.Option.{option_to_list}
 use Rattle.iddqd_bi.specs.Keys.{ranks}
 use Rattle.iddqd_bi.specs.Map.{bag}
-use Rattle.iddqd_bi.specs.RefMuts.{ref_item, ref_lender, ref_map, ref_with}
+use Rattle.iddqd_bi.specs.RefMuts.{ref_item, ref_map, ref_with}
 use Rattle.iddqd_bi.proofs.CallerLemmas.Named.{only_written}
 use Rattle.iddqd_uses_bi.proofs.writing.write1_again.Goals as goal
 

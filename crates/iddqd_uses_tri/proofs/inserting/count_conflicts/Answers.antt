@@ -1,7 +1,7 @@
-use Rattle.std.proofs.Common.{rules, arith, ◌≡◌, ◌≢◌, [], length, ap, sym, ◌∙◌, inl, inr}
+use Rattle.std.proofs.Common.{rules, arith, ◌≡◌, [], length, ap, sym, ◌∙◌, inl, inr}
 use Rattle.std.proofs.lemmas.List.{nil_from_length}
 use Rattle.iddqd_tri.specs.Bag.{clash, order}
-use Rattle.iddqd_tri.specs.Map.{IsFullFor, bag}
+use Rattle.iddqd_tri.specs.Map.{bag}
 use Rattle.iddqd_tri.proofs.CallerLemmas.{length-clash}
 use Rattle.iddqd_uses_tri.proofs.inserting.count_conflicts.Goals as goal
 

@@ -1,4 +1,4 @@
-use Rattle.std.proofs.Common.{rules, ◌≡◌, [], ◌∷◌, List, Option, Some, None, ap, sym, ◌∙◌}
+use Rattle.std.proofs.Common.{rules, ◌≡◌, [], ◌∷◌, List, Option, Some, None, ap}
 use Rattle.std.specs.Option.{option_to_list}
 use Rattle.iddqd_tri.specs.Entries.{held1}
 use Rattle.iddqd_uses_tri.proofs.lent.write_held1.Goals as goal
