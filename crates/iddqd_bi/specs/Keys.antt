@@ -1,7 +1,7 @@
 -- The ranks of an item with two keys, and the slots found by them.
-use Rattle.std.specs.Prelude.{ℕ, Bool, List, [], ◌∷◌, Option, None, Result, Ok, Err}
+use Rattle.std.specs.Prelude.{◌≡◌, ℕ, Bool, List, [], ◌∷◌, Option, None, Result, Ok, Err}
 use Rattle.iddqd_store.specs.Bag.{Ranks, every_of}
-use Rattle.iddqd_store.specs.Rank.{agree, SlotUnder}
+use Rattle.iddqd_store.specs.Rank.{agree, IsUnder, IsVacantFor, SlotUnder}
 use Rattle.iddqd_store.specs.Table.{Spot}
 use Rattle.iddqd_bi.specs.declared.item.BiHashItem as item
 
@@ -24,6 +24,26 @@ module _ {T K1 K2 : Type 0} (of : item.Ghosts T K1 K2) where
   -- whether an item has both keys
   abbrev pub has_both : {Q1 Q2 : Type 0} → (Q1 → K1 → Bool) → (Q2 → K2 → Bool) → Q1 → Q2 → T → Bool
   has_both stands1 stands2 q1 q2 = every_of (key_tests stands1 stands2 q1 q2)
+
+module _ {T : Type 0} (hash1 hash2 : T → ℕ) where
+  -- a pair under the hash of each rank goes in at this cell of its table. No public clause cites it
+  pub record AreVacantFor (bag : List T) (h1 h2 : ℕ) (at : Spot × Spot) : Type 0 where
+    pub first : IsVacantFor hash1 bag h1 at.0
+    pub second : IsVacantFor hash2 bag h2 at.1
+
+  -- the pairs of an item do
+  abbrev pub ArePlacesOf : List T → T → Spot × Spot → Type 0
+  ArePlacesOf bag x at = AreVacantFor bag (hash1 x) (hash2 x) at
+
+  -- the item in the slot that was found at each rank has the hash that it was found by. No public clause cites it
+  pub record AreUnder (slots : List (Option T)) (found : SlotUnder × SlotUnder) : Type 0 where
+    pub first : IsUnder hash1 slots found.0
+    pub second : IsUnder hash2 slots found.1
+
+-- these are the hashes by which searches were made. No public clause cites it
+pub record HaveHashes (h1 h2 : ℕ) (found : SlotUnder × SlotUnder) : Type 0 where
+  pub first : found.0.hash ≡ h1
+  pub second : found.1.hash ≡ h2
 
 -- the slot that a search at each rank found, or none
 abbrev pub slots_found : Result (Spot × Spot) (SlotUnder × SlotUnder) → List (Option ℕ)

@@ -1,14 +1,14 @@
 -- What a contract sees of a map, with any number of ranks.
 pub mod Walk
 pub mod Written
-use Rattle.std.specs.Prelude.{◌≡◌, ◌≢◌, ◌+◌, ◌≤◌, ◌<◌, ℕ, List, [], ◌∷◌, ◌++◌, Option, Result, IsErr, OnOk, OnErr, length, fold, refl, IsPermutation}
+use Rattle.std.specs.Prelude.{◌≡◌, ◌≢◌, ◌+◌, ◌≤◌, ◌<◌, ℕ, List, [], ◌∷◌, ◌++◌, Option, Some, Result, IsErr, OnOk, OnErr, length, fold, refl, IsPermutation}
 use Rattle.std.specs.Coded.{Coded, code_by, coded×, coded_ℕ, coded_list, coded_option}
 use Rattle.std.specs.Hash.{HashWrites}
 use Rattle.std.specs.declared.hash.Hasher as hasher
 use Rattle.std.specs.declared.hash.BuildHasher as builder
-use Rattle.iddqd_store.specs.Bag.{Ranks, clash, order, over}
+use Rattle.iddqd_store.specs.Bag.{IsSound, Ranks, clash, order, over}
 use Rattle.iddqd_store.specs.Slots.Found.{StandAt}
-use Rattle.iddqd_store.specs.Slots.{live_items}
+use Rattle.iddqd_store.specs.Slots.{get, live_items}
 use Rattle.iddqd_store.specs.Table.Limit.{most_room}
 
 -- the items by their slots, how many fit, and what makes the hashes. Public clauses cite the slots as `bag` alone
@@ -41,6 +41,15 @@ pub record Gains {T S : Type 0} (old : Map T S) (item : T) (new : Map T S) : Typ
 -- the map without these items, which are given back. The room stays
 pub record Loses {T S : Type 0} (old : Map T S) (gone : List T) (new : Map T S) : Type 0 where
   pub items : IsPermutation (bag old) (gone ++ bag new)
+  pub same_room : new.capacity ≡ old.capacity
+  pub same_builder : new.builder ≡ old.builder
+
+-- the map with these items, of which this one stands in this slot. The room stays. No public clause cites it
+pub record PutsAt {T S : Type 0} (ranks : Ranks T) (old : Map T S) (ix : ℕ) (item : T) (xs : List T) (new : Map T S) : Type 0 where
+  pub at : get new.slots ix ≡ Some item
+  pub items : IsPermutation (bag new) xs
+  pub sound : IsSound ranks (bag new)
+  pub fits : length (bag new) ≤ new.capacity
   pub same_room : new.capacity ≡ old.capacity
   pub same_builder : new.builder ≡ old.builder
 

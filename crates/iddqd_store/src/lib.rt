@@ -32,7 +32,7 @@ pub use item_set::{IntoIter, ItemSet, Iter};
 pub use matcher::{KeyMatcher, Matcher};
 pub use meter::Meter;
 pub use query::Query;
-pub use rank::{ByQuery, KeyOf, Lookup, Sought};
+pub use rank::{ByQuery, HashedKey, KeyOf, Lookup, Sought};
 pub use reply::MapReply;
 pub use short_list::{ShortIntoIter, ShortIter, ShortList};
 pub use up_to_three::UpToThree;

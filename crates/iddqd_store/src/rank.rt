@@ -7,7 +7,7 @@ mod matchers;
 mod pairs;
 mod sought;
 
-pub use key_of::KeyOf;
+pub use key_of::{HashedKey, KeyOf};
 pub use lookup::Lookup;
 pub use matchers::ByQuery;
 pub use sought::Sought;

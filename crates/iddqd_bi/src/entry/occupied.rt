@@ -134,7 +134,7 @@ impl<'a, T: BiHashItem, S: BuildHasher> OccupiedEntry<'a, T, S> {
         }
         let by1 = Sought::new(self.slot1, self.map.hash_of1(&item));
         let by2 = Sought::new(self.slot2, self.map.hash_of2(&item));
-        let (displaced, ix) = self.map.put_over(item, &by1, &by2);
+        let (displaced, ix) = self.map.put_over(item, &(by1, by2));
         self.slot1 = Some(ix);
         self.slot2 = Some(ix);
         Ok(displaced)
@@ -155,8 +155,8 @@ impl<'a, T: BiHashItem, S: BuildHasher> OccupiedEntry<'a, T, S> {
             slot1,
             slot2,
         } = self;
-        let nothing = Sought::nothing();
-        map.take_all(&each_once(slot1, slot2), &nothing, &nothing)
+        let unknown = (Sought::nothing(), Sought::nothing());
+        map.take_all(&each_once(slot1, slot2), &unknown)
     }
 }
 

@@ -32,13 +32,8 @@ impl<'a, T: Ranked, S: BuildHasher, Q: Keys<T::K1, T::K2>> VacantEntry<'a, T, S,
         ensures* unchanged_at_err { sem 𝓛 (rests_if_err T.row S.row T.K1.row T.K2.row S.Hasher.row
             self.entry.map result) }
     {
-        let VacantEntry {
-            map,
-            keys,
-            at1,
-            at2,
-        } = self;
-        let slot = map.put_free(item, keys.first(), keys.second(), at1, at2)?;
+        let VacantEntry { map, keys, at } = self;
+        let slot = map.put_free(item, keys.first(), keys.second(), at)?;
         Ok(RefMut { map, slot })
     }
 
@@ -55,13 +50,8 @@ impl<'a, T: Ranked, S: BuildHasher, Q: Keys<T::K1, T::K2>> VacantEntry<'a, T, S,
         ensures* unchanged_at_err { sem 𝓛 (held_rests_if_err T.row S.row T.K1.row T.K2.row S.Hasher.row
             T.BiHashItem T.K1.Hash T.K2.Hash S.BuildHasher S.Hasher.Hasher self.entry.map result) }
     {
-        let VacantEntry {
-            map,
-            keys,
-            at1,
-            at2,
-        } = self;
-        let slot = map.put_free(item, keys.first(), keys.second(), at1, at2)?;
+        let VacantEntry { map, keys, at } = self;
+        let slot = map.put_free(item, keys.first(), keys.second(), at)?;
         Ok(OccupiedEntryMut {
             map,
             slot1: Some(slot),
@@ -84,14 +74,9 @@ impl<'a, T: BiHashItem, S: BuildHasher> VacantEntry<'a, T, S> {
         ensures hands_back { IfErr result (λ e.
             HandsBack ⟦<T as Ranked>⟧.ranks (wanted self.entry) self.entry.map.now item e.error) }
     {
-        let VacantEntry {
-            map,
-            keys,
-            at1,
-            at2,
-        } = self;
+        let VacantEntry { map, keys, at } = self;
         let KeyPair { key1, key2 } = keys;
-        match map.put_free(item, key1, key2, at1, at2) {
+        match map.put_free(item, key1, key2, at) {
             Ok(slot) => Ok(OccupiedEntry {
                 map,
                 key1,

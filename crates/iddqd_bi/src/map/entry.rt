@@ -25,11 +25,10 @@ impl<T: BiHashItem, S: BuildHasher> BiHashMap<T, S> {
         ensures is_found { IsFound result }
     {
         match self.search_all(key1, key2) {
-            Ok((at1, at2)) => Entry::Vacant(VacantEntry {
+            Ok(at) => Entry::Vacant(VacantEntry {
                 map: self,
                 keys: KeyPair { key1, key2 },
-                at1,
-                at2,
+                at,
             }),
             Err((by1, by2)) => Entry::Occupied(OccupiedEntry {
                 map: self,

@@ -1,10 +1,9 @@
 //! Tables that index the slots.
 ghost use Rattle.std.specs.Prelude.{◌≡◌, ◌≤◌, [], length};
 ghost use Rattle.iddqd_store.specs.Rank.Index.{IsIndex};
-ghost use Rattle.iddqd_store.specs.Rank.{key_hash};
 ghost use Rattle.iddqd_store.specs.Slots.{live_count};
 
-use super::key_of::KeyOf;
+use super::key_of::{HashedKey, KeyOf};
 use crate::index_table::IndexTable;
 use crate::item_index::ItemIndex;
 use crate::item_set::ItemSet;
@@ -17,7 +16,7 @@ impl<T> ItemSet<T> {
     pub fn fill<R: KeyOf<T>, S: BuildHasher>(&self, table: &mut IndexTable, hash_builder: &S)
         requires empty { table.old.pairs ≡ [] }
         requires room { live_count self.now.slots ≤ table.old.limit }
-        ensures index { IsIndex (key_hash R.key R.Key.hash_input S.BuildHasher S.Hasher.Hasher hash_builder.now)
+        ensures index { IsIndex (⟦<R as HashedKey<T, S>>⟧.hash hash_builder.now)
             self.now.slots table.new.pairs }
         ensures cells { length table.new.row ≡ length table.old.row }
         ensures limit { table.new.limit ≡ table.old.limit }

@@ -8,9 +8,9 @@ ghost use Rattle.iddqd_store.specs.Map.{bag, hash_of};
 ghost use Rattle.iddqd_store.specs.Rank.Index.{HasHash};
 ghost use Rattle.iddqd_store.specs.Slots.Found.{FoundAt};
 ghost use Rattle.iddqd_store.specs.Slots.{get, IsLive};
-ghost use Rattle.iddqd_store.specs.Rank.{agree, key_hash, IsVacantFor, NamesOneUnder, SearchCosts, IsSearchable};
+ghost use Rattle.iddqd_store.specs.Rank.{agree, IsVacantFor, NamesOneUnder, SearchCosts, IsSearchable};
 
-use super::key_of::KeyOf;
+use super::key_of::{HashedKey, KeyOf};
 use super::matchers::{ByKey, ByQuery};
 use crate::index_table::IndexTable;
 use crate::item_index::ItemIndex;
@@ -53,8 +53,7 @@ impl<'a, T, R: KeyOf<T>, S: BuildHasher> Model for Lookup<'a, T, R, S> {
 impl<'a, T, R: KeyOf<T>, S: BuildHasher> Lookup<'a, T, R, S> {
     /// The slots, a table that indexes them by the keys of the rank, and what makes the hashes.
     pub fn new(items: &'a ItemSet<T>, table: &'a IndexTable, hash_builder: &'a S) -> Self
-        requires { IsSearchable (agree R.key R.Key.eq)
-            (key_hash R.key R.Key.hash_input S.BuildHasher S.Hasher.Hasher hash_builder.now)
+        requires { IsSearchable (agree R.key R.Key.eq) (⟦<R as HashedKey<T, S>>⟧.hash hash_builder.now)
             items.now.slots table.now.pairs }
         ensures { result ≡ record { slots = items.now.slots; capacity = table.now.limit; builder = hash_builder.now } }
     {
@@ -96,13 +95,11 @@ impl<'a, T, R: KeyOf<T>, S: BuildHasher> Lookup<'a, T, R, S> {
         matcher: &mut M,
         meter: &mut Meter,
     ) -> Option<&'a T>
-        requires { NamesOneUnder (agree R.key R.Key.eq)
-            (key_hash R.key R.Key.hash_input S.BuildHasher S.Hasher.Hasher self.now.builder) hash
+        requires { NamesOneUnder (agree R.key R.Key.eq) (⟦<R as HashedKey<T, S>>⟧.hash self.now.builder) hash
             (λ x. M.accepts matcher.old (R.key x)) (bag self.now) }
         ensures found { IsOnly (λ x. M.accepts matcher.old (R.key x)) (bag self.now) (option_copied result) }
         ensures is_kept { M.IsKept matcher.old matcher.new }
-        ensures costs { SearchCosts
-            (key_hash R.key R.Key.hash_input S.BuildHasher S.Hasher.Hasher self.now.builder) (bag self.now)
+        ensures costs { SearchCosts (⟦<R as HashedKey<T, S>>⟧.hash self.now.builder) (bag self.now)
             self.now.capacity hash result (M.asked matcher.old) (M.asked matcher.new) meter.old meter.new }
     {
         match self.search_with(hash, matcher, meter) {
@@ -118,7 +115,7 @@ impl<'a, T, R: KeyOf<T>, S: BuildHasher> Lookup<'a, T, R, S> {
             (option_and_then (get self.now.slots) result) }
         ensures live { IfSome result (IsLive self.now.slots) }
         ensures hashed { IfSome result (λ ix. HasHash
-            (key_hash R.key R.Key.hash_input S.BuildHasher S.Hasher.Hasher self.now.builder) self.now.slots ix hash) }
+            (⟦<R as HashedKey<T, S>>⟧.hash self.now.builder) self.now.slots ix hash) }
     {
         match self.search(hash, query) {
             Ok(ix) => Some(ix),
@@ -133,9 +130,9 @@ impl<'a, T, R: KeyOf<T>, S: BuildHasher> Lookup<'a, T, R, S> {
         requires { hash ≡ hash_of S.BuildHasher S.Hasher.Hasher self.now.builder (Q.hash_input query) }
         ensures found { FoundAt (λ x. Q.stands_for query (R.key x)) self.now.slots (result_ok result) }
         ensures hashed { IfOk result (λ ix. HasHash
-            (key_hash R.key R.Key.hash_input S.BuildHasher S.Hasher.Hasher self.now.builder) self.now.slots ix hash) }
+            (⟦<R as HashedKey<T, S>>⟧.hash self.now.builder) self.now.slots ix hash) }
         ensures vacant { IfErr result (IsVacantFor
-            (key_hash R.key R.Key.hash_input S.BuildHasher S.Hasher.Hasher self.now.builder) (bag self.now) hash) }
+            (⟦<R as HashedKey<T, S>>⟧.hash self.now.builder) (bag self.now) hash) }
     {
         self.search_with(hash, &mut ByQuery::new(&query), &mut Meter::new())
     }
@@ -149,19 +146,17 @@ impl<'a, T, R: KeyOf<T>, S: BuildHasher> Lookup<'a, T, R, S> {
         matcher: &mut M,
         meter: &mut Meter,
     ) -> Result<ItemIndex, Vacancy>
-        requires { NamesOneUnder (agree R.key R.Key.eq)
-            (key_hash R.key R.Key.hash_input S.BuildHasher S.Hasher.Hasher self.now.builder) hash
+        requires { NamesOneUnder (agree R.key R.Key.eq) (⟦<R as HashedKey<T, S>>⟧.hash self.now.builder) hash
             (λ x. M.accepts matcher.old (R.key x)) (bag self.now) }
         ensures found { IsOnly (λ x. M.accepts matcher.old (R.key x)) (bag self.now)
             (option_and_then (get self.now.slots) (result_ok result)) }
         ensures live { IfOk result (IsLive self.now.slots) }
         ensures hashed { IfOk result (λ ix. HasHash
-            (key_hash R.key R.Key.hash_input S.BuildHasher S.Hasher.Hasher self.now.builder) self.now.slots ix hash) }
+            (⟦<R as HashedKey<T, S>>⟧.hash self.now.builder) self.now.slots ix hash) }
         ensures vacant { IfErr result (IsVacantFor
-            (key_hash R.key R.Key.hash_input S.BuildHasher S.Hasher.Hasher self.now.builder) (bag self.now) hash) }
+            (⟦<R as HashedKey<T, S>>⟧.hash self.now.builder) (bag self.now) hash) }
         ensures is_kept { M.IsKept matcher.old matcher.new }
-        ensures costs { SearchCosts
-            (key_hash R.key R.Key.hash_input S.BuildHasher S.Hasher.Hasher self.now.builder) (bag self.now)
+        ensures costs { SearchCosts (⟦<R as HashedKey<T, S>>⟧.hash self.now.builder) (bag self.now)
             self.now.capacity hash (result_ok result) (M.asked matcher.old) (M.asked matcher.new)
             meter.old meter.new }
     {

@@ -2,10 +2,9 @@
 //! known where a search found the item.
 ghost use Rattle.std.specs.Prelude.{◌≡◌, ◌<◌, ◌∷◌, length, Contains, IfSome};
 ghost use Rattle.std.specs.List.Sorted.{IsPermutation};
-ghost use Rattle.iddqd_store.specs.Rank.{key_hash};
 ghost use Rattle.iddqd_store.specs.Table.{MovesPair};
 
-use super::key_of::KeyOf;
+use super::key_of::{HashedKey, KeyOf};
 use crate::index_table::IndexTable;
 use crate::item_index::ItemIndex;
 use crate::meter::Meter;
@@ -17,9 +16,8 @@ fn hash_of_key<T, R: KeyOf<T>, S: BuildHasher>(
     item: &T,
     known: Option<u64>,
 ) -> u64
-    requires { IfSome known (λ hash.
-        key_hash R.key R.Key.hash_input S.BuildHasher S.Hasher.Hasher hash_builder.now item.now ≡ hash) }
-    ensures { result ≡ key_hash R.key R.Key.hash_input S.BuildHasher S.Hasher.Hasher hash_builder.now item.now }
+    requires { IfSome known (λ hash. ⟦<R as HashedKey<T, S>>⟧.hash hash_builder.now item.now ≡ hash) }
+    ensures { result ≡ ⟦<R as HashedKey<T, S>>⟧.hash hash_builder.now item.now }
 {
     match known {
         Some(hash) => hash,
@@ -36,12 +34,10 @@ impl IndexTable {
         ix: ItemIndex,
         known: Option<u64>,
     )
-        requires known { IfSome known (λ hash.
-            key_hash R.key R.Key.hash_input S.BuildHasher S.Hasher.Hasher hash_builder.now item.now ≡ hash) }
-        requires paired { Contains self.old.pairs
-            (key_hash R.key R.Key.hash_input S.BuildHasher S.Hasher.Hasher hash_builder.now item.now, ix) }
+        requires known { IfSome known (λ hash. ⟦<R as HashedKey<T, S>>⟧.hash hash_builder.now item.now ≡ hash) }
+        requires paired { Contains self.old.pairs (⟦<R as HashedKey<T, S>>⟧.hash hash_builder.now item.now, ix) }
         ensures taken { IsPermutation self.old.pairs
-            ((key_hash R.key R.Key.hash_input S.BuildHasher S.Hasher.Hasher hash_builder.now item.now, ix)
+            ((⟦<R as HashedKey<T, S>>⟧.hash hash_builder.now item.now, ix)
             ∷ self.new.pairs) }
         ensures limit { self.new.limit ≡ self.old.limit }
         ensures room { length self.new.pairs < self.new.limit }
@@ -60,12 +56,10 @@ impl IndexTable {
         known: Option<u64>,
         hash: u64,
     )
-        requires known { IfSome known (λ before.
-            key_hash R.key R.Key.hash_input S.BuildHasher S.Hasher.Hasher hash_builder.now gone.now ≡ before) }
-        requires paired { Contains self.old.pairs
-            (key_hash R.key R.Key.hash_input S.BuildHasher S.Hasher.Hasher hash_builder.now gone.now, ix) }
+        requires known { IfSome known (λ before. ⟦<R as HashedKey<T, S>>⟧.hash hash_builder.now gone.now ≡ before) }
+        requires paired { Contains self.old.pairs (⟦<R as HashedKey<T, S>>⟧.hash hash_builder.now gone.now, ix) }
         ensures moved { MovesPair self.old.pairs self.new.pairs
-            (key_hash R.key R.Key.hash_input S.BuildHasher S.Hasher.Hasher hash_builder.now gone.now) hash ix }
+            (⟦<R as HashedKey<T, S>>⟧.hash hash_builder.now gone.now) hash ix }
         ensures limit { self.new.limit ≡ self.old.limit }
     {
         let before = hash_of_key::<T, R, S>(hash_builder, gone, known);

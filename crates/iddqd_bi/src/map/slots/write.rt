@@ -135,8 +135,7 @@ impl<T: BiHashItemMut, S: BuildHasher> BiHashMap<T, S> {
     )
     where
         T::Data: Drop,
-        requires live1 { IfSome slot1 (IsLive self.old.slots) }
-        requires live2 { IfSome slot2 (IsLive self.old.slots) }
+        requires live { IfSome slot1 (IsLive self.old.slots) × IfSome slot2 (IsLive self.old.slots) }
         requires callable { F.IsAlwaysCallable f }
         ensures stores { Stores (CalledAt F.FnMut) T.put ⟦<T as Ranked>⟧.ranks f
             (held_at self.old.slots (slot1 ∷ slot2 ∷ [])) (bag self.old) (bag self.new) }
@@ -144,7 +143,7 @@ impl<T: BiHashItemMut, S: BuildHasher> BiHashMap<T, S> {
         ensures sound { IsSound ⟦<T as Ranked>⟧.ranks (bag self.new) }
         ensures capacity { self.new.capacity ≡ self.old.capacity }
         ensures builder { self.new.builder ≡ self.old.builder }
-        ensures live { (at : ℕ) → IsLive self.old.slots at → IsLive self.new.slots at }
+        ensures still_live { (at : ℕ) → IsLive self.old.slots at → IsLive self.new.slots at }
     {
         self.store_all(&each_once(slot1, slot2), f);
         // The invariant of what the map is now, for the clause `sound`.
