@@ -21,7 +21,7 @@ RENAMED = [
     (r"\bboth(?= (?:keys|searches|name)\b)", "all"), (r"\bBoth(?= (?:keys|searches)\b)", "All"),
     (r"\bthe other key\b", "the other keys"), (r"(?<=rank < )2\b|(?<=<= )2\b|(?<=-le)2\b", "3"),
     # The same at each rank: types or proofs, parts of a list, and what a call is handed.
-    (r"\((\w+), \1\)", r"(\1, \1, \1)"), (r"\bNone ∷ None(?= ∷)", "None ∷ None ∷ None"),
+    (r"\(([\w:]+(?:\(\))?), \1\)", r"(\1, \1, \1)"), (r"\b(\w+) × \1\b", r"\1 × \1 × \1"), (r"\bNone ∷ None(?= ∷)", "None ∷ None ∷ None"),
     (r"(?<=, )(None|&nothing),\s+\1(?=,?\s*\))", r"\1, \1, \1"),
 ]
 # The words of a rank, in order: numbers, types, names of keys, and the parts of what stands in pairs.

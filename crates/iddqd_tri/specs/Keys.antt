@@ -1,7 +1,7 @@
 -- The ranks of an item with three keys, and the slots found by them.
-use Rattle.std.specs.Prelude.{ℕ, Bool, List, [], ◌∷◌, Option, None, Result, Ok, Err}
+use Rattle.std.specs.Prelude.{◌≡◌, ℕ, Bool, List, [], ◌∷◌, Option, None, Result, Ok, Err}
 use Rattle.iddqd_store.specs.Bag.{Ranks, every_of}
-use Rattle.iddqd_store.specs.Rank.{agree, SlotUnder}
+use Rattle.iddqd_store.specs.Rank.{agree, IsUnder, IsVacantFor, SlotUnder}
 use Rattle.iddqd_store.specs.Table.{Spot}
 use Rattle.iddqd_tri.specs.declared.item.TriHashItem as item
 
@@ -27,6 +27,29 @@ module _ {T K1 K2 K3 : Type 0} (of : item.Ghosts T K1 K2 K3) where
   -- whether an item has all keys
   abbrev pub has_all : {Q1 Q2 Q3 : Type 0} → (Q1 → K1 → Bool) → (Q2 → K2 → Bool) → (Q3 → K3 → Bool) → Q1 → Q2 → Q3 → T → Bool
   has_all stands1 stands2 stands3 q1 q2 q3 = every_of (key_tests stands1 stands2 stands3 q1 q2 q3)
+
+module _ {T : Type 0} (hash1 hash2 hash3 : T → ℕ) where
+  -- a pair under the hash of each rank goes in at this cell of its table. No public clause cites it
+  pub record AreVacantFor (bag : List T) (h1 h2 h3 : ℕ) (at : Spot × Spot × Spot) : Type 0 where
+    pub first : IsVacantFor hash1 bag h1 at.0
+    pub second : IsVacantFor hash2 bag h2 at.1
+    pub third : IsVacantFor hash3 bag h3 at.2
+
+  -- the pairs of an item do
+  abbrev pub ArePlacesOf : List T → T → Spot × Spot × Spot → Type 0
+  ArePlacesOf bag x at = AreVacantFor bag (hash1 x) (hash2 x) (hash3 x) at
+
+  -- the item in the slot that was found at each rank has the hash that it was found by. No public clause cites it
+  pub record AreUnder (slots : List (Option T)) (found : SlotUnder × SlotUnder × SlotUnder) : Type 0 where
+    pub first : IsUnder hash1 slots found.0
+    pub second : IsUnder hash2 slots found.1
+    pub third : IsUnder hash3 slots found.2
+
+-- these are the hashes by which searches were made. No public clause cites it
+pub record HaveHashes (h1 h2 h3 : ℕ) (found : SlotUnder × SlotUnder × SlotUnder) : Type 0 where
+  pub first : found.0.hash ≡ h1
+  pub second : found.1.hash ≡ h2
+  pub third : found.2.hash ≡ h3
 
 -- the slot that a search at each rank found, or none
 abbrev pub slots_found : Result (Spot × Spot × Spot) (SlotUnder × SlotUnder × SlotUnder) → List (Option ℕ)

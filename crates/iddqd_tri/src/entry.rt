@@ -2,8 +2,8 @@
 ghost use Rattle.std.specs.Prelude.{◌≡◌, []};
 ghost use Rattle.iddqd_store.specs.Bag.{listing};
 ghost use Rattle.iddqd_store.specs.Map.{bag, hash_of};
-ghost use Rattle.iddqd_store.specs.Rank.{key_hash, IsVacantFor};
-ghost use Rattle.iddqd_tri.specs.Keys.{key_tests};
+ghost use Rattle.iddqd_store.specs.Rank.{key_hash};
+ghost use Rattle.iddqd_tri.specs.Keys.{AreVacantFor, key_tests};
 
 use crate::item::TriHashItem;
 use crate::map::{DefaultHashBuilder, TriHashMap};
@@ -54,21 +54,17 @@ pub struct VacantEntry<
 > {
     pub(crate) map: &'a mut TriHashMap<T, S>,
     pub(crate) keys: Q,
-    pub(crate) at1: Vacancy,
-    pub(crate) at2: Vacancy,
-    pub(crate) at3: Vacancy,
-    ghost vacant: { listing
+    pub(crate) at: (Vacancy, Vacancy, Vacancy),
+    ghost absent: { listing
         (key_tests T.TriHashItem T.K1.eq T.K2.eq T.K3.eq (Q.first keys) (Q.second keys) (Q.third keys))
         (bag map.now) ≡ [] },
-    ghost place1: { IsVacantFor
-        (key_hash T.key1 T.K1.hash_input S.BuildHasher S.Hasher.Hasher map.now.builder) (bag map.now)
-        (hash_of S.BuildHasher S.Hasher.Hasher map.now.builder (T.K1.hash_input (Q.first keys))) at1 },
-    ghost place2: { IsVacantFor
-        (key_hash T.key2 T.K2.hash_input S.BuildHasher S.Hasher.Hasher map.now.builder) (bag map.now)
-        (hash_of S.BuildHasher S.Hasher.Hasher map.now.builder (T.K2.hash_input (Q.second keys))) at2 },
-    ghost place3: { IsVacantFor
+    ghost vacant: { AreVacantFor
+        (key_hash T.key1 T.K1.hash_input S.BuildHasher S.Hasher.Hasher map.now.builder)
+        (key_hash T.key2 T.K2.hash_input S.BuildHasher S.Hasher.Hasher map.now.builder)
         (key_hash T.key3 T.K3.hash_input S.BuildHasher S.Hasher.Hasher map.now.builder) (bag map.now)
-        (hash_of S.BuildHasher S.Hasher.Hasher map.now.builder (T.K3.hash_input (Q.third keys))) at3 },
+        (hash_of S.BuildHasher S.Hasher.Hasher map.now.builder (T.K1.hash_input (Q.first keys)))
+        (hash_of S.BuildHasher S.Hasher.Hasher map.now.builder (T.K2.hash_input (Q.second keys)))
+        (hash_of S.BuildHasher S.Hasher.Hasher map.now.builder (T.K3.hash_input (Q.third keys))) at },
 }
 
 /// Three keys, with the item that has all or the items that have one of them.

@@ -1,6 +1,7 @@
 -- How a map stays indexed where an item gives way to one with other keys.
-use Rattle.std.specs.Prelude.{◌≡◌, ℕ, List, [], ◌∷◌, IsPermutation, Option, Some, None, slice_set, ⊤}
-use Rattle.std.proofs.Common.{refl}
+use Rattle.std.specs.Prelude.{◌≡◌, ◌<◌, ℕ, length, List, [], ◌∷◌, IsPermutation, Option, Some, None, slice_set, ⊤}
+use Rattle.std.proofs.Common.{arith, get_or, refl}
+use Rattle.std.proofs.lemmas.List.{get_or_past, get_or-set_same}
 use Rattle.std.proofs.lemmas.List.Sorted.{IsPermutation-sym, IsPermutation-map}
 use Rattle.iddqd_store.specs.Bag.{Ranks, AreLawful, IsSound, clash}
 use Rattle.iddqd_store.specs.Rank.Index.{IsIndex, AreIndexes, IsIndexed}
@@ -31,6 +32,13 @@ module _ {T : Type 0} where
     AreIndexes-moved (hash ∷ hashes) (pairs ∷ tables) [] all moved = absurd moved
     AreIndexes-moved (hash ∷ hashes) (pairs ∷ tables) (more ∷ others) all moved =
         (IsIndex-moved all.0 moved.0.1 moved.0.2, AreIndexes-moved hashes tables others all.1 moved.1)
+
+    -- the slot has the other
+    pub stands : get (slice_set slots at (Some y)) at ≡ Some y
+    stands =
+        let has : get_or slots at None ≡ Some x = found in
+        let within : at < length slots = grind (arith, get_or_past) in
+        get_or-set_same slots at (Some y) None within
 
     -- the bag without the one, and with the other
     pub left : IsPermutation (live_items slots) (x ∷ live_items (slice_set slots at None))

@@ -85,22 +85,8 @@ impl<'a, T: TriHashItem, S: BuildHasher, Q: Keys<T::K1, T::K2, T::K3>> VacantEnt
         ensures same_map_at_err { IfErr result (λ e. e.map.ghost_name ≡ self.entry.map.ghost_name) }
         ensures puts_in { PutsIn self.entry item result }
     {
-        let VacantEntry {
-            map,
-            keys,
-            at1,
-            at2,
-            at3,
-        } = self;
-        match map.put_free(
-            item,
-            keys.first(),
-            keys.second(),
-            keys.third(),
-            at1,
-            at2,
-            at3,
-        ) {
+        let VacantEntry { map, keys, at } = self;
+        match map.put_free(item, keys.first(), keys.second(), keys.third(), at) {
             Ok(slot) => Ok(OccupiedEntryMut {
                 map,
                 slot1: Some(slot),

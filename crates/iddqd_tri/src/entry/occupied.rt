@@ -156,7 +156,7 @@ impl<'a, T: TriHashItem, S: BuildHasher> OccupiedEntry<'a, T, S> {
         let by1 = Sought::new(self.slot1, self.map.hash_of1(&item));
         let by2 = Sought::new(self.slot2, self.map.hash_of2(&item));
         let by3 = Sought::new(self.slot3, self.map.hash_of3(&item));
-        let (displaced, ix) = self.map.put_over(item, &by1, &by2, &by3);
+        let (displaced, ix) = self.map.put_over(item, &(by1, by2, by3));
         self.slot1 = Some(ix);
         self.slot2 = Some(ix);
         self.slot3 = Some(ix);
@@ -181,13 +181,8 @@ impl<'a, T: TriHashItem, S: BuildHasher> OccupiedEntry<'a, T, S> {
             slot2,
             slot3,
         } = self;
-        let nothing = Sought::nothing();
-        map.take_all(
-            &each_once(slot1, slot2, slot3),
-            &nothing,
-            &nothing,
-            &nothing,
-        )
+        let unknown = (Sought::nothing(), Sought::nothing(), Sought::nothing());
+        map.take_all(&each_once(slot1, slot2, slot3), &unknown)
     }
 }
 

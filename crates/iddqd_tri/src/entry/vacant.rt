@@ -32,22 +32,8 @@ impl<'a, T: Ranked, S: BuildHasher, Q: Keys<T::K1, T::K2, T::K3>> VacantEntry<'a
         ensures* unchanged_at_err { sem 𝓛 (rests_if_err T.row S.row T.K1.row T.K2.row T.K3.row S.Hasher.row
             self.entry.map result) }
     {
-        let VacantEntry {
-            map,
-            keys,
-            at1,
-            at2,
-            at3,
-        } = self;
-        let slot = map.put_free(
-            item,
-            keys.first(),
-            keys.second(),
-            keys.third(),
-            at1,
-            at2,
-            at3,
-        )?;
+        let VacantEntry { map, keys, at } = self;
+        let slot = map.put_free(item, keys.first(), keys.second(), keys.third(), at)?;
         Ok(RefMut { map, slot })
     }
 
@@ -64,22 +50,8 @@ impl<'a, T: Ranked, S: BuildHasher, Q: Keys<T::K1, T::K2, T::K3>> VacantEntry<'a
         ensures* unchanged_at_err { sem 𝓛 (held_rests_if_err T.row S.row T.K1.row T.K2.row T.K3.row S.Hasher.row
             T.TriHashItem T.K1.Hash T.K2.Hash T.K3.Hash S.BuildHasher S.Hasher.Hasher self.entry.map result) }
     {
-        let VacantEntry {
-            map,
-            keys,
-            at1,
-            at2,
-            at3,
-        } = self;
-        let slot = map.put_free(
-            item,
-            keys.first(),
-            keys.second(),
-            keys.third(),
-            at1,
-            at2,
-            at3,
-        )?;
+        let VacantEntry { map, keys, at } = self;
+        let slot = map.put_free(item, keys.first(), keys.second(), keys.third(), at)?;
         Ok(OccupiedEntryMut {
             map,
             slot1: Some(slot),
@@ -103,15 +75,9 @@ impl<'a, T: TriHashItem, S: BuildHasher> VacantEntry<'a, T, S> {
         ensures hands_back { IfErr result (λ e.
             HandsBack ⟦<T as Ranked>⟧.ranks (wanted self.entry) self.entry.map.now item e.error) }
     {
-        let VacantEntry {
-            map,
-            keys,
-            at1,
-            at2,
-            at3,
-        } = self;
+        let VacantEntry { map, keys, at } = self;
         let KeyTriple { key1, key2, key3 } = keys;
-        match map.put_free(item, key1, key2, key3, at1, at2, at3) {
+        match map.put_free(item, key1, key2, key3, at) {
             Ok(slot) => Ok(OccupiedEntry {
                 map,
                 key1,

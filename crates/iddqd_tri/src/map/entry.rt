@@ -30,12 +30,10 @@ impl<T: TriHashItem, S: BuildHasher> TriHashMap<T, S> {
         ensures is_found { IsFound result }
     {
         match self.search_all(key1, key2, key3) {
-            Ok((at1, at2, at3)) => Entry::Vacant(VacantEntry {
+            Ok(at) => Entry::Vacant(VacantEntry {
                 map: self,
                 keys: KeyTriple { key1, key2, key3 },
-                at1,
-                at2,
-                at3,
+                at,
             }),
             Err((by1, by2, by3)) => Entry::Occupied(OccupiedEntry {
                 map: self,

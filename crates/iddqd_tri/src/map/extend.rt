@@ -152,8 +152,8 @@ impl<T: Ranked + Drop, S: BuildHasher + Default + Drop> TriHashMap<T, S> {
             match map.try_insert(item) {
                 Ok(()) => {}
                 Err(Refusal::Duplicate(item, found)) => {
-                    let nothing = Sought::nothing();
-                    let duplicates = map.take_all(&found, &nothing, &nothing, &nothing);
+                    let unknown = (Sought::nothing(), Sought::nothing(), Sought::nothing());
+                    let duplicates = map.take_all(&found, &unknown);
                     return Err(FromIterError::Duplicate(DuplicateItem::new(item, duplicates)));
                 }
                 Err(Refusal::Memory(item)) => return Err(FromIterError::Memory(item)),

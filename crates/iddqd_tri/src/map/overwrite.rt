@@ -26,15 +26,15 @@ impl<T: Ranked, S: BuildHasher> TriHashMap<T, S> {
         ensures reason { OnErr result (IsFullFor T.ranks self.old item) }
     {
         match self.places(&item) {
-            Ok((at1, at2, at3)) => {
+            Ok(at) => {
                 if let Err(_) = self.make_room() {
                     return Err(MemoryRefused { value: item });
                 }
-                self.put(item, at1, at2, at3);
+                self.put(item, at);
                 Ok(UpToThree::new())
             }
-            Err((by1, by2, by3)) => {
-                let (displaced, _) = self.put_over(item, &by1, &by2, &by3);
+            Err(by) => {
+                let (displaced, _) = self.put_over(item, &by);
                 Ok(displaced)
             }
         }

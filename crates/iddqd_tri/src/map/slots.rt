@@ -5,13 +5,13 @@ ghost use Rattle.std.specs.Prelude.{◌≡◌, ◌≢◌, ◌==◌, ℕ, ◌<◌
 ghost use Rattle.std.specs.List.{IsDistinct, list_any};
 ghost use Rattle.iddqd_store.specs.Bag.{IsSound, clash, differ, listing};
 ghost use Rattle.iddqd_store.specs.Rank.Index.{HasHash};
-ghost use Rattle.iddqd_store.specs.Map.{bag, hash_of, Gains, Loses, MakesRoom, IsFullFor, IsBlockedAt};
-ghost use Rattle.iddqd_store.specs.Rank.{agree, IsPlaceOf, IsUnder, IsVacantFor};
+ghost use Rattle.iddqd_store.specs.Map.{bag, hash_of, Gains, Loses, MakesRoom, PutsAt, IsFullFor, IsBlockedAt};
+ghost use Rattle.iddqd_store.specs.Rank.{agree};
 ghost use Rattle.iddqd_store.specs.Slots.Found.{AreFound, each_once, items_at};
 ghost use Rattle.iddqd_store.specs.Slots.{get, IsLive, Updates};
 ghost use Rattle.iddqd_store.specs.Table.Limit.{most_room};
-ghost use Rattle.iddqd_tri.specs.Keys.{ranks, slots_found};
-ghost use Rattle.iddqd_tri.specs.Mismatch.{error_item, error_rank, OnNoMemory};
+ghost use Rattle.iddqd_tri.specs.Keys.{ArePlacesOf, AreUnder, AreVacantFor, HaveHashes, ranks, slots_found};
+ghost use Rattle.iddqd_tri.specs.Mismatch.{HandsBack};
 
 mod enter;
 pub(crate) mod found;
@@ -108,26 +108,20 @@ impl<T: TriHashItem, S: BuildHasher> TriHashMap<T, S> {
         ensures none { OnOk result (list_any is_some (slots_found result) ≡ false) }
         ensures some { OnErr result (list_any is_some (slots_found result) ≡ true) }
         ensures apart { IsDistinct (agree T.key1 T.K1.eq) (bag self.now) }
-        // The empty cells.
-        ensures first { IfOk result (λ at. IsVacantFor (⟦<T as Hashed<S>>⟧.hash1 self.now.builder) (bag self.now)
-            (hash_of S.BuildHasher S.Hasher.Hasher self.now.builder (T.K1.hash_input key1.now)) at.0) }
-        ensures second { IfOk result (λ at. IsVacantFor (⟦<T as Hashed<S>>⟧.hash2 self.now.builder) (bag self.now)
-            (hash_of S.BuildHasher S.Hasher.Hasher self.now.builder (T.K2.hash_input key2.now)) at.1) }
-        ensures third { IfOk result (λ at. IsVacantFor (⟦<T as Hashed<S>>⟧.hash3 self.now.builder) (bag self.now)
-            (hash_of S.BuildHasher S.Hasher.Hasher self.now.builder (T.K3.hash_input key3.now)) at.2) }
-        // The hashes that the slots were found by.
-        ensures under1 { IfErr result (λ found. IsUnder (⟦<T as Hashed<S>>⟧.hash1 self.now.builder)
-            self.now.slots found.0) }
-        ensures hash1 { IfErr result (λ found. found.0.hash
-            ≡ hash_of S.BuildHasher S.Hasher.Hasher self.now.builder (T.K1.hash_input key1.now)) }
-        ensures under2 { IfErr result (λ found. IsUnder (⟦<T as Hashed<S>>⟧.hash2 self.now.builder)
-            self.now.slots found.1) }
-        ensures hash2 { IfErr result (λ found. found.1.hash
-            ≡ hash_of S.BuildHasher S.Hasher.Hasher self.now.builder (T.K2.hash_input key2.now)) }
-        ensures under3 { IfErr result (λ found. IsUnder (⟦<T as Hashed<S>>⟧.hash3 self.now.builder)
-            self.now.slots found.2) }
-        ensures hash3 { IfErr result (λ found. found.2.hash
-            ≡ hash_of S.BuildHasher S.Hasher.Hasher self.now.builder (T.K3.hash_input key3.now)) }
+        // The empty cells, or the hashes that the slots were found by.
+        ensures vacant { IfOk result (AreVacantFor
+            (⟦<T as Hashed<S>>⟧.hash1 self.now.builder) (⟦<T as Hashed<S>>⟧.hash2 self.now.builder)
+            (⟦<T as Hashed<S>>⟧.hash3 self.now.builder) (bag self.now)
+            (hash_of S.BuildHasher S.Hasher.Hasher self.now.builder (T.K1.hash_input key1.now))
+            (hash_of S.BuildHasher S.Hasher.Hasher self.now.builder (T.K2.hash_input key2.now))
+            (hash_of S.BuildHasher S.Hasher.Hasher self.now.builder (T.K3.hash_input key3.now))) }
+        ensures hashes { IfErr result (HaveHashes
+            (hash_of S.BuildHasher S.Hasher.Hasher self.now.builder (T.K1.hash_input key1.now))
+            (hash_of S.BuildHasher S.Hasher.Hasher self.now.builder (T.K2.hash_input key2.now))
+            (hash_of S.BuildHasher S.Hasher.Hasher self.now.builder (T.K3.hash_input key3.now))) }
+        ensures under { IfErr result (AreUnder
+            (⟦<T as Hashed<S>>⟧.hash1 self.now.builder) (⟦<T as Hashed<S>>⟧.hash2 self.now.builder)
+            (⟦<T as Hashed<S>>⟧.hash3 self.now.builder) self.now.slots) }
     {
         let hash1 = self.hash_builder.hash_one(key1);
         let hash2 = self.hash_builder.hash_one(key2);
@@ -163,44 +157,36 @@ impl<T: TriHashItem, S: BuildHasher> TriHashMap<T, S> {
         item: &T,
     ) -> Result<(Vacancy, Vacancy, Vacancy), (Sought, Sought, Sought)>
         ensures free { OnOk result (clash ⟦<T as Ranked>⟧.ranks (bag self.now) item.now ≡ []) }
-        ensures first { IfOk result (λ at. IsPlaceOf (⟦<T as Hashed<S>>⟧.hash1 self.now.builder)
-            (bag self.now) item.now at.0) }
-        ensures second { IfOk result (λ at. IsPlaceOf (⟦<T as Hashed<S>>⟧.hash2 self.now.builder)
-            (bag self.now) item.now at.1) }
-        ensures third { IfOk result (λ at. IsPlaceOf (⟦<T as Hashed<S>>⟧.hash3 self.now.builder)
-            (bag self.now) item.now at.2) }
+        ensures places { IfOk result (ArePlacesOf
+            (⟦<T as Hashed<S>>⟧.hash1 self.now.builder)
+            (⟦<T as Hashed<S>>⟧.hash2 self.now.builder) (⟦<T as Hashed<S>>⟧.hash3 self.now.builder)
+            (bag self.now) item.now) }
         ensures blocked { IfErr result (λ found. IsBlockedAt ⟦<T as Ranked>⟧.ranks self.now item.now
             (each_once (found.0.slot ∷ found.1.slot ∷ found.2.slot ∷ []))) }
-        ensures under1 { IfErr result (λ found. IsUnder (⟦<T as Hashed<S>>⟧.hash1 self.now.builder)
-            self.now.slots found.0) }
-        ensures hash1 { IfErr result (λ found. found.0.hash ≡ ⟦<T as Hashed<S>>⟧.hash1 self.now.builder item.now) }
-        ensures under2 { IfErr result (λ found. IsUnder (⟦<T as Hashed<S>>⟧.hash2 self.now.builder)
-            self.now.slots found.1) }
-        ensures hash2 { IfErr result (λ found. found.1.hash ≡ ⟦<T as Hashed<S>>⟧.hash2 self.now.builder item.now) }
-        ensures under3 { IfErr result (λ found. IsUnder (⟦<T as Hashed<S>>⟧.hash3 self.now.builder)
-            self.now.slots found.2) }
-        ensures hash3 { IfErr result (λ found. found.2.hash ≡ ⟦<T as Hashed<S>>⟧.hash3 self.now.builder item.now) }
+        ensures hashes { IfErr result (HaveHashes
+            (⟦<T as Hashed<S>>⟧.hash1 self.now.builder item.now) (⟦<T as Hashed<S>>⟧.hash2 self.now.builder item.now)
+            (⟦<T as Hashed<S>>⟧.hash3 self.now.builder item.now)) }
+        ensures under { IfErr result (AreUnder
+            (⟦<T as Hashed<S>>⟧.hash1 self.now.builder) (⟦<T as Hashed<S>>⟧.hash2 self.now.builder)
+            (⟦<T as Hashed<S>>⟧.hash3 self.now.builder)
+            self.now.slots) }
     {
         self.search_all(item.key1(), item.key2(), item.key3())
     }
 
     /// Puts an item in that nothing conflicts with, where it goes in at each rank.
     #[inline(always)]
-    pub(crate) fn put(&mut self, item: T, at1: Vacancy, at2: Vacancy, at3: Vacancy) -> ItemIndex
+    pub(crate) fn put(&mut self, item: T, at: (Vacancy, Vacancy, Vacancy)) -> ItemIndex
         requires room { length (bag self.old) < self.old.capacity }
         requires free { clash ⟦<T as Ranked>⟧.ranks (bag self.old) item ≡ [] }
-        requires first { IsPlaceOf (⟦<T as Hashed<S>>⟧.hash1 self.old.builder) (bag self.old) item at1 }
-        requires second { IsPlaceOf (⟦<T as Hashed<S>>⟧.hash2 self.old.builder) (bag self.old) item at2 }
-        requires third { IsPlaceOf (⟦<T as Hashed<S>>⟧.hash3 self.old.builder) (bag self.old) item at3 }
-        ensures at { get self.new.slots result ≡ Some item }
+        requires places { ArePlacesOf
+            (⟦<T as Hashed<S>>⟧.hash1 self.old.builder) (⟦<T as Hashed<S>>⟧.hash2 self.old.builder)
+            (⟦<T as Hashed<S>>⟧.hash3 self.old.builder) (bag self.old) item at }
         ensures was_free { get self.old.slots result ≡ None }
         ensures updates { Updates self.old.slots self.new.slots result (Some item) }
-        ensures items { IsPermutation (bag self.new) (item ∷ bag self.old) }
-        ensures sound { IsSound ⟦<T as Ranked>⟧.ranks (bag self.new) }
-        ensures fits { length (bag self.new) ≤ self.new.capacity }
-        ensures capacity { self.new.capacity ≡ self.old.capacity }
-        ensures builder { self.new.builder ≡ self.old.builder }
+        ensures puts_at { PutsAt ⟦<T as Ranked>⟧.ranks self.old result item (item ∷ bag self.old) self.new }
     {
+        let (at1, at2, at3) = at;
         let ix = self.items.insert_reserved(item);
         self.first.insert_at(at1, ix, &mut Meter::new());
         self.second.insert_at(at2, ix, &mut Meter::new());
@@ -217,25 +203,22 @@ impl<T: TriHashItem, S: BuildHasher> TriHashMap<T, S> {
         key1: &T::K1,
         key2: &T::K2,
         key3: &T::K3,
-        at1: Vacancy,
-        at2: Vacancy,
-        at3: Vacancy,
+        at: (Vacancy, Vacancy, Vacancy),
     ) -> Result<ItemIndex, EntryError<T>>
-        requires vacant { listing (⟦<T as Ranked>⟧.key_tests key1.now key2.now key3.now) (bag self.old) ≡ [] }
-        requires first { IsVacantFor (⟦<T as Hashed<S>>⟧.hash1 self.old.builder) (bag self.old)
-            (hash_of S.BuildHasher S.Hasher.Hasher self.old.builder (T.K1.hash_input key1.now)) at1 }
-        requires second { IsVacantFor (⟦<T as Hashed<S>>⟧.hash2 self.old.builder) (bag self.old)
-            (hash_of S.BuildHasher S.Hasher.Hasher self.old.builder (T.K2.hash_input key2.now)) at2 }
-        requires third { IsVacantFor (⟦<T as Hashed<S>>⟧.hash3 self.old.builder) (bag self.old)
-            (hash_of S.BuildHasher S.Hasher.Hasher self.old.builder (T.K3.hash_input key3.now)) at3 }
+        requires absent { listing (⟦<T as Ranked>⟧.key_tests key1.now key2.now key3.now) (bag self.old) ≡ [] }
+        requires vacant { AreVacantFor
+            (⟦<T as Hashed<S>>⟧.hash1 self.old.builder) (⟦<T as Hashed<S>>⟧.hash2 self.old.builder)
+            (⟦<T as Hashed<S>>⟧.hash3 self.old.builder) (bag self.old)
+            (hash_of S.BuildHasher S.Hasher.Hasher self.old.builder (T.K1.hash_input key1.now))
+            (hash_of S.BuildHasher S.Hasher.Hasher self.old.builder (T.K2.hash_input key2.now))
+            (hash_of S.BuildHasher S.Hasher.Hasher self.old.builder (T.K3.hash_input key3.now)) at }
         ensures gains { OnOk result (Gains self.old item self.new) }
         ensures at { IfOk result (λ ix. get self.new.slots ix ≡ Some item) }
         ensures sound { OnOk result (IsSound ⟦<T as Ranked>⟧.ranks (bag self.new)) }
         ensures same_keys { OnOk result (differ (⟦<T as Ranked>⟧.key_tests key1.now key2.now key3.now) item ≡ None) }
-        ensures handed_back { IfErr result (λ e. error_item e ≡ item) }
-        ensures rank { IfErr result (λ e. differ (⟦<T as Ranked>⟧.key_tests key1.now key2.now key3.now) item ≡ error_rank e) }
+        ensures hands_back { IfErr result (HandsBack ⟦<T as Ranked>⟧.ranks
+            (⟦<T as Ranked>⟧.key_tests key1.now key2.now key3.now) self.old item) }
         ensures unchanged { OnErr result (self.new ≡ self.old) }
-        ensures memory { IfErr result (λ e. OnNoMemory e (IsFullFor ⟦<T as Ranked>⟧.ranks self.old item)) }
     {
         if let Some(rank) = differ(&item, key1, key2, key3) {
             return Err(EntryError::at(rank, item));
@@ -243,7 +226,7 @@ impl<T: TriHashItem, S: BuildHasher> TriHashMap<T, S> {
         if let Err(_) = self.make_room() {
             return Err(EntryError::Memory(item));
         }
-        Ok(self.put(item, at1, at2, at3))
+        Ok(self.put(item, at))
     }
 
     /// Takes out the item of a slot. A key of it is hashed only where its hash isn't given.
@@ -282,15 +265,13 @@ impl<T: TriHashItem, S: BuildHasher> TriHashMap<T, S> {
     pub(crate) fn take_all(
         &mut self,
         found: &UpToThree<ItemIndex>,
-        by1: &Sought,
-        by2: &Sought,
-        by3: &Sought,
+        by: &(Sought, Sought, Sought),
     ) -> UpToThree<T>
         requires live { All (IsLive self.old.slots) found.now }
         requires apart { IsDistinct nat_eq found.now }
-        requires by1 { IsUnder (⟦<T as Hashed<S>>⟧.hash1 self.old.builder) self.old.slots by1.now }
-        requires by2 { IsUnder (⟦<T as Hashed<S>>⟧.hash2 self.old.builder) self.old.slots by2.now }
-        requires by3 { IsUnder (⟦<T as Hashed<S>>⟧.hash3 self.old.builder) self.old.slots by3.now }
+        requires under { AreUnder
+            (⟦<T as Hashed<S>>⟧.hash1 self.old.builder) (⟦<T as Hashed<S>>⟧.hash2 self.old.builder)
+            (⟦<T as Hashed<S>>⟧.hash3 self.old.builder) self.old.slots by.now }
         ensures values { result ≡ items_at self.old.slots found.now }
         ensures loses { Loses self.old result self.new }
         ensures others { (at : ℕ) → IsDistinct nat_eq (at ∷ found.now) → get self.new.slots at ≡ get self.old.slots at }
@@ -299,7 +280,7 @@ impl<T: TriHashItem, S: BuildHasher> TriHashMap<T, S> {
         let mut taken = UpToThree::new();
         for at in 0..found.len() {
             if let Some(ix) = found.get(at) {
-                taken.push(self.take(*ix, by1.hash_at(*ix), by2.hash_at(*ix), by3.hash_at(*ix)));
+                taken.push(self.take(*ix, by.0.hash_at(*ix), by.1.hash_at(*ix)));
             }
         }
         taken
@@ -373,8 +354,8 @@ impl<T: TriHashItem, S: BuildHasher> TriHashMap<T, S> {
             (λ found. IsBlockedAt ⟦<T as Ranked>⟧.ranks self.old item found)
             (IsFullFor ⟦<T as Ranked>⟧.ranks self.old item)) }
     {
-        let (at1, at2, at3) = match self.places(&item) {
-            Ok(places) => places,
+        let at = match self.places(&item) {
+            Ok(at) => at,
             Err((by1, by2, by3)) => {
                 let found = each_once(by1.slot(), by2.slot(), by3.slot());
                 return Err(Refusal::Duplicate(item, found));
@@ -383,7 +364,7 @@ impl<T: TriHashItem, S: BuildHasher> TriHashMap<T, S> {
         if let Err(_) = self.make_room() {
             return Err(Refusal::Memory(item));
         }
-        self.put(item, at1, at2, at3);
+        self.put(item, at);
         Ok(())
     }
 }

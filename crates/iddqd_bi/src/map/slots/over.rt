@@ -17,11 +17,7 @@ impl<T: BiHashItem, S: BuildHasher> BiHashMap<T, S> {
     /// Puts an item in the place of those that conflict with it, whose slots the searches by its keys found, and gives
     /// them back with the slot of the new one. There is at least one. The item goes into the slot of the first of them,
     /// once the others are out. No key is hashed by which a search found its item.
-    pub(crate) fn put_over(
-        &mut self,
-        item: T,
-        by: &(Sought, Sought),
-    ) -> (UpToTwo<T>, ItemIndex)
+    pub(crate) fn put_over(&mut self, item: T, by: &(Sought, Sought)) -> (UpToTwo<T>, ItemIndex)
         requires conflicts { ListsConflicts ⟦<T as Ranked>⟧.ranks self.old item
             (each_once (by.now.0.slot ∷ by.now.1.slot ∷ [])) }
         requires some { length (each_once (by.now.0.slot ∷ by.now.1.slot ∷ [])) ≢ 0 }
@@ -60,10 +56,20 @@ impl<T: BiHashItem, S: BuildHasher> BiHashMap<T, S> {
         // That the items fit, for the clause `fits`.
         let _ = self.room();
         let gone = self.items.replace(ix, item);
-        self.first
-            .rehash::<T, First, S>(&self.hash_builder, &gone, ix, by.0.hash_at(ix), by.0.hash());
-        self.second
-            .rehash::<T, Second, S>(&self.hash_builder, &gone, ix, by.1.hash_at(ix), by.1.hash());
+        self.first.rehash::<T, First, S>(
+            &self.hash_builder,
+            &gone,
+            ix,
+            by.0.hash_at(ix),
+            by.0.hash(),
+        );
+        self.second.rehash::<T, Second, S>(
+            &self.hash_builder,
+            &gone,
+            ix,
+            by.1.hash_at(ix),
+            by.1.hash(),
+        );
         gone
     }
 }

@@ -2,7 +2,7 @@
 ghost use Rattle.std.specs.Prelude.{◌≡◌, [], ◌∷◌, true, ℕ, All, nat_eq, Some, IsPermutation, IfSome, is_some};
 ghost use Rattle.std.specs.Borrow.{sem};
 ghost use Rattle.std.specs.Fn.{CalledAt, FnOnceReturnsAt, FnOnceTakesAt};
-ghost use Rattle.std.specs.List.{IsDistinct};
+ghost use Rattle.std.specs.List.{AllByRecursion, IsDistinct};
 ghost use Rattle.std.specs.Option.{option_and_then};
 ghost use Rattle.iddqd_store.specs.Bag.{IsSound, agrees, swap};
 ghost use Rattle.iddqd_store.specs.Bag.Storing.{Stores};
@@ -135,7 +135,7 @@ impl<T: BiHashItemMut, S: BuildHasher> BiHashMap<T, S> {
     )
     where
         T::Data: Drop,
-        requires live { IfSome slot1 (IsLive self.old.slots) × IfSome slot2 (IsLive self.old.slots) }
+        requires live { AllByRecursion (λ slot. IfSome slot (IsLive self.old.slots)) (slot1 ∷ slot2 ∷ []) }
         requires callable { F.IsAlwaysCallable f }
         ensures stores { Stores (CalledAt F.FnMut) T.put ⟦<T as Ranked>⟧.ranks f
             (held_at self.old.slots (slot1 ∷ slot2 ∷ [])) (bag self.old) (bag self.new) }

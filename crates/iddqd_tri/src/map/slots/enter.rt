@@ -1,9 +1,9 @@
 //! What goes in to be taken out again, should the rest of its list be refused.
-ghost use Rattle.std.specs.Prelude.{◌≡◌, ◌<◌, ◌≤◌, ◌++◌, [], ◌∷◌, length, List, All, OnOk, OnErr, IfErr, nat_eq};
+ghost use Rattle.std.specs.Prelude.{◌≡◌, ◌<◌, ◌++◌, [], ◌∷◌, length, List, All, OnOk, OnErr, IfErr, nat_eq};
 ghost use Rattle.std.specs.List.{IsDistinct};
 ghost use Rattle.iddqd_store.specs.Bag.{clash};
 ghost use Rattle.iddqd_store.specs.Bag.Building.{IsReason};
-ghost use Rattle.iddqd_store.specs.Map.{bag, Gains, Loses};
+ghost use Rattle.iddqd_store.specs.Map.{bag, Gains, GrowsUnless, Loses};
 ghost use Rattle.iddqd_store.specs.Slots.{IsLive};
 ghost use Rattle.iddqd_store.specs.Slots.Found.{items_at, StandAt};
 
@@ -28,18 +28,16 @@ impl<T: TriHashItem, S: BuildHasher> TriHashMap<T, S> {
         ensures reason { IfErr result (λ e. IsReason e.1 (clash ⟦<T as Ranked>⟧.ranks (bag self.old) item)) }
         ensures slots { OnErr result (self.new.slots ≡ self.old.slots) }
         ensures same_notes { OnErr result (entered.new.slots ≡ entered.old.slots) }
-        ensures no_less_room { self.old.capacity ≤ self.new.capacity }
-        ensures same_room { length (bag self.old) < self.old.capacity → self.new.capacity ≡ self.old.capacity }
-        ensures builder { self.new.builder ≡ self.old.builder }
+        ensures grows { GrowsUnless (length (bag self.old) < self.old.capacity) self.old self.new }
     {
-        let (at1, at2, at3) = match self.places(&item) {
-            Ok(places) => places,
+        let at = match self.places(&item) {
+            Ok(at) => at,
             Err(_) => return Err((item, ExtendUniqueReason::Conflict)),
         };
         if self.make_room().is_err() || entered.reserve_one().is_err() {
             return Err((item, ExtendUniqueReason::Memory));
         }
-        let ix = self.put(item, at1, at2, at3);
+        let ix = self.put(item, at);
         entered.push(ix);
         Ok(())
     }

@@ -2,7 +2,7 @@
 ghost use Rattle.std.specs.Prelude.{◌≡◌, [], ◌∷◌, true, ℕ, All, nat_eq, Some, IsPermutation, IfSome, is_some};
 ghost use Rattle.std.specs.Borrow.{sem};
 ghost use Rattle.std.specs.Fn.{CalledAt, FnOnceReturnsAt, FnOnceTakesAt};
-ghost use Rattle.std.specs.List.{IsDistinct};
+ghost use Rattle.std.specs.List.{AllByRecursion, IsDistinct};
 ghost use Rattle.std.specs.Option.{option_and_then};
 ghost use Rattle.iddqd_store.specs.Bag.{IsSound, agrees, swap};
 ghost use Rattle.iddqd_store.specs.Bag.Storing.{Stores};
@@ -137,9 +137,7 @@ impl<T: TriHashItemMut, S: BuildHasher> TriHashMap<T, S> {
     )
     where
         T::Data: Drop,
-        requires live1 { IfSome slot1 (IsLive self.old.slots) }
-        requires live2 { IfSome slot2 (IsLive self.old.slots) }
-        requires live3 { IfSome slot3 (IsLive self.old.slots) }
+        requires live { AllByRecursion (λ slot. IfSome slot (IsLive self.old.slots)) (slot1 ∷ slot2 ∷ slot3 ∷ []) }
         requires callable { F.IsAlwaysCallable f }
         ensures stores { Stores (CalledAt F.FnMut) T.put ⟦<T as Ranked>⟧.ranks f
             (held_at self.old.slots (slot1 ∷ slot2 ∷ slot3 ∷ [])) (bag self.old) (bag self.new) }
@@ -147,7 +145,7 @@ impl<T: TriHashItemMut, S: BuildHasher> TriHashMap<T, S> {
         ensures sound { IsSound ⟦<T as Ranked>⟧.ranks (bag self.new) }
         ensures capacity { self.new.capacity ≡ self.old.capacity }
         ensures builder { self.new.builder ≡ self.old.builder }
-        ensures live { (at : ℕ) → IsLive self.old.slots at → IsLive self.new.slots at }
+        ensures still_live { (at : ℕ) → IsLive self.old.slots at → IsLive self.new.slots at }
     {
         self.store_all(&each_once(slot1, slot2, slot3), f);
         // The invariant of what the map is now, for the clause `sound`.

@@ -1,7 +1,7 @@
 use Rattle.std.proofs.Common.{arith, rules, refl, ◌∙◌}
 use Rattle.std.proofs.lemmas.List.Sorted.{length_permutation}
 use Rattle.iddqd_store.proofs.RankLemmas.Index.{pair_in}
-use Rattle.iddqd_store.proofs.RankLemmas.Rehashed.{IsIndexed-moved, come, left, sound_moved}
+use Rattle.iddqd_store.proofs.RankLemmas.Rehashed.{IsIndexed-moved, come, left, sound_moved, stands}
 use Rattle.iddqd_store.proofs.RankLemmas.Sought.{known_of, known_there}
 use Rattle.iddqd_bi.proofs.MapLemmas.{AreLawful-ranks}
 use Rattle.iddqd_bi.proofs.map.BiHashMap.exchange.Goals as goal
@@ -41,7 +41,7 @@ returns-clause-puts_at g c =
     let into = length_permutation _ _ items in
     let free = rw (← c.self.view_is) at c.requires.free in
     record {
-      at = search rules;
+      at = rw gone.ensures.slots (stands gone.result c.args.item c.args.ix slots gone.ensures.value);
       items = rw (← c.self.view_is, gone.ensures.slots) items;
       sound = rw gone.ensures.slots (sound_moved gone.result c.args.item c.args.ix slots gone.ensures.value (AreLawful-ranks g.T.BiHashItem g.met.T.K1.Eq.laws g.met.T.K2.Eq.laws) c.self.invariant free);
       fits = rw gone.ensures.slots (omega (arith, holds, value, out, into, gone.ensures.capacity, c.rehash.ensures.limit, c.rehash-2.ensures.limit));

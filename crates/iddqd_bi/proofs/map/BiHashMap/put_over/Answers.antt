@@ -55,8 +55,8 @@ returns-clause-puts_at g c =
     record {
       at = put.at;
       items = over-taken by (bag c.args.self.now) _ (bag c.exchange.new.self) c.args.item
-        (gives_way by slots taken.new.self.slots c.args.item ix ixs taken.result items live same taken.ensures.values taken.ensures.loses.items)
-        c.exchange.ensures.puts_at.items;
+          (gives_way by slots taken.new.self.slots c.args.item ix ixs taken.result items live same taken.ensures.values taken.ensures.loses.items)
+          c.exchange.ensures.puts_at.items;
       sound = put.sound;
       fits = put.fits;
       same_room = put.same_room ∙ taken.ensures.loses.same_room;

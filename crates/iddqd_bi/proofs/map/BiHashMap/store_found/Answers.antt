@@ -4,7 +4,7 @@ use Rattle.iddqd_store.proofs.SlotLemmas.Entries.{IsDistinct-each_once}
 use Rattle.iddqd_bi.proofs.map.BiHashMap.store_found.Goals as goal
 
 pub store_all-requires-clause-live : goal.store_all-requires-clause-live
-store_all-requires-clause-live g c = rw c.each_once.ensures (live_found c.args.self.now.slots (c.args.slot1 ∷ c.args.slot2 ∷ []) (c.requires.live.0, (c.requires.live.1, tt)))
+store_all-requires-clause-live g c = rw c.each_once.ensures (live_found c.args.self.now.slots (c.args.slot1 ∷ c.args.slot2 ∷ []) c.requires.live)
 
 pub store_all-requires-clause-apart : goal.store_all-requires-clause-apart
 store_all-requires-clause-apart g c = rw c.each_once.ensures (IsDistinct-each_once (c.args.slot1 ∷ c.args.slot2 ∷ []))

@@ -20,29 +20,18 @@ put_over-displaced-requires-clause-conflicts g c =
       apart = IsDistinct-each_once (o.slot1 ∷ o.slot2 ∷ o.slot3 ∷ []);
     }
 
-pub put_over-displaced-requires-clause-under1 : goal.put_over-displaced-requires-clause-under1
-put_over-displaced-requires-clause-under1 g c =
+pub put_over-displaced-requires-clause-under : goal.put_over-displaced-requires-clause-under
+put_over-displaced-requires-clause-under g c =
     let o = c.args.self.now in
     let hash = hash_of g.S.BuildHasher g.S.Hasher.Hasher o.map.now.builder in
-    let same : g.T.K1.PartialEq.eq o.key1.now (g.T.TriHashItem.key1 c.args.item) ≡ true = search rules in
-    rw (c.new-by1.ensures, c.hash_of1.ensures)
-    (found_under _ _ _ o.slot1 _ c.requires.found.0 (λ x has. ap hash (sym (g.met.T.K1.Hash.respects_eq _ _ has) ∙ g.met.T.K1.Hash.respects_eq _ _ same)))
-
-pub put_over-displaced-requires-clause-under2 : goal.put_over-displaced-requires-clause-under2
-put_over-displaced-requires-clause-under2 g c =
-    let o = c.args.self.now in
-    let hash = hash_of g.S.BuildHasher g.S.Hasher.Hasher o.map.now.builder in
-    let same : g.T.K2.PartialEq.eq o.key2.now (g.T.TriHashItem.key2 c.args.item) ≡ true = search rules in
-    rw (c.new-by2.ensures, c.hash_of2.ensures)
-    (found_under _ _ _ o.slot2 _ c.requires.found.1.0 (λ x has. ap hash (sym (g.met.T.K2.Hash.respects_eq _ _ has) ∙ g.met.T.K2.Hash.respects_eq _ _ same)))
-
-pub put_over-displaced-requires-clause-under3 : goal.put_over-displaced-requires-clause-under3
-put_over-displaced-requires-clause-under3 g c =
-    let o = c.args.self.now in
-    let hash = hash_of g.S.BuildHasher g.S.Hasher.Hasher o.map.now.builder in
-    let same : g.T.K3.PartialEq.eq o.key3.now (g.T.TriHashItem.key3 c.args.item) ≡ true = search rules in
-    rw (c.new-by3.ensures, c.hash_of3.ensures)
-    (found_under _ _ _ o.slot3 _ c.requires.found.1.1.0 (λ x has. ap hash (sym (g.met.T.K3.Hash.respects_eq _ _ has) ∙ g.met.T.K3.Hash.respects_eq _ _ same)))
+    let same1 : g.T.K1.PartialEq.eq o.key1.now (g.T.TriHashItem.key1 c.args.item) ≡ true = search rules in
+    let same2 : g.T.K2.PartialEq.eq o.key2.now (g.T.TriHashItem.key2 c.args.item) ≡ true = search rules in
+    let same3 : g.T.K3.PartialEq.eq o.key3.now (g.T.TriHashItem.key3 c.args.item) ≡ true = search rules in
+    rw (c.new-by1.ensures, c.hash_of1.ensures, c.new-by2.ensures, c.hash_of2.ensures, c.new-by3.ensures, c.hash_of3.ensures) record {
+      first = found_under _ _ _ o.slot1 _ c.requires.found.0 (λ x has. ap hash (sym (g.met.T.K1.Hash.respects_eq _ _ has) ∙ g.met.T.K1.Hash.respects_eq _ _ same1));
+      second = found_under _ _ _ o.slot2 _ c.requires.found.1.0 (λ x has. ap hash (sym (g.met.T.K2.Hash.respects_eq _ _ has) ∙ g.met.T.K2.Hash.respects_eq _ _ same2));
+      third = found_under _ _ _ o.slot3 _ c.requires.found.1.1.0 (λ x has. ap hash (sym (g.met.T.K3.Hash.respects_eq _ _ has) ∙ g.met.T.K3.Hash.respects_eq _ _ same3));
+    }
 
 pub returns-clause-displaced : goal.returns-clause-displaced
 returns-clause-displaced g c =
@@ -61,13 +50,13 @@ returns-clause-puts_over g c =
     let same3 : g.T.K3.PartialEq.eq o.key3.now (g.T.TriHashItem.key3 c.args.item) ≡ true = search rules in
     let tests = key_tests g.T.TriHashItem g.T.K1.PartialEq.eq g.T.K2.PartialEq.eq g.T.K3.PartialEq.eq o.key1.now o.key2.now o.key3.now in
     let keys = AreKeyTests-keys g.T.TriHashItem g.T.K1.PartialEq.eq g.T.K2.PartialEq.eq g.T.K3.PartialEq.eq g.met.T.K1.Eq.laws g.met.T.K2.Eq.laws g.met.T.K3.Eq.laws o.key1.now o.key2.now o.key3.now in
-    let here = finds_here (ranks g.T.TriHashItem g.T.K1.PartialEq.eq g.T.K2.PartialEq.eq g.T.K3.PartialEq.eq) tests (omega arith) keys put.new.self.slots put.result.1 c.args.item (same1, (same2, (same3, tt))) put.ensures.sound put.ensures.at in
+    let here = finds_here (ranks g.T.TriHashItem g.T.K1.PartialEq.eq g.T.K2.PartialEq.eq g.T.K3.PartialEq.eq) tests (omega arith) keys put.new.self.slots put.result.1 c.args.item (same1, (same2, (same3, tt))) put.ensures.puts_at.sound put.ensures.puts_at.at in
     record {
       same_map = refl;
-      items = put.ensures.items;
+      items = put.ensures.puts_at.items;
       has_found = record { found = here.found; value = here.value; listed = here.listed; some = here.some };
       unique = here.unique_item;
       keys = (refl, refl, refl);
-      capacity = put.ensures.capacity;
-      builder = put.ensures.builder;
+      capacity = put.ensures.puts_at.same_room;
+      builder = put.ensures.puts_at.same_builder;
     }

@@ -12,10 +12,8 @@ invariant_of-result g c =
     let slots = c.args.self.now.slots in
     let none : List (Option ℕ) = None ∷ None ∷ None ∷ [] in
     record {
-      vacant = sym (found_listing laws slots c.search_all.ensures.apart tests none c.in-Ok.ensures.found) ∙ held_none slots none refl;
-      place1 = c.in-Ok.ensures.first;
-      place2 = c.in-Ok.ensures.second;
-      place3 = c.in-Ok.ensures.third;
+      absent = sym (found_listing laws slots c.search_all.ensures.apart tests none c.in-Ok.ensures.found) ∙ held_none slots none refl;
+      vacant = c.in-Ok.ensures.vacant;
     }
 
 pub returns-in-Err-clause-value : goal.returns-in-Err-clause-value

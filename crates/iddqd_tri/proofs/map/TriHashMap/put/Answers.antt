@@ -1,4 +1,4 @@
-use Rattle.std.proofs.Common.{arith}
+use Rattle.std.proofs.Common.{arith, rules}
 use Rattle.std.proofs.lemmas.List.Sorted.{IsPermutation-map, length_permutation}
 use Rattle.iddqd_store.proofs.RankLemmas.Costs.{place_in}
 use Rattle.iddqd_store.proofs.RankLemmas.Index.{length-live_items, length-index}
@@ -19,7 +19,7 @@ insert_at-requires-clause-room g c =
     omega (arith, length-index c.self.invariant.indexes.0)
 
 pub insert_at-requires-clause-vacant : goal.insert_at-requires-clause-vacant
-insert_at-requires-clause-vacant g c = place_in c.self.invariant.indexes.0 (rw (← c.self.view_is) at c.requires.first)
+insert_at-requires-clause-vacant g c = place_in c.self.invariant.indexes.0 (rw (← c.self.view_is) at c.requires.places).first
 
 pub insert_at-requires-2-clause-room : goal.insert_at-requires-2-clause-room
 insert_at-requires-2-clause-room g c =
@@ -27,7 +27,7 @@ insert_at-requires-2-clause-room g c =
     omega (arith, length-index c.self.invariant.indexes.1.0)
 
 pub insert_at-requires-2-clause-vacant : goal.insert_at-requires-2-clause-vacant
-insert_at-requires-2-clause-vacant g c = place_in c.self.invariant.indexes.1.0 (rw (← c.self.view_is) at c.requires.second)
+insert_at-requires-2-clause-vacant g c = place_in c.self.invariant.indexes.1.0 (rw (← c.self.view_is) at c.requires.places).second
 
 pub insert_at-requires-3-clause-room : goal.insert_at-requires-3-clause-room
 insert_at-requires-3-clause-room g c =
@@ -35,25 +35,26 @@ insert_at-requires-3-clause-room g c =
     omega (arith, length-index c.self.invariant.indexes.1.1.0)
 
 pub insert_at-requires-3-clause-vacant : goal.insert_at-requires-3-clause-vacant
-insert_at-requires-3-clause-vacant g c = place_in c.self.invariant.indexes.1.1.0 (rw (← c.self.view_is) at c.requires.third)
+insert_at-requires-3-clause-vacant g c = place_in c.self.invariant.indexes.1.1.0 (rw (← c.self.view_is) at c.requires.places).third
 
 pub invariant_of-self : goal.invariant_of-self
 invariant_of-self g c =
-    let first = rw (← c.self.view_is) at c.requires.first in
-    let second = rw (← c.self.view_is) at c.requires.second in
-    let third = rw (← c.self.view_is) at c.requires.third in
+    let places = rw (← c.self.view_is) at c.requires.places in
     IsIndexed-insert c.args.item (AreLawful-ranks g.T.TriHashItem g.met.T.K1.Eq.laws g.met.T.K2.Eq.laws g.met.T.K3.Eq.laws) c.self.invariant (rw (← c.self.view_is) at c.requires.free) c.insert_reserved-ix.ensures.members
-    ((_, first.same, c.insert_at.ensures.added), ((_, second.same, c.insert_at-2.ensures.added), ((_, third.same, c.insert_at-3.ensures.added), tt)))
+    ((_, places.first.same, c.insert_at.ensures.added), ((_, places.second.same, c.insert_at-2.ensures.added), ((_, places.third.same, c.insert_at-3.ensures.added), tt)))
 
-pub returns-clause-sound : goal.returns-clause-sound
-returns-clause-sound g c =
-    free_sound (ranks g.T.TriHashItem g.T.K1.PartialEq.eq g.T.K2.PartialEq.eq g.T.K3.PartialEq.eq) (AreLawful-ranks g.T.TriHashItem g.met.T.K1.Eq.laws g.met.T.K2.Eq.laws g.met.T.K3.Eq.laws) c.self.inside.items.slots c.insert_reserved-ix.new.self.slots c.insert_reserved-ix.result c.args.item c.self.invariant.sound (rw (← c.self.view_is) at c.requires.free) c.insert_reserved-ix.ensures.members
-
-pub returns-clause-items : goal.returns-clause-items
-returns-clause-items g c = rw (← c.self.view_is) (IsPermutation-map (λ m. m.1) _ _ c.insert_reserved-ix.ensures.members)
-
-pub returns-clause-fits : goal.returns-clause-fits
-returns-clause-fits g c =
+pub returns-clause-puts_at : goal.returns-clause-puts_at
+returns-clause-puts_at g c =
     let room = rw (← c.self.view_is) at c.requires.room in
-    let more = length_permutation _ _ (IsPermutation-map (λ m. m.1) _ _ c.insert_reserved-ix.ensures.members) in
-    omega (arith, more, c.insert_reserved-ix.ensures.capacity, c.insert_at.ensures.limit, c.insert_at-2.ensures.limit, c.insert_at-3.ensures.limit)
+    let free = rw (← c.self.view_is) at c.requires.free in
+    let items = IsPermutation-map (λ m. m.1) _ _ c.insert_reserved-ix.ensures.members in
+    let more = length_permutation _ _ items in
+    record {
+      at = c.insert_reserved-ix.ensures.updates.changed;
+      items = rw (← c.self.view_is) items;
+      sound =
+          free_sound (ranks g.T.TriHashItem g.T.K1.PartialEq.eq g.T.K2.PartialEq.eq g.T.K3.PartialEq.eq) (AreLawful-ranks g.T.TriHashItem g.met.T.K1.Eq.laws g.met.T.K2.Eq.laws g.met.T.K3.Eq.laws) c.self.inside.items.slots c.insert_reserved-ix.new.self.slots c.insert_reserved-ix.result c.args.item c.self.invariant.sound free c.insert_reserved-ix.ensures.members;
+      fits = omega (arith, room, more, c.insert_reserved-ix.ensures.capacity, c.insert_at.ensures.limit, c.insert_at-2.ensures.limit, c.insert_at-3.ensures.limit);
+      same_room = search rules;
+      same_builder = search rules;
+    }

@@ -31,23 +31,18 @@ exchange-requires-clause-free g c =
     clash-taken by (bag c.args.self.now) _ c.args.item
     (gives_way by slots taken.new.self.slots c.args.item ix ixs taken.result items live same taken.ensures.values taken.ensures.loses.items)
 
-pub exchange-requires-clause-under1 : goal.exchange-requires-clause-under1
-exchange-requires-clause-under1 g c =
+pub exchange-requires-clause-under : goal.exchange-requires-clause-under
+exchange-requires-clause-under g c =
     let taken = c.take_all-displaced in
-    rw taken.ensures.loses.same_builder (IsUnder-fewer _ _ _ c.args.by1.now taken.ensures.left c.requires.under1)
+    let under = c.requires.under in
+    rw taken.ensures.loses.same_builder record {
+      first = IsUnder-fewer _ _ _ c.args.by.now.0 taken.ensures.left under.first;
+      second = IsUnder-fewer _ _ _ c.args.by.now.1 taken.ensures.left under.second;
+      third = IsUnder-fewer _ _ _ c.args.by.now.2 taken.ensures.left under.third;
+    }
 
-pub exchange-requires-clause-under2 : goal.exchange-requires-clause-under2
-exchange-requires-clause-under2 g c =
-    let taken = c.take_all-displaced in
-    rw taken.ensures.loses.same_builder (IsUnder-fewer _ _ _ c.args.by2.now taken.ensures.left c.requires.under2)
-
-pub exchange-requires-clause-under3 : goal.exchange-requires-clause-under3
-exchange-requires-clause-under3 g c =
-    let taken = c.take_all-displaced in
-    rw taken.ensures.loses.same_builder (IsUnder-fewer _ _ _ c.args.by3.now taken.ensures.left c.requires.under3)
-
-pub returns-clause-items : goal.returns-clause-items
-returns-clause-items g c =
+pub returns-clause-puts_at : goal.returns-clause-puts_at
+returns-clause-puts_at g c =
     let stand = stand_in (rw (c.slot.ensures, c.slot-2.ensures, c.slot-3.ensures) at c.each_once-found.ensures) c.requires.conflicts in
     let by = ranks g.T.TriHashItem g.T.K1.PartialEq.eq g.T.K2.PartialEq.eq g.T.K3.PartialEq.eq in
     let slots = c.args.self.now.slots in
@@ -57,6 +52,14 @@ returns-clause-items g c =
     let items = ap (items_at slots) (sym c.in-Some.ensures.rest) ∙ stand.items in
     let live = All-head (IsLive slots) ix ixs (subst (All (IsLive slots)) c.in-Some.ensures.rest stand.live) in
     let same = taken.ensures.others ix (subst (IsDistinct nat_eq) c.in-Some.ensures.rest stand.apart) in
-    over-taken by (bag c.args.self.now) _ (bag c.exchange.new.self) c.args.item
-    (gives_way by slots taken.new.self.slots c.args.item ix ixs taken.result items live same taken.ensures.values taken.ensures.loses.items)
-    c.exchange.ensures.items
+    let put = c.exchange.ensures.puts_at in
+    record {
+      at = put.at;
+      items = over-taken by (bag c.args.self.now) _ (bag c.exchange.new.self) c.args.item
+          (gives_way by slots taken.new.self.slots c.args.item ix ixs taken.result items live same taken.ensures.values taken.ensures.loses.items)
+          c.exchange.ensures.puts_at.items;
+      sound = put.sound;
+      fits = put.fits;
+      same_room = put.same_room ∙ taken.ensures.loses.same_room;
+      same_builder = put.same_builder ∙ taken.ensures.loses.same_builder;
+    }

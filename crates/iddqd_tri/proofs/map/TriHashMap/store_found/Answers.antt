@@ -4,7 +4,7 @@ use Rattle.iddqd_store.proofs.SlotLemmas.Entries.{IsDistinct-each_once}
 use Rattle.iddqd_tri.proofs.map.TriHashMap.store_found.Goals as goal
 
 pub store_all-requires-clause-live : goal.store_all-requires-clause-live
-store_all-requires-clause-live g c = rw c.each_once.ensures (live_found c.args.self.now.slots (c.args.slot1 ∷ c.args.slot2 ∷ c.args.slot3 ∷ []) (c.requires.live1, (c.requires.live2, (c.requires.live3, tt))))
+store_all-requires-clause-live g c = rw c.each_once.ensures (live_found c.args.self.now.slots (c.args.slot1 ∷ c.args.slot2 ∷ c.args.slot3 ∷ []) c.requires.live)
 
 pub store_all-requires-clause-apart : goal.store_all-requires-clause-apart
 store_all-requires-clause-apart g c = rw c.each_once.ensures (IsDistinct-each_once (c.args.slot1 ∷ c.args.slot2 ∷ c.args.slot3 ∷ []))

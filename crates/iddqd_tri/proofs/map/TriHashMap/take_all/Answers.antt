@@ -28,17 +28,17 @@ take-requires-clause-live g c =
 pub take-requires-clause-hash1 : goal.take-requires-clause-hash1
 take-requires-clause-hash1 g c =
     let so_far = c.loop-at.invariant in
-    known_there _ _ c.args.by1.now _ _ (rw so_far.loses.same_builder (IsUnder-fewer _ _ _ c.args.by1.now so_far.left c.requires.by1)) c.hash_at.ensures.under
+    known_there _ _ c.args.by.now.0 _ _ (rw so_far.loses.same_builder (IsUnder-fewer _ _ _ c.args.by.now.0 so_far.left c.requires.under.first)) c.hash_at.ensures.under
 
 pub take-requires-clause-hash2 : goal.take-requires-clause-hash2
 take-requires-clause-hash2 g c =
     let so_far = c.loop-at.invariant in
-    known_there _ _ c.args.by2.now _ _ (rw so_far.loses.same_builder (IsUnder-fewer _ _ _ c.args.by2.now so_far.left c.requires.by2)) c.hash_at-in-Some.ensures.under
+    known_there _ _ c.args.by.now.1 _ _ (rw so_far.loses.same_builder (IsUnder-fewer _ _ _ c.args.by.now.1 so_far.left c.requires.under.second)) c.hash_at-in-Some.ensures.under
 
 pub take-requires-clause-hash3 : goal.take-requires-clause-hash3
 take-requires-clause-hash3 g c =
     let so_far = c.loop-at.invariant in
-    known_there _ _ c.args.by3.now _ _ (rw so_far.loses.same_builder (IsUnder-fewer _ _ _ c.args.by3.now so_far.left c.requires.by3)) c.hash_at-in-Some-2.ensures.under
+    known_there _ _ c.args.by.now.2 _ _ (rw so_far.loses.same_builder (IsUnder-fewer _ _ _ c.args.by.now.2 so_far.left c.requires.under.third)) c.hash_at-in-Some-2.ensures.under
 
 pub loop-at-preserved : goal.loop-at-preserved
 loop-at-preserved g c =
