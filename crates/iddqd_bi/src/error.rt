@@ -1,7 +1,7 @@
 //! Refusals: of an insert, of an item with other keys, and at an entry.
-ghost use Rattle.std.specs.Prelude.{◌≡◌, ◌≢◌, ◌<◌, [], IfSome, Some, map};
+ghost use Rattle.std.specs.Prelude.{◌≡◌, ◌≢◌, ◌<◌, [], Some, map};
 ghost use Rattle.iddqd_store.specs.Map.{bag};
-ghost use Rattle.iddqd_store.specs.Bag.{clash, differ, order};
+ghost use Rattle.iddqd_store.specs.Bag.{clash, order};
 ghost use Rattle.iddqd_store.specs.Slots.Found.{items_at};
 ghost use Rattle.iddqd_bi.specs.Keys.{ranks};
 ghost use Rattle.iddqd_bi.specs.Mismatch.{error_item, error_rank, mismatch_item, mismatch_rank};
@@ -58,21 +58,6 @@ pub enum EntryError<T> {
 pub struct EntryRefusal<'a, T: BiHashItem, S: BuildHasher = DefaultHashBuilder> {
     pub(crate) map: &'a mut BiHashMap<T, S>,
     pub(crate) error: EntryError<T>,
-}
-
-/// The lowest rank, counted from 0, at which the item has not these keys. It compares the first keys, and those of the
-/// next rank where those are equal.
-pub(crate) fn differ<T: BiHashItem>(item: &T, key1: &T::K1, key2: &T::K2) -> Option<usize>
-    ensures rank { result ≡ differ (⟦<T as Ranked>⟧.key_tests key1.now key2.now) item.now }
-    ensures below { IfSome result (λ rank. rank < 2) }
-{
-    if *key1 != *item.key1() {
-        return Some(0);
-    }
-    if *key2 != *item.key2() {
-        return Some(1);
-    }
-    None
 }
 
 impl<T> KeyMismatch<T> {

@@ -17,7 +17,6 @@ mod overwrite;
 mod remove;
 mod retain;
 mod run;
-mod run_entries;
 mod shrink;
 pub(crate) mod slots;
 mod update;

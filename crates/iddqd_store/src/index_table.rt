@@ -9,15 +9,20 @@ ghost use Rattle.iddqd_store.specs.Table.Search.{CostsUnder, FindsUnder, IsVacan
 ghost use Rattle.iddqd_store.specs.Table.{hashes, IsFree, IsTable, Table, table_of};
 
 use crate::TryReserveError;
-use crate::cells::Cells;
-use crate::item_index::ItemIndex;
-use crate::matcher::Matcher;
-use crate::meter::Meter;
-use crate::vacancy::Vacancy;
+use crate::item_set::ItemIndex;
+use cells::Cells;
 use std::alloc::Global;
 use std::marker::Model;
 
+mod cells;
+mod matcher;
+mod meter;
 mod probe;
+mod vacancy;
+
+pub use matcher::{KeyMatcher, Matcher};
+pub use meter::Meter;
+pub use vacancy::Vacancy;
 
 /// Pairs of a hash and a slot's index, found by the hash.
 ///

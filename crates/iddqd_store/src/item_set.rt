@@ -1,21 +1,25 @@
 //! Items in slots.
-ghost use Rattle.std.specs.Prelude.{◌≡◌, ◌+◌, ◌-◌, ◌<◌, ◌≤◌, ◌^◌, [], ◌∷◌, IsSome, IfNone, IfSome, is_some, OnOk, OnErr, Some, IsPermutation, option_copied, drop, length, None, slice_set};
+ghost use Rattle.std.specs.Prelude.{◌≡◌, ◌+◌, ◌-◌, ◌<◌, ◌≤◌, ◌^◌, [], ◌∷◌, IsSome, IfNone, IfSome, is_some, IfOk, IsOk, OnOk, OnErr, Some, IsPermutation, option_copied, drop, length, None, slice_set};
 ghost use Rattle.std.specs.Option.{option_copied_mut};
 ghost use Rattle.std.specs.Borrow.{Lends, sem};
 ghost use Rattle.iddqd_store.specs.Slots.{get, items_in, IsLive, live_count, members, Updates, Exchanges, NextLive, TakesOut};
 ghost use Rattle.iddqd_store.specs.Slots.Chain.{item_of};
 
-mod build;
-mod clone;
-mod compact;
-mod values;
-
 use crate::TryReserveError;
-use crate::entered::Entered;
-use crate::item_index::ItemIndex;
 use std::alloc::Global;
 use std::marker::Model;
 use std::mem;
+
+mod clone;
+mod compact;
+mod cursor;
+mod entered;
+mod item_index;
+mod values;
+
+pub use cursor::Cursor;
+pub use entered::Entered;
+pub use item_index::ItemIndex;
 pub use values::{IntoIter, Iter};
 
 /// Items in slots, each found by the number of its slot. Contracts see the slots, each with its item or free, and how
@@ -96,6 +100,19 @@ impl<T> ItemSet<T> {
             live: 0,
             head: 0,
         }
+    }
+
+    /// An empty set with room for so many items. It is never refused for none.
+    pub fn with_capacity(alloc: Global, items: usize) -> Result<Self, TryReserveError>
+        ensures slots { IfOk result (λ s. s.slots ≡ []) }
+        ensures capacity { IfOk result (λ s. s.capacity ≡ items) }
+        ensures never_refused { items ≡ 0 → IsOk result }
+    {
+        Ok(ItemSet {
+            slots: Vec::with_capacity(alloc, items)?,
+            live: 0,
+            head: 0,
+        })
     }
 
     /// The number of live slots. It takes one step.

@@ -1,15 +1,16 @@
-//! What the short lists share.
+//! Short lists: what they share.
 ghost use Rattle.std.specs.Prelude.{◌≡◌, ◌≤◌, ◌++◌, [], List, length, slice_get, IfNone};
 ghost use Rattle.std.specs.Option.{option_to_list};
 
-use crate::up_to_three::UpToThree;
-use crate::up_to_two::UpToTwo;
-
 mod into_iter;
 mod iter;
+mod up_to_three;
+mod up_to_two;
 
 pub use into_iter::ShortIntoIter;
 pub use iter::ShortIter;
+pub use up_to_three::UpToThree;
+pub use up_to_two::UpToTwo;
 
 /// A short list, kept in place, whatever the most that it holds.
 pub trait ShortList {

@@ -1,7 +1,7 @@
 //! Refusals: of an insert, of an item with other keys, and at an entry.
-ghost use Rattle.std.specs.Prelude.{◌≡◌, ◌≢◌, ◌<◌, [], IfSome, Some, map};
+ghost use Rattle.std.specs.Prelude.{◌≡◌, ◌≢◌, ◌<◌, [], Some, map};
 ghost use Rattle.iddqd_store.specs.Map.{bag};
-ghost use Rattle.iddqd_store.specs.Bag.{clash, differ, order};
+ghost use Rattle.iddqd_store.specs.Bag.{clash, order};
 ghost use Rattle.iddqd_store.specs.Slots.Found.{items_at};
 ghost use Rattle.iddqd_tri.specs.Keys.{ranks};
 ghost use Rattle.iddqd_tri.specs.Mismatch.{error_item, error_rank, mismatch_item, mismatch_rank};
@@ -62,29 +62,6 @@ pub enum EntryError<T> {
 pub struct EntryRefusal<'a, T: TriHashItem, S: BuildHasher = DefaultHashBuilder> {
     pub(crate) map: &'a mut TriHashMap<T, S>,
     pub(crate) error: EntryError<T>,
-}
-
-/// The lowest rank, counted from 0, at which the item has not these keys. It compares the first keys, and those of the
-/// next rank where those are equal.
-pub(crate) fn differ<T: TriHashItem>(
-    item: &T,
-    key1: &T::K1,
-    key2: &T::K2,
-    key3: &T::K3,
-) -> Option<usize>
-    ensures rank { result ≡ differ (⟦<T as Ranked>⟧.key_tests key1.now key2.now key3.now) item.now }
-    ensures below { IfSome result (λ rank. rank < 3) }
-{
-    if *key1 != *item.key1() {
-        return Some(0);
-    }
-    if *key2 != *item.key2() {
-        return Some(1);
-    }
-    if *key3 != *item.key3() {
-        return Some(2);
-    }
-    None
 }
 
 impl<T> KeyMismatch<T> {

@@ -12,10 +12,10 @@ ghost use Rattle.iddqd_bi.specs.Mismatch.{mismatch_item, mismatch_rank};
 ghost use Rattle.iddqd_bi.specs.OccupiedRefs.{is_one, seen1, seen2};
 
 use super::{OccupiedEntry, OccupiedEntryMut, OccupiedEntryRef};
-use crate::error::{KeyMismatch, differ};
+use crate::error::KeyMismatch;
 use crate::item::{BiHashItem, BiHashItemMut, Ranked};
 use crate::map::BiHashMap;
-use crate::map::slots::found::{each_once, one_of};
+use crate::map::slots::found::{differ, each_once, one_of};
 use iddqd_store::{Sought, UpToTwo};
 use std::hash::{BuildHasher, Hash};
 

@@ -16,6 +16,7 @@ use crate::item::{BiHashItemMut, Ranked};
 use iddqd_store::{DuplicateItem, ItemIndex, MemoryRefused, UpToTwo};
 use std::hash::{BuildHasher, Hash};
 
+mod replies;
 mod steps;
 
 impl<T: BiHashItemMut + Drop, S: BuildHasher> BiHashMap<T, S>

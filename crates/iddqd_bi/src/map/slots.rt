@@ -19,9 +19,9 @@ mod over;
 mod walk;
 mod write;
 
-use self::found::each_once;
+use self::found::{differ, each_once};
 use super::BiHashMap;
-use crate::error::{EntryError, differ};
+use crate::error::EntryError;
 use crate::item::{BiHashItem, Hashed, Ranked};
 use crate::ranks::{First, Second};
 use iddqd_store::{ItemIndex, Lookup, Meter, Sought, TryReserveError, UpToTwo, Vacancy};

@@ -7,9 +7,10 @@ ghost use Rattle.iddqd_bi.specs.Mismatch.{mismatch_item, mismatch_rank};
 ghost use Rattle.iddqd_bi.specs.RefMuts.{Replaces, ref_map, ref_item, ref_with, lends_ref_data};
 
 use super::RefMut;
-use crate::error::{KeyMismatch, differ};
+use crate::error::KeyMismatch;
 use crate::item::{BiHashItem, BiHashItemMut, Ranked};
 use crate::map::BiHashMap;
+use crate::map::slots::found::differ;
 use std::hash::{BuildHasher, Hash};
 use std::ops::Deref;
 

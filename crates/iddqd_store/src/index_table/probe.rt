@@ -5,9 +5,9 @@ ghost use Rattle.iddqd_store.specs.Table.Ring.{cell, gap, held, stretch};
 ghost use Rattle.iddqd_store.specs.Table.Limit.{IsLeast, IsSize, most_room};
 ghost use Rattle.iddqd_store.specs.Table.{hashes, IsTable, IsFirstEmpty, IsWayTo};
 
-use crate::cells::Cells;
-use crate::item_index::ItemIndex;
-use crate::meter::Meter;
+use super::Meter;
+use super::cells::Cells;
+use crate::item_set::ItemIndex;
 
 // The place after `at`. The number of cells is a power of two, so a mask takes it round.
 pub(super) fn after(at: usize, count: usize) -> usize

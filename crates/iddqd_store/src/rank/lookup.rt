@@ -10,15 +10,11 @@ ghost use Rattle.iddqd_store.specs.Slots.Found.{FoundAt};
 ghost use Rattle.iddqd_store.specs.Slots.{get, IsLive};
 ghost use Rattle.iddqd_store.specs.Rank.{agree, IsVacantFor, NamesOneUnder, SearchCosts, IsSearchable};
 
-use super::key_of::{HashedKey, KeyOf};
 use super::matchers::{ByKey, ByQuery};
-use crate::index_table::IndexTable;
-use crate::item_index::ItemIndex;
-use crate::item_set::ItemSet;
-use crate::matcher::KeyMatcher;
-use crate::meter::Meter;
+use super::{HashedKey, KeyOf};
+use crate::index_table::{IndexTable, KeyMatcher, Meter, Vacancy};
+use crate::item_set::{ItemIndex, ItemSet};
 use crate::query::Query;
-use crate::vacancy::Vacancy;
 use std::hash::{BuildHasher, Hash};
 use std::marker::{Model, PhantomData};
 

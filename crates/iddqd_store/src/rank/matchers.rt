@@ -4,11 +4,9 @@ ghost use Rattle.std.proofs.Common.{ap, ◌∙◌};
 ghost use Rattle.iddqd_store.specs.Rank.Asking.{passes_kept};
 ghost use Rattle.iddqd_store.specs.Rank.Index.{passes_at};
 
-use super::key_of::KeyOf;
-use crate::item_index::ItemIndex;
-use crate::item_set::ItemSet;
-use crate::matcher::{KeyMatcher, Matcher};
-use crate::meter::Meter;
+use super::KeyOf;
+use crate::index_table::{KeyMatcher, Matcher, Meter};
+use crate::item_set::{ItemIndex, ItemSet};
 use crate::query::Query;
 use std::hash::Hash;
 use std::marker::PhantomData;

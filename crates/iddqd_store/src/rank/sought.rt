@@ -1,7 +1,7 @@
 //! What a search by a hash found.
 ghost use Rattle.std.specs.Prelude.{◌≡◌, None, Some, IfSome};
 
-use crate::item_index::ItemIndex;
+use crate::item_set::ItemIndex;
 use std::marker::Model;
 
 /// The slot that a search by a hash found, if it found one, with the hash: so the hash of the key in this slot is known.

@@ -6,7 +6,7 @@ ghost use Rattle.iddqd_store.specs.Bag.Storing.{Stores};
 ghost use Rattle.iddqd_store.specs.Map.{bag};
 ghost use Rattle.iddqd_tri.specs.Entries.{IsFound, KeepsEntry, KeepsFound, OnOccupied, OnVacant, PutsIn, entry_lender, entry_map, sought};
 
-use super::{Entry, Keys, OccupiedEntryMut, VacantEntry};
+use super::{Entry, Keys, OccupiedEntryMut};
 use crate::error::EntryRefusal;
 use crate::item::{Ranked, TriHashItem, TriHashItemMut};
 use std::hash::{BuildHasher, Hash};
@@ -74,26 +74,6 @@ impl<'a, T: TriHashItemMut, S: BuildHasher, Q: Keys<T::K1, T::K2, T::K3>> Entry<
                 o.for_each(f);
                 Entry::Occupied(o)
             }
-        }
-    }
-}
-
-impl<'a, T: TriHashItem, S: BuildHasher, Q: Keys<T::K1, T::K2, T::K3>> VacantEntry<'a, T, S, Q> {
-    /// The same as `insert_mut`, and the refusal holds the map: what the calls of the whole entry answer.
-    fn put_in(self, item: T) -> Result<OccupiedEntryMut<'a, T, S>, EntryRefusal<'a, T, S>>
-        ensures same_map { IfOk result (λ m. m.map.ghost_name ≡ self.entry.map.ghost_name) }
-        ensures same_map_at_err { IfErr result (λ e. e.map.ghost_name ≡ self.entry.map.ghost_name) }
-        ensures puts_in { PutsIn self.entry item result }
-    {
-        let VacantEntry { map, keys, at } = self;
-        match map.put_free(item, keys.first(), keys.second(), keys.third(), at) {
-            Ok(slot) => Ok(OccupiedEntryMut {
-                map,
-                slot1: Some(slot),
-                slot2: Some(slot),
-                slot3: Some(slot),
-            }),
-            Err(error) => Err(EntryRefusal { map, error }),
         }
     }
 }

@@ -12,10 +12,10 @@ ghost use Rattle.iddqd_tri.specs.Mismatch.{mismatch_item, mismatch_rank};
 ghost use Rattle.iddqd_tri.specs.OccupiedRefs.{is_one, seen1, seen2, seen3};
 
 use super::{OccupiedEntry, OccupiedEntryMut, OccupiedEntryRef};
-use crate::error::{KeyMismatch, differ};
+use crate::error::KeyMismatch;
 use crate::item::{Ranked, TriHashItem, TriHashItemMut};
 use crate::map::TriHashMap;
-use crate::map::slots::found::{each_once, one_of};
+use crate::map::slots::found::{differ, each_once, one_of};
 use iddqd_store::{Sought, UpToThree};
 use std::hash::{BuildHasher, Hash};
 

@@ -3,7 +3,7 @@ ghost use Rattle.std.specs.Prelude.{◌≡◌, ◌<◌, length, None, IsOk, IfOk
 ghost use Rattle.std.specs.Borrow.{sem};
 ghost use Rattle.iddqd_store.specs.Bag.{differ};
 ghost use Rattle.iddqd_store.specs.Map.{bag};
-ghost use Rattle.iddqd_tri.specs.Entries.{GainsAndFinds, GainsAndHolds, GainsAndLends, IsSameMap, wanted, rests_if_err, held_rests_if_err};
+ghost use Rattle.iddqd_tri.specs.Entries.{GainsAndFinds, GainsAndHolds, GainsAndLends, IsSameMap, PutsIn, wanted, rests_if_err, held_rests_if_err};
 ghost use Rattle.iddqd_tri.specs.Mismatch.{HandsBack};
 
 use super::{KeyTriple, Keys, OccupiedEntry, OccupiedEntryMut, VacantEntry};
@@ -83,6 +83,29 @@ impl<'a, T: TriHashItem, S: BuildHasher> VacantEntry<'a, T, S> {
                 key1,
                 key2,
                 key3,
+                slot1: Some(slot),
+                slot2: Some(slot),
+                slot3: Some(slot),
+            }),
+            Err(error) => Err(EntryRefusal { map, error }),
+        }
+    }
+}
+
+impl<'a, T: TriHashItem, S: BuildHasher, Q: Keys<T::K1, T::K2, T::K3>> VacantEntry<'a, T, S, Q> {
+    /// The same as `insert_mut`, and the refusal holds the map: what the calls of the whole entry answer.
+    pub(super) fn put_in(
+        self,
+        item: T,
+    ) -> Result<OccupiedEntryMut<'a, T, S>, EntryRefusal<'a, T, S>>
+        ensures same_map { IfOk result (λ m. m.map.ghost_name ≡ self.entry.map.ghost_name) }
+        ensures same_map_at_err { IfErr result (λ e. e.map.ghost_name ≡ self.entry.map.ghost_name) }
+        ensures puts_in { PutsIn self.entry item result }
+    {
+        let VacantEntry { map, keys, at } = self;
+        match map.put_free(item, keys.first(), keys.second(), keys.third(), at) {
+            Ok(slot) => Ok(OccupiedEntryMut {
+                map,
                 slot1: Some(slot),
                 slot2: Some(slot),
                 slot3: Some(slot),

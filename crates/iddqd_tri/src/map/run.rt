@@ -16,6 +16,7 @@ use crate::item::{Ranked, TriHashItemMut};
 use iddqd_store::{DuplicateItem, ItemIndex, MemoryRefused, UpToThree};
 use std::hash::{BuildHasher, Hash};
 
+mod replies;
 mod steps;
 
 impl<T: TriHashItemMut + Drop, S: BuildHasher> TriHashMap<T, S>

@@ -19,9 +19,9 @@ mod over;
 mod walk;
 mod write;
 
-use self::found::each_once;
+use self::found::{differ, each_once};
 use super::TriHashMap;
-use crate::error::{EntryError, differ};
+use crate::error::EntryError;
 use crate::item::{Hashed, Ranked, TriHashItem};
 use crate::ranks::{First, Second, Third};
 use iddqd_store::{ItemIndex, Lookup, Meter, Sought, TryReserveError, UpToThree, Vacancy};

@@ -7,9 +7,10 @@ ghost use Rattle.iddqd_tri.specs.Mismatch.{mismatch_item, mismatch_rank};
 ghost use Rattle.iddqd_tri.specs.RefMuts.{Replaces, ref_map, ref_item, ref_with, lends_ref_data};
 
 use super::RefMut;
-use crate::error::{KeyMismatch, differ};
+use crate::error::KeyMismatch;
 use crate::item::{Ranked, TriHashItem, TriHashItemMut};
 use crate::map::TriHashMap;
+use crate::map::slots::found::differ;
 use std::hash::{BuildHasher, Hash};
 use std::ops::Deref;
 

@@ -1,7 +1,8 @@
-//! The slots that searches by all keys found: which they are, and their items, read or lent.
-ghost use Rattle.std.specs.Prelude.{◌≡◌, [], ◌∷◌, map, IfSome, option_copied};
+//! An item's keys compared with others, and the slots that searches by all keys found: which they are, and their items,
+//! read or lent.
+ghost use Rattle.std.specs.Prelude.{◌≡◌, ◌<◌, [], ◌∷◌, map, IfSome, option_copied};
 ghost use Rattle.std.specs.Option.{option_and_then};
-ghost use Rattle.iddqd_store.specs.Bag.{IsOnly, every_of};
+ghost use Rattle.iddqd_store.specs.Bag.{IsOnly, differ, every_of};
 ghost use Rattle.iddqd_store.specs.Rank.Index.{HasHash};
 ghost use Rattle.iddqd_store.specs.Map.{bag, hash_of};
 ghost use Rattle.iddqd_store.specs.Slots.Found.{each_once, items_at, FoundAt, found_by_all, head_of};
@@ -11,7 +12,7 @@ ghost use Rattle.std.specs.Borrow.{sem};
 ghost use Rattle.iddqd_tri.specs.RefMuts.{ref_lender, ref_map, ref_item, rests_if_none};
 
 use super::super::TriHashMap;
-use crate::item::{Hashed, TriHashItem};
+use crate::item::{Hashed, Ranked, TriHashItem};
 use crate::ref_mut::RefMut;
 use iddqd_store::{ItemIndex, Query, UpToThree};
 use std::hash::{BuildHasher, Hash};
@@ -26,6 +27,29 @@ pub(crate) fn has_others<T: TriHashItem, Q2: Query<T::K2>, Q3: Query<T::K3>>(
         (has2 T.TriHashItem Q2.stands_for query2 ∷ has3 T.TriHashItem Q3.stands_for query3 ∷ []) item.now }
 {
     query2.stands_for(item.key2()) && query3.stands_for(item.key3())
+}
+
+/// The lowest rank, counted from 0, at which the item has not these keys. It compares the first keys, and those of the
+/// next rank where those are equal.
+pub(crate) fn differ<T: TriHashItem>(
+    item: &T,
+    key1: &T::K1,
+    key2: &T::K2,
+    key3: &T::K3,
+) -> Option<usize>
+    ensures rank { result ≡ differ (⟦<T as Ranked>⟧.key_tests key1.now key2.now key3.now) item.now }
+    ensures below { IfSome result (λ rank. rank < 3) }
+{
+    if *key1 != *item.key1() {
+        return Some(0);
+    }
+    if *key2 != *item.key2() {
+        return Some(1);
+    }
+    if *key3 != *item.key3() {
+        return Some(2);
+    }
+    None
 }
 
 /// The slot that all searches found.

@@ -42,12 +42,12 @@ loop-item-preserved g c =
       ending = search rules;
       added = AddsTo-push (by g) (bag c.args.self.now) (bag c.loop-item.self) (bag c.enter.new.self) c.loop-item.yielded item so_far.added put.free put.gains.items;
       noted = put.noted c.loop-item.yielded so_far.noted;
-      no_less_room = omega (arith, so_far.no_less_room, put.no_less_room);
+      no_less_room = omega (arith, so_far.no_less_room, put.grows.no_less_room);
       fits = λ fit.
           let before = so_far.fits fit in
-          let same = put.same_room (omega (arith, before.0, nearer)) in
+          let same = put.grows.same_room (omega (arith, before.0, nearer)) in
           (omega (arith, before.0, nearer, same, length_permutation _ _ put.gains.items), same ∙ before.1);
-      builder = put.builder ∙ so_far.builder;
+      builder = put.grows.same_builder ∙ so_far.builder;
     }
 
 -- what came out again is what came

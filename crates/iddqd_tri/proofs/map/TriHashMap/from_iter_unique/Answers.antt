@@ -37,11 +37,17 @@ returns-in-Err-Memory-clause-refused g c =
     let place = HasPlaceFor-free by (bag c.loop-item.map) c.loop-item.yielded c.in-Some.item c.loop-item.invariant.added full.free in
     rw (g.met.T.Ranked.ranks_are, item) (c.into_iter-items.result, c.loop-item.yielded, c.next.new.self, c.into_iter-items.ensures.into_iter_gives, (c.loop-item.item-iterator, gave, c.in-Some.ensures.steps), place)
 
-pub take_all-duplicates-requires : goal.take_all-duplicates-requires
-take_all-duplicates-requires g c =
+pub take_all-duplicates-requires-clause-live : goal.take_all-duplicates-requires-clause-live
+take_all-duplicates-requires-clause-live g c =
     let by = ranks g.T.TriHashItem g.T.K1.PartialEq.eq g.T.K2.PartialEq.eq g.T.K3.PartialEq.eq in
     let blocked : IsBlockedAt by c.loop-item.map c.in-Some.item c.in-Err-Duplicate.found = rw c.in-Err-Duplicate.field-0-is at c.in-Err-Duplicate.ensures.reason in
-    rw c.in-Err-Duplicate.ensures.unchanged record { live = blocked.found.live; apart = blocked.found.apart; by1 = rw c.nothing-nothing.ensures tt; by2 = rw c.nothing-nothing.ensures tt; by3 = rw c.nothing-nothing.ensures tt }
+    rw c.in-Err-Duplicate.ensures.unchanged blocked.found.live
+
+pub take_all-duplicates-requires-clause-apart : goal.take_all-duplicates-requires-clause-apart
+take_all-duplicates-requires-clause-apart g c =
+    let by = ranks g.T.TriHashItem g.T.K1.PartialEq.eq g.T.K2.PartialEq.eq g.T.K3.PartialEq.eq in
+    let blocked : IsBlockedAt by c.loop-item.map c.in-Some.item c.in-Err-Duplicate.found = rw c.in-Err-Duplicate.field-0-is at c.in-Err-Duplicate.ensures.reason in
+    blocked.found.apart
 
 pub returns-in-Err-Duplicate-clause-refused : goal.returns-in-Err-Duplicate-clause-refused
 returns-in-Err-Duplicate-clause-refused g c =

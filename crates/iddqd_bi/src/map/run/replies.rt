@@ -1,4 +1,5 @@
-//! Commands on entries and on writing, carried out on the map: each call answers the reply, which lends nothing.
+//! The replies to commands on entries and on items that are lent for writing. Each call carries one out on the map, and
+//! answers its reply, which lends nothing.
 ghost use Rattle.std.specs.Prelude.{◌≡◌, [], ◌∷◌};
 ghost use Rattle.iddqd_store.specs.Runs.Reply.{displaced, key};
 ghost use Rattle.iddqd_store.specs.Runs.Step.{state_of, EntryInserts, EntryRemoves, OrInserts, Replaces, Sets};
@@ -7,11 +8,11 @@ ghost use Rattle.iddqd_bi.specs.Keys.{has1, has2};
 ghost use Rattle.iddqd_bi.specs.Mismatch.{mismatch_item, mismatch_rank};
 ghost use Rattle.iddqd_bi.specs.Refusals.{refusal_value};
 
-use super::BiHashMap;
 use crate::command::BiReply;
 use crate::entry::Entry;
 use crate::error::{EntryError, KeyMismatch};
 use crate::item::{BiHashItemMut, Ranked};
+use crate::map::BiHashMap;
 use iddqd_store::UpToTwo;
 use std::hash::{BuildHasher, Hash};
 

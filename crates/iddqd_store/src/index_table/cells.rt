@@ -4,9 +4,9 @@ ghost use Rattle.std.specs.Prelude.{◌≡◌, ℕ, ◌+◌, ◌^◌, ◌<◌, L
 ghost use Rattle.iddqd_store.specs.Table.Cell.{pair_of, hash_of, number_of};
 ghost use Rattle.iddqd_store.specs.Table.Ring.{cell};
 
+use super::Meter;
 use crate::TryReserveError;
-use crate::item_index::ItemIndex;
-use crate::meter::Meter;
+use crate::item_set::ItemIndex;
 use std::alloc::Global;
 use std::marker::Model;
 use std::mem::size_of;

@@ -1,7 +1,7 @@
 //! What a search asks about the slots that it meets, and about their keys.
 ghost use Rattle.std.specs.Prelude.{◌≡◌, ◌+◌, ◌≤◌, ℕ, Bool};
 
-use crate::item_index::ItemIndex;
+use crate::item_set::ItemIndex;
 
 /// What a search by hash asks of the indexes under that hash: whether an index is the one that is sought.
 ///

@@ -1,52 +1,55 @@
-//! A list of at most two items, in place.
+//! A list of at most three items, in place.
 ghost use Rattle.std.specs.Prelude.{◌≡◌, ◌<◌, ◌≤◌, ◌++◌, ◌∷◌, ◌==◌, [], length, option_copied, slice_get, IfNone};
 ghost use Rattle.std.specs.Option.{option_to_list};
 
-use crate::item_index::ItemIndex;
-use crate::short_list::{ShortIntoIter, ShortIter};
+use super::{ShortIntoIter, ShortIter};
+use crate::item_set::ItemIndex;
 use std::cmp::{Eq, PartialEq};
 use std::fmt::{self, Debug, Formatter, Write};
 use std::marker::Model;
 use std::mem;
 
-/// A list of at most two items, kept in place: no call takes memory. Contracts see a list.
+/// A list of at most three items, kept in place: no call takes memory. Contracts see a list.
 #[derive(Drop)]
-pub struct UpToTwo<T> {
+pub struct UpToThree<T> {
     first: Option<T>,
     second: Option<T>,
+    third: Option<T>,
 }
 
-impl<T> Model for UpToTwo<T> {
+impl<T> Model for UpToThree<T> {
     ghost use Rattle.std.specs.Prelude.{List, ◌≡◌, ◌++◌, None};
     ghost use Rattle.std.specs.Option.{option_to_list};
 
     ghost Value = { List T };
 
-    ghost view = { λ s. option_to_list s.first ++ option_to_list s.second };
+    ghost view = { λ s. option_to_list s.first ++ option_to_list s.second ++ option_to_list s.third };
 
-    ghost invariant = { λ s. s.first ≡ None → s.second ≡ None };
+    ghost invariant = { λ s. (s.first ≡ None → s.second ≡ None) × (s.second ≡ None → s.third ≡ None) };
 }
 
-impl<T> UpToTwo<T> {
+impl<T> UpToThree<T> {
     /// No items.
     pub fn new() -> Self
         ensures { result ≡ [] }
     {
-        UpToTwo {
+        UpToThree {
             first: None,
             second: None,
+            third: None,
         }
     }
 
-    /// The number of items, at most two.
+    /// The number of items, at most three.
     pub fn len(&self) -> usize
         ensures value { result ≡ length self.now }
-        ensures short { result ≤ 2 }
+        ensures short { result ≤ 3 }
     {
-        match (&self.first, &self.second) {
-            (None, _) => 0,
-            (Some(_), None) => 1,
-            (Some(_), Some(_)) => 2,
+        match (&self.first, &self.second, &self.third) {
+            (None, _, _) => 0,
+            (Some(_), None, _) => 1,
+            (Some(_), Some(_), None) => 2,
+            (Some(_), Some(_), Some(_)) => 3,
         }
     }
 
@@ -64,6 +67,7 @@ impl<T> UpToTwo<T> {
         match at {
             0 => self.first.as_ref(),
             1 => self.second.as_ref(),
+            2 => self.third.as_ref(),
             _ => None,
         }
     }
@@ -78,24 +82,26 @@ impl<T> UpToTwo<T> {
     /// The items, lent, in their order.
     pub fn iter(&self) -> ShortIter<'_, T>
         ensures gives { result ≡ self.now }
-        ensures short { length self.now ≤ 2 }
+        ensures short { length self.now ≤ 3 }
     {
         ShortIter {
             first: self.first.as_ref(),
             second: self.second.as_ref(),
-            third: None,
+            third: self.third.as_ref(),
         }
     }
 
-    /// Puts an item behind the others, of which there are fewer than two.
+    /// Puts an item behind the others, of which there are fewer than three.
     pub fn push(&mut self, item: T)
-        requires { length self.old < 2 }
+        requires { length self.old < 3 }
         ensures { self.new ≡ self.old ++ item ∷ [] }
     {
         let place = if self.first.is_none() {
             mem::replace(&mut self.first, Some(item))
-        } else {
+        } else if self.second.is_none() {
             mem::replace(&mut self.second, Some(item))
+        } else {
+            mem::replace(&mut self.third, Some(item))
         };
         match place {
             None => {}
@@ -103,13 +109,14 @@ impl<T> UpToTwo<T> {
         }
     }
 
-    /// Puts an item in front of the others, of which there are fewer than two.
+    /// Puts an item in front of the others, of which there are fewer than three.
     pub fn push_front(&mut self, item: T)
-        requires { length self.old < 2 }
+        requires { length self.old < 3 }
         ensures { self.new ≡ item ∷ self.old }
     {
         let second = mem::replace(&mut self.first, Some(item));
-        match mem::replace(&mut self.second, second) {
+        let third = mem::replace(&mut self.second, second);
+        match mem::replace(&mut self.third, third) {
             None => {}
             Some(_) => unreachable!(),
         }
@@ -119,27 +126,28 @@ impl<T> UpToTwo<T> {
     pub fn pop_front(&mut self) -> Option<T>
         ensures first { result ≡ slice_get self.old 0 }
         ensures rest { self.old ≡ option_to_list result ++ self.new }
-        ensures fewer { length self.new < 2 }
+        ensures fewer { length self.new < 3 }
         ensures end { IfNone result (self.new ≡ []) }
     {
-        let second = self.second.take();
+        let third = self.third.take();
+        let second = mem::replace(&mut self.second, third);
         mem::replace(&mut self.first, second)
     }
 }
 
-impl<T: Drop> IntoIterator for UpToTwo<T> {
+impl<T: Drop> IntoIterator for UpToThree<T> {
     type Item = T;
 
-    type IntoIter = ShortIntoIter<UpToTwo<T>>;
+    type IntoIter = ShortIntoIter<UpToThree<T>>;
 
     ghost into_iter_gives = { λ s it. it.left ≡ s };
 
-    fn into_iter(self) -> ShortIntoIter<UpToTwo<T>> {
+    fn into_iter(self) -> ShortIntoIter<UpToThree<T>> {
         ShortIntoIter::new(self)
     }
 }
 
-impl<'a, T> IntoIterator for &'a UpToTwo<T> {
+impl<'a, T> IntoIterator for &'a UpToThree<T> {
     type Item = &'a T;
 
     type IntoIter = ShortIter<'a, T>;
@@ -151,7 +159,7 @@ impl<'a, T> IntoIterator for &'a UpToTwo<T> {
     }
 }
 
-impl<T: PartialEq> PartialEq for UpToTwo<T> {
+impl<T: PartialEq> PartialEq for UpToThree<T> {
     ghost use Rattle.std.specs.Cmp.Lexicographic.{pointwise, lists_per};
 
     ghost eq = { λ s t. pointwise T.eq s t };
@@ -159,33 +167,36 @@ impl<T: PartialEq> PartialEq for UpToTwo<T> {
     ghost laws = { lists_per T.laws };
 
     fn eq(&self, other: &Self) -> bool {
-        self.first == other.first && self.second == other.second
+        self.first == other.first && self.second == other.second && self.third == other.third
     }
 }
 
-impl<T: Eq> Eq for UpToTwo<T> {
+impl<T: Eq> Eq for UpToThree<T> {
     ghost use Rattle.std.specs.Cmp.Lexicographic.{lists_equiv};
 
     ghost laws = { lists_equiv T.Eq.laws };
 }
 
-impl UpToTwo<ItemIndex> {
+impl UpToThree<ItemIndex> {
     ghost use Rattle.iddqd_store.specs.Slots.Found.{lists, with_found};
 
     /// Whether this slot is among them.
     pub fn lists(&self, ix: ItemIndex) -> bool
         ensures { result ≡ lists self.now ix }
     {
-        match (&self.first, &self.second) {
-            (None, _) => false,
-            (Some(first), None) => ix == *first,
-            (Some(first), Some(second)) => ix == *first || ix == *second,
+        match (&self.first, &self.second, &self.third) {
+            (None, _, _) => false,
+            (Some(first), None, _) => ix == *first,
+            (Some(first), Some(second), None) => ix == *first || ix == *second,
+            (Some(first), Some(second), Some(third)) => {
+                ix == *first || ix == *second || ix == *third
+            }
         }
     }
 
     /// Puts the slot that a search found behind the others, unless it is among them.
     pub fn push_found(&mut self, found: Option<ItemIndex>)
-        requires { length self.old < 2 }
+        requires { length self.old < 3 }
         ensures { self.new ≡ with_found self.old found }
     {
         if let Some(ix) = found {
@@ -196,7 +207,7 @@ impl UpToTwo<ItemIndex> {
     }
 }
 
-impl<T: Debug> Debug for UpToTwo<T> {
+impl<T: Debug> Debug for UpToThree<T> {
     fn fmt<W: Write>(&self, f: &mut Formatter<W>) -> fmt::Result {
         f.debug_list().entries(self.iter()).finish()
     }

@@ -1,7 +1,7 @@
 //! A place in a walk over the items of a map.
 ghost use Rattle.std.specs.Prelude.{◌≡◌, ◌+◌};
 
-use crate::item_index::ItemIndex;
+use super::ItemIndex;
 use std::marker::Model;
 
 /// A place in a walk over the items of a map, between two of them. Contracts see a number.

@@ -1,8 +1,8 @@
 //! What went into a map of a list, so that it can be taken out again.
 ghost use Rattle.std.specs.Prelude.{◌≡◌, ◌+◌, ◌<◌, ◌≤◌, ◌++◌, [], ◌∷◌, length, vec_capacity, OnOk};
 
+use super::ItemIndex;
 use crate::error::TryReserveError;
-use crate::item_index::ItemIndex;
 use std::alloc::Global;
 use std::marker::Model;
 
