@@ -19,7 +19,7 @@ pub struct Draw {
 
 impl Draw {
     /// Draws for so many ranks, from the same seed each time.
-    pub fn new(ranks: u64) -> Self {
+    pub(crate) fn new(ranks: u64) -> Self {
         Draw {
             state: 1,
             ranks,
@@ -139,7 +139,7 @@ impl Draw {
     }
 
     /// A command on a map whose items are those of the list.
-    pub fn command(&mut self, alloc: Global, list: &List) -> Result<Command, AllocError> {
+    pub(crate) fn command(&mut self, alloc: Global, list: &List) -> Result<Command, AllocError> {
         let keys = self.keys(list);
         Ok(match self.below(64) {
             0..=15 => {

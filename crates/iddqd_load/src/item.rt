@@ -1,6 +1,7 @@
 //! The items of both maps. The one with two keys takes the third for data.
-ghost use Rattle.std.specs.Prelude.{refl};
+ghost use Rattle.std.specs.Prelude.{◌≡◌, refl};
 ghost use Rattle.std.specs.Cmp.{nat_eq_equiv};
+ghost use Rattle.iddqd_load.specs.declared.item.Rank.TheVariants.{First, Second, Third};
 
 use iddqd_bi::{BiHashItem, BiHashItemMut};
 use iddqd_tri::{TriHashItem, TriHashItemMut};
@@ -29,7 +30,11 @@ pub struct Keys {
 
 impl Keys {
     /// The key of a rank.
-    pub fn at(&self, rank: Rank) -> u64 {
+    pub(crate) fn at(&self, rank: Rank) -> u64
+        ensures first { rank ≡ First → result ≡ self.now.first }
+        ensures second { rank ≡ Second → result ≡ self.now.second }
+        ensures third { rank ≡ Third → result ≡ self.now.third }
+    {
         match rank {
             Rank::First => self.first,
             Rank::Second => self.second,

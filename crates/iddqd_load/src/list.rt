@@ -14,7 +14,7 @@ pub struct List {
 
 impl List {
     /// No items, of which the keys of these ranks count.
-    pub fn new(alloc: Global, ranks: &'static [Rank]) -> Self {
+    pub(crate) fn new(alloc: Global, ranks: &'static [Rank]) -> Self {
         List {
             alloc,
             ranks,
@@ -23,17 +23,17 @@ impl List {
     }
 
     /// The number of items.
-    pub fn len(&self) -> usize {
+    pub(crate) fn len(&self) -> usize {
         self.items.len()
     }
 
     /// The number of ranks.
-    pub fn ranks(&self) -> u64 {
+    pub(crate) fn ranks(&self) -> u64 {
         self.ranks.len() as u64
     }
 
     /// The item at a place.
-    pub fn get(&self, place: usize) -> Option<&Item> {
+    pub(crate) fn get(&self, place: usize) -> Option<&Item> {
         self.items.get(place)
     }
 
@@ -179,7 +179,7 @@ impl List {
     }
 
     /// What a command answers.
-    pub fn answer(&mut self, command: &Command) -> Result<Reply, AllocError> {
+    pub(crate) fn answer(&mut self, command: &Command) -> Result<Reply, AllocError> {
         let (kind, item) = match command {
             Command::ByKey(rank, key, asked) => return self.answer_by_key(*rank, *key, *asked),
             Command::ByAll(keys, asked) => return self.answer_by_all(*keys, *asked),

@@ -1,5 +1,5 @@
 //! Replies of the maps and of the list, and the sink that compares them.
-ghost use Rattle.std.specs.Prelude.{⊤};
+ghost use Rattle.std.specs.Prelude.{◌≡◌, false, ⊤};
 
 use crate::item::{Item, Rank};
 use iddqd_bi::{BiReply, BiSink};
@@ -39,7 +39,7 @@ pub struct Reply {
 }
 
 /// A reply of at most one item.
-pub fn reply_of(alloc: Global, kind: Kind, item: Option<Item>) -> Result<Reply, AllocError> {
+pub(crate) fn reply_of(alloc: Global, kind: Kind, item: Option<Item>) -> Result<Reply, AllocError> {
     let mut items = Vec::new(alloc);
     if let Some(item) = item {
         items.push(item)?;
@@ -48,7 +48,7 @@ pub fn reply_of(alloc: Global, kind: Kind, item: Option<Item>) -> Result<Reply, 
 }
 
 /// The reply of all items.
-pub fn all_items(mut items: Vec<Item>) -> Result<Reply, AllocError> {
+pub(crate) fn all_items(mut items: Vec<Item>) -> Result<Reply, AllocError> {
     items.sort_by_key(|item| item.keys.first)?;
     Ok(Reply {
         kind: Kind::Items,
@@ -142,7 +142,10 @@ pub struct Sink {
 
 impl Sink {
     /// A sink that heard no reply yet.
-    pub fn new(alloc: Global, wanted: Reply) -> Self {
+    pub(crate) fn new(alloc: Global, wanted: Reply) -> Self
+        ensures wanted { result.wanted ≡ wanted }
+        ensures agrees { result.agrees ≡ false }
+    {
         Sink {
             alloc,
             wanted,
@@ -151,17 +154,22 @@ impl Sink {
     }
 
     /// Whether a reply was heard, and the last one is the one that is wanted.
-    pub fn agrees(&self) -> bool {
+    pub(crate) fn agrees(&self) -> bool
+        ensures { result ≡ self.now.agrees }
+    {
         self.agrees
     }
 
     /// Hears a reply.
-    pub fn hear(&mut self, reply: Reply) {
+    pub(crate) fn hear(&mut self, reply: Reply)
+        ensures agrees { self.new.agrees ≡ ⟦<Reply as PartialEq>⟧.eq reply self.old.wanted }
+        ensures wanted { self.new.wanted ≡ self.old.wanted }
+    {
         self.agrees = reply == self.wanted;
     }
 
     /// Hears a reply without items.
-    pub fn hear_kind(&mut self, kind: Kind) {
+    pub(crate) fn hear_kind(&mut self, kind: Kind) {
         let items = Vec::new(self.alloc);
         self.hear(Reply { kind, items });
     }
