@@ -18,7 +18,7 @@ mod walk;
 pub use batch::{Record, Rejected, load};
 pub use builder::{Order, OwnHash, OwnHasher, no_orders};
 pub use clone::{Rate, backup};
-pub use entry::{Visit, note_visit, take_visits};
+pub use entry::{NotNoted, Visit, note_visit, take_visits};
 pub use hub::{Device, Hub};
 pub use names::{Symbol, define, resolve, undefine};
 pub use overwrite::{Guest, check_in, first_gone, highest_room, open_house};

@@ -3,9 +3,9 @@
 ghost use Rattle.std.specs.Prelude.{◌≡◌, ◌∷◌, ◌==◌, [], List, true, false, length, IsPermutation, IsErrOf, OnOk, OnErr, IfOk, IfSome, IfNone, option_copied};
 ghost use Rattle.std.specs.List.{list_any};
 ghost use Rattle.iddqd_bi.specs.Bag.{IsOnly};
-ghost use Rattle.iddqd_bi.specs.Map.{bag};
+ghost use Rattle.iddqd_bi.specs.Map.{IsFullFor, bag};
 
-use iddqd_bi::{BiHashItem, BiHashMap, TryReserveError};
+use iddqd_bi::{BiHashItem, BiHashMap, Ranked, TryReserveError};
 use std::alloc::Global;
 
 /// A device that is plugged in.
@@ -69,7 +69,7 @@ pub fn plug_in(devices: &mut BiHashMap<Device>, device: Device) -> Result<(), Pl
         → list_any (λ d. device.serial == d.serial) (bag devices.old) ≡ true }
     ensures port_taken { IsErrOf result PlugError.PortTaken
         → list_any (λ d. device.port == d.port) (bag devices.old) ≡ true }
-    ensures full { IsErrOf result PlugError.Full → length (bag devices.old) ≡ devices.old.capacity }
+    ensures full { IsErrOf result PlugError.Full → IsFullFor ⟦<Device as Ranked>⟧.ranks devices.old device }
     ensures same_limit { devices.new.capacity ≡ devices.old.capacity }
 {
     if devices.contains_key1(&device.serial) {

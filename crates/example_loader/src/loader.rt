@@ -1,6 +1,6 @@
 //! Records of persons, each known by a number and by a mail address. A batch of them goes in whole, or not at all.
-ghost use Rattle.std.specs.Prelude.{◌≡◌, ◌++◌, Some, slice_get, IsPermutation, OnOk, OnErr, IfErr};
-ghost use Rattle.iddqd_bi.specs.Callers.{IsInTheWay};
+ghost use Rattle.std.specs.Prelude.{◌≡◌, ◌++◌, Some, take, slice_get, IsPermutation, OnOk, OnErr, IfErr};
+ghost use Rattle.iddqd_bi.specs.Bag.Building.{IsRefusedBehind};
 ghost use Rattle.iddqd_bi.specs.Map.{bag};
 
 use iddqd_bi::{BiHashItem, BiHashMap, ExtendUniqueReason, Ranked};
@@ -46,8 +46,8 @@ pub fn load(records: &mut BiHashMap<Record>, batch: Vec<Record>) -> Result<(), R
     ensures all { OnOk result (IsPermutation (bag records.new) (batch.items ++ bag records.old)) }
     ensures none { OnErr result (IsPermutation (bag records.new) (bag records.old)) }
     ensures which { IfErr result (λ e. slice_get batch.items e.index ≡ Some e.in_the_way) }
-    ensures why { IfErr result (λ e. IsInTheWay
-        ⟦<Record as Ranked>⟧.ranks (bag records.old) batch.items e.in_the_way e.reason) }
+    ensures why { IfErr result (λ e. IsRefusedBehind
+        ⟦<Record as Ranked>⟧.ranks (bag records.old) (take e.index batch.items) e.in_the_way e.reason) }
 {
     match records.extend_unique(batch) {
         Ok(()) => Ok(()),

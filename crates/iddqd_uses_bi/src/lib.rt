@@ -21,7 +21,7 @@ pub use asking::{
 };
 pub use building::extend_by_vec;
 pub use entries::{
-    insert_or_write, insert_through, modify_and_take, modify_both, modify_found,
+    NotEntered, insert_or_write, insert_through, modify_and_take, modify_both, modify_found,
     or_insert_and_write, overwrite_through, remove_through,
 };
 pub use finding::{count_all, put_and_find, remove_and_find};

@@ -1,15 +1,24 @@
 //! What a caller knows of a map after the calls of an entry.
-ghost use Rattle.std.specs.Prelude.{◌≡◌, ◌≢◌, ◌<◌, [], ◌∷◌, ◌++◌, true, length, None, IsOk, IsPermutation, OnOk, OnErr, IfErr};
+ghost use Rattle.std.specs.Prelude.{◌≡◌, ◌≢◌, ◌<◌, [], ◌∷◌, ◌++◌, true, length, List, None, IsOk, IsErrOf, IsPermutation, OnOk, OnErr, IfErr};
 ghost use Rattle.std.specs.Bool.{OnTrue, OnFalse};
 ghost use Rattle.std.specs.Fn.{CalledAt};
 ghost use Rattle.iddqd_tri.specs.Bag.{differ, entry, listing, over};
 ghost use Rattle.iddqd_tri.specs.Storing.{Stores};
 ghost use Rattle.iddqd_tri.specs.Map.{bag};
-ghost use Rattle.iddqd_tri.specs.Mismatch.{error_item};
+ghost use Rattle.iddqd_tri.specs.Mismatch.{HandsBack, error_item};
 ghost use Rattle.iddqd_tri.specs.Callers.{InsertsOrWrites, WritesEntry};
 
 use iddqd_tri::{Entry, EntryError, Ranked, TriHashItem, TriHashItemMut, TriHashMap, UpToThree};
 use std::hash::{BuildHasher, Hash};
+
+/// Why an item was not put in through an entry, with the item.
+#[derive(Drop)]
+pub enum NotEntered<T> {
+    /// An item has one of the keys.
+    Occupied(T),
+    /// No item has, but the vacant entry refused it.
+    Refused(EntryError<T>),
+}
 
 /// Puts an item in through an entry. It is handed back where it is refused, and where an item has one of the keys.
 pub fn insert_through<'a, T: TriHashItem, S: BuildHasher>(
@@ -18,21 +27,27 @@ pub fn insert_through<'a, T: TriHashItem, S: BuildHasher>(
     key2: &'a T::K2,
     key3: &'a T::K3,
     item: T,
-) -> Result<(), EntryError<T>>
+) -> Result<(), NotEntered<T>>
     ensures gains { OnOk result (IsPermutation (bag map.new) (item ∷ bag map.old)) }
     ensures granted { listing (⟦<T as Ranked>⟧.key_tests key1.now key2.now key3.now) (bag map.old) ≡ []
         → differ (⟦<T as Ranked>⟧.key_tests key1.now key2.now key3.now) item ≡ None
         → length (bag map.old) < map.old.capacity → IsOk result }
     ensures unchanged { OnErr result (map.new ≡ map.old) }
-    ensures handed_back { IfErr result (λ e. error_item e ≡ item) }
+    ensures handed_back { (x : T) → IsErrOf result (NotEntered.Occupied x) → x ≡ item }
+    ensures occupied { (x : T) → IsErrOf result (NotEntered.Occupied x)
+        → listing (⟦<T as Ranked>⟧.key_tests key1.now key2.now key3.now) (bag map.old) ≢ [] }
+    ensures vacant { (e : EntryError T) → IsErrOf result (NotEntered.Refused e)
+        → listing (⟦<T as Ranked>⟧.key_tests key1.now key2.now key3.now) (bag map.old) ≡ [] }
+    ensures refused { (e : EntryError T) → IsErrOf result (NotEntered.Refused e)
+        → HandsBack ⟦<T as Ranked>⟧.ranks (⟦<T as Ranked>⟧.key_tests key1.now key2.now key3.now) map.old item e }
 {
     let entry = map.entry(key1, key2, key3);
     match entry {
         Entry::Vacant(v) => match v.insert(item) {
             Ok(_r) => return Ok(()),
-            Err(e) => return Err(e),
+            Err(e) => return Err(NotEntered::Refused(e)),
         },
-        Entry::Occupied(_o) => return Err(EntryError::Key1(item)),
+        Entry::Occupied(_o) => return Err(NotEntered::Occupied(item)),
     }
 }
 
@@ -144,6 +159,11 @@ where
     T::Data: Drop,
     F: Drop,
     requires callable { F.IsAlwaysCallable f }
+    // The answers are stored in what the keys find, and then what they find is taken out.
+    ensures taken { (stored : List T) × Stores (CalledAt F.FnMut) T.put ⟦<T as Ranked>⟧.ranks f
+        (listing (⟦<T as Ranked>⟧.key_tests key1.now key2.now key3.now) (bag map.old)) (bag map.old) stored
+        × (result ≡ listing (⟦<T as Ranked>⟧.key_tests key1.now key2.now key3.now) stored)
+        × IsPermutation stored (result ++ bag map.new) }
     ensures none { listing (⟦<T as Ranked>⟧.key_tests key1.now key2.now key3.now) (bag map.old) ≡ [] → map.new ≡ map.old }
     ensures some { listing (⟦<T as Ranked>⟧.key_tests key1.now key2.now key3.now) (bag map.old) ≢ [] → result ≢ [] }
     ensures capacity { map.new.capacity ≡ map.old.capacity }

@@ -1,8 +1,8 @@
 //! What a caller knows of a map after an insert, granted or refused.
-ghost use Rattle.std.specs.Prelude.{◌≡◌, ◌≢◌, ◌<◌, ◌≤◌, ◌+◌, ◌∷◌, [], true, length, IsPermutation, OnOk, OnErr, IfErr};
+ghost use Rattle.std.specs.Prelude.{◌≡◌, ◌≢◌, ◌<◌, ◌≤◌, ◌+◌, ◌⊎◌, ◌∷◌, [], true, length, IsPermutation, OnOk, OnErr, IfErr};
 ghost use Rattle.std.specs.Bool.{OnTrue, OnFalse};
 ghost use Rattle.iddqd_tri.specs.Bag.{clash, order, over};
-ghost use Rattle.iddqd_tri.specs.Map.{IsFullFor, bag};
+ghost use Rattle.iddqd_tri.specs.Map.{Gains, IsFullFor, bag};
 ghost use Rattle.iddqd_tri.specs.Callers.{GainsBoth, MayRefuse};
 
 use iddqd_tri::{Ranked, TriHashMap};
@@ -10,7 +10,7 @@ use std::hash::{BuildHasher, Hash};
 
 /// Inserts an item, and drops it where it is refused. Says whether it went in.
 pub fn insert_or_drop<T: Ranked + Drop, S: BuildHasher>(map: &mut TriHashMap<T, S>, item: T) -> bool
-    ensures went_in { OnTrue result (IsPermutation (bag map.new) (item ∷ bag map.old)) }
+    ensures gains { OnTrue result (Gains map.old item map.new) }
     ensures unchanged { OnFalse result (map.new ≡ map.old) }
     ensures reason { OnFalse result (MayRefuse T.ranks map.old item) }
     ensures no_less_room { map.old.capacity ≤ map.new.capacity }
@@ -42,9 +42,14 @@ pub fn insert_or_back<T: Ranked, S: BuildHasher>(
 }
 
 /// Inserts two items, one after the other, and says whether both went in: they do where nothing conflicts and there is
-/// room.
+/// room. Refused, one of them may be in still, and the reason for the other is known.
 pub fn insert_both<T: Ranked + Drop, S: BuildHasher>(map: &mut TriHashMap<T, S>, a: T, b: T) -> bool
     ensures both { OnTrue result (GainsBoth (bag map.old) a b (bag map.new)) }
+    // Else none of them went in, or b alone, or a alone.
+    ensures refused { OnFalse result (((map.new ≡ map.old) × MayRefuse T.ranks map.old a × MayRefuse T.ranks map.old b)
+        ⊎ (Gains map.old b map.new × MayRefuse T.ranks map.old a)
+        ⊎ (Gains map.old a map.new × MayRefuse T.ranks map.new b)) }
+    ensures no_less_room { map.old.capacity ≤ map.new.capacity }
     ensures granted { clash T.ranks (bag map.old) a ≡ [] → clash T.ranks (a ∷ bag map.old) b ≡ []
         → 1 + length (bag map.old) < map.old.capacity → result ≡ true }
 {

@@ -1,10 +1,11 @@
 //! What a caller knows of a map after it wrote what an entry lends of one key.
-ghost use Rattle.std.specs.Prelude.{◌≡◌, ◌<◌, [], ◌∷◌, length, Some, None, IsOk, IsPermutation, OnOk, OnErr, IfErr};
+ghost use Rattle.std.specs.Prelude.{◌≡◌, ◌≢◌, ◌<◌, [], ◌∷◌, length, Some, None, IsOk, IsErrOf, IsPermutation, OnOk, OnErr};
 ghost use Rattle.iddqd_tri.specs.Bag.{IsOnly, differ, listing, swap};
 ghost use Rattle.iddqd_tri.specs.Map.{bag};
 ghost use Rattle.iddqd_tri.specs.Keys.{has1};
-ghost use Rattle.iddqd_tri.specs.Mismatch.{error_item};
+ghost use Rattle.iddqd_tri.specs.Mismatch.{HandsBack};
 
+use crate::entries::NotEntered;
 use iddqd_tri::{Entry, EntryError, Ranked, TriHashItem, TriHashItemMut, TriHashMap};
 use std::hash::{BuildHasher, Hash};
 
@@ -80,19 +81,25 @@ pub fn insert_held<'a, T: TriHashItem, S: BuildHasher>(
     key2: &'a T::K2,
     key3: &'a T::K3,
     item: T,
-) -> Result<(), EntryError<T>>
+) -> Result<(), NotEntered<T>>
     ensures gains { OnOk result (IsPermutation (bag map.new) (item ∷ bag map.old)) }
     ensures granted { listing (⟦<T as Ranked>⟧.key_tests key1.now key2.now key3.now) (bag map.old) ≡ []
         → differ (⟦<T as Ranked>⟧.key_tests key1.now key2.now key3.now) item ≡ None
         → length (bag map.old) < map.old.capacity → IsOk result }
     ensures unchanged { OnErr result (map.new ≡ map.old) }
-    ensures handed_back { IfErr result (λ e. error_item e ≡ item) }
+    ensures handed_back { (x : T) → IsErrOf result (NotEntered.Occupied x) → x ≡ item }
+    ensures occupied { (x : T) → IsErrOf result (NotEntered.Occupied x)
+        → listing (⟦<T as Ranked>⟧.key_tests key1.now key2.now key3.now) (bag map.old) ≢ [] }
+    ensures vacant { (e : EntryError T) → IsErrOf result (NotEntered.Refused e)
+        → listing (⟦<T as Ranked>⟧.key_tests key1.now key2.now key3.now) (bag map.old) ≡ [] }
+    ensures refused { (e : EntryError T) → IsErrOf result (NotEntered.Refused e)
+        → HandsBack ⟦<T as Ranked>⟧.ranks (⟦<T as Ranked>⟧.key_tests key1.now key2.now key3.now) map.old item e }
 {
     match map.entry(key1, key2, key3) {
         Entry::Vacant(v) => match v.insert_mut(item) {
             Ok(_held) => return Ok(()),
-            Err(e) => return Err(e),
+            Err(e) => return Err(NotEntered::Refused(e)),
         },
-        Entry::Occupied(_o) => return Err(EntryError::Key1(item)),
+        Entry::Occupied(_o) => return Err(NotEntered::Occupied(item)),
     }
 }

@@ -14,9 +14,13 @@ pub struct NotAdded<T> {
     pub reason: InsertReason,
 }
 
-/// So that `map_err` and `?` take a refusal.
+/// So that `map_err` and `?` take a refusal. It tells the item, and the reason.
 impl<T: Ranked, S: BuildHasher> From<InsertError<'_, T, S>> for NotAdded<T> {
-    ghost from_gives = { λ refusal e. e.item ≡ refusal.item };
+    ghost use Rattle.iddqd_store.specs.declared.error.InsertReason.{InsertReason};
+
+    ghost from_gives = { λ refusal e. (e.item ≡ refusal.item)
+        × (e.reason ≡ InsertReason.Duplicate → clash T.ranks (bag refusal.map.now) refusal.item ≢ [])
+        × (e.reason ≡ InsertReason.Memory → clash T.ranks (bag refusal.map.now) refusal.item ≡ []) };
 
     fn from(refusal: InsertError<'_, T, S>) -> NotAdded<T> {
         let reason = refusal.reason();
@@ -50,12 +54,15 @@ pub fn add<T: Ranked, S: BuildHasher>(
     }
 }
 
-/// The same by `From`, which tells the item alone: after a refusal nothing is known of the map.
+/// The same by `From`, which tells the item and the reason: after a refusal nothing is known of the map.
 pub fn add_by_from<T: Ranked, S: BuildHasher>(
     map: &mut TriHashMap<T, S>,
     item: T,
 ) -> Result<(), NotAdded<T>>
-    ensures { IfErr result (λ e. e.item ≡ item) }
+    ensures went_in { OnOk result (IsPermutation (bag map.new) (item ∷ bag map.old)) }
+    ensures taken { IfErr result (λ e. e.reason ≡ InsertReason.Duplicate → clash T.ranks (bag map.old) item ≢ []) }
+    ensures full { IfErr result (λ e. e.reason ≡ InsertReason.Memory → IsFullFor T.ranks map.old item) }
+    ensures handed_back { IfErr result (λ e. e.item ≡ item) }
 {
     match map.insert_unique(item) {
         Ok(()) => Ok(()),
@@ -63,12 +70,14 @@ pub fn add_by_from<T: Ranked, S: BuildHasher>(
     }
 }
 
-/// The same by `map_err` and `?`.
+/// The same by `map_err` and `?`, after which nothing is known of the map.
 pub fn add_by_map_err<T: Ranked, S: BuildHasher>(
     map: &mut TriHashMap<T, S>,
     item: T,
 ) -> Result<(), NotAdded<T>>
-    ensures { IfErr result (λ e. e.item ≡ item) }
+    ensures taken { IfErr result (λ e. e.reason ≡ InsertReason.Duplicate → clash T.ranks (bag map.old) item ≢ []) }
+    ensures full { IfErr result (λ e. e.reason ≡ InsertReason.Memory → IsFullFor T.ranks map.old item) }
+    ensures handed_back { IfErr result (λ e. e.item ≡ item) }
 {
     map.insert_unique(item).map_err(NotAdded::from)?;
     Ok(())

@@ -1,10 +1,11 @@
-use Rattle.std.specs.Prelude.{◌≡◌, [], ◌∷◌, length, nat_eq}
+use Rattle.std.specs.Prelude.{◌≡◌, [], ◌∷◌, length, nat_eq, take}
 use Rattle.std.specs.Vec.Iter.{into_iter_items}
-use Rattle.std.proofs.Common.{rules}
+use Rattle.std.proofs.Common.{ap, rules, ◌∙◌}
+use Rattle.std.proofs.Math.Seq.{take-append_seam}
 use Rattle.iddqd_bi.specs.Bag.{Ranks}
 use Rattle.iddqd_bi.specs.Map.{bag}
 use Rattle.iddqd_bi.specs.Rank.{agree}
-use Rattle.iddqd_bi.proofs.CallerLemmas.Batches.{batch-index, batch-inserted, batch-refused, batch-split}
+use Rattle.iddqd_bi.proofs.CallerLemmas.Batches.{batch-index, batch-inserted, batch-split}
 use Rattle.example_calls.specs.declared.batch.Record.{Record}
 use Rattle.example_calls.proofs.batch.load.Goals as goal
 
@@ -26,9 +27,12 @@ returns-in-Err-clause-which c =
     let same : c.len.result ≡ length refused.taken.items = search rules in
     rw same (batch-index c.args.batch.items refused.taken.items (into_iter_items came.2) refused.value split)
 
--- those can all go in, and something conflicts with it exactly if that is the reason
+-- as many stand in front of it, which can all go in, and something conflicts with it exactly if that is the reason
 pub returns-in-Err-clause-why : goal.returns-in-Err-clause-why
 returns-in-Err-clause-why c =
     let refused = c.in-Err.refused in
     let came = c.in-Err.ensures.refused in
-    batch-refused by (bag c.args.records.now) c.args.batch.items came.0 came.3.0 refused.value refused.reason refused.taken.items came.1 came.2 came.4 came.5 c.in-Err.ensures.reason.apart c.in-Err.ensures.reason.reason
+    let split = batch-split by (bag c.args.records.now) c.args.batch.items came.0 came.3.0 refused.value refused.taken.items came.1 came.2 came.4 came.5 in
+    let same : c.len.result ≡ length refused.taken.items = search rules in
+    let front : take (length refused.taken.items) c.args.batch.items ≡ refused.taken.items = ap (λ l. take (length refused.taken.items) l) split ∙ take-append_seam refused.taken.items (refused.value ∷ into_iter_items came.2) in
+    rw (same, front) c.in-Err.ensures.reason

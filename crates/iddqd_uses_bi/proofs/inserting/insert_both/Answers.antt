@@ -1,8 +1,7 @@
 use Rattle.std.proofs.Common.{rules, ◌≡◌, ◌≢◌, ◌<◌, ◌⊎◌, inl, inr, ◌∷◌, [], length, List, ℕ, Bool, true, false, refl, arith}
-use Rattle.std.specs.Prelude.{IsPermutation}
 use Rattle.std.specs.Bool.{OnFalse}
 use Rattle.std.proofs.lemmas.List.Sorted.{IsPermutation-sym, length_permutation}
-use Rattle.iddqd_bi.specs.Map.{bag}
+use Rattle.iddqd_bi.specs.Map.{Gains, bag}
 use Rattle.iddqd_bi.proofs.CallerLemmas.{clash-none}
 use Rattle.iddqd_uses_bi.proofs.inserting.insert_both.Goals as goal
 
@@ -16,8 +15,8 @@ granted false met held room (inr full) free fits = absurd (omega (arith, full, f
 pub returns-then-first-clause-granted : goal.returns-then-first-clause-granted
 returns-then-first-clause-granted g c free_a free_b room =
     let middle = c.insert_or_drop-first.new.map in
-    let went_in : IsPermutation (bag middle) (c.args.a ∷ bag c.args.map.now) = search (rules, c.insert_or_drop-first.ensures.went_in, c.if-first.true) in
-    let as_many : length (c.args.a ∷ bag c.args.map.now) ≡ length (bag middle) = length_permutation _ _ went_in in
+    let gains : Gains c.args.map.now c.args.a middle = search (rules, c.insert_or_drop-first.ensures.gains, c.if-first.true) in
+    let as_many : length (c.args.a ∷ bag c.args.map.now) ≡ length (bag middle) = length_permutation _ _ gains.items in
     granted c.insert_or_drop-second.result _ (length (bag middle)) middle.capacity c.insert_or_drop-second.ensures.reason
-    (clash-none g.T.Ranked.ranks _ _ c.args.b (IsPermutation-sym _ _ went_in) free_b)
+    (clash-none g.T.Ranked.ranks _ _ c.args.b (IsPermutation-sym _ _ gains.items) free_b)
     (omega (arith, as_many, room, c.insert_or_drop-first.ensures.no_less_room))

@@ -1,0 +1,18 @@
+use Rattle.std.proofs.Common.{rules, sym}
+use Rattle.std.proofs.lemmas.List.Sorted.{IsPermutation-refl}
+use Rattle.iddqd_tri.specs.Map.{bag}
+use Rattle.iddqd_uses_tri.proofs.entries.modify_and_take.Goals as goal
+
+-- where the keys find nothing, nothing is stored and nothing taken out
+pub returns-in-Vacant-clause-taken : goal.returns-in-Vacant-clause-taken
+returns-in-Vacant-clause-taken g c =
+    let asked = c.in-Vacant.ensures in
+    let v = c.in-Vacant._v in
+    rw (c.map-1.given.1 (sym asked.same_map), ← asked.unchanged, ← asked.keys.key1, ← asked.keys.key2, ← asked.keys.key3) (bag v.map.now, rw v.vacant (IsPermutation-refl (bag v.map.now)), rw v.vacant (search rules), search rules)
+
+-- what the entry found stays found as it is written, so that it is this that is taken out
+pub returns-in-Occupied-clause-taken : goal.returns-in-Occupied-clause-taken
+returns-in-Occupied-clause-taken g c =
+    let asked = c.in-Occupied.ensures in
+    let stored = c.for_each.ensures in
+    (bag c.for_each.new.self.map.now, rw (← asked.unchanged, ← asked.keys.key1, ← asked.keys.key2, ← asked.keys.key3) stored.stores, rw (← asked.keys.key1, ← asked.keys.key2, ← asked.keys.key3, ← stored.places.key1, ← stored.places.key2, ← stored.places.key3) (search rules), search rules)
