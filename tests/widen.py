@@ -68,7 +68,8 @@ def unfolded(text):
 
 def third(one, two, in_list=False):
     """The words at the third rank, by those at the first and the second; or None where these are not alike or of no rank.
-    Parts that follow each other, as `at.0, at.1`, may be any two of what is known, and are of a rank only in a list."""
+    Parts that follow each other, as `at.0, at.1`, may be any two of what is known. They are of a rank only in a list, or
+    where a call is handed what other calls answer of them."""
     found, of_rank = [], False
     for (_, word), (space, like) in zip(one, two):
         if word != like:
@@ -133,7 +134,8 @@ class Pieces:
             if middle <= at or after > end or not (matches(self.words, middle, between) and self.is_edge(after)):
                 continue
             one, two = self.words[at:middle], self.words[begin:after]
-            three = third(one, two, between == ("∷",))
+            is_call = between == (",",) and one[-1][1] == ")"
+            three = third(one, two, between == ("∷",) or is_call)
             if three and is_balanced(one) and (between or two[0][0]) and any(word.isalpha() for _, word in one):
                 there = matches(self.words, after, [*between, *(word for _, word in three)])
                 return None if there else (self.words[middle:begin], three)

@@ -280,7 +280,7 @@ impl<T: TriHashItem, S: BuildHasher> TriHashMap<T, S> {
         let mut taken = UpToThree::new();
         for at in 0..found.len() {
             if let Some(ix) = found.get(at) {
-                taken.push(self.take(*ix, by.0.hash_at(*ix), by.1.hash_at(*ix)));
+                taken.push(self.take(*ix, by.0.hash_at(*ix), by.1.hash_at(*ix), by.2.hash_at(*ix)));
             }
         }
         taken

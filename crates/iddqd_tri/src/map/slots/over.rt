@@ -35,7 +35,7 @@ impl<T: TriHashItem, S: BuildHasher> TriHashMap<T, S> {
         ensures puts_at { PutsAt ⟦<T as Ranked>⟧.ranks self.old result.1 item
             (over ⟦<T as Ranked>⟧.ranks (bag self.old) item) self.new }
     {
-        let mut found = each_once(by.0.slot(), by.1.slot());
+        let mut found = each_once(by.0.slot(), by.1.slot(), by.2.slot());
         let Some(ix) = found.pop_front() else {
             unreachable!()
         };
