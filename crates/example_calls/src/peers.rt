@@ -42,7 +42,7 @@ impl BiHashItem for Session {
 impl BiHashItemMut for Session {
     type Data = u64;
 
-    ghost payload = { λ s. s.seen };
+    ghost data_of = { λ s. s.seen };
 
     ghost put = { λ s t. record s { seen = t } };
 

@@ -42,7 +42,7 @@ impl BiHashItem for Card {
 impl BiHashItemMut for Card {
     type Data = LastUse;
 
-    ghost payload = { λ c. c.last };
+    ghost data_of = { λ c. c.last };
 
     ghost put = { λ c u. record c { last = u } };
 

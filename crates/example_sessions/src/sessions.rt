@@ -52,7 +52,7 @@ impl TriHashItem for Session {
 impl TriHashItemMut for Session {
     type Data = u64;
 
-    ghost payload = { λ s. s.seen };
+    ghost data_of = { λ s. s.seen };
 
     ghost put = { λ s t. record s { seen = t } };
 

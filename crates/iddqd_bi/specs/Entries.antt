@@ -40,15 +40,15 @@ module _ {T S : Type 0} where
 
 module _ {T S K1 K2 H : Type 0} where
   -- for each rank, whether an item has the entry's key
-  abbrev pub sought : (K1 → K2 → List (T → Bool)) → OccupiedEntry T S K1 K2 H → List (T → Bool)
-  sought tests o = tests o.key1.now o.key2.now
+  abbrev pub entry_tests : (K1 → K2 → List (T → Bool)) → OccupiedEntry T S K1 K2 H → List (T → Bool)
+  entry_tests tests o = tests o.key1.now o.key2.now
 
   -- the entry has found what its keys name, which is some item at least. `entry` ensures it
   pub record HasFound (tests : K1 → K2 → List (T → Bool)) (o : OccupiedEntry T S K1 K2 H) : Type 0 where
-    pub found : AreFound (sought tests o) o.map.now.slots (o.slot1 ∷ o.slot2 ∷ [])
-    pub value : entry_at o.map.now.slots (o.slot1 ∷ o.slot2 ∷ []) ≡ entry (sought tests o) (bag o.map.now)
-    pub listed : held_at o.map.now.slots (o.slot1 ∷ o.slot2 ∷ []) ≡ listing (sought tests o) (bag o.map.now)
-    pub some : listing (sought tests o) (bag o.map.now) ≢ []
+    pub found : AreFound (entry_tests tests o) o.map.now.slots (o.slot1 ∷ o.slot2 ∷ [])
+    pub value : entry_at o.map.now.slots (o.slot1 ∷ o.slot2 ∷ []) ≡ entry (entry_tests tests o) (bag o.map.now)
+    pub listed : held_at o.map.now.slots (o.slot1 ∷ o.slot2 ∷ []) ≡ listing (entry_tests tests o) (bag o.map.now)
+    pub some : listing (entry_tests tests o) (bag o.map.now) ≢ []
 
   -- the items that are held for writing are in the map. `into_mut` ensures it
   pub record Holds (m : OccupiedEntryMut T S K1 K2 H) : Type 0 where
@@ -72,7 +72,7 @@ module _ {T S K1 K2 H : Type 0} where
     pub same_map : after.map.ghost_name ≡ before.map.ghost_name
     pub items : IsPermutation (bag after.map.now) (over ranks (bag before.map.now) item)
     pub has_found : HasFound tests after
-    pub unique : entry (sought tests after) (bag after.map.now) ≡ unique item
+    pub unique : entry (entry_tests tests after) (bag after.map.now) ≡ unique item
     pub keys : (after.key1 ≡ before.key1) × (after.key2 ≡ before.key2)
     pub capacity : after.map.now.capacity ≡ before.map.now.capacity
     pub builder : after.map.now.builder ≡ before.map.now.builder
@@ -112,8 +112,8 @@ module _ {T S K1 K2 H : Type 0} where
   -- what is held for writing is what the entry found
   pub record HoldsFound (of : item.Ghosts T K1 K2) (eq1 : K1 → K1 → Bool) (eq2 : K2 → K2 → Bool) (o : OccupiedEntry T S K1 K2 H) (m : OccupiedEntryMut T S K1 K2 H) : Type 0 where
     pub holds : Holds m
-    pub listed : held m ≡ listing (sought (key_tests of eq1 eq2) o) (bag o.map.now)
-    pub value : held_entry m ≡ entry (sought (key_tests of eq1 eq2) o) (bag o.map.now)
+    pub listed : held m ≡ listing (entry_tests (key_tests of eq1 eq2) o) (bag o.map.now)
+    pub value : held_entry m ≡ entry (entry_tests (key_tests of eq1 eq2) o) (bag o.map.now)
     pub by_key1 : IsOnly (has1 of eq1 o.key1.now) (bag o.map.now) (held1 m)
     pub by_key2 : IsOnly (has2 of eq2 o.key2.now) (bag o.map.now) (held2 m)
 
@@ -226,7 +226,7 @@ module _ {T S K1 K2 H : Type 0} {of : item.Ghosts T K1 K2} {eq1 : equal.Ghosts K
     pub gains : Gains e.map.now x o.map.now
     pub keys : (o.key1 ≡ e.keys.key1) × (o.key2 ≡ e.keys.key2)
     pub has_found : HasFound tests o
-    pub unique : entry (sought tests o) (bag o.map.now) ≡ unique x
+    pub unique : entry (entry_tests tests o) (bag o.map.now) ≡ unique x
 
 module _ (T S K1 K2 H : RattleType) {of : item.Ghosts T.Denot K1.Denot K2.Denot} {eq1 : equal.Ghosts K1.Denot} {input1 : hash.Ghosts K1.Denot} {eq2 : equal.Ghosts K2.Denot} {input2 : hash.Ghosts K2.Denot} {build : builder.Ghosts S.Denot H.Denot} {hashes : hasher.Ghosts H.Denot} where
   -- where no item is lent, the map stays

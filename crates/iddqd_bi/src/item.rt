@@ -31,14 +31,14 @@ pub trait BiHashItemMut: BiHashItem {
     type Data;
 
     // The data of an item.
-    ghost payload: { Self → Self.Data };
+    ghost data_of: { Self → Self.Data };
 
     // The item with other data.
     ghost put: { Self → Self.Data → Self };
 
     /// The data, for writing.
     fn data_mut(&mut self) -> &mut Self::Data
-        ensures value { result.now ≡ payload self.old }
+        ensures value { result.now ≡ data_of self.old }
         ensures* writes_back { sem 𝓛 (Lends Self.row Self.Data.row self.entry result (put self.old)) };
 
     // Each key of the item with other data equals its own.
@@ -46,7 +46,7 @@ pub trait BiHashItemMut: BiHashItem {
 
     ghost keeps_key2: { (x : Self) (d : Self.Data) → Self.K2.eq (Self.key2 (put x d)) (Self.key2 x) ≡ true };
 
-    ghost put_shows: { (x : Self) (d : Self.Data) → payload (put x d) ≡ d };
+    ghost put_shows: { (x : Self) (d : Self.Data) → data_of (put x d) ≡ d };
 }
 
 /// What contracts say of all keys of an item. Each item has it, and none writes it.

@@ -82,7 +82,7 @@ impl<T: BiHashItem, A: Allocator> BiHashItem for Rc<T, A> {
 impl<T: BiHashItemMut> BiHashItemMut for &mut T {
     type Data = T::Data;
 
-    ghost payload = { λ r. T.payload r.now };
+    ghost data_of = { λ r. T.data_of r.now };
 
     ghost put = { λ r d. at_last r (T.put r.now d) };
 
@@ -100,7 +100,7 @@ impl<T: BiHashItemMut> BiHashItemMut for &mut T {
 impl<T: BiHashItemMut, A: Allocator> BiHashItemMut for Box<T, A> {
     type Data = T::Data;
 
-    ghost payload = { λ b. T.payload b.value };
+    ghost data_of = { λ b. T.data_of b.value };
 
     ghost put = { λ b d. with_value b (T.put b.value d) };
 

@@ -71,7 +71,7 @@ impl BiHashItem for Item {
 impl BiHashItemMut for Item {
     type Data = u64;
 
-    ghost payload = { λ item. item.value };
+    ghost data_of = { λ item. item.value };
 
     ghost put = { λ item value. record item { value = value } };
 
@@ -115,7 +115,7 @@ impl TriHashItem for Item {
 impl TriHashItemMut for Item {
     type Data = u64;
 
-    ghost payload = { λ item. item.value };
+    ghost data_of = { λ item. item.value };
 
     ghost put = { λ item value. record item { value = value } };
 

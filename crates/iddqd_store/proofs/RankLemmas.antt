@@ -8,4 +8,4 @@ pub mod Invariant
 pub mod Looks
 pub mod Rehashed
 pub mod Search
-pub mod Sought
+pub mod Under

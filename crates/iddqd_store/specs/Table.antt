@@ -7,7 +7,7 @@ pub mod Search
 use Rattle.std.specs.Prelude.{ℕ, ◌+◌, ◌*◌, ◌/◌, ◌%◌, ◌^◌, ◌≡◌, ◌<◌, ◌≤◌, ◌==◌, Bool, List, ◌∷◌, Option, None, ◌≢◌, length, map, IfNone, OnSome}
 use Rattle.std.specs.List.Sorted.{IsPermutation}
 use Rattle.iddqd_store.specs.Table.Limit.{IsSize}
-use Rattle.iddqd_store.specs.Table.Ring.{held, cell, gap, stretch, IsReached}
+use Rattle.iddqd_store.specs.Table.Ring.{pairs_in, cell, gap, stretch, IsReached}
 
 -- the hashes of the pairs
 abbrev pub hashes : List (ℕ × ℕ) → List ℕ
@@ -38,7 +38,7 @@ pub record MovesPair (old new : List (ℕ × ℕ)) (before after index : ℕ) : 
 -- each pair is found from its home on, and an eighth of the cells is empty
 pub record IsTable (row : List (Option (ℕ × ℕ))) : Type 0 where
   pub size : IsSize (length row)
-  pub fits : length (held row) ≤ length row / 8 * 7
+  pub fits : length (pairs_in row) ≤ length row / 8 * 7
   pub reached : IsReached (λ p. p.0 % length row) (length row) row
 
 -- a cell is the first empty one from a home on
@@ -70,4 +70,4 @@ pub record Table : Type 0 where
   pub row : List (Option (ℕ × ℕ))
 
 abbrev pub table_of : List (Option (ℕ × ℕ)) → Table
-table_of row = record { pairs = held row; limit = length row / 8 * 7; row = row }
+table_of row = record { pairs = pairs_in row; limit = length row / 8 * 7; row = row }

@@ -2,7 +2,7 @@
 ghost use Rattle.std.specs.Prelude.{◌≡◌, ◌≢◌, ◌+◌, ◌*◌, ◌/◌, ◌∷◌, ◌<◌, ◌≤◌, ◌&&◌, [], length, IsSome, IsOk, IsErr, ◌↔◌, IfOk, OnErr, IfErr, Contains};
 ghost use Rattle.std.specs.List.Sorted.{IsPermutation};
 ghost use Rattle.std.specs.Result.{result_ok};
-ghost use Rattle.iddqd_store.specs.Table.Ring.{cell, held, stretch, IsFull};
+ghost use Rattle.iddqd_store.specs.Table.Ring.{cell, pairs_in, stretch, IsFull};
 ghost use Rattle.iddqd_store.specs.Table.Limit.{IsLeast, IsSize, most_room};
 ghost use Rattle.iddqd_store.specs.Table.Room.{GrowsFor, IsSized};
 ghost use Rattle.iddqd_store.specs.Table.Search.{CostsUnder, FindsUnder, IsVacantUnder};
@@ -35,7 +35,7 @@ pub use vacancy::Vacancy;
 ///
 /// A cell is looked at by one call alone, which ticks the meter that it is handed, and `clone` copies the cells whole.
 /// Here `try_reserve` alone makes a meter of its own. In other files `forget`, `rehash`, `fill`, `search` and the maps'
-/// `put` do: no clause of theirs speaks of looks. The script `tests/forms` lists all that make one.
+/// `insert_at` do: no clause of theirs speaks of looks. The script `tests/forms` lists all that make one.
 #[derive(Drop)]
 pub struct IndexTable {
     alloc: Global,
@@ -48,7 +48,7 @@ impl Model for IndexTable {
 
     ghost view = { λ t. table_of t.cells };
 
-    ghost invariant = { λ t. IsTable t.cells × (t.count ≡ length (held t.cells)) };
+    ghost invariant = { λ t. IsTable t.cells × (t.count ≡ length (pairs_in t.cells)) };
 }
 
 // A table of so many empty cells.
@@ -71,8 +71,8 @@ fn regrown(
     meter: &mut Meter,
 ) -> Result<IndexTable, TryReserveError>
     requires size { IsSize count }
-    requires fits { length (held cells.now) ≤ count / 8 * 7 }
-    ensures pairs { IfOk result (λ t. IsPermutation (held cells.now) t.pairs) }
+    requires fits { length (pairs_in cells.now) ≤ count / 8 * 7 }
+    ensures pairs { IfOk result (λ t. IsPermutation (pairs_in cells.now) t.pairs) }
     ensures limit { IfOk result (λ t. t.limit ≡ count / 8 * 7) }
 {
     let mut grown = with_cells(alloc, count)?;
@@ -248,7 +248,7 @@ impl IndexTable {
             ≤ length self.old.pairs }
     {
         let at = probe::first_empty(&self.cells, hash, meter);
-        self.cells.put(at, hash, ix);
+        self.cells.write(at, hash, ix);
         self.count += 1;
     }
 
@@ -271,7 +271,7 @@ impl IndexTable {
             self.insert_reserved(spot.hash(), ix, meter);
             return;
         }
-        self.cells.put(spot.at(), spot.hash(), ix);
+        self.cells.write(spot.at(), spot.hash(), ix);
         self.count += 1;
     }
 

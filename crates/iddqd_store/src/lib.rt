@@ -18,6 +18,6 @@ pub use error::{
 pub use index_table::{IndexTable, KeyMatcher, Matcher, Meter, Vacancy};
 pub use item_set::{Cursor, Entered, IntoIter, ItemIndex, ItemSet, Iter};
 pub use query::Query;
-pub use rank::{ByQuery, HashedKey, KeyOf, Lookup, Sought};
+pub use rank::{ByQuery, HashedKey, KeyOf, Lookup, SlotUnder};
 pub use reply::MapReply;
 pub use short_list::{ShortIntoIter, ShortIter, ShortList, UpToThree, UpToTwo};

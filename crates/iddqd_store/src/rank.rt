@@ -7,11 +7,11 @@ use std::hash::{BuildHasher, Hash};
 mod lookup;
 mod matchers;
 mod pairs;
-mod sought;
+mod slot_under;
 
 pub use lookup::Lookup;
 pub use matchers::ByQuery;
-pub use sought::Sought;
+pub use slot_under::SlotUnder;
 
 /// One of the keys of an item. A type stands for the rank.
 pub trait KeyOf<T> {

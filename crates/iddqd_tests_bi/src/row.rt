@@ -34,7 +34,7 @@ impl BiHashItem for Row {
 impl BiHashItemMut for Row {
     type Data = u64;
 
-    ghost payload = { λ x. x.value };
+    ghost data_of = { λ x. x.value };
 
     ghost put = { with_value };
 

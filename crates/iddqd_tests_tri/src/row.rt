@@ -43,7 +43,7 @@ impl TriHashItem for Row {
 impl TriHashItemMut for Row {
     type Data = u64;
 
-    ghost payload = { λ x. x.value };
+    ghost data_of = { λ x. x.value };
 
     ghost put = { with_value };
 

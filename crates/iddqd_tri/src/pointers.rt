@@ -114,7 +114,7 @@ impl<T: TriHashItem, A: Allocator> TriHashItem for Rc<T, A> {
 impl<T: TriHashItemMut> TriHashItemMut for &mut T {
     type Data = T::Data;
 
-    ghost payload = { λ r. T.payload r.now };
+    ghost data_of = { λ r. T.data_of r.now };
 
     ghost put = { λ r d. at_last r (T.put r.now d) };
 
@@ -134,7 +134,7 @@ impl<T: TriHashItemMut> TriHashItemMut for &mut T {
 impl<T: TriHashItemMut, A: Allocator> TriHashItemMut for Box<T, A> {
     type Data = T::Data;
 
-    ghost payload = { λ b. T.payload b.value };
+    ghost data_of = { λ b. T.data_of b.value };
 
     ghost put = { λ b d. with_value b (T.put b.value d) };
 

@@ -39,7 +39,7 @@ impl BiHashItem for Symbol {
 impl BiHashItemMut for Symbol {
     type Data = u64;
 
-    ghost payload = { λ s. s.size };
+    ghost data_of = { λ s. s.size };
 
     ghost put = { λ s n. record s { size = n } };
 

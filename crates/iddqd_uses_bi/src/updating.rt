@@ -38,7 +38,7 @@ impl BiHashItem for File {
 impl BiHashItemMut for File {
     type Data = u64;
 
-    ghost payload = { λ f. f.opened };
+    ghost data_of = { λ f. f.opened };
 
     ghost put = { λ f n. record f { opened = n } };
 

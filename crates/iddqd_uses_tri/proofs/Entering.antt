@@ -12,7 +12,7 @@ use Rattle.iddqd_tri.specs.Found.{found_by_all}
 use Rattle.iddqd_tri.specs.Storing.{Stores}
 use Rattle.iddqd_tri.specs.Map.{Map, bag}
 use Rattle.iddqd_tri.specs.Keys.{key_tests}
-use Rattle.iddqd_tri.specs.Entries.{HasFound, HoldsFound, IsFound, KeepsFound, OnVacant, OnOccupied, PutsIn, entry_key1, entry_key2, entry_key3, entry_map, held_entry, held_unique, sought}
+use Rattle.iddqd_tri.specs.Entries.{HasFound, HoldsFound, IsFound, KeepsFound, OnVacant, OnOccupied, PutsIn, entry_key1, entry_key2, entry_key3, entry_map, held_entry, held_unique, entry_tests}
 use Rattle.iddqd_tri.specs.declared.item.TriHashItem as item
 use Rattle.iddqd_tri.specs.declared.entry.keys.Keys as pair
 use Rattle.iddqd_tri.specs.declared.entry.Entry.{Entry}
@@ -38,12 +38,12 @@ module _ {T S K1 K2 K3 H : Type 0} (of : item.Ghosts T K1 K2 K3) (eq1 : K1 → K
       found ≡ held_unique m → is_some found ≡ true → IfSome found (λ y. IsPermutation new (swap by (bag m.map.now) y (write y))) →
       InsertsOrWrites by write (bag old) x (bags.entry (key_tests of eq1 eq2 eq3 k1 k2 k3) (bag old)) new
   writes_occupied by write o m x k1 k2 k3 old new found has holds same is1 is2 is3 is item some swaps =
-      rw (← is1, ← is2, ← is3, ← is) (writes_found (bag o.map.now) x by write (listing (sought (key_tests of eq1 eq2 eq3) o) (bag o.map.now)) _ (bag m.map.now) new (held_entry m) found (held_unique m) has.some (ap (λ (n : Map T S). bag n) same) holds.value (unique_held m) (none_held m) item some swaps)
+      rw (← is1, ← is2, ← is3, ← is) (writes_found (bag o.map.now) x by write (listing (entry_tests (key_tests of eq1 eq2 eq3) o) (bag o.map.now)) _ (bag m.map.now) new (held_entry m) found (held_unique m) has.some (ap (λ (n : Map T S). bag n) same) holds.value (unique_held m) (none_held m) item some swaps)
 
 module _ {T S Q K1 K2 K3 H : Type 0} {of : item.Ghosts T K1 K2 K3} {eq1 : equal.Ghosts K1} {input1 : hash.Ghosts K1} {eq2 : equal.Ghosts K2} {input2 : hash.Ghosts K2} {eq3 : equal.Ghosts K3} {input3 : hash.Ghosts K3} {build : builder.Ghosts S H} {hashes : hasher.Ghosts H} {q : pair.Ghosts Q K1 K2 K3} where
   -- what is stored in an entry's items is stored in those that its keys name
   pub stores_named : {F D : Type 0} (step : F → T → D → F → Type 0) (put : T → D → T) (by : Ranks T) (f : F) (e r : Entry T S Q K1 K2 K3 H of eq1 input1 eq2 input2 eq3 input3 build hashes q) (k1 : K1) (k2 : K2) (k3 : K3) (m : Map T S) →
-      OnVacant e (λ v. r ≡ e) → OnOccupied e (λ o. Stores step put by f (listing (sought (key_tests of eq1.eq eq2.eq eq3.eq) o) (bag o.map.now)) (bag o.map.now) (bag (entry_map r))) →
+      OnVacant e (λ v. r ≡ e) → OnOccupied e (λ o. Stores step put by f (listing (entry_tests (key_tests of eq1.eq eq2.eq eq3.eq) o) (bag o.map.now)) (bag o.map.now) (bag (entry_map r))) →
       entry_key1 e ≡ k1 → entry_key2 e ≡ k2 → entry_key3 e ≡ k3 → entry_map e ≡ m →
       Stores step put by f (listing (key_tests of eq1.eq eq2.eq eq3.eq k1 k2 k3) (bag m)) (bag m) (bag (entry_map r))
   stores_named step put by f (Vacant v) r k1 k2 k3 m stays stored is1 is2 is3 is =
@@ -58,4 +58,4 @@ module _ {T S Q K1 K2 K3 H : Type 0} {of : item.Ghosts T K1 K2 K3} {eq1 : equal.
   entered (Vacant v) m x k1 k2 k3 old put kept found is1 is2 is3 is =
       rw (← is1, ← is2, ← is3, ← is, v.vacant) (put.gains_and_holds.gains.items, put.gains_and_holds.unique)
   entered (Occupied o) m x k1 k2 k3 old put kept found is1 is2 is3 is =
-      rw (← is1, ← is2, ← is3, ← is) (occupied_as (bag o.map.now) x (listing (sought (key_tests of eq1.eq eq2.eq eq3.eq) o) (bag o.map.now)) _ (bag m.map.now) (held_entry m) found.some (ap (λ (n : Map T S). bag n) kept.unchanged) (kept.holds found).value)
+      rw (← is1, ← is2, ← is3, ← is) (occupied_as (bag o.map.now) x (listing (entry_tests (key_tests of eq1.eq eq2.eq eq3.eq) o) (bag o.map.now)) _ (bag m.map.now) (held_entry m) found.some (ap (λ (n : Map T S). bag n) kept.unchanged) (kept.holds found).value)

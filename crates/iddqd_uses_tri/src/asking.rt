@@ -48,7 +48,7 @@ impl TriHashItem for Symbol {
 impl TriHashItemMut for Symbol {
     type Data = u64;
 
-    ghost payload = { λ s. s.size };
+    ghost data_of = { λ s. s.size };
 
     ghost put = { λ s n. record s { size = n } };
 

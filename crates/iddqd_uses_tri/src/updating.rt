@@ -47,7 +47,7 @@ impl TriHashItem for File {
 impl TriHashItemMut for File {
     type Data = u64;
 
-    ghost payload = { λ f. f.opened };
+    ghost data_of = { λ f. f.opened };
 
     ghost put = { λ f n. record f { opened = n } };
 

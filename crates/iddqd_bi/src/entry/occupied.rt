@@ -6,7 +6,7 @@ ghost use Rattle.std.specs.Fn.{CalledAt};
 ghost use Rattle.iddqd_store.specs.Bag.{IsOnly, differ, entry, is_unique, listing, swap};
 ghost use Rattle.iddqd_store.specs.Bag.Storing.{Stores};
 ghost use Rattle.iddqd_store.specs.Map.{bag, Loses};
-ghost use Rattle.iddqd_bi.specs.Entries.{FindsSame, HasFound, HoldsFound, PutsOver, entry_with1, entry_with2, sought, lends_data1, lends_data2, lends_held};
+ghost use Rattle.iddqd_bi.specs.Entries.{FindsSame, HasFound, HoldsFound, PutsOver, entry_with1, entry_with2, entry_tests, lends_data1, lends_data2, lends_held};
 ghost use Rattle.iddqd_bi.specs.Keys.{has1, has2};
 ghost use Rattle.iddqd_bi.specs.Mismatch.{mismatch_item, mismatch_rank};
 ghost use Rattle.iddqd_bi.specs.OccupiedRefs.{is_one, seen1, seen2};
@@ -16,14 +16,14 @@ use crate::error::KeyMismatch;
 use crate::item::{BiHashItem, BiHashItemMut, Ranked};
 use crate::map::BiHashMap;
 use crate::map::slots::found::{differ, each_once, one_of};
-use iddqd_store::{Sought, UpToTwo};
+use iddqd_store::{SlotUnder, UpToTwo};
 use std::hash::{BuildHasher, Hash};
 
 impl<'a, T: BiHashItem, S: BuildHasher> OccupiedEntry<'a, T, S> {
     /// Whether one item has both keys.
     pub fn is_unique(&self) -> bool
         requires { HasFound ⟦<T as Ranked>⟧.key_tests self.now }
-        ensures { result ≡ is_unique (entry (sought ⟦<T as Ranked>⟧.key_tests self.now) (bag self.now.map.now)) }
+        ensures { result ≡ is_unique (entry (entry_tests ⟦<T as Ranked>⟧.key_tests self.now) (bag self.now.map.now)) }
     {
         one_of(self.slot1, self.slot2).is_some()
     }
@@ -32,7 +32,7 @@ impl<'a, T: BiHashItem, S: BuildHasher> OccupiedEntry<'a, T, S> {
     pub fn is_non_unique(&self) -> bool
         requires { HasFound ⟦<T as Ranked>⟧.key_tests self.now }
         ensures { result
-            ≡ not (is_unique (entry (sought ⟦<T as Ranked>⟧.key_tests self.now) (bag self.now.map.now))) }
+            ≡ not (is_unique (entry (entry_tests ⟦<T as Ranked>⟧.key_tests self.now) (bag self.now.map.now))) }
     {
         !self.is_unique()
     }
@@ -41,7 +41,7 @@ impl<'a, T: BiHashItem, S: BuildHasher> OccupiedEntry<'a, T, S> {
     pub fn get(&self) -> OccupiedEntryRef<'_, T>
         requires { HasFound ⟦<T as Ranked>⟧.key_tests self.now }
         ensures is_one { is_one result
-            ≡ is_unique (entry (sought ⟦<T as Ranked>⟧.key_tests self.now) (bag self.now.map.now)) }
+            ≡ is_unique (entry (entry_tests ⟦<T as Ranked>⟧.key_tests self.now) (bag self.now.map.now)) }
         ensures by_key1 { IsOnly (has1 T.BiHashItem T.K1.eq self.now.key1.now) (bag self.now.map.now) (seen1 result) }
         ensures by_key2 { IsOnly (has2 T.BiHashItem T.K2.eq self.now.key2.now) (bag self.now.map.now) (seen2 result) }
     {
@@ -55,7 +55,7 @@ impl<'a, T: BiHashItem, S: BuildHasher> OccupiedEntry<'a, T, S> {
     pub fn into_ref(self) -> OccupiedEntryRef<'a, T>
         requires { HasFound ⟦<T as Ranked>⟧.key_tests self }
         ensures is_one { is_one result
-            ≡ is_unique (entry (sought ⟦<T as Ranked>⟧.key_tests self.entry) (bag self.entry.map.now)) }
+            ≡ is_unique (entry (entry_tests ⟦<T as Ranked>⟧.key_tests self.entry) (bag self.entry.map.now)) }
         ensures by_key1 { IsOnly (has1 T.BiHashItem T.K1.eq self.entry.key1.now) (bag self.entry.map.now)
             (seen1 result) }
         ensures by_key2 { IsOnly (has2 T.BiHashItem T.K2.eq self.entry.key2.now) (bag self.entry.map.now)
@@ -117,23 +117,23 @@ impl<'a, T: BiHashItem, S: BuildHasher> OccupiedEntry<'a, T, S> {
     pub fn insert(&mut self, item: T) -> Result<UpToTwo<T>, KeyMismatch<T>>
         requires { HasFound ⟦<T as Ranked>⟧.key_tests self.old }
         // It goes in only with the keys that the entry has. What these found comes back, in their order.
-        ensures same_keys { OnOk result (differ (sought ⟦<T as Ranked>⟧.key_tests self.old) item ≡ None) }
+        ensures same_keys { OnOk result (differ (entry_tests ⟦<T as Ranked>⟧.key_tests self.old) item ≡ None) }
         ensures displaced { IfOk result (λ gone. gone
-            ≡ listing (sought ⟦<T as Ranked>⟧.key_tests self.old) (bag self.old.map.now)) }
+            ≡ listing (entry_tests ⟦<T as Ranked>⟧.key_tests self.old) (bag self.old.map.now)) }
         // The entry has found the item now.
         ensures puts_over { OnOk result
             (PutsOver ⟦<T as Ranked>⟧.ranks ⟦<T as Ranked>⟧.key_tests self.old item self.new) }
         // With another key it comes back, and nothing changes.
         ensures handed_back { IfErr result (λ e. mismatch_item e ≡ item) }
         ensures rank { IfErr result (λ e.
-            differ (sought ⟦<T as Ranked>⟧.key_tests self.old) item ≡ Some (mismatch_rank e)) }
+            differ (entry_tests ⟦<T as Ranked>⟧.key_tests self.old) item ≡ Some (mismatch_rank e)) }
         ensures unchanged { OnErr result (self.new ≡ self.old) }
     {
         if let Some(rank) = differ(&item, self.key1, self.key2) {
             return Err(KeyMismatch::at(rank, item));
         }
-        let by1 = Sought::new(self.slot1, self.map.hash_of1(&item));
-        let by2 = Sought::new(self.slot2, self.map.hash_of2(&item));
+        let by1 = SlotUnder::new(self.slot1, self.map.hash_of1(&item));
+        let by2 = SlotUnder::new(self.slot2, self.map.hash_of2(&item));
         let (displaced, ix) = self.map.put_over(item, &(by1, by2));
         self.slot1 = Some(ix);
         self.slot2 = Some(ix);
@@ -145,7 +145,7 @@ impl<'a, T: BiHashItem, S: BuildHasher> OccupiedEntry<'a, T, S> {
     /// It compares no key.
     pub fn remove(self) -> UpToTwo<T>
         requires { HasFound ⟦<T as Ranked>⟧.key_tests self }
-        ensures taken { result ≡ listing (sought ⟦<T as Ranked>⟧.key_tests self.entry) (bag self.entry.map.now) }
+        ensures taken { result ≡ listing (entry_tests ⟦<T as Ranked>⟧.key_tests self.entry) (bag self.entry.map.now) }
         ensures loses { Loses self.entry.map.now result self.exit.0.now }
     {
         let OccupiedEntry {
@@ -155,7 +155,7 @@ impl<'a, T: BiHashItem, S: BuildHasher> OccupiedEntry<'a, T, S> {
             slot1,
             slot2,
         } = self;
-        let unknown = (Sought::nothing(), Sought::nothing());
+        let unknown = (SlotUnder::nothing(), SlotUnder::nothing());
         map.take_all(&each_once(slot1, slot2), &unknown)
     }
 }
@@ -165,7 +165,7 @@ impl<'a, T: BiHashItemMut, S: BuildHasher> OccupiedEntry<'a, T, S> {
     pub fn data1_mut(&mut self) -> Option<&mut T::Data>
         requires { HasFound ⟦<T as Ranked>⟧.key_tests self.old }
         ensures value { option_to_list (option_copied_mut result)
-            ≡ map T.payload (filter (has1 T.BiHashItem T.K1.eq self.old.key1.now) (bag self.old.map.now)) }
+            ≡ map T.data_of (filter (has1 T.BiHashItem T.K1.eq self.old.key1.now) (bag self.old.map.now)) }
         ensures swaps { (x : T) (d : T.Data)
             → IsOnly (has1 T.BiHashItem T.K1.eq self.old.key1.now) (bag self.old.map.now) (Some x)
             → IsPermutation (bag (entry_with1 self.old (λ y. T.put y d)).map.now)
@@ -174,14 +174,14 @@ impl<'a, T: BiHashItemMut, S: BuildHasher> OccupiedEntry<'a, T, S> {
             T.BiHashItem T.K1.Hash T.K2.Hash S.BuildHasher S.Hasher.Hasher T.Data.row T.put self.entry result) }
     {
         let slot1 = self.slot1;
-        self.map.data_of(slot1)
+        self.map.data_mut_of(slot1)
     }
 
     /// The data of the item with the second key, for writing.
     pub fn data2_mut(&mut self) -> Option<&mut T::Data>
         requires { HasFound ⟦<T as Ranked>⟧.key_tests self.old }
         ensures value { option_to_list (option_copied_mut result)
-            ≡ map T.payload (filter (has2 T.BiHashItem T.K2.eq self.old.key2.now) (bag self.old.map.now)) }
+            ≡ map T.data_of (filter (has2 T.BiHashItem T.K2.eq self.old.key2.now) (bag self.old.map.now)) }
         ensures swaps { (x : T) (d : T.Data)
             → IsOnly (has2 T.BiHashItem T.K2.eq self.old.key2.now) (bag self.old.map.now) (Some x)
             → IsPermutation (bag (entry_with2 self.old (λ y. T.put y d)).map.now)
@@ -190,7 +190,7 @@ impl<'a, T: BiHashItemMut, S: BuildHasher> OccupiedEntry<'a, T, S> {
             T.BiHashItem T.K1.Hash T.K2.Hash S.BuildHasher S.Hasher.Hasher T.Data.row T.put self.entry result) }
     {
         let slot2 = self.slot2;
-        self.map.data_of(slot2)
+        self.map.data_mut_of(slot2)
     }
 
     /// Stores what `f` answers at each item as its data, that of the first key first and each item once. What the entry
@@ -202,7 +202,7 @@ impl<'a, T: BiHashItemMut, S: BuildHasher> OccupiedEntry<'a, T, S> {
         requires callable { F.IsAlwaysCallable f }
         ensures same_map { self.new.map.ghost_name ≡ self.old.map.ghost_name }
         ensures stores { Stores (CalledAt F.FnMut) T.put ⟦<T as Ranked>⟧.ranks f
-            (listing (sought ⟦<T as Ranked>⟧.key_tests self.old) (bag self.old.map.now))
+            (listing (entry_tests ⟦<T as Ranked>⟧.key_tests self.old) (bag self.old.map.now))
             (bag self.old.map.now) (bag self.new.map.now) }
         ensures capacity { self.new.map.now.capacity ≡ self.old.map.now.capacity }
         ensures builder { self.new.map.now.builder ≡ self.old.map.now.builder }

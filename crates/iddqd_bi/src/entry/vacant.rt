@@ -33,7 +33,7 @@ impl<'a, T: Ranked, S: BuildHasher, Q: Keys<T::K1, T::K2>> VacantEntry<'a, T, S,
             self.entry.map result) }
     {
         let VacantEntry { map, keys, at } = self;
-        let slot = map.put_free(item, keys.first(), keys.second(), at)?;
+        let slot = map.insert_free(item, keys.first(), keys.second(), at)?;
         Ok(RefMut { map, slot })
     }
 
@@ -51,7 +51,7 @@ impl<'a, T: Ranked, S: BuildHasher, Q: Keys<T::K1, T::K2>> VacantEntry<'a, T, S,
             T.BiHashItem T.K1.Hash T.K2.Hash S.BuildHasher S.Hasher.Hasher self.entry.map result) }
     {
         let VacantEntry { map, keys, at } = self;
-        let slot = map.put_free(item, keys.first(), keys.second(), at)?;
+        let slot = map.insert_free(item, keys.first(), keys.second(), at)?;
         Ok(OccupiedEntryMut {
             map,
             slot1: Some(slot),
@@ -76,7 +76,7 @@ impl<'a, T: BiHashItem, S: BuildHasher> VacantEntry<'a, T, S> {
     {
         let VacantEntry { map, keys, at } = self;
         let KeyPair { key1, key2 } = keys;
-        match map.put_free(item, key1, key2, at) {
+        match map.insert_free(item, key1, key2, at) {
             Ok(slot) => Ok(OccupiedEntry {
                 map,
                 key1,
@@ -100,7 +100,7 @@ impl<'a, T: BiHashItem, S: BuildHasher, Q: Keys<T::K1, T::K2>> VacantEntry<'a, T
         ensures puts_in { PutsIn self.entry item result }
     {
         let VacantEntry { map, keys, at } = self;
-        match map.put_free(item, keys.first(), keys.second(), at) {
+        match map.insert_free(item, keys.first(), keys.second(), at) {
             Ok(slot) => Ok(OccupiedEntryMut {
                 map,
                 slot1: Some(slot),

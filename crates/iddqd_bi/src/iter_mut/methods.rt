@@ -47,7 +47,7 @@ impl<T: BiHashItemMut, S: BuildHasher> IterMut<'_, T, S> {
     pub fn next_data(&mut self) -> Option<&mut T::Data>
         // It is the data of the next item, and none at the end.
         ensures next { IfSome result (λ r. IsNextOf self.old) }
-        ensures value { option_copied_mut result ≡ option_map T.payload (slice_get (rest_of self.old) 0) }
+        ensures value { option_copied_mut result ≡ option_map T.data_of (slice_get (rest_of self.old) 0) }
         ensures end { IfNone result (rest_of self.old ≡ []) }
         ensures counted { (f : T → T) → IsCounted self.old → IfSome result (λ r. IsCounted (stepped self.old f)) }
         // What is written through it ends in the item.

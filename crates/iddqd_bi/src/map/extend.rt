@@ -10,7 +10,7 @@ use super::BiHashMap;
 use super::slots::Refusal;
 use crate::error::FromIterError;
 use crate::item::Ranked;
-use iddqd_store::{DuplicateItem, ExtendUniqueError, MemoryRefused, Sought};
+use iddqd_store::{DuplicateItem, ExtendUniqueError, MemoryRefused, SlotUnder};
 use std::alloc::Global;
 use std::hash::{BuildHasher, Hash};
 
@@ -152,7 +152,7 @@ impl<T: Ranked + Drop, S: BuildHasher + Default + Drop> BiHashMap<T, S> {
             match map.try_insert(item) {
                 Ok(()) => {}
                 Err(Refusal::Duplicate(item, found)) => {
-                    let unknown = (Sought::nothing(), Sought::nothing());
+                    let unknown = (SlotUnder::nothing(), SlotUnder::nothing());
                     let duplicates = map.take_all(&found, &unknown);
                     return Err(FromIterError::Duplicate(DuplicateItem::new(item, duplicates)));
                 }

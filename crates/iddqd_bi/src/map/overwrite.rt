@@ -30,7 +30,7 @@ impl<T: Ranked, S: BuildHasher> BiHashMap<T, S> {
                 if let Err(_) = self.make_room() {
                     return Err(MemoryRefused { value: item });
                 }
-                self.put(item, at);
+                self.insert_at(item, at);
                 Ok(UpToTwo::new())
             }
             Err(by) => {

@@ -24,7 +24,7 @@ use super::BiHashMap;
 use crate::error::EntryError;
 use crate::item::{BiHashItem, Hashed, Ranked};
 use crate::ranks::{First, Second};
-use iddqd_store::{ItemIndex, Lookup, Meter, Sought, TryReserveError, UpToTwo, Vacancy};
+use iddqd_store::{ItemIndex, Lookup, Meter, SlotUnder, TryReserveError, UpToTwo, Vacancy};
 use std::hash::{BuildHasher, Hash};
 
 /// An item that an insert refused, and why, with no hold on the map.
@@ -82,7 +82,7 @@ impl<T: BiHashItem, S: BuildHasher> BiHashMap<T, S> {
         &self,
         key1: &T::K1,
         key2: &T::K2,
-    ) -> Result<(Vacancy, Vacancy), (Sought, Sought)>
+    ) -> Result<(Vacancy, Vacancy), (SlotUnder, SlotUnder)>
         // The slots, and whether there are some.
         ensures found { AreFound (⟦<T as Ranked>⟧.key_tests key1.now key2.now) self.now.slots (slots_found result) }
         ensures none { OnOk result (list_any is_some (slots_found result) ≡ false) }
@@ -105,15 +105,21 @@ impl<T: BiHashItem, S: BuildHasher> BiHashMap<T, S> {
         let by2 = self.by_key2().search(hash2, key2);
         match (by1, by2) {
             (Err(at1), Err(at2)) => Ok((at1, at2)),
-            (Ok(ix1), by2) => Err((Sought::new(Some(ix1), hash1), Sought::new(by2.ok(), hash2))),
-            (Err(_), Ok(ix2)) => Err((Sought::new(None, hash1), Sought::new(Some(ix2), hash2))),
+            (Ok(ix1), by2) => Err((
+                SlotUnder::new(Some(ix1), hash1),
+                SlotUnder::new(by2.ok(), hash2),
+            )),
+            (Err(_), Ok(ix2)) => Err((
+                SlotUnder::new(None, hash1),
+                SlotUnder::new(Some(ix2), hash2),
+            )),
         }
     }
 
     /// Where an item goes in at each rank; or, where items conflict with it, what the search at each rank found. Each key
     /// is hashed once and searched for once.
     #[inline(always)]
-    pub(crate) fn places(&self, item: &T) -> Result<(Vacancy, Vacancy), (Sought, Sought)>
+    pub(crate) fn places(&self, item: &T) -> Result<(Vacancy, Vacancy), (SlotUnder, SlotUnder)>
         ensures free { OnOk result (clash ⟦<T as Ranked>⟧.ranks (bag self.now) item.now ≡ []) }
         ensures places { IfOk result (ArePlacesOf
             (⟦<T as Hashed<S>>⟧.hash1 self.now.builder) (⟦<T as Hashed<S>>⟧.hash2 self.now.builder)
@@ -130,7 +136,7 @@ impl<T: BiHashItem, S: BuildHasher> BiHashMap<T, S> {
 
     /// Puts an item in that nothing conflicts with, where it goes in at each rank.
     #[inline(always)]
-    pub(crate) fn put(&mut self, item: T, at: (Vacancy, Vacancy)) -> ItemIndex
+    pub(crate) fn insert_at(&mut self, item: T, at: (Vacancy, Vacancy)) -> ItemIndex
         requires room { length (bag self.old) < self.old.capacity }
         requires free { clash ⟦<T as Ranked>⟧.ranks (bag self.old) item ≡ [] }
         requires places { ArePlacesOf
@@ -150,7 +156,7 @@ impl<T: BiHashItem, S: BuildHasher> BiHashMap<T, S> {
     /// Puts an item in that has these keys, which no item of the map has, and answers its slot. It is refused with the
     /// lowest rank at which its key is another one, or where there is no memory. It compares the keys given, and searches
     /// and hashes nothing.
-    pub(crate) fn put_free(
+    pub(crate) fn insert_free(
         &mut self,
         item: T,
         key1: &T::K1,
@@ -176,7 +182,7 @@ impl<T: BiHashItem, S: BuildHasher> BiHashMap<T, S> {
         if let Err(_) = self.make_room() {
             return Err(EntryError::Memory(item));
         }
-        Ok(self.put(item, at))
+        Ok(self.insert_at(item, at))
     }
 
     /// Takes out the item of a slot. A key of it is hashed only where its hash isn't given.
@@ -206,7 +212,7 @@ impl<T: BiHashItem, S: BuildHasher> BiHashMap<T, S> {
     pub(crate) fn take_all(
         &mut self,
         found: &UpToTwo<ItemIndex>,
-        by: &(Sought, Sought),
+        by: &(SlotUnder, SlotUnder),
     ) -> UpToTwo<T>
         requires live { All (IsLive self.old.slots) found.now }
         requires apart { IsDistinct nat_eq found.now }
@@ -301,7 +307,7 @@ impl<T: BiHashItem, S: BuildHasher> BiHashMap<T, S> {
         if let Err(_) = self.make_room() {
             return Err(Refusal::Memory(item));
         }
-        self.put(item, at);
+        self.insert_at(item, at);
         Ok(())
     }
 }

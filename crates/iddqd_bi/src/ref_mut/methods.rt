@@ -30,7 +30,7 @@ impl<T: BiHashItem, S: BuildHasher> Deref for RefMut<'_, T, S> {
 impl<T: BiHashItemMut, S: BuildHasher> RefMut<'_, T, S> {
     /// The data of the item, for writing. No key changes, and none is compared or hashed.
     pub fn data_mut(&mut self) -> &mut T::Data
-        ensures value { IfSome (ref_item self.old) (λ x. result.now ≡ T.payload x) }
+        ensures value { IfSome (ref_item self.old) (λ x. result.now ≡ T.data_of x) }
         ensures writes { (d : T.Data) → IfSome (ref_item self.old) (λ x.
             ref_item (ref_with self.old (λ y. T.put y d)) ≡ Some (T.put x d)) }
         ensures swaps { (d : T.Data) → IfSome (ref_item self.old) (λ x.

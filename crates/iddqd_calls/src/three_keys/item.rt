@@ -50,7 +50,7 @@ impl TriHashItem for Item {
 impl TriHashItemMut for Item {
     type Data = u64;
 
-    ghost payload = { λ x. x.value };
+    ghost data_of = { λ x. x.value };
 
     ghost put = { λ x w. record x { value = w } };
 

@@ -41,7 +41,7 @@ impl BiHashItem for Item {
 impl BiHashItemMut for Item {
     type Data = u64;
 
-    ghost payload = { λ x. x.value };
+    ghost data_of = { λ x. x.value };
 
     ghost put = { λ x w. record x { value = w } };
 

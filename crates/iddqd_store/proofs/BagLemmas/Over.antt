@@ -9,7 +9,7 @@ use Rattle.std.proofs.lemmas.List.Elements.{All-nil, All-cons, All-head, All-tai
 use Rattle.std.proofs.lemmas.List.Sorted.{IsPermutation-refl, IsPermutation-sym, IsPermutation-trans, IsPermutation-append, IsPermutation-cons, length_permutation}
 use Rattle.std.proofs.lemmas.Map.Keys.{IsDistinct-head, IsDistinct-tail, IsDistinct-cons}
 use Rattle.iddqd_store.specs.Slots.{get, IsLive, Updates}
-use Rattle.iddqd_store.specs.Slots.Found.{items_at, lists, with_found}
+use Rattle.iddqd_store.specs.Slots.Found.{items_at, contains, with_found}
 use Rattle.iddqd_store.specs.Bag.{Ranks, some_of, like, conflicts, clash, order, over}
 use Rattle.iddqd_store.proofs.BagLemmas.Exchanges.{split, IsPermutation-filter}
 use Rattle.iddqd_store.proofs.BagLemmas.Steps.{none_passes}
@@ -22,10 +22,10 @@ flipped : (a b : ℕ) → nat_eq a b ≡ false → nat_eq b a ≡ false
 flipped a b h = grind (arith, nat_tests)
 
 -- the slots found are distinct
-pub IsDistinct-push : (ixs : List ℕ) (ix : ℕ) → IsDistinct nat_eq ixs → lists ixs ix ≡ false → IsDistinct nat_eq (ixs ++ ix ∷ [])
+pub IsDistinct-push : (ixs : List ℕ) (ix : ℕ) → IsDistinct nat_eq ixs → contains ixs ix ≡ false → IsDistinct nat_eq (ixs ++ ix ∷ [])
 IsDistinct-push [] ix apart new = IsDistinct-cons nat_eq ix [] tt (IsDistinct-nil nat_eq)
 IsDistinct-push (a ∷ ixs) ix apart new =
-    let both = or-false (nat_eq ix a) (lists ixs ix) new in
+    let both = or-false (nat_eq ix a) (contains ixs ix) new in
     IsDistinct-cons nat_eq a (ixs ++ ix ∷ [])
     (further ixs (IsDistinct-head nat_eq a ixs apart) (flipped ix a both.0))
     (IsDistinct-push ixs ix (IsDistinct-tail nat_eq a ixs apart) both.1)
@@ -37,7 +37,7 @@ IsDistinct-push (a ∷ ixs) ix apart new =
 pub IsDistinct-with_found : (ixs : List ℕ) (found : Option ℕ) → IsDistinct nat_eq ixs → IsDistinct nat_eq (with_found ixs found)
 IsDistinct-with_found ixs None apart = apart
 IsDistinct-with_found ixs (Some ix) apart =
-    split (λ b. IsDistinct nat_eq (if b then ixs else ixs ++ ix ∷ [])) (lists ixs ix) (λ _. apart) (λ no. IsDistinct-push ixs ix apart no)
+    split (λ b. IsDistinct nat_eq (if b then ixs else ixs ++ ix ∷ [])) (contains ixs ix) (λ _. apart) (λ no. IsDistinct-push ixs ix apart no)
 
 -- the slots from this place on, by their first
 pub drop-found : (ixs : List ℕ) (at ix : ℕ) → slice_get ixs at ≡ Some ix → drop at ixs ≡ ix ∷ drop (at + 1) ixs

@@ -13,7 +13,7 @@ use Rattle.iddqd_store.specs.Bag.Storing.{Stores}
 use Rattle.iddqd_store.specs.Map.{Map, bag}
 use Rattle.iddqd_store.specs.Map.Written.{map_with, of_item}
 use Rattle.iddqd_store.specs.Slots.{get, IsLive}
-use Rattle.iddqd_store.specs.Slots.Found.{each_once, items_at, lists, with_found}
+use Rattle.iddqd_store.specs.Slots.Found.{each_once, items_at, contains, with_found}
 use Rattle.iddqd_store.proofs.BagLemmas.Exchanges.{split}
 use Rattle.iddqd_store.proofs.BagLemmas.Theory.{swap-IsPermutation}
 
@@ -24,7 +24,7 @@ module _ {T : Type 0} (slots : List (Option T)) where
   live_with : (ixs : List ℕ) (at : Option ℕ) → All (IsLive slots) ixs → IfSome at (IsLive slots) → All (IsLive slots) (with_found ixs at)
   live_with ixs None live there = live
   live_with ixs (Some ix) live there =
-      split (λ b. All (IsLive slots) (if b then ixs else ixs ++ ix ∷ [])) (lists ixs ix) (λ _. live) (λ _. All-append (IsLive slots) ixs (ix ∷ []) live (All-cons (IsLive slots) ix [] there (All-nil (IsLive slots))))
+      split (λ b. All (IsLive slots) (if b then ixs else ixs ++ ix ∷ [])) (contains ixs ix) (λ _. live) (λ _. All-append (IsLive slots) ixs (ix ∷ []) live (All-cons (IsLive slots) ix [] there (All-nil (IsLive slots))))
 
   -- each slot that was found is live
   pub live_found : (found : List (Option ℕ)) → AllByRecursion (λ at. IfSome at (IsLive slots)) found → All (IsLive slots) (each_once found)

@@ -7,7 +7,7 @@ use Rattle.std.proofs.lemmas.Bool.{false≢true}
 use Rattle.std.proofs.lemmas.Bool.Decides.{nat_tests}
 use Rattle.std.proofs.lemmas.List.Elements.{All-nil, All-head, All-tail, All-push}
 use Rattle.iddqd_store.specs.Slots.{get, IsLive, Updates}
-use Rattle.iddqd_store.specs.Slots.Found.{StandAt, items_at, lists}
+use Rattle.iddqd_store.specs.Slots.Found.{StandAt, items_at, contains}
 use Rattle.iddqd_store.proofs.BagLemmas.Exchanges.{split}
 use Rattle.iddqd_store.proofs.BagLemmas.Over.{IsDistinct-push, items_at-others, live-unchanged}
 use Rattle.iddqd_store.proofs.BagLemmas.Sound.{IsDistinct-nil}
@@ -16,7 +16,7 @@ use Rattle.iddqd_store.proofs.SlotLemmas.Found.{items_at-push}
 same_number : (a b : ℕ) → nat_eq a b ≡ true → a ≡ b
 same_number a b h = grind (arith, nat_tests)
 
-not_listed : (ixs : List ℕ) (ix : ℕ) → AllByRecursion (λ at. nat_eq ix at ≡ false) ixs → lists ixs ix ≡ false
+not_listed : (ixs : List ℕ) (ix : ℕ) → AllByRecursion (λ at. nat_eq ix at ≡ false) ixs → contains ixs ix ≡ false
 not_listed [] ix others = refl
 not_listed (at ∷ ixs) ix others = rw (others.0, not_listed ixs ix others.1) refl
 

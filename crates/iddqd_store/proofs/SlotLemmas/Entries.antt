@@ -9,7 +9,7 @@ use Rattle.std.proofs.lemmas.Bool.{false≢true}
 use Rattle.std.proofs.lemmas.Bool.Decides.{nat_tests}
 use Rattle.iddqd_store.specs.Bag.{listing, all_of, every_of, entry, entry_of}
 use Rattle.iddqd_store.specs.Slots.{get, live_items}
-use Rattle.iddqd_store.specs.Slots.Found.{items_at, lists, with_found, each_once, is_at, found_by_all, FoundAt, AreFound, held_at, entry_at}
+use Rattle.iddqd_store.specs.Slots.Found.{items_at, contains, with_found, each_once, is_at, found_by_all, FoundAt, AreFound, held_at, entry_at}
 use Rattle.iddqd_store.proofs.BagLemmas.Entries.{all_of-next}
 use Rattle.iddqd_store.proofs.BagLemmas.Exchanges.{split}
 use Rattle.iddqd_store.proofs.BagLemmas.Over.{IsDistinct-with_found}
@@ -114,7 +114,7 @@ module _ {T : Type 0} (slots : List (Option T)) where
   front_stays ix l [] = (l, refl)
   front_stays ix l (None ∷ found) = front_stays ix l found
   front_stays ix l (Some b ∷ found) =
-      split (λ t. (rest : List ℕ) × (fold with_found (if t then ix ∷ l else (ix ∷ l) ++ b ∷ []) found ≡ ix ∷ rest)) (lists (ix ∷ l) b)
+      split (λ t. (rest : List ℕ) × (fold with_found (if t then ix ∷ l else (ix ∷ l) ++ b ∷ []) found ≡ ix ∷ rest)) (contains (ix ∷ l) b)
       (λ _. front_stays ix l found)
       (λ _. front_stays ix (l ++ b ∷ []) found)
 

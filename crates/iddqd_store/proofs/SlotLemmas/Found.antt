@@ -8,7 +8,7 @@ use Rattle.std.proofs.lemmas.Bool.Decides.{nat_tests}
 use Rattle.std.proofs.lemmas.List.Sorted.{Contains-permutation, IsPermutation-sym}
 use Rattle.iddqd_store.specs.Bag.{some_of, listing, without}
 use Rattle.iddqd_store.specs.Slots.{get, IsLive, live_items}
-use Rattle.iddqd_store.specs.Slots.Found.{items_at, lists, with_found}
+use Rattle.iddqd_store.specs.Slots.Found.{items_at, contains, with_found}
 use Rattle.iddqd_store.specs.Bag.{Ranks, order, clash}
 use Rattle.std.proofs.lemmas.List.Elements.{All-head}
 use Rattle.std.proofs.lemmas.List.Sorted.{length_permutation}
@@ -74,14 +74,14 @@ module _ {T : Type 0} where
       by_slot (Some x) is e = rw is (ap (λ l. x ∷ l) e)
 
   -- an item at some of the slots stands in one that is listed
-  slot_of : (slots : List (Option T)) (ixs : List ℕ) (y : T) → Contains (items_at slots ixs) y → (a : ℕ) × (lists ixs a ≡ true) × (get slots a ≡ Some y)
+  slot_of : (slots : List (Option T)) (ixs : List ℕ) (y : T) → Contains (items_at slots ixs) y → (a : ℕ) × (contains ixs a ≡ true) × (get slots a ≡ Some y)
   slot_of slots [] y found = absurd (omega (arith, found.1))
   slot_of slots (a ∷ ixs) y found = by_slot (get slots a) refl found (slot_of slots ixs y)
     where
-      later : (b : ℕ) × (lists ixs b ≡ true) × (get slots b ≡ Some y) → (b : ℕ) × (lists (a ∷ ixs) b ≡ true) × (get slots b ≡ Some y)
-      later r = (r.0, or_right (nat_eq r.0 a) (lists ixs r.0) r.1, r.2)
+      later : (b : ℕ) × (contains ixs b ≡ true) × (get slots b ≡ Some y) → (b : ℕ) × (contains (a ∷ ixs) b ≡ true) × (get slots b ≡ Some y)
+      later r = (r.0, or_right (nat_eq r.0 a) (contains ixs r.0) r.1, r.2)
 
-      by_slot : (o : Option T) → get slots a ≡ o → Contains (items_at slots (a ∷ ixs)) y → (Contains (items_at slots ixs) y → (b : ℕ) × (lists ixs b ≡ true) × (get slots b ≡ Some y)) → (b : ℕ) × (lists (a ∷ ixs) b ≡ true) × (get slots b ≡ Some y)
+      by_slot : (o : Option T) → get slots a ≡ o → Contains (items_at slots (a ∷ ixs)) y → (Contains (items_at slots ixs) y → (b : ℕ) × (contains ixs b ≡ true) × (get slots b ≡ Some y)) → (b : ℕ) × (contains (a ∷ ixs) b ≡ true) × (get slots b ≡ Some y)
       by_slot None is found rest = later (rest (rw is at found))
       by_slot (Some x) is found rest =
           let there : Contains (x ∷ items_at slots ixs) y = rw is at found in
@@ -91,7 +91,7 @@ module _ {T : Type 0} where
           ]
 
   -- the item of a listed slot is among those at the slots
-  item_listed : (slots : List (Option T)) (ixs : List ℕ) (b : ℕ) (y : T) → lists ixs b ≡ true → get slots b ≡ Some y → Contains (items_at slots ixs) y
+  item_listed : (slots : List (Option T)) (ixs : List ℕ) (b : ℕ) (y : T) → contains ixs b ≡ true → get slots b ≡ Some y → Contains (items_at slots ixs) y
   item_listed slots [] b y listed at = absurd (false≢true listed)
   item_listed slots (a ∷ ixs) b y listed at = by_test (nat_eq b a) refl listed (λ l. item_listed slots ixs b y l at)
     where
@@ -99,7 +99,7 @@ module _ {T : Type 0} where
       further None is found = rw is found
       further (Some x) is found = rw is (Contains-cons x y (items_at slots ixs) found)
 
-      by_test : (t : Bool) → nat_eq b a ≡ t → (t || lists ixs b) ≡ true → (lists ixs b ≡ true → Contains (items_at slots ixs) y) → Contains (items_at slots (a ∷ ixs)) y
+      by_test : (t : Bool) → nat_eq b a ≡ t → (t || contains ixs b) ≡ true → (contains ixs b ≡ true → Contains (items_at slots ixs) y) → Contains (items_at slots (a ∷ ixs)) y
       by_test true is h rest =
           let here : get slots a ≡ Some y = ap (get slots) (sym (same_number b a is)) ∙ at in
           rw here (Contains-here y (items_at slots ixs))
@@ -118,7 +118,7 @@ module _ {T : Type 0} where
           let bag : List T = live_items slots in
           let rest : filter test (without tests bag) ≡ filter (λ x. not (some_of tests x)) (y ∷ []) = filter_swap test (λ x. not (some_of tests x)) bag ∙ ap (filter (λ x. not (some_of tests x))) (sym named) in
           let goal : listing (tests ++ test ∷ []) bag ≡ listing tests bag ++ filter (λ x. not (some_of tests x)) (y ∷ []) = listing-push tests test bag ∙ ap (λ l. listing tests bag ++ l) rest in
-          split (λ t. items_at slots (cond t ixs (ixs ++ b ∷ [])) ≡ listing (tests ++ test ∷ []) bag) (lists ixs b)
+          split (λ t. items_at slots (cond t ixs (ixs ++ b ∷ [])) ≡ listing (tests ++ test ∷ []) bag) (contains ixs b)
           (λ yes.
           let passes : some_of tests y ≡ true = some_passes tests bag y (subst (λ l. Contains l y) before (item_listed slots ixs b y yes at)) in
           before ∙ sym (append-nil _) ∙ sym (goal ∙ ap (λ t. listing tests bag ++ cond (not t) (y ∷ []) []) passes))
@@ -127,7 +127,7 @@ module _ {T : Type 0} where
           (λ yes.
           let other = slot_of slots ixs y (subst (λ l. Contains l y) (sym before) (passer_listed tests bag y yes (item_at slots b y at))) in
           let one : other.0 ≡ b = same_slot agree slots other.0 b y y apart symm other.2 at (itself_alike y) in
-          absurd (false≢true (sym no ∙ ap (lists ixs) (sym one) ∙ other.1)))
+          absurd (false≢true (sym no ∙ ap (contains ixs) (sym one) ∙ other.1)))
           (λ _. refl) in
           items_at-push slots ixs b ∙ ap (λ o. items_at slots ixs ++ option_to_list o) at ∙ ap (λ l. l ++ y ∷ []) before
           ∙ sym (goal ∙ ap (λ t. listing tests bag ++ cond (not t) (y ∷ []) []) fails))

@@ -22,7 +22,7 @@ reaches n a h o q far la lh lo lq pos e l = grind (arith, nat_tests)
 pub falls_short : (n a h o q far : ℕ) → a < n → h < n → o < n → q < n → 0 < far → far + gap n a o ≡ gap n a q → gap n h q < far → gap n h q < gap n h o
 falls_short n a h o q far la lh lo lq pos e l = grind (arith, nat_tests)
 
--- what stood at a place moves into the hole, whatever that held
+-- what stood at a place moves into the hole, whatever that pairs_in
 pub left_behind : {X : Type 0} (cs : List (Option X)) (hole at : ℕ) (y : X) → at ≢ hole → set (set cs hole (Some y)) at None ≡ set (set (set cs hole None) at None) hole (Some y)
 left_behind cs hole at y apart =
     sym (set_comm (set cs hole None) at hole None (Some y) apart ∙ ap (λ (r : List (Option _)). set r at None) (set-set cs hole None (Some y)))

@@ -11,7 +11,7 @@ use Rattle.std.proofs.lemmas.List.FromFn.{length-range_with_len, get_or-range_wi
 use Rattle.std.proofs.lemmas.List.Sums.{prefix_len_is, prefix_len_stops}
 use Rattle.std.proofs.lemmas.Bool.{cases_lt, both_ways, leb-true, le-leb, false_from_ne_true}
 use Rattle.std.proofs.lemmas.Bool.Decides.{nat_tests, Decides-below_or}
-use Rattle.iddqd_store.specs.Table.Ring.{gap, ending, IsFull, is_full, is_full_within, round, stretch, held, cell, IsReached}
+use Rattle.iddqd_store.specs.Table.Ring.{gap, ending, IsFull, is_full, is_full_within, round, stretch, pairs_in, cell, IsReached}
 use Rattle.iddqd_store.proofs.TableLemmas.Full.{occupied_exactly_full}
 
 pub is_full_decides : (hashes : List ℕ) (n p : ℕ) → Decides (is_full hashes n p) (IsFull hashes n p)
@@ -55,32 +55,32 @@ get_or-round n a k l m =
     (cases_lt k (n - a))
 
 module _ {X : Type 0} (key : X → ℕ) (n : ℕ) (cs : List (Option X)) (len : length cs ≡ n) (pos : 0 < n) (reached : IsReached (λ x. key x % n) n cs) where
-  pub full_at : (e : ℕ) → e < n → cell cs e ≡ None → (p : ℕ) → p < n → cell cs p ≢ None → is_full (map key (held cs)) n p ≡ true
-  full_at e le none p lp some = (is_full_decides (map key (held cs)) n p).1 ((occupied_exactly_full key n cs len pos reached e le none p lp).0 some)
+  pub full_at : (e : ℕ) → e < n → cell cs e ≡ None → (p : ℕ) → p < n → cell cs p ≢ None → is_full (map key (pairs_in cs)) n p ≡ true
+  full_at e le none p lp some = (is_full_decides (map key (pairs_in cs)) n p).1 ((occupied_exactly_full key n cs len pos reached e le none p lp).0 some)
 
-  pub not_full_at : (p : ℕ) → p < n → cell cs p ≡ None → is_full (map key (held cs)) n p ≡ false
+  pub not_full_at : (p : ℕ) → p < n → cell cs p ≡ None → is_full (map key (pairs_in cs)) n p ≡ false
   not_full_at p lp none =
-      false_from_ne_true _ (λ t. (occupied_exactly_full key n cs len pos reached p lp none p lp).1 ((is_full_decides (map key (held cs)) n p).0 t) none)
+      false_from_ne_true _ (λ t. (occupied_exactly_full key n cs len pos reached p lp none p lp).1 ((is_full_decides (map key (pairs_in cs)) n p).0 t) none)
 
   -- the run ends at the first empty cell
-  pub stretch_is : (h s : ℕ) → s < n → ((k : ℕ) → k < s → cell cs (place n (h % n) k) ≢ None) → cell cs (place n (h % n) s) ≡ None → stretch (map key (held cs)) n h ≡ s
+  pub stretch_is : (h s : ℕ) → s < n → ((k : ℕ) → k < s → cell cs (place n (h % n) k) ≢ None) → cell cs (place n (h % n) s) ≡ None → stretch (map key (pairs_in cs)) n h ≡ s
   stretch_is h s ls some none =
       let a : h % n < n = omega arith in
       let lr : length (round n (h % n)) ≡ n = length-round n (h % n) a in
       let pl : place n (h % n) s < n = place_below n (h % n) s a ls in
-      prefix_len_is (is_full (map key (held cs)) n) (round n (h % n)) s 0 (omega arith)
+      prefix_len_is (is_full (map key (pairs_in cs)) n) (round n (h % n)) s 0 (omega arith)
       (λ k lk. rw (get_or-round n (h % n) k a (omega arith)) (full_at (place n (h % n) s) pl none (place n (h % n) k) (place_below n (h % n) k a (omega arith)) (some k lk)))
       (λ _. rw (get_or-round n (h % n) s a ls) (not_full_at (place n (h % n) s) pl none))
 
   -- and is no shorter than the occupied cells that are known
-  pub stretch_at_least : (e : ℕ) → e < n → cell cs e ≡ None → (h m : ℕ) → m ≤ n → ((k : ℕ) → k < m → cell cs (place n (h % n) k) ≢ None) → m ≤ stretch (map key (held cs)) n h
+  pub stretch_at_least : (e : ℕ) → e < n → cell cs e ≡ None → (h m : ℕ) → m ≤ n → ((k : ℕ) → k < m → cell cs (place n (h % n) k) ≢ None) → m ≤ stretch (map key (pairs_in cs)) n h
   stretch_at_least e le none h m lm some =
       let a : h % n < n = omega arith in
       let lr : length (round n (h % n)) ≡ n = length-round n (h % n) a in
-      let s : ℕ = stretch (map key (held cs)) n h in
+      let s : ℕ = stretch (map key (pairs_in cs)) n h in
       ⊎_elim (λ (l : s < m).
-      let f : is_full (map key (held cs)) n (get_or (round n (h % n)) s 0) ≡ false = prefix_len_stops (is_full (map key (held cs)) n) (round n (h % n)) 0 (omega arith) in
-      let t : is_full (map key (held cs)) n (get_or (round n (h % n)) s 0) ≡ true =
+      let f : is_full (map key (pairs_in cs)) n (get_or (round n (h % n)) s 0) ≡ false = prefix_len_stops (is_full (map key (pairs_in cs)) n) (round n (h % n)) 0 (omega arith) in
+      let t : is_full (map key (pairs_in cs)) n (get_or (round n (h % n)) s 0) ≡ true =
       rw (get_or-round n (h % n) s a (omega arith)) (full_at e le none (place n (h % n) s) (place_below n (h % n) s a (omega arith)) (some s l)) in
       absurd (both_ways _ f t))
       (λ (l : m ≤ s). l) (cases_lt s m)

@@ -21,13 +21,13 @@ module _ {T : Type 0} where
     pub apart : IsDistinct nat_eq ixs
 
 -- whether the number is among these
-abbrev pub lists : List ℕ → ℕ → Bool
-lists ixs ix = list_any (nat_eq ix) ixs
+abbrev pub contains : List ℕ → ℕ → Bool
+contains ixs ix = list_any (nat_eq ix) ixs
 
 -- the numbers, and behind them the one found, unless it is among them
 abbrev pub with_found : List ℕ → Option ℕ → List ℕ
 with_found ixs None = ixs
-with_found ixs (Some ix) = if lists ixs ix then ixs else ixs ++ ix ∷ []
+with_found ixs (Some ix) = if contains ixs ix then ixs else ixs ++ ix ∷ []
 
 -- the slots that searches found, each once
 abbrev pub each_once : List (Option ℕ) → List ℕ

@@ -112,7 +112,7 @@ impl Cells {
     }
 
     /// Writes a pair into cell `i`.
-    pub fn put(&mut self, i: usize, hash: u64, ix: ItemIndex)
+    pub fn write(&mut self, i: usize, hash: u64, ix: ItemIndex)
         requires { i < length self.old }
         ensures { self.new ≡ slice_set self.old i (Some (hash, ix)) }
     {

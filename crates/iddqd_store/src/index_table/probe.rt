@@ -1,7 +1,7 @@
 //! Ways in a table: from the home of a hash on, from cell to cell and round.
 ghost use Rattle.std.specs.Prelude.{◌≡◌, ◌≢◌, ℕ, ◌+◌, ◌-◌, ◌*◌, ◌/◌, ◌%◌, ◌^◌, ◌∷◌, ◌<◌, if◌then◌else◌, nat_lt, None, Some, length, IfSome, IsNone, ◌↔◌, Contains};
 ghost use Rattle.std.specs.List.Sorted.{IsPermutation};
-ghost use Rattle.iddqd_store.specs.Table.Ring.{cell, gap, held, stretch};
+ghost use Rattle.iddqd_store.specs.Table.Ring.{cell, gap, pairs_in, stretch};
 ghost use Rattle.iddqd_store.specs.Table.Limit.{IsLeast, IsSize, most_room};
 ghost use Rattle.iddqd_store.specs.Table.{hashes, IsTable, IsFirstEmpty, IsWayTo};
 
@@ -50,7 +50,7 @@ pub(super) fn first_empty(cells: &Cells, hash: u64, meter: &mut Meter) -> usize
     ensures first { IsFirstEmpty cells.now (hash % length cells.now) result }
     ensures small { length cells.now < 2 ^ 64 }
     ensures looks { meter.new
-        ≡ meter.old + stretch (hashes (held cells.now)) (length cells.now) hash + 1 }
+        ≡ meter.old + stretch (hashes (pairs_in cells.now)) (length cells.now) hash + 1 }
 {
     let count = cells.len();
     let mut at = home_of(hash, count);
@@ -73,7 +73,7 @@ pub(super) fn steps(from: usize, to: usize, count: usize) -> usize
 // The cell of a pair that is there.
 pub(super) fn seek(cells: &Cells, hash: u64, index: ItemIndex, meter: &mut Meter) -> usize
     requires table { IsTable cells.now }
-    requires there { Contains (held cells.now) (hash, index) }
+    requires there { Contains (pairs_in cells.now) (hash, index) }
     ensures pair { cell cells.now result ≡ Some (hash, index) }
     ensures way { IsWayTo cells.now (hash % length cells.now) result }
     ensures looks { meter.new ≡ meter.old + gap (length cells.now) (hash % length cells.now) result + 1 }
@@ -98,9 +98,9 @@ pub(super) fn close_up(cells: &mut Cells, hash: u64, emptied: usize, meter: &mut
     ensures table { IsTable cells.new }
     ensures len { length cells.new ≡ length cells.old }
     ensures taken { (pair : ℕ × ℕ) → cell cells.old emptied ≡ Some pair
-        → IsPermutation (held cells.old) (pair ∷ held cells.new) }
+        → IsPermutation (pairs_in cells.old) (pair ∷ pairs_in cells.new) }
     ensures looks { meter.new + gap (length cells.old) (hash % length cells.old) emptied
-        ≡ meter.old + stretch (hashes (held cells.old)) (length cells.old) hash }
+        ≡ meter.old + stretch (hashes (pairs_in cells.old)) (length cells.old) hash }
 {
     let count = cells.len();
     let mut hole = emptied;
@@ -110,7 +110,7 @@ pub(super) fn close_up(cells: &mut Cells, hash: u64, emptied: usize, meter: &mut
     while let Some(pair) = cells.cell_at(at, meter) {
         let (stored, index) = pair;
         let way = steps(home_of(stored, count), at, count);
-        cells.put(hole, stored, index);
+        cells.write(hole, stored, index);
         if far <= way {
             hole = at;
             far = 1;

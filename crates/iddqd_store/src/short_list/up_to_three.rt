@@ -178,11 +178,11 @@ impl<T: Eq> Eq for UpToThree<T> {
 }
 
 impl UpToThree<ItemIndex> {
-    ghost use Rattle.iddqd_store.specs.Slots.Found.{lists, with_found};
+    ghost use Rattle.iddqd_store.specs.Slots.Found.{contains, with_found};
 
     /// Whether this slot is among them.
-    pub fn lists(&self, ix: ItemIndex) -> bool
-        ensures { result ≡ lists self.now ix }
+    pub fn contains(&self, ix: ItemIndex) -> bool
+        ensures { result ≡ contains self.now ix }
     {
         match (&self.first, &self.second, &self.third) {
             (None, _, _) => false,
@@ -200,7 +200,7 @@ impl UpToThree<ItemIndex> {
         ensures { self.new ≡ with_found self.old found }
     {
         if let Some(ix) = found {
-            if !self.lists(ix) {
+            if !self.contains(ix) {
                 self.push(ix);
             }
         }

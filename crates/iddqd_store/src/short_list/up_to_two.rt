@@ -170,11 +170,11 @@ impl<T: Eq> Eq for UpToTwo<T> {
 }
 
 impl UpToTwo<ItemIndex> {
-    ghost use Rattle.iddqd_store.specs.Slots.Found.{lists, with_found};
+    ghost use Rattle.iddqd_store.specs.Slots.Found.{contains, with_found};
 
     /// Whether this slot is among them.
-    pub fn lists(&self, ix: ItemIndex) -> bool
-        ensures { result ≡ lists self.now ix }
+    pub fn contains(&self, ix: ItemIndex) -> bool
+        ensures { result ≡ contains self.now ix }
     {
         match (&self.first, &self.second) {
             (None, _) => false,
@@ -189,7 +189,7 @@ impl UpToTwo<ItemIndex> {
         ensures { self.new ≡ with_found self.old found }
     {
         if let Some(ix) = found {
-            if !self.lists(ix) {
+            if !self.contains(ix) {
                 self.push(ix);
             }
         }

@@ -39,7 +39,7 @@ impl BiHashItemMut for BiItem {
     ghost use Rattle.std.specs.Prelude.{refl};
     ghost use Rattle.std.specs.Cmp.{nat_eq_equiv};
 
-    ghost payload = { λ item. item.value };
+    ghost data_of = { λ item. item.value };
 
     ghost put = { λ item value. record item { value = value } };
 

@@ -4,7 +4,7 @@ ghost use Rattle.std.specs.Fn.{CalledAt};
 ghost use Rattle.iddqd_store.specs.Bag.{listing};
 ghost use Rattle.iddqd_store.specs.Bag.Storing.{Stores};
 ghost use Rattle.iddqd_store.specs.Map.{bag};
-ghost use Rattle.iddqd_tri.specs.Entries.{IsFound, KeepsEntry, KeepsFound, OnOccupied, OnVacant, PutsIn, entry_lender, entry_map, sought};
+ghost use Rattle.iddqd_tri.specs.Entries.{IsFound, KeepsEntry, KeepsFound, OnOccupied, OnVacant, PutsIn, entry_lender, entry_map, entry_tests};
 
 use super::{Entry, Keys, OccupiedEntryMut};
 use crate::error::EntryRefusal;
@@ -21,7 +21,7 @@ impl<'a, T: TriHashItem, S: BuildHasher, Q: Keys<T::K1, T::K2, T::K3>> Entry<'a,
         T: Drop,
         ensures same_map { IfOk result (λ m. m.map.ghost_name ≡ entry_lender self.entry) }
         ensures same_map_at_err { IfErr result (λ e. e.map.ghost_name ≡ entry_lender self.entry) }
-        ensures put { OnVacant self.entry (λ v. PutsIn v item result) }
+        ensures puts_in { OnVacant self.entry (λ v. PutsIn v item result) }
         ensures keeps_found { OnOccupied self.entry (λ o. KeepsFound T.TriHashItem T.K1.eq T.K2.eq T.K3.eq o result) }
     {
         match self {
@@ -40,7 +40,7 @@ impl<'a, T: TriHashItem, S: BuildHasher, Q: Keys<T::K1, T::K2, T::K3>> Entry<'a,
         requires { OnVacant self (λ v. F.pre f) }
         ensures same_map { IfOk result (λ m. m.map.ghost_name ≡ entry_lender self.entry) }
         ensures same_map_at_err { IfErr result (λ e. e.map.ghost_name ≡ entry_lender self.entry) }
-        ensures put { OnVacant self.entry (λ v. (x : T) × F.post f x × PutsIn v x result) }
+        ensures puts_in { OnVacant self.entry (λ v. (x : T) × F.post f x × PutsIn v x result) }
         ensures keeps_found { OnOccupied self.entry (λ o. KeepsFound T.TriHashItem T.K1.eq T.K2.eq T.K3.eq o result) }
     {
         match self {
@@ -62,7 +62,7 @@ impl<'a, T: TriHashItemMut, S: BuildHasher, Q: Keys<T::K1, T::K2, T::K3>> Entry<
         // A vacant entry stays as it was. Each item that was found gets the data that the function makes of it.
         ensures vacant { OnVacant self.entry (λ v. result ≡ self.entry) }
         ensures stores { OnOccupied self.entry (λ o. Stores (CalledAt F.FnMut) T.put ⟦<T as Ranked>⟧.ranks f
-            (listing (sought ⟦<T as Ranked>⟧.key_tests o) (bag o.map.now)) (bag o.map.now)
+            (listing (entry_tests ⟦<T as Ranked>⟧.key_tests o) (bag o.map.now)) (bag o.map.now)
             (bag (entry_map result))) }
         // It holds the same map, and what it found is found still. All else stays.
         ensures keeps_entry { KeepsEntry self.entry result }

@@ -6,7 +6,7 @@ ghost use Rattle.std.specs.Fn.{CalledAt};
 ghost use Rattle.iddqd_store.specs.Bag.{IsOnly, differ, entry, is_unique, listing, swap};
 ghost use Rattle.iddqd_store.specs.Bag.Storing.{Stores};
 ghost use Rattle.iddqd_store.specs.Map.{bag, Loses};
-ghost use Rattle.iddqd_tri.specs.Entries.{FindsSame, HasFound, HoldsFound, PutsOver, entry_with1, entry_with2, entry_with3, sought, lends_data1, lends_data2, lends_data3, lends_held};
+ghost use Rattle.iddqd_tri.specs.Entries.{FindsSame, HasFound, HoldsFound, PutsOver, entry_with1, entry_with2, entry_with3, entry_tests, lends_data1, lends_data2, lends_data3, lends_held};
 ghost use Rattle.iddqd_tri.specs.Keys.{has1, has2, has3};
 ghost use Rattle.iddqd_tri.specs.Mismatch.{mismatch_item, mismatch_rank};
 ghost use Rattle.iddqd_tri.specs.OccupiedRefs.{is_one, seen1, seen2, seen3};
@@ -16,7 +16,7 @@ use crate::error::KeyMismatch;
 use crate::item::{Ranked, TriHashItem, TriHashItemMut};
 use crate::map::TriHashMap;
 use crate::map::slots::found::{differ, each_once, one_of};
-use iddqd_store::{Sought, UpToThree};
+use iddqd_store::{SlotUnder, UpToThree};
 use std::hash::{BuildHasher, Hash};
 
 impl<'a, T: TriHashItem, S: BuildHasher> OccupiedEntry<'a, T, S> {
@@ -24,7 +24,7 @@ impl<'a, T: TriHashItem, S: BuildHasher> OccupiedEntry<'a, T, S> {
     pub fn is_unique(&self) -> bool
         requires { HasFound ⟦<T as Ranked>⟧.key_tests self.now }
         ensures { result ≡ is_unique
-            (entry (sought ⟦<T as Ranked>⟧.key_tests self.now) (bag self.now.map.now)) }
+            (entry (entry_tests ⟦<T as Ranked>⟧.key_tests self.now) (bag self.now.map.now)) }
     {
         one_of(self.slot1, self.slot2, self.slot3).is_some()
     }
@@ -33,7 +33,7 @@ impl<'a, T: TriHashItem, S: BuildHasher> OccupiedEntry<'a, T, S> {
     pub fn is_non_unique(&self) -> bool
         requires { HasFound ⟦<T as Ranked>⟧.key_tests self.now }
         ensures { result
-            ≡ not (is_unique (entry (sought ⟦<T as Ranked>⟧.key_tests self.now) (bag self.now.map.now))) }
+            ≡ not (is_unique (entry (entry_tests ⟦<T as Ranked>⟧.key_tests self.now) (bag self.now.map.now))) }
     {
         !self.is_unique()
     }
@@ -42,7 +42,7 @@ impl<'a, T: TriHashItem, S: BuildHasher> OccupiedEntry<'a, T, S> {
     pub fn get(&self) -> OccupiedEntryRef<'_, T>
         requires { HasFound ⟦<T as Ranked>⟧.key_tests self.now }
         ensures is_one { is_one result
-            ≡ is_unique (entry (sought ⟦<T as Ranked>⟧.key_tests self.now) (bag self.now.map.now)) }
+            ≡ is_unique (entry (entry_tests ⟦<T as Ranked>⟧.key_tests self.now) (bag self.now.map.now)) }
         ensures by_key1 { IsOnly (has1 T.TriHashItem T.K1.eq self.now.key1.now) (bag self.now.map.now) (seen1 result) }
         ensures by_key2 { IsOnly (has2 T.TriHashItem T.K2.eq self.now.key2.now) (bag self.now.map.now) (seen2 result) }
         ensures by_key3 { IsOnly (has3 T.TriHashItem T.K3.eq self.now.key3.now) (bag self.now.map.now) (seen3 result) }
@@ -58,7 +58,7 @@ impl<'a, T: TriHashItem, S: BuildHasher> OccupiedEntry<'a, T, S> {
     pub fn into_ref(self) -> OccupiedEntryRef<'a, T>
         requires { HasFound ⟦<T as Ranked>⟧.key_tests self }
         ensures is_one { is_one result
-            ≡ is_unique (entry (sought ⟦<T as Ranked>⟧.key_tests self.entry) (bag self.entry.map.now)) }
+            ≡ is_unique (entry (entry_tests ⟦<T as Ranked>⟧.key_tests self.entry) (bag self.entry.map.now)) }
         ensures by_key1 { IsOnly (has1 T.TriHashItem T.K1.eq self.entry.key1.now) (bag self.entry.map.now)
             (seen1 result) }
         ensures by_key2 { IsOnly (has2 T.TriHashItem T.K2.eq self.entry.key2.now) (bag self.entry.map.now)
@@ -138,24 +138,24 @@ impl<'a, T: TriHashItem, S: BuildHasher> OccupiedEntry<'a, T, S> {
     pub fn insert(&mut self, item: T) -> Result<UpToThree<T>, KeyMismatch<T>>
         requires { HasFound ⟦<T as Ranked>⟧.key_tests self.old }
         // It goes in only with the keys that the entry has. What these found comes back, in their order.
-        ensures same_keys { OnOk result (differ (sought ⟦<T as Ranked>⟧.key_tests self.old) item ≡ None) }
+        ensures same_keys { OnOk result (differ (entry_tests ⟦<T as Ranked>⟧.key_tests self.old) item ≡ None) }
         ensures displaced { IfOk result (λ gone. gone
-            ≡ listing (sought ⟦<T as Ranked>⟧.key_tests self.old) (bag self.old.map.now)) }
+            ≡ listing (entry_tests ⟦<T as Ranked>⟧.key_tests self.old) (bag self.old.map.now)) }
         // The entry has found the item now.
         ensures puts_over { OnOk result
             (PutsOver ⟦<T as Ranked>⟧.ranks ⟦<T as Ranked>⟧.key_tests self.old item self.new) }
         // With another key it comes back, and nothing changes.
         ensures handed_back { IfErr result (λ e. mismatch_item e ≡ item) }
         ensures rank { IfErr result (λ e.
-            differ (sought ⟦<T as Ranked>⟧.key_tests self.old) item ≡ Some (mismatch_rank e)) }
+            differ (entry_tests ⟦<T as Ranked>⟧.key_tests self.old) item ≡ Some (mismatch_rank e)) }
         ensures unchanged { OnErr result (self.new ≡ self.old) }
     {
         if let Some(rank) = differ(&item, self.key1, self.key2, self.key3) {
             return Err(KeyMismatch::at(rank, item));
         }
-        let by1 = Sought::new(self.slot1, self.map.hash_of1(&item));
-        let by2 = Sought::new(self.slot2, self.map.hash_of2(&item));
-        let by3 = Sought::new(self.slot3, self.map.hash_of3(&item));
+        let by1 = SlotUnder::new(self.slot1, self.map.hash_of1(&item));
+        let by2 = SlotUnder::new(self.slot2, self.map.hash_of2(&item));
+        let by3 = SlotUnder::new(self.slot3, self.map.hash_of3(&item));
         let (displaced, ix) = self.map.put_over(item, &(by1, by2, by3));
         self.slot1 = Some(ix);
         self.slot2 = Some(ix);
@@ -169,7 +169,7 @@ impl<'a, T: TriHashItem, S: BuildHasher> OccupiedEntry<'a, T, S> {
     pub fn remove(self) -> UpToThree<T>
         requires { HasFound ⟦<T as Ranked>⟧.key_tests self }
         ensures taken { result
-            ≡ listing (sought ⟦<T as Ranked>⟧.key_tests self.entry) (bag self.entry.map.now) }
+            ≡ listing (entry_tests ⟦<T as Ranked>⟧.key_tests self.entry) (bag self.entry.map.now) }
         ensures loses { Loses self.entry.map.now result self.exit.0.now }
     {
         let OccupiedEntry {
@@ -181,7 +181,11 @@ impl<'a, T: TriHashItem, S: BuildHasher> OccupiedEntry<'a, T, S> {
             slot2,
             slot3,
         } = self;
-        let unknown = (Sought::nothing(), Sought::nothing(), Sought::nothing());
+        let unknown = (
+            SlotUnder::nothing(),
+            SlotUnder::nothing(),
+            SlotUnder::nothing(),
+        );
         map.take_all(&each_once(slot1, slot2, slot3), &unknown)
     }
 }
@@ -191,7 +195,7 @@ impl<'a, T: TriHashItemMut, S: BuildHasher> OccupiedEntry<'a, T, S> {
     pub fn data1_mut(&mut self) -> Option<&mut T::Data>
         requires { HasFound ⟦<T as Ranked>⟧.key_tests self.old }
         ensures value { option_to_list (option_copied_mut result)
-            ≡ map T.payload (filter (has1 T.TriHashItem T.K1.eq self.old.key1.now) (bag self.old.map.now)) }
+            ≡ map T.data_of (filter (has1 T.TriHashItem T.K1.eq self.old.key1.now) (bag self.old.map.now)) }
         ensures swaps { (x : T) (d : T.Data)
             → IsOnly (has1 T.TriHashItem T.K1.eq self.old.key1.now) (bag self.old.map.now) (Some x)
             → IsPermutation (bag (entry_with1 self.old (λ y. T.put y d)).map.now)
@@ -201,14 +205,14 @@ impl<'a, T: TriHashItemMut, S: BuildHasher> OccupiedEntry<'a, T, S> {
             T.Data.row T.put self.entry result) }
     {
         let slot1 = self.slot1;
-        self.map.data_of(slot1)
+        self.map.data_mut_of(slot1)
     }
 
     /// The data of the item with the second key, for writing.
     pub fn data2_mut(&mut self) -> Option<&mut T::Data>
         requires { HasFound ⟦<T as Ranked>⟧.key_tests self.old }
         ensures value { option_to_list (option_copied_mut result)
-            ≡ map T.payload (filter (has2 T.TriHashItem T.K2.eq self.old.key2.now) (bag self.old.map.now)) }
+            ≡ map T.data_of (filter (has2 T.TriHashItem T.K2.eq self.old.key2.now) (bag self.old.map.now)) }
         ensures swaps { (x : T) (d : T.Data)
             → IsOnly (has2 T.TriHashItem T.K2.eq self.old.key2.now) (bag self.old.map.now) (Some x)
             → IsPermutation (bag (entry_with2 self.old (λ y. T.put y d)).map.now)
@@ -218,14 +222,14 @@ impl<'a, T: TriHashItemMut, S: BuildHasher> OccupiedEntry<'a, T, S> {
             T.Data.row T.put self.entry result) }
     {
         let slot2 = self.slot2;
-        self.map.data_of(slot2)
+        self.map.data_mut_of(slot2)
     }
 
     /// The data of the item with the third key, for writing.
     pub fn data3_mut(&mut self) -> Option<&mut T::Data>
         requires { HasFound ⟦<T as Ranked>⟧.key_tests self.old }
         ensures value { option_to_list (option_copied_mut result)
-            ≡ map T.payload (filter (has3 T.TriHashItem T.K3.eq self.old.key3.now) (bag self.old.map.now)) }
+            ≡ map T.data_of (filter (has3 T.TriHashItem T.K3.eq self.old.key3.now) (bag self.old.map.now)) }
         ensures swaps { (x : T) (d : T.Data)
             → IsOnly (has3 T.TriHashItem T.K3.eq self.old.key3.now) (bag self.old.map.now) (Some x)
             → IsPermutation (bag (entry_with3 self.old (λ y. T.put y d)).map.now)
@@ -235,7 +239,7 @@ impl<'a, T: TriHashItemMut, S: BuildHasher> OccupiedEntry<'a, T, S> {
             T.Data.row T.put self.entry result) }
     {
         let slot3 = self.slot3;
-        self.map.data_of(slot3)
+        self.map.data_mut_of(slot3)
     }
 
     /// Stores what `f` answers at each item as its data, that of the first key first and each item once. What the entry
@@ -247,7 +251,7 @@ impl<'a, T: TriHashItemMut, S: BuildHasher> OccupiedEntry<'a, T, S> {
         requires callable { F.IsAlwaysCallable f }
         ensures same_map { self.new.map.ghost_name ≡ self.old.map.ghost_name }
         ensures stores { Stores (CalledAt F.FnMut) T.put ⟦<T as Ranked>⟧.ranks f
-            (listing (sought ⟦<T as Ranked>⟧.key_tests self.old) (bag self.old.map.now))
+            (listing (entry_tests ⟦<T as Ranked>⟧.key_tests self.old) (bag self.old.map.now))
             (bag self.old.map.now) (bag self.new.map.now) }
         ensures capacity { self.new.map.now.capacity ≡ self.old.map.now.capacity }
         ensures builder { self.new.map.now.builder ≡ self.old.map.now.builder }

@@ -141,7 +141,7 @@ impl<'a, T: TriHashItemMut, S: BuildHasher> OccupiedEntryMut<'a, T, S> {
     /// The data of the item with the first key, for writing. What the entry holds stays held.
     pub fn data1_mut(&mut self) -> Option<&mut T::Data>
         requires { Holds self.old }
-        ensures value { option_to_list (option_copied_mut result) ≡ map T.payload (option_to_list (held1 self.old)) }
+        ensures value { option_to_list (option_copied_mut result) ≡ map T.data_of (option_to_list (held1 self.old)) }
         ensures swaps { (x : T) (d : T.Data) → held1 self.old ≡ Some x
             → IsPermutation (bag (held_with1 self.old (λ y. T.put y d)).map.now)
             (swap ⟦<T as Ranked>⟧.ranks (bag self.old.map.now) x (T.put x d)) }
@@ -150,13 +150,13 @@ impl<'a, T: TriHashItemMut, S: BuildHasher> OccupiedEntryMut<'a, T, S> {
             T.TriHashItem T.K1.Hash T.K2.Hash T.K3.Hash S.BuildHasher S.Hasher.Hasher T.Data.row T.put self.entry result) }
     {
         let slot1 = self.slot1;
-        self.map.data_of(slot1)
+        self.map.data_mut_of(slot1)
     }
 
     /// The data of the item with the second key, for writing. What the entry holds stays held.
     pub fn data2_mut(&mut self) -> Option<&mut T::Data>
         requires { Holds self.old }
-        ensures value { option_to_list (option_copied_mut result) ≡ map T.payload (option_to_list (held2 self.old)) }
+        ensures value { option_to_list (option_copied_mut result) ≡ map T.data_of (option_to_list (held2 self.old)) }
         ensures swaps { (x : T) (d : T.Data) → held2 self.old ≡ Some x
             → IsPermutation (bag (held_with2 self.old (λ y. T.put y d)).map.now)
             (swap ⟦<T as Ranked>⟧.ranks (bag self.old.map.now) x (T.put x d)) }
@@ -165,13 +165,13 @@ impl<'a, T: TriHashItemMut, S: BuildHasher> OccupiedEntryMut<'a, T, S> {
             T.TriHashItem T.K1.Hash T.K2.Hash T.K3.Hash S.BuildHasher S.Hasher.Hasher T.Data.row T.put self.entry result) }
     {
         let slot2 = self.slot2;
-        self.map.data_of(slot2)
+        self.map.data_mut_of(slot2)
     }
 
     /// The data of the item with the third key, for writing. What the entry holds stays held.
     pub fn data3_mut(&mut self) -> Option<&mut T::Data>
         requires { Holds self.old }
-        ensures value { option_to_list (option_copied_mut result) ≡ map T.payload (option_to_list (held3 self.old)) }
+        ensures value { option_to_list (option_copied_mut result) ≡ map T.data_of (option_to_list (held3 self.old)) }
         ensures swaps { (x : T) (d : T.Data) → held3 self.old ≡ Some x
             → IsPermutation (bag (held_with3 self.old (λ y. T.put y d)).map.now)
             (swap ⟦<T as Ranked>⟧.ranks (bag self.old.map.now) x (T.put x d)) }
@@ -180,13 +180,13 @@ impl<'a, T: TriHashItemMut, S: BuildHasher> OccupiedEntryMut<'a, T, S> {
             T.TriHashItem T.K1.Hash T.K2.Hash T.K3.Hash S.BuildHasher S.Hasher.Hasher T.Data.row T.put self.entry result) }
     {
         let slot3 = self.slot3;
-        self.map.data_of(slot3)
+        self.map.data_mut_of(slot3)
     }
 
     /// The data of the item that has all keys, for writing. What the entry holds stays held.
     pub fn data_unique_mut(&mut self) -> Option<&mut T::Data>
         requires { Holds self.old }
-        ensures value { option_to_list (option_copied_mut result) ≡ map T.payload (option_to_list (held_unique self.old)) }
+        ensures value { option_to_list (option_copied_mut result) ≡ map T.data_of (option_to_list (held_unique self.old)) }
         ensures swaps { (x : T) (d : T.Data) → held_unique self.old ≡ Some x
             → IsPermutation (bag (held_with_unique self.old (λ y. T.put y d)).map.now)
             (swap ⟦<T as Ranked>⟧.ranks (bag self.old.map.now) x (T.put x d)) }
@@ -195,7 +195,7 @@ impl<'a, T: TriHashItemMut, S: BuildHasher> OccupiedEntryMut<'a, T, S> {
             T.TriHashItem T.K1.Hash T.K2.Hash T.K3.Hash S.BuildHasher S.Hasher.Hasher T.Data.row T.put self.entry result) }
     {
         let slot = one_of(self.slot1, self.slot2, self.slot3);
-        self.map.data_of(slot)
+        self.map.data_mut_of(slot)
     }
 
     /// Stores what `f` answers at each item as its data, that of the first key first and each item once. `f` sees each

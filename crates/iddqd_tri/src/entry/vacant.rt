@@ -33,7 +33,7 @@ impl<'a, T: Ranked, S: BuildHasher, Q: Keys<T::K1, T::K2, T::K3>> VacantEntry<'a
             self.entry.map result) }
     {
         let VacantEntry { map, keys, at } = self;
-        let slot = map.put_free(item, keys.first(), keys.second(), keys.third(), at)?;
+        let slot = map.insert_free(item, keys.first(), keys.second(), keys.third(), at)?;
         Ok(RefMut { map, slot })
     }
 
@@ -51,7 +51,7 @@ impl<'a, T: Ranked, S: BuildHasher, Q: Keys<T::K1, T::K2, T::K3>> VacantEntry<'a
             T.TriHashItem T.K1.Hash T.K2.Hash T.K3.Hash S.BuildHasher S.Hasher.Hasher self.entry.map result) }
     {
         let VacantEntry { map, keys, at } = self;
-        let slot = map.put_free(item, keys.first(), keys.second(), keys.third(), at)?;
+        let slot = map.insert_free(item, keys.first(), keys.second(), keys.third(), at)?;
         Ok(OccupiedEntryMut {
             map,
             slot1: Some(slot),
@@ -77,7 +77,7 @@ impl<'a, T: TriHashItem, S: BuildHasher> VacantEntry<'a, T, S> {
     {
         let VacantEntry { map, keys, at } = self;
         let KeyTriple { key1, key2, key3 } = keys;
-        match map.put_free(item, key1, key2, key3, at) {
+        match map.insert_free(item, key1, key2, key3, at) {
             Ok(slot) => Ok(OccupiedEntry {
                 map,
                 key1,
@@ -103,7 +103,7 @@ impl<'a, T: TriHashItem, S: BuildHasher, Q: Keys<T::K1, T::K2, T::K3>> VacantEnt
         ensures puts_in { PutsIn self.entry item result }
     {
         let VacantEntry { map, keys, at } = self;
-        match map.put_free(item, keys.first(), keys.second(), keys.third(), at) {
+        match map.insert_free(item, keys.first(), keys.second(), keys.third(), at) {
             Ok(slot) => Ok(OccupiedEntryMut {
                 map,
                 slot1: Some(slot),

@@ -30,7 +30,7 @@ impl<T: Ranked, S: BuildHasher> TriHashMap<T, S> {
                 if let Err(_) = self.make_room() {
                     return Err(MemoryRefused { value: item });
                 }
-                self.put(item, at);
+                self.insert_at(item, at);
                 Ok(UpToThree::new())
             }
             Err(by) => {

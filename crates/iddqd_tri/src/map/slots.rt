@@ -24,7 +24,7 @@ use super::TriHashMap;
 use crate::error::EntryError;
 use crate::item::{Hashed, Ranked, TriHashItem};
 use crate::ranks::{First, Second, Third};
-use iddqd_store::{ItemIndex, Lookup, Meter, Sought, TryReserveError, UpToThree, Vacancy};
+use iddqd_store::{ItemIndex, Lookup, Meter, SlotUnder, TryReserveError, UpToThree, Vacancy};
 use std::hash::{BuildHasher, Hash};
 
 /// An item that an insert refused, and why, with no hold on the map.
@@ -101,7 +101,7 @@ impl<T: TriHashItem, S: BuildHasher> TriHashMap<T, S> {
         key1: &T::K1,
         key2: &T::K2,
         key3: &T::K3,
-    ) -> Result<(Vacancy, Vacancy, Vacancy), (Sought, Sought, Sought)>
+    ) -> Result<(Vacancy, Vacancy, Vacancy), (SlotUnder, SlotUnder, SlotUnder)>
         // The slots, and whether there are some.
         ensures found { AreFound (⟦<T as Ranked>⟧.key_tests key1.now key2.now key3.now) self.now.slots
             (slots_found result) }
@@ -132,19 +132,19 @@ impl<T: TriHashItem, S: BuildHasher> TriHashMap<T, S> {
         match (by1, by2, by3) {
             (Err(at1), Err(at2), Err(at3)) => Ok((at1, at2, at3)),
             (Ok(ix1), by2, by3) => Err((
-                Sought::new(Some(ix1), hash1),
-                Sought::new(by2.ok(), hash2),
-                Sought::new(by3.ok(), hash3),
+                SlotUnder::new(Some(ix1), hash1),
+                SlotUnder::new(by2.ok(), hash2),
+                SlotUnder::new(by3.ok(), hash3),
             )),
             (Err(_), Ok(ix2), by3) => Err((
-                Sought::new(None, hash1),
-                Sought::new(Some(ix2), hash2),
-                Sought::new(by3.ok(), hash3),
+                SlotUnder::new(None, hash1),
+                SlotUnder::new(Some(ix2), hash2),
+                SlotUnder::new(by3.ok(), hash3),
             )),
             (Err(_), Err(_), Ok(ix3)) => Err((
-                Sought::new(None, hash1),
-                Sought::new(None, hash2),
-                Sought::new(Some(ix3), hash3),
+                SlotUnder::new(None, hash1),
+                SlotUnder::new(None, hash2),
+                SlotUnder::new(Some(ix3), hash3),
             )),
         }
     }
@@ -155,7 +155,7 @@ impl<T: TriHashItem, S: BuildHasher> TriHashMap<T, S> {
     pub(crate) fn places(
         &self,
         item: &T,
-    ) -> Result<(Vacancy, Vacancy, Vacancy), (Sought, Sought, Sought)>
+    ) -> Result<(Vacancy, Vacancy, Vacancy), (SlotUnder, SlotUnder, SlotUnder)>
         ensures free { OnOk result (clash ⟦<T as Ranked>⟧.ranks (bag self.now) item.now ≡ []) }
         ensures places { IfOk result (ArePlacesOf
             (⟦<T as Hashed<S>>⟧.hash1 self.now.builder)
@@ -176,7 +176,7 @@ impl<T: TriHashItem, S: BuildHasher> TriHashMap<T, S> {
 
     /// Puts an item in that nothing conflicts with, where it goes in at each rank.
     #[inline(always)]
-    pub(crate) fn put(&mut self, item: T, at: (Vacancy, Vacancy, Vacancy)) -> ItemIndex
+    pub(crate) fn insert_at(&mut self, item: T, at: (Vacancy, Vacancy, Vacancy)) -> ItemIndex
         requires room { length (bag self.old) < self.old.capacity }
         requires free { clash ⟦<T as Ranked>⟧.ranks (bag self.old) item ≡ [] }
         requires places { ArePlacesOf
@@ -197,7 +197,7 @@ impl<T: TriHashItem, S: BuildHasher> TriHashMap<T, S> {
     /// Puts an item in that has these keys, which no item of the map has, and answers its slot. It is refused with the
     /// lowest rank at which its key is another one, or where there is no memory. It compares the keys given, and searches
     /// and hashes nothing.
-    pub(crate) fn put_free(
+    pub(crate) fn insert_free(
         &mut self,
         item: T,
         key1: &T::K1,
@@ -226,7 +226,7 @@ impl<T: TriHashItem, S: BuildHasher> TriHashMap<T, S> {
         if let Err(_) = self.make_room() {
             return Err(EntryError::Memory(item));
         }
-        Ok(self.put(item, at))
+        Ok(self.insert_at(item, at))
     }
 
     /// Takes out the item of a slot. A key of it is hashed only where its hash isn't given.
@@ -265,7 +265,7 @@ impl<T: TriHashItem, S: BuildHasher> TriHashMap<T, S> {
     pub(crate) fn take_all(
         &mut self,
         found: &UpToThree<ItemIndex>,
-        by: &(Sought, Sought, Sought),
+        by: &(SlotUnder, SlotUnder, SlotUnder),
     ) -> UpToThree<T>
         requires live { All (IsLive self.old.slots) found.now }
         requires apart { IsDistinct nat_eq found.now }
@@ -364,7 +364,7 @@ impl<T: TriHashItem, S: BuildHasher> TriHashMap<T, S> {
         if let Err(_) = self.make_room() {
             return Err(Refusal::Memory(item));
         }
-        self.put(item, at);
+        self.insert_at(item, at);
         Ok(())
     }
 }

@@ -37,7 +37,7 @@ impl<T: BiHashItem, S: BuildHasher> BiHashMap<T, S> {
         if self.make_room().is_err() || entered.reserve_one().is_err() {
             return Err((item, ExtendUniqueReason::Memory));
         }
-        let ix = self.put(item, at);
+        let ix = self.insert_at(item, at);
         entered.push(ix);
         Ok(())
     }

@@ -10,14 +10,18 @@ use super::super::BiHashMap;
 use super::found::each_once;
 use crate::item::{BiHashItem, Hashed, Ranked};
 use crate::ranks::{First, Second};
-use iddqd_store::{ItemIndex, Sought, UpToTwo};
+use iddqd_store::{ItemIndex, SlotUnder, UpToTwo};
 use std::hash::{BuildHasher, Hash};
 
 impl<T: BiHashItem, S: BuildHasher> BiHashMap<T, S> {
     /// Puts an item in the place of those that conflict with it, whose slots the searches by its keys found, and gives
     /// them back with the slot of the new one. There is at least one. The item goes into the slot of the first of them,
     /// once the others are out. No key is hashed by which a search found its item.
-    pub(crate) fn put_over(&mut self, item: T, by: &(Sought, Sought)) -> (UpToTwo<T>, ItemIndex)
+    pub(crate) fn put_over(
+        &mut self,
+        item: T,
+        by: &(SlotUnder, SlotUnder),
+    ) -> (UpToTwo<T>, ItemIndex)
         requires conflicts { ListsConflicts ⟦<T as Ranked>⟧.ranks self.old item
             (each_once (by.now.0.slot ∷ by.now.1.slot ∷ [])) }
         requires some { length (each_once (by.now.0.slot ∷ by.now.1.slot ∷ [])) ≢ 0 }
@@ -41,7 +45,7 @@ impl<T: BiHashItem, S: BuildHasher> BiHashMap<T, S> {
 
     /// Puts an item in the slot of the one that conflicts with it, which it gives back. Where both have one hash at a
     /// rank, the pair in its table stays.
-    fn exchange(&mut self, ix: ItemIndex, item: T, by: &(Sought, Sought)) -> T
+    fn exchange(&mut self, ix: ItemIndex, item: T, by: &(SlotUnder, SlotUnder)) -> T
         requires live { IsLive self.old.slots ix }
         requires free { clash ⟦<T as Ranked>⟧.ranks (live_items (slice_set self.old.slots ix None)) item ≡ [] }
         requires hashes { HaveHashes

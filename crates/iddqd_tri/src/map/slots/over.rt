@@ -10,7 +10,7 @@ use super::super::TriHashMap;
 use super::found::each_once;
 use crate::item::{Hashed, Ranked, TriHashItem};
 use crate::ranks::{First, Second, Third};
-use iddqd_store::{ItemIndex, Sought, UpToThree};
+use iddqd_store::{ItemIndex, SlotUnder, UpToThree};
 use std::hash::{BuildHasher, Hash};
 
 impl<T: TriHashItem, S: BuildHasher> TriHashMap<T, S> {
@@ -20,7 +20,7 @@ impl<T: TriHashItem, S: BuildHasher> TriHashMap<T, S> {
     pub(crate) fn put_over(
         &mut self,
         item: T,
-        by: &(Sought, Sought, Sought),
+        by: &(SlotUnder, SlotUnder, SlotUnder),
     ) -> (UpToThree<T>, ItemIndex)
         requires conflicts { ListsConflicts ⟦<T as Ranked>⟧.ranks self.old item
             (each_once (by.now.0.slot ∷ by.now.1.slot ∷ by.now.2.slot ∷ [])) }
@@ -46,7 +46,7 @@ impl<T: TriHashItem, S: BuildHasher> TriHashMap<T, S> {
 
     /// Puts an item in the slot of the one that conflicts with it, which it gives back. Where both have one hash at a
     /// rank, the pair in its table stays.
-    fn exchange(&mut self, ix: ItemIndex, item: T, by: &(Sought, Sought, Sought)) -> T
+    fn exchange(&mut self, ix: ItemIndex, item: T, by: &(SlotUnder, SlotUnder, SlotUnder)) -> T
         requires live { IsLive self.old.slots ix }
         requires free { clash ⟦<T as Ranked>⟧.ranks (live_items (slice_set self.old.slots ix None)) item ≡ [] }
         requires hashes { HaveHashes

@@ -47,7 +47,7 @@ impl<T: TriHashItemMut, S: BuildHasher> TriHashMap<T, S> {
     /// The data of the item of a live slot, for writing.
     pub(crate) fn data_mut_at(&mut self, ix: ItemIndex) -> &mut T::Data
         requires { IsLive self.old.slots ix }
-        ensures value { (x : T) → get self.old.slots ix ≡ Some x → result.now ≡ T.payload x }
+        ensures value { (x : T) → get self.old.slots ix ≡ Some x → result.now ≡ T.data_of x }
         ensures swaps { (x : T) (d : T.Data) → get self.old.slots ix ≡ Some x
             → IsPermutation (bag (map_with self.old ix (λ y. T.put y d)))
             (swap ⟦<T as Ranked>⟧.ranks (bag self.old) x (T.put x d)) }
@@ -59,11 +59,11 @@ impl<T: TriHashItemMut, S: BuildHasher> TriHashMap<T, S> {
     }
 
     /// The data of the item of the slot that there may be, for writing.
-    pub(crate) fn data_of(&mut self, slot: Option<ItemIndex>) -> Option<&mut T::Data>
+    pub(crate) fn data_mut_of(&mut self, slot: Option<ItemIndex>) -> Option<&mut T::Data>
         requires { IfSome slot (IsLive self.old.slots) }
         ensures some { is_some result ≡ is_some slot }
         ensures value { (x : T) → option_and_then (get self.old.slots) slot ≡ Some x
-            → IfSome result (λ r. r.now ≡ T.payload x) }
+            → IfSome result (λ r. r.now ≡ T.data_of x) }
         ensures swaps { (x : T) (d : T.Data) → option_and_then (get self.old.slots) slot ≡ Some x
             → IsPermutation (bag (map_with_if self.old slot (λ y. T.put y d)))
             (swap ⟦<T as Ranked>⟧.ranks (bag self.old) x (T.put x d)) }

@@ -7,7 +7,7 @@ returns g c = (
   search rules,
   record {
     lends = tt;
-    value = found_data _ g.T.BiHashItemMut.payload _ _ c.requires.found.0 c.data_of.result c.data_of.ensures.some c.data_of.ensures.value;
-    swaps = λ x d is. c.data_of.ensures.swaps x d (found_only _ x _ c.requires.found.0.only is);
+    value = found_data _ g.T.BiHashItemMut.data_of _ _ c.requires.found.0 c.data_mut_of.result c.data_mut_of.ensures.some c.data_mut_of.ensures.value;
+    swaps = λ x d is. c.data_mut_of.ensures.swaps x d (found_only _ x _ c.requires.found.0.only is);
   },
 )

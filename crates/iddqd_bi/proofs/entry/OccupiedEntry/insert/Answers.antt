@@ -1,7 +1,7 @@
 use Rattle.std.proofs.Common.{rules, arith, refl, ◌≡◌, [], ◌∷◌, true, sym, ap, ◌∙◌}
 use Rattle.iddqd_store.specs.Map.{bag, hash_of}
 use Rattle.iddqd_store.proofs.MapLemmas.Storing.{live_found}
-use Rattle.iddqd_store.proofs.RankLemmas.Sought.{found_under}
+use Rattle.iddqd_store.proofs.RankLemmas.Under.{found_under}
 use Rattle.iddqd_store.proofs.SlotLemmas.Entries.{IsDistinct-each_once}
 use Rattle.iddqd_store.proofs.SlotLemmas.Here.{finds_here}
 use Rattle.iddqd_bi.specs.Keys.{key_tests, ranks}

@@ -11,12 +11,12 @@ returns g c =
     let slot = head_of (found_by_all (c.args.self.now.slot1 ∷ c.args.self.now.slot2 ∷ [])) in
     let same = c.one_of-slot.ensures in
     let live : IfSome slot (IsLive m.slots) = search rules in
-    let part = g.T.BiHashItemMut.payload in (
+    let part = g.T.BiHashItemMut.data_of in (
       search rules,
       record {
         lends = tt;
-        value = subst (λ s. option_to_list (option_copied_mut c.data_of.result) ≡ map part (option_to_list (option_and_then (get m.slots) s))) same (held_data part m.slots c.one_of-slot.result c.data_of.result (subst (λ s. IfSome s (IsLive m.slots)) (sym same) live) c.data_of.ensures.some c.data_of.ensures.value);
-        swaps = rw same at c.data_of.ensures.swaps;
+        value = subst (λ s. option_to_list (option_copied_mut c.data_mut_of.result) ≡ map part (option_to_list (option_and_then (get m.slots) s))) same (held_data part m.slots c.one_of-slot.result c.data_mut_of.result (subst (λ s. IfSome s (IsLive m.slots)) (sym same) live) c.data_mut_of.ensures.some c.data_mut_of.ensures.value);
+        swaps = rw same at c.data_mut_of.ensures.swaps;
         holds = λ f. record { live1 = held_live f m slot c.args.self.now.slot1 c.requires.live1; live2 = held_live f m slot c.args.self.now.slot2 c.requires.live2 };
       },
     )

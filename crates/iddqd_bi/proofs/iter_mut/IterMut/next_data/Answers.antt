@@ -22,7 +22,7 @@ returns g c =
       record {
         lends = tt;
         next = next;
-        value = part_there g.T.BiHashItemMut.payload _ _ c.in_ok-ix.ensures.live c.data_mut_at.ensures.value ∙ ap (option_map g.T.BiHashItemMut.payload) (c.in_ok-ix.ensures.next.1 ∙ sym (ap (λ (l : List g.row.T.Denot). slice_get l 0) pass.comes));
+        value = part_there g.T.BiHashItemMut.data_of _ _ c.in_ok-ix.ensures.live c.data_mut_at.ensures.value ∙ ap (option_map g.T.BiHashItemMut.data_of) (c.in_ok-ix.ensures.next.1 ∙ sym (ap (λ (l : List g.row.T.Denot). slice_get l 0) pass.comes));
         end = tt;
         counted = λ f is. counted_on c.args.self.now f is next;
       },

@@ -28,7 +28,7 @@ returns g c = (
     value = λ x found.
         let at = ap (λ (m : Map g.row.T.Denot g.row.S.Denot). get m.slots c.args.ix) c.self.view_is ∙ found in
         let here = ap (get c.self.inside.items.slots) (sym c.number.ensures) ∙ c.item_mut.ensures.value in
-        c.data_mut.ensures.value ∙ ap g.T.BiHashItemMut.payload (Some-injective (sym here ∙ at));
+        c.data_mut.ensures.value ∙ ap g.T.BiHashItemMut.data_of (Some-injective (sym here ∙ at));
     swaps = λ x d found.
         let at = ap (λ (m : Map g.row.T.Denot g.row.S.Denot). get m.slots c.args.ix) c.self.view_is ∙ found in
         rw (← c.self.view_is, at) (set_swaps (AreLawful-ranks g.T.BiHashItem g.met.T.K1.Eq.laws g.met.T.K2.Eq.laws) (omega arith) c.self.invariant c.args.ix x _ at);

@@ -2,7 +2,7 @@ use Rattle.std.proofs.Common.{arith, rules, refl, ◌∙◌}
 use Rattle.std.proofs.lemmas.List.Sorted.{length_permutation}
 use Rattle.iddqd_store.proofs.RankLemmas.Index.{pair_in}
 use Rattle.iddqd_store.proofs.RankLemmas.Rehashed.{IsIndexed-moved, come, left, sound_moved, stands}
-use Rattle.iddqd_store.proofs.RankLemmas.Sought.{known_of, known_there}
+use Rattle.iddqd_store.proofs.RankLemmas.Under.{known_of, known_there}
 use Rattle.iddqd_bi.proofs.MapLemmas.{AreLawful-ranks}
 use Rattle.iddqd_bi.proofs.map.BiHashMap.exchange.Goals as goal
 

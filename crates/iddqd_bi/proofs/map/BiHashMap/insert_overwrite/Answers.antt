@@ -20,7 +20,7 @@ pub returns-in_default-clause-overwrites : goal.returns-in_default-clause-overwr
 returns-in_default-clause-overwrites g c =
     let by = ranks g.T.BiHashItem g.T.K1.PartialEq.eq g.T.K2.PartialEq.eq in
     record {
-      items = rw g.met.T.Ranked.ranks_are (over_none by (bag c.args.self.now) c.args.item c.in-Ok.ensures.free (bag c.put.new.self) (rw c.make_room.ensures.slots at c.put.ensures.puts_at.items));
+      items = rw g.met.T.Ranked.ranks_are (over_none by (bag c.args.self.now) c.args.item c.in-Ok.ensures.free (bag c.insert_at.new.self) (rw c.make_room.ensures.slots at c.insert_at.ensures.puts_at.items));
       fits = search rules;
       no_less_room = search rules;
       same_room = search rules;

@@ -10,7 +10,7 @@ use Rattle.iddqd_store.specs.Slots.Found.{items_at}
 use Rattle.iddqd_store.proofs.BagLemmas.Over.{drop-found, items_at-taken, live-others, IsPermutation-taken}
 use Rattle.std.proofs.lemmas.Bool.Decides.{nat_tests}
 use Rattle.iddqd_store.proofs.RankLemmas.Search.{each_at}
-use Rattle.iddqd_store.proofs.RankLemmas.Sought.{IsUnder-fewer, known_there, stood}
+use Rattle.iddqd_store.proofs.RankLemmas.Under.{IsUnder-fewer, known_there, stood}
 use Rattle.iddqd_bi.proofs.map.BiHashMap.take_all.Goals as goal
 use Rattle.iddqd_bi.proofs.map.BiHashMap.take_all.Goals.{in-Some, in_default}
 

@@ -3,7 +3,7 @@ use Rattle.std.specs.Prelude.{◌≢◌, nat_lt, if◌then◌else◌}
 use Rattle.std.specs.List.Sorted.{IsPermutation}
 use Rattle.std.proofs.lemmas.List.{get_or-set_other, set-set}
 use Rattle.std.proofs.lemmas.List.Sorted.{IsPermutation-trans, IsPermutation-cons, length_permutation}
-use Rattle.iddqd_store.specs.Table.Ring.{cell, gap, held, stretch, IsReached}
+use Rattle.iddqd_store.specs.Table.Ring.{cell, gap, pairs_in, stretch, IsReached}
 use Rattle.iddqd_store.specs.Table.{hashes, IsTable}
 use Rattle.iddqd_store.proofs.TableLemmas.Line.{cases_option}
 use Rattle.iddqd_store.proofs.TableLemmas.Write.{held_take, held_move}
@@ -65,11 +65,11 @@ loop-pair-preserved c =
     let far : c.loop-pair.far + gap n home hole ≡ gap n home at = omega (arith, i.apart, ga) in
     elim c.if-far-way.branch [
       | then-far-way w' ↦
-          let r : set c.put.new.self at None ≡ set (set rest at None) hole (Some pair) = ap (λ (r : List (Option (ℕ × ℕ))). set r at None) c.put.ensures ∙ left_behind cs hole at pair away in
+          let r : set c.write.new.self at None ≡ set (set rest at None) hole (Some pair) = ap (λ (r : List (Option (ℕ × ℕ))). set r at None) c.write.ensures ∙ left_behind cs hole at pair away in
           let goes : gap n (pair.0 % n) hole ≤ gap n (pair.0 % n) at = reaches n home (pair.0 % n) hole at c.loop-pair.far lh (omega arith) h.below lat i.some far (omega (arith, way, w'.if-far-way.true)) in
           let m : Holed (λ p. p.0 % n) n home at t row (set (set rest at None) hole (Some pair)) =
           holed_move (λ p. p.0 % n) n home lh (λ p. omega arith) row rest hole at b.0 s t pair h lat ga there goes b.1 b.2 (omega (arith, b.3, more)) more in
-          let k : IsPermutation (held rest) (held (set (set rest at None) hole (Some pair))) =
+          let k : IsPermutation (pairs_in rest) (pairs_in (set (set rest at None) hole (Some pair))) =
           held_move rest at hole pair (omega (arith, h.len, lat)) (omega (arith, h.len, h.below)) there h.empty in
           record {
             looked = omega (arith, i.looked, c.cell_at.ensures.look);
@@ -80,7 +80,7 @@ loop-pair-preserved c =
             taken = λ p is. rw (w'.hole-is, r) (IsPermutation-trans _ _ _ (i.taken p is) (IsPermutation-cons p _ _ k));
           }
       | else-far-way w' ↦
-          let r : set c.put.new.self hole None ≡ rest = ap (λ (r : List (Option (ℕ × ℕ))). set r hole None) c.put.ensures ∙ set-set cs hole (Some pair) None in
+          let r : set c.write.new.self hole None ≡ rest = ap (λ (r : List (Option (ℕ × ℕ))). set r hole None) c.write.ensures ∙ set-set cs hole (Some pair) None in
           let stays : gap n (pair.0 % n) at < gap n (pair.0 % n) hole = falls_short n home (pair.0 % n) hole at c.loop-pair.far lh (omega arith) h.below lat i.some far (omega (arith, way, w'.if-far-way.false)) in
           let m : Holed (λ p. p.0 % n) n home hole t row rest =
           holed_pass (λ p. p.0 % n) n home lh (λ p. omega arith) row rest hole at s t pair h lat ga there stays more in
@@ -115,10 +115,10 @@ returns-clause-table c =
     let table : IsTable rest =
     ⊎_elim (λ (z : cell row c.args.emptied ≡ None). absurd (c.requires.pair z))
     (λ (z : (x : ℕ × ℕ) × (cell row c.args.emptied ≡ Some x)).
-    let p : length (z.0 ∷ held rest) ≡ length (held row) = length_permutation _ _ (i.taken z.0 z.1) in
+    let p : length (z.0 ∷ pairs_in rest) ≡ length (pairs_in row) = length_permutation _ _ (i.taken z.0 z.1) in
     record {
       size = rw h.len c.requires.table.size;
-      fits = let f : length (held row) ≤ n / 8 * 7 = c.requires.table.fits in rw h.len (omega (arith, p, f));
+      fits = let f : length (pairs_in row) ≤ n / 8 * 7 = c.requires.table.fits in rw h.len (omega (arith, p, f));
       reached = subst (λ (m : ℕ). IsReached (λ p. p.0 % m) m rest) (sym h.len) r;
     })
     (cases_option (cell row c.args.emptied)) in
@@ -140,5 +140,5 @@ returns-clause-looks c =
     let away : at ≢ hole = λ e. let g : gap n home at ≡ gap n home hole = ap (gap n home) e in omega (arith, g, ga, h.behind) in
     let still : cell (set c.loop-pair.cells hole None) at ≡ cell c.loop-pair.cells at = get_or-set_other c.loop-pair.cells hole at None None away in
     let none : cell row at ≡ None = sym (h.ahead at lat (omega (arith, ga))) ∙ (still ∙ (sym c.cell_at.ensures.value ∙ c.in_default.is)) in
-    let e : stretch (hashes (held row)) n c.args.hash ≡ s = walk_end row c.args.hash at s c.requires.table i.walk none in
+    let e : stretch (hashes (pairs_in row)) n c.args.hash ≡ s = walk_end row c.args.hash at s c.requires.table i.walk none in
     omega (arith, e, i.looked, c.cell_at.ensures.look)

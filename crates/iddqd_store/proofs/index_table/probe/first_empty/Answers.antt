@@ -1,6 +1,6 @@
 use Rattle.std.proofs.Common.{arith, ℕ, ◌≡◌, ◌+◌, ◌-◌, ◌%◌, length, None}
 use Rattle.std.specs.Prelude.{◌≢◌, nat_lt, if◌then◌else◌}
-use Rattle.iddqd_store.specs.Table.Ring.{cell, held, stretch}
+use Rattle.iddqd_store.specs.Table.Ring.{cell, pairs_in, stretch}
 use Rattle.iddqd_store.specs.Table.{hashes}
 use Rattle.iddqd_store.proofs.TableLemmas.Search.{walk_more, walk_end, walk_first, none_from_test, some_from_test}
 use Rattle.iddqd_store.proofs.index_table.probe.first_empty.Goals as goal
@@ -27,5 +27,5 @@ returns-clause-looks c =
     let row = c.args.cells.now in
     let none : cell row c.loop-at.at ≡ None = none_from_test c.cell_at.result _ c.is_some.result c.cell_at.ensures.value c.is_some.ensures c.loop-at-test.false in
     let s : ℕ = c.loop-at.meter - c.args.meter.now in
-    let e : stretch (hashes (held row)) (length row) c.args.hash ≡ s = walk_end row c.args.hash c.loop-at.at s c.requires.table c.loop-at.invariant.walk none in
+    let e : stretch (hashes (pairs_in row)) (length row) c.args.hash ≡ s = walk_end row c.args.hash c.loop-at.at s c.requires.table c.loop-at.invariant.walk none in
     omega (arith, e, c.loop-at.invariant.looked, c.cell_at.ensures.look)

@@ -8,7 +8,7 @@ use Rattle.iddqd_store.specs.Slots.{IsLive}
 use Rattle.iddqd_store.specs.Slots.Found.{items_at}
 use Rattle.iddqd_store.proofs.BagLemmas.Over.{clash-taken, over-taken}
 use Rattle.iddqd_store.proofs.MapLemmas.Places.{gives_way, stand_in}
-use Rattle.iddqd_store.proofs.RankLemmas.Sought.{IsUnder-fewer}
+use Rattle.iddqd_store.proofs.RankLemmas.Under.{IsUnder-fewer}
 use Rattle.iddqd_tri.specs.Keys.{ranks}
 use Rattle.iddqd_tri.proofs.map.TriHashMap.put_over.Goals as goal
 

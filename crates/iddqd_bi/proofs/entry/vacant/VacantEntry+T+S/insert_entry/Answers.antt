@@ -12,7 +12,7 @@ returns-in-Ok-clause-gains_and_finds g c =
     let same2 : g.T.K2.PartialEq.eq v.keys.key2.now (g.T.BiHashItem.key2 c.args.item) ≡ true = search rules in
     let tests = key_tests g.T.BiHashItem g.T.K1.PartialEq.eq g.T.K2.PartialEq.eq v.keys.key1.now v.keys.key2.now in
     let keys = AreKeyTests-keys g.T.BiHashItem g.T.K1.PartialEq.eq g.T.K2.PartialEq.eq g.met.T.K1.Eq.laws g.met.T.K2.Eq.laws v.keys.key1.now v.keys.key2.now in
-    let here = finds_here (ranks g.T.BiHashItem g.T.K1.PartialEq.eq g.T.K2.PartialEq.eq) tests (omega arith) keys c.put_free.new.self.slots c.in-Ok.slot c.args.item (same1, (same2, tt)) put.sound put.at in
+    let here = finds_here (ranks g.T.BiHashItem g.T.K1.PartialEq.eq g.T.K2.PartialEq.eq) tests (omega arith) keys c.insert_free.new.self.slots c.in-Ok.slot c.args.item (same1, (same2, tt)) put.sound put.at in
     record {
       same_map = refl;
       gains = put.gains;

@@ -13,7 +13,7 @@ returns-in-Ok-clause-gains_and_finds g c =
     let same3 : g.T.K3.PartialEq.eq v.keys.key3.now (g.T.TriHashItem.key3 c.args.item) ≡ true = search rules in
     let tests = key_tests g.T.TriHashItem g.T.K1.PartialEq.eq g.T.K2.PartialEq.eq g.T.K3.PartialEq.eq v.keys.key1.now v.keys.key2.now v.keys.key3.now in
     let keys = AreKeyTests-keys g.T.TriHashItem g.T.K1.PartialEq.eq g.T.K2.PartialEq.eq g.T.K3.PartialEq.eq g.met.T.K1.Eq.laws g.met.T.K2.Eq.laws g.met.T.K3.Eq.laws v.keys.key1.now v.keys.key2.now v.keys.key3.now in
-    let here = finds_here (ranks g.T.TriHashItem g.T.K1.PartialEq.eq g.T.K2.PartialEq.eq g.T.K3.PartialEq.eq) tests (omega arith) keys c.put_free.new.self.slots c.in-Ok.slot c.args.item (same1, (same2, (same3, tt))) put.sound put.at in
+    let here = finds_here (ranks g.T.TriHashItem g.T.K1.PartialEq.eq g.T.K2.PartialEq.eq g.T.K3.PartialEq.eq) tests (omega arith) keys c.insert_free.new.self.slots c.in-Ok.slot c.args.item (same1, (same2, (same3, tt))) put.sound put.at in
     record {
       same_map = refl;
       gains = put.gains;

@@ -6,12 +6,12 @@ use std::marker::Model;
 
 /// The slot that a search by a hash found, if it found one, with the hash: so the hash of the key in this slot is known.
 #[derive(Drop)]
-pub struct Sought {
+pub struct SlotUnder {
     slot: Option<ItemIndex>,
     hash: u64,
 }
 
-impl Model for Sought {
+impl Model for SlotUnder {
     ghost use Rattle.iddqd_store.specs.Rank.{SlotUnder};
 
     ghost Value = { SlotUnder };
@@ -19,19 +19,19 @@ impl Model for Sought {
     ghost view = { λ s. record { slot = s.slot; hash = s.hash } };
 }
 
-impl Sought {
+impl SlotUnder {
     /// What was found under this hash.
-    pub fn new(slot: Option<ItemIndex>, hash: u64) -> Sought
+    pub fn new(slot: Option<ItemIndex>, hash: u64) -> SlotUnder
         ensures { result ≡ record { slot = slot; hash = hash } }
     {
-        Sought { slot, hash }
+        SlotUnder { slot, hash }
     }
 
     /// Nothing was found.
-    pub fn nothing() -> Sought
+    pub fn nothing() -> SlotUnder
         ensures { result.slot ≡ None }
     {
-        Sought {
+        SlotUnder {
             slot: None,
             hash: 0,
         }

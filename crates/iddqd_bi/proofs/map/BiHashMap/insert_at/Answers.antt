@@ -6,7 +6,7 @@ use Rattle.iddqd_store.proofs.RankLemmas.Invariant.{IsIndexed-insert}
 use Rattle.iddqd_store.proofs.MapLemmas.{free_sound}
 use Rattle.iddqd_bi.specs.Keys.{ranks}
 use Rattle.iddqd_bi.proofs.MapLemmas.{AreLawful-ranks}
-use Rattle.iddqd_bi.proofs.map.BiHashMap.put.Goals as goal
+use Rattle.iddqd_bi.proofs.map.BiHashMap.insert_at.Goals as goal
 
 pub insert_reserved-ix-requires : goal.insert_reserved-ix-requires
 insert_reserved-ix-requires g c =

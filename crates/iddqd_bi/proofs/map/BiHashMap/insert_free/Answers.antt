@@ -1,16 +1,16 @@
 use Rattle.std.proofs.Common.{rules, refl, ◌≡◌, true, ap, ◌∙◌}
 use Rattle.iddqd_store.specs.Map.{hash_of}
 use Rattle.iddqd_bi.proofs.MapLemmas.{clash-both}
-use Rattle.iddqd_bi.proofs.map.BiHashMap.put_free.Goals as goal
+use Rattle.iddqd_bi.proofs.map.BiHashMap.insert_free.Goals as goal
 
-pub put-requires-clause-free : goal.put-requires-clause-free
-put-requires-clause-free g c =
+pub insert_at-requires-clause-free : goal.insert_at-requires-clause-free
+insert_at-requires-clause-free g c =
     let same1 : g.T.K1.PartialEq.eq c.args.key1.now (g.T.BiHashItem.key1 c.args.item) ≡ true = search rules in
     let same2 : g.T.K2.PartialEq.eq c.args.key2.now (g.T.BiHashItem.key2 c.args.item) ≡ true = search rules in
     rw c.make_room.ensures.slots (clash-both g.T.BiHashItem g.T.K1.PartialEq.eq g.T.K2.PartialEq.eq g.met.T.K1.Eq.laws g.met.T.K2.Eq.laws c.args.item _ _ same1 same2 _ c.requires.absent)
 
-pub put-requires-clause-places : goal.put-requires-clause-places
-put-requires-clause-places g c =
+pub insert_at-requires-clause-places : goal.insert_at-requires-clause-places
+insert_at-requires-clause-places g c =
     let same1 : g.T.K1.PartialEq.eq c.args.key1.now (g.T.BiHashItem.key1 c.args.item) ≡ true = search rules in
     let same2 : g.T.K2.PartialEq.eq c.args.key2.now (g.T.BiHashItem.key2 c.args.item) ≡ true = search rules in
     let hash = hash_of g.S.BuildHasher g.S.Hasher.Hasher c.args.self.now.builder in

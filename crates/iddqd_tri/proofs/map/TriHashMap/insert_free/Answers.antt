@@ -1,17 +1,17 @@
 use Rattle.std.proofs.Common.{rules, refl, ◌≡◌, true, ap, ◌∙◌}
 use Rattle.iddqd_store.specs.Map.{hash_of}
 use Rattle.iddqd_tri.proofs.MapLemmas.{clash-all}
-use Rattle.iddqd_tri.proofs.map.TriHashMap.put_free.Goals as goal
+use Rattle.iddqd_tri.proofs.map.TriHashMap.insert_free.Goals as goal
 
-pub put-requires-clause-free : goal.put-requires-clause-free
-put-requires-clause-free g c =
+pub insert_at-requires-clause-free : goal.insert_at-requires-clause-free
+insert_at-requires-clause-free g c =
     let same1 : g.T.K1.PartialEq.eq c.args.key1.now (g.T.TriHashItem.key1 c.args.item) ≡ true = search rules in
     let same2 : g.T.K2.PartialEq.eq c.args.key2.now (g.T.TriHashItem.key2 c.args.item) ≡ true = search rules in
     let same3 : g.T.K3.PartialEq.eq c.args.key3.now (g.T.TriHashItem.key3 c.args.item) ≡ true = search rules in
     rw c.make_room.ensures.slots (clash-all g.T.TriHashItem g.T.K1.PartialEq.eq g.T.K2.PartialEq.eq g.T.K3.PartialEq.eq g.met.T.K1.Eq.laws g.met.T.K2.Eq.laws g.met.T.K3.Eq.laws c.args.item _ _ _ same1 same2 same3 _ c.requires.absent)
 
-pub put-requires-clause-places : goal.put-requires-clause-places
-put-requires-clause-places g c =
+pub insert_at-requires-clause-places : goal.insert_at-requires-clause-places
+insert_at-requires-clause-places g c =
     let same1 : g.T.K1.PartialEq.eq c.args.key1.now (g.T.TriHashItem.key1 c.args.item) ≡ true = search rules in
     let same2 : g.T.K2.PartialEq.eq c.args.key2.now (g.T.TriHashItem.key2 c.args.item) ≡ true = search rules in
     let same3 : g.T.K3.PartialEq.eq c.args.key3.now (g.T.TriHashItem.key3 c.args.item) ≡ true = search rules in

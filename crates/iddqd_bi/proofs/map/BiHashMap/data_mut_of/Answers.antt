@@ -1,7 +1,7 @@
 use Rattle.std.proofs.Common.{rules, ap, sym, ◌∙◌}
 use Rattle.std.specs.Option.{option_and_then}
 use Rattle.iddqd_store.specs.Slots.{get}
-use Rattle.iddqd_tri.proofs.map.TriHashMap.data_of.Goals as goal
+use Rattle.iddqd_bi.proofs.map.BiHashMap.data_mut_of.Goals as goal
 
 pub returns-in-Some : goal.returns-in-Some
 returns-in-Some g c = (
