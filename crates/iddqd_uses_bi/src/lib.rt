@@ -42,6 +42,6 @@ pub use refusing::{
 };
 pub use updating::{File, note_opened, set_all, set1};
 pub use users::{User, by_login, register, register_all};
-pub use walking::{write_all, write_first, write_first_and_count};
+pub use walking::{count_by_walk, write_all, write_first, write_first_and_count};
 pub use words::{Word, add_word, forget_word, has_word};
-pub use writing::{replace1, write1, write1_again, write1_twice};
+pub use writing::{is_lent1, replace1, write1, write1_again, write1_and_tell, write1_twice};
