@@ -6,6 +6,7 @@ mod building;
 mod entries;
 mod finding;
 mod inserting;
+mod keeping;
 mod laws;
 mod lent;
 mod loading;
@@ -28,6 +29,7 @@ pub use finding::{count_all, put_and_find, remove_and_find};
 pub use inserting::{
     count_conflicts, insert_both, insert_or_back, insert_or_drop, overwrite_or_drop,
 };
+pub use keeping::keep_and_count;
 pub use laws::{
     all_given, equal_through_a_third, equal_to_itself, equal_to_the_same_items, equal_turned_round,
     extend_after_reserve, found1_where_contained, found2_where_contained, found3_where_contained,
