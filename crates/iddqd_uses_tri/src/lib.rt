@@ -10,6 +10,7 @@ mod keeping;
 mod laws;
 mod lent;
 mod loading;
+mod matching;
 mod refusing;
 mod sessions;
 mod updating;
@@ -39,6 +40,7 @@ pub use laws::{
 };
 pub use lent::{insert_held, write_by_key1, write_data1, write_held1};
 pub use loading::load;
+pub use matching::{Same, find_same};
 pub use refusing::{
     NotAdded, add, add_and_count, add_by_from, add_by_map_err, add_or_count, is_added,
 };
