@@ -1,5 +1,5 @@
 //! Searches by one rank.
-ghost use Rattle.std.specs.Prelude.{◌≡◌, option_copied, IfErr, IfOk, IfSome};
+ghost use Rattle.std.specs.Prelude.{◌≡◌, ◌*◌, ◌/◌, option_copied, IfErr, IfOk, IfSome};
 ghost use Rattle.std.specs.List.{list_any};
 ghost use Rattle.std.specs.Option.{option_and_then};
 ghost use Rattle.std.specs.Result.{result_ok};
@@ -136,6 +136,7 @@ impl<'a, T, R: KeyOf<T>, S: BuildHasher> Lookup<'a, T, R, S> {
             (key_hash R.key R.Key.hash_input S.BuildHasher S.Hasher.Hasher self.now.builder) self.now.slots ix hash) }
         ensures vacant { IfErr result (IsVacantFor
             (key_hash R.key R.Key.hash_input S.BuildHasher S.Hasher.Hasher self.now.builder) (bag self.now) hash) }
+        ensures cells { IfErr result (λ at. at.cells / 8 * 7 ≡ self.now.capacity) }
     {
         self.search_with(hash, &mut ByQuery::new(&query), &mut Meter::new())
     }
@@ -159,6 +160,7 @@ impl<'a, T, R: KeyOf<T>, S: BuildHasher> Lookup<'a, T, R, S> {
             (key_hash R.key R.Key.hash_input S.BuildHasher S.Hasher.Hasher self.now.builder) self.now.slots ix hash) }
         ensures vacant { IfErr result (IsVacantFor
             (key_hash R.key R.Key.hash_input S.BuildHasher S.Hasher.Hasher self.now.builder) (bag self.now) hash) }
+        ensures cells { IfErr result (λ at. at.cells / 8 * 7 ≡ self.now.capacity) }
         ensures is_kept { M.IsKept matcher.old matcher.new }
         ensures costs { SearchCosts
             (key_hash R.key R.Key.hash_input S.BuildHasher S.Hasher.Hasher self.now.builder) (bag self.now)

@@ -15,7 +15,7 @@ put-requires-clause-first g c =
     let hash = hash_of g.S.BuildHasher g.S.Hasher.Hasher c.args.self.now.builder in
     let at = c.requires.first in
     rw (c.make_room.ensures.slots, c.make_room.ensures.builder)
-    (record { same = at.same ∙ ap hash (g.met.T.K1.Hash.respects_eq _ _ same1); free = at.free })
+    (record { same = at.same ∙ ap hash (g.met.T.K1.Hash.respects_eq _ _ same1); free = at.free; fits = at.fits })
 
 pub put-requires-clause-second : goal.put-requires-clause-second
 put-requires-clause-second g c =
@@ -23,7 +23,7 @@ put-requires-clause-second g c =
     let hash = hash_of g.S.BuildHasher g.S.Hasher.Hasher c.args.self.now.builder in
     let at = c.requires.second in
     rw (c.make_room.ensures.slots, c.make_room.ensures.builder)
-    (record { same = at.same ∙ ap hash (g.met.T.K2.Hash.respects_eq _ _ same2); free = at.free })
+    (record { same = at.same ∙ ap hash (g.met.T.K2.Hash.respects_eq _ _ same2); free = at.free; fits = at.fits })
 
 pub returns-in-Err-clause-memory : goal.returns-in-Err-clause-memory
 returns-in-Err-clause-memory g c =
