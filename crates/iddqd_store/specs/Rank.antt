@@ -2,7 +2,7 @@
 pub mod Asking
 pub mod Index
 pub mod Keys
-use Rattle.std.specs.Prelude.{◌≡◌, ℕ, ◌+◌, ◌≤◌, Bool, true, List, Option, Contains, IfSome, length, map}
+use Rattle.std.specs.Prelude.{◌≡◌, ℕ, ◌+◌, ◌*◌, ◌/◌, ◌≤◌, Bool, true, List, Option, Contains, IfSome, length, map}
 use Rattle.std.specs.Hash.{HashWrites}
 use Rattle.std.specs.List.{IsDistinct}
 use Rattle.std.specs.declared.hash.Hasher as hasher
@@ -35,10 +35,12 @@ pub record SearchCosts {T A : Type 0} (hash_of : T → ℕ) (bag : List T) (room
   pub looks : LooksUpWithin (map hash_of bag) room hash answer look look_then
   pub at_most : look_then ≤ look + length bag + 1
 
--- a pair under this hash goes in at this cell, where the table has the hashes of the members. No public clause cites it
+-- a pair under this hash goes in at this cell, where the table has the hashes of the members. It is one of so many cells
+-- that the members fit, so it is known unless there are none. No public clause cites it
 pub record IsVacantFor {T : Type 0} (hash_of : T → ℕ) (bag : List T) (hash : ℕ) (spot : Spot) : Type 0 where
   pub same : spot.hash ≡ hash
   pub free : IsFree (map hash_of bag) spot
+  pub fits : length bag ≤ spot.cells / 8 * 7
 
 module _ {T : Type 0} where
   -- the pair of an item does

@@ -1,5 +1,5 @@
 //! Pairs of a hash and a slot's index, found by the hash, in cells with open addressing and no marks of deleted pairs.
-ghost use Rattle.std.specs.Prelude.{◌≡◌, ◌≢◌, ◌+◌, ◌*◌, ◌/◌, ◌∷◌, ◌<◌, ◌≤◌, ◌&&◌, [], length, IsSome, IsOk, IsErr, ◌↔◌, IfOk, OnErr, IfErr, Contains};
+ghost use Rattle.std.specs.Prelude.{◌≡◌, ◌≢◌, ◌+◌, ◌*◌, ◌/◌, ◌∷◌, ◌<◌, ◌≤◌, ◌&&◌, [], true, length, IsSome, IsOk, IsErr, ◌↔◌, IfOk, OnErr, IfErr, Contains};
 ghost use Rattle.std.specs.List.Sorted.{IsPermutation};
 ghost use Rattle.std.specs.Result.{result_ok};
 ghost use Rattle.iddqd_store.specs.Table.Ring.{cell, pairs_in, stretch, IsFull};
@@ -143,6 +143,17 @@ impl IndexTable {
         ensures fits { length self.now.pairs ≤ result }
     {
         self.cells.len() / 8 * 7
+    }
+
+    /// Whether it has as few cells as one that is made for so many pairs. No cell is looked at.
+    pub fn is_made_for(&self, pairs: usize) -> bool
+        ensures { result ≡ true ↔ IsLeast pairs self.now.limit }
+    {
+        let cells = self.cells();
+        let Some(least) = probe::cells_for(pairs) else {
+            return false;
+        };
+        cells == least
     }
 
     /// How many cells there are: none, or a power of two from 8 on.

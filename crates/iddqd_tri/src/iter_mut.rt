@@ -1,4 +1,6 @@
 //! A walk over the items of a map, for writing.
+ghost use Rattle.std.specs.Prelude.{◌≡◌};
+
 use crate::item::TriHashItem;
 use crate::map::{DefaultHashBuilder, TriHashMap};
 use std::hash::{BuildHasher, Hash};
@@ -7,11 +9,22 @@ mod counts;
 mod methods;
 
 /// A walk over the items of a map, each lent once for writing.
-#[derive(Drop)]
 pub struct IterMut<'a, T: TriHashItem, S: BuildHasher = DefaultHashBuilder> {
     pub(crate) map: &'a mut TriHashMap<T, S>,
     // The number of the first slot that the walk has not passed.
     pub(crate) next: usize,
     // How many items are to come, where no guard of `next_mut` left another map behind.
     pub(crate) left: usize,
+}
+
+impl<T: TriHashItem, S: BuildHasher> Drop for IterMut<'_, T, S> {
+    fn drop(self)
+        ensures { self.exit.0.now ≡ self.entry.map.now }
+    {
+        let IterMut {
+            map: _,
+            next: _,
+            left: _,
+        } = self;
+    }
 }

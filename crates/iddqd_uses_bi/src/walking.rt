@@ -4,7 +4,7 @@ ghost use Rattle.std.specs.Prelude.{map as each};
 ghost use Rattle.std.specs.Bool.{OnTrue, OnFalse};
 ghost use Rattle.iddqd_bi.specs.Map.{bag};
 
-use iddqd_bi::{BiHashItemMut, BiHashMap, Cursor};
+use iddqd_bi::{BiHashItem, BiHashItemMut, BiHashMap, Cursor};
 use std::hash::{BuildHasher, Hash};
 
 /// Writes the same data into every item.
@@ -52,4 +52,15 @@ where
         return walk.len();
     }
     return 0;
+}
+
+/// How many items a walk for writing is to give. It gives none, and is dropped by name: the map stays.
+pub fn count_by_walk<T: BiHashItem, S: BuildHasher>(map: &mut BiHashMap<T, S>) -> usize
+    ensures count { result ≡ length (bag map.old) }
+    ensures unchanged { map.new ≡ map.old }
+{
+    let walk = map.iter_mut();
+    let count = walk.len();
+    drop(walk);
+    count
 }

@@ -6,9 +6,11 @@ mod building;
 mod entries;
 mod finding;
 mod inserting;
+mod keeping;
 mod laws;
 mod lent;
 mod loading;
+mod matching;
 mod refusing;
 mod sessions;
 mod updating;
@@ -28,6 +30,7 @@ pub use finding::{count_all, put_and_find, remove_and_find};
 pub use inserting::{
     count_conflicts, insert_both, insert_or_back, insert_or_drop, overwrite_or_drop,
 };
+pub use keeping::keep_and_count;
 pub use laws::{
     all_given, equal_through_a_third, equal_to_itself, equal_to_the_same_items, equal_turned_round,
     extend_after_reserve, found1_where_contained, found2_where_contained, found3_where_contained,
@@ -37,11 +40,12 @@ pub use laws::{
 };
 pub use lent::{insert_held, write_by_key1, write_data1, write_held1};
 pub use loading::load;
+pub use matching::{Same, find_same};
 pub use refusing::{
     NotAdded, add, add_and_count, add_by_from, add_by_map_err, add_or_count, is_added,
 };
 pub use sessions::{Session, by_token, close_of_user, open, open_all};
 pub use updating::{File, note_opened, set_all, set1};
-pub use walking::{write_all, write_first, write_first_and_count};
+pub use walking::{count_by_walk, write_all, write_first, write_first_and_count};
 pub use words::{Word, add_word, forget_word, has_word};
-pub use writing::{replace1, write1, write1_again, write1_twice};
+pub use writing::{is_lent1, replace1, write1, write1_again, write1_and_tell, write1_twice};

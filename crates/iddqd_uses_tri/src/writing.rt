@@ -1,5 +1,6 @@
 //! What a caller knows of a map in which an item was written.
-ghost use Rattle.std.specs.Prelude.{◌≡◌, Some, None, IsOk, IsPermutation, IfOk, IfErr, OnErr};
+ghost use Rattle.std.specs.Prelude.{◌≡◌, Some, None, IsOk, IsPermutation, IfOk, IfErr, OnErr, true, false};
+ghost use Rattle.std.specs.List.{list_any};
 ghost use Rattle.iddqd_tri.specs.Bag.{IsOnly, differ, like, swap};
 ghost use Rattle.iddqd_tri.specs.Map.{bag};
 ghost use Rattle.iddqd_tri.specs.Keys.{has1};
@@ -83,4 +84,34 @@ pub fn replace1<T: TriHashItem, S: BuildHasher>(
         },
         None => return Err(item),
     }
+}
+
+/// Whether an item has a first key, asked of the call that lends it for writing. What was lent is dropped at once, and
+/// the map stays.
+pub fn is_lent1<T: TriHashItem, S: BuildHasher>(map: &mut TriHashMap<T, S>, key: &T::K1) -> bool
+    ensures is { result ≡ list_any (has1 T.TriHashItem T.K1.eq key.now) (bag map.old) }
+    ensures unchanged { map.new ≡ map.old }
+{
+    map.get1_mut(key).is_some()
+}
+
+/// The same as `write1`, and says whether there is one. What was lent is dropped by name.
+pub fn write1_and_tell<T: TriHashItemMut, S: BuildHasher>(
+    map: &mut TriHashMap<T, S>,
+    key: &T::K1,
+    d: T::Data,
+) -> bool
+where
+    T::Data: Drop,
+    ensures present { (x : T) → IsOnly (has1 T.TriHashItem T.K1.eq key.now) (bag map.old) (Some x)
+        → (result ≡ true) × IsPermutation (bag map.new) (swap ⟦<T as Ranked>⟧.ranks (bag map.old) x (T.put x d)) }
+    ensures absent { IsOnly (has1 T.TriHashItem T.K1.eq key.now) (bag map.old) None → (result ≡ false) × (map.new
+        ≡ map.old) }
+{
+    if let Some(mut lent) = map.get1_mut(key) {
+        *lent.data_mut() = d;
+        drop(lent);
+        return true;
+    }
+    return false;
 }

@@ -14,6 +14,7 @@ impl<T: BiHashItem> BiHashMap<T, DefaultHashBuilder> {
     pub fn new(alloc: Global) -> Self
         ensures empty { bag result ≡ [] }
         ensures capacity { result.capacity ≡ 0 }
+        ensures builder { ⟦<DefaultHashBuilder as Default>⟧.is_default result.builder }
     {
         BiHashMap::with_hasher(alloc, DefaultHashBuilder::default())
     }
@@ -25,6 +26,7 @@ impl<T: BiHashItem> BiHashMap<T, DefaultHashBuilder> {
     pub fn with_capacity(alloc: Global, items: usize) -> Result<Self, TryReserveError>
         ensures empty { IfOk result (λ map. bag map ≡ []) }
         ensures capacity { IfOk result (λ map. map.capacity ≡ items) }
+        ensures builder { IfOk result (λ map. ⟦<DefaultHashBuilder as Default>⟧.is_default map.builder) }
         ensures never_refused { items ≡ 0 → IsOk result }
         ensures past { most_room < items → IsErr result }
     {

@@ -4,7 +4,7 @@ use Rattle.std.specs.Prelude.{◌≡◌, ◌≢◌, ℕ, ◌<◌, ◌≤◌, ◌
 use Rattle.std.specs.List.{IsDistinct, AllByRecursion, items_where_true}
 use Rattle.std.proofs.Common.{refl, sym, ap, subst, ◌∙◌, arith}
 use Rattle.std.proofs.lemmas.Map.Keys.{IsDistinct-head, IsDistinct-tail, IsDistinct-cons}
-use Rattle.std.proofs.lemmas.List.Sorted.{IsPermutation-sym, IsPermutation-cons, sum_by-IsPermutation}
+use Rattle.std.proofs.lemmas.List.Sorted.{IsPermutation-sym, IsPermutation-cons, length_permutation, sum_by-IsPermutation}
 use Rattle.std.proofs.lemmas.List.Sums.{fold-append}
 use Rattle.std.proofs.lemmas.List.Folds.{fold_stays}
 use Rattle.iddqd_store.proofs.BagLemmas.Exchanges.{IsPermutation-filter}
@@ -91,6 +91,17 @@ module _ {T : Type 0} where
       let listed = IsSound-IsPermutation ranks laws bag h.listed h.same sound in
       let left : IsSound ranks h.left = subst (IsSound ranks) (sym answers.4) (IsDistinct-where_true (conflicts ranks) answers.0 h.listed listed) in
       IsSound-IsPermutation ranks laws h.left kept (IsPermutation-sym _ _ h.are) left
+
+  length-where_true : (bs : List Bool) (xs : List T) → length (items_where_true bs xs) ≤ length xs
+  length-where_true [] xs = omega arith
+  length-where_true (b ∷ bs) [] = omega arith
+  length-where_true (true ∷ bs) (x ∷ xs) = omega (arith, length-where_true bs xs)
+  length-where_true (false ∷ bs) (x ∷ xs) = omega (arith, length-where_true bs xs)
+
+  -- what is kept is no more than there was
+  pub length-keeps : {F : Type 0} (step : F → T → Bool → F → Type 0) (f : F) (bag kept : List T) → Keeps step f bag kept → length kept ≤ length bag
+  length-keeps step f bag kept h =
+      omega (arith, length_permutation _ _ h.same, length_permutation _ _ h.are, ap length h.filtered.4, length-where_true h.filtered.0 h.listed)
 
   pub crowd-IsPermutation : (hash_of : T → ℕ) (xs ys : List T) (h : ℕ) → IsPermutation xs ys → crowd hash_of xs h ≡ crowd hash_of ys h
   crowd-IsPermutation hash_of xs ys h p = sym (sum_by-IsPermutation (λ x. cond (hash_of x == h) 1 0) xs ys p)

@@ -1,9 +1,9 @@
 -- What a search by one rank finds, and what it costs.
-use Rattle.std.specs.Prelude.{ℕ, ◌≤◌, Bool, List, Option, length}
+use Rattle.std.specs.Prelude.{◌≡◌, ℕ, ◌*◌, ◌/◌, ◌≤◌, Bool, List, Option, length}
 use Rattle.std.specs.Option.{option_and_then}
 use Rattle.std.specs.Prelude.{Result, Ok, Err, IfOk, IfErr}
 use Rattle.std.specs.Result.{result_ok}
-use Rattle.std.proofs.Common.{arith}
+use Rattle.std.proofs.Common.{arith, sym}
 use Rattle.iddqd_store.specs.Slots.{live_items, get}
 use Rattle.std.proofs.lemmas.List.Sorted.{IsPermutation-sym}
 use Rattle.iddqd_store.specs.Rank.Index.{HasHash, IsIndex, passes_at}
@@ -13,7 +13,7 @@ use Rattle.iddqd_store.specs.Table.Room.{IsSized}
 use Rattle.iddqd_store.specs.Table.Search.{CostsUnder, FindsUnder, IsVacantUnder}
 use Rattle.iddqd_store.specs.Table.{hashes, IsFree, Spot, Table}
 use Rattle.iddqd_store.proofs.RankLemmas.Search.{search_among}
-use Rattle.iddqd_store.proofs.RankLemmas.Index.{hash_at, crowd_is}
+use Rattle.iddqd_store.proofs.RankLemmas.Index.{hash_at, crowd_is, length-index}
 use Rattle.iddqd_store.proofs.RankLemmas.Looks.{hashes-index, looks_within, looks_within_most}
 use Rattle.iddqd_store.proofs.TableLemmas.Spot.{free_permutation}
 
@@ -32,10 +32,20 @@ module _ {T : Type 0} {agree : T → T → Bool} {hash : T → ℕ} {slots : Lis
   hash_found h (Err e) finds = tt
   hash_found h (Ok at) finds = λ x stands. hash_at at h x rank.index finds.found stands
 
-  -- the cell at which the table's search ended is for the members' hashes
-  pub vacant_found : (h : ℕ) (r : Result ℕ Spot) → IfErr r (IsVacantUnder table h) → IfErr r (IsVacantFor hash (live_items slots) h)
-  vacant_found h (Ok at) vacant = tt
-  vacant_found h (Err spot) vacant = record { same = vacant.hash; free = free_permutation _ _ spot (hashes-index hash slots table.pairs rank.index) vacant.vacant }
+  -- the cell at which the table's search ended is for the members' hashes, and one of as many cells as the table has
+  pub vacant_found : (h : ℕ) (r : Result ℕ Spot) → IsSized table → IfErr r (IsVacantUnder table h) → IfErr r (IsVacantFor hash (live_items slots) h)
+  vacant_found h (Ok at) sized vacant = tt
+  vacant_found h (Err spot) sized vacant =
+      let paired = hashes-index hash slots table.pairs rank.index in
+      record {
+        same = vacant.hash;
+        free = free_permutation _ _ spot paired vacant.vacant;
+        fits = omega (arith, vacant.cells, sized.limit, sized.fits, length-index rank.index);
+      }
+
+  pub cells_found : (h : ℕ) (r : Result ℕ Spot) → IsSized table → IfErr r (IsVacantUnder table h) → IfErr r (λ spot. spot.cells / 8 * 7 ≡ table.limit)
+  cells_found h (Ok at) sized vacant = tt
+  cells_found h (Err spot) sized vacant = rw vacant.cells (sym sized.limit)
 
 -- where a pair of the members' hashes goes in, it does in a table that indexes them
 pub place_in : {T : Type 0} {hash : T → ℕ} {slots : List (Option T)} {pairs : List (ℕ × ℕ)} {h : ℕ} {spot : Spot} → IsIndex hash slots pairs → IsVacantFor hash (live_items slots) h spot → IsFree (hashes pairs) spot

@@ -157,6 +157,9 @@ not_kept_all_the_room step = omega (arith, step.1)
 nothing_to_refuse : (new : State Item) → ShrinksTo {D = ℕ} (state [] 7) 0 refused new → ⊥
 nothing_to_refuse new step = omega (arith, step.0)
 
+nothing_to_give_back : (new : State Item) → ShrinksTo {D = ℕ} (state m2 7) 10 refused new → ⊥
+nothing_to_give_back new step = step.1 refl
+
 -- clearing, counting, listing
 cleared : Clears {D = ℕ} (state m2 7) done (state [] 7)
 cleared = (refl, refl)

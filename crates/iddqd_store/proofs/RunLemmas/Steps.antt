@@ -60,7 +60,7 @@ module _ {T D : Type 0} (ranks : Ranks T) (laws : AreLawful ranks) (old new : St
 
   pub IsSound-ShrinksTo : (least : ℕ) (reply : Reply T D) → ShrinksTo old least reply new → IsSound ranks new.items
   IsSound-ShrinksTo least done step = same_items ranks laws old new sound step.0
-  IsSound-ShrinksTo least refused step = same ranks laws old new sound step.1
+  IsSound-ShrinksTo least refused step = same ranks laws old new sound step.2
   IsSound-ShrinksTo least reply step = absurd step
 
   pub IsSound-Clears : (reply : Reply T D) → Clears old reply new → IsSound ranks new.items

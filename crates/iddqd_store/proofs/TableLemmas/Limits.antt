@@ -130,3 +130,13 @@ size_most n size fits =
     (λ (many : 61 ≤ p.0). let b : 2 ^ 61 ≤ 2 ^ p.0 = pow_mono many in absurd (omega (arith, b, p.1)))
     (cases_lt p.0 61))
     size
+
+pub size_eighths : (n : ℕ) → IsSize n → n ≡ n / 8 * 8
+size_eighths n size = ⊎_elim (λ (none : n ≡ 0). omega arith) (λ (p : (k : ℕ) × (n ≡ 8 * 2 ^ k)). omega (arith, p.1)) size
+
+-- a table has the least limit for so many pairs exactly if it has as many cells as one that is made for them
+pub made_for : (pairs n least : ℕ) → IsSize n → IsSize least → IsLeast pairs (least / 8 * 7) → (n ≡ least) ↔ IsLeast pairs (n / 8 * 7)
+made_for pairs n least size size_of is = (
+  λ same. subst (λ (m : ℕ). IsLeast pairs (m / 8 * 7)) (sym same) is,
+  λ other. omega (arith, size_eighths n size, size_eighths least size_of, is.least (n / 8 * 7) other.limit other.enough, other.least (least / 8 * 7) is.limit is.enough),
+)

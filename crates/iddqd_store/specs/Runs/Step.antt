@@ -92,10 +92,13 @@ module _ {T D : Type 0} where
       (new.items ≡ old.items) × (new.capacity < length old.items + more) × (old.capacity ≤ new.capacity)
   Reserves old more reply new = ⊥
 
-  -- no more room is left than for the members or, if that is more, for so many items, as far as there was
+  -- no more room is left than for the members or, if that is more, for so many items, as far as there was. It is not
+  -- refused where that is none, nor where it is the room that there is
   abbrev pub ShrinksTo : State T → ℕ → Reply T D → State T → Type 0
   ShrinksTo old least done new = (new.items ≡ old.items) × (new.capacity ≡ max (length old.items) (min least old.capacity))
-  ShrinksTo old least refused new = (0 < max (length old.items) (min least old.capacity)) × (new ≡ old)
+  ShrinksTo old least refused new =
+      (0 < max (length old.items) (min least old.capacity)) × (max (length old.items) (min least old.capacity) ≢ old.capacity)
+      × (new ≡ old)
   ShrinksTo old least reply new = ⊥
 
   -- no member is left, and all the room

@@ -1,5 +1,5 @@
 //! Searches by one rank.
-ghost use Rattle.std.specs.Prelude.{◌≡◌, option_copied, IfErr, IfOk, IfSome};
+ghost use Rattle.std.specs.Prelude.{◌≡◌, ◌*◌, ◌/◌, option_copied, IfErr, IfOk, IfSome};
 ghost use Rattle.std.specs.List.{list_any};
 ghost use Rattle.std.specs.Option.{option_and_then};
 ghost use Rattle.std.specs.Result.{result_ok};
@@ -129,6 +129,7 @@ impl<'a, T, R: KeyOf<T>, S: BuildHasher> Lookup<'a, T, R, S> {
             (⟦<R as HashedKey<T, S>>⟧.hash self.now.builder) self.now.slots ix hash) }
         ensures vacant { IfErr result (IsVacantFor
             (⟦<R as HashedKey<T, S>>⟧.hash self.now.builder) (bag self.now) hash) }
+        ensures cells { IfErr result (λ at. at.cells / 8 * 7 ≡ self.now.capacity) }
     {
         self.search_with(hash, &mut ByQuery::new(&query), &mut Meter::new())
     }
@@ -151,6 +152,7 @@ impl<'a, T, R: KeyOf<T>, S: BuildHasher> Lookup<'a, T, R, S> {
             (⟦<R as HashedKey<T, S>>⟧.hash self.now.builder) self.now.slots ix hash) }
         ensures vacant { IfErr result (IsVacantFor
             (⟦<R as HashedKey<T, S>>⟧.hash self.now.builder) (bag self.now) hash) }
+        ensures cells { IfErr result (λ at. at.cells / 8 * 7 ≡ self.now.capacity) }
         ensures is_kept { M.IsKept matcher.old matcher.new }
         ensures costs { SearchCosts (⟦<R as HashedKey<T, S>>⟧.hash self.now.builder) (bag self.now)
             self.now.capacity hash (result_ok result) (M.asked matcher.old) (M.asked matcher.new)

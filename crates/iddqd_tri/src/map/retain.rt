@@ -1,5 +1,5 @@
 //! Keeping some of the items.
-ghost use Rattle.std.specs.Prelude.{◌≡◌};
+ghost use Rattle.std.specs.Prelude.{◌≡◌, ◌≤◌, length};
 ghost use Rattle.std.specs.Fn.{CalledAt};
 ghost use Rattle.iddqd_store.specs.Bag.{Keeps};
 ghost use Rattle.iddqd_store.specs.Map.{bag};
@@ -18,6 +18,7 @@ impl<T: TriHashItem, S: BuildHasher> TriHashMap<T, S> {
         T: Drop,
         requires { F.IsAlwaysCallable f }
         ensures kept { Keeps (CalledAt F.FnMut) f (bag self.old) (bag self.new) }
+        ensures no_more { length (bag self.new) ≤ length (bag self.old) }
         ensures capacity { self.new.capacity ≡ self.old.capacity }
         ensures builder { self.new.builder ≡ self.old.builder }
     {

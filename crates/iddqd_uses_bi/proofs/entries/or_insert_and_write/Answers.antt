@@ -22,4 +22,4 @@ returns-in-Some-clause-writes g c =
     let new = bag (ref_map (ref_with found write)) in
     let went = entered c.entry.result held c.args.item _ _ c.args.map.now c.in-Ok.ensures.puts_in c.in-Ok.ensures.keeps_found asked.is_found asked.keys.key1 asked.keys.key2 asked.unchanged in
     let swaps = subst (λ (m : Map g.row.T.Denot g.row.S.Denot). IfSome (ref_item found) (λ y. IsPermutation new (swap by (bag m) y (write y)))) c.in-Some.ensures.unchanged (c.data_mut.ensures.swaps c.args.d) in
-    rw (c.map-1.given.1 (sym (c.in-Some.ensures.same_map ∙ c.in-Ok.ensures.same_map ∙ asked.same_map))) (writes_entry (bag c.args.map.now) c.args.item by write (entry tests (bag c.args.map.now)) (held_entry held) (bag held.map.now) new (ref_item found) (held_unique held) went (unique_held held) (none_held held) c.in-Some.ensures.item found.live swaps)
+    rw (c.map-1.given.1 (sym (c.in-Some.ensures.same_map ∙ c.in-Ok.ensures.same_map ∙ asked.same_map)), c.drop-found.ensures) (writes_entry (bag c.args.map.now) c.args.item by write (entry tests (bag c.args.map.now)) (held_entry held) (bag held.map.now) new (ref_item found) (held_unique held) went (unique_held held) (none_held held) c.in-Some.ensures.item found.live swaps)

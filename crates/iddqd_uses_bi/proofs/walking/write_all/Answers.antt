@@ -14,7 +14,7 @@ loop-item-preserved g c =
     let next = some_holds _ (ref_item c.in-Some.item) c.in-Some.item.live c.in-Some.ensures.next in
     let put : g.row.T.Denot → g.row.T.Denot = λ x. g.T.BiHashItemMut.put x c.args.d in
     let step = step_done put at.0 _ _ _ _ _ _ next.0 at.1 at.2 next.1.comes (next.1.before put) (next.1.behind put) in
-    rw (c.map-1.given.1 (sym c.in-Some.ensures.same_map)) (at.0 ++ next.0 ∷ [], step.0, step.1)
+    rw (c.map-1.given.1 (sym c.in-Some.ensures.same_map), c.drop-item.ensures) (at.0 ++ next.0 ∷ [], step.0, step.1)
 
 -- none is left
 pub returns : goal.returns

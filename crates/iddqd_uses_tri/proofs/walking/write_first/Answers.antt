@@ -10,4 +10,4 @@ returns-in-Some-clause-some g c =
     let next = c.in-Some.ensures.next in
     let write : g.row.T.Denot → g.row.T.Denot = λ x. g.T.TriHashItemMut.put x c.args.d in
     let both = first_written walk.result.map.now walk.result.next next.0 _ _ _ walk.ensures.start walk.ensures.gives next.1 write in
-    rw (c.map-1.given.1 (sym walk.ensures.same_map)) (next.0, to_come walk.result.map.now _, both.0, both.1)
+    rw (c.map-1.given.1 (sym walk.ensures.same_map), c.drop-walk.ensures) (next.0, to_come walk.result.map.now _, both.0, both.1)

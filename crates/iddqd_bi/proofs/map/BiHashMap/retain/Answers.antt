@@ -1,6 +1,8 @@
 use Rattle.std.proofs.Common.{of_calls, ◌∙◌}
 use Rattle.std.proofs.lemmas.Fn.{called_at}
 use Rattle.std.specs.Fn.{CalledAt}
+use Rattle.iddqd_store.specs.Map.{bag}
+use Rattle.iddqd_store.proofs.BagLemmas.Theory.{length-keeps}
 use Rattle.iddqd_store.proofs.SlotLemmas.Next.{past_kept, past_taken, none_behind}
 use Rattle.iddqd_bi.proofs.map.BiHashMap.retain.Goals as goal
 
@@ -28,3 +30,8 @@ pub returns-clause-kept : goal.returns-clause-kept
 returns-clause-kept g c =
     let at = c.loop-ix in
     none_behind (CalledAt g.F.FnMut) c.args.f at.f c.args.self.now.slots at.self.slots at.from c.in_default.ensures.none at.invariant.completes
+
+pub returns-clause-no_more : goal.returns-clause-no_more
+returns-clause-no_more g c =
+    let at = c.loop-ix in
+    length-keeps (CalledAt g.F.FnMut) c.args.f (bag c.args.self.now) (bag at.self) (none_behind (CalledAt g.F.FnMut) c.args.f at.f c.args.self.now.slots at.self.slots at.from c.in_default.ensures.none at.invariant.completes)

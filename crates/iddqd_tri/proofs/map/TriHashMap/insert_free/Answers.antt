@@ -19,9 +19,9 @@ insert_at-requires-clause-places g c =
     let vacant = c.requires.vacant in
     rw (c.make_room.ensures.slots, c.make_room.ensures.builder)
     (record {
-      first = record { same = vacant.first.same ∙ ap hash (g.met.T.K1.Hash.respects_eq _ _ same1); free = vacant.first.free };
-      second = record { same = vacant.second.same ∙ ap hash (g.met.T.K2.Hash.respects_eq _ _ same2); free = vacant.second.free };
-      third = record { same = vacant.third.same ∙ ap hash (g.met.T.K3.Hash.respects_eq _ _ same3); free = vacant.third.free };
+      first = record { same = vacant.first.same ∙ ap hash (g.met.T.K1.Hash.respects_eq _ _ same1); free = vacant.first.free; fits = vacant.first.fits };
+      second = record { same = vacant.second.same ∙ ap hash (g.met.T.K2.Hash.respects_eq _ _ same2); free = vacant.second.free; fits = vacant.second.fits };
+      third = record { same = vacant.third.same ∙ ap hash (g.met.T.K3.Hash.respects_eq _ _ same3); free = vacant.third.free; fits = vacant.third.fits };
     })
 
 pub returns-in-Err-clause-hands_back : goal.returns-in-Err-clause-hands_back

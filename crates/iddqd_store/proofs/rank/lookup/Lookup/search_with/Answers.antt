@@ -1,6 +1,6 @@
 use Rattle.std.proofs.Common.{rules}
 use borrow.Author.Rules.{lives}
-use Rattle.iddqd_store.proofs.RankLemmas.Costs.{searches, costs, hash_found, vacant_found}
+use Rattle.iddqd_store.proofs.RankLemmas.Costs.{searches, costs, hash_found, vacant_found, cells_found}
 use Rattle.iddqd_store.proofs.rank.lookup.Lookup.search_with.Goals as goal
 
 pub returns-clause-found : goal.returns-clause-found
@@ -16,4 +16,7 @@ pub returns-clause-hashed : goal.returns-clause-hashed
 returns-clause-hashed g c = rw (← c.self.view_is) (hash_found _ c.self.invariant c.args.hash c.find_or_vacancy.result c.find_or_vacancy.ensures.found)
 
 pub returns-clause-vacant : goal.returns-clause-vacant
-returns-clause-vacant g c = rw (← c.self.view_is) (vacant_found _ c.self.invariant c.args.hash c.find_or_vacancy.result c.find_or_vacancy.ensures.vacant)
+returns-clause-vacant g c = rw (← c.self.view_is) (vacant_found _ c.self.invariant c.args.hash c.find_or_vacancy.result c.find_or_vacancy.ensures.sized c.find_or_vacancy.ensures.vacant)
+
+pub returns-clause-cells : goal.returns-clause-cells
+returns-clause-cells g c = rw (← c.self.view_is) (cells_found _ c.self.invariant c.args.hash c.find_or_vacancy.result c.find_or_vacancy.ensures.sized c.find_or_vacancy.ensures.vacant)

@@ -1,0 +1,20 @@
+//! What a caller knows of a map that keeps some of its items.
+ghost use Rattle.std.specs.Prelude.{◌≡◌, ◌-◌, length};
+ghost use Rattle.iddqd_bi.specs.Map.{bag};
+
+use iddqd_bi::{BiHashMap, Ranked};
+use std::hash::{BuildHasher, Hash};
+
+/// Keeps the items at which a function answers `true`, and says how many went. That is no negative number, since no more
+/// are kept than there were.
+pub fn keep_and_count<T: Ranked + Drop, S: BuildHasher, F: FnMut(&T) -> bool>(
+    map: &mut BiHashMap<T, S>,
+    keep: F,
+) -> usize
+    requires { F.IsAlwaysCallable keep }
+    ensures { result ≡ length (bag map.old) - length (bag map.new) }
+{
+    let before = map.len();
+    map.retain(keep);
+    before - map.len()
+}
