@@ -47,7 +47,7 @@ module _ {T S Q K1 K2 H : Type 0} {of : item.Ghosts T K1 K2} {eq1 : equal.Ghosts
       entry_key1 e ≡ k1 → entry_key2 e ≡ k2 → entry_map e ≡ m →
       Stores step put by f (listing (key_tests of eq1.eq eq2.eq k1 k2) (bag m)) (bag m) (bag (entry_map r))
   stores_named step put by f (Vacant v) r k1 k2 m stays stored is1 is2 is =
-      rw (← is1, ← is2, ← is, stays, v.vacant) (IsPermutation-refl (bag v.map.now))
+      rw (← is1, ← is2, ← is, stays, v.absent) (IsPermutation-refl (bag v.map.now))
   stores_named step put by f (Occupied o) r k1 k2 m stays stored is1 is2 is = rw (← is1, ← is2, ← is) stored
 
   -- what `or_insert` leaves where it is granted
@@ -56,6 +56,6 @@ module _ {T S Q K1 K2 H : Type 0} {of : item.Ghosts T K1 K2} {eq1 : equal.Ghosts
       entry_key1 e ≡ k1 → entry_key2 e ≡ k2 → entry_map e ≡ old →
       Entered (bag old) x (bags.entry (key_tests of eq1.eq eq2.eq k1 k2) (bag old)) (bag m.map.now) (held_entry m)
   entered (Vacant v) m x k1 k2 old put kept found is1 is2 is =
-      rw (← is1, ← is2, ← is, v.vacant) (put.gains_and_holds.gains.items, put.gains_and_holds.unique)
+      rw (← is1, ← is2, ← is, v.absent) (put.gains_and_holds.gains.items, put.gains_and_holds.unique)
   entered (Occupied o) m x k1 k2 old put kept found is1 is2 is =
       rw (← is1, ← is2, ← is) (occupied_as (bag o.map.now) x (listing (entry_tests (key_tests of eq1.eq eq2.eq) o) (bag o.map.now)) _ (bag m.map.now) (held_entry m) found.some (ap (λ (n : Map T S). bag n) kept.unchanged) (kept.holds found).value)

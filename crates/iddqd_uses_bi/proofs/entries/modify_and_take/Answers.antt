@@ -8,7 +8,7 @@ pub returns-in-Vacant-clause-taken : goal.returns-in-Vacant-clause-taken
 returns-in-Vacant-clause-taken g c =
     let asked = c.in-Vacant.ensures in
     let v = c.in-Vacant._v in
-    rw (c.map-1.given.1 (sym asked.same_map), ← asked.unchanged, ← asked.keys.key1, ← asked.keys.key2) (bag v.map.now, rw v.vacant (IsPermutation-refl (bag v.map.now)), rw v.vacant (search rules), search rules)
+    rw (c.map-1.given.1 (sym asked.same_map), ← asked.unchanged, ← asked.keys.key1, ← asked.keys.key2) (bag v.map.now, rw v.absent (IsPermutation-refl (bag v.map.now)), rw v.absent (search rules), search rules)
 
 -- what the entry found stays found as it is written, so that it is this that is taken out
 pub returns-in-Occupied-clause-taken : goal.returns-in-Occupied-clause-taken
