@@ -12,12 +12,14 @@
 //!     --table         prints tables for a page
 //!     --growth        prints tables of this side alone, of the calls that go over all items
 //!     --svg FILE      writes a picture of five operations at eight sizes
+//!     --others        times text keys, items of 128 bytes and a random seed, with two keys, in place of the rest
 //!     --chosen        prints what keys of one home cost under the default builder and under a random seed
 mod by_hand;
 mod chosen;
 mod loops;
 mod measure;
 mod operations;
+mod others;
 mod picture;
 mod report;
 mod workload;
@@ -35,6 +37,7 @@ struct Wanted {
     table: bool,
     growth: bool,
     chosen: bool,
+    others: bool,
     picture: Option<String>,
 }
 
@@ -72,6 +75,7 @@ fn wanted(mut words: impl Iterator<Item = String>) -> Wanted {
         table: false,
         growth: false,
         chosen: false,
+        others: false,
         picture: None,
     };
     while let Some(word) = words.next() {
@@ -83,6 +87,7 @@ fn wanted(mut words: impl Iterator<Item = String>) -> Wanted {
             "--table" => wanted.table = true,
             "--growth" => wanted.growth = true,
             "--chosen" => wanted.chosen = true,
+            "--others" => wanted.others = true,
             "--svg" => wanted.picture = Some(behind(&mut words, &word)),
             _ if word.starts_with(|c: char| c.is_ascii_digit()) => {
                 wanted.sizes = Some(word.split(',').map(size).collect());
@@ -150,6 +155,10 @@ fn main() {
     println!("{}\n", report::circumstances(wanted.plan));
     if wanted.chosen {
         chosen::print();
+        return;
+    }
+    if wanted.others {
+        wanted.print(others::operations());
         return;
     }
     wanted.print(operations::two_keys());

@@ -4,7 +4,7 @@ use crate::loops;
 use crate::workload::{self, Row, Workload};
 
 /// A loop of the library. Each slice is passed as its pointer and its length, and nothing is written to one.
-type Exported<const N: usize> = unsafe extern "C" fn(
+pub type Exported<const N: usize> = unsafe extern "C" fn(
     rows: *const Row<N>,
     len: usize,
     asked: *const Row<N>,
@@ -21,7 +21,7 @@ pub struct Operation<const N: usize> {
     pub goes_over_all: bool,
     pub load: fn(usize) -> Workload<N>,
     pub by_hand: fn(&Workload<N>, bool) -> u64,
-    exported: Exported<N>,
+    pub exported: Exported<N>,
 }
 
 impl<const N: usize> Operation<N> {
@@ -68,6 +68,7 @@ macro_rules! exported {
         $name
     }};
 }
+pub(crate) use exported;
 
 macro_rules! operations {
     ($($goes_over_all:ident $name:literal: $load:ident, $by_hand:ident, $bi:ident, $tri:ident;)*) => {

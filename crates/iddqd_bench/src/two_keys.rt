@@ -7,8 +7,10 @@ use std::alloc::Global;
 pub mod building;
 pub mod changing;
 pub mod inserting;
+pub mod large;
 pub mod searching;
 pub mod seeded;
+pub mod texts;
 pub mod walking;
 
 /// Puts the rows in, and counts those that are refused.

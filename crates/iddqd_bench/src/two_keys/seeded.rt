@@ -1,5 +1,5 @@
-//! Loops over the map with two keys under the hasher that std's `RandomState` makes. A loop has nothing to draw a seed
-//! by, so its seed is 0, and it takes as long as any.
+//! Loops over the map with two keys under the hasher that std's `RandomState` makes. A loop cannot draw a seed, so its
+//! seed is 0. The time does not depend on the seed.
 use super::Row;
 use iddqd_bi::BiHashMap;
 use std::alloc::Global;
@@ -7,15 +7,14 @@ use std::hash::{BuildHasherDefault, DefaultHasher};
 
 type Seeded = BiHashMap<Row, BuildHasherDefault<DefaultHasher>>;
 
-/// A map with room for so many items, if there is memory.
+/// A map with spare capacity for so many items, or for none if there is no memory: the sums say so.
 fn with_room(alloc: Global, room: usize) -> Seeded {
     let mut map = Seeded::default(alloc);
-    // Where there is no memory, the sums say so.
     let _ = map.reserve(room);
     map
 }
 
-/// Puts the rows in, and counts those that are refused.
+/// Inserts the rows, and counts those that the map does not take.
 fn fill(map: &mut Seeded, rows: &[Row]) -> u64 {
     let mut refused = 0u64;
     for row in rows {
@@ -26,7 +25,7 @@ fn fill(map: &mut Seeded, rows: &[Row]) -> u64 {
     refused
 }
 
-/// Fills a new map with room for so many items.
+/// Fills a new map with spare capacity for so many items from each part of so many rows.
 #[unsafe(no_mangle)]
 pub extern "C" fn bi_insert_seeded(
     alloc: Global,
@@ -35,12 +34,18 @@ pub extern "C" fn bi_insert_seeded(
     number: usize,
     whole: bool,
 ) -> u64 {
-    let mut map = with_room(alloc, number);
-    let refused = if whole { fill(&mut map, rows) } else { 0 };
-    refused.wrapping_add(map.len() as u64)
+    let mut sum = 0u64;
+    for rows in rows.chunks(number.max(1)) {
+        let mut map = with_room(alloc, number);
+        if whole {
+            sum = sum.wrapping_add(fill(&mut map, rows));
+        }
+        sum = sum.wrapping_add(map.len() as u64);
+    }
+    sum
 }
 
-/// Looks each row's first key up.
+/// Looks up each row's first key.
 #[unsafe(no_mangle)]
 pub extern "C" fn bi_get_seeded(
     alloc: Global,
@@ -57,6 +62,38 @@ pub extern "C" fn bi_get_seeded(
             if let Some(found) = map.get1(&row.key1) {
                 sum = sum.wrapping_add(found.key2);
             }
+        }
+    }
+    sum
+}
+
+/// Removes the items with the rows' first keys.
+fn take_out(map: &mut Seeded, rows: &[Row]) -> u64 {
+    let mut sum = 0u64;
+    for row in rows {
+        if let Some(gone) = map.remove1(&row.key1) {
+            sum = sum.wrapping_add(gone.key2);
+        }
+    }
+    sum
+}
+
+/// Fills a map with each part of so many rows, and removes as many items by the first keys of others.
+#[unsafe(no_mangle)]
+pub extern "C" fn bi_remove_seeded(
+    alloc: Global,
+    rows: &[Row],
+    asked: &[Row],
+    number: usize,
+    whole: bool,
+) -> u64 {
+    let mut sum = 0u64;
+    let number = number.max(1);
+    for (rows, asked) in rows.chunks(number).zip(asked.chunks(number)) {
+        let mut map = with_room(alloc, number);
+        fill(&mut map, rows);
+        if whole {
+            sum = sum.wrapping_add(take_out(&mut map, asked));
         }
     }
     sum
