@@ -1,5 +1,5 @@
-//! Loops over the map with two keys under the hasher that std's `RandomState` makes. A loop has nothing to draw a seed
-//! by, so its seed is 0, and it takes as long as any.
+//! Loops over the map with two keys under the hasher of std's `RandomState`. A loop cannot draw a random seed, so its
+//! seed is 0, which takes as long as any other.
 use super::Row;
 use iddqd_bi::BiHashMap;
 use std::alloc::Global;
@@ -7,15 +7,15 @@ use std::hash::{BuildHasherDefault, DefaultHasher};
 
 type Seeded = BiHashMap<Row, BuildHasherDefault<DefaultHasher>>;
 
-/// A map with room for so many items, if there is memory.
+/// Makes a map with this capacity, if there is memory.
 fn with_room(alloc: Global, room: usize) -> Seeded {
     let mut map = Seeded::default(alloc);
-    // Where there is no memory, the sums say so.
+    // If memory runs out here, the sums differ.
     let _ = map.reserve(room);
     map
 }
 
-/// Puts the rows in, and counts those that are refused.
+/// Inserts the rows, and counts those that are not inserted.
 fn fill(map: &mut Seeded, rows: &[Row]) -> u64 {
     let mut refused = 0u64;
     for row in rows {
@@ -26,7 +26,7 @@ fn fill(map: &mut Seeded, rows: &[Row]) -> u64 {
     refused
 }
 
-/// Fills a new map with room for so many items.
+/// Fills a new map of capacity `number`.
 #[unsafe(no_mangle)]
 pub extern "C" fn bi_insert_seeded(
     alloc: Global,
@@ -40,7 +40,7 @@ pub extern "C" fn bi_insert_seeded(
     refused.wrapping_add(map.len() as u64)
 }
 
-/// Looks each row's first key up.
+/// Looks up the first key of each row.
 #[unsafe(no_mangle)]
 pub extern "C" fn bi_get_seeded(
     alloc: Global,
