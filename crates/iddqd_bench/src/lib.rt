@@ -1,9 +1,9 @@
-//! Loops over both maps for a bench to time, exported to a program that is not Rattle.
+//! Loops over both maps, exported to the Rust program in bench/, which times them.
 //!
-//! Nothing is promised but what each function's type says: the maps' contracts say what their calls do. Each loop
-//! takes rows that fill a map, rows that are asked for or come in later, a number of items or of times, and whether the
-//! loop is wanted whole: where not, it does what prepares it alone. It answers a sum of what it met, so that a bench
-//! can compare it with another map's.
+//! The contracts of the maps say what the calls do; a loop promises only what its type says. Each loop takes `rows`,
+//! which fill a map; rows that are `asked` for or inserted later; a `number` of items or of repetitions; and `whole`.
+//! If `whole` is false, the loop does only what prepares it, so that the bench can subtract the time of that. It
+//! returns a sum of what it met, which the bench compares with the sum of the same loop over another map.
 #![tactic(auto)]
 
 pub mod three_keys;
@@ -11,13 +11,14 @@ pub mod two_keys;
 
 use std::hash::{BuildHasher, BuildHasherDefault, FoldHasher};
 
-/// With how many copies of a map of so many items a loop does what changes the map: so the inserts that prepare it take
-/// a small part of the time also where a map is large. Where it is small no order is to be seen twice.
+/// Returns how many copies of a map with this many items a loop changes. A large map has several, so that the inserts
+/// that prepare the loop take a small part of its time. A small map has one, so that the branch predictor meets no
+/// order of items twice.
 fn copies(items: usize) -> usize {
     (items / 10_000).max(1).min(8)
 }
 
-/// The hash of a key, so that the other maps can be seen to hash alike.
+/// Returns the hash of a key, so that the bench can check that the other maps hash alike.
 #[unsafe(no_mangle)]
 pub extern "C" fn bench_hash(key: u64) -> u64 {
     BuildHasherDefault::<FoldHasher>::default().hash_one(&key)

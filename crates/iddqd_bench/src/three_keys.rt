@@ -10,7 +10,7 @@ pub mod inserting;
 pub mod searching;
 pub mod walking;
 
-/// Puts the rows in, and counts those that are refused.
+/// Inserts the rows, and counts those that are not inserted.
 fn fill(map: &mut TriHashMap<Row>, rows: &[Row]) -> u64 {
     let mut refused = 0u64;
     for row in rows {
@@ -21,16 +21,16 @@ fn fill(map: &mut TriHashMap<Row>, rows: &[Row]) -> u64 {
     refused
 }
 
-/// A map of the rows.
+/// Makes a map of the rows.
 fn filled(alloc: Global, rows: &[Row]) -> TriHashMap<Row> {
     let mut map = TriHashMap::new(alloc);
-    // Where there is no memory, the sums say so.
+    // If memory runs out here, the sums differ.
     let _ = map.reserve(rows.len());
     fill(&mut map, rows);
     map
 }
 
-/// Takes the items with the rows' first keys out.
+/// Removes the items with the first keys of the rows, and sums their second keys.
 fn take_out(map: &mut TriHashMap<Row>, rows: &[Row]) -> u64 {
     let mut sum = 0u64;
     for row in rows {

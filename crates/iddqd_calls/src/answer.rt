@@ -1,10 +1,10 @@
-//! What a call answers.
+//! What a call returned, as the program prints it.
 use std::alloc::{AllocError, Global};
 
-/// The numbers of an item: its keys, and its value behind them.
+/// The numbers of an item: its keys, and then its value.
 pub(crate) type Row = [u64; 4];
 
-/// What a call answers: a word, a number, and items.
+/// What a call returned: a word, a number, and items.
 #[derive(Clone, Copy)]
 pub(crate) struct Answer {
     word: &'static str,
@@ -13,7 +13,7 @@ pub(crate) struct Answer {
 }
 
 impl Answer {
-    /// A word alone.
+    /// Makes an answer of a word.
     pub(crate) fn said(word: &'static str) -> Self {
         Answer {
             word,
@@ -22,7 +22,7 @@ impl Answer {
         }
     }
 
-    /// A number.
+    /// Makes an answer of a number.
     pub(crate) fn counted(number: usize) -> Self {
         Answer {
             word: "",
@@ -35,17 +35,17 @@ impl Answer {
         Answer::said(if holds { "yes" } else { "no" })
     }
 
-    /// Whether a call without a value was granted.
+    /// Makes the answer of a call that returns no value: whether it succeeded.
     pub(crate) fn granted(is_granted: bool) -> Self {
         Answer::said(if is_granted { "ok" } else { "memory" })
     }
 
-    /// A word with an item.
+    /// Makes an answer of a word and an item.
     pub(crate) fn of(word: &'static str, row: Row) -> Self {
         Answer::said(word).with(row)
     }
 
-    /// An item, if there is one.
+    /// Makes an answer of an item, or of `none` if there is none.
     pub(crate) fn found(row: Option<Row>) -> Self {
         match row {
             Some(row) => Answer::of("item", row),
@@ -53,12 +53,12 @@ impl Answer {
         }
     }
 
-    /// The same with one more item.
+    /// Returns the answer with one more item.
     pub(crate) fn with(self, row: Row) -> Self {
         self.with_if(Some(row))
     }
 
-    /// The same with one more item, if there is one.
+    /// Returns the answer with one more item, if there is one.
     pub(crate) fn with_if(mut self, row: Option<Row>) -> Self {
         for place in &mut self.rows {
             if place.is_none() {
@@ -69,7 +69,7 @@ impl Answer {
         self
     }
 
-    /// The same with the items of another answer behind its own.
+    /// Returns the answer with the items of another one behind its own.
     pub(crate) fn behind(mut self, other: Answer) -> Self {
         for row in other.rows {
             self = self.with_if(row);
@@ -77,14 +77,14 @@ impl Answer {
         self
     }
 
-    /// The same with a number.
+    /// Returns the answer with this number.
     pub(crate) fn at(mut self, number: usize) -> Self {
         self.number = Some(number as u64);
         self
     }
 }
 
-/// The text of an item of so many numbers.
+/// Returns the text of an item with `width` numbers.
 pub(crate) fn row_shown(alloc: Global, row: &Row, width: usize) -> Result<String, AllocError> {
     let [first, second, third, fourth] = *row;
     if width == 3 {
@@ -94,7 +94,7 @@ pub(crate) fn row_shown(alloc: Global, row: &Row, width: usize) -> Result<String
     }
 }
 
-/// The text of an answer, whose items have so many numbers.
+/// Returns the text of an answer, whose items have `width` numbers.
 pub(crate) fn shown(alloc: Global, answer: &Answer, width: usize) -> Result<String, AllocError> {
     let mut text = String::new(alloc);
     text.push_str(answer.word)?;
@@ -111,7 +111,7 @@ pub(crate) fn shown(alloc: Global, answer: &Answer, width: usize) -> Result<Stri
     Ok(text)
 }
 
-/// Pushes a word, behind a space where there is one before it.
+/// Appends a word, with a space before it unless the text is empty.
 pub(crate) fn push(text: &mut String, word: &str) -> Result<(), AllocError> {
     if !text.is_empty() {
         text.push_str(" ")?;

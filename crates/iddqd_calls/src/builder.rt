@@ -15,7 +15,7 @@ impl Builder for DefaultHashBuilder {
     ghost clones = { Prim.search rules };
 }
 
-/// Gives a number itself.
+/// Hashes a number to itself.
 #[derive(Clone, Copy, Default)]
 pub(crate) struct Own;
 
@@ -33,7 +33,7 @@ impl Builder for Own {
     ghost clones = { λ _ _ is_same. is_same };
 }
 
-/// Gives every key the hash 0.
+/// Hashes each key to 0.
 #[derive(Clone, Copy, Default)]
 pub(crate) struct Zero;
 
@@ -51,7 +51,7 @@ impl Builder for Zero {
     ghost clones = { λ _ _ is_same. is_same };
 }
 
-/// Gives every key the largest hash.
+/// Hashes each key to the largest number.
 #[derive(Clone, Copy, Default)]
 pub(crate) struct Largest;
 

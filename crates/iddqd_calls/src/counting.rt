@@ -9,17 +9,17 @@ use std::cell::Cell;
 use std::hash::{Hash, Hasher};
 use std::rc::Rc;
 
-/// How often the keys that share it were compared, and how often hashed.
+/// How often the keys that share these counts were compared and hashed.
 #[derive(Drop)]
 pub(crate) struct Counts {
     compared: Cell<u64>,
     hashed: Cell<u64>,
-    /// Whether they count.
+    /// Whether comparisons and hashes are counted.
     counts: Cell<bool>,
 }
 
 impl Counts {
-    /// Nothing is counted yet.
+    /// Makes counts that do not count yet.
     pub(crate) fn new() -> Self {
         Counts {
             compared: Cell::new(0),
@@ -28,39 +28,39 @@ impl Counts {
         }
     }
 
-    /// Counts from 0 on.
+    /// Starts counting, at 0.
     pub(crate) fn reset(&self) {
         self.compared.set(0);
         self.hashed.set(0);
         self.counts.set(true);
     }
 
-    /// Counts no more.
+    /// Stops counting.
     pub(crate) fn stop(&self) {
         self.counts.set(false);
     }
 
-    /// One comparison more.
+    /// Counts a comparison.
     fn compare(&self) {
         if self.counts.get() {
             self.compared.set(self.compared.get().saturating_add(1));
         }
     }
 
-    /// One hash more.
+    /// Counts a hash.
     fn hash(&self) {
         if self.counts.get() {
             self.hashed.set(self.hashed.get().saturating_add(1));
         }
     }
 
-    /// How often keys were compared, and how often hashed.
+    /// Returns how often keys were compared, and how often they were hashed.
     pub(crate) fn read(&self) -> (u64, u64) {
         (self.compared.get(), self.hashed.get())
     }
 }
 
-/// A number that counts its comparisons and its hashes, with those of all keys that share its counts.
+/// A number that counts its comparisons and its hashes, together with those of all keys that share its counts.
 #[derive(Drop)]
 pub(crate) struct Key {
     number: u64,
@@ -68,7 +68,7 @@ pub(crate) struct Key {
 }
 
 impl Key {
-    /// The key of this number.
+    /// Makes the key of this number.
     pub(crate) fn new(counts: &Rc<Counts>, number: u64) -> Result<Self, AllocError>
         ensures { IfOk result (λ key. key.number ≡ number) }
     {

@@ -1,16 +1,16 @@
-//! What a call costs.
+//! Measures what a call costs.
 use crate::counting::Counts;
 use std::alloc::{AllocError, Global};
 use std::rc::Rc;
 
-/// A request for so many bytes and N tells tests/refuse.c that a call begins, of which it refuses the Nth request, or none
-/// where N is 0.
+/// A request for BEGINS + N bytes tells tests/refuse.c that a call begins, and that the Nth allocation of the call is
+/// to fail, or none if N is 0.
 const BEGINS: usize = 1_000_000;
 
-/// A request for so many bytes and N is refused by tests/refuse.c but where the call made N requests.
+/// Then tests/refuse.c makes a request for MADE + N bytes fail, unless the call made exactly N allocations.
 const MADE: usize = 2_000_000;
 
-/// The most requests of a call that are told apart.
+/// How many allocations of a call can be told apart.
 const MOST: usize = 100;
 
 /// What the call of a line cost.
@@ -18,9 +18,9 @@ const MOST: usize = 100;
 pub(crate) struct Gauge {
     alloc: Global,
     pub(crate) counts: Rc<Counts>,
-    /// The request that is refused.
+    /// The allocation that is to fail.
     refused: usize,
-    /// How many keys there were, and then how many were dropped.
+    /// While the call runs, the number of keys that there were before it. Afterwards, how many of them were dropped.
     keys: usize,
     requests: usize,
     /// Whether a call has begun and not ended.
@@ -43,12 +43,12 @@ impl Gauge {
         self.alloc
     }
 
-    /// How many keys there are.
+    /// Returns the number of keys that are not dropped.
     pub(crate) fn alive(&self) -> usize {
         Rc::strong_count(&self.counts).saturating_sub(1)
     }
 
-    /// This request of the next call is to be refused, if it is not 0.
+    /// Prepares for a call, in which this allocation is to fail, or none for 0.
     pub(crate) fn refuse(&mut self, request: usize) {
         self.refused = request;
         self.keys = 0;
@@ -56,7 +56,7 @@ impl Gauge {
         self.counts.reset();
     }
 
-    /// The call begins.
+    /// Notes that the call begins.
     pub(crate) fn begin(&mut self) {
         self.keys = self.alive();
         self.is_open = true;
@@ -64,7 +64,7 @@ impl Gauge {
         self.counts.reset();
     }
 
-    /// The call has ended, and what it answered is dropped.
+    /// Notes that the call has ended, and that what it returned was dropped. It does nothing if no call has begun.
     pub(crate) fn end(&mut self) {
         if !self.is_open {
             return;
@@ -81,7 +81,7 @@ impl Gauge {
         }
     }
 
-    /// What the call cost, as text.
+    /// Returns what the call cost, as text.
     pub(crate) fn costs(&self, alloc: Global) -> Result<String, AllocError> {
         let (compared, hashed) = self.counts.read();
         let dropped = self.keys;
@@ -92,7 +92,7 @@ impl Gauge {
     }
 }
 
-/// Whether so many bytes are granted.
+/// Returns whether an allocation of this many bytes succeeds.
 fn is_granted(alloc: Global, bytes: usize) -> bool {
     Vec::<u8>::with_capacity(alloc, bytes).is_ok()
 }

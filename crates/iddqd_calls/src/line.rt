@@ -1,15 +1,15 @@
-//! Lines.
+//! Reads the lines of the input.
 use std::alloc::{AllocError, Global};
 
-/// How many items a new map has, and the room that it is made with.
+/// The number of items of a new map, and the capacity that it is made with.
 pub(crate) type Begins = (u64, Option<usize>);
 
 /// What a line says.
 #[derive(Drop)]
 pub(crate) struct Line<'l> {
-    /// The map that it begins, if it begins one.
+    /// The map that the line begins, if it begins one.
     pub(crate) begins: Option<Begins>,
-    /// The request of the call that is refused, or 0.
+    /// The allocation of the call that is to fail, or 0 for none.
     pub(crate) refused: usize,
     pub(crate) call: &'l str,
     pub(crate) numbers: Vec<u64>,
@@ -29,7 +29,7 @@ pub(crate) fn line_of<'l>(alloc: Global, text: &'l str) -> Result<Line<'l>, Allo
     Ok(line)
 }
 
-/// Puts a word into its place: in front of the call, the call itself, or a number behind it.
+/// Takes a word: one before the call, the call itself, or a number behind it.
 fn put<'l>(line: &mut Line<'l>, word: &'l str) -> Result<(), AllocError> {
     if !line.call.is_empty() {
         if let Ok(number) = word.parse::<u64>() {
@@ -46,7 +46,7 @@ fn put<'l>(line: &mut Line<'l>, word: &'l str) -> Result<(), AllocError> {
     Ok(())
 }
 
-/// The map that a word begins, if it is no call.
+/// Reads a word before the call that begins a map, or returns `None` if the word is no such word.
 fn begins_of(word: &str) -> Option<Begins> {
     match word.split_once("/") {
         Some((items, room)) => {

@@ -1,19 +1,22 @@
-//! Carries out calls of the maps, a line each, and tells what each answers and what it costs.
+//! Carries out calls of the maps, one for each line of standard input, and prints what each returns and what it
+//! costs.
 //!
 //!     iddqd_calls bi|tri own|zero|max|default answers|costs
 //!
-//! The map's builder gives a key as its own hash, 0 for each, the largest number for each, or is the default one. A line of
-//! standard input is
+//! The second argument names the builder of the map: `own` hashes a key to itself, `zero` hashes each key to 0, `max`
+//! hashes each key to the largest number, and `default` is the default builder. A line is
 //!
 //!     [ITEMS[/ROOM]] [!REQUEST] CALL NUMBER..
 //!
-//! With ITEMS it begins a new map, made with ROOM where that is given, into which so many items go: (1, 10, 100),
-//! (2, 20, 200) and so on with two keys, the value behind them. Else it goes on with the map of the line before. CALL is
-//! the functions that are called, one on what the one before answers, as `entry.or_insert`; NUMBERs are keys, items, or
-//! how many items. The line's answer is the line itself, and behind a colon the reply; then, if `costs` are asked for, how
-//! many keys were compared, hashed and dropped, and how many requests for memory were made; then how many items there are, of
-//! how many that fit. With !REQUEST that request of the call is refused. Requests are counted and refused by
-//! tests/refuse.c, if that is loaded; else their count is 0.
+//! With ITEMS the line begins a new map with that many items, (1, 10, 100), (2, 20, 200) and so on with two keys,
+//! where the last number is the value. With ROOM the map is made with that capacity. Without ITEMS the line goes on
+//! with the map of the line before. CALL names the functions to call, one on the result of another, as
+//! `entry.or_insert`. The NUMBERs are keys, items, or a number of items.
+//!
+//! The answer to a line is the line itself, a colon, and what the call returned. If the third argument is `costs`, it
+//! goes on with how many keys were compared, hashed and dropped, and how many allocations were requested. At its end
+//! are the number of items and the capacity. With !REQUEST that allocation of the call fails. tests/refuse.c counts
+//! allocations and makes one fail, if it is loaded into the program; otherwise the count is 0.
 #![tactic(auto)]
 
 mod answer;
@@ -58,7 +61,7 @@ fn main(rt: HostRuntime) -> io::Result<ExitCode> {
     Ok(ExitCode::from(2))
 }
 
-/// Runs the lines on a map of this kind and builder, if there are such ones.
+/// Runs the lines on a map of this kind and with this builder. Returns `false` if there is no such kind or builder.
 fn chosen(rt: &HostRuntime, kind: &str, builder: &str, tells: bool) -> io::Result<bool> {
     match builder {
         "own" => of_kind::<Own>(rt, kind, tells),
@@ -78,7 +81,7 @@ fn of_kind<S: Builder>(rt: &HostRuntime, kind: &str, tells: bool) -> io::Result<
     Ok(true)
 }
 
-/// Answers all lines. Says at the end how many keys are left once the map is gone.
+/// Answers all lines, drops the map, and prints how many keys are then left.
 fn run<M: Table>(rt: &HostRuntime, tells: bool) -> io::Result<()> {
     let mut gauge = Gauge::new(rt.alloc())?;
     let mut map = filled::<M>(rt.alloc(), &gauge, 0, None)?;
@@ -112,7 +115,7 @@ fn answer_line<M: Table>(
     }
 }
 
-/// What a call answers, as text.
+/// Carries out the call of a line, and returns what it returned, as text.
 fn reply<M: Table>(
     alloc: Global,
     map: &mut M,

@@ -1,11 +1,11 @@
-//! What accepts a key, and counts how many keys it is asked about.
+//! A matcher that accepts one key, and counts how many keys it is asked about.
 ghost use Rattle.std.specs.Prelude.{◌≡◌, ◌==◌, refl};
 ghost use Rattle.std.proofs.Common.{◌∙◌, ap};
 
 use crate::counting::Key;
 use iddqd_store::{KeyMatcher, Meter};
 
-/// Accepts the key of one number.
+/// Accepts the key with this number.
 #[derive(Drop)]
 pub(crate) struct Only {
     number: u64,
@@ -24,7 +24,7 @@ impl Only {
         }
     }
 
-    /// How many keys it was asked about.
+    /// Returns how many keys it was asked about.
     pub(crate) fn questions(&self) -> usize {
         self.questions
     }

@@ -11,27 +11,27 @@ pub(crate) trait Table: Drop {
     /// How many numbers an item has.
     const WIDTH: usize;
 
-    /// An empty map, made with this room where it is given.
+    /// Makes an empty map, with this capacity if one is given.
     fn made(alloc: Global, room: Option<usize>) -> Result<Self, AllocError>;
 
-    /// Puts the item of this number in.
+    /// Inserts the item of this number.
     fn put(&mut self, counts: &Rc<Counts>, number: u64) -> Result<(), AllocError>;
 
-    /// Carries out the call of a line, if there is such a one.
+    /// Carries out the call of a line. Returns `None` if there is no such call.
     fn carry_out(
         &mut self,
         gauge: &mut Gauge,
         line: &Line<'_>,
     ) -> Result<Option<Answer>, AllocError>;
 
-    /// How many items there are, and how many fit.
+    /// Returns the number of items, and the capacity.
     fn state(&self) -> [usize; 2];
 
-    /// All items as text, the smallest first key first.
+    /// Returns all items as text, sorted by first key.
     fn listed(&self, alloc: Global) -> Result<String, AllocError>;
 }
 
-/// A new map of so many items, made with this room where it is given.
+/// Makes a map with this many items, with this capacity if one is given.
 pub(crate) fn filled<M: Table>(
     alloc: Global,
     gauge: &Gauge,

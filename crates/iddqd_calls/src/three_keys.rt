@@ -1,4 +1,4 @@
-//! The map with three keys: the calls of a line, by what they are given.
+//! The map with three keys: its calls, by what they are given.
 mod commands;
 mod entries;
 mod guards;
@@ -75,11 +75,11 @@ impl<S: Builder> Table for TriHashMap<Item, S> {
     }
 }
 
-/// What a call is given. Keys are those of an item.
+/// What a call is given. Several keys are given as an item that has them.
 #[derive(Drop)]
 enum Given {
     Nothing,
-    /// A key, or the number of items that it stands for.
+    /// A key, or a number of items.
     Key(Key),
     Keys(Item),
     Item(Item),
@@ -88,7 +88,7 @@ enum Given {
     Items(Vec<Item>),
 }
 
-/// What the numbers of a line give.
+/// Reads what the numbers of a line give.
 fn given_of(gauge: &Gauge, line: &Line<'_>) -> Result<Given, AllocError> {
     let counts = &gauge.counts;
     let numbers = line.numbers.as_slice();
@@ -107,7 +107,7 @@ fn given_of(gauge: &Gauge, line: &Line<'_>) -> Result<Given, AllocError> {
     })
 }
 
-/// All keys, and an item behind them.
+/// Reads the keys, and the item behind them.
 fn keys_and_item(counts: &Rc<Counts>, numbers: &[u64]) -> Result<Given, AllocError> {
     match numbers {
         [key1, key2, key3, rest @ ..] => {
@@ -119,7 +119,7 @@ fn keys_and_item(counts: &Rc<Counts>, numbers: &[u64]) -> Result<Given, AllocErr
     }
 }
 
-/// The item of these numbers, which are 0 where they are missing.
+/// Makes the item of these numbers, or of zeros if there are too few numbers.
 fn item_from(counts: &Rc<Counts>, numbers: &[u64]) -> Result<Item, AllocError> {
     match numbers {
         [key1, key2, key3, value, ..] => item_of(counts, [*key1, *key2, *key3, *value]),
@@ -127,7 +127,7 @@ fn item_from(counts: &Rc<Counts>, numbers: &[u64]) -> Result<Item, AllocError> {
     }
 }
 
-/// The items of these numbers.
+/// Makes the items of these numbers.
 fn items_of(gauge: &Gauge, numbers: &[u64]) -> Result<Vec<Item>, AllocError> {
     let mut items = Vec::new(gauge.alloc());
     for numbers in numbers.chunks(NUMBERS) {
@@ -136,7 +136,7 @@ fn items_of(gauge: &Gauge, numbers: &[u64]) -> Result<Vec<Item>, AllocError> {
     Ok(items)
 }
 
-/// What the call of this name answers, if there is such a one that is given that.
+/// Carries out the call of this name. Returns `None` if there is no such call that is given this.
 fn answered<S: Builder>(
     map: &mut TriHashMap<Item, S>,
     gauge: &mut Gauge,

@@ -1,7 +1,7 @@
 //! Commands that both maps and the list carry out.
 use crate::item::{Item, Keys, Rank};
 
-/// What is asked by one key. `Replace` and `Set` write by `get1_mut` and its like.
+/// What a command by one key does. `Replace` and `Set` write through `get1_mut`, or its like for another key.
 #[derive(Clone, Copy, Drop)]
 pub enum Asked {
     Get,
@@ -11,7 +11,7 @@ pub enum Asked {
     Set(u64),
 }
 
-/// What is asked by keys of all ranks.
+/// What a command by all keys does.
 #[derive(Clone, Copy, Drop)]
 pub enum AskedByAll {
     Get,
@@ -36,11 +36,11 @@ pub enum Command {
     ShrinkToFit,
     Clear,
     Len,
-    /// All items, sorted by their first keys.
+    /// Lists all items, sorted by first key.
     Items,
-    /// `retain` of the items whose value leaves another remainder by 16 than this one, and then all items.
+    /// Removes by `retain` the items whose value has this remainder by 16, and then lists all items.
     Retain(u64),
-    /// The map becomes its clone, in which the value of the item with this first key is one more. Asks whether the
-    /// clone equals the map before that and after.
+    /// Replaces the map by its clone, after it added one to the value of the clone's item with this first key. The
+    /// reply says whether the clone equaled the map before and after that.
     Copy(u64),
 }

@@ -1,24 +1,24 @@
-//! Commands that are drawn from a fixed seed.
+//! Draws commands at random, from a fixed seed.
 use crate::command::{Asked, AskedByAll, Command};
 use crate::item::{Item, Keys, Rank};
 use crate::list::List;
 use std::alloc::{AllocError, Global};
 
-/// Keys are below this, so that items conflict all the time.
+/// Keys are below this number, so that items conflict often.
 const LIMIT: u64 = 64;
 
-/// A linear congruential generator: its numbers are the upper half of its state.
+/// A linear congruential generator. Its numbers are the upper half of its state.
 #[derive(Drop)]
 pub struct Draw {
     state: u64,
     /// The number of ranks.
     ranks: u64,
-    /// How many items were drawn. The last one has this as its value.
+    /// How many items were drawn. This is the value of the last one.
     items: u64,
 }
 
 impl Draw {
-    /// Draws for so many ranks, from the same seed each time.
+    /// Makes a generator for this many ranks, always with the same seed.
     pub(crate) fn new(ranks: u64) -> Self {
         Draw {
             state: 1,
@@ -27,7 +27,7 @@ impl Draw {
         }
     }
 
-    /// A number below this one, or 0.
+    /// Returns a number below this one, or 0 if that is 0.
     fn below(&mut self, limit: u64) -> u64 {
         self.state = self
             .state
@@ -36,7 +36,7 @@ impl Draw {
         (self.state >> 32).wrapping_mul(limit) >> 32
     }
 
-    /// A rank.
+    /// Returns a rank.
     fn rank(&mut self) -> Rank {
         match self.below(self.ranks) {
             0 => Rank::First,
@@ -45,7 +45,7 @@ impl Draw {
         }
     }
 
-    /// New keys.
+    /// Returns new keys.
     fn new_keys(&mut self) -> Keys {
         Keys {
             first: self.below(LIMIT),
@@ -54,7 +54,7 @@ impl Draw {
         }
     }
 
-    /// Keys of an item of the list, new keys, or new keys with one of an item's.
+    /// Returns the keys of an item of the list, new keys, or new keys with one key of an item.
     fn keys(&mut self, list: &List) -> Keys {
         let new = self.new_keys();
         let Some(item) = list.get(self.below(list.len() as u64) as usize) else {
@@ -80,7 +80,7 @@ impl Draw {
         }
     }
 
-    /// An item of these keys, with a value of its own.
+    /// Returns an item with these keys, and with a value that no other item has.
     fn item_of(&mut self, keys: Keys) -> Item {
         self.items = self.items.wrapping_add(1);
         Item {
@@ -89,7 +89,7 @@ impl Draw {
         }
     }
 
-    /// An item of new keys mostly.
+    /// Returns an item, mostly with new keys.
     fn item(&mut self, list: &List) -> Item {
         let keys = match self.below(8) {
             0 => self.keys(list),
@@ -98,7 +98,7 @@ impl Draw {
         self.item_of(keys)
     }
 
-    /// An item of these keys mostly.
+    /// Returns an item, mostly with these keys.
     fn item_near(&mut self, keys: Keys, list: &List) -> Item {
         match self.below(4) {
             0 => self.item(list),
@@ -106,7 +106,7 @@ impl Draw {
         }
     }
 
-    /// Up to three items.
+    /// Returns up to three items.
     fn items(&mut self, alloc: Global, list: &List) -> Result<Vec<Item>, AllocError> {
         let mut items = Vec::new(alloc);
         for _ in 0..self.below(4) {
@@ -115,7 +115,7 @@ impl Draw {
         Ok(items)
     }
 
-    /// What is asked by one of these keys.
+    /// Returns what a command by one of these keys does.
     fn asked(&mut self, keys: Keys, list: &List) -> Asked {
         match self.below(16) {
             0..=3 => Asked::Get,
@@ -126,7 +126,7 @@ impl Draw {
         }
     }
 
-    /// What is asked by all of these keys.
+    /// Returns what a command by all of these keys does.
     fn asked_by_all(&mut self, keys: Keys, list: &List) -> AskedByAll {
         match self.below(16) {
             0..=1 => AskedByAll::Get,
@@ -138,7 +138,7 @@ impl Draw {
         }
     }
 
-    /// A command on a map whose items are those of the list.
+    /// Returns a command for a map that has the items of the list.
     pub(crate) fn command(&mut self, alloc: Global, list: &List) -> Result<Command, AllocError> {
         let keys = self.keys(list);
         Ok(match self.below(64) {

@@ -1,4 +1,4 @@
-//! The items of both maps. The one with two keys takes the third for data.
+//! The items of both maps. In the map with two keys the third key is data.
 ghost use Rattle.std.specs.Prelude.{◌≡◌, refl};
 ghost use Rattle.std.specs.Cmp.{nat_eq_equiv};
 ghost use Rattle.iddqd_load.specs.declared.item.Rank.TheVariants.{First, Second, Third};
@@ -6,7 +6,7 @@ ghost use Rattle.iddqd_load.specs.declared.item.Rank.TheVariants.{First, Second,
 use iddqd_bi::{BiHashItem, BiHashItemMut};
 use iddqd_tri::{TriHashItem, TriHashItemMut};
 
-/// Which of the keys.
+/// Says which of the keys.
 #[derive(Clone, Copy, PartialEq, Eq, Drop)]
 pub enum Rank {
     First,
@@ -29,7 +29,7 @@ pub struct Keys {
 }
 
 impl Keys {
-    /// The key of a rank.
+    /// Returns the key of a rank.
     pub(crate) fn at(&self, rank: Rank) -> u64
         ensures first { rank ≡ First → result ≡ self.now.first }
         ensures second { rank ≡ Second → result ≡ self.now.second }

@@ -1,10 +1,10 @@
-//! A plain list of items, no two of which have an equal key of the same rank. Each search is a walk from end to end.
+//! A plain list of items, no two of which have an equal key of the same rank. A search looks at each item in turn.
 use crate::command::{Asked, AskedByAll, Command};
 use crate::item::{Item, Keys, Rank};
 use crate::reply::{Kind, Reply, all_items, reply_of};
 use std::alloc::{AllocError, Global};
 
-/// The items, in the order in which they went in, and the ranks of their keys.
+/// The items, in the order in which they were inserted, and the ranks whose keys count.
 #[derive(Drop)]
 pub struct List {
     alloc: Global,
@@ -13,7 +13,7 @@ pub struct List {
 }
 
 impl List {
-    /// No items, of which the keys of these ranks count.
+    /// Makes an empty list, for these ranks.
     pub(crate) fn new(alloc: Global, ranks: &'static [Rank]) -> Self {
         List {
             alloc,
@@ -22,22 +22,22 @@ impl List {
         }
     }
 
-    /// The number of items.
+    /// Returns the number of items.
     pub(crate) fn len(&self) -> usize {
         self.items.len()
     }
 
-    /// The number of ranks.
+    /// Returns the number of ranks.
     pub(crate) fn ranks(&self) -> u64 {
         self.ranks.len() as u64
     }
 
-    /// The item at a place.
+    /// Returns the item at a place.
     pub(crate) fn get(&self, place: usize) -> Option<&Item> {
         self.items.get(place)
     }
 
-    /// The item with this key.
+    /// Returns the item with this key.
     fn by_key(&self, rank: Rank, key: u64) -> Option<Item> {
         self.items
             .iter()
@@ -45,7 +45,7 @@ impl List {
             .find(|item| item.keys.at(rank) == key)
     }
 
-    /// The lowest rank at which keys differ.
+    /// Returns the lowest rank at which the keys differ.
     fn differ(&self, left: Keys, right: Keys) -> Option<Rank> {
         self.ranks
             .iter()
@@ -53,7 +53,7 @@ impl List {
             .find(|rank| left.at(*rank) != right.at(*rank))
     }
 
-    /// The item with all keys.
+    /// Returns the item with all of these keys.
     fn by_all(&self, keys: Keys) -> Option<Item> {
         self.items
             .iter()
@@ -61,7 +61,7 @@ impl List {
             .find(|item| self.differ(item.keys, keys).is_none())
     }
 
-    /// The items with one of the keys, in the order of the keys and each once.
+    /// Returns the items that have one of these keys, in the order of the keys and each once.
     fn by_any(&self, keys: Keys) -> Result<Vec<Item>, AllocError> {
         let mut found = Vec::new(self.alloc);
         for rank in self.ranks {
@@ -74,12 +74,12 @@ impl List {
         Ok(found)
     }
 
-    /// Takes these items out.
+    /// Removes these items.
     fn take(&mut self, items: &[Item]) {
         self.items.retain(|item| !items.contains(item));
     }
 
-    /// Puts an item in for those that have one of its keys, and gives these.
+    /// Inserts an item, and removes and returns the items that conflict with it.
     fn overwrite(&mut self, item: Item) -> Result<Vec<Item>, AllocError> {
         let displaced = self.by_any(item.keys)?;
         self.take(&displaced);
@@ -87,7 +87,7 @@ impl List {
         Ok(displaced)
     }
 
-    /// What a command on one key answers.
+    /// Carries out a command by one key, and returns the reply.
     fn answer_by_key(&mut self, rank: Rank, key: u64, asked: Asked) -> Result<Reply, AllocError> {
         let found = self.by_key(rank, key);
         let (kind, item) = match (asked, found) {
@@ -108,7 +108,7 @@ impl List {
         reply_of(self.alloc, kind, item)
     }
 
-    /// What a command on all keys answers. An entry is vacant where nothing has one of the keys.
+    /// Carries out a command by all keys, and returns the reply. An entry is vacant if no item has one of the keys.
     fn answer_by_all(&mut self, keys: Keys, asked: AskedByAll) -> Result<Reply, AllocError> {
         let found = self.by_all(keys);
         let (kind, item) = match asked {
@@ -136,13 +136,13 @@ impl List {
         reply_of(self.alloc, kind, item)
     }
 
-    /// Takes the item out, if there is one.
+    /// Removes the item that was found, if any, and returns it.
     fn taken(&mut self, found: Option<Item>) -> Option<Item> {
         self.items.retain(|item| Some(*item) != found);
         found
     }
 
-    /// The reply of an item that goes in for those that have one of its keys.
+    /// Inserts an item in place of those that conflict with it, and returns the reply.
     fn displacing(&mut self, item: Item) -> Result<Reply, AllocError> {
         Ok(Reply {
             kind: Kind::Displaced,
@@ -150,7 +150,7 @@ impl List {
         })
     }
 
-    /// What an insert answers that is refused where something has one of the keys.
+    /// Inserts an item unless another conflicts with it, and returns the reply.
     fn insert_unique(&mut self, item: Item) -> Result<Reply, AllocError> {
         let mut reply = reply_of(self.alloc, Kind::Duplicate, Some(item))?;
         for found in self.by_any(item.keys)? {
@@ -163,7 +163,7 @@ impl List {
         reply_of(self.alloc, Kind::Done, None)
     }
 
-    /// Puts all items in or none.
+    /// Inserts all items or none, and returns the reply.
     fn extend_unique(&mut self, items: &[Item]) -> Result<Reply, AllocError> {
         let mut reply = reply_of(self.alloc, Kind::ExtendRefused, None)?;
         for item in items {
@@ -178,7 +178,7 @@ impl List {
         reply_of(self.alloc, Kind::Done, None)
     }
 
-    /// What a command answers.
+    /// Carries out a command, and returns the reply.
     pub(crate) fn answer(&mut self, command: &Command) -> Result<Reply, AllocError> {
         let (kind, item) = match command {
             Command::ByKey(rank, key, asked) => return self.answer_by_key(*rank, *key, *asked),

@@ -1,4 +1,5 @@
-//! A load run: many drawn commands on each map, and each reply compared with that of a plain list of items.
+//! A load run: draws many commands, carries them out on each map and on a plain list of items, and compares each
+//! reply.
 #![tactic(auto)]
 
 mod command;
@@ -24,7 +25,7 @@ use std::hash::RandomState;
 use std::io;
 use std::process::ExitCode;
 
-/// The exit status is 0 where all replies agree, and 1 where one differs or memory is refused.
+/// The exit status is 0 if all replies agree, and 1 if one differs or memory runs out.
 fn main(rt: HostRuntime) -> io::Result<ExitCode> {
     let two = run_two(&rt)?;
     let three = run_three(&rt)?;
@@ -38,7 +39,7 @@ fn main(rt: HostRuntime) -> io::Result<ExitCode> {
 /// The builder that gives all keys the same hash.
 const ALIKE: Alike = Alike { hash: 7 };
 
-/// Runs commands on maps with two keys. Says whether all replies agree.
+/// Runs commands on maps with two keys. Returns whether all replies agree.
 fn run_two(rt: &HostRuntime) -> io::Result<bool> {
     let map = BiHashMap::new(rt.alloc());
     let is_right = run(rt, "two keys, default builder", map, &TWO, 200_000)?;
@@ -48,7 +49,7 @@ fn run_two(rt: &HostRuntime) -> io::Result<bool> {
     Ok(run(rt, "two keys, all hashes alike", map, &TWO, 20_000)? && is_right)
 }
 
-/// Runs commands on maps with three keys. Says whether all replies agree.
+/// Runs commands on maps with three keys. Returns whether all replies agree.
 fn run_three(rt: &HostRuntime) -> io::Result<bool> {
     let map = TriHashMap::new(rt.alloc());
     let is_right = run(rt, "three keys, default builder", map, &THREE, 200_000)?;
@@ -58,7 +59,7 @@ fn run_three(rt: &HostRuntime) -> io::Result<bool> {
     Ok(run(rt, "three keys, all hashes alike", map, &THREE, 20_000)? && is_right)
 }
 
-/// Runs so many commands on an empty map, prints how that ended, and answers whether all replies agree.
+/// Runs this many commands on an empty map, prints how that ended, and returns whether all replies agree.
 fn run<M: Table + Drop>(
     rt: &HostRuntime,
     name: &str,
@@ -80,8 +81,8 @@ fn run<M: Table + Drop>(
     }
 }
 
-/// The number of the first command that the map answers otherwise than the list. Behind the last one all items are
-/// compared, under its number.
+/// Returns the number of the first command to which the map and the list reply differently. After the last command it
+/// compares all items, under the last number.
 fn first_wrong<M: Table + Drop>(
     alloc: Global,
     mut map: M,
@@ -102,7 +103,7 @@ fn first_wrong<M: Table + Drop>(
     }
 }
 
-/// Carries out a command on both. Says whether the replies agree.
+/// Carries out a command on the map and on the list. Returns whether the replies agree.
 fn agrees<M: Table>(
     alloc: Global,
     map: &mut M,

@@ -1,4 +1,4 @@
-//! Replies of the maps and of the list, and the sink that compares them.
+//! The replies of the maps and of the list, and the sink that compares them.
 ghost use Rattle.std.specs.Prelude.{◌≡◌, false, ⊤};
 
 use crate::item::{Item, Rank};
@@ -7,27 +7,27 @@ use iddqd_store::{ExtendUniqueError, ExtendUniqueReason, MapReply, ShortList};
 use iddqd_tri::{TriReply, TriSink};
 use std::alloc::{AllocError, Global};
 
-/// What a reply says beside its items.
+/// What a reply says apart from its items.
 #[derive(Clone, Copy, PartialEq, Eq, Drop)]
 pub enum Kind {
     Done,
     Kept,
     Present(bool),
     Length(usize),
-    /// All items, the smallest first key first.
+    /// All items, sorted by first key.
     Items,
     Found,
     Taken,
     Displaced,
-    /// The refused item, and those in its way.
+    /// The item that was not inserted, and those that conflict with it.
     Duplicate,
-    /// The item that has another key of this rank.
+    /// The item whose key of this rank is another one.
     Key(Rank),
     Absent,
     AbsentData(u64),
-    /// The items of a list before the refused one, and that one.
+    /// The items of a list before the one that conflicts, and that one.
     ExtendRefused,
-    /// Whether a clone equals its map, and whether it still does once a value was to be changed.
+    /// Whether a clone equals its map, and whether it still does after a value of the clone was to change.
     Equal(bool, bool),
 }
 
@@ -38,7 +38,7 @@ pub struct Reply {
     pub items: Vec<Item>,
 }
 
-/// A reply of at most one item.
+/// Makes a reply with one item at most.
 pub(crate) fn reply_of(alloc: Global, kind: Kind, item: Option<Item>) -> Result<Reply, AllocError> {
     let mut items = Vec::new(alloc);
     if let Some(item) = item {
@@ -47,7 +47,7 @@ pub(crate) fn reply_of(alloc: Global, kind: Kind, item: Option<Item>) -> Result<
     Ok(Reply { kind, items })
 }
 
-/// The reply of all items.
+/// Makes the reply of all items.
 pub(crate) fn all_items(mut items: Vec<Item>) -> Result<Reply, AllocError> {
     items.sort_by_key(|item| item.keys.first)?;
     Ok(Reply {
@@ -56,7 +56,7 @@ pub(crate) fn all_items(mut items: Vec<Item>) -> Result<Reply, AllocError> {
     })
 }
 
-/// What a map answers. Want of memory is a fault.
+/// Translates the reply of a map. It fails if the map ran out of memory.
 fn heard<'m, L: ShortList<Item = &'m Item> + Drop, G: ShortList<Item = Item> + Drop>(
     alloc: Global,
     reply: MapReply<'m, Item, u64, L, G>,
@@ -85,7 +85,7 @@ fn heard<'m, L: ShortList<Item = &'m Item> + Drop, G: ShortList<Item = Item> + D
     reply_of(alloc, kind, item)
 }
 
-/// The reply of the items that went out, of which there are at most three.
+/// Makes the reply of the items that were removed, of which there are at most three.
 fn displaced_reply<G: ShortList<Item = Item> + Drop>(
     alloc: Global,
     mut displaced: G,
@@ -99,7 +99,7 @@ fn displaced_reply<G: ShortList<Item = Item> + Drop>(
     Ok(reply)
 }
 
-/// The reply of a refused item and those in its way.
+/// Makes the reply of an item that was not inserted, and of those that conflict with it.
 fn duplicate_reply<'m, L: ShortList<Item = &'m Item> + Drop>(
     alloc: Global,
     item: Item,
@@ -114,7 +114,7 @@ fn duplicate_reply<'m, L: ShortList<Item = &'m Item> + Drop>(
     Ok(reply)
 }
 
-/// The reply of a refused list.
+/// Makes the reply of a list that was not inserted. It fails if that was for lack of memory.
 fn refused_reply(refused: ExtendUniqueError<Item>) -> Result<Reply, AllocError> {
     let ExtendUniqueError {
         taken,
@@ -132,7 +132,7 @@ fn refused_reply(refused: ExtendUniqueError<Item>) -> Result<Reply, AllocError> 
     })
 }
 
-/// Compares a reply with the one that is wanted.
+/// Compares a reply with the expected one.
 #[derive(Drop)]
 pub struct Sink {
     alloc: Global,
@@ -141,7 +141,7 @@ pub struct Sink {
 }
 
 impl Sink {
-    /// A sink that heard no reply yet.
+    /// Makes a sink that took no reply so far.
     pub(crate) fn new(alloc: Global, wanted: Reply) -> Self
         ensures wanted { result.wanted ≡ wanted }
         ensures agrees { result.agrees ≡ false }
@@ -153,14 +153,14 @@ impl Sink {
         }
     }
 
-    /// Whether a reply was heard, and the last one is the one that is wanted.
+    /// Returns whether the last reply was the expected one. Before the first reply it returns `false`.
     pub(crate) fn agrees(&self) -> bool
         ensures { result ≡ self.now.agrees }
     {
         self.agrees
     }
 
-    /// Hears a reply.
+    /// Takes a reply.
     pub(crate) fn hear(&mut self, reply: Reply)
         ensures agrees { self.new.agrees ≡ ⟦<Reply as PartialEq>⟧.eq reply self.old.wanted }
         ensures wanted { self.new.wanted ≡ self.old.wanted }
@@ -168,7 +168,7 @@ impl Sink {
         self.agrees = reply == self.wanted;
     }
 
-    /// Hears a reply without items.
+    /// Takes a reply without items.
     pub(crate) fn hear_kind(&mut self, kind: Kind) {
         let items = Vec::new(self.alloc);
         self.hear(Reply { kind, items });

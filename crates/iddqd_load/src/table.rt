@@ -1,4 +1,4 @@
-//! What the run needs of a map.
+//! What the load run needs of a map.
 ghost use Rattle.std.specs.Prelude.{◌≡◌};
 ghost use Rattle.std.proofs.Common.{rules};
 
@@ -11,7 +11,7 @@ use std::hash::{BuildHasher, RandomState};
 
 /// A map of either kind.
 pub trait Table {
-    /// Carries out a command, and tells the sink its reply. Fails where memory is refused.
+    /// Carries out a command, and hands the reply to the sink. It fails if memory runs out.
     fn carry_out(&mut self, command: Command, sink: &mut Sink) -> Result<(), AllocError>;
 }
 

@@ -1,4 +1,4 @@
-//! Commands on the map with three keys.
+//! Carries out commands on the map with three keys.
 use crate::command::{Asked, AskedByAll, Command};
 use crate::item::{Item, Keys, Rank};
 use crate::reply::{Kind, Sink};
@@ -6,7 +6,7 @@ use crate::table::{Builder, Table};
 use iddqd_tri::{TriCommand, TriHashMap};
 use std::alloc::AllocError;
 
-/// What is asked by one key.
+/// Returns the map's command by one key.
 fn by_key(rank: Rank, key: u64, asked: Asked) -> TriCommand<Item> {
     match (rank, asked) {
         (Rank::First, Asked::Get) => TriCommand::Get1(key),
@@ -27,7 +27,7 @@ fn by_key(rank: Rank, key: u64, asked: Asked) -> TriCommand<Item> {
     }
 }
 
-/// What is asked by keys of all ranks.
+/// Returns the map's command by all keys.
 fn by_all(keys: Keys, asked: AskedByAll) -> TriCommand<Item> {
     let Keys {
         first,
@@ -49,7 +49,7 @@ fn write_more<S: Builder>(map: &mut TriHashMap<Item, S>, key: u64) {
     map.update1(&key, |found| found.value.wrapping_add(1));
 }
 
-/// Whether a map equals its copy, and whether it does once that is written to.
+/// Compares a map with its clone, before and after a value of the clone changes.
 fn compare<S: Builder>(
     map: &TriHashMap<Item, S>,
     copy: &mut TriHashMap<Item, S>,
@@ -60,7 +60,7 @@ fn compare<S: Builder>(
     Kind::Equal(is_same, *copy == *map)
 }
 
-/// The map becomes its clone, in which the value of the item with this first key is one more.
+/// Replaces the map by its clone, in which the value of the item with this first key is one more.
 fn copy<S: Builder + Drop>(map: &mut TriHashMap<Item, S>, key: u64) -> Result<Kind, AllocError> {
     let mut copy = map.clone()?;
     let kind = compare(map, &mut copy, key);

@@ -1,4 +1,4 @@
-//! Commands on the map with two keys.
+//! Carries out commands on the map with two keys.
 use crate::command::{Asked, AskedByAll, Command};
 use crate::item::{Item, Keys, Rank};
 use crate::reply::{Kind, Sink};
@@ -6,7 +6,7 @@ use crate::table::{Builder, Table};
 use iddqd_bi::{BiCommand, BiHashMap};
 use std::alloc::AllocError;
 
-/// What is asked by one key. No third key is asked for.
+/// Returns the map's command by one key. The second rank stands for all but the first.
 fn by_key(rank: Rank, key: u64, asked: Asked) -> BiCommand<Item> {
     match (rank, asked) {
         (Rank::First, Asked::Get) => BiCommand::Get1(key),
@@ -22,7 +22,7 @@ fn by_key(rank: Rank, key: u64, asked: Asked) -> BiCommand<Item> {
     }
 }
 
-/// What is asked by keys of all ranks.
+/// Returns the map's command by all keys.
 fn by_all(keys: Keys, asked: AskedByAll) -> BiCommand<Item> {
     let Keys {
         first,
@@ -44,14 +44,14 @@ fn write_more<S: Builder>(map: &mut BiHashMap<Item, S>, key: u64) {
     map.update1(&key, |found| found.value.wrapping_add(1));
 }
 
-/// Whether a map equals its copy, and whether it does once that is written to.
+/// Compares a map with its clone, before and after a value of the clone changes.
 fn compare<S: Builder>(map: &BiHashMap<Item, S>, copy: &mut BiHashMap<Item, S>, key: u64) -> Kind {
     let is_same = *copy == *map;
     write_more(copy, key);
     Kind::Equal(is_same, *copy == *map)
 }
 
-/// The map becomes its clone, in which the value of the item with this first key is one more.
+/// Replaces the map by its clone, in which the value of the item with this first key is one more.
 fn copy<S: Builder + Drop>(map: &mut BiHashMap<Item, S>, key: u64) -> Result<Kind, AllocError> {
     let mut copy = map.clone()?;
     let kind = compare(map, &mut copy, key);

@@ -1,4 +1,4 @@
-//! Runs the lines of commands of standard input on a map, and writes the line of each reply to standard output.
+//! Runs the lines of commands on standard input on a map, and writes the line of each reply to standard output.
 #![tactic(auto)]
 
 #[cfg(test)]
@@ -11,8 +11,8 @@ use iddqd_text::to_write::ToWrite;
 use std::process::ExitCode;
 use std::{env, io};
 
-/// The exit status is 0 where each line was run, 1 at a fault, and 2 at a bad line or at arguments
-/// other than one kind.
+/// The exit status is 0 if each line was run, 1 at a fault, and 2 if a line is malformed or the arguments are not one
+/// kind.
 fn main(rt: HostRuntime) -> ExitCode {
     let (status, message) = match asked(arguments(&rt)) {
         Err(fault) => ending(&Err(fault)),
@@ -24,13 +24,13 @@ fn main(rt: HostRuntime) -> ExitCode {
         }
     };
     if !message.is_empty() {
-        // Where standard error fails too, the exit status is all that is left to say.
+        // If writing to standard error fails too, the exit status alone can say what happened.
         let _ = eprintln!(rt; "{message}");
     }
     ExitCode::from(status)
 }
 
-/// The arguments after the program's name. One that is not UTF-8 is an error, as is want of memory.
+/// Returns the arguments behind the program's name. It fails if one is not UTF-8, or if memory runs out.
 fn arguments(rt: &HostRuntime) -> io::Result<Vec<String>> {
     let mut arguments = Vec::new(rt.alloc());
     for argument in env::args(rt)?.skip(1) {

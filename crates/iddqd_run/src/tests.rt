@@ -1,4 +1,4 @@
-//! Readers and writers of which one call fails, and runs of which one request for memory is refused.
+//! Tests of runs in which one read, one write or one allocation fails.
 mod refused;
 
 use iddqd_text::from_read::FromRead;
@@ -9,7 +9,7 @@ use std::alloc::Global;
 use std::io::{self, ErrorKind, Read, Write};
 use std::process::Abort;
 
-/// Six lines for a kind of map, what they print, and how many bytes that is.
+/// Six lines for a kind of map, what they print, and the number of bytes of that.
 type Six = (Kind, &'static str, &'static str, usize);
 
 const SIX: [Six; 2] = [
@@ -27,7 +27,8 @@ const SIX: [Six; 2] = [
     ),
 ];
 
-/// Gives so many bytes a read at most. One read alone fails: the one before which so many went well.
+/// A reader that gives at most `most` bytes at a time. If `fails_after` is set, one read fails, after that many
+/// succeeded.
 #[derive(Drop)]
 struct PartReader<'t> {
     left: &'t [u8],
@@ -48,7 +49,7 @@ impl Read for PartReader<'_> {
     }
 }
 
-/// Whether the call that fails has come. It comes once.
+/// Counts down the calls, and returns whether this one is to fail, which happens once.
 fn is_due(fails_after: &mut Option<usize>) -> bool {
     match *fails_after {
         None => false,
@@ -63,8 +64,8 @@ fn is_due(fails_after: &mut Option<usize>) -> bool {
     }
 }
 
-/// Takes so many bytes a write at most. One write alone fails, by this error or, without one, by taking no byte: the
-/// one before which so many bytes were taken.
+/// A writer that takes at most `most` bytes at a time. If `fails_at` is set, one write fails, after that many bytes
+/// were taken: with this error, or, if there is none, by taking no byte.
 #[derive(Drop)]
 struct PartWriter {
     taken: Vec<u8>,
@@ -95,10 +96,10 @@ impl Write for PartWriter {
     }
 }
 
-/// How a run ends, and what it has written then.
+/// How a run ended, and what it had written by then.
 type Ended = (Result<RunEnd, RunFault>, Vec<u8>);
 
-/// The run of the lines that this reader gives.
+/// Runs the lines that this reader gives.
 fn read_by(alloc: Global, kind: Kind, reader: PartReader<'_>) -> Ended {
     let mut source = FromRead::new(reader);
     let mut out = ToWrite::new(Vec::new(alloc));
@@ -106,7 +107,7 @@ fn read_by(alloc: Global, kind: Kind, reader: PartReader<'_>) -> Ended {
     (ended, out.into_inner())
 }
 
-/// The run of a text that this writer takes.
+/// Runs a text, and writes to this writer.
 fn taken_by(alloc: Global, kind: Kind, text: &str, writer: PartWriter) -> Ended {
     let mut source = FromRead::new(text.as_bytes());
     let mut out = ToWrite::new(writer);
@@ -114,7 +115,7 @@ fn taken_by(alloc: Global, kind: Kind, text: &str, writer: PartWriter) -> Ended 
     (ended, out.into_inner().taken)
 }
 
-/// What a run has to end with and to have written, and where a call fails: behind so many reads or bytes.
+/// What a run has to end with and to have written, and the number of reads or bytes before the failure, for messages.
 type Wanted<'t> = (Result<RunEnd, RunFault>, &'t [u8], usize);
 
 fn check(rt: &impl Abort, kind: Kind, made: &Ended, wanted: Wanted<'_>) {
@@ -123,7 +124,7 @@ fn check(rt: &impl Abort, kind: Kind, made: &Ended, wanted: Wanted<'_>) {
     assert_eq!(rt; made.1.as_slice(), written, "{kind:?} at {at}");
 }
 
-/// How many reads of so many bytes at most a text takes, where the last one gives no byte.
+/// Returns how many reads a text takes, at most `most` bytes at a time. The last read gives no byte.
 fn reads_of(text: &str, most: usize) -> usize {
     if most == 1 {
         text.len().wrapping_add(1)
@@ -132,7 +133,7 @@ fn reads_of(text: &str, most: usize) -> usize {
     }
 }
 
-/// One read alone fails, behind so many.
+/// Checks the runs in which one read fails, after `fails_after` reads.
 fn check_read(rt: &impl Abort, alloc: Global, six: Six, most: usize, fails_after: usize) {
     let (kind, text, printed, _) = six;
     let wanted = if fails_after < reads_of(text, most) {
@@ -162,12 +163,12 @@ fn no_read_is_tried_again(rt: HostRuntime) {
     }
 }
 
-/// The first bytes of a text that has so many.
+/// Returns the first `length` bytes, or all if there are fewer.
 fn front_of(bytes: &[u8], length: usize) -> &[u8] {
     bytes.get(..length).unwrap_or(bytes)
 }
 
-/// One write alone fails, behind so many bytes.
+/// Checks the runs in which one write fails, after `fails_at` bytes.
 fn check_write(rt: &impl Abort, alloc: Global, six: Six, most: usize, fails_at: usize) {
     let (kind, text, printed, length) = six;
     let ended = if fails_at < length {

@@ -1,4 +1,4 @@
-//! Refusals.
+//! The errors of the maps that do not borrow the map, and their conversions by `?`.
 ghost use Rattle.std.specs.Prelude.{◌≡◌};
 
 use std::alloc::AllocError;
@@ -7,25 +7,25 @@ use std::marker::Model;
 
 mod display;
 
-/// A growth was refused: there is no memory for it, or its size is past `usize`.
+/// Memory could not be allocated: there is none, or the size does not fit in a `usize`.
 #[derive(Clone, Copy, Debug, PartialEq, Eq)]
 pub struct TryReserveError;
 
-/// So that `?` converts a refusal of std.
+/// Lets `?` convert an allocation failure of std.
 impl From<AllocError> for TryReserveError {
     fn from(_refused: AllocError) -> TryReserveError {
         TryReserveError
     }
 }
 
-/// So that `?` converts to `AllocError`.
+/// Lets `?` convert to `AllocError`.
 impl From<TryReserveError> for AllocError {
     fn from(_refused: TryReserveError) -> AllocError {
         AllocError
     }
 }
 
-/// So that `?` converts to an `io::Result`.
+/// Lets `?` convert to `io::Error`, of kind `OutOfMemory`.
 impl From<TryReserveError> for io::Error {
     ghost use Rattle.std.specs.IoError.{error_kind};
     ghost use Rattle.std.specs.declared.io.ErrorKind.TheVariants.{OutOfMemory};
@@ -37,21 +37,21 @@ impl From<TryReserveError> for io::Error {
     }
 }
 
-/// A growth was refused for this value, which comes back.
+/// There was no memory for this value, which the error returns.
 #[derive(Drop)]
 pub struct MemoryRefused<T> {
-    /// The value for which there was no room.
+    /// The value that was not inserted.
     pub value: T,
 }
 
-/// So that `?` converts to `AllocError`. The value is dropped.
+/// Lets `?` convert to `AllocError`. The value is dropped.
 impl<T: Drop> From<MemoryRefused<T>> for AllocError {
     fn from(_refused: MemoryRefused<T>) -> AllocError {
         AllocError
     }
 }
 
-/// So that `?` converts to an `io::Result`. The value is dropped.
+/// Lets `?` convert to `io::Error`, of kind `OutOfMemory`. The value is dropped.
 impl<T: Drop> From<MemoryRefused<T>> for io::Error {
     ghost use Rattle.std.specs.IoError.{error_kind};
     ghost use Rattle.std.specs.declared.io.ErrorKind.TheVariants.{OutOfMemory};
@@ -63,53 +63,53 @@ impl<T: Drop> From<MemoryRefused<T>> for io::Error {
     }
 }
 
-/// So that `?` converts to `TryReserveError`. The value is dropped.
+/// Lets `?` convert to `TryReserveError`. The value is dropped.
 impl<T: Drop> From<MemoryRefused<T>> for TryReserveError {
     fn from(_refused: MemoryRefused<T>) -> TryReserveError {
         TryReserveError
     }
 }
 
-/// Why an insert refused an item.
+/// Why an insert failed.
 #[derive(Clone, Copy, Debug, PartialEq, Eq, Drop)]
 pub enum InsertReason {
-    /// Items of the map conflict with it.
+    /// Items of the map conflict with the item.
     Duplicate,
-    /// Nothing conflicts with it, but the map is full and there was no memory to grow.
+    /// Nothing conflicts with the item, but the map is full, and there was no memory for it to grow.
     Memory,
 }
 
-/// Why no map was built of some items. The map of the items before is dropped.
+/// Why `from_iter_unique` failed. The map of the items before this one was dropped.
 #[derive(Drop)]
 pub enum FromIterError<T, L> {
-    /// An item, and those before it that conflict with it: a short list `L` of them, in the order of the keys.
+    /// An item, and the items before it that conflict with it, as a short list `L` in the order of the keys.
     Duplicate(DuplicateItem<T, L>),
-    /// An item that nothing conflicts with, and for which there was no memory.
+    /// An item with which nothing conflicts, and for which there was no memory.
     Memory(T),
 }
 
-/// Why `extend_unique` refused an item.
+/// Why `extend_unique` failed at an item.
 #[derive(Clone, Copy, Debug, PartialEq, Eq, Drop)]
 pub enum ExtendUniqueReason {
-    /// It conflicts with an item of the map, or with one before it in the list.
+    /// The item conflicts with an item of the map, or with one before it in the list.
     Conflict,
-    /// Nothing conflicts with it, but there was no memory for it.
+    /// Nothing conflicts with the item, but there was no memory for it.
     Memory,
 }
 
-/// Why `extend_unique` put nothing in. The rest of the list is dropped.
+/// The error of `extend_unique`, which inserted nothing. The items of the list behind `value` were dropped.
 #[derive(Drop)]
 pub struct ExtendUniqueError<T> {
-    /// The items before the one that was refused, in the order of the list.
+    /// The items before `value`, in the order of the list.
     pub taken: Vec<T>,
-    /// The item that was refused.
+    /// The item at which the call failed.
     pub value: T,
-    /// Why it was refused.
+    /// Why the call failed at `value`.
     pub reason: ExtendUniqueReason,
 }
 
-/// An item that was refused, and the items in its way: a short list `L` of them or of references to them, in the
-/// order of the keys.
+/// An item that was not inserted, and the items that conflict with it: a short list `L` of them or of references to
+/// them, in the order of the keys.
 #[derive(Drop)]
 pub struct DuplicateItem<T, L> {
     new_item: T,
@@ -127,7 +127,7 @@ impl<T, L> Model for DuplicateItem<T, L> {
 }
 
 impl<T, L> DuplicateItem<T, L> {
-    /// An item with those in its way.
+    /// Makes the error of an item and of those that conflict with it.
     pub fn new(new_item: T, duplicates: L) -> Self
         ensures { result ≡ record { new_item = new_item; duplicates = duplicates } }
     {
@@ -137,21 +137,21 @@ impl<T, L> DuplicateItem<T, L> {
         }
     }
 
-    /// The item that was refused.
+    /// Returns the item that was not inserted.
     pub fn new_item(&self) -> &T
         ensures { result.now ≡ self.now.new_item }
     {
         &self.new_item
     }
 
-    /// The items in its way, in the order of the keys.
+    /// Returns the items that conflict with it, in the order of the keys.
     pub fn duplicates(&self) -> &L
         ensures { result.now ≡ self.now.duplicates }
     {
         &self.duplicates
     }
 
-    /// Both.
+    /// Returns the item, and the items that conflict with it.
     pub fn into_parts(self) -> (T, L)
         ensures { result ≡ (self.new_item, self.duplicates) }
     {

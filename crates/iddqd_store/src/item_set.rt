@@ -1,4 +1,4 @@
-//! Items in slots.
+//! Items in slots: a slab with a free list.
 ghost use Rattle.std.specs.Prelude.{◌≡◌, ◌+◌, ◌-◌, ◌<◌, ◌≤◌, ◌^◌, [], ◌∷◌, IsSome, IfNone, IfSome, is_some, IfOk, IsOk, OnOk, OnErr, Some, IsPermutation, option_copied, drop, length, None, slice_set};
 ghost use Rattle.std.specs.Option.{option_copied_mut};
 ghost use Rattle.std.specs.Borrow.{Lends, sem};
@@ -22,12 +22,12 @@ pub use entered::Entered;
 pub use item_index::ItemIndex;
 pub use values::{IntoIter, Iter};
 
-/// Items in slots, each found by the number of its slot. Contracts see the slots, each with its item or free, and how
-/// many items fit.
+/// Items in slots (a slab). Each item is found by the number of its slot. Contracts see the slots, each with its item
+/// or free, and the capacity.
 ///
-/// A slot keeps its number until `compact` or `shrink_to`, and a freed slot is used again before a new one. Only
-/// `with_capacity`, `try_reserve`, `shrink_to` and `clone` take memory. Of a set that is there only `try_reserve` and
-/// `shrink_to` change how many items fit:
+/// An item stays in its slot until `compact` or `shrink_to`. A freed slot is used again before a new one. Only
+/// `with_capacity`, `try_reserve`, `shrink_to` and `clone` allocate memory. On an existing set, only `try_reserve`
+/// and `shrink_to` change the capacity:
 ///
 /// ```
 /// let mut set = ItemSet::new(alloc);
@@ -38,16 +38,16 @@ pub use values::{IntoIter, Iter};
 #[derive(Drop)]
 pub struct ItemSet<T> {
     slots: Vec<Slot<T>>,
-    // How many slots are live.
+    // The number of live slots.
     live: usize,
-    // The first free slot, or `slots.len()` where there is none.
+    // The first free slot, or `slots.len()` if there is none.
     head: usize,
 }
 
 #[derive(Drop)]
 enum Slot<T> {
     Live(T),
-    // The next free slot, or the number of slots where there is none.
+    // The next free slot, or the number of slots if there is none.
     Free(usize),
 }
 
@@ -90,7 +90,7 @@ impl<T> Slot<T> {
 impl<T> ItemSet<T> {
     ghost use Rattle.iddqd_store.specs.Slots.Lends.{lends_get, lends_item};
 
-    /// An empty set, which takes no memory until room is made in it.
+    /// Makes an empty set with capacity 0. It allocates nothing.
     pub fn new(alloc: Global) -> Self
         ensures slots { result.slots ≡ [] }
         ensures capacity { result.capacity ≡ 0 }
@@ -102,7 +102,8 @@ impl<T> ItemSet<T> {
         }
     }
 
-    /// An empty set with room for so many items. It is never refused for none.
+    /// Makes an empty set with exactly this capacity. It fails if the memory cannot be allocated, and never for
+    /// capacity 0.
     pub fn with_capacity(alloc: Global, items: usize) -> Result<Self, TryReserveError>
         ensures slots { IfOk result (λ s. s.slots ≡ []) }
         ensures capacity { IfOk result (λ s. s.capacity ≡ items) }
@@ -115,7 +116,7 @@ impl<T> ItemSet<T> {
         })
     }
 
-    /// The number of live slots. It takes one step.
+    /// Returns the number of live slots, in one step.
     pub fn len(&self) -> usize
         ensures value { result ≡ live_count self.now.slots }
         ensures fits { result ≤ self.now.capacity }
@@ -123,14 +124,14 @@ impl<T> ItemSet<T> {
         self.live
     }
 
-    /// How many slots there are, live or free.
+    /// Returns the number of slots, live or free.
     pub(crate) fn slot_count(&self) -> usize
         ensures { result ≡ length self.now.slots }
     {
         self.slots.len()
     }
 
-    /// How many items fit without growing.
+    /// Returns how many items fit without growing.
     pub fn capacity(&self) -> usize
         ensures value { result ≡ self.now.capacity }
         ensures fits { live_count self.now.slots ≤ result }
@@ -138,14 +139,14 @@ impl<T> ItemSet<T> {
         self.slots.capacity()
     }
 
-    /// A record of what goes in from now on, with nothing in it. It takes no memory.
+    /// Makes an empty record of the items that a batch inserts. It allocates nothing.
     pub fn entered(&self) -> Entered<T>
         ensures { result.slots ≡ [] }
     {
         Entered::new(*self.slots.allocator())
     }
 
-    /// The item of a live slot, and `None` for any other number.
+    /// Returns the item of a live slot, or `None` for any other number.
     pub fn get(&self, ix: ItemIndex) -> Option<&T>
         ensures { option_copied result ≡ get self.now.slots ix }
     {
@@ -161,7 +162,7 @@ impl<T> ItemSet<T> {
         self.get(ix).is_some()
     }
 
-    /// The item of a live slot, for writing, and `None` for any other number.
+    /// Returns the item of a live slot, borrowed for writing, or `None` for any other number.
     pub fn get_mut(&mut self, ix: ItemIndex) -> Option<&mut T>
         ensures value { option_copied_mut result ≡ get self.old.slots ix }
         ensures* writes_back { sem 𝓛 (lends_get T.row self.entry ix result) }
@@ -173,7 +174,7 @@ impl<T> ItemSet<T> {
         }
     }
 
-    /// The item of the live slot of this number, for writing.
+    /// Returns the item of a live slot, borrowed for writing.
     pub fn item_mut(&mut self, at: usize) -> &mut T
         requires { IsLive self.old.slots at }
         ensures value { get self.old.slots at ≡ Some result.now }
@@ -182,13 +183,13 @@ impl<T> ItemSet<T> {
         self.slots[at].item_mut()
     }
 
-    /// The first live slot from this number on. It looks at each slot up to that one.
+    /// Returns the first live slot from this number on. It visits each slot up to that one.
     pub fn next_live(&self, from: usize) -> Option<ItemIndex>
         ensures next { NextLive self.now.slots from result }
         ensures countable { length self.now.slots < 2 ^ 64 }
     {
-        // Most slots are live, so this one is looked at before the loop: then the loop of a caller is one, and not two of
-        // which one stands in the other.
+        // Most slots are live, so this one is visited before the loop. A caller's loop then runs as one loop, and not
+        // as an inner loop for each of its turns.
         if from < self.slots.len() {
             let first = ItemIndex::new(from);
             if self.is_live(first) {
@@ -204,7 +205,7 @@ impl<T> ItemSet<T> {
         None
     }
 
-    /// How many slots are live from this number on. It looks at each of them.
+    /// Counts the live slots from this number on. It visits each slot from there.
     pub fn count_from(&self, from: usize) -> usize
         ensures { result ≡ length (items_in (drop from self.now.slots)) }
     {
@@ -217,8 +218,8 @@ impl<T> ItemSet<T> {
         count
     }
 
-    /// Makes room for so many more items. It takes no memory where they fit already, and is refused only where memory
-    /// for more slots is.
+    /// Reserves spare capacity for `more` items. If they fit already it allocates nothing. It fails only if they do
+    /// not fit and memory for more slots cannot be allocated; the set is then unchanged.
     pub fn try_reserve(&mut self, more: usize) -> Result<(), TryReserveError>
         ensures slots { self.new.slots ≡ self.old.slots }
         ensures no_less_room { self.old.capacity ≤ self.new.capacity }
@@ -236,7 +237,8 @@ impl<T> ItemSet<T> {
         Ok(())
     }
 
-    /// Puts an item into a free slot: the one that was freed last, or a new one where every slot is live.
+    /// Inserts an item into a free slot: the one that was freed last, or a new one if each slot is live. There has to
+    /// be spare capacity, so it allocates nothing.
     pub fn insert_reserved(&mut self, item: T) -> ItemIndex
         requires { live_count self.old.slots < self.old.capacity }
         ensures vacant { get self.old.slots result ≡ None }
@@ -261,13 +263,14 @@ impl<T> ItemSet<T> {
         ItemIndex::new(at)
     }
 
-    /// Takes an item out and frees its slot, which is the next to be used.
+    /// Removes the item of a slot, and frees the slot, which is the next to be used. It returns `None` if the slot is
+    /// not live.
     pub fn remove(&mut self, ix: ItemIndex) -> Option<T>
-        // The item comes out of its slot, or nothing changes.
+        // The item leaves its slot, or nothing changes.
         ensures value { result ≡ get self.old.slots ix }
         ensures taken { IfSome result (λ item. TakesOut self.old ix item self.new) }
         ensures absent { IfNone result (self.new ≡ self.old) }
-        // No other slot changes, and no capacity.
+        // No other slot changes, and neither does the capacity.
         ensures updates { Updates self.old.slots self.new.slots ix None }
         ensures capacity { self.new.capacity ≡ self.old.capacity }
     {
@@ -296,7 +299,7 @@ impl<T> ItemSet<T> {
         }
     }
 
-    /// Puts an item in the place of another, which it gives back.
+    /// Replaces the item of a live slot, and returns the old item.
     pub fn replace(&mut self, ix: ItemIndex, item: T) -> T
         requires { IsLive self.old.slots ix }
         ensures value { get self.old.slots ix ≡ Some result }
@@ -307,7 +310,7 @@ impl<T> ItemSet<T> {
         mem::replace(self.item_mut(ix.number()), item)
     }
 
-    /// Drops every item, and keeps the room for them.
+    /// Drops all items, and keeps the capacity.
     pub fn clear(&mut self)
     where
         T: Drop,

@@ -1,4 +1,5 @@
-//! The parts of the multi-key maps: slots for items, tables of hashes, and the words that their contracts share.
+//! The parts that both maps are made of: slots for items, hash tables, searches by one key, queries, short lists and
+//! errors. Here are also the definitions that their contracts use.
 #![tactic(auto)]
 
 mod equivalent;

@@ -1,4 +1,4 @@
-//! What a look-up takes.
+//! The trait of what a lookup takes.
 ghost use Rattle.std.specs.Prelude.{◌≡◌, Bool, true};
 
 use crate::equivalent::Equivalent;
@@ -8,22 +8,23 @@ mod pair;
 mod slices;
 mod texts;
 
-/// What a look-up takes by value: a reference to a key or to any `Equivalent` of it, a lent text or slice, or a pair of
-/// queries for a pair of keys. So `get1(&7)`, `get1(&name)`, `get1("main")` and `get2((section, &offset))` all work.
+/// What a lookup takes by value: a reference to a key or to any `Equivalent` of it, a borrowed text or slice, or a
+/// pair of queries for a pair of keys. So `get1(&7)`, `get1(&name)`, `get1("main")` and `get2((section, &offset))`
+/// all work.
 ///
-/// A query type of one's own implements `Equivalent`, and is passed by reference.
+/// For a query type of your own implement `Equivalent`, and pass a reference to its value.
 pub trait Query<K: Eq + Hash>: Copy + Hash {
-    // What `stands_for` answers.
+    // The result of `stands_for`.
     ghost stands_for: { Self → K → Bool };
 
-    /// Whether this stands for the key.
+    /// Returns whether this query stands for the key.
     fn stands_for(&self, key: &K) -> bool
         ensures { result ≡ stands_for self.now key.now };
 
-    // A query is hashed as the keys that it stands for.
+    // A query hashes like the keys that it stands for, so that a search by its hash meets them.
     ghost respects_hash: { (q : Self) (k : K) → stands_for q k ≡ true → Self.hash_input q ≡ K.hash_input k };
 
-    // A query that stands for a key stands for the keys that are equal to it, and for no other.
+    // A query that stands for a key stands for the keys that are equal to it, and for no others.
     ghost respects_eq: { (q : Self) (x y : K) → stands_for q x ≡ true → stands_for q y ≡ K.eq x y };
 }
 

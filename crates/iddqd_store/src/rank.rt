@@ -1,4 +1,5 @@
-//! One rank of keys: what finds an item by its key, and what hashes keys to fill a table or to leave it.
+//! One rank, which is one of an item's keys: the search for an item by its key, and the hashes under which tables
+//! hold items.
 ghost use Rattle.std.specs.Prelude.{◌≡◌, ℕ, refl};
 ghost use Rattle.iddqd_store.specs.Rank.{key_hash};
 
@@ -13,20 +14,20 @@ pub use lookup::Lookup;
 pub use matchers::ByQuery;
 pub use slot_under::SlotUnder;
 
-/// One of the keys of an item. A type stands for the rank.
+/// Says which key of an item a rank is. A type without values stands for each rank.
 pub trait KeyOf<T> {
     type Key: Eq + Hash;
 
     // The key of an item.
     ghost key: { T → Self.Key };
 
-    /// The key.
+    /// Returns the key of this rank.
     fn key(item: &T) -> &Self::Key
         ensures { result.now ≡ key item.now };
 }
 
-/// What contracts say of the hash of an item's key of a rank, where this builder makes the hashers. Each rank has it, and
-/// none writes it.
+/// The hash of an item's key of a rank, by a given builder, for contracts. Every rank implements this trait, by the
+/// one impl below.
 pub trait HashedKey<T, S: BuildHasher>: KeyOf<T> {
     // The hash of the key, by a builder.
     ghost hash: { S → T → ℕ };

@@ -1,43 +1,45 @@
-//! What a command on a map answers.
+//! What a command on a map returns.
 use crate::error::{DuplicateItem, ExtendUniqueError};
 use crate::item_set::Iter;
 
-/// What a command answers. It may lend items of the map: `Lent` is a short list of lent items, and `Given` one of items
-/// that are given away. `D` is the data of an item.
+/// What a command returns. A reply may borrow items of the map: `Lent` is a short list of references to items, and
+/// `Given` a short list of items. `D` is the data of an item.
 #[derive(Drop)]
 pub enum MapReply<'m, T, D, Lent, Given> {
     /// The command was carried out.
     Done,
-    /// The item was refused since these items of the map conflict with it, in the order of the keys.
+    /// The item was not inserted, because these items of the map conflict with it. They are in the order of the keys.
     Duplicate(DuplicateItem<T, Lent>),
-    /// The item went in for these, which had its keys, in the order of the keys.
+    /// The item was inserted in place of these items, which had a key of it. They are in the order of the keys.
     Displaced(Given),
-    /// The item that was looked up, if there is one.
+    /// The item that was looked up, or `None` if there is none.
     Found(Option<&'m T>),
     /// Whether there is such an item.
     Present(bool),
-    /// The item that was taken out, if there was one.
+    /// The item that was removed, or `None` if there was none.
     Taken(Option<T>),
-    /// The item was refused for want of memory.
+    /// The item was not inserted, for lack of memory.
     Memory(T),
-    /// The command was refused for want of memory.
+    /// The command was not carried out, for lack of memory.
     Refused,
-    /// How many items there are.
+    /// The number of items.
     Length(usize),
-    /// The items, each once, in no promised order.
+    /// The items, each once, in unspecified order.
     Items(Iter<'m, T>),
-    /// What was there is kept, and the item that was offered is dropped.
+    /// The item that was there stays, and the item that was offered was dropped.
     Kept,
-    /// The item was refused since its first key is not the one asked for.
+    /// The item was not inserted, because its first key is not the one that the command names.
     Key1(T),
-    /// The item was refused since its second key is not the one asked for, and its first key is.
+    /// The item was not inserted, because its second key is not the one that the command names, although its first
+    /// key is.
     Key2(T),
-    /// The item was refused since its third key alone is not the one asked for. A map with two keys never answers it.
+    /// The item was not inserted, because of its keys the third alone is not the one that the command names. A map
+    /// with two keys never returns this.
     Key3(T),
-    /// The item is handed back since there is none to put it in the place of.
+    /// The item comes back, because there is no item to replace.
     Absent(T),
-    /// The data is handed back since there is no item to write it to.
+    /// The data comes back, because there is no item to write it to.
     AbsentData(D),
-    /// No item of a list went in, since one was refused.
+    /// No item of a list was inserted, because one could not be.
     ExtendRefused(ExtendUniqueError<T>),
 }

@@ -1,4 +1,4 @@
-//! Short lists: what they share.
+//! Short lists: inline arrays of at most two or three items.
 ghost use Rattle.std.specs.Prelude.{◌≡◌, ◌≤◌, ◌++◌, [], List, length, slice_get, IfNone};
 ghost use Rattle.std.specs.Option.{option_to_list};
 
@@ -12,19 +12,19 @@ pub use iter::ShortIter;
 pub use up_to_three::UpToThree;
 pub use up_to_two::UpToTwo;
 
-/// A short list, kept in place, whatever the most that it holds.
+/// What `UpToTwo` and `UpToThree` share: a list that is kept inline, without an allocation.
 pub trait ShortList {
     type Item;
 
     // The list.
     ghost list: { Self → List Self.Item };
 
-    /// The number of items.
+    /// Returns the number of items.
     fn len(&self) -> usize
         ensures value { result ≡ length (list self.now) }
         ensures short { result ≤ 3 };
 
-    /// Takes the first item out. The others move up.
+    /// Removes and returns the first item, or `None` if there is none.
     fn pop_front(&mut self) -> Option<Self::Item>
         ensures first { result ≡ slice_get (list self.old) 0 }
         ensures rest { list self.old ≡ option_to_list result ++ list self.new }

@@ -1,4 +1,4 @@
-//! What each kind of map says of its commands.
+//! What differs between the commands of the two kinds of map.
 ghost use Rattle.std.specs.Prelude.{◌≡◌, ℕ, List, Option, IfOk, string_bytes};
 ghost use Rattle.std.specs.Option.{option_map};
 ghost use Rattle.iddqd_text.specs.Commands.{Spelled};
@@ -9,23 +9,24 @@ use std::alloc::{AllocError, Global};
 
 /// A command of one kind of map.
 pub trait Command: Drop {
-    /// The items of the map.
+    /// The type of the map's items.
     type Item;
 
-    // What a word with its numbers spells.
+    // The command that a word with its numbers spells, if it spells one.
     ghost command_of: { Word → List ℕ → Option (Spelled Self Self.Item) };
 
-    // What a command is spelled by.
+    // The word and the numbers that spell a command.
     ghost spelled: { Self → Spelled Self Self.Item };
 
     // What a run of commands on a new map prints.
     ghost Prints: { List Self → List ℕ → Type 0 };
 
-    /// The command of a word with these numbers, if they are as many as it takes. It takes memory for a list of items.
+    /// Returns the command that a word with these numbers spells, or `None` if it spells none. It allocates memory
+    /// for a list of items alone.
     fn command_of(alloc: Global, word: Word, numbers: &[u64]) -> Result<Option<Self>, AllocError>
         ensures { IfOk result (λ found. option_map spelled found ≡ command_of word numbers.now) };
 
-    /// What commands print on a new map.
+    /// Runs the commands on a new map, and returns the lines that they print.
     fn run_commands(alloc: Global, commands: Vec<Self>) -> Result<String, AllocError>
         ensures { IfOk result (λ output. Prints commands.items (string_bytes output)) };
 }

@@ -1,4 +1,4 @@
-//! Where the program's bytes come from and where they go.
+//! Where the program's bytes come from, and where they go.
 ghost use Rattle.std.specs.Prelude.{◌≡◌, ℕ, List, Option};
 ghost use Rattle.std.specs.Io.{ReadsAtMost, WritesAtMost};
 ghost use Rattle.std.specs.Io.KnownBytes.{ReadConsumes, WriteAppends};
@@ -10,16 +10,16 @@ pub struct EndFault;
 
 /// Where bytes come from.
 pub trait Source {
-    /// The bytes left, where they are told.
+    /// The bytes that are left, if the source tells them.
     ghost left: { Self → Option (List ℕ) };
 
     /// How many reads failed.
     ghost failures: { Self → ℕ };
 
-    /// Moves bytes from the front of those left to the front of the buffer, and answers their
-    /// number. The answer for a buffer that isn't empty is 0 only where none is left.
+    /// Moves the next bytes into the buffer, from its start on, and returns how many it moved. For a buffer that is
+    /// not empty it returns 0 only if no bytes are left.
     ///
-    /// At an `Err` no byte moves, and one more read has failed.
+    /// If it fails, it moved no bytes.
     fn read(&mut self, buffer: &mut [u8]) -> Result<usize, EndFault>
         ensures in_bounds { ReadsAtMost result buffer.new }
         ensures bytes { ReadConsumes (left self.old) (left self.new) result buffer.new }
@@ -28,15 +28,15 @@ pub trait Source {
 
 /// Where bytes go.
 pub trait Out {
-    /// The bytes held, where they are told.
+    /// The bytes that were taken, if the target tells them.
     ghost held: { Self → Option (List ℕ) };
 
     /// How many writes failed.
     ghost failures: { Self → ℕ };
 
-    /// Takes a front of the bytes, and answers its length, which is 0 only where there is none.
+    /// Takes a prefix of the bytes, and returns its length, which is 0 only if there are no bytes.
     ///
-    /// At an `Err` no byte moves, and one more write has failed.
+    /// If it fails, it took no bytes.
     fn write(&mut self, bytes: &[u8]) -> Result<usize, EndFault>
         ensures in_bounds { WritesAtMost result bytes.now }
         ensures takes_some { TakesSome result bytes.now }

@@ -1,4 +1,4 @@
-//! A reader of std as a source.
+//! A reader of std as a `Source`.
 ghost use Rattle.std.specs.Prelude.{◌≡◌};
 
 use crate::ends::{EndFault, Source};
@@ -6,7 +6,7 @@ use iddqd_store::Meter;
 use std::io::Read;
 use std::marker::Model;
 
-/// A reader of std as a source. It costs no byte beside the reader.
+/// A reader of std as a `Source`. It is no larger than the reader.
 #[derive(Drop)]
 pub struct FromRead<R> {
     inner: R,
@@ -22,7 +22,7 @@ impl<R> Model for FromRead<R> {
 }
 
 impl<R> FromRead<R> {
-    /// The source of a reader's bytes, of which no read has failed.
+    /// Makes a source of a reader, with no failed read so far.
     pub fn new(inner: R) -> Self
         ensures inner { result.inner ≡ inner }
         ensures failures { result.failures ≡ 0 }
@@ -33,7 +33,7 @@ impl<R> FromRead<R> {
         }
     }
 
-    /// The reader, with what it has left.
+    /// Returns the reader, with the bytes that are left in it.
     pub fn into_inner(self) -> R
         ensures { result ≡ self.inner }
     {

@@ -16,10 +16,10 @@ pub trait Numbers: fmt::Display {
     // The numbers, in the order in which they are printed.
     ghost numbers: { Self → List ℕ };
 
-    /// The first key, which is the first of the numbers.
+    /// Returns the first key, which is the first of the numbers.
     fn first_key(&self) -> u64
         ensures { result ≡ first_of (numbers self.now) };
 
-    // What is printed is these numbers in brackets.
+    // The item is printed as these numbers in brackets.
     ghost shows: { (x : Self) → Self.output x ≡ Some (printed (numbers x)) };
 }

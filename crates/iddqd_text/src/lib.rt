@@ -1,5 +1,5 @@
-//! A text of commands, run on a map with two keys or with three: what `iddqd_run` does between its reader and its
-//! writer.
+//! The text program between its reader and its writer: it runs a text of commands on a map with two or with three
+//! keys. The program itself is `iddqd_run`.
 #![tactic(auto)]
 
 pub mod command;

@@ -1,9 +1,9 @@
-//! Lines of a text.
+//! Splits a text into lines.
 ghost use Rattle.std.specs.Prelude.{◌≡◌, ◌<◌, ◌≤◌, ◌∷◌, ◌==◌, length, not};
 ghost use Rattle.std.specs.List.{prefix_len};
 ghost use Rattle.iddqd_text.specs.Lines.{lines_of};
 
-/// The first line, and what follows its end.
+/// Returns the first line, without its line feed, and the text behind it.
 #[tactic(auto, using(crate::proofs::Cutting::first_line, crate::proofs::Cutting::last_line))]
 pub fn cut(rest: &[u8]) -> (&[u8], &[u8])
     requires { 0 < length rest.now }
@@ -18,7 +18,7 @@ pub fn cut(rest: &[u8]) -> (&[u8], &[u8])
     }
 }
 
-/// Where the first line ends.
+/// Returns the place of the first line feed, or the length if there is none.
 fn end_of_line(rest: &[u8]) -> usize
     ensures place { result ≡ prefix_len (λ b. not (b == 10)) rest.now }
     ensures within { result ≤ length rest.now }

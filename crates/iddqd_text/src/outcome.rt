@@ -1,4 +1,4 @@
-//! What the program is asked for, how a run ends, and what the main makes of it.
+//! What the arguments ask for, how a run ends, and which exit status and message follow.
 ghost use Rattle.std.specs.Prelude.{◌≡◌, ◌≢◌, None, Ok, Err, IfOk, IfErr, map, string_bytes};
 ghost use Rattle.std.specs.IoError.{error_kind};
 ghost use Rattle.iddqd_text.specs.Outcome.{kind_of, status_of, message_of};
@@ -7,12 +7,12 @@ use crate::ends::EndFault;
 use std::alloc::AllocError;
 use std::io::{self, ErrorKind};
 
-/// The kind of the map that is run.
+/// The kind of the map.
 #[derive(Clone, Copy, Debug, PartialEq, Eq, Drop)]
 pub enum Kind {
-    /// Items have two keys.
+    /// The items have two keys.
     Bi,
-    /// Items have three keys.
+    /// The items have three keys.
     Tri,
 }
 
@@ -21,7 +21,7 @@ pub enum Kind {
 pub enum RunEnd {
     /// Each line was run.
     Done,
-    /// No line was run, since the line with this number is bad. The first line is line 1.
+    /// No line was run, because the line with this number is malformed. The first line is line 1.
     BadLine(u64),
 }
 
@@ -32,7 +32,7 @@ pub enum RunFault {
     Read,
     /// A write failed.
     Write,
-    /// Memory was refused outside the map.
+    /// Memory outside the map ran out.
     Memory,
 }
 
@@ -46,9 +46,11 @@ impl From<AllocError> for RunFault {
     }
 }
 
-/// What the arguments after the program's name ask for, as they were read: the kind of a map, or none.
+/// Returns the kind of map that the arguments ask for, given the result of reading them, or `None` if they ask for
+/// none.
 ///
-/// Arguments that can't be read, as one that is not UTF-8, ask for none. Want of memory is a fault.
+/// Arguments that cannot be read ask for none, as one that is not UTF-8. It fails only if there was no memory to read
+/// them.
 pub fn asked(read: io::Result<Vec<String>>) -> Result<Option<Kind>, RunFault>
     ensures read { IfOk read (λ arguments. result ≡ Ok (kind_of (map string_bytes arguments.items))) }
     ensures memory { IfErr read (λ error. error_kind error ≡ ErrorKind.OutOfMemory → result ≡ Err RunFault.Memory) }
@@ -63,8 +65,8 @@ pub fn asked(read: io::Result<Vec<String>>) -> Result<Option<Kind>, RunFault>
     }
 }
 
-/// The kind that the arguments after the program's name ask for: `bi` alone asks for two keys, and
-/// `tri` alone for three. Other arguments ask for none.
+/// Returns the kind of map that the arguments behind the program's name ask for: two keys for `bi` alone, three for
+/// `tri` alone, and `None` for all else.
 pub fn kind_of(arguments: &[String]) -> Option<Kind>
     ensures { result ≡ kind_of (map string_bytes arguments.now) }
 {
@@ -78,7 +80,7 @@ pub fn kind_of(arguments: &[String]) -> Option<Kind>
     }
 }
 
-/// The exit status after a run, and the text for standard error, which is empty if there is none.
+/// Returns the exit status after a run, and the message for standard error, which may be empty.
 pub fn ending(ended: &Result<RunEnd, RunFault>) -> (u8, &'static str)
     ensures status { result.0 ≡ status_of ended.now }
     ensures message { result.1.now ≡ message_of ended.now }

@@ -1,4 +1,4 @@
-//! The commands of a text.
+//! Reads the commands that a text spells.
 ghost use Rattle.std.specs.Prelude.{◌≡◌, ◌≤◌, ◌==◌, IfOk, None, Some, drop, if◌then◌else◌, length, not};
 ghost use Rattle.std.specs.List.{prefix_len, slice_split};
 ghost use Rattle.std.specs.Option.{option_map};
@@ -14,15 +14,15 @@ use std::alloc::{AllocError, Global};
 /// What a text spells.
 #[derive(Drop)]
 pub enum Parsed<C> {
-    /// A command in each line.
+    /// Each line spells a command, and these are the commands.
     Commands(Vec<C>),
-    /// The line with this number is the first that spells none. The first line is line 1.
+    /// The line with this number is the first that spells no command. The first line is line 1.
     BadLine(u64),
 }
 
-/// The commands that the lines of a text spell, or the first bad line.
+/// Returns the commands that the lines of a text spell, or the number of the first malformed line.
 ///
-/// It keeps the commands in memory, and the numbers of one line beside.
+/// It allocates memory for the commands, and for the numbers of one line at a time.
 #[tactic(auto, using(crate::proofs::Parsing::spells_more, crate::proofs::Parsing::spells_all))]
 pub fn parse<C: Command>(alloc: Global, text: &[u8]) -> Result<Parsed<C>, AllocError>
     ensures { IfOk result (IsParse C.command_of C.spelled text.now) }
@@ -36,7 +36,8 @@ pub fn parse<C: Command>(alloc: Global, text: &[u8]) -> Result<Parsed<C>, AllocE
         number += 1;
         match command_of_line(alloc, line, &mut numbers)? {
             Some(command) => {
-                // Room first: a `push` hands the command back where memory is refused, by way of memory at each line.
+                // The capacity is reserved first. `push` returns the command if it fails, and that result would pass through
+                // memory for every line.
                 commands.reserve(1)?;
                 commands.push_reserved(command);
             }
@@ -47,7 +48,7 @@ pub fn parse<C: Command>(alloc: Global, text: &[u8]) -> Result<Parsed<C>, AllocE
     Ok(Parsed::Commands(commands))
 }
 
-/// The command that a line spells, if it spells one. The list is room for the line's numbers.
+/// Returns the command that a line spells, if it spells one. The list is a buffer for the line's numbers.
 #[tactic(auto, using(crate::proofs::Fields::without_word, crate::proofs::Fields::with_word))]
 pub fn command_of_line<C: Command>(
     alloc: Global,
@@ -66,7 +67,8 @@ pub fn command_of_line<C: Command>(
     C::command_of(alloc, word, numbers.as_slice())
 }
 
-/// Writes the numbers behind the first field over the list, and answers whether each field spells one.
+/// Replaces the list by the numbers of the fields behind the first one, and returns whether each of these fields
+/// spells a number.
 #[tactic(auto, using(crate::proofs::Fields::numbers_first, crate::proofs::Fields::numbers_more, crate::proofs::Fields::numbers_none))]
 fn read_numbers(text: &[u8], numbers: &mut Vec<u64>) -> Result<bool, AllocError>
     ensures { IfOk result (λ all. numbers_of (drop 1 (slice_split (λ b. b == 32) text.now)) ≡
@@ -85,7 +87,7 @@ fn read_numbers(text: &[u8], numbers: &mut Vec<u64>) -> Result<bool, AllocError>
     Ok(true)
 }
 
-/// Where the first field ends.
+/// Returns the place of the first space, or the length if there is none.
 fn end_of_field(fields: &[u8]) -> usize
     ensures place { result ≡ prefix_len (λ b. not (b == 32)) fields.now }
     ensures within { result ≤ length fields.now }

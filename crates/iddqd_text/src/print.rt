@@ -9,10 +9,11 @@ use crate::item::Numbers;
 use iddqd_store::{ExtendUniqueError, ExtendUniqueReason, Iter, MapReply, ShortList};
 use std::alloc::{AllocError, Global};
 
-// What writes more than a word stands in functions that are called and not copied into their callers: a function begins
-// by clearing the room of all its values, and so each reply would pay for the values of all others.
+// A reply whose line is more than a word has a function of its own, which is never inlined. A function clears the
+// frame of all its values when it begins, so if these were inlined, each reply would pay for the values of all
+// others.
 
-/// Writes the line of a reply over a text.
+/// Replaces a text by the line of a reply. It fails only for lack of memory.
 #[inline(never)]
 pub fn line_of<
     'm,
@@ -50,7 +51,7 @@ pub fn line_of<
     }
 }
 
-/// Puts the line of one item behind a word into an empty text.
+/// Appends a word and an item to an empty text, as a line.
 #[inline(never)]
 fn item_line<T: Numbers>(line: &mut String, word: &str, item: &T) -> Result<(), AllocError>
     requires { string_bytes line.old ≡ [] }
@@ -59,7 +60,7 @@ fn item_line<T: Numbers>(line: &mut String, word: &str, item: &T) -> Result<(), 
     write!(line, "{word}{item}\n")
 }
 
-/// Puts the line of the items in the way of a new one into an empty text.
+/// Appends the line of a duplicate to an empty text: the items that conflict with the new one.
 #[inline(never)]
 fn duplicates_line<'m, T: Numbers + 'm, L: ShortList<Item = &'m T> + Drop>(
     line: &mut String,
@@ -82,7 +83,7 @@ fn duplicates_line<'m, T: Numbers + 'm, L: ShortList<Item = &'m T> + Drop>(
     }
 }
 
-/// Puts the line of the items that went out for a new one into an empty text.
+/// Appends the line of an overwrite to an empty text: the items that it removed.
 #[inline(never)]
 fn displaced_line<T: Numbers + Drop, G: ShortList<Item = T> + Drop>(
     line: &mut String,
@@ -105,7 +106,7 @@ fn displaced_line<T: Numbers + Drop, G: ShortList<Item = T> + Drop>(
     }
 }
 
-/// Puts the line of a list of items of which none went in into an empty text.
+/// Appends the line of a list of which no item was inserted to an empty text: the item at which the call failed.
 #[inline(never)]
 fn refused_list_line<T: Numbers + Drop>(
     line: &mut String,
@@ -122,7 +123,7 @@ fn refused_list_line<T: Numbers + Drop>(
     }
 }
 
-/// Puts the line of all items, the smallest first key first, into an empty text. It takes memory for the items too.
+/// Appends the line of all items to an empty text, sorted by first key. It allocates memory for the items too.
 #[inline(never)]
 fn list_line<T: Numbers + Copy + Drop>(
     alloc: Global,
@@ -142,7 +143,7 @@ fn list_line<T: Numbers + Copy + Drop>(
     Ok(())
 }
 
-/// The items, the smallest first key first.
+/// Returns the items, sorted by first key.
 fn by_first_key<T: Numbers + Copy + Drop>(
     alloc: Global,
     items: Iter<'_, T>,
@@ -154,7 +155,7 @@ fn by_first_key<T: Numbers + Copy + Drop>(
     Ok(sorted)
 }
 
-/// Puts a space and the item behind a text.
+/// Appends a space and the item to a text.
 fn push_item<T: Numbers>(line: &mut String, item: &T) -> Result<(), AllocError>
     ensures { OnOk result (string_bytes line.new ≡
         string_bytes line.old ++ codes " " ++ printed (T.numbers item.now)) }
@@ -162,7 +163,7 @@ fn push_item<T: Numbers>(line: &mut String, item: &T) -> Result<(), AllocError>
     write!(line, " {item}")
 }
 
-/// What is printed in place of all lines where a line is bad.
+/// Returns the message that is printed in place of all lines if this line is malformed.
 pub fn bad_line_message(alloc: Global, number: u64) -> Result<String, AllocError>
     ensures { IfOk result (λ message. string_bytes message ≡ bad_line_message number) }
 {

@@ -1,4 +1,4 @@
-//! Reading to the end.
+//! Reads a source to its end.
 ghost use Rattle.std.specs.Prelude.{◌≡◌, ◌≢◌, ◌<◌, IfOk, IfErr, IfSome, OnOk, length};
 ghost use Rattle.std.specs.Io.KnownBytes.{IsAtEnd};
 ghost use Rattle.iddqd_text.specs.Faults.{reads_failed};
@@ -7,10 +7,10 @@ use crate::ends::Source;
 use crate::outcome::RunFault;
 use std::alloc::Global;
 
-/// All the bytes of a source. It keeps them in memory, and takes a piece of 64 KiB beside while it reads.
+/// Reads all bytes of a source, and keeps them in memory. While it reads it has a buffer of 64 KiB too.
 ///
-/// A read that fails ends it with `Read`, and none is tried again. A source that gives more bytes
-/// than memory keeps, as one that never ends, ends it with `Memory`.
+/// It fails with `Read` at the first read that fails, and tries none again. It fails with `Memory` if memory runs
+/// out, as it does for a source that never ends.
 pub fn read_all<R: Source>(alloc: Global, source: &mut R) -> Result<Vec<u8>, RunFault>
     ensures text { IfOk result (λ text. IfSome (R.left source.old) (λ bytes. text.items ≡ bytes)) }
     ensures to_the_end { OnOk result (IsAtEnd (R.left source.new)) }
@@ -21,7 +21,7 @@ pub fn read_all<R: Source>(alloc: Global, source: &mut R) -> Result<Vec<u8>, Run
     read_pieces(alloc, source, &mut piece)
 }
 
-/// The same, piece by piece, each no longer than this one, which it writes over.
+/// Does so with this buffer, which it overwrites.
 fn read_pieces<R: Source>(
     alloc: Global,
     source: &mut R,

@@ -1,4 +1,4 @@
-//! A text of commands, run on a new map.
+//! Runs a text of commands on a new map.
 ghost use Rattle.std.specs.Prelude.{◌≡◌, ◌≢◌, Err, IfOk, IfSome, OnErr, OnOk, string_bytes};
 ghost use Rattle.std.specs.Io.KnownBytes.{IsAtEnd, Keeps};
 ghost use Rattle.iddqd_text.specs.Faults.{reads_failed, writes_failed};
@@ -16,21 +16,21 @@ use iddqd_bi::BiCommand;
 use iddqd_tri::TriCommand;
 use std::alloc::{AllocError, Global};
 
-/// Reads to the end, reads all lines, then runs them on a new map of this kind, and writes the line
-/// of each reply.
+/// Reads the source to its end, parses all lines, runs them on a new map of this kind, and writes the line of each
+/// reply.
 ///
-/// Where a line is bad, no line is run, and one message that names the first bad line is written.
+/// If a line is malformed, it runs no line, and writes only a message that names the first such line.
 ///
-/// A read that fails ends it with `Read`, a write that fails with `Write`, and none is tried again.
-/// It keeps the input, the commands and the output in memory. Where memory is refused for these,
-/// also to an input that never ends, it answers `Memory`. Where it is refused to the map, that is a reply.
+/// It fails with `Read` or `Write` at the first read or write that fails, and tries none again. The input, the
+/// commands and the output are kept in memory. If memory for these runs out, as it does for an input that never ends,
+/// it fails with `Memory`. If the map runs out of memory, that is a reply and no fault.
 pub fn run_text<R: Source, W: Out>(
     alloc: Global,
     kind: Kind,
     source: &mut R,
     out: &mut W,
 ) -> Result<RunEnd, RunFault>
-    // What is written: all of it, a front where a write fails, and else nothing.
+    // What is written: all of it; a prefix, if a write fails; nothing, at any other fault.
     ensures ended { IfOk result (λ end. IfSome (R.left source.old) (λ input.
         Writes kind input end (W.held out.old) (W.held out.new))) }
     ensures front_at_write { result ≡ Err RunFault.Write → IfSome (R.left source.old) (λ input.
@@ -49,7 +49,7 @@ pub fn run_text<R: Source, W: Out>(
     }
 }
 
-/// How the run of a text ends, and what it prints.
+/// Returns how the run of a text ends, and what it prints.
 fn answer(alloc: Global, kind: Kind, input: &[u8]) -> Result<(RunEnd, String), AllocError>
     ensures { IfOk result (λ answer. IsOutcome kind input.now answer.0 (string_bytes answer.1)) }
 {
@@ -59,7 +59,7 @@ fn answer(alloc: Global, kind: Kind, input: &[u8]) -> Result<(RunEnd, String), A
     }
 }
 
-/// The same, where the lines spell commands of this type.
+/// Does so for the commands of one kind.
 fn answer_of<C: Command>(alloc: Global, input: &[u8]) -> Result<(RunEnd, String), AllocError>
     ensures { IfOk result (λ answer.
         IsAnswer C.command_of C.spelled C.Prints input.now answer.0 (string_bytes answer.1)) }

@@ -1,4 +1,4 @@
-//! What takes the replies of a run.
+//! Collects the replies of a run as lines.
 use crate::item::Numbers;
 use crate::print::line_of;
 use iddqd_store::{MapReply, ShortList};
@@ -8,7 +8,7 @@ use std::alloc::{AllocError, Global};
 #[derive(Drop)]
 pub struct LineSink {
     alloc: Global,
-    // Room for one line: where memory for it is refused halfway, the text stays as it is.
+    // A buffer for one line. If memory runs out in the middle of the line, the text stays as it is.
     line: String,
     pub text: String,
 }
@@ -19,7 +19,7 @@ impl LineSink {
     ghost use Rattle.iddqd_text.specs.Outputs.{GrowsByLine};
     ghost use Rattle.iddqd_text.specs.Printed.{line_of};
 
-    /// A sink with no line yet. It takes no memory.
+    /// Makes a sink without lines. It allocates nothing.
     pub fn new(alloc: Global) -> Self
         ensures { string_bytes result.text ≡ [] }
     {
@@ -30,7 +30,7 @@ impl LineSink {
         }
     }
 
-    /// The lines.
+    /// Returns the lines.
     pub fn into_text(self) -> String
         ensures { result ≡ self.text }
     {
@@ -38,7 +38,7 @@ impl LineSink {
         text
     }
 
-    /// Puts the line of a reply behind the others, or leaves them where memory is refused.
+    /// Appends the line of a reply. If memory runs out, the lines stay as they are.
     pub fn push_line<
         'm,
         T: Numbers + Copy + Drop,
@@ -49,7 +49,7 @@ impl LineSink {
             (value_by L.list G.list reply.entry) result (string_bytes self.new.text) }
     {
         match reply {
-            // The commonest lines need no room of their own: a word goes in whole, or not at all.
+            // The most frequent lines do not need the buffer, since one word is appended whole or not at all.
             MapReply::Done => self.text.push_str("ok\n"),
             MapReply::Found(None) => self.text.push_str("none\n"),
             reply => {

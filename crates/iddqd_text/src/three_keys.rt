@@ -1,4 +1,4 @@
-//! Kind `tri`: what its words stand for, and how its commands run.
+//! The kind `tri`: which commands its words spell, and how they run.
 ghost use Rattle.std.specs.Prelude.{◌≡◌, IfOk, string_bytes};
 ghost use Rattle.std.specs.Option.{option_map};
 ghost use Rattle.iddqd_store.specs.Runs.Values.{value_of};
@@ -47,7 +47,7 @@ impl Command for TriCommand<TriItem> {
     }
 }
 
-/// The command of a word with these numbers, where it holds no list.
+/// Returns the command of a word with these numbers, unless it has a list of items.
 fn single_of(word: Word, numbers: &[u64]) -> Option<TriCommand<TriItem>>
     ensures meaning { result ≡ single_of word numbers.now }
     ensures spelling { option_map spelled result ≡ option_map single result }
@@ -175,7 +175,7 @@ fn single_of(word: Word, numbers: &[u64]) -> Option<TriCommand<TriItem>>
     }
 }
 
-/// The items of these numbers, four for each, if none is left over.
+/// Returns the items that these numbers spell, four numbers for each, or `None` if numbers are left over.
 fn items_of(alloc: Global, numbers: &[u64]) -> Result<Option<Vec<TriItem>>, AllocError>
     ensures { IfOk result (λ found. option_map (λ v. v.items) found ≡ items_of numbers.now) }
 {

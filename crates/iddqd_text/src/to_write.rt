@@ -1,4 +1,4 @@
-//! A writer of std as an out.
+//! A writer of std as an `Out`.
 ghost use Rattle.std.specs.Prelude.{◌≡◌};
 
 use crate::ends::{EndFault, Out};
@@ -6,9 +6,9 @@ use iddqd_store::Meter;
 use std::io::Write;
 use std::marker::Model;
 
-/// A writer of std as an out. It costs no byte beside the writer.
+/// A writer of std as an `Out`. It is no larger than the writer.
 ///
-/// A writer that takes none of the bytes of a piece that isn't empty has failed.
+/// If the writer takes no byte of a piece that is not empty, the write counts as failed.
 #[derive(Drop)]
 pub struct ToWrite<W> {
     inner: W,
@@ -24,7 +24,7 @@ impl<W> Model for ToWrite<W> {
 }
 
 impl<W> ToWrite<W> {
-    /// An out over a writer, of which no write has failed.
+    /// Makes an `Out` of a writer, with no failed write so far.
     pub fn new(inner: W) -> Self
         ensures inner { result.inner ≡ inner }
         ensures failures { result.failures ≡ 0 }
@@ -35,7 +35,7 @@ impl<W> ToWrite<W> {
         }
     }
 
-    /// The writer, with what it took.
+    /// Returns the writer, with what it took.
     pub fn into_inner(self) -> W
         ensures { result ≡ self.inner }
     {

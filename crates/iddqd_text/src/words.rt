@@ -1,9 +1,9 @@
-//! The words of the program.
+//! The words of the commands.
 ghost use Rattle.std.specs.Prelude.{◌≡◌};
 ghost use Rattle.iddqd_text.specs.Texts.{is_text};
 ghost use Rattle.iddqd_text.specs.Words.{word_of};
 
-/// The first word of a line.
+/// The word that begins a line.
 #[derive(Clone, Copy, Debug, PartialEq, Eq, Drop)]
 pub enum Word {
     New,
@@ -29,11 +29,12 @@ pub enum Word {
     AddAll,
 }
 
-/// The word that the bytes spell, if they spell one.
+/// Returns the word that the bytes spell, or `None` if they spell none.
 pub fn word_of(bytes: &[u8]) -> Option<Word>
     ensures { result ≡ word_of bytes.now }
 {
-    // One comparison after another: a match on the bytes of so many words is more than the prover takes.
+    // The words are compared one after another, because the prover does not manage a match on the bytes of so many
+    // words.
     if is_word(bytes, b"new") {
         Some(Word::New)
     } else if is_word(bytes, b"get1") {
@@ -81,8 +82,8 @@ pub fn word_of(bytes: &[u8]) -> Option<Word>
     }
 }
 
-/// Whether the bytes are those of a word. It is copied into its callers, where the word's length is known and no loop is
-/// left.
+/// Returns whether the bytes are those of a word. It is inlined, so the compiler knows the word's length and unrolls
+/// the loop.
 #[inline(always)]
 #[tactic(auto, using(crate::proofs::Spelling::goes_on, crate::proofs::Spelling::ends_so, crate::proofs::Spelling::differs, crate::proofs::Spelling::differs_in_length))]
 fn is_word(bytes: &[u8], word: &[u8]) -> bool

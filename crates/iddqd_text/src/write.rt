@@ -1,13 +1,14 @@
-//! Writing a whole text.
+//! Writes a whole text.
 ghost use Rattle.std.specs.Prelude.{◌≡◌, OnErr, OnOk};
 ghost use Rattle.std.specs.Io.KnownBytes.{Appends};
 ghost use Rattle.iddqd_text.specs.Ends.{failures_after, AppendsFront};
 
 use crate::ends::{EndFault, Out};
 
-/// Writes all the bytes, one piece after another. It takes no memory.
+/// Writes all bytes, in pieces. It allocates nothing.
 ///
-/// A write that fails ends it, and none is tried again: a front of the bytes was written then, but not all.
+/// It fails at the first write that fails, and tries none again. Then a prefix of the bytes has been written, and not
+/// all of them.
 #[tactic(auto, using(crate::proofs::Moving::appends_on))]
 pub fn write_all<W: Out>(out: &mut W, bytes: &[u8]) -> Result<(), EndFault>
     ensures all { OnOk result (Appends (W.held out.old) (W.held out.new) bytes.now) }

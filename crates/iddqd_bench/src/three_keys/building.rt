@@ -1,16 +1,16 @@
-//! Loops that put many items into the map with three keys at once.
+//! Loops that insert many items into the map with three keys by one call.
 use super::Row;
 use iddqd_tri::TriHashMap;
 use std::alloc::Global;
 
-/// Extends a new map by rows: how many items it has then, and one more where that was refused.
+/// Extends a new map by the rows. Returns how many items the map then has, plus one if the call failed.
 fn extended(alloc: Global, rows: &[Row], whole: bool) -> u64 {
     let mut map: TriHashMap<Row> = TriHashMap::new(alloc);
     let refused = whole && map.extend(rows.iter().copied()).is_err();
     u64::from(refused).wrapping_add(map.len() as u64)
 }
 
-/// Extends a new map by each part of so many rows.
+/// Extends a new map by each part of `number` rows.
 #[unsafe(no_mangle)]
 pub extern "C" fn tri_extend(
     alloc: Global,
@@ -26,7 +26,7 @@ pub extern "C" fn tri_extend(
     sum
 }
 
-/// Puts rows in whole, or none of them. If they are refused it counts the rows that come back.
+/// Extends a map by the rows, all or none. Returns how many rows an error hands back.
 fn come_back(map: &mut TriHashMap<Row>, rows: &[Row]) -> u64 {
     match map.extend_unique(rows.iter().copied()) {
         Ok(()) => 0,
@@ -34,15 +34,14 @@ fn come_back(map: &mut TriHashMap<Row>, rows: &[Row]) -> u64 {
     }
 }
 
-/// The same of a new map, and how many items it has then.
+/// Does so with a new map. Returns the sum of that and of how many items the map then has.
 fn extended_unique(alloc: Global, rows: &[Row], whole: bool) -> u64 {
     let mut map = TriHashMap::new(alloc);
     let back = if whole { come_back(&mut map, rows) } else { 0 };
     back.wrapping_add(map.len() as u64)
 }
 
-/// Puts each part of so many rows into a new map whole, or none of it. Of a part that is refused it counts the rows
-/// that come back.
+/// Extends a new map by each part of `number` rows, all of a part or none.
 #[unsafe(no_mangle)]
 pub extern "C" fn tri_extend_unique(
     alloc: Global,
@@ -58,7 +57,7 @@ pub extern "C" fn tri_extend_unique(
     sum
 }
 
-/// How many items the map of these rows has.
+/// Returns how many items the map of these rows has.
 fn made(alloc: Global, rows: &[Row]) -> u64 {
     match TriHashMap::<Row>::from_iter(alloc, rows.iter().copied()) {
         Ok(map) => map.len() as u64,
@@ -66,7 +65,7 @@ fn made(alloc: Global, rows: &[Row]) -> u64 {
     }
 }
 
-/// Makes a map of each part of so many rows, each row in the place of what is in its way.
+/// Makes a map of each part of `number` rows. A row removes the items that conflict with it.
 #[unsafe(no_mangle)]
 pub extern "C" fn tri_from_iter(
     alloc: Global,
@@ -84,7 +83,7 @@ pub extern "C" fn tri_from_iter(
     sum
 }
 
-/// How many items the map of these rows has, none of which conflict.
+/// Returns how many items the map of these rows has. None of them conflict.
 fn made_unique(alloc: Global, rows: &[Row]) -> u64 {
     match TriHashMap::<Row>::from_iter_unique(alloc, rows.iter().copied()) {
         Ok(map) => map.len() as u64,
@@ -92,7 +91,7 @@ fn made_unique(alloc: Global, rows: &[Row]) -> u64 {
     }
 }
 
-/// Makes a map of each part of so many rows, none of which conflict.
+/// Makes a map of each part of `number` rows. None of them conflict.
 #[unsafe(no_mangle)]
 pub extern "C" fn tri_from_iter_unique(
     alloc: Global,

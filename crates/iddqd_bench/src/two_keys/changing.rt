@@ -1,4 +1,4 @@
-//! Loops that change or copy the whole map with two keys.
+//! Loops that change or clone the whole map with two keys.
 use super::{Row, filled, take_out};
 use crate::copies;
 use iddqd_bi::BiHashMap;
@@ -8,15 +8,15 @@ use std::alloc::Global;
 #[derive(Clone, Copy)]
 enum Change {
     Nothing,
-    /// Keep about half of the items.
+    /// Keeps about half of the items.
     Retain,
     Clear,
     Shrink,
-    /// Make room for so many more.
+    /// Reserves spare capacity for this many more items.
     Reserve(usize),
 }
 
-/// Changes a map, and says whether that was refused.
+/// Changes a map, and returns whether the call failed.
 fn is_refused(map: &mut BiHashMap<Row>, change: Change) -> bool {
     match change {
         Change::Nothing => false,
@@ -33,7 +33,7 @@ fn is_refused(map: &mut BiHashMap<Row>, change: Change) -> bool {
     }
 }
 
-/// Makes a copy and changes it: how many items it has then, and one more where that was refused.
+/// Clones a map and changes the clone. Returns how many items the clone then has, plus one if the call failed.
 fn changed(map: &BiHashMap<Row>, change: Change) -> u64 {
     let Ok(mut copy) = map.clone() else {
         return 0;
@@ -42,7 +42,7 @@ fn changed(map: &BiHashMap<Row>, change: Change) -> u64 {
     u64::from(refused).wrapping_add(copy.len() as u64)
 }
 
-/// Changes so many copies of a map.
+/// Changes this many clones of a map.
 fn changed_times(map: &BiHashMap<Row>, change: Change, times: usize) -> u64 {
     let mut sum = 0u64;
     for _ in 0..times {
@@ -51,7 +51,7 @@ fn changed_times(map: &BiHashMap<Row>, change: Change, times: usize) -> u64 {
     sum
 }
 
-/// Fills a map with each part of so many rows, and changes its copies.
+/// Fills a map with each part of `number` rows, and changes its clones.
 fn change_parts(alloc: Global, rows: &[Row], number: usize, change: Change) -> u64 {
     let mut sum = 0u64;
     for rows in rows.chunks(number.max(1)) {
@@ -61,7 +61,7 @@ fn change_parts(alloc: Global, rows: &[Row], number: usize, change: Change) -> u
     sum
 }
 
-/// Fills a map with each part of so many rows, and keeps about half of the items of its copies.
+/// Fills a map with each part of `number` rows, and keeps about half of the items of its clones.
 #[unsafe(no_mangle)]
 pub extern "C" fn bi_retain(
     alloc: Global,
@@ -78,7 +78,7 @@ pub extern "C" fn bi_retain(
     change_parts(alloc, rows, number, change)
 }
 
-/// Makes a copy so many times.
+/// Clones a map `number` times.
 #[unsafe(no_mangle)]
 pub extern "C" fn bi_clone(
     alloc: Global,
@@ -91,7 +91,7 @@ pub extern "C" fn bi_clone(
     changed_times(&map, Change::Nothing, if whole { number } else { 0 })
 }
 
-/// Fills a map with each part of so many rows, and drops the items of its copies.
+/// Fills a map with each part of `number` rows, and clears its clones.
 #[unsafe(no_mangle)]
 pub extern "C" fn bi_clear(
     alloc: Global,
@@ -108,14 +108,14 @@ pub extern "C" fn bi_clear(
     change_parts(alloc, rows, number, change)
 }
 
-/// Fills a map with rows, takes others out, and shrinks its copies to fit, so many.
+/// Fills a map with rows, removes those asked for, and changes this many clones of it.
 fn shrink_part(alloc: Global, rows: &[Row], asked: &[Row], change: Change, times: usize) -> u64 {
     let mut map = filled(alloc, rows);
     let taken = take_out(&mut map, asked);
     taken.wrapping_add(changed_times(&map, change, times))
 }
 
-/// Fills a map with each part of so many rows, takes half of the items out, and shrinks its copies to fit.
+/// Fills a map with each part of `number` rows, removes half of the items, and shrinks its clones to fit.
 #[unsafe(no_mangle)]
 pub extern "C" fn bi_shrink(
     alloc: Global,
@@ -138,7 +138,7 @@ pub extern "C" fn bi_shrink(
     sum
 }
 
-/// Fills a map with each part of so many rows, and makes room for as many more in its copies.
+/// Fills a map with each part of `number` rows, and reserves spare capacity for as many more in its clones.
 #[unsafe(no_mangle)]
 pub extern "C" fn bi_reserve(
     alloc: Global,

@@ -1,16 +1,16 @@
-//! Loops that put items into the map with two keys one by one.
+//! Loops that insert items into the map with two keys one by one.
 use super::{Row, fill, filled};
 use iddqd_bi::BiHashMap;
 use std::alloc::Global;
 
-/// Puts rows into a new map, and counts those that are refused, with the items that it has then.
+/// Inserts rows into a new map. Returns how many are not inserted, plus how many items the map then has.
 fn filled_anew(alloc: Global, rows: &[Row]) -> u64 {
     let mut map = BiHashMap::new(alloc);
     let refused = fill(&mut map, rows);
     refused.wrapping_add(map.len() as u64)
 }
 
-/// Fills a new map from each part of so many rows.
+/// Fills a new map with each part of `number` rows.
 #[unsafe(no_mangle)]
 pub extern "C" fn bi_insert(
     alloc: Global,
@@ -28,16 +28,16 @@ pub extern "C" fn bi_insert(
     sum
 }
 
-/// The way that rows take into a map.
+/// How rows are inserted.
 #[derive(Clone, Copy)]
 enum Way {
-    /// None goes in.
+    /// No row is inserted.
     Nowhere,
     Unique,
     Entry,
 }
 
-/// Puts the rows in through their entries, and counts those that are refused.
+/// Inserts the rows through their entries, and counts those that are not inserted.
 fn enter(map: &mut BiHashMap<Row>, rows: &[Row]) -> u64 {
     let mut refused = 0u64;
     for row in rows {
@@ -48,8 +48,8 @@ fn enter(map: &mut BiHashMap<Row>, rows: &[Row]) -> u64 {
     refused
 }
 
-/// Puts rows into a new map, made with room for so many items. It counts those that are refused, with the items that
-/// the map has then.
+/// Inserts rows into a new map, made with this capacity. Returns how many are not inserted, plus how many items the
+/// map then has.
 fn filled_with_room(alloc: Global, rows: &[Row], room: usize, way: Way) -> u64 {
     let Ok(mut map) = BiHashMap::with_capacity(alloc, room) else {
         return 0;
@@ -62,7 +62,7 @@ fn filled_with_room(alloc: Global, rows: &[Row], room: usize, way: Way) -> u64 {
     refused.wrapping_add(map.len() as u64)
 }
 
-/// The same of each part of so many rows.
+/// Does so with each part of `number` rows.
 fn fill_parts(alloc: Global, rows: &[Row], number: usize, way: Way) -> u64 {
     let mut sum = 0u64;
     for rows in rows.chunks(number.max(1)) {
@@ -71,7 +71,7 @@ fn fill_parts(alloc: Global, rows: &[Row], number: usize, way: Way) -> u64 {
     sum
 }
 
-/// Fills a new map, made with room for so many items, from each part of so many rows.
+/// Fills a new map, made with capacity `number`, with each part of `number` rows.
 #[unsafe(no_mangle)]
 pub extern "C" fn bi_insert_with_room(
     alloc: Global,
@@ -84,7 +84,7 @@ pub extern "C" fn bi_insert_with_room(
     fill_parts(alloc, rows, number, way)
 }
 
-/// Fills a map, and asks for inserts of rows one of whose keys is taken.
+/// Fills a map, and tries to insert rows that each have one key of an item of the map.
 #[unsafe(no_mangle)]
 pub extern "C" fn bi_insert_refused(
     alloc: Global,
@@ -97,7 +97,7 @@ pub extern "C" fn bi_insert_refused(
     if whole { fill(&mut map, asked) } else { 0 }
 }
 
-/// Fills a new map, made with room for so many items, through vacant entries, from each part of so many rows.
+/// Fills a new map, made with capacity `number`, through vacant entries, with each part of `number` rows.
 #[unsafe(no_mangle)]
 pub extern "C" fn bi_entry_vacant(
     alloc: Global,
@@ -110,7 +110,7 @@ pub extern "C" fn bi_entry_vacant(
     fill_parts(alloc, rows, number, way)
 }
 
-/// The second key of the item that an entry of the row's keys holds.
+/// Returns the second key of the item that the entry of the row's keys finds.
 fn held_key2(map: &mut BiHashMap<Row>, row: &Row) -> u64 {
     if let Ok(held) = map.entry(&row.key1, &row.key2).or_insert(*row)
         && let Some(found) = held.into_unique()
@@ -121,7 +121,7 @@ fn held_key2(map: &mut BiHashMap<Row>, row: &Row) -> u64 {
     }
 }
 
-/// Fills a map, and asks for entries that have an item.
+/// Fills a map, and looks up the entries of items that it has.
 #[unsafe(no_mangle)]
 pub extern "C" fn bi_entry_occupied(
     alloc: Global,
@@ -140,8 +140,8 @@ pub extern "C" fn bi_entry_occupied(
     sum
 }
 
-/// Fills a map with each part of so many rows, and puts rows in over what is in their way: two items each, so there are
-/// half as many of these.
+/// Fills a map with each part of `number` rows, and overwrites with the rows asked for. Each of them removes two
+/// items, so there are half as many of them.
 #[unsafe(no_mangle)]
 pub extern "C" fn bi_overwrite(
     alloc: Global,
@@ -161,7 +161,7 @@ pub extern "C" fn bi_overwrite(
     sum
 }
 
-/// Fills a map, and puts items in over those that have the same keys.
+/// Fills a map, and overwrites its items by items with the same keys.
 #[unsafe(no_mangle)]
 pub extern "C" fn bi_overwrite_same(
     alloc: Global,

@@ -1,9 +1,9 @@
-//! Loops that look items of the map with two keys up, write to them or take them out.
+//! Loops that look up items of the map with two keys, and write or remove them.
 use super::{Row, filled, take_out};
 use iddqd_bi::BiHashMap;
 use std::alloc::Global;
 
-/// Looks each row's first key up. No look-up needs the answer of the one before.
+/// Looks up the first key of each row. No lookup needs the result of the one before.
 #[unsafe(no_mangle)]
 pub extern "C" fn bi_get(
     alloc: Global,
@@ -24,7 +24,8 @@ pub extern "C" fn bi_get(
     sum
 }
 
-/// Looks each row's first key up, changed by the value that the look-up before found. The rows' values are 0.
+/// Looks up the first key of each row, changed by the value that the lookup before found. So each lookup waits for
+/// the one before. The values are 0.
 #[unsafe(no_mangle)]
 pub extern "C" fn bi_get_in_turn(
     alloc: Global,
@@ -47,7 +48,7 @@ pub extern "C" fn bi_get_in_turn(
     sum
 }
 
-/// Looks each row's first key up, and writes to the item.
+/// Looks up the first key of each row, and writes to the item.
 #[unsafe(no_mangle)]
 pub extern "C" fn bi_get_mut(
     alloc: Global,
@@ -70,7 +71,7 @@ pub extern "C" fn bi_get_mut(
     sum
 }
 
-/// Fills a map with each part of so many rows, and takes out as many others.
+/// Fills a map with each part of `number` rows, and removes as many items by the rows asked for.
 #[unsafe(no_mangle)]
 pub extern "C" fn bi_remove(
     alloc: Global,
@@ -90,7 +91,7 @@ pub extern "C" fn bi_remove(
     sum
 }
 
-/// Takes an item out and puts another in: its second key, and one more where the other was refused.
+/// Removes an item and inserts another. Returns the second key of the former, plus one if the insert fails.
 fn remove_insert(map: &mut BiHashMap<Row>, old: &Row, new: &Row) -> u64 {
     let gone = match map.remove1(&old.key1) {
         Some(gone) => gone.key2,
@@ -99,7 +100,7 @@ fn remove_insert(map: &mut BiHashMap<Row>, old: &Row, new: &Row) -> u64 {
     gone.wrapping_add(u64::from(map.insert_unique(*new).is_err()))
 }
 
-/// Takes an item out and puts another in, for each two rows.
+/// For each two rows, removes the item of the one and inserts the other.
 #[unsafe(no_mangle)]
 pub extern "C" fn bi_remove_insert(
     alloc: Global,

@@ -1,10 +1,10 @@
-//! Loops over all items of the map with two keys.
+//! Loops that iterate over all items of the map with two keys.
 use super::{Row, filled};
 use crate::copies;
 use iddqd_bi::BiHashMap;
 use std::alloc::Global;
 
-/// Walks over all items so many times.
+/// Iterates over all items, `number` times.
 #[unsafe(no_mangle)]
 pub extern "C" fn bi_iter(
     alloc: Global,
@@ -23,7 +23,7 @@ pub extern "C" fn bi_iter(
     sum
 }
 
-/// Walks over the lent map so many times.
+/// Iterates over the borrowed map, `number` times.
 #[unsafe(no_mangle)]
 pub extern "C" fn bi_for_lent(
     alloc: Global,
@@ -42,7 +42,7 @@ pub extern "C" fn bi_for_lent(
     sum
 }
 
-/// Walks over all items for writing so many times, and asks before each step how many are to come.
+/// Iterates over all items for writing, `number` times, and asks before each step how many are left.
 #[unsafe(no_mangle)]
 pub extern "C" fn bi_iter_mut(
     alloc: Global,
@@ -55,7 +55,7 @@ pub extern "C" fn bi_iter_mut(
     let mut sum = 0u64;
     for _ in 0..if whole { number } else { 0 } {
         let mut walk = map.iter_mut();
-        // That a loop ends is proved, and of this one it takes no proof by hand.
+        // A `for` loop, since no proof by hand is needed to show that it ends.
         for _ in 0..rows.len() {
             if walk.len() == 0 {
                 break;
@@ -69,7 +69,7 @@ pub extern "C" fn bi_iter_mut(
     sum
 }
 
-/// Walks over a copy by value.
+/// Iterates over a clone by value.
 fn walk_copy(map: &BiHashMap<Row>, whole: bool) -> u64 {
     let mut sum = 0u64;
     if let Ok(copy) = map.clone() {
@@ -82,7 +82,7 @@ fn walk_copy(map: &BiHashMap<Row>, whole: bool) -> u64 {
     sum
 }
 
-/// Fills a map with rows, and walks over so many copies by value.
+/// Fills a map with rows, and iterates over this many clones by value.
 fn walk_copies(alloc: Global, rows: &[Row], times: usize, whole: bool) -> u64 {
     let map = filled(alloc, rows);
     let mut sum = 0u64;
@@ -92,7 +92,7 @@ fn walk_copies(alloc: Global, rows: &[Row], times: usize, whole: bool) -> u64 {
     sum
 }
 
-/// Fills a map with each part of so many rows, and walks over its copies by value.
+/// Fills a map with each part of `number` rows, and iterates over its clones by value.
 #[unsafe(no_mangle)]
 pub extern "C" fn bi_for_owned(
     alloc: Global,
@@ -108,7 +108,7 @@ pub extern "C" fn bi_for_owned(
     sum
 }
 
-/// Fills two maps with the same rows in two orders, and counts how often they are equal of so many times.
+/// Fills two maps with the same rows in two orders, compares them `times` times, and counts how often they are equal.
 fn count_equal(alloc: Global, rows: &[Row], asked: &[Row], times: usize) -> u64 {
     let map = filled(alloc, rows);
     let other = filled(alloc, asked);
@@ -119,7 +119,7 @@ fn count_equal(alloc: Global, rows: &[Row], asked: &[Row], times: usize) -> u64 
     sum
 }
 
-/// Fills two maps with each part of so many rows, in two orders, and compares them.
+/// Fills two maps with each part of `number` rows, in two orders, and compares them.
 #[unsafe(no_mangle)]
 pub extern "C" fn bi_equal(
     alloc: Global,

@@ -1,4 +1,4 @@
-//! Commands, each applied to the map, and what its reply says.
+//! Commands, each applied to the map, and what their replies say.
 ghost use Rattle.std.specs.Prelude.{⊤};
 
 use crate::answer::Answer;
@@ -14,7 +14,7 @@ use iddqd_tri::{TriCommand, TriHashMap, TriReply, TriSink};
 use std::alloc::AllocError;
 use std::hash::BuildHasher;
 
-/// Keeps the last reply. It takes so many of them well, and answers a fault at the next one.
+/// A sink that keeps the last reply. It returns a fault if it gets more than `most` replies.
 #[derive(Drop)]
 struct Heard {
     answer: Answer,
@@ -22,7 +22,7 @@ struct Heard {
     most: usize,
 }
 
-/// A sink that has heard nothing yet.
+/// Makes a sink that got no reply so far.
 fn nothing_heard(most: usize) -> Heard {
     Heard {
         answer: Answer::said("no reply"),
@@ -49,7 +49,7 @@ impl TriSink<Item> for Heard {
     }
 }
 
-/// What a reply says.
+/// Returns what a reply says.
 fn answer_of(reply: TriReply<'_, Item>) -> Answer {
     match reply {
         TriReply::Done => Answer::said("ok"),
@@ -65,7 +65,7 @@ fn answer_of(reply: TriReply<'_, Item>) -> Answer {
     }
 }
 
-/// What a reply says that hands something back.
+/// Returns what a reply says that returns an item or data.
 fn refusal_of(reply: TriReply<'_, Item>) -> Answer {
     match reply {
         TriReply::Duplicate(refused) => {
@@ -88,7 +88,7 @@ fn refusal_of(reply: TriReply<'_, Item>) -> Answer {
     }
 }
 
-/// What the command of this name answers, if there is such a one that is given that.
+/// Applies the command of this name. Returns `None` if there is no such command that is given this.
 pub(crate) fn answered<S: BuildHasher>(
     map: &mut TriHashMap<Item, S>,
     call: &str,
@@ -99,8 +99,9 @@ pub(crate) fn answered<S: BuildHasher>(
     Some(heard.answer)
 }
 
-/// Runs the commands to put the items 1 and 2 in, to take the first one out and to clear the map, with a sink that
-/// takes so many replies well. Tells how many replies it gets. What it costs to make the list does not count.
+/// Runs four commands, with a sink that returns a fault at the reply behind the first `most`. The commands insert the
+/// items 1 and 2, remove the first of them, and clear the map. The answer has the number of replies that the sink
+/// got. Making the list of commands is not measured.
 pub(crate) fn run<S: BuildHasher>(
     map: &mut TriHashMap<Item, S>,
     gauge: &mut Gauge,
@@ -208,7 +209,7 @@ fn by_item(call: &str, item: Item) -> Option<TriCommand<Item>> {
     }
 }
 
-/// Data is written as the value of an item.
+/// Data is given as the value of an item.
 fn by_key_and_item(call: &str, key: Key, item: Item) -> Option<TriCommand<Item>> {
     let value = item.value;
     match call {

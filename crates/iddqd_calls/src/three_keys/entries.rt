@@ -10,7 +10,7 @@ use crate::three_keys::lookups::{found, more};
 use iddqd_tri::{Entry, OccupiedEntry, OccupiedEntryRef, Ranked, TriHashMap};
 use std::hash::{BuildHasher, Hash};
 
-/// The entry of these keys, where it is occupied.
+/// Returns the entry of these keys if it is occupied.
 pub(crate) fn occupied<'a, S: BuildHasher>(
     map: &'a mut TriHashMap<Item, S>,
     keys: &'a Item,
@@ -23,7 +23,7 @@ pub(crate) fn occupied<'a, S: BuildHasher>(
     }
 }
 
-/// Whether an entry is occupied.
+/// Answers whether an entry is occupied.
 fn kind<S: BuildHasher>(entry: &Entry<'_, Item, S>) -> Answer {
     match entry {
         Entry::Vacant(_) => Answer::said("vacant"),
@@ -31,7 +31,8 @@ fn kind<S: BuildHasher>(entry: &Entry<'_, Item, S>) -> Answer {
     }
 }
 
-/// What an entry shows.
+/// Answers what an occupied entry shows: whether one item has all keys, the item of each key, and the item of all
+/// keys.
 pub(crate) fn seen(found: OccupiedEntryRef<'_, Item>) -> Answer {
     let word = match (found.is_unique(), found.is_non_unique()) {
         (true, false) => "unique",
@@ -45,7 +46,7 @@ pub(crate) fn seen(found: OccupiedEntryRef<'_, Item>) -> Answer {
         .with_if(found.as_unique().map(row_of))
 }
 
-/// The call of this name on the entry of all keys, if there is such a one.
+/// Carries out the call of this name on the entry of these keys. Returns `None` if there is no such call.
 pub(crate) fn answered<S: BuildHasher>(
     map: &mut TriHashMap<Item, S>,
     call: &str,
@@ -61,7 +62,7 @@ pub(crate) fn answered<S: BuildHasher>(
     }
 }
 
-/// Each value is one more. Tells the items as they are seen, in order.
+/// Adds one to each value. The answer has the items as the closure saw them, in order.
 fn and_modify<S: BuildHasher>(map: &mut TriHashMap<Item, S>, keys: &Item) -> Answer {
     let mut answer = Answer::said("saw");
     let entry = map
@@ -85,7 +86,7 @@ fn if_occupied<S: BuildHasher>(
     }
 }
 
-/// The same, of an entry that is occupied.
+/// Does the same as `and_modify`, for an occupied entry.
 fn for_each<S: BuildHasher>(entry: &mut OccupiedEntry<'_, Item, S>) -> Answer
     requires { HasFound ⟦<Item as Ranked>⟧.key_tests entry.old }
     ensures { HasFound ⟦<Item as Ranked>⟧.key_tests entry.new }

@@ -1,4 +1,4 @@
-//! Calls of what an entry lends for writing.
+//! Calls of what an entry borrows for writing.
 ghost use Rattle.iddqd_tri.specs.Entries.{HasFound, Holds};
 
 use crate::answer::Answer;
@@ -8,7 +8,7 @@ use crate::three_keys::lookups::more;
 use iddqd_tri::{Entry, OccupiedEntry, OccupiedEntryMut, Ranked, TriHashMap};
 use std::hash::{BuildHasher, Hash};
 
-/// Sets data that is lent to 7, and tells what it was.
+/// Sets the data to 7, and answers what it was.
 fn written(data: Option<&mut u64>) -> Answer {
     match data {
         Some(data) => {
@@ -20,7 +20,7 @@ fn written(data: Option<&mut u64>) -> Answer {
     }
 }
 
-/// The call of this name on an occupied entry, if there is such a one.
+/// Carries out the call of this name on an occupied entry. Returns `None` if there is no such call.
 pub(crate) fn answered<S: BuildHasher>(
     mut entry: OccupiedEntry<'_, Item, S>,
     call: &str,
@@ -35,7 +35,7 @@ pub(crate) fn answered<S: BuildHasher>(
     }
 }
 
-/// The call of this name on what an entry holds, if there is such a one.
+/// Carries out the call of this name on the items that an entry holds. Returns `None` if there is no such call.
 fn of_held<S: BuildHasher>(held: &mut OccupiedEntryMut<'_, Item, S>, call: &str) -> Option<Answer>
     requires { Holds held.old }
 {
@@ -51,7 +51,7 @@ fn of_held<S: BuildHasher>(held: &mut OccupiedEntryMut<'_, Item, S>, call: &str)
     }
 }
 
-/// Each value is one more. Tells the items as they are seen, in order.
+/// Adds one to each value. The answer has the items as the closure saw them, in order.
 fn for_each<S: BuildHasher>(held: &mut OccupiedEntryMut<'_, Item, S>) -> Answer
     requires { Holds held.old }
 {
@@ -74,7 +74,7 @@ fn of_lent<S: BuildHasher>(held: &mut OccupiedEntryMut<'_, Item, S>, call: &str)
     }
 }
 
-/// What is held, lent one after the other by each key and by all, twice.
+/// Borrows the items that are held, by each key and by all keys in turn, twice.
 pub(crate) fn lent<S: BuildHasher>(held: &mut OccupiedEntryMut<'_, Item, S>) -> Answer {
     let first = lent_each(held);
     let second = lent_each(held);
@@ -90,7 +90,8 @@ fn lent_each<S: BuildHasher>(held: &mut OccupiedEntryMut<'_, Item, S>) -> Answer
     answer.behind(shown!(held.as_unique()))
 }
 
-/// The call of this name on what the entry of all keys lends for as long as the map is lent.
+/// Carries out the call of this name on the items that the entry of these keys borrows for as long as the map is
+/// borrowed. Returns `None` if there is no such call.
 pub(crate) fn lent_for_good<S: BuildHasher>(
     map: &mut TriHashMap<Item, S>,
     call: &str,

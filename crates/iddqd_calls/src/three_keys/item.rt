@@ -9,7 +9,7 @@ use iddqd_tri::{TriHashItem, TriHashItemMut};
 use std::alloc::AllocError;
 use std::rc::Rc;
 
-/// How many numbers an item has: its keys, and its value behind them.
+/// How many numbers an item has: its keys, and then its value.
 pub(crate) const NUMBERS: usize = 4;
 
 /// An item.
@@ -67,7 +67,7 @@ impl TriHashItemMut for Item {
     }
 }
 
-/// Items are equal by their values alone, so this compares no key.
+/// Items are equal if their values are, so `==` compares no key.
 impl PartialEq for Item {
     ghost eq = { λ x y. x.value == y.value };
 
@@ -92,7 +92,7 @@ impl Clone for Item {
     }
 }
 
-/// The item of these numbers: its keys, and its value behind them.
+/// Makes the item of these numbers: its keys, and then its value.
 pub(crate) fn item_of(
     counts: &Rc<Counts>,
     [key1, key2, key3, value]: [u64; NUMBERS],
@@ -105,14 +105,14 @@ pub(crate) fn item_of(
     })
 }
 
-/// The item of this number: (1, 10, 100, 7), (2, 20, 200, 8) and so on.
+/// Makes the item of this number: (1, 10, 100, 7), (2, 20, 200, 8) and so on.
 pub(crate) fn nth(counts: &Rc<Counts>, number: u64) -> Result<Item, AllocError> {
     let ten = number.wrapping_mul(10);
     let hundred = number.wrapping_mul(100);
     item_of(counts, [number, ten, hundred, number.wrapping_add(6)])
 }
 
-/// The numbers of an item.
+/// Returns the numbers of an item.
 pub(crate) fn row_of(item: &Item) -> Row {
     [
         item.key1.number(),

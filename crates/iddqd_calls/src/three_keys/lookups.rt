@@ -1,4 +1,4 @@
-//! Calls that look for an item.
+//! Calls that search for an item.
 use crate::answer::Answer;
 use crate::counting::Key;
 use crate::matcher::Only;
@@ -8,12 +8,12 @@ use iddqd_store::Meter;
 use iddqd_tri::TriHashMap;
 use std::hash::BuildHasher;
 
-/// What a lookup found.
+/// Answers what a lookup found.
 pub(crate) fn found(item: Option<&Item>) -> Answer {
     Answer::found(item.map(row_of))
 }
 
-/// What was taken out.
+/// Answers what was removed.
 pub(crate) fn taken(item: Option<Item>) -> Answer {
     match item {
         Some(item) => guards::back(Answer::said("item"), item),
@@ -21,7 +21,7 @@ pub(crate) fn taken(item: Option<Item>) -> Answer {
     }
 }
 
-/// The call of this name with a key, if there is such a one.
+/// Carries out the call of this name with a key. Returns `None` if there is no such call.
 pub(crate) fn answered<S: BuildHasher>(
     map: &mut TriHashMap<Item, S>,
     call: &str,
@@ -57,7 +57,7 @@ fn removed_or_updated<S: BuildHasher>(
     }
 }
 
-/// What a matcher finds among the first keys, and how many keys it is asked about.
+/// Searches the first keys with a matcher. The answer has how many keys the matcher was asked about, and the item.
 fn found1_with<S: BuildHasher>(map: &TriHashMap<Item, S>, key: &Key) -> Answer {
     let hash = map.hasher().hash_one(key);
     let mut matcher = Only::new(key);
@@ -85,12 +85,12 @@ fn found3_with<S: BuildHasher>(map: &TriHashMap<Item, S>, key: &Key) -> Answer {
         .with_if(item.map(row_of))
 }
 
-/// The value of an item, and one more.
+/// Returns the value of an item, plus one.
 pub(crate) fn more(item: &Item) -> u64 {
     item.value.wrapping_add(1)
 }
 
-/// The call of this name with all keys, if there is such a one.
+/// Carries out the call of this name with all keys. Returns `None` if there is no such call.
 pub(crate) fn answered_by_all<S: BuildHasher>(
     map: &mut TriHashMap<Item, S>,
     call: &str,

@@ -1,12 +1,12 @@
-//! Items lent for writing, one by one.
+//! Calls that borrow an item for writing, through a guard.
 use crate::answer::Answer;
 use crate::counting::Key;
 use crate::two_keys::item::{Item, row_of};
 use iddqd_bi::{BiHashMap, KeyMismatch};
 use std::hash::BuildHasher;
 
-/// What is answered of the item that a guard lends, if there is one. A function can't take a guard, since it owns no part
-/// of the map that the guard holds.
+/// Answers the item of a guard, if there is one. It is a macro, since a function cannot take a guard: it would own no
+/// part of the map that the guard borrows.
 macro_rules! shown {
     ($found:expr) => {
         match $found {
@@ -18,7 +18,7 @@ macro_rules! shown {
 
 pub(crate) use shown;
 
-/// The same once the item's value is 7.
+/// Sets the item's value to 7, and answers the item.
 macro_rules! written {
     ($found:expr) => {
         match $found {
@@ -31,7 +31,7 @@ macro_rules! written {
     };
 }
 
-/// The call of this name with a key, if there is such a one.
+/// Carries out the call of this name with a key. Returns `None` if there is no such call.
 pub(crate) fn answered<S: BuildHasher>(
     map: &mut BiHashMap<Item, S>,
     call: &str,
@@ -56,7 +56,7 @@ fn lend2<S: BuildHasher>(map: &mut BiHashMap<Item, S>, key: &Key) -> Answer {
     shown!(map.get2_mut(key))
 }
 
-/// By all keys.
+/// Borrows the item that has all keys.
 pub(crate) fn lend_unique<S: BuildHasher>(map: &mut BiHashMap<Item, S>, keys: &Item) -> Answer {
     shown!(map.get_mut_unique(&keys.key1, &keys.key2))
 }
@@ -69,7 +69,7 @@ fn write2<S: BuildHasher>(map: &mut BiHashMap<Item, S>, key: &Key) -> Answer {
     written!(map.get2_mut(key))
 }
 
-/// Through the guard, lent anew.
+/// Writes through a reborrow of the guard.
 fn write_again<S: BuildHasher>(map: &mut BiHashMap<Item, S>, key: &Key) -> Answer {
     match map.get1_mut(key) {
         Some(mut item) => {
@@ -80,7 +80,7 @@ fn write_again<S: BuildHasher>(map: &mut BiHashMap<Item, S>, key: &Key) -> Answe
     }
 }
 
-/// For as long as the map is lent.
+/// Borrows the item for as long as the map is borrowed.
 fn lend_for_good<S: BuildHasher>(map: &mut BiHashMap<Item, S>, key: &Key) -> Answer {
     match map.get1_mut(key) {
         Some(item) => Answer::of("item", row_of(item.into_ref())),
@@ -88,7 +88,7 @@ fn lend_for_good<S: BuildHasher>(map: &mut BiHashMap<Item, S>, key: &Key) -> Ans
     }
 }
 
-/// The item that came back, which has another key, as the error shows it and by value.
+/// Answers which key differed, and the item that came back: as the error shows it, and as it was returned.
 pub(crate) fn mismatch(error: KeyMismatch<Item>) -> Answer {
     let word = match &error {
         KeyMismatch::Key1(_) => "key1",
@@ -97,14 +97,14 @@ pub(crate) fn mismatch(error: KeyMismatch<Item>) -> Answer {
     back(Answer::of(word, row_of(error.item())), error.into_item())
 }
 
-/// An answer with an item that came back.
+/// Adds an item that came back to an answer, and drops it.
 pub(crate) fn back(answer: Answer, item: Item) -> Answer {
     let answer = answer.with(row_of(&item));
     drop(item);
     answer
 }
 
-/// What gave way to an item, or why it did not.
+/// Answers the item that was replaced, or why none was.
 fn replacement(answer: Result<Item, KeyMismatch<Item>>) -> Answer {
     match answer {
         Ok(old) => back(Answer::said("out"), old),
@@ -126,7 +126,7 @@ fn replace2<S: BuildHasher>(map: &mut BiHashMap<Item, S>, key: &Key, item: Item)
     }
 }
 
-/// The call of this name with a key and an item, if there is such a one.
+/// Carries out the call of this name with a key and an item. Returns `None` if there is no such call.
 pub(crate) fn replaced<S: BuildHasher>(
     map: &mut BiHashMap<Item, S>,
     call: &str,

@@ -1,4 +1,4 @@
-//! Calls that put one item in, and what their errors tell.
+//! Calls that insert one item, and what their errors say.
 use crate::answer::Answer;
 use crate::two_keys::guards::back;
 use crate::two_keys::item::{Item, row_of};
@@ -6,7 +6,7 @@ use crate::two_keys::lists::displaced;
 use iddqd_bi::{BiHashMap, InsertError, InsertReason, UpToTwo};
 use std::hash::BuildHasher;
 
-/// The word for the reason of an error, with its item.
+/// Answers the reason of an error, and its item.
 fn refused<S: BuildHasher>(error: &InsertError<'_, Item, S>) -> Answer {
     let word = match error.reason() {
         InsertReason::Duplicate => "dup",
@@ -15,7 +15,7 @@ fn refused<S: BuildHasher>(error: &InsertError<'_, Item, S>) -> Answer {
     Answer::of(word, row_of(error.item()))
 }
 
-/// An answer with the items of a short list behind it.
+/// Adds the items of a short list to an answer.
 pub(crate) fn with_lent(mut answer: Answer, items: &UpToTwo<&Item>) -> Answer {
     for item in items.iter() {
         answer = answer.with(row_of(item));
@@ -65,7 +65,7 @@ fn overwrite<S: BuildHasher>(map: &mut BiHashMap<Item, S>, item: Item) -> Answer
     }
 }
 
-/// Puts an item in and takes it out again, a thousand times, and tells how often it was there.
+/// Inserts an item and removes it again, a thousand times. The answer has how often it was there to be removed.
 fn insert_and_remove<S: BuildHasher>(map: &mut BiHashMap<Item, S>, mut item: Item) -> Answer {
     let Ok(key) = item.key1.clone() else {
         return back(Answer::said("memory"), item);
@@ -86,7 +86,7 @@ fn insert_and_remove<S: BuildHasher>(map: &mut BiHashMap<Item, S>, mut item: Ite
     back(Answer::said("rounds").at(rounds), item)
 }
 
-/// The call of this name with an item, if there is such a one.
+/// Carries out the call of this name with an item. Returns `None` if there is no such call.
 pub(crate) fn answered<S: BuildHasher>(
     map: &mut BiHashMap<Item, S>,
     call: &str,

@@ -9,7 +9,7 @@ use iddqd_bi::{BiHashItem, BiHashItemMut};
 use std::alloc::AllocError;
 use std::rc::Rc;
 
-/// How many numbers an item has: its keys, and its value behind them.
+/// How many numbers an item has: its keys, and then its value.
 pub(crate) const NUMBERS: usize = 3;
 
 /// An item.
@@ -56,7 +56,7 @@ impl BiHashItemMut for Item {
     }
 }
 
-/// Items are equal by their values alone, so this compares no key.
+/// Items are equal if their values are, so `==` compares no key.
 impl PartialEq for Item {
     ghost eq = { λ x y. x.value == y.value };
 
@@ -79,7 +79,7 @@ impl Clone for Item {
     }
 }
 
-/// The item of these numbers: its keys, and its value behind them.
+/// Makes the item of these numbers: its keys, and then its value.
 pub(crate) fn item_of(
     counts: &Rc<Counts>,
     [key1, key2, value]: [u64; NUMBERS],
@@ -91,13 +91,13 @@ pub(crate) fn item_of(
     })
 }
 
-/// The item of this number: (1, 10, 100), (2, 20, 200) and so on.
+/// Makes the item of this number: (1, 10, 100), (2, 20, 200) and so on.
 pub(crate) fn nth(counts: &Rc<Counts>, number: u64) -> Result<Item, AllocError> {
     let ten = number.wrapping_mul(10);
     item_of(counts, [number, ten, number.wrapping_mul(100)])
 }
 
-/// The numbers of an item.
+/// Returns the numbers of an item.
 pub(crate) fn row_of(item: &Item) -> Row {
     [item.key1.number(), item.key2.number(), item.value, 0]
 }

@@ -9,13 +9,13 @@ use iddqd_bi::{
 use std::alloc::Global;
 use std::hash::BuildHasher;
 
-/// Whether a call takes a list.
+/// Returns whether a call takes a list.
 pub(crate) fn takes(call: &str) -> bool {
     let call = call.strip_prefix("apply.").unwrap_or(call);
     call.starts_with("extend") || call.starts_with("from_iter") || call == "eq.of"
 }
 
-/// An answer with the items of a short list behind it.
+/// Adds the items of a short list to an answer.
 fn with_each(mut answer: Answer, items: &UpToTwo<Item>) -> Answer {
     for item in items.iter() {
         answer = answer.with(row_of(item));
@@ -23,19 +23,19 @@ fn with_each(mut answer: Answer, items: &UpToTwo<Item>) -> Answer {
     answer
 }
 
-/// The items that gave way.
+/// Answers the items that were removed.
 pub(crate) fn displaced(items: UpToTwo<Item>) -> Answer {
     let answer = with_each(Answer::said("out"), &items);
     drop(items);
     answer
 }
 
-/// The item for which there was no memory.
+/// Answers the item for which there was no memory.
 fn lacking(error: MemoryRefused<Item>) -> Answer {
     back(Answer::said("memory"), error.value)
 }
 
-/// The item that a list was refused for, behind those before it.
+/// Answers the item at which a list failed, and the items before it.
 pub(crate) fn refused(error: ExtendUniqueError<Item>) -> Answer {
     let word = match error.reason {
         ExtendUniqueReason::Conflict => "conflict",
@@ -49,7 +49,7 @@ pub(crate) fn refused(error: ExtendUniqueError<Item>) -> Answer {
     answer
 }
 
-/// The first conflict of a list, or the item for which there was no memory.
+/// Answers the first item that conflicts and those that it conflicts with, or the item for which there was no memory.
 fn not_built(error: FromIterError<Item>) -> Answer {
     match error {
         FromIterError::Duplicate(found) => {
@@ -62,7 +62,7 @@ fn not_built(error: FromIterError<Item>) -> Answer {
     }
 }
 
-/// How many items a map that was built has, and how many fit.
+/// Answers how many items a map has that was built.
 fn built<S: BuildHasher + Drop>(map: BiHashMap<Item, S>) -> Answer {
     let answer = Answer::said("built").at(map.len());
     drop(map);
@@ -118,7 +118,7 @@ fn from_iter_unique_hintless<S: Builder>(alloc: Global, items: Vec<Item>) -> Ans
     }
 }
 
-/// The call of this name with a list of items, if there is such a one.
+/// Carries out the call of this name with a list of items. Returns `None` if there is no such call.
 pub(crate) fn answered<S: Builder>(
     map: &mut BiHashMap<Item, S>,
     alloc: Global,
@@ -134,7 +134,7 @@ pub(crate) fn answered<S: Builder>(
     }
 }
 
-/// Whether the map equals that of these items, and whether that equals it.
+/// Answers whether the map equals a map of these items, from either side.
 fn compared<S: Builder>(map: &BiHashMap<Item, S>, alloc: Global, items: Vec<Item>) -> Answer {
     let mut other = BiHashMap::<Item, S>::default(alloc);
     for item in items {

@@ -10,7 +10,7 @@ use crate::two_keys::lists::displaced;
 use iddqd_bi::{BiHashMap, Entry, EntryError, EntryRefusal, OccupiedEntry, Ranked};
 use std::hash::{BuildHasher, Hash};
 
-/// The item that came back, as the error shows it and by value, and why.
+/// Answers why an item came back, and the item: as the error shows it, and as it was returned.
 fn refused(error: EntryError<Item>) -> Answer {
     let word = match &error {
         EntryError::Key1(_) => "key1",
@@ -20,18 +20,19 @@ fn refused(error: EntryError<Item>) -> Answer {
     back(Answer::of(word, row_of(error.item())), error.into_item())
 }
 
-/// The same of an error that holds the map.
+/// Does so for an error that borrows the map. The answer has the item once more.
 fn refused_by<S: BuildHasher>(error: EntryRefusal<'_, Item, S>) -> Answer {
     let shown = row_of(error.error().item());
     refused(error.into_error()).with(shown)
 }
 
-/// The item alone.
+/// Answers the item that came back, as the error shows it and as it was returned.
 fn handed_back<S: BuildHasher>(error: EntryRefusal<'_, Item, S>) -> Answer {
     back(Answer::of("back", row_of(error.item())), error.into_item())
 }
 
-/// The call of this name on the entry of all keys with an item, if there is such a one.
+/// Carries out the call of this name on the entry of these keys, with an item. Returns `None` if there is no such
+/// call.
 pub(crate) fn answered<S: BuildHasher>(
     map: &mut BiHashMap<Item, S>,
     call: &str,
@@ -97,7 +98,7 @@ fn or_insert_or_drop<S: BuildHasher>(
     }
 }
 
-/// Tells how often the closure is called.
+/// The answer has how often the closure was called.
 fn or_insert_with<S: BuildHasher>(map: &mut BiHashMap<Item, S>, keys: &Item, item: Item) -> Answer {
     let mut calls: usize = 0;
     let answer = || {
@@ -111,7 +112,7 @@ fn or_insert_with<S: BuildHasher>(map: &mut BiHashMap<Item, S>, keys: &Item, ite
     answer.at(calls)
 }
 
-/// An item put into its entry, vacant or occupied.
+/// Inserts an item into its entry, vacant or occupied.
 fn put<S: BuildHasher>(map: &mut BiHashMap<Item, S>, keys: &Item, item: Item) -> Answer {
     match map.entry(&keys.key1, &keys.key2) {
         Entry::Vacant(entry) => match entry.insert(item) {
@@ -122,7 +123,7 @@ fn put<S: BuildHasher>(map: &mut BiHashMap<Item, S>, keys: &Item, item: Item) ->
     }
 }
 
-/// The same, and what the entry shows afterwards, where it is occupied.
+/// Inserts an item into its entry, if that is occupied, and answers what the entry shows then.
 fn put_and_see<S: BuildHasher>(map: &mut BiHashMap<Item, S>, keys: &Item, item: Item) -> Answer {
     match occupied(map, keys) {
         Some(mut entry) => {
@@ -133,7 +134,7 @@ fn put_and_see<S: BuildHasher>(map: &mut BiHashMap<Item, S>, keys: &Item, item: 
     }
 }
 
-/// What gives way to an item in an entry that is occupied.
+/// Inserts an item into an occupied entry, and answers the items that it replaced.
 fn replace<S: BuildHasher>(entry: &mut OccupiedEntry<'_, Item, S>, item: Item) -> Answer
     requires { HasFound ⟦<Item as Ranked>⟧.key_tests entry.old }
     ensures { HasFound ⟦<Item as Ranked>⟧.key_tests entry.new }

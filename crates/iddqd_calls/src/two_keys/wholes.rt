@@ -10,7 +10,7 @@ use std::alloc::Global;
 use std::hash::BuildHasher;
 use std::mem;
 
-/// The call of this name with a number of items, if there is such a one.
+/// Carries out the call of this name with a number of items. Returns `None` if there is no such call.
 pub(crate) fn answered_for<S: Builder>(
     map: &mut BiHashMap<Item, S>,
     gauge: &mut Gauge,
@@ -28,7 +28,7 @@ pub(crate) fn answered_for<S: Builder>(
     }
 }
 
-/// How many items fit a map that is made with this room.
+/// Answers the capacity of a map that is made with this capacity.
 fn made(alloc: Global, items: usize) -> Answer {
     match BiHashMap::<Item>::with_capacity(alloc, items) {
         Ok(map) => {
@@ -40,7 +40,7 @@ fn made(alloc: Global, items: usize) -> Answer {
     }
 }
 
-/// How many items fit a map that is made with none.
+/// Answers the capacity of a map that is made by `new`.
 fn new(alloc: Global) -> Answer {
     let map = BiHashMap::<Item>::new(alloc);
     let answer = Answer::said("made").at(map.capacity());
@@ -48,7 +48,7 @@ fn new(alloc: Global) -> Answer {
     answer
 }
 
-/// The call of this name without a number, if there is such a one.
+/// Carries out the call of this name without a number. Returns `None` if there is no such call.
 pub(crate) fn answered<S: Builder>(
     map: &mut BiHashMap<Item, S>,
     gauge: &mut Gauge,
@@ -101,12 +101,12 @@ fn changed<S: Builder>(
     }
 }
 
-/// How many items a walk by steps lends, where it says at each step how many are to come, also behind its end.
+/// Answers how many items an iteration gave, and whether it always said how many were left, also behind its end.
 fn stepped(lent: usize, is_exact: bool) -> Answer {
     Answer::said(if is_exact { "lent" } else { "inexact" }).at(lent)
 }
 
-/// The same of a walk that reads, and of its clone at each step.
+/// Iterates by reference. At each step it compares the length of the iterator, and of its clone, with what is left.
 fn walk<S: BuildHasher>(map: &BiHashMap<Item, S>) -> Answer {
     let mut items = map.iter();
     let mut lent: usize = 0;
@@ -136,7 +136,7 @@ fn next_mut<S: BuildHasher>(map: &mut BiHashMap<Item, S>) -> Answer {
     stepped(lent, is_exact)
 }
 
-/// The same by the data, each one more afterwards.
+/// Iterates over the data, and adds one to each.
 fn next_data<S: BuildHasher>(map: &mut BiHashMap<Item, S>) -> Answer {
     let left = map.len();
     let mut items = map.iter_mut();
@@ -153,7 +153,7 @@ fn next_data<S: BuildHasher>(map: &mut BiHashMap<Item, S>) -> Answer {
     stepped(lent, is_exact)
 }
 
-/// The same by a cursor, each value 0 afterwards.
+/// Iterates by a cursor, and sets each value to 0.
 fn next_from<S: BuildHasher>(map: &mut BiHashMap<Item, S>) -> Answer {
     let mut at = Cursor::new();
     let mut lent: usize = 0;
@@ -166,7 +166,7 @@ fn next_from<S: BuildHasher>(map: &mut BiHashMap<Item, S>) -> Answer {
     stepped(lent, true)
 }
 
-/// Keeps the items whose first key is odd. Tells how many are asked about.
+/// Keeps the items whose first key is odd. The answer has how often the closure was called.
 fn retain<S: BuildHasher>(map: &mut BiHashMap<Item, S>) -> Answer {
     let mut asked: usize = 0;
     map.retain(|item| {
@@ -176,7 +176,7 @@ fn retain<S: BuildHasher>(map: &mut BiHashMap<Item, S>) -> Answer {
     Answer::said("asked").at(asked)
 }
 
-/// Each value is one more. Tells how many there were.
+/// Adds one to each value. The answer has how often the closure was called.
 fn update_all<S: BuildHasher>(map: &mut BiHashMap<Item, S>) -> Answer {
     let mut asked: usize = 0;
     map.update_all(|item| {
@@ -186,7 +186,7 @@ fn update_all<S: BuildHasher>(map: &mut BiHashMap<Item, S>) -> Answer {
     Answer::said("asked").at(asked)
 }
 
-/// How many items the map's clone has.
+/// Answers how many items the clone of the map has.
 fn copied<S: Builder>(map: &BiHashMap<Item, S>) -> Answer {
     match map.clone() {
         Ok(copy) => {
@@ -198,7 +198,7 @@ fn copied<S: Builder>(map: &BiHashMap<Item, S>) -> Answer {
     }
 }
 
-/// Whether the map equals its clone. What the clone costs does not count.
+/// Answers whether the map equals its clone. Making the clone is not measured.
 fn compared<S: Builder>(map: &BiHashMap<Item, S>, gauge: &mut Gauge) -> Answer {
     match map.clone() {
         Ok(copy) => {
@@ -212,7 +212,8 @@ fn compared<S: Builder>(map: &BiHashMap<Item, S>, gauge: &mut Gauge) -> Answer {
     }
 }
 
-/// Whether it still does once the first item of the clone has another value.
+/// Answers whether the map still equals its clone after a value changed in the clone, that of the item with this
+/// first key. If there is no such item, the answer is yes too.
 fn compared_changed<S: Builder>(map: &BiHashMap<Item, S>, gauge: &mut Gauge, key: &Key) -> Answer {
     match map.clone() {
         Ok(mut copy) => {
@@ -227,13 +228,13 @@ fn compared_changed<S: Builder>(map: &BiHashMap<Item, S>, gauge: &mut Gauge, key
     }
 }
 
-/// Walks over the map by value, which is then empty.
+/// Iterates over the map by value, and leaves an empty map.
 fn into_iter<S: Builder>(map: &mut BiHashMap<Item, S>, alloc: Global) -> Answer {
     let map = mem::replace(map, BiHashMap::default(alloc));
     Answer::counted(map.into_iter().count())
 }
 
-/// Walks over the first of the items by value, and then drops the walk.
+/// Takes the first item of an iteration by value, and then drops the iteration, with the items that are left.
 fn into_iter_next<S: Builder>(map: &mut BiHashMap<Item, S>, alloc: Global) -> Answer {
     let map = mem::replace(map, BiHashMap::default(alloc));
     let mut items = map.into_iter();
@@ -244,7 +245,7 @@ fn into_iter_next<S: Builder>(map: &mut BiHashMap<Item, S>, alloc: Global) -> An
     Answer::said("left").at(left)
 }
 
-/// Whether the map has the builder that it was made with.
+/// Answers whether the map has the builder that it was made with.
 fn hasher<S: Builder>(map: &BiHashMap<Item, S>) -> Answer {
     Answer::is_so(map.hasher().hash_one(5u64) == S::default().hash_one(5u64))
 }

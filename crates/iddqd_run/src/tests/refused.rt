@@ -1,7 +1,8 @@
-//! Runs of which one request for memory is refused. `tests/refused_memory` goes over the requests.
+//! Runs in which one allocation fails. `tests/refused_memory` runs them once for each allocation.
 //!
-//! A test `allows_..` passes whichever request is refused, and says where it saw a refusal, which it must not where none is
-//! refused. It also says what each run met, since each outcome has to come at some request.
+//! A test `allows_..` passes whichever allocation fails. It prints `met: the refusal` only if it saw the failure, so
+//! not if no allocation failed. It also prints what each run met, because each outcome has to come at some
+//! allocation.
 use iddqd_text::from_read::FromRead;
 use iddqd_text::outcome::{Kind, RunEnd, RunFault};
 use iddqd_text::run::run_text;
@@ -15,11 +16,11 @@ use std::process::Abort;
 struct Seven {
     kind: Kind,
     text: &'static str,
-    /// What they print where no item is refused.
+    /// What they print if each item finds memory.
     granted: &'static str,
-    /// What they print where the first item is refused.
+    /// What they print if the first item finds no memory.
     without_first: &'static str,
-    /// What they print where the second item is refused.
+    /// What they print if the second item finds no memory.
     without_second: &'static str,
 }
 
@@ -39,7 +40,7 @@ const THREE_KEYS: Seven = Seven {
     without_second: "ok\nmemory (2 20 200 8)\nitem (1 10 100 7)\ndup (1 10 100 7)\nitem (1 10 100 7)\nnone\nlist\n",
 };
 
-/// A writer that takes no memory: an array, and how many bytes it took.
+/// A writer that allocates nothing: an array, and the number of bytes that it took.
 #[derive(Drop)]
 struct ArrayWriter {
     bytes: [u8; 128],
@@ -65,15 +66,15 @@ impl Write for ArrayWriter {
 /// What a run met.
 #[derive(Debug, Drop)]
 enum Met {
-    /// No refusal that is seen. Where std asks for more than it needs and that is refused, it asks again for less.
+    /// The run saw no failure. If std asks for more than it needs and that fails, it asks again for less.
     Nothing,
-    /// Memory for the text was refused.
+    /// Memory for the text ran out.
     Fault,
-    /// Memory for an item was refused.
+    /// Memory for an item ran out.
     MemoryReply,
 }
 
-/// How the run of these lines ends, and what took what it wrote.
+/// Runs the lines, and returns how the run ended and the writer.
 fn run_lines(alloc: Global, seven: Seven) -> (Result<RunEnd, RunFault>, ArrayWriter) {
     let mut source = FromRead::new(seven.text.as_bytes());
     let mut out = ToWrite::new(ArrayWriter {
@@ -84,7 +85,7 @@ fn run_lines(alloc: Global, seven: Seven) -> (Result<RunEnd, RunFault>, ArrayWri
     (ended, out.into_inner())
 }
 
-/// Runs the lines. Asserts that the run ends as it may, and that nothing else is written.
+/// Runs the lines, and asserts that the run ends in an allowed way and writes nothing else.
 fn run(rt: &impl Abort, alloc: Global, seven: Seven) -> Met {
     let (ended, writer) = run_lines(alloc, seven);
     assert!(rt; writer.taken <= 128);

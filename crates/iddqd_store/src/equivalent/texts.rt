@@ -1,4 +1,4 @@
-//! A lent text as a query.
+//! A borrowed text stands for an owned one with the same bytes.
 ghost use Rattle.std.specs.Prelude.{nat_eq, string_bytes};
 ghost use Rattle.std.specs.Box.{boxed_str_bytes};
 ghost use Rattle.std.specs.Rc.{rc_str_bytes};

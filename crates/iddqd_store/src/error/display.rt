@@ -1,4 +1,5 @@
-//! What the errors that hold no map print, so that `?` goes into `anyhow::Error`. Nothing is asked of the items but `Drop`.
+//! What the errors print that do not borrow the map. They implement `Error`, so `?` converts them into
+//! `anyhow::Error`. Printing asks nothing of the items, and `Error` asks for `Drop` alone.
 use super::{
     DuplicateItem, ExtendUniqueError, ExtendUniqueReason, FromIterError, InsertReason,
     MemoryRefused, TryReserveError,

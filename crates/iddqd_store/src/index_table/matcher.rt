@@ -1,22 +1,22 @@
-//! What a search asks about the slots that it meets, and about their keys.
+//! What a search by hash asks: of a slot, and of a key.
 ghost use Rattle.std.specs.Prelude.{◌≡◌, ◌+◌, ◌≤◌, ℕ, Bool};
 
 use crate::item_set::ItemIndex;
 
-/// What a search by hash asks of the indexes under that hash: whether an index is the one that is sought.
+/// What a search by hash asks of each slot that has this hash: whether the slot has the item that is sought.
 ///
-/// The answer for each index is fixed, whatever was asked before.
+/// The answer for a slot is fixed, whatever was asked before.
 pub trait Matcher {
-    // What `matches` answers.
+    // The result of `matches`.
     ghost accepts: { Self → ℕ → Bool };
 
-    // How many questions were passed on so far.
+    // How many questions about a slot were passed on as questions about a key.
     ghost asked: { Self → ℕ };
 
-    // What a call keeps.
+    // Relates a matcher before a call to the same one after it. Related matchers accept the same slots.
     ghost IsKept: { Self → Self → Type 0 };
 
-    /// Whether the item of this index is the one that is sought.
+    /// Returns whether the item in this slot is the one that is sought.
     fn matches(&mut self, ix: ItemIndex) -> bool
         ensures value { result ≡ accepts self.old ix }
         ensures is_kept { IsKept self.old self.new }
@@ -29,18 +29,18 @@ pub trait Matcher {
     ghost kept_trans: { (m n o : Self) → IsKept m n → IsKept n o → IsKept m o };
 }
 
-/// What a search by hash asks of the keys under that hash.
+/// What a search by hash asks of each key with this hash: whether it is the one that is sought.
 pub trait KeyMatcher<K> {
-    // What `matches` answers.
+    // The result of `matches`.
     ghost accepts: { Self → K → Bool };
 
-    // How many keys were asked about so far.
+    // How many keys were asked about.
     ghost asked: { Self → ℕ };
 
-    // What a call keeps.
+    // Relates a matcher before a call to the same one after it. Related matchers accept the same keys.
     ghost IsKept: { Self → Self → Type 0 };
 
-    /// Whether this key is the one that is sought.
+    /// Returns whether this key is the one that is sought.
     fn matches(&mut self, key: &K) -> bool
         ensures value { result ≡ accepts self.old key.now }
         ensures is_kept { IsKept self.old self.new }

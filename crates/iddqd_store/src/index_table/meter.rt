@@ -6,7 +6,8 @@ ghost use Rattle.std.specs.Borrow.{ftrue};
 use std::marker::Model;
 use std::mem::size_of;
 
-/// A number that only proofs read. It takes no memory.
+/// A number that only proofs read. It takes no bytes at run time, so no code can compute it: the proofs of `new` and
+/// `more` are written by hand.
 #[derive(Drop)]
 struct Count {
     ghost number: { ℕ },
@@ -30,8 +31,8 @@ impl Count {
     }
 }
 
-/// How many looks were taken, or questions asked. Contracts see a number; at run time it takes no bytes. Only `tick`
-/// changes it.
+/// Counts events for contracts: probed cells, questions of a matcher, or failed reads and writes. Contracts see a
+/// number, which only `tick` changes. At run time a meter takes no bytes.
 #[derive(Drop)]
 pub struct Meter {
     count: Count,
@@ -46,7 +47,7 @@ impl Model for Meter {
 }
 
 impl Meter {
-    /// A meter at 0. The script `tests/forms` lists the functions that make one, each with the reason.
+    /// Makes a meter at 0. The script `tests/forms` lists each function that makes one, with the reason.
     pub fn new() -> Meter
         ensures { result ≡ 0 }
     {

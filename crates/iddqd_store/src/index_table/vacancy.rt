@@ -1,11 +1,11 @@
-//! Where a search that found nothing ended.
+//! The empty cell at which an unsuccessful search ended.
 ghost use Rattle.std.specs.Prelude.{◌≡◌, ℕ, List};
 ghost use Rattle.iddqd_store.specs.Table.{IsFree};
 
 use std::marker::Model;
 
-/// The empty cell at which a search ended: where a pair under its hash goes in, as long as the table has the same hashes
-/// in so many cells. Contracts see the three numbers.
+/// The empty cell at which a search for a hash ended without a result. A pair with this hash goes into that cell, as
+/// long as the table has the same hashes in the same number of cells. Contracts see the three numbers.
 #[derive(Drop)]
 pub struct Vacancy {
     hash: u64,
@@ -22,7 +22,7 @@ impl Model for Vacancy {
 }
 
 impl Vacancy {
-    /// No cell: where a pair under the hash goes in has to be looked for.
+    /// Makes a vacancy that names no cell: an insert has to probe for the cell.
     pub fn unknown(hash: u64) -> Vacancy
         ensures hash { result.hash ≡ hash }
         ensures nowhere { result.cells ≡ 0 }
@@ -35,28 +35,28 @@ impl Vacancy {
         }
     }
 
-    /// This one of so many cells.
+    /// Makes a vacancy that names cell `at` of a table with `cells` cells.
     pub(crate) fn new(hash: u64, cells: usize, at: usize) -> Vacancy
         ensures { result ≡ record { hash = hash; cells = cells; at = at } }
     {
         Vacancy { hash, cells, at }
     }
 
-    /// The hash.
+    /// Returns the hash that was searched for.
     pub(crate) fn hash(&self) -> u64
         ensures { result ≡ self.now.hash }
     {
         self.hash
     }
 
-    /// How many cells there were.
+    /// Returns how many cells the table had, or 0 if no cell is named.
     pub(crate) fn cells(&self) -> usize
         ensures { result ≡ self.now.cells }
     {
         self.cells
     }
 
-    /// Which of them it is.
+    /// Returns the number of the cell.
     pub(crate) fn at(&self) -> usize
         ensures { result ≡ self.now.at }
     {

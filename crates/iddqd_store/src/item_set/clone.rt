@@ -1,4 +1,4 @@
-//! Copies of a set.
+//! Clones of a set.
 ghost use Rattle.std.specs.Prelude.{IfOk};
 ghost use Rattle.std.specs.List.{AllZip};
 ghost use Rattle.iddqd_store.specs.Slots.{live_items, IsSlotClone};
@@ -21,8 +21,8 @@ impl<T: Clone> Clone for Slot<T> {
 }
 
 impl<T: Clone> ItemSet<T> {
-    /// The same slots, each with a clone of its item. It takes memory where there is a slot, and is refused where
-    /// this or an item's clone is refused.
+    /// Returns a set with the same slots, each with a clone of its item. It allocates memory unless there is no slot.
+    /// It fails if that memory cannot be allocated, or if an item cannot be cloned.
     pub fn clone(&self) -> Result<Self, TryReserveError>
         ensures slots { IfOk result (λ copy. AllZip (IsSlotClone T.is_clone) self.now.slots copy.slots) }
         ensures items { IfOk result (λ copy. AllZip T.is_clone (live_items self.now.slots) (live_items copy.slots)) }

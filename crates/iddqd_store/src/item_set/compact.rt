@@ -1,4 +1,4 @@
-//! Sets without free slots.
+//! Sets without free slots: `compact` and `shrink_to`.
 ghost use Rattle.std.specs.Prelude.{◌≡◌, ◌<◌, ◌≤◌, [], length, map, min, max, Some, OnOk, OnErr, vec_capacity};
 ghost use Rattle.iddqd_store.specs.Slots.{live_items, live_count};
 ghost use Rattle.iddqd_store.specs.Slots.Chain.{live_slots};
@@ -7,7 +7,7 @@ use super::{ItemSet, Slot};
 use crate::TryReserveError;
 use std::mem;
 
-// Moves the live slots behind those in `to`, which has room for them.
+// Moves the live slots into `to`, which has capacity for them.
 fn gathered<T: Drop>(slots: Vec<Slot<T>>, mut to: Vec<Slot<T>>) -> Vec<Slot<T>>
     requires empty { to.items ≡ [] }
     requires room { length (live_slots slots.items) ≤ vec_capacity to }
@@ -24,8 +24,8 @@ fn gathered<T: Drop>(slots: Vec<Slot<T>>, mut to: Vec<Slot<T>>) -> Vec<Slot<T>>
 }
 
 impl<T: Drop> ItemSet<T> {
-    /// Moves the items to the first slots, in their order, so that no slot is free. The room stays, and no memory is
-    /// taken.
+    /// Moves the items to the first slots, in their order, so that no slot is free. The capacity stays, and nothing
+    /// is allocated.
     pub fn compact(&mut self)
         ensures slots { self.new.slots ≡ map Some (live_items self.old.slots) }
         ensures capacity { self.new.capacity ≡ self.old.capacity }
@@ -34,8 +34,11 @@ impl<T: Drop> ItemSet<T> {
         self.head = self.slots.len();
     }
 
-    /// Compacts the set, and gives back the room beyond `least` items and beyond its own. It takes memory for what
-    /// stays, unless that is nothing or all of the room, and where this is refused the set is as before.
+    /// Compacts the set, and lowers its capacity to `least`, or to the number of items if that is more. The capacity
+    /// never grows.
+    ///
+    /// It allocates memory of the new size, unless the new capacity is 0 or the old one. If the allocation fails, the
+    /// set is unchanged.
     pub fn shrink_to(&mut self, least: usize) -> Result<(), TryReserveError>
         ensures slots { OnOk result (self.new.slots ≡ map Some (live_items self.old.slots)) }
         ensures capacity { OnOk result (self.new.capacity

@@ -1,12 +1,12 @@
-//! A place in a walk over the items of a map.
+//! A place in an iteration over the items of a map.
 ghost use Rattle.std.specs.Prelude.{◌≡◌, ◌+◌};
 
 use super::ItemIndex;
 use std::marker::Model;
 
-/// A place in a walk over the items of a map, between two of them. Contracts see a number.
+/// A place between two items in an iteration over the items of a map. Contracts see a number.
 ///
-/// It stands for a place as long as the map gains and loses no item.
+/// The place keeps its meaning as long as no item is inserted or removed.
 #[derive(Clone, Copy)]
 pub struct Cursor {
     next: usize,
@@ -23,21 +23,21 @@ impl Model for Cursor {
 }
 
 impl Cursor {
-    /// The place before the first item.
+    /// Returns the place before the first item.
     pub fn new() -> Self
         ensures { result ≡ 0 }
     {
         Cursor { next: 0 }
     }
 
-    /// The number of the first slot behind the place.
+    /// Returns the number of the first slot behind the place.
     pub fn next(&self) -> usize
         ensures { result ≡ self.now }
     {
         self.next
     }
 
-    /// Goes on to the place behind the item in a slot.
+    /// Moves on to the place behind the item in a slot.
     pub fn pass(&mut self, ix: ItemIndex)
         ensures { self.new ≡ ix + 1 }
     {

@@ -1,4 +1,4 @@
-//! The items of a set, one after another by slot: the iterators of the maps.
+//! The iterators over the items of a set, in the order of the slots. They are the iterators of the maps.
 ghost use Rattle.std.specs.Prelude.{◌≡◌, [], ◌<◌, ◌^◌, length, Some, IfSome};
 ghost use Rattle.std.specs.Iterator.{YieldsFirst, YieldsFirstRef, UpTo, item_count};
 ghost use Rattle.std.specs.Iterator.SizeHint.{IsWithinCount};
@@ -9,7 +9,7 @@ use std::iter::FusedIterator;
 use std::marker::Model;
 use std::vec;
 
-/// The items of a set, lent. Contracts see those that are left, as a list.
+/// Iterates over references to the items of a set. Contracts see the items that are left, as a list.
 #[derive(Drop)]
 pub struct Iter<'a, T> {
     slots: &'a [Slot<T>],
@@ -30,7 +30,7 @@ impl<'a, T> Model for Iter<'a, T> {
 }
 
 impl<'a, T> Iter<'a, T> {
-    /// The items that are left, a second time.
+    /// Returns an iterator over the items that are left.
     pub fn clone(&self) -> Self
         ensures { result ≡ self.now }
     {
@@ -40,7 +40,7 @@ impl<'a, T> Iter<'a, T> {
         }
     }
 
-    /// No items.
+    /// Returns an iterator over no items.
     pub fn default() -> Self
         ensures { result ≡ [] }
     {
@@ -56,8 +56,8 @@ impl<'a, T> Iterator for Iter<'a, T> {
     ghost remaining = { item_count (λ rest. rest) };
 
     fn next(&mut self) -> Option<&'a T> {
-        // Most slots are live, so the first one is looked at before the loop: then the loop of a caller is one, and not
-        // two of which one stands in the other.
+        // Most slots are live, so the first one is visited before the loop. A caller's loop then runs as one loop,
+        // and not as an inner loop for each of its turns.
         let (slot, rest) = self.slots.split_first()?;
         self.slots = rest;
         if let Slot::Live(item) = slot {
@@ -91,7 +91,7 @@ impl<'a, T> ExactSizeIterator for Iter<'a, T> {
 
 impl<'a, T> FusedIterator for Iter<'a, T> {}
 
-/// The items of a set that was given up. Contracts see those that are left, as a list.
+/// Iterates over the items of a set by value. Contracts see the items that are left, as a list.
 #[derive(Drop)]
 pub struct IntoIter<T> {
     slots: vec::IntoIter<Slot<T>>,
@@ -120,7 +120,7 @@ impl<T: Drop> Iterator for IntoIter<T> {
     ghost remaining = { item_count (λ rest. rest) };
 
     fn next(&mut self) -> Option<T> {
-        // The first one before the loop, as in `next` of `Iter`.
+        // The first slot is visited before the loop, for the reason in `next` of `Iter`.
         let first = self.slots.next()?;
         if let Slot::Live(item) = first {
             self.len -= 1;
@@ -154,7 +154,7 @@ impl<T: Drop> ExactSizeIterator for IntoIter<T> {
 impl<T: Drop> FusedIterator for IntoIter<T> {}
 
 impl<T> ItemSet<T> {
-    /// Each item once, by slot. It takes no memory.
+    /// Returns an iterator over references to the items, in the order of the slots. It allocates nothing.
     pub fn values(&self) -> Iter<'_, T>
         ensures gives { result ≡ live_items self.now.slots }
         ensures len { length result ≡ live_count self.now.slots }
@@ -166,7 +166,8 @@ impl<T> ItemSet<T> {
         }
     }
 
-    /// Each item once, by slot, given away. Those that are never asked for are dropped with the iterator.
+    /// Returns an iterator over the items by value, in the order of the slots. Items that are not asked for are
+    /// dropped with the iterator.
     pub fn into_values(self) -> IntoIter<T>
     where
         T: Drop,

@@ -1,4 +1,4 @@
-//! Two queries as the query for a pair of keys.
+//! A pair of queries is a query for a pair of keys.
 ghost use Rattle.std.specs.Prelude.{◌&&◌};
 ghost use Rattle.std.specs.Cmp.Rules.{comparing, hashing};
 ghost use Rattle.std.proofs.Common.{rules};

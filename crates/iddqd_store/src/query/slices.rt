@@ -1,4 +1,4 @@
-//! A lent slice as a query.
+//! A borrowed slice is a query for a `Vec` or a boxed slice with equal elements.
 ghost use Rattle.std.specs.Box.{boxed_slice_items};
 ghost use Rattle.std.specs.Cmp.Lexicographic.{pointwise, lists_equiv};
 ghost use Rattle.std.specs.Hash.{items_Alike};

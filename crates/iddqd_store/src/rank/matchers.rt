@@ -1,4 +1,4 @@
-//! What a search by a key asks: the table asks of a slot, and it asks the key of the item there.
+//! What a search by a key asks: the table asks about a slot, and `ByKey` asks about the key of the item there.
 ghost use Rattle.std.specs.Prelude.{◌≡◌, refl, false};
 ghost use Rattle.std.proofs.Common.{ap, ◌∙◌};
 ghost use Rattle.iddqd_store.specs.Rank.Asking.{passes_kept};
@@ -11,7 +11,7 @@ use crate::query::Query;
 use std::hash::Hash;
 use std::marker::PhantomData;
 
-/// Asks about the key of the item in a slot.
+/// Turns a question about a slot into one about the key of the item there. A slot without an item is not accepted.
 #[derive(Drop)]
 pub(crate) struct ByKey<'a, T, R: KeyOf<T>, M: KeyMatcher<R::Key>> {
     pub(crate) items: &'a ItemSet<T>,
@@ -42,7 +42,7 @@ impl<'a, T, R: KeyOf<T>, M: KeyMatcher<R::Key>> Matcher for ByKey<'a, T, R, M> {
     }
 }
 
-/// Accepts the keys that a query stands for, and counts those that it is asked about.
+/// Accepts the keys that a query stands for, and counts the keys that it was asked about.
 #[derive(Drop)]
 pub struct ByQuery<'a, Q> {
     query: &'a Q,
@@ -50,7 +50,7 @@ pub struct ByQuery<'a, Q> {
 }
 
 impl<'a, Q> ByQuery<'a, Q> {
-    /// A matcher that was asked nothing yet.
+    /// Makes a matcher that was asked nothing so far.
     pub fn new(query: &'a Q) -> Self
         ensures query { result.query ≡ query.entry }
         ensures asked { result.asked ≡ 0 }

@@ -4,7 +4,8 @@ ghost use Rattle.std.specs.Prelude.{◌≡◌, None, Some, IfSome};
 use crate::item_set::ItemIndex;
 use std::marker::Model;
 
-/// The slot that a search by a hash found, if it found one, with the hash: so the hash of the key in this slot is known.
+/// The slot that a search found, if any, with the hash that was searched for. The key in that slot has this hash, so
+/// a removal need not hash it again.
 #[derive(Drop)]
 pub struct SlotUnder {
     slot: Option<ItemIndex>,
@@ -20,14 +21,14 @@ impl Model for SlotUnder {
 }
 
 impl SlotUnder {
-    /// What was found under this hash.
+    /// Makes the result of a search for this hash.
     pub fn new(slot: Option<ItemIndex>, hash: u64) -> SlotUnder
         ensures { result ≡ record { slot = slot; hash = hash } }
     {
         SlotUnder { slot, hash }
     }
 
-    /// Nothing was found.
+    /// Makes the result of a search that found nothing.
     pub fn nothing() -> SlotUnder
         ensures { result.slot ≡ None }
     {
@@ -37,21 +38,21 @@ impl SlotUnder {
         }
     }
 
-    /// The slot.
+    /// Returns the slot.
     pub fn slot(&self) -> Option<ItemIndex>
         ensures { result ≡ self.now.slot }
     {
         self.slot
     }
 
-    /// The hash.
+    /// Returns the hash.
     pub fn hash(&self) -> u64
         ensures { result ≡ self.now.hash }
     {
         self.hash
     }
 
-    /// The hash of the key in this slot, if the search found it.
+    /// Returns the hash of the key in this slot if the search found the slot, and else `None`.
     pub fn hash_at(&self, ix: ItemIndex) -> Option<u64>
         ensures known { self.now.slot ≡ Some ix → result ≡ Some self.now.hash }
         ensures under { IfSome result (λ hash. (self.now.slot ≡ Some ix) × (hash ≡ self.now.hash)) }

@@ -1,4 +1,4 @@
-//! The items of a short list, given away.
+//! The iterator over a short list by value.
 ghost use Rattle.std.specs.Prelude.{◌≡◌, length, IfSome, Some};
 ghost use Rattle.std.specs.Iterator.{YieldsFirst, UpTo, item_count};
 ghost use Rattle.std.specs.Iterator.SizeHint.{IsWithinCount};
@@ -6,14 +6,15 @@ ghost use Rattle.std.specs.Iterator.SizeHint.{IsWithinCount};
 use super::ShortList;
 use std::iter::FusedIterator;
 
-/// The items of a short list, given away, in their order. Those that are never asked for are dropped with it.
+/// Iterates over the items of a short list by value, in their order. Items that are not asked for are dropped with
+/// it.
 #[derive(Drop)]
 pub struct ShortIntoIter<L> {
     left: L,
 }
 
 impl<L> ShortIntoIter<L> {
-    /// The items of this list.
+    /// Makes the iterator over this list.
     pub(crate) fn new(list: L) -> Self
         ensures { result.left ≡ list }
     {

@@ -1,4 +1,4 @@
-//! The items of a short list, lent.
+//! The iterator over a short list by reference.
 ghost use Rattle.std.specs.Prelude.{◌≡◌, length, IfSome, Some};
 ghost use Rattle.std.specs.Iterator.{YieldsFirstRef, UpTo, item_count};
 ghost use Rattle.std.specs.Iterator.SizeHint.{IsWithinCount};
@@ -7,7 +7,8 @@ use std::iter::FusedIterator;
 use std::marker::Model;
 use std::mem;
 
-/// The items of a short list, lent, in their order. Contracts see those that are left, as a list.
+/// Iterates over references to the items of a short list, in their order. Contracts see the items that are left, as a
+/// list.
 #[derive(Drop)]
 pub struct ShortIter<'a, T> {
     pub(crate) first: Option<&'a T>,
@@ -28,7 +29,7 @@ impl<'a, T> Model for ShortIter<'a, T> {
 }
 
 impl<'a, T> ShortIter<'a, T> {
-    /// The items that are left, a second time.
+    /// Returns an iterator over the items that are left.
     pub fn clone(&self) -> Self
         ensures { result ≡ self.now }
     {

@@ -1,4 +1,4 @@
-//! A list of at most three items, in place.
+//! A list of at most three items, kept inline.
 ghost use Rattle.std.specs.Prelude.{◌≡◌, ◌<◌, ◌≤◌, ◌++◌, ◌∷◌, ◌==◌, [], length, option_copied, slice_get, IfNone};
 ghost use Rattle.std.specs.Option.{option_to_list};
 
@@ -9,7 +9,7 @@ use std::fmt::{self, Debug, Formatter, Write};
 use std::marker::Model;
 use std::mem;
 
-/// A list of at most three items, kept in place: no call takes memory. Contracts see a list.
+/// A list of at most three items, kept inline (an array with a length). No call allocates. Contracts see a list.
 #[derive(Drop)]
 pub struct UpToThree<T> {
     first: Option<T>,
@@ -29,7 +29,7 @@ impl<T> Model for UpToThree<T> {
 }
 
 impl<T> UpToThree<T> {
-    /// No items.
+    /// Makes an empty list.
     pub fn new() -> Self
         ensures { result ≡ [] }
     {
@@ -40,7 +40,7 @@ impl<T> UpToThree<T> {
         }
     }
 
-    /// The number of items, at most three.
+    /// Returns the number of items, at most three.
     pub fn len(&self) -> usize
         ensures value { result ≡ length self.now }
         ensures short { result ≤ 3 }
@@ -53,14 +53,14 @@ impl<T> UpToThree<T> {
         }
     }
 
-    /// Whether there is no item.
+    /// Returns whether the list is empty.
     pub fn is_empty(&self) -> bool
         ensures { result ≡ (length self.now == 0) }
     {
         self.len() == 0
     }
 
-    /// The item at this place, counted from 0.
+    /// Returns the item at this place, counted from 0, or `None` if there are fewer items.
     pub fn get(&self, at: usize) -> Option<&T>
         ensures { option_copied result ≡ slice_get self.now at }
     {
@@ -72,14 +72,14 @@ impl<T> UpToThree<T> {
         }
     }
 
-    /// The first item.
+    /// Returns the first item, or `None` if the list is empty.
     pub fn first(&self) -> Option<&T>
         ensures { option_copied result ≡ slice_get self.now 0 }
     {
         self.first.as_ref()
     }
 
-    /// The items, lent, in their order.
+    /// Returns an iterator over references to the items, in their order.
     pub fn iter(&self) -> ShortIter<'_, T>
         ensures gives { result ≡ self.now }
         ensures short { length self.now ≤ 3 }
@@ -91,7 +91,7 @@ impl<T> UpToThree<T> {
         }
     }
 
-    /// Puts an item behind the others, of which there are fewer than three.
+    /// Appends an item. There have to be fewer than three.
     pub fn push(&mut self, item: T)
         requires { length self.old < 3 }
         ensures { self.new ≡ self.old ++ item ∷ [] }
@@ -109,7 +109,7 @@ impl<T> UpToThree<T> {
         }
     }
 
-    /// Puts an item in front of the others, of which there are fewer than three.
+    /// Inserts an item before the others. There have to be fewer than three.
     pub fn push_front(&mut self, item: T)
         requires { length self.old < 3 }
         ensures { self.new ≡ item ∷ self.old }
@@ -122,7 +122,7 @@ impl<T> UpToThree<T> {
         }
     }
 
-    /// Takes the first item out. The others move up.
+    /// Removes and returns the first item, or `None` if the list is empty.
     pub fn pop_front(&mut self) -> Option<T>
         ensures first { result ≡ slice_get self.old 0 }
         ensures rest { self.old ≡ option_to_list result ++ self.new }
@@ -180,7 +180,7 @@ impl<T: Eq> Eq for UpToThree<T> {
 impl UpToThree<ItemIndex> {
     ghost use Rattle.iddqd_store.specs.Slots.Found.{contains, with_found};
 
-    /// Whether this slot is among them.
+    /// Returns whether the list has this slot.
     pub fn contains(&self, ix: ItemIndex) -> bool
         ensures { result ≡ contains self.now ix }
     {
@@ -194,7 +194,7 @@ impl UpToThree<ItemIndex> {
         }
     }
 
-    /// Puts the slot that a search found behind the others, unless it is among them.
+    /// Appends the slot that a search found, unless it found none or the list has it already.
     pub fn push_found(&mut self, found: Option<ItemIndex>)
         requires { length self.old < 3 }
         ensures { self.new ≡ with_found self.old found }

@@ -1,4 +1,4 @@
-//! A list of at most two items, in place.
+//! A list of at most two items, kept inline.
 ghost use Rattle.std.specs.Prelude.{◌≡◌, ◌<◌, ◌≤◌, ◌++◌, ◌∷◌, ◌==◌, [], length, option_copied, slice_get, IfNone};
 ghost use Rattle.std.specs.Option.{option_to_list};
 
@@ -9,7 +9,7 @@ use std::fmt::{self, Debug, Formatter, Write};
 use std::marker::Model;
 use std::mem;
 
-/// A list of at most two items, kept in place: no call takes memory. Contracts see a list.
+/// A list of at most two items, kept inline (an array with a length). No call allocates. Contracts see a list.
 #[derive(Drop)]
 pub struct UpToTwo<T> {
     first: Option<T>,
@@ -28,7 +28,7 @@ impl<T> Model for UpToTwo<T> {
 }
 
 impl<T> UpToTwo<T> {
-    /// No items.
+    /// Makes an empty list.
     pub fn new() -> Self
         ensures { result ≡ [] }
     {
@@ -38,7 +38,7 @@ impl<T> UpToTwo<T> {
         }
     }
 
-    /// The number of items, at most two.
+    /// Returns the number of items, at most two.
     pub fn len(&self) -> usize
         ensures value { result ≡ length self.now }
         ensures short { result ≤ 2 }
@@ -50,14 +50,14 @@ impl<T> UpToTwo<T> {
         }
     }
 
-    /// Whether there is no item.
+    /// Returns whether the list is empty.
     pub fn is_empty(&self) -> bool
         ensures { result ≡ (length self.now == 0) }
     {
         self.len() == 0
     }
 
-    /// The item at this place, counted from 0.
+    /// Returns the item at this place, counted from 0, or `None` if there are fewer items.
     pub fn get(&self, at: usize) -> Option<&T>
         ensures { option_copied result ≡ slice_get self.now at }
     {
@@ -68,14 +68,14 @@ impl<T> UpToTwo<T> {
         }
     }
 
-    /// The first item.
+    /// Returns the first item, or `None` if the list is empty.
     pub fn first(&self) -> Option<&T>
         ensures { option_copied result ≡ slice_get self.now 0 }
     {
         self.first.as_ref()
     }
 
-    /// The items, lent, in their order.
+    /// Returns an iterator over references to the items, in their order.
     pub fn iter(&self) -> ShortIter<'_, T>
         ensures gives { result ≡ self.now }
         ensures short { length self.now ≤ 2 }
@@ -87,7 +87,7 @@ impl<T> UpToTwo<T> {
         }
     }
 
-    /// Puts an item behind the others, of which there are fewer than two.
+    /// Appends an item. There have to be fewer than two.
     pub fn push(&mut self, item: T)
         requires { length self.old < 2 }
         ensures { self.new ≡ self.old ++ item ∷ [] }
@@ -103,7 +103,7 @@ impl<T> UpToTwo<T> {
         }
     }
 
-    /// Puts an item in front of the others, of which there are fewer than two.
+    /// Inserts an item before the others. There have to be fewer than two.
     pub fn push_front(&mut self, item: T)
         requires { length self.old < 2 }
         ensures { self.new ≡ item ∷ self.old }
@@ -115,7 +115,7 @@ impl<T> UpToTwo<T> {
         }
     }
 
-    /// Takes the first item out. The others move up.
+    /// Removes and returns the first item, or `None` if the list is empty.
     pub fn pop_front(&mut self) -> Option<T>
         ensures first { result ≡ slice_get self.old 0 }
         ensures rest { self.old ≡ option_to_list result ++ self.new }
@@ -172,7 +172,7 @@ impl<T: Eq> Eq for UpToTwo<T> {
 impl UpToTwo<ItemIndex> {
     ghost use Rattle.iddqd_store.specs.Slots.Found.{contains, with_found};
 
-    /// Whether this slot is among them.
+    /// Returns whether the list has this slot.
     pub fn contains(&self, ix: ItemIndex) -> bool
         ensures { result ≡ contains self.now ix }
     {
@@ -183,7 +183,7 @@ impl UpToTwo<ItemIndex> {
         }
     }
 
-    /// Puts the slot that a search found behind the others, unless it is among them.
+    /// Appends the slot that a search found, unless it found none or the list has it already.
     pub fn push_found(&mut self, found: Option<ItemIndex>)
         requires { length self.old < 2 }
         ensures { self.new ≡ with_found self.old found }

@@ -1,4 +1,4 @@
-//! The items of kind `bi`.
+//! The items of the kind `bi`.
 ghost use Rattle.std.specs.Prelude.{Some};
 ghost use Rattle.iddqd_text.specs.Printed.{printed};
 ghost use Rattle.iddqd_text.specs.TwoKeys.{numbers};
@@ -7,7 +7,7 @@ use super::Numbers;
 use iddqd_bi::{BiHashItem, BiHashItemMut};
 use std::fmt;
 
-/// An item with two keys, as a line of the program gives it.
+/// An item with two keys, as a line of the program spells it.
 #[derive(Clone, Copy, Debug, PartialEq, Eq, Drop)]
 pub struct BiItem {
     pub key1: u64,
@@ -66,7 +66,7 @@ impl Numbers for BiItem {
     }
 }
 
-/// The numbers in brackets, with a space between each two.
+/// Prints the numbers in brackets, with a space between each two.
 impl fmt::Display for BiItem {
     ghost output = { λ item. Some (printed (numbers item)) };
 

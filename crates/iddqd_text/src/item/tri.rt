@@ -1,4 +1,4 @@
-//! The items of kind `tri`.
+//! The items of the kind `tri`.
 ghost use Rattle.std.specs.Prelude.{Some};
 ghost use Rattle.iddqd_text.specs.Printed.{printed};
 ghost use Rattle.iddqd_text.specs.ThreeKeys.{numbers};
@@ -7,7 +7,7 @@ use super::Numbers;
 use iddqd_tri::{TriHashItem, TriHashItemMut};
 use std::fmt;
 
-/// An item with three keys, as a line of the program gives it.
+/// An item with three keys, as a line of the program spells it.
 #[derive(Clone, Copy, Debug, PartialEq, Eq, Drop)]
 pub struct TriItem {
     pub key1: u64,
@@ -77,7 +77,7 @@ impl Numbers for TriItem {
     }
 }
 
-/// The numbers in brackets, with a space between each two.
+/// Prints the numbers in brackets, with a space between each two.
 impl fmt::Display for TriItem {
     ghost output = { λ item. Some (printed (numbers item)) };
 
