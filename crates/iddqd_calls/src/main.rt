@@ -19,23 +19,12 @@
 //! allocations and makes one fail, if it is loaded into the program; otherwise the count is 0.
 #![tactic(auto)]
 
-mod answer;
-mod builder;
-mod counting;
-mod gauge;
-mod line;
-mod matcher;
-mod table;
-mod three_keys;
-mod two_keys;
-
-use crate::answer::shown;
-use crate::builder::{Builder, Largest, Own, Zero};
-use crate::gauge::Gauge;
-use crate::line::{Line, line_of};
-use crate::table::{Table, filled};
-use iddqd_bi::{BiHashMap, DefaultHashBuilder};
-use iddqd_tri::TriHashMap;
+use iddqd_bi::DefaultHashBuilder;
+use iddqd_calls_shared::answer::shown;
+use iddqd_calls_shared::builder::{Builder, Largest, Own, Zero};
+use iddqd_calls_shared::gauge::Gauge;
+use iddqd_calls_shared::line::{Line, line_of};
+use iddqd_calls_shared::table::{Table, filled};
 use std::alloc::Global;
 use std::process::ExitCode;
 use std::{env, io};
@@ -74,8 +63,8 @@ fn chosen(rt: &HostRuntime, kind: &str, builder: &str, tells: bool) -> io::Resul
 
 fn of_kind<S: Builder>(rt: &HostRuntime, kind: &str, tells: bool) -> io::Result<bool> {
     match kind {
-        "bi" => run::<BiHashMap<two_keys::item::Item, S>>(rt, tells)?,
-        "tri" => run::<TriHashMap<three_keys::item::Item, S>>(rt, tells)?,
+        "bi" => run::<iddqd_calls_bi::Called<S>>(rt, tells)?,
+        "tri" => run::<iddqd_calls_tri::Called<S>>(rt, tells)?,
         _ => return Ok(false),
     }
     Ok(true)

@@ -1,0 +1,120 @@
+//! Keys that count how often they are compared and hashed.
+ghost use Rattle.std.specs.Prelude.{◌≡◌, ◌==◌, IfOk};
+ghost use Rattle.std.proofs.Common.{rules};
+ghost use Rattle.std.specs.Hash as fed;
+ghost use Rattle.std.specs.Cmp.Rules.{comparing, hashing};
+
+use std::alloc::AllocError;
+use std::cell::Cell;
+use std::hash::{Hash, Hasher};
+use std::rc::Rc;
+
+/// How often the keys that share these counts were compared and hashed.
+#[derive(Drop)]
+pub struct Counts {
+    compared: Cell<u64>,
+    hashed: Cell<u64>,
+    /// Whether comparisons and hashes are counted.
+    counts: Cell<bool>,
+}
+
+impl Counts {
+    /// Makes counts that do not count yet.
+    pub fn new() -> Self {
+        Counts {
+            compared: Cell::new(0),
+            hashed: Cell::new(0),
+            counts: Cell::new(false),
+        }
+    }
+
+    /// Starts counting, at 0.
+    pub fn reset(&self) {
+        self.compared.set(0);
+        self.hashed.set(0);
+        self.counts.set(true);
+    }
+
+    /// Stops counting.
+    pub fn stop(&self) {
+        self.counts.set(false);
+    }
+
+    /// Counts a comparison.
+    fn compare(&self) {
+        if self.counts.get() {
+            self.compared.set(self.compared.get().saturating_add(1));
+        }
+    }
+
+    /// Counts a hash.
+    fn hash(&self) {
+        if self.counts.get() {
+            self.hashed.set(self.hashed.get().saturating_add(1));
+        }
+    }
+
+    /// Returns how often keys were compared, and how often they were hashed.
+    pub fn read(&self) -> (u64, u64) {
+        (self.compared.get(), self.hashed.get())
+    }
+}
+
+/// A number that counts its comparisons and its hashes, together with those of all keys that share its counts.
+#[derive(Drop)]
+pub struct Key {
+    number: u64,
+    counts: Rc<Counts>,
+}
+
+impl Key {
+    /// Makes the key of this number.
+    pub fn new(counts: &Rc<Counts>, number: u64) -> Result<Self, AllocError>
+        ensures { IfOk result (λ key. key.number ≡ number) }
+    {
+        Ok(Key {
+            number,
+            counts: counts.clone()?,
+        })
+    }
+
+    pub fn number(&self) -> u64
+        ensures { result ≡ self.now.number }
+    {
+        self.number
+    }
+}
+
+impl Clone for Key {
+    ghost is_clone = { λ x c. c.number ≡ x.number };
+
+    fn clone(&self) -> Result<Self, AllocError> {
+        Key::new(&self.counts, self.number)
+    }
+}
+
+impl PartialEq for Key {
+    ghost eq = { λ a b. a.number == b.number };
+
+    ghost laws = { Prim.search (comparing, rules) };
+
+    fn eq(&self, other: &Self) -> bool {
+        self.counts.compare();
+        self.number == other.number
+    }
+}
+
+impl Eq for Key {
+    ghost laws = { Prim.search (comparing, rules) };
+}
+
+impl Hash for Key {
+    ghost hash_input = { λ a. fed.u64 a.number };
+
+    ghost respects_eq = { Prim.search (hashing, rules) };
+
+    fn hash<H: Hasher>(&self, state: &mut H) {
+        self.counts.hash();
+        self.number.hash(state);
+    }
+}

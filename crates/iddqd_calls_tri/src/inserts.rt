@@ -1,0 +1,107 @@
+//! Calls that insert one item, and what their errors say.
+use crate::guards::back;
+use crate::item::{Item, row_of};
+use crate::lists::displaced;
+use iddqd_calls_shared::answer::Answer;
+use iddqd_tri::{InsertError, InsertReason, TriHashMap, UpToThree};
+use std::hash::BuildHasher;
+
+/// Answers the reason of an error, and its item.
+fn refused<S: BuildHasher>(error: &InsertError<'_, Item, S>) -> Answer {
+    let word = match error.reason() {
+        InsertReason::Duplicate => "dup",
+        InsertReason::Memory => "memory",
+    };
+    Answer::of(word, row_of(error.item()))
+}
+
+/// Adds the items of a short list to an answer.
+pub(crate) fn with_lent(mut answer: Answer, items: &UpToThree<&Item>) -> Answer {
+    for item in items.iter() {
+        answer = answer.with(row_of(item));
+    }
+    answer
+}
+
+fn insert<S: BuildHasher>(map: &mut TriHashMap<Item, S>, item: Item) -> Answer {
+    match map.insert_unique(item) {
+        Ok(()) => Answer::said("ok"),
+        Err(error) => {
+            let answer = with_lent(refused(&error), &error.duplicates());
+            drop(error);
+            answer
+        }
+    }
+}
+
+fn insert_into_item<S: BuildHasher>(map: &mut TriHashMap<Item, S>, item: Item) -> Answer {
+    match map.insert_unique(item) {
+        Ok(()) => Answer::said("ok"),
+        Err(error) => back(Answer::said("back"), error.into_item()),
+    }
+}
+
+fn insert_into_parts<S: BuildHasher>(map: &mut TriHashMap<Item, S>, item: Item) -> Answer {
+    match map.insert_unique(item) {
+        Ok(()) => Answer::said("ok"),
+        Err(error) => {
+            let (item, found) = error.into_parts();
+            with_lent(back(Answer::said("back"), item), &found)
+        }
+    }
+}
+
+fn insert_or_back<S: BuildHasher>(map: &mut TriHashMap<Item, S>, item: Item) -> Answer {
+    match map.insert_or_back(item) {
+        Ok(()) => Answer::said("ok"),
+        Err(item) => back(Answer::said("back"), item),
+    }
+}
+
+fn overwrite<S: BuildHasher>(map: &mut TriHashMap<Item, S>, item: Item) -> Answer {
+    match map.insert_overwrite(item) {
+        Ok(items) => displaced(items),
+        Err(error) => back(Answer::said("memory"), error.value),
+    }
+}
+
+/// Inserts an item and removes it again, a thousand times. The answer has how often it was there to be removed.
+fn insert_and_remove<S: BuildHasher>(map: &mut TriHashMap<Item, S>, mut item: Item) -> Answer {
+    let Ok(key) = item.key1.clone() else {
+        return back(Answer::said("memory"), item);
+    };
+    let mut rounds: usize = 0;
+    for _ in 0..1000 {
+        let _ = map.insert_or_back(item).is_ok();
+        match map.remove1(&key) {
+            Some(found) => item = found,
+            None => {
+                drop(key);
+                return Answer::said("rounds").at(rounds);
+            }
+        }
+        rounds = rounds.wrapping_add(1);
+    }
+    drop(key);
+    back(Answer::said("rounds").at(rounds), item)
+}
+
+/// Carries out the call of this name with an item. Returns `None` if there is no such call.
+pub(crate) fn answered<S: BuildHasher>(
+    map: &mut TriHashMap<Item, S>,
+    call: &str,
+    item: Item,
+) -> Option<Answer> {
+    match call {
+        "insert_unique" => Some(insert(map, item)),
+        "insert_unique.into_item" => Some(insert_into_item(map, item)),
+        "insert_unique.into_parts" => Some(insert_into_parts(map, item)),
+        "insert_or_back" => Some(insert_or_back(map, item)),
+        "insert_overwrite" => Some(overwrite(map, item)),
+        "insert_or_back.remove1" => Some(insert_and_remove(map, item)),
+        _ => {
+            drop(item);
+            None
+        }
+    }
+}

@@ -1,0 +1,164 @@
+//! Calls that take a list of items.
+use crate::guards::back;
+use crate::item::{Item, row_of};
+use iddqd_calls_shared::answer::Answer;
+use iddqd_calls_shared::builder::Builder;
+use iddqd_tri::{
+    ExtendUniqueError, ExtendUniqueReason, FromIterError, MemoryRefused, TriHashMap, UpToThree,
+};
+use std::alloc::Global;
+use std::hash::BuildHasher;
+
+/// Returns whether a call takes a list.
+pub(crate) fn takes(call: &str) -> bool {
+    let call = call.strip_prefix("apply.").unwrap_or(call);
+    call.starts_with("extend") || call.starts_with("from_iter") || call == "eq.of"
+}
+
+/// Adds the items of a short list to an answer.
+fn with_each(mut answer: Answer, items: &UpToThree<Item>) -> Answer {
+    for item in items.iter() {
+        answer = answer.with(row_of(item));
+    }
+    answer
+}
+
+/// Answers the items that were removed.
+pub(crate) fn displaced(items: UpToThree<Item>) -> Answer {
+    let answer = with_each(Answer::said("out"), &items);
+    drop(items);
+    answer
+}
+
+/// Answers the item for which there was no memory.
+fn lacking(error: MemoryRefused<Item>) -> Answer {
+    back(Answer::said("memory"), error.value)
+}
+
+/// Answers the item at which a list failed, and the items before it.
+pub(crate) fn refused(error: ExtendUniqueError<Item>) -> Answer {
+    let word = match error.reason {
+        ExtendUniqueReason::Conflict => "conflict",
+        ExtendUniqueReason::Memory => "memory",
+    };
+    let mut answer = Answer::of(word, row_of(&error.value));
+    for item in &error.taken {
+        answer = answer.with(row_of(item));
+    }
+    drop(error);
+    answer
+}
+
+/// Answers the first item that conflicts and those that it conflicts with, or the item for which there was no memory.
+fn not_built(error: FromIterError<Item>) -> Answer {
+    match error {
+        FromIterError::Duplicate(found) => {
+            let answer = Answer::of("dup", row_of(found.new_item()));
+            let answer = with_each(answer, found.duplicates());
+            drop(found);
+            answer
+        }
+        FromIterError::Memory(item) => back(Answer::said("memory"), item),
+    }
+}
+
+/// Answers how many items a map has that was built.
+fn built<S: BuildHasher + Drop>(map: TriHashMap<Item, S>) -> Answer {
+    let answer = Answer::said("built").at(map.len());
+    drop(map);
+    answer
+}
+
+fn extend<S: BuildHasher>(map: &mut TriHashMap<Item, S>, items: Vec<Item>) -> Answer {
+    match map.extend(items) {
+        Ok(()) => Answer::said("ok"),
+        Err(error) => lacking(error),
+    }
+}
+
+fn extend_hintless<S: BuildHasher>(map: &mut TriHashMap<Item, S>, items: Vec<Item>) -> Answer {
+    match map.extend(items.into_iter().filter(|_| true)) {
+        Ok(()) => Answer::said("ok"),
+        Err(error) => lacking(error),
+    }
+}
+
+fn extend_unique<S: BuildHasher>(map: &mut TriHashMap<Item, S>, items: Vec<Item>) -> Answer {
+    match map.extend_unique(items) {
+        Ok(()) => Answer::said("ok"),
+        Err(error) => refused(error),
+    }
+}
+
+fn from_iter<S: Builder>(alloc: Global, items: Vec<Item>) -> Answer {
+    match TriHashMap::<Item, S>::from_iter(alloc, items) {
+        Ok(map) => built(map),
+        Err(error) => lacking(error),
+    }
+}
+
+fn from_iter_hintless<S: Builder>(alloc: Global, items: Vec<Item>) -> Answer {
+    match TriHashMap::<Item, S>::from_iter(alloc, items.into_iter().filter(|_| true)) {
+        Ok(map) => built(map),
+        Err(error) => lacking(error),
+    }
+}
+
+fn from_iter_unique<S: Builder>(alloc: Global, items: Vec<Item>) -> Answer {
+    match TriHashMap::<Item, S>::from_iter_unique(alloc, items) {
+        Ok(map) => built(map),
+        Err(error) => not_built(error),
+    }
+}
+
+fn from_iter_unique_hintless<S: Builder>(alloc: Global, items: Vec<Item>) -> Answer {
+    match TriHashMap::<Item, S>::from_iter_unique(alloc, items.into_iter().filter(|_| true)) {
+        Ok(map) => built(map),
+        Err(error) => not_built(error),
+    }
+}
+
+/// Carries out the call of this name with a list of items. Returns `None` if there is no such call.
+pub(crate) fn answered<S: Builder>(
+    map: &mut TriHashMap<Item, S>,
+    alloc: Global,
+    call: &str,
+    items: Vec<Item>,
+) -> Option<Answer> {
+    match call {
+        "extend" => Some(extend(map, items)),
+        "extend.hintless" => Some(extend_hintless(map, items)),
+        "extend_unique" => Some(extend_unique(map, items)),
+        "eq.of" => Some(compared(map, alloc, items)),
+        _ => made::<S>(alloc, call, items),
+    }
+}
+
+/// Answers whether the map equals a map of these items, from either side.
+fn compared<S: Builder>(map: &TriHashMap<Item, S>, alloc: Global, items: Vec<Item>) -> Answer {
+    let mut other = TriHashMap::<Item, S>::default(alloc);
+    for item in items {
+        let _ = other.insert_or_back(item);
+    }
+    let is_same = *map == other;
+    let is_same_back = other == *map;
+    drop(other);
+    if is_same == is_same_back {
+        Answer::is_so(is_same)
+    } else {
+        Answer::said("from one side")
+    }
+}
+
+fn made<S: Builder>(alloc: Global, call: &str, items: Vec<Item>) -> Option<Answer> {
+    match call {
+        "from_iter" => Some(from_iter::<S>(alloc, items)),
+        "from_iter.hintless" => Some(from_iter_hintless::<S>(alloc, items)),
+        "from_iter_unique" => Some(from_iter_unique::<S>(alloc, items)),
+        "from_iter_unique.hintless" => Some(from_iter_unique_hintless::<S>(alloc, items)),
+        _ => {
+            drop(items);
+            None
+        }
+    }
+}
