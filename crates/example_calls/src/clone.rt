@@ -1,4 +1,4 @@
-//! A copy of a map.
+//! Cloning a map.
 ghost use Rattle.std.specs.Prelude.{IfOk};
 ghost use Rattle.iddqd_bi.specs.Bag.{IsCopy};
 ghost use Rattle.iddqd_bi.specs.Map.{bag};
@@ -31,7 +31,7 @@ impl BiHashItem for Rate {
     }
 }
 
-/// A copy of all rates, unless there is no memory for it.
+/// Returns a copy of all rates, or an error if there is no memory for it.
 pub fn backup(rates: &BiHashMap<Rate>) -> Result<BiHashMap<Rate>, TryReserveError>
     ensures { IfOk result (λ copy. IsCopy ⟦<Rate as Clone>⟧.is_clone (bag rates.now) (bag copy)) }
 {
