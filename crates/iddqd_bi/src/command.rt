@@ -68,6 +68,7 @@ pub type BiReply<'m, T> = MapReply<'m, T, <T as BiHashItemMut>::Data, UpToTwo<&'
 
 /// What receives the replies of `apply` and `run`, one by one.
 pub trait BiSink<T: BiHashItemMut> {
+    /// What `take` returns to end a run.
     type Fault;
 
     // `took before reply result after` holds if a sink in the state `before` may take this reply, return this result,

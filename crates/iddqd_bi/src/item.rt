@@ -8,8 +8,10 @@ use std::hash::{BuildHasher, Hash};
 
 /// An item with two keys. Its keys depend on its value alone.
 pub trait BiHashItem {
+    /// The type of the first key.
     type K1: Eq + Hash;
 
+    /// The type of the second key.
     type K2: Eq + Hash;
 
     // The keys of an item, as contracts see them.
@@ -29,6 +31,7 @@ pub trait BiHashItem {
 /// An item with data beside its keys. A caller may write the data while the item is in a map, since its keys stay
 /// equal.
 pub trait BiHashItemMut: BiHashItem {
+    /// The type of the data that can be written.
     type Data;
 
     // The data of an item, as contracts see it.

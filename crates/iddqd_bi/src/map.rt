@@ -29,7 +29,7 @@ pub type DefaultHashBuilder = BuildHasherDefault<FoldHasher>;
 /// A hash map of items with two keys. No two items of a map have an equal key of the same rank.
 ///
 /// The items stand in numbered slots, and for each rank a table leads from the hash of a key to the slot of its item. A
-/// lookup hashes its key once, and compares at most as many keys as items have that hash.
+/// lookup by one key hashes it once, and compares at most as many keys as items have that hash.
 #[derive(Drop)]
 pub struct BiHashMap<T: BiHashItem, S: BuildHasher = DefaultHashBuilder> {
     items: ItemSet<T>,

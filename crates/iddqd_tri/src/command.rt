@@ -84,6 +84,7 @@ pub type TriReply<'m, T> = MapReply<
 
 /// What receives the replies of `apply` and `run`, one by one.
 pub trait TriSink<T: TriHashItemMut> {
+    /// What `take` returns to end a run.
     type Fault;
 
     // `took before reply result after` holds if a sink in the state `before` may take this reply, return this result,

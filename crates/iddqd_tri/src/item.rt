@@ -8,10 +8,13 @@ use std::hash::{BuildHasher, Hash};
 
 /// An item with three keys. Its keys depend on its value alone.
 pub trait TriHashItem {
+    /// The type of the first key.
     type K1: Eq + Hash;
 
+    /// The type of the second key.
     type K2: Eq + Hash;
 
+    /// The type of the third key.
     type K3: Eq + Hash;
 
     // The keys of an item, as contracts see them.
@@ -37,6 +40,7 @@ pub trait TriHashItem {
 /// An item with data beside its keys. A caller may write the data while the item is in a map, since its keys stay
 /// equal.
 pub trait TriHashItemMut: TriHashItem {
+    /// The type of the data that can be written.
     type Data;
 
     // The data of an item, as contracts see it.

@@ -17,7 +17,7 @@ pub enum OccupiedEntryRef<'a, T> {
 }
 
 impl<'a, T> OccupiedEntryRef<'a, T> {
-    /// Makes it of the items that two keys found. They are one item if `is_unique` is true.
+    /// Makes the value for the items that two keys found. They are one item if `is_unique` is true.
     pub(crate) fn of(is_unique: bool, by_key1: Option<&'a T>, by_key2: Option<&'a T>) -> Self
         requires some { is_unique ≡ true → is_some by_key1 ≡ true }
         requires one2 { is_unique ≡ true → option_copied by_key1 ≡ option_copied by_key2 }

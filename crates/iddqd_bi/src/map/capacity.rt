@@ -25,8 +25,8 @@ impl<T: Ranked, S: BuildHasher> BiHashMap<T, S> {
         self.len() == 0
     }
 
-    /// Returns how many items fit without growing: the least of what the slots and each table hold. It is at most as
-    /// many as the largest table holds whose cells a `usize` can count.
+    /// Returns how many items fit without growing: the least of what the slots and each table hold. It is at most
+    /// `most_room`, 7 * 2^60, the number of items that the largest table holds.
     pub fn capacity(&self) -> usize
         ensures value { result ≡ self.now.capacity }
         ensures fits { length (bag self.now) ≤ result }

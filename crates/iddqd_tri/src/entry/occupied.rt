@@ -134,8 +134,9 @@ impl<'a, T: TriHashItem, S: BuildHasher> OccupiedEntry<'a, T, S> {
     /// If the item has another key, the error has the item and names the lowest rank at which its key is not the
     /// entry's, whether an item of the map has that key or not. Nothing changes then.
     ///
-    /// The item's keys are compared with the entry's, rank by rank up to the first that differs. Nothing is searched
-    /// for, and no memory is allocated.
+    /// The item's keys are compared with the entry's, rank by rank up to the first that differs. Then each of them is
+    /// hashed once, and so is each key of a removed item by which the entry did not find it. Nothing is searched for,
+    /// and no memory is allocated.
     pub fn insert(&mut self, item: T) -> Result<UpToThree<T>, KeyMismatch<T>>
         requires { HasFound ⟦<T as Ranked>⟧.key_tests self.old }
         // `Ok` only for an item with the entry's keys. The items that these found are returned, in their order.
@@ -164,8 +165,9 @@ impl<'a, T: TriHashItem, S: BuildHasher> OccupiedEntry<'a, T, S> {
         Ok(displaced)
     }
 
-    /// Removes the items, and returns them in the order of the keys. The capacity stays. No key is compared, and no
-    /// memory is allocated.
+    /// Removes the items, and returns them in the order of the keys. The capacity stays.
+    ///
+    /// Each key of a removed item is hashed. No key is compared, and no memory is allocated.
     pub fn remove(self) -> UpToThree<T>
         requires { HasFound ⟦<T as Ranked>⟧.key_tests self }
         ensures taken { result

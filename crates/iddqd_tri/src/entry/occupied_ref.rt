@@ -19,7 +19,7 @@ pub enum OccupiedEntryRef<'a, T> {
 }
 
 impl<'a, T> OccupiedEntryRef<'a, T> {
-    /// Makes it of the items that three keys found. They are one item if `is_unique` is true.
+    /// Makes the value for the items that three keys found. They are one item if `is_unique` is true.
     pub(crate) fn of(
         is_unique: bool,
         by_key1: Option<&'a T>,

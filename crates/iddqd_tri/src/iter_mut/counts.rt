@@ -7,8 +7,9 @@ use crate::item::TriHashItem;
 use std::hash::{BuildHasher, Hash};
 
 impl<T: TriHashItem, S: BuildHasher> IterMut<'_, T, S> {
-    /// Returns how many items are left, in constant time. The contract says so after steps by `next_data`. After a
-    /// guard of `next_mut` it is true too, but no clause says so; call `count_remaining` there if you have to prove it.
+    /// Returns how many items are left, in constant time. After steps by `next_data` the contract says that the number
+    /// is exact. After a guard of `next_mut` it is exact too, but no clause says so; there call `count_remaining` to
+    /// prove it.
     pub fn len(&self) -> usize
         ensures { IsCounted self.now → result ≡ length (rest_of self.now) }
     {

@@ -13,7 +13,7 @@ use std::hash::{BuildHasher, Hash};
 
 impl<T: TriHashItem, S: BuildHasher> TriHashMap<T, S> {
     /// Returns the item with the first key that the query stands for, or `None`. A query is a `&key`, or what stands
-    /// for a key, such as a `&str` for a `String`: `map.get1(&key)`, `map.get1(&"main")`.
+    /// for a key, such as a `&str` for a `String`: `map.get1(&key)`, `map.get1("main")`.
     ///
     /// At most as many keys are compared as items have the query's hash at the first rank.
     pub fn get1<Q: Query<T::K1>>(&self, query: Q) -> Option<&T>
@@ -23,7 +23,7 @@ impl<T: TriHashItem, S: BuildHasher> TriHashMap<T, S> {
     }
 
     /// Returns the item with the second key that the query stands for, or `None`. A query is a `&key`, or what stands
-    /// for a key, such as a `&str` for a `String`: `map.get2(&key)`, `map.get2(&"main")`.
+    /// for a key, such as a `&str` for a `String`: `map.get2(&key)`, `map.get2("main")`.
     ///
     /// At most as many keys are compared as items have the query's hash at the second rank.
     pub fn get2<Q: Query<T::K2>>(&self, query: Q) -> Option<&T>
@@ -33,7 +33,7 @@ impl<T: TriHashItem, S: BuildHasher> TriHashMap<T, S> {
     }
 
     /// Returns the item with the third key that the query stands for, or `None`. A query is a `&key`, or what stands
-    /// for a key, such as a `&str` for a `String`: `map.get3(&key)`, `map.get3(&"main")`.
+    /// for a key, such as a `&str` for a `String`: `map.get3(&key)`, `map.get3("main")`.
     ///
     /// At most as many keys are compared as items have the query's hash at the third rank.
     pub fn get3<Q: Query<T::K3>>(&self, query: Q) -> Option<&T>

@@ -28,7 +28,7 @@ impl<T: Ranked, S: BuildHasher> TriHashMap<T, S> {
         ensures free { OnOk result (clash T.ranks (bag self.old) item ≡ []) }
         ensures granted { clash T.ranks (bag self.old) item ≡ []
             → length (bag self.old) < self.old.capacity → IsOk result }
-        // The error has the item, borrows the map as it was, and comes for a conflict or in a full map only.
+        // The error has the item and borrows the map as it was. It comes for a conflict or in a full map only.
         ensures handed_back { IfErr result (λ e. HandsBackAndHolds self.entry item e) }
         ensures reason { OnErr result ((clash T.ranks (bag self.old) item ≢ []) ⊎ IsFullFor T.ranks self.old item) }
         // How the map ends, once the error is gone: with the item after `Ok`, else as it was.
