@@ -12,7 +12,7 @@ use std::hash::{BuildHasher, Hasher};
 #[derive(Clone, Copy)]
 pub struct OwnHash;
 
-/// A hasher of `OwnHash`: the number of the last eight bytes written.
+/// A hasher of `OwnHash`: the number that the first eight bytes of the last write make.
 #[derive(Clone, Copy)]
 pub struct OwnHasher {
     number: u64,

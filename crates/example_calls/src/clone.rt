@@ -5,7 +5,7 @@ ghost use Rattle.iddqd_bi.specs.Map.{bag};
 
 use iddqd_bi::{BiHashItem, BiHashMap, TryReserveError};
 
-/// A currency, known by its number and by its place in a list, and what it is worth.
+/// The worth of a currency, known by the currency's number and by its place in a list.
 #[derive(Clone, Copy)]
 pub struct Rate {
     pub currency: u32,

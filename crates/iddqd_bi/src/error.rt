@@ -172,8 +172,8 @@ impl<T: Ranked, S: BuildHasher> InsertError<'_, T, S> {
         &self.item
     }
 
-    /// Returns why the item was not inserted: `Duplicate` if an item of the map conflicts with it, else `Memory`. No
-    /// key is compared.
+    /// Returns why the item was not inserted: `Duplicate` if an item of the map conflicts with it, else `Memory`. The
+    /// call compares no key.
     pub fn reason(&self) -> InsertReason
         ensures duplicate { result ≡ InsertReason.Duplicate → clash T.ranks (bag self.now.map.now) self.now.item ≢ [] }
         ensures memory { result ≡ InsertReason.Memory → clash T.ranks (bag self.now.map.now) self.now.item ≡ [] }
@@ -185,8 +185,8 @@ impl<T: Ranked, S: BuildHasher> InsertError<'_, T, S> {
         }
     }
 
-    /// Returns the items of the map that conflict with the item, each once, in the order of the keys. Nothing is
-    /// searched again.
+    /// Returns the items of the map that conflict with the item, each once, in the order of the keys. The call searches
+    /// for nothing again.
     pub fn duplicates(&self) -> UpToTwo<&T>
         ensures { map (λ item. item.now) result ≡ order T.ranks (bag self.now.map.now) self.now.item }
     {

@@ -52,9 +52,9 @@ impl<'a, T: BiHashItem, S: BuildHasher, Q: Keys<T::K1, T::K2>> Entry<'a, T, S, Q
 }
 
 impl<'a, T: BiHashItemMut, S: BuildHasher, Q: Keys<T::K1, T::K2>> Entry<'a, T, S, Q> {
-    /// Updates each item of an occupied entry: `f` is called with the item, and what it returns becomes the item's
-    /// data. Each item is updated once, that of the first key first. The entry is returned. A vacant entry stays as it
-    /// is, and `f` is not called. No memory is allocated.
+    /// Calls `f` with each item of an occupied entry, stores what `f` returns as the item's data, and returns the
+    /// entry. It updates each item once, that of the first key first. A vacant entry stays as it is, and `f` is not
+    /// called. The call allocates no memory.
     ///
     /// `map.entry(&key1, &key2).and_modify(|item| item.count + 1).or_insert(item)`
     pub fn and_modify<F: FnMut(&T) -> T::Data>(self, f: F) -> Entry<'a, T, S, Q>

@@ -113,9 +113,9 @@ impl<'a, T: BiHashItem, S: BuildHasher> OccupiedEntry<'a, T, S> {
     /// If the item has another key, the error has the item and names the lowest rank at which its key is not the
     /// entry's, whether an item of the map has that key or not. Nothing changes then.
     ///
-    /// The item's keys are compared with the entry's, rank by rank up to the first that differs. Then each of them is
-    /// hashed once, and so is each key of a removed item by which the entry did not find it. Nothing is searched for,
-    /// and no memory is allocated.
+    /// The call compares the item's keys with the entry's, rank by rank up to the first that differs. Then it hashes
+    /// each of them once, and each key of a removed item by which the entry did not find it. It searches for nothing,
+    /// and allocates no memory.
     pub fn insert(&mut self, item: T) -> Result<UpToTwo<T>, KeyMismatch<T>>
         requires { HasFound ⟦<T as Ranked>⟧.key_tests self.old }
         // `Ok` only for an item with the entry's keys. The items that these found are returned, in their order.
@@ -144,7 +144,7 @@ impl<'a, T: BiHashItem, S: BuildHasher> OccupiedEntry<'a, T, S> {
 
     /// Removes the items, and returns them in the order of the keys. The capacity stays.
     ///
-    /// Each key of a removed item is hashed. No key is compared, and no memory is allocated.
+    /// The call hashes each key of a removed item. It compares no key, and allocates no memory.
     pub fn remove(self) -> UpToTwo<T>
         requires { HasFound ⟦<T as Ranked>⟧.key_tests self }
         ensures taken { result ≡ listing (entry_tests ⟦<T as Ranked>⟧.key_tests self.entry) (bag self.entry.map.now) }
@@ -195,8 +195,8 @@ impl<'a, T: BiHashItemMut, S: BuildHasher> OccupiedEntry<'a, T, S> {
         self.map.data_mut_of(slot2)
     }
 
-    /// Updates each item: `f` is called with the item, and what it returns becomes the item's data. Each item is
-    /// updated once, that of the first key first, and stays found. No key is compared, and no memory is allocated.
+    /// Calls `f` with each item, and stores what `f` returns as the item's data. The call updates each item once, that
+    /// of the first key first, and the entry still finds it. It compares no key, and allocates no memory.
     pub fn for_each<F: FnMut(&T) -> T::Data>(&mut self, f: F)
     where
         T::Data: Drop,

@@ -156,8 +156,8 @@ impl<'a, T: BiHashItemMut, S: BuildHasher> OccupiedEntryMut<'a, T, S> {
         self.map.data_mut_of(slot)
     }
 
-    /// Updates each item: `f` is called with the item as it is then, and what it returns becomes the item's data. Each
-    /// item is updated once, that of the first key first. No key is compared, and no memory is allocated.
+    /// Calls `f` with each item, as it is then, and stores what `f` returns as the item's data. The call updates each
+    /// item once, that of the first key first. It compares no key, and allocates no memory.
     pub fn for_each<F: FnMut(&T) -> T::Data>(&mut self, f: F)
     where
         T::Data: Drop,

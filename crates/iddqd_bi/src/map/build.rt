@@ -10,7 +10,7 @@ use std::alloc::Global;
 use std::hash::{BuildHasher, Hash};
 
 impl<T: BiHashItem> BiHashMap<T, DefaultHashBuilder> {
-    /// Makes an empty map of capacity 0 with the default builder. No memory is allocated.
+    /// Makes an empty map of capacity 0 with the default builder. The call allocates no memory.
     pub fn new(alloc: Global) -> Self
         ensures empty { bag result ≡ [] }
         ensures capacity { result.capacity ≡ 0 }
@@ -21,8 +21,8 @@ impl<T: BiHashItem> BiHashMap<T, DefaultHashBuilder> {
 
     /// Makes an empty map with the default builder, in which exactly `items` items fit.
     ///
-    /// The slots and each table are allocated. The call fails if an allocation fails, or if so many items are more than
-    /// memory can count. For 0 items nothing is allocated, and the call succeeds.
+    /// The call allocates the slots and each table. It fails if an allocation fails, or if so many items are more than
+    /// memory can count. For 0 items it allocates nothing, and succeeds.
     pub fn with_capacity(alloc: Global, items: usize) -> Result<Self, TryReserveError>
         ensures empty { IfOk result (λ map. bag map ≡ []) }
         ensures capacity { IfOk result (λ map. map.capacity ≡ items) }
@@ -35,7 +35,7 @@ impl<T: BiHashItem> BiHashMap<T, DefaultHashBuilder> {
 }
 
 impl<T: BiHashItem, S: BuildHasher> BiHashMap<T, S> {
-    /// Makes an empty map of capacity 0 with this builder. No memory is allocated.
+    /// Makes an empty map of capacity 0 with this builder. The call allocates no memory.
     pub fn with_hasher(alloc: Global, hash_builder: S) -> Self
         ensures empty { bag result ≡ [] }
         ensures capacity { result.capacity ≡ 0 }
@@ -49,7 +49,7 @@ impl<T: BiHashItem, S: BuildHasher> BiHashMap<T, S> {
         }
     }
 
-    /// Makes an empty map of capacity 0 with the default value of the builder's type. No memory is allocated.
+    /// Makes an empty map of capacity 0 with the default value of the builder's type. The call allocates no memory.
     pub fn default(alloc: Global) -> Self
     where
         S: Default,
@@ -69,8 +69,8 @@ impl<T: BiHashItem, S: BuildHasher> BiHashMap<T, S> {
 
     /// Makes an empty map with this builder, in which exactly `items` items fit.
     ///
-    /// The slots and each table are allocated. The call fails if an allocation fails, or if so many items are more than
-    /// memory can count. For 0 items nothing is allocated, and the call succeeds.
+    /// The call allocates the slots and each table. It fails if an allocation fails, or if so many items are more than
+    /// memory can count. For 0 items it allocates nothing, and succeeds.
     pub fn with_capacity_and_hasher(
         alloc: Global,
         items: usize,

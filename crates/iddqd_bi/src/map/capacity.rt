@@ -35,7 +35,7 @@ impl<T: Ranked, S: BuildHasher> BiHashMap<T, S> {
         self.room()
     }
 
-    /// Reserves capacity for so many more items. If they fit already, no memory is allocated. No key is compared.
+    /// Reserves capacity for so many more items. If they fit already, the call allocates no memory. It compares no key.
     ///
     /// The call fails if an allocation for more slots or for a larger table fails, or if so many items are more than
     /// memory can count. Then the items are as before. The capacity may have grown, but so many more items do not fit.
@@ -54,7 +54,7 @@ impl<T: Ranked, S: BuildHasher> BiHashMap<T, S> {
         self.reserve(more)
     }
 
-    /// Drops all items. The builder and the capacity stay. No memory is allocated.
+    /// Drops all items. The builder and the capacity stay. The call allocates no memory.
     pub fn clear(&mut self)
     where
         T: Drop,

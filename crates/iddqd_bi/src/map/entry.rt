@@ -13,7 +13,7 @@ impl<T: BiHashItem, S: BuildHasher> BiHashMap<T, S> {
     /// Looks up two keys at once. The result is `Vacant` if no item has one of the keys, and else `Occupied`, with the
     /// items that have one. The entry keeps what the keys found, so that its calls need not search again.
     ///
-    /// Each key is hashed once and searched for once. No memory is allocated.
+    /// The call hashes each key once, and searches for it once. It allocates no memory.
     ///
     /// `map.entry(&key1, &key2).or_insert(item)`
     pub fn entry<'a>(&'a mut self, key1: &'a T::K1, key2: &'a T::K2) -> Entry<'a, T, S>

@@ -57,14 +57,14 @@ impl<T: Ranked + Drop, S: BuildHasher> BiHashMap<T, S> {
 
     /// Inserts all the items if none of them conflicts with an item of the map or with another of them, and else none.
     ///
-    /// If an item conflicts, or if there is no memory for it, the items before it are removed again. The error has
+    /// If an item conflicts, or if there is no memory for it, the call removes the items before it again. The error has
     /// these in order, that item, and the reason. The rest are dropped with the iterator. For an item that conflicts
     /// the reason is `Conflict`, whether there is memory or not.
     ///
-    /// Each key of an item is hashed once and searched for once as the item is inserted. Memory is allocated if the map
-    /// is full, and for the list of the items inserted, by which an error returns them; for a list of no items none is
-    /// allocated. To remove the items again none is allocated, and no key is compared. After an error the capacity may
-    /// have grown.
+    /// To insert an item, the call hashes each key of it once, and searches for it once. It allocates memory if the map
+    /// is full, and for the list of the items inserted, by which an error returns them; for a list of no items it
+    /// allocates none. To remove the items again, it hashes each key once more, compares none, and allocates no memory.
+    /// After an error the capacity may have grown.
     ///
     /// ```text
     /// if let Err(refused) = map.extend_unique(batch) {
@@ -107,11 +107,10 @@ impl<T: Ranked + Drop, S: BuildHasher> BiHashMap<T, S> {
 }
 
 impl<T: Ranked + Drop, S: BuildHasher + Default + Drop> BiHashMap<T, S> {
-    /// Makes a map of the items. Each is inserted as by `insert_overwrite`, and the items that this removes are
-    /// dropped.
+    /// Makes a map of the items. It inserts each as `insert_overwrite` does, and drops the items that this removes.
     ///
-    /// Capacity is reserved as by `extend`. If there is no memory for an item, the error has that item, and there is no
-    /// map.
+    /// The call reserves capacity as `extend` does. If there is no memory for an item, the error has that item, and
+    /// there is no map.
     pub fn from_iter<I: IntoIterator<Item = T>>(
         alloc: Global,
         iter: I,

@@ -15,7 +15,7 @@ impl<T: BiHashItem, S: BuildHasher> BiHashMap<T, S> {
     /// Returns the item with the first key that the query stands for, or `None`. A query is a `&key`, or what stands
     /// for a key, such as a `&str` for a `String`: `map.get1(&key)`, `map.get1("main")`.
     ///
-    /// At most as many keys are compared as items have the query's hash at the first rank.
+    /// The call compares at most as many keys as items have the query's hash at the first rank.
     pub fn get1<Q: Query<T::K1>>(&self, query: Q) -> Option<&T>
         ensures { IsOnly (has1 T.BiHashItem Q.stands_for query) (bag self.now) (option_copied result) }
     {
@@ -25,7 +25,7 @@ impl<T: BiHashItem, S: BuildHasher> BiHashMap<T, S> {
     /// Returns the item with the second key that the query stands for, or `None`. A query is a `&key`, or what stands
     /// for a key, such as a `&str` for a `String`: `map.get2(&key)`, `map.get2("main")`.
     ///
-    /// At most as many keys are compared as items have the query's hash at the second rank.
+    /// The call compares at most as many keys as items have the query's hash at the second rank.
     pub fn get2<Q: Query<T::K2>>(&self, query: Q) -> Option<&T>
         ensures { IsOnly (has2 T.BiHashItem Q.stands_for query) (bag self.now) (option_copied result) }
     {
@@ -34,7 +34,7 @@ impl<T: BiHashItem, S: BuildHasher> BiHashMap<T, S> {
 
     /// Returns the item that has both keys that the queries stand for, or `None`.
     ///
-    /// As many keys are compared as by `get1`, and the other key of the item found.
+    /// The call compares as many keys as `get1`, and the other key of the item found.
     pub fn get_unique<Q1: Query<T::K1>, Q2: Query<T::K2>>(
         &self,
         query1: Q1,

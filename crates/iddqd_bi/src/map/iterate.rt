@@ -10,7 +10,7 @@ use std::fmt::{self, Debug, Formatter, Write};
 use std::hash::{BuildHasher, Hash};
 
 impl<T: BiHashItem, S: BuildHasher> BiHashMap<T, S> {
-    /// Iterates over the items by reference: each item once, in unspecified order. No memory is allocated.
+    /// Iterates over the items by reference: each item once, in unspecified order. The call allocates no memory.
     pub fn iter(&self) -> Iter<'_, T>
         ensures gives { result ≡ bag self.now }
         ensures runs { ShowsInOrder (deref {X = T}) }

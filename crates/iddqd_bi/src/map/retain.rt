@@ -12,7 +12,7 @@ impl<T: BiHashItem, S: BuildHasher> BiHashMap<T, S> {
     /// Keeps the items for which `f` returns `true`, and drops the others. `f` is called once with each item, in
     /// unspecified order.
     ///
-    /// The capacity stays. Each key of a dropped item is hashed. No key is compared, and no memory is allocated.
+    /// The capacity stays. The call hashes each key of a dropped item. It compares no key, and allocates no memory.
     ///
     /// `map.retain(|item| item.count > 0)`
     pub fn retain<F: FnMut(&T) -> bool>(&mut self, mut f: F)

@@ -26,7 +26,7 @@ where
     T::Data: Drop,
 {
     /// Carries out the commands in order, and hands each reply to the sink. The run ends at the sink's first fault,
-    /// which it returns. The command of that reply has been carried out then, and those behind it are not.
+    /// which it returns. The run has carried out the command of that reply, and none behind it.
     pub fn run<K: BiSink<T>>(
         &mut self,
         commands: Vec<BiCommand<T>>,
@@ -42,8 +42,8 @@ where
         Ok(())
     }
 
-    /// Carries out one command, and hands its reply to the sink. An error is the sink's fault; the command has been
-    /// carried out all the same.
+    /// Carries out one command, and hands its reply to the sink. An error is a fault of the sink; the call has carried
+    /// out the command all the same.
     pub fn apply<K: BiSink<T>>(
         &mut self,
         command: BiCommand<T>,

@@ -11,12 +11,12 @@ use std::hash::{BuildHasher, Hash};
 impl<T: BiHashItem + Drop, S: BuildHasher> BiHashMap<T, S> {
     /// Shrinks the capacity to `least`, but not below the number of items. It never grows the capacity.
     ///
-    /// Smaller slots and tables are allocated, and each key is hashed anew. No key is compared. If an allocation fails,
-    /// the map is as before. A map that gets capacity 0 allocates nothing.
+    /// The call allocates smaller slots and tables, and hashes each key anew. It compares none. If an allocation fails,
+    /// the map is as before. For a map that gets capacity 0 the call allocates nothing.
     ///
-    /// If the slots and tables are no larger than the new capacity needs, nothing is allocated or hashed. They may be
-    /// larger although the capacity stays, as after a failed `reserve`. Then the call makes them smaller if there is
-    /// memory for that, and succeeds in any case: a call that does not change the capacity never fails.
+    /// If the slots and tables are no larger than the new capacity needs, the call allocates and hashes nothing. They
+    /// may be larger although the capacity stays, as after a failed `reserve`. Then the call makes them smaller if
+    /// there is memory for that, and succeeds in any case: a call that does not change the capacity never fails.
     pub fn shrink_to(&mut self, least: usize) -> Result<(), TryReserveError>
         // The items and the builder stay.
         ensures items { bag self.new ≡ bag self.old }

@@ -19,8 +19,8 @@ impl<'a, T: Ranked, S: BuildHasher, Q: Keys<T::K1, T::K2, T::K3>> VacantEntry<'a
     /// call fails only if the map is full and there is no memory to grow. Each error has the item, and the map is as it
     /// was.
     ///
-    /// The item's keys are compared with the entry's, rank by rank up to the first that differs. No key is hashed or
-    /// searched for. Memory is allocated only if the map is full.
+    /// The call compares the item's keys with the entry's, rank by rank up to the first that differs. It hashes no key
+    /// and searches for none. It allocates memory only if the map is full.
     pub fn insert(self, item: T) -> Result<RefMut<'a, T, S>, EntryError<T>>
         // The guard borrows the item, in this very map.
         ensures gains_and_lends { IfOk result (GainsAndLends self.entry item) }

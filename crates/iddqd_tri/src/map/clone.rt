@@ -14,8 +14,8 @@ impl<T: TriHashItem + Clone, S: BuildHasher + Clone> TriHashMap<T, S> {
     /// Returns a map with a clone of each item and of the builder. The call fails if an allocation fails, or if a clone
     /// does.
     ///
-    /// A clone of an item must have equal keys, and the clone of the builder must make the same hashes. No key is
-    /// compared or hashed.
+    /// A clone of an item must have equal keys, and the clone of the builder must make the same hashes. The call
+    /// compares and hashes no key.
     pub fn clone(&self) -> Result<Self, TryReserveError>
         // A clone of an item has equal keys, and the clone of the builder makes the same hashes.
         requires same_key1 { (x c : T) → Contains (bag self.now) x → T.is_clone x c → agree T.key1 T.K1.eq x c ≡ true }

@@ -13,7 +13,7 @@ impl<T: TriHashItem, S: BuildHasher> TriHashMap<T, S> {
     /// Looks up three keys at once. The result is `Vacant` if no item has one of the keys, and else `Occupied`, with
     /// the items that have one. The entry keeps what the keys found, so that its calls need not search again.
     ///
-    /// Each key is hashed once and searched for once. No memory is allocated.
+    /// The call hashes each key once, and searches for it once. It allocates no memory.
     ///
     /// `map.entry(&key1, &key2, &key3).or_insert(item)`
     pub fn entry<'a>(

@@ -21,7 +21,8 @@ impl<T: Ranked, S: BuildHasher> TriHashMap<T, S> {
     /// of the keys. Otherwise the call fails only if the map is full and there is no memory to grow. Each error has the
     /// item, and borrows the map, which is as it was.
     ///
-    /// Each key of the item is hashed once and searched for once. Memory is allocated only if the map is full.
+    /// The call hashes each key of the item once, and searches for it once. It allocates memory only if the map is
+    /// full.
     #[inline(always)]
     pub fn insert_unique(&mut self, item: T) -> Result<(), InsertError<'_, T, S>>
         // `Ok` only if nothing conflicts, and then always if there is spare capacity.
@@ -54,7 +55,8 @@ impl<T: Ranked, S: BuildHasher> TriHashMap<T, S> {
     /// Inserts an item as `insert_unique` does, for a caller who need not know why an insert failed: the error is the
     /// item alone. The map is as it was then, and not borrowed.
     ///
-    /// Each key of the item is hashed once and searched for once. Memory is allocated only if the map is full.
+    /// The call hashes each key of the item once, and searches for it once. It allocates memory only if the map is
+    /// full.
     ///
     /// `match map.insert_or_back(item) { Ok(()) => {}, Err(item) => keep_for_later(item) }`
     pub fn insert_or_back(&mut self, item: T) -> Result<(), T>

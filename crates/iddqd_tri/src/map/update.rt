@@ -16,7 +16,7 @@ impl<T: TriHashItemMut, S: BuildHasher> TriHashMap<T, S> {
     /// Calls `f` with the item with the first key that the query stands for, and stores what it returns as the item's
     /// data. Returns whether there is such an item. If not, `f` is not called, and nothing changes.
     ///
-    /// No memory is allocated. The call costs what `get1` costs.
+    /// The call allocates no memory, and costs what `get1` costs.
     ///
     /// `map.update1(&key, |item| item.count + 1)`
     pub fn update1<Q: Query<T::K1>, F: FnOnce(&T) -> T::Data>(&mut self, query: Q, f: F) -> bool
@@ -44,7 +44,7 @@ impl<T: TriHashItemMut, S: BuildHasher> TriHashMap<T, S> {
     /// Calls `f` with the item with the second key that the query stands for, and stores what it returns as the item's
     /// data. Returns whether there is such an item. If not, `f` is not called, and nothing changes.
     ///
-    /// No memory is allocated. The call costs what `get2` costs.
+    /// The call allocates no memory, and costs what `get2` costs.
     ///
     /// `map.update2(&key, |item| item.count + 1)`
     pub fn update2<Q: Query<T::K2>, F: FnOnce(&T) -> T::Data>(&mut self, query: Q, f: F) -> bool
@@ -72,7 +72,7 @@ impl<T: TriHashItemMut, S: BuildHasher> TriHashMap<T, S> {
     /// Calls `f` with the item with the third key that the query stands for, and stores what it returns as the item's
     /// data. Returns whether there is such an item. If not, `f` is not called, and nothing changes.
     ///
-    /// No memory is allocated. The call costs what `get3` costs.
+    /// The call allocates no memory, and costs what `get3` costs.
     ///
     /// `map.update3(&key, |item| item.count + 1)`
     pub fn update3<Q: Query<T::K3>, F: FnOnce(&T) -> T::Data>(&mut self, query: Q, f: F) -> bool
@@ -100,7 +100,7 @@ impl<T: TriHashItemMut, S: BuildHasher> TriHashMap<T, S> {
     /// Calls `f` with the item that has all keys that the queries stand for, and stores what it returns as the item's
     /// data. Returns whether there is such an item. If not, `f` is not called, and nothing changes.
     ///
-    /// No memory is allocated. The call costs what `get_unique` costs.
+    /// The call allocates no memory, and costs what `get_unique` costs.
     pub fn update_unique<
         Q1: Query<T::K1>,
         Q2: Query<T::K2>,
@@ -131,7 +131,7 @@ impl<T: TriHashItemMut, S: BuildHasher> TriHashMap<T, S> {
 
     /// Calls `f` once with each item, in unspecified order, and stores what it returns as the item's data.
     ///
-    /// No memory is allocated, and no key is compared or hashed.
+    /// The call allocates no memory, and compares and hashes no key.
     ///
     /// `map.update_all(|session| session.seen.wrapping_add(1))`
     pub fn update_all<F: FnMut(&T) -> T::Data>(&mut self, mut f: F)

@@ -21,7 +21,7 @@ impl<T: TriHashItem, S: BuildHasher> TriHashMap<T, S> {
     /// item's data can be written, as by `*guard.data_mut() = data`, and the item can be replaced by one with equal
     /// keys.
     ///
-    /// At most as many keys are compared as items have the query's hash at the first rank. No memory is allocated.
+    /// The call compares at most as many keys as items have the query's hash at the first rank. It allocates no memory.
     pub fn get1_mut<Q: Query<T::K1>>(&mut self, query: Q) -> Option<RefMut<'_, T, S>>
         ensures found { IsOnly (has1 T.TriHashItem Q.stands_for query) (bag self.old) (option_and_then ref_item result) }
         ensures unchanged { IfSome result (λ r. ref_map r ≡ self.old) }
@@ -37,7 +37,8 @@ impl<T: TriHashItem, S: BuildHasher> TriHashMap<T, S> {
     /// item's data can be written, as by `*guard.data_mut() = data`, and the item can be replaced by one with equal
     /// keys.
     ///
-    /// At most as many keys are compared as items have the query's hash at the second rank. No memory is allocated.
+    /// The call compares at most as many keys as items have the query's hash at the second rank. It allocates no
+    /// memory.
     pub fn get2_mut<Q: Query<T::K2>>(&mut self, query: Q) -> Option<RefMut<'_, T, S>>
         ensures found { IsOnly (has2 T.TriHashItem Q.stands_for query) (bag self.old) (option_and_then ref_item result) }
         ensures unchanged { IfSome result (λ r. ref_map r ≡ self.old) }
@@ -53,7 +54,7 @@ impl<T: TriHashItem, S: BuildHasher> TriHashMap<T, S> {
     /// item's data can be written, as by `*guard.data_mut() = data`, and the item can be replaced by one with equal
     /// keys.
     ///
-    /// At most as many keys are compared as items have the query's hash at the third rank. No memory is allocated.
+    /// The call compares at most as many keys as items have the query's hash at the third rank. It allocates no memory.
     pub fn get3_mut<Q: Query<T::K3>>(&mut self, query: Q) -> Option<RefMut<'_, T, S>>
         ensures found { IsOnly (has3 T.TriHashItem Q.stands_for query) (bag self.old) (option_and_then ref_item result) }
         ensures unchanged { IfSome result (λ r. ref_map r ≡ self.old) }
@@ -67,7 +68,7 @@ impl<T: TriHashItem, S: BuildHasher> TriHashMap<T, S> {
 
     /// Returns a guard of the item that has all keys that the queries stand for, or `None`.
     ///
-    /// As many keys are compared as by `get1_mut`, and the other keys of the item found. No memory is allocated.
+    /// The call compares as many keys as `get1_mut`, and the other keys of the item found. It allocates no memory.
     pub fn get_mut_unique<Q1: Query<T::K1>, Q2: Query<T::K2>, Q3: Query<T::K3>>(
         &mut self,
         query1: Q1,
@@ -86,8 +87,8 @@ impl<T: TriHashItem, S: BuildHasher> TriHashMap<T, S> {
     }
 
     /// Returns a guard of the next item of an iteration over the map, or `None` behind the last one. The cursor moves
-    /// on behind that item. Between two steps items may be written, but none may be inserted or removed. No memory is
-    /// allocated.
+    /// on behind that item. Between two steps a caller may write items, but not insert or remove any. The call
+    /// allocates no memory.
     ///
     /// ```text
     /// let mut at = Cursor::new();
@@ -113,8 +114,8 @@ impl<T: TriHashItem, S: BuildHasher> TriHashMap<T, S> {
         Some(RefMut { map: self, slot })
     }
 
-    /// Iterates over the items for writing: each item once, in unspecified order, one at a time. No memory is
-    /// allocated.
+    /// Iterates over the items for writing: each item once, in unspecified order, one at a time. The call allocates no
+    /// memory.
     ///
     /// ```text
     /// let mut items = map.iter_mut();

@@ -28,8 +28,8 @@ impl<T: TriHashItem, S: BuildHasher> Deref for RefMut<'_, T, S> {
 }
 
 impl<T: TriHashItemMut, S: BuildHasher> RefMut<'_, T, S> {
-    /// Returns the item's data, borrowed for writing, as in `*guard.data_mut() = data`. No key changes, and none is
-    /// compared or hashed.
+    /// Returns the item's data, borrowed for writing, as in `*guard.data_mut() = data`. No key changes, and the call
+    /// compares and hashes none.
     pub fn data_mut(&mut self) -> &mut T::Data
         ensures value { IfSome (ref_item self.old) (λ x. result.now ≡ T.data_of x) }
         ensures writes { (d : T.Data) → IfSome (ref_item self.old) (λ x.
@@ -49,7 +49,7 @@ impl<T: Ranked, S: BuildHasher> RefMut<'_, T, S> {
     /// Replaces the item by one with equal keys, and returns it. If the new item has another key, the error has the new
     /// item and names the lowest rank at which the keys differ. Nothing changes then.
     ///
-    /// The keys are compared rank by rank, up to the first that differs. None is hashed, and no memory is allocated.
+    /// The call compares the keys rank by rank, up to the first that differs. It hashes none, and allocates no memory.
     pub fn replace(&mut self, item: T) -> Result<T, KeyMismatch<T>>
         // The item that was borrowed is returned, and the new one, with equal keys, is in its place.
         ensures replaces { IfOk result (λ x. Replaces T.ranks self.old item x self.new) }
