@@ -5,8 +5,8 @@
 //!     frame FRAME               NUMBER FRAME VALUE | none
 //!     count                     how many pages are in the cache
 //!
-//! A page that is put in takes the place of those with its number or its frame, and of some other page where there
-//! are three. Any other line is answered by `bad line`.
+//! `put` inserts a page in place of those with its number or its frame, and of one other page if there are three. Any
+//! other line is answered by `bad line`.
 #![tactic(auto)]
 
 mod pages;

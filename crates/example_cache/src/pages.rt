@@ -1,4 +1,4 @@
-//! A cache of a bounded number of pages, each known by its number and by the frame that it is in.
+//! A cache of at most a fixed number of pages, each known by its number and by the frame that it is in.
 ghost use Rattle.std.specs.Prelude.{◌≡◌, ◌≤◌, ◌<◌, ◌++◌, ◌==◌, [], List, Option, length, IfOk, Contains, IsPermutation, option_copied};
 ghost use Rattle.std.specs.Option.{option_to_list};
 ghost use Rattle.iddqd_bi.specs.Bag.{IsOnly, over};
@@ -7,7 +7,7 @@ ghost use Rattle.iddqd_bi.specs.Map.{bag};
 use iddqd_bi::{BiHashItem, BiHashMap, Ranked, TryReserveError};
 use std::alloc::Global;
 
-/// A page in its frame, and what it holds.
+/// A page in its frame, with what it holds.
 #[derive(Clone, Copy)]
 pub struct Page {
     pub number: u64,
@@ -33,7 +33,7 @@ impl BiHashItem for Page {
     }
 }
 
-/// A cache of at most `limit` pages, all of whose memory was taken when it was made.
+/// A cache of at most `limit` pages. All of its memory is allocated when it is made.
 #[derive(Drop)]
 pub struct Cache {
     pages: BiHashMap<Page>,
@@ -44,7 +44,7 @@ pub struct Cache {
 }
 
 impl Cache {
-    /// An empty cache. This is the one call that takes memory.
+    /// Makes an empty cache. Only this call allocates memory.
     pub fn new(alloc: Global, limit: usize) -> Result<Self, TryReserveError>
         requires { 0 < limit }
         ensures empty { IfOk result (λ c. bag c.pages ≡ []) }
@@ -56,8 +56,8 @@ impl Cache {
         })
     }
 
-    /// Puts a page in, in the place of those with its number or its frame, and of some other page where the cache is
-    /// full. All others stay. It takes no memory and is never refused.
+    /// Inserts a page in place of those with its number or its frame, and of one other page if the cache is full. All
+    /// other pages stay. No memory is allocated, and the call never fails.
     pub fn put(&mut self, page: Page)
         ensures in_it { Contains (bag self.new.pages) page }
         ensures others { (gone : Option Page) × (rest : List Page)
@@ -72,26 +72,26 @@ impl Cache {
         make_place(&mut self.pages, self.limit);
         match self.pages.insert_overwrite(page) {
             Ok(_) => {}
-            // Below the capacity an overwrite is never refused, as the map's contract says.
+            // Below the capacity an overwrite never fails, as the map's contract says.
             Err(_) => unreachable!(),
         }
     }
 
-    /// The page of a number, if it is in the cache.
+    /// Returns the page with this number, if it is in the cache.
     pub fn page(&self, number: u64) -> Option<&Page>
         ensures { IsOnly (λ p. number == p.number) (bag self.now.pages) (option_copied result) }
     {
         self.pages.get1(&number)
     }
 
-    /// The page in a frame, if there is one.
+    /// Returns the page in this frame, if there is one.
     pub fn in_frame(&self, frame: u32) -> Option<&Page>
         ensures { IsOnly (λ p. frame == p.frame) (bag self.now.pages) (option_copied result) }
     {
         self.pages.get2(&frame)
     }
 
-    /// How many pages there are.
+    /// Returns how many pages there are.
     pub fn len(&self) -> usize
         ensures value { result ≡ length (bag self.now.pages) }
         ensures bounded { result ≤ self.now.limit }
@@ -100,7 +100,7 @@ impl Cache {
     }
 }
 
-/// Takes some page out where there are as many as there may be.
+/// Removes one page if there are as many as the limit allows.
 fn make_place(pages: &mut BiHashMap<Page>, limit: usize)
     requires some { 0 < limit }
     requires bounded { length (bag pages.old) ≤ limit }

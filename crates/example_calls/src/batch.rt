@@ -1,4 +1,4 @@
-//! Many items at once: all of them go in, or none.
+//! Inserting many items at once: all of them, or none.
 ghost use Rattle.std.specs.Prelude.{◌≡◌, ◌++◌, Some, take, IsPermutation, OnOk, OnErr, IfErr, slice_get};
 ghost use Rattle.iddqd_bi.specs.Bag.Building.{IsRefusedBehind};
 ghost use Rattle.iddqd_bi.specs.Map.{bag};
@@ -30,8 +30,8 @@ impl BiHashItem for Record {
     }
 }
 
-/// Why a batch was not loaded: the record in the way, how many stood before it in the batch, and whether it conflicts
-/// with one of these or of the map, or found no memory.
+/// Why a batch was not loaded: the record that was rejected, how many records stand before it in the batch, and whether
+/// it conflicts with one of these or of the map, or found no memory.
 #[derive(Drop)]
 pub struct Rejected {
     pub in_the_way: Record,
@@ -39,7 +39,7 @@ pub struct Rejected {
     pub reason: ExtendUniqueReason,
 }
 
-/// Loads a batch whole, or says which record is in the way.
+/// Loads a batch as a whole. If that fails, nothing is loaded, and the error says which record was rejected.
 pub fn load(records: &mut BiHashMap<Record>, batch: Vec<Record>) -> Result<(), Rejected>
     ensures all { OnOk result (IsPermutation (bag records.new) (batch.items ++ bag records.old)) }
     ensures none { OnErr result (IsPermutation (bag records.new) (bag records.old)) }

@@ -1,4 +1,4 @@
-//! A map whose hashes a builder of one's own makes. For keys that are spread by themselves, a number is its own hash.
+//! A map with a builder of hashers of your own. Here a number is its own hash, for keys that are spread by themselves.
 ghost use Rattle.std.specs.Prelude.{◌≡◌, [], slice_index_or};
 ghost use Rattle.std.specs.Int.{from_le_bytes};
 ghost use mir.Syntax.{w64};
@@ -8,11 +8,11 @@ use iddqd_bi::{BiHashItem, BiHashMap};
 use std::alloc::Global;
 use std::hash::{BuildHasher, Hasher};
 
-/// Gives a `u64` itself.
+/// A builder of hashers that gives each `u64` itself as its hash.
 #[derive(Clone, Copy)]
 pub struct OwnHash;
 
-/// A hasher of `OwnHash`: the number of the last eight bytes written.
+/// A hasher of `OwnHash`: the number that the first eight bytes of the last write make.
 #[derive(Clone, Copy)]
 pub struct OwnHasher {
     number: u64,
@@ -82,7 +82,7 @@ impl BiHashItem for Order {
     }
 }
 
-/// No orders yet.
+/// Makes a map without orders.
 pub fn no_orders(alloc: Global) -> BiHashMap<Order, OwnHash>
     ensures { bag result ≡ [] }
 {

@@ -1,11 +1,11 @@
-//! A copy of a map.
+//! Cloning a map.
 ghost use Rattle.std.specs.Prelude.{IfOk};
 ghost use Rattle.iddqd_bi.specs.Bag.{IsCopy};
 ghost use Rattle.iddqd_bi.specs.Map.{bag};
 
 use iddqd_bi::{BiHashItem, BiHashMap, TryReserveError};
 
-/// A currency, known by its number and by its place in a list, and what it is worth.
+/// The worth of a currency, known by the currency's number and by its place in a list.
 #[derive(Clone, Copy)]
 pub struct Rate {
     pub currency: u32,
@@ -31,7 +31,7 @@ impl BiHashItem for Rate {
     }
 }
 
-/// A copy of all rates, unless there is no memory for it.
+/// Returns a copy of all rates, or an error if there is no memory for it.
 pub fn backup(rates: &BiHashMap<Rate>) -> Result<BiHashMap<Rate>, TryReserveError>
     ensures { IfOk result (λ copy. IsCopy ⟦<Rate as Clone>⟧.is_clone (bag rates.now) (bag copy)) }
 {

@@ -1,4 +1,4 @@
-//! What two keys find, and what is done with it.
+//! Looking up two keys at once, and inserting or removing by what they find.
 ghost use Rattle.std.specs.Prelude.{◌≡◌, ◌≢◌, ◌<◌, ◌⊎◌, [], ◌∷◌, ◌++◌, length, IsOk, IsErrOf, IsPermutation, OnOk, OnErr};
 ghost use Rattle.iddqd_bi.specs.Bag.{clash, listing};
 ghost use Rattle.iddqd_bi.specs.Map.{IsFullFor, bag};
@@ -33,13 +33,13 @@ impl BiHashItem for Visit {
 /// Why a visit was not noted, with the visit.
 #[derive(Drop)]
 pub enum NotNoted {
-    /// Another has its number or its page.
+    /// Another visit has its number or its page.
     Occupied(Visit),
-    /// No other has, but the map is full and there was no memory to grow.
+    /// No other visit has one of them, but the map is full and there was no memory to grow.
     Memory(Visit),
 }
 
-/// Notes a visit where no other has its number or its page. Else it comes back, as it does where there is no memory.
+/// Notes a visit if no other has its number or its page. Otherwise, and if there is no memory, the error has the visit.
 pub fn note_visit(visits: &mut BiHashMap<Visit>, visit: Visit) -> Result<(), NotNoted>
     ensures noted { OnOk result (IsPermutation (bag visits.new) (visit ∷ bag visits.old)) }
     ensures granted { clash ⟦<Visit as Ranked>⟧.ranks (bag visits.old) visit ≡ []
@@ -63,7 +63,7 @@ pub fn note_visit(visits: &mut BiHashMap<Visit>, visit: Visit) -> Result<(), Not
     }
 }
 
-/// Takes out the visit with a number and then that of a page, which may be the same. Gives back those that there were.
+/// Removes the visit with this number and the visit of this page, which may be the same. Returns them in this order.
 pub fn take_visits(visits: &mut BiHashMap<Visit>, number: u64, page: u32) -> UpToTwo<Visit>
     ensures named { result ≡ listing (⟦<Visit as Ranked>⟧.key_tests number page) (bag visits.old) }
     ensures left { IsPermutation (bag visits.old) (result ++ bag visits.new) }

@@ -48,7 +48,7 @@ impl Model for Hub {
 }
 
 impl Hub {
-    /// A hub with nothing plugged in.
+    /// Makes a hub with nothing plugged in.
     pub fn new(alloc: Global) -> Self
         ensures { result ≡ [] }
     {
@@ -57,7 +57,7 @@ impl Hub {
         }
     }
 
-    /// Plugs a device in, or hands it back where its serial number or its port is taken, or memory is.
+    /// Plugs a device in, or returns it if its serial number or its port is taken, or if there is no memory.
     pub fn plug_in(&mut self, device: Device) -> Result<(), Device>
         ensures went_in { OnOk result (IsPermutation self.new (device ∷ self.old)) }
         ensures handed_back { IfErr result (λ d. d ≡ device) }
@@ -66,7 +66,7 @@ impl Hub {
         self.devices.insert_or_back(device)
     }
 
-    /// Takes out the device at a port, if there is one.
+    /// Unplugs the device at this port, and returns it, if there is one.
     pub fn unplug(&mut self, port: u16) -> Option<Device>
         ensures it { IsOnly (λ d. port == d.port) self.old result }
         ensures gone { IfSome result (λ d. IsPermutation self.old (d ∷ self.new)) }
@@ -75,14 +75,14 @@ impl Hub {
         self.devices.remove2(&port)
     }
 
-    /// The device at a port, if there is one.
+    /// Returns the device at this port, if there is one.
     pub fn at_port(&self, port: u16) -> Option<&Device>
         ensures { IsOnly (λ d. port == d.port) self.now (option_copied result) }
     {
         self.devices.get2(&port)
     }
 
-    /// How many devices are plugged in.
+    /// Returns how many devices are plugged in.
     pub fn len(&self) -> usize
         ensures { result ≡ length self.now }
     {

@@ -1,4 +1,4 @@
-//! What callers of the maps write, one module a need. docs/CALLING.md shows each of them whole.
+//! Callers of the maps, one module for each need. docs/CALLING.md and the pages that it names show each module whole.
 #![tactic(auto)]
 
 mod batch;

@@ -1,4 +1,4 @@
-//! A text as a key: it is held as a `String`, and asked for by a `&str`.
+//! A text as a key: items hold it as a `String`, and lookups take a `&str`.
 ghost use Rattle.std.specs.Prelude.{◌≡◌, ◌<◌, ◌∷◌, [], nat_eq, string_bytes, length, IsOk, IsPermutation, OnOk, OnErr, IfErr, IfSome, IfNone, option_copied};
 ghost use Rattle.std.specs.Cmp.Lexicographic.{pointwise};
 ghost use Rattle.iddqd_bi.specs.Bag.{IsOnly, clash};
@@ -31,7 +31,7 @@ impl BiHashItem for Symbol {
     }
 }
 
-/// Defines a symbol, or hands it back.
+/// Defines a symbol, or returns it.
 pub fn define(symbols: &mut BiHashMap<Symbol>, symbol: Symbol) -> Result<(), Symbol>
     ensures went_in { OnOk result (IsPermutation (bag symbols.new) (symbol ∷ bag symbols.old)) }
     ensures granted { clash ⟦<Symbol as Ranked>⟧.ranks (bag symbols.old) symbol ≡ []
@@ -42,14 +42,14 @@ pub fn define(symbols: &mut BiHashMap<Symbol>, symbol: Symbol) -> Result<(), Sym
     symbols.insert_or_back(symbol)
 }
 
-/// The symbol of a name, if there is one.
+/// Returns the symbol with this name, if there is one.
 pub fn resolve<'s>(symbols: &'s BiHashMap<Symbol>, name: &str) -> Option<&'s Symbol>
     ensures { IsOnly (λ s. pointwise nat_eq name.now (string_bytes s.name)) (bag symbols.now) (option_copied result) }
 {
     symbols.get1(name)
 }
 
-/// Takes the symbol of a name out, if there is one.
+/// Removes the symbol with this name, and returns it, if there is one.
 pub fn undefine(symbols: &mut BiHashMap<Symbol>, name: &str) -> Option<Symbol>
     ensures it { IsOnly (λ s. pointwise nat_eq name.now (string_bytes s.name)) (bag symbols.old) result }
     ensures gone { IfSome result (λ s. IsPermutation (bag symbols.old) (s ∷ bag symbols.new)) }

@@ -1,4 +1,4 @@
-//! Putting an item in the place of all that are in its way, and what that gives back.
+//! Inserting an item in place of all that conflict with it, and using the items that were removed.
 ghost use Rattle.std.specs.Prelude.{◌≡◌, [], IsPermutation, OnOk, OnErr, IfOk, IfErr, slice_get};
 ghost use Rattle.iddqd_bi.specs.Bag.{order, over};
 ghost use Rattle.iddqd_bi.specs.Map.{IsFullFor, bag};
@@ -31,7 +31,7 @@ impl BiHashItem for Guest {
     }
 }
 
-/// A house with nobody in it, and with memory for so many guests.
+/// Opens a house without guests, with memory for as many guests as rooms.
 pub fn open_house(alloc: Global, rooms: usize) -> Result<BiHashMap<Guest>, AllocError>
     ensures empty { IfOk result (λ guests. bag guests ≡ []) }
     ensures rooms { IfOk result (λ guests. guests.capacity ≡ rooms) }
@@ -40,8 +40,8 @@ pub fn open_house(alloc: Global, rooms: usize) -> Result<BiHashMap<Guest>, Alloc
     Ok(guests)
 }
 
-/// Checks a guest in. Whoever has the passport or the room is checked out and given back, first the one with the
-/// passport.
+/// Checks a guest in. Whoever has the passport or the room is checked out and returned, the one with the passport
+/// first.
 pub fn check_in(
     guests: &mut BiHashMap<Guest>,
     guest: Guest,
@@ -56,7 +56,7 @@ pub fn check_in(
     guests.insert_overwrite(guest)
 }
 
-/// The first of those that were checked out, if there is one.
+/// Returns the first of those that were checked out, if there is one.
 pub fn first_gone(gone: UpToTwo<Guest>) -> Option<Guest>
     ensures { result ≡ slice_get gone 0 }
 {
@@ -64,7 +64,7 @@ pub fn first_gone(gone: UpToTwo<Guest>) -> Option<Guest>
     gone.pop_front()
 }
 
-/// The highest of the rooms that those who were checked out had.
+/// Returns the highest room of those that were checked out, if there is one.
 pub fn highest_room(gone: &UpToTwo<Guest>) -> Option<u32> {
     let mut highest = None;
     for guest in gone {

@@ -1,4 +1,4 @@
-//! A key of two parts, and an item of which a part can be written.
+//! A struct as a key, and an item with data that can be written.
 ghost use Rattle.std.specs.Prelude.{◌≡◌, ◌==◌, Some, None, IsPermutation, option_copied};
 ghost use Rattle.std.proofs.Common.{rules};
 ghost use Rattle.iddqd_bi.specs.Bag.{IsOnly, swap};
@@ -13,7 +13,7 @@ pub struct Peer {
     pub port: u16,
 }
 
-/// A session, known by its token and by its peer, and when it was seen last.
+/// A session, known by its token and by its peer, with the time at which it was last seen.
 #[derive(Drop)]
 pub struct Session {
     pub token: u64,
@@ -57,14 +57,14 @@ impl BiHashItemMut for Session {
     }
 }
 
-/// The session with a peer, if there is one.
+/// Returns the session with this peer, if there is one.
 pub fn with_peer<'s>(sessions: &'s BiHashMap<Session>, peer: &Peer) -> Option<&'s Session>
     ensures { IsOnly (λ s. ⟦<Peer as PartialEq>⟧.eq peer.now s.peer) (bag sessions.now) (option_copied result) }
 {
     sessions.get2(peer)
 }
 
-/// Notes when the session with a token was seen, if there is one.
+/// Notes when the session with this token was last seen, if there is one.
 pub fn touch(sessions: &mut BiHashMap<Session>, token: u64, now: u64)
     ensures present { (s : Session) → IsOnly (λ s. token == s.token) (bag sessions.old) (Some s)
         → IsPermutation (bag sessions.new)

@@ -1,4 +1,4 @@
-//! An insert, and each of its refusals.
+//! An insert, and what to do with its error.
 ghost use Rattle.std.specs.Prelude.{◌≡◌, ◌≢◌, [], ◌∷◌, length, IsPermutation, OnOk, OnErr, IfErr};
 ghost use Rattle.iddqd_bi.specs.Bag.{clash, order};
 ghost use Rattle.iddqd_bi.specs.Map.{IsFullFor, bag};
@@ -30,7 +30,7 @@ impl BiHashItem for Line {
     }
 }
 
-/// A line that was not connected, and why, with the number of lines in its way.
+/// A line that was not connected, with the reason, and with the number of lines that conflict with it.
 #[derive(Drop)]
 pub struct Refused {
     pub line: Line,
@@ -38,7 +38,7 @@ pub struct Refused {
     pub reason: InsertReason,
 }
 
-/// Connects a line whose number and desk are free.
+/// Connects a line if its number and its desk are free.
 pub fn connect(lines: &mut BiHashMap<Line>, line: Line) -> Result<(), Refused>
     ensures connected { OnOk result (IsPermutation (bag lines.new) (line ∷ bag lines.old)) }
     ensures unchanged { OnErr result (lines.new ≡ lines.old) }

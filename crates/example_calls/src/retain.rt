@@ -1,10 +1,10 @@
-//! Keeping some of the items.
+//! Keeping only some of the items.
 ghost use Rattle.std.specs.Prelude.{filter, nat_le, IsPermutation};
 ghost use Rattle.iddqd_bi.specs.Map.{bag};
 
 use iddqd_bi::{BiHashItem, BiHashMap};
 
-/// A lease of an address by a machine, and until when.
+/// A lease of an address by a machine, with the time at which it runs out.
 #[derive(Drop)]
 pub struct Lease {
     pub address: u32,

@@ -1,4 +1,4 @@
-//! A map whose hashes strangers can't choose: its seed is random.
+//! A map with a random seed, for keys that strangers choose: they cannot foresee which keys have equal hashes.
 ghost use Rattle.std.specs.Prelude.{◌≡◌, [], IfOk};
 ghost use Rattle.iddqd_bi.specs.Map.{bag};
 
@@ -32,7 +32,7 @@ impl BiHashItem for Login {
     }
 }
 
-/// No logins yet, under a seed that is drawn now.
+/// Makes a map without logins, with a seed that is drawn now.
 pub fn no_logins(
     rt: &(impl AllocGlobal + RandomSource),
 ) -> io::Result<BiHashMap<Login, RandomState>>

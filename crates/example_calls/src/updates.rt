@@ -1,4 +1,4 @@
-//! Writing by functions, with two fields that may be written.
+//! Updating items by closures, where two fields can be written.
 ghost use Rattle.std.specs.Prelude.{◌≡◌, ◌==◌, true, false, map, Some, IsPermutation};
 ghost use Rattle.std.proofs.Common.{rules};
 ghost use Rattle.iddqd_bi.specs.Bag.{IsOnly, swap};
@@ -6,7 +6,7 @@ ghost use Rattle.iddqd_bi.specs.Map.{bag};
 
 use iddqd_bi::{BiHashItem, BiHashItemMut, BiHashMap, Ranked};
 
-/// When and at which door a card was used last.
+/// When and at which door a card was last used.
 #[derive(Clone, Copy)]
 pub struct LastUse {
     pub time: u64,
@@ -57,7 +57,7 @@ impl BiHashItemMut for Card {
     }
 }
 
-/// Notes that a card was used, and says whether there is such a card.
+/// Notes that a card was used, and returns whether there is such a card.
 pub fn note_use(cards: &mut BiHashMap<Card>, number: u64, time: u64, door: u32) -> bool
     ensures noted { result ≡ true → (c : Card) × IsOnly (λ c. number == c.number) (bag cards.old) (Some c)
         × IsPermutation (bag cards.new) (swap ⟦<Card as Ranked>⟧.ranks (bag cards.old) c

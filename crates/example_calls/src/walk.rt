@@ -1,11 +1,11 @@
-//! Going over all items.
+//! Iterating over all items.
 ghost use Rattle.std.specs.Prelude.{◌≡◌, length, nat_lt};
 ghost use Rattle.std.specs.List.{list_any};
 ghost use Rattle.iddqd_bi.specs.Map.{bag};
 
 use iddqd_bi::{BiHashItem, BiHashMap};
 
-/// A sensor, known by its number and by its place, and how hot it is there.
+/// A sensor, known by its number and by its place, with the heat that it measured.
 #[derive(Drop)]
 pub struct Sensor {
     pub number: u64,
@@ -31,21 +31,21 @@ impl BiHashItem for Sensor {
     }
 }
 
-/// How many sensors there are, counted one by one.
+/// Returns how many sensors there are, counted one by one.
 pub fn count(sensors: &BiHashMap<Sensor>) -> usize
     ensures { result ≡ length (bag sensors.now) }
 {
     sensors.iter().count()
 }
 
-/// Whether some sensor is hotter than this.
+/// Returns whether some sensor is hotter than this.
 pub fn is_any_hotter(sensors: &BiHashMap<Sensor>, heat: u32) -> bool
     ensures { result ≡ list_any (λ s. nat_lt heat s.heat) (bag sensors.now) }
 {
     sensors.iter().any(|sensor| sensor.heat > heat)
 }
 
-/// The heat of all sensors together, as far as a number of 32 bits holds it.
+/// Returns the sum of all sensors' heat, or the largest `u32` if the sum is larger.
 pub fn sum_of_heat(sensors: &BiHashMap<Sensor>) -> u32 {
     let mut sum: u32 = 0;
     for sensor in sensors {

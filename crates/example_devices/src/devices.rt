@@ -1,5 +1,5 @@
 //! Devices, each known by its serial number and by the port that it is plugged into, up to a limit. The memory for all
-//! of them is taken at the start, so nothing after it can lack memory.
+//! of them is allocated at the start, so that no later call can run out of memory.
 ghost use Rattle.std.specs.Prelude.{◌≡◌, ◌∷◌, ◌==◌, [], List, true, false, length, IsPermutation, IsErrOf, OnOk, OnErr, IfOk, IfSome, IfNone, option_copied};
 ghost use Rattle.std.specs.List.{list_any};
 ghost use Rattle.iddqd_bi.specs.Bag.{IsOnly};
@@ -36,11 +36,11 @@ impl BiHashItem for Device {
 /// Why a device was not plugged in.
 #[derive(Clone, Copy)]
 pub enum PlugError {
-    /// A device with its serial number is plugged in.
+    /// A device with this serial number is plugged in.
     SerialTaken,
-    /// Its port has a device.
+    /// The port has a device.
     PortTaken,
-    /// Neither is so, but there are as many devices as the limit allows.
+    /// The serial number and the port are free, but there are as many devices as the limit allows.
     Full,
 }
 
@@ -49,11 +49,11 @@ pub enum PlugError {
 pub enum MoveError {
     /// No device has the serial number.
     NoDevice,
-    /// The port has a device, be it this one.
+    /// The port has a device, which may be this one.
     PortTaken,
 }
 
-/// No devices yet, and room for as many as the limit says.
+/// Makes a map without devices, in which as many fit as the limit says.
 pub fn with_limit(alloc: Global, limit: usize) -> Result<BiHashMap<Device>, TryReserveError>
     ensures empty { IfOk result (λ devices. bag devices ≡ []) }
     ensures limit { IfOk result (λ devices. devices.capacity ≡ limit) }
@@ -61,7 +61,7 @@ pub fn with_limit(alloc: Global, limit: usize) -> Result<BiHashMap<Device>, TryR
     BiHashMap::with_capacity(alloc, limit)
 }
 
-/// Plugs a device in where its serial number and its port are free and the limit allows it.
+/// Plugs a device in if its serial number and its port are free and the limit allows it.
 pub fn plug_in(devices: &mut BiHashMap<Device>, device: Device) -> Result<(), PlugError>
     ensures went_in { OnOk result (IsPermutation (bag devices.new) (device ∷ bag devices.old)) }
     ensures unchanged { OnErr result (devices.new ≡ devices.old) }
@@ -83,12 +83,12 @@ pub fn plug_in(devices: &mut BiHashMap<Device>, device: Device) -> Result<(), Pl
     }
     match devices.insert_or_back(device) {
         Ok(()) => Ok(()),
-        // Nothing is in its way, and below its capacity a map needs no memory.
+        // Nothing conflicts with the device, and a map below its capacity needs no memory.
         Err(_) => unreachable!(),
     }
 }
 
-/// Takes out the device with a serial number, if there is one.
+/// Removes the device with this serial number, and returns it, if there is one.
 pub fn unplug(devices: &mut BiHashMap<Device>, serial: u64) -> Option<Device>
     ensures it { IsOnly (λ d. serial == d.serial) (bag devices.old) result }
     ensures gone { IfSome result (λ d. IsPermutation (bag devices.old) (d ∷ bag devices.new)) }
@@ -98,21 +98,21 @@ pub fn unplug(devices: &mut BiHashMap<Device>, serial: u64) -> Option<Device>
     devices.remove1(&serial)
 }
 
-/// The device at a port, if there is one.
+/// Returns the device at this port, if there is one.
 pub fn at_port(devices: &BiHashMap<Device>, port: u16) -> Option<&Device>
     ensures { IsOnly (λ d. port == d.port) (bag devices.now) (option_copied result) }
 {
     devices.get2(&port)
 }
 
-/// The device with a serial number, if there is one.
+/// Returns the device with this serial number, if there is one.
 pub fn by_serial(devices: &BiHashMap<Device>, serial: u64) -> Option<&Device>
     ensures { IsOnly (λ d. serial == d.serial) (bag devices.now) (option_copied result) }
 {
     devices.get1(&serial)
 }
 
-/// Moves the device with a serial number to a free port, and answers the port that it had. It needs no memory.
+/// Moves the device with this serial number to a free port, and returns the port that it had. No memory is allocated.
 pub fn move_to(devices: &mut BiHashMap<Device>, serial: u64, port: u16) -> Result<u16, MoveError>
     ensures moved { IfOk result (λ had. (others : List Device)
         × IsPermutation (bag devices.old) (record { serial = serial; port = had } ∷ others)
@@ -127,7 +127,7 @@ pub fn move_to(devices: &mut BiHashMap<Device>, serial: u64, port: u16) -> Resul
     if devices.contains_key2(&port) {
         return Err(MoveError::PortTaken);
     }
-    // No two devices have the same keys, and all of them fit: what the two calls promise.
+    // These calls give the prover two facts: no two devices have equal keys, and all of them fit.
     let _len = devices.len();
     let _room = devices.capacity();
     let Some(device) = devices.remove1(&serial) else {
@@ -135,7 +135,7 @@ pub fn move_to(devices: &mut BiHashMap<Device>, serial: u64, port: u16) -> Resul
     };
     match devices.insert_or_back(Device { serial, port }) {
         Ok(()) => Ok(device.port),
-        // The port is free, and the place that the device left has room.
+        // The port is free, and removing the device has left spare capacity.
         Err(_) => unreachable!(),
     }
 }

@@ -30,7 +30,7 @@ enum Command {
     Count,
 }
 
-/// What the words of a line ask for, if they ask for anything.
+/// Returns what the words of a line ask for, if they ask for anything.
 fn parse(words: &[&str]) -> Option<Command> {
     Some(match words {
         ["plug", serial, port] => Command::Plug(Device {
@@ -46,7 +46,7 @@ fn parse(words: &[&str]) -> Option<Command> {
     })
 }
 
-/// Carries a command out, and prints the answer.
+/// Carries out a command, and prints the answer.
 fn answer(rt: &impl Print, devices: &mut BiHashMap<Device>, command: Command) -> io::Result<()> {
     match command {
         Command::Plug(device) => rt.println(match plug_in(devices, device) {

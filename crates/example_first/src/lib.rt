@@ -32,7 +32,7 @@ impl BiHashItem for Device {
     }
 }
 
-/// Plugs a device in, or hands it back where its serial number or its port is taken, or memory is.
+/// Plugs a device in, or returns it if its serial number or its port is taken, or if there is no memory.
 pub fn plug_in(devices: &mut BiHashMap<Device>, device: Device) -> Result<(), Device>
     ensures went_in { OnOk result (IsPermutation (bag devices.new) (device ∷ bag devices.old)) }
     ensures granted { clash ⟦<Device as Ranked>⟧.ranks (bag devices.old) device ≡ []
@@ -43,7 +43,7 @@ pub fn plug_in(devices: &mut BiHashMap<Device>, device: Device) -> Result<(), De
     devices.insert_or_back(device)
 }
 
-/// The device at a port, if there is one.
+/// Returns the device at this port, if there is one.
 pub fn at_port(devices: &BiHashMap<Device>, port: u16) -> Option<&Device>
     ensures { IsOnly (λ d. port == d.port) (bag devices.now) (option_copied result) }
 {

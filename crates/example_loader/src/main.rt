@@ -1,9 +1,9 @@
 //! Reads batches of lines `ID,MAIL,YEAR`, each batch up to an empty line or to the end of the input, and answers each:
 //!
-//!     loaded N              all its N records went in
-//!     line N: bad record    its line N is no record, and none of its records went in
-//!     line N: duplicate     a record before its line N has that id or that mail, and none went in
-//!     line N: no memory     there was no memory for its line N, and none went in
+//!     loaded N              all its N records were inserted
+//!     line N: bad record    its line N is no record, and nothing was inserted
+//!     line N: duplicate     a record before its line N has that id or that mail; nothing was inserted
+//!     line N: no memory     there was no memory for its line N, and nothing was inserted
 //!
 //! At the end it prints how many records there are.
 #![tactic(auto)]
@@ -16,7 +16,7 @@ use crate::text::{Problem, load_text};
 use iddqd_bi::BiHashMap;
 use std::io;
 
-/// Loads the batch of a text, and prints how that went.
+/// Loads the batch of a text, and prints the outcome.
 fn answer(
     rt: &(impl Print + AllocGlobal),
     records: &mut BiHashMap<Record>,

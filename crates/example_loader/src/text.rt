@@ -1,4 +1,4 @@
-//! Batches as text, a record a line.
+//! Batches as texts, with one record in each line.
 ghost use Rattle.std.specs.Prelude.{◌≡◌, ◌++◌, List, length, IsPermutation, IfOk, OnErr};
 ghost use Rattle.iddqd_bi.specs.Map.{bag};
 
@@ -17,15 +17,15 @@ pub struct Fault {
 /// What is wrong with a line.
 #[derive(Clone, Copy)]
 pub enum Problem {
-    /// It is no record.
+    /// The line is no record.
     Bad,
-    /// A record before it, of the text or loaded earlier, has its number or its mail address.
+    /// A record before it, in the text or loaded earlier, has its number or its mail address.
     Duplicate,
-    /// There is no memory for it.
+    /// There is no memory for the record.
     Memory,
 }
 
-/// So that `?` says which line a batch was rejected for.
+/// Lets `?` tell the line for which a batch was rejected.
 impl From<Rejected> for Fault {
     fn from(rejected: Rejected) -> Fault {
         Fault {
@@ -38,7 +38,7 @@ impl From<Rejected> for Fault {
     }
 }
 
-/// What is wrong with a line that was not read as a record.
+/// Returns what is wrong with a line that was not read as a record.
 fn problem_of(error: &Error) -> Problem {
     match error.kind() {
         ErrorKind::OutOfMemory => Problem::Memory,
@@ -50,7 +50,7 @@ fn problem_of(error: &Error) -> Problem {
     }
 }
 
-/// The records of a text.
+/// Returns the records of a text.
 fn batch_of(alloc: Global, text: &str) -> Result<Vec<Record>, Fault> {
     let mut batch = Vec::new(alloc);
     let mut reader = ReaderBuilder::new()
@@ -65,7 +65,7 @@ fn batch_of(alloc: Global, text: &str) -> Result<Vec<Record>, Fault> {
     Ok(batch)
 }
 
-/// Loads the records of a text, and answers how many they are. Where one of them can't go in, none does.
+/// Loads the records of a text, and returns how many they are. If one of them cannot be inserted, none is.
 pub fn load_text(alloc: Global, records: &mut BiHashMap<Record>, text: &str) -> Result<usize, Fault>
     ensures all { IfOk result (λ count. (batch : List Record) × (length batch ≡ count)
         × IsPermutation (bag records.new) (batch ++ bag records.old)) }

@@ -7,8 +7,8 @@
 //!     expire SINCE                   ok
 //!     count                          how many sessions are open
 //!
-//! Each of these is a number. `open` closes the session with the number, the one with the token and the one with the
-//! peer, in this order. Any other line is answered by `bad line`.
+//! Each word in capitals is a number. `open` closes the session with the number, the one with the token and the one
+//! with the peer, in this order. Any other line is answered by `bad line`.
 #![tactic(auto)]
 
 mod sessions;
@@ -57,7 +57,7 @@ fn answer(rt: &(impl Print + AllocGlobal), sessions: &mut Sessions, line: &str) 
     }
 }
 
-/// Where there is no memory for the session, the error says so and the program ends.
+/// If there is no memory for the session, the error says so, and the program ends.
 fn answer_open(rt: &impl Print, sessions: &mut Sessions, session: Session) -> io::Result<()> {
     for closed in open(sessions, session)? {
         let id = closed.id;

@@ -14,7 +14,7 @@ pub struct Peer {
     pub port: u16,
 }
 
-/// A session, and when it was seen last.
+/// A session, with the time at which it was last seen.
 #[derive(Drop)]
 pub struct Session {
     pub id: u32,
@@ -69,11 +69,11 @@ impl TriHashItemMut for Session {
     }
 }
 
-/// The open sessions. Strangers choose the tokens and the peers, so the seed of the hashes is random: with a fixed one they
-/// could choose keys that share a home in the table, and each look-up would walk over them all.
+/// The open sessions. Strangers choose the tokens and the peers, so the hashes have a random seed. With a fixed seed,
+/// strangers could choose keys with the same home bucket in the table, and each lookup would probe them all.
 pub type Sessions = TriHashMap<Session, RandomState>;
 
-/// Opens a session. Those with its number, its token or its peer are closed, and given back in this order.
+/// Opens a session. The sessions with its number, its token or its peer are closed, and returned in this order.
 pub fn open(
     sessions: &mut Sessions,
     session: Session,
@@ -88,21 +88,21 @@ pub fn open(
     sessions.insert_overwrite(session)
 }
 
-/// The session with a token, if there is one.
+/// Returns the session with this token, if there is one.
 pub fn by_token(sessions: &Sessions, token: u64) -> Option<&Session>
     ensures { IsOnly (λ s. token == s.token) (bag sessions.now) (option_copied result) }
 {
     sessions.get2(&token)
 }
 
-/// The session with a peer, if there is one.
+/// Returns the session with this peer, if there is one.
 pub fn with_peer<'s>(sessions: &'s Sessions, peer: &Peer) -> Option<&'s Session>
     ensures { IsOnly (λ s. ⟦<Peer as PartialEq>⟧.eq peer.now s.peer) (bag sessions.now) (option_copied result) }
 {
     sessions.get3(peer)
 }
 
-/// Notes when the session with a token was seen, and says whether there is one.
+/// Notes when the session with this token was last seen, and returns whether there is one.
 pub fn touch(sessions: &mut Sessions, token: u64, now: u64) -> bool
     ensures present { (s : Session) → IsOnly (λ s. token == s.token) (bag sessions.old) (Some s)
         → IsPermutation (bag sessions.new)
@@ -120,14 +120,14 @@ pub fn touch(sessions: &mut Sessions, token: u64, now: u64) -> bool
     }
 }
 
-/// Closes the sessions that were not seen since.
+/// Closes the sessions that have not been seen since this time.
 pub fn expire(sessions: &mut Sessions, since: u64)
     ensures { IsPermutation (bag sessions.new) (filter (λ s. nat_le since s.seen) (bag sessions.old)) }
 {
     sessions.retain(|session| session.seen >= since);
 }
 
-/// How many sessions are open.
+/// Returns how many sessions are open.
 pub fn count(sessions: &Sessions) -> usize
     ensures { result ≡ length (bag sessions.now) }
 {

@@ -61,7 +61,7 @@ fn answer_define(
         name: name.to_string(rt.alloc())?,
         address,
     };
-    // With room made first, a symbol that comes back is one whose name or address is taken.
+    // Since capacity is reserved first, a symbol that is returned is one whose name or address is taken.
     symbols.reserve(1)?;
     match define(symbols, symbol) {
         Ok(()) => rt.println("ok"),

@@ -31,8 +31,8 @@ impl BiHashItem for Symbol {
     }
 }
 
-/// Defines a symbol, or hands it back. With room for one more it comes back only where its name or its address is
-/// taken.
+/// Defines a symbol, or returns it. If there is spare capacity for one more, it is returned only if its name or its
+/// address is taken.
 pub fn define(symbols: &mut BiHashMap<Symbol>, symbol: Symbol) -> Result<(), Symbol>
     ensures went_in { OnOk result (IsPermutation (bag symbols.new) (symbol ∷ bag symbols.old)) }
     ensures free { OnOk result (clash ⟦<Symbol as Ranked>⟧.ranks (bag symbols.old) symbol ≡ []) }
@@ -44,21 +44,21 @@ pub fn define(symbols: &mut BiHashMap<Symbol>, symbol: Symbol) -> Result<(), Sym
     symbols.insert_or_back(symbol)
 }
 
-/// The symbol of a name, if there is one.
+/// Returns the symbol with this name, if there is one.
 pub fn resolve<'s>(symbols: &'s BiHashMap<Symbol>, name: &str) -> Option<&'s Symbol>
     ensures { IsOnly (λ s. pointwise nat_eq name.now (string_bytes s.name)) (bag symbols.now) (option_copied result) }
 {
     symbols.get1(name)
 }
 
-/// The symbol at an address, if there is one.
+/// Returns the symbol at this address, if there is one.
 pub fn at_address(symbols: &BiHashMap<Symbol>, address: u64) -> Option<&Symbol>
     ensures { IsOnly (λ s. address == s.address) (bag symbols.now) (option_copied result) }
 {
     symbols.get2(&address)
 }
 
-/// Takes the symbol of a name out, if there is one.
+/// Removes the symbol with this name, and returns it, if there is one.
 pub fn undefine(symbols: &mut BiHashMap<Symbol>, name: &str) -> Option<Symbol>
     ensures it { IsOnly (λ s. pointwise nat_eq name.now (string_bytes s.name)) (bag symbols.old) result }
     ensures gone { IfSome result (λ s. IsPermutation (bag symbols.old) (s ∷ bag symbols.new)) }

@@ -1,4 +1,4 @@
-//! Commands on a map, as values, and what takes their replies.
+//! The calls of a map as values (commands), their replies, and what receives the replies.
 ghost use Rattle.std.specs.Prelude.{Result};
 ghost use Rattle.iddqd_store.specs.Runs.Reply.{Reply};
 ghost use Rattle.iddqd_store.specs.Runs.Values.{value_of};
@@ -6,7 +6,7 @@ ghost use Rattle.iddqd_store.specs.Runs.Values.{value_of};
 use crate::item::BiHashItemMut;
 use iddqd_store::{MapReply, UpToTwo};
 
-/// A call of the map, as a value.
+/// A call of the map as a value, for `apply` and `run`.
 #[derive(Drop)]
 pub enum BiCommand<T: BiHashItemMut> {
     /// `insert_unique`.
@@ -43,37 +43,39 @@ pub enum BiCommand<T: BiHashItemMut> {
     Len,
     /// `iter`.
     Items,
-    /// `extend` with these items, in order.
+    /// `extend` by these items, in order.
     Extend(Vec<T>),
-    /// `extend_unique` with these items, in order.
+    /// `extend_unique` by these items, in order.
     ExtendUnique(Vec<T>),
-    /// `insert` of the `entry` of these keys, vacant or occupied.
+    /// `entry` of these keys, and then its `insert`, whether it is vacant or occupied.
     EntryInsert(T::K1, T::K2, T),
-    /// `remove` of the `entry` of these keys, if it is occupied.
+    /// `entry` of these keys, and then its `remove`, if it is occupied.
     EntryRemove(T::K1, T::K2),
-    /// `or_insert` of the `entry` of these keys.
+    /// `entry` of these keys, and then its `or_insert`.
     OrInsert(T::K1, T::K2, T),
-    /// `replace` of the item with this first key.
+    /// `replace` by this item, on the guard of the item with this first key.
     Replace1(T::K1, T),
-    /// `replace` of the item with this second key.
+    /// `replace` by this item, on the guard of the item with this second key.
     Replace2(T::K2, T),
-    /// The item with this first key gets this data, through `data_mut`.
+    /// Writes this data through `data_mut`, on the guard of the item with this first key.
     Set1(T::K1, T::Data),
-    /// The item with this second key gets this data, through `data_mut`.
+    /// Writes this data through `data_mut`, on the guard of the item with this second key.
     Set2(T::K2, T::Data),
 }
 
-/// What a command answers. It may lend items of the map.
+/// The reply to a command. It may borrow items of the map.
 pub type BiReply<'m, T> = MapReply<'m, T, <T as BiHashItemMut>::Data, UpToTwo<&'m T>, UpToTwo<T>>;
 
-/// What takes the replies of a run, one by one.
+/// What receives the replies of `apply` and `run`, one by one.
 pub trait BiSink<T: BiHashItemMut> {
+    /// What `take` returns to end a run.
     type Fault;
 
-    // From before, the sink may take the reply with this answer, and is after it then.
+    // `took before reply result after` holds if a sink in the state `before` may take this reply, return this result,
+    // and then be in the state `after`.
     ghost took: { Self → Reply T T.Data → Result (Unit {0}) Self.Fault → Self → Type 0 };
 
-    /// Takes a reply, or answers a fault, at which the run ends.
+    /// Takes a reply. An `Err` is a fault of the sink, at which a run ends.
     fn take(&mut self, reply: BiReply<'_, T>) -> Result<(), Self::Fault>
         ensures { took self.old (value_of reply.entry) result self.new };
 }

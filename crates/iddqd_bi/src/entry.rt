@@ -1,4 +1,4 @@
-//! What two keys find in a map, with the map.
+//! Entries: what a lookup of two keys at once found, with a borrow of the map.
 ghost use Rattle.std.specs.Prelude.{◌≡◌, []};
 ghost use Rattle.iddqd_store.specs.Bag.{listing};
 ghost use Rattle.iddqd_store.specs.Map.{bag, hash_of};
@@ -20,7 +20,7 @@ mod vacant;
 pub use keys::{KeyPair, Keys};
 pub use occupied_ref::OccupiedEntryRef;
 
-/// What two keys find in a map.
+/// What `entry` found: a vacant entry or an occupied one. It borrows the map.
 #[derive(Drop)]
 pub enum Entry<
     'a,
@@ -30,11 +30,12 @@ pub enum Entry<
 > {
     /// No item has one of the keys.
     Vacant(VacantEntry<'a, T, S, Q>),
-    /// One item has both keys, or there are items that have one of them.
+    /// At least one item has one of the keys. One item may have both keys.
     Occupied(OccupiedEntry<'a, T, S>),
 }
 
-/// Two keys that no item of the map has, with the empty cells at which the searches for them ended.
+/// An entry with two keys of which no item of the map has one. It keeps the empty cells at which the searches for them
+/// ended, so that an insert need not search again.
 #[derive(Drop)]
 pub struct VacantEntry<
     'a,
@@ -54,7 +55,7 @@ pub struct VacantEntry<
         (hash_of S.BuildHasher S.Hasher.Hasher map.now.builder (T.K2.hash_input (Q.second keys))) at },
 }
 
-/// Two keys, with the item that has both or the items that have one of them.
+/// An entry with two keys of which at least one is that of an item. It keeps the slot of each item that a key found.
 #[derive(Drop)]
 pub struct OccupiedEntry<'a, T: BiHashItem, S: BuildHasher = DefaultHashBuilder> {
     pub(crate) map: &'a mut BiHashMap<T, S>,
@@ -64,7 +65,7 @@ pub struct OccupiedEntry<'a, T: BiHashItem, S: BuildHasher = DefaultHashBuilder>
     pub(crate) slot2: Option<ItemIndex>,
 }
 
-/// The items that two keys found, lent for writing one at a time.
+/// The items that two keys found, borrowed for writing, one at a time.
 #[derive(Drop)]
 pub struct OccupiedEntryMut<'a, T: BiHashItem, S: BuildHasher = DefaultHashBuilder> {
     pub(crate) map: &'a mut BiHashMap<T, S>,

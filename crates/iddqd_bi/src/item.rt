@@ -1,4 +1,4 @@
-//! Items with two keys.
+//! The traits of items with two keys.
 ghost use Rattle.std.specs.Prelude.{◌≡◌, ℕ, true, refl, Bool, List, [], ◌∷◌};
 ghost use Rattle.std.specs.Borrow.{Lends, sem};
 ghost use Rattle.iddqd_store.specs.Bag.{Ranks};
@@ -6,42 +6,47 @@ ghost use Rattle.iddqd_store.specs.Rank.{agree, key_hash};
 
 use std::hash::{BuildHasher, Hash};
 
-/// An item with two keys, which depend on its value alone.
+/// An item with two keys. Its keys depend on its value alone.
 pub trait BiHashItem {
+    /// The type of the first key.
     type K1: Eq + Hash;
 
+    /// The type of the second key.
     type K2: Eq + Hash;
 
-    // The keys of an item.
+    // The keys of an item, as contracts see them.
     ghost key1: { Self → Self.K1 };
 
     ghost key2: { Self → Self.K2 };
 
-    /// The first key.
+    /// Returns the first key.
     fn key1(&self) -> &Self::K1
         ensures { result.now ≡ key1 self.now };
 
-    /// The second key.
+    /// Returns the second key.
     fn key2(&self) -> &Self::K2
         ensures { result.now ≡ key2 self.now };
 }
 
-/// An item that has data beside its keys, which can be written in place.
+/// An item with data beside its keys. A caller may write the data while the item is in a map, since its keys stay
+/// equal.
 pub trait BiHashItemMut: BiHashItem {
+    /// The type of the data that can be written.
     type Data;
 
-    // The data of an item.
+    // The data of an item, as contracts see it.
     ghost data_of: { Self → Self.Data };
 
-    // The item with other data.
+    // The item with this data in place of its own.
     ghost put: { Self → Self.Data → Self };
 
-    /// The data, for writing.
+    /// Returns the data, borrowed for writing.
     fn data_mut(&mut self) -> &mut Self::Data
         ensures value { result.now ≡ data_of self.old }
         ensures* writes_back { sem 𝓛 (Lends Self.row Self.Data.row self.entry result (put self.old)) };
 
-    // Each key of the item with other data equals its own.
+    // Laws that an implementation has to prove: with other data put in, the item's keys are equal to the old ones, and
+    // its data is what was put in.
     ghost keeps_key1: { (x : Self) (d : Self.Data) → Self.K1.eq (Self.key1 (put x d)) (Self.key1 x) ≡ true };
 
     ghost keeps_key2: { (x : Self) (d : Self.Data) → Self.K2.eq (Self.key2 (put x d)) (Self.key2 x) ≡ true };
@@ -49,12 +54,13 @@ pub trait BiHashItemMut: BiHashItem {
     ghost put_shows: { (x : Self) (d : Self.Data) → data_of (put x d) ≡ d };
 }
 
-/// What contracts say of all keys of an item. Each item has it, and none writes it.
+/// What contracts say of all keys of an item together. Every item type implements this trait by the blanket impl below,
+/// and nobody implements it by hand.
 pub trait Ranked: BiHashItem {
-    // For each rank, whether two items have equal keys.
+    // For each rank, the test whether two items have equal keys.
     ghost ranks: { Ranks Self };
 
-    // For each rank, whether an item has the key.
+    // For each rank, the test whether an item has the key of that rank.
     ghost key_tests: { Self.K1 → Self.K2 → List (Self → Bool) };
 
     ghost ranks_are: { ranks ≡ agree Self.key1 Self.K1.eq ∷ agree Self.key2 Self.K2.eq ∷ [] };
@@ -73,10 +79,10 @@ impl<T: BiHashItem> Ranked for T {
     ghost key_tests_are = { refl };
 }
 
-/// What contracts say of the hashes of an item's keys, where this builder makes the hashers. Each item has it, and none
-/// writes it.
+/// What contracts say of the hashes of an item's keys, for a builder of hashers. Every item type implements this trait
+/// by the blanket impl below, and nobody implements it by hand.
 pub trait Hashed<S: BuildHasher>: BiHashItem {
-    // The hash of each key, by a builder.
+    // The hash of each key of an item, under a builder.
     ghost hash1: { S → Self → ℕ };
 
     ghost hash2: { S → Self → ℕ };

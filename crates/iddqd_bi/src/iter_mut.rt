@@ -1,4 +1,4 @@
-//! A walk over the items of a map, for writing.
+//! Iterating over the items of a map for writing.
 ghost use Rattle.std.specs.Prelude.{◌≡◌};
 
 use crate::item::BiHashItem;
@@ -8,12 +8,12 @@ use std::hash::{BuildHasher, Hash};
 mod counts;
 mod methods;
 
-/// A walk over the items of a map, each lent once for writing.
+/// An iteration over the items of a map, which borrows each of them once for writing, one at a time.
 pub struct IterMut<'a, T: BiHashItem, S: BuildHasher = DefaultHashBuilder> {
     pub(crate) map: &'a mut BiHashMap<T, S>,
-    // The number of the first slot that the walk has not passed.
+    // The number of the first slot that the iteration has not passed.
     pub(crate) next: usize,
-    // How many items are to come, where no guard of `next_mut` left another map behind.
+    // How many items are left, unless a guard of `next_mut` left another map behind.
     pub(crate) left: usize,
 }
 

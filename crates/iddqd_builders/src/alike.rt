@@ -1,7 +1,7 @@
 //! A builder of hashers that gives every key the same hash.
 use std::hash::{BuildHasher, Hasher};
 
-/// Gives every key this hash.
+/// A builder of hashers that gives every key this hash.
 #[derive(Clone, Copy)]
 pub struct Alike {
     pub hash: u64,

@@ -1,4 +1,4 @@
-//! Builders of hashers for tests: one gives every key the same hash, one a number itself.
+//! Builders of hashers for tests. One gives every key the same hash, and one gives a number itself as its hash.
 #![tactic(auto)]
 
 mod alike;

@@ -1,15 +1,15 @@
-//! A builder of hashers that gives a `u64` itself as its hash.
+//! A builder of hashers that gives each `u64` itself as its hash.
 ghost use Rattle.std.specs.Prelude.{◌≡◌, slice_index_or};
 ghost use Rattle.std.specs.Int.{from_le_bytes};
 ghost use mir.Syntax.{w64};
 
 use std::hash::{BuildHasher, Hasher};
 
-/// Gives a `u64` itself.
+/// A builder of hashers that gives each `u64` itself as its hash.
 #[derive(Clone, Copy)]
 pub struct OwnHash;
 
-/// A hasher of `OwnHash`: the number of the last eight bytes written.
+/// A hasher of `OwnHash`: the number that the first eight bytes of the last write make.
 #[derive(Clone, Copy)]
 pub struct OwnHasher {
     number: u64,

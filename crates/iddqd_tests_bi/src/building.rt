@@ -4,7 +4,7 @@ use iddqd_bi::BiHashMap;
 use std::hash::{BuildHasher, RandomState};
 use std::test::*;
 
-/// Whether a map finds the rows that went in, and refuses one that has a key of each.
+/// Returns whether a map finds the rows that were inserted, and rejects a row that conflicts with both.
 fn holds<S: BuildHasher>(map: &mut BiHashMap<Row, S>) -> bool {
     let one = row_of(1, 10, 0);
     let two = row_of(2, 20, 0);

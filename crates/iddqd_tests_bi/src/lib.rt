@@ -1,4 +1,5 @@
-//! Tests of the map with two keys on other items than those of `iddqd_calls`, and what maps and errors print.
+//! Tests of the map with two keys on items of other types than that of `iddqd_calls`, and of what maps and errors
+//! print.
 #![tactic(auto)]
 
 mod row;

@@ -1,16 +1,16 @@
-//! Maps of references and boxes of items.
+//! Maps of references, boxes and reference-counted pointers to items.
 use crate::row::row_of;
 use iddqd_bi::{BiHashItem, BiHashItemMut, BiHashMap};
 use std::alloc::Global;
 use std::rc::Rc;
 use std::test::Fail;
 
-/// Whether a map finds an item by the keys 1 and 10.
+/// Returns whether a map finds an item by the keys 1 and 10.
 fn has_both<T: BiHashItem<K1 = u64, K2 = u64>>(map: &BiHashMap<T>) -> bool {
     map.contains_key1(&1) && map.contains_key2(&10) && !map.contains_key1(&10)
 }
 
-/// Whether a map finds this item, which has the keys 1 and 10, by each of its keys.
+/// Returns whether a map finds this item, which has the keys 1 and 10, by each of its keys.
 fn is_found<T: BiHashItem<K1 = u64, K2 = u64> + Drop>(alloc: Global, item: T) -> bool {
     let mut map = BiHashMap::new(alloc);
     let was_empty = map.is_empty();

@@ -1,4 +1,4 @@
-//! What maps, short lists and errors print, and `?` into an error of any kind.
+//! What maps, short lists and errors print, and the conversion of errors by `?` into an `anyhow::Error`.
 use crate::row::{Row, row_of};
 use iddqd_bi::{
     BiHashMap, DuplicateItem, Entry, EntryError, ExtendUniqueError, ExtendUniqueReason,
@@ -8,7 +8,7 @@ use std::alloc::Global;
 use std::fmt::{Debug, Display};
 use std::test::*;
 
-/// Whether a value prints this for a reader, and this for a developer.
+/// Returns whether `Display` of a value prints `told`, and `Debug` prints `shown`.
 fn prints<T: Debug + Display>(alloc: Global, value: &T, told: &str, shown: &str) -> bool {
     match format!(in alloc; "{value}|{value:?}") {
         Ok(text) => match text.as_str().split_once("|") {
@@ -19,7 +19,7 @@ fn prints<T: Debug + Display>(alloc: Global, value: &T, told: &str, shown: &str)
     }
 }
 
-/// Whether a value prints this for a developer.
+/// Returns whether `Debug` of a value prints `shown`.
 fn shows<T: Debug>(alloc: Global, value: &T, shown: &str) -> bool {
     match format!(in alloc; "{value:?}") {
         Ok(text) => text.as_str() == shown,
@@ -27,10 +27,10 @@ fn shows<T: Debug>(alloc: Global, value: &T, shown: &str) -> bool {
     }
 }
 
-/// The text of a conflict.
+/// What `Display` prints for a conflict.
 const TAKEN: &str = "an item with an equal key is there already";
 
-/// Whether what an insert refuses prints so, and its list.
+/// Returns whether the error of an insert prints what it should, and so does the list of its duplicates.
 fn refusal_prints(alloc: Global, map: &mut BiHashMap<Row>) -> bool {
     match map.insert_unique(row_of(1, 20, 0)) {
         Ok(()) => false,
@@ -49,7 +49,7 @@ fn refusal_prints(alloc: Global, map: &mut BiHashMap<Row>) -> bool {
     }
 }
 
-/// Whether what an entry refuses prints so.
+/// Returns whether the error of an insert through an entry prints what it should.
 fn entry_prints(alloc: Global, map: &mut BiHashMap<Row>) -> bool {
     match map.entry(&3, &30).or_insert(row_of(3, 31, 0)) {
         Ok(_held) => false,
@@ -79,13 +79,13 @@ fn a_map_and_what_holds_it_print(rt: HostRuntime) {
     );
 }
 
-/// Makes room, and says by an error of any kind where it can't.
+/// Reserves capacity. The error is converted by `?` into an `anyhow::Error`.
 fn grow(map: &mut BiHashMap<Row>, more: usize) -> anyhow::Result<()> {
     map.reserve(more)?;
     Ok(())
 }
 
-/// Whether errors that tell of memory print so.
+/// Returns whether the errors for lack of memory print what they should.
 fn memory_prints(alloc: Global) -> bool {
     let row = row_of(1, 10, 100);
     let refused = MemoryRefused { value: row };
@@ -114,7 +114,7 @@ fn memory_prints(alloc: Global) -> bool {
     )
 }
 
-/// Whether errors that tell of keys print so.
+/// Returns whether the errors about keys print what they should.
 fn keys_print(alloc: Global) -> bool {
     let row = row_of(1, 10, 100);
     prints(
@@ -130,7 +130,7 @@ fn keys_print(alloc: Global) -> bool {
     )
 }
 
-/// Whether the refusal of a list prints so.
+/// Returns whether the error of `extend_unique` prints what it should.
 fn list_prints(alloc: Global) -> bool {
     let error = ExtendUniqueError {
         taken: Vec::new(alloc),

@@ -1,4 +1,4 @@
-//! A query of one's own for a text.
+//! A query of a caller's own, for keys that are texts.
 ghost use Rattle.std.specs.Prelude.{◌≡◌, nat_eq};
 ghost use Rattle.std.proofs.Common.{rules};
 ghost use Rattle.std.specs.Cmp.Rules.{comparing, hashing};
@@ -10,7 +10,7 @@ use iddqd_store::Equivalent;
 use std::hash::{Hash, Hasher};
 use std::test::*;
 
-/// A text that stands for the keys that are equal to it.
+/// A text, as a query that stands for the keys that are equal to it.
 #[derive(PartialEq, Eq, Hash, Drop)]
 struct Text<'a> {
     text: &'a str,
@@ -36,17 +36,17 @@ const NUMBERS: [(&str, Option<u64>); 4] = [
     ("", None),
 ];
 
-/// The number of the item with this text, asked for by the query of this file.
+/// Returns the number of the item with this text, looked up by the query of this file.
 fn number_asked(map: &BiHashMap<Keyed<&'static str, u64>>, text: &str) -> Option<u64> {
     number_of!(map.get1(&Text { text }))
 }
 
-/// The same by the query that is there for lent texts.
+/// Does the same by the store's query for a `&str`.
 fn number_lent(map: &BiHashMap<Keyed<&'static str, u64>>, text: &str) -> Option<u64> {
     number_of!(map.get1(text))
 }
 
-/// Whether each text is found that should be, in the map of these, also by the query that is there for lent texts.
+/// Returns whether each text of `NUMBERS`, and no other, is found in the map, by both queries.
 fn are_found(map: &BiHashMap<Keyed<&'static str, u64>>) -> bool {
     for (text, wanted) in &NUMBERS {
         if number_asked(map, text) != *wanted || number_lent(map, text) != *wanted {

@@ -4,7 +4,7 @@ ghost use Rattle.iddqd_tests_bi.specs.Row.{with_value};
 
 use iddqd_bi::{BiHashItem, BiHashItemMut};
 
-/// Two keys and a value, as a program that is not Rattle lays them out (`bench/run`).
+/// Two keys and a value, laid out as in C, so that a program in another language can share it (`bench/run`).
 #[repr(C)]
 #[derive(Clone, Copy, Debug, PartialEq, Eq)]
 pub struct Row {
@@ -49,7 +49,7 @@ impl BiHashItemMut for Row {
     }
 }
 
-/// A row of these numbers.
+/// Makes a row of these numbers.
 pub fn row_of(key1: u64, key2: u64, value: u64) -> Row {
     Row { key1, key2, value }
 }

@@ -1,4 +1,4 @@
-//! Keys that are texts, lists of bytes and pairs, asked for by what is lent.
+//! Keys that are texts, lists of bytes and pairs, looked up by borrowed values.
 use iddqd_bi::{BiHashItem, BiHashMap};
 use std::alloc::{AllocError, Global};
 use std::hash::{Hash, Hasher};
@@ -30,7 +30,7 @@ impl<A: Eq + Hash, B: Eq + Hash> BiHashItem for Keyed<A, B> {
     }
 }
 
-/// The number of an item that was found, if it was.
+/// The number of the item that a lookup found, if it found one.
 macro_rules! number_of {
     ($found:expr) => {
         match $found {
@@ -55,12 +55,12 @@ fn page_of(alloc: Global, number: u64, title: &str, tag: &str) -> Result<Page, A
     })
 }
 
-/// Whether a page goes into a map.
+/// Inserts a page, and returns whether it was inserted.
 fn is_added(map: &mut BiHashMap<Page>, page: Page) -> bool {
     map.insert_or_back(page).is_ok()
 }
 
-/// The page that has this text as its title, asked for by the text and by a reference to it.
+/// Returns the page that has this text as its title, looked up by the text and by a reference to it.
 fn titled(map: &BiHashMap<Page>, text: &str) -> Option<u64> {
     let found = number_of!(map.get1(text));
     if number_of!(map.get1(&text)) == found {
@@ -70,7 +70,7 @@ fn titled(map: &BiHashMap<Page>, text: &str) -> Option<u64> {
     }
 }
 
-/// The page that has the bytes of this text as its tag.
+/// Returns the page that has the bytes of this text as its tag, looked up by the bytes and by a reference to them.
 fn tagged(map: &BiHashMap<Page>, text: &str) -> Option<u64> {
     let found = number_of!(map.get2(text.as_bytes()));
     if number_of!(map.get2(&text.as_bytes())) == found {
@@ -117,12 +117,12 @@ fn seat_of(alloc: Global, row: u32, place: u16, name: &str) -> Result<Seat, Allo
     })
 }
 
-/// Whether a seat goes into a map.
+/// Inserts a seat, and returns whether it was inserted.
 fn is_placed(map: &mut BiHashMap<Seat>, seat: Seat) -> bool {
     map.insert_or_back(seat).is_ok()
 }
 
-/// Whether there is a seat of this row and place, and one of this name.
+/// Returns whether there is a seat of this row and place, and whether there is one of this name.
 fn has_seats(map: &BiHashMap<Seat>, row: u32, place: u16, text: &str) -> (bool, bool) {
     let is_at = map.contains_key1((&row, &place));
     (is_at, map.contains_key2(text))

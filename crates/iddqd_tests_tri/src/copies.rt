@@ -1,4 +1,4 @@
-//! Copies of the map with three keys, of items whose own clone refuses.
+//! Cloning a map with three keys whose items may fail to clone.
 ghost use Rattle.std.specs.Prelude.{◌≡◌};
 
 use iddqd_tri::{TriHashItem, TriHashMap};
@@ -7,8 +7,8 @@ use std::cell::Cell;
 use std::rc::Rc;
 use std::test::Fail;
 
-/// An item that is counted as long as it is there, and lets so many clones be made of it and of those that share its
-/// number.
+/// An item that shares a counter with others. The counter says how many more clones can be made of them, and its
+/// reference count how many of them there are.
 #[derive(Drop)]
 struct Held {
     key1: u64,
@@ -64,7 +64,7 @@ impl TriHashItem for Held {
 /// The keys of an item.
 type Keys = (u64, u64, u64);
 
-/// These items, in a list.
+/// Returns a list of items with these keys.
 fn listed(alloc: Global, left: &Rc<Cell<u64>>, keys: &[Keys]) -> Result<Vec<Held>, AllocError> {
     let mut items = Vec::new(alloc);
     for (key1, key2, key3) in keys {
@@ -78,7 +78,7 @@ fn listed(alloc: Global, left: &Rc<Cell<u64>>, keys: &[Keys]) -> Result<Vec<Held
     Ok(items)
 }
 
-/// The map of these items.
+/// Returns a map of these items.
 fn map_of(alloc: Global, items: Vec<Held>) -> TriHashMap<Held> {
     let mut map = TriHashMap::new(alloc);
     for item in items {
@@ -89,7 +89,7 @@ fn map_of(alloc: Global, items: Vec<Held>) -> TriHashMap<Held> {
 
 const FOUR: &[Keys] = &[(1, 10, 100), (2, 20, 200), (3, 30, 300), (4, 40, 400)];
 
-/// The length of a map's clone, if there is one.
+/// Returns the length of a map's clone, if there is one.
 fn cloned(map: &TriHashMap<Held>) -> Option<usize> {
     match map.clone() {
         Ok(copy) => Some(copy.len()),
@@ -97,7 +97,7 @@ fn cloned(map: &TriHashMap<Held>) -> Option<usize> {
     }
 }
 
-/// Whether the map of four has such a clone, and its items as before.
+/// Returns whether the clone of a map of four items has this length, or fails for `None`, and the map is as before.
 fn is_cloned_so(map: TriHashMap<Held>, wanted: Option<usize>) -> bool {
     cloned(&map) == wanted && map.len() == 4 && map.contains_key3(&400)
 }

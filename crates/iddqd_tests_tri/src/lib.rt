@@ -1,4 +1,4 @@
-//! Tests of the map with three keys on other items than those of `iddqd_calls`.
+//! Tests of the map with three keys on items of other types than that of `iddqd_calls`.
 #![tactic(auto)]
 
 mod row;

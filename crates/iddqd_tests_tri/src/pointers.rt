@@ -1,16 +1,16 @@
-//! Maps of references and boxes of items.
+//! Maps of references, boxes and reference-counted pointers to items.
 use crate::row::row_of;
 use iddqd_tri::{TriHashItem, TriHashItemMut, TriHashMap};
 use std::alloc::Global;
 use std::rc::Rc;
 use std::test::Fail;
 
-/// Whether a map finds an item by the keys 1, 10 and 100.
+/// Returns whether a map finds an item by the keys 1, 10 and 100.
 fn has_all<T: TriHashItem<K1 = u64, K2 = u64, K3 = u64>>(map: &TriHashMap<T>) -> bool {
     map.contains_key_unique(&1, &10, &100) && !map.contains_key1(&10) && !map.contains_key3(&10)
 }
 
-/// Whether a map finds this item, which has the keys 1, 10 and 100, by each of its keys.
+/// Returns whether a map finds this item, which has the keys 1, 10 and 100, by each of its keys.
 fn is_found<T: TriHashItem<K1 = u64, K2 = u64, K3 = u64> + Drop>(alloc: Global, item: T) -> bool {
     let mut map = TriHashMap::new(alloc);
     let was_empty = map.is_empty();

@@ -1,4 +1,4 @@
-//! A query of one's own for a text.
+//! A query of a caller's own, for keys that are texts.
 ghost use Rattle.std.specs.Prelude.{◌≡◌, nat_eq};
 ghost use Rattle.std.proofs.Common.{rules};
 ghost use Rattle.std.specs.Cmp.Rules.{comparing, hashing};
@@ -42,7 +42,7 @@ impl TriHashItem for Word {
     }
 }
 
-/// A text that stands for the keys that are equal to it.
+/// A text, as a query that stands for the keys that are equal to it.
 #[derive(PartialEq, Eq, Hash, Drop)]
 struct Text<'a> {
     text: &'a str,
@@ -68,7 +68,7 @@ const NUMBERS: [(&str, Option<u64>); 4] = [
     ("", None),
 ];
 
-/// The first key of the item with this text.
+/// Returns the first key of the item with this text.
 fn number_of(map: &TriHashMap<Word>, text: &str) -> Option<u64> {
     match map.get3(&Text { text }) {
         Some(word) => Some(word.first),
@@ -76,7 +76,7 @@ fn number_of(map: &TriHashMap<Word>, text: &str) -> Option<u64> {
     }
 }
 
-/// Whether each text is found that should be, in the map of these.
+/// Returns whether each text of `NUMBERS` that should be found in the map is found, and no other is.
 fn are_found(map: &TriHashMap<Word>) -> bool {
     for (text, wanted) in &NUMBERS {
         if number_of(map, text) != *wanted {

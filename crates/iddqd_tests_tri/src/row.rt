@@ -4,7 +4,7 @@ ghost use Rattle.iddqd_tests_tri.specs.Row.{with_value};
 
 use iddqd_tri::{TriHashItem, TriHashItemMut};
 
-/// Three keys and a value, as a program that is not Rattle lays them out (`bench/run`).
+/// Three keys and a value, laid out as in C, so that a program in another language can share it (`bench/run`).
 #[repr(C)]
 #[derive(Clone, Copy, Debug, PartialEq, Eq)]
 pub struct Row {
@@ -60,7 +60,7 @@ impl TriHashItemMut for Row {
     }
 }
 
-/// A row of these numbers.
+/// Makes a row of these numbers.
 pub fn row_of(key1: u64, key2: u64, key3: u64, value: u64) -> Row {
     Row {
         key1,

@@ -1,4 +1,4 @@
-//! What three keys find in a map, with the map.
+//! Entries: what a lookup of three keys at once found, with a borrow of the map.
 ghost use Rattle.std.specs.Prelude.{◌≡◌, []};
 ghost use Rattle.iddqd_store.specs.Bag.{listing};
 ghost use Rattle.iddqd_store.specs.Map.{bag, hash_of};
@@ -20,7 +20,7 @@ mod vacant;
 pub use keys::{KeyTriple, Keys};
 pub use occupied_ref::OccupiedEntryRef;
 
-/// What three keys find in a map.
+/// What `entry` found: a vacant entry or an occupied one. It borrows the map.
 #[derive(Drop)]
 pub enum Entry<
     'a,
@@ -35,11 +35,12 @@ pub enum Entry<
 > {
     /// No item has one of the keys.
     Vacant(VacantEntry<'a, T, S, Q>),
-    /// One item has all keys, or there are items that have one of them.
+    /// At least one item has one of the keys. One item may have all keys.
     Occupied(OccupiedEntry<'a, T, S>),
 }
 
-/// Three keys that no item of the map has, with the empty cells at which the searches for them ended.
+/// An entry with three keys of which no item of the map has one. It keeps the empty cells at which the searches for
+/// them ended, so that an insert need not search again.
 #[derive(Drop)]
 pub struct VacantEntry<
     'a,
@@ -67,7 +68,7 @@ pub struct VacantEntry<
         (hash_of S.BuildHasher S.Hasher.Hasher map.now.builder (T.K3.hash_input (Q.third keys))) at },
 }
 
-/// Three keys, with the item that has all or the items that have one of them.
+/// An entry with three keys of which at least one is that of an item. It keeps the slot of each item that a key found.
 #[derive(Drop)]
 pub struct OccupiedEntry<'a, T: TriHashItem, S: BuildHasher = DefaultHashBuilder> {
     pub(crate) map: &'a mut TriHashMap<T, S>,
@@ -79,7 +80,7 @@ pub struct OccupiedEntry<'a, T: TriHashItem, S: BuildHasher = DefaultHashBuilder
     pub(crate) slot3: Option<ItemIndex>,
 }
 
-/// The items that three keys found, lent for writing one at a time.
+/// The items that three keys found, borrowed for writing, one at a time.
 #[derive(Drop)]
 pub struct OccupiedEntryMut<'a, T: TriHashItem, S: BuildHasher = DefaultHashBuilder> {
     pub(crate) map: &'a mut TriHashMap<T, S>,

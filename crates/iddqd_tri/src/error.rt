@@ -1,4 +1,4 @@
-//! Refusals: of an insert, of an item with other keys, and at an entry.
+//! The errors of calls that insert or replace one item.
 ghost use Rattle.std.specs.Prelude.{◌≡◌, ◌≢◌, ◌<◌, [], Some, map};
 ghost use Rattle.iddqd_store.specs.Map.{bag};
 ghost use Rattle.iddqd_store.specs.Bag.{clash, order};
@@ -13,10 +13,11 @@ use std::hash::{BuildHasher, Hash};
 
 mod display;
 
-/// An item that an insert refused, with the items of the map that conflict with it, or with none where there was no
-/// memory. It holds the map, which is as it was, so that the caller knows the map exactly.
+/// The error of `insert_unique`: the item that was not inserted, with the items of the map that conflict with it, or
+/// with none if there was no memory. The error borrows the map, which is as it was before the call. By that borrow
+/// contracts tell the caller exactly what the map is.
 ///
-/// ```
+/// ```text
 /// match devices.insert_unique(device) {
 ///     Ok(()) => Ok(()),
 ///     Err(e) => match e.reason() {
@@ -33,39 +34,42 @@ pub struct InsertError<'a, T: TriHashItem, S: BuildHasher = DefaultHashBuilder> 
         ≡ order (ranks T.TriHashItem T.K1.eq T.K2.eq T.K3.eq) (bag map.now) item },
 }
 
-/// Why an item was not put in the place of others: the lowest rank at which its key is not theirs, with the item.
+/// The error of `RefMut::replace` and `OccupiedEntry::insert`: the new item has another key than the item that it was
+/// to replace, or than the entry. The error has the new item, and names the lowest rank at which the keys differ.
 #[derive(Drop)]
 pub enum KeyMismatch<T> {
-    /// The lowest rank at which the keys differ is the first.
+    /// The first rank is the lowest at which the keys differ.
     Key1(T),
-    /// The lowest rank at which the keys differ is the second.
+    /// The second rank is the lowest at which the keys differ.
     Key2(T),
-    /// The lowest rank at which the keys differ is the third.
+    /// The third rank is the lowest at which the keys differ.
     Key3(T),
 }
 
-/// Why an item was not put in through an entry: the lowest rank at which its key is not the entry's, or no memory, with
-/// the item.
+/// The error of an insert through a vacant entry. It has the item, and names the lowest rank at which the item's key is
+/// not the entry's, or says that there was no memory.
 #[derive(Drop)]
 pub enum EntryError<T> {
-    /// The lowest rank at which the keys differ is the first.
+    /// The first rank is the lowest at which the keys differ.
     Key1(T),
-    /// The lowest rank at which the keys differ is the second.
+    /// The second rank is the lowest at which the keys differ.
     Key2(T),
-    /// The lowest rank at which the keys differ is the third.
+    /// The third rank is the lowest at which the keys differ.
     Key3(T),
-    /// All keys are the entry's, but the map is full and there was no memory to grow.
+    /// All keys are the entry's, but the map was full, and there was no memory to grow.
     Memory(T),
 }
 
-/// Why an entry refused an item. It holds the map, which is as it was, so that the caller knows the map exactly.
+/// The error of `VacantEntry::insert_entry`, `Entry::or_insert` and `Entry::or_insert_with`: an `EntryError`, with a
+/// borrow of the map, which is as it was before the call. By that borrow contracts tell the caller exactly what the map
+/// is.
 pub struct EntryRefusal<'a, T: TriHashItem, S: BuildHasher = DefaultHashBuilder> {
     pub(crate) map: &'a mut TriHashMap<T, S>,
     pub(crate) error: EntryError<T>,
 }
 
 impl<T> KeyMismatch<T> {
-    /// The item that was refused.
+    /// Returns the item that was not inserted.
     pub fn item(&self) -> &T
         ensures { result.now ≡ mismatch_item self.now }
     {
@@ -74,7 +78,7 @@ impl<T> KeyMismatch<T> {
         }
     }
 
-    /// The item that was refused, by value.
+    /// Returns the item that was not inserted, by value.
     pub fn into_item(self) -> T
         ensures { result ≡ mismatch_item self }
     {
@@ -83,7 +87,7 @@ impl<T> KeyMismatch<T> {
         }
     }
 
-    /// The refusal of an item whose key of this rank is not the one that is there.
+    /// Makes the error for an item whose key differs at this rank, counted from 0.
     pub(crate) fn at(rank: usize, item: T) -> Self
         ensures item { mismatch_item result ≡ item }
         ensures rank { rank < 3 → mismatch_rank result ≡ rank }
@@ -97,7 +101,7 @@ impl<T> KeyMismatch<T> {
 }
 
 impl<T> EntryError<T> {
-    /// The refusal of an item whose key of this rank is not the entry's.
+    /// Makes the error for an item whose key is not the entry's at this rank, counted from 0.
     pub(crate) fn at(rank: usize, item: T) -> Self
         ensures item { error_item result ≡ item }
         ensures rank { rank < 3 → error_rank result ≡ Some rank }
@@ -109,7 +113,7 @@ impl<T> EntryError<T> {
         }
     }
 
-    /// The item that was refused.
+    /// Returns the item that was not inserted.
     pub fn item(&self) -> &T
         ensures { result.now ≡ error_item self.now }
     {
@@ -121,7 +125,7 @@ impl<T> EntryError<T> {
         }
     }
 
-    /// The item that was refused, by value.
+    /// Returns the item that was not inserted, by value.
     pub fn into_item(self) -> T
         ensures { result ≡ error_item self }
     {
@@ -135,21 +139,21 @@ impl<T> EntryError<T> {
 }
 
 impl<T: TriHashItem, S: BuildHasher> EntryRefusal<'_, T, S> {
-    /// Why, with the item.
+    /// Returns why the item was not inserted, with the item.
     pub fn error(&self) -> &EntryError<T>
         ensures { result.now ≡ self.now.error }
     {
         &self.error
     }
 
-    /// The item that was refused.
+    /// Returns the item that was not inserted.
     pub fn item(&self) -> &T
         ensures { result.now ≡ error_item self.now.error }
     {
         self.error.item()
     }
 
-    /// The item that was refused, by value.
+    /// Returns the item that was not inserted, by value.
     pub fn into_item(self) -> T
         ensures item { result ≡ error_item self.entry.error }
         ensures map { self.exit.0.now ≡ self.entry.map.now }
@@ -158,7 +162,7 @@ impl<T: TriHashItem, S: BuildHasher> EntryRefusal<'_, T, S> {
         error.into_item()
     }
 
-    /// Why, with the item by value.
+    /// Returns why the item was not inserted, with the item, by value.
     pub fn into_error(self) -> EntryError<T>
         ensures error { result ≡ self.entry.error }
         ensures map { self.exit.0.now ≡ self.entry.map.now }
@@ -168,18 +172,20 @@ impl<T: TriHashItem, S: BuildHasher> EntryRefusal<'_, T, S> {
     }
 }
 
-/// Why no map was built of some items.
+/// The error of `from_iter_unique`: `Duplicate` owns an item and those before it that it conflicts with, and `Memory`
+/// owns the item for which there was no memory.
 pub type FromIterError<T> = iddqd_store::FromIterError<T, UpToThree<T>>;
 
 impl<T: Ranked, S: BuildHasher> InsertError<'_, T, S> {
-    /// The item that was refused.
+    /// Returns the item that was not inserted.
     pub fn item(&self) -> &T
         ensures { result.now ≡ self.now.item }
     {
         &self.item
     }
 
-    /// Why it was refused. Where there was no memory, no item of the map conflicts with it.
+    /// Returns why the item was not inserted: `Duplicate` if an item of the map conflicts with it, else `Memory`. The
+    /// call compares no key.
     pub fn reason(&self) -> InsertReason
         ensures duplicate { result ≡ InsertReason.Duplicate → clash T.ranks (bag self.now.map.now) self.now.item ≢ [] }
         ensures memory { result ≡ InsertReason.Memory → clash T.ranks (bag self.now.map.now) self.now.item ≡ [] }
@@ -191,7 +197,8 @@ impl<T: Ranked, S: BuildHasher> InsertError<'_, T, S> {
         }
     }
 
-    /// The items of the map that conflict with it, in the order of the keys. Nothing is searched again.
+    /// Returns the items of the map that conflict with the item, each once, in the order of the keys. The call searches
+    /// for nothing again.
     pub fn duplicates(&self) -> UpToThree<&T>
         ensures { map (λ item. item.now) result ≡ order T.ranks (bag self.now.map.now) self.now.item }
     {
@@ -201,7 +208,7 @@ impl<T: Ranked, S: BuildHasher> InsertError<'_, T, S> {
 }
 
 impl<'a, T: Ranked, S: BuildHasher> InsertError<'a, T, S> {
-    /// The item that was refused, by value.
+    /// Returns the item that was not inserted, by value.
     pub fn into_item(self) -> T
         ensures item { result ≡ self.entry.item }
         ensures map { self.exit.0.now ≡ self.entry.map.now }
@@ -214,7 +221,11 @@ impl<'a, T: Ranked, S: BuildHasher> InsertError<'a, T, S> {
         item
     }
 
-    /// The item that was refused, by value, with the items of the map that conflict with it, in the order of the keys.
+    /// Returns the item that was not inserted, by value, with the items of the map that conflict with it, as
+    /// `duplicates` does. They stay borrowed for as long as the error borrowed the map.
+    ///
+    /// Contracts do not say what the map is afterwards. A caller who has to prove that calls `duplicates` and then
+    /// `into_item`.
     pub fn into_parts(self) -> (T, UpToThree<&'a T>)
         ensures item { result.0 ≡ self.entry.item }
         ensures duplicates { map (λ item. item.now) result.1

@@ -1,4 +1,4 @@
-//! A hash map of items with three keys.
+//! `TriHashMap`, a hash map of items with three keys, with its guards, entries, iterations, errors and commands.
 #![tactic(auto)]
 
 mod command;
@@ -21,7 +21,7 @@ pub use iter_mut::IterMut;
 pub use map::{DefaultHashBuilder, TriHashMap};
 pub use ref_mut::RefMut;
 
-// What the calls name of the parts that all maps share.
+// Types of `iddqd_store` that the signatures of this crate name.
 pub use iddqd_store::{
     Cursor, DuplicateItem, Equivalent, ExtendUniqueError, ExtendUniqueReason, InsertReason,
     IntoIter, Iter, KeyMatcher, MemoryRefused, Meter, Query, ShortIntoIter, ShortIter,

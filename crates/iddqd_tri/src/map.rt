@@ -1,4 +1,4 @@
-//! The map.
+//! The map, its fields and its invariant.
 use crate::item::TriHashItem;
 use iddqd_store::{IndexTable, ItemSet};
 use std::hash::{BuildHasher, BuildHasherDefault, FoldHasher, Hash};
@@ -22,11 +22,14 @@ pub(crate) mod slots;
 mod update;
 mod write;
 
-/// The builder of hashers that a map has where none is named: std's, with its fixed seed. It gives no protection where
-/// strangers choose the keys.
+/// The default builder of hashers, which is std's, with a fixed seed. It does not protect against strangers who choose
+/// keys with equal hashes. For such keys make the map by `with_hasher(alloc, RandomState::new(&rt)?)`.
 pub type DefaultHashBuilder = BuildHasherDefault<FoldHasher>;
 
-/// A hash map of items with three keys. No two of its items have an equal key of the same rank.
+/// A hash map of items with three keys. No two items of a map have an equal key of the same rank.
+///
+/// The items stand in numbered slots, and for each rank a table leads from the hash of a key to the slot of its item. A
+/// lookup by one key hashes it once, and compares at most as many keys as items have that hash.
 #[derive(Drop)]
 pub struct TriHashMap<T: TriHashItem, S: BuildHasher = DefaultHashBuilder> {
     items: ItemSet<T>,

@@ -1,4 +1,5 @@
-//! References and boxes of items are items.
+//! References, boxes and reference-counted pointers to items are items, with the keys of the item that they point to. A
+//! `&mut` and a `Box` also give that item's data for writing.
 ghost use denote.Ref.{at_last};
 ghost use Rattle.std.specs.Box.{with_value};
 

@@ -1,4 +1,5 @@
-//! The three ranks of an item, as the parts that all ranks share see them.
+//! The three ranks of an item, as types. The searches of `iddqd_store` are generic over the rank, and these types tell
+//! them which key is meant.
 use crate::item::TriHashItem;
 use iddqd_store::KeyOf;
 use std::hash::Hash;

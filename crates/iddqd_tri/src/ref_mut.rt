@@ -1,4 +1,4 @@
-//! An item of a map, lent for writing.
+//! Guards: items of a map, borrowed for writing.
 ghost use Rattle.std.specs.Prelude.{◌≡◌, true, is_some};
 ghost use Rattle.iddqd_store.specs.Slots.{get};
 
@@ -9,7 +9,8 @@ use std::hash::{BuildHasher, Hash};
 
 mod methods;
 
-/// An item of a map, lent to be read, and to be written with its keys kept.
+/// A guard of an item of a map. It dereferences to the item, whose data can be written by `data_mut`, and which
+/// `replace` exchanges for one with equal keys. So no key of the map can change through it.
 pub struct RefMut<'a, T: TriHashItem, S: BuildHasher = DefaultHashBuilder> {
     pub(crate) map: &'a mut TriHashMap<T, S>,
     pub(crate) slot: ItemIndex,

@@ -1,4 +1,4 @@
-//! Look-ups and removals by what is lent, and by any query.
+//! Lookups and removals by borrowed keys, and by any query.
 ghost use Rattle.std.specs.Prelude.{◌≡◌, ◌&&◌, ◌∷◌, [], nat_eq, string_bytes, IsPermutation, IfSome, IfNone, None, option_copied};
 ghost use Rattle.std.specs.Cmp.Lexicographic.{pointwise};
 ghost use Rattle.std.specs.Cmp.Rules.{comparing};
@@ -54,21 +54,21 @@ impl BiHashItemMut for Symbol {
     }
 }
 
-/// The symbol of a lent name.
+/// Returns the symbol with this name, which is given as a `&str`.
 pub fn resolve<'s>(symbols: &'s BiHashMap<Symbol>, name: &str) -> Option<&'s Symbol>
     ensures { IsOnly (λ s. pointwise nat_eq name.now (string_bytes s.name)) (bag symbols.now) (option_copied result) }
 {
     symbols.get1(name)
 }
 
-/// Where a program begins.
+/// Returns the symbol `main`, at which a program begins.
 pub fn entry_point(symbols: &BiHashMap<Symbol>) -> Option<&Symbol>
     ensures { IsOnly (λ s. pointwise nat_eq (109 ∷ 97 ∷ 105 ∷ 110 ∷ []) (string_bytes s.name)) (bag symbols.now) (option_copied result) }
 {
     symbols.get1("main")
 }
 
-/// Whether a symbol lies there, asked by a lent name and a number.
+/// Returns whether a symbol lies at this place, which is given as a `&str` and a number.
 pub fn is_at(symbols: &BiHashMap<Symbol>, section: &str, offset: u32) -> bool
     ensures { result ≡ list_any (λ s. pointwise nat_eq section.now (string_bytes s.place.0) && nat_eq offset s.place.1)
         (bag symbols.now) }
@@ -76,7 +76,7 @@ pub fn is_at(symbols: &BiHashMap<Symbol>, section: &str, offset: u32) -> bool
     symbols.contains_key2((section, &offset))
 }
 
-/// Takes the symbol of a lent name out.
+/// Removes the symbol with this name, which is given as a `&str`.
 pub fn undefine(symbols: &mut BiHashMap<Symbol>, name: &str) -> Option<Symbol>
     ensures it { IsOnly (λ s. pointwise nat_eq name.now (string_bytes s.name)) (bag symbols.old) result }
     ensures gone { IfSome result (λ s. IsPermutation (bag symbols.old) (s ∷ bag symbols.new)) }
@@ -85,7 +85,7 @@ pub fn undefine(symbols: &mut BiHashMap<Symbol>, name: &str) -> Option<Symbol>
     symbols.remove1(name)
 }
 
-/// Writes the size of the symbol of a lent name, if there is one, through a guard.
+/// Writes the size of the symbol with this name, if there is one, through a guard.
 pub fn resize(symbols: &mut BiHashMap<Symbol>, name: &str, size: u64)
     ensures absent { IsOnly (λ s. pointwise nat_eq name.now (string_bytes s.name)) (bag symbols.old) None
         → symbols.new ≡ symbols.old }
@@ -96,7 +96,7 @@ pub fn resize(symbols: &mut BiHashMap<Symbol>, name: &str, size: u64)
     }
 }
 
-/// The item with a key.
+/// Returns the item with this first key.
 pub fn by_key<'m, T: BiHashItem, S: BuildHasher>(
     map: &'m BiHashMap<T, S>,
     key: &T::K1,
@@ -106,7 +106,7 @@ pub fn by_key<'m, T: BiHashItem, S: BuildHasher>(
     map.get1(key)
 }
 
-/// The item with the key that a query stands for.
+/// Returns the item with the first key that the query stands for.
 pub fn by_query<'m, T: BiHashItem, S: BuildHasher, Q: Query<T::K1>>(
     map: &'m BiHashMap<T, S>,
     query: Q,
@@ -116,7 +116,7 @@ pub fn by_query<'m, T: BiHashItem, S: BuildHasher, Q: Query<T::K1>>(
     map.get1(query)
 }
 
-/// Takes out the item with the key that a query stands for.
+/// Removes the item with the first key that the query stands for.
 pub fn take_by_query<T: BiHashItem, S: BuildHasher, Q: Query<T::K1>>(
     map: &mut BiHashMap<T, S>,
     query: Q,

@@ -1,4 +1,4 @@
-//! What a caller knows of a map that is built of many items.
+//! What a caller can prove of a map after `extend`.
 ghost use Rattle.std.specs.Prelude.{◌≡◌, ◌+◌, ◌≤◌, ◌∷◌, ◌++◌, List, length, IsPermutation, OnOk, IfErr, IsOk};
 ghost use Rattle.iddqd_bi.specs.Bag.{overs};
 ghost use Rattle.iddqd_bi.specs.Map.{GrowsUnless, IsFullFor, bag};
@@ -6,8 +6,8 @@ ghost use Rattle.iddqd_bi.specs.Map.{GrowsUnless, IsFullFor, bag};
 use iddqd_bi::{BiHashItem, BiHashMap, MemoryRefused, Ranked};
 use std::hash::{BuildHasher, Hash};
 
-/// Puts the items of a vector in one after another. It is not refused where there is room for all. Refused, the map has
-/// those before the one that comes back.
+/// Inserts the items of a vector one after another, each in place of those that conflict with it. The call succeeds if
+/// there is spare capacity for all of them. After an error the map has the items before the returned one.
 pub fn extend_by_vec<T: BiHashItem + Drop, S: BuildHasher>(
     map: &mut BiHashMap<T, S>,
     items: Vec<T>,

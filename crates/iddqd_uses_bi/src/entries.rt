@@ -1,4 +1,4 @@
-//! What a caller knows of a map after the calls of an entry.
+//! What a caller can prove of a map after the calls of an entry.
 ghost use Rattle.std.specs.Prelude.{◌≡◌, ◌≢◌, ◌<◌, [], ◌∷◌, ◌++◌, true, length, List, None, IsOk, IsErrOf, IsPermutation, OnOk, OnErr, IfErr};
 ghost use Rattle.std.specs.Bool.{OnTrue, OnFalse};
 ghost use Rattle.std.specs.Fn.{CalledAt};
@@ -11,16 +11,16 @@ ghost use Rattle.iddqd_bi.specs.Callers.{InsertsOrWrites, WritesEntry};
 use iddqd_bi::{BiHashItem, BiHashItemMut, BiHashMap, Entry, EntryError, Ranked, UpToTwo};
 use std::hash::{BuildHasher, Hash};
 
-/// Why an item was not put in through an entry, with the item.
+/// Why an item was not inserted through an entry, with the item.
 #[derive(Drop)]
 pub enum NotEntered<T> {
-    /// An item has one of the keys.
+    /// An item of the map has one of the keys.
     Occupied(T),
-    /// No item has, but the vacant entry refused it.
+    /// No item has one of the keys, but the insert of the vacant entry failed.
     Refused(EntryError<T>),
 }
 
-/// Puts an item in through an entry. It is handed back where it is refused, and where an item has one of the keys.
+/// Inserts an item through an entry. It is returned if an item has one of the keys, or if the insert fails.
 pub fn insert_through<'a, T: BiHashItem, S: BuildHasher>(
     map: &'a mut BiHashMap<T, S>,
     key1: &'a T::K1,
@@ -50,7 +50,7 @@ pub fn insert_through<'a, T: BiHashItem, S: BuildHasher>(
     }
 }
 
-/// Puts an item in the place of those that have one of two keys, and says whether it went in: it does where there are
+/// Inserts an item in place of those that have one of two keys. Returns whether it was inserted: it is, if there are
 /// such items and it has both keys.
 pub fn overwrite_through<'a, T: BiHashItem + Drop, S: BuildHasher>(
     map: &'a mut BiHashMap<T, S>,
@@ -73,7 +73,7 @@ pub fn overwrite_through<'a, T: BiHashItem + Drop, S: BuildHasher>(
     }
 }
 
-/// Takes out what has one of two keys, and says whether there was something.
+/// Removes the items that have one of two keys, and returns whether there were any.
 pub fn remove_through<'a, T: BiHashItem + Drop, S: BuildHasher>(
     map: &'a mut BiHashMap<T, S>,
     key1: &'a T::K1,
@@ -94,7 +94,7 @@ pub fn remove_through<'a, T: BiHashItem + Drop, S: BuildHasher>(
     }
 }
 
-/// Stores what `f` answers at each item that has one of two keys as its data.
+/// Calls `f` with each item that has one of two keys, and stores what it returns as the item's data.
 pub fn modify_both<'a, T: BiHashItemMut, S: BuildHasher, F: FnMut(&T) -> T::Data>(
     map: &'a mut BiHashMap<T, S>,
     key1: &'a T::K1,
@@ -115,7 +115,7 @@ where
     }
 }
 
-/// The same by a call of the occupied entry alone.
+/// Does the same by a call of the occupied entry.
 pub fn modify_found<'a, T: BiHashItemMut, S: BuildHasher, F: FnMut(&T) -> T::Data>(
     map: &'a mut BiHashMap<T, S>,
     key1: &'a T::K1,
@@ -139,8 +139,8 @@ where
     }
 }
 
-/// Stores what `f` answers at each item that has one of two keys as its data, and then takes these items out: the entry
-/// knows still what it found.
+/// Calls `f` with each item that has one of two keys, stores what it returns as the item's data, and then removes these
+/// items: the entry still knows what it found.
 pub fn modify_and_take<'a, T: BiHashItemMut, S: BuildHasher, F: FnMut(&T) -> T::Data>(
     map: &'a mut BiHashMap<T, S>,
     key1: &'a T::K1,
@@ -151,7 +151,7 @@ where
     T::Data: Drop,
     F: Drop,
     requires callable { F.IsAlwaysCallable f }
-    // The answers are stored in what the keys find, and then what they find is taken out.
+    // What `f` returns is stored in the items that the keys find, and then these items are removed.
     ensures taken { (stored : List T) × Stores (CalledAt F.FnMut) T.put ⟦<T as Ranked>⟧.ranks f
         (listing (⟦<T as Ranked>⟧.key_tests key1.now key2.now) (bag map.old)) (bag map.old) stored
         × (result ≡ listing (⟦<T as Ranked>⟧.key_tests key1.now key2.now) stored)
@@ -170,7 +170,7 @@ where
     }
 }
 
-/// Puts an item in where no item has one of two keys. Then it writes data into the item that has both, if one has.
+/// Inserts an item if no item has one of two keys. Then writes data into the item that has both, if there is one.
 pub fn or_insert_and_write<'a, T: BiHashItemMut + Drop, S: BuildHasher>(
     map: &'a mut BiHashMap<T, S>,
     key1: &'a T::K1,
@@ -201,7 +201,7 @@ where
     }
 }
 
-/// Puts an item in where no item has one of two keys, and else writes data into the item that has both, if one has.
+/// Inserts an item if no item has one of two keys, and else writes data into the item that has both, if there is one.
 pub fn insert_or_write<'a, T: BiHashItemMut + Drop, S: BuildHasher>(
     map: &'a mut BiHashMap<T, S>,
     key1: &'a T::K1,

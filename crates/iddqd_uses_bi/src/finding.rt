@@ -1,12 +1,12 @@
-//! What a caller knows of lookups after an item went in or was taken out.
+//! What a caller can prove of lookups after an insert or a removal.
 ghost use Rattle.std.specs.Prelude.{◌≡◌, true, false, length};
 ghost use Rattle.iddqd_bi.specs.Map.{bag};
 
 use iddqd_bi::{BiHashItem, BiHashMap};
 use std::hash::{BuildHasher, Hash};
 
-/// Puts an item in, in the place of those that conflict with it. Says whether it is found by this key of it afterwards,
-/// which is so wherever there was memory for it.
+/// Inserts an item in place of those that conflict with it, and returns whether this first key of it is found then. It
+/// is found; if there was no memory for the item, the call returns `true` as well.
 pub fn put_and_find<T: BiHashItem + Drop, S: BuildHasher>(
     map: &mut BiHashMap<T, S>,
     item: T,
@@ -28,7 +28,7 @@ pub fn put_and_find<T: BiHashItem + Drop, S: BuildHasher>(
     }
 }
 
-/// Takes out the item with a key, and says whether the key is still found, which it never is.
+/// Removes the item with this first key, and returns whether the key is still found, which it never is.
 pub fn remove_and_find<T: BiHashItem + Drop, S: BuildHasher>(
     map: &mut BiHashMap<T, S>,
     key: &T::K1,
@@ -40,7 +40,7 @@ pub fn remove_and_find<T: BiHashItem + Drop, S: BuildHasher>(
     map.contains_key1(key)
 }
 
-/// How many items a walk gives.
+/// Returns how many items an iteration gives.
 pub fn count_all<T: BiHashItem, S: BuildHasher>(map: &BiHashMap<T, S>) -> usize
     ensures { result ≡ length (bag map.now) }
 {

@@ -1,4 +1,4 @@
-//! What a caller knows of a map after an insert, granted or refused.
+//! What a caller can prove of a map after an insert, whether it succeeded or failed.
 ghost use Rattle.std.specs.Prelude.{◌≡◌, ◌≢◌, ◌<◌, ◌≤◌, ◌+◌, ◌⊎◌, ◌∷◌, [], true, length, IsPermutation, OnOk, OnErr, IfErr};
 ghost use Rattle.std.specs.Bool.{OnTrue, OnFalse};
 ghost use Rattle.iddqd_bi.specs.Bag.{clash, order, over};
@@ -8,7 +8,7 @@ ghost use Rattle.iddqd_bi.specs.Callers.{GainsBoth, MayRefuse};
 use iddqd_bi::{BiHashMap, Ranked};
 use std::hash::{BuildHasher, Hash};
 
-/// Inserts an item, and drops it where it is refused. Says whether it went in.
+/// Inserts an item, or drops it if the insert fails. Returns whether it was inserted.
 pub fn insert_or_drop<T: Ranked + Drop, S: BuildHasher>(map: &mut BiHashMap<T, S>, item: T) -> bool
     ensures gains { OnTrue result (Gains map.old item map.new) }
     ensures unchanged { OnFalse result (map.new ≡ map.old) }
@@ -25,7 +25,7 @@ pub fn insert_or_drop<T: Ranked + Drop, S: BuildHasher>(map: &mut BiHashMap<T, S
     }
 }
 
-/// Inserts an item, or hands it back.
+/// Inserts an item, or returns it.
 pub fn insert_or_back<T: Ranked, S: BuildHasher>(
     map: &mut BiHashMap<T, S>,
     item: T,
@@ -41,11 +41,12 @@ pub fn insert_or_back<T: Ranked, S: BuildHasher>(
     }
 }
 
-/// Inserts two items, one after the other, and says whether both went in: they do where nothing conflicts and there is
-/// room. Refused, one of them may be in still, and the reason for the other is known.
+/// Inserts two items, one after the other, and returns whether both were inserted: they are, if nothing conflicts and
+/// there is spare capacity. Otherwise one of them may have been inserted all the same, and the reason for the other is
+/// known.
 pub fn insert_both<T: Ranked + Drop, S: BuildHasher>(map: &mut BiHashMap<T, S>, a: T, b: T) -> bool
     ensures both { OnTrue result (GainsBoth (bag map.old) a b (bag map.new)) }
-    // Else none of them went in, or b alone, or a alone.
+    // Otherwise neither was inserted, or b alone, or a alone.
     ensures refused { OnFalse result (((map.new ≡ map.old) × MayRefuse T.ranks map.old a × MayRefuse T.ranks map.old b)
         ⊎ (Gains map.old b map.new × MayRefuse T.ranks map.old a)
         ⊎ (Gains map.old a map.new × MayRefuse T.ranks map.new b)) }
@@ -58,7 +59,8 @@ pub fn insert_both<T: Ranked + Drop, S: BuildHasher>(map: &mut BiHashMap<T, S>, 
     first && second
 }
 
-/// Inserts an item, and says how many others conflict with it. Where some do, it drops it, and the map is as before.
+/// Inserts an item, and returns how many items conflict with it. If some do, the item is dropped, and the map is as
+/// before.
 pub fn count_conflicts<T: Ranked + Drop, S: BuildHasher>(
     map: &mut BiHashMap<T, S>,
     item: T,
@@ -79,7 +81,7 @@ pub fn count_conflicts<T: Ranked + Drop, S: BuildHasher>(
     }
 }
 
-/// Puts an item in for what conflicts with it, which is dropped. Says whether it went in.
+/// Inserts an item in place of those that conflict with it, which are dropped. Returns whether it was inserted.
 pub fn overwrite_or_drop<T: Ranked + Drop, S: BuildHasher>(
     map: &mut BiHashMap<T, S>,
     item: T,

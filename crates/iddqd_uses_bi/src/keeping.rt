@@ -1,12 +1,12 @@
-//! What a caller knows of a map that keeps some of its items.
+//! What a caller can prove of a map after `retain`.
 ghost use Rattle.std.specs.Prelude.{◌≡◌, ◌-◌, length};
 ghost use Rattle.iddqd_bi.specs.Map.{bag};
 
 use iddqd_bi::{BiHashMap, Ranked};
 use std::hash::{BuildHasher, Hash};
 
-/// Keeps the items at which a function answers `true`, and says how many went. That is no negative number, since no more
-/// are kept than there were.
+/// Keeps the items for which a closure returns `true`, and returns how many were dropped. The difference is never
+/// negative, since no more items are kept than there were.
 pub fn keep_and_count<T: Ranked + Drop, S: BuildHasher, F: FnMut(&T) -> bool>(
     map: &mut BiHashMap<T, S>,
     keep: F,

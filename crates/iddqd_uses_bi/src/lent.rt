@@ -1,4 +1,4 @@
-//! What a caller knows of a map after it wrote what an entry lends of one key.
+//! What a caller can prove of a map after writing what an entry borrows for one key.
 ghost use Rattle.std.specs.Prelude.{◌≡◌, ◌≢◌, ◌<◌, [], ◌∷◌, length, Some, None, IsOk, IsErrOf, IsPermutation, OnOk, OnErr};
 ghost use Rattle.iddqd_bi.specs.Bag.{IsOnly, differ, listing, swap};
 ghost use Rattle.iddqd_bi.specs.Map.{bag};
@@ -9,7 +9,7 @@ use crate::entries::NotEntered;
 use iddqd_bi::{BiHashItem, BiHashItemMut, BiHashMap, Entry, EntryError, Ranked};
 use std::hash::{BuildHasher, Hash};
 
-/// Writes the data of the item that has the first of two keys, if there is one, by what an entry lends of it.
+/// Writes the data of the item that has the first of two keys, if there is one. The entry borrows the data.
 pub fn write_data1<'a, T: BiHashItemMut, S: BuildHasher>(
     map: &'a mut BiHashMap<T, S>,
     key1: &'a T::K1,
@@ -29,7 +29,7 @@ where
     }
 }
 
-/// The same by a guard of that item, which is lent for as long as the map is.
+/// Does the same through a guard of that item, which lasts for as long as the map is borrowed.
 pub fn write_by_key1<'a, T: BiHashItemMut, S: BuildHasher>(
     map: &'a mut BiHashMap<T, S>,
     key1: &'a T::K1,
@@ -49,7 +49,7 @@ where
     }
 }
 
-/// The same by the data that what is held lends of it, which goes on to hold it.
+/// Does the same through the data that the held items borrow. They stay held.
 pub fn write_held1<'a, T: BiHashItemMut, S: BuildHasher>(
     map: &'a mut BiHashMap<T, S>,
     key1: &'a T::K1,
@@ -70,8 +70,8 @@ where
     }
 }
 
-/// Puts an item in through an entry that holds it then. It is handed back where it is refused, and where an item has
-/// one of the keys.
+/// Inserts an item through a vacant entry, and holds it. It is returned if an item has one of the keys, or if the
+/// insert fails.
 pub fn insert_held<'a, T: BiHashItem, S: BuildHasher>(
     map: &'a mut BiHashMap<T, S>,
     key1: &'a T::K1,

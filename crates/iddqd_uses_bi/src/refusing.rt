@@ -1,4 +1,4 @@
-//! What a caller makes of a refused insert.
+//! What a caller can do with the error of an insert.
 ghost use Rattle.std.specs.Prelude.{◌≡◌, ◌≢◌, ◌∷◌, ◌<◌, [], true, false, length, IsOk, IsPermutation, OnOk, OnErr, IfErr};
 ghost use Rattle.std.specs.Bool.{OnTrue, OnFalse};
 ghost use Rattle.iddqd_bi.specs.Bag.{clash, order};
@@ -14,7 +14,7 @@ pub struct NotAdded<T> {
     pub reason: InsertReason,
 }
 
-/// So that `map_err` and `?` take a refusal. It tells the item, and the reason.
+/// Converts an `InsertError`, for `map_err` and `?`. The result has the item and the reason.
 impl<T: Ranked, S: BuildHasher> From<InsertError<'_, T, S>> for NotAdded<T> {
     ghost use Rattle.iddqd_store.specs.declared.error.InsertReason.{InsertReason};
 
@@ -31,7 +31,7 @@ impl<T: Ranked, S: BuildHasher> From<InsertError<'_, T, S>> for NotAdded<T> {
     }
 }
 
-/// Adds an item, or says why not.
+/// Inserts an item. The error has the item, and the reason.
 pub fn add<T: Ranked, S: BuildHasher>(map: &mut BiHashMap<T, S>, item: T) -> Result<(), NotAdded<T>>
     ensures went_in { OnOk result (IsPermutation (bag map.new) (item ∷ bag map.old)) }
     ensures taken { IfErr result (λ e. e.reason ≡ InsertReason.Duplicate → clash T.ranks (bag map.old) item ≢ []) }
@@ -51,7 +51,7 @@ pub fn add<T: Ranked, S: BuildHasher>(map: &mut BiHashMap<T, S>, item: T) -> Res
     }
 }
 
-/// The same by `From`, which tells the item and the reason: after a refusal nothing is known of the map.
+/// Does the same by `From`. After an error nothing is known of the map.
 pub fn add_by_from<T: Ranked, S: BuildHasher>(
     map: &mut BiHashMap<T, S>,
     item: T,
@@ -67,7 +67,7 @@ pub fn add_by_from<T: Ranked, S: BuildHasher>(
     }
 }
 
-/// The same by `map_err` and `?`, after which nothing is known of the map.
+/// Does the same by `map_err` and `?`, after which nothing is known of the map.
 pub fn add_by_map_err<T: Ranked, S: BuildHasher>(
     map: &mut BiHashMap<T, S>,
     item: T,
@@ -80,7 +80,7 @@ pub fn add_by_map_err<T: Ranked, S: BuildHasher>(
     Ok(())
 }
 
-/// Whether an item went in. Refused, it is dropped.
+/// Inserts an item, or drops it if the insert fails. Returns whether it was inserted.
 pub fn is_added<T: Ranked + Drop, S: BuildHasher>(map: &mut BiHashMap<T, S>, item: T) -> bool
     ensures went_in { OnTrue result (IsPermutation (bag map.new) (item ∷ bag map.old)) }
     ensures granted { clash T.ranks (bag map.old) item ≡ [] → length (bag map.old) < map.old.capacity → result ≡ true }
@@ -89,7 +89,7 @@ pub fn is_added<T: Ranked + Drop, S: BuildHasher>(map: &mut BiHashMap<T, S>, ite
     map.insert_unique(item).is_ok()
 }
 
-/// How many items there are once one was added or refused: the map is used behind the `match`.
+/// Inserts an item, or drops it, and returns how many items there are then. The map is used behind the `match`.
 pub fn add_and_count<T: Ranked + Drop, S: BuildHasher>(map: &mut BiHashMap<T, S>, item: T) -> usize
     ensures { result ≡ length (bag map.new) }
 {
@@ -100,7 +100,8 @@ pub fn add_and_count<T: Ranked + Drop, S: BuildHasher>(map: &mut BiHashMap<T, S>
     map.len()
 }
 
-/// The refused item, and how many items of the map conflict with it: the refusal is kept while they are read.
+/// Inserts an item. The error has the item, and how many items of the map conflict with it. The map's error is kept
+/// while they are counted.
 pub fn add_or_count<T: Ranked + Drop, S: BuildHasher>(
     map: &mut BiHashMap<T, S>,
     item: T,

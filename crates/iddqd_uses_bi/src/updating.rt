@@ -1,4 +1,4 @@
-//! Writing by functions.
+//! What a caller can prove of a map after updates by closures.
 ghost use Rattle.std.specs.Prelude.{◌≡◌, ◌==◌, ◌<◌, ◌+◌, ◌^◌, true, false, map, Some, IsPermutation};
 ghost use Rattle.std.specs.List.{list_any};
 ghost use Rattle.std.proofs.Common.{rules};
@@ -53,7 +53,8 @@ impl BiHashItemMut for File {
     }
 }
 
-/// Counts the file of a number once more, where it was opened less often than the largest number says.
+/// Counts one more opening of the file with this number, and returns whether there is such a file. The count of the
+/// file must be below the largest number of its type.
 pub fn note_opened(files: &mut BiHashMap<File>, number: u64) -> bool
     requires { (f : File) → IsOnly (λ f. number == f.number) (bag files.old) (Some f) → f.opened + 1 < 2 ^ 64 }
     ensures found { result ≡ list_any (λ f. number == f.number) (bag files.old) }
@@ -65,7 +66,7 @@ pub fn note_opened(files: &mut BiHashMap<File>, number: u64) -> bool
     files.update1(&number, |file| file.opened + 1)
 }
 
-/// Stores these data in every item.
+/// Stores this data in every item.
 pub fn set_all<T: BiHashItemMut, S: BuildHasher>(items: &mut BiHashMap<T, S>, d: T::Data)
 where
     T::Data: Drop + Copy,
@@ -74,7 +75,7 @@ where
     items.update_all(|_x| d);
 }
 
-/// Stores these data in the item that a query names.
+/// Stores this data in the item with the first key that the query stands for, and returns whether there is one.
 pub fn set1<T: BiHashItemMut, S: BuildHasher, Q: Query<T::K1>>(
     items: &mut BiHashMap<T, S>,
     query: Q,

@@ -32,7 +32,7 @@ impl BiHashItem for User {
     }
 }
 
-/// Registers a user, or hands the user back where the number or the login is taken, or memory is.
+/// Registers a user, or returns the user if the number or the login is taken, or if there is no memory.
 pub fn register(users: &mut BiHashMap<User>, user: User) -> Result<(), User>
     ensures registered { OnOk result (IsPermutation (bag users.new) (user ∷ bag users.old)) }
     ensures granted { clash ⟦<User as Ranked>⟧.ranks (bag users.old) user ≡ []
@@ -46,8 +46,8 @@ pub fn register(users: &mut BiHashMap<User>, user: User) -> Result<(), User>
     }
 }
 
-/// Registers all of these users, each of whom the login finds then, or none of them. Then it hands one back who is in
-/// the way.
+/// Registers all of these users, each of whom the login finds then, or none of them. The error is a user who was
+/// rejected.
 pub fn register_all(users: &mut BiHashMap<User>, batch: Vec<User>) -> Result<(), User>
     ensures registered { OnOk result (IsPermutation (bag users.new) (batch.items ++ bag users.old)) }
     ensures found { OnOk result (All (λ u.
@@ -61,7 +61,7 @@ pub fn register_all(users: &mut BiHashMap<User>, batch: Vec<User>) -> Result<(),
     }
 }
 
-/// The user with a login, if there is one.
+/// Returns the user with this login, if there is one.
 pub fn by_login<'u>(users: &'u BiHashMap<User>, login: &String) -> Option<&'u User>
     ensures { option_to_list (option_copied result)
         ≡ filter (λ u. ⟦<String as PartialEq>⟧.eq login.now u.login) (bag users.now) }

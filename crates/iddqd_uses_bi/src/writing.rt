@@ -1,4 +1,4 @@
-//! What a caller knows of a map in which an item was written.
+//! What a caller can prove of a map after writing an item.
 ghost use Rattle.std.specs.Prelude.{◌≡◌, Some, None, IsOk, IsPermutation, IfOk, IfErr, OnErr, true, false};
 ghost use Rattle.std.specs.List.{list_any};
 ghost use Rattle.iddqd_bi.specs.Bag.{IsOnly, differ, like, swap};
@@ -8,7 +8,7 @@ ghost use Rattle.iddqd_bi.specs.Keys.{has1};
 use iddqd_bi::{BiHashItem, BiHashItemMut, BiHashMap, Query, Ranked};
 use std::hash::{BuildHasher, Hash};
 
-/// Writes the data of the item with a first key, if there is one.
+/// Writes the data of the item with this first key, if there is one.
 pub fn write1<T: BiHashItemMut, S: BuildHasher>(map: &mut BiHashMap<T, S>, key: &T::K1, d: T::Data)
 where
     T::Data: Drop,
@@ -21,7 +21,7 @@ where
     }
 }
 
-/// Writes the data of the item with a first key twice, if there is one. The last write stands.
+/// Writes the data of the item with this first key twice, if there is one. The last write counts.
 pub fn write1_twice<T: BiHashItemMut, S: BuildHasher>(
     map: &mut BiHashMap<T, S>,
     key: &T::K1,
@@ -41,7 +41,7 @@ where
     }
 }
 
-/// The same as `write1` through a guard that is lent again.
+/// Does what `write1` does, through a guard that is borrowed again.
 pub fn write1_again<T: BiHashItemMut, S: BuildHasher, Q: Query<T::K1>>(
     map: &mut BiHashMap<T, S>,
     query: Q,
@@ -58,7 +58,8 @@ where
     }
 }
 
-/// Puts an item in the place of the one with a first key, which it gives back. Else it hands the item back.
+/// Replaces the item with this first key by one with equal keys, and returns it. If there is no such item, or if its
+/// keys are not equal, the error is the new item.
 pub fn replace1<T: BiHashItem, S: BuildHasher>(
     map: &mut BiHashMap<T, S>,
     key: &T::K1,
@@ -81,8 +82,8 @@ pub fn replace1<T: BiHashItem, S: BuildHasher>(
     }
 }
 
-/// Whether an item has a first key, asked of the call that lends it for writing. What was lent is dropped at once, and
-/// the map stays.
+/// Returns whether an item has this first key, by the call that borrows it for writing. The guard is dropped at once,
+/// and the map is as it was.
 pub fn is_lent1<T: BiHashItem, S: BuildHasher>(map: &mut BiHashMap<T, S>, key: &T::K1) -> bool
     ensures is { result ≡ list_any (has1 T.BiHashItem T.K1.eq key.now) (bag map.old) }
     ensures unchanged { map.new ≡ map.old }
@@ -90,7 +91,7 @@ pub fn is_lent1<T: BiHashItem, S: BuildHasher>(map: &mut BiHashMap<T, S>, key: &
     map.get1_mut(key).is_some()
 }
 
-/// The same as `write1`, and says whether there is one. What was lent is dropped by name.
+/// Does what `write1` does, and returns whether there is such an item. The guard is dropped by name.
 pub fn write1_and_tell<T: BiHashItemMut, S: BuildHasher>(
     map: &mut BiHashMap<T, S>,
     key: &T::K1,

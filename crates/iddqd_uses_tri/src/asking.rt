@@ -1,4 +1,4 @@
-//! Look-ups and removals by what is lent, and by any query.
+//! Lookups and removals by borrowed keys, and by any query.
 ghost use Rattle.std.specs.Prelude.{◌≡◌, ◌&&◌, ◌∷◌, [], nat_eq, string_bytes, IsPermutation, IfSome, IfNone, None, option_copied};
 ghost use Rattle.std.specs.Cmp.Lexicographic.{pointwise};
 ghost use Rattle.std.specs.Cmp.Rules.{comparing};
@@ -65,21 +65,21 @@ impl TriHashItemMut for Symbol {
     }
 }
 
-/// The symbol of a lent name.
+/// Returns the symbol with this name, which is given as a `&str`.
 pub fn resolve<'s>(symbols: &'s TriHashMap<Symbol>, name: &str) -> Option<&'s Symbol>
     ensures { IsOnly (λ s. pointwise nat_eq name.now (string_bytes s.name)) (bag symbols.now) (option_copied result) }
 {
     symbols.get1(name)
 }
 
-/// Where a program begins.
+/// Returns the symbol `main`, at which a program begins.
 pub fn entry_point(symbols: &TriHashMap<Symbol>) -> Option<&Symbol>
     ensures { IsOnly (λ s. pointwise nat_eq (109 ∷ 97 ∷ 105 ∷ 110 ∷ []) (string_bytes s.name)) (bag symbols.now) (option_copied result) }
 {
     symbols.get1("main")
 }
 
-/// Whether a symbol lies there, asked by a lent name and a number.
+/// Returns whether a symbol lies at this place, which is given as a `&str` and a number.
 pub fn is_at(symbols: &TriHashMap<Symbol>, section: &str, offset: u32) -> bool
     ensures { result ≡ list_any (λ s. pointwise nat_eq section.now (string_bytes s.place.0) && nat_eq offset s.place.1)
         (bag symbols.now) }
@@ -87,7 +87,7 @@ pub fn is_at(symbols: &TriHashMap<Symbol>, section: &str, offset: u32) -> bool
     symbols.contains_key2((section, &offset))
 }
 
-/// Takes the symbol of a lent name out.
+/// Removes the symbol with this name, which is given as a `&str`.
 pub fn undefine(symbols: &mut TriHashMap<Symbol>, name: &str) -> Option<Symbol>
     ensures it { IsOnly (λ s. pointwise nat_eq name.now (string_bytes s.name)) (bag symbols.old) result }
     ensures gone { IfSome result (λ s. IsPermutation (bag symbols.old) (s ∷ bag symbols.new)) }
@@ -96,7 +96,7 @@ pub fn undefine(symbols: &mut TriHashMap<Symbol>, name: &str) -> Option<Symbol>
     symbols.remove1(name)
 }
 
-/// Writes the size of the symbol of a lent name, if there is one, through a guard.
+/// Writes the size of the symbol with this name, if there is one, through a guard.
 pub fn resize(symbols: &mut TriHashMap<Symbol>, name: &str, size: u64)
     ensures absent { IsOnly (λ s. pointwise nat_eq name.now (string_bytes s.name)) (bag symbols.old) None
         → symbols.new ≡ symbols.old }
@@ -107,7 +107,7 @@ pub fn resize(symbols: &mut TriHashMap<Symbol>, name: &str, size: u64)
     }
 }
 
-/// The item with a key.
+/// Returns the item with this first key.
 pub fn by_key<'m, T: TriHashItem, S: BuildHasher>(
     map: &'m TriHashMap<T, S>,
     key: &T::K1,
@@ -117,7 +117,7 @@ pub fn by_key<'m, T: TriHashItem, S: BuildHasher>(
     map.get1(key)
 }
 
-/// The item with the key that a query stands for.
+/// Returns the item with the first key that the query stands for.
 pub fn by_query<'m, T: TriHashItem, S: BuildHasher, Q: Query<T::K1>>(
     map: &'m TriHashMap<T, S>,
     query: Q,
@@ -127,7 +127,7 @@ pub fn by_query<'m, T: TriHashItem, S: BuildHasher, Q: Query<T::K1>>(
     map.get1(query)
 }
 
-/// Takes out the item with the key that a query stands for.
+/// Removes the item with the first key that the query stands for.
 pub fn take_by_query<T: TriHashItem, S: BuildHasher, Q: Query<T::K1>>(
     map: &mut TriHashMap<T, S>,
     query: Q,

@@ -1,4 +1,5 @@
-//! Laws that hold of several calls of the map together, for every item and builder.
+//! Laws that hold of several calls of the map together, for every item type and builder. Each function tests its law,
+//! and its contract says that the law holds.
 mod comparing;
 mod finding;
 mod leaving;

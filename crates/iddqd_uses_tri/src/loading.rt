@@ -1,4 +1,4 @@
-//! What a caller knows of a map that takes a batch of items whole, or not at all.
+//! What a caller can prove of a map into which a batch of items is inserted as a whole, or not at all.
 ghost use Rattle.std.specs.Prelude.{◌≡◌, ◌++◌, IsPermutation, OnOk, OnErr, IfErr};
 ghost use Rattle.iddqd_tri.specs.Bag.{IsSound};
 ghost use Rattle.iddqd_tri.specs.Callers.{IsInTheWay};
@@ -7,7 +7,7 @@ ghost use Rattle.iddqd_tri.specs.Map.{bag};
 use iddqd_tri::{ExtendUniqueReason, Ranked, TriHashItem, TriHashMap};
 use std::hash::{BuildHasher, Hash};
 
-/// Puts all items of a batch in, or none of them. Then it hands back the one that is in the way, and says why.
+/// Inserts all items of a batch, or none of them. The error has the item that was rejected, and the reason.
 pub fn load<T: TriHashItem + Drop, S: BuildHasher>(
     map: &mut TriHashMap<T, S>,
     batch: Vec<T>,

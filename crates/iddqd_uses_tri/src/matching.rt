@@ -1,4 +1,4 @@
-//! What a caller knows of a search with a matcher of its own, under a hash that the map's builder makes.
+//! What a caller can prove of a search with a matcher of its own, under a hash that the map's builder makes.
 ghost use Rattle.std.specs.Prelude.{◌≡◌, ◌+◌, ◌≤◌, length, refl, option_copied};
 ghost use Rattle.std.proofs.Common.{◌∙◌, ap};
 ghost use Rattle.iddqd_tri.specs.Bag.{IsOnly, crowd};
@@ -8,7 +8,7 @@ ghost use Rattle.iddqd_tri.specs.Keys.{has1};
 use iddqd_tri::{Hashed, KeyMatcher, Meter, TriHashItem, TriHashMap};
 use std::hash::{BuildHasher, Hash};
 
-/// Accepts the keys that are equal to one, and counts those that it is asked about.
+/// A matcher that accepts the keys that are equal to one key, and counts how often it is asked.
 #[derive(Drop)]
 pub struct Same<'k, K> {
     key: &'k K,
@@ -16,7 +16,7 @@ pub struct Same<'k, K> {
 }
 
 impl<'k, K: Eq> Same<'k, K> {
-    /// A matcher that was asked nothing yet.
+    /// Makes a matcher that has not been asked yet.
     pub fn new(key: &'k K) -> Self
         ensures key { result.key ≡ key.entry }
         ensures asked { result.asked ≡ 0 }
@@ -47,8 +47,9 @@ impl<'k, K: Eq> KeyMatcher<K> for Same<'k, K> {
     }
 }
 
-/// The item whose first key is that of the matcher, found by the hash that the map's own builder makes of it. It asks
-/// no more often than there are items with this hash, and looks at one cell more than there are items at most.
+/// Returns the item whose first key is that of the matcher, found by the hash that the map's own builder makes of it.
+/// The matcher is asked at most as often as there are items with this hash. The search probes at most one cell more
+/// than there are items.
 pub fn find_same<'m, T: TriHashItem, S: BuildHasher>(
     map: &'m TriHashMap<T, S>,
     matcher: &mut Same<'_, T::K1>,

@@ -42,7 +42,7 @@ impl TriHashItem for Session {
     }
 }
 
-/// Opens a session, or hands it back where its number, its user or its token has one, or there is no memory.
+/// Opens a session, or returns it if its number, its user or its token is taken, or if there is no memory.
 pub fn open<S: BuildHasher>(
     sessions: &mut TriHashMap<Session, S>,
     session: Session,
@@ -59,8 +59,8 @@ pub fn open<S: BuildHasher>(
     }
 }
 
-/// Opens all of these sessions, each of which its token finds then, or none of them. Then it hands back one that is in
-/// the way.
+/// Opens all of these sessions, each of which its token finds then, or none of them. The error is a session that was
+/// rejected.
 pub fn open_all<S: BuildHasher>(
     sessions: &mut TriHashMap<Session, S>,
     batch: Vec<Session>,
@@ -77,7 +77,7 @@ pub fn open_all<S: BuildHasher>(
     }
 }
 
-/// The session with a token, if there is one.
+/// Returns the session with this token, if there is one.
 pub fn by_token<'s, S: BuildHasher>(
     sessions: &'s TriHashMap<Session, S>,
     token: &String,
@@ -88,7 +88,7 @@ pub fn by_token<'s, S: BuildHasher>(
     sessions.get3(token)
 }
 
-/// Closes the session of a user, which it gives, if there is one.
+/// Closes the session of this user, and returns it, if there is one.
 pub fn close_of_user<S: BuildHasher>(
     sessions: &mut TriHashMap<Session, S>,
     user: u32,

@@ -1,4 +1,4 @@
-//! What a caller knows of a map whose items were written in a walk.
+//! What a caller can prove of a map after iterating over it for writing.
 ghost use Rattle.std.specs.Prelude.{◌≡◌, ◌⊎◌, ◌-◌, [], ◌∷◌, List, IsPermutation, length};
 ghost use Rattle.std.specs.Prelude.{map as each};
 ghost use Rattle.std.specs.Bool.{OnTrue, OnFalse};
@@ -19,7 +19,7 @@ where
     }
 }
 
-/// Writes the data of the first item of a walk, and says whether there is one.
+/// Writes the data of the first item of an iteration, and returns whether there is one.
 pub fn write_first<T: TriHashItemMut, S: BuildHasher>(
     map: &mut TriHashMap<T, S>,
     d: T::Data,
@@ -38,7 +38,8 @@ where
     return false;
 }
 
-/// Writes the data of the first item of a walk, and says how many are to come behind it. No slot is counted.
+/// Writes the data of the first item of an iteration, and returns how many are left behind it. No slot is read to count
+/// them.
 pub fn write_first_and_count<T: TriHashItemMut, S: BuildHasher>(
     map: &mut TriHashMap<T, S>,
     d: T::Data,
@@ -57,7 +58,8 @@ where
     return 0;
 }
 
-/// How many items a walk for writing is to give. It gives none, and is dropped by name: the map stays.
+/// Returns how many items an iteration for writing has left before its first step. The iteration is then dropped by
+/// name, and the map is as it was.
 pub fn count_by_walk<T: TriHashItem, S: BuildHasher>(map: &mut TriHashMap<T, S>) -> usize
     ensures count { result ≡ length (bag map.old) }
     ensures unchanged { map.new ≡ map.old }

@@ -1,5 +1,5 @@
-//! Items with a key that is a reference: callers of `insert_unique` and of entries have no proof for them on this toolchain,
-//! and these have.
+//! Items of which a key is a reference. For such items no caller of `insert_unique` or of `entry` has a proof on this
+//! toolchain. The callers below have one.
 ghost use Rattle.std.specs.Prelude.{◌≡◌, ◌∷◌, ◌<◌, [], nat_eq, length, IsOk, IsPermutation, OnOk, OnErr, IfSome, IfNone};
 ghost use Rattle.std.specs.Cmp.Lexicographic.{pointwise};
 ghost use Rattle.std.specs.List.{list_any};
@@ -42,7 +42,7 @@ impl TriHashItem for Word {
     }
 }
 
-/// Adds a word.
+/// Inserts a word, or returns it.
 pub fn add_word(words: &mut TriHashMap<Word>, word: Word) -> Result<(), Word>
     ensures went_in { OnOk result (IsPermutation (bag words.new) (word ∷ bag words.old)) }
     ensures granted { clash ⟦<Word as Ranked>⟧.ranks (bag words.old) word ≡ []
@@ -52,14 +52,14 @@ pub fn add_word(words: &mut TriHashMap<Word>, word: Word) -> Result<(), Word>
     words.insert_or_back(word)
 }
 
-/// Whether there is a word of a text, which may be lent for less long than the keys.
+/// Returns whether there is a word with this text, which may be borrowed for a shorter time than the keys.
 pub fn has_word(words: &TriHashMap<Word>, text: &str) -> bool
     ensures { result ≡ list_any (λ w. pointwise nat_eq text.now w.text.now) (bag words.now) }
 {
     words.contains_key1(text)
 }
 
-/// Takes a word out.
+/// Removes the word with this text.
 pub fn forget_word(words: &mut TriHashMap<Word>, text: &str) -> Option<Word>
     ensures it { IsOnly (λ w. pointwise nat_eq text.now w.text.now) (bag words.old) result }
     ensures gone { IfSome result (λ w. IsPermutation (bag words.old) (w ∷ bag words.new)) }

@@ -1,4 +1,4 @@
-//! What a caller knows of a map in which an item was written.
+//! What a caller can prove of a map after writing an item.
 ghost use Rattle.std.specs.Prelude.{◌≡◌, Some, None, IsOk, IsPermutation, IfOk, IfErr, OnErr, true, false};
 ghost use Rattle.std.specs.List.{list_any};
 ghost use Rattle.iddqd_tri.specs.Bag.{IsOnly, differ, like, swap};
@@ -8,7 +8,7 @@ ghost use Rattle.iddqd_tri.specs.Keys.{has1};
 use iddqd_tri::{Query, Ranked, TriHashItem, TriHashItemMut, TriHashMap};
 use std::hash::{BuildHasher, Hash};
 
-/// Writes the data of the item with a first key, if there is one.
+/// Writes the data of the item with this first key, if there is one.
 pub fn write1<T: TriHashItemMut, S: BuildHasher>(
     map: &mut TriHashMap<T, S>,
     key: &T::K1,
@@ -26,7 +26,7 @@ where
     }
 }
 
-/// Writes the data of the item with a first key twice, if there is one. The last write stands.
+/// Writes the data of the item with this first key twice, if there is one. The last write counts.
 pub fn write1_twice<T: TriHashItemMut, S: BuildHasher>(
     map: &mut TriHashMap<T, S>,
     key: &T::K1,
@@ -46,7 +46,7 @@ where
     }
 }
 
-/// The same as `write1` through a guard that is lent again.
+/// Does what `write1` does, through a guard that is borrowed again.
 pub fn write1_again<T: TriHashItemMut, S: BuildHasher, Q: Query<T::K1>>(
     map: &mut TriHashMap<T, S>,
     query: Q,
@@ -63,7 +63,8 @@ where
     }
 }
 
-/// Puts an item in the place of the one with a first key, which it gives back. Else it hands the item back.
+/// Replaces the item with this first key by one with equal keys, and returns it. If there is no such item, or if its
+/// keys are not equal, the error is the new item.
 pub fn replace1<T: TriHashItem, S: BuildHasher>(
     map: &mut TriHashMap<T, S>,
     key: &T::K1,
@@ -86,8 +87,8 @@ pub fn replace1<T: TriHashItem, S: BuildHasher>(
     }
 }
 
-/// Whether an item has a first key, asked of the call that lends it for writing. What was lent is dropped at once, and
-/// the map stays.
+/// Returns whether an item has this first key, by the call that borrows it for writing. The guard is dropped at once,
+/// and the map is as it was.
 pub fn is_lent1<T: TriHashItem, S: BuildHasher>(map: &mut TriHashMap<T, S>, key: &T::K1) -> bool
     ensures is { result ≡ list_any (has1 T.TriHashItem T.K1.eq key.now) (bag map.old) }
     ensures unchanged { map.new ≡ map.old }
@@ -95,7 +96,7 @@ pub fn is_lent1<T: TriHashItem, S: BuildHasher>(map: &mut TriHashMap<T, S>, key:
     map.get1_mut(key).is_some()
 }
 
-/// The same as `write1`, and says whether there is one. What was lent is dropped by name.
+/// Does what `write1` does, and returns whether there is such an item. The guard is dropped by name.
 pub fn write1_and_tell<T: TriHashItemMut, S: BuildHasher>(
     map: &mut TriHashMap<T, S>,
     key: &T::K1,

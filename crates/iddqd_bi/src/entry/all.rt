@@ -1,4 +1,4 @@
-//! What can be done with an entry, vacant or occupied.
+//! The calls of an entry that may be vacant or occupied.
 ghost use Rattle.std.specs.Prelude.{◌≡◌, IfOk, IfErr};
 ghost use Rattle.std.specs.Fn.{CalledAt};
 ghost use Rattle.iddqd_store.specs.Bag.{listing};
@@ -12,10 +12,11 @@ use crate::item::{BiHashItem, BiHashItemMut, Ranked};
 use std::hash::{BuildHasher, Hash};
 
 impl<'a, T: BiHashItem, S: BuildHasher, Q: Keys<T::K1, T::K2>> Entry<'a, T, S, Q> {
-    /// Puts an item in where no item has one of the keys, as `VacantEntry::insert` does, and answers it. Where some
-    /// has, the new item is dropped and nothing changes, and the answer holds those that are there.
+    /// Inserts the item if the entry is vacant, as `VacantEntry::insert_mut` does. If the entry is occupied, the item
+    /// is dropped and nothing changes, and the result has the items that are there.
     ///
-    /// It is refused as `VacantEntry::insert` is, and the refusal holds the map, which is as it was.
+    /// The errors are those of `VacantEntry::insert`, in an `EntryRefusal`, which borrows the map. The map is as it was
+    /// then.
     pub fn or_insert(self, item: T) -> Result<OccupiedEntryMut<'a, T, S>, EntryRefusal<'a, T, S>>
     where
         T: Drop,
@@ -30,7 +31,7 @@ impl<'a, T: BiHashItem, S: BuildHasher, Q: Keys<T::K1, T::K2>> Entry<'a, T, S, Q
         }
     }
 
-    /// The same with what `f` answers. It is called once where no item has one of the keys, and else not at all.
+    /// Inserts what `f` returns, as `or_insert` does. `f` is called once if the entry is vacant, and else not at all.
     pub fn or_insert_with<F: FnOnce() -> T>(
         self,
         f: F,
@@ -51,20 +52,23 @@ impl<'a, T: BiHashItem, S: BuildHasher, Q: Keys<T::K1, T::K2>> Entry<'a, T, S, Q
 }
 
 impl<'a, T: BiHashItemMut, S: BuildHasher, Q: Keys<T::K1, T::K2>> Entry<'a, T, S, Q> {
-    /// Stores what `f` answers at each item of an occupied entry as its data, that of the first key first and each item
-    /// once, and gives the entry back. A vacant entry stays, and `f` is not called. It takes no memory.
+    /// Calls `f` with each item of an occupied entry, stores what `f` returns as the item's data, and returns the
+    /// entry. It updates each item once, that of the first key first. A vacant entry stays as it is, and `f` is not
+    /// called. The call allocates no memory.
+    ///
+    /// `map.entry(&key1, &key2).and_modify(|item| item.count + 1).or_insert(item)`
     pub fn and_modify<F: FnMut(&T) -> T::Data>(self, f: F) -> Entry<'a, T, S, Q>
     where
         T::Data: Drop,
         F: Drop,
         requires callable { F.IsAlwaysCallable f }
         requires is_found { IsFound self }
-        // A vacant entry stays as it was. Each item that was found gets the data that the function makes of it.
+        // A vacant entry stays as it was. Each item that was found gets the data that the closure returns for it.
         ensures vacant { OnVacant self.entry (λ v. result ≡ self.entry) }
         ensures stores { OnOccupied self.entry (λ o. Stores (CalledAt F.FnMut) T.put ⟦<T as Ranked>⟧.ranks f
             (listing (entry_tests ⟦<T as Ranked>⟧.key_tests o) (bag o.map.now)) (bag o.map.now)
             (bag (entry_map result))) }
-        // It holds the same map, and what it found is found still. All else stays.
+        // The entry borrows the same map, and has found the same places. Nothing else changes.
         ensures keeps_entry { KeepsEntry self.entry result }
         ensures is_found { IsFound result }
     {

@@ -1,26 +1,26 @@
-//! The keys that an entry was asked for by.
+//! The keys that an entry was made for.
 ghost use Rattle.std.specs.Prelude.{◌≡◌, ⊤};
 
 use std::alloc::AllocError;
 
-/// Two keys. A vacant entry holds them behind this trait, so that what becomes of its map can be followed: beside plain
-/// references it could not.
+/// Two keys, as a vacant entry has them. The entry is generic over this trait because the prover cannot follow what
+/// becomes of a borrowed map that stands beside plain references.
 pub trait Keys<K, L>: Copy {
-    // The keys.
+    // The keys, as contracts see them.
     ghost first: { Self → K };
 
     ghost second: { Self → L };
 
-    /// The first key.
+    /// Returns the first key.
     fn first(&self) -> &K
         ensures { result.now ≡ first self.now };
 
-    /// The second key.
+    /// Returns the second key.
     fn second(&self) -> &L
         ensures { result.now ≡ second self.now };
 }
 
-/// The two key references that a map's `entry` was called with.
+/// The references to two keys that a map's `entry` was called with.
 pub struct KeyPair<'k, K, L> {
     pub(crate) key1: &'k K,
     pub(crate) key2: &'k L,

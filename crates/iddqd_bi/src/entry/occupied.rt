@@ -1,4 +1,4 @@
-//! Reading, writing, overwriting and taking out what two keys found.
+//! The calls of an occupied entry: reading, writing, replacing and removing the items that two keys found.
 ghost use Rattle.std.specs.Prelude.{◌≡◌, None, Some, not, filter, map, IfOk, IfErr, OnOk, OnErr, IsPermutation};
 ghost use Rattle.std.specs.Option.{option_copied_mut, option_to_list};
 ghost use Rattle.std.specs.Borrow.{sem};
@@ -20,7 +20,7 @@ use iddqd_store::{SlotUnder, UpToTwo};
 use std::hash::{BuildHasher, Hash};
 
 impl<'a, T: BiHashItem, S: BuildHasher> OccupiedEntry<'a, T, S> {
-    /// Whether one item has both keys.
+    /// Returns whether one item has both keys.
     pub fn is_unique(&self) -> bool
         requires { HasFound ⟦<T as Ranked>⟧.key_tests self.now }
         ensures { result ≡ is_unique (entry (entry_tests ⟦<T as Ranked>⟧.key_tests self.now) (bag self.now.map.now)) }
@@ -28,7 +28,7 @@ impl<'a, T: BiHashItem, S: BuildHasher> OccupiedEntry<'a, T, S> {
         one_of(self.slot1, self.slot2).is_some()
     }
 
-    /// Whether no item has both keys. One of the keys may be absent.
+    /// Returns whether no item has both keys: the keys found different items, or one of them found none.
     pub fn is_non_unique(&self) -> bool
         requires { HasFound ⟦<T as Ranked>⟧.key_tests self.now }
         ensures { result
@@ -37,7 +37,7 @@ impl<'a, T: BiHashItem, S: BuildHasher> OccupiedEntry<'a, T, S> {
         !self.is_unique()
     }
 
-    /// The items, to be read.
+    /// Returns the items, borrowed for reading.
     pub fn get(&self) -> OccupiedEntryRef<'_, T>
         requires { HasFound ⟦<T as Ranked>⟧.key_tests self.now }
         ensures is_one { is_one result
@@ -51,7 +51,7 @@ impl<'a, T: BiHashItem, S: BuildHasher> OccupiedEntry<'a, T, S> {
         OccupiedEntryRef::of(is_unique, by_key1, by_key2)
     }
 
-    /// The items, to be read for as long as the map is lent.
+    /// Returns the items, borrowed for reading for as long as the entry borrowed the map.
     pub fn into_ref(self) -> OccupiedEntryRef<'a, T>
         requires { HasFound ⟦<T as Ranked>⟧.key_tests self }
         ensures is_one { is_one result
@@ -75,7 +75,8 @@ impl<'a, T: BiHashItem, S: BuildHasher> OccupiedEntry<'a, T, S> {
         OccupiedEntryRef::of(is_unique, by_key1, by_key2)
     }
 
-    /// The items, for writing, lent by the entry. A caller knows less of the map afterwards than after `into_mut`.
+    /// Returns the items, held for writing for as long as the entry is borrowed. Contracts say less of the map
+    /// afterwards than after `into_mut`.
     pub fn get_mut(&mut self) -> OccupiedEntryMut<'_, T, S>
         ensures map { result.map.now ≡ self.old.map.now }
         ensures holds { HasFound ⟦<T as Ranked>⟧.key_tests self.old
@@ -89,7 +90,7 @@ impl<'a, T: BiHashItem, S: BuildHasher> OccupiedEntry<'a, T, S> {
         OccupiedEntryMut { map, slot1, slot2 }
     }
 
-    /// The items, for writing, for as long as the map is lent.
+    /// Returns the items, held for writing for as long as the entry borrowed the map.
     pub fn into_mut(self) -> OccupiedEntryMut<'a, T, S>
         ensures same_map { result.map.ghost_name ≡ self.entry.map.ghost_name }
         ensures map { result.map.now ≡ self.entry.map.now }
@@ -106,24 +107,25 @@ impl<'a, T: BiHashItem, S: BuildHasher> OccupiedEntry<'a, T, S> {
         OccupiedEntryMut { map, slot1, slot2 }
     }
 
-    /// Puts an item that has the entry's keys in the place of those that have one of them, and gives these back in the
-    /// order of the keys. The entry is unique then.
+    /// Inserts an item that has the entry's keys in place of the items that the entry found, and returns those, in the
+    /// order of the keys. From then on the entry finds the new item alone.
     ///
-    /// It is refused with the lowest rank at which the item's key is not the entry's, whether an item has that key or
-    /// not. The refusal hands the item back, and nothing changes.
+    /// If the item has another key, the error has the item and names the lowest rank at which its key is not the
+    /// entry's, whether an item of the map has that key or not. Nothing changes then.
     ///
-    /// It compares the first keys, and those of the next rank where those are equal, and searches nothing. It takes no
-    /// memory.
+    /// The call compares the item's keys with the entry's, rank by rank up to the first that differs. Then it hashes
+    /// each of them once, and each key of a removed item by which the entry did not find it. It searches for nothing,
+    /// and allocates no memory.
     pub fn insert(&mut self, item: T) -> Result<UpToTwo<T>, KeyMismatch<T>>
         requires { HasFound ⟦<T as Ranked>⟧.key_tests self.old }
-        // It goes in only with the keys that the entry has. What these found comes back, in their order.
+        // `Ok` only for an item with the entry's keys. The items that these found are returned, in their order.
         ensures same_keys { OnOk result (differ (entry_tests ⟦<T as Ranked>⟧.key_tests self.old) item ≡ None) }
         ensures displaced { IfOk result (λ gone. gone
             ≡ listing (entry_tests ⟦<T as Ranked>⟧.key_tests self.old) (bag self.old.map.now)) }
-        // The entry has found the item now.
+        // The entry then finds the new item alone.
         ensures puts_over { OnOk result
             (PutsOver ⟦<T as Ranked>⟧.ranks ⟦<T as Ranked>⟧.key_tests self.old item self.new) }
-        // With another key it comes back, and nothing changes.
+        // An item with another key is returned, and nothing changes.
         ensures handed_back { IfErr result (λ e. mismatch_item e ≡ item) }
         ensures rank { IfErr result (λ e.
             differ (entry_tests ⟦<T as Ranked>⟧.key_tests self.old) item ≡ Some (mismatch_rank e)) }
@@ -140,9 +142,9 @@ impl<'a, T: BiHashItem, S: BuildHasher> OccupiedEntry<'a, T, S> {
         Ok(displaced)
     }
 
-    /// Takes the items out, and gives them back in the order of the keys. It takes no memory, and the capacity stays.
+    /// Removes the items, and returns them in the order of the keys. The capacity stays.
     ///
-    /// It compares no key.
+    /// The call hashes each key of a removed item. It compares no key, and allocates no memory.
     pub fn remove(self) -> UpToTwo<T>
         requires { HasFound ⟦<T as Ranked>⟧.key_tests self }
         ensures taken { result ≡ listing (entry_tests ⟦<T as Ranked>⟧.key_tests self.entry) (bag self.entry.map.now) }
@@ -161,7 +163,7 @@ impl<'a, T: BiHashItem, S: BuildHasher> OccupiedEntry<'a, T, S> {
 }
 
 impl<'a, T: BiHashItemMut, S: BuildHasher> OccupiedEntry<'a, T, S> {
-    /// The data of the item with the first key, for writing.
+    /// Returns the data of the item with the first key, borrowed for writing, or `None` if no item has that key.
     pub fn data1_mut(&mut self) -> Option<&mut T::Data>
         requires { HasFound ⟦<T as Ranked>⟧.key_tests self.old }
         ensures value { option_to_list (option_copied_mut result)
@@ -177,7 +179,7 @@ impl<'a, T: BiHashItemMut, S: BuildHasher> OccupiedEntry<'a, T, S> {
         self.map.data_mut_of(slot1)
     }
 
-    /// The data of the item with the second key, for writing.
+    /// Returns the data of the item with the second key, borrowed for writing, or `None` if no item has that key.
     pub fn data2_mut(&mut self) -> Option<&mut T::Data>
         requires { HasFound ⟦<T as Ranked>⟧.key_tests self.old }
         ensures value { option_to_list (option_copied_mut result)
@@ -193,8 +195,8 @@ impl<'a, T: BiHashItemMut, S: BuildHasher> OccupiedEntry<'a, T, S> {
         self.map.data_mut_of(slot2)
     }
 
-    /// Stores what `f` answers at each item as its data, that of the first key first and each item once. What the entry
-    /// found stays found.
+    /// Calls `f` with each item, and stores what `f` returns as the item's data. The call updates each item once, that
+    /// of the first key first, and the entry still finds it. It compares no key, and allocates no memory.
     pub fn for_each<F: FnMut(&T) -> T::Data>(&mut self, f: F)
     where
         T::Data: Drop,

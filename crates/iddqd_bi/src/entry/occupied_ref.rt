@@ -1,23 +1,23 @@
-//! The items that two keys found, to be read.
+//! The items that two keys found, borrowed for reading.
 ghost use Rattle.std.specs.Prelude.{◌≡◌, true, is_some, not, option_copied};
 ghost use Rattle.iddqd_bi.specs.OccupiedRefs.{is_one, seen_unique, seen1, seen2};
 
-/// The items that two keys found, to be read.
+/// The items that two keys found, borrowed for reading.
 #[derive(Drop)]
 pub enum OccupiedEntryRef<'a, T> {
     /// One item has both keys.
     Unique(&'a T),
-    /// The keys don't name one item. At least one of them names some.
+    /// No item has both keys. At least one of the keys has an item.
     NonUnique {
-        /// The item with the first key.
+        /// The item with the first key, or `None`.
         by_key1: Option<&'a T>,
-        /// The item with the second key.
+        /// The item with the second key, or `None`.
         by_key2: Option<&'a T>,
     },
 }
 
 impl<'a, T> OccupiedEntryRef<'a, T> {
-    /// The items that two keys found. They are one where `is_unique` says so.
+    /// Makes the value for the items that two keys found. They are one item if `is_unique` is true.
     pub(crate) fn of(is_unique: bool, by_key1: Option<&'a T>, by_key2: Option<&'a T>) -> Self
         requires some { is_unique ≡ true → is_some by_key1 ≡ true }
         requires one2 { is_unique ≡ true → option_copied by_key1 ≡ option_copied by_key2 }
@@ -33,7 +33,7 @@ impl<'a, T> OccupiedEntryRef<'a, T> {
         OccupiedEntryRef::NonUnique { by_key1, by_key2 }
     }
 
-    /// Whether one item has both keys.
+    /// Returns whether one item has both keys.
     pub fn is_unique(&self) -> bool
         ensures { result ≡ is_one self.now }
     {
@@ -43,14 +43,14 @@ impl<'a, T> OccupiedEntryRef<'a, T> {
         }
     }
 
-    /// Whether no item has both keys.
+    /// Returns whether no item has both keys.
     pub fn is_non_unique(&self) -> bool
         ensures { result ≡ not (is_one self.now) }
     {
         !self.is_unique()
     }
 
-    /// The item that has both keys.
+    /// Returns the item that has both keys, or `None`.
     pub fn as_unique(&self) -> Option<&'a T>
         ensures { option_copied result ≡ seen_unique self.now }
     {
@@ -60,7 +60,7 @@ impl<'a, T> OccupiedEntryRef<'a, T> {
         }
     }
 
-    /// The item with the first key.
+    /// Returns the item with the first key, or `None`.
     pub fn by_key1(&self) -> Option<&'a T>
         ensures { option_copied result ≡ seen1 self.now }
     {
@@ -70,7 +70,7 @@ impl<'a, T> OccupiedEntryRef<'a, T> {
         }
     }
 
-    /// The item with the second key.
+    /// Returns the item with the second key, or `None`.
     pub fn by_key2(&self) -> Option<&'a T>
         ensures { option_copied result ≡ seen2 self.now }
     {

@@ -1,4 +1,4 @@
-//! Putting an item in by keys that no item has.
+//! Inserting an item through a vacant entry.
 ghost use Rattle.std.specs.Prelude.{◌≡◌, ◌<◌, length, None, IsOk, IfOk, IfErr, OnOk};
 ghost use Rattle.std.specs.Borrow.{sem};
 ghost use Rattle.iddqd_store.specs.Bag.{differ};
@@ -13,21 +13,22 @@ use crate::ref_mut::RefMut;
 use std::hash::{BuildHasher, Hash};
 
 impl<'a, T: Ranked, S: BuildHasher, Q: Keys<T::K1, T::K2>> VacantEntry<'a, T, S, Q> {
-    /// Puts an item in that has the entry's keys.
+    /// Inserts an item that has the entry's keys, and returns a guard of it.
     ///
-    /// It is refused with the lowest rank at which its key is not the entry's, or else where the map is full and there
-    /// is no memory to grow. Each refusal hands the item back, and the map is as it was.
+    /// If the item has another key, the error names the lowest rank at which its key is not the entry's. Otherwise the
+    /// call fails only if the map is full and there is no memory to grow. Each error has the item, and the map is as it
+    /// was.
     ///
-    /// It compares the first keys, and those of the next rank where those are equal, and searches and
-    /// hashes nothing. It takes memory only where the map is full.
+    /// The call compares the item's keys with the entry's, rank by rank up to the first that differs. It hashes no key
+    /// and searches for none. It allocates memory only if the map is full.
     pub fn insert(self, item: T) -> Result<RefMut<'a, T, S>, EntryError<T>>
-        // What is lent is the item, in this very map.
+        // The guard borrows the item, in this very map.
         ensures gains_and_lends { IfOk result (GainsAndLends self.entry item) }
-        // It goes in only with the keys that the entry has, and then always where there is room.
+        // `Ok` only for an item with the entry's keys, and then always if there is spare capacity.
         ensures same_keys { OnOk result (differ (wanted self.entry) item ≡ None) }
         ensures granted { differ (wanted self.entry) item ≡ None
             → length (bag self.entry.map.now) < self.entry.map.now.capacity → IsOk result }
-        // Refused, the item comes back, with the reason, and the map ends as it was.
+        // After an error the item is returned, with the reason, and the map ends as it was.
         ensures hands_back { IfErr result (HandsBack T.ranks (wanted self.entry) self.entry.map.now item) }
         ensures* unchanged_at_err { sem 𝓛 (rests_if_err T.row S.row T.K1.row T.K2.row S.Hasher.row
             self.entry.map result) }
@@ -37,15 +38,16 @@ impl<'a, T: Ranked, S: BuildHasher, Q: Keys<T::K1, T::K2>> VacantEntry<'a, T, S,
         Ok(RefMut { map, slot })
     }
 
-    /// The same as `insert`, and answers what an occupied entry answers in `into_mut`.
+    /// Inserts an item as `insert` does, and returns it as `into_mut` of an occupied entry returns items: held for
+    /// writing, found by each key.
     pub fn insert_mut(self, item: T) -> Result<OccupiedEntryMut<'a, T, S>, EntryError<T>>
-        // What is lent holds this very map, with the item in it, which each key finds.
+        // The result borrows this very map, with the item in it, which each key finds.
         ensures gains_and_holds { IfOk result (GainsAndHolds self.entry item) }
-        // It goes in only with the keys that the entry has, and then always where there is room.
+        // `Ok` only for an item with the entry's keys, and then always if there is spare capacity.
         ensures same_keys { OnOk result (differ (wanted self.entry) item ≡ None) }
         ensures granted { differ (wanted self.entry) item ≡ None
             → length (bag self.entry.map.now) < self.entry.map.now.capacity → IsOk result }
-        // Refused, the item comes back, with the reason, and the map ends as it was.
+        // After an error the item is returned, with the reason, and the map ends as it was.
         ensures hands_back { IfErr result (HandsBack T.ranks (wanted self.entry) self.entry.map.now item) }
         ensures* unchanged_at_err { sem 𝓛 (held_rests_if_err T.row S.row T.K1.row T.K2.row S.Hasher.row
             T.BiHashItem T.K1.Hash T.K2.Hash S.BuildHasher S.Hasher.Hasher self.entry.map result) }
@@ -61,15 +63,16 @@ impl<'a, T: Ranked, S: BuildHasher, Q: Keys<T::K1, T::K2>> VacantEntry<'a, T, S,
 }
 
 impl<'a, T: BiHashItem, S: BuildHasher> VacantEntry<'a, T, S> {
-    /// The same as `insert`, and answers an entry, which is unique. Its refusal holds the map.
+    /// Inserts an item as `insert` does, and returns the occupied entry with the same keys, which finds the item alone.
+    /// The error borrows the map.
     pub fn insert_entry(self, item: T) -> Result<OccupiedEntry<'a, T, S>, EntryRefusal<'a, T, S>>
-        // The entry holds this very map, with the item in it, which all its keys find.
+        // The entry borrows this very map, with the item in it, which all its keys find.
         ensures gains_and_finds { IfOk result (GainsAndFinds ⟦<T as Ranked>⟧.key_tests self.entry item) }
-        // It goes in only with the keys that the entry has, and then always where there is room.
+        // `Ok` only for an item with the entry's keys, and then always if there is spare capacity.
         ensures same_keys { OnOk result (differ (wanted self.entry) item ≡ None) }
         ensures granted { differ (wanted self.entry) item ≡ None
             → length (bag self.entry.map.now) < self.entry.map.now.capacity → IsOk result }
-        // Refused, the map is held as it was, and the item comes back, with the reason.
+        // The error borrows the map as it was, and has the item, with the reason.
         ensures is_same_map { IfErr result (λ e. IsSameMap self.entry.map e.map) }
         ensures hands_back { IfErr result (λ e.
             HandsBack ⟦<T as Ranked>⟧.ranks (wanted self.entry) self.entry.map.now item e.error) }
@@ -90,7 +93,8 @@ impl<'a, T: BiHashItem, S: BuildHasher> VacantEntry<'a, T, S> {
 }
 
 impl<'a, T: BiHashItem, S: BuildHasher, Q: Keys<T::K1, T::K2>> VacantEntry<'a, T, S, Q> {
-    /// The same as `insert_mut`, and the refusal holds the map: what the calls of the whole entry answer.
+    /// Inserts an item as `insert_mut` does. The error borrows the map, as those of `or_insert` and `or_insert_with`
+    /// do.
     pub(super) fn put_in(
         self,
         item: T,

@@ -1,4 +1,4 @@
-//! How many items a walk has to come.
+//! How many items an iteration has left.
 ghost use Rattle.std.specs.Prelude.{◌≡◌, length};
 ghost use Rattle.iddqd_bi.specs.IterMuts.{IsCounted, rest_of};
 
@@ -7,15 +7,16 @@ use crate::item::BiHashItem;
 use std::hash::{BuildHasher, Hash};
 
 impl<T: BiHashItem, S: BuildHasher> IterMut<'_, T, S> {
-    /// How many items are to come. It takes one step. A walk by `next_data` keeps the count; behind a guard of `next_mut`
-    /// it is right too, but no clause says so: there `count_remaining` is promised to be.
+    /// Returns how many items are left, in constant time. After steps by `next_data` the contract says that the number
+    /// is exact. After a guard of `next_mut` it is exact too, but no clause says so; there call `count_remaining` to
+    /// prove it.
     pub fn len(&self) -> usize
         ensures { IsCounted self.now → result ≡ length (rest_of self.now) }
     {
         self.left
     }
 
-    /// How many items are to come. It looks at each slot behind the place of the walk.
+    /// Returns how many items are left. It reads each slot that the iteration has not passed.
     pub fn count_remaining(&self) -> usize
         ensures { result ≡ length (rest_of self.now) }
     {

@@ -1,4 +1,4 @@
-//! New maps.
+//! Making empty maps.
 ghost use Rattle.std.specs.Prelude.{◌≡◌, ◌<◌, [], IfOk, IsOk, IsErr};
 ghost use Rattle.iddqd_store.specs.Map.{bag};
 ghost use Rattle.iddqd_store.specs.Table.Limit.{most_room};
@@ -10,7 +10,7 @@ use std::alloc::Global;
 use std::hash::{BuildHasher, Hash};
 
 impl<T: BiHashItem> BiHashMap<T, DefaultHashBuilder> {
-    /// An empty map of capacity 0 with the default builder. It takes no memory.
+    /// Makes an empty map of capacity 0 with the default builder. The call allocates no memory.
     pub fn new(alloc: Global) -> Self
         ensures empty { bag result ≡ [] }
         ensures capacity { result.capacity ≡ 0 }
@@ -19,10 +19,10 @@ impl<T: BiHashItem> BiHashMap<T, DefaultHashBuilder> {
         BiHashMap::with_hasher(alloc, DefaultHashBuilder::default())
     }
 
-    /// An empty map with the default builder and with room for so many items.
+    /// Makes an empty map with the default builder, in which exactly `items` items fit.
     ///
-    /// It takes memory for the slots and for each table. It is refused where there is none and where so many items are
-    /// more than memory can count, and never for 0 items, which take none.
+    /// The call allocates the slots and each table. It fails if an allocation fails, or if so many items are more than
+    /// memory can count. For 0 items it allocates nothing, and succeeds.
     pub fn with_capacity(alloc: Global, items: usize) -> Result<Self, TryReserveError>
         ensures empty { IfOk result (λ map. bag map ≡ []) }
         ensures capacity { IfOk result (λ map. map.capacity ≡ items) }
@@ -35,7 +35,7 @@ impl<T: BiHashItem> BiHashMap<T, DefaultHashBuilder> {
 }
 
 impl<T: BiHashItem, S: BuildHasher> BiHashMap<T, S> {
-    /// An empty map of capacity 0 whose hashes come from this builder. It takes no memory.
+    /// Makes an empty map of capacity 0 with this builder. The call allocates no memory.
     pub fn with_hasher(alloc: Global, hash_builder: S) -> Self
         ensures empty { bag result ≡ [] }
         ensures capacity { result.capacity ≡ 0 }
@@ -49,7 +49,7 @@ impl<T: BiHashItem, S: BuildHasher> BiHashMap<T, S> {
         }
     }
 
-    /// An empty map of capacity 0 whose hashes come from the default value of the builder's type. It takes no memory.
+    /// Makes an empty map of capacity 0 with the default value of the builder's type. The call allocates no memory.
     pub fn default(alloc: Global) -> Self
     where
         S: Default,
@@ -60,17 +60,17 @@ impl<T: BiHashItem, S: BuildHasher> BiHashMap<T, S> {
         BiHashMap::with_hasher(alloc, S::default())
     }
 
-    /// The builder that the map's hashes come from.
+    /// Returns the builder that makes the hashes of the map's keys.
     pub fn hasher(&self) -> &S
         ensures { result.now ≡ self.now.builder }
     {
         &self.hash_builder
     }
 
-    /// An empty map with room for so many items, whose hashes come from this builder.
+    /// Makes an empty map with this builder, in which exactly `items` items fit.
     ///
-    /// It takes memory for the slots and for each table. It is refused where there is none and where so many items are
-    /// more than memory can count, and never for 0 items, which take none.
+    /// The call allocates the slots and each table. It fails if an allocation fails, or if so many items are more than
+    /// memory can count. For 0 items it allocates nothing, and succeeds.
     pub fn with_capacity_and_hasher(
         alloc: Global,
         items: usize,
@@ -78,11 +78,11 @@ impl<T: BiHashItem, S: BuildHasher> BiHashMap<T, S> {
     ) -> Result<Self, TryReserveError>
     where
         S: Drop,
-        // A new map has exactly the room asked for.
+        // A new map is empty, and has exactly the capacity asked for.
         ensures empty { IfOk result (λ map. bag map ≡ []) }
         ensures capacity { IfOk result (λ map. map.capacity ≡ items) }
         ensures builder { IfOk result (λ map. map.builder ≡ hash_builder) }
-        // No room is never refused, and more than a table can have always.
+        // Capacity 0 never fails, and more than the largest table holds always does.
         ensures never_refused { items ≡ 0 → IsOk result }
         ensures past { most_room < items → IsErr result }
     {

@@ -1,4 +1,4 @@
-//! Copies of a map.
+//! Cloning a map.
 ghost use Rattle.std.specs.Prelude.{◌≡◌, ◌≤◌, length, true, Contains, IfOk};
 ghost use Rattle.std.specs.Hash.{HashWrites};
 ghost use Rattle.iddqd_store.specs.Bag.{IsCopy};
@@ -11,18 +11,19 @@ use iddqd_store::TryReserveError;
 use std::hash::{BuildHasher, Hash};
 
 impl<T: BiHashItem + Clone, S: BuildHasher + Clone> BiHashMap<T, S> {
-    /// A map with a clone of each item and of the builder.
+    /// Returns a map with a clone of each item and of the builder. The call fails if an allocation fails, or if a clone
+    /// does.
     ///
-    /// An item's clone has to have the item's keys, and the builder's clone has to hash alike. Where memory or a
-    /// clone is refused there is no map. No key is compared.
+    /// A clone of an item must have equal keys, and the clone of the builder must make the same hashes. The call
+    /// compares and hashes no key.
     pub fn clone(&self) -> Result<Self, TryReserveError>
-        // Clones have equal keys, and a cloned builder hashes alike.
+        // A clone of an item has equal keys, and the clone of the builder makes the same hashes.
         requires same_key1 { (x c : T) → Contains (bag self.now) x → T.is_clone x c → agree T.key1 T.K1.eq x c ≡ true }
         requires same_key2 { (x c : T) → Contains (bag self.now) x → T.is_clone x c → agree T.key2 T.K2.eq x c ≡ true }
         requires same_hashes { (s : S) (writes : HashWrites) → S.is_clone self.now.builder s
             → hash_of S.BuildHasher S.Hasher.Hasher s writes
             ≡ hash_of S.BuildHasher S.Hasher.Hasher self.now.builder writes }
-        // The copy has a clone of each item, and room for them.
+        // The copy has a clone of each item, and they fit.
         ensures items { IfOk result (λ copy. IsCopy T.is_clone (bag self.now) (bag copy)) }
         ensures fits { IfOk result (λ copy. length (bag copy) ≤ copy.capacity) }
         ensures builder { IfOk result (λ copy. S.is_clone self.now.builder copy.builder) }
@@ -34,7 +35,7 @@ impl<T: BiHashItem + Clone, S: BuildHasher + Clone> BiHashMap<T, S> {
             second: self.second.clone()?,
             hash_builder,
         };
-        // No map has more items than fit.
+        // This call gives the prover the fact that the items fit, for the clause `fits`.
         let _ = copy.capacity();
         Ok(copy)
     }

@@ -14,8 +14,8 @@ use super::slots::found::has_others;
 use crate::item::BiHashItem;
 use std::hash::{BuildHasher, Hash};
 
-/// Two maps are equal exactly if their items pair off, each pair agreeing in both keys and by `==`. How they came
-/// about, their capacity and the state of their builders play no part.
+/// Two maps are equal if and only if their items pair off, so that the items of each pair agree in both keys and are
+/// equal by `==`. How the maps came about, their capacity and the state of their builders do not matter.
 ///
 /// There is at most one search for each item of the left map, by its first key.
 impl<T: BiHashItem + PartialEq, S: BuildHasher> PartialEq for BiHashMap<T, S> {
@@ -48,7 +48,7 @@ impl<T: BiHashItem + Eq, S: BuildHasher> Eq for BiHashMap<T, S> {
 }
 
 impl<T: BiHashItem + PartialEq, S: BuildHasher> BiHashMap<T, S> {
-    /// Whether an item of the map agrees with this one in both keys and equals it.
+    /// Returns whether an item of the map agrees with this one in both keys and is equal to it by `==`.
     fn has_partner(&self, item: &T) -> bool
         ensures { result ≡ list_any (same_item (ranks T.BiHashItem T.K1.eq T.K2.eq) T.eq item.now) (bag self.now) }
     {

@@ -1,4 +1,4 @@
-//! Many items at once.
+//! Inserting many items at once.
 ghost use Rattle.std.specs.Prelude.{◌≡◌, ◌≤◌, [], length, IsPermutation, IfOk, IfErr, OnOk, OnErr, IsOk};
 ghost use Rattle.std.specs.Iterator.{IsFiniteIterable};
 ghost use Rattle.iddqd_store.specs.Bag.{IsSound, clash, overs};
@@ -15,21 +15,23 @@ use std::alloc::Global;
 use std::hash::{BuildHasher, Hash};
 
 impl<T: Ranked + Drop, S: BuildHasher> BiHashMap<T, S> {
-    /// Puts the items in one by one, each in the place of those that conflict with it, which are dropped.
+    /// Inserts the items one by one, as `insert_overwrite` does, and drops the items that this removes.
     ///
-    /// It first asks for room for as many as the iterator promises, or for half as many where the map has items, since
-    /// their keys may be there already. Where that is refused it goes on, and the map grows as it fills. An item that
-    /// finds no memory comes back: those before it stay, and the iterator is dropped with the rest.
+    /// First the call reserves capacity for as many items as the iterator promises, or for half as many if the map has
+    /// items, since these may have the same keys. If that fails the call goes on, and the map grows as it fills. If
+    /// there is no memory for an item, the error has that item. Those before it stay in the map, and the rest are
+    /// dropped with the iterator.
     pub fn extend<I: IntoIterator<Item = T>>(&mut self, iter: I) -> Result<(), MemoryRefused<T>>
         requires finite { IsFiniteIterable I.into_iter_gives I.IntoIter.can_next I.IntoIter.remaining iter }
-        // Each went in over what conflicts with it; at a refusal, those that the iterator gave before.
+        // After `Ok`, each item was inserted in place of what conflicts with it; after an error, each item before the
+        // returned one.
         ensures all { OnOk result (GivesAll I.into_iter_gives I.IntoIter.next_gives iter (λ xs.
             ExtendsTo T.ranks (state_of self.old) xs (state_of self.new))) }
         ensures refused { IfErr result (λ e. GivesThen I.into_iter_gives I.IntoIter.next_gives iter e.value (λ xs.
             ExtendsTo T.ranks (state_of self.old) xs (state_of self.new))) }
-        // It is refused only where the map is full and nothing conflicts.
+        // The call fails only if the map is full and nothing conflicts with the item.
         ensures full { IfErr result (λ e. IsFullFor T.ranks self.new e.value) }
-        // Items that fit are never refused, and ask for no more room.
+        // If as many items fit as the iterator may give, the call succeeds, and the capacity stays.
         ensures granted { FitsOn I.into_iter_gives I.IntoIter.remaining iter (length (bag self.old)) self.old.capacity
             → IsOk result }
         ensures room { GrowsUnless
@@ -43,9 +45,9 @@ impl<T: Ranked + Drop, S: BuildHasher> BiHashMap<T, S> {
         } else {
             promised.div_ceil(2)
         };
-        // The promise is of items, not of new keys, so its refusal is not yet a want of memory.
+        // The iterator promises items, and not items with new keys, so that the call may succeed although this fails.
         let _ = self.grow(wanted);
-        // No map has more items than fit.
+        // This call gives the prover the fact that the items fit.
         let _ = self.capacity();
         for item in items {
             drop(self.insert_overwrite(item)?);
@@ -53,18 +55,20 @@ impl<T: Ranked + Drop, S: BuildHasher> BiHashMap<T, S> {
         Ok(())
     }
 
-    /// Puts all the items in, where none of them conflicts with an item of the map or with another of them.
+    /// Inserts all the items if none of them conflicts with an item of the map or with another of them, and else none.
     ///
-    /// Where one does, or finds no memory, none goes in: those before it come out again and are handed back with it,
-    /// in order, and the iterator is dropped with the rest. The conflict is looked for before memory is.
+    /// If an item conflicts, or if there is no memory for it, the call removes the items before it again. The error has
+    /// these in order, that item, and the reason. The rest are dropped with the iterator. For an item that conflicts
+    /// the reason is `Conflict`, whether there is memory or not.
     ///
-    /// Each key of an item is hashed once and searched for once as it goes in. It takes memory for what went in, to
-    /// give it back, and where the map is full; none for a list of no items. Giving back takes none, and compares no
-    /// keys. A refusal may leave the map more room.
+    /// To insert an item, the call hashes each key of it once, and searches for it once. It allocates memory if the map
+    /// is full, and for the list of the items inserted, by which an error returns them; for a list of no items it
+    /// allocates none. To remove the items again, it hashes each key once more, compares none, and allocates no memory.
+    /// After an error the capacity may have grown.
     ///
-    /// ```
+    /// ```text
     /// if let Err(refused) = map.extend_unique(batch) {
-    ///     // The map is as it was, and this one is in the way.
+    ///     // The map has the items that it had before, and this item was rejected.
     ///     return Err(refused.value);
     /// }
     /// ```
@@ -73,15 +77,15 @@ impl<T: Ranked + Drop, S: BuildHasher> BiHashMap<T, S> {
         iter: I,
     ) -> Result<(), ExtendUniqueError<T>>
         requires finite { IsFiniteIterable I.into_iter_gives I.IntoIter.can_next I.IntoIter.remaining iter }
-        // All go in, or none: then those taken come back, and behind them the item that was refused.
+        // All items are inserted, or none; then the error has those before the rejected item, and that item.
         ensures all { OnOk result (GivesAll I.into_iter_gives I.IntoIter.next_gives iter
             (AddsTo T.ranks (bag self.old) (bag self.new))) }
         ensures refused { IfErr result (λ e. GivesThen I.into_iter_gives I.IntoIter.next_gives iter e.value
             (λ xs. xs ≡ e.taken.items)) }
         ensures same_items { OnErr result (IsPermutation (bag self.new) (bag self.old)) }
-        // It is refused for what conflicts with it in the map or among those taken, or for want of memory.
+        // The item was rejected for what conflicts with it in the map or among those before it, or for lack of memory.
         ensures reason { IfErr result (λ e. IsRefusedBehind T.ranks (bag self.old) e.taken.items e.value e.reason) }
-        // The map stays sound, and grows only where the items might not fit.
+        // The map stays sound, and grows only if the items might not fit.
         ensures sound { IsSound T.ranks (bag self.new) }
         ensures room { GrowsUnless
             (FitsOn I.into_iter_gives I.IntoIter.remaining iter (length (bag self.old)) self.old.capacity)
@@ -103,9 +107,10 @@ impl<T: Ranked + Drop, S: BuildHasher> BiHashMap<T, S> {
 }
 
 impl<T: Ranked + Drop, S: BuildHasher + Default + Drop> BiHashMap<T, S> {
-    /// The map of these items, each in the place of those before it that conflict with it, which are dropped.
+    /// Makes a map of the items. It inserts each as `insert_overwrite` does, and drops the items that this removes.
     ///
-    /// It asks for room as `extend` does. Where an item finds no memory it comes back, and there is no map.
+    /// The call reserves capacity as `extend` does. If there is no memory for an item, the error has that item, and
+    /// there is no map.
     pub fn from_iter<I: IntoIterator<Item = T>>(
         alloc: Global,
         iter: I,
@@ -122,21 +127,22 @@ impl<T: Ranked + Drop, S: BuildHasher + Default + Drop> BiHashMap<T, S> {
         Ok(map)
     }
 
-    /// The map of these items, none of which conflict.
+    /// Makes a map of the items if no two of them conflict.
     ///
-    /// It first asks for room for as many as the iterator promises, and goes on where that is refused. At the first
-    /// item that conflicts with some before it, it answers that one and those, in the order of the keys. An item that
-    /// finds no memory comes back. The other items and the iterator are dropped then, and there is no map.
+    /// First the call reserves capacity for as many items as the iterator promises, and goes on if that fails. At the
+    /// first item that conflicts with some before it, the error has that item and those, in the order of the keys. If
+    /// there is no memory for an item, the error has that item. All other items are dropped, with the iterator, and
+    /// there is no map.
     pub fn from_iter_unique<I: IntoIterator<Item = T>>(
         alloc: Global,
         iter: I,
     ) -> Result<Self, FromIterError<T>>
         requires finite { IsFiniteIterable I.into_iter_gives I.IntoIter.can_next I.IntoIter.remaining iter }
-        // All that the iterator gave, with room for them.
+        // The map has all that the iterator gave, and they fit.
         ensures all { IfOk result (λ map. GivesAll I.into_iter_gives I.IntoIter.next_gives iter
             (AddsTo T.ranks [] (bag map))) }
         ensures fits { IfOk result (λ map. length (bag map) ≤ map.capacity) }
-        // Else the first that could not go in, and why.
+        // The error has the first item that could not be inserted, and why.
         ensures refused { IfErr result (λ e. MatchFromIterError e
             (λ x duplicates. GivesThen I.into_iter_gives I.IntoIter.next_gives iter x
             (RefusesFor T.ranks x duplicates))
@@ -146,7 +152,7 @@ impl<T: Ranked + Drop, S: BuildHasher + Default + Drop> BiHashMap<T, S> {
     {
         let mut map = BiHashMap::default(alloc);
         let items = iter.into_iter();
-        // The promise is of items, not of new keys, so its refusal is not yet a want of memory.
+        // The iterator promises items, and not items with new keys, so that the call may succeed although this fails.
         let _ = map.grow(items.size_hint().0);
         for item in items {
             match map.try_insert(item) {
@@ -159,7 +165,7 @@ impl<T: Ranked + Drop, S: BuildHasher + Default + Drop> BiHashMap<T, S> {
                 Err(Refusal::Memory(item)) => return Err(FromIterError::Memory(item)),
             }
         }
-        // No map has more items than fit.
+        // This call gives the prover the fact that the items fit.
         let _ = map.capacity();
         Ok(map)
     }

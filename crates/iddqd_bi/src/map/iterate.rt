@@ -1,4 +1,4 @@
-//! Walks over the items.
+//! Iterating over the items.
 ghost use Rattle.std.specs.Prelude.{◌≡◌, ◌<◌, ◌^◌, length};
 ghost use Rattle.std.specs.Map.Iter.{ShowsInOrder, GivesInOrder, deref};
 ghost use Rattle.iddqd_store.specs.Map.{bag};
@@ -10,7 +10,7 @@ use std::fmt::{self, Debug, Formatter, Write};
 use std::hash::{BuildHasher, Hash};
 
 impl<T: BiHashItem, S: BuildHasher> BiHashMap<T, S> {
-    /// Each item once, in no promised order. It takes no memory.
+    /// Iterates over the items by reference: each item once, in unspecified order. The call allocates no memory.
     pub fn iter(&self) -> Iter<'_, T>
         ensures gives { result ≡ bag self.now }
         ensures runs { ShowsInOrder (deref {X = T}) }
@@ -51,7 +51,7 @@ impl<T: BiHashItem + Drop, S: BuildHasher + Drop> IntoIterator for BiHashMap<T, 
 }
 
 impl<T: BiHashItem + Debug, S: BuildHasher> Debug for BiHashMap<T, S> {
-    /// The items as a set, in the order of a walk.
+    /// Writes the items as a set, in the order of `iter`.
     fn fmt<W: Write>(&self, f: &mut Formatter<W>) -> fmt::Result {
         f.debug_set().entries(self.iter()).finish()
     }

@@ -1,4 +1,4 @@
-//! Keeping some of the items.
+//! Keeping only some of the items.
 ghost use Rattle.std.specs.Prelude.{◌≡◌, ◌≤◌, length};
 ghost use Rattle.std.specs.Fn.{CalledAt};
 ghost use Rattle.iddqd_store.specs.Bag.{Keeps};
@@ -9,10 +9,12 @@ use crate::item::BiHashItem;
 use std::hash::{BuildHasher, Hash};
 
 impl<T: BiHashItem, S: BuildHasher> BiHashMap<T, S> {
-    /// Keeps the items at which `f` answers `true`, and drops the others. `f` is called once for each item, in no
-    /// promised order.
+    /// Keeps the items for which `f` returns `true`, and drops the others. `f` is called once with each item, in
+    /// unspecified order.
     ///
-    /// It takes no memory and compares no key, and the capacity stays.
+    /// The capacity stays. The call hashes each key of a dropped item. It compares no key, and allocates no memory.
+    ///
+    /// `map.retain(|item| item.count > 0)`
     pub fn retain<F: FnMut(&T) -> bool>(&mut self, mut f: F)
     where
         T: Drop,

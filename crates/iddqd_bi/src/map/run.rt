@@ -1,4 +1,4 @@
-//! Commands carried out on the map.
+//! Carrying out commands.
 ghost use Rattle.std.specs.Prelude.{◌≡◌, length};
 ghost use Rattle.iddqd_store.specs.Map.{bag};
 ghost use Rattle.iddqd_store.specs.Runs.Reply.{found, present, duplicate, items, size, done};
@@ -25,8 +25,8 @@ where
     T::K2: Drop,
     T::Data: Drop,
 {
-    /// Carries out the commands in order, and hands each reply to the sink. It ends at the sink's first fault, after
-    /// the command whose reply the sink did not take well.
+    /// Carries out the commands in order, and hands each reply to the sink. The run ends at the sink's first fault,
+    /// which it returns. The run has carried out the command of that reply, and none behind it.
     pub fn run<K: BiSink<T>>(
         &mut self,
         commands: Vec<BiCommand<T>>,
@@ -42,7 +42,8 @@ where
         Ok(())
     }
 
-    /// Carries out one command, and hands its reply to the sink.
+    /// Carries out one command, and hands its reply to the sink. An error is a fault of the sink; the call has carried
+    /// out the command all the same.
     pub fn apply<K: BiSink<T>>(
         &mut self,
         command: BiCommand<T>,
@@ -52,8 +53,9 @@ where
             (state_of self.old) sink.old command result (state_of self.new) sink.new }
         ensures builder { self.new.builder ≡ self.old.builder }
     {
-        // A function begins by clearing the room of all its values. So no arm holds a reply: it is a call (those that
-        // change the map by a key are in `steps`), and a look-up doesn't pay for the replies of all others.
+        // On entry a function clears the stack space of all its values. So no arm holds a reply: each is a call (those
+        // that change the map by a key are in `steps`), and a lookup does not pay for the replies of all other
+        // commands.
         match command {
             BiCommand::InsertUnique(item) => self.apply_insert_unique(item, sink),
             BiCommand::InsertOverwrite(item) => self.apply_insert_overwrite(item, sink),
@@ -167,8 +169,9 @@ where
         }
     }
 
-    // Hands a reply to the sink. No map has more items than fit, which each of these calls says, since each step has
-    // to. A reply that lends nothing has a free lifetime, so each reply goes to the sink from a borrow of the map.
+    // Hands a reply to the sink. `capacity` is called for the fact that the items fit, which the clauses of each of
+    // these functions say, since those of each step do. A reply that borrows nothing would leave its lifetime open, so
+    // each reply is handed over from a borrow of the map.
     fn tell<'m, K: BiSink<T>>(&'m self, reply: BiReply<'m, T>, sink: &mut K) -> Result<(), K::Fault>
         ensures took { K.took sink.old (value_of reply.entry) result sink.new }
         ensures fits { Fits (state_of self.now) }

@@ -1,4 +1,4 @@
-//! Giving room back.
+//! Shrinking the capacity.
 ghost use Rattle.std.specs.Prelude.{◌≡◌, ◌<◌, ◌≤◌, length, max, min, true, IsOk, OnOk, OnErr};
 ghost use Rattle.iddqd_store.specs.Map.{bag};
 
@@ -9,19 +9,20 @@ use iddqd_store::TryReserveError;
 use std::hash::{BuildHasher, Hash};
 
 impl<T: BiHashItem + Drop, S: BuildHasher> BiHashMap<T, S> {
-    /// Gives back the room beyond so many items and beyond the map's own. It never makes room.
+    /// Shrinks the capacity to `least`, but not below the number of items. It never grows the capacity.
     ///
-    /// It takes memory for the slots and the tables that are left, and hashes each key anew. It compares none. Where
-    /// the memory is refused, the map is as before. An empty map that is to keep no room takes none.
+    /// The call allocates smaller slots and tables, and hashes each key anew. It compares none. If an allocation fails,
+    /// the map is as before. For a map that gets capacity 0 the call allocates nothing.
     ///
-    /// A map whose slots and tables have no more room than that is left as it is: nothing is taken or hashed. So a map
-    /// that keeps its capacity is never refused. If its slots or tables have more room than shows in the capacity, as
-    /// after a refused `reserve`, that is given back too, where there is memory for it.
+    /// If the slots and tables are no larger than the new capacity needs, the call allocates and hashes nothing. They
+    /// may be larger although the capacity stays, as after a failed `reserve`. Then the call makes them smaller if
+    /// there is memory for that, and succeeds in any case: a call that does not change the capacity never fails.
     pub fn shrink_to(&mut self, least: usize) -> Result<(), TryReserveError>
-        // Items and builder stay.
+        // The items and the builder stay.
         ensures items { bag self.new ≡ bag self.old }
         ensures builder { self.new.builder ≡ self.old.builder }
-        // The room is that asked for, but no less than the items and no more than before; refused, all is as it was.
+        // The capacity is the one asked for, but no less than the number of items and no more than before. After an
+        // error nothing has changed.
         ensures shrunk { OnOk result (self.new.capacity ≡ max (length (bag self.old)) (min least self.old.capacity)) }
         ensures reason { OnErr result (0 < max (length (bag self.old)) (min least self.old.capacity)) }
         ensures granted { max (length (bag self.old)) (min least self.old.capacity) ≡ self.old.capacity → IsOk result }
@@ -39,12 +40,12 @@ impl<T: BiHashItem + Drop, S: BuildHasher> BiHashMap<T, S> {
         rebuilt
     }
 
-    /// Gives back all the room beyond the map's items, as `shrink_to(0)` does.
+    /// Shrinks the capacity to the number of items, as `shrink_to(0)` does.
     pub fn shrink_to_fit(&mut self) -> Result<(), TryReserveError>
-        // Items and builder stay.
+        // The items and the builder stay.
         ensures items { bag self.new ≡ bag self.old }
         ensures builder { self.new.builder ≡ self.old.builder }
-        // The room is that of the items; refused, the map is as it was.
+        // The capacity is the number of items. After an error nothing has changed.
         ensures shrunk { OnOk result (self.new.capacity ≡ length (bag self.old)) }
         ensures reason { OnErr result (0 < length (bag self.old)) }
         ensures granted { length (bag self.old) ≡ self.old.capacity → IsOk result }
@@ -53,7 +54,7 @@ impl<T: BiHashItem + Drop, S: BuildHasher> BiHashMap<T, S> {
         self.shrink_to(0)
     }
 
-    /// Whether the slots have room for just so many items, and each table is as small as one that is made for them.
+    /// Returns whether the slots hold exactly so many items, and each table is as small as one that is made for them.
     fn is_made_for(&self, wanted: usize) -> bool
         ensures { result ≡ true → self.now.capacity ≡ wanted }
     {
@@ -62,7 +63,7 @@ impl<T: BiHashItem + Drop, S: BuildHasher> BiHashMap<T, S> {
             && self.second.is_made_for(wanted)
     }
 
-    /// Makes slots and tables anew, with room for so many items. Where that is refused, the map is as before.
+    /// Makes slots and tables anew, for so many items. After an error the map is as before.
     fn rebuild(&mut self, wanted: usize) -> Result<(), TryReserveError>
         requires enough { length (bag self.old) ≤ wanted }
         requires within { wanted ≤ self.old.capacity }
@@ -72,7 +73,7 @@ impl<T: BiHashItem + Drop, S: BuildHasher> BiHashMap<T, S> {
         ensures reason { OnErr result (0 < wanted) }
         ensures unchanged { OnErr result (self.new ≡ self.old) }
     {
-        // All that can be refused comes first: the new tables, then the slots.
+        // All that can fail comes first: the new tables, then the slots.
         let mut first = self.first.fresh(wanted)?;
         let mut second = self.second.fresh(wanted)?;
         self.items.shrink_to(wanted)?;

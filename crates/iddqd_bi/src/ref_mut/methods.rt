@@ -1,4 +1,4 @@
-//! What can be done with an item that is lent for writing.
+//! The calls of a guard.
 ghost use Rattle.std.specs.Prelude.{◌≡◌, Some, IfSome, IfOk, IfErr, OnErr, IsPermutation};
 ghost use Rattle.std.specs.Borrow.{sem};
 ghost use Rattle.iddqd_store.specs.Bag.{differ, like, swap};
@@ -19,7 +19,7 @@ impl<T: BiHashItem, S: BuildHasher> Deref for RefMut<'_, T, S> {
 
     ghost deref_gives = { λ r x. ref_item r ≡ Some x };
 
-    /// The item.
+    /// Returns the item.
     fn deref(&self) -> &T
         ensures { ref_item self.now ≡ Some result.now }
     {
@@ -28,7 +28,8 @@ impl<T: BiHashItem, S: BuildHasher> Deref for RefMut<'_, T, S> {
 }
 
 impl<T: BiHashItemMut, S: BuildHasher> RefMut<'_, T, S> {
-    /// The data of the item, for writing. No key changes, and none is compared or hashed.
+    /// Returns the item's data, borrowed for writing, as in `*guard.data_mut() = data`. No key changes, and the call
+    /// compares and hashes none.
     pub fn data_mut(&mut self) -> &mut T::Data
         ensures value { IfSome (ref_item self.old) (λ x. result.now ≡ T.data_of x) }
         ensures writes { (d : T.Data) → IfSome (ref_item self.old) (λ x.
@@ -45,15 +46,14 @@ impl<T: BiHashItemMut, S: BuildHasher> RefMut<'_, T, S> {
 }
 
 impl<T: Ranked, S: BuildHasher> RefMut<'_, T, S> {
-    /// Puts an item with the same keys in the place of this one, which it gives back. Else the item is handed back with
-    /// the lowest rank at which the keys differ, and nothing changes.
+    /// Replaces the item by one with equal keys, and returns it. If the new item has another key, the error has the new
+    /// item and names the lowest rank at which the keys differ. Nothing changes then.
     ///
-    /// It compares the first keys, and those of the next rank where those are equal. It hashes none and takes no
-    /// memory.
+    /// The call compares the keys rank by rank, up to the first that differs. It hashes none, and allocates no memory.
     pub fn replace(&mut self, item: T) -> Result<T, KeyMismatch<T>>
-        // The item that was lent comes back, and the new one, with the same keys, is in its place.
+        // The item that was borrowed is returned, and the new one, with equal keys, is in its place.
         ensures replaces { IfOk result (λ x. Replaces T.ranks self.old item x self.new) }
-        // With another key it comes back, and nothing changes.
+        // An item with another key is returned, and nothing changes.
         ensures handed_back { IfErr result (λ e. mismatch_item e ≡ item) }
         ensures rank { IfErr result (λ e. IfSome (ref_item self.old) (λ x.
             differ (like T.ranks x) item ≡ Some (mismatch_rank e))) }
@@ -68,7 +68,7 @@ impl<T: Ranked, S: BuildHasher> RefMut<'_, T, S> {
 }
 
 impl<'a, T: BiHashItem, S: BuildHasher> RefMut<'a, T, S> {
-    /// This very reference, lent for a while.
+    /// Returns this very guard, borrowed for a while.
     pub fn reborrow(&mut self) -> &mut RefMut<'a, T, S>
         ensures itself { result.ghost_name ≡ self.entry.ghost_name }
         ensures unchanged { result.now ≡ self.old }
@@ -76,7 +76,7 @@ impl<'a, T: BiHashItem, S: BuildHasher> RefMut<'a, T, S> {
         self
     }
 
-    /// The item, to be read for as long as the map is lent.
+    /// Returns the item, borrowed for reading for as long as the guard borrowed the map.
     pub fn into_ref(self) -> &'a T
         ensures { ref_item self.entry ≡ Some result.now }
     {

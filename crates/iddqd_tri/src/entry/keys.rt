@@ -1,32 +1,32 @@
-//! The keys that an entry was asked for by.
+//! The keys that an entry was made for.
 ghost use Rattle.std.specs.Prelude.{◌≡◌, ⊤};
 
 use std::alloc::AllocError;
 
-/// Three keys. A vacant entry holds them behind this trait, so that what becomes of its map can be followed: beside
-/// plain references it could not.
+/// Three keys, as a vacant entry has them. The entry is generic over this trait because the prover cannot follow what
+/// becomes of a borrowed map that stands beside plain references.
 pub trait Keys<K, L, M>: Copy {
-    // The keys.
+    // The keys, as contracts see them.
     ghost first: { Self → K };
 
     ghost second: { Self → L };
 
     ghost third: { Self → M };
 
-    /// The first key.
+    /// Returns the first key.
     fn first(&self) -> &K
         ensures { result.now ≡ first self.now };
 
-    /// The second key.
+    /// Returns the second key.
     fn second(&self) -> &L
         ensures { result.now ≡ second self.now };
 
-    /// The third key.
+    /// Returns the third key.
     fn third(&self) -> &M
         ensures { result.now ≡ third self.now };
 }
 
-/// The three key references that a map's `entry` was called with.
+/// The references to three keys that a map's `entry` was called with.
 pub struct KeyTriple<'k, K, L, M> {
     pub(crate) key1: &'k K,
     pub(crate) key2: &'k L,

@@ -1,4 +1,4 @@
-//! Writing the items that three keys found.
+//! The items that three keys found, held for writing.
 ghost use Rattle.std.specs.Prelude.{◌≡◌, not, map, Some, IfSome, IsPermutation};
 ghost use Rattle.std.specs.Borrow.{sem};
 ghost use Rattle.std.specs.Fn.{CalledAt};
@@ -16,7 +16,7 @@ use crate::ref_mut::RefMut;
 use std::hash::{BuildHasher, Hash};
 
 impl<'a, T: TriHashItem, S: BuildHasher> OccupiedEntryMut<'a, T, S> {
-    /// Whether one item has all keys.
+    /// Returns whether one item has all keys.
     pub fn is_unique(&self) -> bool
         requires { Holds self.now }
         ensures { result ≡ is_unique (held_entry self.now) }
@@ -24,7 +24,7 @@ impl<'a, T: TriHashItem, S: BuildHasher> OccupiedEntryMut<'a, T, S> {
         one_of(self.slot1, self.slot2, self.slot3).is_some()
     }
 
-    /// Whether no item has all keys.
+    /// Returns whether no item has all keys.
     pub fn is_non_unique(&self) -> bool
         requires { Holds self.now }
         ensures { result ≡ not (is_unique (held_entry self.now)) }
@@ -32,7 +32,8 @@ impl<'a, T: TriHashItem, S: BuildHasher> OccupiedEntryMut<'a, T, S> {
         !self.is_unique()
     }
 
-    /// The item that has all keys, for writing. A caller knows less of the map afterwards than after `into_unique`.
+    /// Returns a guard of the item that has all keys, or `None`. Contracts say less of the map afterwards than after
+    /// `into_unique`.
     pub fn as_unique(&mut self) -> Option<RefMut<'_, T, S>>
         ensures item { option_and_then ref_item result ≡ held_unique self.old }
         ensures unchanged { IfSome result (λ r. ref_map r ≡ self.old.map.now) }
@@ -41,7 +42,8 @@ impl<'a, T: TriHashItem, S: BuildHasher> OccupiedEntryMut<'a, T, S> {
         self.map.lend(slot)
     }
 
-    /// The item with the first key, for writing. A caller knows less of the map afterwards than after `into_by_key1`.
+    /// Returns a guard of the item with the first key, or `None`. Contracts say less of the map afterwards than after
+    /// `into_by_key1`.
     pub fn by_key1(&mut self) -> Option<RefMut<'_, T, S>>
         ensures item { option_and_then ref_item result ≡ held1 self.old }
         ensures unchanged { IfSome result (λ r. ref_map r ≡ self.old.map.now) }
@@ -50,7 +52,8 @@ impl<'a, T: TriHashItem, S: BuildHasher> OccupiedEntryMut<'a, T, S> {
         self.map.lend(slot)
     }
 
-    /// The item with the second key, for writing. A caller knows less of the map afterwards than after `into_by_key2`.
+    /// Returns a guard of the item with the second key, or `None`. Contracts say less of the map afterwards than after
+    /// `into_by_key2`.
     pub fn by_key2(&mut self) -> Option<RefMut<'_, T, S>>
         ensures item { option_and_then ref_item result ≡ held2 self.old }
         ensures unchanged { IfSome result (λ r. ref_map r ≡ self.old.map.now) }
@@ -59,7 +62,8 @@ impl<'a, T: TriHashItem, S: BuildHasher> OccupiedEntryMut<'a, T, S> {
         self.map.lend(slot)
     }
 
-    /// The item with the third key, for writing. A caller knows less of the map afterwards than after `into_by_key3`.
+    /// Returns a guard of the item with the third key, or `None`. Contracts say less of the map afterwards than after
+    /// `into_by_key3`.
     pub fn by_key3(&mut self) -> Option<RefMut<'_, T, S>>
         ensures item { option_and_then ref_item result ≡ held3 self.old }
         ensures unchanged { IfSome result (λ r. ref_map r ≡ self.old.map.now) }
@@ -68,7 +72,8 @@ impl<'a, T: TriHashItem, S: BuildHasher> OccupiedEntryMut<'a, T, S> {
         self.map.lend(slot)
     }
 
-    /// The item that has all keys, for writing, for as long as the map is lent.
+    /// Returns a guard of the item that has all keys, or `None`. The guard lasts for as long as `self` borrowed the
+    /// map.
     pub fn into_unique(self) -> Option<RefMut<'a, T, S>>
         ensures item { option_and_then ref_item result ≡ held_unique self.entry }
         ensures unchanged { IfSome result (λ r. ref_map r ≡ self.entry.map.now) }
@@ -85,7 +90,8 @@ impl<'a, T: TriHashItem, S: BuildHasher> OccupiedEntryMut<'a, T, S> {
         map.lend(one_of(slot1, slot2, slot3))
     }
 
-    /// The item with the first key, for writing, for as long as the map is lent.
+    /// Returns a guard of the item with the first key, or `None`. The guard lasts for as long as `self` borrowed the
+    /// map.
     pub fn into_by_key1(self) -> Option<RefMut<'a, T, S>>
         ensures item { option_and_then ref_item result ≡ held1 self.entry }
         ensures unchanged { IfSome result (λ r. ref_map r ≡ self.entry.map.now) }
@@ -102,7 +108,8 @@ impl<'a, T: TriHashItem, S: BuildHasher> OccupiedEntryMut<'a, T, S> {
         map.lend(slot1)
     }
 
-    /// The item with the second key, for writing, for as long as the map is lent.
+    /// Returns a guard of the item with the second key, or `None`. The guard lasts for as long as `self` borrowed the
+    /// map.
     pub fn into_by_key2(self) -> Option<RefMut<'a, T, S>>
         ensures item { option_and_then ref_item result ≡ held2 self.entry }
         ensures unchanged { IfSome result (λ r. ref_map r ≡ self.entry.map.now) }
@@ -119,7 +126,8 @@ impl<'a, T: TriHashItem, S: BuildHasher> OccupiedEntryMut<'a, T, S> {
         map.lend(slot2)
     }
 
-    /// The item with the third key, for writing, for as long as the map is lent.
+    /// Returns a guard of the item with the third key, or `None`. The guard lasts for as long as `self` borrowed the
+    /// map.
     pub fn into_by_key3(self) -> Option<RefMut<'a, T, S>>
         ensures item { option_and_then ref_item result ≡ held3 self.entry }
         ensures unchanged { IfSome result (λ r. ref_map r ≡ self.entry.map.now) }
@@ -138,7 +146,7 @@ impl<'a, T: TriHashItem, S: BuildHasher> OccupiedEntryMut<'a, T, S> {
 }
 
 impl<'a, T: TriHashItemMut, S: BuildHasher> OccupiedEntryMut<'a, T, S> {
-    /// The data of the item with the first key, for writing. What the entry holds stays held.
+    /// Returns the data of the item with the first key, borrowed for writing, or `None`. All items stay held.
     pub fn data1_mut(&mut self) -> Option<&mut T::Data>
         requires { Holds self.old }
         ensures value { option_to_list (option_copied_mut result) ≡ map T.data_of (option_to_list (held1 self.old)) }
@@ -153,7 +161,7 @@ impl<'a, T: TriHashItemMut, S: BuildHasher> OccupiedEntryMut<'a, T, S> {
         self.map.data_mut_of(slot1)
     }
 
-    /// The data of the item with the second key, for writing. What the entry holds stays held.
+    /// Returns the data of the item with the second key, borrowed for writing, or `None`. All items stay held.
     pub fn data2_mut(&mut self) -> Option<&mut T::Data>
         requires { Holds self.old }
         ensures value { option_to_list (option_copied_mut result) ≡ map T.data_of (option_to_list (held2 self.old)) }
@@ -168,7 +176,7 @@ impl<'a, T: TriHashItemMut, S: BuildHasher> OccupiedEntryMut<'a, T, S> {
         self.map.data_mut_of(slot2)
     }
 
-    /// The data of the item with the third key, for writing. What the entry holds stays held.
+    /// Returns the data of the item with the third key, borrowed for writing, or `None`. All items stay held.
     pub fn data3_mut(&mut self) -> Option<&mut T::Data>
         requires { Holds self.old }
         ensures value { option_to_list (option_copied_mut result) ≡ map T.data_of (option_to_list (held3 self.old)) }
@@ -183,7 +191,7 @@ impl<'a, T: TriHashItemMut, S: BuildHasher> OccupiedEntryMut<'a, T, S> {
         self.map.data_mut_of(slot3)
     }
 
-    /// The data of the item that has all keys, for writing. What the entry holds stays held.
+    /// Returns the data of the item that has all keys, borrowed for writing, or `None`. All items stay held.
     pub fn data_unique_mut(&mut self) -> Option<&mut T::Data>
         requires { Holds self.old }
         ensures value { option_to_list (option_copied_mut result) ≡ map T.data_of (option_to_list (held_unique self.old)) }
@@ -198,18 +206,18 @@ impl<'a, T: TriHashItemMut, S: BuildHasher> OccupiedEntryMut<'a, T, S> {
         self.map.data_mut_of(slot)
     }
 
-    /// Stores what `f` answers at each item as its data, that of the first key first and each item once. `f` sees each
-    /// item as it stands then. It takes no memory and compares no key.
+    /// Calls `f` with each item, as it is then, and stores what `f` returns as the item's data. The call updates each
+    /// item once, that of the first key first. It compares no key, and allocates no memory.
     pub fn for_each<F: FnMut(&T) -> T::Data>(&mut self, f: F)
     where
         T::Data: Drop,
         requires holds { Holds self.old }
         requires callable { F.IsAlwaysCallable f }
-        // Each item that is held gets the data that the function makes of it.
+        // Each item that is held gets the data that the closure returns for it.
         ensures same_map { self.new.map.ghost_name ≡ self.old.map.ghost_name }
         ensures stores { Stores (CalledAt F.FnMut) T.put ⟦<T as Ranked>⟧.ranks f
             (held self.old) (bag self.old.map.now) (bag self.new.map.now) }
-        // All else stays.
+        // Nothing else changes.
         ensures places { HoldsSame self.old self.new }
         ensures holds { Holds self.new }
         ensures capacity { self.new.map.now.capacity ≡ self.old.map.now.capacity }

@@ -1,25 +1,25 @@
-//! The items that three keys found, to be read.
+//! The items that three keys found, borrowed for reading.
 ghost use Rattle.std.specs.Prelude.{◌≡◌, true, is_some, not, option_copied};
 ghost use Rattle.iddqd_tri.specs.OccupiedRefs.{is_one, seen_unique, seen1, seen2, seen3};
 
-/// The items that three keys found, to be read.
+/// The items that three keys found, borrowed for reading.
 #[derive(Drop)]
 pub enum OccupiedEntryRef<'a, T> {
     /// One item has all keys.
     Unique(&'a T),
-    /// The keys don't name one item. At least one of them names some.
+    /// No item has all keys. At least one of the keys has an item.
     NonUnique {
-        /// The item with the first key.
+        /// The item with the first key, or `None`.
         by_key1: Option<&'a T>,
-        /// The item with the second key.
+        /// The item with the second key, or `None`.
         by_key2: Option<&'a T>,
-        /// The item with the third key.
+        /// The item with the third key, or `None`.
         by_key3: Option<&'a T>,
     },
 }
 
 impl<'a, T> OccupiedEntryRef<'a, T> {
-    /// The items that three keys found. They are one where `is_unique` says so.
+    /// Makes the value for the items that three keys found. They are one item if `is_unique` is true.
     pub(crate) fn of(
         is_unique: bool,
         by_key1: Option<&'a T>,
@@ -46,7 +46,7 @@ impl<'a, T> OccupiedEntryRef<'a, T> {
         }
     }
 
-    /// Whether one item has all keys.
+    /// Returns whether one item has all keys.
     pub fn is_unique(&self) -> bool
         ensures { result ≡ is_one self.now }
     {
@@ -56,14 +56,14 @@ impl<'a, T> OccupiedEntryRef<'a, T> {
         }
     }
 
-    /// Whether no item has all keys.
+    /// Returns whether no item has all keys.
     pub fn is_non_unique(&self) -> bool
         ensures { result ≡ not (is_one self.now) }
     {
         !self.is_unique()
     }
 
-    /// The item that has all keys.
+    /// Returns the item that has all keys, or `None`.
     pub fn as_unique(&self) -> Option<&'a T>
         ensures { option_copied result ≡ seen_unique self.now }
     {
@@ -73,7 +73,7 @@ impl<'a, T> OccupiedEntryRef<'a, T> {
         }
     }
 
-    /// The item with the first key.
+    /// Returns the item with the first key, or `None`.
     pub fn by_key1(&self) -> Option<&'a T>
         ensures { option_copied result ≡ seen1 self.now }
     {
@@ -83,7 +83,7 @@ impl<'a, T> OccupiedEntryRef<'a, T> {
         }
     }
 
-    /// The item with the second key.
+    /// Returns the item with the second key, or `None`.
     pub fn by_key2(&self) -> Option<&'a T>
         ensures { option_copied result ≡ seen2 self.now }
     {
@@ -93,7 +93,7 @@ impl<'a, T> OccupiedEntryRef<'a, T> {
         }
     }
 
-    /// The item with the third key.
+    /// Returns the item with the third key, or `None`.
     pub fn by_key3(&self) -> Option<&'a T>
         ensures { option_copied result ≡ seen3 self.now }
     {

@@ -1,4 +1,5 @@
-//! What the errors print. Nothing is asked of the items but `Drop`.
+//! What the errors print. No item is printed, so that an item needs neither `Debug` nor `Display`; `Error` asks for
+//! `Drop`.
 use super::{EntryError, EntryRefusal, InsertError, KeyMismatch};
 use crate::item::{Ranked, TriHashItem};
 use std::error::Error;

@@ -1,4 +1,4 @@
-//! The steps of a walk for writing.
+//! The steps of an iteration for writing.
 ghost use Rattle.std.specs.Prelude.{◌≡◌, ◌+◌, ◌-◌, [], slice_get, IfSome, IfNone};
 ghost use Rattle.std.specs.Borrow.{sem};
 ghost use Rattle.std.specs.Option.{option_and_then, option_copied_mut, option_map};
@@ -13,8 +13,8 @@ use iddqd_store::ItemIndex;
 use std::hash::{BuildHasher, Hash};
 
 impl<T: TriHashItem, S: BuildHasher> IterMut<'_, T, S> {
-    /// The next item, for writing. A caller knows less of the map afterwards than after `next_data`, or after
-    /// `TriHashMap::next_from`.
+    /// Returns a guard of the next item, or `None` behind the last one. Contracts say less of the map afterwards than
+    /// after `next_data`, or after `TriHashMap::next_from`.
     pub fn next_mut(&mut self) -> Option<RefMut<'_, T, S>>
         ensures next { option_and_then ref_item result ≡ slice_get (rest_of self.old) 0 }
         ensures unchanged { IfSome result (λ r. ref_map r ≡ self.old.map.now) }
@@ -26,7 +26,7 @@ impl<T: TriHashItem, S: BuildHasher> IterMut<'_, T, S> {
         })
     }
 
-    /// Goes on behind the next item, and answers its slot.
+    /// Moves on behind the next item, and returns its slot.
     fn advance(&mut self) -> Option<ItemIndex>
         ensures next { option_and_then (get self.old.map.now.slots) result ≡ slice_get (rest_of self.old) 0 }
         ensures behind { IfSome result (λ ix. self.new.next ≡ ix + 1) }
@@ -43,14 +43,14 @@ impl<T: TriHashItem, S: BuildHasher> IterMut<'_, T, S> {
 }
 
 impl<T: TriHashItemMut, S: BuildHasher> IterMut<'_, T, S> {
-    /// The data of the next item, for writing.
+    /// Returns the data of the next item, borrowed for writing, or `None` behind the last one.
     pub fn next_data(&mut self) -> Option<&mut T::Data>
-        // It is the data of the next item, and none at the end.
+        // It is the data of the next item, and `None` at the end.
         ensures next { IfSome result (λ r. IsNextOf self.old) }
         ensures value { option_copied_mut result ≡ option_map T.data_of (slice_get (rest_of self.old) 0) }
         ensures end { IfNone result (rest_of self.old ≡ []) }
         ensures counted { (f : T → T) → IsCounted self.old → IfSome result (λ r. IsCounted (stepped self.old f)) }
-        // What is written through it ends in the item.
+        // What is written through the borrow ends in that item.
         ensures* lends { sem 𝓛 (lends_next T.row S.row T.K1.row T.K2.row T.K3.row S.Hasher.row
             T.TriHashItem T.K1.Hash T.K2.Hash T.K3.Hash S.BuildHasher S.Hasher.Hasher
             T.Data.row T.put self.entry result) }

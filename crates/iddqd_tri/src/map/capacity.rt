@@ -1,4 +1,4 @@
-//! Room for items.
+//! How many items there are and how many fit.
 ghost use Rattle.std.specs.Prelude.{◌≡◌, ◌≤◌, [], length, ◌==◌};
 ghost use Rattle.iddqd_store.specs.Bag.{IsSound};
 ghost use Rattle.iddqd_store.specs.Map.{bag, MakesRoom};
@@ -10,7 +10,7 @@ use iddqd_store::TryReserveError;
 use std::hash::{BuildHasher, Hash};
 
 impl<T: Ranked, S: BuildHasher> TriHashMap<T, S> {
-    /// The number of items.
+    /// Returns the number of items.
     pub fn len(&self) -> usize
         ensures value { result ≡ length (bag self.now) }
         ensures sound { IsSound T.ranks (bag self.now) }
@@ -18,15 +18,15 @@ impl<T: Ranked, S: BuildHasher> TriHashMap<T, S> {
         self.items.len()
     }
 
-    /// Whether there are no items.
+    /// Returns whether there are no items.
     pub fn is_empty(&self) -> bool
         ensures { result ≡ (length (bag self.now) == 0) }
     {
         self.len() == 0
     }
 
-    /// How many items fit without growing: the least of what the slots and each table hold. It is never above what
-    /// the largest table holds whose cells a `usize` counts.
+    /// Returns how many items fit without growing: the least of what the slots and each table hold. It is at most
+    /// `most_room`, 7 * 2^60, the number of items that the largest table holds.
     pub fn capacity(&self) -> usize
         ensures value { result ≡ self.now.capacity }
         ensures fits { length (bag self.now) ≤ result }
@@ -35,10 +35,10 @@ impl<T: Ranked, S: BuildHasher> TriHashMap<T, S> {
         self.room()
     }
 
-    /// Makes room for so many more items. It takes no memory where they fit already, and compares no key.
+    /// Reserves capacity for so many more items. If they fit already, the call allocates no memory. It compares no key.
     ///
-    /// It is refused where memory for more slots or for a larger table is, and where so many items are more than
-    /// memory can count. Then the items are as before, and the map may have more room, but not for so many.
+    /// The call fails if an allocation for more slots or for a larger table fails, or if so many items are more than
+    /// memory can count. Then the items are as before. The capacity may have grown, but so many more items do not fit.
     pub fn reserve(&mut self, more: usize) -> Result<(), TryReserveError>
         ensures items { bag self.new ≡ bag self.old }
         ensures room { MakesRoom self.old more result self.new }
@@ -46,7 +46,7 @@ impl<T: Ranked, S: BuildHasher> TriHashMap<T, S> {
         self.grow(more)
     }
 
-    /// The same as `reserve`.
+    /// Reserves capacity as `reserve` does.
     pub fn try_reserve(&mut self, more: usize) -> Result<(), TryReserveError>
         ensures items { bag self.new ≡ bag self.old }
         ensures room { MakesRoom self.old more result self.new }
@@ -54,7 +54,7 @@ impl<T: Ranked, S: BuildHasher> TriHashMap<T, S> {
         self.reserve(more)
     }
 
-    /// Drops every item. The builder and the capacity stay, and it takes no memory.
+    /// Drops all items. The builder and the capacity stay. The call allocates no memory.
     pub fn clear(&mut self)
     where
         T: Drop,

@@ -14,8 +14,8 @@ use super::slots::found::has_others;
 use crate::item::TriHashItem;
 use std::hash::{BuildHasher, Hash};
 
-/// Two maps are equal exactly if their items pair off, each pair agreeing in all keys and by `==`. How they came
-/// about, their capacity and the state of their builders play no part.
+/// Two maps are equal if and only if their items pair off, so that the items of each pair agree in all keys and are
+/// equal by `==`. How the maps came about, their capacity and the state of their builders do not matter.
 ///
 /// There is at most one search for each item of the left map, by its first key.
 impl<T: TriHashItem + PartialEq, S: BuildHasher> PartialEq for TriHashMap<T, S> {
@@ -53,7 +53,7 @@ impl<T: TriHashItem + Eq, S: BuildHasher> Eq for TriHashMap<T, S> {
 }
 
 impl<T: TriHashItem + PartialEq, S: BuildHasher> TriHashMap<T, S> {
-    /// Whether an item of the map agrees with this one in all keys and equals it.
+    /// Returns whether an item of the map agrees with this one in all keys and is equal to it by `==`.
     fn has_partner(&self, item: &T) -> bool
         ensures { result ≡ list_any (same_item (ranks T.TriHashItem T.K1.eq T.K2.eq T.K3.eq) T.eq item.now)
             (bag self.now) }

@@ -1,4 +1,4 @@
-//! Entries of three keys.
+//! Looking up three keys at once.
 ghost use Rattle.std.specs.Prelude.{◌≡◌};
 ghost use Rattle.iddqd_store.specs.Bag.{entry};
 ghost use Rattle.iddqd_store.specs.Map.{bag};
@@ -10,21 +10,23 @@ use crate::item::{Ranked, TriHashItem};
 use std::hash::{BuildHasher, Hash};
 
 impl<T: TriHashItem, S: BuildHasher> TriHashMap<T, S> {
-    /// What three keys find: no item, one that has all, or items that have one of them. The entry keeps the keys and
-    /// what they found, and searches nothing again. It takes no memory.
+    /// Looks up three keys at once. The result is `Vacant` if no item has one of the keys, and else `Occupied`, with
+    /// the items that have one. The entry keeps what the keys found, so that its calls need not search again.
     ///
-    /// Each key is hashed once and searched for once.
+    /// The call hashes each key once, and searches for it once. It allocates no memory.
+    ///
+    /// `map.entry(&key1, &key2, &key3).or_insert(item)`
     pub fn entry<'a>(
         &'a mut self,
         key1: &'a T::K1,
         key2: &'a T::K2,
         key3: &'a T::K3,
     ) -> Entry<'a, T, S>
-        // It holds this very map, unchanged, and these keys.
+        // The entry borrows this very map, unchanged, and has these keys.
         ensures same_map { entry_lender result ≡ self.entry.ghost_name }
         ensures unchanged { entry_map result ≡ self.old }
         ensures keys { HasKeys result key1.now key2.now key3.now }
-        // It tells which items have the keys.
+        // It has found the items that have the keys.
         ensures value { entry_value result
             ≡ entry (⟦<T as Ranked>⟧.key_tests key1.now key2.now key3.now) (bag self.old) }
         ensures is_found { IsFound result }

@@ -1,4 +1,4 @@
-//! Lookups. Each goes through the search of its rank, which gives the slot.
+//! Lookups. Each searches the table of one rank, which leads to the item's slot.
 ghost use Rattle.std.specs.Prelude.{◌≡◌, option_copied};
 ghost use Rattle.std.specs.List.{list_any};
 ghost use Rattle.iddqd_store.specs.Bag.{IsOnly};
@@ -12,36 +12,39 @@ use iddqd_store::{KeyMatcher, Meter, Query};
 use std::hash::{BuildHasher, Hash};
 
 impl<T: TriHashItem, S: BuildHasher> TriHashMap<T, S> {
-    /// The item with the first key that the query stands for.
+    /// Returns the item with the first key that the query stands for, or `None`. A query is a `&key`, or what stands
+    /// for a key, such as a `&str` for a `String`: `map.get1(&key)`, `map.get1("main")`.
     ///
-    /// Compares at most as many keys as items have the hash of the query at the first rank.
+    /// The call compares at most as many keys as items have the query's hash at the first rank.
     pub fn get1<Q: Query<T::K1>>(&self, query: Q) -> Option<&T>
         ensures { IsOnly (has1 T.TriHashItem Q.stands_for query) (bag self.now) (option_copied result) }
     {
         self.by_key1().get(query)
     }
 
-    /// The item with the second key that the query stands for.
+    /// Returns the item with the second key that the query stands for, or `None`. A query is a `&key`, or what stands
+    /// for a key, such as a `&str` for a `String`: `map.get2(&key)`, `map.get2("main")`.
     ///
-    /// Compares at most as many keys as items have the hash of the query at the second rank.
+    /// The call compares at most as many keys as items have the query's hash at the second rank.
     pub fn get2<Q: Query<T::K2>>(&self, query: Q) -> Option<&T>
         ensures { IsOnly (has2 T.TriHashItem Q.stands_for query) (bag self.now) (option_copied result) }
     {
         self.by_key2().get(query)
     }
 
-    /// The item with the third key that the query stands for.
+    /// Returns the item with the third key that the query stands for, or `None`. A query is a `&key`, or what stands
+    /// for a key, such as a `&str` for a `String`: `map.get3(&key)`, `map.get3("main")`.
     ///
-    /// Compares at most as many keys as items have the hash of the query at the third rank.
+    /// The call compares at most as many keys as items have the query's hash at the third rank.
     pub fn get3<Q: Query<T::K3>>(&self, query: Q) -> Option<&T>
         ensures { IsOnly (has3 T.TriHashItem Q.stands_for query) (bag self.now) (option_copied result) }
     {
         self.by_key3().get(query)
     }
 
-    /// The item that has all keys that the queries stand for.
+    /// Returns the item that has all keys that the queries stand for, or `None`.
     ///
-    /// Compares as many keys as `get1` does, and the other keys of the item found.
+    /// The call compares as many keys as `get1`, and the other keys of the item found.
     pub fn get_unique<Q1: Query<T::K1>, Q2: Query<T::K2>, Q3: Query<T::K3>>(
         &self,
         query1: Q1,
@@ -56,28 +59,28 @@ impl<T: TriHashItem, S: BuildHasher> TriHashMap<T, S> {
         self.item_of(self.slot_unique(hash, query1, query2, query3))
     }
 
-    /// Whether an item has the first key that the query stands for. Costs what `get1` does.
+    /// Returns whether an item has the first key that the query stands for. It costs what `get1` costs.
     pub fn contains_key1<Q: Query<T::K1>>(&self, query: Q) -> bool
         ensures { result ≡ list_any (has1 T.TriHashItem Q.stands_for query) (bag self.now) }
     {
         self.by_key1().contains_key(query)
     }
 
-    /// Whether an item has the second key that the query stands for. Costs what `get2` does.
+    /// Returns whether an item has the second key that the query stands for. It costs what `get2` costs.
     pub fn contains_key2<Q: Query<T::K2>>(&self, query: Q) -> bool
         ensures { result ≡ list_any (has2 T.TriHashItem Q.stands_for query) (bag self.now) }
     {
         self.by_key2().contains_key(query)
     }
 
-    /// Whether an item has the third key that the query stands for. Costs what `get3` does.
+    /// Returns whether an item has the third key that the query stands for. It costs what `get3` costs.
     pub fn contains_key3<Q: Query<T::K3>>(&self, query: Q) -> bool
         ensures { result ≡ list_any (has3 T.TriHashItem Q.stands_for query) (bag self.now) }
     {
         self.by_key3().contains_key(query)
     }
 
-    /// Whether an item has all keys that the queries stand for. Costs what `get_unique` does.
+    /// Returns whether an item has all keys that the queries stand for. It costs what `get_unique` costs.
     pub fn contains_key_unique<Q1: Query<T::K1>, Q2: Query<T::K2>, Q3: Query<T::K3>>(
         &self,
         query1: Q1,
@@ -92,11 +95,11 @@ impl<T: TriHashItem, S: BuildHasher> TriHashMap<T, S> {
         self.get_unique(query1, query2, query3).is_some()
     }
 
-    /// The item whose first key the matcher accepts: the one search under every lookup by first keys.
+    /// Returns the item whose first key the matcher accepts, or `None`. Every lookup by first keys is this search.
     ///
-    /// The items' first keys that the matcher accepts must be equal to each other and have this hash. It is asked at
-    /// most as many times as items have the hash at the first rank. The meter counts the cells looked at, at most one
-    /// more than there are items.
+    /// All first keys of items that the matcher accepts must be equal to each other and have this hash. The matcher is
+    /// asked at most as often as items have the hash at the first rank. The meter counts the cells that the search
+    /// probes, at most one more than there are items.
     pub fn find1_with<M: KeyMatcher<T::K1>>(
         &self,
         hash: u64,
@@ -113,11 +116,11 @@ impl<T: TriHashItem, S: BuildHasher> TriHashMap<T, S> {
         self.by_key1().find_with(hash, matcher, meter)
     }
 
-    /// The item whose second key the matcher accepts: the one search under every lookup by second keys.
+    /// Returns the item whose second key the matcher accepts, or `None`. Every lookup by second keys is this search.
     ///
-    /// The items' second keys that the matcher accepts must be equal to each other and have this hash. It is asked at
-    /// most as many times as items have the hash at the second rank. The meter counts the cells looked at, at most one
-    /// more than there are items.
+    /// All second keys of items that the matcher accepts must be equal to each other and have this hash. The matcher is
+    /// asked at most as often as items have the hash at the second rank. The meter counts the cells that the search
+    /// probes, at most one more than there are items.
     pub fn find2_with<M: KeyMatcher<T::K2>>(
         &self,
         hash: u64,
@@ -134,11 +137,11 @@ impl<T: TriHashItem, S: BuildHasher> TriHashMap<T, S> {
         self.by_key2().find_with(hash, matcher, meter)
     }
 
-    /// The item whose third key the matcher accepts: the one search under every lookup by third keys.
+    /// Returns the item whose third key the matcher accepts, or `None`. Every lookup by third keys is this search.
     ///
-    /// The items' third keys that the matcher accepts must be equal to each other and have this hash. It is asked at
-    /// most as many times as items have the hash at the third rank. The meter counts the cells looked at, at most one
-    /// more than there are items.
+    /// All third keys of items that the matcher accepts must be equal to each other and have this hash. The matcher is
+    /// asked at most as often as items have the hash at the third rank. The meter counts the cells that the search
+    /// probes, at most one more than there are items.
     pub fn find3_with<M: KeyMatcher<T::K3>>(
         &self,
         hash: u64,

@@ -1,4 +1,4 @@
-//! Inserts.
+//! Inserting an item that conflicts with no other.
 ghost use Rattle.std.specs.Prelude.{◌≡◌, ◌≢◌, ◌<◌, ◌⊎◌, [], length, IsOk, OnOk, OnErr, IfErr};
 ghost use Rattle.std.specs.Borrow.{sem};
 ghost use Rattle.iddqd_store.specs.Bag.{clash};
@@ -14,23 +14,25 @@ use std::hash::{BuildHasher, Hash};
 impl<T: Ranked, S: BuildHasher> TriHashMap<T, S> {
     ghost use Rattle.iddqd_tri.specs.Refused.{HandsBackAndHolds, ends_as};
 
-    /// Puts an item in where none conflicts with it.
+    /// Inserts an item if no item of the map conflicts with it. Two items conflict if they have an equal key of the
+    /// same rank.
     ///
-    /// It is refused where an item of the map has one of its keys, whatever memory there is, and where the map is full
-    /// and there is no memory to grow. Either refusal hands the item back and holds the map as it was; the first one
-    /// lists the items in the way, in the order of the keys.
+    /// If items conflict with it, the call fails, whatever memory there is, and the error has these items, in the order
+    /// of the keys. Otherwise the call fails only if the map is full and there is no memory to grow. Each error has the
+    /// item, and borrows the map, which is as it was.
     ///
-    /// Each key of the item is hashed once and searched for once. It takes memory only where the map is full.
+    /// The call hashes each key of the item once, and searches for it once. It allocates memory only if the map is
+    /// full.
     #[inline(always)]
     pub fn insert_unique(&mut self, item: T) -> Result<(), InsertError<'_, T, S>>
-        // It goes in only where nothing conflicts, and then always where there is room.
+        // `Ok` only if nothing conflicts, and then always if there is spare capacity.
         ensures free { OnOk result (clash T.ranks (bag self.old) item ≡ []) }
         ensures granted { clash T.ranks (bag self.old) item ≡ []
             → length (bag self.old) < self.old.capacity → IsOk result }
-        // Refused, the item comes back, and the map is held as it was.
+        // The error has the item and borrows the map as it was. It comes for a conflict or in a full map only.
         ensures handed_back { IfErr result (λ e. HandsBackAndHolds self.entry item e) }
         ensures reason { OnErr result ((clash T.ranks (bag self.old) item ≢ []) ⊎ IsFullFor T.ranks self.old item) }
-        // How the map ends, once the refusal is gone: with the item where it went in, else as it was.
+        // How the map ends, once the error is gone: with the item after `Ok`, else as it was.
         ensures* ends { sem 𝓛 (ends_as T.row S.row T.K1.row T.K2.row T.K3.row S.Hasher.row
             T.TriHashItem T.K1.Hash T.K2.Hash T.K3.Hash S.BuildHasher S.Hasher.Hasher
             self.entry result (λ new. Gains self.old item new)) }
@@ -50,19 +52,20 @@ impl<T: Ranked, S: BuildHasher> TriHashMap<T, S> {
         }
     }
 
-    /// The same for a caller that doesn't ask why: a refusal hands the item back, and holds nothing else. The map is as
-    /// it was, and known.
+    /// Inserts an item as `insert_unique` does, for a caller who need not know why an insert failed: the error is the
+    /// item alone. The map is as it was then, and not borrowed.
     ///
-    /// Each key of the item is hashed once and searched for once. It takes memory only where the map is full.
+    /// The call hashes each key of the item once, and searches for it once. It allocates memory only if the map is
+    /// full.
     ///
     /// `match map.insert_or_back(item) { Ok(()) => {}, Err(item) => keep_for_later(item) }`
     pub fn insert_or_back(&mut self, item: T) -> Result<(), T>
-        // It goes in only where nothing conflicts, and then always where there is room.
+        // `Ok` only if nothing conflicts, and then always if there is spare capacity.
         ensures gains { OnOk result (Gains self.old item self.new) }
         ensures free { OnOk result (clash T.ranks (bag self.old) item ≡ []) }
         ensures granted { clash T.ranks (bag self.old) item ≡ []
             → length (bag self.old) < self.old.capacity → IsOk result }
-        // Else it comes back, and the map is as it was.
+        // The error is the item, and the map is as it was. It comes for a conflict or in a full map only.
         ensures handed_back { IfErr result (λ x. x ≡ item) }
         ensures unchanged { OnErr result (self.new ≡ self.old) }
         ensures reason { OnErr result ((clash T.ranks (bag self.old) item ≢ []) ⊎ IsFullFor T.ranks self.old item) }

@@ -1,4 +1,4 @@
-//! Walks over the items.
+//! Iterating over the items.
 ghost use Rattle.std.specs.Prelude.{◌≡◌, ◌<◌, ◌^◌, length};
 ghost use Rattle.std.specs.Map.Iter.{ShowsInOrder, GivesInOrder, deref};
 ghost use Rattle.iddqd_store.specs.Map.{bag};
@@ -10,7 +10,7 @@ use std::fmt::{self, Debug, Formatter, Write};
 use std::hash::{BuildHasher, Hash};
 
 impl<T: TriHashItem, S: BuildHasher> TriHashMap<T, S> {
-    /// Each item once, in no promised order. It takes no memory.
+    /// Iterates over the items by reference: each item once, in unspecified order. The call allocates no memory.
     pub fn iter(&self) -> Iter<'_, T>
         ensures gives { result ≡ bag self.now }
         ensures runs { ShowsInOrder (deref {X = T}) }
@@ -52,7 +52,7 @@ impl<T: TriHashItem + Drop, S: BuildHasher + Drop> IntoIterator for TriHashMap<T
 }
 
 impl<T: TriHashItem + Debug, S: BuildHasher> Debug for TriHashMap<T, S> {
-    /// The items as a set, in the order of a walk.
+    /// Writes the items as a set, in the order of `iter`.
     fn fmt<W: Write>(&self, f: &mut Formatter<W>) -> fmt::Result {
         f.debug_set().entries(self.iter()).finish()
     }

@@ -1,4 +1,4 @@
-//! Writing by a function, which is called at items and answers their data.
+//! Updating items by a closure, which is called with an item and returns its new data.
 ghost use Rattle.std.specs.Prelude.{◌≡◌, Some, true, false};
 ghost use Rattle.std.specs.Fn.{CalledAt, FnOnceReturnsAt, FnOnceTakesAt};
 ghost use Rattle.std.specs.List.{list_any};
@@ -13,10 +13,12 @@ use iddqd_store::Query;
 use std::hash::{BuildHasher, Hash};
 
 impl<T: TriHashItemMut, S: BuildHasher> TriHashMap<T, S> {
-    /// Stores what `f` answers at the item with the first key that the query stands for as its data, and says whether
-    /// there is one. Else `f` is not called, and nothing changes. It takes no memory, and costs what `get1` does.
+    /// Calls `f` with the item with the first key that the query stands for, and stores what it returns as the item's
+    /// data. Returns whether there is such an item. If not, `f` is not called, and nothing changes.
     ///
-    /// `map.update1(key, |item| item.count + 1)`
+    /// The call allocates no memory, and costs what `get1` costs.
+    ///
+    /// `map.update1(&key, |item| item.count + 1)`
     pub fn update1<Q: Query<T::K1>, F: FnOnce(&T) -> T::Data>(&mut self, query: Q, f: F) -> bool
     where
         T::Data: Drop,
@@ -39,10 +41,12 @@ impl<T: TriHashItemMut, S: BuildHasher> TriHashMap<T, S> {
         }
     }
 
-    /// Stores what `f` answers at the item with the second key that the query stands for as its data, and says whether
-    /// there is one. Else `f` is not called, and nothing changes. It takes no memory, and costs what `get2` does.
+    /// Calls `f` with the item with the second key that the query stands for, and stores what it returns as the item's
+    /// data. Returns whether there is such an item. If not, `f` is not called, and nothing changes.
     ///
-    /// `map.update2(key, |item| item.count + 1)`
+    /// The call allocates no memory, and costs what `get2` costs.
+    ///
+    /// `map.update2(&key, |item| item.count + 1)`
     pub fn update2<Q: Query<T::K2>, F: FnOnce(&T) -> T::Data>(&mut self, query: Q, f: F) -> bool
     where
         T::Data: Drop,
@@ -65,10 +69,12 @@ impl<T: TriHashItemMut, S: BuildHasher> TriHashMap<T, S> {
         }
     }
 
-    /// Stores what `f` answers at the item with the third key that the query stands for as its data, and says whether
-    /// there is one. Else `f` is not called, and nothing changes. It takes no memory, and costs what `get3` does.
+    /// Calls `f` with the item with the third key that the query stands for, and stores what it returns as the item's
+    /// data. Returns whether there is such an item. If not, `f` is not called, and nothing changes.
     ///
-    /// `map.update3(key, |item| item.count + 1)`
+    /// The call allocates no memory, and costs what `get3` costs.
+    ///
+    /// `map.update3(&key, |item| item.count + 1)`
     pub fn update3<Q: Query<T::K3>, F: FnOnce(&T) -> T::Data>(&mut self, query: Q, f: F) -> bool
     where
         T::Data: Drop,
@@ -91,8 +97,10 @@ impl<T: TriHashItemMut, S: BuildHasher> TriHashMap<T, S> {
         }
     }
 
-    /// Stores what `f` answers at the item that has all keys that the queries stand for as its data, and says whether
-    /// there is one. Else `f` is not called, and nothing changes. It takes no memory, and costs what `get_unique` does.
+    /// Calls `f` with the item that has all keys that the queries stand for, and stores what it returns as the item's
+    /// data. Returns whether there is such an item. If not, `f` is not called, and nothing changes.
+    ///
+    /// The call allocates no memory, and costs what `get_unique` costs.
     pub fn update_unique<
         Q1: Query<T::K1>,
         Q2: Query<T::K2>,
@@ -121,9 +129,9 @@ impl<T: TriHashItemMut, S: BuildHasher> TriHashMap<T, S> {
         }
     }
 
-    /// Stores what `f` answers at each item as its data. `f` is called once for each item, in no promised order.
+    /// Calls `f` once with each item, in unspecified order, and stores what it returns as the item's data.
     ///
-    /// It takes no memory, and compares and hashes no key.
+    /// The call allocates no memory, and compares and hashes no key.
     ///
     /// `map.update_all(|session| session.seen.wrapping_add(1))`
     pub fn update_all<F: FnMut(&T) -> T::Data>(&mut self, mut f: F)

@@ -1,4 +1,4 @@
-//! Items lent for writing.
+//! Borrowing items for writing.
 ghost use Rattle.std.specs.Prelude.{◌≡◌, [], Some, IfSome, IfNone};
 ghost use Rattle.std.specs.Borrow.{sem};
 ghost use Rattle.std.specs.Option.{option_and_then};
@@ -17,9 +17,11 @@ use iddqd_store::{Cursor, Query};
 use std::hash::{BuildHasher, Hash};
 
 impl<T: TriHashItem, S: BuildHasher> TriHashMap<T, S> {
-    /// The item with this first key, for writing. It takes no memory.
+    /// Returns a guard of the item with the first key that the query stands for, or `None`. Through the guard the
+    /// item's data can be written, as by `*guard.data_mut() = data`, and the item can be replaced by one with equal
+    /// keys.
     ///
-    /// Compares at most as many keys as items have the key's hash at the first rank.
+    /// The call compares at most as many keys as items have the query's hash at the first rank. It allocates no memory.
     pub fn get1_mut<Q: Query<T::K1>>(&mut self, query: Q) -> Option<RefMut<'_, T, S>>
         ensures found { IsOnly (has1 T.TriHashItem Q.stands_for query) (bag self.old) (option_and_then ref_item result) }
         ensures unchanged { IfSome result (λ r. ref_map r ≡ self.old) }
@@ -31,9 +33,12 @@ impl<T: TriHashItem, S: BuildHasher> TriHashMap<T, S> {
         Some(RefMut { map: self, slot })
     }
 
-    /// The item with this second key, for writing. It takes no memory.
+    /// Returns a guard of the item with the second key that the query stands for, or `None`. Through the guard the
+    /// item's data can be written, as by `*guard.data_mut() = data`, and the item can be replaced by one with equal
+    /// keys.
     ///
-    /// Compares at most as many keys as items have the key's hash at the second rank.
+    /// The call compares at most as many keys as items have the query's hash at the second rank. It allocates no
+    /// memory.
     pub fn get2_mut<Q: Query<T::K2>>(&mut self, query: Q) -> Option<RefMut<'_, T, S>>
         ensures found { IsOnly (has2 T.TriHashItem Q.stands_for query) (bag self.old) (option_and_then ref_item result) }
         ensures unchanged { IfSome result (λ r. ref_map r ≡ self.old) }
@@ -45,9 +50,11 @@ impl<T: TriHashItem, S: BuildHasher> TriHashMap<T, S> {
         Some(RefMut { map: self, slot })
     }
 
-    /// The item with this third key, for writing. It takes no memory.
+    /// Returns a guard of the item with the third key that the query stands for, or `None`. Through the guard the
+    /// item's data can be written, as by `*guard.data_mut() = data`, and the item can be replaced by one with equal
+    /// keys.
     ///
-    /// Compares at most as many keys as items have the key's hash at the third rank.
+    /// The call compares at most as many keys as items have the query's hash at the third rank. It allocates no memory.
     pub fn get3_mut<Q: Query<T::K3>>(&mut self, query: Q) -> Option<RefMut<'_, T, S>>
         ensures found { IsOnly (has3 T.TriHashItem Q.stands_for query) (bag self.old) (option_and_then ref_item result) }
         ensures unchanged { IfSome result (λ r. ref_map r ≡ self.old) }
@@ -59,9 +66,9 @@ impl<T: TriHashItem, S: BuildHasher> TriHashMap<T, S> {
         Some(RefMut { map: self, slot })
     }
 
-    /// The item that has all keys, for writing. It takes no memory.
+    /// Returns a guard of the item that has all keys that the queries stand for, or `None`.
     ///
-    /// Compares as many keys as `get1_mut` does, and the other keys of the item found.
+    /// The call compares as many keys as `get1_mut`, and the other keys of the item found. It allocates no memory.
     pub fn get_mut_unique<Q1: Query<T::K1>, Q2: Query<T::K2>, Q3: Query<T::K3>>(
         &mut self,
         query1: Q1,
@@ -79,25 +86,26 @@ impl<T: TriHashItem, S: BuildHasher> TriHashMap<T, S> {
         Some(RefMut { map: self, slot })
     }
 
-    /// The next item of a walk over the map, for writing, and `None` behind the last one. The cursor goes on behind it.
-    /// Between two steps of a walk an item may be written, but none may go in or out.
+    /// Returns a guard of the next item of an iteration over the map, or `None` behind the last one. The cursor moves
+    /// on behind that item. Between two steps a caller may write items, but not insert or remove any. The call
+    /// allocates no memory.
     ///
-    /// ```
+    /// ```text
     /// let mut at = Cursor::new();
     /// while let Some(mut item) = map.next_from(&mut at) {
     ///     *item.data_mut() = 0;
     /// }
     /// ```
     pub fn next_from(&mut self, at: &mut Cursor) -> Option<RefMut<'_, T, S>>
-        // The next item is lent, and the cursor passes it, or nothing is to come.
+        // The guard borrows the next item, and the cursor passes it; or no item is left, and the cursor stays.
         ensures next { IfSome result (λ r. IfSome (ref_item r) (λ x.
             Passes self.old at.old x (λ f. ref_map (ref_with r f)) at.new)) }
         ensures end { IfNone result (to_come self.old at.old ≡ []) }
         ensures stays { IfNone result (at.new ≡ at.old) }
-        // What is lent holds this very map, unchanged so far.
+        // The guard borrows this very map, unchanged so far.
         ensures unchanged { IfSome result (λ r. ref_map r ≡ self.old) }
         ensures same_map { IfSome result (λ r. ref_lender r ≡ self.entry.ghost_name) }
-        // Where nothing is to come, the map ends as it was.
+        // If no item is left, the map ends as it was.
         ensures* rests_at_none { sem 𝓛
             (rests_if_none T.row S.row T.K1.row T.K2.row T.K3.row S.Hasher.row self.entry result) }
     {
@@ -106,12 +114,20 @@ impl<T: TriHashItem, S: BuildHasher> TriHashMap<T, S> {
         Some(RefMut { map: self, slot })
     }
 
-    /// Each item once, for writing, in no promised order. It takes no memory.
+    /// Iterates over the items for writing: each item once, in unspecified order, one at a time. The call allocates no
+    /// memory.
+    ///
+    /// ```text
+    /// let mut items = map.iter_mut();
+    /// while let Some(data) = items.next_data() {
+    ///     *data = 0;
+    /// }
+    /// ```
     pub fn iter_mut(&mut self) -> IterMut<'_, T, S>
-        // It holds this very map, unchanged so far.
+        // The iteration borrows this very map, unchanged so far.
         ensures same_map { result.map.ghost_name ≡ self.entry.ghost_name }
         ensures unchanged { result.map.now ≡ self.old }
-        // Nothing is passed, and all items are to come.
+        // No item has been passed, and all are left.
         ensures start { done_of result ≡ [] }
         ensures gives { rest_of result ≡ bag self.old }
         ensures counted { IsCounted result }

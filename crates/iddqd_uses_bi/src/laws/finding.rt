@@ -1,10 +1,11 @@
-//! What lookups say of each other.
+//! How lookups agree with each other.
 ghost use Rattle.std.specs.Prelude.{◌≡◌, true};
 
 use iddqd_bi::{BiHashItem, BiHashMap, Query};
 use std::hash::{BuildHasher, Hash};
 
-/// Whether an item is given by its first key exactly where the map has one with that key, and has that key itself.
+/// Tests that a lookup by a first key returns an item exactly if the map has one with that key, and that this item has
+/// the key.
 pub fn found1_where_contained<T: BiHashItem, S: BuildHasher, Q: Query<T::K1>>(
     map: &BiHashMap<T, S>,
     query: Q,
@@ -17,7 +18,8 @@ pub fn found1_where_contained<T: BiHashItem, S: BuildHasher, Q: Query<T::K1>>(
     }
 }
 
-/// Whether an item is given by its second key exactly where the map has one with that key, and has that key itself.
+/// Tests that a lookup by a second key returns an item exactly if the map has one with that key, and that this item has
+/// the key.
 pub fn found2_where_contained<T: BiHashItem, S: BuildHasher, Q: Query<T::K2>>(
     map: &BiHashMap<T, S>,
     query: Q,
@@ -30,7 +32,7 @@ pub fn found2_where_contained<T: BiHashItem, S: BuildHasher, Q: Query<T::K2>>(
     }
 }
 
-/// Whether an item is given by both keys exactly where the item of the first key has the other key too.
+/// Tests that a lookup by both keys returns an item exactly if the item with the first key has the other key too.
 pub fn unique_where_both<T: BiHashItem, S: BuildHasher, Q1: Query<T::K1>, Q2: Query<T::K2>>(
     map: &BiHashMap<T, S>,
     query1: Q1,
@@ -51,7 +53,7 @@ pub fn unique_where_both<T: BiHashItem, S: BuildHasher, Q1: Query<T::K1>, Q2: Qu
     }
 }
 
-/// Whether an item is given by both keys exactly where the map has one with both.
+/// Tests that a lookup by both keys returns an item exactly if the map says that it has one with both keys.
 pub fn unique_where_contained<T: BiHashItem, S: BuildHasher, Q1: Query<T::K1>, Q2: Query<T::K2>>(
     map: &BiHashMap<T, S>,
     query1: Q1,

@@ -1,10 +1,10 @@
-//! What is so once items have left.
+//! What holds after items have been removed.
 ghost use Rattle.std.specs.Prelude.{◌≡◌, true, false};
 
 use iddqd_bi::{BiHashItem, BiHashMap};
 use std::hash::{BuildHasher, Hash};
 
-/// Takes out the item with a first key, and says whether one of its keys is still found. None is.
+/// Removes the item with this first key, and returns whether one of its keys is still found. None is.
 pub fn remove1_and_find_keys<T: BiHashItem + Drop, S: BuildHasher>(
     map: &mut BiHashMap<T, S>,
     key: &T::K1,
@@ -23,7 +23,7 @@ pub fn remove1_and_find_keys<T: BiHashItem + Drop, S: BuildHasher>(
     }
 }
 
-/// Takes out the item with a second key, and says whether one of its keys is still found. None is.
+/// Removes the item with this second key, and returns whether one of its keys is still found. None is.
 pub fn remove2_and_find_keys<T: BiHashItem + Drop, S: BuildHasher>(
     map: &mut BiHashMap<T, S>,
     key: &T::K2,
@@ -42,7 +42,7 @@ pub fn remove2_and_find_keys<T: BiHashItem + Drop, S: BuildHasher>(
     }
 }
 
-/// Takes out the item with both keys, and says whether one of its keys is still found. None is.
+/// Removes the item with both keys, and returns whether one of its keys is still found. None is.
 pub fn remove_unique_and_find_keys<T: BiHashItem + Drop, S: BuildHasher>(
     map: &mut BiHashMap<T, S>,
     key1: &T::K1,
@@ -62,7 +62,7 @@ pub fn remove_unique_and_find_keys<T: BiHashItem + Drop, S: BuildHasher>(
     }
 }
 
-/// Whether the map has one item more after an overwrite, less those that are given back, which are two at most.
+/// Tests that the map has one item more after an overwrite, less those that are returned, which are two at most.
 pub fn overwritten_length<T: BiHashItem + Drop, S: BuildHasher>(
     map: &mut BiHashMap<T, S>,
     item: T,

@@ -1,4 +1,4 @@
-//! What walks give.
+//! What iterations give.
 ghost use Rattle.std.specs.Prelude.{◌≡◌, true, IfOk};
 ghost use Rattle.iddqd_bi.specs.Map.{bag};
 
@@ -6,7 +6,7 @@ use iddqd_bi::{BiHashItem, BiHashMap, Iter};
 use std::alloc::{AllocError, Global};
 use std::hash::{BuildHasher, Hash};
 
-/// Whether a walk that gives nothing gives nothing when it is asked again.
+/// Tests that an iteration that gives nothing gives nothing when it is asked again.
 pub fn none_again<T>(walk: &mut Iter<'_, T>) -> bool
     ensures { result ≡ true }
 {
@@ -16,7 +16,7 @@ pub fn none_again<T>(walk: &mut Iter<'_, T>) -> bool
     }
 }
 
-/// Whether the length of a walk is that of the map, and one less behind its first item.
+/// Tests that the length of an iteration is that of the map, and one less behind its first item.
 pub fn length_is_exact<T: BiHashItem, S: BuildHasher>(map: &BiHashMap<T, S>) -> bool
     ensures { result ≡ true }
 {
@@ -30,7 +30,7 @@ pub fn length_is_exact<T: BiHashItem, S: BuildHasher>(map: &BiHashMap<T, S>) -> 
     }
 }
 
-/// The items of the map, each once.
+/// Returns the items of the map in a vector, each once.
 pub fn all_given<T: BiHashItem + Drop, S: BuildHasher + Drop>(
     alloc: Global,
     map: BiHashMap<T, S>,

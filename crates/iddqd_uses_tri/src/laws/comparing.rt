@@ -1,18 +1,18 @@
-//! Equality of maps is an equivalence where equality of the items is, and looks at the items alone.
+//! `==` of maps is an equivalence relation if `==` of the items is one, and depends on the items alone.
 ghost use Rattle.std.specs.Prelude.{◌≡◌, true, IsPermutation};
 ghost use Rattle.iddqd_tri.specs.Map.{bag};
 
 use iddqd_tri::{TriHashItem, TriHashMap};
 use std::hash::{BuildHasher, Hash};
 
-/// Whether a map equals itself.
+/// Tests that a map equals itself.
 pub fn equal_to_itself<T: TriHashItem + Eq, S: BuildHasher>(map: &TriHashMap<T, S>) -> bool
     ensures { result ≡ true }
 {
     *map == *map
 }
 
-/// Whether one map equals another exactly where that one equals it.
+/// Tests that one map equals another exactly if that one equals it.
 pub fn equal_turned_round<T: TriHashItem + PartialEq, S: BuildHasher>(
     left: &TriHashMap<T, S>,
     right: &TriHashMap<T, S>,
@@ -26,7 +26,7 @@ pub fn equal_turned_round<T: TriHashItem + PartialEq, S: BuildHasher>(
     }
 }
 
-/// Whether a map equals a third one where it equals a second one that equals the third.
+/// Tests that a map equals a third one if it equals a second one that equals the third.
 pub fn equal_through_a_third<T: TriHashItem + PartialEq, S: BuildHasher>(
     first: &TriHashMap<T, S>,
     second: &TriHashMap<T, S>,
@@ -42,8 +42,8 @@ pub fn equal_through_a_third<T: TriHashItem + PartialEq, S: BuildHasher>(
     true
 }
 
-/// Whether two maps are equal. They are where they have the same items, however these came in, in whatever order they
-/// stand, and whatever room there is.
+/// Returns whether two maps are equal. They are if they have the same items, however these were inserted, in whatever
+/// order they stand, and whatever the capacity is.
 pub fn equal_to_the_same_items<T: TriHashItem + Eq, S: BuildHasher>(
     left: &TriHashMap<T, S>,
     right: &TriHashMap<T, S>,

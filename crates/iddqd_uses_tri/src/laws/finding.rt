@@ -1,10 +1,11 @@
-//! What lookups say of each other.
+//! How lookups agree with each other.
 ghost use Rattle.std.specs.Prelude.{◌≡◌, true};
 
 use iddqd_tri::{Query, TriHashItem, TriHashMap};
 use std::hash::{BuildHasher, Hash};
 
-/// Whether an item is given by its first key exactly where the map has one with that key, and has that key itself.
+/// Tests that a lookup by a first key returns an item exactly if the map has one with that key, and that this item has
+/// the key.
 pub fn found1_where_contained<T: TriHashItem, S: BuildHasher, Q: Query<T::K1>>(
     map: &TriHashMap<T, S>,
     query: Q,
@@ -17,7 +18,8 @@ pub fn found1_where_contained<T: TriHashItem, S: BuildHasher, Q: Query<T::K1>>(
     }
 }
 
-/// Whether an item is given by its second key exactly where the map has one with that key, and has that key itself.
+/// Tests that a lookup by a second key returns an item exactly if the map has one with that key, and that this item has
+/// the key.
 pub fn found2_where_contained<T: TriHashItem, S: BuildHasher, Q: Query<T::K2>>(
     map: &TriHashMap<T, S>,
     query: Q,
@@ -30,7 +32,8 @@ pub fn found2_where_contained<T: TriHashItem, S: BuildHasher, Q: Query<T::K2>>(
     }
 }
 
-/// Whether an item is given by its third key exactly where the map has one with that key, and has that key itself.
+/// Tests that a lookup by a third key returns an item exactly if the map has one with that key, and that this item has
+/// the key.
 pub fn found3_where_contained<T: TriHashItem, S: BuildHasher, Q: Query<T::K3>>(
     map: &TriHashMap<T, S>,
     query: Q,
@@ -43,7 +46,7 @@ pub fn found3_where_contained<T: TriHashItem, S: BuildHasher, Q: Query<T::K3>>(
     }
 }
 
-/// Whether an item is given by all keys exactly where the item of the first key has the other keys too.
+/// Tests that a lookup by all keys returns an item exactly if the item with the first key has the other keys too.
 pub fn unique_where_all<
     T: TriHashItem,
     S: BuildHasher,
@@ -68,7 +71,7 @@ pub fn unique_where_all<
     }
 }
 
-/// Whether an item is given by all keys exactly where the map has one with all.
+/// Tests that a lookup by all keys returns an item exactly if the map says that it has one with all keys.
 pub fn unique_where_contained<
     T: TriHashItem,
     S: BuildHasher,

@@ -1,10 +1,10 @@
-//! What is so once items have left.
+//! What holds after items have been removed.
 ghost use Rattle.std.specs.Prelude.{◌≡◌, true, false};
 
 use iddqd_tri::{TriHashItem, TriHashMap};
 use std::hash::{BuildHasher, Hash};
 
-/// Takes out the item with a first key, and says whether one of its keys is still found. None is.
+/// Removes the item with this first key, and returns whether one of its keys is still found. None is.
 pub fn remove1_and_find_keys<T: TriHashItem + Drop, S: BuildHasher>(
     map: &mut TriHashMap<T, S>,
     key: &T::K1,
@@ -26,7 +26,7 @@ pub fn remove1_and_find_keys<T: TriHashItem + Drop, S: BuildHasher>(
     }
 }
 
-/// Takes out the item with a second key, and says whether one of its keys is still found. None is.
+/// Removes the item with this second key, and returns whether one of its keys is still found. None is.
 pub fn remove2_and_find_keys<T: TriHashItem + Drop, S: BuildHasher>(
     map: &mut TriHashMap<T, S>,
     key: &T::K2,
@@ -48,7 +48,7 @@ pub fn remove2_and_find_keys<T: TriHashItem + Drop, S: BuildHasher>(
     }
 }
 
-/// Takes out the item with a third key, and says whether one of its keys is still found. None is.
+/// Removes the item with this third key, and returns whether one of its keys is still found. None is.
 pub fn remove3_and_find_keys<T: TriHashItem + Drop, S: BuildHasher>(
     map: &mut TriHashMap<T, S>,
     key: &T::K3,
@@ -70,7 +70,7 @@ pub fn remove3_and_find_keys<T: TriHashItem + Drop, S: BuildHasher>(
     }
 }
 
-/// Takes out the item with all keys, and says whether one of its keys is still found. None is.
+/// Removes the item with all keys, and returns whether one of its keys is still found. None is.
 pub fn remove_unique_and_find_keys<T: TriHashItem + Drop, S: BuildHasher>(
     map: &mut TriHashMap<T, S>,
     key1: &T::K1,
@@ -94,7 +94,7 @@ pub fn remove_unique_and_find_keys<T: TriHashItem + Drop, S: BuildHasher>(
     }
 }
 
-/// Whether the map has one item more after an overwrite, less those that are given back, which are three at most.
+/// Tests that the map has one item more after an overwrite, less those that are returned, which are three at most.
 pub fn overwritten_length<T: TriHashItem + Drop, S: BuildHasher>(
     map: &mut TriHashMap<T, S>,
     item: T,

@@ -1,11 +1,11 @@
-//! What room that was made is good for, and that making it keeps the items.
+//! What reserved capacity is good for, and that reserving and shrinking keep the items.
 ghost use Rattle.std.specs.Prelude.{◌≡◌, ◌∷◌, ◌<◌, ◌≤◌, ◌⊎◌, true, length, IsPermutation};
 ghost use Rattle.iddqd_tri.specs.Map.{bag};
 
 use iddqd_tri::{InsertReason, TriHashItem, TriHashMap};
 use std::hash::{BuildHasher, Hash};
 
-/// Whether an insert finds memory once room was made for one item.
+/// Tests that an insert does not run out of memory after capacity for one item was reserved.
 pub fn insert_after_reserve<T: TriHashItem + Drop, S: BuildHasher>(
     map: &mut TriHashMap<T, S>,
     item: T,
@@ -18,7 +18,7 @@ pub fn insert_after_reserve<T: TriHashItem + Drop, S: BuildHasher>(
     insert_or_lack(map, item)
 }
 
-/// Puts an item in where nothing is in its way, drops it elsewhere, and says whether memory was no reason for that.
+/// Inserts an item if nothing conflicts with it, and else drops it. Returns `false` only if there was no memory for it.
 fn insert_or_lack<T: TriHashItem + Drop, S: BuildHasher>(
     map: &mut TriHashMap<T, S>,
     item: T,
@@ -37,7 +37,8 @@ fn insert_or_lack<T: TriHashItem + Drop, S: BuildHasher>(
     }
 }
 
-/// Whether the items of a vector find memory one after another, once room was made for as many.
+/// Tests that inserting the items of a vector one after another does not run out of memory after capacity for as many
+/// was reserved.
 pub fn insert_all_after_reserve<T: TriHashItem + Drop, S: BuildHasher>(
     map: &mut TriHashMap<T, S>,
     mut items: Vec<T>,
@@ -55,7 +56,7 @@ pub fn insert_all_after_reserve<T: TriHashItem + Drop, S: BuildHasher>(
     true
 }
 
-/// Whether the items of a vector find memory once room was made for as many.
+/// Tests that `extend` by a vector does not run out of memory after capacity for as many items was reserved.
 pub fn extend_after_reserve<T: TriHashItem + Drop, S: BuildHasher>(
     map: &mut TriHashMap<T, S>,
     items: Vec<T>,
@@ -68,7 +69,7 @@ pub fn extend_after_reserve<T: TriHashItem + Drop, S: BuildHasher>(
     map.extend(items).is_ok()
 }
 
-/// Makes room, and says whether it could. The items stay either way.
+/// Reserves capacity, and returns whether that succeeded. The items stay either way.
 pub fn reserve_keeps<T: TriHashItem, S: BuildHasher>(
     map: &mut TriHashMap<T, S>,
     more: usize,
@@ -78,7 +79,7 @@ pub fn reserve_keeps<T: TriHashItem, S: BuildHasher>(
     map.reserve(more).is_ok()
 }
 
-/// Gives room back, and says whether it could. The items stay either way.
+/// Shrinks the capacity, and returns whether that succeeded. The items stay either way.
 pub fn shrink_keeps<T: TriHashItem + Drop, S: BuildHasher>(
     map: &mut TriHashMap<T, S>,
     least: usize,

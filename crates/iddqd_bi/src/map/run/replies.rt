@@ -1,5 +1,5 @@
-//! The replies to commands on entries and on items that are lent for writing. Each call carries one out on the map, and
-//! answers its reply, which lends nothing.
+//! The replies to commands on entries and guards. Each function carries out a command and makes its reply, which
+//! borrows nothing. Each arm returns by itself, since the prover knows less of the map where arms join.
 ghost use Rattle.std.specs.Prelude.{◌≡◌, [], ◌∷◌};
 ghost use Rattle.iddqd_store.specs.Runs.Reply.{displaced, key};
 ghost use Rattle.iddqd_store.specs.Runs.Step.{state_of, EntryInserts, EntryRemoves, OrInserts, Replaces, Sets};
@@ -22,7 +22,7 @@ where
     T::K2: Drop,
     T::Data: Drop,
 {
-    /// Puts the item in through the entry of the keys.
+    /// Inserts the item through the entry of these keys.
     pub(super) fn entry_insert<'a, 'm>(
         &'a mut self,
         key1: &'a T::K1,
@@ -45,7 +45,7 @@ where
         }
     }
 
-    /// Takes the items out that the entry of the keys has.
+    /// Removes the items that the entry of these keys found.
     pub(super) fn entry_remove<'a, 'm>(
         &'a mut self,
         key1: &'a T::K1,
@@ -61,7 +61,7 @@ where
         }
     }
 
-    /// Puts the item in through the entry of the keys, where that is vacant.
+    /// Inserts the item if the entry of these keys is vacant.
     pub(super) fn or_insert<'a, 'm>(
         &'a mut self,
         key1: &'a T::K1,
@@ -81,7 +81,7 @@ where
         }
     }
 
-    /// Puts the item in the place of that with this first key.
+    /// Replaces the item with this first key.
     pub(super) fn replace1<'m>(&mut self, key: &T::K1, item: T) -> BiReply<'m, T>
         ensures step { Replaces ⟦<T as Ranked>⟧.ranks (has1 T.BiHashItem T.K1.eq key.now)
             (state_of self.old) item (value_of result) (state_of self.new) }
@@ -96,7 +96,7 @@ where
         }
     }
 
-    /// Puts the item in the place of that with this second key.
+    /// Replaces the item with this second key.
     pub(super) fn replace2<'m>(&mut self, key: &T::K2, item: T) -> BiReply<'m, T>
         ensures step { Replaces ⟦<T as Ranked>⟧.ranks (has2 T.BiHashItem T.K2.eq key.now)
             (state_of self.old) item (value_of result) (state_of self.new) }
@@ -142,7 +142,7 @@ where
     }
 }
 
-/// The reply to an item that a vacant entry refused.
+/// Makes the reply for an item that was not inserted through a vacant entry.
 fn refusal<'m, T: BiHashItemMut>(refused: EntryError<T>) -> BiReply<'m, T>
     ensures { value_of result ≡ refusal_value refused }
 {
@@ -153,7 +153,7 @@ fn refusal<'m, T: BiHashItemMut>(refused: EntryError<T>) -> BiReply<'m, T>
     }
 }
 
-/// The reply to an item whose keys are not those of what it was to replace.
+/// Makes the reply for an item whose keys are not those of what it was to replace.
 fn mismatch<'m, T: BiHashItemMut>(refused: KeyMismatch<T>) -> BiReply<'m, T>
     ensures { value_of result ≡ key (mismatch_rank refused) (mismatch_item refused) }
 {
@@ -163,7 +163,7 @@ fn mismatch<'m, T: BiHashItemMut>(refused: KeyMismatch<T>) -> BiReply<'m, T>
     }
 }
 
-/// The reply that gives one item back.
+/// Makes the reply that returns one item.
 fn displaced_one<'m, T: BiHashItemMut>(item: T) -> BiReply<'m, T>
     ensures { value_of result ≡ displaced (item ∷ []) }
 {

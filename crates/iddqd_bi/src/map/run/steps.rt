@@ -1,5 +1,5 @@
-//! Commands that change the map, carried out one by one. Each has a function of its own, which is called and not copied
-//! into `apply`, since it takes room for a reply.
+//! Carrying out the commands that change the map by a key. Each has a function of its own, which is not inlined into
+//! `apply`, since it needs stack space for a reply.
 ghost use Rattle.std.specs.Prelude.{◌≡◌};
 ghost use Rattle.iddqd_store.specs.Runs.Step.{state_of, Removes, Replaces, Sets};
 ghost use Rattle.iddqd_store.specs.Runs.Step.{EntryInserts, EntryRemoves, OrInserts};
@@ -17,7 +17,7 @@ where
     T::K2: Drop,
     T::Data: Drop,
 {
-    /// Takes the item with this first key out.
+    /// Removes the item with this first key.
     #[inline(never)]
     pub(super) fn apply_remove1<K: BiSink<T>>(
         &mut self,
@@ -32,7 +32,7 @@ where
         self.tell(BiReply::Taken(taken), sink)
     }
 
-    /// Takes the item with this second key out.
+    /// Removes the item with this second key.
     #[inline(never)]
     pub(super) fn apply_remove2<K: BiSink<T>>(
         &mut self,
@@ -47,7 +47,7 @@ where
         self.tell(BiReply::Taken(taken), sink)
     }
 
-    /// Takes the item with both keys out.
+    /// Removes the item with both keys.
     #[inline(never)]
     pub(super) fn apply_remove_unique<K: BiSink<T>>(
         &mut self,
@@ -64,7 +64,7 @@ where
         self.tell(BiReply::Taken(taken), sink)
     }
 
-    /// Puts the item in through the entry of the keys.
+    /// Inserts the item through the entry of these keys.
     #[inline(never)]
     pub(super) fn apply_entry_insert<K: BiSink<T>>(
         &mut self,
@@ -81,7 +81,7 @@ where
         self.tell(reply, sink)
     }
 
-    /// Takes the items out that the entry of the keys has.
+    /// Removes the items that the entry of these keys found.
     #[inline(never)]
     pub(super) fn apply_entry_remove<K: BiSink<T>>(
         &mut self,
@@ -98,7 +98,7 @@ where
         self.tell(reply, sink)
     }
 
-    /// Puts the item in through the entry of the keys, where that is vacant.
+    /// Inserts the item if the entry of these keys is vacant.
     #[inline(never)]
     pub(super) fn apply_or_insert<K: BiSink<T>>(
         &mut self,
@@ -115,7 +115,7 @@ where
         self.tell(reply, sink)
     }
 
-    /// Puts the item in the place of that with this first key.
+    /// Replaces the item with this first key.
     #[inline(never)]
     pub(super) fn apply_replace1<K: BiSink<T>>(
         &mut self,
@@ -131,7 +131,7 @@ where
         self.tell(reply, sink)
     }
 
-    /// Puts the item in the place of that with this second key.
+    /// Replaces the item with this second key.
     #[inline(never)]
     pub(super) fn apply_replace2<K: BiSink<T>>(
         &mut self,

@@ -1,4 +1,4 @@
-//! Walking the items by the numbers of their slots.
+//! Iterating over the items by the numbers of their slots.
 ghost use Rattle.std.specs.Prelude.{◌≡◌, ◌+◌, ◌^◌, ◌<◌, [], length, Some, IfSome, IfNone};
 ghost use Rattle.iddqd_store.specs.Slots.{get, IsLive};
 ghost use Rattle.iddqd_store.specs.Slots.Next.{ComesNext};
@@ -11,7 +11,7 @@ use iddqd_store::ItemIndex;
 use std::hash::{BuildHasher, Hash};
 
 impl<T: BiHashItem, S: BuildHasher> BiHashMap<T, S> {
-    /// The first slot with an item of this number or a higher one.
+    /// Returns the first slot with an item whose number is this one or a higher one.
     pub(crate) fn slot_from(&self, from: usize) -> Option<ItemIndex>
         ensures comes { IfSome result (λ ix. (x : T) → get self.now.slots ix ≡ Some x
             → ComesNext self.now.slots from ix x) }
@@ -23,14 +23,14 @@ impl<T: BiHashItem, S: BuildHasher> BiHashMap<T, S> {
         ensures countable { IfSome result (λ ix. ix + 1 < 2 ^ 64) }
         ensures none { IfNone result (to_come self.now from ≡ []) }
     {
-        // By cases, so that the proof meets each outcome by itself.
+        // The match lets the proof treat each outcome by itself.
         match self.items.next_live(from) {
             Some(ix) => Some(ix),
             None => None,
         }
     }
 
-    /// How many items stand in slots of this number or a higher one.
+    /// Returns how many items are in slots whose number is this one or a higher one.
     pub(crate) fn count_from(&self, from: usize) -> usize
         ensures { result ≡ length (to_come self.now from) }
     {

@@ -1,4 +1,4 @@
-//! Reading and writing the items of slots that are known.
+//! Reading and writing items by their slots.
 ghost use Rattle.std.specs.Prelude.{◌≡◌, [], ◌∷◌, true, ℕ, All, nat_eq, Some, IsPermutation, IfSome, is_some};
 ghost use Rattle.std.specs.Borrow.{sem};
 ghost use Rattle.std.specs.Fn.{CalledAt, FnOnceReturnsAt, FnOnceTakesAt};
@@ -19,7 +19,7 @@ use iddqd_store::{ItemIndex, UpToThree};
 use std::hash::{BuildHasher, Hash};
 
 impl<T: TriHashItem, S: BuildHasher> TriHashMap<T, S> {
-    /// The item of a live slot.
+    /// Returns the item of a live slot.
     pub(crate) fn item_at(&self, ix: ItemIndex) -> &T
         requires { IsLive self.now.slots ix }
         ensures { get self.now.slots ix ≡ Some result.now }
@@ -27,7 +27,7 @@ impl<T: TriHashItem, S: BuildHasher> TriHashMap<T, S> {
         self.items.get(ix).unwrap()
     }
 
-    /// Puts an item with the same keys in the place of another, which it gives back.
+    /// Replaces the item of a live slot by one with equal keys, and returns it.
     pub(crate) fn replace_at(&mut self, ix: ItemIndex, item: T) -> T
         requires live { IsLive self.old.slots ix }
         requires keys { (x : T) → get self.old.slots ix ≡ Some x
@@ -44,7 +44,7 @@ impl<T: TriHashItem, S: BuildHasher> TriHashMap<T, S> {
 impl<T: TriHashItemMut, S: BuildHasher> TriHashMap<T, S> {
     ghost use Rattle.iddqd_tri.specs.Lent.{lends_data, lends_data_if};
 
-    /// The data of the item of a live slot, for writing.
+    /// Returns the data of the item of a live slot, borrowed for writing.
     pub(crate) fn data_mut_at(&mut self, ix: ItemIndex) -> &mut T::Data
         requires { IsLive self.old.slots ix }
         ensures value { (x : T) → get self.old.slots ix ≡ Some x → result.now ≡ T.data_of x }
@@ -58,7 +58,7 @@ impl<T: TriHashItemMut, S: BuildHasher> TriHashMap<T, S> {
         self.items.item_mut(ix.number()).data_mut()
     }
 
-    /// The data of the item of the slot that there may be, for writing.
+    /// Returns the data of the item of a live slot, borrowed for writing, or `None` if there is no slot.
     pub(crate) fn data_mut_of(&mut self, slot: Option<ItemIndex>) -> Option<&mut T::Data>
         requires { IfSome slot (IsLive self.old.slots) }
         ensures some { is_some result ≡ is_some slot }
@@ -77,7 +77,7 @@ impl<T: TriHashItemMut, S: BuildHasher> TriHashMap<T, S> {
         }
     }
 
-    /// Stores what a function answers at the item of a slot.
+    /// Calls a closure with the item of a slot, and stores what it returns as the item's data.
     pub(crate) fn store_at<F: FnMut(&T) -> T::Data>(&mut self, ix: ItemIndex, f: &mut F)
     where
         T::Data: Drop,
@@ -92,7 +92,8 @@ impl<T: TriHashItemMut, S: BuildHasher> TriHashMap<T, S> {
         *self.data_mut_at(ix) = d;
     }
 
-    /// Stores what a function answers at the item of a slot, which is called no more.
+    /// Calls a closure with the item of a slot, and stores what it returns as the item's data. The closure is called
+    /// only once.
     pub(crate) fn store_once<F: FnOnce(&T) -> T::Data>(&mut self, ix: ItemIndex, f: F)
     where
         T::Data: Drop,
@@ -106,7 +107,7 @@ impl<T: TriHashItemMut, S: BuildHasher> TriHashMap<T, S> {
         *self.data_mut_at(ix) = d;
     }
 
-    /// Stores what a function answers at the items of these slots, in their order.
+    /// Does so for the items of these slots, in their order.
     fn store_all<F: FnMut(&T) -> T::Data>(&mut self, found: &UpToThree<ItemIndex>, mut f: F)
     where
         T::Data: Drop,
@@ -127,7 +128,7 @@ impl<T: TriHashItemMut, S: BuildHasher> TriHashMap<T, S> {
         }
     }
 
-    /// Stores what a function answers at the items of the slots that searches found, at each once.
+    /// Does so for the items of the slots that searches found, for each once.
     pub(crate) fn store_found<F: FnMut(&T) -> T::Data>(
         &mut self,
         slot1: Option<ItemIndex>,
@@ -148,7 +149,7 @@ impl<T: TriHashItemMut, S: BuildHasher> TriHashMap<T, S> {
         ensures still_live { (at : ℕ) → IsLive self.old.slots at → IsLive self.new.slots at }
     {
         self.store_all(&each_once(slot1, slot2, slot3), f);
-        // The invariant of what the map is now, for the clause `sound`.
+        // This borrow gives the prover the map's invariant after the writes, for the clause `sound`.
         let _ = &self.items;
     }
 }
