@@ -1,4 +1,5 @@
-//! Items by several keys as a careful user of std keeps them: a slab of items, and a hash map from each key to a slot.
+//! Items by several keys as a careful user of std keeps them: a slab of items, and a hash map from each key to a
+//! slot.
 use crate::workload::Row;
 use std::array::from_fn;
 use std::collections::HashMap;
@@ -78,14 +79,14 @@ pub fn hash(key: u64) -> u64 {
 
 type Slots = HashMap<u64, usize, BuildHasherDefault<FoldHasher>>;
 
-/// The slots that an item's keys found, in the order of the keys.
+/// The slots that the keys of an item found, in the order of the keys.
 pub type Found<const N: usize> = [Option<usize>; N];
 
-/// Why a list of items did not go in.
+/// The error of a list of which no item was inserted.
 pub struct Refused<const N: usize> {
-    /// Those before the one that was refused.
+    /// The items before the one that conflicts.
     pub taken: Vec<Row<N>>,
-    /// What was in its way.
+    /// The slots of the items that conflict with it.
     pub found: Found<N>,
 }
 
@@ -96,7 +97,7 @@ pub struct ByHand<const N: usize> {
     tables: [Slots; N],
 }
 
-/// Puts an item into a slot.
+/// Stores an item in a free slot, and returns the slot.
 fn place<const N: usize>(
     slab: &mut Vec<Option<Row<N>>>,
     free: &mut Vec<usize>,
@@ -121,7 +122,8 @@ fn slot_of(entry: Entry<'_, u64, usize>) -> Option<usize> {
     }
 }
 
-/// An insert with a table of its own name for each key.
+/// Inserts an item by the entry of each key. Each table has a variable of its own, so that all entries can be held at
+/// once.
 macro_rules! insert_by {
     ($map:ident, $row:ident, $($table:ident $rank:literal),*) => {
         match ($($table.entry($row.keys[$rank]),)*) {
@@ -158,7 +160,7 @@ impl<const N: usize> ByHand<N> {
         map
     }
 
-    /// Puts the rows in, and counts those that are refused.
+    /// Inserts the rows, and counts those that are not inserted.
     pub fn fill(&mut self, rows: &[Row<N>]) -> u64 {
         rows.iter()
             .map(|row| self.insert(*row).is_err() as u64)
@@ -169,9 +171,9 @@ impl<const N: usize> ByHand<N> {
         self.tables[0].len()
     }
 
-    /// Puts an item in where no item has one of its keys, and answers its slot, or else what its keys found.
+    /// Inserts an item if no item has one of its keys, and returns its slot. Otherwise returns what its keys found.
     pub fn insert(&mut self, row: Row<N>) -> Result<usize, Found<N>> {
-        // One of these is left for each number of keys, and it is what is written for that number by hand.
+        // The compiler keeps one arm for each number of keys, which is what one writes by hand for that number.
         match &mut self.tables[..] {
             [first, second] => insert_by!(self, row, first 0, second 1),
             [first, second, third] => insert_by!(self, row, first 0, second 1, third 2),
@@ -179,7 +181,7 @@ impl<const N: usize> ByHand<N> {
         }
     }
 
-    /// The item that has all keys of this one, which goes in where no item has one of them.
+    /// Returns the item that has all keys of the row, after inserting the row if no item has one of them.
     pub fn entry_or_insert(&mut self, row: Row<N>) -> Option<&mut Row<N>> {
         let slot = match self.insert(row) {
             Ok(slot) => slot,
@@ -201,7 +203,7 @@ impl<const N: usize> ByHand<N> {
         self.slab.iter().flatten()
     }
 
-    /// The slots of a walk for writing.
+    /// Returns the slots, for an iteration that writes.
     pub fn slots_mut(&mut self) -> std::slice::IterMut<'_, Option<Row<N>>> {
         self.slab.iter_mut()
     }
@@ -220,7 +222,8 @@ impl<const N: usize> ByHand<N> {
         Some(row)
     }
 
-    /// What is in the way of a row goes, and the row comes in. One with the same keys is replaced in its slot.
+    /// Inserts a row, and removes the items that conflict with it. If one item has all of its keys, the row replaces
+    /// it in its slot.
     pub fn overwrite(&mut self, row: Row<N>) -> [Option<Row<N>>; N] {
         let mut displaced = [None; N];
         let Err(found) = self.insert(row) else {
@@ -239,7 +242,7 @@ impl<const N: usize> ByHand<N> {
         displaced
     }
 
-    /// Takes out what a slot has, if it still has something.
+    /// Removes the item of a slot, if there is one.
     fn take(&mut self, slot: usize) -> Option<Row<N>> {
         let row = self.slab[slot].take()?;
         for rank in 0..N {
@@ -249,7 +252,7 @@ impl<const N: usize> ByHand<N> {
         Some(row)
     }
 
-    /// Takes out what these slots have.
+    /// Removes the items of these slots.
     fn take_all(&mut self, slots: &[usize]) -> Vec<Row<N>> {
         let mut taken = Vec::with_capacity(slots.len());
         taken.extend(slots.iter().filter_map(|slot| self.take(*slot)));
@@ -270,7 +273,7 @@ impl<const N: usize> ByHand<N> {
         }
     }
 
-    /// All rows go in, or none of them.
+    /// Inserts all rows or none.
     pub fn extend_unique(&mut self, rows: impl Iterator<Item = Row<N>>) -> Result<(), Refused<N>> {
         let mut entered = Vec::new();
         for row in rows {
@@ -304,7 +307,7 @@ impl<const N: usize> ByHand<N> {
         }
     }
 
-    /// The items come together in the first slots, and each slot's number changes.
+    /// Moves the items to the first slots, so that they get other numbers, and makes the tables anew.
     pub fn shrink(&mut self) {
         self.slab.retain(|row| row.is_some());
         self.slab.shrink_to_fit();

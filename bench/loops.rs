@@ -1,4 +1,4 @@
-//! The loops of the other side, one for each of `iddqd_bench`, and by the same names.
+//! The loops over the maps kept by hand: one for each loop of `iddqd_bench`, with the same name.
 use crate::by_hand::ByHand;
 use crate::workload::{Row, Workload, copies};
 
@@ -6,7 +6,7 @@ fn sum_of(numbers: impl Iterator<Item = u64>) -> u64 {
     numbers.fold(0, u64::wrapping_add)
 }
 
-/// The sum of what is done with a map of each part of the rows, and where there are others, with a part of them.
+/// Sums what `made` returns for each part of the rows, and for the part of the rows asked for that belongs to it.
 fn each_map<const N: usize>(
     load: &Workload<N>,
     mut made: impl FnMut(&[Row<N>], &[Row<N>]) -> u64,
@@ -18,7 +18,7 @@ fn each_map<const N: usize>(
     sum_of(parts.map(|rows| made(rows, asked.next().unwrap_or(&[]))))
 }
 
-/// How often a loop is done over.
+/// Returns how often a loop repeats what it does.
 fn times<const N: usize>(load: &Workload<N>, whole: bool) -> usize {
     if whole { load.number } else { 0 }
 }
@@ -166,7 +166,7 @@ pub fn iter_mut<const N: usize>(load: &Workload<N>, whole: bool) -> u64 {
     sum
 }
 
-/// The sum of what is done with copies of a map.
+/// Sums what `made` returns for each clone of a map.
 fn each_copy<const N: usize>(
     load: &Workload<N>,
     map: &ByHand<N>,

@@ -1,19 +1,20 @@
-//! Times loops over the maps of this repository beside the same loops over std hash maps kept by hand, in turn, in one
-//! process, with the same hasher.
+//! Times loops over the maps of this repository beside the same loops over std hash maps kept by hand, in turn, in
+//! one process, with the same hasher.
 //!
 //!     bench [OPTION..] [ITEMS[,ITEMS..]] [WORD]
 //!
-//! It prints nanoseconds an operation and their ratio. WORD picks the operations whose name has it. Options:
+//! It prints nanoseconds an operation for both, and their ratio. With WORD it times only the operations whose name
+//! contains it. Options:
 //!
-//!     --rounds N      how often the whole measurement is made (5)
-//!     --turns N       of how many turns the least time is taken in a round (20; fewer above 10,000 items)
-//!     --keys N        the map with 2 or with 3 keys alone
-//!     --without WORD  leaves out the operations whose name has the word
+//!     --rounds N      repeats the whole measurement N times (5)
+//!     --turns N       takes the least time of N turns in a round (20; fewer above 10,000 items)
+//!     --keys N        times only the map with 2 or with 3 keys
+//!     --without WORD  leaves out the operations whose name contains WORD
 //!     --table         prints tables for a page
-//!     --growth        prints tables of this side alone, of the calls that go over all items
+//!     --growth        prints tables of the maps here alone, of the calls that visit all items
 //!     --svg FILE      writes a picture of five operations at eight sizes
-//!     --others        times text keys, items of 128 bytes and a random seed, with two keys, in place of the rest
-//!     --chosen        prints what keys of one home cost under the default builder and under a random seed
+//!     --others        times text keys, items of 128 bytes and a random seed, with two keys, and nothing else
+//!     --chosen        prints what keys with one home bucket cost under the default builder and a random seed
 mod by_hand;
 mod chosen;
 mod loops;
@@ -27,7 +28,7 @@ mod workload;
 use measure::Plan;
 use operations::Operation;
 
-/// What is wanted.
+/// What the arguments ask for.
 struct Wanted {
     plan: Plan,
     sizes: Option<Vec<usize>>,
@@ -41,7 +42,7 @@ struct Wanted {
     picture: Option<String>,
 }
 
-/// A word behind an option.
+/// Returns the word behind an option.
 fn behind(words: &mut impl Iterator<Item = String>, option: &str) -> String {
     words
         .next()
@@ -53,7 +54,7 @@ fn number(word: &str) -> usize {
         .unwrap_or_else(|_| panic!("{word} is no number"))
 }
 
-/// A number of items. Smaller maps have too few for some of the operations.
+/// Reads a number of items. Some operations need ten items at least.
 fn size(word: &str) -> usize {
     let items = number(word);
     assert!(items >= 10, "{word} items are too few");
@@ -112,7 +113,7 @@ impl Wanted {
         self.sizes.clone().unwrap_or(default.to_vec())
     }
 
-    /// Measures the map with so many keys, and prints its figures.
+    /// Measures the map with N keys, and prints its figures.
     fn print<const N: usize>(&self, operations: Vec<Operation<N>>) {
         if self.keys.is_some_and(|keys| keys != N) {
             return;

@@ -1,14 +1,14 @@
-//! Times of loops, in rounds.
+//! Measures the times of loops, in rounds.
 use crate::operations::Operation;
 use crate::workload::Workload;
 use std::time::Instant;
 
-/// How often it is measured.
+/// How often something is measured.
 #[derive(Clone, Copy)]
 pub struct Plan {
     /// How often the whole measurement is made.
     pub rounds: usize,
-    /// Of how many turns the least time is taken in a round, at up to 10,000 items.
+    /// The number of turns in a round, of which the least time counts, for up to 10,000 items.
     pub turns: usize,
     /// Whether the maps kept by hand are timed too.
     pub compares: bool,
@@ -32,7 +32,7 @@ pub struct Figures {
     here: Vec<f64>,
 }
 
-/// The figure in the middle, or the mean of the two there.
+/// Returns the median.
 fn median(figures: &[f64]) -> f64 {
     let mut sorted = figures.to_vec();
     sorted.sort_by(f64::total_cmp);
@@ -46,7 +46,7 @@ fn median(figures: &[f64]) -> f64 {
     }
 }
 
-/// The median, the least and the greatest ratio of the rounds.
+/// The median, the lowest and the highest ratio of the rounds.
 pub struct Ratio {
     pub median: f64,
     pub lowest: f64,
@@ -62,7 +62,7 @@ impl Figures {
         median(&self.here)
     }
 
-    /// None where noise swallowed each round's figures.
+    /// Returns `None` if noise was larger than the figures of each round.
     pub fn ratio(&self) -> Option<Ratio> {
         let rounds = self.by_hand.iter().zip(&self.here);
         let sound = rounds.filter(|(by_hand, here)| **by_hand > 0.0 && **here > 0.0);
@@ -78,7 +78,7 @@ impl Figures {
     }
 }
 
-/// The least times of one side's loop, whole and of what prepares it.
+/// The least times of one side's loop: of what prepares it, and of the whole loop.
 struct Least([f64; 2]);
 
 impl Least {
@@ -97,7 +97,7 @@ impl Least {
     }
 }
 
-/// One round of an operation. The sides take turns, and have to give the same sums.
+/// Measures one round of an operation. The sides take turns, and have to return the same sums.
 fn round<const N: usize>(
     operation: &Operation<N>,
     load: &Workload<N>,
@@ -121,7 +121,7 @@ fn round<const N: usize>(
     }
 }
 
-/// The figures of each operation at each size.
+/// Returns the figures of each operation at each size.
 pub fn measure<const N: usize>(
     operations: &[Operation<N>],
     sizes: &[usize],

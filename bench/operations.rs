@@ -1,9 +1,9 @@
-//! The operations: for each its name, its rows, the loop over the maps kept by hand, and the loops that the static
+//! The operations. Each has a name, its rows, the loop over the maps kept by hand, and the loops that the static
 //! library of `iddqd_bench` exports.
 use crate::loops;
 use crate::workload::{self, Row, Workload};
 
-/// A loop of the library. Each slice is passed as its pointer and its length, and nothing is written to one.
+/// A loop of the library. Each slice is passed as its pointer and its length, and is not written to.
 pub type Exported<const N: usize> = unsafe extern "C" fn(
     rows: *const Row<N>,
     len: usize,
@@ -13,11 +13,11 @@ pub type Exported<const N: usize> = unsafe extern "C" fn(
     whole: bool,
 ) -> u64;
 
-/// An operation on a map with so many keys. Each side's loop gives a sum of what it met. Where it is not wanted whole,
-/// it does what prepares it alone.
+/// An operation on a map with N keys. The loop of each side returns a sum of what it met. If it is not wanted whole,
+/// it does only what prepares it.
 pub struct Operation<const N: usize> {
     pub name: &'static str,
-    /// Whether it is one call that goes over all items. The time is that of an item all the same.
+    /// Whether the operation is one call that visits all items. Its time is given for one item all the same.
     pub goes_over_all: bool,
     pub load: fn(usize) -> Workload<N>,
     pub by_hand: fn(&Workload<N>, bool) -> u64,
@@ -25,7 +25,7 @@ pub struct Operation<const N: usize> {
 }
 
 impl<const N: usize> Operation<N> {
-    /// The loop over the map of this repository.
+    /// Runs the loop over the map of this repository.
     pub fn here(&self, load: &Workload<N>, whole: bool) -> u64 {
         let (rows, asked) = (&load.rows, &load.asked);
         unsafe {
@@ -52,7 +52,7 @@ pub fn hash(key: u64) -> u64 {
 const ONE: bool = false;
 const ALL: bool = true;
 
-/// The exported loop of this name, over rows with so many keys.
+/// Declares the exported loop of this name, over rows with this many keys.
 macro_rules! exported {
     ($name:ident, $keys:literal) => {{
         unsafe extern "C" {

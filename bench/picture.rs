@@ -1,13 +1,14 @@
-//! A picture of time an item over the number of items: a panel for each of some operations, a row for each map.
+//! Draws a picture of the time an item by the number of items, with a panel for each of some operations and a row for
+//! each map.
 use crate::measure::{Figures, Plan, measure};
 use crate::operations::{self, Operation};
 use crate::report::{grouped, map_name};
 use std::fmt::Write;
 
-/// The tables' load is the same at each of these, 0.78.
+/// The numbers of items. The tables have the same load at each of them, 0.78.
 pub const SIZES: [usize; 8] = [100, 400, 1_600, 6_400, 25_600, 102_400, 409_600, 819_200];
 
-/// The operations of the panels, and what stands above each.
+/// The operations of the panels, and the title of each panel.
 const PANELS: [(&str, &str); 5] = [
     ("insert without room", "insert, growing"),
     ("look-up that hits", "look-up that hits"),
@@ -30,7 +31,7 @@ const GAP: (f64, f64) = (30.0, 78.0);
 const LEFT: f64 = 66.0;
 const TOP: f64 = 120.0;
 
-/// A line of one panel: nanoseconds at each size.
+/// A panel: nanoseconds at each size.
 struct Panel {
     keys: usize,
     title: &'static str,
@@ -38,19 +39,19 @@ struct Panel {
     by_hand: Vec<f64>,
 }
 
-/// What logarithms go over, on one axis.
+/// What one axis shows, on a logarithmic scale.
 struct Span {
     from: f64,
     to: f64,
 }
 
 impl Span {
-    /// How far it is to a number, from 0 to 1.
+    /// Returns where a number stands on the axis, from 0 to 1.
     fn part(&self, number: f64) -> f64 {
         (number / self.from).log10() / (self.to / self.from).log10()
     }
 
-    /// So many times the powers of ten that are in it.
+    /// Returns the powers of ten, times this factor, that the axis shows.
     fn ticks(&self, times: f64) -> Vec<f64> {
         let powers = (0..=9).map(|power| times * 10f64.powi(power));
         let (from, to) = (self.from * 0.999, self.to * 1.001);
@@ -99,7 +100,7 @@ fn line(out: &mut String, from: (f64, f64), to: (f64, f64), colour: &str, width:
     );
 }
 
-/// A mark of a side: a disc here, a square for the other.
+/// Draws a mark of a side: a disc for the maps here, a square for the others.
 fn mark(out: &mut String, at: (f64, f64), colour: &str) {
     let (x, y) = at;
     let _ = if colour == HERE {
@@ -116,7 +117,7 @@ fn mark(out: &mut String, at: (f64, f64), colour: &str) {
     };
 }
 
-/// A number of items in few letters.
+/// Returns a number of items in few letters.
 fn short(items: f64) -> String {
     match items {
         1e6.. => format!("{}M", items / 1e6),
@@ -126,7 +127,7 @@ fn short(items: f64) -> String {
 }
 
 impl Scales {
-    /// Where a time at a number of items stands in a panel.
+    /// Returns the place of a time at a number of items in a panel.
     fn place(&self, corner: (f64, f64), items: f64, time: f64) -> (f64, f64) {
         let (part, height) = (self.items.part(items), self.time.part(time));
         (
@@ -139,7 +140,7 @@ impl Scales {
         for (i, tick) in self.items.ticks(1.0).into_iter().enumerate() {
             let (x, bottom) = self.place(corner, tick, self.time.from);
             line(out, (x, corner.1), (x, bottom), FAINT, 1.0);
-            // Each second one has room for its name.
+            // There is space for the name of every second tick alone.
             if i % 2 == 0 {
                 text(out, (x, bottom + 17.0), "middle", 12.0, false, &short(tick));
             }
@@ -165,7 +166,7 @@ impl Scales {
         );
     }
 
-    /// A panel, which stands first in its row or behind another.
+    /// Draws a panel. The first one of a row has the name of the map and the times.
     fn panel(
         &self,
         out: &mut String,
@@ -205,7 +206,7 @@ impl Scales {
     }
 }
 
-/// The least and the greatest time, each moved out to 1, 2 or 5 times a power of ten.
+/// Returns the span from the least to the greatest time, each rounded outwards to 1, 2 or 5 times a power of ten.
 fn times_span(panels: &[Panel]) -> Span {
     let times = panels
         .iter()
@@ -245,7 +246,7 @@ fn legend(out: &mut String) {
     }
 }
 
-/// Measures, and gives the picture as text.
+/// Measures, and returns the picture as text.
 pub fn draw(sizes: &[usize], plan: Plan) -> String {
     let mut all = panels(operations::two_keys(), sizes, plan);
     all.extend(panels(operations::three_keys(), sizes, plan));

@@ -1,10 +1,10 @@
-//! Figures as text, and as tables for a page.
+//! Prints figures as text, and as tables for a page.
 use crate::measure::{Figures, Plan, measure};
 use crate::operations::Operation;
 use std::fs::read_to_string;
 use std::time::{SystemTime, UNIX_EPOCH};
 
-/// A number with a comma before each three digits.
+/// Returns a number with a comma before each three digits.
 pub fn grouped(number: usize) -> String {
     let digits = number.to_string();
     let mut text = String::new();
@@ -17,7 +17,7 @@ pub fn grouped(number: usize) -> String {
     text
 }
 
-/// Three digits or so.
+/// Returns a time with about three digits.
 fn nanoseconds(time: f64) -> String {
     match time {
         100.0.. => format!("{time:.0}"),
@@ -38,12 +38,12 @@ fn ratio_of(figures: &Figures) -> [String; 2] {
         })
 }
 
-/// The map that has so many keys.
+/// Returns the name of the map with this many keys.
 pub fn map_name(keys: usize) -> &'static str {
     if keys == 2 { "BiHashMap" } else { "TriHashMap" }
 }
 
-/// Both sides at each size, for a terminal.
+/// Prints both sides at each size, for a terminal.
 pub fn print_text<const N: usize>(operations: &[Operation<N>], sizes: &[usize], plan: Plan) {
     let figures = measure(operations, sizes, plan);
     for (at, items) in sizes.iter().enumerate() {
@@ -70,14 +70,14 @@ fn print_row(cells: impl Iterator<Item = String>) {
     println!("| {} |", cells.join(" | "));
 }
 
-/// The head of a table: its first cell and those behind it.
+/// Prints the head of a table: its first cell, and those behind it.
 fn print_head(first: String, others: Vec<String>) {
     let line = vec!["---".to_string(); others.len() + 1];
     print_row([first].into_iter().chain(others));
     println!("|{}|", line.join("|"));
 }
 
-/// Both sides at each size, as a table of a page.
+/// Prints both sides at each size, as a table for a page.
 pub fn print_table<const N: usize>(operations: &[Operation<N>], sizes: &[usize], plan: Plan) {
     let figures = measure(operations, sizes, plan);
     let heads = sizes.iter().flat_map(|items| {
@@ -99,7 +99,7 @@ pub fn print_table<const N: usize>(operations: &[Operation<N>], sizes: &[usize],
     println!();
 }
 
-/// This side alone at each size, as a table of a page.
+/// Prints the maps here alone at each size, as a table for a page.
 pub fn print_growth<const N: usize>(operations: &[Operation<N>], sizes: &[usize], plan: Plan) {
     let figures = measure(operations, sizes, plan);
     let heads = sizes.iter().map(|items| grouped(*items)).collect();
@@ -111,7 +111,7 @@ pub fn print_growth<const N: usize>(operations: &[Operation<N>], sizes: &[usize]
     println!();
 }
 
-/// The day, from the days since 1 January 1970.
+/// Returns the date, from the number of days since 1 January 1970.
 fn date(days: i64) -> String {
     let months = [
         "March",
@@ -127,7 +127,7 @@ fn date(days: i64) -> String {
         "January",
         "February",
     ];
-    // Years begin in March here, so that the day that some have more is the last one.
+    // Here a year begins in March, so that the leap day is its last day.
     let since = days + 719_468;
     let (era, day) = (since / 146_097, since % 146_097);
     let year = (day - day / 1_460 + day / 36_524 - day / 146_096) / 365;
@@ -146,7 +146,7 @@ fn load() -> String {
     text.split(' ').next().unwrap_or_default().to_string()
 }
 
-/// When and on what it was measured.
+/// Says when and on what the figures were measured.
 pub fn circumstances(plan: Plan) -> String {
     let seconds = SystemTime::now()
         .duration_since(UNIX_EPOCH)

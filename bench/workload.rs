@@ -1,6 +1,6 @@
-//! What the loops go over: rows with mixed keys, and orders that no branch predictor has seen.
+//! The rows that the loops take: with mixed keys, and in orders that no branch predictor has seen.
 
-/// An item of so many keys and a value, as `iddqd_bench` has it.
+/// An item with N keys and a value, laid out as in `iddqd_bench`.
 #[repr(C)]
 #[derive(Clone, Copy, PartialEq)]
 pub struct Row<const N: usize> {
@@ -10,13 +10,13 @@ pub struct Row<const N: usize> {
 
 /// The rows of one operation.
 pub struct Workload<const N: usize> {
-    /// What the maps are filled with.
+    /// The rows that fill the maps.
     pub rows: Vec<Row<N>>,
-    /// Rows that are asked for or come in later.
+    /// Rows that are asked for, or inserted later.
     pub asked: Vec<Row<N>>,
-    /// How many items a map has, or how often something is done over.
+    /// The number of items in a map, or how often something is repeated.
     pub number: usize,
-    /// How many operations are timed in all.
+    /// The number of operations that are timed in all.
     pub operations: usize,
 }
 
@@ -27,7 +27,7 @@ fn mix(x: u64) -> u64 {
     x ^ (x >> 31)
 }
 
-/// The rows numbered so. No two rows have a key in common.
+/// Returns the rows with these numbers. No two rows have a key in common.
 pub fn rows<const N: usize>(from: usize, to: usize) -> Vec<Row<N>> {
     let key = |rank: usize, i: usize| mix(((rank as u64 + 1) << 40) + i as u64);
     (from..to)
@@ -47,17 +47,17 @@ fn shuffled<T: Clone>(list: &[T], seed: usize) -> Vec<T> {
     list
 }
 
-/// How many maps are filled, so that one loop takes about as long at each size.
+/// Returns how many maps are filled, so that one loop takes about as long at each size.
 fn rounds(items: usize) -> usize {
     (20_000 / items).max(2)
 }
 
-/// How often each item of one map is asked for.
+/// Returns how often each item of one map is asked for.
 fn orders(items: usize) -> usize {
     2 * rounds(items)
 }
 
-/// One map of so many items, and each of them asked for in many orders.
+/// One map, whose items are asked for in many orders.
 pub fn asked_again<const N: usize>(items: usize) -> Workload<N> {
     let rows = rows(0, items);
     let orders = (0..orders(items)).flat_map(|round| shuffled(&rows, round));
@@ -70,7 +70,7 @@ pub fn asked_again<const N: usize>(items: usize) -> Workload<N> {
     }
 }
 
-/// One map, and rows none of whose keys it has.
+/// One map, and rows with keys that it does not have.
 pub fn missed<const N: usize>(items: usize) -> Workload<N> {
     let operations = items * orders(items);
     Workload {
@@ -81,7 +81,7 @@ pub fn missed<const N: usize>(items: usize) -> Workload<N> {
     }
 }
 
-/// One map, and rows whose last key it has.
+/// One map, and rows of which it has the last key.
 pub fn taken<const N: usize>(items: usize) -> Workload<N> {
     let mut load = asked_again(items);
     let fresh = rows::<N>(items, items + load.asked.len());
@@ -91,7 +91,7 @@ pub fn taken<const N: usize>(items: usize) -> Workload<N> {
     load
 }
 
-/// One map, and pairs of a row that is in it by then and one that isn't.
+/// One map, and pairs of rows: one that is in the map by then, and one that is not.
 pub fn exchanged<const N: usize>(items: usize) -> Workload<N> {
     let new = rows(items, items * (rounds(items) + 1));
     let mut there = rows(0, items);
@@ -110,9 +110,9 @@ pub fn exchanged<const N: usize>(items: usize) -> Workload<N> {
     }
 }
 
-/// One map, and something that is done over to all its items.
+/// One map, all of whose items something is done to repeatedly.
 pub fn repeated<const N: usize>(items: usize) -> Workload<N> {
-    // A walk is short beside the inserts that prepare it, so it is done over often.
+    // An iteration is short beside the inserts that prepare it, so it is repeated often.
     let number = (8_000_000 / items).clamp(20, 80);
     Workload {
         rows: rows(0, items),
@@ -122,7 +122,7 @@ pub fn repeated<const N: usize>(items: usize) -> Workload<N> {
     }
 }
 
-/// Several maps of so many items each.
+/// Several maps, with this many items each.
 pub fn fresh<const N: usize>(items: usize) -> Workload<N> {
     let operations = items * rounds(items);
     Workload {
@@ -133,19 +133,19 @@ pub fn fresh<const N: usize>(items: usize) -> Workload<N> {
     }
 }
 
-/// With how many copies of a map of so many items a loop does what changes the map, as in `iddqd_bench`.
+/// Returns how many copies of a map with this many items a loop changes, as in `iddqd_bench`.
 pub fn copies(items: usize) -> usize {
     (items / 10_000).clamp(1, 8)
 }
 
-/// Several maps, of which copies are changed.
+/// Several maps, of which clones are changed.
 pub fn copied<const N: usize>(items: usize) -> Workload<N> {
     let mut load = fresh::<N>(items);
     load.operations *= copies(items);
     load
 }
 
-/// Several maps, and the items of each in another order, compared as often as there are copies.
+/// Several maps, compared with maps of the same items in another order, as often as there are copies.
 pub fn compared<const N: usize>(items: usize) -> Workload<N> {
     let mut load = reordered::<N>(items);
     load.operations *= copies(items);
@@ -160,7 +160,7 @@ pub fn reordered<const N: usize>(items: usize) -> Workload<N> {
     load
 }
 
-/// Several maps, and half of the items of each. What is done to the copies is counted by the items that are left.
+/// Several maps, and half of the items of each. The operations are counted by the items that are left in the clones.
 pub fn halved<const N: usize>(items: usize) -> Workload<N> {
     let mut load = fresh::<N>(items);
     let parts = load.rows.chunks(items);
@@ -171,7 +171,7 @@ pub fn halved<const N: usize>(items: usize) -> Workload<N> {
     load
 }
 
-/// Several maps, and rows that have each key from another item of one: so each is in the way of two or of three.
+/// Several maps, and rows that take each key from another item of a map, so that each conflicts with N items.
 pub fn crossed<const N: usize>(items: usize) -> Workload<N> {
     let mut load = fresh::<N>(items);
     for rows in load.rows.chunks(items) {
@@ -186,7 +186,7 @@ pub fn crossed<const N: usize>(items: usize) -> Workload<N> {
     load
 }
 
-/// Several maps, and the last item of each has the last key of the first.
+/// Several maps, where the last item of each has the last key of the first item.
 pub fn spoiled<const N: usize>(items: usize) -> Workload<N> {
     let mut load = fresh::<N>(items);
     for rows in load.rows.chunks_mut(items) {

@@ -1,4 +1,4 @@
-//! What the std of Rattle has beside that of Rust, or in another form, for the signatures that `docs/reference` shows.
+//! What Rattle's std has and that of Rust has not, or has in another form. `docs/reference` shows signatures that use it.
 use std::marker::PhantomData;
 
 /// Memory from the allocator `A`.
@@ -13,11 +13,11 @@ impl Allocator for Global {}
 /// Memory ran out.
 pub struct AllocError;
 
-/// A text. Its calls that allocate return a `Result`.
+/// A text. Calls that allocate return a `Result`.
 #[derive(PartialEq, Eq, Hash)]
 pub struct String<A: Allocator = Global>(PhantomData<A>);
 
-/// A list. Its calls that allocate return a `Result`.
+/// A list. Calls that allocate return a `Result`.
 #[derive(PartialEq, Eq, Hash)]
 pub struct Vec<T, A: Allocator = Global>(PhantomData<(T, A)>);
 
@@ -25,7 +25,7 @@ pub struct Vec<T, A: Allocator = Global>(PhantomData<(T, A)>);
 #[derive(PartialEq, Eq, Hash)]
 pub struct BoxedStr<A: Allocator = Global>(PhantomData<A>);
 
-/// A text with a count of its owners.
+/// A text with shared owners, which are counted.
 #[derive(PartialEq, Eq, Hash)]
 pub struct RcStr<A: Allocator = Global>(PhantomData<A>);
 
@@ -33,14 +33,14 @@ pub struct RcStr<A: Allocator = Global>(PhantomData<A>);
 #[derive(PartialEq, Eq, Hash)]
 pub struct BoxedSlice<T, A: Allocator = Global>(PhantomData<(T, A)>);
 
-/// What may be dropped: `#[derive(Drop)]`.
+/// A type whose values may be dropped: `#[derive(Drop)]`.
 pub trait Drop {}
 
 impl<T: ?Sized> Drop for T {}
 
-/// What can be cloned, if there is memory.
+/// A type whose values can be cloned, which fails if there is no memory.
 pub trait Clone: Sized {
-    /// A clone.
+    /// Returns a clone.
     fn clone(&self) -> Result<Self, AllocError>;
 }
 
@@ -56,11 +56,11 @@ impl std::hash::Hasher for FoldHasher {
     fn write(&mut self, _: &[u8]) {}
 }
 
-/// A value in memory of its own.
+/// A value in allocated memory.
 pub struct Box<T, A: Allocator = Global>(PhantomData<(T, A)>);
 
-/// A value with a count of its owners.
+/// A value with shared owners, which are counted.
 pub struct Rc<T, A: Allocator = Global>(PhantomData<(T, A)>);
 
-/// What can be copied by its bytes.
+/// A type whose values are copied by their bytes.
 pub trait Copy {}

@@ -1,11 +1,11 @@
-// Loaded into a program by LD_PRELOAD, it refuses one of its requests for memory, the one whose number REFUSED says,
-// counted from 1, and says so on standard error. Where the program ends by itself, it says there too if memory was
-// never given back. It is no part of a crate: tests/refused_memory and tests/cases build it, and load it into programs
-// and tests that are proved.
+// A library for LD_PRELOAD that makes one allocation of a program fail: the one whose number the variable REFUSED has,
+// counted from 1. It says so on standard error. If the program ends by itself with memory that was never freed, it says
+// that there too. The library is not part of a crate: tests/refused_memory and tests/cases build it, and load it into
+// programs and tests that are proved.
 //
-// For iddqd_calls it counts the requests of each call. A request for BEGINS + N bytes says that a call begins, of which the
-// Nth request is to be refused, or none where N is 0. Of the requests for MADE + N bytes that follow, it refuses all but
-// the one where N is the number of requests that the call made: so the program learns that number.
+// For iddqd_calls it counts the allocations of each call. A request for BEGINS + N bytes says that a call begins, and that
+// its Nth allocation is to fail, or none if N is 0. Of the requests for MADE + N bytes that follow, only the one in which N
+// is the number of allocations of the call succeeds. So the program learns that number.
 #define _GNU_SOURCE
 #include <dlfcn.h>
 #include <errno.h>
@@ -39,10 +39,10 @@ __attribute__((constructor)) static void begin(void) {
 
 __attribute__((destructor)) static void end(void) {
   if (held > 0)
-    say("%ld blocks of memory were never given back\n", held);
+    say("%ld blocks of memory were never freed\n", held);
 }
 
-// Whether a request of this size is refused as part of what the program asks about the requests of a call.
+// Returns whether a request fails because iddqd_calls counts the allocations of a call, or lets one of them fail.
 static int is_refused_in_call(size_t size) {
   if (size >= BEGINS && size < BEGINS + MOST) {
     made = 0;
@@ -57,7 +57,7 @@ static int is_refused_in_call(size_t size) {
   return is_in_call && ++made == refused_in_call;
 }
 
-// Whether this request is to be refused. Those of the loader, before the program begins, do not count.
+// Returns whether this request is to fail. Requests of the loader, before the program begins, do not count.
 static int is_refused(size_t size) {
   if (is_refused_in_call(size)) {
     errno = ENOMEM;
@@ -65,7 +65,7 @@ static int is_refused(size_t size) {
   }
   if (!refused || ++requests != refused)
     return 0;
-  say("request %ld was refused\n", refused);
+  say("allocation %ld failed\n", refused);
   errno = ENOMEM;
   return 1;
 }

@@ -1,14 +1,15 @@
 #!/usr/bin/env python3
-"""Makes the three-key text from the two-key text: `tests/widen.py FILE` prints it, and tests/twins compares by it.
+"""Makes the three-key text from the two-key text. `tests/widen.py FILE` prints it, and tests/twins compares it with the
+three-key file.
 
-It knows no function by its name. First it renames what says how many keys there are (RENAMED). Then it looks for pieces
-of the text that are followed by their like at the next rank, and puts the third piece behind them: a field, a clause, a
-statement, a whole function, or a part of a line, as `item.key1(), item.key2()` or `K1.eq ∷ K2.eq ∷ []`. The like of a
-piece has the same words, but for the words of a rank: it has `2` where the piece has `1`, and `second` for `first`. White
-space, line breaks and the marks at which the lines of a comment begin are no words.
+It knows the name of no function. First it renames the words that say how many keys there are (RENAMED). Then it searches
+for pieces of the text that are followed by their like at the next rank, and adds the third piece behind them: a field, a
+clause, a statement, a whole function, or a part of a line, as `item.key1(), item.key2()` or `K1.eq ∷ K2.eq ∷ []`. The like
+of a piece has the same words, except for the words of a rank: it has `2` where the piece has `1`, and `second` for `first`.
+White space, line breaks and the marks that begin the lines of a comment are no words.
 
-Three more things are widened: pairs in pairs, `(a1, (a2, tt))`; a list of what is at the second rank alone, `a2 ∷ []`;
-and some forms in which no words of a rank stand. Those are spelled with such words for the time being (`spelled`).
+It widens three more forms: pairs in pairs, `(a1, (a2, tt))`; a list of what is at the second rank alone, `a2 ∷ []`; and some
+forms without words of a rank, into which such words are put for the time being (`spelled`).
 """
 import re
 import sys
@@ -20,34 +21,34 @@ RENAMED = [
     (r"(?<!insert)([_-])both\b", r"\1all"), (r"\b(has|have|with|of) both\b", r"\1 all"),
     (r"\bboth(?= (?:keys|searches|name)\b)", "all"), (r"\bBoth(?= (?:keys|searches)\b)", "All"),
     (r"\bthe other key\b", "the other keys"), (r"(?<=rank < )2\b|(?<=<= )2\b|(?<=-le)2\b", "3"),
-    # The same at each rank: types or proofs, parts of a list, and what a call is handed.
+    # What is the same at each rank: types or proofs, parts of a list, and arguments of a call.
     (r"\(([\w:]+(?:\(\))?), \1\)", r"(\1, \1, \1)"), (r"\b(\w+) × \1\b", r"\1 × \1 × \1"), (r"\bNone ∷ None(?= ∷)", "None ∷ None ∷ None"),
     (r"(?<=, )(None|&nothing),\s+\1(?=,?\s*\))", r"\1, \1, \1"),
 ]
-# The words of a rank, in order: numbers, types, names of keys, and the parts of what stands in pairs.
+# The words of a rank, in order: numbers, types, names of keys, and the parts of pairs in pairs.
 RANKS = ["01234", "KLM", "klm", ("one", "two", "three"), ("first", "second", "third"), ("First", "Second", "Third"),
          (".0", ".1", ".2", ".3"), (".0", ".1.0", ".1.1.0")]
 AFTER = {(it[at], it[at + 1]): it[at + 2] for it in RANKS for at in range(len(it) - 2)}
 BEFORE = {it[1]: it[0] for it in ["12", "KL", "kl", ("second", "first"), ("Second", "First"), (".1.0", ".0")]}
 LIKE = {word: it[0] for it in RANKS for word in it}
-# What may stand between a piece and its like, by its last word, if it is more than white space.
+# What may be between a piece and its like, by its last word, if it is more than white space.
 BETWEEN = {it[-1]: tuple(it) for it in [",", ";", "∷", "→", "×", "|", "&&", ",("]}
-# How the line of a comment begins, with what stands for it as white space; and what stands where a comment ends.
+# How the line of a comment begins, with the character that stands for it as white space; and the character that ends a comment.
 MARKS = {"///": "\ue000", "//!": "\ue001", "//": "\ue002", "--": "\ue003"}
 COMMENT_END = "\ue004"
 SPACE = r"[\s\ue000-\ue003]"
 WORD = re.compile(rf"({SPACE}*)((?:\.\d)+(?!\w)|[^\W\d_]+?(?=\d|_|\b|first|second|third|First|Second|Third)|\S)")
 NAME = re.compile(r"(?<![\w-])[^\W\d][\w-]*")
-# What code takes at one rank, and what at the others: the name stands for {0}, the rank for {1}.
+# What code takes at one rank, and what at the others. {0} is the name, and {1} the rank.
 ALONE = {"some": ("Some({0})", "None"), "bound": ("{0}{1}", "{0}{1}: _")}
-# What marks the forms that are spelled: such a name with its rank, an arm of a match, the last check of some.
+# The marks of the forms that are spelled: such a name with its rank, an arm of a match, the last check of some.
 AT_RANK, ARM, CHECK = "\ue005", "\ue006", "\ue007"
-# The likes of a piece are looked up by so many words; those of shorter pieces are tried one by one.
+# The likes of a piece are looked up by this many words. Those of shorter pieces are tried one by one.
 LONG = 8
 
 
 def folded(text):
-    """The text with each comment in one piece: a mark as white space where a line of it goes on, and one at its end."""
+    """Returns the text with each comment in one piece: a mark counts as white space where a line goes on, and one ends it."""
     lines, before = [], None
     for line in text.split("\n"):
         found = re.match(r"( *)(///|//!|//|--)(?= |$)", line)
@@ -62,14 +63,14 @@ def folded(text):
 
 
 def unfolded(text):
-    """The text that was folded."""
+    """Returns the text that was folded."""
     return text.replace(COMMENT_END, "").translate({ord(mark): begin for begin, mark in MARKS.items()})
 
 
 def third(one, two, in_list=False):
-    """The words at the third rank, by those at the first and the second; or None where these are not alike or of no rank.
-    Parts that follow each other, as `at.0, at.1`, may be any two of what is known. They are of a rank only in a list, or
-    where a call is handed what other calls answer of them."""
+    """Returns the words at the third rank, from those at the first and the second, or None if these are not alike or have no
+    rank. Parts that follow each other, as `at.0, at.1`, may be any two parts. They have a rank only in a list, or if they
+    are in calls that are arguments of a call."""
     found, of_rank = [], False
     for (_, word), (space, like) in zip(one, two):
         if word != like:
@@ -82,7 +83,7 @@ def third(one, two, in_list=False):
 
 
 def is_balanced(words):
-    """Whether these words close each bracket that they open, and no other."""
+    """Returns whether these words close each bracket that they open, and no others."""
     depth = 0
     for _, word in words:
         depth += (word in "([{") - (word in ")]}")
@@ -92,25 +93,25 @@ def is_balanced(words):
 
 
 def matches(words, at, wanted):
-    """Whether these words stand there, whatever white space is between them."""
+    """Returns whether these words are there, with any white space between them."""
     return [word for _, word in words[at:at + len(wanted)]] == list(wanted)
 
 
 class Pieces:
-    """Words, each with the white space before it, in which pieces are looked for that are followed by their like."""
+    """Words, each with the white space before it, which are searched for pieces that are followed by their like."""
 
     def __init__(self, words):
         self.words, self.likes, self.places = words, [LIKE.get(word, word) for _, word in words], {}
         for at in range(len(words) - LONG + 1):
             self.places.setdefault(tuple(self.likes[at:at + LONG]), []).append(at)
-        # Whether a word of a rank is so near that a short piece can begin here.
+        # For each word, whether a word of a rank is near enough for a short piece to begin here.
         self.near_rank = [False] * len(words)
         for at in (it for it, (_, word) in enumerate(words) if word in LIKE):
             begin = max(at - LONG, 0)
             self.near_rank[begin:at + 1] = [True] * (at + 1 - begin)
 
     def is_edge(self, at):
-        """Whether a piece can begin or end here: not within a name, nor before a part or a method of what is named."""
+        """Returns whether a piece can begin or end here: not within a name, and not between a name and its part or method."""
         if at in (0, len(self.words)) or self.words[at][0]:
             return True
         before, word = self.words[at - 1][1][0], self.words[at][1]
@@ -119,13 +120,13 @@ class Pieces:
         return not (before.isalnum() or before in "_.") or not (word[0].isalnum() or word[0] in "_.")
 
     def distances(self, at, end):
-        """How far off the like of a piece that begins here may begin, the farthest first."""
+        """Returns the distances at which the like of a piece that begins here may begin, the largest first."""
         far = [it - at for it in self.places.get(tuple(self.likes[at:at + LONG]), []) if at + LONG + 1 < it < end]
         near = range(min(LONG + 1, end - at - 1), 0, -1) if self.near_rank[at] else ()
         return far[::-1] + [it for it in near if self.likes[at + it] == self.likes[at]]
 
     def alike(self, at, begin, end):
-        """What stands between the piece that begins at the one place and its like, which begins at the other, and the
+        """Returns what is between the piece that begins at the one place and its like, which begins at the other, and the
         piece of the third rank; or None."""
         divider = BETWEEN.get(self.words[begin - 1][1], ())
         for between in ((), divider) if divider else ((),):
@@ -142,7 +143,7 @@ class Pieces:
         return None
 
     def spread(self, at, end):
-        """Where the like of a piece ends that begins here, and both with the third one; or None where it has none."""
+        """Returns where the like of the piece that begins here ends, and both with the third one; or None if it has no like."""
         for far in self.distances(at, end):
             begin = at + far
             found = self.alike(at, begin, end)
@@ -159,7 +160,8 @@ class Pieces:
         return None
 
     def second_alone(self, at, end):
-        """Where the one part of a list ends that is of the second rank, `a2 ∷ []`, and it with the third one; or None."""
+        """Returns where the only part of a list ends, if it is of the second rank, as `a2 ∷ []`, and the part with the third
+        one; or None."""
         if at and self.words[at - 1][1] not in ("(", "{", "∷"):
             return None
         for close in range(at + 1, min(at + 40, end - 2)):
@@ -172,7 +174,7 @@ class Pieces:
         return None
 
     def widened(self, at, end):
-        """The words between these places, with those of the third rank."""
+        """Returns the words between these places, with those of the third rank."""
         made = []
         while at < end:
             found = self.is_edge(at) and (self.spread(at, end) or self.second_alone(at, end))
@@ -182,29 +184,29 @@ class Pieces:
 
 
 def widened(words):
-    """These words, with those of the third rank."""
+    """Returns these words, with those of the third rank."""
     return Pieces(words).widened(0, len(words))
 
 
 def words_of(text):
-    """The words of a text, each with the white space before it. In a name the words of a rank are words too."""
+    """Returns the words of a text, each with the white space before it. The words of a rank in a name are words too."""
     return [it.groups() for it in WORD.finditer(folded(text))]
 
 
 def text_of(words):
-    """The text of these words."""
+    """Returns the text of these words."""
     return unfolded("".join(space + word for space, word in words)) + "\n"
 
 
 def renamed(text):
-    """A text, or a path, with the names that the three-key text has."""
+    """Returns a text, or a path, with the names of the three-key text."""
     for old, new in RENAMED:
         text = re.sub(old, new, text)
     return text
 
 
 def numbers(text):
-    """How names are spelled that have no number. A check calls what occurs again `name-2`, or `name-in-Some`."""
+    """Returns how to spell names without a number. A check calls what occurs again `name-2`, or `name-in-Some`."""
     names, spellings = set(NAME.findall(text)), {}
     for name in sorted(names):
         for again in re.finditer("-2(?=-|$)|-in-Some(?=-|$)", name):
@@ -218,13 +220,13 @@ def numbers(text):
 
 
 def alone(kind, name, rank, ranks):
-    """What code has for so many ranks that takes something at this one alone."""
+    """Returns the code for this many ranks that takes something at this one alone."""
     return ", ".join(ALONE[kind][it != rank].format(name, it) for it in range(1, ranks + 1))
 
 
 def spelled(text, spellings):
-    """The text with words of a rank in the forms that have none: the first of names that a check numbers; what code takes
-    at one rank alone; the last arm of a match on ranks; and the last of some checks, of which the others return."""
+    """Returns the text with words of a rank in the forms that have none: the first of the names that a check numbers; what
+    code takes at one rank alone; the last arm of a match on ranks; and the last of some checks, of which the others return."""
     text = NAME.sub(lambda it: spellings.get(it[0], it[0]), text) if spellings else text
     for kind in ALONE:
         for rank in (1, 2):
@@ -237,7 +239,7 @@ def spelled(text, spellings):
 
 
 def unspelled(text, spellings):
-    """The text with the forms that code has."""
+    """Returns the text with the forms of the code again."""
     text = re.sub(rf"if ([^{{}}]+) \{{\s+return \w+;\s+\}}{CHECK}", r"\1", text)
     text = text.replace(f"2{ARM}", "_").replace(ARM, "")
     text = re.sub(rf"(\w+){AT_RANK}([a-z]+)(\d)", lambda it: alone(it[2], it[1], int(it[3]), 3), text)
@@ -246,14 +248,15 @@ def unspelled(text, spellings):
 
 
 def three_keys(text):
-    """The three-key text of a two-key text."""
+    """Returns the three-key text of a two-key text."""
     text = renamed(text)
     spellings = numbers(text)
     return unspelled(text_of(widened(words_of(spelled(text, spellings)))), spellings)
 
 
 def third_file(first, second):
-    """The three-key text of the third rank, by the two-key texts of the first and the second; or None if they differ."""
+    """Returns the three-key text of the third rank, from the two-key texts of the first and the second, or None if they
+    are not alike."""
     three = third(*(words_of(three_keys(it)) for it in (first, second)))
     return text_of(three) if three else None
 

@@ -1,9 +1,9 @@
-//! Short lists keep their order, and are walked; what refusals convert to.
+//! Tests of short lists, which keep their order and can be iterated, and of what errors convert to.
 use iddqd_store::{DuplicateItem, MemoryRefused, TryReserveError, UpToThree, UpToTwo};
 use std::alloc::AllocError;
 use std::io;
 
-/// A list of two.
+/// Makes a list of two items.
 fn two(first: u32, second: u32) -> UpToTwo<u32> {
     let mut list = UpToTwo::new();
     list.push(first);
@@ -11,7 +11,7 @@ fn two(first: u32, second: u32) -> UpToTwo<u32> {
     list
 }
 
-/// A list of three.
+/// Makes a list of three items.
 fn three(first: u32, second: u32, third: u32) -> UpToThree<u32> {
     let mut list = UpToThree::new();
     list.push(first);
@@ -20,7 +20,8 @@ fn three(first: u32, second: u32, third: u32) -> UpToThree<u32> {
     list
 }
 
-/// The list of two that a refusal of a list of two gives back, if it shows what it has.
+/// Makes an error with this list, and returns the list by the error's parts, or `None` if the error shows something
+/// else.
 fn refused_for(list: UpToTwo<u32>) -> Option<UpToTwo<u32>> {
     let refused = DuplicateItem::new(MemoryRefused { value: 5 }, list);
     let is_shown = refused.new_item().value == 5 && refused.duplicates().len() == 2;
@@ -28,14 +29,14 @@ fn refused_for(list: UpToTwo<u32>) -> Option<UpToTwo<u32>> {
     if is_shown { Some(list) } else { None }
 }
 
-/// Whether these are the first items of both lists, and come out of them.
+/// Returns whether these are the first items of both lists, and removes them.
 fn pop(two: &mut UpToTwo<u32>, three: &mut UpToThree<u32>, firsts: [Option<u32>; 2]) -> bool {
     let [first, second] = firsts;
     let are_first = two.get(0).copied() == first && three.get(0).copied() == second;
     are_first && two.pop_front() == first && three.pop_front() == second
 }
 
-/// Whether items come out of both lists in the order in which they went in, until there are none.
+/// Returns whether the items of both lists come out in the order in which they were inserted, until none are left.
 fn keep_their_order(two: &mut UpToTwo<u32>, three: &mut UpToThree<u32>) -> bool {
     pop(two, three, [Some(10), Some(10)])
         && pop(two, three, [Some(20), Some(20)])
@@ -83,7 +84,7 @@ fn is_three(list: &UpToThree<u32>) -> bool {
     *list == three(10, 20, 30) && *list != three(10, 20, 31)
 }
 
-/// The numbers of a list that is lent, each as two digits.
+/// Returns the numbers of a borrowed list, two digits for each.
 fn digits(list: &UpToThree<u32>) -> u32 {
     let mut digits: u32 = 0;
     for x in list {
@@ -109,7 +110,7 @@ fn a_list_of_three_is_walked(rt: HostRuntime) {
     assert!(rt; gives_three(list));
 }
 
-/// Some call that is refused memory, and hands a number back.
+/// A call that runs out of memory, and hands a number back.
 fn refused() -> Result<(), MemoryRefused<u32>> {
     Err(MemoryRefused { value: 5 })
 }

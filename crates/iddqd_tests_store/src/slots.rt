@@ -1,10 +1,10 @@
-//! Slots: the calls that no map's test runs, and values that are dropped once.
+//! Tests of slots: the calls that no map's test runs, and that values are dropped once.
 use iddqd_store::{ItemIndex, ItemSet};
 use std::alloc::Global;
 use std::rc::Rc;
 use std::test::Fail;
 
-/// A set of 10 and 30 in slots 0 and 2.
+/// Makes a set with 10 in slot 0 and 30 in slot 2.
 fn two_of_three(alloc: Global) -> Result<ItemSet<u64>, Fail> {
     let mut set = ItemSet::with_capacity(alloc, 3)?;
     for item in [10, 20, 30] {
@@ -16,7 +16,7 @@ fn two_of_three(alloc: Global) -> Result<ItemSet<u64>, Fail> {
     Ok(set)
 }
 
-/// Adds one to the item of a slot, and then puts seven in its place.
+/// Adds one to the item of a slot, then replaces it by seven, and returns the old item.
 fn write(set: &mut ItemSet<u64>, ix: ItemIndex) -> Option<u64> {
     let item = set.get_mut(ix)?;
     *item = item.wrapping_add(1);
@@ -24,7 +24,7 @@ fn write(set: &mut ItemSet<u64>, ix: ItemIndex) -> Option<u64> {
     Some(set.replace(ix, 7))
 }
 
-/// Whether a set has two items, which are seven.
+/// Returns whether a set has two items, and both are seven.
 fn has_two_sevens(set: &ItemSet<u64>) -> bool {
     let mut items = set.values();
     items.next() == Some(&7) && items.next() == Some(&7) && items.next() == None
@@ -54,7 +54,7 @@ fn slots_are_copied_and_compacted(rt: HostRuntime) -> Result<(), Fail> {
     Ok(())
 }
 
-/// A set of four items that share this one.
+/// Makes a set of four items that share ownership of `alive`.
 fn shared_by_four(alloc: Global, alive: &Rc<()>) -> Result<ItemSet<Rc<()>>, Fail> {
     let mut set = ItemSet::new(alloc);
     set.try_reserve(4)?;
@@ -66,7 +66,8 @@ fn shared_by_four(alloc: Global, alive: &Rc<()>) -> Result<ItemSet<Rc<()>>, Fail
     Ok(set)
 }
 
-/// How many share an item once a walk has taken one out of the set, and once it is gone.
+/// Returns how many owners `alive` has after an iteration took one item out of the set, and after the iteration was
+/// dropped.
 fn walked(set: ItemSet<Rc<()>>, alive: &Rc<()>) -> [usize; 2] {
     let mut values = set.into_values();
     drop(values.next());

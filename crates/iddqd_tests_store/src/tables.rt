@@ -1,4 +1,5 @@
-//! Worked rows of tables, with places found by hand. How many cells a call looks at stands in its contract.
+//! Worked rows of tables, whose places were found by hand. How many cells a call probes is a clause of its contract,
+//! and not tested here.
 ghost use Rattle.std.specs.Prelude.{◌≡◌, ◌&&◌, ◌==◌, refl};
 ghost use Rattle.std.proofs.Common.{◌∙◌, true, sym, ap₂};
 
@@ -6,7 +7,7 @@ use iddqd_store::{IndexTable, ItemIndex, Matcher, Meter, TryReserveError};
 use std::alloc::{AllocError, Global};
 use std::test::Fail;
 
-/// Says yes to one index, or to none, and counts its questions.
+/// A matcher that accepts one index, or none, and counts its questions.
 #[derive(Drop)]
 struct Only {
     ix: ItemIndex,
@@ -33,10 +34,10 @@ impl Matcher for Only {
     }
 }
 
-/// A hash and an index. An index is written as a letter, whose byte is its number.
+/// A hash and an index. The index is written as a letter, whose byte is its number.
 type Pair = (u64, u8);
 
-/// A matcher that says yes to this index, or to none.
+/// Makes a matcher that accepts this index if `yes`, and else none.
 fn asking_for(ix: u8, yes: bool) -> Only {
     Only {
         ix: ItemIndex::new(ix as usize),
@@ -45,7 +46,7 @@ fn asking_for(ix: u8, yes: bool) -> Only {
     }
 }
 
-/// Enters pairs in order, as long as there is room.
+/// Inserts pairs in order, as long as there is spare capacity.
 fn enter(table: &mut IndexTable, pairs: &[Pair]) {
     for (hash, ix) in pairs {
         if table.len() < table.capacity() {
@@ -54,7 +55,7 @@ fn enter(table: &mut IndexTable, pairs: &[Pair]) {
     }
 }
 
-/// Takes pairs out.
+/// Removes pairs.
 fn take_out(table: &mut IndexTable, pairs: &[Pair]) {
     for pair in pairs {
         let (hash, ix) = *pair;
@@ -64,7 +65,7 @@ fn take_out(table: &mut IndexTable, pairs: &[Pair]) {
     }
 }
 
-/// The letter in each cell, and a point in each empty one.
+/// Returns the letter in each cell, and a point for an empty cell.
 fn picture(alloc: Global, table: &IndexTable) -> Result<Vec<u8>, AllocError> {
     let mut letters = Vec::new(alloc);
     for at in 0..table.cells() {
@@ -85,8 +86,8 @@ const SEVEN: &[Pair] = &[
     (6, b'g'),
 ];
 
-/// Pairs that are entered first and taken out again, those that are entered between, and for how many more there is
-/// room then; and what stands in the cells.
+/// A worked row: pairs that are inserted first and removed at the end, the pairs inserted between, and how many more
+/// are then reserved; and what the cells then hold.
 type Place = (&'static [Pair], &'static [Pair], usize, &'static str);
 
 const PLACES: &[Place] = &[
@@ -107,7 +108,8 @@ const PLACES: &[Place] = &[
     (&[], &[(1, b'a'), (9, b'b')], 10, ".a.......b......"),
     (&[], SEVEN, 0, "abcdefg."),
     (&[], SEVEN, 1, "abcdefg........."),
-    // In each order of three the same cells are taken, and so they are behind a fourth that is gone.
+    // Whatever the order of three inserts, they occupy the same cells. They still do after a pair that was inserted
+    // before them was removed.
     (&[], &[(6, b'a'), (7, b'b'), (6, b'c')], 0, "c.....ab"),
     (&[], &[(6, b'a'), (6, b'c'), (7, b'b')], 0, "b.....ac"),
     (&[], &[(7, b'b'), (6, b'a'), (6, b'c')], 0, "c.....ab"),
@@ -153,7 +155,7 @@ const PLACES: &[Place] = &[
     (&[(6, b'a'), (6, b'b')], &[], 0, "........"),
 ];
 
-/// The table of pairs that are entered behind others which are taken out again, with room for so many more.
+/// Makes a table: inserts `gone`, then `pairs`, removes `gone` again, and reserves capacity for `more`.
 fn entered(
     alloc: Global,
     gone: &[Pair],
@@ -168,13 +170,13 @@ fn entered(
     Ok(table)
 }
 
-/// Whether a table and its clone have this picture.
+/// Returns whether a table and its clone have this picture.
 fn stands(alloc: Global, table: &IndexTable, wanted: &[u8]) -> Result<bool, Fail> {
     let copy = picture(alloc, &table.clone()?)?;
     Ok(copy.as_slice() == wanted && picture(alloc, table)?.as_slice() == wanted)
 }
 
-/// The picture of the first row that stands otherwise.
+/// Returns the picture of the first row whose table has another one, or `None`.
 fn first_wrong(alloc: Global, places: &[Place]) -> Result<Option<&'static str>, Fail> {
     for (gone, pairs, more, wanted) in places {
         let table = entered(alloc, gone, pairs, *more)?;
@@ -191,8 +193,8 @@ fn pairs_stand_in_their_places(rt: HostRuntime) -> Result<(), Fail> {
     Ok(())
 }
 
-/// For how many pairs there is room, the pairs, and a search by hash for an index or for none; what it finds, and how
-/// many it asks about.
+/// A worked search: the capacity asked for, the pairs inserted, a search by a hash for an index or for none; what it
+/// finds, and how many questions it asks.
 const SEARCHES: [(usize, &[Pair], Pair, bool, Option<u8>, usize); 4] = [
     (7, &[(1, b'a'), (2, b'b')], (9, b'a'), true, None, 0),
     (0, &[], (9, b'a'), true, None, 0),
@@ -207,7 +209,7 @@ const SEARCHES: [(usize, &[Pair], Pair, bool, Option<u8>, usize); 4] = [
     ),
 ];
 
-/// What a search by hash finds for an index or for none, and how many it asks about.
+/// Searches by a hash for an index, or for none. Returns what it finds, and how many questions it asks.
 fn search(table: &IndexTable, (hash, ix): Pair, yes: bool) -> (Option<ItemIndex>, usize) {
     let mut matcher = asking_for(ix, yes);
     let found = table.find(hash, &mut matcher, &mut Meter::new());
