@@ -12,7 +12,7 @@ mod display;
 #[derive(Clone, Copy, Debug, PartialEq, Eq)]
 pub struct TryReserveError;
 
-/// Lets `?` convert an allocation failure of std.
+/// Lets `?` convert an `AllocError` of std.
 impl From<AllocError> for TryReserveError {
     fn from(_refused: AllocError) -> TryReserveError {
         TryReserveError

@@ -3,7 +3,7 @@ ghost use Rattle.std.specs.Prelude.{◌≡◌, ◌+◌, ◌≤◌, ℕ, Bool};
 
 use crate::item_set::ItemIndex;
 
-/// What a search by hash asks of each slot that has this hash: whether the slot has the item that is sought.
+/// What a search by hash asks of each slot under this hash: whether the slot has the item that is sought.
 ///
 /// The answer for a slot is fixed, whatever was asked before.
 pub trait Matcher {
