@@ -80,7 +80,7 @@ impl Draw {
         }
     }
 
-    /// Returns an item with these keys, and with a value that no other item has.
+    /// Returns an item with these keys, whose value is the number of items drawn so far.
     fn item_of(&mut self, keys: Keys) -> Item {
         self.items = self.items.wrapping_add(1);
         Item {

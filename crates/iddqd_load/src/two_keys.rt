@@ -6,7 +6,7 @@ use crate::table::{Builder, Table};
 use iddqd_bi::{BiCommand, BiHashMap};
 use std::alloc::AllocError;
 
-/// Returns the map's command by one key. The second rank stands for all but the first.
+/// Returns the map's command by one key. No command names the third rank, so each rank but the first is the second.
 fn by_key(rank: Rank, key: u64, asked: Asked) -> BiCommand<Item> {
     match (rank, asked) {
         (Rank::First, Asked::Get) => BiCommand::Get1(key),

@@ -7,11 +7,12 @@ use std::marker::Model;
 
 mod display;
 
-/// Memory could not be allocated: there is none, or the size does not fit in a `usize`.
+/// The error of `reserve`, `shrink_to`, `with_capacity`, `clone` and the like: memory could not be allocated, because
+/// there is none, or because the size does not fit in a `usize`.
 #[derive(Clone, Copy, Debug, PartialEq, Eq)]
 pub struct TryReserveError;
 
-/// Lets `?` convert an allocation failure of std.
+/// Lets `?` convert an `AllocError` of std.
 impl From<AllocError> for TryReserveError {
     fn from(_refused: AllocError) -> TryReserveError {
         TryReserveError
@@ -37,10 +38,10 @@ impl From<TryReserveError> for io::Error {
     }
 }
 
-/// There was no memory for this value, which the error returns.
+/// The error of `insert_overwrite`, `extend` and `from_iter`: there was no memory for this item, which comes back.
 #[derive(Drop)]
 pub struct MemoryRefused<T> {
-    /// The value that was not inserted.
+    /// The item that was not inserted.
     pub value: T,
 }
 
@@ -70,7 +71,7 @@ impl<T: Drop> From<MemoryRefused<T>> for TryReserveError {
     }
 }
 
-/// Why an insert failed.
+/// Why `insert_unique` failed.
 #[derive(Clone, Copy, Debug, PartialEq, Eq, Drop)]
 pub enum InsertReason {
     /// Items of the map conflict with the item.
@@ -79,7 +80,7 @@ pub enum InsertReason {
     Memory,
 }
 
-/// Why `from_iter_unique` failed. The map of the items before this one was dropped.
+/// The error of `from_iter_unique`. The map of the items before this one was dropped.
 #[derive(Drop)]
 pub enum FromIterError<T, L> {
     /// An item, and the items before it that conflict with it, as a short list `L` in the order of the keys.
@@ -97,7 +98,8 @@ pub enum ExtendUniqueReason {
     Memory,
 }
 
-/// The error of `extend_unique`, which inserted nothing. The items of the list behind `value` were dropped.
+/// The error of `extend_unique`, after which the map has the items that it had before the call. The items of the list
+/// behind `value` were dropped.
 #[derive(Drop)]
 pub struct ExtendUniqueError<T> {
     /// The items before `value`, in the order of the list.

@@ -16,6 +16,7 @@ pub use slot_under::SlotUnder;
 
 /// Says which key of an item a rank is. A type without values stands for each rank.
 pub trait KeyOf<T> {
+    /// The type of the key.
     type Key: Eq + Hash;
 
     // The key of an item.
@@ -32,6 +33,7 @@ pub trait HashedKey<T, S: BuildHasher>: KeyOf<T> {
     // The hash of the key, by a builder.
     ghost hash: { S → T → ℕ };
 
+    // It is the hash that the builder's `hash_one` gives for the key.
     ghost hash_is: { hash ≡ key_hash Self.key Self.Key.hash_input S.BuildHasher S.Hasher.Hasher };
 }
 

@@ -10,7 +10,8 @@ pub enum MapReply<'m, T, D, Lent, Given> {
     Done,
     /// The item was not inserted, because these items of the map conflict with it. They are in the order of the keys.
     Duplicate(DuplicateItem<T, Lent>),
-    /// The item was inserted in place of these items, which had a key of it. They are in the order of the keys.
+    /// These items were removed, in the order of the keys. An item that was inserted conflicted with them or replaced
+    /// them, or the command was to remove what an entry finds.
     Displaced(Given),
     /// The item that was looked up, or `None` if there is none.
     Found(Option<&'m T>),
@@ -26,15 +27,15 @@ pub enum MapReply<'m, T, D, Lent, Given> {
     Length(usize),
     /// The items, each once, in unspecified order.
     Items(Iter<'m, T>),
-    /// The item that was there stays, and the item that was offered was dropped.
+    /// The items of an occupied entry stay, and the item that was offered was dropped.
     Kept,
-    /// The item was not inserted, because its first key is not the one that the command names.
+    /// The item was not inserted, because its first key is not that of the entry, or of the item to replace.
     Key1(T),
-    /// The item was not inserted, because its second key is not the one that the command names, although its first
-    /// key is.
+    /// The item was not inserted, because its second key is not that of the entry, or of the item to replace, although
+    /// its first key is.
     Key2(T),
-    /// The item was not inserted, because of its keys the third alone is not the one that the command names. A map
-    /// with two keys never returns this.
+    /// The item was not inserted, because its third key is not that of the entry, or of the item to replace, although
+    /// its other keys are. A map with two keys never returns this.
     Key3(T),
     /// The item comes back, because there is no item to replace.
     Absent(T),

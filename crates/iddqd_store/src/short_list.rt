@@ -14,6 +14,7 @@ pub use up_to_two::UpToTwo;
 
 /// What `UpToTwo` and `UpToThree` share: a list that is kept inline, without an allocation.
 pub trait ShortList {
+    /// The type of the items.
     type Item;
 
     // The list.

@@ -110,7 +110,7 @@ fn a_list_of_three_is_walked(rt: HostRuntime) {
     assert!(rt; gives_three(list));
 }
 
-/// A call that runs out of memory, and hands a number back.
+/// A call that runs out of memory, and returns a number in its error.
 fn refused() -> Result<(), MemoryRefused<u32>> {
     Err(MemoryRefused { value: 5 })
 }

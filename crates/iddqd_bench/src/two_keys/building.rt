@@ -26,7 +26,7 @@ pub extern "C" fn bi_extend(
     sum
 }
 
-/// Extends a map by the rows, all or none. Returns how many rows an error hands back.
+/// Extends a map by the rows, all or none. Returns how many rows the error has, if the call fails.
 fn come_back(map: &mut BiHashMap<Row>, rows: &[Row]) -> u64 {
     match map.extend_unique(rows.iter().copied()) {
         Ok(()) => 0,

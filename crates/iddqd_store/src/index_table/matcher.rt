@@ -3,7 +3,7 @@ ghost use Rattle.std.specs.Prelude.{◌≡◌, ◌+◌, ◌≤◌, ℕ, Bool};
 
 use crate::item_set::ItemIndex;
 
-/// What a search by hash asks of each slot that has this hash: whether the slot has the item that is sought.
+/// What a search by hash asks of each slot under this hash: whether the slot has the item that is sought.
 ///
 /// The answer for a slot is fixed, whatever was asked before.
 pub trait Matcher {
@@ -24,12 +24,14 @@ pub trait Matcher {
 
     ghost accepts_kept: { (m n : Self) (ix : ℕ) → IsKept m n → accepts n ix ≡ accepts m ix };
 
+    // A matcher that was not called is related to itself, and a relation over one call goes on over the next.
     ghost kept_refl: { (m : Self) → IsKept m m };
 
     ghost kept_trans: { (m n o : Self) → IsKept m n → IsKept n o → IsKept m o };
 }
 
-/// What a search by hash asks of each key with this hash: whether it is the one that is sought.
+/// What a search by hash asks of each key with this hash: whether it is the one that is sought. `find1_with` and its
+/// like take a matcher, and call it for no other keys.
 pub trait KeyMatcher<K> {
     // The result of `matches`.
     ghost accepts: { Self → K → Bool };
@@ -48,6 +50,7 @@ pub trait KeyMatcher<K> {
 
     ghost accepts_kept: { (m n : Self) (key : K) → IsKept m n → accepts n key ≡ accepts m key };
 
+    // A matcher that was not called is related to itself, and a relation over one call goes on over the next.
     ghost kept_refl: { (m : Self) → IsKept m m };
 
     ghost kept_trans: { (m n o : Self) → IsKept m n → IsKept n o → IsKept m o };

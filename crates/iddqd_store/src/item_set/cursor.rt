@@ -6,7 +6,14 @@ use std::marker::Model;
 
 /// A place between two items in an iteration over the items of a map. Contracts see a number.
 ///
-/// The place keeps its meaning as long as no item is inserted or removed.
+/// The place keeps its meaning as long as no item is inserted or removed. Between two steps the map can be used:
+///
+/// ```
+/// let mut at = Cursor::new();
+/// while let Some(mut item) = map.next_from(&mut at) {
+///     *item.data_mut() = 0;
+/// }
+/// ```
 #[derive(Clone, Copy)]
 pub struct Cursor {
     next: usize,

@@ -9,7 +9,8 @@ use std::iter::FusedIterator;
 use std::marker::Model;
 use std::vec;
 
-/// Iterates over references to the items of a set. Contracts see the items that are left, as a list.
+/// Iterates over references to the items of a set, each once. `len` takes one step. Contracts see the items that are
+/// left, as a list.
 #[derive(Drop)]
 pub struct Iter<'a, T> {
     slots: &'a [Slot<T>],
@@ -91,7 +92,8 @@ impl<'a, T> ExactSizeIterator for Iter<'a, T> {
 
 impl<'a, T> FusedIterator for Iter<'a, T> {}
 
-/// Iterates over the items of a set by value. Contracts see the items that are left, as a list.
+/// Iterates over the items of a set by value, each once. `len` takes one step. Contracts see the items that are left,
+/// as a list.
 #[derive(Drop)]
 pub struct IntoIter<T> {
     slots: vec::IntoIter<Slot<T>>,
