@@ -1,5 +1,6 @@
 -- Cells: sizes, full places, stretches, searches, writes, removals.
 pub mod Full
+pub mod Grow
 pub mod Limits
 pub mod Line
 pub mod Looks

@@ -33,7 +33,7 @@ pub use vacancy::Vacancy;
 /// Contracts see its `pairs` in some order, its `limit`, which is how many fit, and its `row` of cells. Which cells
 /// are occupied is a function of the pairs' hashes and the number of cells (`cell_at`), whatever came before.
 ///
-/// A cell is looked at by one call alone, which ticks the meter that it is handed, and `clone` copies the cells whole.
+/// A cell is looked at by one call alone, which ticks the meter that it is handed. `clone` and growth copy cells whole.
 /// Here `try_reserve` alone makes a meter of its own. In other files `forget`, `rehash`, `fill`, `search` and the maps'
 /// `insert_at` do: no clause of theirs speaks of looks. The script `tests/forms` lists all that make one.
 #[derive(Drop)]
@@ -64,25 +64,40 @@ fn with_cells(alloc: Global, count: usize) -> Result<IndexTable, TryReserveError
 }
 
 // A table of so many cells with the pairs of these, which are entered in order by the hashes that the cells hold.
+//
+// An old cell without a pair is copied too, over an empty cell, so no branch depends on whether an old cell has a pair:
+// that cannot be predicted. The same empty cell serves for all of those until a pair takes it.
 fn regrown(
     alloc: Global,
     cells: &Cells,
     count: usize,
+    pairs: usize,
     meter: &mut Meter,
 ) -> Result<IndexTable, TryReserveError>
     requires size { IsSize count }
+    requires some { 0 < count }
     requires fits { length (pairs_in cells.now) ≤ count / 8 * 7 }
+    requires counted { pairs ≡ length (pairs_in cells.now) }
     ensures pairs { IfOk result (λ t. IsPermutation (pairs_in cells.now) t.pairs) }
     ensures limit { IfOk result (λ t. t.limit ≡ count / 8 * 7) }
 {
-    let mut grown = with_cells(alloc, count)?;
+    let mut grown = Cells::with_len(alloc, count)?;
+    let mut spot = count - 1;
     for i in 0..cells.len() {
-        if let Some(pair) = cells.cell_at(i, meter) {
-            let (hash, ix) = pair;
-            grown.insert_reserved(hash, ix, meter);
-        }
+        let pair = cells.cell_at(i, meter);
+        let from = match pair {
+            Some((hash, _)) => probe::home_of(hash, count),
+            None => spot,
+        };
+        let at = probe::first_empty_from(&grown, from, meter);
+        grown.copy_cell(at, cells, i);
+        spot = if pair.is_some() { spot } else { at };
     }
-    Ok(grown)
+    Ok(IndexTable {
+        alloc,
+        cells: grown,
+        count: pairs,
+    })
 }
 
 impl IndexTable {
@@ -189,7 +204,7 @@ impl IndexTable {
             return Err(TryReserveError);
         };
         let mut meter = Meter::new();
-        *self = regrown(self.alloc, &self.cells, count, &mut meter)?;
+        *self = regrown(self.alloc, &self.cells, count, self.count, &mut meter)?;
         Ok(())
     }
 

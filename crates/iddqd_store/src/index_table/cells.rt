@@ -1,5 +1,5 @@
-//! The cells of a table. One call reads a cell, and it ticks the meter that it is handed; `clone` copies the row of cells
-//! whole. The script `tests/forms` lists each line that names the row.
+//! The cells of a table. One call tells what a cell has, and it ticks the meter that it is handed; `copy_cell` copies a
+//! cell whole, and `clone` the row of cells. The script `tests/forms` lists each line that names the row.
 ghost use Rattle.std.specs.Prelude.{◌≡◌, ℕ, ◌+◌, ◌^◌, ◌<◌, List, [], Option, None, Some, length, slice_set, replicate, IfOk};
 ghost use Rattle.iddqd_store.specs.Table.Cell.{pair_of, hash_of, number_of};
 ghost use Rattle.iddqd_store.specs.Table.Ring.{cell};
@@ -101,7 +101,7 @@ impl Cells {
         self.row.len()
     }
 
-    /// What cell `i` has. The one call that reads a cell.
+    /// What cell `i` has. The one call that tells it.
     pub fn cell_at(&self, i: usize, meter: &mut Meter) -> Option<(u64, ItemIndex)>
         requires { i < length self.now }
         ensures value { result ≡ cell self.now i }
@@ -117,6 +117,16 @@ impl Cells {
         ensures { self.new ≡ slice_set self.old i (Some (hash, ix)) }
     {
         self.row[i] = Cell::full(hash, ix);
+    }
+
+    /// Copies cell `j` of other cells into cell `i`, with its pair or empty. It tells nothing of either cell.
+    #[inline(always)]
+    pub fn copy_cell(&mut self, i: usize, other: &Cells, j: usize)
+        requires at { i < length self.old }
+        requires from { j < length other.now }
+        ensures { self.new ≡ slice_set self.old i (cell other.now j) }
+    {
+        self.row[i] = other.row[j];
     }
 
     /// Empties cell `i`.

@@ -43,6 +43,22 @@ pub(super) fn home_of(hash: u64, count: usize) -> usize
     (hash & (count as u64 - 1)) as usize
 }
 
+// The first empty cell from this one on.
+#[inline(always)]
+pub(super) fn first_empty_from(cells: &Cells, from: usize, meter: &mut Meter) -> usize
+    requires table { IsTable cells.now }
+    requires from { from < length cells.now }
+    ensures first { IsFirstEmpty cells.now from result }
+    ensures looks { meter.new ≡ meter.old + gap (length cells.now) from result + 1 }
+{
+    let count = cells.len();
+    let mut at = from;
+    while cells.cell_at(at, meter).is_some() {
+        at = after(at, count);
+    }
+    at
+}
+
 // The first empty cell from the home of a hash on.
 pub(super) fn first_empty(cells: &Cells, hash: u64, meter: &mut Meter) -> usize
     requires table { IsTable cells.now }
@@ -52,12 +68,7 @@ pub(super) fn first_empty(cells: &Cells, hash: u64, meter: &mut Meter) -> usize
     ensures looks { meter.new
         ≡ meter.old + stretch (hashes (pairs_in cells.now)) (length cells.now) hash + 1 }
 {
-    let count = cells.len();
-    let mut at = home_of(hash, count);
-    while cells.cell_at(at, meter).is_some() {
-        at = after(at, count);
-    }
-    at
+    first_empty_from(cells, home_of(hash, cells.len()), meter)
 }
 
 // How many steps lead from one place to another.
