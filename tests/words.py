@@ -107,7 +107,7 @@ def words_of(file):
     crate, _, name = file.partition("/")
     text = read(f"crates/{crate}/specs/{name}.antt")
     imported = {it.strip() for names in re.findall(r"^use .*\b(?:Reply|TheVariants|Bag|Prelude)\.\{(.*)\}$", text, re.M) for it in names.split(",")}
-    constructors = {"refl", "tt"} | imported | {it for data in re.findall(r"^pub data .*?\n\n", text, re.M | re.S) for it in re.findall(r"(\w+) :", data)}
+    constructors = {"refl", "tt"} | imported | {it for data in re.findall(r"^pub data .*?\n\n", text, re.M | re.S) for it in re.findall(r"^ +(\w+) :", data, re.M)}
     comment, around, lines = [], "", text.split("\n")
     for at, line in enumerate(lines):
         module, head = re.match(r"module _ (.*) where$", line), HEAD.match(line)

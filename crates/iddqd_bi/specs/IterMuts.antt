@@ -48,5 +48,6 @@ module _ (T S K1 K2 H : RattleType) (of : item.Ghosts T.Denot K1.Denot K2.Denot)
 
   -- What is written through `r` is the data of the next item, and the iteration is behind it. If there is no `r`, the
   -- iteration stays.
+  -- Example: In a, b, c, of which a has been passed, if d is written, it has passed a, `put b d`.
   abbrev pub lends_next : (D : RattleType) → (T.Denot → D.Denot → T.Denot) → MutBor (IterMut T.Denot S.Denot K1.Denot K2.Denot H.Denot) → Option (MutBor D.Denot) → Fml
   lends_next D put m r = LendsIf iter_row D m r (λ d. stepped m.now (λ x. put x d)) m.now

@@ -42,6 +42,7 @@ pub record SearchCosts {T A : Type 0} (hash_of : T → ℕ) (bag : List T) (room
 
 -- A pair under this hash goes into this cell of a table that has the hashes of the items. The cell is one of as many
 -- as the items need, so it is known if there are items. No clause of a map cites it.
+-- Example: Where the items have the hashes 2, 2, it is the cell 4 of 8 for the hash 2.
 pub record IsVacantFor {T : Type 0} (hash_of : T → ℕ) (bag : List T) (hash : ℕ) (spot : Spot) : Type 0 where
   pub same : spot.hash ≡ hash
   pub free : IsFree (map hash_of bag) spot
@@ -65,6 +66,7 @@ module _ {T : Type 0} where
 
 -- A search by one rank needs that no two items have equal keys, and that the table has the pairs of their hashes. No
 -- clause of a map cites it.
+-- Example: In the slots `Some a`, `None`, `Some b` the table has the pairs of a with 0 and of b with 2.
 pub record IsSearchable {T : Type 0} (agree : T → T → Bool) (hash : T → ℕ) (slots : List (Option T)) (pairs : List (ℕ × ℕ)) : Type 0 where
   pub apart : IsDistinct agree (live_items slots)
   pub index : IsIndex hash slots pairs

@@ -29,6 +29,8 @@ pub record LooksUp {A : Type 0} (hashes : List ℕ) (cells hash : ℕ) (answer :
   pub hit_most : OnSome answer (after ≤ before + stretch hashes cells hash)
 
 -- A search probes so many cells (`LooksUp`) of some table that has room for so many pairs.
+-- Example: With room for 7 and the hash 2 once, a search for 2 that finds nothing probes 2 cells, where the table has
+-- 8.
 abbrev pub LooksUpWithin : {A : Type 0} → List ℕ → ℕ → ℕ → Option A → ℕ → ℕ → Type 0
 LooksUpWithin hashes room hash answer before after =
     (cells : ℕ) × IsSize cells × (cells < 2 ^ 64) × (room ≤ cells / 8 * 7) × LooksUp hashes cells hash answer before after
@@ -41,18 +43,21 @@ pub record MovesPair (old new : List (ℕ × ℕ)) (before after index : ℕ) : 
   pub has : IsPermutation new ((after, index) ∷ others)
 
 -- Each pair is found from its home on, and at least an eighth of the cells is empty.
+-- Example: Of 8 empty cells it holds.
 pub record IsTable (row : List (Option (ℕ × ℕ))) : Type 0 where
   pub size : IsSize (length row)
   pub fits : length (pairs_in row) ≤ length row / 8 * 7
   pub reached : IsReached (λ p. p.0 % length row) (length row) row
 
 -- The cell `at` is the first empty one, from the cell `home` on.
+-- Example: Of `Some (0, 5)`, `None` and the home 0 it is 1.
 pub record IsFirstEmpty (row : List (Option (ℕ × ℕ))) (home at : ℕ) : Type 0 where
   pub below : at < length row
   pub empty : cell row at ≡ None
   pub first : (q : ℕ) → q < length row → gap (length row) home q < gap (length row) home at → cell row q ≢ None
 
 -- Each cell from `home` on is occupied, up to the one before `at`.
+-- Example: Of `Some (0, 5)`, `None` and the home 0 it holds of 0 and of 1.
 pub record IsWayTo (row : List (Option (ℕ × ℕ))) (home at : ℕ) : Type 0 where
   pub below : at < length row
   pub first : (q : ℕ) → q < length row → gap (length row) home q < gap (length row) home at → cell row q ≢ None

@@ -34,16 +34,19 @@ use Rattle.iddqd_tri.specs.contracts.map.TriHashMap.{the_row as row_of_map}
 
 module _ {T S : Type 0} where
   -- The second reference is to the same map as the first, and the map is as it was.
+  -- Example: If the map has a, b, it has a, b then.
   pub record IsSameMap (before after : MutBor (Map T S)) : Type 0 where
     pub same_map : after.ghost_name ≡ before.ghost_name
     pub unchanged : after.now ≡ before.now
 
 module _ {T S K1 K2 K3 H : Type 0} where
   -- For each rank, the test whether an item has the key of the occupied entry.
+  -- Example: An item that has every key of the entry passes every test.
   abbrev pub entry_tests : (K1 → K2 → K3 → List (T → Bool)) → OccupiedEntry T S K1 K2 K3 H → List (T → Bool)
   entry_tests tests o = tests o.key1.now o.key2.now o.key3.now
 
   -- The occupied entry has found what its keys name, which is at least one item. The call `entry` of a map ensures it.
+  -- Example: If its keys name a and b, it has found a and b.
   pub record HasFound (tests : K1 → K2 → K3 → List (T → Bool)) (o : OccupiedEntry T S K1 K2 K3 H) : Type 0 where
     pub found : AreFound (entry_tests tests o) o.map.now.slots (o.slot1 ∷ o.slot2 ∷ o.slot3 ∷ [])
     pub value : entry_at o.map.now.slots (o.slot1 ∷ o.slot2 ∷ o.slot3 ∷ []) ≡ entry (entry_tests tests o) (bag o.map.now)
@@ -51,6 +54,7 @@ module _ {T S K1 K2 K3 H : Type 0} where
     pub some : listing (entry_tests tests o) (bag o.map.now) ≢ []
 
   -- The items that are held for writing are in the map. The call `into_mut` of an occupied entry ensures it.
+  -- Example: If a and b are held, the map has a and b.
   pub record Holds (m : OccupiedEntryMut T S K1 K2 K3 H) : Type 0 where
     pub live1 : IfSome m.slot1 (IsLive m.map.now.slots)
     pub live2 : IfSome m.slot2 (IsLive m.map.now.slots)
@@ -73,6 +77,8 @@ module _ {T S K1 K2 K3 H : Type 0} where
 
   -- The item is in the same map in the place of those that conflict with it, and the entry, with the same keys, finds
   -- it alone. Nothing else changes.
+  -- Example: In a map of a, b, c, where `item` conflicts with a and b, the map becomes `item`, c, and the entry has
+  -- found `unique item`.
   pub record PutsOver (ranks : Ranks T) (tests : K1 → K2 → K3 → List (T → Bool)) (before : OccupiedEntry T S K1 K2 K3 H) (item : T) (after : OccupiedEntry T S K1 K2 K3 H) : Type 0 where
     pub same_map : after.map.ghost_name ≡ before.map.ghost_name
     pub items : IsPermutation (bag after.map.now) (over ranks (bag before.map.now) item)
@@ -87,7 +93,7 @@ module _ {T S K1 K2 K3 H : Type 0} where
   abbrev pub held : OccupiedEntryMut T S K1 K2 K3 H → List T
   held m = held_at m.map.now.slots (m.slot1 ∷ m.slot2 ∷ m.slot3 ∷ [])
 
-  -- What the keys of the items that are held for writing find, as `Entry` has it.
+  -- What is held for writing, as `Entry` has it.
   -- Example: If every key names a, it is `unique a`.
   abbrev pub held_entry : OccupiedEntryMut T S K1 K2 K3 H → bags.Entry T
   held_entry m = entry_at m.map.now.slots (m.slot1 ∷ m.slot2 ∷ m.slot3 ∷ [])
@@ -129,6 +135,7 @@ module _ {T S K1 K2 K3 H : Type 0} where
   held_with_unique m f = held_with m (head_of (found_by_all (m.slot1 ∷ m.slot2 ∷ m.slot3 ∷ []))) f
 
   -- What is held for writing is what the entry found.
+  -- Example: If the entry has found a and b, then a and b are held.
   pub record HoldsFound (of : item.Ghosts T K1 K2 K3) (eq1 : K1 → K1 → Bool) (eq2 : K2 → K2 → Bool) (eq3 : K3 → K3 → Bool) (o : OccupiedEntry T S K1 K2 K3 H) (m : OccupiedEntryMut T S K1 K2 K3 H) : Type 0 where
     pub holds : Holds m
     pub listed : held m ≡ listing (entry_tests (key_tests of eq1 eq2 eq3) o) (bag o.map.now)
@@ -139,6 +146,7 @@ module _ {T S K1 K2 K3 H : Type 0} where
 
   -- The call succeeds and changes nothing, and if the entry has found what its keys name, then that is held for
   -- writing.
+  -- Example: If the entry has found a and b, then a and b are held.
   pub record KeepsFound {E : Type 0} (of : item.Ghosts T K1 K2 K3) (eq1 : K1 → K1 → Bool) (eq2 : K2 → K2 → Bool) (eq3 : K3 → K3 → Bool) (o : OccupiedEntry T S K1 K2 K3 H) (result : Result (OccupiedEntryMut T S K1 K2 K3 H) E) : Type 0 where
     pub granted : IsOk result
     pub unchanged : IfOk result (λ m. m.map.now ≡ o.map.now)
@@ -192,6 +200,7 @@ module _ {T S Q K1 K2 K3 H : Type 0} {of : item.Ghosts T K1 K2 K3} {eq1 : equal.
   entry_value (Occupied e) = entry_at e.map.now.slots (e.slot1 ∷ e.slot2 ∷ e.slot3 ∷ [])
 
   -- For each rank, the test whether an item has the key of the vacant entry.
+  -- Example: No item of the map passes one of them.
   abbrev pub wanted : VacantEntry T S Q K1 K2 K3 H of eq1 input1 eq2 input2 eq3 input3 build hashes q → List (T → Bool)
   wanted e = key_tests of eq1.eq eq2.eq eq3.eq (q.first e.keys) (q.second e.keys) (q.third e.keys)
 
@@ -208,12 +217,14 @@ module _ {T S Q K1 K2 K3 H : Type 0} {of : item.Ghosts T K1 K2 K3} {eq1 : equal.
   OnOccupied (Occupied e) P = P e
 
   -- The item `x` went into this very map (`Gains`), and the guard `r` borrows it.
+  -- Example: A map of a, b becomes `x`, a, b, and `ref_item r` is `Some x`.
   pub record GainsAndLends (e : VacantEntry T S Q K1 K2 K3 H of eq1 input1 eq2 input2 eq3 input3 build hashes q) (x : T) (r : RefMut T S K1 K2 K3 H of eq1 input1 eq2 input2 eq3 input3 build hashes) : Type 0 where
     pub same_map : ref_lender r ≡ e.map.ghost_name
     pub item : ref_item r ≡ Some x
     pub gains : Gains e.map.now x (ref_map r)
 
   -- The item `x` went into this very map (`Gains`), and is held for writing, by each of its keys.
+  -- Example: A map of a, b becomes `x`, a, b, and `held` is `x`.
   pub record GainsAndHolds (e : VacantEntry T S Q K1 K2 K3 H of eq1 input1 eq2 input2 eq3 input3 build hashes q) (x : T) (m : OccupiedEntryMut T S K1 K2 K3 H) : Type 0 where
     pub same_map : m.map.ghost_name ≡ e.map.ghost_name
     pub gains : Gains e.map.now x m.map.now
@@ -228,6 +239,7 @@ module _ {T S Q K1 K2 K3 H : Type 0} {of : item.Ghosts T K1 K2 K3} {eq1 : equal.
   -- The item `x` went into the map of the vacant entry and is held for writing (`GainsAndHolds`), or the error
   -- returns it (`HandsBack`) and the map is as it was. The call succeeds if `x` has the keys of the entry and the map
   -- is not full.
+  -- Example: If `x` has another first key than the entry, the error is `Key1 x`.
   pub record PutsIn (e : VacantEntry T S Q K1 K2 K3 H of eq1 input1 eq2 input2 eq3 input3 build hashes q) (x : T) (result : Result (OccupiedEntryMut T S K1 K2 K3 H) (EntryRefusal T S K1 K2 K3 H)) : Type 0 where
     pub gains_and_holds : IfOk result (GainsAndHolds e x)
     pub same_keys : OnOk result (differ (wanted e) x ≡ None)
@@ -243,6 +255,7 @@ module _ {T S Q K1 K2 K3 H : Type 0} {of : item.Ghosts T K1 K2 K3} {eq1 : equal.
   IsSameEntry (Occupied o) (Occupied p) = FindsSame o p
 
   -- The entries have the same map, kind, keys and slots. The capacity and the builder stay.
+  -- Example: An entry that has found a still finds its slot once a is written.
   pub record KeepsEntry (before after : Entry T S Q K1 K2 K3 H of eq1 input1 eq2 input2 eq3 input3 build hashes q) : Type 0 where
     pub same_map : entry_lender after ≡ entry_lender before
     pub capacity : (entry_map after).capacity ≡ (entry_map before).capacity
@@ -258,6 +271,7 @@ module _ {T S Q K1 K2 K3 H : Type 0} {of : item.Ghosts T K1 K2 K3} {eq1 : equal.
 module _ {T S K1 K2 K3 H : Type 0} {of : item.Ghosts T K1 K2 K3} {eq1 : equal.Ghosts K1} {input1 : hash.Ghosts K1} {eq2 : equal.Ghosts K2} {input2 : hash.Ghosts K2} {eq3 : equal.Ghosts K3} {input3 : hash.Ghosts K3} {build : builder.Ghosts S H} {hashes : hasher.Ghosts H} {q : pair.Ghosts (KeyTriple K1 K2 K3) K1 K2 K3} where
   -- The item `x` went into this very map (`Gains`), and the occupied entry, with the keys of the vacant one, finds it
   -- alone.
+  -- Example: A map of a, b becomes `x`, a, b, and the entry has found `unique x`.
   pub record GainsAndFinds (tests : K1 → K2 → K3 → List (T → Bool)) (e : VacantEntry T S (KeyTriple K1 K2 K3) K1 K2 K3 H of eq1 input1 eq2 input2 eq3 input3 build hashes q) (x : T) (o : OccupiedEntry T S K1 K2 K3 H) : Type 0 where
     pub same_map : o.map.ghost_name ≡ e.map.ghost_name
     pub gains : Gains e.map.now x o.map.now
@@ -284,6 +298,7 @@ module _ (T S K1 K2 K3 H : RattleType) (of : item.Ghosts T.Denot K1.Denot K2.Den
   entry_row = occupied_row (record { mir = named 1; lft = [] }) T S K1 K2 K3 H of (record { eq = keys1.eq }) (record { hash_input = keys1.hash_input }) (record { eq = keys2.eq }) (record { hash_input = keys2.hash_input }) (record { eq = keys3.eq }) (record { hash_input = keys3.hash_input }) build hashes
 
   -- The entry ends with the map as the borrow of its items leaves it.
+  -- Example: If a becomes `put a d` in that borrow, the map of the entry has `put a d`.
   abbrev pub lends_held : MutBor (OccupiedEntry T.Denot S.Denot K1.Denot K2.Denot K3.Denot H.Denot) → OccupiedEntryMut T.Denot S.Denot K1.Denot K2.Denot K3.Denot H.Denot → Fml
   lends_held m r = follows entry_row (map_row T S K1 K2 K3 H of keys1 keys2 keys3 build hashes) m.ghost_name r.map.ghost_name (λ n. record m.now { map = record m.now.map { now = n } })
 
@@ -291,6 +306,7 @@ module _ (T S K1 K2 K3 H : RattleType) (of : item.Ghosts T.Denot K1.Denot K2.Den
   held_row = occupied_mut_row (record { mir = named 1; lft = [] }) T S K1 K2 K3 H of (record { eq = keys1.eq }) (record { hash_input = keys1.hash_input }) (record { eq = keys2.eq }) (record { hash_input = keys2.hash_input }) (record { eq = keys3.eq }) (record { hash_input = keys3.hash_input }) build hashes
 
   -- What is written through `r` is the data of the item with the first key. If there is no `r`, what is held stays.
+  -- Example: If d is written, and that item is a, the map has `put a d` in its place.
   abbrev pub lends_held1 : (D : RattleType) → (T.Denot → D.Denot → T.Denot) → MutBor (OccupiedEntryMut T.Denot S.Denot K1.Denot K2.Denot K3.Denot H.Denot) → Option (MutBor D.Denot) → Fml
   lends_held1 D put m r = LendsIf held_row D m r (λ d. held_with1 m.now (λ x. put x d)) m.now
 
@@ -301,10 +317,12 @@ module _ (T S K1 K2 K3 H : RattleType) (of : item.Ghosts T.Denot K1.Denot K2.Den
   lends_held3 D put m r = LendsIf held_row D m r (λ d. held_with3 m.now (λ x. put x d)) m.now
 
   -- What is written through `r` is the data of the item that has all keys. If there is no `r`, what is held stays.
+  -- Example: If d is written, and that item is a, the map has `put a d` in its place.
   abbrev pub lends_held_unique : (D : RattleType) → (T.Denot → D.Denot → T.Denot) → MutBor (OccupiedEntryMut T.Denot S.Denot K1.Denot K2.Denot K3.Denot H.Denot) → Option (MutBor D.Denot) → Fml
   lends_held_unique D put m r = LendsIf held_row D m r (λ d. held_with_unique m.now (λ x. put x d)) m.now
 
   -- What is written through `r` is the data of the item with the first key. If there is no `r`, the entry stays.
+  -- Example: If d is written, and that item is a, the map has `put a d` in its place.
   abbrev pub lends_data1 : (D : RattleType) → (T.Denot → D.Denot → T.Denot) → MutBor (OccupiedEntry T.Denot S.Denot K1.Denot K2.Denot K3.Denot H.Denot) → Option (MutBor D.Denot) → Fml
   lends_data1 D put m r = LendsIf entry_row D m r (λ d. entry_with1 m.now (λ x. put x d)) m.now
 

@@ -22,7 +22,7 @@ module _ {T : Type 0} where
   mismatch_rank (mismatch.Key2 x) = 1
   mismatch_rank (mismatch.Key3 x) = 2
 
-  -- The item that an entry returns.
+  -- The item that the error of an entry returns.
   -- Example: Of `Memory x` it is `x`.
   abbrev pub error_item : EntryError T → T
   error_item (Key1 x) = x
@@ -48,6 +48,7 @@ module _ {T : Type 0} where
 
   -- The error returns `x`. It names the lowest rank at which `x` fails its test, and if there is none, it is for lack
   -- of memory in a full map where nothing conflicts with `x`.
+  -- Example: Of `Key1 x` the item fails the test at the rank 0.
   pub record HandsBack {S : Type 0} (ranks : Ranks T) (tests : List (T → Bool)) (m : Map T S) (x : T) (error : EntryError T) : Type 0 where
     pub handed_back : error_item error ≡ x
     pub rank : differ tests x ≡ error_rank error

@@ -29,6 +29,7 @@ MatchRefusal (refusal.Memory x) P Q = Q
 
 module _ {T S K1 K2 K3 H : Type 0} {of : item.Ghosts T K1 K2 K3} {eq1 : equal.Ghosts K1} {input1 : hash.Ghosts K1} {eq2 : equal.Ghosts K2} {input2 : hash.Ghosts K2} {eq3 : equal.Ghosts K3} {input3 : hash.Ghosts K3} {build : builder.Ghosts S H} {hashes : hasher.Ghosts H} where
   -- The error of an insert has the item `x`, and borrows this very map, which is as it was.
+  -- Example: After an insert of c into a map of a, b has failed, the error has c, and its map has a, b.
   pub record HandsBackAndHolds (m : MutBor (Map T S)) (x : T) (e : InsertError T S K1 K2 K3 H of eq1 input1 eq2 input2 eq3 input3 build hashes) : Type 0 where
     pub handed_back : e.item ≡ x
     pub same_map : e.map.ghost_name ≡ m.ghost_name
@@ -44,5 +45,6 @@ module _ (T S K1 K2 K3 H : RattleType) (of : item.Ghosts T.Denot K1.Denot K2.Den
   map_row = the_row T S K1 K2 K3 H of (record { eq = keys1.eq }) (record { hash_input = keys1.hash_input }) (record { eq = keys2.eq }) (record { hash_input = keys2.hash_input }) (record { eq = keys3.eq }) (record { hash_input = keys3.hash_input }) build hashes
 
   -- After an error the map ends as the error leaves it, and after `Ok` it ends so that `P` holds of it.
+  -- Example: Where `P` says that the map gained c, it ends with c or as the error leaves it.
   abbrev pub ends_as : {X : Type 0} → MutBor (Map T.Denot S.Denot) → Result X (InsertError T.Denot S.Denot K1.Denot K2.Denot K3.Denot H.Denot of (record { eq = keys1.eq }) (record { hash_input = keys1.hash_input }) (record { eq = keys2.eq }) (record { hash_input = keys2.hash_input }) (record { eq = keys3.eq }) (record { hash_input = keys3.hash_input }) build hashes) → (Map T.Denot S.Denot → Type 0) → Fml
   ends_as m r P = follows_so map_row map_row m.ghost_name (refused_name r) (λ x n. OnErr r (n ≡ x)) (λ n. OnOk r (P n))

@@ -27,6 +27,7 @@ pub record IsIndex {T : Type 0} (hash : T → ℕ) (slots : List (Option T)) (pa
 
 module _ {T : Type 0} where
   -- For each rank there is a table that has the pairs of the live slots, by the hashes of this rank.
+  -- Example: For two ranks there are two tables.
   abbrev pub AreIndexes : List (T → ℕ) → List (Option T) → List (List (ℕ × ℕ)) → Type 0
   AreIndexes [] slots [] = ⊤
   AreIndexes [] slots (pairs ∷ tables) = ⊥
@@ -34,6 +35,7 @@ module _ {T : Type 0} where
   AreIndexes (hash ∷ hashes) slots (pairs ∷ tables) = IsIndex hash slots pairs × AreIndexes hashes slots tables
 
 -- A map keeps its items so that no two of them conflict and a table for each rank has their pairs.
+-- Example: A map of the bag has three pairs in each of two tables.
 pub record IsIndexed {T : Type 0} (ranks : Ranks T) (hashes : List (T → ℕ)) (slots : List (Option T)) (tables : List (List (ℕ × ℕ))) : Type 0 where
   pub sound : IsSound ranks (live_items slots)
   pub indexes : AreIndexes hashes slots tables

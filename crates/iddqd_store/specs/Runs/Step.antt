@@ -25,6 +25,7 @@ abbrev pub state_of : {T S : Type 0} → Map T S → State T
 state_of m = record { items = bag m; capacity = m.capacity }
 
 -- The state of a new map: it has no items, and the capacity 0.
+-- Example: `Len` in it gives `size 0`.
 abbrev pub empty_state : {T : Type 0} → State T
 empty_state = record { items = []; capacity = 0 }
 

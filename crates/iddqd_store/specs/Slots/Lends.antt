@@ -11,9 +11,11 @@ with_item s at item = record s { slots = slice_set s.slots at (Some item) }
 
 module _ (T : RattleType) (s : MutBor (Slots T.Denot)) (at : ℕ) where
   -- What is written through `r` is the item of the slot `at`.
+  -- Example: If c is written, `Some a`, `Some b` and 1 end as `Some a`, `Some c`.
   abbrev pub lends_item : MutBor T.Denot → Fml
   lends_item r = Lends (the_row T) T s r (with_item s.now at)
 
   -- What is written through `r` is the item of the slot `at`, and if there is no `r`, the set ends as it was.
+  -- Example: If c is written, `Some a`, `Some b` and 1 end as `Some a`, `Some c`.
   abbrev pub lends_get : Option (MutBor T.Denot) → Fml
   lends_get r = LendsIf (the_row T) T s r (with_item s.now at) s.now
