@@ -40,7 +40,7 @@ module _ {T S : Type 0} where
     pub unchanged : after.now ≡ before.now
 
 module _ {T S K1 K2 H : Type 0} where
-  -- For each rank, the test whether an item has the key of the occupied entry.
+  -- `entry_tests` has for each rank the test whether an item has the key of the occupied entry.
   -- Example: An item that has every key of the entry passes every test.
   abbrev pub entry_tests : (K1 → K2 → List (T → Bool)) → OccupiedEntry T S K1 K2 H → List (T → Bool)
   entry_tests tests o = tests o.key1.now o.key2.now
@@ -85,17 +85,17 @@ module _ {T S K1 K2 H : Type 0} where
     pub capacity : after.map.now.capacity ≡ before.map.now.capacity
     pub builder : after.map.now.builder ≡ before.map.now.builder
 
-  -- The items that are held for writing, each once.
+  -- `held` lists the items that are held for writing, each once.
   -- Example: If every key names a, it is a.
   abbrev pub held : OccupiedEntryMut T S K1 K2 H → List T
   held m = held_at m.map.now.slots (m.slot1 ∷ m.slot2 ∷ [])
 
-  -- What is held for writing, as `Entry` has it.
+  -- `held_entry` is what is held for writing, as `Entry` has it.
   -- Example: If every key names a, it is `unique a`.
   abbrev pub held_entry : OccupiedEntryMut T S K1 K2 H → bags.Entry T
   held_entry m = entry_at m.map.now.slots (m.slot1 ∷ m.slot2 ∷ [])
 
-  -- The item that is held for the first key, if there is one.
+  -- `held1` is the item that is held for the first key, if there is one.
   -- Example: If every key names a, it is `Some a`.
   abbrev pub held1 : OccupiedEntryMut T S K1 K2 H → Option T
   held1 m = option_and_then (get m.map.now.slots) m.slot1
@@ -103,16 +103,16 @@ module _ {T S K1 K2 H : Type 0} where
   abbrev pub held2 : OccupiedEntryMut T S K1 K2 H → Option T
   held2 m = option_and_then (get m.map.now.slots) m.slot2
 
-  -- The item that has both keys, if there is one.
+  -- `held_unique` is the item that has both keys, if there is one.
   -- Example: If every key names a, it is `Some a`.
   abbrev pub held_unique : OccupiedEntryMut T S K1 K2 H → Option T
   held_unique m = option_and_then (get m.map.now.slots) (head_of (found_by_all (m.slot1 ∷ m.slot2 ∷ [])))
 
-  -- What is held, with `f` of the item of this slot in its place in the map.
+  -- `held_with` is what is held, with `f` of the item of this slot in its place in the map.
   abbrev held_with : OccupiedEntryMut T S K1 K2 H → Option ℕ → (T → T) → OccupiedEntryMut T S K1 K2 H
   held_with m slot f = record m { map = record m.map { now = map_with_if m.map.now slot f } }
 
-  -- What is held, with `f` of the item with the first key in its place in the map.
+  -- `held_with1` is what is held, with `f` of the item with the first key in its place in the map.
   -- Example: If that item is a, the map has `f a` in its place.
   abbrev pub held_with1 : OccupiedEntryMut T S K1 K2 H → (T → T) → OccupiedEntryMut T S K1 K2 H
   held_with1 m f = held_with m m.slot1 f
@@ -120,7 +120,7 @@ module _ {T S K1 K2 H : Type 0} where
   abbrev pub held_with2 : OccupiedEntryMut T S K1 K2 H → (T → T) → OccupiedEntryMut T S K1 K2 H
   held_with2 m f = held_with m m.slot2 f
 
-  -- What is held, with `f` of the item that has both keys in its place in the map.
+  -- `held_with_unique` is what is held, with `f` of the item that has both keys in its place in the map.
   -- Example: If that item is a, the map has `f a` in its place.
   abbrev pub held_with_unique : OccupiedEntryMut T S K1 K2 H → (T → T) → OccupiedEntryMut T S K1 K2 H
   held_with_unique m f = held_with m (head_of (found_by_all (m.slot1 ∷ m.slot2 ∷ []))) f
@@ -142,7 +142,7 @@ module _ {T S K1 K2 H : Type 0} where
     pub unchanged : IfOk result (λ m. m.map.now ≡ o.map.now)
     pub holds : HasFound (key_tests of eq1 eq2) o → IfOk result (HoldsFound of eq1 eq2 o)
 
-  -- The entry, with `f` of the item with the first key in its place in the map.
+  -- `entry_with1` is the entry, with `f` of the item with the first key in its place in the map.
   -- Example: If that item is a, the map has `f a` in its place.
   abbrev pub entry_with1 : OccupiedEntry T S K1 K2 H → (T → T) → OccupiedEntry T S K1 K2 H
   entry_with1 o f = record o { map = record o.map { now = map_with_if o.map.now o.slot1 f } }
@@ -151,17 +151,17 @@ module _ {T S K1 K2 H : Type 0} where
   entry_with2 o f = record o { map = record o.map { now = map_with_if o.map.now o.slot2 f } }
 
 module _ {T S Q K1 K2 H : Type 0} {of : item.Ghosts T K1 K2} {eq1 : equal.Ghosts K1} {input1 : hash.Ghosts K1} {eq2 : equal.Ghosts K2} {input2 : hash.Ghosts K2} {build : builder.Ghosts S H} {hashes : hasher.Ghosts H} {q : pair.Ghosts Q K1 K2} where
-  -- The name of the entry's reference to the map.
+  -- `entry_lender` is the name of the entry's reference to the map.
   abbrev pub entry_lender : Entry T S Q K1 K2 H of eq1 input1 eq2 input2 build hashes q → GName
   entry_lender (Vacant e) = e.map.ghost_name
   entry_lender (Occupied e) = e.map.ghost_name
 
-  -- The map of the entry.
+  -- `entry_map` is the map of the entry.
   abbrev pub entry_map : Entry T S Q K1 K2 H of eq1 input1 eq2 input2 build hashes q → Map T S
   entry_map (Vacant e) = e.map.now
   entry_map (Occupied e) = e.map.now
 
-  -- The first key of the entry.
+  -- `entry_key1` is the first key of the entry.
   abbrev pub entry_key1 : Entry T S Q K1 K2 H of eq1 input1 eq2 input2 build hashes q → K1
   entry_key1 (Vacant e) = q.first e.keys
   entry_key1 (Occupied e) = e.key1.now
@@ -175,13 +175,13 @@ module _ {T S Q K1 K2 H : Type 0} {of : item.Ghosts T K1 K2} {eq1 : equal.Ghosts
     pub key1 : entry_key1 e ≡ k1
     pub key2 : entry_key2 e ≡ k2
 
-  -- What the entry has found.
+  -- `entry_value` is what the entry has found.
   -- Example: It is `vacant` of a vacant entry, and `unique a` of an occupied one all of whose keys name a.
   abbrev pub entry_value : Entry T S Q K1 K2 H of eq1 input1 eq2 input2 build hashes q → bags.Entry T
   entry_value (Vacant e) = vacant
   entry_value (Occupied e) = entry_at e.map.now.slots (e.slot1 ∷ e.slot2 ∷ [])
 
-  -- For each rank, the test whether an item has the key of the vacant entry.
+  -- `wanted` has for each rank the test whether an item has the key of the vacant entry.
   -- Example: No item of the map passes one of them.
   abbrev pub wanted : VacantEntry T S Q K1 K2 H of eq1 input1 eq2 input2 build hashes q → List (T → Bool)
   wanted e = key_tests of eq1.eq eq2.eq (q.first e.keys) (q.second e.keys)
@@ -274,7 +274,7 @@ module _ (T S K1 K2 H : RattleType) (of : item.Ghosts T.Denot K1.Denot K2.Denot)
   abbrev pub held_rests_if_err : {E : Type 0} → MutBor (Map T.Denot S.Denot) → Result (OccupiedEntryMut T.Denot S.Denot K1.Denot K2.Denot H.Denot) E → Fml
   held_rests_if_err m r = follows_so (map_row T S K1 K2 H of keys1 keys2 build hashes) (map_row T S K1 K2 H of keys1 keys2 build hashes) m.ghost_name (name_if_ok (λ e. e.map.ghost_name) r) (λ x n. OnOk r (n ≡ x)) (λ n. OnErr r (n ≡ m.now))
 
-  -- The type of an occupied entry, as the logic has it. No public clause cites it.
+  -- `entry_row` is the type of an occupied entry, as the logic has it. No public clause cites it.
   abbrev pub entry_row : RattleType
   entry_row = occupied_row (record { mir = named 1; lft = [] }) T S K1 K2 H of (record { eq = keys1.eq }) (record { hash_input = keys1.hash_input }) (record { eq = keys2.eq }) (record { hash_input = keys2.hash_input }) build hashes
 

@@ -12,22 +12,22 @@ use Rattle.iddqd_bi.specs.declared.iter_mut.IterMut.{IterMut}
 use Rattle.iddqd_bi.specs.contracts.iter_mut.IterMut.{the_row}
 
 module _ {T S K1 K2 H : Type 0} where
-  -- The items that are left to the iteration.
+  -- `rest_of` lists the items that are left to the iteration.
   -- Example: In a, b, c, of which a has been passed, it is b, c.
   abbrev pub rest_of : IterMut T S K1 K2 H → List T
   rest_of it = to_come it.map.now it.next
 
-  -- The items that the iteration has passed, as they were written.
+  -- `done_of` lists the items that the iteration has passed, as they were written.
   -- Example: In a, b, c, of which a has been passed, it is a.
   abbrev pub done_of : IterMut T S K1 K2 H → List T
   done_of it = passed it.map.now it.next
 
-  -- The map, with `f` of the next item in its place.
+  -- `next_written` is the map, with `f` of the next item in its place.
   -- Example: In a, b, c, of which a has been passed, it has a, `f b`, c.
   abbrev pub next_written : IterMut T S K1 K2 H → (T → T) → Map T S
   next_written it f = record it.map.now { slots = write_next f it.map.now.slots it.next }
 
-  -- The iteration behind the next item, with `f` of that item in its place.
+  -- `stepped` is the iteration behind the next item, with `f` of that item in its place.
   -- Example: In a, b, c, of which a has been passed, it has passed a, `f b`.
   abbrev pub stepped : IterMut T S K1 K2 H → (T → T) → IterMut T S K1 K2 H
   stepped it f = record { map = record it.map { now = next_written it f }; next = after_next it.map.now.slots it.next; left = it.left - 1 }

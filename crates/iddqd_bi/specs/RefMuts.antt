@@ -16,16 +16,16 @@ use Rattle.iddqd_bi.specs.contracts.map.BiHashMap.{the_row as map_row}
 use Rattle.iddqd_bi.specs.contracts.ref_mut.RefMut.{the_row as ref_row}
 
 module _ {T S K1 K2 H : Type 0} {of : item.Ghosts T K1 K2} {eq1 : equal.Ghosts K1} {input1 : hash.Ghosts K1} {eq2 : equal.Ghosts K2} {input2 : hash.Ghosts K2} {build : builder.Ghosts S H} {hashes : hasher.Ghosts H} where
-  -- The name of the guard's reference to the map.
+  -- `ref_lender` is the name of the guard's reference to the map.
   abbrev pub ref_lender : RefMut T S K1 K2 H of eq1 input1 eq2 input2 build hashes → GName
   ref_lender r = r.map.ghost_name
 
-  -- The map of the guard, as the guard has it.
+  -- `ref_map` is the map of the guard, as the guard has it.
   -- Example: Of a guard in a map of a, b it has a, b.
   abbrev pub ref_map : RefMut T S K1 K2 H of eq1 input1 eq2 input2 build hashes → Map T S
   ref_map r = r.map.now
 
-  -- The item that the guard borrows.
+  -- `ref_item` is the item that the guard borrows.
   -- Example: Of a guard of a it is `Some a`.
   abbrev pub ref_item : RefMut T S K1 K2 H of eq1 input1 eq2 input2 build hashes → Option T
   ref_item r = get r.map.now.slots r.slot
@@ -42,7 +42,7 @@ module _ {T S K1 K2 H : Type 0} {of : item.Ghosts T K1 K2} {eq1 : equal.Ghosts K
     pub capacity : (ref_map after).capacity ≡ (ref_map before).capacity
     pub builder : (ref_map after).builder ≡ (ref_map before).builder
 
-  -- The guard, with `f` of its item in the place of the item.
+  -- `ref_with` is the guard, with `f` of its item in the place of the item.
   -- Example: Of a guard of a it is a guard of `f a`.
   abbrev pub ref_with : RefMut T S K1 K2 H of eq1 input1 eq2 input2 build hashes → (T → T) → RefMut T S K1 K2 H of eq1 input1 eq2 input2 build hashes
   ref_with r f = record {

@@ -24,12 +24,12 @@ map_code {T} {S} t s =
     code_by (List (Option T) × (ℕ × S)) (coded× (coded_list (coded_option t)) (coded× coded_ℕ s))
     (λ m. (m.slots, (m.capacity, m.builder))) (λ p. record { slots = p.0; capacity = p.1.0; builder = p.1.1 }) (λ _. refl)
 
--- The items of the map, as a list whose order means nothing.
+-- `bag` lists the items of the map. Their order means nothing.
 -- Example: Of the slots `Some (1, 10)`, `None`, `Some (2, 20)` it is (1, 10), (2, 20).
 abbrev pub bag : {T S : Type 0} → Map T S → List T
 bag m = live_items m.slots
 
--- The hash that `hash_one` of the builder gives for what a key writes.
+-- `hash_of` is the hash that `hash_one` of the builder gives for what a key writes.
 -- Example: Under a builder that gives every key the same hash, it is that hash.
 abbrev pub hash_of : {S H : Type 0} → builder.Ghosts S H → hasher.Ghosts H → S → HashWrites → ℕ
 hash_of b h s writes = h.finish (fold h.write (b.build_hasher s) writes)

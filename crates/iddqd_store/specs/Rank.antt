@@ -15,13 +15,13 @@ use Rattle.iddqd_store.specs.Slots.{live_items}
 use Rattle.iddqd_store.specs.Table.{IsFree, LooksUpWithin, Spot}
 
 module _ {T K : Type 0} where
-  -- Whether the two items have equal keys of this rank.
+  -- `agree` tells whether the two items have equal keys of this rank.
   -- Example: For the first rank (1, 10) and (1, 20) agree.
   abbrev pub agree : (T → K) → (K → K → Bool) → T → T → Bool
   agree key eq x y = eq (key x) (key y)
 
 module _ {T K S H : Type 0} where
-  -- The hash of an item's key of this rank.
+  -- `key_hash` is the hash of an item's key of this rank.
   -- Example: Under a builder that gives every key the same hash, it is that hash.
   abbrev pub key_hash : (T → K) → (K → HashWrites) → builder.Ghosts S H → hasher.Ghosts H → S → T → ℕ
   key_hash key input build hash s x = hash_of build hash s (input (key x))

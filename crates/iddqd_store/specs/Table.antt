@@ -9,12 +9,12 @@ use Rattle.std.specs.List.Sorted.{IsPermutation}
 use Rattle.iddqd_store.specs.Table.Limit.{IsSize}
 use Rattle.iddqd_store.specs.Table.Ring.{pairs_in, cell, gap, stretch, IsReached}
 
--- The hashes of the pairs.
+-- `hashes` lists the hashes of the pairs.
 -- Example: Of (5, 0), (6, 2) they are 5, 6.
 abbrev pub hashes : List (ℕ × ℕ) → List ℕ
 hashes pairs = map (λ p. p.0) pairs
 
--- Whether the pair stands under the hash.
+-- `under` tells whether the pair stands under the hash.
 -- Example: (5, 0) stands under 5.
 abbrev pub under : ℕ → ℕ × ℕ → Bool
 under hash p = p.0 == hash

@@ -6,12 +6,12 @@ use Rattle.iddqd_store.specs.Table.{Spot}
 use Rattle.iddqd_tri.specs.declared.item.TriHashItem as item
 
 module _ {T K1 K2 K3 : Type 0} (of : item.Ghosts T K1 K2 K3) where
-  -- For each rank, a test whether two items have equal keys.
+  -- `ranks` has for each rank a test whether two items have equal keys.
   -- Example: Every item passes every test with itself.
   abbrev pub ranks : (K1 → K1 → Bool) → (K2 → K2 → Bool) → (K3 → K3 → Bool) → Ranks T
   ranks eq1 eq2 eq3 = agree of.key1 eq1 ∷ agree of.key2 eq2 ∷ agree of.key3 eq3 ∷ []
 
-  -- Whether the item has the first key that the query stands for.
+  -- `has1` tells whether the item has the first key that the query stands for.
   -- Example: If the query is the first key of the item, it is true.
   abbrev pub has1 : {Q : Type 0} → (Q → K1 → Bool) → Q → T → Bool
   has1 stands q x = stands q (of.key1 x)
@@ -22,12 +22,12 @@ module _ {T K1 K2 K3 : Type 0} (of : item.Ghosts T K1 K2 K3) where
   abbrev pub has3 : {Q : Type 0} → (Q → K3 → Bool) → Q → T → Bool
   has3 stands q x = stands q (of.key3 x)
 
-  -- For each rank, the test whether an item has the key that the query of this rank stands for.
+  -- `key_tests` has for each rank the test whether an item has the key that the query of this rank stands for.
   -- Example: If the queries are the keys of an item, it passes every test.
   abbrev pub key_tests : {Q1 Q2 Q3 : Type 0} → (Q1 → K1 → Bool) → (Q2 → K2 → Bool) → (Q3 → K3 → Bool) → Q1 → Q2 → Q3 → List (T → Bool)
   key_tests stands1 stands2 stands3 q1 q2 q3 = has1 stands1 q1 ∷ has2 stands2 q2 ∷ has3 stands3 q3 ∷ []
 
-  -- Whether the item has all keys that the queries stand for.
+  -- `has_all` tells whether the item has all keys that the queries stand for.
   -- Example: If the queries are the keys of the item, it is true.
   abbrev pub has_all : {Q1 Q2 Q3 : Type 0} → (Q1 → K1 → Bool) → (Q2 → K2 → Bool) → (Q3 → K3 → Bool) → Q1 → Q2 → Q3 → T → Bool
   has_all stands1 stands2 stands3 q1 q2 q3 = every_of (key_tests stands1 stands2 stands3 q1 q2 q3)
@@ -55,7 +55,7 @@ pub record HaveHashes (h1 h2 h3 : ℕ) (found : SlotUnder × SlotUnder × SlotUn
   pub second : found.1.hash ≡ h2
   pub third : found.2.hash ≡ h3
 
--- For each rank, the slot that a search found, or none. No public clause cites it.
+-- `slots_found` has for each rank the slot that a search found, or none. No public clause cites it.
 abbrev pub slots_found : Result (Spot × Spot × Spot) (SlotUnder × SlotUnder × SlotUnder) → List (Option ℕ)
 slots_found (Ok at) = None ∷ None ∷ None ∷ []
 slots_found (Err found) = found.0.slot ∷ found.1.slot ∷ found.2.slot ∷ []

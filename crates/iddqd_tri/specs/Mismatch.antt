@@ -8,21 +8,21 @@ use Rattle.iddqd_tri.specs.declared.error.EntryError.{EntryError}
 use Rattle.iddqd_tri.specs.declared.error.EntryError.TheVariants.{Key1, Key2, Key3, Memory}
 
 module _ {T : Type 0} where
-  -- The item that is returned because a key of it differs.
+  -- `mismatch_item` is the item that is returned because a key of it differs.
   -- Example: Of `Key1 x` it is `x`.
   abbrev pub mismatch_item : KeyMismatch T → T
   mismatch_item (mismatch.Key1 x) = x
   mismatch_item (mismatch.Key2 x) = x
   mismatch_item (mismatch.Key3 x) = x
 
-  -- The rank of the key that differs, counted from 0.
+  -- `mismatch_rank` is the rank of the key that differs, counted from 0.
   -- Example: Of `Key1 x` it is 0.
   abbrev pub mismatch_rank : KeyMismatch T → ℕ
   mismatch_rank (mismatch.Key1 x) = 0
   mismatch_rank (mismatch.Key2 x) = 1
   mismatch_rank (mismatch.Key3 x) = 2
 
-  -- The item that the error of an entry returns.
+  -- `error_item` is the item that the error of an entry returns.
   -- Example: Of `Memory x` it is `x`.
   abbrev pub error_item : EntryError T → T
   error_item (Key1 x) = x
@@ -30,7 +30,8 @@ module _ {T : Type 0} where
   error_item (Key3 x) = x
   error_item (Memory x) = x
 
-  -- The rank of the key that differs from that of the entry, counted from 0, or `None` if memory ran out.
+  -- `error_rank` is the rank of the key that differs from that of the entry, counted from 0, or `None` if memory ran
+  -- out.
   -- Example: Of `Memory x` it is `None`.
   abbrev pub error_rank : EntryError T → Option ℕ
   error_rank (Key1 x) = Some 0

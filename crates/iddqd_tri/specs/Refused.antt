@@ -14,7 +14,7 @@ use Rattle.iddqd_tri.specs.declared.map.slots.Refusal.TheVariants as refusal
 use Rattle.iddqd_tri.specs.declared.error.InsertError.{InsertError}
 use Rattle.iddqd_tri.specs.contracts.map.TriHashMap.{the_row}
 
--- The item that was rejected. No public clause cites it.
+-- `refusal_item` is the item that was rejected. No public clause cites it.
 -- Example: Of `Memory x` it is `x`.
 abbrev pub refusal_item : {T : Type 0} → Refusal T → T
 refusal_item (refusal.Duplicate x found) = x
@@ -40,7 +40,7 @@ module _ {T S K1 K2 K3 H : Type 0} {of : item.Ghosts T K1 K2 K3} {eq1 : equal.Gh
   refused_name (Err e) = maybe.some e.map.ghost_name
 
 module _ (T S K1 K2 K3 H : RattleType) (of : item.Ghosts T.Denot K1.Denot K2.Denot K3.Denot) (keys1 : HashMembers K1.Denot) (keys2 : HashMembers K2.Denot) (keys3 : HashMembers K3.Denot) (build : builder.Ghosts S.Denot H.Denot) (hashes : hasher.Ghosts H.Denot) where
-  -- The type of the map, as the logic has it. No public clause cites it.
+  -- `map_row` is the type of the map, as the logic has it. No public clause cites it.
   abbrev pub map_row : RattleType
   map_row = the_row T S K1 K2 K3 H of (record { eq = keys1.eq }) (record { hash_input = keys1.hash_input }) (record { eq = keys2.eq }) (record { hash_input = keys2.hash_input }) (record { eq = keys3.eq }) (record { hash_input = keys3.hash_input }) build hashes
 

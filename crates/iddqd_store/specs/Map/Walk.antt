@@ -5,12 +5,12 @@ use Rattle.iddqd_store.specs.Map.Written.{of_item}
 use Rattle.iddqd_store.specs.Slots.{items_in, get}
 
 module _ {T S : Type 0} where
-  -- The items in the slots before the place `at`.
+  -- `passed` lists the items in the slots before the place `at`.
   -- Example: Of the slots `Some a`, `None`, `Some b` and the place 2 it is a.
   abbrev pub passed : Map T S → ℕ → List T
   passed m at = items_in (take at m.slots)
 
-  -- The items in the slots from the place `at` on.
+  -- `to_come` lists the items in the slots from the place `at` on.
   -- Example: Of the slots `Some a`, `None`, `Some b` and the place 1 it is b.
   abbrev pub to_come : Map T S → ℕ → List T
   to_come m at = items_in (drop at m.slots)
@@ -24,7 +24,7 @@ module _ {T S : Type 0} where
     pub behind : (f : T → T) → to_come (written f) to ≡ to_come m to
 
 module _ {T : Type 0} where
-  -- The slots, with `f` of the first item from the slot `from` on in its place.
+  -- `write_next` lists the slots, with `f` of the first item from the slot `from` on in its place.
   -- Example: Of `Some a`, `None`, `Some b` and 1 it is `Some a`, `None`, `Some (f b)`.
   abbrev pub write_next : (T → T) → List (Option T) → ℕ → List (Option T)
   write_next f [] from = []
@@ -32,7 +32,7 @@ module _ {T : Type 0} where
   write_next f (Some x ∷ rest) zero = Some (f x) ∷ rest
   write_next f (o ∷ rest) (suc from) = o ∷ write_next f rest from
 
-  -- The number behind the slot of the first item from the slot `from` on.
+  -- `after_next` is the number behind the slot of the first item from the slot `from` on.
   -- Example: Of `Some a`, `None`, `Some b` and 1 it is 3.
   abbrev pub after_next : List (Option T) → ℕ → ℕ
   after_next [] from = from

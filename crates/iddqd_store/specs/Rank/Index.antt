@@ -5,12 +5,12 @@ use Rattle.iddqd_store.specs.Bag.{Ranks, IsSound}
 use Rattle.iddqd_store.specs.Slots.{members, live_items, get}
 
 module _ {T : Type 0} where
-  -- The pair of a live slot: the hash of its item, and its number.
+  -- `pair_of` is the pair of a live slot: the hash of its item, and its number.
   -- Example: Of the slot 2 with an item of the hash 5 it is (5, 2).
   abbrev pub pair_of : (T → ℕ) → ℕ × T → ℕ × ℕ
   pair_of hash m = (hash m.1, m.0)
 
-  -- Whether the slot has an item that passes the test.
+  -- `passes_at` tells whether the slot has an item that passes the test.
   -- Example: Of the slots `Some a`, `None` it is false at 1.
   abbrev pub passes_at : (T → Bool) → List (Option T) → ℕ → Bool
   passes_at test slots at = option_map_or test (get slots at) false

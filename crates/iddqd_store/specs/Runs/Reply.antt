@@ -2,7 +2,8 @@
 use Rattle.std.specs.Prelude.{ℕ, Bool, List, Option}
 use Rattle.iddqd_store.specs.declared.error.ExtendUniqueReason.{ExtendUniqueReason}
 
--- What a command on a map returns. Borrowed items are here as values, and an iterator is the list that it gives.
+-- `Reply` is what a command on a map returns. Borrowed items are here as values, and an iterator is the list that it
+-- gives.
 -- Example: `done`, `found (Some (2, 20))`, or `duplicate` with (1, 20) and (1, 10), (2, 20).
 pub data Reply (T D : Type 0) : Type 0 where
   done : Reply T D

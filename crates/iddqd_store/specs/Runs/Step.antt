@@ -8,7 +8,7 @@ use Rattle.iddqd_store.specs.Map.{Map, bag}
 use Rattle.iddqd_store.specs.Table.Limit.{most_room}
 use Rattle.iddqd_store.specs.Runs.Reply.{Reply, done, duplicate, displaced, found, present, taken, memory, refused, size, items, kept, key, absent, absent_data, extend_refused}
 
--- The state of a map: its bag, and its capacity.
+-- `State` is the state of a map: its bag, and its capacity.
 -- Example: (1, 10), (2, 20), (3, 30), and 7.
 pub record State (T : Type 0) : Type 0 where
   pub items : List T
@@ -19,12 +19,12 @@ pub record State (T : Type 0) : Type 0 where
 abbrev pub Fits : {T : Type 0} → State T → Type 0
 Fits s = (length s.items ≤ s.capacity) × (s.capacity ≤ most_room)
 
--- The state of the map.
+-- `state_of` is the state of the map.
 -- Example: Of a map of the bag with the capacity 7 it is the bag and 7.
 abbrev pub state_of : {T S : Type 0} → Map T S → State T
 state_of m = record { items = bag m; capacity = m.capacity }
 
--- The state of a new map: it has no items, and the capacity 0.
+-- `empty_state` is the state of a new map: it has no items, and the capacity 0.
 -- Example: `Len` in it gives `size 0`.
 abbrev pub empty_state : {T : Type 0} → State T
 empty_state = record { items = []; capacity = 0 }

@@ -4,12 +4,12 @@ use Rattle.iddqd_store.specs.declared.item_set.Slot.{Slot}
 use Rattle.iddqd_store.specs.declared.item_set.Slot.TheVariants.{Live, Free}
 
 module _ {T : Type 0} where
-  -- The item of the slot, if it has one.
+  -- `item_of` is the item of the slot, if it has one.
   abbrev pub item_of : Slot T → Option T
   item_of (Live item) = Some item
   item_of (Free _) = None
 
-  -- The slots that have an item.
+  -- `live_slots` lists the slots that have an item.
   abbrev pub live_slots : List (Slot T) → List (Slot T)
   live_slots slots = filter (λ slot. is_some (item_of slot)) slots
 

@@ -11,7 +11,7 @@ module _ {T : Type 0} where
   abbrev pub NamesOneOf : (T → T → Bool) → (T → Bool) → List T → Type 0
   NamesOneOf agree test bag = (x y : T) → Contains bag x → Contains bag y → test x ≡ true → test y ≡ true → agree x y ≡ true
 
-  -- The items of these slots.
+  -- `items_at` lists the items of these slots.
   -- Example: Of `Some a`, `None`, `Some b` and the slots 2, 0 it is b, a.
   abbrev pub items_at : List (Option T) → List ℕ → List T
   items_at slots ixs = filter_map (get slots) ixs
@@ -23,18 +23,18 @@ module _ {T : Type 0} where
     pub live : All (IsLive slots) ixs
     pub apart : IsDistinct nat_eq ixs
 
--- Whether the slot `ix` is among these.
+-- `contains` tells whether the slot `ix` is among these.
 -- Example: 2 is among 0, 2.
 abbrev pub contains : List ℕ → ℕ → Bool
 contains ixs ix = list_any (nat_eq ix) ixs
 
--- The slots, and behind them the one that a search found, unless it is among them.
+-- `with_found` lists the slots, and behind them the one that a search found, unless it is among them.
 -- Example: Of 0, 2 and `Some 5` it is 0, 2, 5, and of 0, 2 and `Some 0` it is 0, 2.
 abbrev pub with_found : List ℕ → Option ℕ → List ℕ
 with_found ixs None = ixs
 with_found ixs (Some ix) = if contains ixs ix then ixs else ixs ++ ix ∷ []
 
--- The slots that searches found, each once.
+-- `each_once` lists the slots that searches found, each once.
 -- Example: Of `Some 2`, `None`, `Some 2` it is 2.
 abbrev pub each_once : List (Option ℕ) → List ℕ
 each_once found = fold with_found [] found
@@ -43,7 +43,7 @@ abbrev pub is_at : ℕ → Option ℕ → Bool
 is_at ix None = false
 is_at ix (Some at) = nat_eq ix at
 
--- The slot that every search found, if there is one.
+-- `found_by_all` lists the one slot that every search found, if there is one.
 -- Example: Of `Some 2`, `Some 2` it is 2, and of `Some 2`, `None` there is none.
 abbrev pub found_by_all : List (Option ℕ) → List ℕ
 found_by_all [] = []
@@ -70,12 +70,12 @@ module _ {T : Type 0} where
   AreFound (test ∷ tests) slots [] = ⊥
   AreFound (test ∷ tests) slots (at ∷ found) = FoundAt test slots at × AreFound tests slots found
 
-  -- The items of the slots that searches found, each once.
+  -- `held_at` lists the items of the slots that searches found, each once.
   -- Example: Of `Some a`, `None`, `Some b` and `Some 2`, `Some 2` it is b.
   abbrev pub held_at : List (Option T) → List (Option ℕ) → List T
   held_at slots found = items_at slots (each_once found)
 
-  -- What searches by all keys found, as `Entry` has it.
+  -- `entry_at` is what searches by all keys found, as `Entry` has it.
   -- Example: Of `Some a`, `None`, `Some b` and `Some 2`, `Some 2` it is `unique b`.
   abbrev pub entry_at : List (Option T) → List (Option ℕ) → Entry T
   entry_at slots found = entry_of (held_at slots found) (items_at slots (found_by_all found))

@@ -4,7 +4,7 @@ use Rattle.std.specs.Borrow.{Lends, LendsIf, Fml, RattleType, MutBor}
 use Rattle.iddqd_store.specs.Slots.{Slots}
 use Rattle.iddqd_store.specs.contracts.item_set.ItemSet.{the_row}
 
--- The set, with this item in the slot `at`.
+-- `with_item` is the set, with this item in the slot `at`.
 -- Example: Of `Some a`, `Some b` and 1 it has the slots `Some a`, `Some c`.
 abbrev pub with_item : {T : Type 0} → Slots T → ℕ → T → Slots T
 with_item s at item = record s { slots = slice_set s.slots at (Some item) }
