@@ -1,4 +1,5 @@
 """The definitions of specs/ as tables: the lists `words FILE ..` of tests/lists, whose head says what they are."""
+import glob
 import importlib.machinery
 import importlib.util
 import os
@@ -8,6 +9,8 @@ import widen
 
 CRATES = ("iddqd_store", "iddqd_bi", "iddqd_tri")
 HEAD = re.compile(r"^( *)(abbrev pub|pub record|pub data) (\w+)(.*)$")
+USE = re.compile(r"ghost use Rattle\.iddqd_\w+\.specs\.([\w.]*)\.\{([^}]*)\}")
+LABEL = re.compile(r"(?:requires|ensures)\*? (\w+) \{")
 # What the types, keys and builder of a map bring along: the table has `..` for them.
 OF_TRAITS = re.compile(r"RattleType|\.Ghosts\b|HashMembers")
 LONG_TYPES = re.compile(r"(?<![.\w])(Entry|VacantEntry|OccupiedEntry|OccupiedEntryMut|RefMut|IterMut|InsertError|EntryRefusal)( (\w+|\([^()]*\))){3,}")
@@ -125,13 +128,16 @@ class Words:
         self.words, self.faults = {file: list(words_of(file)) for files in lists for file in files}, []
         found = [it for words in self.words.values() for it in words]
         told = {name for it in found if it.meaning and UNCITED not in it.meaning for name in (it.name, widen.renamed(it.name))}
-        cited = {crate: cited_by(crate, loaded("docs/reference")) for crate in CRATES}
+        clauses = {crate: list(public_clauses(crate)) for crate in CRATES}
+        cited = {crate: cited_by(crate, clauses[crate]) for crate in CRATES}
         for it in found:
             self.faults += faults_of(it, cited)
         for crate, names in cited.items():
             for name in sorted(names - told):
                 if not is_at_other_rank(name, told):
                     self.faults.append(f"docs/DEFINITIONS.md has no table with {name}, which a contract of {crate} cites, or it has no comment")
+
+        self.faults += [*faults_of_labels(clauses), *faults_of_proved()]
 
     def table(self, files):
         """The lines of the list of these files."""
@@ -157,18 +163,47 @@ def faults_of(word, cited):
             yield f"{word.file}: the comment of {word.name} says '{says}', and a contract of {by[0]} does"
 
 
-def cited_by(crate, reference):
-    """The words of specs/ that the contracts of a crate's public functions cite."""
-    names, defined = set(), set()
-    for path in reference.glob.glob(f"crates/iddqd_*/specs/**/*.antt", recursive=True):
-        defined |= {found[3] for found in map(HEAD.match, read(path).split("\n")) if found}
-    for path in reference.glob.glob(f"crates/{crate}/src/**/*.rt", recursive=True):
+def public_clauses(crate):
+    """Yields the clauses of a crate's public functions by lines, each with the text of its file."""
+    reference = loaded("docs/reference")
+    for path in glob.glob(f"crates/{crate}/src/**/*.rt", recursive=True):
         text = read(path)
-        uses = re.findall(r"ghost use Rattle\.iddqd_\w+\.specs\.([\w.]*)\.\{([^}]*)\}", text)
-        used = {name.strip() for module, found in uses if "declared" not in module for name in found.split(",")} & defined
-        for function in reference.FUNCTION.finditer(text):
-            if function["head"].startswith("pub fn"):
-                lines, _ = reference.clauses_of(text, reference.signature_end(text, function.end()))
-                clauses = "\n".join(it for it in lines if not it.strip().startswith("//"))
-                names |= used & set(reference.WORD.findall(clauses))
-    return names
+        for function in (it for it in reference.FUNCTION.finditer(text) if it["head"].startswith("pub fn")):
+            lines, _ = reference.clauses_of(text, reference.signature_end(text, function.end()))
+            yield from ((it.strip(), text) for it in lines if not it.strip().startswith("//"))
+
+
+def cited_by(crate, clauses):
+    """The words of specs/ that these clauses of a crate cite."""
+    defined = {found[3] for path in glob.glob("crates/iddqd_*/specs/**/*.antt", recursive=True)
+               for found in map(HEAD.match, read(path).split("\n")) if found}
+    used = {text: {name.strip() for module, names in USE.findall(text) if "declared" not in module for name in names.split(",")}
+            for text in {text for _, text in clauses}}
+    return {name for line, text in clauses for name in re.findall(r"[^\W\d]\w*", line) if name in used[text] & defined}
+
+
+def faults_of_labels(clauses):
+    """Yields the labels of the maps' clauses that docs/DEFINITIONS.md does not tell, and those that it tells and no clause has."""
+    page = read("docs/DEFINITIONS.md")
+    section = re.search(r"^## Labels of clauses\n(.*?)^## ", page, re.M | re.S)[1]
+    told = {it for row in re.findall(r"^\| (.*?) \|", section, re.M) for it in re.findall(r"`(\w+)`", row)}
+    shown = {name for code in re.findall(r"`([^`\n]+)`", page) for name in re.findall(r"[^\W\d]\w*", code)}
+    spelled = {re.sub(r"(?<=[a-z])(?=[A-Z])", "_", it).lower() for it in shown}
+    labels = {crate: {it[1] for it in map(LABEL.match, (line for line, _ in clauses[crate])) if it} for crate in CRATES}
+    fields = {it for path in glob.glob("crates/iddqd_*/specs/**/*.antt", recursive=True) for it in re.findall(r"^ +pub (\w+) :", read(path), re.M)}
+    for name in sorted(labels["iddqd_bi"] | labels["iddqd_tri"]):
+        if name not in spelled and not is_at_other_rank(name, spelled):
+            yield f"docs/DEFINITIONS.md does not say what the label {name} means"
+    for name in sorted(told - fields.union(*labels.values())):
+        yield f"docs/DEFINITIONS.md says what the label {name} means, and no clause has it"
+
+
+def faults_of_proved():
+    """Yields what docs/PROVED.md names in brackets, and no crate has it: labels, fields, definitions, ghost members and functions."""
+    files = (path for kind in ("src/**/*.rt", "specs/**/*.antt") for path in glob.glob(f"crates/*/{kind}", recursive=True))
+    name = r"(?:requires|ensures)\*? (\w+) \{|\bfn (\w+)|ghost (\w+)\b|\bpub (?!fn )(?:record |data )?(\w+) |^ *abbrev pub (\w+)"
+    there = {word for path in files for found in re.findall(name, read(path), re.M) for word in found}
+    for inside in re.findall(r"\(([^()]*`[^()]*)\)", read("docs/PROVED.md")):
+        for word in re.findall(r"`(\w+)`", inside):
+            if word not in there:
+                yield f"docs/PROVED.md names {word} in brackets, and no contract has it"
