@@ -70,7 +70,7 @@ def functions(crate):
                 owner = inner[0] or module
                 key = found[3] if owner in MAPS else f"{owner}::{found[3]}"
                 paths = f"{module}::{checked_name(*inner)}" if inner[1] and inner[1] != "Drop" else owner
-                last = types.SimpleNamespace(
+                last = Function(
                     crate=crate, file=module.replace("::", "/"), key=key, full=f"{module}::{key}" if inner[0] else key,
                     owner=paths, name=found[3], is_public=bool(found[2] or inner[1]), edits=[], by=[], like=[], why=None, calls=set())
                 yield last
@@ -78,6 +78,12 @@ def functions(crate):
                 last.calls.update(re.findall(r"\b(\w+)(?:::<[^()]*>)?\(", line))
             if line == "}":
                 of, trait = "", ""
+
+
+class Function(types.SimpleNamespace):
+    """A function of the sources, with what turns.md says of it. No other one is equal to it."""
+
+    __eq__, __hash__ = object.__eq__, object.__hash__
 
 
 def is_named(function, path):

@@ -13,7 +13,8 @@ USE = re.compile(r"ghost use Rattle\.iddqd_\w+\.specs\.([\w.]*)\.\{([^}]*)\}")
 LABEL = re.compile(r"(?:requires|ensures)\*? (\w+) \{")
 # What the types, keys and builder of a map bring along: the table has `..` for them.
 OF_TRAITS = re.compile(r"RattleType|\.Ghosts\b|HashMembers")
-LONG_TYPES = re.compile(r"(?<![.\w])(Entry|VacantEntry|OccupiedEntry|OccupiedEntryMut|RefMut|IterMut|InsertError|EntryRefusal)( (\w+|\([^()]*\))){3,}")
+LONG_TYPES = re.compile(
+    r"(?<![.\w])(Entry|VacantEntry|OccupiedEntry|OccupiedEntryMut|RefMut|IterMut|InsertError|EntryRefusal)( (\w+|\([^()]*\))){3,}")
 # What a comment says of a word that the contracts of public functions do not cite; and of one that those of the maps do not.
 UNCITED, UNCITED_BY_MAPS = "No public clause cites it.", "No clause of a map cites it."
 
@@ -109,8 +110,9 @@ def words_of(file):
     """Yields the definitions of a file, in order."""
     crate, _, name = file.partition("/")
     text = read(f"crates/{crate}/specs/{name}.antt")
-    imported = {it.strip() for names in re.findall(r"^use .*\b(?:Reply|TheVariants|Bag|Prelude)\.\{(.*)\}$", text, re.M) for it in names.split(",")}
-    constructors = {"refl", "tt"} | imported | {it for data in re.findall(r"^pub data .*?\n\n", text, re.M | re.S) for it in re.findall(r"^ +(\w+) :", data, re.M)}
+    imported = ", ".join(re.findall(r"^use .*\b(?:Reply|TheVariants|Bag|Prelude)\.\{(.*)\}$", text, re.M)).split(", ")
+    own = re.findall(r"^ +(\w+) :", "".join(re.findall(r"^pub data .*?\n\n", text, re.M | re.S)), re.M)
+    constructors = {"refl", "tt", *imported, *own}
     comment, around, lines = [], "", text.split("\n")
     for at, line in enumerate(lines):
         module, head = re.match(r"module _ (.*) where$", line), HEAD.match(line)
@@ -132,11 +134,9 @@ class Words:
         cited = {crate: cited_by(crate, clauses[crate]) for crate in CRATES}
         for it in found:
             self.faults += faults_of(it, cited)
-        for crate, names in cited.items():
-            for name in sorted(names - told):
-                if not is_at_other_rank(name, told):
-                    self.faults.append(f"docs/DEFINITIONS.md has no table with {name}, which a contract of {crate} cites, or it has no comment")
-
+        for crate, name in ((crate, name) for crate, names in cited.items() for name in sorted(names - told)):
+            if not is_at_other_rank(name, told):
+                self.faults.append(f"docs/DEFINITIONS.md has no row for {name}, which a contract of {crate} cites, or it has no comment")
         self.faults += [*faults_of_labels(clauses), *faults_of_proved()]
 
     def table(self, files):
@@ -190,7 +190,8 @@ def faults_of_labels(clauses):
     shown = {name for code in re.findall(r"`([^`\n]+)`", page) for name in re.findall(r"[^\W\d]\w*", code)}
     spelled = {re.sub(r"(?<=[a-z])(?=[A-Z])", "_", it).lower() for it in shown}
     labels = {crate: {it[1] for it in map(LABEL.match, (line for line, _ in clauses[crate])) if it} for crate in CRATES}
-    fields = {it for path in glob.glob("crates/iddqd_*/specs/**/*.antt", recursive=True) for it in re.findall(r"^ +pub (\w+) :", read(path), re.M)}
+    specs = map(read, glob.glob("crates/iddqd_*/specs/**/*.antt", recursive=True))
+    fields = {it for text in specs for it in re.findall(r"^ +pub (\w+) :", text, re.M)}
     for name in sorted(labels["iddqd_bi"] | labels["iddqd_tri"]):
         if name not in spelled and not is_at_other_rank(name, spelled):
             yield f"docs/DEFINITIONS.md does not say what the label {name} means"
