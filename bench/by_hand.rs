@@ -6,7 +6,7 @@ use std::collections::HashMap;
 use std::collections::hash_map::Entry;
 use std::hash::{BuildHasher, BuildHasherDefault, Hasher};
 
-/// The hasher that Rattle's std has under this name.
+/// `FoldHasher` of Rattle's std, written anew.
 pub struct FoldHasher(u64);
 
 impl Default for FoldHasher {
@@ -30,7 +30,7 @@ fn read_u64(bytes: &[u8], at: usize) -> u64 {
     u64::from_le_bytes(bytes[at..at + 8].try_into().expect("eight bytes"))
 }
 
-/// Up to eight bytes as one number, by reads that may overlap.
+/// Reads up to eight bytes as one number, by reads that may overlap.
 fn read_short(bytes: &[u8]) -> u64 {
     match bytes.len() {
         0 => 0,

@@ -8,32 +8,43 @@ use Rattle.iddqd_bi.specs.declared.error.EntryError.{EntryError}
 use Rattle.iddqd_bi.specs.declared.error.EntryError.TheVariants.{Key1, Key2, Memory}
 
 module _ {T : Type 0} where
+  -- `mismatch_item` is the item that is returned because a key of it differs.
+  -- Example: Of `Key1 x` it is `x`.
   abbrev pub mismatch_item : KeyMismatch T → T
   mismatch_item (mismatch.Key1 x) = x
   mismatch_item (mismatch.Key2 x) = x
 
+  -- `mismatch_rank` is the rank of the key that differs, counted from 0.
+  -- Example: Of `Key1 x` it is 0.
   abbrev pub mismatch_rank : KeyMismatch T → ℕ
   mismatch_rank (mismatch.Key1 x) = 0
   mismatch_rank (mismatch.Key2 x) = 1
 
+  -- `error_item` is the item that the error of an entry returns.
+  -- Example: Of `Memory x` it is `x`.
   abbrev pub error_item : EntryError T → T
   error_item (Key1 x) = x
   error_item (Key2 x) = x
   error_item (Memory x) = x
 
-  -- no rank, where there is no memory
+  -- `error_rank` is the rank of the key that differs from that of the entry, counted from 0, or `None` if memory ran
+  -- out.
+  -- Example: Of `Memory x` it is `None`.
   abbrev pub error_rank : EntryError T → Option ℕ
   error_rank (Key1 x) = Some 0
   error_rank (Key2 x) = Some 1
   error_rank (Memory x) = None
 
-  -- P, where there is no memory
+  -- If the error is for lack of memory, then `P` holds.
+  -- Example: It holds of `Key1 x`.
   abbrev pub OnNoMemory : EntryError T → Type 0 → Type 0
   OnNoMemory (Key1 x) P = ⊤
   OnNoMemory (Key2 x) P = ⊤
   OnNoMemory (Memory x) P = P
 
-  -- the item comes back for the lowest rank at which it fails its test, or else since the map is full and lacks memory
+  -- The error returns `x`. It names the lowest rank at which `x` fails its test, and if there is none, it is for lack
+  -- of memory in a full map where nothing conflicts with `x`.
+  -- Example: Of `Key1 x` the item fails the test at the rank 0.
   pub record HandsBack {S : Type 0} (ranks : Ranks T) (tests : List (T → Bool)) (m : Map T S) (x : T) (error : EntryError T) : Type 0 where
     pub handed_back : error_item error ≡ x
     pub rank : differ tests x ≡ error_rank error

@@ -16,19 +16,23 @@ use Rattle.iddqd_bi.specs.contracts.map.BiHashMap.{the_row as map_row}
 use Rattle.iddqd_bi.specs.contracts.ref_mut.RefMut.{the_row as ref_row}
 
 module _ {T S K1 K2 H : Type 0} {of : item.Ghosts T K1 K2} {eq1 : equal.Ghosts K1} {input1 : hash.Ghosts K1} {eq2 : equal.Ghosts K2} {input2 : hash.Ghosts K2} {build : builder.Ghosts S H} {hashes : hasher.Ghosts H} where
-  -- the reference to the map
+  -- `ref_lender` is the name of the guard's reference to the map.
   abbrev pub ref_lender : RefMut T S K1 K2 H of eq1 input1 eq2 input2 build hashes → GName
   ref_lender r = r.map.ghost_name
 
-  -- the map, as the reference has it
+  -- `ref_map` is the map of the guard, as the guard has it.
+  -- Example: Of a guard in a map of a, b it has a, b.
   abbrev pub ref_map : RefMut T S K1 K2 H of eq1 input1 eq2 input2 build hashes → Map T S
   ref_map r = r.map.now
 
-  -- the item
+  -- `ref_item` is the item that the guard borrows.
+  -- Example: Of a guard of a it is `Some a`.
   abbrev pub ref_item : RefMut T S K1 K2 H of eq1 input1 eq2 input2 build hashes → Option T
   ref_item r = get r.map.now.slots r.slot
 
-  -- x, which was lent, comes back, and the item, which has its keys, is in its place. The room and the builder stay
+  -- The item `x` of the guard is returned, and `item`, which has the same keys, is in its place. The guard has the
+  -- same map, and nothing else changes.
+  -- Example: In a map of a, b, a guard of a becomes one of `item` in a map of `item`, b, and `x` is a.
   pub record Replaces (ranks : Ranks T) (before : RefMut T S K1 K2 H of eq1 input1 eq2 input2 build hashes) (item x : T) (after : RefMut T S K1 K2 H of eq1 input1 eq2 input2 build hashes) : Type 0 where
     pub same_map : ref_lender after ≡ ref_lender before
     pub old : ref_item before ≡ Some x
@@ -38,7 +42,8 @@ module _ {T S K1 K2 H : Type 0} {of : item.Ghosts T K1 K2} {eq1 : equal.Ghosts K
     pub capacity : (ref_map after).capacity ≡ (ref_map before).capacity
     pub builder : (ref_map after).builder ≡ (ref_map before).builder
 
-  -- the reference, with f of its item
+  -- `ref_with` is the guard, with `f` of its item in the place of the item.
+  -- Example: Of a guard of a it is a guard of `f a`.
   abbrev pub ref_with : RefMut T S K1 K2 H of eq1 input1 eq2 input2 build hashes → (T → T) → RefMut T S K1 K2 H of eq1 input1 eq2 input2 build hashes
   ref_with r f = record {
     map = record r.map { now = map_with r.map.now r.slot f };
@@ -47,10 +52,12 @@ module _ {T S K1 K2 H : Type 0} {of : item.Ghosts T K1 K2} {eq1 : equal.Ghosts K
   }
 
 module _ (T S K1 K2 H : RattleType) {of : item.Ghosts T.Denot K1.Denot K2.Denot} {eq1 : equal.Ghosts K1.Denot} {input1 : hash.Ghosts K1.Denot} {eq2 : equal.Ghosts K2.Denot} {input2 : hash.Ghosts K2.Denot} {build : builder.Ghosts S.Denot H.Denot} {hashes : hasher.Ghosts H.Denot} where
-  -- the item has the last data written through r
+  -- What is written through `r` is the data of the guard's item.
+  -- Example: If d is written, a guard of a ends as one of `put a d`.
   abbrev pub lends_ref_data : (D : RattleType) → (T.Denot → D.Denot → T.Denot) → MutBor (RefMut T.Denot S.Denot K1.Denot K2.Denot H.Denot of eq1 input1 eq2 input2 build hashes) → MutBor D.Denot → Fml
   lends_ref_data D put m r = follows (ref_row (record { mir = named 1; lft = [] }) T S K1 K2 H of eq1 input1 eq2 input2 build hashes) D m.ghost_name r.ghost_name (λ d. ref_with m.now (λ x. put x d))
 
-  -- where there is no reference, the map stays
+  -- If there is no guard, the map ends as it was.
+  -- Example: A map of a, b ends as a, b.
   abbrev pub rests_if_none : MutBor (Map T.Denot S.Denot) → Option (RefMut T.Denot S.Denot K1.Denot K2.Denot H.Denot of eq1 input1 eq2 input2 build hashes) → Fml
   rests_if_none m r = RestsIfNone (map_row T S K1 K2 H of eq1 input1 eq2 input2 build hashes) m ref_lender r (λ n. n ≡ m.now)

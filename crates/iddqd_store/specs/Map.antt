@@ -11,7 +11,9 @@ use Rattle.iddqd_store.specs.Slots.Found.{StandAt}
 use Rattle.iddqd_store.specs.Slots.{get, live_items}
 use Rattle.iddqd_store.specs.Table.Limit.{most_room}
 
--- the items by their slots, how many fit, and what makes the hashes. Public clauses cite the slots as `bag` alone
+-- A contract sees of a map the items by their slots, the capacity, and the hash builder. Public clauses cite the
+-- slots as `bag` alone.
+-- Example: The slots `Some (1, 10)`, `None`, `Some (2, 20)`, and the capacity 7.
 pub record Map (T S : Type 0) : Type 0 where
   pub slots : List (Option T)
   pub capacity : ℕ
@@ -22,15 +24,19 @@ map_code {T} {S} t s =
     code_by (List (Option T) × (ℕ × S)) (coded× (coded_list (coded_option t)) (coded× coded_ℕ s))
     (λ m. (m.slots, (m.capacity, m.builder))) (λ p. record { slots = p.0; capacity = p.1.0; builder = p.1.1 }) (λ _. refl)
 
--- the bag of items, as a list of which the order means nothing
+-- `bag` lists the items of the map. Their order means nothing.
+-- Example: Of the slots `Some (1, 10)`, `None`, `Some (2, 20)` it is (1, 10), (2, 20).
 abbrev pub bag : {T S : Type 0} → Map T S → List T
 bag m = live_items m.slots
 
--- what `hash_one` gives
+-- `hash_of` is the hash that `hash_one` of the builder gives for what a key writes.
+-- Example: Under a builder that gives every key the same hash, it is that hash.
 abbrev pub hash_of : {S H : Type 0} → builder.Ghosts S H → hasher.Ghosts H → S → HashWrites → ℕ
 hash_of b h s writes = h.finish (fold h.write (b.build_hasher s) writes)
 
--- the map with one more item, which fits. It grows only where it is full
+-- The map has exactly this one item more, and the items fit. The capacity grows only if the map was full, and nothing
+-- else changes.
+-- Example: A map of the bag with the capacity 7 gains (4, 40), and its capacity stays 7.
 pub record Gains {T S : Type 0} (old : Map T S) (item : T) (new : Map T S) : Type 0 where
   pub items : IsPermutation (bag new) (item ∷ bag old)
   pub no_less_room : old.capacity ≤ new.capacity
@@ -38,13 +44,15 @@ pub record Gains {T S : Type 0} (old : Map T S) (item : T) (new : Map T S) : Typ
   pub fits : length (bag new) ≤ new.capacity
   pub same_builder : new.builder ≡ old.builder
 
--- the map without these items, which are given back. The room stays
+-- Exactly the items of `gone` left the map, and nothing else changes.
+-- Example: A map of the bag loses (2, 20), and has (1, 10), (3, 30) then.
 pub record Loses {T S : Type 0} (old : Map T S) (gone : List T) (new : Map T S) : Type 0 where
   pub items : IsPermutation (bag old) (gone ++ bag new)
   pub same_room : new.capacity ≡ old.capacity
   pub same_builder : new.builder ≡ old.builder
 
--- the map with these items, of which this one stands in this slot. The room stays. No public clause cites it
+-- The map has the items `xs`, of which `item` is in the slot `ix`. They are sound and fit, and the capacity and the
+-- builder stay. No public clause cites it.
 pub record PutsAt {T S : Type 0} (ranks : Ranks T) (old : Map T S) (ix : ℕ) (item : T) (xs : List T) (new : Map T S) : Type 0 where
   pub at : get new.slots ix ≡ Some item
   pub items : IsPermutation (bag new) xs
@@ -53,7 +61,9 @@ pub record PutsAt {T S : Type 0} (ranks : Ranks T) (old : Map T S) (ix : ℕ) (i
   pub same_room : new.capacity ≡ old.capacity
   pub same_builder : new.builder ≡ old.builder
 
--- the map with the item in the place of those that conflict with it. It grows only where it is full and nothing conflicts
+-- The item is in the map in the place of those that conflict with it (`over`), and the items fit. The capacity grows
+-- only if the map was full and nothing conflicts with the item, and nothing else changes.
+-- Example: A map of the bag, overwritten with (1, 20), has (1, 20), (3, 30).
 pub record Overwrites {T S : Type 0} (ranks : Ranks T) (old : Map T S) (item : T) (new : Map T S) : Type 0 where
   pub items : IsPermutation (bag new) (over ranks (bag old) item)
   pub fits : length (bag new) ≤ new.capacity
@@ -62,13 +72,18 @@ pub record Overwrites {T S : Type 0} (ranks : Ranks T) (old : Map T S) (item : T
   pub no_growth : clash ranks (bag old) item ≢ [] → new.capacity ≡ old.capacity
   pub same_builder : new.builder ≡ old.builder
 
--- the room is no less, and as before where the items surely fit. The builder stays
+-- The capacity is no lower, and it stays if `fits` holds, which says that the items were certain to fit. The builder
+-- stays.
+-- Example: If `fits` says that 3 + 4 ≤ 7, a map with the capacity 7 keeps it.
 pub record GrowsUnless {T S : Type 0} (fits : Type 0) (old new : Map T S) : Type 0 where
   pub no_less_room : old.capacity ≤ new.capacity
   pub same_room : fits → new.capacity ≡ old.capacity
   pub same_builder : new.builder ≡ old.builder
 
--- room is made for so many more items, or refused. It is refused only where they don't fit, and grows only there
+-- After `Ok`, `more` items fit beside those that are there. The call fails only if they fitted neither before nor
+-- after it, and always if no map can hold them. The capacity grows only if they did not fit, and the builder stays.
+-- Example: With 3 items and the capacity 7, room for 4 more is there and nothing changes, and for 5 more the capacity
+-- has to be 8 at least.
 pub record MakesRoom {T S A E : Type 0} (old : Map T S) (more : ℕ) (result : Result A E) (new : Map T S) : Type 0 where
   pub room : OnOk result (length (bag old) + more ≤ new.capacity)
   pub reason : OnErr result (old.capacity < length (bag old) + more)
@@ -78,16 +93,17 @@ pub record MakesRoom {T S A E : Type 0} (old : Map T S) (more : ℕ) (result : R
   pub same_room : length (bag old) + more ≤ old.capacity → new.capacity ≡ old.capacity
   pub same_builder : new.builder ≡ old.builder
 
--- nothing conflicts with the item, and the map is full
+-- Nothing conflicts with `x`, and the map is full.
+-- Example: With the capacity 3, a map of the bag is full for (4, 40), and not for (1, 40).
 pub record IsFullFor {T S : Type 0} (ranks : Ranks T) (m : Map T S) (x : T) : Type 0 where
   pub free : clash ranks (bag m) x ≡ []
   pub full : length (bag m) ≡ m.capacity
 
--- these are the slots of what conflicts with the item, in the order of the keys. No public clause cites it
+-- The items that conflict with `x` are in these slots, in the order of the keys of `x`. No public clause cites it.
 abbrev pub ListsConflicts : {T S : Type 0} → Ranks T → Map T S → T → List ℕ → Type 0
 ListsConflicts ranks m x found = StandAt m.slots found (order ranks (bag m) x)
 
--- the item is refused for what stands in these slots. No public clause cites it
+-- Something conflicts with `x`, and these are the slots of what does. No public clause cites it.
 pub record IsBlockedAt {T S : Type 0} (ranks : Ranks T) (m : Map T S) (x : T) (at : List ℕ) : Type 0 where
   pub some : clash ranks (bag m) x ≢ []
   pub found : ListsConflicts ranks m x at

@@ -15,49 +15,58 @@ use Rattle.iddqd_store.specs.Slots.{live_items}
 use Rattle.iddqd_store.specs.Table.{IsFree, LooksUpWithin, Spot}
 
 module _ {T K : Type 0} where
-  -- whether two items have equal keys
+  -- `agree` tells whether the two items have equal keys of this rank.
+  -- Example: For the first rank (1, 10) and (1, 20) agree.
   abbrev pub agree : (T → K) → (K → K → Bool) → T → T → Bool
   agree key eq x y = eq (key x) (key y)
 
 module _ {T K S H : Type 0} where
-  -- the hash of an item's key
+  -- `key_hash` is the hash of an item's key of this rank.
+  -- Example: Under a builder that gives every key the same hash, it is that hash.
   abbrev pub key_hash : (T → K) → (K → HashWrites) → builder.Ghosts S H → hasher.Ghosts H → S → T → ℕ
   key_hash key input build hash s x = hash_of build hash s (input (key x))
 
--- the members that pass the test have equal keys by agree, and this hash
+-- The items of the bag that pass the test have equal keys by `agree`, and they have this hash.
+-- Example: It holds of the test whether the first key is 2, and of the hash of 2.
 pub record NamesOneUnder {T : Type 0} (agree : T → T → Bool) (hash_of : T → ℕ) (hash : ℕ) (test : T → Bool) (bag : List T) : Type 0 where
   pub one : NamesOneOf agree test bag
   pub hashed : (x : T) → Contains bag x → test x ≡ true → hash_of x ≡ hash
 
--- a search for a hash asks about no more keys than members have the hash, and looks at the cells up to its answer
+-- The matcher was asked no more often than items have the hash, and the search probed the cells up to its answer, at
+-- most one more than there are items.
+-- Example: If each key has its own hash, a search asks at most once.
 pub record SearchCosts {T A : Type 0} (hash_of : T → ℕ) (bag : List T) (room hash : ℕ) (answer : Option A) (asks asks_then look look_then : ℕ) : Type 0 where
   pub asked : asks_then ≤ asks + crowd hash_of bag hash
   pub looks : LooksUpWithin (map hash_of bag) room hash answer look look_then
   pub at_most : look_then ≤ look + length bag + 1
 
--- a pair under this hash goes in at this cell, where the table has the hashes of the members. It is one of so many cells
--- that the members fit, so it is known unless there are none. No public clause cites it
+-- A pair under this hash goes into this cell of a table that has the hashes of the items. The cell is one of as many
+-- as the items need, so it is known if there are items. No clause of a map cites it.
+-- Example: Where the items have the hashes 2, 2, it is the cell 4 of 8 for the hash 2.
 pub record IsVacantFor {T : Type 0} (hash_of : T → ℕ) (bag : List T) (hash : ℕ) (spot : Spot) : Type 0 where
   pub same : spot.hash ≡ hash
   pub free : IsFree (map hash_of bag) spot
   pub fits : length bag ≤ spot.cells / 8 * 7
 
 module _ {T : Type 0} where
-  -- the pair of an item does
+  -- The pair of `x` goes into this cell (`IsVacantFor`). No public clause cites it.
   abbrev pub IsPlaceOf : (T → ℕ) → List T → T → Spot → Type 0
   IsPlaceOf hash_of bag x spot = IsVacantFor hash_of bag (hash_of x) spot
 
--- what contracts see of what a search by a hash found
+-- A contract sees of the outcome of a search by a hash the slot that it found, if any, and the hash.
+-- Example: `Some 2` and the hash 5.
 pub record SlotUnder : Type 0 where
   pub slot : Option ℕ
   pub hash : ℕ
 
 module _ {T : Type 0} where
-  -- the item in the slot that was found has the hash. No public clause cites it
+  -- The item in the slot that was found has the hash of the search. No public clause cites it.
   abbrev pub IsUnder : (T → ℕ) → List (Option T) → SlotUnder → Type 0
   IsUnder hash slots found = IfSome found.slot (λ at. HasHash hash slots at found.hash)
 
--- what a search rests on: no two items have equal keys, and the table has their hashes. No public clause cites it
+-- A search by one rank needs that no two items have equal keys, and that the table has the pairs of their hashes. No
+-- clause of a map cites it.
+-- Example: In the slots `Some a`, `None`, `Some b` the table has the pairs of a with 0 and of b with 2.
 pub record IsSearchable {T : Type 0} (agree : T → T → Bool) (hash : T → ℕ) (slots : List (Option T)) (pairs : List (ℕ × ℕ)) : Type 0 where
   pub apart : IsDistinct agree (live_items slots)
   pub index : IsIndex hash slots pairs

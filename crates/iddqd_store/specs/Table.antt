@@ -9,61 +9,75 @@ use Rattle.std.specs.List.Sorted.{IsPermutation}
 use Rattle.iddqd_store.specs.Table.Limit.{IsSize}
 use Rattle.iddqd_store.specs.Table.Ring.{pairs_in, cell, gap, stretch, IsReached}
 
--- the hashes of the pairs
+-- `hashes` lists the hashes of the pairs.
+-- Example: Of (5, 0), (6, 2) they are 5, 6.
 abbrev pub hashes : List (ℕ × ℕ) → List ℕ
 hashes pairs = map (λ p. p.0) pairs
 
--- whether a pair stands under a hash
+-- `under` tells whether the pair stands under the hash.
+-- Example: (5, 0) stands under 5.
 abbrev pub under : ℕ → ℕ × ℕ → Bool
 under hash p = p.0 == hash
 
--- how many cells a search for a hash looks at, by whether it answers something
+-- A search for a hash probes no cell if there is none. If it finds nothing, it probes one more than the stretch of
+-- the hash, and if it finds something, from 1 up to the stretch.
+-- Example: Among 8 cells with the hashes 2, 2 a search for 2 that finds nothing probes 3.
 pub record LooksUp {A : Type 0} (hashes : List ℕ) (cells hash : ℕ) (answer : Option A) (before after : ℕ) : Type 0 where
   pub no_cells : cells ≡ 0 → after ≡ before
   pub miss : 0 < cells → IfNone answer (after ≡ before + stretch hashes cells hash + 1)
   pub hit_least : OnSome answer (before + 1 ≤ after)
   pub hit_most : OnSome answer (after ≤ before + stretch hashes cells hash)
 
--- the same over some number of cells that a `usize` counts and that have room for so many pairs
+-- A search probes so many cells (`LooksUp`) of some table that has room for so many pairs.
+-- Example: With room for 7 and the hash 2 once, a search for 2 that finds nothing probes 2 cells, where the table has
+-- 8.
 abbrev pub LooksUpWithin : {A : Type 0} → List ℕ → ℕ → ℕ → Option A → ℕ → ℕ → Type 0
 LooksUpWithin hashes room hash answer before after =
     (cells : ℕ) × IsSize cells × (cells < 2 ^ 64) × (room ≤ cells / 8 * 7) × LooksUp hashes cells hash answer before after
 
--- an index stands under another hash, and each other pair stays
+-- The slot `index` stands under the hash `after` in the place of `before`, and every other pair stays.
+-- Example: From (5, 0), (6, 2) to (5, 0), (7, 2) the slot 2 moves from 6 to 7.
 pub record MovesPair (old new : List (ℕ × ℕ)) (before after index : ℕ) : Type 0 where
   pub others : List (ℕ × ℕ)
   pub had : IsPermutation old ((before, index) ∷ others)
   pub has : IsPermutation new ((after, index) ∷ others)
 
--- each pair is found from its home on, and an eighth of the cells is empty
+-- Each pair is found from its home on, and at least an eighth of the cells is empty.
+-- Example: Of 8 empty cells it holds.
 pub record IsTable (row : List (Option (ℕ × ℕ))) : Type 0 where
   pub size : IsSize (length row)
   pub fits : length (pairs_in row) ≤ length row / 8 * 7
   pub reached : IsReached (λ p. p.0 % length row) (length row) row
 
--- a cell is the first empty one from a home on
+-- The cell `at` is the first empty one, from the cell `home` on.
+-- Example: Of `Some (0, 5)`, `None` and the home 0 it is 1.
 pub record IsFirstEmpty (row : List (Option (ℕ × ℕ))) (home at : ℕ) : Type 0 where
   pub below : at < length row
   pub empty : cell row at ≡ None
   pub first : (q : ℕ) → q < length row → gap (length row) home q < gap (length row) home at → cell row q ≢ None
 
--- each cell from a home on is occupied up to this one
+-- Each cell from `home` on is occupied, up to the one before `at`.
+-- Example: Of `Some (0, 5)`, `None` and the home 0 it holds of 0 and of 1.
 pub record IsWayTo (row : List (Option (ℕ × ℕ))) (home at : ℕ) : Type 0 where
   pub below : at < length row
   pub first : (q : ℕ) → q < length row → gap (length row) home q < gap (length row) home at → cell row q ≢ None
 
--- what contracts see of an empty cell at which a search ended: for which hash, of how many cells, and which of them
+-- A contract sees of an empty cell at which a search ended the hash, how many cells there are, and which of them it
+-- is.
+-- Example: The hash 2, 8 cells, and 4.
 pub record Spot : Type 0 where
   pub hash : ℕ
   pub cells : ℕ
   pub at : ℕ
 
--- among so many cells with pairs of these hashes it is the first empty one from the home of its hash on
+-- Among so many cells with pairs of these hashes, this is the first empty one from the home of its hash on.
+-- Example: Among 8 cells with the hashes 2, 2 it is 4 for the hash 2.
 pub record IsFree (hashes : List ℕ) (spot : Spot) : Type 0 where
   pub below : 0 < spot.cells → spot.at < spot.cells
   pub away : 0 < spot.cells → gap spot.cells (spot.hash % spot.cells) spot.at ≡ stretch hashes spot.cells spot.hash
 
--- what contracts see of a table
+-- A contract sees of a table its pairs, how many of them fit, and its cells.
+-- Example: (5, 0), (6, 2), 7, and 8 cells.
 pub record Table : Type 0 where
   pub pairs : List (ℕ × ℕ)
   pub limit : ℕ

@@ -1,4 +1,5 @@
-//! Pairs of a hash and a slot's index, found by the hash, in cells with open addressing and no marks of deleted pairs.
+//! A hash table of pairs of a hash and a slot's index: open addressing with linear probing, and backward-shift
+//! deletion, so there are no tombstones.
 ghost use Rattle.std.specs.Prelude.{◌≡◌, ◌≢◌, ◌+◌, ◌*◌, ◌/◌, ◌∷◌, ◌<◌, ◌≤◌, ◌&&◌, [], true, length, IsSome, IsOk, IsErr, ◌↔◌, IfOk, OnErr, IfErr, Contains};
 ghost use Rattle.std.specs.List.Sorted.{IsPermutation};
 ghost use Rattle.std.specs.Result.{result_ok};
@@ -24,18 +25,20 @@ pub use matcher::{KeyMatcher, Matcher};
 pub use meter::Meter;
 pub use vacancy::Vacancy;
 
-/// Pairs of a hash and a slot's index, found by the hash.
+/// A hash table of pairs of a hash and a slot's index.
 ///
-/// The home of a hash among `n` cells is the cell `hash % n`. A pair stands in the first cell from its home on that
-/// was empty, going round from the last cell to cell 0. The number of cells is 0 or a power of two from 8 on, and
-/// an eighth of the cells stays empty, so each search ends.
+/// The home bucket of a hash, which is called its home here, is the cell `hash % n` among `n` cells. Every cell from
+/// a pair's home to the pair's own cell is occupied, going round from the last cell to cell 0 (linear probing). The
+/// number of cells is 0 or a power of two from 8 on. At least an eighth of the cells is empty, so each search ends.
 ///
 /// Contracts see its `pairs` in some order, its `limit`, which is how many fit, and its `row` of cells. Which cells
-/// are occupied is a function of the pairs' hashes and the number of cells (`cell_at`), whatever came before.
+/// are occupied depends only on the hashes of the pairs and the number of cells (`cell_at`), and not on the order in
+/// which pairs were inserted and removed.
 ///
-/// A cell is looked at by one call alone, which ticks the meter that it is handed. `clone` and growth copy cells whole.
-/// Here `try_reserve` alone makes a meter of its own. In other files `forget`, `rehash`, `fill`, `search` and the maps'
-/// `insert_at` do: no clause of theirs speaks of looks. The script `tests/forms` lists all that make one.
+/// To read what a cell has is a probe; clauses that count probes are labelled `looks`. One function does so, and
+/// counts that on the meter that it takes. Growth and `clone` also copy cells, without reading what they have. A
+/// function whose clauses count no probes makes a meter of its own; in this file only `try_reserve` does. The script
+/// `tests/forms` lists all such functions.
 #[derive(Drop)]
 pub struct IndexTable {
     alloc: Global,
@@ -51,7 +54,7 @@ impl Model for IndexTable {
     ghost invariant = { λ t. IsTable t.cells × (t.count ≡ length (pairs_in t.cells)) };
 }
 
-// A table of so many empty cells.
+// Makes a table with this many cells, all of them empty.
 fn with_cells(alloc: Global, count: usize) -> Result<IndexTable, TryReserveError>
     requires { IsSize count }
     ensures empty { IfOk result (λ t. t.pairs ≡ []) }
@@ -63,10 +66,11 @@ fn with_cells(alloc: Global, count: usize) -> Result<IndexTable, TryReserveError
     Ok(table)
 }
 
-// A table of so many cells with the pairs of these, which are entered in order by the hashes that the cells hold.
+// Makes a table with this many cells and with the pairs of other cells, which are inserted in order, by the hashes in
+// the cells.
 //
-// An old cell without a pair is copied too, over an empty cell, so no branch depends on whether an old cell has a pair:
-// that cannot be predicted. The same empty cell serves for all of those until a pair takes it.
+// An old cell without a pair is copied too, over an empty cell. So no branch depends on whether an old cell has a pair,
+// which the processor cannot predict. One empty cell serves for all such copies, until a pair takes it.
 fn regrown(
     alloc: Global,
     cells: &Cells,
@@ -101,7 +105,7 @@ fn regrown(
 }
 
 impl IndexTable {
-    /// A table without pairs and without cells. It takes no memory.
+    /// Makes a table without pairs and without cells. It allocates nothing.
     pub fn new(alloc: Global) -> IndexTable
         ensures pairs { result.pairs ≡ [] }
         ensures cells { length result.row ≡ 0 }
@@ -114,9 +118,11 @@ impl IndexTable {
         }
     }
 
-    /// A table without pairs that has room for so many: `with_capacity(alloc, 8)` has 16 cells, in which 14 fit.
+    /// Makes a table without pairs, with the least number of cells in which this many pairs fit:
+    /// `with_capacity(alloc, 8)` has 16 cells, in which 14 pairs fit.
     ///
-    /// It is refused where the cells cannot be had, or are more than `usize` or memory can count, and never for 0.
+    /// It fails if the cells cannot be allocated, and always for more than `most_room` pairs. For 0 pairs it never
+    /// fails, and allocates nothing.
     pub fn with_capacity(alloc: Global, pairs: usize) -> Result<IndexTable, TryReserveError>
         ensures empty { IfOk result (λ t. t.pairs ≡ []) }
         ensures limit { IfOk result (λ t. IsLeast pairs t.limit) }
@@ -132,7 +138,7 @@ impl IndexTable {
         }
     }
 
-    /// A table without pairs that has room for so many, on the memory that this one is on.
+    /// Makes a table as `with_capacity` does, with the allocator of this table.
     pub fn fresh(&self, pairs: usize) -> Result<IndexTable, TryReserveError>
         ensures empty { IfOk result (λ t. t.pairs ≡ []) }
         ensures limit { IfOk result (λ t. IsLeast pairs t.limit) }
@@ -142,7 +148,7 @@ impl IndexTable {
         IndexTable::with_capacity(self.alloc, pairs)
     }
 
-    /// How many pairs it has. No cell is looked at.
+    /// Returns the number of pairs. It probes no cell.
     pub fn len(&self) -> usize
         ensures value { result ≡ length self.now.pairs }
         ensures fits { result ≤ self.now.limit }
@@ -151,7 +157,7 @@ impl IndexTable {
         self.count
     }
 
-    /// How many pairs fit without growing: seven eighths of the cells.
+    /// Returns how many pairs fit without growing: seven eighths of the number of cells.
     pub fn capacity(&self) -> usize
         ensures value { result ≡ self.now.limit }
         ensures most { result ≤ most_room }
@@ -160,7 +166,8 @@ impl IndexTable {
         self.cells.len() / 8 * 7
     }
 
-    /// Whether it has as few cells as one that is made for so many pairs. No cell is looked at.
+    /// Returns whether the table has the number of cells that a table made for this many pairs has. It probes no
+    /// cell.
     pub fn is_made_for(&self, pairs: usize) -> bool
         ensures { result ≡ true ↔ IsLeast pairs self.now.limit }
     {
@@ -171,7 +178,7 @@ impl IndexTable {
         cells == least
     }
 
-    /// How many cells there are: none, or a power of two from 8 on.
+    /// Returns the number of cells: 0, or a power of two from 8 on.
     pub fn cells(&self) -> usize
         ensures value { result ≡ length self.now.row }
         ensures sized { IsSized self.now }
@@ -179,16 +186,16 @@ impl IndexTable {
         self.cells.len()
     }
 
-    /// Makes room for so many more pairs. Where they fit already nothing is done.
+    /// Reserves spare capacity for this many more pairs. If they fit already it does nothing.
     ///
-    /// It is refused only where they don't fit yet and larger cells cannot be had, and then nothing has changed.
-    /// All cells are made before the first pair moves. Pairs move by the hashes in their cells: no matcher is asked,
-    /// and no item is seen.
+    /// It fails only if they do not fit and more cells cannot be allocated; the table is then unchanged. All cells
+    /// are allocated before the first pair moves. Pairs move by the hashes in their cells, so no matcher is asked,
+    /// and no item is read.
     pub fn try_reserve(&mut self, more: usize) -> Result<(), TryReserveError>
-        // Room is made, or refused.
+        // Afterwards the pairs fit, or the call fails.
         ensures room { GrowsFor self.old more result self.new }
         ensures unchanged { OnErr result (self.new ≡ self.old) }
-        // The pairs stay. It grows only where it lacks room.
+        // The pairs stay. The table grows only if more pairs would not fit.
         ensures pairs { IsPermutation self.old.pairs self.new.pairs }
         ensures limit { self.old.limit ≤ self.new.limit }
         ensures same_room { length self.old.pairs + more ≤ self.old.limit → self.new ≡ self.old }
@@ -208,10 +215,11 @@ impl IndexTable {
         Ok(())
     }
 
-    /// An index that stands under the hash and for which the matcher says yes, or `None` if there is none.
+    /// Returns an index that the table has under this hash and that the matcher accepts, or `None` if there is none.
     ///
-    /// It takes no memory. It looks at the cells from the home of the hash on, up to the one with the answer or to the
-    /// first empty one, so at no more than there are pairs, and one. Where there are no cells it looks at none.
+    /// It allocates nothing. It probes the cells from the home of the hash on, up to the one with the result or to
+    /// the first empty one. These are at most one more than there are pairs, and none if there are no cells. The
+    /// matcher is asked only about indexes under this very hash.
     pub fn find<M: Matcher>(
         &self,
         hash: u64,
@@ -230,7 +238,7 @@ impl IndexTable {
         }
     }
 
-    /// The same, and where there is none the empty cell at which the search ended.
+    /// Does the same, and returns the empty cell at which the search ended if there is no such index.
     #[inline(always)]
     pub fn find_or_vacancy<M: Matcher>(
         &self,
@@ -238,7 +246,7 @@ impl IndexTable {
         matcher: &mut M,
         meter: &mut Meter,
     ) -> Result<ItemIndex, Vacancy>
-        // What it answers.
+        // What it returns.
         ensures found { FindsUnder self.now hash (M.accepts matcher.old) (result_ok result) }
         ensures vacant { IfErr result (IsVacantUnder self.now hash) }
         // What it costs, by the size of the table.
@@ -262,7 +270,8 @@ impl IndexTable {
         Err(Vacancy::new(hash, count, at))
     }
 
-    /// Adds a pair where there is room. It takes no memory, and looks at the cells up to the first empty one.
+    /// Inserts a pair. There has to be spare capacity, so it allocates nothing. It probes the cells from the home of
+    /// the hash on, up to the first empty one.
     pub fn insert_reserved(&mut self, hash: u64, ix: ItemIndex, meter: &mut Meter)
         requires { length self.old.pairs < self.old.limit }
         ensures added { IsPermutation ((hash, ix) ∷ self.old.pairs) self.new.pairs }
@@ -278,8 +287,9 @@ impl IndexTable {
         self.count += 1;
     }
 
-    /// Adds a pair where there is room, at the empty cell at which a search for its hash ended. Where the table has
-    /// another number of cells since then, that cell is looked for as in `insert_reserved`; else no cell is looked at.
+    /// Inserts a pair at the empty cell at which a search for its hash ended. There has to be spare capacity. It
+    /// probes no cell, unless the number of cells has changed since that search: then it probes for the cell as
+    /// `insert_reserved` does.
     #[inline(always)]
     pub fn insert_at(&mut self, spot: Vacancy, ix: ItemIndex, meter: &mut Meter)
         requires room { length self.old.pairs < self.old.limit }
@@ -301,8 +311,11 @@ impl IndexTable {
         self.count += 1;
     }
 
-    /// Takes a pair out. It takes no memory, and looks at the cells from the home of the hash on up to the first empty
-    /// one. No mark is left: each pair behind the hole moves into it, where the hole lies on the way from its home.
+    /// Removes a pair. It allocates nothing. It probes the cells from the home of the hash on, up to the first empty
+    /// one.
+    ///
+    /// It leaves no tombstone: each pair behind the hole moves into the hole if that is on the way from the pair's
+    /// home to the pair (backward-shift deletion).
     pub fn remove(&mut self, hash: u64, ix: ItemIndex, meter: &mut Meter)
         requires { Contains self.old.pairs (hash, ix) }
         ensures taken { IsPermutation self.old.pairs ((hash, ix) ∷ self.new.pairs) }
@@ -319,7 +332,7 @@ impl IndexTable {
         self.count -= 1;
     }
 
-    /// Takes all pairs out. The cells stay, and none is looked at.
+    /// Removes all pairs. The cells stay, and none is probed.
     pub fn clear(&mut self)
         ensures pairs { self.new.pairs ≡ [] }
         ensures cells { length self.new.row ≡ length self.old.row }
@@ -329,7 +342,8 @@ impl IndexTable {
         self.count = 0;
     }
 
-    /// What cell `i` has. It has something exactly where its place is full.
+    /// Returns the pair in cell `i`, or `None` if the cell is empty. It has a pair exactly if its place is full
+    /// (`IsFull`).
     pub fn cell_at(&self, i: usize, meter: &mut Meter) -> Option<(u64, ItemIndex)>
         requires { i < length self.now.row }
         ensures value { result ≡ cell self.now.row i }
@@ -339,8 +353,8 @@ impl IndexTable {
         self.cells.cell_at(i, meter)
     }
 
-    /// A table with the same pairs in the same cells, which are copied whole and not looked at one by one. It is refused
-    /// where its memory cannot be had.
+    /// Returns a table with the same pairs in the same cells. The cells are copied at once, and not probed one by
+    /// one. It fails if the memory cannot be allocated.
     pub fn clone(&self) -> Result<IndexTable, TryReserveError>
         ensures { IfOk result (λ t. t ≡ self.now) }
     {

@@ -33,36 +33,40 @@ use Rattle.iddqd_tri.specs.contracts.entry.OccupiedEntryMut.{the_row as occupied
 use Rattle.iddqd_tri.specs.contracts.map.TriHashMap.{the_row as row_of_map}
 
 module _ {T S : Type 0} where
-  -- the reference is to the same map, which is as it was
+  -- The second reference is to the same map as the first, and the map is as it was.
+  -- Example: If the map has a, b, it has a, b then.
   pub record IsSameMap (before after : MutBor (Map T S)) : Type 0 where
     pub same_map : after.ghost_name ≡ before.ghost_name
     pub unchanged : after.now ≡ before.now
 
 module _ {T S K1 K2 K3 H : Type 0} where
-  -- for each rank, whether an item has the entry's key
+  -- `entry_tests` has for each rank the test whether an item has the key of the occupied entry.
+  -- Example: An item that has every key of the entry passes every test.
   abbrev pub entry_tests : (K1 → K2 → K3 → List (T → Bool)) → OccupiedEntry T S K1 K2 K3 H → List (T → Bool)
   entry_tests tests o = tests o.key1.now o.key2.now o.key3.now
 
-  -- the entry has found what its keys name, which is some item at least. `entry` ensures it
+  -- The occupied entry has found what its keys name, which is at least one item. The call `entry` of a map ensures it.
+  -- Example: If its keys name a and b, it has found a and b.
   pub record HasFound (tests : K1 → K2 → K3 → List (T → Bool)) (o : OccupiedEntry T S K1 K2 K3 H) : Type 0 where
     pub found : AreFound (entry_tests tests o) o.map.now.slots (o.slot1 ∷ o.slot2 ∷ o.slot3 ∷ [])
     pub value : entry_at o.map.now.slots (o.slot1 ∷ o.slot2 ∷ o.slot3 ∷ []) ≡ entry (entry_tests tests o) (bag o.map.now)
     pub listed : held_at o.map.now.slots (o.slot1 ∷ o.slot2 ∷ o.slot3 ∷ []) ≡ listing (entry_tests tests o) (bag o.map.now)
     pub some : listing (entry_tests tests o) (bag o.map.now) ≢ []
 
-  -- the items that are held for writing are in the map. `into_mut` ensures it
+  -- The items that are held for writing are in the map. The call `into_mut` of an occupied entry ensures it.
+  -- Example: If a and b are held, the map has a and b.
   pub record Holds (m : OccupiedEntryMut T S K1 K2 K3 H) : Type 0 where
     pub live1 : IfSome m.slot1 (IsLive m.map.now.slots)
     pub live2 : IfSome m.slot2 (IsLive m.map.now.slots)
     pub live3 : IfSome m.slot3 (IsLive m.map.now.slots)
 
-  -- the same places are held
+  -- The items of the same slots are held.
   pub record HoldsSame (m n : OccupiedEntryMut T S K1 K2 K3 H) : Type 0 where
     pub same1 : n.slot1 ≡ m.slot1
     pub same2 : n.slot2 ≡ m.slot2
     pub same3 : n.slot3 ≡ m.slot3
 
-  -- the entry has the same keys, and the same places in the map
+  -- The occupied entries have the same keys, and the same slots of the map.
   pub record FindsSame (o p : OccupiedEntry T S K1 K2 K3 H) : Type 0 where
     pub key1 : p.key1 ≡ o.key1
     pub key2 : p.key2 ≡ o.key2
@@ -71,7 +75,10 @@ module _ {T S K1 K2 K3 H : Type 0} where
     pub same2 : p.slot2 ≡ o.slot2
     pub same3 : p.slot3 ≡ o.slot3
 
-  -- the item stands in the same map for those in its way, and the entry, with its keys, finds it alone. All else stays
+  -- The item is in the same map in the place of those that conflict with it, and the entry, with the same keys, finds
+  -- it alone. Nothing else changes.
+  -- Example: In a map of a, b, c, where `item` conflicts with a and b, the map becomes `item`, c, and the entry has
+  -- found `unique item`.
   pub record PutsOver (ranks : Ranks T) (tests : K1 → K2 → K3 → List (T → Bool)) (before : OccupiedEntry T S K1 K2 K3 H) (item : T) (after : OccupiedEntry T S K1 K2 K3 H) : Type 0 where
     pub same_map : after.map.ghost_name ≡ before.map.ghost_name
     pub items : IsPermutation (bag after.map.now) (over ranks (bag before.map.now) item)
@@ -81,14 +88,18 @@ module _ {T S K1 K2 K3 H : Type 0} where
     pub capacity : after.map.now.capacity ≡ before.map.now.capacity
     pub builder : after.map.now.builder ≡ before.map.now.builder
 
-  -- those items, each once
+  -- `held` lists the items that are held for writing, each once.
+  -- Example: If every key names a, it is a.
   abbrev pub held : OccupiedEntryMut T S K1 K2 K3 H → List T
   held m = held_at m.map.now.slots (m.slot1 ∷ m.slot2 ∷ m.slot3 ∷ [])
 
+  -- `held_entry` is what is held for writing, as `Entry` has it.
+  -- Example: If every key names a, it is `unique a`.
   abbrev pub held_entry : OccupiedEntryMut T S K1 K2 K3 H → bags.Entry T
   held_entry m = entry_at m.map.now.slots (m.slot1 ∷ m.slot2 ∷ m.slot3 ∷ [])
 
-  -- for each rank, the item with the key of that rank
+  -- `held1` is the item that is held for the first key, if there is one.
+  -- Example: If every key names a, it is `Some a`.
   abbrev pub held1 : OccupiedEntryMut T S K1 K2 K3 H → Option T
   held1 m = option_and_then (get m.map.now.slots) m.slot1
 
@@ -98,15 +109,17 @@ module _ {T S K1 K2 K3 H : Type 0} where
   abbrev pub held3 : OccupiedEntryMut T S K1 K2 K3 H → Option T
   held3 m = option_and_then (get m.map.now.slots) m.slot3
 
-  -- the item that has all
+  -- `held_unique` is the item that has all keys, if there is one.
+  -- Example: If every key names a, it is `Some a`.
   abbrev pub held_unique : OccupiedEntryMut T S K1 K2 K3 H → Option T
   held_unique m = option_and_then (get m.map.now.slots) (head_of (found_by_all (m.slot1 ∷ m.slot2 ∷ m.slot3 ∷ [])))
 
-  -- what is held, in a map in which the item of a place is changed so
+  -- `held_with` is what is held, with `f` of the item of this slot in its place in the map.
   abbrev held_with : OccupiedEntryMut T S K1 K2 K3 H → Option ℕ → (T → T) → OccupiedEntryMut T S K1 K2 K3 H
   held_with m slot f = record m { map = record m.map { now = map_with_if m.map.now slot f } }
 
-  -- the same of the item with the first key, of that with the second, and of the one that has all
+  -- `held_with1` is what is held, with `f` of the item with the first key in its place in the map.
+  -- Example: If that item is a, the map has `f a` in its place.
   abbrev pub held_with1 : OccupiedEntryMut T S K1 K2 K3 H → (T → T) → OccupiedEntryMut T S K1 K2 K3 H
   held_with1 m f = held_with m m.slot1 f
 
@@ -116,10 +129,13 @@ module _ {T S K1 K2 K3 H : Type 0} where
   abbrev pub held_with3 : OccupiedEntryMut T S K1 K2 K3 H → (T → T) → OccupiedEntryMut T S K1 K2 K3 H
   held_with3 m f = held_with m m.slot3 f
 
+  -- `held_with_unique` is what is held, with `f` of the item that has all keys in its place in the map.
+  -- Example: If that item is a, the map has `f a` in its place.
   abbrev pub held_with_unique : OccupiedEntryMut T S K1 K2 K3 H → (T → T) → OccupiedEntryMut T S K1 K2 K3 H
   held_with_unique m f = held_with m (head_of (found_by_all (m.slot1 ∷ m.slot2 ∷ m.slot3 ∷ []))) f
 
-  -- what is held for writing is what the entry found
+  -- What is held for writing is what the entry found.
+  -- Example: If the entry has found a and b, then a and b are held.
   pub record HoldsFound (of : item.Ghosts T K1 K2 K3) (eq1 : K1 → K1 → Bool) (eq2 : K2 → K2 → Bool) (eq3 : K3 → K3 → Bool) (o : OccupiedEntry T S K1 K2 K3 H) (m : OccupiedEntryMut T S K1 K2 K3 H) : Type 0 where
     pub holds : Holds m
     pub listed : held m ≡ listing (entry_tests (key_tests of eq1 eq2 eq3) o) (bag o.map.now)
@@ -128,13 +144,16 @@ module _ {T S K1 K2 K3 H : Type 0} where
     pub by_key2 : IsOnly (has2 of eq2 o.key2.now) (bag o.map.now) (held2 m)
     pub by_key3 : IsOnly (has3 of eq3 o.key3.now) (bag o.map.now) (held3 m)
 
-  -- nothing changes where the entry is occupied, and what it found is held
+  -- The call succeeds and changes nothing, and if the entry has found what its keys name, then that is held for
+  -- writing.
+  -- Example: If the entry has found a and b, then a and b are held.
   pub record KeepsFound {E : Type 0} (of : item.Ghosts T K1 K2 K3) (eq1 : K1 → K1 → Bool) (eq2 : K2 → K2 → Bool) (eq3 : K3 → K3 → Bool) (o : OccupiedEntry T S K1 K2 K3 H) (result : Result (OccupiedEntryMut T S K1 K2 K3 H) E) : Type 0 where
     pub granted : IsOk result
     pub unchanged : IfOk result (λ m. m.map.now ≡ o.map.now)
     pub holds : HasFound (key_tests of eq1 eq2 eq3) o → IfOk result (HoldsFound of eq1 eq2 eq3 o)
 
-  -- the entry in whose map the item with the first key is changed so, and that with another
+  -- `entry_with1` is the entry, with `f` of the item with the first key in its place in the map.
+  -- Example: If that item is a, the map has `f a` in its place.
   abbrev pub entry_with1 : OccupiedEntry T S K1 K2 K3 H → (T → T) → OccupiedEntry T S K1 K2 K3 H
   entry_with1 o f = record o { map = record o.map { now = map_with_if o.map.now o.slot1 f } }
 
@@ -145,17 +164,17 @@ module _ {T S K1 K2 K3 H : Type 0} where
   entry_with3 o f = record o { map = record o.map { now = map_with_if o.map.now o.slot3 f } }
 
 module _ {T S Q K1 K2 K3 H : Type 0} {of : item.Ghosts T K1 K2 K3} {eq1 : equal.Ghosts K1} {input1 : hash.Ghosts K1} {eq2 : equal.Ghosts K2} {input2 : hash.Ghosts K2} {eq3 : equal.Ghosts K3} {input3 : hash.Ghosts K3} {build : builder.Ghosts S H} {hashes : hasher.Ghosts H} {q : pair.Ghosts Q K1 K2 K3} where
-  -- the reference to the map
+  -- `entry_lender` is the name of the entry's reference to the map.
   abbrev pub entry_lender : Entry T S Q K1 K2 K3 H of eq1 input1 eq2 input2 eq3 input3 build hashes q → GName
   entry_lender (Vacant e) = e.map.ghost_name
   entry_lender (Occupied e) = e.map.ghost_name
 
-  -- the map
+  -- `entry_map` is the map of the entry.
   abbrev pub entry_map : Entry T S Q K1 K2 K3 H of eq1 input1 eq2 input2 eq3 input3 build hashes q → Map T S
   entry_map (Vacant e) = e.map.now
   entry_map (Occupied e) = e.map.now
 
-  -- the keys
+  -- `entry_key1` is the first key of the entry.
   abbrev pub entry_key1 : Entry T S Q K1 K2 K3 H of eq1 input1 eq2 input2 eq3 input3 build hashes q → K1
   entry_key1 (Vacant e) = q.first e.keys
   entry_key1 (Occupied e) = e.key1.now
@@ -168,38 +187,44 @@ module _ {T S Q K1 K2 K3 H : Type 0} {of : item.Ghosts T K1 K2 K3} {eq1 : equal.
   entry_key3 (Vacant e) = q.third e.keys
   entry_key3 (Occupied e) = e.key3.now
 
-  -- the entry is that of these keys
+  -- The entry has these keys.
   pub record HasKeys (e : Entry T S Q K1 K2 K3 H of eq1 input1 eq2 input2 eq3 input3 build hashes q) (k1 : K1) (k2 : K2) (k3 : K3) : Type 0 where
     pub key1 : entry_key1 e ≡ k1
     pub key2 : entry_key2 e ≡ k2
     pub key3 : entry_key3 e ≡ k3
 
-  -- what it holds
+  -- `entry_value` is what the entry has found.
+  -- Example: It is `vacant` of a vacant entry, and `unique a` of an occupied one all of whose keys name a.
   abbrev pub entry_value : Entry T S Q K1 K2 K3 H of eq1 input1 eq2 input2 eq3 input3 build hashes q → bags.Entry T
   entry_value (Vacant e) = vacant
   entry_value (Occupied e) = entry_at e.map.now.slots (e.slot1 ∷ e.slot2 ∷ e.slot3 ∷ [])
 
-  -- for each rank, whether an item has the key that a vacant entry is for
+  -- `wanted` has for each rank the test whether an item has the key of the vacant entry.
+  -- Example: No item of the map passes one of them.
   abbrev pub wanted : VacantEntry T S Q K1 K2 K3 H of eq1 input1 eq2 input2 eq3 input3 build hashes q → List (T → Bool)
   wanted e = key_tests of eq1.eq eq2.eq eq3.eq (q.first e.keys) (q.second e.keys) (q.third e.keys)
 
-  -- P of a vacant entry
+  -- If the entry is vacant, then `P` holds of it.
+  -- Example: It holds of an occupied entry.
   abbrev pub OnVacant : Entry T S Q K1 K2 K3 H of eq1 input1 eq2 input2 eq3 input3 build hashes q → (VacantEntry T S Q K1 K2 K3 H of eq1 input1 eq2 input2 eq3 input3 build hashes q → Type 0) → Type 0
   OnVacant (Vacant e) P = P e
   OnVacant (Occupied e) P = ⊤
 
-  -- P of an occupied entry
+  -- If the entry is occupied, then `P` holds of it.
+  -- Example: It holds of a vacant entry.
   abbrev pub OnOccupied : Entry T S Q K1 K2 K3 H of eq1 input1 eq2 input2 eq3 input3 build hashes q → (OccupiedEntry T S K1 K2 K3 H → Type 0) → Type 0
   OnOccupied (Vacant e) P = ⊤
   OnOccupied (Occupied e) P = P e
 
-  -- the item went into this very map, and is lent
+  -- The item `x` went into this very map (`Gains`), and the guard `r` borrows it.
+  -- Example: A map of a, b becomes `x`, a, b, and `ref_item r` is `Some x`.
   pub record GainsAndLends (e : VacantEntry T S Q K1 K2 K3 H of eq1 input1 eq2 input2 eq3 input3 build hashes q) (x : T) (r : RefMut T S K1 K2 K3 H of eq1 input1 eq2 input2 eq3 input3 build hashes) : Type 0 where
     pub same_map : ref_lender r ≡ e.map.ghost_name
     pub item : ref_item r ≡ Some x
     pub gains : Gains e.map.now x (ref_map r)
 
-  -- the item went into this very map, and is held for writing, by each of its keys
+  -- The item `x` went into this very map (`Gains`), and is held for writing, by each of its keys.
+  -- Example: A map of a, b becomes `x`, a, b, and `held` is `x`.
   pub record GainsAndHolds (e : VacantEntry T S Q K1 K2 K3 H of eq1 input1 eq2 input2 eq3 input3 build hashes q) (x : T) (m : OccupiedEntryMut T S K1 K2 K3 H) : Type 0 where
     pub same_map : m.map.ghost_name ≡ e.map.ghost_name
     pub gains : Gains e.map.now x m.map.now
@@ -211,8 +236,10 @@ module _ {T S Q K1 K2 K3 H : Type 0} {of : item.Ghosts T K1 K2 K3} {eq1 : equal.
     pub by_key2 : held2 m ≡ Some x
     pub by_key3 : held3 m ≡ Some x
 
-  -- the item went in where the entry is vacant, which holds it then; or it is refused for the lowest rank at which its
-  -- key is not the entry's, or else for want of memory
+  -- The item `x` went into the map of the vacant entry and is held for writing (`GainsAndHolds`), or the error
+  -- returns it (`HandsBack`) and the map is as it was. The call succeeds if `x` has the keys of the entry and the map
+  -- is not full.
+  -- Example: If `x` has another first key than the entry, the error is `Key1 x`.
   pub record PutsIn (e : VacantEntry T S Q K1 K2 K3 H of eq1 input1 eq2 input2 eq3 input3 build hashes q) (x : T) (result : Result (OccupiedEntryMut T S K1 K2 K3 H) (EntryRefusal T S K1 K2 K3 H)) : Type 0 where
     pub gains_and_holds : IfOk result (GainsAndHolds e x)
     pub same_keys : OnOk result (differ (wanted e) x ≡ None)
@@ -220,27 +247,31 @@ module _ {T S Q K1 K2 K3 H : Type 0} {of : item.Ghosts T K1 K2 K3} {eq1 : equal.
     pub unchanged : IfErr result (λ refusal. refusal.map.now ≡ e.map.now)
     pub hands_back : IfErr result (λ refusal. HandsBack (ranks of eq1.eq eq2.eq eq3.eq) (wanted e) e.map.now x refusal.error)
 
-  -- both are vacant, or both occupied with the same keys and places
+  -- The entries are vacant, or they are occupied with the same keys and slots.
   abbrev pub IsSameEntry : Entry T S Q K1 K2 K3 H of eq1 input1 eq2 input2 eq3 input3 build hashes q → Entry T S Q K1 K2 K3 H of eq1 input1 eq2 input2 eq3 input3 build hashes q → Type 0
   IsSameEntry (Vacant e) (Vacant f) = ⊤
   IsSameEntry (Vacant e) (Occupied p) = ⊥
   IsSameEntry (Occupied o) (Vacant f) = ⊥
   IsSameEntry (Occupied o) (Occupied p) = FindsSame o p
 
-  -- the entry is of the same map and kind, with the same keys and places. The room and the builder stay
+  -- The entries have the same map, kind, keys and slots. The capacity and the builder stay.
+  -- Example: An entry that has found a still finds its slot once a is written.
   pub record KeepsEntry (before after : Entry T S Q K1 K2 K3 H of eq1 input1 eq2 input2 eq3 input3 build hashes q) : Type 0 where
     pub same_map : entry_lender after ≡ entry_lender before
     pub capacity : (entry_map after).capacity ≡ (entry_map before).capacity
     pub builder : (entry_map after).builder ≡ (entry_map before).builder
     pub places : IsSameEntry before after
 
-  -- an occupied entry has found what its keys name
+  -- If the entry is occupied, it has found what its keys name (`HasFound`).
+  -- Example: It holds of a vacant entry.
   abbrev pub IsFound : Entry T S Q K1 K2 K3 H of eq1 input1 eq2 input2 eq3 input3 build hashes q → Type 0
   IsFound (Vacant e) = ⊤
   IsFound (Occupied e) = HasFound (key_tests of eq1.eq eq2.eq eq3.eq) e
 
 module _ {T S K1 K2 K3 H : Type 0} {of : item.Ghosts T K1 K2 K3} {eq1 : equal.Ghosts K1} {input1 : hash.Ghosts K1} {eq2 : equal.Ghosts K2} {input2 : hash.Ghosts K2} {eq3 : equal.Ghosts K3} {input3 : hash.Ghosts K3} {build : builder.Ghosts S H} {hashes : hasher.Ghosts H} {q : pair.Ghosts (KeyTriple K1 K2 K3) K1 K2 K3} where
-  -- the item went into this very map, and the entry, with the keys of the vacant one, finds it alone
+  -- The item `x` went into this very map (`Gains`), and the occupied entry, with the keys of the vacant one, finds it
+  -- alone.
+  -- Example: A map of a, b becomes `x`, a, b, and the entry has found `unique x`.
   pub record GainsAndFinds (tests : K1 → K2 → K3 → List (T → Bool)) (e : VacantEntry T S (KeyTriple K1 K2 K3) K1 K2 K3 H of eq1 input1 eq2 input2 eq3 input3 build hashes q) (x : T) (o : OccupiedEntry T S K1 K2 K3 H) : Type 0 where
     pub same_map : o.map.ghost_name ≡ e.map.ghost_name
     pub gains : Gains e.map.now x o.map.now
@@ -249,31 +280,33 @@ module _ {T S K1 K2 K3 H : Type 0} {of : item.Ghosts T K1 K2 K3} {eq1 : equal.Gh
     pub unique : entry (entry_tests tests o) (bag o.map.now) ≡ unique x
 
 module _ (T S K1 K2 K3 H : RattleType) {of : item.Ghosts T.Denot K1.Denot K2.Denot K3.Denot} {eq1 : equal.Ghosts K1.Denot} {input1 : hash.Ghosts K1.Denot} {eq2 : equal.Ghosts K2.Denot} {input2 : hash.Ghosts K2.Denot} {eq3 : equal.Ghosts K3.Denot} {input3 : hash.Ghosts K3.Denot} {build : builder.Ghosts S.Denot H.Denot} {hashes : hasher.Ghosts H.Denot} where
-  -- where no item is lent, the map stays
+  -- If there is no guard, because the call failed, the map ends as it was.
   abbrev pub rests_if_err : {E : Type 0} → MutBor (Map T.Denot S.Denot) → Result (RefMut T.Denot S.Denot K1.Denot K2.Denot K3.Denot H.Denot of eq1 input1 eq2 input2 eq3 input3 build hashes) E → Fml
   rests_if_err m r = follows_so (row_of_map T S K1 K2 K3 H of eq1 input1 eq2 input2 eq3 input3 build hashes) (row_of_map T S K1 K2 K3 H of eq1 input1 eq2 input2 eq3 input3 build hashes) m.ghost_name (name_if_ok ref_lender r) (λ x n. OnOk r (n ≡ x)) (λ n. OnErr r (n ≡ m.now))
 
-  -- the same of a struct by value that held the map
+  -- If there is no guard, the map of the entry, which the call consumed, ends as it was.
   abbrev pub held_rests_if_none : MutBor (Map T.Denot S.Denot) → Option (RefMut T.Denot S.Denot K1.Denot K2.Denot K3.Denot H.Denot of eq1 input1 eq2 input2 eq3 input3 build hashes) → Fml
   held_rests_if_none m r = rests_if_none T S K1 K2 K3 H m r
 
 module _ (T S K1 K2 K3 H : RattleType) (of : item.Ghosts T.Denot K1.Denot K2.Denot K3.Denot) (keys1 : HashMembers K1.Denot) (keys2 : HashMembers K2.Denot) (keys3 : HashMembers K3.Denot) (build : builder.Ghosts S.Denot H.Denot) (hashes : hasher.Ghosts H.Denot) where
-  -- where no items are held, the map stays
+  -- If no items are held, because the call failed, the map ends as it was.
   abbrev pub held_rests_if_err : {E : Type 0} → MutBor (Map T.Denot S.Denot) → Result (OccupiedEntryMut T.Denot S.Denot K1.Denot K2.Denot K3.Denot H.Denot) E → Fml
   held_rests_if_err m r = follows_so (map_row T S K1 K2 K3 H of keys1 keys2 keys3 build hashes) (map_row T S K1 K2 K3 H of keys1 keys2 keys3 build hashes) m.ghost_name (name_if_ok (λ e. e.map.ghost_name) r) (λ x n. OnOk r (n ≡ x)) (λ n. OnErr r (n ≡ m.now))
 
-  -- the type of an occupied entry, as the logic holds it
+  -- `entry_row` is the type of an occupied entry, as the logic has it. No public clause cites it.
   abbrev pub entry_row : RattleType
   entry_row = occupied_row (record { mir = named 1; lft = [] }) T S K1 K2 K3 H of (record { eq = keys1.eq }) (record { hash_input = keys1.hash_input }) (record { eq = keys2.eq }) (record { hash_input = keys2.hash_input }) (record { eq = keys3.eq }) (record { hash_input = keys3.hash_input }) build hashes
 
-  -- the entry has the map that is left
+  -- The entry ends with the map as the borrow of its items leaves it.
+  -- Example: If a becomes `put a d` in that borrow, the map of the entry has `put a d`.
   abbrev pub lends_held : MutBor (OccupiedEntry T.Denot S.Denot K1.Denot K2.Denot K3.Denot H.Denot) → OccupiedEntryMut T.Denot S.Denot K1.Denot K2.Denot K3.Denot H.Denot → Fml
   lends_held m r = follows entry_row (map_row T S K1 K2 K3 H of keys1 keys2 keys3 build hashes) m.ghost_name r.map.ghost_name (λ n. record m.now { map = record m.now.map { now = n } })
 
   abbrev held_row : RattleType
   held_row = occupied_mut_row (record { mir = named 1; lft = [] }) T S K1 K2 K3 H of (record { eq = keys1.eq }) (record { hash_input = keys1.hash_input }) (record { eq = keys2.eq }) (record { hash_input = keys2.hash_input }) (record { eq = keys3.eq }) (record { hash_input = keys3.hash_input }) build hashes
 
-  -- the item with the key of this rank, or the one that has all, has the last data written through r
+  -- What is written through `r` is the data of the item with the first key. If there is no `r`, what is held stays.
+  -- Example: If d is written, and that item is a, the map has `put a d` in its place.
   abbrev pub lends_held1 : (D : RattleType) → (T.Denot → D.Denot → T.Denot) → MutBor (OccupiedEntryMut T.Denot S.Denot K1.Denot K2.Denot K3.Denot H.Denot) → Option (MutBor D.Denot) → Fml
   lends_held1 D put m r = LendsIf held_row D m r (λ d. held_with1 m.now (λ x. put x d)) m.now
 
@@ -283,10 +316,13 @@ module _ (T S K1 K2 K3 H : RattleType) (of : item.Ghosts T.Denot K1.Denot K2.Den
   abbrev pub lends_held3 : (D : RattleType) → (T.Denot → D.Denot → T.Denot) → MutBor (OccupiedEntryMut T.Denot S.Denot K1.Denot K2.Denot K3.Denot H.Denot) → Option (MutBor D.Denot) → Fml
   lends_held3 D put m r = LendsIf held_row D m r (λ d. held_with3 m.now (λ x. put x d)) m.now
 
+  -- What is written through `r` is the data of the item that has all keys. If there is no `r`, what is held stays.
+  -- Example: If d is written, and that item is a, the map has `put a d` in its place.
   abbrev pub lends_held_unique : (D : RattleType) → (T.Denot → D.Denot → T.Denot) → MutBor (OccupiedEntryMut T.Denot S.Denot K1.Denot K2.Denot K3.Denot H.Denot) → Option (MutBor D.Denot) → Fml
   lends_held_unique D put m r = LendsIf held_row D m r (λ d. held_with_unique m.now (λ x. put x d)) m.now
 
-  -- the item with the key of this rank has the last data written through r
+  -- What is written through `r` is the data of the item with the first key. If there is no `r`, the entry stays.
+  -- Example: If d is written, and that item is a, the map has `put a d` in its place.
   abbrev pub lends_data1 : (D : RattleType) → (T.Denot → D.Denot → T.Denot) → MutBor (OccupiedEntry T.Denot S.Denot K1.Denot K2.Denot K3.Denot H.Denot) → Option (MutBor D.Denot) → Fml
   lends_data1 D put m r = LendsIf entry_row D m r (λ d. entry_with1 m.now (λ x. put x d)) m.now
 

@@ -6,11 +6,13 @@ use Rattle.iddqd_store.specs.Table.{Spot}
 use Rattle.iddqd_tri.specs.declared.item.TriHashItem as item
 
 module _ {T K1 K2 K3 : Type 0} (of : item.Ghosts T K1 K2 K3) where
-  -- for each rank, whether two items have equal keys
+  -- `ranks` has for each rank a test whether two items have equal keys.
+  -- Example: Every item passes every test with itself.
   abbrev pub ranks : (K1 → K1 → Bool) → (K2 → K2 → Bool) → (K3 → K3 → Bool) → Ranks T
   ranks eq1 eq2 eq3 = agree of.key1 eq1 ∷ agree of.key2 eq2 ∷ agree of.key3 eq3 ∷ []
 
-  -- whether an item has the key that a query stands for
+  -- `has1` tells whether the item has the first key that the query stands for.
+  -- Example: If the query is the first key of the item, it is true.
   abbrev pub has1 : {Q : Type 0} → (Q → K1 → Bool) → Q → T → Bool
   has1 stands q x = stands q (of.key1 x)
 
@@ -20,38 +22,40 @@ module _ {T K1 K2 K3 : Type 0} (of : item.Ghosts T K1 K2 K3) where
   abbrev pub has3 : {Q : Type 0} → (Q → K3 → Bool) → Q → T → Bool
   has3 stands q x = stands q (of.key3 x)
 
-  -- for each rank, whether an item has the key that a query stands for
+  -- `key_tests` has for each rank the test whether an item has the key that the query of this rank stands for.
+  -- Example: If the queries are the keys of an item, it passes every test.
   abbrev pub key_tests : {Q1 Q2 Q3 : Type 0} → (Q1 → K1 → Bool) → (Q2 → K2 → Bool) → (Q3 → K3 → Bool) → Q1 → Q2 → Q3 → List (T → Bool)
   key_tests stands1 stands2 stands3 q1 q2 q3 = has1 stands1 q1 ∷ has2 stands2 q2 ∷ has3 stands3 q3 ∷ []
 
-  -- whether an item has all keys
+  -- `has_all` tells whether the item has all keys that the queries stand for.
+  -- Example: If the queries are the keys of the item, it is true.
   abbrev pub has_all : {Q1 Q2 Q3 : Type 0} → (Q1 → K1 → Bool) → (Q2 → K2 → Bool) → (Q3 → K3 → Bool) → Q1 → Q2 → Q3 → T → Bool
   has_all stands1 stands2 stands3 q1 q2 q3 = every_of (key_tests stands1 stands2 stands3 q1 q2 q3)
 
 module _ {T : Type 0} (hash1 hash2 hash3 : T → ℕ) where
-  -- a pair under the hash of each rank goes in at this cell of its table. No public clause cites it
+  -- For each rank, a pair under its hash goes into this cell of its table. No public clause cites it.
   pub record AreVacantFor (bag : List T) (h1 h2 h3 : ℕ) (at : Spot × Spot × Spot) : Type 0 where
     pub first : IsVacantFor hash1 bag h1 at.0
     pub second : IsVacantFor hash2 bag h2 at.1
     pub third : IsVacantFor hash3 bag h3 at.2
 
-  -- the pairs of an item do
+  -- For each rank, the pair of the item goes into this cell of its table. No public clause cites it.
   abbrev pub ArePlacesOf : List T → T → Spot × Spot × Spot → Type 0
   ArePlacesOf bag x at = AreVacantFor bag (hash1 x) (hash2 x) (hash3 x) at
 
-  -- the item in the slot that was found at each rank has the hash that it was found by. No public clause cites it
+  -- For each rank, the item in the slot that was found has the hash of the search. No public clause cites it.
   pub record AreUnder (slots : List (Option T)) (found : SlotUnder × SlotUnder × SlotUnder) : Type 0 where
     pub first : IsUnder hash1 slots found.0
     pub second : IsUnder hash2 slots found.1
     pub third : IsUnder hash3 slots found.2
 
--- these are the hashes by which searches were made. No public clause cites it
+-- The searches were made by these hashes. No public clause cites it.
 pub record HaveHashes (h1 h2 h3 : ℕ) (found : SlotUnder × SlotUnder × SlotUnder) : Type 0 where
   pub first : found.0.hash ≡ h1
   pub second : found.1.hash ≡ h2
   pub third : found.2.hash ≡ h3
 
--- the slot that a search at each rank found, or none
+-- `slots_found` has for each rank the slot that a search found, or none. No public clause cites it.
 abbrev pub slots_found : Result (Spot × Spot × Spot) (SlotUnder × SlotUnder × SlotUnder) → List (Option ℕ)
 slots_found (Ok at) = None ∷ None ∷ None ∷ []
 slots_found (Err found) = found.0.slot ∷ found.1.slot ∷ found.2.slot ∷ []

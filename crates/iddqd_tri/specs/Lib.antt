@@ -8,7 +8,7 @@ pub mod RefMuts
 pub mod Refusals
 pub mod Refused
 pub mod Step
--- the words of the store that the map's clauses cite
+-- The clauses of the map cite these words of the store.
 pub use Rattle.iddqd_store.specs.Bag
 pub use Rattle.iddqd_store.specs.Bag.Building
 pub use Rattle.iddqd_store.specs.Bag.Storing

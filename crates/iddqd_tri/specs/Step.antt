@@ -7,9 +7,10 @@ use Rattle.iddqd_tri.specs.declared.item.TriHashItem as item
 use Rattle.iddqd_tri.specs.declared.command.TriCommand.{TriCommand}
 use Rattle.iddqd_tri.specs.declared.command.TriCommand.TheVariants.{InsertUnique, InsertOverwrite, Get1, Get2, Get3, GetUnique, Contains1, Contains2, Contains3, ContainsUnique, Remove1, Remove2, Remove3, RemoveUnique, Reserve, ShrinkTo, ShrinkToFit, Clear, Len, Items, Extend, ExtendUnique, EntryInsert, EntryRemove, OrInsert, Replace1, Replace2, Replace3, Set1, Set2, Set3}
 
--- `put` is the item with other data
+-- The function `put` gives an item with other data.
 module _ {T D K1 K2 K3 : Type 0} (of : item.Ghosts T K1 K2 K3) (eq1 : K1 → K1 → Bool) (eq2 : K2 → K2 → Bool) (eq3 : K3 → K3 → Bool) (put : T → D → T) where
-  -- from old, the map may give this reply to the command and go on to new
+  -- A map in the state `old` may give this reply to the command, and go on to the state `new`.
+  -- Example: `Len` in the state of three items gives `size 3`, and the state stays.
   abbrev pub Step : State T → TriCommand T D K1 K2 K3 → Reply T D → State T → Type 0
   Step old (InsertUnique x) reply new = InsertsUnique (ranks of eq1 eq2 eq3) old x reply new
   Step old (InsertOverwrite x) reply new = InsertsOverwrite (ranks of eq1 eq2 eq3) old x reply new

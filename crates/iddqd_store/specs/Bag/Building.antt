@@ -8,42 +8,54 @@ use Rattle.iddqd_store.specs.declared.error.ExtendUniqueReason.{ExtendUniqueReas
 use Rattle.iddqd_store.specs.declared.error.ExtendUniqueReason.TheVariants.{Conflict, Memory}
 
 module _ {U S T : Type 0} (becomes : U → S → Type 0) (steps : S → Option T → S → Type 0) where
-  -- the iterator gave a whole list, of which P holds
+  -- The iterator gave a whole list, for which `P` holds.
+  -- Example: For an iterator over 1, 2, 3 the list is 1, 2, 3.
   abbrev pub GivesAll : U → (List T → Type 0) → Type 0
   GivesAll iter P = (it : S) × (xs : List T) × becomes iter it × Drains steps it xs × P xs
 
-  -- the iterator gave a front of a list, of which P holds, and then x
+  -- The iterator gave a list for which `P` holds, and then `x`.
+  -- Example: For an iterator over 1, 2, 3, and 3 as `x`, the list is 1, 2.
   abbrev pub GivesThen : U → T → (List T → Type 0) → Type 0
   GivesThen iter x P = (it : S) × (xs : List T) × (rest : S) × becomes iter it × YieldsThen steps it xs (Some x) rest × P xs
 
--- however the iterator begins, as many items as it may give fit beside those that are held
+-- However the iterator begins, as many items as it may give fit beside those that are held.
+-- Example: An iterator that may give at most 4 items fits on 3 items if the room is 7.
 abbrev pub FitsOn : {U S : Type 0} → (U → S → Type 0) → (S → Count) → U → ℕ → ℕ → Type 0
 FitsOn becomes remaining iter held room = (it : _) → becomes iter it → held + size (remaining it) ≤ room
 
 module _ {T : Type 0} (ranks : Ranks T) where
-  -- each of the list was added to a bag where nothing conflicts, which makes this bag
+  -- Each item of the list was added to the bag `old`, where nothing conflicted with it, and `new` is the result.
+  -- Example: Along (4, 40), (5, 50) the bag becomes itself with these two.
   abbrev pub AddsTo : List T → List T → List T → Type 0
   AddsTo old new xs = (made : List T) × (adds ranks old xs ≡ Ok made) × IsPermutation new made
 
-  -- each was added to the empty bag, and then x was refused since these conflict
+  -- Each item of the list was added to the empty bag, and then `x` was rejected because `duplicates` conflict with
+  -- it.
+  -- Example: Along (1, 10), (2, 20) the item (1, 20) is rejected for (1, 10), (2, 20).
   abbrev pub RefusesFor : T → List T → List T → Type 0
   RefusesFor x duplicates xs = (made : List T) × (adds ranks [] xs ≡ Ok made) × (add ranks made x ≡ Err (x, duplicates))
 
-  -- each was added, and nothing conflicts with x
+  -- Each item of the list was added to the empty bag, and then nothing conflicts with `x`.
+  -- Example: Along (1, 10), (2, 20) there is a place for (3, 30).
   abbrev pub HasPlaceFor : T → List T → Type 0
   HasPlaceFor x xs = (made : List T) × (adds ranks [] xs ≡ Ok made) × (add ranks made x ≡ Ok (x ∷ made))
 
--- these are what conflicts with an item that was refused: some exactly if that is the reason
+-- There is a conflicting item if the reason is `Conflict`, and there is none if it is `Memory`.
+-- Example: It holds of `Conflict` and (1, 10), and of `Memory` and no item.
 abbrev pub IsReason : {T : Type 0} → ExtendUniqueReason → List T → Type 0
 IsReason Conflict found = found ≢ []
 IsReason Memory found = found ≡ []
 
--- those taken can all stand beside what is there, and something of both conflicts with x exactly if that is the reason
+-- The items of `taken` can all stand beside those of `old`, and something among both conflicts with `x` exactly if
+-- the reason is `Conflict`.
+-- Example: Behind (4, 40) the item (4, 50) is rejected for `Conflict`.
 pub record IsRefusedBehind {T : Type 0} (ranks : Ranks T) (old taken : List T) (x : T) (why : ExtendUniqueReason) : Type 0 where
   pub apart : IsSound ranks (taken ++ old)
   pub reason : IsReason why (clash ranks (taken ++ old) x)
 
--- P of the item and those that conflict with it, and Q of the item where there is no memory
+-- If the error is for a conflict, then `P` holds of its item and of the items that conflict with it, and if it is for
+-- lack of memory, then `Q` holds of its item.
+-- Example: Of `Duplicate` with (1, 20) and (1, 10), (2, 20) it is `P` of these.
 abbrev pub MatchFromIterError : {T L : Type 0} → FromIterError T L → (T → L → Type 0) → (T → Type 0) → Type 0
 MatchFromIterError (from_iter.Duplicate d) P Q = P d.new_item d.duplicates
 MatchFromIterError (from_iter.Memory x) P Q = Q x

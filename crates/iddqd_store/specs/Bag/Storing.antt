@@ -3,18 +3,25 @@ use Rattle.std.specs.Prelude.{◌≡◌, Bool, List, [], ◌∷◌, Some, IsPerm
 use Rattle.iddqd_store.specs.Bag.{IsOnly, Ranks, swap}
 
 module _ {F T D : Type 0} (step : F → T → D → F → Type 0) (put : T → D → T) (ranks : Ranks T) where
-  -- f was called at these members in turn, and each answer is the member's data now
+  -- The closure `f` was called at each item of the list in turn, and `new` is the bag with what it returned as the
+  -- data of these items.
+  -- Example: Where an item is (1, 10) with the data 5, and the closure returns 7 at it, `new` has (1, 10) with the
+  -- data 7.
   abbrev pub Stores : F → List T → List T → List T → Type 0
   Stores f [] bag new = IsPermutation new bag
   Stores f (x ∷ xs) bag new = (d : D) × (g : F) × step f x d g × Stores g xs (swap ranks bag x (put x d)) new
 
 module _ {F T D : Type 0} (step : F → T → D → F → Type 0) (put : T → D → T) where
-  -- f was called at each of a list in turn, and the other list has these with what it answered as their data
+  -- The closure `f` was called at each item of the list in turn, and `new` lists these items with what it returned as
+  -- their data.
+  -- Example: Where the closure returns 7 at every item, `new` is the list with 7 as the data of each.
   abbrev pub Writes : F → List T → List T → Type 0
   Writes f [] new = new ≡ []
   Writes f (x ∷ xs) new = (d : D) × (g : F) × (rest : List T) × step f x d g × (new ≡ put x d ∷ rest) × Writes g xs rest
 
-  -- f was called at each member once, in some order, and each answer is the member's data now
+  -- The closure `f` was called at each item of the bag once, in some order, and `new` is the bag with what it
+  -- returned as their data.
+  -- Example: Where the closure returns 7 at every item, `new` is the bag with 7 as the data of each.
   pub record StoresInAll (f : F) (bag new : List T) : Type 0 where
     pub listed : List T
     pub same : IsPermutation bag listed
@@ -23,6 +30,8 @@ module _ {F T D : Type 0} (step : F → T → D → F → Type 0) (put : T → D
     pub are : IsPermutation new written
 
 module _ {T D : Type 0} (answers : T → D → Type 0) (put : T → D → T) (ranks : Ranks T) where
-  -- the one member that passes the test has what is answered at it as its data now
+  -- One item passes the test, and `new` is the bag with what `answers` gives at this item as its data.
+  -- Example: For the test whether the first key is 2, and the answer 7, `new` has (2, 20) with the data 7, (1, 10)
+  -- and (3, 30).
   abbrev pub StoresOne : (T → Bool) → List T → List T → Type 0
   StoresOne test bag new = (x : T) × (d : D) × IsOnly test bag (Some x) × answers x d × IsPermutation new (swap ranks bag x (put x d))

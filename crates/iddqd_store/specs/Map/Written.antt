@@ -4,21 +4,24 @@ use Rattle.iddqd_store.specs.Map.{Map}
 use Rattle.iddqd_store.specs.Slots.{get}
 
 module _ {T : Type 0} where
-  -- f of the item that there may be
+  -- `of_item` is the result of `f` at the item, if there is one.
+  -- Example: Of `Some a` it is `Some (f a)`, and of `None` it is `None`.
   abbrev pub of_item : (T → T) → Option T → Option T
   of_item f None = None
   of_item f (Some x) = Some (f x)
 
-  -- the map, with f of the item in a slot
+  -- `map_with` is the map, with `f` of the item of the slot `at` in its place.
+  -- Example: Of the slots `Some a`, `Some b` and 1 it has the slots `Some a`, `Some (f b)`.
   abbrev pub map_with : {S : Type 0} → Map T S → ℕ → (T → T) → Map T S
   map_with m at f = record m { slots = slice_set m.slots at (of_item f (get m.slots at)) }
 
-  -- the same, in the slot that there may be
+  -- `map_with_if` is the map, with `f` of the item of this slot in its place, if there is such a slot.
+  -- Example: Of `None` it is the map itself.
   abbrev pub map_with_if : {S : Type 0} → Map T S → Option ℕ → (T → T) → Map T S
   map_with_if m None f = m
   map_with_if m (Some at) f = map_with m at f
 
--- what is live stays so
+-- A slot that is live stays live.
 pub still_live : {T : Type 0} (f : T → T) (slots : List (Option T)) (i j : ℕ) → is_some (get slots j) ≡ true → is_some (get (slice_set slots i (of_item f (get slots i))) j) ≡ true
 still_live f [] i j h = h
 still_live f (None ∷ xs) zero j h = h

@@ -10,6 +10,6 @@ module _ {T : Type 0} (p q : T → Bool) (same : (x : T) → q x ≡ p x) where
   by_slot None = refl
   by_slot (Some x) = same x
 
-  -- slots that stay pass a test that stays
+  -- Where the slots and the test stay, the slots that pass the test stay.
   pub passes_kept : (slots more : List (Option T)) (ix : ℕ) → more ≡ slots → passes_at q more ix ≡ passes_at p slots ix
   passes_kept slots more ix e = ap (λ s. option_map_or q (get s ix) false) e ∙ by_slot (get slots ix)

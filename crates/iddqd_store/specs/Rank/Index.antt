@@ -5,31 +5,37 @@ use Rattle.iddqd_store.specs.Bag.{Ranks, IsSound}
 use Rattle.iddqd_store.specs.Slots.{members, live_items, get}
 
 module _ {T : Type 0} where
-  -- the pair of a live slot, by the hash of its item
+  -- `pair_of` is the pair of a live slot: the hash of its item, and its number.
+  -- Example: Of the slot 2 with an item of the hash 5 it is (5, 2).
   abbrev pub pair_of : (T → ℕ) → ℕ × T → ℕ × ℕ
   pair_of hash m = (hash m.1, m.0)
 
-  -- whether the slot is live and its item passes the test
+  -- `passes_at` tells whether the slot has an item that passes the test.
+  -- Example: Of the slots `Some a`, `None` it is false at 1.
   abbrev pub passes_at : (T → Bool) → List (Option T) → ℕ → Bool
   passes_at test slots at = option_map_or test (get slots at) false
 
-  -- the item of the slot has this hash
+  -- The item of the slot `at` has the hash `h`.
+  -- Example: It holds of a free slot, which has no item, and any hash.
   abbrev pub HasHash : (T → ℕ) → List (Option T) → ℕ → ℕ → Type 0
   HasHash hash slots at h = (x : T) → get slots at ≡ Some x → hash x ≡ h
 
--- the pairs are those of the live slots
+-- The pairs are those of the live slots.
+-- Example: Of the slots `Some a`, `None`, `Some b` with the hashes 5 and 6 they are (5, 0), (6, 2).
 pub record IsIndex {T : Type 0} (hash : T → ℕ) (slots : List (Option T)) (pairs : List (ℕ × ℕ)) : Type 0 where
   pub paired : IsPermutation pairs (map (pair_of hash) (members slots))
 
 module _ {T : Type 0} where
-  -- a table for each rank has the pairs by its hashes
+  -- For each rank there is a table that has the pairs of the live slots, by the hashes of this rank.
+  -- Example: For two ranks there are two tables.
   abbrev pub AreIndexes : List (T → ℕ) → List (Option T) → List (List (ℕ × ℕ)) → Type 0
   AreIndexes [] slots [] = ⊤
   AreIndexes [] slots (pairs ∷ tables) = ⊥
   AreIndexes (hash ∷ hashes) slots [] = ⊥
   AreIndexes (hash ∷ hashes) slots (pairs ∷ tables) = IsIndex hash slots pairs × AreIndexes hashes slots tables
 
--- how a map keeps its items: no two of them conflict, and a table for each rank indexes them
+-- A map keeps its items so that no two of them conflict and a table for each rank has their pairs.
+-- Example: A map of the bag has three pairs in each of two tables.
 pub record IsIndexed {T : Type 0} (ranks : Ranks T) (hashes : List (T → ℕ)) (slots : List (Option T)) (tables : List (List (ℕ × ℕ))) : Type 0 where
   pub sound : IsSound ranks (live_items slots)
   pub indexes : AreIndexes hashes slots tables

@@ -2,6 +2,9 @@
 use Rattle.std.specs.Prelude.{ℕ, Bool, List, Option}
 use Rattle.iddqd_store.specs.declared.error.ExtendUniqueReason.{ExtendUniqueReason}
 
+-- `Reply` is what a command on a map returns. Borrowed items are here as values, and an iterator is the list that it
+-- gives.
+-- Example: `done`, `found (Some (2, 20))`, or `duplicate` with (1, 20) and (1, 10), (2, 20).
 pub data Reply (T D : Type 0) : Type 0 where
   done : Reply T D
   duplicate : T → List T → Reply T D
@@ -14,9 +17,9 @@ pub data Reply (T D : Type 0) : Type 0 where
   size : ℕ → Reply T D
   items : List T → Reply T D
   kept : Reply T D
-  -- the item's key of this rank, counted from 0, is not the one asked for
+  -- The key of the item at this rank, counted from 0, is not the one asked for.
   key : ℕ → T → Reply T D
   absent : T → Reply T D
   absent_data : D → Reply T D
-  -- these came out again, and then this one was refused
+  -- The items of the list came out again, and the item behind them was rejected.
   extend_refused : ExtendUniqueReason → List T → T → Reply T D

@@ -8,46 +8,59 @@ use Rattle.iddqd_store.specs.Map.{Map, bag}
 use Rattle.iddqd_store.specs.Table.Limit.{most_room}
 use Rattle.iddqd_store.specs.Runs.Reply.{Reply, done, duplicate, displaced, found, present, taken, memory, refused, size, items, kept, key, absent, absent_data, extend_refused}
 
--- a bag of items, as a list of which the order means nothing, and how many fit
+-- `State` is the state of a map: its bag, and its capacity.
+-- Example: (1, 10), (2, 20), (3, 30), and 7.
 pub record State (T : Type 0) : Type 0 where
   pub items : List T
   pub capacity : ℕ
 
--- the items fit, in room that a map can have
+-- The items fit the capacity, which is at most `most_room`.
+-- Example: With the bag and the capacity 7 it holds, and with 2 it does not.
 abbrev pub Fits : {T : Type 0} → State T → Type 0
 Fits s = (length s.items ≤ s.capacity) × (s.capacity ≤ most_room)
 
--- the state of a map
+-- `state_of` is the state of the map.
+-- Example: Of a map of the bag with the capacity 7 it is the bag and 7.
 abbrev pub state_of : {T S : Type 0} → Map T S → State T
 state_of m = record { items = bag m; capacity = m.capacity }
 
--- a new map holds no items and has no room
+-- `empty_state` is the state of a new map: it has no items, and the capacity 0.
+-- Example: `Len` in it gives `size 0`.
 abbrev pub empty_state : {T : Type 0} → State T
 empty_state = record { items = []; capacity = 0 }
 
 module _ {T : Type 0} where
-  -- so many items fit however many of a list went in, each for what conflicts with it
+  -- After each number of items of the list that went in with `over`, the items fit the capacity.
+  -- Example: Along (4, 40), (4, 50) the bag needs the capacity 4.
   abbrev pub FitsOnTheWay : Ranks T → List T → List T → ℕ → Type 0
   FitsOnTheWay ranks bag xs capacity = (n : ℕ) → length (overs ranks bag (take n xs)) ≤ capacity
 
-  -- the items of a list went in one by one, each for what conflicts with it. The room is no less, and enough on the way
+  -- The items of the list went in one by one, each with `over`. The capacity is no lower, and was enough at each
+  -- step.
+  -- Example: Along (1, 20), (3, 40) the bag becomes (3, 40), (1, 20).
   abbrev pub ExtendsTo : Ranks T → State T → List T → State T → Type 0
   ExtendsTo ranks old xs new =
       IsPermutation new.items (overs ranks old.items xs) × FitsOnTheWay ranks old.items xs new.capacity
       × (old.capacity ≤ new.capacity)
 
-  -- x is refused for want of memory, which happens only in a full map where nothing conflicts
+  -- The item `x` is returned for lack of memory, which happens only in a full map where nothing conflicts with `x`,
+  -- and nothing changes.
+  -- Example: With the bag and the capacity 3 it may happen to (4, 40), and not to (1, 40).
   abbrev pub Starves : Ranks T → State T → T → T → State T → Type 0
   Starves ranks old x y new =
       (y ≡ x) × (clash ranks old.items x ≡ []) × (length old.items ≡ old.capacity) × (new ≡ old)
 
-  -- the room is no less, and the same where so many more items fitted
+  -- The capacity is no lower, and it stays if as many more items as the list has fitted before.
+  -- Example: With the bag and the capacity 7, it stays for a list of 4 items.
   abbrev pub GrowsFor : List T → State T → State T → Type 0
   GrowsFor xs old new =
       (old.capacity ≤ new.capacity) × (length old.items + length xs ≤ old.capacity → new.capacity ≡ old.capacity)
 
 module _ {T D : Type 0} where
-  -- x goes in where nothing conflicts, and the map grows only where it is full; else it is refused with what conflicts, or for want of memory in a full map
+  -- If nothing conflicts with `x`, it goes in, and the capacity grows only if the map was full. Else the reply has
+  -- `x` and the items that conflict with it. In a full map where nothing conflicts, the reply may be `x` for lack of
+  -- memory.
+  -- Example: For (4, 40) the reply is `done`, and for (1, 20) it is `duplicate` with (1, 20) and (1, 10), (2, 20).
   abbrev pub InsertsUnique : Ranks T → State T → T → Reply T D → State T → Type 0
   InsertsUnique ranks old x done new =
       (clash ranks old.items x ≡ []) × IsPermutation new.items (x ∷ old.items)
@@ -57,7 +70,9 @@ module _ {T D : Type 0} where
   InsertsUnique ranks old x (memory y) new = Starves ranks old x y new
   InsertsUnique ranks old x reply new = ⊥
 
-  -- x goes in for what conflicts, which is given back. The map grows only where it is full and nothing conflicts
+  -- The item goes in for the items that conflict with it, which the reply has. The capacity grows only if the map was
+  -- full and nothing conflicts. In a full map where nothing conflicts, the reply may be `x` for lack of memory.
+  -- Example: For (1, 20) the reply is `displaced` with (1, 10), (2, 20), and the bag becomes (1, 20), (3, 30).
   abbrev pub InsertsOverwrite : Ranks T → State T → T → Reply T D → State T → Type 0
   InsertsOverwrite ranks old x (displaced ys) new =
       (ys ≡ order ranks old.items x) × IsPermutation new.items (over ranks old.items x)
@@ -66,24 +81,29 @@ module _ {T D : Type 0} where
   InsertsOverwrite ranks old x (memory y) new = Starves ranks old x y new
   InsertsOverwrite ranks old x reply new = ⊥
 
-  -- the member that passes the test, if there is one
+  -- The reply is the only item that passes the test, or none, and nothing changes.
+  -- Example: For the first key 2 it is `found` with (2, 20).
   abbrev pub Gets : State T → (T → Bool) → Reply T D → State T → Type 0
   Gets old test (found o) new = IsOnly test old.items o × (new ≡ old)
   Gets old test reply new = ⊥
 
-  -- whether a member passes the test
+  -- The reply is whether an item passes the test, and nothing changes.
+  -- Example: For the first key 2 it is `present true`.
   abbrev pub Tells : State T → (T → Bool) → Reply T D → State T → Type 0
   Tells old test (present b) new = (b ≡ list_any test old.items) × (new ≡ old)
   Tells old test reply new = ⊥
 
-  -- that member is taken out
+  -- The only item that passes the test leaves the bag, and the reply has it. The capacity stays.
+  -- Example: For the first key 2 the reply is `taken` with (2, 20), and the bag becomes (1, 10), (3, 30).
   abbrev pub Removes : State T → (T → Bool) → Reply T D → State T → Type 0
   Removes old test (taken o) new =
       IsOnly test old.items o × IsPermutation old.items (option_to_list o ++ new.items)
       × (new.capacity ≡ old.capacity)
   Removes old test reply new = ⊥
 
-  -- there is room for so many more items, and more than before only where they did not fit; or still too little
+  -- After `done`, `more` items fit, and the capacity grew only if they did not fit before. After `refused` they do
+  -- not fit. The bag stays.
+  -- Example: With the bag and the capacity 7, after `done` for 5 more the capacity is 8 at least.
   abbrev pub Reserves : State T → ℕ → Reply T D → State T → Type 0
   Reserves old more done new =
       (new.items ≡ old.items) × (length old.items + more ≤ new.capacity) × (old.capacity ≤ new.capacity)
@@ -92,8 +112,9 @@ module _ {T D : Type 0} where
       (new.items ≡ old.items) × (new.capacity < length old.items + more) × (old.capacity ≤ new.capacity)
   Reserves old more reply new = ⊥
 
-  -- no more room is left than for the members or, if that is more, for so many items, as far as there was. It is not
-  -- refused where that is none, nor where it is the room that there is
+  -- After `done` the capacity is the number of items or, if that is more, the lower one of `least` and the old
+  -- capacity. The reply is `refused` only if that is neither 0 nor the old capacity, and then nothing changes.
+  -- Example: With the bag and the capacity 14, it is 5 for the least 5, and 3 for 0.
   abbrev pub ShrinksTo : State T → ℕ → Reply T D → State T → Type 0
   ShrinksTo old least done new = (new.items ≡ old.items) × (new.capacity ≡ max (length old.items) (min least old.capacity))
   ShrinksTo old least refused new =
@@ -101,23 +122,27 @@ module _ {T D : Type 0} where
       × (new ≡ old)
   ShrinksTo old least reply new = ⊥
 
-  -- no member is left, and all the room
+  -- No item is left, and the capacity stays.
+  -- Example: The bag becomes empty.
   abbrev pub Clears : State T → Reply T D → State T → Type 0
   Clears old done new = (new.items ≡ []) × (new.capacity ≡ old.capacity)
   Clears old reply new = ⊥
 
-  -- how many members there are
+  -- The reply is how many items there are, and nothing changes.
+  -- Example: It is `size 3`.
   abbrev pub Sizes : State T → Reply T D → State T → Type 0
   Sizes old (size n) new = (n ≡ length old.items) × (new ≡ old)
   Sizes old reply new = ⊥
 
-  -- some listing of the members
+  -- The reply lists the items in some order, and nothing changes.
+  -- Example: It may be `items` with (3, 30), (1, 10), (2, 20).
   abbrev pub Lists : State T → Reply T D → State T → Type 0
   Lists old (items xs) new = IsPermutation xs old.items × (new ≡ old)
   Lists old reply new = ⊥
 
-  -- the items of a list go in one by one, each for what conflicts with it, until one finds no memory in a full map.
-  -- The map grows only where they may not all fit
+  -- The items of the list go in one by one, each with `over`, until one finds no memory in a full map, which the
+  -- reply has. The capacity grows only if the items may not all fit.
+  -- Example: For (1, 20), (3, 40) the reply is `done`, and the bag becomes (3, 40), (1, 20).
   abbrev pub Extends : Ranks T → State T → List T → Reply T D → State T → Type 0
   Extends ranks old xs done new =
       ExtendsTo ranks old xs new × (length old.items + length xs ≤ old.capacity → new.capacity ≡ old.capacity)
@@ -126,8 +151,9 @@ module _ {T D : Type 0} where
       × (clash ranks new.items y ≡ []) × (length new.items ≡ new.capacity)
   Extends ranks old xs reply new = ⊥
 
-  -- the items of a list go in where nothing conflicts, all of them; or none does, and those before one that is refused
-  -- come back with it, in order. The map grows only where they don't all fit
+  -- All items of the list go in, or none does, because one is rejected for a conflict or for lack of memory: then the
+  -- reply has those before it, in order, and it. The capacity grows only if they do not all fit.
+  -- Example: For (4, 40), (1, 50) the reply is `extend_refused` with `Conflict`, (4, 40), and (1, 50).
   abbrev pub ExtendsUnique : Ranks T → State T → List T → Reply T D → State T → Type 0
   ExtendsUnique ranks old xs done new =
       AddsTo ranks old.items new.items xs × IsSound ranks new.items × GrowsFor xs old new
@@ -136,21 +162,28 @@ module _ {T D : Type 0} where
       × IsReason reason (clash ranks (ys ++ old.items) y) × GrowsFor xs old new
   ExtendsUnique ranks old xs reply new = ⊥
 
-  -- x goes in for the items that have one of the keys asked for, which are given back; else its lowest key that is not
-  -- the one asked for is told, or want of memory in a full map
+  -- The item goes in for the items that have one of the keys, which the reply has. If a key of `x` is not the one
+  -- asked for, the reply has the lowest such rank, and in a full map where nothing conflicts it may be `x` for lack
+  -- of memory.
+  -- Example: For the keys 1 and 20 and the item (1, 20) the reply is `displaced` with (1, 10), (2, 20), and for the
+  -- item (1, 50) it is `key 1 (1, 50)`.
   abbrev pub EntryInserts : Ranks T → List (T → Bool) → State T → T → Reply T D → State T → Type 0
   EntryInserts ranks tests old x (displaced ys) new = (differ tests x ≡ None) × InsertsOverwrite ranks old x (displaced ys) new
   EntryInserts ranks tests old x (key r y) new = (differ tests x ≡ Some r) × (y ≡ x) × (new ≡ old)
   EntryInserts ranks tests old x (memory y) new = (differ tests x ≡ None) × Starves ranks old x y new
   EntryInserts ranks tests old x reply new = ⊥
 
-  -- the items that have one of the keys are taken out and given back in the order of the keys
+  -- The items that have one of the keys leave the bag, and the reply has them in the order of the keys.
+  -- Example: For the keys 2 and 10 the reply is `displaced` with (2, 20), (1, 10), and (3, 30) is left.
   abbrev pub EntryRemoves : List (T → Bool) → State T → Reply T D → State T → Type 0
   EntryRemoves tests old (displaced ys) new =
       (ys ≡ listing tests old.items) × IsPermutation old.items (ys ++ new.items) × (new.capacity ≡ old.capacity)
   EntryRemoves tests old reply new = ⊥
 
-  -- x goes in where no item has one of the keys; where some has, nothing changes, whatever the keys of x are
+  -- The item goes in if no item has one of the keys, as with `InsertsUnique`, and if a key of `x` is not the one
+  -- asked for, the reply has the lowest such rank. If an item has one of the keys, nothing changes, whatever the keys
+  -- of `x` are.
+  -- Example: For the keys 4 and 40 and the item (4, 40) the reply is `done`, and for the keys 1 and 20 it is `kept`.
   abbrev pub OrInserts : Ranks T → List (T → Bool) → State T → T → Reply T D → State T → Type 0
   OrInserts ranks tests old x kept new = (listing tests old.items ≢ []) × (new ≡ old)
   OrInserts ranks tests old x (key r y) new =
@@ -160,8 +193,10 @@ module _ {T D : Type 0} where
   OrInserts ranks tests old x (memory y) new = (listing tests old.items ≡ []) × (differ tests x ≡ None) × Starves ranks old x y new
   OrInserts ranks tests old x reply new = ⊥
 
-  -- x goes in for the member that passes the test, which is given back; else its lowest key that is not the member's is
-  -- told, or that no member passes
+  -- The item goes in for the one that passes the test, if it has the same keys, and the reply has the old one. Else
+  -- the reply has the lowest rank at which the keys differ, or says that no item passes the test, and nothing
+  -- changes.
+  -- Example: For the first key 2 the item (2, 50) is returned with `key 1`, and for the first key 7 it is `absent`.
   abbrev pub Replaces : Ranks T → (T → Bool) → State T → T → Reply T D → State T → Type 0
   Replaces ranks test old x (displaced ys) new =
       (z : T) × IsOnly test old.items (Some z) × (ys ≡ z ∷ []) × (differ (like ranks z) x ≡ None)
@@ -171,7 +206,8 @@ module _ {T D : Type 0} where
   Replaces ranks test old x (absent y) new = (filter test old.items ≡ []) × (y ≡ x) × (new ≡ old)
   Replaces ranks test old x reply new = ⊥
 
-  -- the member that passes the test has this data; where there is none, the data is handed back
+  -- The item that passes the test gets this data. If none passes, the reply has the data, and nothing changes.
+  -- Example: For the first key 7 the reply is `absent_data` with the data.
   abbrev pub Sets : Ranks T → (T → D → T) → (T → Bool) → State T → D → Reply T D → State T → Type 0
   Sets ranks put test old d done new =
       (z : T) × IsOnly test old.items (Some z) × IsPermutation new.items (swap ranks old.items z (put z d))

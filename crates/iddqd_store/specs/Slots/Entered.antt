@@ -2,7 +2,9 @@
 use Rattle.std.specs.Prelude.{ℕ, List, refl}
 use Rattle.std.specs.Coded.{Coded, code_by, coded×, coded_ℕ, coded_list}
 
--- the slots of what went in, and how many can be noted without more memory
+-- A contract sees of an `Entered` the slots of the items that went in, and how many can be noted without an
+-- allocation.
+-- Example: The slots 4, 2, and 8.
 pub record Entered : Type 0 where
   pub slots : List ℕ
   pub room : ℕ

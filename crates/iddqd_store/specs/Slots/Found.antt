@@ -6,30 +6,36 @@ use Rattle.iddqd_store.specs.Bag.{Entry, IsOnly, entry_of}
 use Rattle.iddqd_store.specs.Slots.{get, IsLive, live_items}
 
 module _ {T : Type 0} where
-  -- the members that pass the test have equal keys by agree
+  -- The items of the bag that pass the test have equal keys by `agree`.
+  -- Example: It holds of the test whether the first key is 2, and of the first rank.
   abbrev pub NamesOneOf : (T → T → Bool) → (T → Bool) → List T → Type 0
   NamesOneOf agree test bag = (x y : T) → Contains bag x → Contains bag y → test x ≡ true → test y ≡ true → agree x y ≡ true
 
-  -- the items of these slots
+  -- `items_at` lists the items of these slots.
+  -- Example: Of `Some a`, `None`, `Some b` and the slots 2, 0 it is b, a.
   abbrev pub items_at : List (Option T) → List ℕ → List T
   items_at slots ixs = filter_map (get slots) ixs
 
-  -- these slots hold these items, each slot once
+  -- These slots have these items, in this order, and no slot stands twice.
+  -- Example: In `Some a`, `None`, `Some b` the slots 2, 0 have b, a.
   pub record StandAt (slots : List (Option T)) (ixs : List ℕ) (xs : List T) : Type 0 where
     pub items : items_at slots ixs ≡ xs
     pub live : All (IsLive slots) ixs
     pub apart : IsDistinct nat_eq ixs
 
--- whether the number is among these
+-- `contains` tells whether the slot `ix` is among these.
+-- Example: 2 is among 0, 2.
 abbrev pub contains : List ℕ → ℕ → Bool
 contains ixs ix = list_any (nat_eq ix) ixs
 
--- the numbers, and behind them the one found, unless it is among them
+-- `with_found` lists the slots, and behind them the one that a search found, unless it is among them.
+-- Example: Of 0, 2 and `Some 5` it is 0, 2, 5, and of 0, 2 and `Some 0` it is 0, 2.
 abbrev pub with_found : List ℕ → Option ℕ → List ℕ
 with_found ixs None = ixs
 with_found ixs (Some ix) = if contains ixs ix then ixs else ixs ++ ix ∷ []
 
--- the slots that searches found, each once
+-- `each_once` lists the slots that searches found, each once.
+-- Example: Of `Some 2`, `None`, `Some 2` it is 2.
 abbrev pub each_once : List (Option ℕ) → List ℕ
 each_once found = fold with_found [] found
 
@@ -37,7 +43,8 @@ abbrev pub is_at : ℕ → Option ℕ → Bool
 is_at ix None = false
 is_at ix (Some at) = nat_eq ix at
 
--- the slot that every search found, if there is one
+-- `found_by_all` lists the one slot that every search found, if there is one.
+-- Example: Of `Some 2`, `Some 2` it is 2, and of `Some 2`, `None` there is none.
 abbrev pub found_by_all : List (Option ℕ) → List ℕ
 found_by_all [] = []
 found_by_all (None ∷ found) = []
@@ -48,21 +55,27 @@ head_of [] = None
 head_of (x ∷ xs) = Some x
 
 module _ {T : Type 0} where
-  -- a search by the test found this slot, or none
+  -- A search by the test found this slot, or none if no item passes the test.
+  -- Example: For the test whether an item is b, it is `Some 2` in `Some a`, `None`, `Some b`.
   pub record FoundAt (test : T → Bool) (slots : List (Option T)) (at : Option ℕ) : Type 0 where
     pub only : IsOnly test (live_items slots) (option_and_then (get slots) at)
     pub live : IfSome at (IsLive slots)
 
-  -- a search by each test found its slot, or none
+  -- For each rank, a search by the test found this slot, or none (`FoundAt`).
+  -- Example: For the tests whether an item is b, and whether it is c, it is `Some 2`, `None` in `Some a`, `None`,
+  -- `Some b`.
   abbrev pub AreFound : List (T → Bool) → List (Option T) → List (Option ℕ) → Type 0
   AreFound [] slots [] = ⊤
   AreFound [] slots (at ∷ found) = ⊥
   AreFound (test ∷ tests) slots [] = ⊥
   AreFound (test ∷ tests) slots (at ∷ found) = FoundAt test slots at × AreFound tests slots found
 
-  -- what the slots that searches found hold
+  -- `held_at` lists the items of the slots that searches found, each once.
+  -- Example: Of `Some a`, `None`, `Some b` and `Some 2`, `Some 2` it is b.
   abbrev pub held_at : List (Option T) → List (Option ℕ) → List T
   held_at slots found = items_at slots (each_once found)
 
+  -- `entry_at` is what searches by all keys found, as `Entry` has it.
+  -- Example: Of `Some a`, `None`, `Some b` and `Some 2`, `Some 2` it is `unique b`.
   abbrev pub entry_at : List (Option T) → List (Option ℕ) → Entry T
   entry_at slots found = entry_of (held_at slots found) (items_at slots (found_by_all found))

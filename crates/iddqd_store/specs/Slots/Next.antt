@@ -2,7 +2,8 @@
 use Rattle.std.specs.Prelude.{◌≡◌, ◌≤◌, ℕ, ◌+◌, List, ◌∷◌, take, drop, Option, Some}
 use Rattle.iddqd_store.specs.Slots.{get, items_in}
 
--- of the slots from a number on, this is the first that is live, with its item
+-- Of the slots from `from` on, `at` is the first with an item, which is `item`.
+-- Example: In `Some a`, `None`, `Some b`, from 1 on it is 2 with b.
 pub record ComesNext {T : Type 0} (slots : List (Option T)) (from at : ℕ) (item : T) : Type 0 where
   pub ahead : from ≤ at
   pub value : get slots at ≡ Some item

@@ -1,7 +1,7 @@
 -- A cell as two numbers, which are both all ones where it is empty.
 use Rattle.std.specs.Prelude.{ℕ, ◌-◌, ◌^◌, ◌==◌, Option, None, Some, if◌then◌else◌}
 
--- no slot has this number
+-- No slot has this number.
 abbrev pub all_ones : ℕ
 all_ones = 2 ^ 64 - 1
 

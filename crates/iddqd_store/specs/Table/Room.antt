@@ -3,14 +3,17 @@ use Rattle.std.specs.Prelude.{ℕ, ◌+◌, ◌*◌, ◌/◌, ◌^◌, ◌≡◌
 use Rattle.iddqd_store.specs.Table.Limit.{IsLeast, IsSize, most_room}
 use Rattle.iddqd_store.specs.Table.{Table}
 
--- a `usize` counts the cells, of which there are 0 or a power of two from 8 on, and an eighth of them stays empty
+-- A `usize` counts the cells. There are 0 of them, or a power of two from 8 on, and an eighth of them stays empty.
+-- Example: With 8 cells 7 pairs fit.
 pub record IsSized (table : Table) : Type 0 where
   pub size : IsSize (length table.row)
   pub counted : length table.row < 2 ^ 64
   pub limit : table.limit ≡ length table.row / 8 * 7
   pub fits : length table.pairs ≤ table.limit
 
--- so many more pairs fit then, in the fewest cells for them where they didn't yet, or they don't fit and it is refused
+-- After `Ok` so many more pairs fit, in the fewest cells that hold them if they did not fit before. The call fails
+-- only if they did not fit, and always if no table can hold them.
+-- Example: With 3 pairs and room for 7, it is 14 after `Ok` for 5 more.
 pub record GrowsFor {A E : Type 0} (old : Table) (more : ℕ) (result : Result A E) (new : Table) : Type 0 where
   pub room : OnOk result (length old.pairs + more ≤ new.limit)
   pub grown : OnOk result (old.limit < length old.pairs + more → IsLeast (length old.pairs + more) new.limit)

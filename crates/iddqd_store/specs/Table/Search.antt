@@ -3,19 +3,23 @@ use Rattle.std.specs.Prelude.{ℕ, ◌+◌, ◌≡◌, ◌≤◌, Bool, true, fa
 use Rattle.iddqd_store.specs.Table.Ring.{stretch}
 use Rattle.iddqd_store.specs.Table.{hashes, under, IsFree, LooksUp, Spot, Table}
 
--- the answer stands under the hash and is accepted, or nothing under the hash is
+-- The answer is a slot under this hash that is accepted, or none if no slot under the hash is.
+-- Example: In (5, 0), (6, 2) it is `Some 2` for the hash 6, where 2 is accepted.
 pub record FindsUnder (table : Table) (hash : ℕ) (accepts : ℕ → Bool) (answer : Option ℕ) : Type 0 where
   pub found : IfSome answer (λ index. Contains table.pairs (hash, index))
   pub accepted : IfSome answer (λ index. accepts index ≡ true)
   pub none : IfNone answer ((index : ℕ) → Contains table.pairs (hash, index) → accepts index ≡ false)
 
--- the empty cell into which a pair under this hash goes
+-- This is the empty cell into which a pair under this hash goes.
+-- Example: Among 8 cells with the hashes 2, 2 it is 4 for the hash 2.
 pub record IsVacantUnder (table : Table) (sought : ℕ) (spot : Spot) : Type 0 where
   pub hash : spot.hash ≡ sought
   pub cells : spot.cells ≡ length table.row
   pub vacant : IsFree (hashes table.pairs) spot
 
--- pairs under the hash are asked about, each once at most, and cells looked at from its home on, up to the answer
+-- The matcher is asked about slots under the hash alone, no more often than there are some, and cells are probed from
+-- the home of the hash up to the answer (`LooksUp`).
+-- Example: In (5, 0), (6, 2) a search for 6 asks at most once.
 pub record CostsUnder {A : Type 0} (table : Table) (hash : ℕ) (answer : Option A) (asks asks_then look look_then : ℕ) : Type 0 where
   pub asked : asks_then ≤ asks + count_by (under hash) table.pairs
   pub looks : LooksUp (hashes table.pairs) (length table.row) hash answer look look_then

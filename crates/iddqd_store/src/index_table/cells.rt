@@ -1,5 +1,6 @@
-//! The cells of a table. One call tells what a cell has, and it ticks the meter that it is handed; `copy_cell` copies a
-//! cell whole, and `clone` the row of cells. The script `tests/forms` lists each line that names the row.
+//! The cells of a table. One function reads what a cell has, and counts that on the meter that it takes. `copy_cell`
+//! copies a cell, and `clone` all cells, without reading what they have. The script `tests/forms` lists each line that
+//! names the row.
 ghost use Rattle.std.specs.Prelude.{◌≡◌, ℕ, ◌+◌, ◌^◌, ◌<◌, List, [], Option, None, Some, length, slice_set, replicate, IfOk};
 ghost use Rattle.iddqd_store.specs.Table.Cell.{pair_of, hash_of, number_of};
 ghost use Rattle.iddqd_store.specs.Table.Ring.{cell};
@@ -11,7 +12,7 @@ use std::alloc::Global;
 use std::marker::Model;
 use std::mem::size_of;
 
-/// A cell of 16 bytes: a hash and a slot's number. An empty one has a number that no slot has.
+/// A cell of 16 bytes: a hash and a slot's number. An empty cell has a number that no slot has.
 #[derive(Clone, Copy)]
 pub(crate) struct Cell {
     hash: u64,
@@ -31,7 +32,7 @@ impl Model for Cell {
 }
 
 impl Cell {
-    /// What stands for an empty cell: all ones, so one pattern fills a row of them.
+    /// Returns an empty cell: all ones, so that one byte pattern fills a row of empty cells.
     fn empty() -> Cell
         ensures { result ≡ None }
     {
@@ -41,7 +42,7 @@ impl Cell {
         }
     }
 
-    /// A cell with a pair.
+    /// Makes a cell with a pair.
     fn full(hash: u64, ix: ItemIndex) -> Cell
         ensures { result ≡ Some (hash, ix) }
     {
@@ -51,7 +52,7 @@ impl Cell {
         }
     }
 
-    /// The pair in the cell.
+    /// Returns the pair in the cell, or `None` if the cell is empty.
     fn pair(self) -> Option<(u64, ItemIndex)>
         ensures { result ≡ self }
     {
@@ -63,7 +64,7 @@ impl Cell {
     }
 }
 
-/// Cells in a row, each empty or with a hash and a slot's number.
+/// Cells in a row, each of them empty or with a hash and a slot's number.
 #[derive(Drop)]
 pub struct Cells {
     row: Vec<Cell>,
@@ -76,7 +77,7 @@ impl Model for Cells {
 }
 
 impl Cells {
-    /// No cells. It takes no memory.
+    /// Makes a row without cells. It allocates nothing.
     pub fn new(alloc: Global) -> Cells
         ensures { result ≡ [] }
     {
@@ -85,7 +86,8 @@ impl Cells {
         }
     }
 
-    /// So many empty cells. It is refused where their bytes cannot be had, or are more than memory can count.
+    /// Makes a row of this many empty cells. It fails if the memory cannot be allocated, or if its size does not fit
+    /// in a `usize`.
     pub fn with_len(alloc: Global, count: usize) -> Result<Cells, TryReserveError>
         ensures { IfOk result (λ c. c ≡ replicate count None) }
     {
@@ -94,14 +96,14 @@ impl Cells {
         })
     }
 
-    /// How many there are.
+    /// Returns the number of cells.
     pub fn len(&self) -> usize
         ensures { result ≡ length self.now }
     {
         self.row.len()
     }
 
-    /// What cell `i` has. The one call that tells it.
+    /// Returns the pair in cell `i`, or `None` if the cell is empty. No other function reads what a cell has.
     pub fn cell_at(&self, i: usize, meter: &mut Meter) -> Option<(u64, ItemIndex)>
         requires { i < length self.now }
         ensures value { result ≡ cell self.now i }
@@ -119,7 +121,7 @@ impl Cells {
         self.row[i] = Cell::full(hash, ix);
     }
 
-    /// Copies cell `j` of other cells into cell `i`, with its pair or empty. It tells nothing of either cell.
+    /// Copies cell `j` of other cells into cell `i`, whether it has a pair or is empty. It reads neither of them.
     #[inline(always)]
     pub fn copy_cell(&mut self, i: usize, other: &Cells, j: usize)
         requires at { i < length self.old }
@@ -137,7 +139,7 @@ impl Cells {
         self.row[i] = Cell::empty();
     }
 
-    /// The same cells, copied whole. It is refused where their bytes cannot be had.
+    /// Returns the same cells, which are copied at once. It fails if the memory cannot be allocated.
     pub fn clone(&self) -> Result<Cells, TryReserveError>
         ensures { IfOk result (λ c. c ≡ self.now) }
     {

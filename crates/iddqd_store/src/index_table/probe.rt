@@ -1,4 +1,4 @@
-//! Ways in a table: from the home of a hash on, from cell to cell and round.
+//! Probing: the way from the home of a hash on, from cell to cell, and from the last cell to cell 0.
 ghost use Rattle.std.specs.Prelude.{◌≡◌, ◌≢◌, ℕ, ◌+◌, ◌-◌, ◌*◌, ◌/◌, ◌%◌, ◌^◌, ◌∷◌, ◌<◌, if◌then◌else◌, nat_lt, None, Some, length, IfSome, IsNone, ◌↔◌, Contains};
 ghost use Rattle.std.specs.List.Sorted.{IsPermutation};
 ghost use Rattle.iddqd_store.specs.Table.Ring.{cell, gap, pairs_in, stretch};
@@ -9,7 +9,8 @@ use super::Meter;
 use super::cells::Cells;
 use crate::item_set::ItemIndex;
 
-// The place after `at`. The number of cells is a power of two, so a mask takes it round.
+// Returns the place after `at`. The number of cells is a power of two, so a mask leads from the last place to place
+// 0.
 pub(super) fn after(at: usize, count: usize) -> usize
     requires size { IsSize count }
     requires below { at < count }
@@ -18,7 +19,7 @@ pub(super) fn after(at: usize, count: usize) -> usize
     (at + 1) & (count - 1)
 }
 
-// How many cells hold so many pairs, if `usize` holds that number.
+// Returns the least number of cells in which this many pairs fit, or `None` if that does not fit in a `usize`.
 pub(super) fn cells_for(pairs: usize) -> Option<usize>
     ensures past { IsNone result ↔ (most_room < pairs) }
     ensures least { IfSome result (λ count. IsLeast pairs (count / 8 * 7)) }
@@ -34,7 +35,8 @@ pub(super) fn cells_for(pairs: usize) -> Option<usize>
     Some(count)
 }
 
-// The home of a hash: its lowest bits, since the number of cells is a power of two. So no division is made.
+// Returns the home bucket of a hash, its home: the lowest bits, since the number of cells is a power of two. So no
+// division is needed.
 pub(super) fn home_of(hash: u64, count: usize) -> usize
     requires size { IsSize count }
     requires some { 0 < count }
@@ -43,7 +45,7 @@ pub(super) fn home_of(hash: u64, count: usize) -> usize
     (hash & (count as u64 - 1)) as usize
 }
 
-// The first empty cell from this one on.
+// Returns the first empty cell from this one on.
 #[inline(always)]
 pub(super) fn first_empty_from(cells: &Cells, from: usize, meter: &mut Meter) -> usize
     requires table { IsTable cells.now }
@@ -59,7 +61,7 @@ pub(super) fn first_empty_from(cells: &Cells, from: usize, meter: &mut Meter) ->
     at
 }
 
-// The first empty cell from the home of a hash on.
+// Returns the first empty cell from the home of a hash on.
 pub(super) fn first_empty(cells: &Cells, hash: u64, meter: &mut Meter) -> usize
     requires table { IsTable cells.now }
     requires some { 0 < length cells.now }
@@ -71,7 +73,7 @@ pub(super) fn first_empty(cells: &Cells, hash: u64, meter: &mut Meter) -> usize
     first_empty_from(cells, home_of(hash, cells.len()), meter)
 }
 
-// How many steps lead from one place to another.
+// Returns how many steps lead from one place to another, going round.
 pub(super) fn steps(from: usize, to: usize, count: usize) -> usize
     requires size { IsSize count }
     requires from { from < count }
@@ -81,7 +83,7 @@ pub(super) fn steps(from: usize, to: usize, count: usize) -> usize
     to.wrapping_sub(from) & (count - 1)
 }
 
-// The cell of a pair that is there.
+// Returns the cell of a pair that the table has.
 pub(super) fn seek(cells: &Cells, hash: u64, index: ItemIndex, meter: &mut Meter) -> usize
     requires table { IsTable cells.now }
     requires there { Contains (pairs_in cells.now) (hash, index) }
@@ -97,11 +99,11 @@ pub(super) fn seek(cells: &Cells, hash: u64, index: ItemIndex, meter: &mut Meter
     at
 }
 
-// Empties a cell, and moves what stands behind it up.
+// Empties a cell by backward-shift deletion: pairs behind the hole move into it.
 //
-// Each pair that is looked at is written into the hole. It counts there only if the hole then moves to where the pair
-// stood: what the hole holds doesn't count, and the cell that is the hole in the end is emptied. So no branch depends
-// on whether a pair moves.
+// Each pair that is probed is written into the hole. The write counts only if the hole then moves to the cell of that
+// pair. Otherwise another pair is written over it, or the cell is emptied at the end, as the last hole. So no branch
+// depends on whether a pair moves.
 pub(super) fn close_up(cells: &mut Cells, hash: u64, emptied: usize, meter: &mut Meter)
     requires table { IsTable cells.old }
     requires pair { cell cells.old emptied ≢ None }
@@ -115,7 +117,7 @@ pub(super) fn close_up(cells: &mut Cells, hash: u64, emptied: usize, meter: &mut
 {
     let count = cells.len();
     let mut hole = emptied;
-    // How many steps lead from the hole to the cell that is looked at.
+    // The number of steps from the hole to the cell that is probed.
     let mut far = 1usize;
     let mut at = after(emptied, count);
     while let Some(pair) = cells.cell_at(at, meter) {

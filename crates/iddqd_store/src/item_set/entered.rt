@@ -1,4 +1,4 @@
-//! What went into a map of a list, so that it can be taken out again.
+//! A record of the items that a batch has inserted, so that they can be removed again.
 ghost use Rattle.std.specs.Prelude.{◌≡◌, ◌+◌, ◌<◌, ◌≤◌, ◌++◌, [], ◌∷◌, length, vec_capacity, OnOk};
 
 use super::ItemIndex;
@@ -6,12 +6,12 @@ use crate::error::TryReserveError;
 use std::alloc::Global;
 use std::marker::Model;
 
-/// The slots of the items of a list that went into a map, in the order of the list, and room for these items should
-/// they have to come out again.
+/// The slots of the items that a batch has inserted into a map, in the order of the batch, and the capacity that
+/// these items need if they are removed again.
 #[derive(Drop)]
 pub struct Entered<T> {
     slots: Vec<ItemIndex>,
-    // Empty, with the room that the items need once they come out.
+    // It is empty, and has the capacity for the items that are removed again.
     items: Vec<T>,
 }
 
@@ -29,7 +29,7 @@ impl<T> Model for Entered<T> {
 }
 
 impl<T> Entered<T> {
-    /// Nothing went in yet. It takes no memory.
+    /// Makes an empty record. It allocates nothing.
     pub(crate) fn new(alloc: Global) -> Self
         ensures { result.slots ≡ [] }
     {
@@ -39,7 +39,7 @@ impl<T> Entered<T> {
         }
     }
 
-    /// Makes room to note one more.
+    /// Reserves spare capacity for one more item. It fails if the memory cannot be allocated.
     pub fn reserve_one(&mut self) -> Result<(), TryReserveError>
         ensures slots { self.new.slots ≡ self.old.slots }
         ensures room { OnOk result (length self.new.slots < self.new.room) }
@@ -49,7 +49,7 @@ impl<T> Entered<T> {
         Ok(())
     }
 
-    /// Notes the slot of an item that went in.
+    /// Appends the slot of an item that was inserted.
     pub fn push(&mut self, ix: ItemIndex)
         requires { length self.old.slots < self.old.room }
         ensures { self.new.slots ≡ self.old.slots ++ ix ∷ [] }
@@ -57,7 +57,7 @@ impl<T> Entered<T> {
         self.slots.push_reserved(ix);
     }
 
-    /// The slots, and room for as many items.
+    /// Returns the slots, and an empty list with the capacity for their items.
     pub fn into_parts(self) -> (Vec<ItemIndex>, Vec<T>)
         ensures slots { result.0.items ≡ self.slots }
         ensures empty { result.1.items ≡ [] }

@@ -1,4 +1,4 @@
-//! Searches by one rank.
+//! Searches for an item by one rank.
 ghost use Rattle.std.specs.Prelude.{◌≡◌, ◌*◌, ◌/◌, option_copied, IfErr, IfOk, IfSome};
 ghost use Rattle.std.specs.List.{list_any};
 ghost use Rattle.std.specs.Option.{option_and_then};
@@ -18,7 +18,7 @@ use crate::query::Query;
 use std::hash::{BuildHasher, Hash};
 use std::marker::{Model, PhantomData};
 
-/// The slots of a map, lent with the table of one rank: what a search by that rank reads.
+/// The slots of a map and the table of one rank, borrowed: what a search by that rank reads.
 #[derive(Drop)]
 pub struct Lookup<'a, T, R: KeyOf<T>, S: BuildHasher> {
     items: &'a ItemSet<T>,
@@ -47,7 +47,8 @@ impl<'a, T, R: KeyOf<T>, S: BuildHasher> Model for Lookup<'a, T, R, S> {
 }
 
 impl<'a, T, R: KeyOf<T>, S: BuildHasher> Lookup<'a, T, R, S> {
-    /// The slots, a table that indexes them by the keys of the rank, and what makes the hashes.
+    /// Makes a lookup of the slots, of a table that indexes them by the keys of the rank, and of the builder of the
+    /// hashers.
     pub fn new(items: &'a ItemSet<T>, table: &'a IndexTable, hash_builder: &'a S) -> Self
         requires { IsSearchable (agree R.key R.Key.eq) (⟦<R as HashedKey<T, S>>⟧.hash hash_builder.now)
             items.now.slots table.now.pairs }
@@ -61,7 +62,8 @@ impl<'a, T, R: KeyOf<T>, S: BuildHasher> Lookup<'a, T, R, S> {
         }
     }
 
-    /// The item whose key the query stands for.
+    /// Returns the item whose key the query stands for, or `None`. It hashes the query once, and compares it only
+    /// with keys that have the same hash.
     pub fn get<Q: Query<R::Key>>(&self, query: Q) -> Option<&'a T>
         ensures { IsOnly (λ x. Q.stands_for query (R.key x)) (bag self.now) (option_copied result) }
     {
@@ -69,7 +71,7 @@ impl<'a, T, R: KeyOf<T>, S: BuildHasher> Lookup<'a, T, R, S> {
         self.items.get(ix)
     }
 
-    /// The slot of the item whose key the query stands for.
+    /// Returns the slot of the item whose key the query stands for, or `None`.
     pub fn slot_of<Q: Query<R::Key>>(&self, query: Q) -> Option<ItemIndex>
         ensures { FoundAt (λ x. Q.stands_for query (R.key x)) self.now.slots result }
     {
@@ -77,14 +79,15 @@ impl<'a, T, R: KeyOf<T>, S: BuildHasher> Lookup<'a, T, R, S> {
         self.slot(hash, query)
     }
 
-    /// Whether there is such an item.
+    /// Returns whether there is an item whose key the query stands for.
     pub fn contains_key<Q: Query<R::Key>>(&self, query: Q) -> bool
         ensures { result ≡ list_any (λ x. Q.stands_for query (R.key x)) (bag self.now) }
     {
         self.get(query).is_some()
     }
 
-    /// The item whose key the matcher accepts.
+    /// Returns the item whose key the matcher accepts, or `None`. All keys that it accepts have to be equal, and to
+    /// have this hash. It is asked only about keys that have this hash.
     pub fn find_with<M: KeyMatcher<R::Key>>(
         &self,
         hash: u64,
@@ -104,7 +107,7 @@ impl<'a, T, R: KeyOf<T>, S: BuildHasher> Lookup<'a, T, R, S> {
         }
     }
 
-    /// The slot of the item whose key the query stands for, where this is the query's hash.
+    /// Returns the slot of the item whose key the query stands for, or `None`. The hash has to be that of the query.
     pub fn slot<Q: Query<R::Key>>(&self, hash: u64, query: Q) -> Option<ItemIndex>
         requires { hash ≡ hash_of S.BuildHasher S.Hasher.Hasher self.now.builder (Q.hash_input query) }
         ensures found { IsOnly (λ x. Q.stands_for query (R.key x)) (bag self.now)
@@ -119,8 +122,8 @@ impl<'a, T, R: KeyOf<T>, S: BuildHasher> Lookup<'a, T, R, S> {
         }
     }
 
-    /// The slot of the item whose key the query stands for, or where there is none the empty cell for a pair under this
-    /// hash, which is the query's.
+    /// Returns the slot of the item whose key the query stands for. If there is none, returns the empty cell for a
+    /// pair with this hash, which has to be that of the query.
     #[inline(always)]
     pub fn search<Q: Query<R::Key>>(&self, hash: u64, query: Q) -> Result<ItemIndex, Vacancy>
         requires { hash ≡ hash_of S.BuildHasher S.Hasher.Hasher self.now.builder (Q.hash_input query) }
@@ -134,8 +137,8 @@ impl<'a, T, R: KeyOf<T>, S: BuildHasher> Lookup<'a, T, R, S> {
         self.search_with(hash, &mut ByQuery::new(&query), &mut Meter::new())
     }
 
-    /// The slot of the item whose key the matcher accepts, or where there is none the empty cell for a pair under the
-    /// hash: the one search.
+    /// Returns the slot of the item whose key the matcher accepts. If there is none, returns the empty cell for a
+    /// pair with this hash. All other searches of a rank call this one.
     #[inline(always)]
     pub fn search_with<M: KeyMatcher<R::Key>>(
         &self,

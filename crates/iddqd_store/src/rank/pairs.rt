@@ -1,5 +1,5 @@
-//! The pairs in the table of a rank: of all items, of an item that leaves, or of one that another is put over. Each stands
-//! under the hash of its item's key, which is known where a search found the item.
+//! The pairs in the table of a rank: those of all items, that of an item that leaves, and that of an item that
+//! another one replaces. A pair has the hash of its item's key, which is known if a search found the item.
 ghost use Rattle.std.specs.Prelude.{◌≡◌, ◌<◌, ◌≤◌, [], ◌∷◌, length, Contains, IfSome};
 ghost use Rattle.std.specs.List.Sorted.{IsPermutation};
 ghost use Rattle.iddqd_store.specs.Rank.Index.{IsIndex};
@@ -12,8 +12,8 @@ use crate::item_set::{ItemIndex, ItemSet};
 use std::hash::{BuildHasher, Hash};
 
 impl<T> ItemSet<T> {
-    /// Puts the pair of each live slot, of the hash of its item's key and its number, into a table that has room for
-    /// them. It takes no memory, and compares no key.
+    /// Inserts the pair of each live slot into an empty table: the hash of its item's key, and its number. The table
+    /// has to have the capacity for them, so this allocates nothing. It hashes each key once, and compares none.
     pub fn fill<R: KeyOf<T>, S: BuildHasher>(&self, table: &mut IndexTable, hash_builder: &S)
         requires empty { table.old.pairs ≡ [] }
         requires room { live_count self.now.slots ≤ table.old.limit }
@@ -32,7 +32,7 @@ impl<T> ItemSet<T> {
     }
 }
 
-/// The hash of an item's key of the rank, which is hashed only where its hash isn't known.
+/// Returns the hash of an item's key of the rank. It hashes the key only if the hash is not known.
 fn hash_of_key<T, R: KeyOf<T>, S: BuildHasher>(
     hash_builder: &S,
     item: &T,
@@ -48,7 +48,7 @@ fn hash_of_key<T, R: KeyOf<T>, S: BuildHasher>(
 }
 
 impl IndexTable {
-    /// Takes out the pair of an item that stood in this slot. Its key is hashed only where the hash isn't known.
+    /// Removes the pair of an item that was in this slot. It hashes the item's key only if the hash is not known.
     pub fn forget<T, R: KeyOf<T>, S: BuildHasher>(
         &mut self,
         hash_builder: &S,
@@ -68,8 +68,8 @@ impl IndexTable {
         self.remove(hash, ix, &mut Meter::new());
     }
 
-    /// Puts a slot under another hash than that of the item that stood there, whose key is hashed only where its hash
-    /// isn't known. Where both are equal nothing is done.
+    /// Moves a slot from the hash of the item that was there to another hash. It hashes the key of that item only if
+    /// its hash is not known. If both hashes are equal it does nothing.
     pub fn rehash<T, R: KeyOf<T>, S: BuildHasher>(
         &mut self,
         hash_builder: &S,

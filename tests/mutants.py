@@ -1,0 +1,182 @@
+"""Which edits of must-fail/ turn which functions: the lists `mutants CRATE ..` of tests/lists, whose head says what they are."""
+import fnmatch
+import glob
+import os
+import re
+import types
+
+import widen
+
+MAPS = ("BiHashMap", "TriHashMap")
+# The lines of turns.md on functions that no edit turns, or that go by others too.
+SAYS = re.compile(r"(goes by|like|no edit): (.*)")
+
+
+def read(path):
+    with open(path, encoding="utf-8") as file:
+        return file.read()
+
+
+def edit_lines(crate):
+    """The lines `EDIT: PATH ..` of a crate's turns.md: each edit with the functions that it turns, in the order of the file."""
+    path = f"crates/{crate}/must-fail/turns.md"
+    lines = read(path).splitlines() if os.path.isfile(path) else []
+    return [(name, paths.split()) for name, _, paths in (it.partition(": ") for it in lines if not SAYS.match(it))]
+
+
+def renamed(crate, text):
+    """The text as the second of the maps has it, where it is of the first."""
+    return widen.renamed(text) if crate == "iddqd_bi" else text
+
+
+def impl_of(line):
+    """The type and the trait of an impl, by its first line; the trait is empty where it has none."""
+    rest, depth = line[len("impl"):], 0
+    for at, letter in enumerate(rest if rest.startswith("<") else ""):
+        depth += (letter == "<") - (letter == ">" and rest[at - 1] != "-")
+        if not depth:
+            rest = rest[at + 1:]
+            break
+    trait, _, of = rest.strip(" {").rpartition(" for ")
+    of = re.sub(r"'\w+ ", "", of)
+    if of[0] not in "&(":
+        of = re.match(r"(?:\w+::)*(\w+)", of)[1]
+    return of.partition("<")[0].replace(" ", ""), re.sub(r"<.*", "", trait.strip())
+
+
+def checked_name(of, trait):
+    """How a check names the impl of a trait."""
+    if trait == "Drop":
+        return of
+    lent = re.match(r"&(mut)?(.*)", of)
+    if lent:
+        of = "Ref" + {"str": "Str", "[T]": "Slice"}.get(lent[2], lent[2] if len(lent[2]) > 1 else "")
+    return {"(P,Q)": "Tuple2", "K": "Any"}.get(of, of) + trait
+
+
+def functions(crate):
+    """Yields the functions of a crate: those of its types, its impls of traits, and those that belong to no type. What a trait
+    only asks for has no body, and is left out."""
+    for path in sorted(glob.glob(f"crates/{crate}/src/**/*.rt", recursive=True)):
+        module, of, trait = os.path.relpath(path, f"crates/{crate}/src")[:-len(".rt")].replace("/", "::"), "", ""
+        asks, last = False, None
+        for line in renamed(crate, read(path)).split("\n"):
+            if line.startswith("impl"):
+                of, trait = impl_of(line)
+            asks = line.startswith("pub trait ") or asks and line != "}"
+            found = re.match(r"( *)(pub )?(?:pub\(\w+\) )?(?:const )?fn (\w+)", line)
+            if found and not asks:
+                inner = (of, trait) if found[1] else ("", "")
+                owner = inner[0] or module
+                key = found[3] if owner in MAPS else f"{owner}::{found[3]}"
+                paths = f"{module}::{checked_name(*inner)}" if inner[1] and inner[1] != "Drop" else owner
+                last = Function(
+                    crate=crate, file=module.replace("::", "/"), key=key, full=f"{module}::{key}" if inner[0] else key,
+                    owner=paths, name=found[3], is_public=bool(found[2] or inner[1]), edits=[], by=[], like=[], why=None, calls=set())
+                yield last
+            elif last:
+                last.calls.update(re.findall(r"\b(\w+)(?:::<[^()]*>)?\(", line))
+            if line == "}":
+                of, trait = "", ""
+
+
+class Function(types.SimpleNamespace):
+    """A function of the sources, with what turns.md says of it. No other one is equal to it."""
+
+    __eq__, __hash__ = object.__eq__, object.__hash__
+
+
+def is_named(function, path):
+    """Whether a path of turns.md names this function, as a check names it."""
+    owner, _, name = path.rpartition("::")
+    owner = re.sub(r"\+.*", "", owner)
+    return name == function.name and (owner == function.owner or owner.endswith(f"::{function.owner}"))
+
+
+class Mutants:
+    """The functions of all crates that have a list, with what turns.md says of each."""
+
+    def __init__(self, lists):
+        self.faults, self.functions = [], {}
+        for crates in lists:
+            found = {}
+            for crate in crates:
+                for it in list(functions(crate)):
+                    found.setdefault((it.file, it.full, it.owner), it).calls.update(it.calls)
+            self.functions[crates] = list(found.values())
+        for crates in lists:
+            for crate in crates:
+                self.take_edits(crates, crate)
+                self.take_lines(crates, crate)
+        for crates in lists:
+            self.look(crates)
+
+    def take_edits(self, crates, crate):
+        for edit, paths in edit_lines(crate):
+            for path in paths:
+                turned = [it for it in self.functions[crates] if is_named(it, renamed(crate, path))]
+                for it in turned:
+                    it.edits.append((crate, edit))
+                if not turned:
+                    self.faults.append(f"crates/{crate}/must-fail/turns.md: {edit} turns {path}, which is not there")
+
+    def named(self, crates, crate, words):
+        """The functions that these words of a line name, each by its name or by a pattern."""
+        for word in words.split():
+            other, _, name = word.rpartition("/")
+            of = next((it for it in self.functions if f"iddqd_{other}" in it), crates)
+            name = renamed(crate, name)
+            found = [it for it in self.functions[of] if fnmatch.fnmatchcase(it.key, name) or fnmatch.fnmatchcase(it.full, name)]
+            if not found:
+                self.faults.append(f"crates/{crate}/must-fail/turns.md: there is no function {word}")
+            yield from found
+
+    def take_lines(self, crates, crate):
+        """Takes the lines that say by which functions others go, or why none can be turned."""
+        where = f"crates/{crate}/must-fail/turns.md"
+        for kind, text in (it.groups() for it in map(SAYS.match, read(where).splitlines()) if it):
+            words, _, rest = text.partition(": " if kind == "no edit" else " -> ")
+            others = [] if kind == "no edit" else list(self.named(crates, crate, rest))
+            for it in self.named(crates, crate, words):
+                for other in others:
+                    if kind == "goes by" and other.name not in it.calls:
+                        self.faults.append(f"{where}: {it.full} goes by {other.full}, which it does not call")
+                    (it.by if kind == "goes by" else it.like).append(other)
+                it.why = rest if kind == "no edit" else it.why
+
+    def has_edit(self, function, seen=()):
+        """Whether an edit turns this function or one by which it goes."""
+        others = (it for it in function.by + function.like if it not in seen)
+        return bool(function.edits) or any(self.has_edit(it, (*seen, function)) for it in others)
+
+    def look(self, crates):
+        for it in (it for it in self.functions[crates] if it.is_public):
+            if self.has_edit(it) == bool(it.why):
+                but = "and turns.md says why none does" if it.why else "and no line of turns.md says by which it goes, or why none does"
+                self.faults.append(f"{it.crate}: {'an' if it.why else 'no'} edit turns {it.full}, {but}")
+
+    def table(self, crates):
+        """The lines of the list of these crates: what turns each function, and behind that why some have no edit."""
+        lines, before, reasons = ["| File | Function | What turns it |", "|---|---|---|"], None, {}
+        used = {other.key for it in self.functions[crates] for other in it.by + it.like}
+        for it in self.functions[crates]:
+            if it.why and it.is_public:
+                reasons.setdefault(it.why, {})[f"`{it.key}`"] = None
+            elif it.is_public or it.edits or it.key in used:
+                file = f"`{it.file}`" if it.file != before else ""
+                lines.append(f"| {file} | `{it.key}` | {'; '.join(said_of(it))} |")
+                before = it.file
+        lines += ["", "| Functions without an edit | Why |", "|---|---|"]
+        return lines + [f"| {', '.join(keys)} | {why} |" for why, keys in reasons.items()]
+
+
+def said_of(function):
+    """What the table says of a function: the edits that turn it, each with the crates that have it, and the functions by which it goes."""
+    edits = {}
+    for crate, edit in function.edits:
+        edits.setdefault(edit, []).append(f"[{crate.removeprefix('iddqd_')}](../crates/{crate}/must-fail/{edit}.edit)")
+    said = [f"`{edit}` ({', '.join(links)})" for edit, links in edits.items()]
+    for word, others in (("calls", function.by), ("is like", function.like)):
+        names = ", ".join(dict.fromkeys(f"`{other.key}`" for other in others))
+        said += [f"{word} {names}"] if names else []
+    return said
