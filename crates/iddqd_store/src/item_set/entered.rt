@@ -39,16 +39,6 @@ impl<T> Entered<T> {
         }
     }
 
-    /// Reserves spare capacity for one more item. It fails if the memory cannot be allocated.
-    pub fn reserve_one(&mut self) -> Result<(), TryReserveError>
-        ensures slots { self.new.slots ≡ self.old.slots }
-        ensures room { OnOk result (length self.new.slots < self.new.room) }
-    {
-        self.slots.reserve(1)?;
-        self.items.reserve(self.slots.len() + 1)?;
-        Ok(())
-    }
-
     /// Appends the slot of an item that was inserted.
     pub fn push(&mut self, ix: ItemIndex)
         requires { length self.old.slots < self.old.room }
@@ -65,5 +55,37 @@ impl<T> Entered<T> {
     {
         let Entered { slots, items } = self;
         (slots, items)
+    }
+}
+
+impl<T: Drop> Entered<T> {
+    /// Reserves spare capacity for one more item. It fails if the memory cannot be allocated.
+    #[inline(always)]
+    pub fn reserve_one(&mut self) -> Result<(), TryReserveError>
+        ensures slots { self.new.slots ≡ self.old.slots }
+        ensures room { OnOk result (length self.new.slots < self.new.room) }
+    {
+        let noted = self.slots.len();
+        if noted < self.slots.capacity() && noted < self.items.capacity() {
+            return Ok(());
+        }
+        self.grow()
+    }
+
+    // Allocates more capacity for the slots or for their items. The vector of the items is made anew, since growing it
+    // would copy memory that holds nothing.
+    #[cold]
+    #[inline(never)]
+    fn grow(&mut self) -> Result<(), TryReserveError>
+        ensures slots { self.new.slots ≡ self.old.slots }
+        ensures room { OnOk result (length self.new.slots < self.new.room) }
+    {
+        self.slots.reserve(1)?;
+        if self.items.capacity() <= self.slots.len() {
+            let mut items = Vec::new(*self.slots.allocator());
+            items.reserve(self.slots.capacity())?;
+            self.items = items;
+        }
+        Ok(())
     }
 }

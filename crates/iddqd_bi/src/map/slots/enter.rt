@@ -20,6 +20,8 @@ impl<T: BiHashItem, S: BuildHasher> BiHashMap<T, S> {
         item: T,
         entered: &mut Entered<T>,
     ) -> Result<(), (T, ExtendUniqueReason)>
+    where
+        T: Drop,
         ensures gains { OnOk result (Gains self.old item self.new) }
         ensures free { OnOk result (clash ⟦<T as Ranked>⟧.ranks (bag self.old) item ≡ []) }
         ensures noted { OnOk result ((xs : List T) → StandAt self.old.slots entered.old.slots xs

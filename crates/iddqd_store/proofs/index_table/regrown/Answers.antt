@@ -1,7 +1,7 @@
-use Rattle.std.proofs.Common.{arith, ℕ, ◌≡◌, ◌+◌, ◌%◌, ◌<◌, List, Option, length, set, replicate, None, Some, sym, ◌∙◌, subst}
+use Rattle.std.proofs.Common.{arith, ℕ, ◌≡◌, ◌+◌, ◌%◌, ◌<◌, length, set, None, sym, ◌∙◌, subst}
 use Rattle.std.proofs.lemmas.List.Sorted.{length_permutation}
 use Rattle.std.proofs.lemmas.List.{length-set, length-replicate}
-use Rattle.iddqd_store.specs.Table.{IsTable, IsFirstEmpty}
+use Rattle.iddqd_store.specs.Table.{IsFirstEmpty}
 use Rattle.iddqd_store.specs.Table.Ring.{cell}
 use Rattle.iddqd_store.proofs.TableLemmas.Grow.{HasFront, front_none, front_full, front_empty, front_all}
 use Rattle.iddqd_store.proofs.index_table.regrown.Goals as goal

@@ -1,4 +1,4 @@
-use Rattle.std.proofs.Common.{arith, ℕ, ◌≡◌, ◌%◌, ◌<◌, length, ap, ◌∙◌, subst}
+use Rattle.std.proofs.Common.{arith, ℕ, ◌≡◌, ◌%◌, length, ap, subst}
 use Rattle.iddqd_store.specs.Table.Ring.{gap, pairs_in, stretch}
 use Rattle.iddqd_store.specs.Table.{hashes, IsFirstEmpty}
 use Rattle.iddqd_store.proofs.TableLemmas.Search.{walk_to, walk_end}
