@@ -4,7 +4,7 @@ ghost use Rattle.std.specs.List.Sorted.{IsNonDecreasingBy};
 ghost use Rattle.iddqd_bi.specs.Map.{bag};
 
 use iddqd_bi::{BiHashItem, BiHashMap};
-use std::alloc::Global;
+use std::alloc::{AllocError, Global};
 
 /// A runner, known by a start number and by the lane, and the time that the runner took.
 #[derive(Clone, Copy)]
