@@ -1,5 +1,5 @@
 //! Times loops over the maps of this repository beside the same loops over std hash maps kept by hand, in turn, in one
-//! process, with the same hasher.
+//! process, with the same hasher. As bench/beside builds it, the other side are the maps of the Rust crate iddqd.
 //!
 //!     bench [OPTION..] [ITEMS[,ITEMS..]] [WORD]
 //!
@@ -14,8 +14,12 @@
 //!     --svg FILE      writes a picture of five operations at eight sizes
 //!     --others        times text keys, items of 128 bytes and a random seed, with two keys, in place of the rest
 //!     --chosen        prints what keys of one home cost under the default builder and under a random seed
+#[cfg(feature = "beside")]
+mod beside;
 mod by_hand;
 mod chosen;
+#[cfg(feature = "beside")]
+mod crate_maps;
 mod loops;
 mod measure;
 mod operations;
@@ -24,8 +28,19 @@ mod picture;
 mod report;
 mod workload;
 
+#[cfg(feature = "beside")]
+use beside::{three_keys, two_keys};
 use measure::Plan;
 use operations::Operation;
+#[cfg(not(feature = "beside"))]
+use operations::{three_keys, two_keys};
+
+/// What the other side is called in the heads of tables: the Rust crate iddqd, if bench/beside builds the program.
+const OTHER: &str = if cfg!(feature = "beside") {
+    "crate"
+} else {
+    "std"
+};
 
 /// What is wanted.
 struct Wanted {
@@ -65,6 +80,7 @@ fn wanted(mut words: impl Iterator<Item = String>) -> Wanted {
         rounds: 5,
         turns: 20,
         compares: true,
+        other: OTHER,
     };
     let mut wanted = Wanted {
         plan,
@@ -161,6 +177,6 @@ fn main() {
         wanted.print(others::operations());
         return;
     }
-    wanted.print(operations::two_keys());
-    wanted.print(operations::three_keys());
+    wanted.print(two_keys());
+    wanted.print(three_keys());
 }

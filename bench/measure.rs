@@ -10,8 +10,10 @@ pub struct Plan {
     pub rounds: usize,
     /// Of how many turns the least time is taken in a round, at up to 10,000 items.
     pub turns: usize,
-    /// Whether the maps kept by hand are timed too.
+    /// Whether the maps of the other side are timed too.
     pub compares: bool,
+    /// What the other side is called.
+    pub other: &'static str,
 }
 
 impl Plan {

@@ -50,7 +50,9 @@ pub fn print_text<const N: usize>(operations: &[Operation<N>], sizes: &[usize], 
         let title = format!("{}, {} items", map_name(N), grouped(*items));
         println!(
             "{title:<36}{:>9}{:>9}{:>8}  spread",
-            "std ns", "here ns", "ratio"
+            format!("{} ns", plan.other),
+            "here ns",
+            "ratio"
         );
         for (operation, figures) in operations.iter().zip(&figures) {
             let figures = &figures[at];
@@ -82,7 +84,10 @@ pub fn print_table<const N: usize>(operations: &[Operation<N>], sizes: &[usize],
     let figures = measure(operations, sizes, plan);
     let heads = sizes.iter().flat_map(|items| {
         let items = grouped(*items);
-        [format!("{items}: std, here"), "ratio (spread)".to_string()]
+        [
+            format!("{items}: {}, here", plan.other),
+            "ratio (spread)".to_string(),
+        ]
     });
     print_head(format!("`{}`", map_name(N)), heads.collect());
     for (operation, figures) in operations.iter().zip(&figures) {
