@@ -321,30 +321,30 @@ fn loops<const N: usize, M: Map<N>>() -> Vec<Named<N>> {
     vec![
         ("insert without room", insert::<N, M>),
         ("insert with room", insert_with_room::<N, M>),
-        ("insert that is refused", insert_refused::<N, M>),
-        ("look-up that hits", get::<N, M>),
-        ("look-up that misses", get::<N, M>),
-        ("look-up that waits for the last", get_in_turn::<N, M>),
-        ("look-up and a write", get_mut::<N, M>),
+        ("insert, refused", insert_refused::<N, M>),
+        ("look-up, hit", get::<N, M>),
+        ("look-up, miss", get::<N, M>),
+        ("look-up, waits for the last", get_in_turn::<N, M>),
+        ("look-up and write", get_mut::<N, M>),
         ("removal", remove::<N, M>),
-        ("a removal and an insert", remove_insert::<N, M>),
-        ("overwrite, one item a key goes", overwrite::<N, M>),
-        ("overwrite, the same keys", overwrite_same::<N, M>),
+        ("removal and insert", remove_insert::<N, M>),
+        ("overwrite, one a key", overwrite::<N, M>),
+        ("overwrite, same keys", overwrite_same::<N, M>),
         ("iter", iter::<N, M>),
-        ("for over a lent map", for_lent::<N, M>),
-        ("for over a map by value", for_owned::<N, M>),
-        ("iter_mut, with len at each step", iter_mut::<N, M>),
+        ("for, lent map", for_lent::<N, M>),
+        ("for, by value", for_owned::<N, M>),
+        ("iter_mut with len", iter_mut::<N, M>),
         ("retain half", retain::<N, M>),
         ("clone", clone::<N, M>),
         ("clear", clear::<N, M>),
         ("equality", equal::<N, M>),
-        ("shrink_to_fit after half went", shrink::<N, M>),
-        ("reserve of a full map", reserve::<N, M>),
+        ("shrink_to_fit, half went", shrink::<N, M>),
+        ("reserve, full map", reserve::<N, M>),
         ("extend", extend::<N, M>),
         ("from_iter", from_iter::<N, M>),
         ("from_iter_unique", from_iter_unique::<N, M>),
         ("extend_unique", extend_unique::<N, M>),
-        ("extend_unique, the last refused", extend_unique::<N, M>),
+        ("extend_unique, last refused", extend_unique::<N, M>),
     ]
 }
 
@@ -356,7 +356,7 @@ fn beside<const N: usize>(all: Vec<Operation<N>>, loops: Vec<Named<N>>) -> Vec<O
     }
     let with_loop = |operation: Operation<N>| {
         let Some((_, by_crate)) = loops.iter().find(|(name, _)| *name == operation.name) else {
-            println!(
+            eprintln!(
                 "Left out at {N} keys, the crate has none: {}",
                 operation.name
             );

@@ -9,7 +9,7 @@
 //!     --turns N       of how many turns the least time is taken in a round (20; fewer above 10,000 items)
 //!     --keys N        the map with 2 or with 3 keys alone
 //!     --without WORD  leaves out the operations whose name has the word
-//!     --table         prints tables for a page
+//!     --table         prints both maps' ratios in one table for a page
 //!     --growth        prints tables of this side alone, of the calls that go over all items
 //!     --svg FILE      writes a picture of five operations at eight sizes
 //!     --others        times text keys, items of 128 bytes and a random seed, with two keys, in place of the rest
@@ -34,6 +34,9 @@ use measure::Plan;
 use operations::Operation;
 #[cfg(not(feature = "beside"))]
 use operations::{three_keys, two_keys};
+
+/// The numbers of items: a table's load is 0.87, 0.49 and 0.76 there.
+const SIZES: [usize; 3] = [890, 1_000, 100_000];
 
 /// What the other side is called in the heads of tables: the Rust crate iddqd, if bench/beside builds the program.
 const OTHER: &str = if cfg!(feature = "beside") {
@@ -128,16 +131,23 @@ impl Wanted {
         self.sizes.clone().unwrap_or(default.to_vec())
     }
 
-    /// Measures the map with so many keys, and prints its figures.
-    fn print<const N: usize>(&self, operations: Vec<Operation<N>>) {
+    /// The operations that are wanted of those of the map with so many keys.
+    fn picked<const N: usize>(&self, operations: Vec<Operation<N>>) -> Vec<Operation<N>> {
         if self.keys.is_some_and(|keys| keys != N) {
-            return;
+            return Vec::new();
         }
         let all = operations.into_iter();
-        let picked: Vec<Operation<N>> = all
-            .filter(|operation| self.has(operation.name))
+        all.filter(|operation| self.has(operation.name))
             .filter(|operation| !self.growth || operation.goes_over_all)
-            .collect();
+            .collect()
+    }
+
+    /// Measures one map, and prints its figures.
+    fn print<const N: usize>(&self, operations: Vec<Operation<N>>) {
+        let picked = self.picked(operations);
+        if picked.is_empty() {
+            return;
+        }
         if self.growth {
             let sizes = self.sizes(&[1_000, 10_000, 100_000, 1_000_000]);
             let plan = Plan {
@@ -145,16 +155,32 @@ impl Wanted {
                 ..self.plan
             };
             report::print_growth(&picked, &sizes, plan);
-        } else if self.table {
-            report::print_table(&picked, &self.sizes(&[890, 1_000, 100_000]), self.plan);
         } else {
-            report::print_text(&picked, &self.sizes(&[890, 1_000, 100_000]), self.plan);
+            report::print_text(&picked, &self.sizes(&SIZES), self.plan);
         }
+    }
+
+    /// Measures both maps, and prints their figures side by side.
+    fn print_table(&self, two: Vec<Operation<2>>, three: Vec<Operation<3>>) {
+        let (two, three) = (self.picked(two), self.picked(three));
+        let sizes = self.sizes(&SIZES);
+        let mut maps = Vec::new();
+        if !two.is_empty() {
+            maps.push(report::measured(&two, &sizes, self.plan));
+        }
+        if !three.is_empty() {
+            maps.push(report::measured(&three, &sizes, self.plan));
+        }
+        report::print_table(&maps, &sizes, self.plan);
     }
 }
 
 fn main() {
     let wanted = wanted(std::env::args().skip(1));
+    assert!(
+        OTHER == "std" || !wanted.others && !wanted.chosen && wanted.picture.is_none(),
+        "--others, --chosen and --svg are options of bench/run alone"
+    );
     for key in 0..100 {
         assert_eq!(
             by_hand::hash(key),
@@ -173,10 +199,15 @@ fn main() {
         chosen::print();
         return;
     }
-    if wanted.others {
-        wanted.print(others::operations());
+    let (two, three) = if wanted.others {
+        (others::operations(), Vec::new())
+    } else {
+        (two_keys(), three_keys())
+    };
+    if wanted.table && !wanted.growth {
+        wanted.print_table(two, three);
         return;
     }
-    wanted.print(two_keys());
-    wanted.print(three_keys());
+    wanted.print(two);
+    wanted.print(three);
 }

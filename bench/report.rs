@@ -79,29 +79,92 @@ fn print_head(first: String, others: Vec<String>) {
     println!("|{}|", line.join("|"));
 }
 
-/// Both sides at each size, as a table of a page.
-pub fn print_table<const N: usize>(operations: &[Operation<N>], sizes: &[usize], plan: Plan) {
-    let figures = measure(operations, sizes, plan);
-    let heads = sizes.iter().flat_map(|items| {
-        let items = grouped(*items);
-        [
-            format!("{items}: {}, here", plan.other),
-            "ratio (spread)".to_string(),
-        ]
-    });
-    print_head(format!("`{}`", map_name(N)), heads.collect());
-    for (operation, figures) in operations.iter().zip(&figures) {
-        let cells = figures.iter().flat_map(|figures| {
-            let [by_hand, here] = [figures.by_hand(), figures.here()].map(nanoseconds);
-            let [ratio, spread] = ratio_of(figures);
-            [
-                format!("{by_hand}, {here}"),
-                format!("**{ratio}** ({spread})"),
-            ]
-        });
-        print_row([operation.name.to_string()].into_iter().chain(cells));
+/// The figures of one map, of each operation at each size.
+pub struct Map {
+    keys: usize,
+    rows: Vec<(&'static str, Vec<Figures>)>,
+}
+
+pub fn measured<const N: usize>(operations: &[Operation<N>], sizes: &[usize], plan: Plan) -> Map {
+    let names = operations.iter().map(|operation| operation.name);
+    Map {
+        keys: N,
+        rows: names.zip(measure(operations, sizes, plan)).collect(),
     }
-    println!();
+}
+
+/// The ratio for a table: marked where the rounds differ much.
+fn marked(figures: &Figures) -> String {
+    figures.ratio().map_or("?".to_string(), |ratio| {
+        let differs = ratio.highest > 1.5 * ratio.lowest;
+        format!("{}{:.2}", if differs { "~" } else { "" }, ratio.median)
+    })
+}
+
+impl Map {
+    /// The cells of an operation, or of one that this map does not have: a ratio at each size, and the time here at that
+    /// in the middle.
+    fn cells(&self, name: &str, sizes: &[usize]) -> String {
+        let row = self.rows.iter().find(|(other, _)| *other == name);
+        let mut cells = "  ".to_string();
+        for (at, items) in sizes.iter().enumerate() {
+            let figures = row.map(|(_, figures)| &figures[at]);
+            let ratio = figures.map_or("-".to_string(), marked);
+            cells += &format!("{ratio:>width$}", width = width(*items));
+            if at == sizes.len() / 2 {
+                let here = figures.map_or("-".to_string(), |it| nanoseconds(it.here()));
+                cells += &format!("{here:>7}");
+            }
+        }
+        cells
+    }
+}
+
+/// How wide the column of a size is.
+fn width(items: usize) -> usize {
+    (grouped(items).len() + 2).max(8)
+}
+
+/// The head of a map's columns.
+fn heads(sizes: &[usize]) -> String {
+    let mut heads = "  ".to_string();
+    for (at, items) in sizes.iter().enumerate() {
+        heads += &format!("{:>width$}", grouped(*items), width = width(*items));
+        if at == sizes.len() / 2 {
+            heads += &format!("{:>7}", "ns");
+        }
+    }
+    heads
+}
+
+/// The ratios of the maps side by side, as a page has them.
+pub fn print_table(maps: &[Map], sizes: &[usize], plan: Plan) {
+    // Each map has all operations but those that the other side lacks.
+    let longest = maps.iter().max_by_key(|map| map.rows.len());
+    let Some(Map { rows, .. }) = longest else {
+        return;
+    };
+    let wide = rows.iter().map(|(name, _)| name.len()).max();
+    let wide = wide.unwrap_or_default().max(28);
+    let middle = grouped(sizes[sizes.len() / 2]);
+    println!(
+        "`ns`: here, at {middle}. `~`: a round's ratio is over 1.5 times another's. `?`: lost in noise.\n\
+         `-`: the other side ({}) has no such call.\n\n```",
+        plan.other
+    );
+    let columns = heads(sizes);
+    let mut keys = " ".repeat(wide);
+    for map in maps {
+        let name = format!("   {} keys:", map.keys);
+        keys += &format!("{name:<width$}", width = columns.len());
+    }
+    println!("{}", keys.trim_end());
+    println!("{:wide$}{}", "", columns.repeat(maps.len()));
+    for (name, _) in rows {
+        let cells: String = maps.iter().map(|map| map.cells(name, sizes)).collect();
+        println!("{name:<wide$}{cells}");
+    }
+    println!("```\n");
 }
 
 /// This side alone at each size, as a table of a page.
