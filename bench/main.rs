@@ -45,6 +45,9 @@ const OTHER: &str = if cfg!(feature = "beside") {
     "std"
 };
 
+/// What makes the operations of a map.
+type Operations<const N: usize> = fn() -> Vec<Operation<N>>;
+
 /// What is wanted.
 struct Wanted {
     plan: Plan,
@@ -132,18 +135,18 @@ impl Wanted {
     }
 
     /// The operations that are wanted of those of the map with so many keys.
-    fn picked<const N: usize>(&self, operations: Vec<Operation<N>>) -> Vec<Operation<N>> {
+    fn picked<const N: usize>(&self, operations: Operations<N>) -> Vec<Operation<N>> {
         if self.keys.is_some_and(|keys| keys != N) {
             return Vec::new();
         }
-        let all = operations.into_iter();
+        let all = operations().into_iter();
         all.filter(|operation| self.has(operation.name))
             .filter(|operation| !self.growth || operation.goes_over_all)
             .collect()
     }
 
     /// Measures one map, and prints its figures.
-    fn print<const N: usize>(&self, operations: Vec<Operation<N>>) {
+    fn print<const N: usize>(&self, operations: Operations<N>) {
         let picked = self.picked(operations);
         if picked.is_empty() {
             return;
@@ -161,7 +164,7 @@ impl Wanted {
     }
 
     /// Measures both maps, and prints their figures side by side.
-    fn print_table(&self, two: Vec<Operation<2>>, three: Vec<Operation<3>>) {
+    fn print_table(&self, two: Operations<2>, three: Operations<3>) {
         let (two, three) = (self.picked(two), self.picked(three));
         let sizes = self.sizes(&SIZES);
         let mut maps = Vec::new();
@@ -199,10 +202,10 @@ fn main() {
         chosen::print();
         return;
     }
-    let (two, three) = if wanted.others {
-        (others::operations(), Vec::new())
+    let (two, three): (Operations<2>, Operations<3>) = if wanted.others {
+        (others::operations, Vec::new)
     } else {
-        (two_keys(), three_keys())
+        (two_keys, three_keys)
     };
     if wanted.table && !wanted.growth {
         wanted.print_table(two, three);

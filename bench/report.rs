@@ -148,10 +148,12 @@ pub fn print_table(maps: &[Map], sizes: &[usize], plan: Plan) {
     let wide = wide.unwrap_or_default().max(28);
     let middle = grouped(sizes[sizes.len() / 2]);
     println!(
-        "`ns`: here, at {middle}. `~`: a round's ratio is over 1.5 times another's. `?`: lost in noise.\n\
-         `-`: the other side ({}) has no such call.\n\n```",
-        plan.other
+        "`ns`: here, at {middle}. `~`: a round's ratio is over 1.5 times another's. `?`: lost in noise."
     );
+    if maps.iter().any(|map| map.rows.len() < rows.len()) {
+        println!("`-`: the other side ({}) has no such call.", plan.other);
+    }
+    println!("\n```");
     let columns = heads(sizes);
     let mut keys = " ".repeat(wide);
     for map in maps {
