@@ -1,5 +1,5 @@
 //! Times loops over the maps of this repository beside the same loops over std hash maps kept by hand, in turn, in
-//! one process, with the same hasher.
+//! one process, with the same hasher. Built by bench/beside, it has the maps of the Rust crate iddqd on the other side.
 //!
 //!     bench [OPTION..] [ITEMS[,ITEMS..]] [WORD]
 //!
@@ -10,13 +10,17 @@
 //!     --turns N       takes the least time of N turns in a round (20; fewer above 10,000 items)
 //!     --keys N        times only the map with 2 or with 3 keys
 //!     --without WORD  leaves out the operations whose name contains WORD
-//!     --table         prints tables for a page
+//!     --table         prints the ratios of both maps in one table for a page
 //!     --growth        prints tables of the maps here alone, of the calls that visit all items
 //!     --svg FILE      writes a picture of five operations at eight sizes
 //!     --others        times text keys, items of 128 bytes and a random seed, with two keys, and nothing else
 //!     --chosen        prints what keys with one home bucket cost under the default builder and a random seed
+#[cfg(feature = "beside")]
+mod beside;
 mod by_hand;
 mod chosen;
+#[cfg(feature = "beside")]
+mod crate_maps;
 mod loops;
 mod measure;
 mod operations;
@@ -25,8 +29,25 @@ mod picture;
 mod report;
 mod workload;
 
+#[cfg(feature = "beside")]
+use beside::{three_keys, two_keys};
 use measure::Plan;
 use operations::Operation;
+#[cfg(not(feature = "beside"))]
+use operations::{three_keys, two_keys};
+
+/// The numbers of items, at which the load of a table is 0.87, 0.49 and 0.76.
+const SIZES: [usize; 3] = [890, 1_000, 100_000];
+
+/// The name of the other side in the heads of tables. It is the Rust crate iddqd if bench/beside builds the program.
+const OTHER: &str = if cfg!(feature = "beside") {
+    "crate"
+} else {
+    "std"
+};
+
+/// What makes the operations of a map.
+type Operations<const N: usize> = fn() -> Vec<Operation<N>>;
 
 /// What the arguments ask for.
 struct Wanted {
@@ -66,6 +87,7 @@ fn wanted(mut words: impl Iterator<Item = String>) -> Wanted {
         rounds: 5,
         turns: 20,
         compares: true,
+        other: OTHER,
     };
     let mut wanted = Wanted {
         plan,
@@ -113,16 +135,23 @@ impl Wanted {
         self.sizes.clone().unwrap_or(default.to_vec())
     }
 
-    /// Measures the map with N keys, and prints its figures.
-    fn print<const N: usize>(&self, operations: Vec<Operation<N>>) {
+    /// Returns the operations of the map with N keys that the arguments ask for.
+    fn picked<const N: usize>(&self, operations: Operations<N>) -> Vec<Operation<N>> {
         if self.keys.is_some_and(|keys| keys != N) {
+            return Vec::new();
+        }
+        let all = operations().into_iter();
+        all.filter(|operation| self.has(operation.name))
+            .filter(|operation| !self.growth || operation.goes_over_all)
+            .collect()
+    }
+
+    /// Measures one map, and prints its figures.
+    fn print<const N: usize>(&self, operations: Operations<N>) {
+        let picked = self.picked(operations);
+        if picked.is_empty() {
             return;
         }
-        let all = operations.into_iter();
-        let picked: Vec<Operation<N>> = all
-            .filter(|operation| self.has(operation.name))
-            .filter(|operation| !self.growth || operation.goes_over_all)
-            .collect();
         if self.growth {
             let sizes = self.sizes(&[1_000, 10_000, 100_000, 1_000_000]);
             let plan = Plan {
@@ -130,16 +159,32 @@ impl Wanted {
                 ..self.plan
             };
             report::print_growth(&picked, &sizes, plan);
-        } else if self.table {
-            report::print_table(&picked, &self.sizes(&[890, 1_000, 100_000]), self.plan);
         } else {
-            report::print_text(&picked, &self.sizes(&[890, 1_000, 100_000]), self.plan);
+            report::print_text(&picked, &self.sizes(&SIZES), self.plan);
         }
+    }
+
+    /// Measures both maps, and prints their figures side by side.
+    fn print_table(&self, two: Operations<2>, three: Operations<3>) {
+        let (two, three) = (self.picked(two), self.picked(three));
+        let sizes = self.sizes(&SIZES);
+        let mut maps = Vec::new();
+        if !two.is_empty() {
+            maps.push(report::measured(&two, &sizes, self.plan));
+        }
+        if !three.is_empty() {
+            maps.push(report::measured(&three, &sizes, self.plan));
+        }
+        report::print_table(&maps, &sizes, self.plan);
     }
 }
 
 fn main() {
     let wanted = wanted(std::env::args().skip(1));
+    assert!(
+        OTHER == "std" || !wanted.others && !wanted.chosen && wanted.picture.is_none(),
+        "--others, --chosen and --svg are options of bench/run alone"
+    );
     for key in 0..100 {
         assert_eq!(
             by_hand::hash(key),
@@ -158,10 +203,15 @@ fn main() {
         chosen::print();
         return;
     }
-    if wanted.others {
-        wanted.print(others::operations());
+    let (two, three): (Operations<2>, Operations<3>) = if wanted.others {
+        (others::operations, Vec::new)
+    } else {
+        (two_keys, three_keys)
+    };
+    if wanted.table && !wanted.growth {
+        wanted.print_table(two, three);
         return;
     }
-    wanted.print(operations::two_keys());
-    wanted.print(operations::three_keys());
+    wanted.print(two);
+    wanted.print(three);
 }

@@ -10,8 +10,10 @@ pub struct Plan {
     pub rounds: usize,
     /// The number of turns in a round, of which the least time counts, for up to 10,000 items.
     pub turns: usize,
-    /// Whether the maps kept by hand are timed too.
+    /// Whether the maps of the other side are timed too.
     pub compares: bool,
+    /// What the other side is called.
+    pub other: &'static str,
 }
 
 impl Plan {

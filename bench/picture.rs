@@ -11,13 +11,10 @@ pub const SIZES: [usize; 8] = [100, 400, 1_600, 6_400, 25_600, 102_400, 409_600,
 /// The operations of the panels, and the title of each panel.
 const PANELS: [(&str, &str); 5] = [
     ("insert without room", "insert, growing"),
-    ("look-up that hits", "look-up that hits"),
-    ("look-up that misses", "look-up that misses"),
+    ("look-up, hit", "look-up that hits"),
+    ("look-up, miss", "look-up that misses"),
     ("removal", "removal"),
-    (
-        "overwrite, one item a key goes",
-        "overwrite, one item a key goes",
-    ),
+    ("overwrite, one a key", "overwrite, one item a key goes"),
 ];
 
 const HERE: &str = "#1d5fa6";

@@ -50,7 +50,9 @@ pub fn print_text<const N: usize>(operations: &[Operation<N>], sizes: &[usize], 
         let title = format!("{}, {} items", map_name(N), grouped(*items));
         println!(
             "{title:<36}{:>9}{:>9}{:>8}  spread",
-            "std ns", "here ns", "ratio"
+            format!("{} ns", plan.other),
+            "here ns",
+            "ratio"
         );
         for (operation, figures) in operations.iter().zip(&figures) {
             let figures = &figures[at];
@@ -77,26 +79,94 @@ fn print_head(first: String, others: Vec<String>) {
     println!("|{}|", line.join("|"));
 }
 
-/// Prints both sides at each size, as a table for a page.
-pub fn print_table<const N: usize>(operations: &[Operation<N>], sizes: &[usize], plan: Plan) {
-    let figures = measure(operations, sizes, plan);
-    let heads = sizes.iter().flat_map(|items| {
-        let items = grouped(*items);
-        [format!("{items}: std, here"), "ratio (spread)".to_string()]
-    });
-    print_head(format!("`{}`", map_name(N)), heads.collect());
-    for (operation, figures) in operations.iter().zip(&figures) {
-        let cells = figures.iter().flat_map(|figures| {
-            let [by_hand, here] = [figures.by_hand(), figures.here()].map(nanoseconds);
-            let [ratio, spread] = ratio_of(figures);
-            [
-                format!("{by_hand}, {here}"),
-                format!("**{ratio}** ({spread})"),
-            ]
-        });
-        print_row([operation.name.to_string()].into_iter().chain(cells));
+/// The figures of one map: of each operation at each size.
+pub struct Map {
+    keys: usize,
+    rows: Vec<(&'static str, Vec<Figures>)>,
+}
+
+pub fn measured<const N: usize>(operations: &[Operation<N>], sizes: &[usize], plan: Plan) -> Map {
+    let names = operations.iter().map(|operation| operation.name);
+    Map {
+        keys: N,
+        rows: names.zip(measure(operations, sizes, plan)).collect(),
     }
-    println!();
+}
+
+/// Returns the ratio for a table, with a mark if the rounds differ much.
+fn marked(figures: &Figures) -> String {
+    figures.ratio().map_or("?".to_string(), |ratio| {
+        let differs = ratio.highest > 1.5 * ratio.lowest;
+        format!("{}{:.2}", if differs { "~" } else { "" }, ratio.median)
+    })
+}
+
+impl Map {
+    /// Returns the cells of an operation: a ratio at each size, and the time here at the size in the middle. If the map
+    /// does not have the operation, there are dashes.
+    fn cells(&self, name: &str, sizes: &[usize]) -> String {
+        let row = self.rows.iter().find(|(other, _)| *other == name);
+        let mut cells = "  ".to_string();
+        for (at, items) in sizes.iter().enumerate() {
+            let figures = row.map(|(_, figures)| &figures[at]);
+            let ratio = figures.map_or("-".to_string(), marked);
+            cells += &format!("{ratio:>width$}", width = width(*items));
+            if at == sizes.len() / 2 {
+                let here = figures.map_or("-".to_string(), |it| nanoseconds(it.here()));
+                cells += &format!("{here:>7}");
+            }
+        }
+        cells
+    }
+}
+
+/// Returns the width of a size's column.
+fn width(items: usize) -> usize {
+    (grouped(items).len() + 2).max(8)
+}
+
+/// Returns the head of a map's columns.
+fn heads(sizes: &[usize]) -> String {
+    let mut heads = "  ".to_string();
+    for (at, items) in sizes.iter().enumerate() {
+        heads += &format!("{:>width$}", grouped(*items), width = width(*items));
+        if at == sizes.len() / 2 {
+            heads += &format!("{:>7}", "ns");
+        }
+    }
+    heads
+}
+
+/// Prints the ratios of the maps side by side, as a page has them.
+pub fn print_table(maps: &[Map], sizes: &[usize], plan: Plan) {
+    // Each map has all operations but those that the other side lacks.
+    let longest = maps.iter().max_by_key(|map| map.rows.len());
+    let Some(Map { rows, .. }) = longest else {
+        return;
+    };
+    let wide = rows.iter().map(|(name, _)| name.len()).max();
+    let wide = wide.unwrap_or_default().max(28);
+    let middle = grouped(sizes[sizes.len() / 2]);
+    println!(
+        "`ns`: here, at {middle}. `~`: a round's ratio is over 1.5 times another's. `?`: lost in noise."
+    );
+    if maps.iter().any(|map| map.rows.len() < rows.len()) {
+        println!("`-`: the other side ({}) has no such call.", plan.other);
+    }
+    println!("\n```");
+    let columns = heads(sizes);
+    let mut keys = " ".repeat(wide);
+    for map in maps {
+        let name = format!("   {} keys:", map.keys);
+        keys += &format!("{name:<width$}", width = columns.len());
+    }
+    println!("{}", keys.trim_end());
+    println!("{:wide$}{}", "", columns.repeat(maps.len()));
+    for (name, _) in rows {
+        let cells: String = maps.iter().map(|map| map.cells(name, sizes)).collect();
+        println!("{name:<wide$}{cells}");
+    }
+    println!("```\n");
 }
 
 /// Prints the maps here alone at each size, as a table for a page.
