@@ -1,12 +1,13 @@
 //! Pairs of a hash and a slot's index, found by the hash, in cells with open addressing and no marks of deleted pairs.
-ghost use Rattle.std.specs.Prelude.{◌≡◌, ◌≢◌, ◌+◌, ◌*◌, ◌/◌, ◌∷◌, ◌<◌, ◌≤◌, ◌&&◌, [], true, length, IsSome, IsOk, IsErr, ◌↔◌, IfOk, OnErr, IfErr, Contains};
+ghost use Rattle.std.specs.Prelude.{◌≡◌, ◌≢◌, ◌+◌, ◌*◌, ◌/◌, ◌%◌, ◌∷◌, ◌<◌, ◌≤◌, ◌&&◌, [], true, length, IsSome, IsOk, IsErr, ◌↔◌, IfOk, OnErr, IfErr};
 ghost use Rattle.std.specs.List.Sorted.{IsPermutation};
+ghost use Rattle.std.specs.Option.{option_map};
 ghost use Rattle.std.specs.Result.{result_ok};
-ghost use Rattle.iddqd_store.specs.Table.Ring.{cell, pairs_in, stretch, IsFull};
+ghost use Rattle.iddqd_store.specs.Table.Ring.{cell, gap, pairs_in, stretch, IsFull};
 ghost use Rattle.iddqd_store.specs.Table.Limit.{IsLeast, IsSize, most_room};
 ghost use Rattle.iddqd_store.specs.Table.Room.{GrowsFor, IsSized};
 ghost use Rattle.iddqd_store.specs.Table.Search.{CostsUnder, FindsUnder, IsVacantUnder};
-ghost use Rattle.iddqd_store.specs.Table.{hashes, IsFree, IsTable, Table, table_of};
+ghost use Rattle.iddqd_store.specs.Table.{hashes, IsCellOf, IsFree, IsTable, Table, table_of};
 
 use crate::TryReserveError;
 use crate::item_set::ItemIndex;
@@ -18,6 +19,7 @@ mod cells;
 mod matcher;
 mod meter;
 mod probe;
+mod removal;
 mod vacancy;
 
 pub use matcher::{KeyMatcher, Matcher};
@@ -232,6 +234,30 @@ impl IndexTable {
             meter.old meter.new }
         ensures sized { IsSized self.now }
     {
+        match self.find_cell(hash, matcher, meter) {
+            Ok(found) => Ok(found.0),
+            Err(spot) => Err(spot),
+        }
+    }
+
+    // The same, and where there is one its cell too: the one search.
+    #[inline(always)]
+    fn find_cell<M: Matcher>(
+        &self,
+        hash: u64,
+        matcher: &mut M,
+        meter: &mut Meter,
+    ) -> Result<(ItemIndex, usize), Vacancy>
+        ensures found { FindsUnder self.now hash (M.accepts matcher.old) (option_map (λ f. f.0) (result_ok result)) }
+        ensures cell { IfOk result (λ f. IsCellOf self.now.row (hash, f.0) f.1) }
+        ensures looks { IfOk result (λ f. meter.new
+            ≡ meter.old + gap (length self.now.row) (hash % length self.now.row) f.1 + 1) }
+        ensures vacant { IfErr result (IsVacantUnder self.now hash) }
+        ensures is_kept { M.IsKept matcher.old matcher.new }
+        ensures costs { CostsUnder self.now hash (result_ok result) (M.asked matcher.old) (M.asked matcher.new)
+            meter.old meter.new }
+        ensures sized { IsSized self.now }
+    {
         let count = self.cells.len();
         if count == 0 {
             return Err(Vacancy::unknown(hash));
@@ -240,7 +266,7 @@ impl IndexTable {
         while let Some(pair) = self.cells.cell_at(at, meter) {
             let (stored, ix) = pair;
             if stored == hash && matcher.matches(ix) {
-                return Ok(ix);
+                return Ok((ix, at));
             }
             at = probe::after(at, count);
         }
@@ -284,24 +310,6 @@ impl IndexTable {
         }
         self.cells.write(spot.at(), spot.hash(), ix);
         self.count += 1;
-    }
-
-    /// Takes a pair out. It takes no memory, and looks at the cells from the home of the hash on up to the first empty
-    /// one. No mark is left: each pair behind the hole moves into it, where the hole lies on the way from its home.
-    pub fn remove(&mut self, hash: u64, ix: ItemIndex, meter: &mut Meter)
-        requires { Contains self.old.pairs (hash, ix) }
-        ensures taken { IsPermutation self.old.pairs ((hash, ix) ∷ self.new.pairs) }
-        ensures cells { length self.new.row ≡ length self.old.row }
-        ensures limit { self.new.limit ≡ self.old.limit }
-        ensures room { length self.new.pairs < self.new.limit }
-        ensures looks { meter.new
-            ≡ meter.old + stretch (hashes self.old.pairs) (length self.old.row) hash + 1 }
-        ensures within { stretch (hashes self.old.pairs) (length self.old.row) hash
-            ≤ length self.old.pairs }
-    {
-        let at = probe::seek(&self.cells, hash, ix, meter);
-        probe::close_up(&mut self.cells, hash, at, meter);
-        self.count -= 1;
     }
 
     /// Takes all pairs out. The cells stay, and none is looked at.

@@ -17,6 +17,10 @@ module _ {T : Type 0} where
   abbrev pub HasHash : (T → ℕ) → List (Option T) → ℕ → ℕ → Type 0
   HasHash hash slots at h = (x : T) → get slots at ≡ Some x → hash x ≡ h
 
+  -- the pair of the item in the slot is gone
+  abbrev pub LosesPairAt : (T → ℕ) → List (Option T) → List (ℕ × ℕ) → List (ℕ × ℕ) → ℕ → Type 0
+  LosesPairAt hash slots old new at = (x : T) → get slots at ≡ Some x → IsPermutation old ((hash x, at) ∷ new)
+
 -- the pairs are those of the live slots
 pub record IsIndex {T : Type 0} (hash : T → ℕ) (slots : List (Option T)) (pairs : List (ℕ × ℕ)) : Type 0 where
   pub paired : IsPermutation pairs (map (pair_of hash) (members slots))
