@@ -36,8 +36,8 @@ pub use vacancy::Vacancy;
 /// are occupied is a function of the pairs' hashes and the number of cells (`cell_at`), whatever came before.
 ///
 /// A cell is looked at by one call alone, which ticks the meter that it is handed, and `clone` copies the cells whole.
-/// Here `try_reserve` alone makes a meter of its own. In other files `forget`, `rehash`, `fill`, `search` and the maps'
-/// `insert_at` do: no clause of theirs speaks of looks. The script `tests/forms` lists all that make one.
+/// Here `try_reserve` alone makes a meter of its own. In other files `forget`, `forget_by_key`, `rehash`, `fill`, `search`
+/// and the maps' `insert_at` do: no clause of theirs speaks of looks. The script `tests/forms` lists all that make one.
 #[derive(Drop)]
 pub struct IndexTable {
     alloc: Global,
