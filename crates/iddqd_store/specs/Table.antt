@@ -4,7 +4,7 @@ pub mod Limit
 pub mod Ring
 pub mod Room
 pub mod Search
-use Rattle.std.specs.Prelude.{ℕ, ◌+◌, ◌*◌, ◌/◌, ◌%◌, ◌^◌, ◌≡◌, ◌<◌, ◌≤◌, ◌==◌, Bool, List, ◌∷◌, Option, None, ◌≢◌, length, map, IfNone, OnSome}
+use Rattle.std.specs.Prelude.{ℕ, ◌+◌, ◌*◌, ◌/◌, ◌%◌, ◌^◌, ◌≡◌, ◌<◌, ◌≤◌, ◌==◌, Bool, List, ◌∷◌, Option, None, Some, ◌≢◌, length, map, IfNone, OnSome}
 use Rattle.std.specs.List.Sorted.{IsPermutation}
 use Rattle.iddqd_store.specs.Table.Limit.{IsSize}
 use Rattle.iddqd_store.specs.Table.Ring.{pairs_in, cell, gap, stretch, IsReached}
@@ -61,6 +61,11 @@ pub record IsFirstEmpty (row : List (Option (ℕ × ℕ))) (home at : ℕ) : Typ
 pub record IsWayTo (row : List (Option (ℕ × ℕ))) (home at : ℕ) : Type 0 where
   pub below : at < length row
   pub first : (q : ℕ) → q < length row → gap (length row) home q < gap (length row) home at → cell row q ≢ None
+
+-- The pair is in this cell, and each cell from the home bucket of its hash on is occupied up to it.
+pub record IsCellOf (row : List (Option (ℕ × ℕ))) (pair : ℕ × ℕ) (at : ℕ) : Type 0 where
+  pub stands : cell row at ≡ Some pair
+  pub way : IsWayTo row (pair.0 % length row) at
 
 -- A contract sees of an empty cell at which a search ended the hash, how many cells there are, and which of them it
 -- is.

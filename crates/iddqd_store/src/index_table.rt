@@ -1,13 +1,14 @@
 //! A hash table of pairs of a hash and a slot's index: open addressing with linear probing, and backward-shift
 //! deletion, so there are no tombstones.
-ghost use Rattle.std.specs.Prelude.{◌≡◌, ◌≢◌, ◌+◌, ◌*◌, ◌/◌, ◌∷◌, ◌<◌, ◌≤◌, ◌&&◌, [], true, length, IsSome, IsOk, IsErr, ◌↔◌, IfOk, OnErr, IfErr, Contains};
+ghost use Rattle.std.specs.Prelude.{◌≡◌, ◌≢◌, ◌+◌, ◌*◌, ◌/◌, ◌%◌, ◌∷◌, ◌<◌, ◌≤◌, ◌&&◌, [], true, length, IsSome, IsOk, IsErr, ◌↔◌, IfOk, OnErr, IfErr};
 ghost use Rattle.std.specs.List.Sorted.{IsPermutation};
+ghost use Rattle.std.specs.Option.{option_map};
 ghost use Rattle.std.specs.Result.{result_ok};
-ghost use Rattle.iddqd_store.specs.Table.Ring.{cell, pairs_in, stretch, IsFull};
+ghost use Rattle.iddqd_store.specs.Table.Ring.{cell, gap, pairs_in, stretch, IsFull};
 ghost use Rattle.iddqd_store.specs.Table.Limit.{IsLeast, IsSize, most_room};
 ghost use Rattle.iddqd_store.specs.Table.Room.{GrowsFor, IsSized};
 ghost use Rattle.iddqd_store.specs.Table.Search.{CostsUnder, FindsUnder, IsVacantUnder};
-ghost use Rattle.iddqd_store.specs.Table.{hashes, IsFree, IsTable, Table, table_of};
+ghost use Rattle.iddqd_store.specs.Table.{hashes, IsCellOf, IsFree, IsTable, Table, table_of};
 
 use crate::TryReserveError;
 use crate::item_set::ItemIndex;
@@ -19,6 +20,7 @@ mod cells;
 mod matcher;
 mod meter;
 mod probe;
+mod removal;
 mod vacancy;
 
 pub use matcher::{KeyMatcher, Matcher};
@@ -255,6 +257,30 @@ impl IndexTable {
             meter.old meter.new }
         ensures sized { IsSized self.now }
     {
+        match self.find_cell(hash, matcher, meter) {
+            Ok(found) => Ok(found.0),
+            Err(spot) => Err(spot),
+        }
+    }
+
+    // Searches as `find_or_vacancy` does, and returns the cell too. Each search of the table is a call of this function.
+    #[inline(always)]
+    fn find_cell<M: Matcher>(
+        &self,
+        hash: u64,
+        matcher: &mut M,
+        meter: &mut Meter,
+    ) -> Result<(ItemIndex, usize), Vacancy>
+        ensures found { FindsUnder self.now hash (M.accepts matcher.old) (option_map (λ f. f.0) (result_ok result)) }
+        ensures cell { IfOk result (λ f. IsCellOf self.now.row (hash, f.0) f.1) }
+        ensures looks { IfOk result (λ f. meter.new
+            ≡ meter.old + gap (length self.now.row) (hash % length self.now.row) f.1 + 1) }
+        ensures vacant { IfErr result (IsVacantUnder self.now hash) }
+        ensures is_kept { M.IsKept matcher.old matcher.new }
+        ensures costs { CostsUnder self.now hash (result_ok result) (M.asked matcher.old) (M.asked matcher.new)
+            meter.old meter.new }
+        ensures sized { IsSized self.now }
+    {
         let count = self.cells.len();
         if count == 0 {
             return Err(Vacancy::unknown(hash));
@@ -263,7 +289,7 @@ impl IndexTable {
         while let Some(pair) = self.cells.cell_at(at, meter) {
             let (stored, ix) = pair;
             if stored == hash && matcher.matches(ix) {
-                return Ok(ix);
+                return Ok((ix, at));
             }
             at = probe::after(at, count);
         }
@@ -309,27 +335,6 @@ impl IndexTable {
         }
         self.cells.write(spot.at(), spot.hash(), ix);
         self.count += 1;
-    }
-
-    /// Removes a pair. It allocates nothing. It probes the cells from the home of the hash on, up to the first empty
-    /// one.
-    ///
-    /// It leaves no tombstone: each pair behind the hole moves into the hole if that is on the way from the pair's
-    /// home to the pair (backward-shift deletion).
-    pub fn remove(&mut self, hash: u64, ix: ItemIndex, meter: &mut Meter)
-        requires { Contains self.old.pairs (hash, ix) }
-        ensures taken { IsPermutation self.old.pairs ((hash, ix) ∷ self.new.pairs) }
-        ensures cells { length self.new.row ≡ length self.old.row }
-        ensures limit { self.new.limit ≡ self.old.limit }
-        ensures room { length self.new.pairs < self.new.limit }
-        ensures looks { meter.new
-            ≡ meter.old + stretch (hashes self.old.pairs) (length self.old.row) hash + 1 }
-        ensures within { stretch (hashes self.old.pairs) (length self.old.row) hash
-            ≤ length self.old.pairs }
-    {
-        let at = probe::seek(&self.cells, hash, ix, meter);
-        probe::close_up(&mut self.cells, hash, at, meter);
-        self.count -= 1;
     }
 
     /// Removes all pairs. The cells stay, and none is probed.

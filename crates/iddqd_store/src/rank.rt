@@ -8,6 +8,7 @@ use std::hash::{BuildHasher, Hash};
 mod lookup;
 mod matchers;
 mod pairs;
+mod removal;
 mod slot_under;
 
 pub use lookup::Lookup;

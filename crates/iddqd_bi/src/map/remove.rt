@@ -7,6 +7,7 @@ ghost use Rattle.iddqd_bi.specs.Keys.{has1, has2, has_both};
 
 use super::BiHashMap;
 use crate::item::BiHashItem;
+use crate::ranks::{First, Second};
 use iddqd_store::Query;
 use std::hash::{BuildHasher, Hash};
 
@@ -19,9 +20,15 @@ impl<T: BiHashItem, S: BuildHasher> BiHashMap<T, S> {
         ensures loses { Loses self.old (option_to_list result) self.new }
         ensures absent { IfNone result (self.new ≡ self.old) }
     {
-        let hash = self.hash_builder.hash_one(query);
-        let ix = self.by_key1().slot(hash, query)?;
-        Some(self.take(ix, Some(hash), None))
+        let ix = self
+            .first
+            .forget_by_key::<T, First, S, Q>(&self.items, &self.hash_builder, query)?;
+        let Some(item) = self.items.remove(ix) else {
+            unreachable!()
+        };
+        self.second
+            .forget::<T, Second, S>(&self.hash_builder, &item, ix, None);
+        Some(item)
     }
 
     /// Takes out the item with the second key that the query stands for. It takes no memory, and the capacity stays.
@@ -32,9 +39,15 @@ impl<T: BiHashItem, S: BuildHasher> BiHashMap<T, S> {
         ensures loses { Loses self.old (option_to_list result) self.new }
         ensures absent { IfNone result (self.new ≡ self.old) }
     {
-        let hash = self.hash_builder.hash_one(query);
-        let ix = self.by_key2().slot(hash, query)?;
-        Some(self.take(ix, None, Some(hash)))
+        let ix = self
+            .second
+            .forget_by_key::<T, Second, S, Q>(&self.items, &self.hash_builder, query)?;
+        let Some(item) = self.items.remove(ix) else {
+            unreachable!()
+        };
+        self.first
+            .forget::<T, First, S>(&self.hash_builder, &item, ix, None);
+        Some(item)
     }
 
     /// Takes out the item that has both keys that the queries stand for. It takes no memory, and the capacity stays.

@@ -20,6 +20,11 @@ module _ {T : Type 0} where
   abbrev pub HasHash : (T → ℕ) → List (Option T) → ℕ → ℕ → Type 0
   HasHash hash slots at h = (x : T) → get slots at ≡ Some x → hash x ≡ h
 
+  -- The pair of the item in the slot has left, and no other.
+  -- Example: For an item of the hash 5 in the slot 2 the new pairs with (5, 2) are the old pairs.
+  abbrev pub LosesPairAt : (T → ℕ) → List (Option T) → List (ℕ × ℕ) → List (ℕ × ℕ) → ℕ → Type 0
+  LosesPairAt hash slots old new at = (x : T) → get slots at ≡ Some x → IsPermutation old ((hash x, at) ∷ new)
+
 -- The pairs are those of the live slots.
 -- Example: Of the slots `Some a`, `None`, `Some b` with the hashes 5 and 6 they are (5, 0), (6, 2).
 pub record IsIndex {T : Type 0} (hash : T → ℕ) (slots : List (Option T)) (pairs : List (ℕ × ℕ)) : Type 0 where

@@ -1,5 +1,5 @@
 -- What a search of a table says.
-use Rattle.std.specs.Prelude.{ℕ, ◌+◌, ◌≡◌, ◌≤◌, Bool, true, false, Option, Contains, IfSome, IfNone, length, count_by}
+use Rattle.std.specs.Prelude.{ℕ, ◌+◌, ◌≡◌, ◌<◌, ◌≤◌, Bool, true, false, Option, Contains, IfSome, IfNone, length, count_by}
 use Rattle.iddqd_store.specs.Table.Ring.{stretch}
 use Rattle.iddqd_store.specs.Table.{hashes, under, IsFree, LooksUp, Spot, Table}
 
@@ -23,4 +23,11 @@ pub record IsVacantUnder (table : Table) (sought : ℕ) (spot : Spot) : Type 0 w
 pub record CostsUnder {A : Type 0} (table : Table) (hash : ℕ) (answer : Option A) (asks asks_then look look_then : ℕ) : Type 0 where
   pub asked : asks_then ≤ asks + count_by (under hash) table.pairs
   pub looks : LooksUp (hashes table.pairs) (length table.row) hash answer look look_then
+  pub within : stretch (hashes table.pairs) (length table.row) hash ≤ length table.pairs
+
+-- a removal asks as a search does, and looks at the cells from its home on up to the first empty one, whatever it finds
+pub record RemovalCosts (table : Table) (hash asks asks_then look look_then : ℕ) : Type 0 where
+  pub asked : asks_then ≤ asks + count_by (under hash) table.pairs
+  pub no_cells : length table.row ≡ 0 → look_then ≡ look
+  pub looks : 0 < length table.row → look_then ≡ look + stretch (hashes table.pairs) (length table.row) hash + 1
   pub within : stretch (hashes table.pairs) (length table.row) hash ≤ length table.pairs

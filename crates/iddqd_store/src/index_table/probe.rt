@@ -93,10 +93,14 @@ pub(super) fn seek(cells: &Cells, hash: u64, index: ItemIndex, meter: &mut Meter
 {
     let count = cells.len();
     let mut at = home_of(hash, count);
-    while cells.cell_at(at, meter) != Some((hash, index)) {
+    while let Some(pair) = cells.cell_at(at, meter) {
+        let (stored, ix) = pair;
+        if ix == index && stored == hash {
+            return at;
+        }
         at = after(at, count);
     }
-    at
+    unreachable!()
 }
 
 // Empties a cell by backward-shift deletion: pairs behind the hole move into it.

@@ -3,7 +3,7 @@ use Rattle.iddqd_store.specs.Table.Ring.{cell}
 use Rattle.iddqd_store.specs.Table.{under}
 use Rattle.iddqd_store.proofs.TableLemmas.Stretch.{place}
 use Rattle.iddqd_store.proofs.TableLemmas.Search.{Walk, met}
-use Rattle.iddqd_store.proofs.index_table.IndexTable.find_or_vacancy.Given as goal
+use Rattle.iddqd_store.proofs.index_table.IndexTable.find_cell.Given as goal
 
 abbrev pub invariant-loop-pair : goal.invariant-loop-pair
 invariant-loop-pair g l =

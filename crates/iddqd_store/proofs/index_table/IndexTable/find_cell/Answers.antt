@@ -9,8 +9,8 @@ use Rattle.iddqd_store.proofs.TableLemmas.Stretch.{place}
 use Rattle.iddqd_store.proofs.TableLemmas.StretchBound.{stretch_le_pairs}
 use Rattle.iddqd_store.proofs.TableLemmas.Spot.{walk_free}
 use Rattle.iddqd_store.proofs.TableLemmas.Search.{Walk, met, walk_more, walk_end, walk_meets, refused_more, met_under, met_grows, met_within, found_there, walk_found}
-use Rattle.iddqd_store.proofs.index_table.IndexTable.find_or_vacancy.Goals as goal
-use Rattle.iddqd_store.proofs.index_table.IndexTable.find_or_vacancy.Goals.{else-stored-hash-via-then-stored-hash+else-matches, else-stored-hash-via-else-stored-hash}
+use Rattle.iddqd_store.proofs.index_table.IndexTable.find_cell.Goals as goal
+use Rattle.iddqd_store.proofs.index_table.IndexTable.find_cell.Goals.{else-stored-hash-via-then-stored-hash+else-matches, else-stored-hash-via-else-stored-hash}
 
 pub loop-pair-preserved : goal.loop-pair-preserved
 loop-pair-preserved g c =
@@ -87,7 +87,7 @@ returns-then-matches-clause-costs g c =
     let m : met (under hash) row home (s + 1) ≤ count_by (under hash) (pairs_in row) = met_within (under hash) row home (s + 1) in
     let a : asked c.matches.new.self ≤ asked c.loop-pair.matcher + 1 = c.matches.ensures.asked in
     let l : t ≤ stretch (hashes (pairs_in row)) (length row) hash = walk_found row hash c.loop-pair.at s t c.self.invariant.0 w there (omega (arith, i.looked, look)) in
-    let all : CostsUnder (table_of row) hash (Some x.1) (asked c.args.matcher.now) (asked c.matches.new.self) c.args.meter.now c.cell_at.new.meter = record {
+    let all : CostsUnder (table_of row) hash (Some (x.1, c.loop-pair.at)) (asked c.args.matcher.now) (asked c.matches.new.self) c.args.meter.now c.cell_at.new.meter = record {
       asked = omega (arith, i.count, q, m, a);
       looks = record {
         no_cells = λ z. absurd (omega arith);
@@ -97,7 +97,7 @@ returns-then-matches-clause-costs g c =
       };
       within = stretch_le_pairs (pairs_in row) (length row) hash;
     } in
-    subst (λ (r : Table). CostsUnder r hash (Some x.1) (asked c.args.matcher.now) (asked c.matches.new.self) c.args.meter.now c.cell_at.new.meter) c.self.view_is all
+    subst (λ (r : Table). CostsUnder r hash (Some (x.1, c.loop-pair.at)) (asked c.args.matcher.now) (asked c.matches.new.self) c.args.meter.now c.cell_at.new.meter) c.self.view_is all
 
 pub returns-clause-found : goal.returns-clause-found
 returns-clause-found g c = record {
@@ -138,7 +138,7 @@ returns-clause-costs g c =
     let m = met_within (under hash) row (hash % length row) s in
     let e : stretch (hashes (pairs_in row)) (length row) hash ≡ s = walk_end row hash c.loop-pair.at s c.self.invariant.0 i.walk none in
     let within : s < length row = i.walk.within in
-    let all : CostsUnder {A = ℕ} (table_of row) hash None (asked c.args.matcher.now) (asked c.loop-pair.matcher) c.args.meter.now c.cell_at.new.meter = record {
+    let all : CostsUnder {A = ℕ × ℕ} (table_of row) hash None (asked c.args.matcher.now) (asked c.loop-pair.matcher) c.args.meter.now c.cell_at.new.meter = record {
       asked = omega (arith, i.count, m);
       looks = record {
         no_cells = λ z. absurd (omega arith);
@@ -148,4 +148,4 @@ returns-clause-costs g c =
       };
       within = stretch_le_pairs (pairs_in row) (length row) hash;
     } in
-    subst (λ (r : Table). CostsUnder {A = ℕ} r hash None (asked c.args.matcher.now) (asked c.loop-pair.matcher) c.args.meter.now c.cell_at.new.meter) c.self.view_is all
+    subst (λ (r : Table). CostsUnder {A = ℕ × ℕ} r hash None (asked c.args.matcher.now) (asked c.loop-pair.matcher) c.args.meter.now c.cell_at.new.meter) c.self.view_is all
