@@ -25,7 +25,8 @@ pub record CostsUnder {A : Type 0} (table : Table) (hash : ℕ) (answer : Option
   pub looks : LooksUp (hashes table.pairs) (length table.row) hash answer look look_then
   pub within : stretch (hashes table.pairs) (length table.row) hash ≤ length table.pairs
 
--- a removal asks as a search does, and looks at the cells from its home on up to the first empty one, whatever it finds
+-- A removal by a search asks about no more pairs than stand under the hash, and probes each cell from the home of the hash on
+-- up to the first empty one once, whatever it finds.
 pub record RemovalCosts (table : Table) (hash asks asks_then look look_then : ℕ) : Type 0 where
   pub asked : asks_then ≤ asks + count_by (under hash) table.pairs
   pub no_cells : length table.row ≡ 0 → look_then ≡ look
