@@ -15,7 +15,7 @@ pub record IsVacantUnder (table : Table) (sought : ℕ) (spot : Spot) : Type 0 w
   pub cells : spot.cells ≡ length table.row
   pub vacant : IsFree (hashes table.pairs) spot
 
--- pairs under the hash are asked about, each once at most, and cells looked at from its home on, up to the answer
+-- no more questions are asked than pairs stand under the hash, and cells looked at from its home on, up to the answer
 pub record CostsUnder {A : Type 0} (table : Table) (hash : ℕ) (answer : Option A) (asks asks_then look look_then : ℕ) : Type 0 where
   pub asked : asks_then ≤ asks + count_by (under hash) table.pairs
   pub looks : LooksUp (hashes table.pairs) (length table.row) hash answer look look_then
