@@ -1,5 +1,5 @@
 -- The ranks of an item with two keys, and the slots found by them.
-use Rattle.std.specs.Prelude.{◌≡◌, ℕ, Bool, List, [], ◌∷◌, Option, None, Result, Ok, Err}
+use Rattle.std.specs.Prelude.{◌≡◌, ◌≤◌, ◌*◌, ◌/◌, ℕ, Bool, List, [], ◌∷◌, Option, None, Result, Ok, Err}
 use Rattle.iddqd_store.specs.Bag.{Ranks, every_of}
 use Rattle.iddqd_store.specs.Rank.{agree, IsUnder, IsVacantFor, SlotUnder}
 use Rattle.iddqd_store.specs.Table.{Spot}
@@ -48,6 +48,11 @@ module _ {T : Type 0} (hash1 hash2 : T → ℕ) where
 pub record HaveHashes (h1 h2 : ℕ) (found : SlotUnder × SlotUnder) : Type 0 where
   pub first : found.0.hash ≡ h1
   pub second : found.1.hash ≡ h2
+
+-- At each rank the table that has this cell holds this many pairs. No public clause cites it.
+pub record HaveRoom (room : ℕ) (at : Spot × Spot) : Type 0 where
+  pub first : room ≤ at.0.cells / 8 * 7
+  pub second : room ≤ at.1.cells / 8 * 7
 
 -- `slots_found` has for each rank the slot that a search found, or none. No public clause cites it.
 abbrev pub slots_found : Result (Spot × Spot) (SlotUnder × SlotUnder) → List (Option ℕ)

@@ -10,7 +10,7 @@ ghost use Rattle.iddqd_store.specs.Rank.{agree};
 ghost use Rattle.iddqd_store.specs.Slots.Found.{AreFound, each_once, items_at};
 ghost use Rattle.iddqd_store.specs.Slots.{get, IsLive, Updates};
 ghost use Rattle.iddqd_store.specs.Table.Limit.{most_room};
-ghost use Rattle.iddqd_bi.specs.Keys.{ArePlacesOf, AreUnder, AreVacantFor, HaveHashes, ranks, slots_found};
+ghost use Rattle.iddqd_bi.specs.Keys.{ArePlacesOf, AreUnder, AreVacantFor, HaveHashes, HaveRoom, ranks, slots_found};
 ghost use Rattle.iddqd_bi.specs.Mismatch.{HandsBack};
 
 mod enter;
@@ -93,6 +93,7 @@ impl<T: BiHashItem, S: BuildHasher> BiHashMap<T, S> {
             (⟦<T as Hashed<S>>⟧.hash1 self.now.builder) (⟦<T as Hashed<S>>⟧.hash2 self.now.builder) (bag self.now)
             (hash_of S.BuildHasher S.Hasher.Hasher self.now.builder (T.K1.hash_input key1.now))
             (hash_of S.BuildHasher S.Hasher.Hasher self.now.builder (T.K2.hash_input key2.now))) }
+        ensures cells { IfOk result (HaveRoom self.now.capacity) }
         ensures hashes { IfErr result (HaveHashes
             (hash_of S.BuildHasher S.Hasher.Hasher self.now.builder (T.K1.hash_input key1.now))
             (hash_of S.BuildHasher S.Hasher.Hasher self.now.builder (T.K2.hash_input key2.now))) }

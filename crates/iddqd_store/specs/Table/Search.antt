@@ -17,8 +17,8 @@ pub record IsVacantUnder (table : Table) (sought : ℕ) (spot : Spot) : Type 0 w
   pub cells : spot.cells ≡ length table.row
   pub vacant : IsFree (hashes table.pairs) spot
 
--- The matcher is asked about slots under the hash alone, no more often than there are some, and cells are probed from
--- the home of the hash up to the answer (`LooksUp`).
+-- The matcher is asked no more questions than there are pairs under the hash, and cells are probed from the home of the hash up
+-- to the answer (`LooksUp`).
 -- Example: In (5, 0), (6, 2) a search for 6 asks at most once.
 pub record CostsUnder {A : Type 0} (table : Table) (hash : ℕ) (answer : Option A) (asks asks_then look look_then : ℕ) : Type 0 where
   pub asked : asks_then ≤ asks + count_by (under hash) table.pairs

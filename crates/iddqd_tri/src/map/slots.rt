@@ -10,7 +10,7 @@ ghost use Rattle.iddqd_store.specs.Rank.{agree};
 ghost use Rattle.iddqd_store.specs.Slots.Found.{AreFound, each_once, items_at};
 ghost use Rattle.iddqd_store.specs.Slots.{get, IsLive, Updates};
 ghost use Rattle.iddqd_store.specs.Table.Limit.{most_room};
-ghost use Rattle.iddqd_tri.specs.Keys.{ArePlacesOf, AreUnder, AreVacantFor, HaveHashes, ranks, slots_found};
+ghost use Rattle.iddqd_tri.specs.Keys.{ArePlacesOf, AreUnder, AreVacantFor, HaveHashes, HaveRoom, ranks, slots_found};
 ghost use Rattle.iddqd_tri.specs.Mismatch.{HandsBack};
 
 mod enter;
@@ -115,6 +115,7 @@ impl<T: TriHashItem, S: BuildHasher> TriHashMap<T, S> {
             (hash_of S.BuildHasher S.Hasher.Hasher self.now.builder (T.K1.hash_input key1.now))
             (hash_of S.BuildHasher S.Hasher.Hasher self.now.builder (T.K2.hash_input key2.now))
             (hash_of S.BuildHasher S.Hasher.Hasher self.now.builder (T.K3.hash_input key3.now))) }
+        ensures cells { IfOk result (HaveRoom self.now.capacity) }
         ensures hashes { IfErr result (HaveHashes
             (hash_of S.BuildHasher S.Hasher.Hasher self.now.builder (T.K1.hash_input key1.now))
             (hash_of S.BuildHasher S.Hasher.Hasher self.now.builder (T.K2.hash_input key2.now))
