@@ -17,6 +17,7 @@ impl<T: TriHashItem, S: BuildHasher> TriHashMap<T, S> {
     /// Puts an item in the place of those that conflict with it, whose slots the searches by its keys found, and gives
     /// them back with the slot of the new one. There is at least one. The item goes into the slot of the first of them,
     /// once the others are out. No key is hashed by which a search found its item.
+    #[inline(never)]
     pub(crate) fn put_over(
         &mut self,
         item: T,
