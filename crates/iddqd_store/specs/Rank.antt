@@ -2,15 +2,16 @@
 pub mod Asking
 pub mod Index
 pub mod Keys
-use Rattle.std.specs.Prelude.{◌≡◌, ℕ, ◌+◌, ◌*◌, ◌/◌, ◌≤◌, Bool, true, List, Option, Contains, IfSome, length, map}
+use Rattle.std.specs.Prelude.{◌≡◌, ℕ, ◌+◌, ◌*◌, ◌/◌, ◌≤◌, Bool, true, List, Option, Contains, IfSome, filter, length, map}
 use Rattle.std.specs.Hash.{HashWrites}
+use Rattle.std.specs.Option.{option_map, option_to_list}
 use Rattle.std.specs.List.{IsDistinct}
 use Rattle.std.specs.declared.hash.Hasher as hasher
 use Rattle.std.specs.declared.hash.BuildHasher as builder
 use Rattle.iddqd_store.specs.Bag.{crowd}
 use Rattle.iddqd_store.specs.Rank.Index.{HasHash, IsIndex}
 use Rattle.iddqd_store.specs.Map.{hash_of}
-use Rattle.iddqd_store.specs.Slots.Found.{NamesOneOf}
+use Rattle.iddqd_store.specs.Slots.Found.{NamesOneOf, is_at}
 use Rattle.iddqd_store.specs.Slots.{live_items}
 use Rattle.iddqd_store.specs.Table.{IsFree, LooksUpWithin, Spot}
 
@@ -56,6 +57,12 @@ module _ {T : Type 0} where
   -- the item in the slot that was found has the hash. No public clause cites it
   abbrev pub IsUnder : (T → ℕ) → List (Option T) → SlotUnder → Type 0
   IsUnder hash slots found = IfSome found.slot (λ at. HasHash hash slots at found.hash)
+
+-- of these pairs that of the slot that a search found is under its hash, and no other has the slot. No public clause
+-- of a map cites it
+abbrev pub IsPaired : SlotUnder → List (ℕ × ℕ) → Type 0
+IsPaired found pairs =
+    filter (λ p. is_at p.1 found.slot) pairs ≡ option_to_list (option_map (λ at. (found.hash, at)) found.slot)
 
 -- what a search rests on: no two items have equal keys, and the table has their hashes. No public clause cites it
 pub record IsSearchable {T : Type 0} (agree : T → T → Bool) (hash : T → ℕ) (slots : List (Option T)) (pairs : List (ℕ × ℕ)) : Type 0 where

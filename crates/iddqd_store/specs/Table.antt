@@ -4,7 +4,7 @@ pub mod Limit
 pub mod Ring
 pub mod Room
 pub mod Search
-use Rattle.std.specs.Prelude.{ℕ, ◌+◌, ◌*◌, ◌/◌, ◌%◌, ◌^◌, ◌≡◌, ◌<◌, ◌≤◌, ◌==◌, Bool, List, ◌∷◌, Option, None, ◌≢◌, length, map, IfNone, OnSome}
+use Rattle.std.specs.Prelude.{ℕ, ◌+◌, ◌*◌, ◌/◌, ◌%◌, ◌^◌, ◌≡◌, ◌<◌, ◌≤◌, ◌==◌, Bool, List, ◌∷◌, ◌++◌, Option, None, ◌≢◌, length, map, IfNone, OnSome}
 use Rattle.std.specs.List.Sorted.{IsPermutation}
 use Rattle.iddqd_store.specs.Table.Limit.{IsSize}
 use Rattle.iddqd_store.specs.Table.Ring.{pairs_in, cell, gap, stretch, IsReached}
@@ -29,11 +29,16 @@ abbrev pub LooksUpWithin : {A : Type 0} → List ℕ → ℕ → ℕ → Option 
 LooksUpWithin hashes room hash answer before after =
     (cells : ℕ) × IsSize cells × (cells < 2 ^ 64) × (room ≤ cells / 8 * 7) × LooksUp hashes cells hash answer before after
 
--- an index stands under another hash, and each other pair stays
-pub record MovesPair (old new : List (ℕ × ℕ)) (before after index : ℕ) : Type 0 where
-  pub others : List (ℕ × ℕ)
-  pub had : IsPermutation old ((before, index) ∷ others)
-  pub has : IsPermutation new ((after, index) ∷ others)
+-- these are among the members of a list
+pub record Includes {X : Type 0} (all some : List X) : Type 0 where
+  pub others : List X
+  pub had : IsPermutation all (some ++ others)
+
+-- these members of a list give way to one, and each other stays
+pub record GivesWay {X : Type 0} (old new gone : List X) (one : X) : Type 0 where
+  pub others : List X
+  pub had : IsPermutation old (gone ++ others)
+  pub has : IsPermutation new (one ∷ others)
 
 -- each pair is found from its home on, and an eighth of the cells is empty
 pub record IsTable (row : List (Option (ℕ × ℕ))) : Type 0 where

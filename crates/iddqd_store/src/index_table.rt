@@ -6,7 +6,7 @@ ghost use Rattle.iddqd_store.specs.Table.Ring.{cell, pairs_in, stretch, IsFull};
 ghost use Rattle.iddqd_store.specs.Table.Limit.{IsLeast, IsSize, most_room};
 ghost use Rattle.iddqd_store.specs.Table.Room.{GrowsFor, IsSized};
 ghost use Rattle.iddqd_store.specs.Table.Search.{CostsUnder, FindsUnder, IsVacantUnder};
-ghost use Rattle.iddqd_store.specs.Table.{hashes, IsFree, IsTable, Table, table_of};
+ghost use Rattle.iddqd_store.specs.Table.{hashes, GivesWay, IsFree, IsTable, Table, table_of};
 
 use crate::TryReserveError;
 use crate::item_set::ItemIndex;
@@ -34,7 +34,7 @@ pub use vacancy::Vacancy;
 /// are occupied is a function of the pairs' hashes and the number of cells (`cell_at`), whatever came before.
 ///
 /// A cell is looked at by one call alone, which ticks the meter that it is handed, and `clone` copies the cells whole.
-/// Here `try_reserve` alone makes a meter of its own. In other files `forget`, `rehash`, `fill`, `search` and the maps'
+/// Here `try_reserve` alone makes a meter of its own. In other files `forget`, `displace`, `fill`, `search` and the maps'
 /// `insert_at` do: no clause of theirs speaks of looks. The script `tests/forms` lists all that make one.
 #[derive(Drop)]
 pub struct IndexTable {
@@ -302,6 +302,20 @@ impl IndexTable {
         let at = probe::seek(&self.cells, hash, ix, meter);
         probe::close_up(&mut self.cells, hash, at, meter);
         self.count -= 1;
+    }
+
+    /// Gives a pair another number. It takes no memory, no pair moves, and the cells are looked at from the home of the
+    /// hash on up to the pair.
+    pub fn renumber(&mut self, hash: u64, from: ItemIndex, to: ItemIndex, meter: &mut Meter)
+        requires { Contains self.old.pairs (hash, from) }
+        ensures renumbered { GivesWay self.old.pairs self.new.pairs ((hash, from) ∷ []) (hash, to) }
+        ensures cells { length self.new.row ≡ length self.old.row }
+        ensures limit { self.new.limit ≡ self.old.limit }
+        ensures looks { meter.new
+            ≤ meter.old + stretch (hashes self.old.pairs) (length self.old.row) hash }
+    {
+        let at = probe::seek(&self.cells, hash, from, meter);
+        self.cells.write(at, hash, to);
     }
 
     /// Takes all pairs out. The cells stay, and none is looked at.

@@ -1,5 +1,5 @@
 -- How tables index slots.
-use Rattle.std.specs.Prelude.{◌≡◌, ℕ, Bool, List, [], ◌∷◌, Option, Some, map, IsPermutation, false, ⊤}
+use Rattle.std.specs.Prelude.{◌≡◌, ℕ, Bool, List, [], ◌∷◌, Option, Some, map, zip, IsPermutation, false, ⊤}
 use Rattle.std.specs.Option.{option_map_or}
 use Rattle.iddqd_store.specs.Bag.{Ranks, IsSound}
 use Rattle.iddqd_store.specs.Slots.{members, live_items, get}
@@ -8,6 +8,10 @@ module _ {T : Type 0} where
   -- the pair of a live slot, by the hash of its item
   abbrev pub pair_of : (T → ℕ) → ℕ × T → ℕ × ℕ
   pair_of hash m = (hash m.1, m.0)
+
+  -- the pairs of items, by the slots in which they stand
+  abbrev pub pairs_of : (T → ℕ) → List ℕ → List T → List (ℕ × ℕ)
+  pairs_of hash slots items = map (pair_of hash) (zip slots items)
 
   -- whether the slot is live and its item passes the test
   abbrev pub passes_at : (T → Bool) → List (Option T) → ℕ → Bool

@@ -2,13 +2,15 @@
 //! under the hash of its item's key, which is known where a search found the item.
 ghost use Rattle.std.specs.Prelude.{◌≡◌, ◌<◌, ◌≤◌, [], ◌∷◌, length, Contains, IfSome};
 ghost use Rattle.std.specs.List.Sorted.{IsPermutation};
-ghost use Rattle.iddqd_store.specs.Rank.Index.{IsIndex};
+ghost use Rattle.iddqd_store.specs.Rank.Index.{IsIndex, pairs_of};
+ghost use Rattle.iddqd_store.specs.Rank.{IsPaired};
 ghost use Rattle.iddqd_store.specs.Slots.{live_count};
-ghost use Rattle.iddqd_store.specs.Table.{MovesPair};
+ghost use Rattle.iddqd_store.specs.Table.{GivesWay, Includes};
 
-use super::{HashedKey, KeyOf};
+use super::{HashedKey, KeyOf, SlotUnder};
 use crate::index_table::{IndexTable, Meter};
 use crate::item_set::{ItemIndex, ItemSet};
+use crate::short_list::ShortIter;
 use std::hash::{BuildHasher, Hash};
 
 impl<T> ItemSet<T> {
@@ -68,27 +70,49 @@ impl IndexTable {
         self.remove(hash, ix, &mut Meter::new());
     }
 
-    /// Puts a slot under another hash than that of the item that stood there, whose key is hashed only where its hash
-    /// isn't known. Where both are equal nothing is done.
-    pub fn rehash<T, R: KeyOf<T>, S: BuildHasher>(
+    /// Puts the pair of an item into the place of those of the items that it displaces. They stood in these slots, in the
+    /// same order, and the search by its key found one of the slots or none. The pair of the slot that was found stands
+    /// under the hash already, so it only gets the number of the new slot, and no key is hashed for it. Each other pair
+    /// is taken out by the hash of its item's key.
+    pub fn displace<T, R: KeyOf<T>, S: BuildHasher>(
         &mut self,
         hash_builder: &S,
-        gone: &T,
+        slots: ShortIter<'_, ItemIndex>,
+        displaced: ShortIter<'_, T>,
         ix: ItemIndex,
-        known: Option<u64>,
-        hash: u64,
+        by: &SlotUnder,
     )
-        requires known { IfSome known (λ before. ⟦<R as HashedKey<T, S>>⟧.hash hash_builder.now gone.now ≡ before) }
-        requires paired { Contains self.old.pairs (⟦<R as HashedKey<T, S>>⟧.hash hash_builder.now gone.now, ix) }
-        ensures moved { MovesPair self.old.pairs self.new.pairs
-            (⟦<R as HashedKey<T, S>>⟧.hash hash_builder.now gone.now) hash ix }
+        requires some { 0 < length slots }
+        requires as_many { length slots ≡ length displaced }
+        requires paired { Includes self.old.pairs
+            (pairs_of (⟦<R as HashedKey<T, S>>⟧.hash hash_builder.now) slots displaced) }
+        requires found { IsPaired by.now
+            (pairs_of (⟦<R as HashedKey<T, S>>⟧.hash hash_builder.now) slots displaced) }
+        ensures displaced { GivesWay self.old.pairs self.new.pairs
+            (pairs_of (⟦<R as HashedKey<T, S>>⟧.hash hash_builder.now) slots.entry displaced.entry) (by.now.hash, ix) }
         ensures limit { self.new.limit ≡ self.old.limit }
     {
-        let before = hash_of_key::<T, R, S>(hash_builder, gone, known);
-        if before == hash {
-            return;
+        // That the pairs fit: so there is room for one where one was taken out.
+        let _ = self.capacity();
+        let mut left = slots;
+        let mut items = displaced;
+        while let Some(at) = left.next() {
+            match items.next() {
+                Some(item) => {
+                    if by.slot() != Some(*at) {
+                        self.forget::<T, R, S>(hash_builder, item, *at, None);
+                    }
+                }
+                None => unreachable!(),
+            }
         }
-        self.remove(before, ix, &mut Meter::new());
-        self.insert_reserved(hash, ix, &mut Meter::new());
+        match by.slot() {
+            Some(at) => {
+                if at != ix {
+                    self.renumber(by.hash(), at, ix, &mut Meter::new());
+                }
+            }
+            None => self.insert_reserved(by.hash(), ix, &mut Meter::new()),
+        }
     }
 }
