@@ -77,25 +77,26 @@ impl IndexTable {
     pub fn displace<T, R: KeyOf<T>, S: BuildHasher>(
         &mut self,
         hash_builder: &S,
-        slots: ShortIter<'_, ItemIndex>,
-        displaced: ShortIter<'_, T>,
+        slots: &ShortIter<'_, ItemIndex>,
+        displaced: &ShortIter<'_, T>,
         ix: ItemIndex,
         by: &SlotUnder,
     )
-        requires some { 0 < length slots }
-        requires as_many { length slots ≡ length displaced }
+        requires some { 0 < length slots.now }
+        requires as_many { length slots.now ≡ length displaced.now }
         requires paired { Includes self.old.pairs
-            (pairs_of (⟦<R as HashedKey<T, S>>⟧.hash hash_builder.now) slots displaced) }
+            (pairs_of (⟦<R as HashedKey<T, S>>⟧.hash hash_builder.now) slots.now displaced.now) }
         requires found { IsPaired by.now
-            (pairs_of (⟦<R as HashedKey<T, S>>⟧.hash hash_builder.now) slots displaced) }
+            (pairs_of (⟦<R as HashedKey<T, S>>⟧.hash hash_builder.now) slots.now displaced.now) }
         ensures displaced { GivesWay self.old.pairs self.new.pairs
-            (pairs_of (⟦<R as HashedKey<T, S>>⟧.hash hash_builder.now) slots.entry displaced.entry) (by.now.hash, ix) }
+            (pairs_of (⟦<R as HashedKey<T, S>>⟧.hash hash_builder.now) slots.now displaced.now)
+            (by.now.hash, ix) }
         ensures limit { self.new.limit ≡ self.old.limit }
     {
         // That the pairs fit: so there is room for one where one was taken out.
         let _ = self.capacity();
-        let mut left = slots;
-        let mut items = displaced;
+        let mut left = slots.clone();
+        let mut items = displaced.clone();
         while let Some(at) = left.next() {
             match items.next() {
                 Some(item) => {
