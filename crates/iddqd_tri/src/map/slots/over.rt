@@ -1,5 +1,5 @@
 //! Putting an item in the place of others.
-ghost use Rattle.std.specs.Prelude.{◌≡◌, ◌≢◌, ◌<◌, [], ◌∷◌, All, length, nat_eq, zip, Some};
+ghost use Rattle.std.specs.Prelude.{◌≡◌, ◌≢◌, [], ◌∷◌, All, length, nat_eq, zip, Some};
 ghost use Rattle.std.specs.List.{IsDistinct};
 ghost use Rattle.iddqd_store.specs.Bag.{order, over};
 ghost use Rattle.iddqd_store.specs.Map.{bag, ListsConflicts, PutsAt};
@@ -12,7 +12,7 @@ use super::super::TriHashMap;
 use super::found::each_once;
 use crate::item::{Hashed, Ranked, TriHashItem};
 use crate::ranks::{First, Second, Third};
-use iddqd_store::{ItemIndex, ItemSet, ShortIter, SlotUnder, UpToThree};
+use iddqd_store::{ItemIndex, ItemSet, SlotUnder, UpToThree};
 use std::hash::{BuildHasher, Hash};
 
 impl<T: TriHashItem, S: BuildHasher> TriHashMap<T, S> {
@@ -41,54 +41,41 @@ impl<T: TriHashItem, S: BuildHasher> TriHashMap<T, S> {
         // That the items fit, for the clause `fits`.
         let _ = self.room();
         let found = each_once(by.0.slot(), by.1.slot(), by.2.slot());
-        let mut others = found.iter();
-        let Some(ix) = others.next() else {
-            unreachable!()
-        };
-        let displaced = put_in(&mut self.items, *ix, others, item);
-        self.first.displace::<T, First, S>(
-            &self.hash_builder,
-            found.iter(),
-            displaced.iter(),
-            *ix,
-            &by.0,
-        );
-        self.second.displace::<T, Second, S>(
-            &self.hash_builder,
-            found.iter(),
-            displaced.iter(),
-            *ix,
-            &by.1,
-        );
-        self.third.displace::<T, Third, S>(
-            &self.hash_builder,
-            found.iter(),
-            displaced.iter(),
-            *ix,
-            &by.2,
-        );
-        (displaced, *ix)
+        let (displaced, ix) = put_in(&mut self.items, &found, item);
+        let slots = found.iter();
+        let gone = displaced.iter();
+        self.first
+            .displace::<T, First, S>(&self.hash_builder, &slots, &gone, ix, &by.0);
+        self.second
+            .displace::<T, Second, S>(&self.hash_builder, &slots, &gone, ix, &by.1);
+        self.third
+            .displace::<T, Third, S>(&self.hash_builder, &slots, &gone, ix, &by.2);
+        (displaced, ix)
     }
 }
 
-/// Puts an item in this slot and takes the items of the other slots out. It gives back all that stood in them.
+/// Puts an item in the first of these slots and takes the items of the others out. It gives back all that stood in
+/// them, with the slot of the new one.
 fn put_in<T>(
     items: &mut ItemSet<T>,
-    ix: ItemIndex,
-    others: ShortIter<'_, ItemIndex>,
+    found: &UpToThree<ItemIndex>,
     item: T,
-) -> UpToThree<T>
-    requires few { length others < 2 }
-    requires live { All (IsLive items.old.slots) (ix ∷ others) }
-    requires apart { IsDistinct nat_eq (ix ∷ others) }
-    ensures values { result ≡ items_at items.old.slots (ix ∷ others.entry) }
+) -> (UpToThree<T>, ItemIndex)
+    requires some { length found.now ≢ 0 }
+    requires live { All (IsLive items.old.slots) found.now }
+    requires apart { IsDistinct nat_eq found.now }
+    ensures values { result.0 ≡ items_at items.old.slots found.now }
     ensures gives_way { GivesWay (members items.old.slots) (members items.new.slots)
-        (zip (ix ∷ others.entry) result) (ix, item) }
-    ensures at { get items.new.slots ix ≡ Some item }
+        (zip found.now result.0) (result.1, item) }
+    ensures at { get items.new.slots result.1 ≡ Some item }
     ensures capacity { items.new.capacity ≡ items.old.capacity }
 {
+    let mut left = found.iter();
+    let Some(first) = left.next() else {
+        unreachable!()
+    };
+    let ix = *first;
     let mut taken = UpToThree::new();
-    let mut left = others;
     while let Some(at) = left.next() {
         match items.remove(*at) {
             Some(other) => taken.push(other),
@@ -96,5 +83,5 @@ fn put_in<T>(
         }
     }
     taken.push_front(items.replace(ix, item));
-    taken
+    (taken, ix)
 }
