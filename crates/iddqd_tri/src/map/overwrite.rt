@@ -14,6 +14,10 @@ impl<T: Ranked, S: BuildHasher> TriHashMap<T, S> {
     /// Each key of the item is hashed once and searched for once. Where an item conflicts, it takes no memory and the
     /// capacity stays. Otherwise the map grows only where it is full, and the item is handed back where there is no
     /// memory for that.
+    ///
+    /// It is one body with its caller, but for what puts an item over others and for growing: so a caller's loop looks at
+    /// the outcome where it arises, and writes no list of displaced items to memory where there is none.
+    #[inline(always)]
     pub fn insert_overwrite(&mut self, item: T) -> Result<UpToThree<T>, MemoryRefused<T>>
         // What was in the way comes back, in the order of the item's keys, and the item is in.
         ensures displaced { IfOk result (λ gone. gone ≡ order T.ranks (bag self.old) item) }
