@@ -1,4 +1,4 @@
-//! Removals.
+//! Removing items.
 ghost use Rattle.std.specs.Prelude.{◌≡◌, IfNone};
 ghost use Rattle.std.specs.Option.{option_to_list};
 ghost use Rattle.iddqd_store.specs.Bag.{IsOnly};
@@ -12,9 +12,11 @@ use iddqd_store::Query;
 use std::hash::{BuildHasher, Hash};
 
 impl<T: BiHashItem, S: BuildHasher> BiHashMap<T, S> {
-    /// Takes out the item with the first key that the query stands for. It takes no memory, and the capacity stays.
+    /// Removes the item with the first key that the query stands for, and returns it, or `None` if there is none. The
+    /// capacity stays.
     ///
-    /// Compares at most as many keys as items have the key's hash at the first rank.
+    /// The call compares at most as many keys as items have the query's hash at the first rank. It hashes the query and
+    /// the other key of the item, and allocates no memory.
     pub fn remove1<Q: Query<T::K1>>(&mut self, query: Q) -> Option<T>
         ensures taken { IsOnly (has1 T.BiHashItem Q.stands_for query) (bag self.old) result }
         ensures loses { Loses self.old (option_to_list result) self.new }
@@ -31,9 +33,11 @@ impl<T: BiHashItem, S: BuildHasher> BiHashMap<T, S> {
         Some(item)
     }
 
-    /// Takes out the item with the second key that the query stands for. It takes no memory, and the capacity stays.
+    /// Removes the item with the second key that the query stands for, and returns it, or `None` if there is none. The
+    /// capacity stays.
     ///
-    /// Compares at most as many keys as items have the key's hash at the second rank.
+    /// The call compares at most as many keys as items have the query's hash at the second rank. It hashes the query
+    /// and the other key of the item, and allocates no memory.
     pub fn remove2<Q: Query<T::K2>>(&mut self, query: Q) -> Option<T>
         ensures taken { IsOnly (has2 T.BiHashItem Q.stands_for query) (bag self.old) result }
         ensures loses { Loses self.old (option_to_list result) self.new }
@@ -50,9 +54,11 @@ impl<T: BiHashItem, S: BuildHasher> BiHashMap<T, S> {
         Some(item)
     }
 
-    /// Takes out the item that has both keys that the queries stand for. It takes no memory, and the capacity stays.
+    /// Removes the item that has both keys that the queries stand for, and returns it, or `None` if there is none. The
+    /// capacity stays.
     ///
-    /// Compares as many keys as `remove1` does, and the other key of the item found.
+    /// The call compares as many keys as `remove1`, and the other key of the item found. It hashes as many, and
+    /// allocates no memory.
     pub fn remove_unique<Q1: Query<T::K1>, Q2: Query<T::K2>>(
         &mut self,
         query1: Q1,

@@ -1,4 +1,4 @@
-//! Overwriting.
+//! Inserting an item in place of those that conflict with it.
 ghost use Rattle.std.specs.Prelude.{◌≡◌, ◌<◌, length, IsOk, IfOk, IfErr, OnOk, OnErr};
 ghost use Rattle.iddqd_store.specs.Bag.{order};
 ghost use Rattle.iddqd_store.specs.Map.{bag, IsFullFor, Overwrites};
@@ -9,22 +9,22 @@ use iddqd_store::{MemoryRefused, UpToThree};
 use std::hash::{BuildHasher, Hash};
 
 impl<T: Ranked, S: BuildHasher> TriHashMap<T, S> {
-    /// Puts an item in, and gives back those that conflict with it, in the order of the keys and each once.
+    /// Inserts an item, removes those that conflict with it, and returns these, in the order of the keys and each once.
     ///
-    /// Each key of the item is hashed once and searched for once. Where an item conflicts, it takes no memory and the
-    /// capacity stays. Otherwise the map grows only where it is full, and the item is handed back where there is no
-    /// memory for that.
-    ///
-    /// It is one body with its caller, but for what puts an item over others and for growing: so a caller's loop looks at
-    /// the outcome where it arises, and writes no list of displaced items to memory where there is none.
+    /// The call hashes each key of the item once, and searches for it once. It also hashes each key of a removed item
+    /// by which it did not find that item. If items conflict, it allocates no memory and the capacity stays. Otherwise
+    /// it fails only if the map is full and there is no memory to grow. The error then has the item, and the map is as
+    /// it was.
+    // It is inlined, and what it calls if items conflict or the map grows is not. So a caller's loop branches on the
+    // outcome where it arises, and writes no list of removed items to memory if there are none.
     #[inline(always)]
     pub fn insert_overwrite(&mut self, item: T) -> Result<UpToThree<T>, MemoryRefused<T>>
-        // What was in the way comes back, in the order of the item's keys, and the item is in.
+        // The conflicting items are returned, in the order of the item's keys, and the item is in their place.
         ensures displaced { IfOk result (λ gone. gone ≡ order T.ranks (bag self.old) item) }
         ensures overwrites { OnOk result (Overwrites T.ranks self.old item self.new) }
-        // Where there is room it never fails.
+        // With spare capacity the call never fails.
         ensures granted { length (bag self.old) < self.old.capacity → IsOk result }
-        // Refused, the item comes back, and the map is as it was.
+        // The error has the item, and the map is as it was. This happens only in a full map, without a conflict.
         ensures handed_back { IfErr result (λ e. e.value ≡ item) }
         ensures unchanged { OnErr result (self.new ≡ self.old) }
         ensures reason { OnErr result (IsFullFor T.ranks self.old item) }

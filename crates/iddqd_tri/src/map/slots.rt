@@ -1,6 +1,8 @@
-//! Single items, by slot: where one goes in, room for it, putting it in and taking it out. Its files: the slots that
-//! searches by all keys `found`, how to `walk` and `write`, to put an item `over` others, and to `enter` a list that may
-//! be refused. What is done to all slots at once (emptying, copying and rebuilding them) goes to them itself.
+//! Single items and their slots: where an item is to be inserted, the capacity for it, inserting it and removing it.
+//! The files below have the slots that
+//! searches by all keys found (`found`), iterating (`walk`), reading and writing
+//! (`write`), inserting in place of other items (`over`), and inserting a list that may have to be removed again
+//! (`enter`). Calls that treat all slots at once (to clear, clone or rebuild them) use the slots and tables themselves.
 ghost use Rattle.std.specs.Prelude.{◌≡◌, ◌≢◌, ◌==◌, ℕ, ◌<◌, ◌≤◌, [], ◌∷◌, length, All, IsPermutation, OnOk, OnErr, IfOk, IfErr, Some, None, IfSome, nat_eq, slice_set, is_some, true, false};
 ghost use Rattle.std.specs.List.{IsDistinct, list_any};
 ghost use Rattle.iddqd_store.specs.Bag.{IsSound, clash, differ, listing};
@@ -27,10 +29,10 @@ use crate::ranks::{First, Second, Third};
 use iddqd_store::{ItemIndex, Lookup, Meter, SlotUnder, TryReserveError, UpToThree, Vacancy};
 use std::hash::{BuildHasher, Hash};
 
-/// An item that an insert refused, and why, with no hold on the map.
+/// An item that was not inserted, and why. It does not borrow the map.
 #[derive(Drop)]
 pub(crate) enum Refusal<T> {
-    /// These slots have items that conflict with it, in the order of the keys.
+    /// The items that conflict with it are in these slots, in the order of the keys.
     Duplicate(T, UpToThree<ItemIndex>),
     /// There was no memory for it.
     Memory(T),
@@ -39,7 +41,7 @@ pub(crate) enum Refusal<T> {
 impl<T: TriHashItem, S: BuildHasher> TriHashMap<T, S> {
     ghost use Rattle.iddqd_tri.specs.Refused.{MatchRefusal, refusal_item};
 
-    /// What searches by the first key read.
+    /// Returns what a search by the first key reads.
     pub(crate) fn by_key1(&self) -> Lookup<'_, T, First, S>
         ensures apart { IsDistinct (agree T.key1 T.K1.eq) (bag self.now) }
         ensures slots { result.slots ≡ self.now.slots }
@@ -49,7 +51,7 @@ impl<T: TriHashItem, S: BuildHasher> TriHashMap<T, S> {
         Lookup::new(&self.items, &self.first, &self.hash_builder)
     }
 
-    /// What searches by the second key read.
+    /// Returns what a search by the second key reads.
     pub(crate) fn by_key2(&self) -> Lookup<'_, T, Second, S>
         ensures apart { IsDistinct (agree T.key2 T.K2.eq) (bag self.now) }
         ensures slots { result.slots ≡ self.now.slots }
@@ -59,7 +61,7 @@ impl<T: TriHashItem, S: BuildHasher> TriHashMap<T, S> {
         Lookup::new(&self.items, &self.second, &self.hash_builder)
     }
 
-    /// What searches by the third key read.
+    /// Returns what a search by the third key reads.
     pub(crate) fn by_key3(&self) -> Lookup<'_, T, Third, S>
         ensures apart { IsDistinct (agree T.key3 T.K3.eq) (bag self.now) }
         ensures slots { result.slots ≡ self.now.slots }
@@ -69,7 +71,7 @@ impl<T: TriHashItem, S: BuildHasher> TriHashMap<T, S> {
         Lookup::new(&self.items, &self.third, &self.hash_builder)
     }
 
-    /// The hash of an item's first key.
+    /// Returns the hash of an item's first key.
     #[inline(always)]
     pub(crate) fn hash_of1(&self, item: &T) -> u64
         ensures { result ≡ ⟦<T as Hashed<S>>⟧.hash1 self.now.builder item.now }
@@ -77,7 +79,7 @@ impl<T: TriHashItem, S: BuildHasher> TriHashMap<T, S> {
         self.hash_builder.hash_one(item.key1())
     }
 
-    /// The hash of an item's second key.
+    /// Returns the hash of an item's second key.
     #[inline(always)]
     pub(crate) fn hash_of2(&self, item: &T) -> u64
         ensures { result ≡ ⟦<T as Hashed<S>>⟧.hash2 self.now.builder item.now }
@@ -85,7 +87,7 @@ impl<T: TriHashItem, S: BuildHasher> TriHashMap<T, S> {
         self.hash_builder.hash_one(item.key2())
     }
 
-    /// The hash of an item's third key.
+    /// Returns the hash of an item's third key.
     #[inline(always)]
     pub(crate) fn hash_of3(&self, item: &T) -> u64
         ensures { result ≡ ⟦<T as Hashed<S>>⟧.hash3 self.now.builder item.now }
@@ -93,8 +95,9 @@ impl<T: TriHashItem, S: BuildHasher> TriHashMap<T, S> {
         self.hash_builder.hash_one(item.key3())
     }
 
-    /// What a search at each rank by its key finds: the empty cells where no item has one of the keys, or else the slots.
-    /// Each key is hashed once and searched for once.
+    /// Searches at each rank for its key. If no item has one of the keys, `Ok` has the empty cells at which the
+    /// searches ended. Otherwise `Err` has the slot that each search found, if it found one, with the hash. The call
+    /// hashes each key once, and searches for it once.
     #[inline(always)]
     pub(crate) fn search_all(
         &self,
@@ -102,13 +105,13 @@ impl<T: TriHashItem, S: BuildHasher> TriHashMap<T, S> {
         key2: &T::K2,
         key3: &T::K3,
     ) -> Result<(Vacancy, Vacancy, Vacancy), (SlotUnder, SlotUnder, SlotUnder)>
-        // The slots, and whether there are some.
+        // The slots that were found, and whether there are any.
         ensures found { AreFound (⟦<T as Ranked>⟧.key_tests key1.now key2.now key3.now) self.now.slots
             (slots_found result) }
         ensures none { OnOk result (list_any is_some (slots_found result) ≡ false) }
         ensures some { OnErr result (list_any is_some (slots_found result) ≡ true) }
         ensures apart { IsDistinct (agree T.key1 T.K1.eq) (bag self.now) }
-        // The empty cells, or the hashes that the slots were found by.
+        // The empty cells, or the hashes by which the slots were found.
         ensures vacant { IfOk result (AreVacantFor
             (⟦<T as Hashed<S>>⟧.hash1 self.now.builder) (⟦<T as Hashed<S>>⟧.hash2 self.now.builder)
             (⟦<T as Hashed<S>>⟧.hash3 self.now.builder) (bag self.now)
@@ -150,8 +153,8 @@ impl<T: TriHashItem, S: BuildHasher> TriHashMap<T, S> {
         }
     }
 
-    /// Where an item goes in at each rank; or, where items conflict with it, what the search at each rank found. Each key
-    /// is hashed once and searched for once.
+    /// Returns where an item is to be inserted at each rank, or, if items conflict with it, what the search at each
+    /// rank found. The call hashes each key once, and searches for it once.
     #[inline(always)]
     pub(crate) fn places(
         &self,
@@ -175,7 +178,7 @@ impl<T: TriHashItem, S: BuildHasher> TriHashMap<T, S> {
         self.search_all(item.key1(), item.key2(), item.key3())
     }
 
-    /// Puts an item in that nothing conflicts with, where it goes in at each rank.
+    /// Inserts an item with which nothing conflicts, at the place found for it at each rank.
     #[inline(always)]
     pub(crate) fn insert_at(&mut self, item: T, at: (Vacancy, Vacancy, Vacancy)) -> ItemIndex
         requires room { length (bag self.old) < self.old.capacity }
@@ -195,9 +198,9 @@ impl<T: TriHashItem, S: BuildHasher> TriHashMap<T, S> {
         ix
     }
 
-    /// Puts an item in that has these keys, which no item of the map has, and answers its slot. It is refused with the
-    /// lowest rank at which its key is another one, or where there is no memory. It compares the keys given, and searches
-    /// and hashes nothing.
+    /// Inserts an item that has these keys, which no item of the map has, and returns its slot. The error names the
+    /// lowest rank at which the item has another key, or says that there was no memory. The call compares the item's
+    /// keys with the given ones. It searches for no key, and hashes none.
     pub(crate) fn insert_free(
         &mut self,
         item: T,
@@ -230,7 +233,7 @@ impl<T: TriHashItem, S: BuildHasher> TriHashMap<T, S> {
         Ok(self.insert_at(item, at))
     }
 
-    /// Takes out the item of a slot. A key of it is hashed only where its hash isn't given.
+    /// Removes the item of a slot. The call hashes a key of it only if its hash is not given.
     pub(crate) fn take(
         &mut self,
         ix: ItemIndex,
@@ -261,8 +264,8 @@ impl<T: TriHashItem, S: BuildHasher> TriHashMap<T, S> {
         }
     }
 
-    /// Takes out the items of these slots, in their order. A key is hashed only where a search by it did not find the
-    /// slot.
+    /// Removes the items of these slots, in their order. The call hashes a key only if the search by it did not find
+    /// the slot.
     pub(crate) fn take_all(
         &mut self,
         found: &UpToThree<ItemIndex>,
@@ -287,7 +290,7 @@ impl<T: TriHashItem, S: BuildHasher> TriHashMap<T, S> {
         taken
     }
 
-    /// How many items there is room for: the least of what the slots and each table hold.
+    /// Returns how many items fit: the least of what the slots and each table hold.
     pub(crate) fn room(&self) -> usize
         ensures value { result ≡ self.now.capacity }
         ensures fits { length (bag self.now) ≤ result }
@@ -300,7 +303,7 @@ impl<T: TriHashItem, S: BuildHasher> TriHashMap<T, S> {
         )
     }
 
-    /// Whether there is no room for one more item.
+    /// Returns whether no further item fits.
     #[inline(always)]
     fn is_full(&self) -> bool
         ensures value { result ≡ (length (bag self.now) == self.now.capacity) }
@@ -309,7 +312,7 @@ impl<T: TriHashItem, S: BuildHasher> TriHashMap<T, S> {
         self.items.len() == self.room()
     }
 
-    /// Makes room for so many more items. It stays out of the way of an insert, which seldom grows.
+    /// Reserves capacity for so many more items. It is not inlined into an insert, which seldom grows.
     #[cold]
     #[inline(never)]
     pub(crate) fn grow(&mut self, more: usize) -> Result<(), TryReserveError>
@@ -323,7 +326,7 @@ impl<T: TriHashItem, S: BuildHasher> TriHashMap<T, S> {
         Ok(())
     }
 
-    /// Makes room for one more item, where the map is full.
+    /// Reserves capacity for one more item if the map is full.
     #[inline(always)]
     pub(crate) fn make_room(&mut self) -> Result<(), TryReserveError>
         ensures slots { self.new.slots ≡ self.old.slots }
@@ -340,11 +343,11 @@ impl<T: TriHashItem, S: BuildHasher> TriHashMap<T, S> {
         Ok(())
     }
 
-    /// Puts an item in where none conflicts with it. It is refused with the slots of those that do, or, where the map is
-    /// full and cannot grow, for memory.
+    /// Inserts an item if none conflicts with it. The error has the slots of those that do; or, if the map is
+    /// full and cannot grow, it is `Memory`.
     ///
-    /// It is one body with what it calls, but for growing: so a caller's loop looks at the outcome where it arises, and
-    /// where the item goes in nothing is written to memory but the item and its pairs.
+    /// All that this function calls is inlined, except for growing. So a caller's loop branches on the outcome where it
+    /// arises, and an insert writes nothing to memory but the item and its pairs.
     #[inline(always)]
     pub(crate) fn try_insert(&mut self, item: T) -> Result<(), Refusal<T>>
         ensures gains { OnOk result (Gains self.old item self.new) }

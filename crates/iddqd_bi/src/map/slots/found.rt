@@ -1,5 +1,5 @@
-//! An item's keys compared with others, and the slots that searches by all keys found: which they are, and their items,
-//! read or lent.
+//! Comparing an item's keys with others, and the slots that searches by all keys found: which they are, and their
+//! items, borrowed for reading or writing.
 ghost use Rattle.std.specs.Prelude.{◌≡◌, ◌<◌, [], ◌∷◌, map, IfSome, option_copied};
 ghost use Rattle.std.specs.Option.{option_and_then};
 ghost use Rattle.iddqd_store.specs.Bag.{IsOnly, differ, every_of};
@@ -17,15 +17,15 @@ use crate::ref_mut::RefMut;
 use iddqd_store::{ItemIndex, Query, UpToTwo};
 use std::hash::{BuildHasher, Hash};
 
-/// Whether the item has each key behind the first that is asked for.
+/// Returns whether the item has the keys asked for at all ranks behind the first.
 pub(crate) fn has_others<T: BiHashItem, Q2: Query<T::K2>>(item: &T, query2: Q2) -> bool
     ensures { result ≡ every_of (has2 T.BiHashItem Q2.stands_for query2 ∷ []) item.now }
 {
     query2.stands_for(item.key2())
 }
 
-/// The lowest rank, counted from 0, at which the item has not these keys. It compares the first keys, and those of the
-/// next rank where those are equal.
+/// Returns the lowest rank, counted from 0, at which the item does not have these keys, or `None`. The function
+/// compares the keys rank by rank, up to the first that differs.
 pub(crate) fn differ<T: BiHashItem>(item: &T, key1: &T::K1, key2: &T::K2) -> Option<usize>
     ensures rank { result ≡ differ (⟦<T as Ranked>⟧.key_tests key1.now key2.now) item.now }
     ensures below { IfSome result (λ rank. rank < 2) }
@@ -39,7 +39,7 @@ pub(crate) fn differ<T: BiHashItem>(item: &T, key1: &T::K1, key2: &T::K2) -> Opt
     None
 }
 
-/// The slot that both searches found.
+/// Returns the slot that both searches found, or `None` if they did not find the same.
 pub(crate) fn one_of(slot1: Option<ItemIndex>, slot2: Option<ItemIndex>) -> Option<ItemIndex>
     ensures { result ≡ head_of (found_by_all (slot1 ∷ slot2 ∷ [])) }
 {
@@ -49,7 +49,7 @@ pub(crate) fn one_of(slot1: Option<ItemIndex>, slot2: Option<ItemIndex>) -> Opti
     }
 }
 
-/// The slots that searches found, each once.
+/// Returns the slots that searches found, each once.
 pub(crate) fn each_once(slot1: Option<ItemIndex>, slot2: Option<ItemIndex>) -> UpToTwo<ItemIndex>
     ensures { result ≡ each_once (slot1 ∷ slot2 ∷ []) }
 {
@@ -60,7 +60,7 @@ pub(crate) fn each_once(slot1: Option<ItemIndex>, slot2: Option<ItemIndex>) -> U
 }
 
 impl<T: BiHashItem, S: BuildHasher> BiHashMap<T, S> {
-    /// The slot of the item that has both keys that the queries stand for, where this is the first query's hash.
+    /// Returns the slot of the item that has both keys that the queries stand for. The hash is that of the first query.
     pub(crate) fn slot_unique<Q1: Query<T::K1>, Q2: Query<T::K2>>(
         &self,
         hash: u64,
@@ -83,7 +83,7 @@ impl<T: BiHashItem, S: BuildHasher> BiHashMap<T, S> {
         }
     }
 
-    /// The slot of the item that has both keys that the queries stand for.
+    /// Returns the slot of the item that has both keys that the queries stand for.
     pub(crate) fn slot_of_both<Q1: Query<T::K1>, Q2: Query<T::K2>>(
         &self,
         query1: Q1,
@@ -95,7 +95,7 @@ impl<T: BiHashItem, S: BuildHasher> BiHashMap<T, S> {
         self.slot_unique(hash, query1, query2)
     }
 
-    /// The items of these slots, lent.
+    /// Returns the items of these slots, borrowed for reading.
     pub(crate) fn items_of(&self, found: &UpToTwo<ItemIndex>) -> UpToTwo<&T>
         ensures { map (λ item. item.now) result ≡ items_at self.now.slots found.now }
     {
@@ -110,14 +110,14 @@ impl<T: BiHashItem, S: BuildHasher> BiHashMap<T, S> {
         items
     }
 
-    /// The item of a slot, if it has one.
+    /// Returns the item of a slot, or `None` if there is no slot or if it has none.
     pub(crate) fn item_of(&self, slot: Option<ItemIndex>) -> Option<&T>
         ensures { option_copied result ≡ option_and_then (get self.now.slots) slot }
     {
         self.items.get(slot?)
     }
 
-    /// The slot, if it has an item.
+    /// Returns the slot, if it has an item.
     fn if_live(&self, slot: Option<ItemIndex>) -> Option<ItemIndex>
         ensures live { IfSome result (IsLive self.now.slots) }
         ensures item { option_and_then (get self.now.slots) result ≡ option_and_then (get self.now.slots) slot }
@@ -130,7 +130,7 @@ impl<T: BiHashItem, S: BuildHasher> BiHashMap<T, S> {
         }
     }
 
-    /// The item of a slot, if it has one, for writing.
+    /// Returns a guard of the item of a slot, or `None` if there is no slot or if it has none.
     pub(crate) fn lend(&mut self, slot: Option<ItemIndex>) -> Option<RefMut<'_, T, S>>
         ensures item { option_and_then ref_item result ≡ option_and_then (get self.old.slots) slot }
         ensures unchanged { IfSome result (λ r. ref_map r ≡ self.old) }

@@ -1,4 +1,4 @@
-//! Putting an item in the place of others.
+//! Inserting an item in place of others.
 ghost use Rattle.std.specs.Prelude.{◌≡◌, ◌≢◌, [], ◌∷◌, All, length, nat_eq, zip, Some};
 ghost use Rattle.std.specs.List.{IsDistinct};
 ghost use Rattle.iddqd_store.specs.Bag.{order, over};
@@ -16,9 +16,9 @@ use iddqd_store::{ItemIndex, ItemSet, SlotUnder, UpToTwo};
 use std::hash::{BuildHasher, Hash};
 
 impl<T: BiHashItem, S: BuildHasher> BiHashMap<T, S> {
-    /// Puts an item in the place of those that conflict with it, whose slots the searches by its keys found, and gives
-    /// them back with the slot of the new one. There is at least one. The item goes into the slot of the first of them,
-    /// and each table is brought in line once all of them are out. No key is hashed by which a search found its item.
+    /// Inserts an item in place of those that conflict with it, whose slots the searches by its keys found, and returns
+    /// these items, with the slot of the new one. There is at least one. The new item goes into the slot of the first of
+    /// them. Each table then gives up the pairs of all of them. No key is hashed by which a search found its item.
     #[inline(never)]
     pub(crate) fn put_over(
         &mut self,
@@ -37,7 +37,7 @@ impl<T: BiHashItem, S: BuildHasher> BiHashMap<T, S> {
         ensures puts_at { PutsAt ⟦<T as Ranked>⟧.ranks self.old result.1 item
             (over ⟦<T as Ranked>⟧.ranks (bag self.old) item) self.new }
     {
-        // That the items fit, for the clause `fits`.
+        // This call gives the prover the fact that the items fit, for the clause `fits`.
         let _ = self.room();
         let found = each_once(by.0.slot(), by.1.slot());
         let (displaced, ix) = put_in(&mut self.items, &found, item);
@@ -51,8 +51,8 @@ impl<T: BiHashItem, S: BuildHasher> BiHashMap<T, S> {
     }
 }
 
-/// Puts an item in the first of these slots and takes the items of the others out. It gives back all that stood in them,
-/// with the slot of the new one.
+/// Puts an item into the first of these slots, and removes the items of the others. It returns all items that were in
+/// these slots, with the slot of the new one.
 fn put_in<T>(items: &mut ItemSet<T>, found: &UpToTwo<ItemIndex>, item: T) -> (UpToTwo<T>, ItemIndex)
     requires some { length found.now ≢ 0 }
     requires live { All (IsLive items.old.slots) found.now }

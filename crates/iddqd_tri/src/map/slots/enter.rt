@@ -1,4 +1,4 @@
-//! What goes in to be taken out again, should the rest of its list be refused.
+//! Inserting the items of a list so that they can be removed again if a later one is rejected.
 ghost use Rattle.std.specs.Prelude.{◌≡◌, ◌<◌, ◌++◌, [], ◌∷◌, length, List, All, OnOk, OnErr, IfErr, nat_eq};
 ghost use Rattle.std.specs.List.{IsDistinct};
 ghost use Rattle.iddqd_store.specs.Bag.{clash};
@@ -13,8 +13,8 @@ use iddqd_store::{Entered, ExtendUniqueReason};
 use std::hash::{BuildHasher, Hash};
 
 impl<T: TriHashItem, S: BuildHasher> TriHashMap<T, S> {
-    /// Puts an item in where none conflicts with it, and notes its slot. What conflicts is looked for first; then room
-    /// is made in the map and for the note, and then the item goes in.
+    /// Inserts an item if none conflicts with it, and notes its slot. The call searches for conflicts first. Then it
+    /// reserves capacity in the map and for the note, and then it inserts the item.
     pub(crate) fn enter(
         &mut self,
         item: T,
@@ -44,7 +44,8 @@ impl<T: TriHashItem, S: BuildHasher> TriHashMap<T, S> {
         Ok(())
     }
 
-    /// Takes out again what went in, in the order in which it did. It takes no memory, and compares no keys.
+    /// Removes again the items that were inserted, in the order in which they were. The call allocates no memory, and
+    /// compares no key.
     pub(crate) fn take_entered(&mut self, entered: Entered<T>) -> Vec<T>
         requires live { All (IsLive self.old.slots) entered.slots }
         requires apart { IsDistinct nat_eq entered.slots }

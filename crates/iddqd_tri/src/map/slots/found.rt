@@ -1,5 +1,5 @@
-//! An item's keys compared with others, and the slots that searches by all keys found: which they are, and their items,
-//! read or lent.
+//! Comparing an item's keys with others, and the slots that searches by all keys found: which they are, and their
+//! items, borrowed for reading or writing.
 ghost use Rattle.std.specs.Prelude.{◌≡◌, ◌<◌, [], ◌∷◌, map, IfSome, option_copied};
 ghost use Rattle.std.specs.Option.{option_and_then};
 ghost use Rattle.iddqd_store.specs.Bag.{IsOnly, differ, every_of};
@@ -17,7 +17,7 @@ use crate::ref_mut::RefMut;
 use iddqd_store::{ItemIndex, Query, UpToThree};
 use std::hash::{BuildHasher, Hash};
 
-/// Whether the item has each key behind the first that is asked for.
+/// Returns whether the item has the keys asked for at all ranks behind the first.
 pub(crate) fn has_others<T: TriHashItem, Q2: Query<T::K2>, Q3: Query<T::K3>>(
     item: &T,
     query2: Q2,
@@ -29,8 +29,8 @@ pub(crate) fn has_others<T: TriHashItem, Q2: Query<T::K2>, Q3: Query<T::K3>>(
     query2.stands_for(item.key2()) && query3.stands_for(item.key3())
 }
 
-/// The lowest rank, counted from 0, at which the item has not these keys. It compares the first keys, and those of the
-/// next rank where those are equal.
+/// Returns the lowest rank, counted from 0, at which the item does not have these keys, or `None`. The function
+/// compares the keys rank by rank, up to the first that differs.
 pub(crate) fn differ<T: TriHashItem>(
     item: &T,
     key1: &T::K1,
@@ -52,7 +52,7 @@ pub(crate) fn differ<T: TriHashItem>(
     None
 }
 
-/// The slot that all searches found.
+/// Returns the slot that all searches found, or `None` if they did not find the same.
 pub(crate) fn one_of(
     slot1: Option<ItemIndex>,
     slot2: Option<ItemIndex>,
@@ -66,7 +66,7 @@ pub(crate) fn one_of(
     }
 }
 
-/// The slots that searches found, each once.
+/// Returns the slots that searches found, each once.
 pub(crate) fn each_once(
     slot1: Option<ItemIndex>,
     slot2: Option<ItemIndex>,
@@ -82,7 +82,7 @@ pub(crate) fn each_once(
 }
 
 impl<T: TriHashItem, S: BuildHasher> TriHashMap<T, S> {
-    /// The slot of the item that has all keys that the queries stand for, where this is the first query's hash.
+    /// Returns the slot of the item that has all keys that the queries stand for. The hash is that of the first query.
     pub(crate) fn slot_unique<Q1: Query<T::K1>, Q2: Query<T::K2>, Q3: Query<T::K3>>(
         &self,
         hash: u64,
@@ -107,7 +107,7 @@ impl<T: TriHashItem, S: BuildHasher> TriHashMap<T, S> {
         }
     }
 
-    /// The slot of the item that has all keys that the queries stand for.
+    /// Returns the slot of the item that has all keys that the queries stand for.
     pub(crate) fn slot_of_all<Q1: Query<T::K1>, Q2: Query<T::K2>, Q3: Query<T::K3>>(
         &self,
         query1: Q1,
@@ -121,7 +121,7 @@ impl<T: TriHashItem, S: BuildHasher> TriHashMap<T, S> {
         self.slot_unique(hash, query1, query2, query3)
     }
 
-    /// The items of these slots, lent.
+    /// Returns the items of these slots, borrowed for reading.
     pub(crate) fn items_of(&self, found: &UpToThree<ItemIndex>) -> UpToThree<&T>
         ensures { map (λ item. item.now) result ≡ items_at self.now.slots found.now }
     {
@@ -136,14 +136,14 @@ impl<T: TriHashItem, S: BuildHasher> TriHashMap<T, S> {
         items
     }
 
-    /// The item of a slot, if it has one.
+    /// Returns the item of a slot, or `None` if there is no slot or if it has none.
     pub(crate) fn item_of(&self, slot: Option<ItemIndex>) -> Option<&T>
         ensures { option_copied result ≡ option_and_then (get self.now.slots) slot }
     {
         self.items.get(slot?)
     }
 
-    /// The slot, if it has an item.
+    /// Returns the slot, if it has an item.
     fn if_live(&self, slot: Option<ItemIndex>) -> Option<ItemIndex>
         ensures live { IfSome result (IsLive self.now.slots) }
         ensures item { option_and_then (get self.now.slots) result ≡ option_and_then (get self.now.slots) slot }
@@ -156,7 +156,7 @@ impl<T: TriHashItem, S: BuildHasher> TriHashMap<T, S> {
         }
     }
 
-    /// The item of a slot, if it has one, for writing.
+    /// Returns a guard of the item of a slot, or `None` if there is no slot or if it has none.
     pub(crate) fn lend(&mut self, slot: Option<ItemIndex>) -> Option<RefMut<'_, T, S>>
         ensures item { option_and_then ref_item result ≡ option_and_then (get self.old.slots) slot }
         ensures unchanged { IfSome result (λ r. ref_map r ≡ self.old) }
