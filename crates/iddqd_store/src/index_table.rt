@@ -1,6 +1,6 @@
 //! A hash table of pairs of a hash and a slot's index: open addressing with linear probing, and backward-shift
 //! deletion, so there are no tombstones.
-ghost use Rattle.std.specs.Prelude.{◌≡◌, ◌≢◌, ◌+◌, ◌*◌, ◌/◌, ◌%◌, ◌∷◌, ◌<◌, ◌≤◌, ◌&&◌, [], true, length, IsSome, IsOk, IsErr, ◌↔◌, IfOk, OnErr, IfErr};
+ghost use Rattle.std.specs.Prelude.{◌≡◌, ◌≢◌, ◌+◌, ◌*◌, ◌/◌, ◌%◌, ◌∷◌, ◌<◌, ◌≤◌, ◌&&◌, [], true, length, IsSome, IsOk, IsErr, ◌↔◌, IfOk, OnErr, IfErr, Contains};
 ghost use Rattle.std.specs.List.Sorted.{IsPermutation};
 ghost use Rattle.std.specs.Option.{option_map};
 ghost use Rattle.std.specs.Result.{result_ok};
