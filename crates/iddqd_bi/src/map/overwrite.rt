@@ -15,8 +15,6 @@ impl<T: Ranked, S: BuildHasher> BiHashMap<T, S> {
     /// by which it did not find that item. If items conflict, it allocates no memory and the capacity stays. Otherwise
     /// it fails only if the map is full and there is no memory to grow. The error then has the item, and the map is as
     /// it was.
-    // It is inlined, and what it calls if items conflict or the map grows is not. So a caller's loop branches on the outcome
-    // where it arises, and writes no list of removed items to memory if there are none.
     #[inline(always)]
     pub fn insert_overwrite(&mut self, item: T) -> Result<UpToTwo<T>, MemoryRefused<T>>
         // The conflicting items are returned, in the order of the item's keys, and the item is in their place.
@@ -29,6 +27,8 @@ impl<T: Ranked, S: BuildHasher> BiHashMap<T, S> {
         ensures unchanged { OnErr result (self.new ≡ self.old) }
         ensures reason { OnErr result (IsFullFor T.ranks self.old item) }
     {
+        // This is inlined, and what it calls if items conflict or the map grows is not. So a caller's loop branches on the
+        // outcome where it arises, and writes no list of removed items to memory if there are none.
         match self.places(&item) {
             Ok(at) => {
                 if let Err(_) = self.make_room() {
