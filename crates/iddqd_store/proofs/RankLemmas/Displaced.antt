@@ -1,5 +1,5 @@
 -- How a map stays indexed where an item comes into the place of those that it displaces.
-use Rattle.std.specs.Prelude.{◌≡◌, ◌<◌, ◌≤◌, ℕ, suc, Bool, true, false, cond, All, Contains, List, [], ◌∷◌, ◌++◌, filter, length, map, zip, nat_eq, IsPermutation, Option, Some, None, ⊤}
+use Rattle.std.specs.Prelude.{◌≡◌, ◌<◌, ◌≤◌, ℕ, suc, Bool, true, false, cond, All, Contains, List, [], ◌∷◌, ◌++◌, filter, length, map, zip, nat_eq, IsPermutation, Option, Some, None}
 use Rattle.std.specs.List.{AllByRecursion, AllZip, IsDistinct}
 use Rattle.std.specs.Option.{IfSome, option_map, option_to_list}
 use Rattle.std.proofs.Common.{IsSome, refl, sym, ap, subst, ◌∙◌, arith}
@@ -8,7 +8,7 @@ use Rattle.std.proofs.lemmas.List.{append-nil, append_assoc, length-append, map-
 use Rattle.std.proofs.lemmas.List.Elements.{All-head, All-tail, filter-append}
 use Rattle.std.proofs.lemmas.List.Sorted.{IsPermutation-sym, IsPermutation-trans, IsPermutation-cons, IsPermutation-map, IsPermutation-middle, Contains-permutation, length_permutation}
 use Rattle.std.proofs.lemmas.Map.Keys.{IsDistinct-cons, IsDistinct-head, IsDistinct-tail}
-use Rattle.iddqd_store.specs.Bag.{Ranks, AreLawful, IsSound, conflicts, clash, order}
+use Rattle.iddqd_store.specs.Bag.{Ranks, AreLawful, IsSound, conflicts, order}
 use Rattle.iddqd_store.specs.Rank.{IsPaired, IsUnder, SlotUnder}
 use Rattle.iddqd_store.specs.Rank.Index.{HasHash, IsIndex, pair_of, pairs_of}
 use Rattle.iddqd_store.specs.Slots.{IsLive, get, live_items, members}

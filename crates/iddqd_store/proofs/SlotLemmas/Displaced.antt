@@ -1,6 +1,6 @@
 -- How items leave their slots in turn, before another comes into the slot of the first.
-use Rattle.std.specs.Prelude.{◌≡◌, ◌≢◌, ℕ, suc, false, All, List, [], ◌∷◌, ◌++◌, length, zip, nat_eq, IsPermutation, Option, Some, None}
-use Rattle.std.specs.List.{AllByRecursion, IsDistinct}
+use Rattle.std.specs.Prelude.{◌≡◌, ◌≢◌, ℕ, false, All, List, [], ◌∷◌, ◌++◌, length, zip, nat_eq, IsPermutation, Option, Some, None}
+use Rattle.std.specs.List.{IsDistinct}
 use Rattle.std.proofs.Common.{refl, sym, ap, subst, ◌∙◌, arith, append-nil, append_assoc}
 use Rattle.std.proofs.lemmas.Bool.Decides.{nat_tests}
 use Rattle.std.proofs.lemmas.List.{length_push}

@@ -1,4 +1,4 @@
-use Rattle.std.proofs.Common.{◌∷◌, [], arith, rules, sym, ◌∙◌}
+use Rattle.std.proofs.Common.{◌∷◌, [], arith, rules, ◌∙◌}
 use Rattle.iddqd_store.specs.Slots.{live_items}
 use Rattle.iddqd_store.proofs.BagLemmas.Over.{over-taken}
 use Rattle.iddqd_store.proofs.MapLemmas.Places.{stand_in}

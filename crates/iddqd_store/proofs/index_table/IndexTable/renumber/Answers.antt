@@ -1,4 +1,4 @@
-use Rattle.std.proofs.Common.{arith, ℕ, ◌≡◌, ◌∷◌, length, sym, ◌∙◌}
+use Rattle.std.proofs.Common.{arith}
 use Rattle.std.proofs.lemmas.List.Sorted.{length_permutation}
 use Rattle.iddqd_store.proofs.TableLemmas.Search.{way_found}
 use Rattle.iddqd_store.proofs.TableLemmas.Write.{held_over, table_over}
