@@ -235,3 +235,20 @@ pub some_pairs : {T : Type 0} (hash : T → ℕ) (ixs : List ℕ) (xs : List T) 
 some_pairs hash [] xs some same = absurd (omega (arith, some))
 some_pairs hash (a ∷ ixs) [] some same = absurd (omega (arith, same))
 some_pairs hash (a ∷ ixs) (x ∷ xs) some same = omega arith
+
+pub as_long : {T : Type 0} (hash : T → ℕ) (ixs : List ℕ) (xs : List T) → length ixs ≡ length xs → length (pairs_of hash ixs xs) ≡ length ixs
+as_long hash [] xs same = refl
+as_long hash (a ∷ ixs) [] same = absurd (omega (arith, same))
+as_long hash (a ∷ ixs) (x ∷ xs) same = ap suc (as_long hash ixs xs (omega (arith, same)))
+
+only_one : (p q : ℕ × ℕ) (b : Bool) → cond b (p ∷ []) [] ≡ q ∷ [] → p ≡ q
+only_one p q true same = cc
+only_one p q false same = absurd (cc)
+
+-- the only pair that gives way is the one that the search found
+pub stays_alone : (by : SlotUnder) (start gone : List (ℕ × ℕ)) (ix : ℕ) → length gone ≡ 1 → by.slot ≡ Some ix → IsPaired by gone → Includes start gone → GivesWay start start gone (by.hash, ix)
+stays_alone by start [] ix one is paired inc = absurd (omega (arith, one))
+stays_alone by start (p ∷ []) ix one is paired inc =
+    let same : p ≡ (by.hash, ix) = only_one p (by.hash, ix) (is_at p.1 (Some ix)) (rw is at paired) in
+    record { others = inc.others; had = inc.had; has = subst (λ q. IsPermutation start (q ∷ inc.others)) same inc.had }
+stays_alone by start (p ∷ q ∷ rest) ix one is paired inc = absurd (omega (arith, one))

@@ -93,6 +93,10 @@ impl IndexTable {
             (by.now.hash, ix) }
         ensures limit { self.new.limit ≡ self.old.limit }
     {
+        if slots.len() == 1 && by.hash_at(ix).is_some() {
+            // The only pair that gives way is the one that the search found, and it has the right slot.
+            return;
+        }
         // This call gives the prover the fact that the pairs fit, so that one more fits once one was removed.
         let _ = self.capacity();
         let mut left = slots.clone();

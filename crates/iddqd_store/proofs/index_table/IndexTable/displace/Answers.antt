@@ -1,12 +1,12 @@
-use Rattle.std.proofs.Common.{◌≡◌, ℕ, true, false, sym, ◌∙◌, arith, refl}
+use Rattle.std.proofs.Common.{◌≡◌, ℕ, true, false, length, sym, ◌∙◌, arith, refl}
 use Rattle.std.specs.Prelude.{Option, None, Some, nat_eq, not}
-use Rattle.std.specs.Option.{option_eq}
+use Rattle.std.specs.Option.{IfSome, is_some, option_eq}
 use Rattle.std.proofs.lemmas.Bool.{true≢false}
 use Rattle.std.proofs.lemmas.Bool.Decides.{nat_tests}
 use Rattle.iddqd_store.specs.Slots.Found.{is_at}
-use Rattle.iddqd_store.specs.Rank.{key_hash}
+use Rattle.iddqd_store.specs.Rank.{SlotUnder, key_hash}
 use Rattle.iddqd_store.specs.Rank.Index.{pairs_of}
-use Rattle.iddqd_store.proofs.RankLemmas.Displaced.{begun, is_there, taken_out, stays_in, has_room, goes_in, found_there, stays_found, renumbered, some_pairs}
+use Rattle.iddqd_store.proofs.RankLemmas.Displaced.{begun, is_there, taken_out, stays_in, has_room, goes_in, found_there, stays_found, renumbered, some_pairs, as_long, stays_alone}
 use Rattle.iddqd_store.proofs.index_table.IndexTable.displace.Goals as goal
 
 unlike : (o : Option ℕ) (at : ℕ) → not (option_eq nat_eq o (Some at)) ≡ true → is_at at o ≡ false
@@ -19,6 +19,17 @@ alike (Some b) at same = grind (arith, nat_tests)
 
 same_number : (a b : ℕ) → not (nat_eq a b) ≡ false → a ≡ b
 same_number a b same = grind (arith, nat_tests)
+
+slot_of : (by : SlotUnder) (ix : ℕ) (known : Option ℕ) → is_some known ≡ true → IfSome known (λ hash. (by.slot ≡ Some ix) × (hash ≡ by.hash)) → by.slot ≡ Some ix
+slot_of by ix None some under = absurd (true≢false (sym some))
+slot_of by ix (Some hash) some under = under.0
+
+pub returns-then-is_some-clause-displaced : goal.returns-then-is_some-clause-displaced
+returns-then-is_some-clause-displaced g c =
+    let hash = key_hash g.R.KeyOf.key g.R.Key.Hash.hash_input g.S.BuildHasher g.S.Hasher.Hasher c.args.hash_builder.now in
+    let gone = pairs_of hash c.args.slots.now c.args.displaced.now in
+    let one : length gone ≡ 1 = as_long hash c.args.slots.now c.args.displaced.now c.requires.as_many ∙ sym c.len.ensures.value ∙ grind (arith, nat_tests, c.if-len-eq1.true) in
+    stays_alone c.args.by.now c.args.self.now.pairs gone c.args.ix one (slot_of c.args.by.now c.args.ix c.hash_at.result (sym c.is_some.ensures ∙ c.if-is_some.true) c.hash_at.ensures.under) c.requires.found c.requires.paired
 
 pub loop-at-init : goal.loop-at-init
 loop-at-init g c = rw (c.clone-left.ensures, c.clone-items.ensures) record { as_many = c.requires.as_many; limit = refl; displacing = begun c.args.by.now _ _ c.requires.paired }
