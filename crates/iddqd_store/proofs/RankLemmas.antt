@@ -1,11 +1,11 @@
 -- A table as the index of a rank: what it finds, how it is filled, kept and copied.
 pub mod Copied
 pub mod Costs
-pub mod Displaced
 pub mod Exchanged
 pub mod Fill
 pub mod Index
 pub mod Invariant
 pub mod Looks
+pub mod Rehashed
 pub mod Search
 pub mod Under

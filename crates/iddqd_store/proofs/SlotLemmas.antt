@@ -1,7 +1,6 @@
 -- Slots: the chain of the free ones, and what is found in them.
 pub mod Chain
 pub mod Clone
-pub mod Displaced
 pub mod Entered
 pub mod Entries
 pub mod Found

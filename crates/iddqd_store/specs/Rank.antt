@@ -2,16 +2,15 @@
 pub mod Asking
 pub mod Index
 pub mod Keys
-use Rattle.std.specs.Prelude.{◌≡◌, ℕ, ◌+◌, ◌*◌, ◌/◌, ◌≤◌, Bool, true, List, Option, Contains, IfSome, filter, length, map}
+use Rattle.std.specs.Prelude.{◌≡◌, ℕ, ◌+◌, ◌*◌, ◌/◌, ◌≤◌, Bool, true, List, Option, Contains, IfSome, length, map}
 use Rattle.std.specs.Hash.{HashWrites}
-use Rattle.std.specs.Option.{option_map, option_to_list}
 use Rattle.std.specs.List.{IsDistinct}
 use Rattle.std.specs.declared.hash.Hasher as hasher
 use Rattle.std.specs.declared.hash.BuildHasher as builder
 use Rattle.iddqd_store.specs.Bag.{crowd}
 use Rattle.iddqd_store.specs.Rank.Index.{HasHash, IsIndex}
 use Rattle.iddqd_store.specs.Map.{hash_of}
-use Rattle.iddqd_store.specs.Slots.Found.{NamesOneOf, is_at}
+use Rattle.iddqd_store.specs.Slots.Found.{NamesOneOf}
 use Rattle.iddqd_store.specs.Slots.{live_items}
 use Rattle.iddqd_store.specs.Table.{IsFree, LooksUpWithin, Spot}
 
@@ -64,13 +63,6 @@ module _ {T : Type 0} where
   -- The item in the slot that was found has the hash of the search. No public clause cites it.
   abbrev pub IsUnder : (T → ℕ) → List (Option T) → SlotUnder → Type 0
   IsUnder hash slots found = IfSome found.slot (λ at. HasHash hash slots at found.hash)
-
--- Of these pairs, that of the slot that a search found is under the hash of the search, and no other pair has that slot. No
--- clause of a map cites it.
--- Example: For the slot 2 and the hash 6 it holds of (5, 0), (6, 2).
-abbrev pub IsPaired : SlotUnder → List (ℕ × ℕ) → Type 0
-IsPaired found pairs =
-    filter (λ p. is_at p.1 found.slot) pairs ≡ option_to_list (option_map (λ at. (found.hash, at)) found.slot)
 
 -- A search by one rank needs that no two items have equal keys, and that the table has the pairs of their hashes. No
 -- clause of a map cites it.

@@ -4,7 +4,7 @@ pub mod Limit
 pub mod Ring
 pub mod Room
 pub mod Search
-use Rattle.std.specs.Prelude.{ℕ, ◌+◌, ◌*◌, ◌/◌, ◌%◌, ◌^◌, ◌≡◌, ◌<◌, ◌≤◌, ◌==◌, Bool, List, ◌∷◌, ◌++◌, Option, None, Some, ◌≢◌, length, map, IfNone, OnSome}
+use Rattle.std.specs.Prelude.{ℕ, ◌+◌, ◌*◌, ◌/◌, ◌%◌, ◌^◌, ◌≡◌, ◌<◌, ◌≤◌, ◌==◌, Bool, List, ◌∷◌, Option, None, Some, ◌≢◌, length, map, IfNone, OnSome}
 use Rattle.std.specs.List.Sorted.{IsPermutation}
 use Rattle.iddqd_store.specs.Table.Limit.{IsSize}
 use Rattle.iddqd_store.specs.Table.Ring.{pairs_in, cell, gap, stretch, IsReached}
@@ -35,18 +35,12 @@ abbrev pub LooksUpWithin : {A : Type 0} → List ℕ → ℕ → ℕ → Option 
 LooksUpWithin hashes room hash answer before after =
     (cells : ℕ) × IsSize cells × (cells < 2 ^ 64) × (room ≤ cells / 8 * 7) × LooksUp hashes cells hash answer before after
 
--- These are among the members of a list.
--- Example: Of a, b, c it holds for c, a.
-pub record Includes {X : Type 0} (all some : List X) : Type 0 where
-  pub others : List X
-  pub had : IsPermutation all (some ++ others)
-
--- These members of a list give way to one, and every other member stays.
--- Example: From a, b, c to d, c the members a, b give way to d.
-pub record GivesWay {X : Type 0} (old new gone : List X) (one : X) : Type 0 where
-  pub others : List X
-  pub had : IsPermutation old (gone ++ others)
-  pub has : IsPermutation new (one ∷ others)
+-- The slot `index` stands under the hash `after` in the place of `before`, and every other pair stays.
+-- Example: From (5, 0), (6, 2) to (5, 0), (7, 2) the slot 2 moves from 6 to 7.
+pub record MovesPair (old new : List (ℕ × ℕ)) (before after index : ℕ) : Type 0 where
+  pub others : List (ℕ × ℕ)
+  pub had : IsPermutation old ((before, index) ∷ others)
+  pub has : IsPermutation new ((after, index) ∷ others)
 
 -- Each pair is found from its home on, and at least an eighth of the cells is empty.
 -- Example: Of 8 empty cells it holds.

@@ -1,8 +1,8 @@
 -- Lists with the same elements, by exchanges of neighbours.
-use Rattle.std.specs.Prelude.{◌≡◌, ℕ, zero, suc, ◌<◌, Bool, true, false, cond, List, [], ◌∷◌, ◌++◌, length, filter, IsPermutation}
-use Rattle.std.specs.List.{AllZip, remove, swap}
-use Rattle.std.proofs.Common.{refl, sym, arith, get_or, set}
-use Rattle.std.proofs.lemmas.List.Sorted.{IsPermutation-refl, IsPermutation-sym, IsPermutation-cons, IsPermutation-trans, IsPermutation-middle, IsPermutation-remove, IsPermutation-keeps}
+use Rattle.std.specs.Prelude.{◌≡◌, ℕ, zero, suc, ◌<◌, Bool, true, false, cond, List, [], ◌∷◌, length, filter, IsPermutation}
+use Rattle.std.specs.List.{AllZip, swap}
+use Rattle.std.proofs.Common.{refl, arith, get_or, set}
+use Rattle.std.proofs.lemmas.List.Sorted.{IsPermutation-refl, IsPermutation-cons, IsPermutation-trans, IsPermutation-middle, IsPermutation-keeps}
 
 -- a test is true or false
 pub split : (P : Bool → Type 0) (b : Bool) → (b ≡ true → P true) → (b ≡ false → P false) → P b
@@ -63,41 +63,6 @@ module _ {T : Type 0} where
   pub Shuffled-from : (xs ys : List T) → IsPermutation xs ys → Shuffled xs ys
   Shuffled-from xs ys h =
       IsPermutation-keeps xs (λ l. Shuffled xs l) (Shuffled-refl xs) (λ l i j a b k. then k (Shuffled-swap l i j a b)) ys h
-
-  IsPermutation-of : {xs ys : List T} → Shuffled xs ys → IsPermutation xs ys
-  IsPermutation-of done = IsPermutation-refl []
-  IsPermutation-of (keep {x} {xs} {ys} s) = IsPermutation-cons x xs ys (IsPermutation-of s)
-  IsPermutation-of (flip x y xs) = IsPermutation-flip x y xs
-  IsPermutation-of (then s t) = IsPermutation-trans _ _ _ (IsPermutation-of s) (IsPermutation-of t)
-
-  -- what is taken out of one order is taken out of the other
-  taken_too : (x : T) {xs ys : List T} → Shuffled xs ys → (i : ℕ) → i < length xs → get_or xs i x ≡ x → (j : ℕ) × (j < length ys) × (get_or ys j x ≡ x) × IsPermutation (remove xs i) (remove ys j)
-  taken_too x done i within is = absurd (omega arith)
-  taken_too x (keep s) zero within is = (0, omega arith, is, IsPermutation-of s)
-  taken_too x (keep {x = y} s) (suc i) within is =
-      let rest = taken_too x s i (omega arith) is in
-      (suc rest.0, omega (arith, rest.1), rest.2, IsPermutation-cons y _ _ rest.3)
-  taken_too x (flip y z l) zero within is = (1, omega arith, is, IsPermutation-refl (z ∷ l))
-  taken_too x (flip y z l) (suc zero) within is = (0, omega arith, is, IsPermutation-refl (y ∷ l))
-  taken_too x (flip y z l) (suc (suc i)) within is = (suc (suc i), omega arith, is, IsPermutation-flip y z (remove l i))
-  taken_too x (then s t) i within is =
-      let first = taken_too x s i within is in
-      let second = taken_too x t first.0 first.1 first.2 in
-      (second.0, second.1, second.2, IsPermutation-trans _ _ _ first.3 second.3)
-
-  -- what both begin with goes from both
-  pub IsPermutation-uncons : (x : T) (xs ys : List T) → IsPermutation (x ∷ xs) (x ∷ ys) → IsPermutation xs ys
-  IsPermutation-uncons x xs ys same =
-      let found = taken_too x (Shuffled-from (x ∷ xs) (x ∷ ys) same) 0 (omega arith) refl in
-      IsPermutation-trans _ _ _ found.3 (last found.0 found.1 found.2)
-    where
-      last : (j : ℕ) → j < length (x ∷ ys) → get_or (x ∷ ys) j x ≡ x → IsPermutation (remove (x ∷ ys) j) ys
-      last zero within is = IsPermutation-refl ys
-      last (suc j) within is = IsPermutation-sym _ _ (IsPermutation-remove ys j x (omega arith) (sym is))
-
-  pub IsPermutation-behind : (front xs ys : List T) → IsPermutation (front ++ xs) (front ++ ys) → IsPermutation xs ys
-  IsPermutation-behind [] xs ys same = same
-  IsPermutation-behind (x ∷ front) xs ys same = IsPermutation-behind front xs ys (IsPermutation-uncons x (front ++ xs) (front ++ ys) same)
 
 -- partners change places with the elements that they belong to
 module _ {A B : Type 0} (R : A → B → Type 0) where

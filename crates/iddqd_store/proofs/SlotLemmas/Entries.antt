@@ -1,5 +1,5 @@
 -- What the slots that searches found hold is what their tests find in the bag.
-use Rattle.std.specs.Prelude.{◌≡◌, ◌≢◌, ℕ, Bool, true, false, cond, List, [], ◌∷◌, ◌++◌, length, filter, fold, map, Contains, Option, Some, None, is_some, nat_eq, ◌||◌, if◌then◌else◌}
+use Rattle.std.specs.Prelude.{◌≡◌, ◌≢◌, ℕ, Bool, true, false, cond, List, [], ◌∷◌, ◌++◌, length, filter, fold, map, Contains, Option, Some, None, is_some, nat_eq, if◌then◌else◌}
 use Rattle.std.specs.Cmp.{IsEquivalence}
 use Rattle.std.specs.List.{AllByRecursion, IsDistinct, list_all, list_any}
 use Rattle.std.specs.Borrow.{MutBor}
@@ -37,46 +37,6 @@ IsDistinct-each_once found = on [] found (IsDistinct-nil nat_eq)
     on : (ixs : List ℕ) (found : List (Option ℕ)) → IsDistinct nat_eq ixs → IsDistinct nat_eq (fold with_found ixs found)
     on ixs [] apart = apart
     on ixs (at ∷ found) apart = on (with_found ixs at) found (IsDistinct-with_found ixs at apart)
-
-or_left : (a b : Bool) → a ≡ true → (a || b) ≡ true
-or_left true b h = refl
-or_left false b h = absurd (false≢true h)
-
--- each slot that a search found is among them
-pub each_once-lists : (found : List (Option ℕ)) → AllByRecursion (λ o. IfSome o (λ at. contains (each_once found) at ≡ true)) found
-each_once-lists found = on [] found
-  where
-    more : (ixs after : List ℕ) (at : ℕ) → contains ixs at ≡ true → contains (ixs ++ after) at ≡ true
-    more [] after at listed = absurd (false≢true listed)
-    more (a ∷ ixs) after at listed =
-        split (λ b. (b || contains ixs at) ≡ true → (b || contains (ixs ++ after) at) ≡ true) (nat_eq at a)
-        (λ _ _. refl) (λ _ listed. more ixs after at listed) listed
-
-    last : (ixs : List ℕ) (at : ℕ) → contains (ixs ++ at ∷ []) at ≡ true
-    last [] at = or_left (nat_eq at at) false (itself at)
-    last (a ∷ ixs) at =
-        split (λ b. (b || contains (ixs ++ at ∷ []) at) ≡ true) (nat_eq at a)
-        (λ _. refl) (λ _. last ixs at)
-
-    stays : (ixs : List ℕ) (o : Option ℕ) (at : ℕ) → contains ixs at ≡ true → contains (with_found ixs o) at ≡ true
-    stays ixs None at listed = listed
-    stays ixs (Some b) at listed =
-        split (λ t. contains (if t then ixs else ixs ++ b ∷ []) at ≡ true) (contains ixs b)
-        (λ _. listed) (λ _. more ixs (b ∷ []) at listed)
-
-    here : (ixs : List ℕ) (at : ℕ) → contains (with_found ixs (Some at)) at ≡ true
-    here ixs at =
-        split (λ t. contains (if t then ixs else ixs ++ at ∷ []) at ≡ true) (contains ixs at)
-        (λ yes. yes) (λ _. last ixs at)
-
-    kept : (ixs : List ℕ) (found : List (Option ℕ)) (at : ℕ) → contains ixs at ≡ true → contains (fold with_found ixs found) at ≡ true
-    kept ixs [] at listed = listed
-    kept ixs (o ∷ found) at listed = kept (with_found ixs o) found at (stays ixs o at listed)
-
-    on : (ixs : List ℕ) (found : List (Option ℕ)) → AllByRecursion (λ o. IfSome o (λ at. contains (fold with_found ixs found) at ≡ true)) found
-    on ixs [] = tt
-    on ixs (None ∷ found) = (tt, on ixs found)
-    on ixs (Some at ∷ found) = (kept (with_found ixs (Some at)) found at (here ixs at), on (with_found ixs (Some at)) found)
 
 module _ {T : Type 0} {agree : T → T → Bool} (laws : IsEquivalence agree) (slots : List (Option T)) (apart : IsDistinct agree (live_items slots)) where
   -- the slots found have the members that the tests list

@@ -218,19 +218,3 @@ unmet_more row home at s t x e w u f k l j =
 -- a pair that is there and was not met yet lies further on
 pub seek_on : (row : List (Option (ℕ × ℕ))) (hash at s index : ℕ) → IsTable row → Walk row (hash % length row) at s → Contains (pairs_in row) (hash, index) → Unmet row (hash % length row) (hash, index) s → cell row at ≢ None
 seek_on row hash at s index t w c u none = let f = walk_meets row hash at s index t w none c in u f.0 f.1 f.2
-
--- the same for one that knows its way
-pub way_found : (row : List (Option (ℕ × ℕ))) (hash at : ℕ) → IsTable row → IsWayTo row (hash % length row) at → cell row at ≢ None → gap (length row) (hash % length row) at + 1 ≤ stretch (hashes (pairs_in row)) (length row) hash
-way_found row hash at table way some =
-    let n : ℕ = length row in
-    let home : ℕ = hash % n in
-    let below : at < n = way.below in
-    let lh : home < n = omega arith in
-    let far : gap n home at < n = gap_below n home at lh below in
-    walk_found row hash at (gap n home at) (gap n home at + 1) table record {
-      within = far;
-      at_is = sym (place_gap n home at lh below);
-      passed = λ k lk.
-          let within : k < n = omega (arith, lk, far) in
-          way.first (place n home k) (place_below n home k lh within) (rw (gap_place n home k lh within) lk);
-    } some refl

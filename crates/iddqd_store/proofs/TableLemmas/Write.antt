@@ -7,7 +7,7 @@ use Rattle.std.proofs.lemmas.List.{take_more, append-nil, take-append-drop, leng
 use Rattle.std.proofs.lemmas.List.Sorted.{IsPermutation-refl, IsPermutation-trans, IsPermutation-sym, IsPermutation-cons, IsPermutation-middle, length_permutation}
 use Rattle.std.proofs.lemmas.Bool.{cases_eq}
 use Rattle.iddqd_store.specs.Table.Ring.{gap, pairs_in, cell, IsReached}
-use Rattle.iddqd_store.specs.Table.{GivesWay, IsTable, IsFirstEmpty}
+use Rattle.iddqd_store.specs.Table.{IsTable, IsFirstEmpty}
 use Rattle.iddqd_store.proofs.TableLemmas.Stretch.{place, place_gap}
 
 pub held_put : {X : Type 0} (cs : List (Option X)) (k : ℕ) (x : X) → k < length cs → cell cs k ≡ None → IsPermutation (x ∷ pairs_in cs) (pairs_in (set cs k (Some x)))
@@ -56,45 +56,6 @@ held_take cs k x l e =
     let z : cell (set cs k None) k ≡ None = get_or-set_same cs k None None l in
     let back : set (set cs k None) k (Some x) ≡ cs = set-set cs k None (Some x) ∙ (ap (λ (o : Option _). set cs k o) (sym e) ∙ set-get_or cs k None) in
     IsPermutation-sym _ _ (subst (λ (r : List (Option _)). IsPermutation (x ∷ pairs_in (set cs k None)) (pairs_in r)) back (held_put (set cs k None) k x (rw length-set l) z))
-
--- a pair that is written over another
-pub held_over : {X : Type 0} (cs : List (Option X)) (k : ℕ) (x y : X) → k < length cs → cell cs k ≡ Some x → GivesWay (pairs_in cs) (pairs_in (set cs k (Some y))) (x ∷ []) y
-held_over cs k x y l e =
-    let z : cell (set cs k None) k ≡ None = get_or-set_same cs k None None l in
-    let put : IsPermutation (y ∷ pairs_in (set cs k None)) (pairs_in (set (set cs k None) k (Some y))) = held_put (set cs k None) k y (rw length-set l) z in
-    record {
-      others = pairs_in (set cs k None);
-      had = held_take cs k x l e;
-      has = IsPermutation-sym _ _ (subst (λ (r : List (Option _)). IsPermutation (y ∷ pairs_in (set cs k None)) (pairs_in r)) (set-set cs k None (Some y)) put);
-    }
-
-reached_over : {X : Type 0} (home : X → ℕ) (n : ℕ) (cs : List (Option X)) (at : ℕ) (x y : X) → length cs ≡ n → at < n → cell cs at ≡ Some x → home y ≡ home x → IsReached home n cs → IsReached home n (set cs at (Some y))
-reached_over {X} home n cs at x y len la was same reached q z lq e i li h none =
-    let here : cell (set cs at (Some y)) at ≡ Some y = get_or-set_same cs at (Some y) None (omega arith) in
-    ⊎_elim (λ (ia : i ≡ at). let w : cell (set cs at (Some y)) at ≡ None = ap (cell (set cs at (Some y))) (sym ia) ∙ none in cc (w, here))
-    (λ (ia : i ≢ at).
-    let gone : cell cs i ≡ None = sym (get_or-set_other cs at i (Some y) None ia) ∙ none in
-    ⊎_elim (λ (qa : q ≡ at).
-    let s : Some z ≡ Some y = sym e ∙ (ap (cell (set cs at (Some y))) qa ∙ here) in
-    let zy : z ≡ y = cc s in
-    let l : gap n (home x) i ≤ gap n (home x) at = subst (λ (m : ℕ). gap n m i ≤ gap n m at) (ap home zy ∙ same) (subst (λ (p : ℕ). gap n (home z) i ≤ gap n (home z) p) qa h) in
-    reached at x la was i li l gone)
-    (λ (qa : q ≢ at). reached q z lq (sym (get_or-set_other cs at q (Some y) None qa) ∙ e) i li h gone)
-    (cases_eq q at))
-    (cases_eq i at)
-
--- a table of which a pair has another number
-pub table_over : (row : List (Option (ℕ × ℕ))) (at hash before after : ℕ) → IsTable row → at < length row → cell row at ≡ Some (hash, before) → IsTable (set row at (Some (hash, after)))
-table_over row at hash before after t l e =
-    let n : ℕ = length row in
-    let over = held_over row at (hash, before) (hash, after) l e in
-    let p : length (pairs_in (set row at (Some (hash, after)))) ≡ length (pairs_in row) = sym (length_permutation _ _ over.has) ∙ length_permutation _ _ over.had in
-    let len : length (set row at (Some (hash, after))) ≡ n = length-set row at (Some (hash, after)) in
-    record {
-      size = rw len t.size;
-      fits = rw (p, len) t.fits;
-      reached = subst (λ (m : ℕ). IsReached (λ (p : ℕ × ℕ). p.0 % m) m (set row at (Some (hash, after)))) (sym len) (reached_over (λ (p : ℕ × ℕ). p.0 % n) n row at (hash, before) (hash, after) refl l e refl t.reached);
-    }
 
 -- a pair that is moved into an empty cell
 pub held_move : {X : Type 0} (cs : List (Option X)) (at hole : ℕ) (x : X) → at < length cs → hole < length cs → cell cs at ≡ Some x → cell cs hole ≡ None → IsPermutation (pairs_in cs) (pairs_in (set (set cs at None) hole (Some x)))

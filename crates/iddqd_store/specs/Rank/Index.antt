@@ -1,5 +1,5 @@
 -- How tables index slots.
-use Rattle.std.specs.Prelude.{◌≡◌, ℕ, Bool, List, [], ◌∷◌, Option, Some, map, zip, IsPermutation, false, ⊤}
+use Rattle.std.specs.Prelude.{◌≡◌, ℕ, Bool, List, [], ◌∷◌, Option, Some, map, IsPermutation, false, ⊤}
 use Rattle.std.specs.Option.{option_map_or}
 use Rattle.iddqd_store.specs.Bag.{Ranks, IsSound}
 use Rattle.iddqd_store.specs.Slots.{members, live_items, get}
@@ -9,11 +9,6 @@ module _ {T : Type 0} where
   -- Example: Of the slot 2 with an item of the hash 5 it is (5, 2).
   abbrev pub pair_of : (T → ℕ) → ℕ × T → ℕ × ℕ
   pair_of hash m = (hash m.1, m.0)
-
-  -- `pairs_of` lists the pairs of items, by the slots in which they are.
-  -- Example: Of the slots 0, 2 and the items a, b with the hashes 5, 6 it is (5, 0), (6, 2).
-  abbrev pub pairs_of : (T → ℕ) → List ℕ → List T → List (ℕ × ℕ)
-  pairs_of hash slots items = map (pair_of hash) (zip slots items)
 
   -- `passes_at` tells whether the slot has an item that passes the test.
   -- Example: Of the slots `Some a`, `None` it is false at 1.

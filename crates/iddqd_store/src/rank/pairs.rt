@@ -2,15 +2,13 @@
 //! another one replaces. A pair has the hash of its item's key, which is known if a search found the item.
 ghost use Rattle.std.specs.Prelude.{◌≡◌, ◌<◌, ◌≤◌, [], ◌∷◌, length, Contains, IfSome};
 ghost use Rattle.std.specs.List.Sorted.{IsPermutation};
-ghost use Rattle.iddqd_store.specs.Rank.Index.{IsIndex, pairs_of};
-ghost use Rattle.iddqd_store.specs.Rank.{IsPaired};
+ghost use Rattle.iddqd_store.specs.Rank.Index.{IsIndex};
 ghost use Rattle.iddqd_store.specs.Slots.{live_count};
-ghost use Rattle.iddqd_store.specs.Table.{GivesWay, Includes};
+ghost use Rattle.iddqd_store.specs.Table.{MovesPair};
 
-use super::{HashedKey, KeyOf, SlotUnder};
+use super::{HashedKey, KeyOf};
 use crate::index_table::{IndexTable, Meter};
 use crate::item_set::{ItemIndex, ItemSet};
-use crate::short_list::ShortIter;
 use std::hash::{BuildHasher, Hash};
 
 impl<T> ItemSet<T> {
@@ -70,54 +68,27 @@ impl IndexTable {
         self.remove(hash, ix, &mut Meter::new());
     }
 
-    /// Puts the pair of an item in the place of the pairs of the items that it displaces. These were in the slots that are
-    /// given, in the same order. The search by the item's key found one of these slots, or none. The pair of the slot that
-    /// it found has the right hash, so it only gets the number of the new slot, and no key is hashed for it. Each other
-    /// pair is removed by the hash of its item's key.
-    pub fn displace<T, R: KeyOf<T>, S: BuildHasher>(
+    /// Moves a slot from the hash of the item that was there to another hash. It hashes the key of that item only if
+    /// its hash is not known. If both hashes are equal it does nothing.
+    pub fn rehash<T, R: KeyOf<T>, S: BuildHasher>(
         &mut self,
         hash_builder: &S,
-        slots: &ShortIter<'_, ItemIndex>,
-        displaced: &ShortIter<'_, T>,
+        gone: &T,
         ix: ItemIndex,
-        by: &SlotUnder,
+        known: Option<u64>,
+        hash: u64,
     )
-        requires some { 0 < length slots.now }
-        requires as_many { length slots.now ≡ length displaced.now }
-        requires paired { Includes self.old.pairs
-            (pairs_of (⟦<R as HashedKey<T, S>>⟧.hash hash_builder.now) slots.now displaced.now) }
-        requires found { IsPaired by.now
-            (pairs_of (⟦<R as HashedKey<T, S>>⟧.hash hash_builder.now) slots.now displaced.now) }
-        ensures displaced { GivesWay self.old.pairs self.new.pairs
-            (pairs_of (⟦<R as HashedKey<T, S>>⟧.hash hash_builder.now) slots.now displaced.now)
-            (by.now.hash, ix) }
+        requires known { IfSome known (λ before. ⟦<R as HashedKey<T, S>>⟧.hash hash_builder.now gone.now ≡ before) }
+        requires paired { Contains self.old.pairs (⟦<R as HashedKey<T, S>>⟧.hash hash_builder.now gone.now, ix) }
+        ensures moved { MovesPair self.old.pairs self.new.pairs
+            (⟦<R as HashedKey<T, S>>⟧.hash hash_builder.now gone.now) hash ix }
         ensures limit { self.new.limit ≡ self.old.limit }
     {
-        if slots.len() == 1 && by.hash_at(ix).is_some() {
-            // The only pair that gives way is the one that the search found, and it has the right slot.
+        let before = hash_of_key::<T, R, S>(hash_builder, gone, known);
+        if before == hash {
             return;
         }
-        // This call gives the prover the fact that the pairs fit, so that one more fits once one was removed.
-        let _ = self.capacity();
-        let mut left = slots.clone();
-        let mut items = displaced.clone();
-        while let Some(at) = left.next() {
-            match items.next() {
-                Some(item) => {
-                    if by.slot() != Some(*at) {
-                        self.forget::<T, R, S>(hash_builder, item, *at, None);
-                    }
-                }
-                None => unreachable!(),
-            }
-        }
-        match by.slot() {
-            Some(at) => {
-                if at != ix {
-                    self.renumber(by.hash(), at, ix, &mut Meter::new());
-                }
-            }
-            None => self.insert_reserved(by.hash(), ix, &mut Meter::new()),
-        }
+        self.remove(before, ix, &mut Meter::new());
+        self.insert_reserved(hash, ix, &mut Meter::new());
     }
 }

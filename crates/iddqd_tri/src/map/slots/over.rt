@@ -1,24 +1,22 @@
 //! Inserting an item in place of others.
-ghost use Rattle.std.specs.Prelude.{◌≡◌, ◌≢◌, [], ◌∷◌, All, length, nat_eq, zip, Some};
-ghost use Rattle.std.specs.List.{IsDistinct};
-ghost use Rattle.iddqd_store.specs.Bag.{order, over};
+ghost use Rattle.std.specs.Prelude.{◌≡◌, ◌≢◌, [], ◌∷◌, length, None, Some, slice_set};
+ghost use Rattle.iddqd_store.specs.Bag.{clash, order, over};
 ghost use Rattle.iddqd_store.specs.Map.{bag, ListsConflicts, PutsAt};
-ghost use Rattle.iddqd_store.specs.Slots.{get, members, IsLive};
-ghost use Rattle.iddqd_store.specs.Slots.Found.{each_once, items_at};
-ghost use Rattle.iddqd_store.specs.Table.{GivesWay};
-ghost use Rattle.iddqd_tri.specs.Keys.{AreUnder, HaveHashes};
+ghost use Rattle.iddqd_store.specs.Slots.{get, live_items, IsLive};
+ghost use Rattle.iddqd_store.specs.Slots.Found.{each_once};
+ghost use Rattle.iddqd_tri.specs.Keys.{AreUnder, HaveHashes, ranks};
 
 use super::super::TriHashMap;
 use super::found::each_once;
 use crate::item::{Hashed, Ranked, TriHashItem};
 use crate::ranks::{First, Second, Third};
-use iddqd_store::{ItemIndex, ItemSet, SlotUnder, UpToThree};
+use iddqd_store::{ItemIndex, SlotUnder, UpToThree};
 use std::hash::{BuildHasher, Hash};
 
 impl<T: TriHashItem, S: BuildHasher> TriHashMap<T, S> {
     /// Inserts an item in place of those that conflict with it, whose slots the searches by its keys found, and returns
-    /// these items, with the slot of the new one. There is at least one. The new item goes into the slot of the first
-    /// of them. Each table then gives up the pairs of all of them. No key is hashed by which a search found its item.
+    /// these items, with the slot of the new one. There is at least one. The call removes all but the first, and then
+    /// puts the new item into the slot of that one. It does not hash a key by which a search found its item.
     #[inline(never)]
     pub(crate) fn put_over(
         &mut self,
@@ -38,50 +36,54 @@ impl<T: TriHashItem, S: BuildHasher> TriHashMap<T, S> {
         ensures puts_at { PutsAt ⟦<T as Ranked>⟧.ranks self.old result.1 item
             (over ⟦<T as Ranked>⟧.ranks (bag self.old) item) self.new }
     {
-        // This call gives the prover the fact that the items fit, for the clause `fits`.
-        let _ = self.room();
-        let found = each_once(by.0.slot(), by.1.slot(), by.2.slot());
-        let (displaced, ix) = put_in(&mut self.items, &found, item);
-        let slots = found.iter();
-        let gone = displaced.iter();
-        self.first
-            .displace::<T, First, S>(&self.hash_builder, &slots, &gone, ix, &by.0);
-        self.second
-            .displace::<T, Second, S>(&self.hash_builder, &slots, &gone, ix, &by.1);
-        self.third
-            .displace::<T, Third, S>(&self.hash_builder, &slots, &gone, ix, &by.2);
+        let mut found = each_once(by.0.slot(), by.1.slot(), by.2.slot());
+        let Some(ix) = found.pop_front() else {
+            unreachable!()
+        };
+        let mut displaced = self.take_all(&found, by);
+        displaced.push_front(self.exchange(ix, item, by));
         (displaced, ix)
     }
-}
 
-/// Puts an item into the first of these slots, and removes the items of the others. It returns all items that were in
-/// these slots, with the slot of the new one.
-fn put_in<T>(
-    items: &mut ItemSet<T>,
-    found: &UpToThree<ItemIndex>,
-    item: T,
-) -> (UpToThree<T>, ItemIndex)
-    requires some { length found.now ≢ 0 }
-    requires live { All (IsLive items.old.slots) found.now }
-    requires apart { IsDistinct nat_eq found.now }
-    ensures values { result.0 ≡ items_at items.old.slots found.now }
-    ensures gives_way { GivesWay (members items.old.slots) (members items.new.slots)
-        (zip found.now result.0) (result.1, item) }
-    ensures at { get items.new.slots result.1 ≡ Some item }
-    ensures capacity { items.new.capacity ≡ items.old.capacity }
-{
-    let mut left = found.iter();
-    let Some(first) = left.next() else {
-        unreachable!()
-    };
-    let ix = *first;
-    let mut taken = UpToThree::new();
-    while let Some(at) = left.next() {
-        match items.remove(*at) {
-            Some(other) => taken.push(other),
-            None => unreachable!(),
-        }
+    /// Puts an item into the slot of the one that conflicts with it, and returns the latter. If both have the same hash
+    /// at a rank, the pair in its table stays.
+    fn exchange(&mut self, ix: ItemIndex, item: T, by: &(SlotUnder, SlotUnder, SlotUnder)) -> T
+        requires live { IsLive self.old.slots ix }
+        requires free { clash ⟦<T as Ranked>⟧.ranks (live_items (slice_set self.old.slots ix None)) item ≡ [] }
+        requires hashes { HaveHashes
+            (⟦<T as Hashed<S>>⟧.hash1 self.old.builder item) (⟦<T as Hashed<S>>⟧.hash2 self.old.builder item)
+            (⟦<T as Hashed<S>>⟧.hash3 self.old.builder item) by.now }
+        requires under { AreUnder
+            (⟦<T as Hashed<S>>⟧.hash1 self.old.builder) (⟦<T as Hashed<S>>⟧.hash2 self.old.builder)
+            (⟦<T as Hashed<S>>⟧.hash3 self.old.builder) self.old.slots by.now }
+        ensures value { get self.old.slots ix ≡ Some result }
+        ensures puts_at { PutsAt ⟦<T as Ranked>⟧.ranks self.old ix item
+            (item ∷ live_items (slice_set self.old.slots ix None)) self.new }
+    {
+        // This call gives the prover the fact that the items fit, for the clause `fits`.
+        let _ = self.room();
+        let gone = self.items.replace(ix, item);
+        self.first.rehash::<T, First, S>(
+            &self.hash_builder,
+            &gone,
+            ix,
+            by.0.hash_at(ix),
+            by.0.hash(),
+        );
+        self.second.rehash::<T, Second, S>(
+            &self.hash_builder,
+            &gone,
+            ix,
+            by.1.hash_at(ix),
+            by.1.hash(),
+        );
+        self.third.rehash::<T, Third, S>(
+            &self.hash_builder,
+            &gone,
+            ix,
+            by.2.hash_at(ix),
+            by.2.hash(),
+        );
+        gone
     }
-    taken.push_front(items.replace(ix, item));
-    (taken, ix)
 }
