@@ -157,7 +157,7 @@ class Mutants:
 
     def table(self, crates):
         """The lines of the list of these crates: what turns each function, and behind that why some have no edit."""
-        lines, before, reasons = ["| File | Function | What turns it |", "|---|---|---|"], None, {}
+        lines, before, reasons = ["| File | Function | Edits that have it as target |", "|---|---|---|"], None, {}
         used = {other.key for it in self.functions[crates] for other in it.by + it.like}
         for it in self.functions[crates]:
             if it.why and it.is_public:

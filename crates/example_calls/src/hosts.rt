@@ -59,7 +59,7 @@ impl BiHashItemMut for Host {
     }
 }
 
-/// Adds a host, or returns it if another host has its address or its duty, or memory is exhausted.
+/// Adds a host, or returns it if another host has its address or its duty, or if there is no memory.
 pub fn add(hosts: &mut BiHashMap<Host>, host: Host) -> Result<(), Host>
     ensures went_in { OnOk result (IsPermutation (bag hosts.new) (host ∷ bag hosts.old)) }
     ensures handed_back { IfErr result (λ h. h ≡ host) }

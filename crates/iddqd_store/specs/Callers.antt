@@ -17,7 +17,7 @@ MayRefuse ranks m x = (clash ranks (bag m) x ≢ []) ⊎ (length (bag m) ≡ m.c
 
 -- The batch has `x`; the items before it can all stand beside those of `old`, and something among both conflicts with
 -- `x` exactly if the reason is `Conflict`.
--- Example: In the batch (4, 40), (1, 50) the item (1, 50) is in the way, for `Conflict`.
+-- Example: In the batch (4, 40), (1, 50) the item (1, 50) is rejected, for `Conflict`.
 abbrev pub IsInTheWay : {T : Type 0} → Ranks T → List T → List T → T → ExtendUniqueReason → Type 0
 IsInTheWay {T} ranks old batch x reason =
     (before : List T) × (behind : List T) × (batch ≡ before ++ x ∷ behind) × IsSound ranks (before ++ old)

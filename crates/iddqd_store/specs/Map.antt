@@ -82,8 +82,8 @@ pub record GrowsUnless {T S : Type 0} (fits : Type 0) (old new : Map T S) : Type
 
 -- After `Ok`, `more` items fit beside those that are there. The call fails only if they fitted neither before nor
 -- after it, and always if no map can hold them. The capacity grows only if they did not fit, and the builder stays.
--- Example: With 3 items and the capacity 7, room for 4 more is there and nothing changes, and for 5 more the capacity
--- has to be 8 at least.
+-- Example: With 3 items and the capacity 7, 4 more fit and nothing changes, and for 5 more the capacity has to be 8 at
+-- least.
 pub record MakesRoom {T S A E : Type 0} (old : Map T S) (more : ℕ) (result : Result A E) (new : Map T S) : Type 0 where
   pub room : OnOk result (length (bag old) + more ≤ new.capacity)
   pub reason : OnErr result (old.capacity < length (bag old) + more)

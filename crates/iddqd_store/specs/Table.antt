@@ -28,9 +28,9 @@ pub record LooksUp {A : Type 0} (hashes : List ℕ) (cells hash : ℕ) (answer :
   pub hit_least : OnSome answer (before + 1 ≤ after)
   pub hit_most : OnSome answer (after ≤ before + stretch hashes cells hash)
 
--- A search probes so many cells (`LooksUp`) of some table that has room for so many pairs.
--- Example: With room for 7 and the hash 2 once, a search for 2 that finds nothing probes 2 cells, where the table has
--- 8.
+-- A search probes so many cells (`LooksUp`) of some table in which so many pairs fit.
+-- Example: With the capacity 7 and the hash 2 once, a search for 2 that finds nothing probes 2 cells, where the table
+-- has 8.
 abbrev pub LooksUpWithin : {A : Type 0} → List ℕ → ℕ → ℕ → Option A → ℕ → ℕ → Type 0
 LooksUpWithin hashes room hash answer before after =
     (cells : ℕ) × IsSize cells × (cells < 2 ^ 64) × (room ≤ cells / 8 * 7) × LooksUp hashes cells hash answer before after

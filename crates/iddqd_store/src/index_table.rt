@@ -37,10 +37,10 @@ pub use vacancy::Vacancy;
 /// are occupied depends only on the hashes of the pairs and the number of cells (`cell_at`), and not on the order in
 /// which pairs were inserted and removed.
 ///
-/// To read what a cell has is a probe; clauses that count probes are labelled `looks`. One function does so, and
-/// counts that on the meter that it takes. Growth and `clone` also copy cells, without reading what they have. A
-/// function whose clauses count no probes makes a meter of its own; in this file only `try_reserve` does. The script
-/// `tests/forms` lists all such functions.
+/// To read what a cell has is a probe. Only `Cells::cell_at` does so, and it counts the probe on the meter that it is
+/// given. The clauses `look`, `looks`, `no_look` and `costs` count probes. Growth and `clone` also copy cells, which is
+/// no probe. A public function whose clauses count no probes makes a meter of its own: in this file only `try_reserve`.
+/// The script `tests/forms` lists all functions that make one.
 #[derive(Drop)]
 pub struct IndexTable {
     alloc: Global,
@@ -168,8 +168,7 @@ impl IndexTable {
         self.cells.len() / 8 * 7
     }
 
-    /// Returns whether the table has the number of cells that a table made for this many pairs has. It probes no
-    /// cell.
+    /// Returns whether the table has as many cells as a table made for this many pairs. It probes no cell.
     pub fn is_made_for(&self, pairs: usize) -> bool
         ensures { result ≡ true ↔ IsLeast pairs self.now.limit }
     {
@@ -240,7 +239,8 @@ impl IndexTable {
         }
     }
 
-    /// Does the same, and returns the empty cell at which the search ended if there is no such index.
+    /// Searches as `find` does. If there is no such index, it returns the empty cell at which the search ended, or
+    /// `Vacancy::unknown` if the table has no cells.
     #[inline(always)]
     pub fn find_or_vacancy<M: Matcher>(
         &self,

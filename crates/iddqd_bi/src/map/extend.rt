@@ -45,7 +45,7 @@ impl<T: Ranked + Drop, S: BuildHasher> BiHashMap<T, S> {
         } else {
             promised.div_ceil(2)
         };
-        // The iterator promises items, and not items with new keys, so that the call may succeed although this fails.
+        // This error is ignored: the call may succeed without the capacity, since the items may share keys.
         let _ = self.grow(wanted);
         // This call gives the prover the fact that the items fit.
         let _ = self.capacity();
@@ -152,7 +152,7 @@ impl<T: Ranked + Drop, S: BuildHasher + Default + Drop> BiHashMap<T, S> {
     {
         let mut map = BiHashMap::default(alloc);
         let items = iter.into_iter();
-        // The iterator promises items, and not items with new keys, so that the call may succeed although this fails.
+        // This error is ignored: the call may succeed without the capacity, since the items may share keys.
         let _ = map.grow(items.size_hint().0);
         for item in items {
             match map.try_insert(item) {

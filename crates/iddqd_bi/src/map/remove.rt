@@ -57,8 +57,8 @@ impl<T: BiHashItem, S: BuildHasher> BiHashMap<T, S> {
     /// Removes the item that has both keys that the queries stand for, and returns it, or `None` if there is none. The
     /// capacity stays.
     ///
-    /// The call compares as many keys as `remove1`, and the other key of the item found. It hashes as many, and
-    /// allocates no memory.
+    /// The call compares the keys that `remove1` compares, and the other key of the item found. It hashes the first
+    /// query and the other key of that item, and allocates no memory.
     pub fn remove_unique<Q1: Query<T::K1>, Q2: Query<T::K2>>(
         &mut self,
         query1: Q1,

@@ -50,7 +50,8 @@ impl<T: BiHashItem, S: BuildHasher> BiHashMap<T, S> {
 
     /// Returns a guard of the item that has both keys that the queries stand for, or `None`.
     ///
-    /// The call compares as many keys as `get1_mut`, and the other key of the item found. It allocates no memory.
+    /// The call compares the keys that `get1_mut` compares, and the other key of the item found. It allocates no
+    /// memory.
     pub fn get_mut_unique<Q1: Query<T::K1>, Q2: Query<T::K2>>(
         &mut self,
         query1: Q1,

@@ -19,7 +19,7 @@ module _ {U S T : Type 0} (becomes : U → S → Type 0) (steps : S → Option T
   GivesThen iter x P = (it : S) × (xs : List T) × (rest : S) × becomes iter it × YieldsThen steps it xs (Some x) rest × P xs
 
 -- However the iterator begins, as many items as it may give fit beside those that are held.
--- Example: An iterator that may give at most 4 items fits on 3 items if the room is 7.
+-- Example: An iterator that may give at most 4 items fits on 3 items if the capacity is 7.
 abbrev pub FitsOn : {U S : Type 0} → (U → S → Type 0) → (S → Count) → U → ℕ → ℕ → Type 0
 FitsOn becomes remaining iter held room = (it : _) → becomes iter it → held + size (remaining it) ≤ room
 

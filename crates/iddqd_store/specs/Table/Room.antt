@@ -13,7 +13,7 @@ pub record IsSized (table : Table) : Type 0 where
 
 -- After `Ok` so many more pairs fit, in the fewest cells that hold them if they did not fit before. The call fails
 -- only if they did not fit, and always if no table can hold them.
--- Example: With 3 pairs and room for 7, it is 14 after `Ok` for 5 more.
+-- Example: With 3 pairs and the capacity 7, the capacity is 14 after `Ok` for 5 more.
 pub record GrowsFor {A E : Type 0} (old : Table) (more : ℕ) (result : Result A E) (new : Table) : Type 0 where
   pub room : OnOk result (length old.pairs + more ≤ new.limit)
   pub grown : OnOk result (old.limit < length old.pairs + more → IsLeast (length old.pairs + more) new.limit)

@@ -121,7 +121,8 @@ impl Cells {
         self.row[i] = Cell::full(hash, ix);
     }
 
-    /// Copies cell `j` of other cells into cell `i`, whether it has a pair or is empty. It reads neither of them.
+    /// Copies cell `j` of other cells into cell `i`, whether it has a pair or is empty. This is no probe: the function
+    /// returns nothing of what the cell has.
     #[inline(always)]
     pub fn copy_cell(&mut self, i: usize, other: &Cells, j: usize)
         requires at { i < length self.old }

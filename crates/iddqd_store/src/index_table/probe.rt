@@ -9,8 +9,7 @@ use super::Meter;
 use super::cells::Cells;
 use crate::item_set::ItemIndex;
 
-// Returns the place after `at`. The number of cells is a power of two, so a mask leads from the last place to place
-// 0.
+// Returns the cell after `at`. The number of cells is a power of two, so a mask leads from the last cell to cell 0.
 pub(super) fn after(at: usize, count: usize) -> usize
     requires size { IsSize count }
     requires below { at < count }

@@ -122,8 +122,8 @@ impl<'a, T, R: KeyOf<T>, S: BuildHasher> Lookup<'a, T, R, S> {
         }
     }
 
-    /// Returns the slot of the item whose key the query stands for. If there is none, returns the empty cell for a
-    /// pair with this hash, which has to be that of the query.
+    /// Returns the slot of the item whose key the query stands for. If there is none, it returns the empty cell for a
+    /// pair with this hash, or `Vacancy::unknown` if the table has no cells. The hash has to be that of the query.
     #[inline(always)]
     pub fn search<Q: Query<R::Key>>(&self, hash: u64, query: Q) -> Result<ItemIndex, Vacancy>
         requires { hash ≡ hash_of S.BuildHasher S.Hasher.Hasher self.now.builder (Q.hash_input query) }
@@ -137,8 +137,8 @@ impl<'a, T, R: KeyOf<T>, S: BuildHasher> Lookup<'a, T, R, S> {
         self.search_with(hash, &mut ByQuery::new(&query), &mut Meter::new())
     }
 
-    /// Returns the slot of the item whose key the matcher accepts. If there is none, returns the empty cell for a
-    /// pair with this hash. All other searches of a rank call this one.
+    /// Returns the slot of the item whose key the matcher accepts. If there is none, it returns the empty cell for a
+    /// pair with this hash, or `Vacancy::unknown` if the table has no cells. All other searches of a rank call this one.
     #[inline(always)]
     pub fn search_with<M: KeyMatcher<R::Key>>(
         &self,

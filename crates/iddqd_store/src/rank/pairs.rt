@@ -1,5 +1,5 @@
 //! The pairs in the table of a rank: those of all items, that of an item that leaves, and that of an item that
-//! another one replaces. A pair has the hash of its item's key, which is known if a search found the item.
+//! another one replaces. A pair has the hash of its item's key. If a search found the item, that hash is known.
 ghost use Rattle.std.specs.Prelude.{◌≡◌, ◌<◌, ◌≤◌, [], ◌∷◌, length, Contains, IfSome};
 ghost use Rattle.std.specs.List.Sorted.{IsPermutation};
 ghost use Rattle.iddqd_store.specs.Rank.Index.{IsIndex};
@@ -68,8 +68,8 @@ impl IndexTable {
         self.remove(hash, ix, &mut Meter::new());
     }
 
-    /// Moves a slot from the hash of the item that was there to another hash. It hashes the key of that item only if
-    /// its hash is not known. If both hashes are equal it does nothing.
+    /// Replaces the pair of the item that was in this slot by a pair of the same slot and another hash. It hashes the
+    /// key of that item only if its hash is not known. If both hashes are equal, it does nothing.
     pub fn rehash<T, R: KeyOf<T>, S: BuildHasher>(
         &mut self,
         hash_builder: &S,

@@ -82,8 +82,8 @@ impl<T: TriHashItem, S: BuildHasher> TriHashMap<T, S> {
     /// Removes the item that has all keys that the queries stand for, and returns it, or `None` if there is none. The
     /// capacity stays.
     ///
-    /// The call compares as many keys as `remove1`, and the other keys of the item found. It hashes as many, and
-    /// allocates no memory.
+    /// The call compares the keys that `remove1` compares, and the other keys of the item found. It hashes the first
+    /// query and the other keys of that item, and allocates no memory.
     pub fn remove_unique<Q1: Query<T::K1>, Q2: Query<T::K2>, Q3: Query<T::K3>>(
         &mut self,
         query1: Q1,
