@@ -7,5 +7,6 @@ pub mod Index
 pub mod Invariant
 pub mod Looks
 pub mod Rehashed
+pub mod Replaced
 pub mod Search
 pub mod Under

@@ -5,6 +5,7 @@ pub mod Limits
 pub mod Line
 pub mod Looks
 pub mod Remove
+pub mod Renumber
 pub mod Ring
 pub mod Rows
 pub mod Search

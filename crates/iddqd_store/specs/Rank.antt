@@ -2,7 +2,7 @@
 pub mod Asking
 pub mod Index
 pub mod Keys
-use Rattle.std.specs.Prelude.{◌≡◌, ℕ, ◌+◌, ◌*◌, ◌/◌, ◌≤◌, Bool, true, List, Option, Contains, IfSome, length, map}
+use Rattle.std.specs.Prelude.{◌≡◌, ℕ, ◌+◌, ◌*◌, ◌/◌, ◌≤◌, Bool, true, List, Option, Some, Contains, IfSome, length, map}
 use Rattle.std.specs.Hash.{HashWrites}
 use Rattle.std.specs.List.{IsDistinct}
 use Rattle.std.specs.declared.hash.Hasher as hasher
@@ -63,6 +63,13 @@ module _ {T : Type 0} where
   -- The item in the slot that was found has the hash of the search. No public clause cites it.
   abbrev pub IsUnder : (T → ℕ) → List (Option T) → SlotUnder → Type 0
   IsUnder hash slots found = IfSome found.slot (λ at. HasHash hash slots at found.hash)
+
+-- The pair of the item in this slot is in the table, and the item has the hash of the search if the search found the
+-- slot. No public clause of a map cites it.
+-- Example: With the pairs (5, 0), (6, 2) it holds of an item of the hash 6 in the slot 2, and a search for 6 that found 2.
+pub record IsPaired {T : Type 0} (hash : T → ℕ) (pairs : List (ℕ × ℕ)) (found : SlotUnder) (at : ℕ) (x : T) : Type 0 where
+  pub pair : Contains pairs (hash x, at)
+  pub known : found.slot ≡ Some at → hash x ≡ found.hash
 
 -- A search by one rank needs that no two items have equal keys, and that the table has the pairs of their hashes. No
 -- clause of a map cites it.

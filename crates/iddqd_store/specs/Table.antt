@@ -35,12 +35,26 @@ abbrev pub LooksUpWithin : {A : Type 0} → List ℕ → ℕ → ℕ → Option 
 LooksUpWithin hashes room hash answer before after =
     (cells : ℕ) × IsSize cells × (cells < 2 ^ 64) × (room ≤ cells / 8 * 7) × LooksUp hashes cells hash answer before after
 
--- The slot `index` stands under the hash `after` in the place of `before`, and every other pair stays.
--- Example: From (5, 0), (6, 2) to (5, 0), (7, 2) the slot 2 moves from 6 to 7.
-pub record MovesPair (old new : List (ℕ × ℕ)) (before after index : ℕ) : Type 0 where
+-- The pair `after` stands in the place of `before`, and every other pair stays.
+-- Example: From (5, 0), (6, 2) to (5, 0), (7, 2) the pair (7, 2) replaces (6, 2).
+pub record ReplacesPair (old new : List (ℕ × ℕ)) (before after : ℕ × ℕ) : Type 0 where
   pub others : List (ℕ × ℕ)
-  pub had : IsPermutation old ((before, index) ∷ others)
-  pub has : IsPermutation new ((after, index) ∷ others)
+  pub had : IsPermutation old (before ∷ others)
+  pub has : IsPermutation new (after ∷ others)
+
+-- The pair `after` stands in the place of two pairs, and every other pair stays.
+-- Example: From (5, 0), (6, 2), (8, 3) to (5, 0), (6, 3) the pair (6, 3) replaces (6, 2) and (8, 3).
+pub record ReplacesTwo (old new : List (ℕ × ℕ)) (one two after : ℕ × ℕ) : Type 0 where
+  pub others : List (ℕ × ℕ)
+  pub had : IsPermutation old (one ∷ two ∷ others)
+  pub has : IsPermutation new (after ∷ others)
+
+-- The pair `after` stands in the place of three pairs, and every other pair stays.
+-- Example: From (6, 2), (8, 3), (9, 4) to (6, 4) the pair (6, 4) replaces all three.
+pub record ReplacesThree (old new : List (ℕ × ℕ)) (one two three after : ℕ × ℕ) : Type 0 where
+  pub others : List (ℕ × ℕ)
+  pub had : IsPermutation old (one ∷ two ∷ three ∷ others)
+  pub has : IsPermutation new (after ∷ others)
 
 -- Each pair is found from its home on, and at least an eighth of the cells is empty.
 -- Example: Of 8 empty cells it holds.

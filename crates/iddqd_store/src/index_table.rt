@@ -1,6 +1,6 @@
 //! A hash table of pairs of a hash and a slot's index: open addressing with linear probing, and backward-shift
 //! deletion, so there are no tombstones.
-ghost use Rattle.std.specs.Prelude.{◌≡◌, ◌≢◌, ◌+◌, ◌*◌, ◌/◌, ◌%◌, ◌∷◌, ◌<◌, ◌≤◌, ◌&&◌, [], true, length, IsSome, IsOk, IsErr, ◌↔◌, IfOk, OnErr, IfErr};
+ghost use Rattle.std.specs.Prelude.{Contains, Some, ◌≡◌, ◌≢◌, ◌+◌, ◌*◌, ◌/◌, ◌%◌, ◌∷◌, ◌<◌, ◌≤◌, ◌&&◌, [], true, length, IsSome, IsOk, IsErr, ◌↔◌, IfOk, OnErr, IfErr};
 ghost use Rattle.std.specs.List.Sorted.{IsPermutation};
 ghost use Rattle.std.specs.Option.{option_map};
 ghost use Rattle.std.specs.Result.{result_ok};
@@ -8,7 +8,7 @@ ghost use Rattle.iddqd_store.specs.Table.Ring.{cell, gap, pairs_in, stretch, IsF
 ghost use Rattle.iddqd_store.specs.Table.Limit.{IsLeast, IsSize, most_room};
 ghost use Rattle.iddqd_store.specs.Table.Room.{GrowsFor, IsSized};
 ghost use Rattle.iddqd_store.specs.Table.Search.{CostsUnder, FindsUnder, IsVacantUnder};
-ghost use Rattle.iddqd_store.specs.Table.{hashes, IsCellOf, IsFree, IsTable, Table, table_of};
+ghost use Rattle.iddqd_store.specs.Table.{hashes, IsCellOf, IsFree, IsTable, LooksUp, ReplacesPair, Table, table_of};
 
 use crate::TryReserveError;
 use crate::item_set::ItemIndex;
@@ -335,6 +335,21 @@ impl IndexTable {
         }
         self.cells.write(spot.at(), spot.hash(), ix);
         self.count += 1;
+    }
+
+    /// Writes another slot's number into a pair, which keeps its hash and its cell. It allocates nothing. It probes the
+    /// cells from the home of the hash on, up to that of the pair.
+    pub fn renumber(&mut self, hash: u64, from: ItemIndex, to: ItemIndex, meter: &mut Meter)
+        requires { Contains self.old.pairs (hash, from) }
+        ensures replaced { ReplacesPair self.old.pairs self.new.pairs (hash, from) (hash, to) }
+        ensures cells { length self.new.row ≡ length self.old.row }
+        ensures limit { self.new.limit ≡ self.old.limit }
+        ensures looks { LooksUp (hashes self.old.pairs) (length self.old.row) hash (Some from) meter.old meter.new }
+        ensures within { stretch (hashes self.old.pairs) (length self.old.row) hash
+            ≤ length self.old.pairs }
+    {
+        let at = probe::seek(&self.cells, hash, from, meter);
+        self.cells.write(at, hash, to);
     }
 
     /// Removes all pairs. The cells stay, and none is probed.

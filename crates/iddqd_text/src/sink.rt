@@ -39,6 +39,7 @@ impl LineSink {
     }
 
     /// Appends the line of a reply. If memory runs out, the lines stay as they are.
+    #[inline(always)]
     pub fn push_line<
         'm,
         T: Numbers + Copy + Drop,
@@ -49,13 +50,28 @@ impl LineSink {
             (value_by L.list G.list reply.entry) result (string_bytes self.new.text) }
     {
         match reply {
-            // The most frequent lines do not need the buffer, since one word is appended whole or not at all.
+            // These lines do not need the buffer, since one word is appended whole or not at all. The function is inlined, so
+            // a caller that knows its reply appends the word, and does not look at the reply again.
             MapReply::Done => self.text.push_str("ok\n"),
             MapReply::Found(None) => self.text.push_str("none\n"),
-            reply => {
-                line_of(self.alloc, reply, &mut self.line)?;
-                self.text.push_str(self.line.as_str())
-            }
+            MapReply::AbsentData(_) => self.text.push_str("none\n"),
+            MapReply::Kept => self.text.push_str("kept\n"),
+            reply => self.push_by_buffer(reply),
         }
+    }
+
+    // Appends the line of any reply, which is first written to the buffer.
+    #[inline(never)]
+    fn push_by_buffer<
+        'm,
+        T: Numbers + Copy + Drop,
+        L: ShortList<Item = &'m T> + Drop,
+        G: ShortList<Item = T> + Drop,
+    >(&mut self, reply: MapReply<'m, T, u64, L, G>) -> Result<(), AllocError>
+        ensures { GrowsByLine (line_of T.numbers) (string_bytes self.old.text)
+            (value_by L.list G.list reply.entry) result (string_bytes self.new.text) }
+    {
+        line_of(self.alloc, reply, &mut self.line)?;
+        self.text.push_str(self.line.as_str())
     }
 }

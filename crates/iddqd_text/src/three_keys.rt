@@ -203,6 +203,7 @@ impl TriSink<TriItem> for LineSink {
     ghost took = { λ old reply answer new.
         GrowsByLine (line_of numbers) (string_bytes old.text) reply answer (string_bytes new.text) };
 
+    #[inline(always)]
     fn take(&mut self, reply: TriReply<'_, TriItem>) -> Result<(), AllocError>
         ensures { GrowsByLine (line_of numbers) (string_bytes self.old.text) (value_of reply.entry) result
             (string_bytes self.new.text) }

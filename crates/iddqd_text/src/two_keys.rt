@@ -187,6 +187,7 @@ impl BiSink<BiItem> for LineSink {
     ghost took = { λ old reply answer new.
         GrowsByLine (line_of numbers) (string_bytes old.text) reply answer (string_bytes new.text) };
 
+    #[inline(always)]
     fn take(&mut self, reply: BiReply<'_, BiItem>) -> Result<(), AllocError>
         ensures { GrowsByLine (line_of numbers) (string_bytes self.old.text) (value_of reply.entry) result
             (string_bytes self.new.text) }

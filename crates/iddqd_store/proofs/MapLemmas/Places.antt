@@ -1,9 +1,13 @@
 -- What searches by each key of an item say of what conflicts with it.
-use Rattle.std.specs.Prelude.{◌≡◌, ℕ, Bool, true, false, List, [], ◌∷◌, ◌++◌, length, Option, Some, None, is_some, IsSome, IsPermutation, slice_set}
+use Rattle.std.specs.Prelude.{◌≡◌, ◌≢◌, ℕ, nat_eq, Bool, true, false, List, [], ◌∷◌, ◌++◌, length, Option, Some, None, is_some, IsSome, IsPermutation, slice_set}
 use Rattle.std.specs.Cmp.{IsEquivalence}
 use Rattle.std.specs.List.{AllByRecursion, IsDistinct, list_any}
 use Rattle.std.specs.Option.{IfSome}
 use Rattle.std.proofs.Common.{refl, sym, subst, ◌∙◌, arith}
+use Rattle.std.proofs.lemmas.Bool.Decides.{nat_tests}
+use Rattle.std.proofs.lemmas.List.{get_or-set_other}
+use Rattle.std.proofs.lemmas.List.Elements.{All-head, All-tail}
+use Rattle.std.proofs.lemmas.Map.Keys.{IsDistinct-cons, IsDistinct-head, IsDistinct-tail}
 use Rattle.std.proofs.lemmas.List.Sorted.{IsPermutation-refl, IsPermutation-sym, IsPermutation-trans, IsPermutation-map, IsPermutation-append, IsPermutation-middle}
 use Rattle.iddqd_store.specs.Bag.{Ranks, clash, like, order, over}
 use Rattle.iddqd_store.specs.Map.{Map, bag, IsBlockedAt}
@@ -70,6 +74,58 @@ gives_way {T} ranks slots rest x ix ixs others items live same are taken = by_sl
         IsPermutation-trans _ _ _ taken (IsPermutation-trans _ _ _ (IsPermutation-append others others _ _ (IsPermutation-refl others) out) (IsPermutation-middle others y left)) in
         subst (λ l. IsPermutation (live_items slots) (l ++ left)) (sym listed ∙ items) all
 
+-- and so where the item of one more slot is taken out
+gives_way_two : {T : Type 0} (ranks : Ranks T) (slots rest : List (Option T)) (x : T) (ix other : ℕ) (ixs : List ℕ) (others : List T) → items_at slots (ix ∷ other ∷ ixs) ≡ order ranks (live_items slots) x → IsLive slots ix → IsLive slots other → ix ≢ other → get rest ix ≡ get slots ix → get rest other ≡ get slots other → others ≡ items_at slots ixs → IsPermutation (live_items slots) (others ++ live_items rest)
+    → IsPermutation (live_items slots) (order ranks (live_items slots) x ++ live_items (slice_set (slice_set rest other None) ix None))
+gives_way_two {T} ranks slots rest x ix other ixs others items live live_too apart same same_too are taken = by_slot (get slots other) refl live_too
+  where
+    less : List (Option T)
+    less = slice_set rest other None
+
+    by_slot : (o : Option T) → get slots other ≡ o → IsSome o → IsPermutation (live_items slots) (order ranks (live_items slots) x ++ live_items (slice_set less ix None))
+    by_slot None is some = absurd (cc)
+    by_slot (Some y) is some =
+        let stays : get less ix ≡ get slots ix = get_or-set_other rest other ix None None apart ∙ same in
+        let out : IsPermutation (live_items rest) (y ∷ live_items less) = IsPermutation-map (λ m. m.1) _ _ (members-take rest other y (same_too ∙ is)) in
+        let all : IsPermutation (live_items slots) (y ∷ (others ++ live_items less)) =
+        IsPermutation-trans _ _ _ taken (IsPermutation-trans _ _ _ (IsPermutation-append others others _ _ (IsPermutation-refl others) out) (IsPermutation-middle others y (live_items less))) in
+        let listed : y ∷ others ≡ items_at slots (other ∷ ixs) = rw (is, are) refl in
+        gives_way ranks slots less x ix (other ∷ ixs) (y ∷ others) items live stays listed all
+
 -- items that stand in these slots stand in the same slots
 pub stand_in : {T : Type 0} {slots : List (Option T)} {xs : List T} {found others : List ℕ} → found ≡ others → StandAt slots others xs → StandAt slots found xs
 stand_in {slots = slots} {xs = xs} same stand = subst (λ l. StandAt slots l xs) (sym same) stand
+
+other_number : (a b : ℕ) → nat_eq a b ≡ false → a ≢ b
+other_number a b h = grind (arith, nat_tests)
+
+-- where one slot was found, and its item is taken out, what conflicts is gone
+pub one_leaves : {T : Type 0} (ranks : Ranks T) (slots : List (Option T)) (x : T) (ix : ℕ) (found : List ℕ) → StandAt slots found (order ranks (live_items slots) x) → found ≡ ix ∷ [] → IsPermutation (live_items slots) (order ranks (live_items slots) x ++ live_items (slice_set slots ix None))
+one_leaves ranks slots x ix found stand is =
+    let only = stand_in (sym is) stand in
+    gives_way ranks slots slots x ix [] [] only.items (All-head (IsLive slots) ix [] only.live) refl refl (IsPermutation-refl _)
+
+-- and where two were found, or more, of which the others were taken out before
+pub two_leave : {T : Type 0} (ranks : Ranks T) (slots rest : List (Option T)) (x : T) (ix at : ℕ) (ixs : List ℕ) (others : List T) (found : List ℕ) → StandAt slots found (order ranks (live_items slots) x) → found ≡ ix ∷ at ∷ ixs → ((k : ℕ) → IsDistinct nat_eq (k ∷ ixs) → get rest k ≡ get slots k) → others ≡ items_at slots ixs → IsPermutation (live_items slots) (others ++ live_items rest)
+    → IsPermutation (live_items slots) (order ranks (live_items slots) x ++ live_items (slice_set (slice_set rest at None) ix None))
+two_leave ranks slots rest x ix at ixs others found stand is same are taken =
+    let both = stand_in (sym is) stand in
+    let behind = IsDistinct-tail nat_eq ix (at ∷ ixs) both.apart in
+    let apart = IsDistinct-head nat_eq ix (at ∷ ixs) both.apart in
+    gives_way_two ranks slots rest x ix at ixs others both.items (All-head (IsLive slots) ix (at ∷ ixs) both.live) (All-head (IsLive slots) at ixs (All-tail (IsLive slots) ix (at ∷ ixs) both.live))
+    (other_number ix at apart.0) (same ix (IsDistinct-cons nat_eq ix ixs apart.1 (IsDistinct-tail nat_eq at ixs behind))) (same at behind) are taken
+
+-- and where three were found
+pub three_leave : {T : Type 0} (ranks : Ranks T) (slots : List (Option T)) (x : T) (ix at end : ℕ) (found : List ℕ) → StandAt slots found (order ranks (live_items slots) x) → found ≡ ix ∷ at ∷ end ∷ []
+    → IsPermutation (live_items slots) (order ranks (live_items slots) x ++ live_items (slice_set (slice_set (slice_set slots end None) at None) ix None))
+three_leave {T} ranks slots x ix at end found stand is =
+    let all = stand_in (sym is) stand in
+    by_slot (get slots end) refl (All-head (IsLive slots) end [] (All-tail (IsLive slots) at (end ∷ []) (All-tail (IsLive slots) ix (at ∷ end ∷ []) all.live)))
+  where
+    by_slot : (o : Option T) → get slots end ≡ o → IsSome o → IsPermutation (live_items slots) (order ranks (live_items slots) x ++ live_items (slice_set (slice_set (slice_set slots end None) at None) ix None))
+    by_slot None is_none some = absurd (cc)
+    by_slot (Some z) is_some some =
+        let listed : z ∷ [] ≡ items_at slots (end ∷ []) = rw is_some refl in
+        two_leave ranks slots (slice_set slots end None) x ix at (end ∷ []) (z ∷ []) found stand is
+        (λ k apart. get_or-set_other slots end k None None (other_number k end (IsDistinct-head nat_eq k (end ∷ []) apart).0))
+        listed (IsPermutation-map (λ m. m.1) _ _ (members-take slots end z is_some))

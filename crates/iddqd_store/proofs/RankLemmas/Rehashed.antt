@@ -6,7 +6,7 @@ use Rattle.std.proofs.lemmas.List.Sorted.{IsPermutation-sym, IsPermutation-map}
 use Rattle.iddqd_store.specs.Bag.{Ranks, AreLawful, IsSound, clash}
 use Rattle.iddqd_store.specs.Rank.Index.{IsIndex, AreIndexes, IsIndexed}
 use Rattle.iddqd_store.specs.Slots.{live_items, get}
-use Rattle.iddqd_store.specs.Table.{MovesPair}
+use Rattle.iddqd_store.specs.Table.{ReplacesPair}
 use Rattle.iddqd_store.proofs.MapLemmas.{free_sound, sound_without}
 use Rattle.iddqd_store.proofs.RankLemmas.Index.{IsIndex-insert, IsIndex-remove}
 use Rattle.iddqd_store.proofs.SlotLemmas.Chain.{members-take, members-set}
@@ -16,11 +16,11 @@ module _ {T : Type 0} where
   abbrev pub AreMoved : T → T → ℕ → List (T → ℕ) → List (List (ℕ × ℕ)) → List (List (ℕ × ℕ)) → Type 0
   AreMoved x y at [] [] [] = ⊤
   AreMoved x y at (hash ∷ hashes) (pairs ∷ tables) (more ∷ others) =
-      ((h : ℕ) × (h ≡ hash y) × MovesPair pairs more (hash x) h at) × AreMoved x y at hashes tables others
+      ((h : ℕ) × (h ≡ hash y) × ReplacesPair pairs more (hash x, at) (h, at)) × AreMoved x y at hashes tables others
   AreMoved x y at hashes tables others = ⊥
 
   module _ (x y : T) (at : ℕ) (slots : List (Option T)) (found : get slots at ≡ Some x) where
-    IsIndex-moved : {hash : T → ℕ} {pairs more : List (ℕ × ℕ)} {h : ℕ} → IsIndex hash slots pairs → h ≡ hash y → MovesPair pairs more (hash x) h at → IsIndex hash (slice_set slots at (Some y)) more
+    pub IsIndex-moved : {hash : T → ℕ} {pairs more : List (ℕ × ℕ)} {h : ℕ} → IsIndex hash slots pairs → h ≡ hash y → ReplacesPair pairs more (hash x, at) (h, at) → IsIndex hash (slice_set slots at (Some y)) more
     IsIndex-moved index is moves =
         IsIndex-insert {old = slice_set slots at None} y (IsIndex-remove x index refl (members-take slots at x found) moves.had) is (members-set slots at x y found) (IsPermutation-sym _ _ moves.has)
 

@@ -1,12 +1,13 @@
 //! The pairs in the table of a rank: those of all items, that of an item that leaves, and that of an item that
 //! another one replaces. A pair has the hash of its item's key. If a search found the item, that hash is known.
-ghost use Rattle.std.specs.Prelude.{◌≡◌, ◌<◌, ◌≤◌, [], ◌∷◌, length, Contains, IfSome};
+ghost use Rattle.std.specs.Prelude.{◌≡◌, ◌≢◌, ◌<◌, ◌≤◌, [], ◌∷◌, length, Contains, IfSome};
 ghost use Rattle.std.specs.List.Sorted.{IsPermutation};
 ghost use Rattle.iddqd_store.specs.Rank.Index.{IsIndex};
+ghost use Rattle.iddqd_store.specs.Rank.{IsPaired};
 ghost use Rattle.iddqd_store.specs.Slots.{live_count};
-ghost use Rattle.iddqd_store.specs.Table.{MovesPair};
+ghost use Rattle.iddqd_store.specs.Table.{ReplacesPair, ReplacesThree, ReplacesTwo};
 
-use super::{HashedKey, KeyOf};
+use super::{HashedKey, KeyOf, SlotUnder};
 use crate::index_table::{IndexTable, Meter};
 use crate::item_set::{ItemIndex, ItemSet};
 use std::hash::{BuildHasher, Hash};
@@ -69,7 +70,9 @@ impl IndexTable {
     }
 
     /// Replaces the pair of the item that was in this slot by a pair of the same slot and another hash. It hashes the
-    /// key of that item only if its hash is not known. If both hashes are equal, it does nothing.
+    /// key of that item only if its hash is not known. If both hashes are equal, it does nothing, and the caller has no
+    /// more than that test.
+    #[inline(always)]
     pub fn rehash<T, R: KeyOf<T>, S: BuildHasher>(
         &mut self,
         hash_builder: &S,
@@ -80,15 +83,95 @@ impl IndexTable {
     )
         requires known { IfSome known (λ before. ⟦<R as HashedKey<T, S>>⟧.hash hash_builder.now gone.now ≡ before) }
         requires paired { Contains self.old.pairs (⟦<R as HashedKey<T, S>>⟧.hash hash_builder.now gone.now, ix) }
-        ensures moved { MovesPair self.old.pairs self.new.pairs
-            (⟦<R as HashedKey<T, S>>⟧.hash hash_builder.now gone.now) hash ix }
+        ensures moved { ReplacesPair self.old.pairs self.new.pairs
+            (⟦<R as HashedKey<T, S>>⟧.hash hash_builder.now gone.now, ix) (hash, ix) }
         ensures limit { self.new.limit ≡ self.old.limit }
     {
         let before = hash_of_key::<T, R, S>(hash_builder, gone, known);
         if before == hash {
             return;
         }
+        self.move_pair(before, hash, ix);
+    }
+
+    // Replaces the pair of this slot and this hash by a pair of the same slot and another hash.
+    #[inline(never)]
+    fn move_pair(&mut self, before: u64, hash: u64, ix: ItemIndex)
+        requires { Contains self.old.pairs (before, ix) }
+        ensures moved { ReplacesPair self.old.pairs self.new.pairs (before, ix) (hash, ix) }
+        ensures limit { self.new.limit ≡ self.old.limit }
+    {
         self.remove(before, ix, &mut Meter::new());
         self.insert_reserved(hash, ix, &mut Meter::new());
+    }
+
+    /// Replaces the pairs of two items that were in these slots by one pair: that of an item which takes the slot of the
+    /// first, and for whose key a search was made. If the search found the second item, the pair of that item gets the
+    /// number of the first slot, so that nothing is inserted. The call allocates nothing, compares no key, and hashes the
+    /// keys of the items that the search did not find.
+    pub fn replace_two<T, R: KeyOf<T>, S: BuildHasher>(
+        &mut self,
+        hash_builder: &S,
+        gone: (ItemIndex, &T),
+        other: (ItemIndex, &T),
+        by: &SlotUnder,
+    )
+        requires apart { gone.0 ≢ other.0 }
+        requires gone { IsPaired (⟦<R as HashedKey<T, S>>⟧.hash hash_builder.now) self.old.pairs by.now gone.0 gone.1.now }
+        requires other { IsPaired (⟦<R as HashedKey<T, S>>⟧.hash hash_builder.now) self.old.pairs by.now other.0 other.1.now }
+        ensures replaced { ReplacesTwo self.old.pairs self.new.pairs
+            (⟦<R as HashedKey<T, S>>⟧.hash hash_builder.now gone.entry.1.now, gone.entry.0)
+            (⟦<R as HashedKey<T, S>>⟧.hash hash_builder.now other.entry.1.now, other.entry.0)
+            (by.now.hash, gone.entry.0) }
+        ensures limit { self.new.limit ≡ self.old.limit }
+    {
+        let (ix, gone) = gone;
+        let (at, other) = other;
+        match by.hash_at(at) {
+            Some(hash) => {
+                self.forget::<T, R, S>(hash_builder, gone, ix, None);
+                self.renumber(hash, at, ix, &mut Meter::new());
+            }
+            None => {
+                self.forget::<T, R, S>(hash_builder, other, at, None);
+                self.rehash::<T, R, S>(hash_builder, gone, ix, by.hash_at(ix), by.hash());
+            }
+        }
+    }
+
+    /// Replaces the pairs of three items by one pair, as `replace_two` does for two. Of the second and the third item, the
+    /// pair of one that the search did not find leaves first.
+    pub fn replace_three<T, R: KeyOf<T>, S: BuildHasher>(
+        &mut self,
+        hash_builder: &S,
+        gone: (ItemIndex, &T),
+        other: (ItemIndex, &T),
+        last: (ItemIndex, &T),
+        by: &SlotUnder,
+    )
+        requires apart { (gone.0 ≢ other.0) × (gone.0 ≢ last.0) × (other.0 ≢ last.0) }
+        requires gone { IsPaired (⟦<R as HashedKey<T, S>>⟧.hash hash_builder.now) self.old.pairs by.now gone.0 gone.1.now }
+        requires other { IsPaired (⟦<R as HashedKey<T, S>>⟧.hash hash_builder.now) self.old.pairs by.now other.0 other.1.now }
+        requires last { IsPaired (⟦<R as HashedKey<T, S>>⟧.hash hash_builder.now) self.old.pairs by.now last.0 last.1.now }
+        ensures replaced { ReplacesThree self.old.pairs self.new.pairs
+            (⟦<R as HashedKey<T, S>>⟧.hash hash_builder.now gone.entry.1.now, gone.entry.0)
+            (⟦<R as HashedKey<T, S>>⟧.hash hash_builder.now other.entry.1.now, other.entry.0)
+            (⟦<R as HashedKey<T, S>>⟧.hash hash_builder.now last.entry.1.now, last.entry.0)
+            (by.now.hash, gone.entry.0) }
+        ensures limit { self.new.limit ≡ self.old.limit }
+    {
+        let (ix, gone) = gone;
+        let (second, other) = other;
+        let (third, last) = last;
+        match by.hash_at(third) {
+            Some(_) => {
+                self.forget::<T, R, S>(hash_builder, other, second, None);
+                self.replace_two::<T, R, S>(hash_builder, (ix, gone), (third, last), by);
+            }
+            None => {
+                self.forget::<T, R, S>(hash_builder, last, third, None);
+                self.replace_two::<T, R, S>(hash_builder, (ix, gone), (second, other), by);
+            }
+        }
     }
 }

@@ -15,8 +15,8 @@ use std::hash::{BuildHasher, Hash};
 
 impl<T: BiHashItem, S: BuildHasher> BiHashMap<T, S> {
     /// Inserts an item in place of those that conflict with it, whose slots the searches by its keys found, and returns
-    /// these items, with the slot of the new one. There is at least one. The call removes all but the first, and then
-    /// puts the new item into the slot of that one. It does not hash a key by which a search found its item.
+    /// these items, with the slot of the new one. There is at least one, whose slot the new item takes. The call does not
+    /// hash a key by which a search found its item.
     #[inline(never)]
     pub(crate) fn put_over(
         &mut self,
@@ -39,8 +39,15 @@ impl<T: BiHashItem, S: BuildHasher> BiHashMap<T, S> {
         let Some(ix) = found.pop_front() else {
             unreachable!()
         };
-        let mut displaced = self.take_all(&found, by);
-        displaced.push_front(self.exchange(ix, item, by));
+        let Some(at) = found.pop_front() else {
+            let mut displaced = UpToTwo::new();
+            displaced.push(self.exchange(ix, item, by));
+            return (displaced, ix);
+        };
+        let mut displaced = UpToTwo::new();
+        let (gone, other) = self.exchange_two(ix, at, item, by);
+        displaced.push_front(other);
+        displaced.push_front(gone);
         (displaced, ix)
     }
 
@@ -76,5 +83,40 @@ impl<T: BiHashItem, S: BuildHasher> BiHashMap<T, S> {
             by.1.hash(),
         );
         gone
+    }
+
+    /// Puts an item into the slot `ix` of one that conflicts with it, and returns that one and another, which leaves the
+    /// slot `at`. At a rank at which the search found the other item, its pair gets the number `ix`.
+    fn exchange_two(
+        &mut self,
+        ix: ItemIndex,
+        at: ItemIndex,
+        item: T,
+        by: &(SlotUnder, SlotUnder),
+    ) -> (T, T)
+        requires live { IsLive self.old.slots ix × IsLive self.old.slots at }
+        requires apart { ix ≢ at }
+        requires free { clash ⟦<T as Ranked>⟧.ranks
+            (live_items (slice_set (slice_set self.old.slots at None) ix None)) item ≡ [] }
+        requires hashes { HaveHashes
+            (⟦<T as Hashed<S>>⟧.hash1 self.old.builder item) (⟦<T as Hashed<S>>⟧.hash2 self.old.builder item) by.now }
+        requires under { AreUnder
+            (⟦<T as Hashed<S>>⟧.hash1 self.old.builder) (⟦<T as Hashed<S>>⟧.hash2 self.old.builder)
+            self.old.slots by.now }
+        ensures values { (get self.old.slots ix ≡ Some result.0) × (get self.old.slots at ≡ Some result.1) }
+        ensures puts_at { PutsAt ⟦<T as Ranked>⟧.ranks self.old ix item
+            (item ∷ live_items (slice_set (slice_set self.old.slots at None) ix None)) self.new }
+    {
+        // This call gives the prover the fact that the items fit, for the clause `fits`.
+        let _ = self.room();
+        let Some(other) = self.items.remove(at) else {
+            unreachable!()
+        };
+        let gone = self.items.replace(ix, item);
+        self.first
+            .replace_two::<T, First, S>(&self.hash_builder, (ix, &gone), (at, &other), &by.0);
+        self.second
+            .replace_two::<T, Second, S>(&self.hash_builder, (ix, &gone), (at, &other), &by.1);
+        (gone, other)
     }
 }

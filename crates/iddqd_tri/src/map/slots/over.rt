@@ -6,6 +6,8 @@ ghost use Rattle.iddqd_store.specs.Slots.{get, live_items, IsLive};
 ghost use Rattle.iddqd_store.specs.Slots.Found.{each_once};
 ghost use Rattle.iddqd_tri.specs.Keys.{AreUnder, HaveHashes, ranks};
 
+mod three;
+
 use super::super::TriHashMap;
 use super::found::each_once;
 use crate::item::{Hashed, Ranked, TriHashItem};
@@ -15,8 +17,8 @@ use std::hash::{BuildHasher, Hash};
 
 impl<T: TriHashItem, S: BuildHasher> TriHashMap<T, S> {
     /// Inserts an item in place of those that conflict with it, whose slots the searches by its keys found, and returns
-    /// these items, with the slot of the new one. There is at least one. The call removes all but the first, and then
-    /// puts the new item into the slot of that one. It does not hash a key by which a search found its item.
+    /// these items, with the slot of the new one. There is at least one, whose slot the new item takes. The call does
+    /// not hash a key by which a search found its item.
     #[inline(never)]
     pub(crate) fn put_over(
         &mut self,
@@ -31,7 +33,8 @@ impl<T: TriHashItem, S: BuildHasher> TriHashMap<T, S> {
             (⟦<T as Hashed<S>>⟧.hash3 self.old.builder item) by.now }
         requires under { AreUnder
             (⟦<T as Hashed<S>>⟧.hash1 self.old.builder) (⟦<T as Hashed<S>>⟧.hash2 self.old.builder)
-            (⟦<T as Hashed<S>>⟧.hash3 self.old.builder) self.old.slots by.now }
+            (⟦<T as Hashed<S>>⟧.hash3 self.old.builder)
+            self.old.slots by.now }
         ensures displaced { result.0 ≡ order ⟦<T as Ranked>⟧.ranks (bag self.old) item }
         ensures puts_at { PutsAt ⟦<T as Ranked>⟧.ranks self.old result.1 item
             (over ⟦<T as Ranked>⟧.ranks (bag self.old) item) self.new }
@@ -40,8 +43,22 @@ impl<T: TriHashItem, S: BuildHasher> TriHashMap<T, S> {
         let Some(ix) = found.pop_front() else {
             unreachable!()
         };
-        let mut displaced = self.take_all(&found, by);
-        displaced.push_front(self.exchange(ix, item, by));
+        let Some(at) = found.pop_front() else {
+            let mut displaced = UpToThree::new();
+            displaced.push(self.exchange(ix, item, by));
+            return (displaced, ix);
+        };
+        let mut displaced = UpToThree::new();
+        if let Some(end) = found.pop_front() {
+            let (gone, other, last) = self.exchange_three((ix, at, end), item, by);
+            displaced.push(gone);
+            displaced.push(other);
+            displaced.push(last);
+            return (displaced, ix);
+        }
+        let (gone, other) = self.exchange_two(ix, at, item, by);
+        displaced.push_front(other);
+        displaced.push_front(gone);
         (displaced, ix)
     }
 
@@ -55,7 +72,8 @@ impl<T: TriHashItem, S: BuildHasher> TriHashMap<T, S> {
             (⟦<T as Hashed<S>>⟧.hash3 self.old.builder item) by.now }
         requires under { AreUnder
             (⟦<T as Hashed<S>>⟧.hash1 self.old.builder) (⟦<T as Hashed<S>>⟧.hash2 self.old.builder)
-            (⟦<T as Hashed<S>>⟧.hash3 self.old.builder) self.old.slots by.now }
+            (⟦<T as Hashed<S>>⟧.hash3 self.old.builder)
+            self.old.slots by.now }
         ensures value { get self.old.slots ix ≡ Some result }
         ensures puts_at { PutsAt ⟦<T as Ranked>⟧.ranks self.old ix item
             (item ∷ live_items (slice_set self.old.slots ix None)) self.new }
@@ -85,5 +103,44 @@ impl<T: TriHashItem, S: BuildHasher> TriHashMap<T, S> {
             by.2.hash(),
         );
         gone
+    }
+
+    /// Puts an item into the slot `ix` of one that conflicts with it, and returns that one and another, which leaves
+    /// the slot `at`. At a rank at which the search found the other item, its pair gets the number `ix`.
+    fn exchange_two(
+        &mut self,
+        ix: ItemIndex,
+        at: ItemIndex,
+        item: T,
+        by: &(SlotUnder, SlotUnder, SlotUnder),
+    ) -> (T, T)
+        requires live { IsLive self.old.slots ix × IsLive self.old.slots at }
+        requires apart { ix ≢ at }
+        requires free { clash ⟦<T as Ranked>⟧.ranks
+            (live_items (slice_set (slice_set self.old.slots at None) ix None)) item ≡ [] }
+        requires hashes { HaveHashes
+            (⟦<T as Hashed<S>>⟧.hash1 self.old.builder item) (⟦<T as Hashed<S>>⟧.hash2 self.old.builder item)
+            (⟦<T as Hashed<S>>⟧.hash3 self.old.builder item) by.now }
+        requires under { AreUnder
+            (⟦<T as Hashed<S>>⟧.hash1 self.old.builder) (⟦<T as Hashed<S>>⟧.hash2 self.old.builder)
+            (⟦<T as Hashed<S>>⟧.hash3 self.old.builder)
+            self.old.slots by.now }
+        ensures values { (get self.old.slots ix ≡ Some result.0) × (get self.old.slots at ≡ Some result.1) }
+        ensures puts_at { PutsAt ⟦<T as Ranked>⟧.ranks self.old ix item
+            (item ∷ live_items (slice_set (slice_set self.old.slots at None) ix None)) self.new }
+    {
+        // This call gives the prover the fact that the items fit, for the clause `fits`.
+        let _ = self.room();
+        let Some(other) = self.items.remove(at) else {
+            unreachable!()
+        };
+        let gone = self.items.replace(ix, item);
+        self.first
+            .replace_two::<T, First, S>(&self.hash_builder, (ix, &gone), (at, &other), &by.0);
+        self.second
+            .replace_two::<T, Second, S>(&self.hash_builder, (ix, &gone), (at, &other), &by.1);
+        self.third
+            .replace_two::<T, Third, S>(&self.hash_builder, (ix, &gone), (at, &other), &by.2);
+        (gone, other)
     }
 }

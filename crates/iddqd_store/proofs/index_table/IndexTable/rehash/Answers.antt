@@ -1,12 +1,12 @@
 use Rattle.std.proofs.Common.{ℕ, ◌≡◌, List, Contains, ◌∷◌, sym, subst}
-use Rattle.std.proofs.lemmas.List.Sorted.{IsPermutation-remove, IsPermutation-sym}
+use Rattle.std.proofs.lemmas.List.Sorted.{IsPermutation-remove}
 use Rattle.std.specs.List.Sorted.{IsPermutation}
 use Rattle.std.specs.List.{remove}
-use Rattle.iddqd_store.specs.Table.{MovesPair}
+use Rattle.iddqd_store.specs.Table.{ReplacesPair}
 use Rattle.iddqd_store.proofs.index_table.IndexTable.rehash.Goals as goal
 
 -- a pair that stays
-stays : (pairs : List (ℕ × ℕ)) (h k index : ℕ) → Contains pairs (h, index) → h ≡ k → MovesPair pairs pairs h k index
+stays : (pairs : List (ℕ × ℕ)) (h k index : ℕ) → Contains pairs (h, index) → h ≡ k → ReplacesPair pairs pairs (h, index) (k, index)
 stays pairs h k index there same =
     let out : IsPermutation pairs ((h, index) ∷ remove pairs there.0) = IsPermutation-remove pairs there.0 (h, index) there.1 (sym there.2) in
     record {
@@ -20,8 +20,4 @@ returns-then-before-hash-clause-moved g c =
     stays c.args.self.now.pairs _ c.args.hash c.args.ix c.requires.paired (rw c.hash_of_key-before.ensures at c.if-before-hash.true)
 
 pub returns-clause-moved : goal.returns-clause-moved
-returns-clause-moved g c = record {
-  others = c.remove.new.self.pairs;
-  had = rw c.hash_of_key-before.ensures at c.remove.ensures.taken;
-  has = IsPermutation-sym _ _ c.insert_reserved.ensures.added;
-}
+returns-clause-moved g c = rw c.hash_of_key-before.ensures at c.move_pair.ensures.moved

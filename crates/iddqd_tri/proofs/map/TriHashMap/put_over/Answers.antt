@@ -1,65 +1,100 @@
-use Rattle.std.proofs.Common.{sym, ap, subst, ◌∙◌}
-use Rattle.std.specs.Prelude.{All, nat_eq}
-use Rattle.std.specs.List.{IsDistinct}
-use Rattle.std.proofs.lemmas.List.Elements.{All-head}
-use Rattle.std.proofs.lemmas.Map.Keys.{IsDistinct-tail}
+use Rattle.std.proofs.Common.{arith, ap, refl, ◌∙◌, ◌≡◌, ◌<◌, ◌∷◌, [], ℕ, List, length}
+use Rattle.std.proofs.lemmas.List.Sorted.{IsPermutation-refl}
 use Rattle.iddqd_store.specs.Map.{bag}
-use Rattle.iddqd_store.specs.Slots.{IsLive}
-use Rattle.iddqd_store.specs.Slots.Found.{items_at}
 use Rattle.iddqd_store.proofs.BagLemmas.Over.{clash-taken, over-taken}
-use Rattle.iddqd_store.proofs.MapLemmas.Places.{gives_way, stand_in}
-use Rattle.iddqd_store.proofs.RankLemmas.Under.{IsUnder-fewer}
+use Rattle.iddqd_store.proofs.MapLemmas.Places.{one_leaves, three_leave, two_leave, stand_in}
 use Rattle.iddqd_tri.specs.Keys.{ranks}
 use Rattle.iddqd_tri.proofs.map.TriHashMap.put_over.Goals as goal
 
-pub take_all-displaced-requires-clause-apart : goal.take_all-displaced-requires-clause-apart
-take_all-displaced-requires-clause-apart g c =
-    let stand = stand_in (rw (c.slot.ensures, c.slot-2.ensures, c.slot-3.ensures) at c.each_once-found.ensures) c.requires.conflicts in
-    IsDistinct-tail nat_eq c.in-Some.ix c.pop_front.new.self (subst (IsDistinct nat_eq) c.in-Some.ensures.rest stand.apart)
+-- of three slots no fourth one is left
+none_left : (xs : List ℕ) → length xs < 1 → xs ≡ []
+none_left [] short = refl
+none_left (x ∷ xs) short = absurd (omega (arith, short))
 
 pub exchange-requires-clause-free : goal.exchange-requires-clause-free
 exchange-requires-clause-free g c =
     let stand = stand_in (rw (c.slot.ensures, c.slot-2.ensures, c.slot-3.ensures) at c.each_once-found.ensures) c.requires.conflicts in
     let by = ranks g.T.TriHashItem g.T.K1.PartialEq.eq g.T.K2.PartialEq.eq g.T.K3.PartialEq.eq in
     let slots = c.args.self.now.slots in
-    let ix = c.in-Some.ix in
-    let ixs = c.pop_front.new.self in
-    let taken = c.take_all-displaced in
-    let items = ap (items_at slots) (sym c.in-Some.ensures.rest) ∙ stand.items in
-    let live = All-head (IsLive slots) ix ixs (subst (All (IsLive slots)) c.in-Some.ensures.rest stand.live) in
-    let same = taken.ensures.others ix (subst (IsDistinct nat_eq) c.in-Some.ensures.rest stand.apart) in
-    clash-taken by (bag c.args.self.now) _ c.args.item
-    (gives_way by slots taken.new.self.slots c.args.item ix ixs taken.result items live same taken.ensures.values taken.ensures.loses.items)
+    let none = c.in_default-pop_front.ensures in
+    let only = c.in-Some.ensures.rest ∙ ap (λ (l : List ℕ). c.in-Some.ix ∷ l) (none.rest ∙ none.end) in
+    let out = one_leaves by slots c.args.item c.in-Some.ix _ stand only in
+    clash-taken by (bag c.args.self.now) _ c.args.item out
 
-pub exchange-requires-clause-under : goal.exchange-requires-clause-under
-exchange-requires-clause-under g c =
-    let taken = c.take_all-displaced in
-    let under = c.requires.under in
-    rw taken.ensures.loses.same_builder record {
-      first = IsUnder-fewer _ _ _ c.args.by.now.0 taken.ensures.left under.first;
-      second = IsUnder-fewer _ _ _ c.args.by.now.1 taken.ensures.left under.second;
-      third = IsUnder-fewer _ _ _ c.args.by.now.2 taken.ensures.left under.third;
+pub returns-in_default-pop_front-clause-puts_at : goal.returns-in_default-pop_front-clause-puts_at
+returns-in_default-pop_front-clause-puts_at g c =
+    let stand = stand_in (rw (c.slot.ensures, c.slot-2.ensures, c.slot-3.ensures) at c.each_once-found.ensures) c.requires.conflicts in
+    let by = ranks g.T.TriHashItem g.T.K1.PartialEq.eq g.T.K2.PartialEq.eq g.T.K3.PartialEq.eq in
+    let slots = c.args.self.now.slots in
+    let none = c.in_default-pop_front.ensures in
+    let only = c.in-Some.ensures.rest ∙ ap (λ (l : List ℕ). c.in-Some.ix ∷ l) (none.rest ∙ none.end) in
+    let out = one_leaves by slots c.args.item c.in-Some.ix _ stand only in
+    let put = c.exchange.ensures.puts_at in
+    record {
+      at = put.at;
+      items = over-taken by (bag c.args.self.now) _ (bag c.exchange.new.self) c.args.item out put.items;
+      sound = put.sound;
+      fits = put.fits;
+      same_room = put.same_room;
+      same_builder = put.same_builder;
     }
+
+pub exchange_three-gone-requires-clause-free : goal.exchange_three-gone-requires-clause-free
+exchange_three-gone-requires-clause-free g c =
+    let stand = stand_in (rw (c.slot.ensures, c.slot-2.ensures, c.slot-3.ensures) at c.each_once-found.ensures) c.requires.conflicts in
+    let by = ranks g.T.TriHashItem g.T.K1.PartialEq.eq g.T.K2.PartialEq.eq g.T.K3.PartialEq.eq in
+    let slots = c.args.self.now.slots in
+    let first = c.in-Some-pop_front.ensures.rest in
+    let second = c.in-Some-pop_front-2.ensures.rest in
+    let none = none_left c.pop_front-3.new.self (let fewer = c.in-Some.ensures.fewer in let long = ap length first in let longer = ap length second in omega (arith, fewer, long, longer)) in
+    let found = c.in-Some.ensures.rest ∙ ap (λ (l : List ℕ). c.in-Some.ix ∷ l) (first ∙ ap (λ (l : List ℕ). c.in-Some-pop_front.at ∷ l) (second ∙ ap (λ (l : List ℕ). c.in-Some-pop_front-2.end ∷ l) none)) in
+    let out = three_leave by slots c.args.item c.in-Some.ix c.in-Some-pop_front.at c.in-Some-pop_front-2.end _ stand found in
+    clash-taken by (bag c.args.self.now) _ c.args.item out
+
+pub returns-in-Some-pop_front-2-clause-puts_at : goal.returns-in-Some-pop_front-2-clause-puts_at
+returns-in-Some-pop_front-2-clause-puts_at g c =
+    let stand = stand_in (rw (c.slot.ensures, c.slot-2.ensures, c.slot-3.ensures) at c.each_once-found.ensures) c.requires.conflicts in
+    let by = ranks g.T.TriHashItem g.T.K1.PartialEq.eq g.T.K2.PartialEq.eq g.T.K3.PartialEq.eq in
+    let slots = c.args.self.now.slots in
+    let first = c.in-Some-pop_front.ensures.rest in
+    let second = c.in-Some-pop_front-2.ensures.rest in
+    let none = none_left c.pop_front-3.new.self (let fewer = c.in-Some.ensures.fewer in let long = ap length first in let longer = ap length second in omega (arith, fewer, long, longer)) in
+    let found = c.in-Some.ensures.rest ∙ ap (λ (l : List ℕ). c.in-Some.ix ∷ l) (first ∙ ap (λ (l : List ℕ). c.in-Some-pop_front.at ∷ l) (second ∙ ap (λ (l : List ℕ). c.in-Some-pop_front-2.end ∷ l) none)) in
+    let out = three_leave by slots c.args.item c.in-Some.ix c.in-Some-pop_front.at c.in-Some-pop_front-2.end _ stand found in
+    let put = c.exchange_three-gone.ensures.puts_at in
+    record {
+      at = put.at;
+      items = over-taken by (bag c.args.self.now) _ (bag c.exchange_three-gone.new.self) c.args.item out put.items;
+      sound = put.sound;
+      fits = put.fits;
+      same_room = put.same_room;
+      same_builder = put.same_builder;
+    }
+
+pub exchange_two-gone-requires-clause-free : goal.exchange_two-gone-requires-clause-free
+exchange_two-gone-requires-clause-free g c =
+    let stand = stand_in (rw (c.slot.ensures, c.slot-2.ensures, c.slot-3.ensures) at c.each_once-found.ensures) c.requires.conflicts in
+    let by = ranks g.T.TriHashItem g.T.K1.PartialEq.eq g.T.K2.PartialEq.eq g.T.K3.PartialEq.eq in
+    let slots = c.args.self.now.slots in
+    let none = c.in_default-pop_front-2.ensures in
+    let found = c.in-Some.ensures.rest ∙ ap (λ (l : List ℕ). c.in-Some.ix ∷ l) (c.in-Some-pop_front.ensures.rest ∙ ap (λ (l : List ℕ). c.in-Some-pop_front.at ∷ l) (none.rest ∙ none.end)) in
+    let out = two_leave by slots slots c.args.item c.in-Some.ix c.in-Some-pop_front.at [] [] _ stand found (λ k apart. refl) refl (IsPermutation-refl _) in
+    clash-taken by (bag c.args.self.now) _ c.args.item out
 
 pub returns-clause-puts_at : goal.returns-clause-puts_at
 returns-clause-puts_at g c =
     let stand = stand_in (rw (c.slot.ensures, c.slot-2.ensures, c.slot-3.ensures) at c.each_once-found.ensures) c.requires.conflicts in
     let by = ranks g.T.TriHashItem g.T.K1.PartialEq.eq g.T.K2.PartialEq.eq g.T.K3.PartialEq.eq in
     let slots = c.args.self.now.slots in
-    let ix = c.in-Some.ix in
-    let ixs = c.pop_front.new.self in
-    let taken = c.take_all-displaced in
-    let items = ap (items_at slots) (sym c.in-Some.ensures.rest) ∙ stand.items in
-    let live = All-head (IsLive slots) ix ixs (subst (All (IsLive slots)) c.in-Some.ensures.rest stand.live) in
-    let same = taken.ensures.others ix (subst (IsDistinct nat_eq) c.in-Some.ensures.rest stand.apart) in
-    let put = c.exchange.ensures.puts_at in
+    let none = c.in_default-pop_front-2.ensures in
+    let found = c.in-Some.ensures.rest ∙ ap (λ (l : List ℕ). c.in-Some.ix ∷ l) (c.in-Some-pop_front.ensures.rest ∙ ap (λ (l : List ℕ). c.in-Some-pop_front.at ∷ l) (none.rest ∙ none.end)) in
+    let out = two_leave by slots slots c.args.item c.in-Some.ix c.in-Some-pop_front.at [] [] _ stand found (λ k apart. refl) refl (IsPermutation-refl _) in
+    let put = c.exchange_two-gone.ensures.puts_at in
     record {
       at = put.at;
-      items = over-taken by (bag c.args.self.now) _ (bag c.exchange.new.self) c.args.item
-          (gives_way by slots taken.new.self.slots c.args.item ix ixs taken.result items live same taken.ensures.values taken.ensures.loses.items)
-          c.exchange.ensures.puts_at.items;
+      items = over-taken by (bag c.args.self.now) _ (bag c.exchange_two-gone.new.self) c.args.item out put.items;
       sound = put.sound;
       fits = put.fits;
-      same_room = put.same_room ∙ taken.ensures.loses.same_room;
-      same_builder = put.same_builder ∙ taken.ensures.loses.same_builder;
+      same_room = put.same_room;
+      same_builder = put.same_builder;
     }

@@ -1,0 +1,71 @@
+//! Inserting an item in place of three others, each of which has one of its keys.
+ghost use Rattle.std.specs.Prelude.{◌≡◌, ◌≢◌, [], ◌∷◌, None, Some, slice_set};
+ghost use Rattle.iddqd_store.specs.Bag.{clash};
+ghost use Rattle.iddqd_store.specs.Map.{PutsAt};
+ghost use Rattle.iddqd_store.specs.Slots.{get, live_items, IsLive};
+ghost use Rattle.iddqd_tri.specs.Keys.{AreUnder, HaveHashes};
+
+use crate::item::{Hashed, Ranked, TriHashItem};
+use crate::map::TriHashMap;
+use crate::ranks::{First, Second, Third};
+use iddqd_store::{ItemIndex, SlotUnder};
+use std::hash::{BuildHasher, Hash};
+
+impl<T: TriHashItem, S: BuildHasher> TriHashMap<T, S> {
+    /// Puts an item into the slot `slots.0` of one that conflicts with it, and returns that one and two others, which leave the
+    /// other slots. At a rank at which the search found one of these, its pair gets the number `slots.0`.
+    pub(crate) fn exchange_three(
+        &mut self,
+        slots: (ItemIndex, ItemIndex, ItemIndex),
+        item: T,
+        by: &(SlotUnder, SlotUnder, SlotUnder),
+    ) -> (T, T, T)
+        requires live { IsLive self.old.slots slots.0 × IsLive self.old.slots slots.1 × IsLive self.old.slots slots.2 }
+        requires apart { (slots.0 ≢ slots.1) × (slots.0 ≢ slots.2) × (slots.1 ≢ slots.2) }
+        requires free { clash ⟦<T as Ranked>⟧.ranks (live_items
+            (slice_set (slice_set (slice_set self.old.slots slots.2 None) slots.1 None) slots.0 None)) item ≡ [] }
+        requires hashes { HaveHashes
+            (⟦<T as Hashed<S>>⟧.hash1 self.old.builder item) (⟦<T as Hashed<S>>⟧.hash2 self.old.builder item)
+            (⟦<T as Hashed<S>>⟧.hash3 self.old.builder item) by.now }
+        requires under { AreUnder
+            (⟦<T as Hashed<S>>⟧.hash1 self.old.builder) (⟦<T as Hashed<S>>⟧.hash2 self.old.builder)
+            (⟦<T as Hashed<S>>⟧.hash3 self.old.builder) self.old.slots by.now }
+        ensures values { (get self.old.slots slots.0 ≡ Some result.0) × (get self.old.slots slots.1 ≡ Some result.1)
+            × (get self.old.slots slots.2 ≡ Some result.2) }
+        ensures puts_at { PutsAt ⟦<T as Ranked>⟧.ranks self.old slots.0 item (item ∷ live_items
+            (slice_set (slice_set (slice_set self.old.slots slots.2 None) slots.1 None) slots.0 None)) self.new }
+    {
+        // This call gives the prover the fact that the items fit, for the clause `fits`.
+        let _ = self.room();
+        let (ix, at, end) = slots;
+        let Some(last) = self.items.remove(end) else {
+            unreachable!()
+        };
+        let Some(other) = self.items.remove(at) else {
+            unreachable!()
+        };
+        let gone = self.items.replace(ix, item);
+        self.first.replace_three::<T, First, S>(
+            &self.hash_builder,
+            (ix, &gone),
+            (at, &other),
+            (end, &last),
+            &by.0,
+        );
+        self.second.replace_three::<T, Second, S>(
+            &self.hash_builder,
+            (ix, &gone),
+            (at, &other),
+            (end, &last),
+            &by.1,
+        );
+        self.third.replace_three::<T, Third, S>(
+            &self.hash_builder,
+            (ix, &gone),
+            (at, &other),
+            (end, &last),
+            &by.2,
+        );
+        (gone, other, last)
+    }
+}
