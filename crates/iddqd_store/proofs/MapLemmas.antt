@@ -5,7 +5,7 @@ pub mod Storing
 pub mod Updating
 pub mod Walking
 pub mod Written
-use Rattle.std.specs.Prelude.{◌≡◌, ◌+◌, ◌<◌, ◌≤◌, ℕ, Bool, List, [], ◌∷◌, length, IsPermutation, Option, Result, Ok, Err, OnErr}
+use Rattle.std.specs.Prelude.{◌≡◌, ◌+◌, ◌<◌, ◌≤◌, ℕ, Bool, List, [], ◌∷◌, ◌++◌, length, IsPermutation, Option, Result, Ok, Err, OnErr}
 use Rattle.std.specs.Cmp.{IsEquivalence}
 use Rattle.std.proofs.Common.{refl, sym, subst, ◌∙◌, arith}
 use Rattle.std.proofs.lemmas.Map.Keys.{IsDistinct-cons, IsDistinct-tail}
@@ -43,6 +43,14 @@ module _ {T : Type 0} where
   pub sound_without : (ranks : Ranks T) → AreLawful ranks → (old new : List (Option T)) (at : ℕ) (x : T) → IsSound ranks (live_items old) → IsPermutation (members old) ((at, x) ∷ members new) → IsSound ranks (live_items new)
   sound_without ranks laws old new at x sound moved =
       IsDistinct-tail (conflicts ranks) x (live_items new) (IsSound-IsPermutation ranks laws _ _ (live_items-moves old new at x moved) sound)
+
+  -- a sound bag without some of its items is sound
+  pub sound_left : (ranks : Ranks T) → AreLawful ranks → (old taken new : List T) → IsSound ranks old → IsPermutation old (taken ++ new) → IsSound ranks new
+  sound_left ranks laws old taken new sound left = behind taken (IsSound-IsPermutation ranks laws _ _ left sound)
+    where
+      behind : (front : List T) → IsSound ranks (front ++ new) → IsSound ranks new
+      behind [] whole = whole
+      behind (x ∷ front) whole = behind front (IsDistinct-tail (conflicts ranks) x (front ++ new) whole)
 
 pub on_err : {A E P : Type 0} (r : Result A E) → P → OnErr r P
 on_err (Ok _) p = tt

@@ -358,8 +358,11 @@ impl IndexTable {
         ensures cells { length self.new.row ≡ length self.old.row }
         ensures limit { self.new.limit ≡ self.old.limit }
     {
-        self.cells.clear();
-        self.count = 0;
+        // A table without pairs stays as it is.
+        if self.count > 0 {
+            self.cells.clear();
+            self.count = 0;
+        }
     }
 
     /// Returns the pair in cell `i`, or `None` if the cell is empty. It has a pair exactly if its place is full

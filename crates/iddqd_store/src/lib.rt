@@ -6,6 +6,7 @@ mod equivalent;
 mod error;
 mod index_table;
 mod item_set;
+mod load;
 mod query;
 mod rank;
 mod reply;
@@ -18,6 +19,7 @@ pub use error::{
 };
 pub use index_table::{IndexTable, KeyMatcher, Matcher, Meter, Vacancy};
 pub use item_set::{Cursor, Entered, IntoIter, ItemIndex, ItemSet, Iter};
+pub use load::{pairs_wanted, table_room};
 pub use query::Query;
 pub use rank::{ByQuery, HashedKey, KeyOf, Lookup, SlotUnder};
 pub use reply::MapReply;

@@ -5,7 +5,7 @@ ghost use Rattle.iddqd_store.specs.Table.Limit.{most_room};
 
 use super::{BiHashMap, DefaultHashBuilder};
 use crate::item::BiHashItem;
-use iddqd_store::{IndexTable, ItemSet, TryReserveError};
+use iddqd_store::{IndexTable, ItemSet, TryReserveError, table_room};
 use std::alloc::Global;
 use std::hash::{BuildHasher, Hash};
 
@@ -22,7 +22,9 @@ impl<T: BiHashItem> BiHashMap<T, DefaultHashBuilder> {
     /// Makes an empty map with the default builder, in which exactly `items` items fit.
     ///
     /// The call allocates the slots and each table. It fails if an allocation fails, or if so many items are more than
-    /// memory can count. For 0 items it allocates nothing, and succeeds.
+    /// memory can count. For 0 items it allocates nothing, and succeeds. A table has 16 bytes for each of its cells, whose
+    /// number is a power of two: up to 4,096 items the least that is three times as many, up to 16,384 the least that is
+    /// twice as many, and above that the least of which the items fill seven eighths.
     pub fn with_capacity(alloc: Global, items: usize) -> Result<Self, TryReserveError>
         ensures empty { IfOk result (λ map. bag map ≡ []) }
         ensures capacity { IfOk result (λ map. map.capacity ≡ items) }
@@ -70,7 +72,9 @@ impl<T: BiHashItem, S: BuildHasher> BiHashMap<T, S> {
     /// Makes an empty map with this builder, in which exactly `items` items fit.
     ///
     /// The call allocates the slots and each table. It fails if an allocation fails, or if so many items are more than
-    /// memory can count. For 0 items it allocates nothing, and succeeds.
+    /// memory can count. For 0 items it allocates nothing, and succeeds. A table has 16 bytes for each of its cells, whose
+    /// number is a power of two: up to 4,096 items the least that is three times as many, up to 16,384 the least that is
+    /// twice as many, and above that the least of which the items fill seven eighths.
     pub fn with_capacity_and_hasher(
         alloc: Global,
         items: usize,
@@ -86,8 +90,8 @@ impl<T: BiHashItem, S: BuildHasher> BiHashMap<T, S> {
         ensures never_refused { items ≡ 0 → IsOk result }
         ensures past { most_room < items → IsErr result }
     {
-        let first = IndexTable::with_capacity(alloc, items)?;
-        let second = IndexTable::with_capacity(alloc, items)?;
+        let first = IndexTable::with_capacity(alloc, table_room(items))?;
+        let second = IndexTable::with_capacity(alloc, table_room(items))?;
         Ok(BiHashMap {
             items: ItemSet::with_capacity(alloc, items)?,
             first,

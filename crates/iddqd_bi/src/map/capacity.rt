@@ -54,7 +54,10 @@ impl<T: Ranked, S: BuildHasher> BiHashMap<T, S> {
         self.reserve(more)
     }
 
-    /// Drops all items. The builder and the capacity stay. The call allocates no memory.
+    /// Drops all items. The builder and the capacity stay. The call allocates no memory, and compares no key.
+    ///
+    /// It empties each cell of the tables that have any pair. If the items are fewer than a 64th of the cells of a table,
+    /// it removes them one by one instead, and hashes each key of them once.
     pub fn clear(&mut self)
     where
         T: Drop,
@@ -62,8 +65,33 @@ impl<T: Ranked, S: BuildHasher> BiHashMap<T, S> {
         ensures capacity { self.new.capacity ≡ self.old.capacity }
         ensures builder { self.new.builder ≡ self.old.builder }
     {
+        if self.is_sparse() {
+            self.take_each();
+        }
         self.items.clear();
         self.first.clear();
         self.second.clear();
+    }
+
+    /// Returns whether there are items, but so few beside the cells of a table that to remove them one by one takes less
+    /// time than to empty each cell.
+    fn is_sparse(&self) -> bool {
+        let items = self.len();
+        0 < items && items < self.first.cells() / 64
+    }
+
+    /// Removes the items one by one, and drops them. It hashes each key of them once.
+    fn take_each(&mut self)
+    where
+        T: Drop,
+        ensures empty { bag self.new ≡ [] }
+        ensures capacity { self.new.capacity ≡ self.old.capacity }
+        ensures builder { self.new.builder ≡ self.old.builder }
+    {
+        let mut from = 0;
+        while let Some(ix) = self.slot_from(from) {
+            from = ix.number() + 1;
+            drop(self.take(ix, None, None));
+        }
     }
 }

@@ -1,11 +1,11 @@
 -- How a table is filled from slots, one after another.
-use Rattle.std.specs.Prelude.{◌≡◌, ℕ, suc, ◌+◌, ◌<◌, List, [], ◌∷◌, ◌++◌, length, map, drop, IsPermutation, Option, Some, None}
+use Rattle.std.specs.Prelude.{◌≡◌, ℕ, suc, ◌+◌, ◌<◌, ◌≤◌, List, [], ◌∷◌, ◌++◌, length, map, drop, IsPermutation, Option, Some, None}
 use Rattle.std.proofs.Common.{refl, sym, ap, subst, ◌∙◌, arith}
 use Rattle.std.proofs.lemmas.List.{drop_more, length-append, length-map}
 use Rattle.std.proofs.lemmas.List.Sorted.{IsPermutation-refl, IsPermutation-sym, IsPermutation-trans, IsPermutation-middle, IsPermutation-append_left, length_permutation}
 use Rattle.iddqd_store.specs.Slots.{get, live_count, live_items, items_in, members_from, members}
 use Rattle.iddqd_store.specs.Rank.Index.{pair_of}
-use Rattle.iddqd_store.proofs.RankLemmas.Index.{length-members_from}
+use Rattle.iddqd_store.proofs.RankLemmas.Index.{length-live_items, length-members_from}
 use Rattle.iddqd_store.proofs.SlotLemmas.Chain.{live_items-items_in}
 
 module _ {T : Type 0} (hash : T → ℕ) (slots : List (Option T)) where
@@ -61,3 +61,7 @@ module _ {T : Type 0} where
   -- the same items, moved to the first slots
   pub live_items-compact : (old new : List (Option T)) → new ≡ map Some (live_items old) → live_items new ≡ live_items old
   live_items-compact old new is = ap live_items is ∙ live_items-all (live_items old)
+
+  -- if some of the items leave, there is room for the others where there was room for all
+  pub fewer : (old new : List (Option T)) (taken : List T) {room : ℕ} → IsPermutation (live_items old) (taken ++ live_items new) → length (live_items old) ≤ room → live_count new ≤ room
+  fewer old new taken left fits = omega (arith, fits, length_permutation _ _ left, length-append taken (live_items new), length-live_items new)

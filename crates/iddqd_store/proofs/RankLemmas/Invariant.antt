@@ -1,5 +1,5 @@
 -- How a map stays indexed, for any number of ranks.
-use Rattle.std.specs.Prelude.{◌≡◌, ℕ, Bool, true, List, [], ◌∷◌, map, Option, Contains, IsPermutation, ⊤}
+use Rattle.std.specs.Prelude.{◌≡◌, ℕ, Bool, true, List, [], ◌∷◌, ◌++◌, map, Option, Contains, IsPermutation, ⊤}
 use Rattle.std.specs.List.{AllZip}
 use Rattle.std.proofs.Common.{refl}
 use Rattle.iddqd_store.specs.Bag.{Ranks, AreLawful, conflicts, clash, agrees}
@@ -9,7 +9,7 @@ use Rattle.iddqd_store.specs.Slots.{IsSlotClone, members, live_items}
 use Rattle.iddqd_store.proofs.BagLemmas.Sound.{IsSound-rank, IsDistinct-nil}
 use Rattle.iddqd_store.proofs.RankLemmas.Copied.{is_copy, IsIndex-copy}
 use Rattle.iddqd_store.proofs.RankLemmas.Index.{IsIndex-empty, IsIndex-reorder, IsIndex-insert, IsIndex-remove}
-use Rattle.iddqd_store.proofs.MapLemmas.{free_sound, sound_without}
+use Rattle.iddqd_store.proofs.MapLemmas.{free_sound, sound_left, sound_without}
 use Rattle.iddqd_store.proofs.BagLemmas.Same.{IsSound-copy}
 
 module _ {T : Type 0} where
@@ -84,6 +84,13 @@ module _ {T : Type 0} where
   -- the same items in other slots, and tables that index these
   pub IsIndexed-move : {ranks : Ranks T} {hashes : List (T → ℕ)} {old new : List (Option T)} {tables others : List (List (ℕ × ℕ))} → IsIndexed ranks hashes old tables → live_items new ≡ live_items old → AreIndexes hashes new others → IsIndexed ranks hashes new others
   IsIndexed-move indexed same indexes = record { sound = rw same indexed.sound; indexes = indexes }
+
+  -- some of the items leave, and tables that index the others
+  pub IsIndexed-left : {ranks : Ranks T} {hashes : List (T → ℕ)} {old new : List (Option T)} {tables others : List (List (ℕ × ℕ))} (taken : List T) → AreLawful ranks → IsIndexed ranks hashes old tables → IsPermutation (live_items old) (taken ++ live_items new) → AreIndexes hashes new others → IsIndexed ranks hashes new others
+  IsIndexed-left {ranks = ranks} {old = old} {new = new} taken laws indexed left indexes = record {
+    sound = sound_left ranks laws (live_items old) taken (live_items new) indexed.sound left;
+    indexes = indexes;
+  }
 
   -- clones of the members hash as they do
   abbrev pub IsAlike : (T → T → Type 0) → List (Option T) → (T → ℕ) → (T → ℕ) → Type 0

@@ -1,7 +1,10 @@
 //! A record of the items that a batch has inserted, so that they can be removed again.
-ghost use Rattle.std.specs.Prelude.{◌≡◌, ◌+◌, ◌<◌, ◌≤◌, ◌++◌, [], ◌∷◌, length, vec_capacity, OnOk};
+ghost use Rattle.std.specs.Prelude.{◌≡◌, ◌+◌, ◌<◌, ◌≤◌, ◌++◌, [], ◌∷◌, length, vec_capacity, OnOk, All, IsPermutation, nat_eq};
+ghost use Rattle.std.specs.List.{IsDistinct};
+ghost use Rattle.iddqd_store.specs.Slots.{IsLive, live_items};
+ghost use Rattle.iddqd_store.specs.Slots.Found.{items_at};
 
-use super::ItemIndex;
+use super::{ItemIndex, ItemSet};
 use crate::error::TryReserveError;
 use std::alloc::Global;
 use std::marker::Model;
@@ -39,6 +42,13 @@ impl<T> Entered<T> {
         }
     }
 
+    /// Returns how many items are noted.
+    pub fn len(&self) -> usize
+        ensures { result ≡ length self.now.slots }
+    {
+        self.slots.len()
+    }
+
     /// Appends the slot of an item that was inserted.
     pub fn push(&mut self, ix: ItemIndex)
         requires { length self.old.slots < self.old.room }
@@ -59,9 +69,11 @@ impl<T> Entered<T> {
 }
 
 impl<T: Drop> Entered<T> {
-    /// Reserves spare capacity for one more item. It fails if the memory cannot be allocated.
+    /// Reserves spare capacity for one more item. If there is none, it reserves it for as many as are `wanted`. It fails
+    /// if the memory cannot be allocated.
     #[inline(always)]
-    pub fn reserve_one(&mut self) -> Result<(), TryReserveError>
+    pub fn reserve_for(&mut self, wanted: usize) -> Result<(), TryReserveError>
+        requires { 0 < wanted }
         ensures slots { self.new.slots ≡ self.old.slots }
         ensures room { OnOk result (length self.new.slots < self.new.room) }
     {
@@ -69,23 +81,44 @@ impl<T: Drop> Entered<T> {
         if noted < self.slots.capacity() && noted < self.items.capacity() {
             return Ok(());
         }
-        self.grow()
+        self.grow(wanted)
     }
 
     // Allocates more capacity for the slots or for their items. The vector of the items is made anew, since growing it
     // would copy memory that holds nothing.
     #[cold]
     #[inline(never)]
-    fn grow(&mut self) -> Result<(), TryReserveError>
+    fn grow(&mut self, wanted: usize) -> Result<(), TryReserveError>
+        requires { 0 < wanted }
         ensures slots { self.new.slots ≡ self.old.slots }
         ensures room { OnOk result (length self.new.slots < self.new.room) }
     {
-        self.slots.reserve(1)?;
+        self.slots.reserve(wanted)?;
         if self.items.capacity() <= self.slots.len() {
             let mut items = Vec::new(*self.slots.allocator());
             items.reserve(self.slots.capacity())?;
             self.items = items;
         }
         Ok(())
+    }
+}
+
+impl<T> ItemSet<T> {
+    /// Removes the items of the slots that were noted, in their order. It allocates nothing.
+    pub fn take_entered(&mut self, entered: Entered<T>) -> Vec<T>
+        requires live { All (IsLive self.old.slots) entered.slots }
+        requires apart { IsDistinct nat_eq entered.slots }
+        ensures values { result.items ≡ items_at self.old.slots entered.slots }
+        ensures left { IsPermutation (live_items self.old.slots) (result.items ++ live_items self.new.slots) }
+        ensures capacity { self.new.capacity ≡ self.old.capacity }
+    {
+        let (slots, mut items) = entered.into_parts();
+        for at in 0..slots.len() {
+            match self.remove(slots[at]) {
+                Some(item) => items.push_reserved(item),
+                None => unreachable!(),
+            }
+        }
+        items
     }
 }

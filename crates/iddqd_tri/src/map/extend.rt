@@ -62,9 +62,11 @@ impl<T: Ranked + Drop, S: BuildHasher> TriHashMap<T, S> {
     /// the reason is `Conflict`, whether there is memory or not.
     ///
     /// To insert an item, the call hashes each key of it once, and searches for it once. It allocates memory if the map
-    /// is full, and for the list of the items inserted, by which an error returns them; for a list of no items it
-    /// allocates none. To remove the items again, it hashes each key once more, compares none, and allocates no memory.
-    /// After an error the capacity may have grown.
+    /// is full, and for the list of the items inserted, by which an error returns them: each time for as many items as
+    /// the iterator still promises. For a list of no items it
+    /// allocates none. To remove the items again, it hashes each key of them once more; or, if they are more than an
+    /// eighth of the map, each key of the other items. It compares none then, and allocates no memory. After an error
+    /// the capacity may have grown.
     ///
     /// ```text
     /// if let Err(refused) = map.extend_unique(batch) {
@@ -92,8 +94,12 @@ impl<T: Ranked + Drop, S: BuildHasher> TriHashMap<T, S> {
             self.old self.new }
     {
         let mut entered = self.items.entered();
-        for item in iter {
-            if let Err((value, reason)) = self.enter(item, &mut entered) {
+        let items = iter.into_iter();
+        let mut left = items.size_hint().0;
+        for item in items {
+            let wanted = left.max(1);
+            left = wanted - 1;
+            if let Err((value, reason)) = self.enter(item, &mut entered, wanted) {
                 let taken = self.take_entered(entered);
                 return Err(ExtendUniqueError {
                     taken,

@@ -5,7 +5,7 @@ ghost use Rattle.iddqd_store.specs.Map.{bag};
 use super::TriHashMap;
 use crate::item::TriHashItem;
 use crate::ranks::{First, Second, Third};
-use iddqd_store::TryReserveError;
+use iddqd_store::{TryReserveError, table_room};
 use std::hash::{BuildHasher, Hash};
 
 impl<T: TriHashItem + Drop, S: BuildHasher> TriHashMap<T, S> {
@@ -14,8 +14,8 @@ impl<T: TriHashItem + Drop, S: BuildHasher> TriHashMap<T, S> {
     /// The call allocates smaller slots and tables, and hashes each key anew. It compares none. If an allocation fails,
     /// the map is as before. For a map that gets capacity 0 the call allocates nothing.
     ///
-    /// If the slots and tables are no larger than the new capacity needs, the call allocates and hashes nothing. They
-    /// may be larger although the capacity stays, as after a failed `reserve`. Then the call makes them smaller if
+    /// If the slots and tables are those of a map made with the new capacity, the call allocates and hashes nothing.
+    /// They may be larger although the capacity stays, as after a failed `reserve`. Then the call makes them smaller if
     /// there is memory for that, and succeeds in any case: a call that does not change the capacity never fails.
     pub fn shrink_to(&mut self, least: usize) -> Result<(), TryReserveError>
         // The items and the builder stay.
@@ -54,14 +54,15 @@ impl<T: TriHashItem + Drop, S: BuildHasher> TriHashMap<T, S> {
         self.shrink_to(0)
     }
 
-    /// Returns whether the slots hold exactly so many items, and each table is as small as one that is made for them.
+    /// Returns whether the slots hold exactly so many items, and each table has as many cells as one that is made for
+    /// them.
     fn is_made_for(&self, wanted: usize) -> bool
         ensures { result ≡ true → self.now.capacity ≡ wanted }
     {
         self.items.capacity() == wanted
-            && self.first.is_made_for(wanted)
-            && self.second.is_made_for(wanted)
-            && self.third.is_made_for(wanted)
+            && self.first.is_made_for(table_room(wanted))
+            && self.second.is_made_for(table_room(wanted))
+            && self.third.is_made_for(table_room(wanted))
     }
 
     /// Makes slots and tables anew, for so many items. After an error the map is as before.
@@ -75,9 +76,9 @@ impl<T: TriHashItem + Drop, S: BuildHasher> TriHashMap<T, S> {
         ensures unchanged { OnErr result (self.new ≡ self.old) }
     {
         // All that can fail comes first: the new tables, then the slots.
-        let mut first = self.first.fresh(wanted)?;
-        let mut second = self.second.fresh(wanted)?;
-        let mut third = self.third.fresh(wanted)?;
+        let mut first = self.first.fresh(table_room(wanted))?;
+        let mut second = self.second.fresh(table_room(wanted))?;
+        let mut third = self.third.fresh(table_room(wanted))?;
         self.items.shrink_to(wanted)?;
         self.items.fill::<First, S>(&mut first, &self.hash_builder);
         self.items

@@ -3,7 +3,7 @@
 //! searches by all keys found (`found`), iterating (`walk`), reading and writing
 //! (`write`), inserting in place of other items (`over`), and inserting a list that may have to be removed again
 //! (`enter`). Calls that treat all slots at once (to clear, clone or rebuild them) use the slots and tables themselves.
-ghost use Rattle.std.specs.Prelude.{◌≡◌, ◌≢◌, ◌==◌, ℕ, ◌<◌, ◌≤◌, [], ◌∷◌, length, All, IsPermutation, OnOk, OnErr, IfOk, IfErr, Some, None, IfSome, nat_eq, slice_set, is_some, true, false};
+ghost use Rattle.std.specs.Prelude.{◌≡◌, ◌≢◌, ◌==◌, ℕ, ◌<◌, ◌≤◌, ◌+◌, [], ◌∷◌, length, All, IsPermutation, OnOk, OnErr, IfOk, IfErr, Some, None, IfSome, nat_eq, slice_set, is_some, true, false};
 ghost use Rattle.std.specs.List.{IsDistinct, list_any};
 ghost use Rattle.iddqd_store.specs.Bag.{IsSound, clash, differ, listing};
 ghost use Rattle.iddqd_store.specs.Rank.Index.{HasHash};
@@ -26,7 +26,9 @@ use super::TriHashMap;
 use crate::error::EntryError;
 use crate::item::{Hashed, Ranked, TriHashItem};
 use crate::ranks::{First, Second, Third};
-use iddqd_store::{ItemIndex, Lookup, Meter, SlotUnder, TryReserveError, UpToThree, Vacancy};
+use iddqd_store::{
+    ItemIndex, Lookup, Meter, SlotUnder, TryReserveError, UpToThree, Vacancy, pairs_wanted,
+};
 use std::hash::{BuildHasher, Hash};
 
 /// An item that was not inserted, and why. It does not borrow the map.
@@ -313,16 +315,22 @@ impl<T: TriHashItem, S: BuildHasher> TriHashMap<T, S> {
     }
 
     /// Reserves capacity for so many more items. It is not inlined into an insert, which seldom grows.
+    ///
+    /// The tables grow first. If the memory for one of them, or for the slots, cannot be allocated, the slots stay as
+    /// they are, so the items do not fit.
     #[cold]
     #[inline(never)]
     pub(crate) fn grow(&mut self, more: usize) -> Result<(), TryReserveError>
         ensures slots { self.new.slots ≡ self.old.slots }
         ensures room { MakesRoom self.old more result self.new }
     {
+        let Some(wanted) = pairs_wanted(self.items.len(), self.items.capacity(), more) else {
+            return Err(TryReserveError);
+        };
+        self.first.try_reserve(wanted)?;
+        self.second.try_reserve(wanted)?;
+        self.third.try_reserve(wanted)?;
         self.items.try_reserve(more)?;
-        self.first.try_reserve(more)?;
-        self.second.try_reserve(more)?;
-        self.third.try_reserve(more)?;
         Ok(())
     }
 
@@ -337,8 +345,23 @@ impl<T: TriHashItem, S: BuildHasher> TriHashMap<T, S> {
         ensures reason { OnErr result (length (bag self.old) ≡ self.old.capacity) }
         ensures unchanged { OnErr result (self.new ≡ self.old) }
     {
+        self.make_room_for(1)
+    }
+
+    /// Reserves capacity for so many more items if the map is full.
+    #[inline(always)]
+    pub(crate) fn make_room_for(&mut self, wanted: usize) -> Result<(), TryReserveError>
+        requires { 0 < wanted }
+        ensures slots { self.new.slots ≡ self.old.slots }
+        ensures builder { self.new.builder ≡ self.old.builder }
+        ensures no_less_room { self.old.capacity ≤ self.new.capacity }
+        ensures same_room { length (bag self.old) < self.old.capacity → self.new ≡ self.old }
+        ensures room { OnOk result (length (bag self.old) < self.new.capacity) }
+        ensures reason { OnErr result (length (bag self.old) ≡ self.old.capacity) }
+        ensures still_short { OnErr result (self.new.capacity < length (bag self.old) + wanted) }
+    {
         if self.is_full() {
-            self.grow(1)?;
+            self.grow(wanted)?;
         }
         Ok(())
     }

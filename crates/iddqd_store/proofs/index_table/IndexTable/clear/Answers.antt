@@ -7,5 +7,5 @@ invariant_of-self c =
     let n = length c.self.inside.cells in
     rw c.clear.ensures (table_empty n c.self.invariant.0.size, length_held_empty n)
 
-pub returns-clause-pairs : goal.returns-clause-pairs
-returns-clause-pairs c = rw c.clear.ensures (held-empty (length c.self.inside.cells))
+pub returns-then-self-gt0-clause-pairs : goal.returns-then-self-gt0-clause-pairs
+returns-then-self-gt0-clause-pairs c = rw c.clear.ensures (held-empty (length c.self.inside.cells))

@@ -4,7 +4,7 @@ use Rattle.std.specs.List.{IsDistinct}
 use Rattle.iddqd_store.specs.Map.{Loses}
 use Rattle.iddqd_store.specs.Slots.{IsLive}
 use Rattle.iddqd_store.specs.Slots.Found.{items_at}
-use Rattle.iddqd_tri.proofs.map.TriHashMap.take_entered.Given as goal
+use Rattle.iddqd_tri.proofs.map.TriHashMap.take_one_by_one.Given as goal
 
 abbrev pub invariant-loop-at : goal.invariant-loop-at
 invariant-loop-at g l = record {

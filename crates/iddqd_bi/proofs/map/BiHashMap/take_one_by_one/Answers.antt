@@ -8,7 +8,7 @@ use Rattle.std.proofs.lemmas.Option.{slice_get_read}
 use Rattle.iddqd_store.specs.Slots.{IsLive}
 use Rattle.iddqd_store.specs.Slots.Found.{items_at}
 use Rattle.iddqd_store.proofs.BagLemmas.Over.{drop-found, items_at-taken, live-others, IsPermutation-taken}
-use Rattle.iddqd_tri.proofs.map.TriHashMap.take_entered.Goals as goal
+use Rattle.iddqd_bi.proofs.map.BiHashMap.take_one_by_one.Goals as goal
 
 pub take-requires-clause-live : goal.take-requires-clause-live
 take-requires-clause-live g c =

@@ -1,17 +1,17 @@
 use Rattle.std.proofs.Common.{◌≡◌, ◌≤◌, ◌++◌, length, drop}
-use Rattle.std.specs.Prelude.{All, nat_eq, vec_capacity}
+use Rattle.std.specs.Prelude.{All, IsPermutation, nat_eq, vec_capacity}
 use Rattle.std.specs.List.{IsDistinct}
-use Rattle.iddqd_store.specs.Map.{Loses}
-use Rattle.iddqd_store.specs.Slots.{IsLive}
+use Rattle.iddqd_store.specs.Slots.{IsLive, live_items}
 use Rattle.iddqd_store.specs.Slots.Found.{items_at}
-use Rattle.iddqd_bi.proofs.map.BiHashMap.take_entered.Given as goal
+use Rattle.iddqd_store.proofs.item_set.ItemSet.take_entered.Given as goal
 
 abbrev pub invariant-loop-at : goal.invariant-loop-at
 invariant-loop-at g l = record {
   live : All (IsLive l.self.slots) (drop l.at l.slots.items);
   apart : IsDistinct nat_eq (drop l.at l.slots.items);
   values : l.items.items ++ items_at l.self.slots (drop l.at l.slots.items) ≡ items_at l.fn.self.slots l.slots.items;
-  loses : Loses l.fn.self l.items.items l.self;
+  left : IsPermutation (live_items l.fn.self.slots) (l.items.items ++ live_items l.self.slots);
+  capacity : l.self.capacity ≡ l.fn.self.capacity;
   taken : length l.items.items ≡ l.at;
   room : length l.slots.items ≤ vec_capacity l.items;
 }

@@ -1,0 +1,48 @@
+//! The load of the tables: how many pairs a map makes its tables for. A search ends sooner the more of the cells are
+//! empty, so the tables of a small map have room for more pairs than its slots have room for items. The capacity of the
+//! map is then that of its slots.
+ghost use Rattle.std.specs.Prelude.{◌≡◌, ℕ, ◌+◌, ◌*◌, ◌^◌, ◌<◌, ◌≤◌, IfNone, IfSome, min};
+
+/// In a map of more items a table has no more cells than its pairs need.
+const LARGE: usize = 16384;
+
+/// Returns how many pairs a table is made for in a map in which this many items fit. At most seven eighths of the cells
+/// have a pair in a full table. So in a full map at most a third of them have one up to 4,096 items, at most half of them
+/// up to 16,384 items, and above that at most seven eighths: larger tables would no longer stay in the processor's caches.
+pub fn table_room(items: usize) -> usize
+    ensures enough { items ≤ result }
+    ensures none { items ≡ 0 → result ≡ 0 }
+    ensures most { result ≤ 3 * items }
+{
+    if items <= 4096 {
+        (items * 21).div_ceil(8)
+    } else if items <= LARGE {
+        items * 2 - items / 4
+    } else {
+        items
+    }
+}
+
+/// Returns for how many more pairs each table reserves capacity where a map of `len` items reserves it for `more`. If
+/// its slots, which have room for `room` items, have to grow, the tables grow with them, for as many items as the slots
+/// have room for then. It is `None` if so many items are more than a `usize` counts.
+pub fn pairs_wanted(len: usize, room: usize, more: usize) -> Option<usize>
+    requires { len ≤ room }
+    // The pairs of so many more items fit, and no others are asked for where the slots do not grow.
+    ensures enough { IfSome result (λ wanted. more ≤ wanted) }
+    ensures same { IfSome result (λ wanted. len + more ≤ room → wanted ≡ more) }
+    // Where a table is too small for the pairs, the items do not fit either.
+    ensures short { IfSome result (λ wanted. (limit : ℕ) → limit < len + wanted → min room limit < len + more) }
+    ensures past { IfNone result (2 ^ 64 ≤ len + more) }
+{
+    if more <= room - len {
+        return Some(more);
+    }
+    let items = len.checked_add(more)?;
+    // A vector that grows gets twice its capacity at least, and at first four places.
+    let slots = items.max(room.saturating_mul(2)).max(4);
+    if slots > LARGE {
+        return Some(more);
+    }
+    Some(table_room(slots) - len)
+}
