@@ -36,7 +36,7 @@ use operations::Operation;
 #[cfg(not(feature = "beside"))]
 use operations::{three_keys, two_keys};
 
-/// The numbers of items, at which the load of a table is 0.87, 0.49 and 0.76.
+/// The numbers of items, at which the load of a table of std is 0.87, 0.49 and 0.76.
 const SIZES: [usize; 3] = [890, 1_000, 100_000];
 
 /// The name of the other side in the heads of tables. It is the Rust crate iddqd if bench/beside builds the program.
