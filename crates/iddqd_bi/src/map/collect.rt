@@ -12,7 +12,7 @@ use super::{BiHashMap, DefaultHashBuilder};
 use crate::item::{BiHashItem, Ranked};
 use std::alloc::{AllocError, Global};
 use std::default::MadeWith;
-use std::hash::{BuildHasher, Hash};
+use std::hash::{BuildHasher, Hash, RandomState};
 
 /// `items.into_iter().collect::<BiHashMap<_>>(alloc)?` makes a map. Each item is inserted as `insert_overwrite` does.
 impl<T: Ranked + Drop, S: BuildHasher + Default + Drop> FromIterator<T> for BiHashMap<T, S> {
@@ -59,6 +59,10 @@ pub trait ClonesHashes: BuildHasher + Clone {
 }
 
 impl ClonesHashes for DefaultHashBuilder {
+    ghost same_hashes = { Prim.search rules };
+}
+
+impl ClonesHashes for RandomState {
     ghost same_hashes = { Prim.search rules };
 }
 

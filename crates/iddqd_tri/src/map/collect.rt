@@ -13,7 +13,7 @@ use super::{DefaultHashBuilder, TriHashMap};
 use crate::item::{Ranked, TriHashItem};
 use std::alloc::{AllocError, Global};
 use std::default::MadeWith;
-use std::hash::{BuildHasher, Hash};
+use std::hash::{BuildHasher, Hash, RandomState};
 
 /// `items.into_iter().collect::<TriHashMap<_>>(alloc)?` makes a map. Each item is inserted as `insert_overwrite` does.
 impl<T: Ranked + Drop, S: BuildHasher + Default + Drop> FromIterator<T> for TriHashMap<T, S> {
@@ -62,6 +62,10 @@ pub trait ClonesHashes: BuildHasher + Clone {
 }
 
 impl ClonesHashes for DefaultHashBuilder {
+    ghost same_hashes = { Prim.search rules };
+}
+
+impl ClonesHashes for RandomState {
     ghost same_hashes = { Prim.search rules };
 }
 

@@ -55,7 +55,7 @@ impl<T: BiHashItem, S: BuildHasher> BiHashMap<T, S> {
         ensures values { result.items ≡ items_at self.old.slots entered.slots }
         ensures loses { Loses self.old result.items self.new }
     {
-        if entered.len() > self.items.len() / 8 {
+        if entered.len() > self.items.len() / 2 {
             self.take_and_refill(entered)
         } else {
             self.take_one_by_one(entered)
@@ -77,7 +77,7 @@ impl<T: BiHashItem, S: BuildHasher> BiHashMap<T, S> {
     }
 
     /// Removes these items from their slots, and enters those that are left into emptied tables. It hashes each key of
-    /// those once. So a removal searches no table, which takes less time where more than an eighth of the items leave.
+    /// those once. So no table is searched, and where most items leave, fewer keys are hashed.
     fn take_and_refill(&mut self, entered: Entered<T>) -> Vec<T>
         requires live { All (IsLive self.old.slots) entered.slots }
         requires apart { IsDistinct nat_eq entered.slots }
