@@ -62,5 +62,41 @@ pub struct Box<T, A: Allocator = Global>(PhantomData<(T, A)>);
 /// A value with shared owners, which are counted.
 pub struct Rc<T, A: Allocator = Global>(PhantomData<(T, A)>);
 
+/// A value with owners in several threads, which are counted.
+pub struct Arc<T, A: Allocator = Global>(PhantomData<(T, A)>);
+
+/// A type that `collect` makes of items.
+pub trait FromIterator<T>: Sized {
+    /// The allocator that is passed.
+    type Alloc;
+
+    /// Makes a value of the items.
+    fn from_iter<U: IntoIterator<Item = T>>(alloc: Self::Alloc, iter: U) -> Result<Self, AllocError>;
+}
+
+/// A type to which items can be added.
+pub trait Extend<T> {
+    /// Adds the items.
+    fn extend<U: IntoIterator<Item = T>>(&mut self, iter: U) -> Result<(), AllocError>;
+}
+
+/// A type of which `or_default` makes a value, by the allocator of the map.
+pub trait MadeWith<A> {
+    /// Makes a value.
+    fn made_with(alloc: A) -> Self;
+}
+
+impl<H> Clone for std::hash::BuildHasherDefault<H> {
+    fn clone(&self) -> Result<Self, AllocError> {
+        loop {}
+    }
+}
+
+impl Clone for std::hash::RandomState {
+    fn clone(&self) -> Result<Self, AllocError> {
+        loop {}
+    }
+}
+
 /// A type whose values are copied by their bytes.
 pub trait Copy {}

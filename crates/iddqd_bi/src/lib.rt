@@ -18,7 +18,7 @@ pub use entry::{
 pub use error::{EntryError, EntryRefusal, FromIterError, InsertError, KeyMismatch};
 pub use item::{BiHashItem, BiHashItemMut, Hashed, Ranked};
 pub use iter_mut::IterMut;
-pub use map::{BiHashMap, DefaultHashBuilder};
+pub use map::{BiHashMap, ClonesHashes, ClonesKeys, DefaultHashBuilder};
 pub use ref_mut::RefMut;
 
 // Types of `iddqd_store` that the signatures of this crate name.

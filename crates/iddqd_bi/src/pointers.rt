@@ -1,12 +1,14 @@
 //! References, boxes and reference-counted pointers to items are items, with the keys of the item that they point to. A
 //! `&mut` and a `Box` also give that item's data for writing.
 ghost use denote.Ref.{at_last};
+ghost use Rattle.std.specs.Arc.{arc_value};
 ghost use Rattle.std.specs.Box.{with_value};
 
 use crate::item::{BiHashItem, BiHashItemMut};
 use std::alloc::Allocator;
 use std::boxed::Box;
 use std::rc::Rc;
+use std::sync::Arc;
 
 impl<T: BiHashItem> BiHashItem for &T {
     type K1 = T::K1;
@@ -63,6 +65,24 @@ impl<T: BiHashItem, A: Allocator> BiHashItem for Box<T, A> {
 }
 
 impl<T: BiHashItem, A: Allocator> BiHashItem for Rc<T, A> {
+    type K1 = T::K1;
+
+    type K2 = T::K2;
+
+    ghost key1 = { λ b. T.key1 b.value };
+
+    ghost key2 = { λ b. T.key2 b.value };
+
+    fn key1(&self) -> &T::K1 {
+        (**self).key1()
+    }
+
+    fn key2(&self) -> &T::K2 {
+        (**self).key2()
+    }
+}
+
+impl<T: BiHashItem, A: Allocator> BiHashItem for Arc<T, A> {
     type K1 = T::K1;
 
     type K2 = T::K2;

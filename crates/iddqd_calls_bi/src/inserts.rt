@@ -1,4 +1,4 @@
-//! Calls that insert one item, and what their errors say.
+//! Calls that take one item, most of them to insert it, and what their errors say.
 use crate::guards::back;
 use crate::item::{Item, row_of};
 use crate::lists::displaced;
@@ -65,6 +65,13 @@ fn overwrite<S: BuildHasher>(map: &mut BiHashMap<Item, S>, item: Item) -> Answer
     }
 }
 
+/// Answers the items that conflict with this one.
+fn conflicts<S: BuildHasher>(map: &BiHashMap<Item, S>, item: Item) -> Answer {
+    let answer = with_lent(Answer::said("conflicts"), &map.conflicts_with(&item));
+    drop(item);
+    answer
+}
+
 /// Inserts an item and removes it again, a thousand times. The answer has how often it was there to be removed.
 fn insert_and_remove<S: BuildHasher>(map: &mut BiHashMap<Item, S>, mut item: Item) -> Answer {
     let Ok(key) = item.key1.clone() else {
@@ -99,6 +106,7 @@ pub(crate) fn answered<S: BuildHasher>(
         "insert_or_back" => Some(insert_or_back(map, item)),
         "insert_overwrite" => Some(overwrite(map, item)),
         "insert_or_back.remove1" => Some(insert_and_remove(map, item)),
+        "conflicts_with" => Some(conflicts(map, item)),
         _ => {
             drop(item);
             None

@@ -76,6 +76,11 @@ fn extend<S: BuildHasher>(map: &mut TriHashMap<Item, S>, items: Vec<Item>) -> An
     }
 }
 
+/// Extends the map by the trait of std, whose error has no item. The iterator promises no length.
+fn extend_by_trait<S: BuildHasher>(map: &mut TriHashMap<Item, S>, items: Vec<Item>) -> Answer {
+    Answer::granted(Extend::extend(map, items.into_iter().filter(|_| true)).is_ok())
+}
+
 fn extend_hintless<S: BuildHasher>(map: &mut TriHashMap<Item, S>, items: Vec<Item>) -> Answer {
     match map.extend(items.into_iter().filter(|_| true)) {
         Ok(()) => Answer::said("ok"),
@@ -104,6 +109,15 @@ fn from_iter_hintless<S: Builder>(alloc: Global, items: Vec<Item>) -> Answer {
     }
 }
 
+/// Makes a map by `collect`. The iterator promises no length.
+fn collected<S: Builder>(alloc: Global, items: Vec<Item>) -> Answer {
+    let items = items.into_iter().filter(|_| true);
+    match items.collect::<TriHashMap<Item, S>>(alloc) {
+        Ok(map) => built(map),
+        Err(_) => Answer::said("memory"),
+    }
+}
+
 fn from_iter_unique<S: Builder>(alloc: Global, items: Vec<Item>) -> Answer {
     match TriHashMap::<Item, S>::from_iter_unique(alloc, items) {
         Ok(map) => built(map),
@@ -127,6 +141,7 @@ pub(crate) fn answered<S: Builder>(
 ) -> Option<Answer> {
     match call {
         "extend" => Some(extend(map, items)),
+        "extend.trait" => Some(extend_by_trait(map, items)),
         "extend.hintless" => Some(extend_hintless(map, items)),
         "extend_unique" => Some(extend_unique(map, items)),
         "eq.of" => Some(compared(map, alloc, items)),
@@ -153,6 +168,7 @@ fn compared<S: Builder>(map: &TriHashMap<Item, S>, alloc: Global, items: Vec<Ite
 fn made<S: Builder>(alloc: Global, call: &str, items: Vec<Item>) -> Option<Answer> {
     match call {
         "from_iter" => Some(from_iter::<S>(alloc, items)),
+        "from_iter.collect" => Some(collected::<S>(alloc, items)),
         "from_iter.hintless" => Some(from_iter_hintless::<S>(alloc, items)),
         "from_iter_unique" => Some(from_iter_unique::<S>(alloc, items)),
         "from_iter_unique.hintless" => Some(from_iter_unique_hintless::<S>(alloc, items)),

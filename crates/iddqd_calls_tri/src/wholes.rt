@@ -1,6 +1,6 @@
 //! Calls on the map as a whole.
 use crate::item::Item;
-use crate::lookups::more;
+use crate::lookups::{more, taken};
 use iddqd_calls_shared::answer::Answer;
 use iddqd_calls_shared::builder::Builder;
 use iddqd_calls_shared::counting::Key;
@@ -97,6 +97,8 @@ fn changed<S: Builder>(
         "into_iter.next" => Some(into_iter_next(map, gauge.alloc())),
         "hasher" => Some(hasher(map)),
         "new" => Some(new(gauge.alloc())),
+        "pop" => Some(taken(map.pop())),
+        "pop.each" => Some(pop_each(map)),
         _ => None,
     }
 }
@@ -174,6 +176,18 @@ fn retain<S: BuildHasher>(map: &mut TriHashMap<Item, S>) -> Answer {
         item.key1.number() % 2 == 1
     });
     Answer::said("asked").at(asked)
+}
+
+/// Removes some item, as often as there are items, and once more. The answer has how many were removed.
+fn pop_each<S: BuildHasher>(map: &mut TriHashMap<Item, S>) -> Answer {
+    let mut popped: usize = 0;
+    for _ in 0..=map.len() {
+        if let Some(item) = map.pop() {
+            popped = popped.wrapping_add(1);
+            drop(item);
+        }
+    }
+    Answer::said("popped").at(popped)
 }
 
 /// Adds one to each value. The answer has how often the closure was called.

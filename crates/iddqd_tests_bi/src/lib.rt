@@ -17,4 +17,6 @@ mod printed;
 #[cfg(test)]
 mod queries;
 #[cfg(test)]
+mod std_traits;
+#[cfg(test)]
 mod texts;

@@ -13,3 +13,5 @@ mod copies;
 mod pointers;
 #[cfg(test)]
 mod queries;
+#[cfg(test)]
+mod std_traits;

@@ -3,6 +3,7 @@ use crate::row::row_of;
 use iddqd_tri::{TriHashItem, TriHashItemMut, TriHashMap};
 use std::alloc::Global;
 use std::rc::Rc;
+use std::sync::Arc;
 use std::test::Fail;
 
 /// Returns whether a map finds an item by the keys 1, 10 and 100.
@@ -34,6 +35,7 @@ fn references_and_boxes_are_items(rt: HostRuntime) -> Result<(), Fail> {
     write(&mut boxed, 10);
     assert!(rt; boxed.value == 10 && is_found(alloc, boxed));
     assert!(rt; is_found(alloc, Rc::new(alloc, row)?));
+    assert!(rt; is_found(alloc, Arc::new(alloc, row)?));
     assert!(rt; is_found(alloc, &row) && is_found(alloc, &mut row));
     Ok(())
 }

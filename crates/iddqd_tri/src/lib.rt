@@ -18,7 +18,7 @@ pub use entry::{
 pub use error::{EntryError, EntryRefusal, FromIterError, InsertError, KeyMismatch};
 pub use item::{Hashed, Ranked, TriHashItem, TriHashItemMut};
 pub use iter_mut::IterMut;
-pub use map::{DefaultHashBuilder, TriHashMap};
+pub use map::{ClonesHashes, ClonesKeys, DefaultHashBuilder, TriHashMap};
 pub use ref_mut::RefMut;
 
 // Types of `iddqd_store` that the signatures of this crate name.

@@ -7,13 +7,16 @@ use std::marker::Model;
 mod build;
 mod capacity;
 mod clone;
+mod collect;
 mod compare;
+mod conflicts;
 mod entry;
 mod extend;
 mod find;
 mod insert;
 mod iterate;
 mod overwrite;
+mod pop;
 mod remove;
 mod retain;
 mod run;
@@ -21,6 +24,8 @@ mod shrink;
 pub(crate) mod slots;
 mod update;
 mod write;
+
+pub use collect::{ClonesHashes, ClonesKeys};
 
 /// The default builder of hashers, which is std's, with a fixed seed. It does not protect against strangers who choose
 /// keys with equal hashes. For such keys make the map by `with_hasher(alloc, RandomState::new(&rt)?)`.

@@ -1,12 +1,14 @@
 //! References, boxes and reference-counted pointers to items are items, with the keys of the item that they point to. A
 //! `&mut` and a `Box` also give that item's data for writing.
 ghost use denote.Ref.{at_last};
+ghost use Rattle.std.specs.Arc.{arc_value};
 ghost use Rattle.std.specs.Box.{with_value};
 
 use crate::item::{TriHashItem, TriHashItemMut};
 use std::alloc::Allocator;
 use std::boxed::Box;
 use std::rc::Rc;
+use std::sync::Arc;
 
 impl<T: TriHashItem> TriHashItem for &T {
     type K1 = T::K1;
@@ -87,6 +89,32 @@ impl<T: TriHashItem, A: Allocator> TriHashItem for Box<T, A> {
 }
 
 impl<T: TriHashItem, A: Allocator> TriHashItem for Rc<T, A> {
+    type K1 = T::K1;
+
+    type K2 = T::K2;
+
+    type K3 = T::K3;
+
+    ghost key1 = { λ b. T.key1 b.value };
+
+    ghost key2 = { λ b. T.key2 b.value };
+
+    ghost key3 = { λ b. T.key3 b.value };
+
+    fn key1(&self) -> &T::K1 {
+        (**self).key1()
+    }
+
+    fn key2(&self) -> &T::K2 {
+        (**self).key2()
+    }
+
+    fn key3(&self) -> &T::K3 {
+        (**self).key3()
+    }
+}
+
+impl<T: TriHashItem, A: Allocator> TriHashItem for Arc<T, A> {
     type K1 = T::K1;
 
     type K2 = T::K2;

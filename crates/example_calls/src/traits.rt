@@ -1,0 +1,100 @@
+//! A map among the traits of std: collected, extended, compared, cloned and printed with the struct that has it.
+ghost use Rattle.std.specs.Prelude.{◌≡◌, ◌∷◌, [], IsTrue, IsSome, OnOk, IfOk, IfSome, IfNone, length, IsPermutation, nat_eq};
+ghost use Rattle.std.specs.HashMap.{get};
+ghost use Rattle.std.proofs.Common.{rules};
+ghost use Rattle.iddqd_bi.specs.Bag.{IsCopy, is_same, order, overs};
+ghost use Rattle.iddqd_bi.specs.Map.{bag};
+
+use iddqd_bi::{BiHashItem, BiHashMap, ClonesKeys, Ranked};
+use std::alloc::{AllocError, Global};
+use std::collections::HashMap;
+
+/// A badge, known by its number and by the name of its holder.
+#[derive(Clone, Debug, Drop, PartialEq)]
+pub struct Badge {
+    pub number: u64,
+    pub holder: String,
+}
+
+impl BiHashItem for Badge {
+    type K1 = u64;
+
+    type K2 = String;
+
+    ghost key1 = { λ b. b.number };
+
+    ghost key2 = { λ b. b.holder };
+
+    fn key1(&self) -> &u64 {
+        &self.number
+    }
+
+    fn key2(&self) -> &String {
+        &self.holder
+    }
+}
+
+/// What `Clone` asks for of a map's items: a clone has equal keys.
+impl ClonesKeys for Badge {
+    ghost clone_key1 = { Prim.search rules };
+
+    ghost clone_key2 = { Prim.search rules };
+}
+
+/// A floor with the badges that open its doors.
+#[derive(Clone, Debug, Drop, PartialEq)]
+pub struct Floor {
+    pub level: u8,
+    pub badges: BiHashMap<Badge>,
+}
+
+/// Makes a map of badges. A later badge takes the place of earlier ones with its number or its holder.
+pub fn issue(alloc: Global, badges: Vec<Badge>) -> Result<BiHashMap<Badge>, AllocError>
+    ensures { IfOk result (λ map. IsPermutation (bag map) (overs ⟦<Badge as Ranked>⟧.ranks [] badges.items)) }
+{
+    badges.into_iter().collect::<BiHashMap<Badge>>(alloc)
+}
+
+/// Returns a copy of the floor, or an error if there is no memory for it.
+pub fn copy_of(floor: &Floor) -> Result<Floor, AllocError>
+    ensures level { IfOk result (λ copy. copy.level ≡ floor.now.level) }
+    ensures badges { IfOk result (λ copy. IsCopy ⟦<Badge as Clone>⟧.is_clone (bag floor.now.badges) (bag copy.badges)) }
+{
+    floor.clone()
+}
+
+/// Returns whether two floors have the same level and the same badges, however these came to be.
+pub fn is_alike(floor: &Floor, other: &Floor) -> bool
+    ensures level { IsTrue result → floor.now.level ≡ other.now.level }
+    ensures badges { IsTrue result → IsTrue (is_same ⟦<Badge as Ranked>⟧.ranks ⟦<Badge as PartialEq>⟧.eq
+        (bag floor.now.badges) (bag other.now.badges)) }
+{
+    floor == other
+}
+
+/// Admits a badge to the map of a level, which is made if there is none. Returns whether the badge went in.
+pub fn admit(
+    floors: &mut HashMap<u8, BiHashMap<Badge>>,
+    level: u8,
+    badge: Badge,
+) -> Result<bool, AllocError>
+    ensures { OnOk result (IsSome (get nat_eq floors.new level)) }
+{
+    let badges = floors.entry(level)?.or_default();
+    Ok(badges.insert_or_back(badge).is_ok())
+}
+
+/// Returns how many badges have the number or the holder of this one.
+pub fn in_the_way(badges: &BiHashMap<Badge>, badge: &Badge) -> usize
+    ensures { result ≡ length (order ⟦<Badge as Ranked>⟧.ranks (bag badges.now) badge.now) }
+{
+    badges.conflicts_with(badge).len()
+}
+
+/// Takes some badge back, if there is one.
+pub fn take_back(badges: &mut BiHashMap<Badge>) -> Option<Badge>
+    ensures taken { IfSome result (λ b. IsPermutation (bag badges.old) (b ∷ bag badges.new)) }
+    ensures none { IfNone result (bag badges.old ≡ []) }
+{
+    badges.pop()
+}

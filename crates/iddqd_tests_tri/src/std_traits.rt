@@ -1,0 +1,50 @@
+//! Maps where only traits of std are asked for: cloned and compared with a struct, and made by `or_default`.
+ghost use Rattle.std.proofs.Common.{rules};
+
+use crate::row::{Row, row_of};
+use iddqd_tri::{ClonesKeys, TriHashMap};
+use std::collections::HashMap;
+use std::test::Fail;
+
+impl ClonesKeys for Row {
+    ghost clone_key1 = { Prim.search rules };
+
+    ghost clone_key2 = { Prim.search rules };
+
+    ghost clone_key3 = { Prim.search rules };
+}
+
+/// A struct that has a map.
+#[derive(Clone, Debug, Drop, PartialEq)]
+struct Shelf {
+    number: u8,
+    rows: TriHashMap<Row>,
+}
+
+#[test]
+fn a_struct_with_a_map_is_cloned_and_compared(rt: HostRuntime) -> Result<(), Fail> {
+    let mut rows = TriHashMap::new(rt.alloc());
+    let _ = rows.insert_overwrite(row_of(1, 10, 100, 0));
+    let mut shelf = Shelf { number: 3, rows };
+    let copy = shelf.clone()?;
+    assert!(rt; copy == shelf);
+    let _ = shelf.rows.pop();
+    assert!(rt; copy != shelf && copy.rows.len() == 1);
+    Ok(())
+}
+
+#[test]
+fn a_map_of_maps_begins_each_empty(rt: HostRuntime) -> Result<(), Fail> {
+    let mut shelves: HashMap<u8, TriHashMap<Row>> = HashMap::new(rt.alloc());
+    let _ = shelves
+        .entry(3)?
+        .or_default()
+        .insert_overwrite(row_of(1, 10, 100, 0));
+    let _ = shelves
+        .entry(3)?
+        .or_default()
+        .insert_overwrite(row_of(2, 20, 200, 0));
+    assert!(rt; shelves.entry(3)?.or_default().len() == 2);
+    assert!(rt; shelves.entry(4)?.or_default().is_empty());
+    Ok(())
+}

@@ -1,0 +1,33 @@
+//! Which items an insert would find in its way.
+ghost use Rattle.std.specs.Prelude.{◌≡◌, map};
+ghost use Rattle.iddqd_store.specs.Bag.{order};
+ghost use Rattle.iddqd_store.specs.Map.{bag};
+
+use super::TriHashMap;
+use super::slots::found::each_once;
+use crate::item::Ranked;
+use iddqd_store::UpToThree;
+use std::hash::{BuildHasher, Hash};
+
+impl<T: Ranked, S: BuildHasher> TriHashMap<T, S> {
+    /// Returns the items of the map that conflict with this one, each once, in the order of the keys. These are the
+    /// items that `insert_overwrite` would remove. If there is none, an insert fails only for lack of memory.
+    ///
+    /// The call hashes each key of the item once, and searches for it once. It allocates no memory.
+    ///
+    /// ```text
+    /// for other in map.conflicts_with(&item) {
+    ///     // This item has a key of the new one.
+    /// }
+    /// ```
+    pub fn conflicts_with(&self, item: &T) -> UpToThree<&T>
+        ensures { map (λ x. x.now) result ≡ order T.ranks (bag self.now) item.now }
+    {
+        // The slots are chosen first and borrowed behind the match, so that its arms join before anything is borrowed.
+        let found = match self.places(item) {
+            Ok(_) => UpToThree::new(),
+            Err(by) => each_once(by.0.slot(), by.1.slot(), by.2.slot()),
+        };
+        self.items_of(&found)
+    }
+}
