@@ -1,0 +1,27 @@
+//! Sessions over HTTP/1.1. The program serves one connection, whose bytes are its standard input and output, and ends with it.
+//! The module `desk` says which requests there are.
+#![tactic(auto)]
+
+mod desk;
+mod sessions;
+
+use crate::desk::Desk;
+use http_server::{Config, Connection, serve};
+use iddqd_tri::TriHashMap;
+use std::hash::RandomState;
+use std::io;
+
+fn main(rt: HostRuntime) -> io::Result<()> {
+    let alloc = rt.alloc();
+    let mut desk = Desk {
+        sessions: TriHashMap::with_hasher(alloc, RandomState::new(&rt)?),
+        alloc,
+    };
+    let mut connection = Connection::new(alloc, RandomState::new(&rt)?, Config::default());
+    serve(
+        &mut connection,
+        &mut desk,
+        &mut rt.stdin(),
+        &mut rt.stdout(),
+    )
+}

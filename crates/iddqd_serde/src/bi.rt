@@ -1,0 +1,140 @@
+//! A `BiHashMap` as a sequence of its items. On a field write `#[serde(with = "iddqd_serde::bi")]`.
+ghost use Rattle.std.specs.Prelude.{length, IfOk, OnOk};
+ghost use Rattle.iddqd_bi.specs.Map.{Gains, bag};
+ghost use Rattle.iddqd_serde.specs.Reading.{ReadsSeq};
+ghost use Rattle.serde.specs.Event.{WritesSeq};
+
+use iddqd_bi::{BiHashItem, BiHashMap, DefaultHashBuilder, InsertReason, Ranked};
+use serde::{
+    Described, Deserialize, DeserializeOwned, Deserializer, Format, Serialize, Serializer,
+};
+use std::alloc::Global;
+use std::hash::BuildHasher;
+
+/// Writes the items of a map as a sequence, each once, in the order of `iter`.
+///
+/// The error is that of the format or of an item. What was written before it stays written.
+///
+/// The call writes each item once, and allocates no memory of its own.
+pub fn serialize<T: BiHashItem + Serialize, S: BuildHasher, Out: Serializer>(
+    map: &BiHashMap<T, S>,
+    out: &mut Out,
+) -> Result<(), Out::Error>
+    // Between the marks of a sequence of as many items as the map has, each item writes what it writes.
+    ensures { OnOk result (WritesSeq T.writes (bag map.now) (Out.written out.old) (Out.written out.new)) }
+{
+    out.begin_seq(Some(map.len()))?;
+    for item in map {
+        item.serialize(out)?;
+    }
+    out.end_seq()
+}
+
+/// Reads a map from a sequence of items, which may borrow from the input.
+///
+/// The call fails at the first item that has an equal key of the same rank as an item before it, with the error that the
+/// format makes of a message of one's own, and at the first item for which there is no memory. Else the error is that of the
+/// format or of an item. There is no map then.
+///
+/// Each item is inserted when it is read: its keys are hashed once, and searched for once. The map grows as it does by
+/// inserts, and no list of the items is made beside it.
+pub fn deserialize<'de, T: Ranked + Deserialize<'de>, S: BuildHasher + Default + Drop, F: Format>(
+    alloc: Global,
+    from: &mut Deserializer<'de, '_, F>,
+) -> Result<BiHashMap<T, S>, F::Error>
+    // The map has as many items as were read between the marks of a sequence.
+    ensures reads { IfOk result (λ map. ReadsSeq F.gives F.stays (length (bag map)) from.old from.new) }
+    ensures builder { IfOk result (λ map. S.is_default map.builder) }
+{
+    let mut map = BiHashMap::default(alloc);
+    from.begin_seq()?;
+    for _ in 0..u64::MAX {
+        if !from.next_item()? {
+            return Ok(map);
+        }
+        let item = T::deserialize(alloc, from)?;
+        put(&mut map, item, from)?;
+    }
+    Err(from.no_memory())
+}
+
+/// Reads a map from a sequence of items that borrow nothing from the input, as `deserialize` does.
+pub fn deserialize_owned<T: Ranked + DeserializeOwned, S: BuildHasher + Default + Drop, F: Format>(
+    alloc: Global,
+    from: &mut Deserializer<'_, '_, F>,
+) -> Result<BiHashMap<T, S>, F::Error>
+    // The map has as many items as were read between the marks of a sequence.
+    ensures reads { IfOk result (λ map. ReadsSeq F.gives F.stays (length (bag map)) from.old from.new) }
+    ensures builder { IfOk result (λ map. S.is_default map.builder) }
+{
+    let mut map = BiHashMap::default(alloc);
+    from.begin_seq()?;
+    for _ in 0..u64::MAX {
+        if !from.next_item()? {
+            return Ok(map);
+        }
+        let item = T::deserialize_owned(alloc, from)?;
+        put(&mut map, item, from)?;
+    }
+    Err(from.no_memory())
+}
+
+/// Inserts an item that was read. The error says in the words of the format why it could not be inserted.
+fn put<T: Ranked + Drop, S: BuildHasher + Drop, F: Format>(
+    map: &mut BiHashMap<T, S>,
+    item: T,
+    from: &Deserializer<'_, '_, F>,
+) -> Result<(), F::Error>
+    ensures gains { OnOk result (Gains map.old item map.new) }
+{
+    match map.insert_unique(item) {
+        Ok(()) => Ok(()),
+        Err(refused) => match refused.reason() {
+            InsertReason::Duplicate => Err(from.custom("an item has the key of another")),
+            InsertReason::Memory => Err(from.no_memory()),
+        },
+    }
+}
+
+/// A map that is written and read as a sequence: `Seq(map)` can be written by itself, as `serde_json::to_string(alloc,
+/// &Seq(map))`, and `Seq(map)` is what is read. It costs nothing beside the map.
+#[derive(Drop)]
+pub struct Seq<T: BiHashItem, S: BuildHasher = DefaultHashBuilder>(pub BiHashMap<T, S>);
+
+impl<T: BiHashItem + Described, S: BuildHasher> Described for Seq<T, S> {
+    ghost writes = { λ m. WritesSeq T.writes (bag m.0) };
+}
+
+impl<T: BiHashItem + Serialize, S: BuildHasher> Serialize for Seq<T, S> {
+    /// As the function `serialize`.
+    fn serialize<Out: Serializer>(&self, out: &mut Out) -> Result<(), Out::Error> {
+        serialize(&self.0, out)
+    }
+}
+
+impl<'de, T: Ranked + Deserialize<'de>, S: BuildHasher + Default + Drop> Deserialize<'de>
+    for Seq<T, S> {
+    /// As the function `deserialize`.
+    fn deserialize<F: Format>(
+        alloc: Global,
+        from: &mut Deserializer<'de, '_, F>,
+    ) -> Result<Seq<T, S>, F::Error>
+        ensures reads { IfOk result (λ m. ReadsSeq F.gives F.stays (length (bag m.0)) from.old from.new) }
+        ensures builder { IfOk result (λ m. S.is_default m.0.builder) }
+    {
+        Ok(Seq(deserialize(alloc, from)?))
+    }
+}
+
+impl<T: Ranked + DeserializeOwned, S: BuildHasher + Default + Drop> DeserializeOwned for Seq<T, S> {
+    /// As the function `deserialize_owned`.
+    fn deserialize_owned<F: Format>(
+        alloc: Global,
+        from: &mut Deserializer<'_, '_, F>,
+    ) -> Result<Seq<T, S>, F::Error>
+        ensures reads { IfOk result (λ m. ReadsSeq F.gives F.stays (length (bag m.0)) from.old from.new) }
+        ensures builder { IfOk result (λ m. S.is_default m.0.builder) }
+    {
+        Ok(Seq(deserialize_owned(alloc, from)?))
+    }
+}
