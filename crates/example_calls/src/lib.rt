@@ -1,6 +1,7 @@
 //! Callers of the maps, one module for each need. docs/CALLING.md and the pages that it names show each module whole.
 #![tactic(auto)]
 
+mod badges;
 mod batch;
 mod builder;
 mod clone;
@@ -17,6 +18,7 @@ mod sort;
 mod updates;
 mod walk;
 
+pub use badges::{Badge, NotHandedOut, Setting, add_setting, hand_out, hand_out_or_back};
 pub use batch::{Record, Rejected, load};
 pub use builder::{Order, OwnHash, OwnHasher, no_orders};
 pub use clone::{Rate, backup};

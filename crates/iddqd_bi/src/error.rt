@@ -34,6 +34,29 @@ pub struct InsertError<'a, T: BiHashItem, S: BuildHasher = DefaultHashBuilder> {
         ≡ order (ranks T.BiHashItem T.K1.eq T.K2.eq) (bag map.now) item },
 }
 
+/// The error of `try_insert`: the item that was not inserted, and which of its keys items of the map have. If none is
+/// taken, the map was full, and there was no memory to grow. The error does not borrow the map.
+///
+/// ```text
+/// let Err(e) = devices.try_insert(device) else { return Ok(()) };
+/// if e.taken1 {
+///     return Err(Refused::Key1(e.item));
+/// }
+/// if e.taken2 {
+///     return Err(Refused::Key2(e.item));
+/// }
+/// Err(Refused::Memory(e.item))
+/// ```
+#[derive(Drop)]
+pub struct Rejected<T> {
+    /// The item that was not inserted.
+    pub item: T,
+    /// Whether an item of the map has its first key.
+    pub taken1: bool,
+    /// Whether an item of the map has its second key.
+    pub taken2: bool,
+}
+
 /// The error of `RefMut::replace` and `OccupiedEntry::insert`: the new item has another key than the item that it was
 /// to replace, or than the entry. The error has the new item, and names the lowest rank at which the keys differ.
 #[derive(Drop)]
