@@ -5,6 +5,7 @@ mod badges;
 mod batch;
 mod builder;
 mod clone;
+mod desks;
 mod entry;
 mod hosts;
 mod hub;
@@ -22,6 +23,7 @@ pub use badges::{Badge, NotHandedOut, Setting, add_setting, hand_out, hand_out_o
 pub use batch::{Record, Rejected, load};
 pub use builder::{Order, OwnHash, OwnHasher, no_orders};
 pub use clone::{Rate, backup};
+pub use desks::{Desk, move_to};
 pub use entry::{NotNoted, Visit, note_visit, take_visits};
 pub use hosts::{Duty, Host, add, note_sent, with_duty};
 pub use hub::{Device, Hub};

@@ -14,6 +14,7 @@ mod find;
 mod insert;
 mod iterate;
 mod overwrite;
+mod rekey;
 mod remove;
 mod retain;
 mod run;

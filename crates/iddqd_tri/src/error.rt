@@ -4,6 +4,7 @@ ghost use Rattle.iddqd_store.specs.Map.{bag};
 ghost use Rattle.iddqd_store.specs.Bag.{clash, order};
 ghost use Rattle.iddqd_store.specs.Slots.Found.{items_at};
 ghost use Rattle.iddqd_tri.specs.Keys.{ranks};
+ghost use Rattle.iddqd_tri.specs.Rekeyed.{left_out};
 ghost use Rattle.iddqd_tri.specs.Mismatch.{error_item, error_rank, mismatch_item, mismatch_rank};
 
 use crate::item::{Ranked, TriHashItem};
@@ -74,6 +75,15 @@ pub enum KeyMismatch<T> {
     Key3(T),
 }
 
+/// The error of `rekey1` and its like: the item that was not put in the place of another.
+#[derive(Drop)]
+pub enum NotReplaced<T> {
+    /// No item has the key asked for.
+    Absent(T),
+    /// An item has it, and another item than that one conflicts with the new item.
+    Conflict(T),
+}
+
 /// The error of an insert through a vacant entry. It has the item, and names the lowest rank at which the item's key is
 /// not the entry's, or says that there was no memory.
 #[derive(Drop)]
@@ -124,6 +134,26 @@ impl<T> KeyMismatch<T> {
             0 => KeyMismatch::Key1(item),
             1 => KeyMismatch::Key2(item),
             _ => KeyMismatch::Key3(item),
+        }
+    }
+}
+
+impl<T> NotReplaced<T> {
+    /// Returns the item that was not put in.
+    pub fn item(&self) -> &T
+        ensures { result.now ≡ left_out self.now }
+    {
+        match self {
+            NotReplaced::Absent(item) | NotReplaced::Conflict(item) => item,
+        }
+    }
+
+    /// Returns the item that was not put in, by value.
+    pub fn into_item(self) -> T
+        ensures { result ≡ left_out self }
+    {
+        match self {
+            NotReplaced::Absent(item) | NotReplaced::Conflict(item) => item,
         }
     }
 }
