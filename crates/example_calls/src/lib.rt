@@ -1,9 +1,11 @@
 //! Callers of the maps, one module for each need. docs/CALLING.md and the pages that it names show each module whole.
 #![tactic(auto)]
 
+mod badges;
 mod batch;
 mod builder;
 mod clone;
+mod desks;
 mod entry;
 mod hosts;
 mod hub;
@@ -18,9 +20,11 @@ mod traits;
 mod updates;
 mod walk;
 
+pub use badges::{Badge, NotHandedOut, Setting, add_setting, hand_out, hand_out_or_back};
 pub use batch::{Record, Rejected, load};
 pub use builder::{Order, OwnHash, OwnHasher, no_orders};
 pub use clone::{Rate, backup};
+pub use desks::{Desk, move_to};
 pub use entry::{NotNoted, Visit, note_visit, take_visits};
 pub use hosts::{Duty, Host, add, note_sent, with_duty};
 pub use hub::{Device, Hub};

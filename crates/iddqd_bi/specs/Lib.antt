@@ -7,6 +7,7 @@ pub mod OccupiedRefs
 pub mod RefMuts
 pub mod Refusals
 pub mod Refused
+pub mod Rekeyed
 pub mod Step
 -- The clauses of the map cite these words of the store.
 pub use Rattle.iddqd_store.specs.Bag

@@ -15,7 +15,9 @@ pub use command::{BiCommand, BiReply, BiSink};
 pub use entry::{
     Entry, KeyPair, Keys, OccupiedEntry, OccupiedEntryMut, OccupiedEntryRef, VacantEntry,
 };
-pub use error::{EntryError, EntryRefusal, FromIterError, InsertError, KeyMismatch};
+pub use error::{
+    EntryError, EntryRefusal, FromIterError, InsertError, KeyMismatch, NotReplaced, Rejected,
+};
 pub use item::{BiHashItem, BiHashItemMut, Hashed, Ranked};
 pub use iter_mut::IterMut;
 pub use map::{BiHashMap, ClonesHashes, ClonesKeys, DefaultHashBuilder};

@@ -17,6 +17,7 @@ mod insert;
 mod iterate;
 mod overwrite;
 mod pop;
+mod rekey;
 mod remove;
 mod retain;
 mod run;

@@ -1,6 +1,6 @@
 //! Calls that borrow an item for writing, through a guard.
 use crate::item::{Item, row_of};
-use iddqd_bi::{BiHashMap, KeyMismatch};
+use iddqd_bi::{BiHashMap, KeyMismatch, NotReplaced};
 use iddqd_calls_shared::answer::Answer;
 use iddqd_calls_shared::counting::Key;
 use std::hash::BuildHasher;
@@ -126,6 +126,20 @@ fn replace2<S: BuildHasher>(map: &mut BiHashMap<Item, S>, key: &Key, item: Item)
     }
 }
 
+/// Answers the item in whose place another was put, or why none was.
+fn rekeyed(answer: Result<Item, NotReplaced<Item>>) -> Answer {
+    match answer {
+        Ok(old) => back(Answer::said("out"), old),
+        Err(error) => {
+            let word = match &error {
+                NotReplaced::Absent(_) => "absent",
+                NotReplaced::Conflict(_) => "conflict",
+            };
+            back(Answer::of(word, row_of(error.item())), error.into_item())
+        }
+    }
+}
+
 /// Carries out the call of this name with a key and an item. Returns `None` if there is no such call.
 pub(crate) fn replaced<S: BuildHasher>(
     map: &mut BiHashMap<Item, S>,
@@ -134,6 +148,8 @@ pub(crate) fn replaced<S: BuildHasher>(
     item: Item,
 ) -> Option<Answer> {
     match call {
+        "rekey1" => Some(rekeyed(map.rekey1(key, item))),
+        "rekey2" => Some(rekeyed(map.rekey2(key, item))),
         "get1_mut.replace" => Some(replace1(map, key, item)),
         "get2_mut.replace" => Some(replace2(map, key, item)),
         _ => {

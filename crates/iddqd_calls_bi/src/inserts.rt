@@ -2,7 +2,7 @@
 use crate::guards::back;
 use crate::item::{Item, row_of};
 use crate::lists::displaced;
-use iddqd_bi::{BiHashMap, InsertError, InsertReason, UpToTwo};
+use iddqd_bi::{BiHashMap, InsertError, InsertReason, Rejected, UpToTwo};
 use iddqd_calls_shared::answer::Answer;
 use std::hash::BuildHasher;
 
@@ -48,6 +48,29 @@ fn insert_into_parts<S: BuildHasher>(map: &mut BiHashMap<Item, S>, item: Item) -
             let (item, found) = error.into_parts();
             with_lent(back(Answer::said("back"), item), &found)
         }
+    }
+}
+
+/// Answers which keys are taken, as digits, or that there was no memory.
+fn rejected(error: &Rejected<Item>) -> Answer {
+    let mut digits: usize = 0;
+    if error.taken1 {
+        digits = digits.wrapping_mul(10).wrapping_add(1);
+    }
+    if error.taken2 {
+        digits = digits.wrapping_mul(10).wrapping_add(2);
+    }
+    if digits == 0 {
+        Answer::said("memory")
+    } else {
+        Answer::said("taken").at(digits)
+    }
+}
+
+fn try_insert<S: BuildHasher>(map: &mut BiHashMap<Item, S>, item: Item) -> Answer {
+    match map.try_insert(item) {
+        Ok(()) => Answer::said("ok"),
+        Err(error) => back(rejected(&error), error.item),
     }
 }
 
@@ -103,6 +126,7 @@ pub(crate) fn answered<S: BuildHasher>(
         "insert_unique" => Some(insert(map, item)),
         "insert_unique.into_item" => Some(insert_into_item(map, item)),
         "insert_unique.into_parts" => Some(insert_into_parts(map, item)),
+        "try_insert" => Some(try_insert(map, item)),
         "insert_or_back" => Some(insert_or_back(map, item)),
         "insert_overwrite" => Some(overwrite(map, item)),
         "insert_or_back.remove1" => Some(insert_and_remove(map, item)),

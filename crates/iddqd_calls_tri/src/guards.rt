@@ -2,7 +2,7 @@
 use crate::item::{Item, row_of};
 use iddqd_calls_shared::answer::Answer;
 use iddqd_calls_shared::counting::Key;
-use iddqd_tri::{KeyMismatch, TriHashMap};
+use iddqd_tri::{KeyMismatch, NotReplaced, TriHashMap};
 use std::hash::BuildHasher;
 
 /// Answers the item of a guard, if there is one. It is a macro, since a function cannot take a guard: it would own no
@@ -144,6 +144,20 @@ fn replace3<S: BuildHasher>(map: &mut TriHashMap<Item, S>, key: &Key, item: Item
     }
 }
 
+/// Answers the item in whose place another was put, or why none was.
+fn rekeyed(answer: Result<Item, NotReplaced<Item>>) -> Answer {
+    match answer {
+        Ok(old) => back(Answer::said("out"), old),
+        Err(error) => {
+            let word = match &error {
+                NotReplaced::Absent(_) => "absent",
+                NotReplaced::Conflict(_) => "conflict",
+            };
+            back(Answer::of(word, row_of(error.item())), error.into_item())
+        }
+    }
+}
+
 /// Carries out the call of this name with a key and an item. Returns `None` if there is no such call.
 pub(crate) fn replaced<S: BuildHasher>(
     map: &mut TriHashMap<Item, S>,
@@ -152,6 +166,9 @@ pub(crate) fn replaced<S: BuildHasher>(
     item: Item,
 ) -> Option<Answer> {
     match call {
+        "rekey1" => Some(rekeyed(map.rekey1(key, item))),
+        "rekey2" => Some(rekeyed(map.rekey2(key, item))),
+        "rekey3" => Some(rekeyed(map.rekey3(key, item))),
         "get1_mut.replace" => Some(replace1(map, key, item)),
         "get2_mut.replace" => Some(replace2(map, key, item)),
         "get3_mut.replace" => Some(replace3(map, key, item)),

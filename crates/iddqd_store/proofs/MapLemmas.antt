@@ -1,6 +1,7 @@
 -- What the maps' invariants share, with any number of ranks.
 pub mod Entered
 pub mod Places
+pub mod Rekeyed
 pub mod Storing
 pub mod Updating
 pub mod Walking

@@ -1,5 +1,6 @@
 -- What a refused insert says, and what the map ends as.
-use Rattle.std.specs.Prelude.{◌≡◌, List, ℕ, Result, Ok, Err, OnOk, OnErr}
+use Rattle.std.specs.Prelude.{◌≡◌, Bool, false, List, ℕ, Result, Ok, Err, OnOk, OnErr}
+use Rattle.std.specs.List.{list_any}
 use Rattle.std.specs.Borrow.{RattleType, MutBor, Fml, GName, follows_so}
 use Rattle.std.specs.HashMap.Lent.{HashMembers}
 use Rattle.std.specs.declared.cmp.PartialEq as equal
@@ -7,11 +8,13 @@ use Rattle.std.specs.declared.hash.Hash as hash
 use Rattle.std.specs.declared.hash.Hasher as hasher
 use Rattle.std.specs.declared.hash.BuildHasher as builder
 use mathlib.Core.Option as maybe
-use Rattle.iddqd_store.specs.Map.{Map}
+use Rattle.iddqd_store.specs.Map.{Map, bag, IsFullFor}
+use Rattle.iddqd_tri.specs.Keys.{has1, has2, has3, ranks}
 use Rattle.iddqd_tri.specs.declared.item.TriHashItem as item
 use Rattle.iddqd_tri.specs.declared.map.slots.Refusal.{Refusal}
 use Rattle.iddqd_tri.specs.declared.map.slots.Refusal.TheVariants as refusal
 use Rattle.iddqd_tri.specs.declared.error.InsertError.{InsertError}
+use Rattle.iddqd_tri.specs.declared.error.Rejected.{Rejected}
 use Rattle.iddqd_tri.specs.contracts.map.TriHashMap.{the_row}
 
 -- `refusal_item` is the item that was rejected. No public clause cites it.
@@ -26,6 +29,15 @@ refusal_item (refusal.Memory x) = x
 abbrev pub MatchRefusal : {T : Type 0} → Refusal T → (List ℕ → Type 0) → Type 0 → Type 0
 MatchRefusal (refusal.Duplicate x found) P Q = P found
 MatchRefusal (refusal.Memory x) P Q = Q
+
+module _ {T K1 K2 K3 : Type 0} (of : item.Ghosts T K1 K2 K3) (eq1 : K1 → K1 → Bool) (eq2 : K2 → K2 → Bool) (eq3 : K3 → K3 → Bool) where
+  -- The error says of each key of `x` whether an item of the map has it. If none is taken, the map is full.
+  -- Example: In a map of the bag the first key of (1, 40) is taken, and the second is not.
+  pub record TellsWhy {S : Type 0} (m : Map T S) (x : T) (e : Rejected T) : Type 0 where
+    pub taken1 : e.taken1 ≡ list_any (has1 of eq1 (of.key1 x)) (bag m)
+    pub taken2 : e.taken2 ≡ list_any (has2 of eq2 (of.key2 x)) (bag m)
+    pub taken3 : e.taken3 ≡ list_any (has3 of eq3 (of.key3 x)) (bag m)
+    pub full : e.taken1 ≡ false → e.taken2 ≡ false → e.taken3 ≡ false → IsFullFor (ranks of eq1 eq2 eq3) m x
 
 module _ {T S K1 K2 K3 H : Type 0} {of : item.Ghosts T K1 K2 K3} {eq1 : equal.Ghosts K1} {input1 : hash.Ghosts K1} {eq2 : equal.Ghosts K2} {input2 : hash.Ghosts K2} {eq3 : equal.Ghosts K3} {input3 : hash.Ghosts K3} {build : builder.Ghosts S H} {hashes : hasher.Ghosts H} where
   -- The error of an insert has the item `x`, and borrows this very map, which is as it was.

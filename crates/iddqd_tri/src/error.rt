@@ -4,6 +4,7 @@ ghost use Rattle.iddqd_store.specs.Map.{bag};
 ghost use Rattle.iddqd_store.specs.Bag.{clash, order};
 ghost use Rattle.iddqd_store.specs.Slots.Found.{items_at};
 ghost use Rattle.iddqd_tri.specs.Keys.{ranks};
+ghost use Rattle.iddqd_tri.specs.Rekeyed.{left_out};
 ghost use Rattle.iddqd_tri.specs.Mismatch.{error_item, error_rank, mismatch_item, mismatch_rank};
 
 use crate::item::{Ranked, TriHashItem};
@@ -34,6 +35,34 @@ pub struct InsertError<'a, T: TriHashItem, S: BuildHasher = DefaultHashBuilder> 
         ≡ order (ranks T.TriHashItem T.K1.eq T.K2.eq T.K3.eq) (bag map.now) item },
 }
 
+/// The error of `try_insert`: the item that was not inserted, and which of its keys items of the map have. If none is
+/// taken, the map was full, and there was no memory to grow. The error does not borrow the map.
+///
+/// ```text
+/// let Err(e) = devices.try_insert(device) else { return Ok(()) };
+/// if e.taken1 {
+///     return Err(Refused::Key1(e.item));
+/// }
+/// if e.taken2 {
+///     return Err(Refused::Key2(e.item));
+/// }
+/// if e.taken3 {
+///     return Err(Refused::Key3(e.item));
+/// }
+/// Err(Refused::Memory(e.item))
+/// ```
+#[derive(Drop)]
+pub struct Rejected<T> {
+    /// The item that was not inserted.
+    pub item: T,
+    /// Whether an item of the map has its first key.
+    pub taken1: bool,
+    /// Whether an item of the map has its second key.
+    pub taken2: bool,
+    /// Whether an item of the map has its third key.
+    pub taken3: bool,
+}
+
 /// The error of `RefMut::replace` and `OccupiedEntry::insert`: the new item has another key than the item that it was
 /// to replace, or than the entry. The error has the new item, and names the lowest rank at which the keys differ.
 #[derive(Drop)]
@@ -44,6 +73,15 @@ pub enum KeyMismatch<T> {
     Key2(T),
     /// The third rank is the lowest at which the keys differ.
     Key3(T),
+}
+
+/// The error of `rekey1` and its like: the item that was not put in the place of another.
+#[derive(Drop)]
+pub enum NotReplaced<T> {
+    /// No item has the key asked for.
+    Absent(T),
+    /// An item has it, and another item than that one conflicts with the new item.
+    Conflict(T),
 }
 
 /// The error of an insert through a vacant entry. It has the item, and names the lowest rank at which the item's key is
@@ -96,6 +134,26 @@ impl<T> KeyMismatch<T> {
             0 => KeyMismatch::Key1(item),
             1 => KeyMismatch::Key2(item),
             _ => KeyMismatch::Key3(item),
+        }
+    }
+}
+
+impl<T> NotReplaced<T> {
+    /// Returns the item that was not put in.
+    pub fn item(&self) -> &T
+        ensures { result.now ≡ left_out self.now }
+    {
+        match self {
+            NotReplaced::Absent(item) | NotReplaced::Conflict(item) => item,
+        }
+    }
+
+    /// Returns the item that was not put in, by value.
+    pub fn into_item(self) -> T
+        ensures { result ≡ left_out self }
+    {
+        match self {
+            NotReplaced::Absent(item) | NotReplaced::Conflict(item) => item,
         }
     }
 }

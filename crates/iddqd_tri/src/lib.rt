@@ -15,7 +15,9 @@ pub use command::{TriCommand, TriReply, TriSink};
 pub use entry::{
     Entry, KeyTriple, Keys, OccupiedEntry, OccupiedEntryMut, OccupiedEntryRef, VacantEntry,
 };
-pub use error::{EntryError, EntryRefusal, FromIterError, InsertError, KeyMismatch};
+pub use error::{
+    EntryError, EntryRefusal, FromIterError, InsertError, KeyMismatch, NotReplaced, Rejected,
+};
 pub use item::{Hashed, Ranked, TriHashItem, TriHashItemMut};
 pub use iter_mut::IterMut;
 pub use map::{ClonesHashes, ClonesKeys, DefaultHashBuilder, TriHashMap};

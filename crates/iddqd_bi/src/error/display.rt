@@ -1,6 +1,6 @@
 //! What the errors print. No item is printed, so that an item needs neither `Debug` nor `Display`; `Error` asks for
 //! `Drop`.
-use super::{EntryError, EntryRefusal, InsertError, KeyMismatch};
+use super::{EntryError, EntryRefusal, InsertError, KeyMismatch, NotReplaced, Rejected};
 use crate::item::{BiHashItem, Ranked};
 use std::error::Error;
 use std::fmt::{self, Debug, Display, Formatter, Write};
@@ -77,3 +77,47 @@ impl<T: BiHashItem, S: BuildHasher> Display for EntryRefusal<'_, T, S> {
         Display::fmt(&self.error, f)
     }
 }
+
+impl<T> Debug for Rejected<T> {
+    fn fmt<W: Write>(&self, f: &mut Formatter<W>) -> fmt::Result {
+        f.debug_struct("Rejected")
+            .field("taken1", &self.taken1)
+            .field("taken2", &self.taken2)
+            .finish_non_exhaustive()
+    }
+}
+
+impl<T> Display for Rejected<T> {
+    fn fmt<W: Write>(&self, f: &mut Formatter<W>) -> fmt::Result {
+        if self.taken1 {
+            return f.write_str("an item has the first key");
+        }
+        if self.taken2 {
+            return f.write_str("an item has the second key");
+        }
+        f.write_str("out of memory: the item was not put in")
+    }
+}
+
+impl<T: Drop> Error for Rejected<T> {}
+
+impl<T> Debug for NotReplaced<T> {
+    fn fmt<W: Write>(&self, f: &mut Formatter<W>) -> fmt::Result {
+        let name = match self {
+            NotReplaced::Absent(_item) => "Absent",
+            NotReplaced::Conflict(_item) => "Conflict",
+        };
+        f.debug_struct(name).finish_non_exhaustive()
+    }
+}
+
+impl<T> Display for NotReplaced<T> {
+    fn fmt<W: Write>(&self, f: &mut Formatter<W>) -> fmt::Result {
+        f.write_str(match self {
+            NotReplaced::Absent(_item) => "no item has the key asked for",
+            NotReplaced::Conflict(_item) => "a third item has a key of the new one",
+        })
+    }
+}
+
+impl<T: Drop> Error for NotReplaced<T> {}

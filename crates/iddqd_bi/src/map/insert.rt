@@ -6,13 +6,13 @@ ghost use Rattle.iddqd_store.specs.Map.{bag, Gains, IsFullFor};
 
 use super::BiHashMap;
 use super::slots::Refusal;
-use crate::error::InsertError;
+use crate::error::{InsertError, Rejected};
 use crate::item::Ranked;
 use iddqd_store::UpToTwo;
 use std::hash::{BuildHasher, Hash};
 
 impl<T: Ranked, S: BuildHasher> BiHashMap<T, S> {
-    ghost use Rattle.iddqd_bi.specs.Refused.{HandsBackAndHolds, ends_as};
+    ghost use Rattle.iddqd_bi.specs.Refused.{HandsBackAndHolds, TellsWhy, ends_as};
 
     /// Inserts an item if no item of the map conflicts with it. Two items conflict if they have an equal key of the
     /// same rank.
@@ -37,7 +37,7 @@ impl<T: Ranked, S: BuildHasher> BiHashMap<T, S> {
             T.BiHashItem T.K1.Hash T.K2.Hash S.BuildHasher S.Hasher.Hasher
             self.entry result (λ new. Gains self.old item new)) }
     {
-        match self.try_insert(item) {
+        match self.insert_or_refuse(item) {
             Ok(()) => Ok(()),
             Err(Refusal::Duplicate(item, found)) => Err(InsertError {
                 map: self,
@@ -50,6 +50,52 @@ impl<T: Ranked, S: BuildHasher> BiHashMap<T, S> {
                 found: UpToTwo::new(),
             }),
         }
+    }
+
+    /// Inserts an item as `insert_unique` does, with an error that owns the item, says which of its keys are taken, and
+    /// does not borrow the map, which is as it was. So `map.try_insert(item)?` works through a `From<Rejected<T>>` of
+    /// your own, and `.map_err(|rejected| rejected.item)` hands the item back.
+    ///
+    /// If items conflict with it, the call fails, whatever memory there is, and the error says of each key whether an
+    /// item has it. Otherwise the call fails only if the map is full and there is no memory to grow. No key is taken
+    /// then.
+    ///
+    /// The call hashes each key of the item once, and searches for it once. It allocates memory only if the map is
+    /// full.
+    ///
+    /// `match map.try_insert(item) { Ok(()) => {}, Err(e) => report(e.taken1, e.item) }`
+    pub fn try_insert(&mut self, item: T) -> Result<(), Rejected<T>>
+        // `Ok` only if nothing conflicts, and then always if there is spare capacity.
+        ensures gains { OnOk result (Gains self.old item self.new) }
+        ensures free { OnOk result (clash T.ranks (bag self.old) item ≡ []) }
+        ensures granted { clash T.ranks (bag self.old) item ≡ []
+            → length (bag self.old) < self.old.capacity → IsOk result }
+        // The error has the item and says which keys are taken, or none, in a full map only. The map is as it was.
+        ensures handed_back { IfErr result (λ e. e.item ≡ item) }
+        ensures unchanged { OnErr result (self.new ≡ self.old) }
+        ensures reason { IfErr result (λ e. TellsWhy T.BiHashItem T.K1.eq T.K2.eq self.old item e) }
+    {
+        let at = match self.places(&item) {
+            Ok(at) => at,
+            Err((by1, by2)) => {
+                let taken1 = by1.slot().is_some();
+                let taken2 = by2.slot().is_some();
+                return Err(Rejected {
+                    item,
+                    taken1,
+                    taken2,
+                });
+            }
+        };
+        if let Err(_) = self.make_room() {
+            return Err(Rejected {
+                item,
+                taken1: false,
+                taken2: false,
+            });
+        }
+        self.insert_at(item, at);
+        Ok(())
     }
 
     /// Inserts an item as `insert_unique` does, for a caller who need not know why an insert failed: the error is the
@@ -70,7 +116,7 @@ impl<T: Ranked, S: BuildHasher> BiHashMap<T, S> {
         ensures unchanged { OnErr result (self.new ≡ self.old) }
         ensures reason { OnErr result ((clash T.ranks (bag self.old) item ≢ []) ⊎ IsFullFor T.ranks self.old item) }
     {
-        match self.try_insert(item) {
+        match self.insert_or_refuse(item) {
             Ok(()) => Ok(()),
             Err(Refusal::Duplicate(new_item, _)) | Err(Refusal::Memory(new_item)) => Err(new_item),
         }

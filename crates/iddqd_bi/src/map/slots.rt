@@ -135,6 +135,8 @@ impl<T: BiHashItem, S: BuildHasher> BiHashMap<T, S> {
             (⟦<T as Hashed<S>>⟧.hash1 self.now.builder item.now) (⟦<T as Hashed<S>>⟧.hash2 self.now.builder item.now)) }
         ensures under { IfErr result (AreUnder
             (⟦<T as Hashed<S>>⟧.hash1 self.now.builder) (⟦<T as Hashed<S>>⟧.hash2 self.now.builder) self.now.slots) }
+        ensures found { AreFound (⟦<T as Ranked>⟧.key_tests (T.key1 item.now) (T.key2 item.now))
+            self.now.slots (slots_found result) }
     {
         self.search_all(item.key1(), item.key2())
     }
@@ -315,7 +317,7 @@ impl<T: BiHashItem, S: BuildHasher> BiHashMap<T, S> {
     /// All that this function calls is inlined, except for growing. So a caller's loop branches on the outcome where it
     /// arises, and an insert writes nothing to memory but the item and its pairs.
     #[inline(always)]
-    pub(crate) fn try_insert(&mut self, item: T) -> Result<(), Refusal<T>>
+    pub(crate) fn insert_or_refuse(&mut self, item: T) -> Result<(), Refusal<T>>
         ensures gains { OnOk result (Gains self.old item self.new) }
         ensures free { OnOk result (clash ⟦<T as Ranked>⟧.ranks (bag self.old) item ≡ []) }
         ensures handed_back { IfErr result (λ e. refusal_item e ≡ item) }

@@ -1,9 +1,9 @@
 -- What searches by each key of an item say of what conflicts with it.
-use Rattle.std.specs.Prelude.{◌≡◌, ◌≢◌, ℕ, nat_eq, Bool, true, false, List, [], ◌∷◌, ◌++◌, length, Option, Some, None, is_some, IsSome, IsPermutation, slice_set}
+use Rattle.std.specs.Prelude.{◌≡◌, ◌≢◌, ℕ, nat_eq, Bool, true, false, List, [], ◌∷◌, ◌++◌, length, filter, Option, Some, None, is_some, IsSome, IsPermutation, slice_set}
 use Rattle.std.specs.Cmp.{IsEquivalence}
 use Rattle.std.specs.List.{AllByRecursion, IsDistinct, list_any}
-use Rattle.std.specs.Option.{IfSome}
-use Rattle.std.proofs.Common.{refl, sym, subst, ◌∙◌, arith}
+use Rattle.std.specs.Option.{IfSome, option_to_list}
+use Rattle.std.proofs.Common.{refl, sym, ap, subst, ◌∙◌, arith}
 use Rattle.std.proofs.lemmas.Bool.Decides.{nat_tests}
 use Rattle.std.proofs.lemmas.List.{get_or-set_other}
 use Rattle.std.proofs.lemmas.List.Elements.{All-head, All-tail}
@@ -12,9 +12,10 @@ use Rattle.std.proofs.lemmas.List.Sorted.{IsPermutation-refl, IsPermutation-sym,
 use Rattle.iddqd_store.specs.Bag.{Ranks, clash, like, order, over}
 use Rattle.iddqd_store.specs.Map.{Map, bag, IsBlockedAt}
 use Rattle.iddqd_store.specs.Slots.{IsLive, get, live_items}
-use Rattle.iddqd_store.specs.Slots.Found.{AreFound, StandAt, each_once, items_at}
+use Rattle.iddqd_store.specs.Slots.Found.{AreFound, FoundAt, StandAt, each_once, items_at}
 use Rattle.iddqd_store.proofs.BagLemmas.Over.{over-taken}
 use Rattle.iddqd_store.proofs.BagLemmas.Sound.{IsPermutation-order, same_from_short}
+use Rattle.iddqd_store.proofs.BagLemmas.Unique.{any_listed, some_item}
 use Rattle.iddqd_store.proofs.MapLemmas.Storing.{live_found}
 use Rattle.iddqd_store.proofs.SlotLemmas.Chain.{members-take}
 use Rattle.iddqd_store.proofs.SlotLemmas.Entries.{IsDistinct-each_once, found_listing, held_none, held_some}
@@ -50,6 +51,15 @@ module _ {T S : Type 0} {agree : T → T → Bool} (laws : IsEquivalence agree) 
   -- and where none is, nothing conflicts with it
   pub free_by : list_any is_some found ≡ false → clash ranks (bag m) x ≡ []
   free_by none = clash_none ranks m.slots x [] (sym (held_none m.slots found none) ∙ conflicts_found.items) refl
+
+-- a search finds a slot where some item passes its test, and only there
+pub is_some-at : {T : Type 0} (test : T → Bool) (slots : List (Option T)) (at : Option ℕ) → FoundAt test slots at → is_some at ≡ list_any test (live_items slots)
+is_some-at test slots None found = sym (any_listed test (live_items slots) ∙ ap some_item (sym found.only))
+is_some-at {T} test slots (Some ix) found = by_slot (get slots ix) found.live found.only
+  where
+    by_slot : (o : Option T) → IsSome o → option_to_list o ≡ filter test (live_items slots) → true ≡ list_any test (live_items slots)
+    by_slot None some only = absurd (cc)
+    by_slot (Some y) some only = sym (any_listed test (live_items slots) ∙ ap some_item (sym only))
 
 module _ {T : Type 0} (ranks : Ranks T) (bag : List T) (x : T) (free : clash ranks bag x ≡ []) where
   -- where nothing conflicts with an item, nothing is listed

@@ -54,7 +54,7 @@ module _ {T : Type 0} where
       ∙ sym (append_assoc (filter first xs) (listing tests rest) (filter test (without (first ∷ tests) xs)))
 
   -- each member of a listing passes some test
-  some_passes : (tests : List (T → Bool)) (xs : List T) (y : T) → Contains (listing tests xs) y → some_of tests y ≡ true
+  pub some_passes : (tests : List (T → Bool)) (xs : List T) (y : T) → Contains (listing tests xs) y → some_of tests y ≡ true
   some_passes tests xs y found = each_at (λ y. some_of tests y ≡ true) _ y (each_passes (some_of tests) xs) (Contains-permutation _ _ y (IsPermutation-listing tests xs) found)
 
   -- and each member that passes some test is in it
@@ -91,7 +91,7 @@ module _ {T : Type 0} where
           ]
 
   -- the item of a listed slot is among those at the slots
-  item_listed : (slots : List (Option T)) (ixs : List ℕ) (b : ℕ) (y : T) → contains ixs b ≡ true → get slots b ≡ Some y → Contains (items_at slots ixs) y
+  pub item_listed : (slots : List (Option T)) (ixs : List ℕ) (b : ℕ) (y : T) → contains ixs b ≡ true → get slots b ≡ Some y → Contains (items_at slots ixs) y
   item_listed slots [] b y listed at = absurd (false≢true listed)
   item_listed slots (a ∷ ixs) b y listed at = by_test (nat_eq b a) refl listed (λ l. item_listed slots ixs b y l at)
     where

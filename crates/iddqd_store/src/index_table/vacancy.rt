@@ -43,7 +43,7 @@ impl Vacancy {
     }
 
     /// Returns the hash that was searched for.
-    pub(crate) fn hash(&self) -> u64
+    pub fn hash(&self) -> u64
         ensures { result ≡ self.now.hash }
     {
         self.hash

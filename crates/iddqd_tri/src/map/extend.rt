@@ -160,7 +160,7 @@ impl<T: Ranked + Drop, S: BuildHasher + Default + Drop> TriHashMap<T, S> {
         // This error is ignored: the call may succeed without the capacity, since the items may share keys.
         let _ = map.grow(items.size_hint().0);
         for item in items {
-            match map.try_insert(item) {
+            match map.insert_or_refuse(item) {
                 Ok(()) => {}
                 Err(Refusal::Duplicate(item, found)) => {
                     let unknown = (

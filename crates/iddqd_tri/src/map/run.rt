@@ -113,7 +113,7 @@ where
             (state_of self.old) sink.old item result (state_of self.new) sink.new }
         ensures builder { self.new.builder ≡ self.old.builder }
     {
-        match self.try_insert(item) {
+        match self.insert_or_refuse(item) {
             Ok(()) => self.tell(TriReply::Done, sink),
             Err(Refusal::Duplicate(item, found)) => self.tell_duplicate(item, &found, sink),
             Err(Refusal::Memory(item)) => self.tell(TriReply::Memory(item), sink),

@@ -1,5 +1,5 @@
 //! Inserting an item in place of others.
-ghost use Rattle.std.specs.Prelude.{◌≡◌, ◌≢◌, [], ◌∷◌, length, None, Some, slice_set};
+ghost use Rattle.std.specs.Prelude.{◌≡◌, ◌≢◌, [], ◌∷◌, length, None, Some, IfOk, IfErr, OnOk, OnErr, slice_set};
 ghost use Rattle.iddqd_store.specs.Bag.{clash, order, over};
 ghost use Rattle.iddqd_store.specs.Map.{bag, ListsConflicts, PutsAt};
 ghost use Rattle.iddqd_store.specs.Slots.{get, live_items, IsLive};
@@ -51,7 +51,43 @@ impl<T: BiHashItem, S: BuildHasher> BiHashMap<T, S> {
         (displaced, ix)
     }
 
-    /// Puts an item into the slot of the one that conflicts with it, and returns the latter. If both have the same hash
+    /// Puts an item into the slot of another, whatever their keys are, and returns the latter. If an item in a third slot
+    /// conflicts with the new one, the new one is returned, and nothing changes. The call hashes each key of the new item
+    /// once, and searches for it once.
+    pub(crate) fn rekey_at(&mut self, ix: ItemIndex, item: T) -> Result<T, T>
+        requires { IsLive self.old.slots ix }
+        ensures value { IfOk result (λ x. get self.old.slots ix ≡ Some x) }
+        ensures puts_at { OnOk result (PutsAt ⟦<T as Ranked>⟧.ranks self.old ix item
+            (item ∷ live_items (slice_set self.old.slots ix None)) self.new) }
+        ensures handed_back { IfErr result (λ x. x ≡ item) }
+        ensures reason { OnErr result
+            (clash ⟦<T as Ranked>⟧.ranks (live_items (slice_set self.old.slots ix None)) item ≢ []) }
+        ensures unchanged { OnErr result (self.new ≡ self.old) }
+    {
+        let by = match self.places(&item) {
+            Ok(at) => {
+                let by = (
+                    SlotUnder::new(None, at.0.hash()),
+                    SlotUnder::new(None, at.1.hash()),
+                );
+                return Ok(self.exchange(ix, item, &by));
+            }
+            Err(by) => by,
+        };
+        let mut found = each_once(by.0.slot(), by.1.slot());
+        let Some(at) = found.pop_front() else {
+            unreachable!()
+        };
+        if at != ix {
+            return Err(item);
+        }
+        match found.pop_front() {
+            Some(_) => Err(item),
+            None => Ok(self.exchange(ix, item, &by)),
+        }
+    }
+
+    /// Puts an item into the slot of another, and returns the latter. If both have the same hash
     /// at a rank, the pair in its table stays.
     fn exchange(&mut self, ix: ItemIndex, item: T, by: &(SlotUnder, SlotUnder)) -> T
         requires live { IsLive self.old.slots ix }

@@ -30,3 +30,6 @@ pub returns-clause-blocked : goal.returns-clause-blocked
 returns-clause-blocked g c =
     blocked (AreLawful-ranks g.T.BiHashItem g.met.T.K1.Eq.laws g.met.T.K2.Eq.laws).0 c.args.self.now c.search_all.ensures.apart (ranks g.T.BiHashItem g.T.K1.PartialEq.eq g.T.K2.PartialEq.eq) c.args.item.now c.search_all.result
     (rw (c.key1.ensures, c.key2.ensures) at c.search_all.ensures.found) c.search_all.ensures.some
+
+pub returns-clause-found : goal.returns-clause-found
+returns-clause-found g c = rw (c.key1.ensures, c.key2.ensures) at c.search_all.ensures.found

@@ -24,7 +24,7 @@ loop-item-preserved g c =
     record {
       callable = search rules;
       ending = search rules;
-      added = AddsTo-push by [] (bag c.loop-item.map) (bag c.try_insert.new.self) c.loop-item.yielded c.in-Some.item c.loop-item.invariant.added c.in-Ok.ensures.free gains.items;
+      added = AddsTo-push by [] (bag c.loop-item.map) (bag c.insert_or_refuse.new.self) c.loop-item.yielded c.in-Some.item c.loop-item.invariant.added c.in-Ok.ensures.free gains.items;
       builder = rw gains.same_builder c.loop-item.invariant.builder;
     }
 
