@@ -35,6 +35,6 @@ pub use refusals::{Line, Refused, connect};
 pub use retain::{Lease, expire};
 pub use seed::{Login, no_logins};
 pub use sort::{Runner, ranking};
-pub use traits::{Badge, Floor, copy_of, issue};
+pub use traits::{DoorBadge, Floor, copy_of, issue};
 pub use updates::{Card, LastUse, forget_doors, note_use};
 pub use walk::{Sensor, count, is_any_hotter, sum_of_heat};

@@ -11,12 +11,12 @@ use std::collections::HashMap;
 
 /// A badge, known by its number and by the name of its holder.
 #[derive(Clone, Debug, Drop, PartialEq)]
-pub struct Badge {
+pub struct DoorBadge {
     pub number: u64,
     pub holder: String,
 }
 
-impl BiHashItem for Badge {
+impl BiHashItem for DoorBadge {
     type K1 = u64;
 
     type K2 = String;
@@ -35,7 +35,7 @@ impl BiHashItem for Badge {
 }
 
 /// What `Clone` asks for of a map's items: a clone has equal keys.
-impl ClonesKeys for Badge {
+impl ClonesKeys for DoorBadge {
     ghost clone_key1 = { Prim.search rules };
 
     ghost clone_key2 = { Prim.search rules };
@@ -45,20 +45,20 @@ impl ClonesKeys for Badge {
 #[derive(Clone, Debug, Drop, PartialEq)]
 pub struct Floor {
     pub level: u8,
-    pub badges: BiHashMap<Badge>,
+    pub badges: BiHashMap<DoorBadge>,
 }
 
 /// Makes a map of badges. A later badge takes the place of earlier ones with its number or its holder.
-pub fn issue(alloc: Global, badges: Vec<Badge>) -> Result<BiHashMap<Badge>, AllocError>
-    ensures { IfOk result (λ map. IsPermutation (bag map) (overs ⟦<Badge as Ranked>⟧.ranks [] badges.items)) }
+pub fn issue(alloc: Global, badges: Vec<DoorBadge>) -> Result<BiHashMap<DoorBadge>, AllocError>
+    ensures { IfOk result (λ map. IsPermutation (bag map) (overs ⟦<DoorBadge as Ranked>⟧.ranks [] badges.items)) }
 {
-    badges.into_iter().collect::<BiHashMap<Badge>>(alloc)
+    badges.into_iter().collect::<BiHashMap<DoorBadge>>(alloc)
 }
 
 /// Returns a copy of the floor, or an error if there is no memory for it.
 pub fn copy_of(floor: &Floor) -> Result<Floor, AllocError>
     ensures level { IfOk result (λ copy. copy.level ≡ floor.now.level) }
-    ensures badges { IfOk result (λ copy. IsCopy ⟦<Badge as Clone>⟧.is_clone (bag floor.now.badges) (bag copy.badges)) }
+    ensures badges { IfOk result (λ copy. IsCopy ⟦<DoorBadge as Clone>⟧.is_clone (bag floor.now.badges) (bag copy.badges)) }
 {
     floor.clone()
 }
@@ -66,7 +66,7 @@ pub fn copy_of(floor: &Floor) -> Result<Floor, AllocError>
 /// Returns whether two floors have the same level and the same badges, however these came to be.
 pub fn is_alike(floor: &Floor, other: &Floor) -> bool
     ensures level { IsTrue result → floor.now.level ≡ other.now.level }
-    ensures badges { IsTrue result → IsTrue (is_same ⟦<Badge as Ranked>⟧.ranks ⟦<Badge as PartialEq>⟧.eq
+    ensures badges { IsTrue result → IsTrue (is_same ⟦<DoorBadge as Ranked>⟧.ranks ⟦<DoorBadge as PartialEq>⟧.eq
         (bag floor.now.badges) (bag other.now.badges)) }
 {
     floor == other
@@ -74,9 +74,9 @@ pub fn is_alike(floor: &Floor, other: &Floor) -> bool
 
 /// Admits a badge to the map of a level, which is made if there is none. Returns whether the badge went in.
 pub fn admit(
-    floors: &mut HashMap<u8, BiHashMap<Badge>>,
+    floors: &mut HashMap<u8, BiHashMap<DoorBadge>>,
     level: u8,
-    badge: Badge,
+    badge: DoorBadge,
 ) -> Result<bool, AllocError>
     ensures { OnOk result (IsSome (get nat_eq floors.new level)) }
 {
@@ -85,14 +85,14 @@ pub fn admit(
 }
 
 /// Returns how many badges have the number or the holder of this one.
-pub fn in_the_way(badges: &BiHashMap<Badge>, badge: &Badge) -> usize
-    ensures { result ≡ length (order ⟦<Badge as Ranked>⟧.ranks (bag badges.now) badge.now) }
+pub fn in_the_way(badges: &BiHashMap<DoorBadge>, badge: &DoorBadge) -> usize
+    ensures { result ≡ length (order ⟦<DoorBadge as Ranked>⟧.ranks (bag badges.now) badge.now) }
 {
     badges.conflicts_with(badge).len()
 }
 
 /// Takes some badge back, if there is one.
-pub fn take_back(badges: &mut BiHashMap<Badge>) -> Option<Badge>
+pub fn take_back(badges: &mut BiHashMap<DoorBadge>) -> Option<DoorBadge>
     ensures taken { IfSome result (λ b. IsPermutation (bag badges.old) (b ∷ bag badges.new)) }
     ensures none { IfNone result (bag badges.old ≡ []) }
 {
