@@ -1,6 +1,6 @@
 use Rattle.std.proofs.Common.{rules, ◌≡◌, [], ◌∷◌, sym, ap, ◌∙◌}
 use Rattle.iddqd_store.specs.Bag.{clash, order}
-use Rattle.iddqd_store.specs.Map.{IsBlockedAt, bag}
+use Rattle.iddqd_store.specs.Map.{bag}
 use Rattle.iddqd_store.specs.Slots.Found.{each_once, items_at}
 use Rattle.iddqd_store.proofs.BagLemmas.Steps.{order-empty}
 use Rattle.iddqd_tri.specs.Keys.{ranks}

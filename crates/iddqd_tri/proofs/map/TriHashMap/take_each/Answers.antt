@@ -1,5 +1,4 @@
-use Rattle.std.proofs.Common.{◌≡◌, ◌++◌, [], sym, ap, subst, ◌∙◌, drop}
-use Rattle.std.specs.Prelude.{take}
+use Rattle.std.proofs.Common.{◌++◌, sym, ap, ◌∙◌, drop}
 use Rattle.iddqd_store.specs.Slots.{items_in}
 use Rattle.iddqd_store.proofs.SlotLemmas.Chain.{live_items-items_in}
 use Rattle.iddqd_store.proofs.SlotLemmas.Next.{before_and_behind, emptied_before}
