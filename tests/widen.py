@@ -16,6 +16,7 @@ import sys
 
 RENAMED = [
     (r"iddqd(_calls|_tests|_uses)?_bi\b", r"iddqd\1_tri"), (r"\bbi_(?=\w)", "tri_"),
+    (r"\b(iddqd_serde(?:::|/src/|/proofs/|\.proofs\.))bi\b", r"\1tri"),
     (r"\bBi(?=Command|Hash|Item|Reply|Sink)", "Tri"), (r"\bUpToTwo\b", "UpToThree"), (r"\bup_to_two\b", "up_to_three"),
     (r"\bKeyPair\b", "KeyTriple"), (r"\b([Tt])wo(?=[ _]keys?\b|[ _]ranks\b| at most\b)", r"\1hree"),
     (r"(?<!insert)([_-])both\b", r"\1all"), (r"\b(has|have|with|of) both\b", r"\1 all"),

@@ -3,7 +3,7 @@
 //! map is then that of its slots.
 ghost use Rattle.std.specs.Prelude.{◌≡◌, ℕ, ◌+◌, ◌*◌, ◌^◌, ◌<◌, ◌≤◌, IfNone, IfSome, min};
 
-/// In a map of more items a table has no more cells than its pairs need.
+/// In a map with room for more items a table has no more cells than its pairs need.
 const LARGE: usize = 16384;
 
 /// Returns how many pairs a table is made for in a map in which this many items fit. At most seven eighths of the cells
@@ -23,9 +23,10 @@ pub fn table_room(items: usize) -> usize
     }
 }
 
-/// Returns for how many more pairs each table reserves capacity where a map of `len` items reserves it for `more`. If
-/// its slots, which have room for `room` items, have to grow, the tables grow with them, for as many items as the slots
-/// have room for then. It is `None` if so many items are more than a `usize` counts.
+/// Returns for how many more pairs each table reserves capacity where a map of `len` items, whose slots have room for
+/// `room`, reserves it for `more` items. If the slots have to grow, to at most 16,384, the tables grow with them, for as
+/// many items as the slots have room for then. Else it is `more`. It is `None` if so many items are more than a `usize`
+/// counts.
 pub fn pairs_wanted(len: usize, room: usize, more: usize) -> Option<usize>
     requires { len ≤ room }
     // The pairs of so many more items fit, and no others are asked for where the slots do not grow.
