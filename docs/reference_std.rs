@@ -100,3 +100,36 @@ impl Clone for std::hash::RandomState {
 
 /// A type whose values are copied by their bytes.
 pub trait Copy {}
+
+/// Printing a value.
+pub mod fmt {
+    /// Whether printing worked.
+    pub type Result = std::result::Result<(), Error>;
+
+    /// Printing failed.
+    pub struct Error;
+
+    /// What can be written to.
+    pub trait Write {}
+
+    /// Where a value is printed, with the options of the format.
+    pub struct Formatter<W: Write>(std::marker::PhantomData<W>);
+
+    /// A value that can be printed for a programmer.
+    pub trait Debug {
+        /// Prints the value.
+        fn fmt<W: Write>(&self, f: &mut Formatter<W>) -> Result;
+    }
+
+    /// A value that can be printed for a user.
+    pub trait Display {
+        /// Prints the value.
+        fn fmt<W: Write>(&self, f: &mut Formatter<W>) -> Result;
+    }
+}
+
+/// Errors.
+pub mod error {
+    /// An error, which `?` converts into an `anyhow::Error`.
+    pub trait Error: super::fmt::Display {}
+}

@@ -23,8 +23,8 @@ RENAMED = [
     (r"\bboth(?= (?:keys|searches|name)\b)", "all"), (r"\bBoth(?= (?:keys|searches)\b)", "All"),
     (r"\bthe other key\b", "the other keys"), (r"(?<=rank < )2\b|(?<=<= )2\b|(?<=-le)2\b", "3"),
     # What is the same at each rank: types or proofs, parts of a list, and arguments of a call.
-    (r"\(([\w:]+(?:\(\))?), \1\)", r"(\1, \1, \1)"), (r"\b(\w+) × \1\b", r"\1 × \1 × \1"), (r"\bNone ∷ None(?= ∷)", "None ∷ None ∷ None"),
-    (r"(?<=, )(None|&nothing),\s+\1(?=,?\s*\))", r"\1, \1, \1"),
+    (r"\(([\w:]+(?:\(\))?), \1\)", r"(\1, \1, \1)"), (r"\b(\w+) × \1\b", r"\1 × \1 × \1"), (r"\bNone ∷ None(?= ∷)", "None ∷ None ∷ None"), (r"\b_ ∷ _ ∷ \[\]", "_ ∷ _ ∷ _ ∷ []"),
+    (r"(?<=, )(None|&nothing),\s+\1(?=,?\s*(?:\)|&mut Meter\b))", r"\1, \1, \1"),
 ]
 # The words of a rank, in order: numbers, types, names of keys, and the parts of pairs in pairs.
 RANKS = ["01234", "KLM", "klm", ("one", "two", "three"), ("first", "second", "third"), ("First", "Second", "Third"),

@@ -123,11 +123,18 @@ def words_of(file):
         comment = [*comment, line.strip()[2:].strip()] if line.strip().startswith("--") else []
 
 
+def files_of_specs():
+    """The files of specs/ of the store and of the two-key map, as a list names them."""
+    for crate in CRATES[:2]:
+        begin = len(f"crates/{crate}/specs/")
+        yield from (f"{crate}/{it[begin:-5]}" for it in glob.glob(f"crates/{crate}/specs/**/*.antt", recursive=True))
+
+
 class Words:
     """The words of all lists, and what is amiss with them."""
 
     def __init__(self, lists):
-        self.words, self.faults = {file: list(words_of(file)) for files in lists for file in files}, []
+        self.words, self.faults = {file: list(words_of(file)) for file in sorted({*files_of_specs(), *(it for files in lists for it in files)})}, []
         found = [it for words in self.words.values() for it in words]
         told = {name for it in found if it.meaning and UNCITED not in it.meaning for name in (it.name, widen.renamed(it.name))}
         clauses = {crate: list(public_clauses(crate)) for crate in CRATES}
@@ -136,8 +143,8 @@ class Words:
             self.faults += faults_of(it, cited)
         for crate, name in ((crate, name) for crate, names in cited.items() for name in sorted(names - told)):
             if not is_at_other_rank(name, told):
-                self.faults.append(f"docs/DEFINITIONS.md has no row for {name}, which a contract of {crate} cites, or it has no comment")
-        self.faults += [*faults_of_labels(clauses), *faults_of_proved()]
+                self.faults.append(f"{name}, which a contract of {crate} cites, has no comment in specs/, or it says that none cites it")
+        self.faults += [*faults_of_labels(clauses, told), *faults_of_proved()]
 
     def table(self, files):
         """The lines of the list of these files."""
@@ -182,13 +189,14 @@ def cited_by(crate, clauses):
     return {name for line, text in clauses for name in re.findall(r"[^\W\d]\w*", line) if name in used[text] & defined}
 
 
-def faults_of_labels(clauses):
-    """Yields the labels of the maps' clauses that docs/DEFINITIONS.md does not tell, and those that it tells and no clause has."""
+def faults_of_labels(clauses, words):
+    """Yields the labels of the maps' clauses that docs/DEFINITIONS.md does not tell, and that are none of these words in small
+    letters; and those that it tells and no clause has."""
     page = read("docs/DEFINITIONS.md")
     section = re.search(r"^## Labels of clauses\n(.*?)^## ", page, re.M | re.S)[1]
     told = {it for row in re.findall(r"^\| (.*?) \|", section, re.M) for it in re.findall(r"`(\w+)`", row)}
     shown = {name for code in re.findall(r"`([^`\n]+)`", page) for name in re.findall(r"[^\W\d]\w*", code)}
-    spelled = {re.sub(r"(?<=[a-z])(?=[A-Z])", "_", it).lower() for it in shown}
+    spelled = {re.sub(r"(?<=[a-z])(?=[A-Z])", "_", it).lower() for it in shown | words}
     labels = {crate: {it[1] for it in map(LABEL.match, (line for line, _ in clauses[crate])) if it} for crate in CRATES}
     specs = map(read, glob.glob("crates/iddqd_*/specs/**/*.antt", recursive=True))
     fields = {it for text in specs for it in re.findall(r"^ +pub (\w+) :", text, re.M)}

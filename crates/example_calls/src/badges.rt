@@ -1,9 +1,9 @@
-//! An insert whose error owns the item and says which keys are taken: handed on by `?`, mapped, and with a constant text
-//! as a key.
-ghost use Rattle.std.specs.Prelude.{◌≡◌, ◌∷◌, IsPermutation, OnOk, OnErr, IfErr};
+//! An insert whose error owns the item and says which keys are taken: handed on by `?`, and mapped.
+ghost use Rattle.std.specs.Prelude.{◌≡◌, ◌<◌, ◌∷◌, [], length, IsOk, IsPermutation, OnOk, OnErr, IfErr};
+ghost use Rattle.iddqd_bi.specs.Bag.{clash};
 ghost use Rattle.iddqd_bi.specs.Map.{bag};
 
-use iddqd_bi::{BiHashItem, BiHashMap, Rejected};
+use iddqd_bi::{BiHashItem, BiHashMap, Ranked, Rejected};
 
 /// A badge, known by its number and by the person who wears it.
 #[derive(Drop)]
@@ -56,6 +56,8 @@ impl From<Rejected<Badge>> for NotHandedOut {
 /// Hands a badge out, and returns how many are out then.
 pub fn hand_out(badges: &mut BiHashMap<Badge>, badge: Badge) -> Result<usize, NotHandedOut>
     ensures went_in { OnOk result (IsPermutation (bag badges.new) (badge ∷ bag badges.old)) }
+    ensures granted { clash ⟦<Badge as Ranked>⟧.ranks (bag badges.old) badge ≡ []
+        → length (bag badges.old) < badges.old.capacity → IsOk result }
     ensures unchanged { OnErr result (badges.new ≡ badges.old) }
 {
     badges.try_insert(badge)?;
@@ -65,45 +67,10 @@ pub fn hand_out(badges: &mut BiHashMap<Badge>, badge: Badge) -> Result<usize, No
 /// Hands a badge out, or returns it.
 pub fn hand_out_or_back(badges: &mut BiHashMap<Badge>, badge: Badge) -> Result<(), Badge>
     ensures went_in { OnOk result (IsPermutation (bag badges.new) (badge ∷ bag badges.old)) }
+    ensures granted { clash ⟦<Badge as Ranked>⟧.ranks (bag badges.old) badge ≡ []
+        → length (bag badges.old) < badges.old.capacity → IsOk result }
     ensures handed_back { IfErr result (λ b. b ≡ badge) }
     ensures unchanged { OnErr result (badges.new ≡ badges.old) }
 {
     badges.try_insert(badge).map_err(|rejected| rejected.item)
-}
-
-/// A setting, known by its name, a constant text, and by its number.
-#[derive(Drop)]
-pub struct Setting {
-    pub name: &'static str,
-    pub number: u32,
-}
-
-impl BiHashItem for Setting {
-    type K1 = &'static str;
-
-    type K2 = u32;
-
-    ghost key1 = { λ s. s.name };
-
-    ghost key2 = { λ s. s.number };
-
-    fn key1(&self) -> &&'static str {
-        &self.name
-    }
-
-    fn key2(&self) -> &u32 {
-        &self.number
-    }
-}
-
-/// Adds a setting. The error has it, and says which of its keys is taken.
-pub fn add_setting(
-    settings: &mut BiHashMap<Setting>,
-    setting: Setting,
-) -> Result<(), Rejected<Setting>>
-    ensures went_in { OnOk result (IsPermutation (bag settings.new) (setting ∷ bag settings.old)) }
-    ensures handed_back { IfErr result (λ e. e.item ≡ setting) }
-    ensures unchanged { OnErr result (settings.new ≡ settings.old) }
-{
-    settings.try_insert(setting)
 }

@@ -39,7 +39,7 @@ pub fn define(symbols: &mut BiHashMap<Symbol>, symbol: Symbol) -> Result<(), Sym
     ensures handed_back { IfErr result (λ s. s ≡ symbol) }
     ensures unchanged { OnErr result (symbols.new ≡ symbols.old) }
 {
-    symbols.insert_or_back(symbol)
+    symbols.try_insert(symbol).map_err(|rejected| rejected.item)
 }
 
 /// Returns the symbol with this name, if there is one.

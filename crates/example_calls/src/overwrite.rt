@@ -1,5 +1,6 @@
 //! Inserting an item in place of all that conflict with it, and using the items that were removed.
-ghost use Rattle.std.specs.Prelude.{◌≡◌, [], IsPermutation, OnOk, OnErr, IfOk, IfErr, slice_get};
+ghost use Rattle.std.specs.Prelude.{◌≡◌, ◌≤◌, ◌==◌, [], true, All, IsPermutation, OnOk, OnErr, IfOk, IfErr, IfSome, IfNone, slice_get};
+ghost use Rattle.std.specs.List.{list_any};
 ghost use Rattle.iddqd_bi.specs.Bag.{order, over};
 ghost use Rattle.iddqd_bi.specs.Map.{IsFullFor, bag};
 
@@ -65,12 +66,10 @@ pub fn first_gone(gone: UpToTwo<Guest>) -> Option<Guest>
 }
 
 /// Returns the highest room of those that were checked out, if there is one.
-pub fn highest_room(gone: &UpToTwo<Guest>) -> Option<u32> {
-    let mut highest = None;
-    for guest in gone {
-        if highest < Some(guest.room) {
-            highest = Some(guest.room);
-        }
-    }
-    highest
+pub fn highest_room(gone: &UpToTwo<Guest>) -> Option<u32>
+    ensures none { IfNone result (gone.now ≡ []) }
+    ensures theirs { IfSome result (λ room. list_any (λ g. room == g.room) gone.now ≡ true) }
+    ensures highest { IfSome result (λ room. All (λ g. g.room ≤ room) gone.now) }
+{
+    gone.iter().map(|guest| guest.room).max()
 }

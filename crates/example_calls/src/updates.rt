@@ -1,5 +1,5 @@
 //! Updating items by closures, where two fields can be written.
-ghost use Rattle.std.specs.Prelude.{◌≡◌, ◌==◌, true, false, map, Some, IsPermutation};
+ghost use Rattle.std.specs.Prelude.{◌≡◌, ◌==◌, ◌<◌, ◌+◌, ◌^◌, true, false, map, Some, All, IsPermutation};
 ghost use Rattle.std.proofs.Common.{rules};
 ghost use Rattle.iddqd_bi.specs.Bag.{IsOnly, swap};
 ghost use Rattle.iddqd_bi.specs.Map.{bag};
@@ -75,5 +75,17 @@ pub fn forget_doors(cards: &mut BiHashMap<Card>)
     cards.update_all(|card| LastUse {
         time: card.last.time,
         door: 0,
+    });
+}
+
+/// Puts the time of each last use one on, as where a clock was slow. No time may be the largest number of its type.
+pub fn correct_times(cards: &mut BiHashMap<Card>)
+    requires { All (λ c. c.last.time + 1 < 2 ^ 64) (bag cards.old) }
+    ensures { IsPermutation (bag cards.new)
+        (map (λ (c : Card). record c { last = record { time = c.last.time + 1; door = c.last.door } }) (bag cards.old)) }
+{
+    cards.update_all(|card| LastUse {
+        time: card.last.time + 1,
+        door: card.last.door,
     });
 }

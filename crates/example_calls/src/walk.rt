@@ -1,5 +1,6 @@
 //! Iterating over all items.
-ghost use Rattle.std.specs.Prelude.{◌≡◌, length, nat_lt};
+ghost use Rattle.std.specs.Prelude.{◌≡◌, ◌-◌, ◌^◌, length, min, nat_lt, sum};
+ghost use Rattle.std.specs.Prelude.{map as each};
 ghost use Rattle.std.specs.List.{list_any};
 ghost use Rattle.iddqd_bi.specs.Map.{bag};
 
@@ -46,7 +47,9 @@ pub fn is_any_hotter(sensors: &BiHashMap<Sensor>, heat: u32) -> bool
 }
 
 /// Returns the sum of all sensors' heat, or the largest `u32` if the sum is larger.
-pub fn sum_of_heat(sensors: &BiHashMap<Sensor>) -> u32 {
+pub fn sum_of_heat(sensors: &BiHashMap<Sensor>) -> u32
+    ensures { result ≡ min (sum (each (λ s. s.heat) (bag sensors.now))) (2 ^ 32 - 1) }
+{
     let mut sum: u32 = 0;
     for sensor in sensors {
         sum = sum.saturating_add(sensor.heat);

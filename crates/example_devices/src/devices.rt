@@ -1,11 +1,11 @@
 //! Devices, each known by its serial number and by the port that it is plugged into, up to a limit. The memory for all
 //! of them is allocated at the start, so that no later call can run out of memory.
-ghost use Rattle.std.specs.Prelude.{◌≡◌, ◌∷◌, ◌==◌, [], List, true, false, length, IsPermutation, IsErrOf, OnOk, OnErr, IfOk, IfSome, IfNone, option_copied};
+ghost use Rattle.std.specs.Prelude.{◌≡◌, ◌∷◌, ◌==◌, [], List, Some, true, false, length, IsPermutation, IsErrOf, OnOk, OnErr, IfOk, IfSome, IfNone, option_copied};
 ghost use Rattle.std.specs.List.{list_any};
 ghost use Rattle.iddqd_bi.specs.Bag.{IsOnly};
 ghost use Rattle.iddqd_bi.specs.Map.{IsFullFor, bag};
 
-use iddqd_bi::{BiHashItem, BiHashMap, Ranked, TryReserveError};
+use iddqd_bi::{BiHashItem, BiHashMap, NotReplaced, Ranked, Rejected, TryReserveError};
 use std::alloc::Global;
 
 /// A device that is plugged in.
@@ -49,7 +49,7 @@ pub enum PlugError {
 pub enum MoveError {
     /// No device has the serial number.
     NoDevice,
-    /// The port has a device, which may be this one.
+    /// Another device is at the port.
     PortTaken,
 }
 
@@ -72,19 +72,15 @@ pub fn plug_in(devices: &mut BiHashMap<Device>, device: Device) -> Result<(), Pl
     ensures full { IsErrOf result PlugError.Full → IsFullFor ⟦<Device as Ranked>⟧.ranks devices.old device }
     ensures same_limit { devices.new.capacity ≡ devices.old.capacity }
 {
-    if devices.contains_key1(&device.serial) {
-        return Err(PlugError::SerialTaken);
-    }
-    if devices.contains_key2(&device.port) {
-        return Err(PlugError::PortTaken);
-    }
-    if devices.len() == devices.capacity() {
+    // Where the limit is reached, an insert of a device that conflicts with none would raise it.
+    if devices.len() == devices.capacity() && devices.conflicts_with(&device).is_empty() {
         return Err(PlugError::Full);
     }
-    match devices.insert_or_back(device) {
+    match devices.try_insert(device) {
         Ok(()) => Ok(()),
-        // Nothing conflicts with the device, and a map below its capacity needs no memory.
-        Err(_) => unreachable!(),
+        Err(Rejected { taken1: true, .. }) => Err(PlugError::SerialTaken),
+        Err(Rejected { taken2: true, .. }) => Err(PlugError::PortTaken),
+        Err(_) => Err(PlugError::Full),
     }
 }
 
@@ -112,30 +108,24 @@ pub fn by_serial(devices: &BiHashMap<Device>, serial: u64) -> Option<&Device>
     devices.get1(&serial)
 }
 
-/// Moves the device with this serial number to a free port, and returns the port that it had. No memory is allocated.
+/// Moves the device with this serial number to a port at which no other device is, and returns the port that it had. No
+/// memory is allocated.
 pub fn move_to(devices: &mut BiHashMap<Device>, serial: u64, port: u16) -> Result<u16, MoveError>
-    ensures moved { IfOk result (λ had. (others : List Device)
-        × IsPermutation (bag devices.old) (record { serial = serial; port = had } ∷ others)
-        × IsPermutation (bag devices.new) (record { serial = serial; port = port } ∷ others)) }
+    ensures was { IfOk result (λ had.
+        IsOnly (λ d. serial == d.serial) (bag devices.old) (Some (record { serial = serial; port = had }))) }
+    ensures moved { IfOk result (λ had. IsPermutation (record { serial = serial; port = had } ∷ bag devices.new)
+        (record { serial = serial; port = port } ∷ bag devices.old)) }
     ensures unchanged { OnErr result (devices.new ≡ devices.old) }
     ensures no_device { IsErrOf result MoveError.NoDevice
         → list_any (λ d. serial == d.serial) (bag devices.old) ≡ false }
-    ensures port_taken { IsErrOf result MoveError.PortTaken
-        → list_any (λ d. port == d.port) (bag devices.old) ≡ true }
+    ensures port_taken { IsErrOf result MoveError.PortTaken → (device : Device) × (others : List Device)
+        × (device.serial ≡ serial) × IsPermutation (bag devices.old) (device ∷ others)
+        × (list_any (λ d. port == d.port) others ≡ true) }
     ensures same_limit { devices.new.capacity ≡ devices.old.capacity }
 {
-    if devices.contains_key2(&port) {
-        return Err(MoveError::PortTaken);
-    }
-    // These calls give the prover two facts: no two devices have equal keys, and all of them fit.
-    let _len = devices.len();
-    let _room = devices.capacity();
-    let Some(device) = devices.remove1(&serial) else {
-        return Err(MoveError::NoDevice);
-    };
-    match devices.insert_or_back(Device { serial, port }) {
-        Ok(()) => Ok(device.port),
-        // The port is free, and removing the device has left spare capacity.
-        Err(_) => unreachable!(),
+    match devices.rekey1(&serial, Device { serial, port }) {
+        Ok(device) => Ok(device.port),
+        Err(NotReplaced::Absent(_)) => Err(MoveError::NoDevice),
+        Err(NotReplaced::Conflict(_)) => Err(MoveError::PortTaken),
     }
 }

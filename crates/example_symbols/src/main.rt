@@ -1,18 +1,20 @@
 //! Reads lines about symbols, and answers each.
 //!
-//!     def NAME ADDRESS    ok | taken
-//!     name NAME           NAME ADDRESS | none
-//!     at ADDRESS          NAME ADDRESS | none
-//!     undef NAME          NAME ADDRESS | none
-//!     count               how many symbols there are
+//!     def NAME ADDRESS      ok | name taken | address taken
+//!     name NAME             NAME ADDRESS | none
+//!     at ADDRESS            NAME ADDRESS | none
+//!     undef NAME            NAME ADDRESS | none
+//!     rename ADDRESS NAME   ok | none | name taken
+//!     count                 how many symbols there are
 //!
 //! An address is a number. Any other line is answered by `bad line`.
 #![tactic(auto)]
 
 mod symbols;
 
-use crate::symbols::{Symbol, at_address, define, resolve, undefine};
-use iddqd_bi::BiHashMap;
+use crate::symbols::{Symbol, at_address, define, rename, resolve, undefine};
+use iddqd_bi::{BiHashMap, NotReplaced, Rejected};
+use std::alloc::AllocError;
 use std::io;
 
 fn main(rt: HostRuntime) -> io::Result<()> {
@@ -43,6 +45,10 @@ fn answer(
             let gone = undefine(symbols, name);
             show(rt, gone.as_ref())
         }
+        ["rename", address, name] => match address.parse::<u64>() {
+            Ok(address) => answer_rename(rt, symbols, address, name),
+            Err(_) => rt.println("bad line"),
+        },
         ["count"] => {
             let count = symbols.len();
             println!(rt; "{count}")
@@ -61,12 +67,27 @@ fn answer_define(
         name: name.to_string(rt.alloc())?,
         address,
     };
-    // Since capacity is reserved first, a symbol that is returned is one whose name or address is taken.
-    symbols.reserve(1)?;
     match define(symbols, symbol) {
         Ok(()) => rt.println("ok"),
-        Err(_symbol) => rt.println("taken"),
+        Err(Rejected { taken1: true, .. }) => rt.println("name taken"),
+        Err(Rejected { taken2: true, .. }) => rt.println("address taken"),
+        // Neither is taken, so there was no memory.
+        Err(_) => Err(AllocError.into()),
     }
+}
+
+fn answer_rename(
+    rt: &(impl Print + AllocGlobal),
+    symbols: &mut BiHashMap<Symbol>,
+    address: u64,
+    name: &str,
+) -> io::Result<()> {
+    let name = name.to_string(rt.alloc())?;
+    rt.println(match rename(symbols, address, name) {
+        Ok(_symbol) => "ok",
+        Err(NotReplaced::Absent(_symbol)) => "none",
+        Err(NotReplaced::Conflict(_symbol)) => "name taken",
+    })
 }
 
 fn show(rt: &impl Print, found: Option<&Symbol>) -> io::Result<()> {

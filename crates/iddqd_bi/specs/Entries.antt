@@ -1,5 +1,5 @@
 -- What contracts say of entries.
-use Rattle.std.specs.Prelude.{◌≡◌, ◌≢◌, ◌<◌, ℕ, length, Bool, [], ◌∷◌, List, Option, Some, None, Result, IsOk, IfOk, IfErr, OnOk, OnErr, ⊤, IsPermutation}
+use Rattle.std.specs.Prelude.{◌≡◌, ◌≢◌, ◌<◌, ℕ, length, Bool, [], ◌∷◌, List, Option, Some, None, Result, Ok, Err, IsOk, IfOk, IfErr, OnOk, OnErr, ⊤, IsPermutation}
 use Rattle.std.specs.Option.{option_and_then, IfSome}
 use Rattle.std.specs.Borrow.{Fml, GName, RattleType, MutBor, LendsIf, follows, follows_so, name_if_ok}
 use Rattle.std.specs.HashMap.Lent.{HashMembers}
@@ -15,7 +15,7 @@ use Rattle.iddqd_store.specs.Map.Written.{map_with_if}
 use Rattle.iddqd_store.specs.Slots.{get, IsLive}
 use Rattle.iddqd_store.specs.Slots.Found.{AreFound, entry_at, found_by_all, head_of, held_at}
 use Rattle.iddqd_bi.specs.Keys.{has1, has2, key_tests, ranks}
-use Rattle.iddqd_bi.specs.Mismatch.{HandsBack}
+use Rattle.iddqd_bi.specs.Mismatch.{HandsBack, IsInsert}
 use Rattle.iddqd_bi.specs.Refused.{map_row}
 use Rattle.iddqd_bi.specs.RefMuts.{ref_item, ref_lender, ref_map, rests_if_none}
 use Rattle.iddqd_bi.specs.declared.item.BiHashItem as item
@@ -27,6 +27,8 @@ use Rattle.iddqd_bi.specs.declared.entry.VacantEntry.{VacantEntry}
 use Rattle.iddqd_bi.specs.declared.entry.OccupiedEntry.{OccupiedEntry}
 use Rattle.iddqd_bi.specs.declared.entry.OccupiedEntryMut.{OccupiedEntryMut}
 use Rattle.iddqd_bi.specs.declared.error.EntryRefusal.{EntryRefusal}
+use Rattle.iddqd_bi.specs.declared.error.TryEntryError.TheVariants.{Closure}
+use Rattle.iddqd_bi.specs.declared.error.TryEntryRefusal.{TryEntryRefusal}
 use Rattle.iddqd_bi.specs.declared.ref_mut.RefMut.{RefMut}
 use Rattle.iddqd_bi.specs.contracts.entry.OccupiedEntry.{the_row as occupied_row}
 use Rattle.iddqd_bi.specs.contracts.entry.OccupiedEntryMut.{the_row as occupied_mut_row}
@@ -71,6 +73,12 @@ module _ {T S K1 K2 H : Type 0} where
     pub key2 : p.key2 ≡ o.key2
     pub same1 : p.slot1 ≡ o.slot1
     pub same2 : p.slot2 ≡ o.slot2
+
+  -- The call failed as the closure did, with its error.
+  -- Example: If the closure returned `Err e`, the error is `Closure e`.
+  abbrev pub FailsAsClosure : {E M : Type 0} → E → Result M (TryEntryRefusal T E S K1 K2 H) → Type 0
+  FailsAsClosure error (Ok m) = ⊥
+  FailsAsClosure error (Err refusal) = refusal.error ≡ Closure error
 
   -- The item is in the same map in the place of those that conflict with it, and the entry, with the same keys, finds
   -- it alone. Nothing else changes.
@@ -227,6 +235,23 @@ module _ {T S Q K1 K2 H : Type 0} {of : item.Ghosts T K1 K2} {eq1 : equal.Ghosts
     pub granted : differ (wanted e) x ≡ None → length (bag e.map.now) < e.map.now.capacity → IsOk result
     pub unchanged : IfErr result (λ refusal. refusal.map.now ≡ e.map.now)
     pub hands_back : IfErr result (λ refusal. HandsBack (ranks of eq1.eq eq2.eq) (wanted e) e.map.now x refusal.error)
+
+  -- The item `x`, which a closure made, went into the map of the vacant entry and is held for writing
+  -- (`GainsAndHolds`), or the error is that of the entry and returns it (`HandsBack`). The call succeeds if `x` has the
+  -- keys of the entry and the map is not full.
+  -- Example: If `x` has another first key than the entry, the error is `Insert (Key1 x)`.
+  pub record PutsMadeIn {E : Type 0} (e : VacantEntry T S Q K1 K2 H of eq1 input1 eq2 input2 build hashes q) (x : T) (result : Result (OccupiedEntryMut T S K1 K2 H) (TryEntryRefusal T E S K1 K2 H)) : Type 0 where
+    pub gains_and_holds : IfOk result (GainsAndHolds e x)
+    pub same_keys : OnOk result (differ (wanted e) x ≡ None)
+    pub granted : differ (wanted e) x ≡ None → length (bag e.map.now) < e.map.now.capacity → IsOk result
+    pub hands_back : IfErr result (λ refusal. IsInsert refusal.error (HandsBack (ranks of eq1.eq eq2.eq) (wanted e) e.map.now x))
+
+  -- What comes of the answer of the closure: the item that it made is put in (`PutsMadeIn`), or its error is returned
+  -- (`FailsAsClosure`).
+  -- Example: If it returned `Ok x`, and `x` has the keys of the entry, then `x` is in the map unless that was full.
+  abbrev pub PutsInMade : {E : Type 0} → VacantEntry T S Q K1 K2 H of eq1 input1 eq2 input2 build hashes q → Result T E → Result (OccupiedEntryMut T S K1 K2 H) (TryEntryRefusal T E S K1 K2 H) → Type 0
+  PutsInMade e (Ok x) result = PutsMadeIn e x result
+  PutsInMade e (Err error) result = FailsAsClosure error result
 
   -- The entries are vacant, or they are occupied with the same keys and slots.
   abbrev pub IsSameEntry : Entry T S Q K1 K2 H of eq1 input1 eq2 input2 build hashes q → Entry T S Q K1 K2 H of eq1 input1 eq2 input2 build hashes q → Type 0

@@ -30,7 +30,8 @@ module _ {T K1 K2 : Type 0} (of : item.Ghosts T K1 K2) where
   has_both stands1 stands2 q1 q2 = every_of (key_tests stands1 stands2 q1 q2)
 
 module _ {T : Type 0} (hash1 hash2 : T → ℕ) where
-  -- For each rank, a pair under its hash goes into this cell of its table. No public clause cites it.
+  -- For each rank, a pair under its hash goes into this cell of its table. Of what is public, only the ghost field `vacant` of
+  -- `VacantEntry` cites it.
   pub record AreVacantFor (bag : List T) (h1 h2 : ℕ) (at : Spot × Spot) : Type 0 where
     pub first : IsVacantFor hash1 bag h1 at.0
     pub second : IsVacantFor hash2 bag h2 at.1

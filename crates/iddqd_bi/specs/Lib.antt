@@ -12,9 +12,11 @@ pub mod Step
 -- The clauses of the map cite these words of the store.
 pub use Rattle.iddqd_store.specs.Bag
 pub use Rattle.iddqd_store.specs.Bag.Building
+pub use Rattle.iddqd_store.specs.Bag.Calling
 pub use Rattle.iddqd_store.specs.Bag.Storing
 pub use Rattle.iddqd_store.specs.Callers
 pub use Rattle.iddqd_store.specs.Map
+pub use Rattle.iddqd_store.specs.Map.Extracting
 pub use Rattle.iddqd_store.specs.Map.Walk
 pub use Rattle.iddqd_store.specs.Map.Written
 pub use Rattle.iddqd_store.specs.Rank

@@ -6,6 +6,8 @@ use Rattle.iddqd_bi.specs.declared.error.KeyMismatch.{KeyMismatch}
 use Rattle.iddqd_bi.specs.declared.error.KeyMismatch.TheVariants as mismatch
 use Rattle.iddqd_bi.specs.declared.error.EntryError.{EntryError}
 use Rattle.iddqd_bi.specs.declared.error.EntryError.TheVariants.{Key1, Key2, Memory}
+use Rattle.iddqd_bi.specs.declared.error.TryEntryError.{TryEntryError}
+use Rattle.iddqd_bi.specs.declared.error.TryEntryError.TheVariants.{Closure, Insert}
 
 module _ {T : Type 0} where
   -- `mismatch_item` is the item that is returned because a key of it differs.
@@ -49,3 +51,9 @@ module _ {T : Type 0} where
     pub handed_back : error_item error ≡ x
     pub rank : differ tests x ≡ error_rank error
     pub memory : OnNoMemory error (IsFullFor ranks m x)
+
+  -- The error is that of the entry, and `P` holds of that.
+  -- Example: It does not hold of `Closure e`.
+  abbrev pub IsInsert : {E : Type 0} → TryEntryError (EntryError T) E → (EntryError T → Type 0) → Type 0
+  IsInsert (Closure e) P = ⊥
+  IsInsert (Insert error) P = P error

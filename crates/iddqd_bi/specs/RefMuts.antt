@@ -57,6 +57,11 @@ module _ (T S K1 K2 H : RattleType) {of : item.Ghosts T.Denot K1.Denot K2.Denot}
   abbrev pub lends_ref_data : (D : RattleType) → (T.Denot → D.Denot → T.Denot) → MutBor (RefMut T.Denot S.Denot K1.Denot K2.Denot H.Denot of eq1 input1 eq2 input2 build hashes) → MutBor D.Denot → Fml
   lends_ref_data D put m r = follows (ref_row (record { mir = named 1; lft = [] }) T S K1 K2 H of eq1 input1 eq2 input2 build hashes) D m.ghost_name r.ghost_name (λ d. ref_with m.now (λ x. put x d))
 
+  -- What is written through `r` is the data of the guard's item, in the guard's map.
+  -- Example: If d is written, the map of a guard of a ends with `put a d`.
+  abbrev pub lends_map_data : (D : RattleType) → (T.Denot → D.Denot → T.Denot) → RefMut T.Denot S.Denot K1.Denot K2.Denot H.Denot of eq1 input1 eq2 input2 build hashes → MutBor D.Denot → Fml
+  lends_map_data D put g r = follows (map_row T S K1 K2 H of eq1 input1 eq2 input2 build hashes) D (ref_lender g) r.ghost_name (λ d. ref_map (ref_with g (λ x. put x d)))
+
   -- If there is no guard, the map ends as it was.
   -- Example: A map of a, b ends as a, b.
   abbrev pub rests_if_none : MutBor (Map T.Denot S.Denot) → Option (RefMut T.Denot S.Denot K1.Denot K2.Denot H.Denot of eq1 input1 eq2 input2 build hashes) → Fml

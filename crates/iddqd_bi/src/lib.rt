@@ -17,6 +17,7 @@ pub use entry::{
 };
 pub use error::{
     EntryError, EntryRefusal, FromIterError, InsertError, KeyMismatch, NotReplaced, Rejected,
+    TryEntryError, TryEntryRefusal,
 };
 pub use item::{BiHashItem, BiHashItemMut, Hashed, Ranked};
 pub use iter_mut::IterMut;

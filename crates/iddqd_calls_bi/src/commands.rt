@@ -1,12 +1,12 @@
 //! Commands, each applied to the map, and what their replies say.
 ghost use Rattle.std.specs.Prelude.{⊤};
 
-use crate::Given;
 use crate::guards::back;
 use crate::inserts::with_lent;
 use crate::item::{Item, nth, row_of};
 use crate::lists::{displaced, refused};
 use crate::lookups::{found, taken};
+use crate::{Given, items_of};
 use iddqd_bi::{BiCommand, BiHashMap, BiReply, BiSink};
 use iddqd_calls_shared::answer::Answer;
 use iddqd_calls_shared::counting::Key;
@@ -14,20 +14,23 @@ use iddqd_calls_shared::gauge::Gauge;
 use std::alloc::AllocError;
 use std::hash::BuildHasher;
 
-/// A sink that keeps the last reply. It returns a fault if it gets more than `most` replies.
+/// A sink that keeps one reply: the last, or that of the number `wanted`, if it is not 0. It returns a fault if it gets more
+/// than `most` replies.
 #[derive(Drop)]
 struct Heard {
     answer: Answer,
     replies: usize,
     most: usize,
+    wanted: usize,
 }
 
 /// Makes a sink that got no reply so far.
-fn nothing_heard(most: usize) -> Heard {
+fn nothing_heard(most: usize, wanted: usize) -> Heard {
     Heard {
         answer: Answer::said("no reply"),
         replies: 0,
         most,
+        wanted,
     }
 }
 
@@ -39,8 +42,11 @@ impl BiSink<Item> for Heard {
     fn take(&mut self, reply: BiReply<'_, Item>) -> Result<(), ()>
         ensures { ⊤ }
     {
-        self.answer = answer_of(reply);
+        let answer = answer_of(reply);
         self.replies = self.replies.saturating_add(1);
+        if self.wanted == 0 || self.wanted == self.replies {
+            self.answer = answer;
+        }
         if self.replies > self.most {
             Err(())
         } else {
@@ -93,30 +99,74 @@ pub(crate) fn answered<S: BuildHasher>(
     call: &str,
     given: Given,
 ) -> Option<Answer> {
-    let mut heard = nothing_heard(1);
+    let mut heard = nothing_heard(1, 0);
     let _ = map.apply(command_of(call, given)?, &mut heard);
     Some(heard.answer)
 }
 
-/// Runs four commands, with a sink that returns a fault at the reply behind the first `most`. The commands insert the
-/// items 1 and 2, remove the first of them, and clear the map. The answer has the number of replies that the sink got.
-/// Making the list of commands is not measured.
+/// Runs the list of commands of the call of this name, with a sink that returns a fault at the reply behind the first `most`. The
+/// first number is `most`. If no other follows, the answer has the number of replies that the sink got. Else it is the reply
+/// of that number, and the numbers behind it are the items of the list. Making the list of commands is not measured.
 pub(crate) fn run<S: BuildHasher>(
     map: &mut BiHashMap<Item, S>,
     gauge: &mut Gauge,
-    most: usize,
-) -> Result<Answer, AllocError> {
-    let commands = list(gauge)?;
-    let mut heard = nothing_heard(most);
+    call: &str,
+    numbers: &[u64],
+) -> Result<Option<Answer>, AllocError> {
+    let (most, wanted, items) = match numbers {
+        [] => return Ok(None),
+        [most] => (*most, 0, [].as_slice()),
+        [most, wanted, items @ ..] => (*most, *wanted, items),
+    };
+    let Some(commands) = list_of(gauge, call, items)? else {
+        return Ok(None);
+    };
+    let mut heard = nothing_heard(most as usize, wanted as usize);
     gauge.begin();
     let word = match map.run(commands, &mut heard) {
         Ok(()) => "ended",
         Err(()) => "fault",
     };
     gauge.end();
-    Ok(Answer::said(word).at(heard.replies))
+    if wanted == 0 {
+        Ok(Some(Answer::said(word).at(heard.replies)))
+    } else {
+        Ok(Some(heard.answer))
+    }
 }
 
+/// Makes the list of commands that the call of this name runs: the four of `list`, none, or those of `extending` with these items. Returns `None`
+/// if there is no such call.
+fn list_of(
+    gauge: &Gauge,
+    call: &str,
+    items: &[u64],
+) -> Result<Option<Vec<BiCommand<Item>>>, AllocError> {
+    match call {
+        "run" => Ok(Some(list(gauge)?)),
+        "run.nothing" => Ok(Some(Vec::new(gauge.alloc()))),
+        "run.extend" => {
+            let items = items_of(gauge, items)?;
+            Ok(Some(extending(gauge, BiCommand::Extend(items))?))
+        }
+        "run.extend_unique" => {
+            let items = items_of(gauge, items)?;
+            Ok(Some(extending(gauge, BiCommand::ExtendUnique(items))?))
+        }
+        _ => Ok(None),
+    }
+}
+
+/// Makes a list of this command, a question whether an item has the first key 2, and one for the number of items.
+fn extending(gauge: &Gauge, command: BiCommand<Item>) -> Result<Vec<BiCommand<Item>>, AllocError> {
+    let mut commands = Vec::new(gauge.alloc());
+    commands.push(command)?;
+    commands.push(BiCommand::Contains1(Key::new(&gauge.counts, 2)?))?;
+    commands.push(BiCommand::Len)?;
+    Ok(commands)
+}
+
+/// Makes a list of commands that insert the items 1 and 2, remove the first of them, and clear the map.
 fn list(gauge: &Gauge) -> Result<Vec<BiCommand<Item>>, AllocError> {
     let mut commands = Vec::new(gauge.alloc());
     for number in 1..=2 {

@@ -40,9 +40,9 @@ pub(crate) fn seen(found: OccupiedEntryRef<'_, Item>) -> Answer {
         _ => "both or neither",
     };
     Answer::said(word)
-        .with_if(found.by_key1().map(row_of))
-        .with_if(found.by_key2().map(row_of))
-        .with_if(found.as_unique().map(row_of))
+        .at_place(found.by_key1().map(row_of))
+        .at_place(found.by_key2().map(row_of))
+        .at_place(found.as_unique().map(row_of))
 }
 
 /// Carries out the call of this name on the entry of these keys. Returns `None` if there is no such call.

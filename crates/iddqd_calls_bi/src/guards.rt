@@ -1,4 +1,5 @@
-//! Calls that borrow an item for writing, through a guard.
+//! Calls that borrow an item for writing, through a guard, or its data.
+use crate::held;
 use crate::item::{Item, row_of};
 use iddqd_bi::{BiHashMap, KeyMismatch, NotReplaced};
 use iddqd_calls_shared::answer::Answer;
@@ -44,6 +45,9 @@ pub(crate) fn answered<S: BuildHasher>(
         "get2_mut.data_mut" => Some(write2(map, key)),
         "get1_mut.reborrow" => Some(write_again(map, key)),
         "get1_mut.into_ref" => Some(lend_for_good(map, key)),
+        "get1_mut.into_data" => Some(write_for_good(map, key)),
+        "data1_mut" => Some(held::written(map.data1_mut(key))),
+        "data2_mut" => Some(held::written(map.data2_mut(key))),
         _ => None,
     }
 }
@@ -84,6 +88,14 @@ fn write_again<S: BuildHasher>(map: &mut BiHashMap<Item, S>, key: &Key) -> Answe
 fn lend_for_good<S: BuildHasher>(map: &mut BiHashMap<Item, S>, key: &Key) -> Answer {
     match map.get1_mut(key) {
         Some(item) => Answer::of("item", row_of(item.into_ref())),
+        None => Answer::said("none"),
+    }
+}
+
+/// Writes the data that the guard lends for as long as the map is borrowed.
+fn write_for_good<S: BuildHasher>(map: &mut BiHashMap<Item, S>, key: &Key) -> Answer {
+    match map.get1_mut(key) {
+        Some(item) => held::written(Some(item.into_data())),
         None => Answer::said("none"),
     }
 }

@@ -12,7 +12,7 @@ use std::hash::BuildHasher;
 /// Returns whether a call takes a list.
 pub(crate) fn takes(call: &str) -> bool {
     let call = call.strip_prefix("apply.").unwrap_or(call);
-    call.starts_with("extend") || call.starts_with("from_iter") || call == "eq.of"
+    call.starts_with("extend") || call.starts_with("from_iter") || call.starts_with("eq.of")
 }
 
 /// Adds the items of a short list to an answer.
@@ -95,6 +95,21 @@ fn extend_unique<S: BuildHasher>(map: &mut BiHashMap<Item, S>, items: Vec<Item>)
     }
 }
 
+/// Answers how many keys there are while the error is there.
+fn extend_unique_and_count<S: BuildHasher>(
+    map: &mut BiHashMap<Item, S>,
+    items: Vec<Item>,
+) -> Answer {
+    match map.extend_unique(items) {
+        Ok(()) => Answer::said("ok"),
+        Err(error) => {
+            let keys = error.value.key1.alive();
+            drop(error);
+            Answer::said("alive").at(keys)
+        }
+    }
+}
+
 fn from_iter<S: Builder>(alloc: Global, items: Vec<Item>) -> Answer {
     match BiHashMap::<Item, S>::from_iter(alloc, items) {
         Ok(map) => built(map),
@@ -125,6 +140,19 @@ fn from_iter_unique<S: Builder>(alloc: Global, items: Vec<Item>) -> Answer {
     }
 }
 
+/// Answers how many keys there are while the error is there.
+fn from_iter_unique_and_count<S: Builder>(alloc: Global, items: Vec<Item>) -> Answer {
+    match BiHashMap::<Item, S>::from_iter_unique(alloc, items) {
+        Ok(map) => built(map),
+        Err(FromIterError::Duplicate(found)) => {
+            let keys = found.new_item().key1.alive();
+            drop(found);
+            Answer::said("alive").at(keys)
+        }
+        Err(FromIterError::Memory(item)) => back(Answer::said("memory"), item),
+    }
+}
+
 fn from_iter_unique_hintless<S: Builder>(alloc: Global, items: Vec<Item>) -> Answer {
     match BiHashMap::<Item, S>::from_iter_unique(alloc, items.into_iter().filter(|_| true)) {
         Ok(map) => built(map),
@@ -144,16 +172,25 @@ pub(crate) fn answered<S: Builder>(
         "extend.trait" => Some(extend_by_trait(map, items)),
         "extend.hintless" => Some(extend_hintless(map, items)),
         "extend_unique" => Some(extend_unique(map, items)),
-        "eq.of" => Some(compared(map, alloc, items)),
+        "extend_unique.alive" => Some(extend_unique_and_count(map, items)),
+        "eq.of" => Some(compared(map, alloc, items, 0)),
+        "eq.of.reserve" => Some(compared(map, alloc, items, 100)),
         _ => made::<S>(alloc, call, items),
     }
 }
 
-/// Answers whether the map equals a map of these items, from either side.
-fn compared<S: Builder>(map: &BiHashMap<Item, S>, alloc: Global, items: Vec<Item>) -> Answer {
+/// Answers whether the map equals a map of these items, from either side. The other map reserves capacity for so many items
+/// before they are inserted.
+fn compared<S: Builder>(
+    map: &BiHashMap<Item, S>,
+    alloc: Global,
+    items: Vec<Item>,
+    room: usize,
+) -> Answer {
     let mut other = BiHashMap::<Item, S>::default(alloc);
+    let _ = other.reserve(room);
     for item in items {
-        let _ = other.insert_or_back(item);
+        let _ = other.try_insert(item);
     }
     let is_same = *map == other;
     let is_same_back = other == *map;
@@ -172,6 +209,7 @@ fn made<S: Builder>(alloc: Global, call: &str, items: Vec<Item>) -> Option<Answe
         "from_iter.hintless" => Some(from_iter_hintless::<S>(alloc, items)),
         "from_iter_unique" => Some(from_iter_unique::<S>(alloc, items)),
         "from_iter_unique.hintless" => Some(from_iter_unique_hintless::<S>(alloc, items)),
+        "from_iter_unique.alive" => Some(from_iter_unique_and_count::<S>(alloc, items)),
         _ => {
             drop(items);
             None

@@ -1,6 +1,6 @@
 //! Calls that search for an item.
-use crate::guards;
 use crate::item::{Item, row_of};
+use crate::{guards, held};
 use iddqd_bi::BiHashMap;
 use iddqd_calls_shared::answer::Answer;
 use iddqd_calls_shared::counting::Key;
@@ -90,6 +90,18 @@ pub(crate) fn answered_by_all<S: BuildHasher>(
         "remove_unique" => Some(taken(map.remove_unique(&keys.key1, &keys.key2))),
         "update_unique" => Some(Answer::is_so(map.update_unique(&keys.key1, &keys.key2, more))),
         "get_mut_unique" => Some(guards::lend_unique(map, keys)),
+        "data_unique_mut" => Some(held::written(map.data_unique_mut(&keys.key1, &keys.key2))),
+        "retain.of" => Some(retain_of(map, keys)),
         _ => None,
     }
+}
+
+/// Keeps the items that have the first or the second of these keys. The answer has how often the closure was called.
+fn retain_of<S: BuildHasher>(map: &mut BiHashMap<Item, S>, keys: &Item) -> Answer {
+    let mut asked: usize = 0;
+    map.retain(|item| {
+        asked = asked.wrapping_add(1);
+        item.key1.number() == keys.key1.number() || item.key2.number() == keys.key2.number()
+    });
+    Answer::said("asked").at(asked)
 }

@@ -6,7 +6,10 @@ use crate::guards::{back, mismatch};
 use crate::held::lent;
 use crate::item::{Item, row_of};
 use crate::lists::displaced;
-use iddqd_bi::{BiHashMap, Entry, EntryError, EntryRefusal, OccupiedEntry, Ranked};
+use iddqd_bi::{
+    BiHashMap, Entry, EntryError, EntryRefusal, OccupiedEntry, Ranked, TryEntryError,
+    TryEntryRefusal,
+};
 use iddqd_calls_shared::answer::Answer;
 use std::hash::{BuildHasher, Hash};
 
@@ -24,6 +27,19 @@ fn refused(error: EntryError<Item>) -> Answer {
 fn refused_by<S: BuildHasher>(error: EntryRefusal<'_, Item, S>) -> Answer {
     let shown = row_of(error.error().item());
     refused(error.into_error()).with(shown)
+}
+
+/// Does so for the error of a call whose closure may fail, and then returns the item that it was to make.
+fn not_tried<S: BuildHasher>(error: TryEntryRefusal<'_, Item, Item, S>) -> Answer {
+    let shown = match error.error() {
+        TryEntryError::Closure(item) => row_of(item),
+        TryEntryError::Insert(error) => row_of(error.item()),
+    };
+    let answer = match error.into_error() {
+        TryEntryError::Closure(item) => back(Answer::of("closure", row_of(&item)), item),
+        TryEntryError::Insert(error) => refused(error),
+    };
+    answer.with(shown)
 }
 
 /// Answers the item that came back, as the error shows it and as it was returned.
@@ -44,6 +60,9 @@ pub(crate) fn answered<S: BuildHasher>(
         "entry.or_insert.into_item" => Some(or_insert_or_back(map, keys, item)),
         "entry.or_insert.drop" => Some(or_insert_or_drop(map, keys, item)),
         "entry.or_insert_with" => Some(or_insert_with(map, keys, item)),
+        "entry.or_try_insert_with" => Some(or_try_insert_with(map, keys, item)),
+        "entry.or_try_insert_with.fails" => Some(or_fail(map, keys, item)),
+        "entry.or_try_insert_with.fails.drop" => Some(or_fail_and_drop(map, keys, item)),
         _ => of_vacant(map, call, keys, item),
     }
 }
@@ -110,6 +129,56 @@ fn or_insert_with<S: BuildHasher>(map: &mut BiHashMap<Item, S>, keys: &Item, ite
         Err(error) => refused_by(error),
     };
     answer.at(calls)
+}
+
+/// The answer has how often the closure was called.
+fn or_try_insert_with<S: BuildHasher>(
+    map: &mut BiHashMap<Item, S>,
+    keys: &Item,
+    item: Item,
+) -> Answer {
+    let mut calls: usize = 0;
+    let made = || {
+        calls = calls.wrapping_add(1);
+        Ok(item)
+    };
+    let answer = match map.entry(&keys.key1, &keys.key2).or_try_insert_with(made) {
+        Ok(mut held) => lent(&mut held),
+        Err(error) => not_tried(error),
+    };
+    answer.at(calls)
+}
+
+/// The closure fails, with the item as its error. The answer has how often it was called.
+fn or_fail<S: BuildHasher>(map: &mut BiHashMap<Item, S>, keys: &Item, item: Item) -> Answer {
+    let mut calls: usize = 0;
+    let made = || {
+        calls = calls.wrapping_add(1);
+        Err(item)
+    };
+    let answer = match map.entry(&keys.key1, &keys.key2).or_try_insert_with(made) {
+        Ok(mut held) => lent(&mut held),
+        Err(error) => not_tried(error),
+    };
+    answer.at(calls)
+}
+
+/// The closure fails, and the error is dropped.
+fn or_fail_and_drop<S: BuildHasher>(
+    map: &mut BiHashMap<Item, S>,
+    keys: &Item,
+    item: Item,
+) -> Answer {
+    match map
+        .entry(&keys.key1, &keys.key2)
+        .or_try_insert_with(|| Err(item))
+    {
+        Ok(mut held) => lent(&mut held),
+        Err(error) => {
+            drop(error);
+            Answer::said("dropped")
+        }
+    }
 }
 
 /// Inserts an item into its entry, vacant or occupied.

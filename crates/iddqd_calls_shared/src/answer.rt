@@ -4,12 +4,18 @@ use std::alloc::{AllocError, Global};
 /// The numbers of an item: its keys, and then its value.
 pub type Row = [u64; 4];
 
+/// How many items an answer has at most.
+const MOST: usize = 8;
+
 /// What a call returned: a word, a number, and items.
 #[derive(Clone, Copy)]
 pub struct Answer {
     word: &'static str,
     number: Option<u64>,
-    rows: [Option<Row>; 8],
+    /// How many of the rows the answer has.
+    length: usize,
+    /// The items, and `None` where the answer says that there is none.
+    rows: [Option<Row>; MOST],
 }
 
 impl Answer {
@@ -18,17 +24,14 @@ impl Answer {
         Answer {
             word,
             number: None,
-            rows: [None; 8],
+            length: 0,
+            rows: [None; MOST],
         }
     }
 
     /// Makes an answer of a number.
     pub fn counted(number: usize) -> Self {
-        Answer {
-            word: "",
-            number: Some(number as u64),
-            rows: [None; 8],
-        }
+        Answer::said("").at(number)
     }
 
     pub fn is_so(holds: bool) -> Self {
@@ -55,24 +58,38 @@ impl Answer {
 
     /// Returns the answer with one more item.
     pub fn with(self, row: Row) -> Self {
-        self.with_if(Some(row))
+        self.at_place(Some(row))
     }
 
     /// Returns the answer with one more item, if there is one.
-    pub fn with_if(mut self, row: Option<Row>) -> Self {
-        for place in &mut self.rows {
-            if place.is_none() {
+    pub fn with_if(self, row: Option<Row>) -> Self {
+        match row {
+            Some(row) => self.with(row),
+            None => self,
+        }
+    }
+
+    /// Returns the answer with one more item, or with a `-` if there is none. If the answer has no place for it, its word
+    /// is `too many` from then on.
+    pub fn at_place(mut self, row: Option<Row>) -> Self {
+        let length = self.length;
+        match self.rows.get_mut(length) {
+            Some(place) => {
                 *place = row;
-                return self;
+                self.length = length.wrapping_add(1);
             }
+            None => self.word = "too many",
         }
         self
     }
 
-    /// Returns the answer with the items of another one behind its own.
+    /// Returns the answer with the items of another one behind its own, or with a `-` if that one has none.
     pub fn behind(mut self, other: Answer) -> Self {
-        for row in other.rows {
-            self = self.with_if(row);
+        if other.length == 0 {
+            return self.at_place(None);
+        }
+        for row in other.rows.iter().take(other.length) {
+            self = self.at_place(*row);
         }
         self
     }
@@ -81,6 +98,39 @@ impl Answer {
     pub fn at(mut self, number: usize) -> Self {
         self.number = Some(number as u64);
         self
+    }
+}
+
+/// How many items were added, and the sum of each of their numbers. It tells which items these were in whatever order they
+/// came.
+#[derive(Clone, Copy)]
+pub struct Sum {
+    items: usize,
+    row: Row,
+}
+
+impl Sum {
+    /// Makes the sum of no items.
+    pub fn none() -> Self {
+        Sum {
+            items: 0,
+            row: [0; 4],
+        }
+    }
+
+    pub fn add(&mut self, row: Row) {
+        let [first, second, third, fourth] = self.row;
+        self.items = self.items.wrapping_add(1);
+        self.row = [
+            first.wrapping_add(row[0]),
+            second.wrapping_add(row[1]),
+            third.wrapping_add(row[2]),
+            fourth.wrapping_add(row[3]),
+        ];
+    }
+
+    pub fn answer(self) -> Answer {
+        Answer::of("sum", self.row).at(self.items)
     }
 }
 
@@ -102,10 +152,13 @@ pub fn shown(alloc: Global, answer: &Answer, width: usize) -> Result<String, All
         let number = format!(in alloc; "{number}")?;
         push(&mut text, number.as_str())?;
     }
-    for row in &answer.rows {
-        if let Some(row) = row {
-            let row = row_shown(alloc, row, width)?;
-            push(&mut text, row.as_str())?;
+    for row in answer.rows.iter().take(answer.length) {
+        match row {
+            Some(row) => {
+                let row = row_shown(alloc, row, width)?;
+                push(&mut text, row.as_str())?;
+            }
+            None => push(&mut text, "-")?,
         }
     }
     Ok(text)

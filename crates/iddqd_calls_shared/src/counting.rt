@@ -78,6 +78,11 @@ impl Key {
         })
     }
 
+    /// Returns how many keys there are that share the counts of this one, and are not dropped.
+    pub fn alive(&self) -> usize {
+        Rc::strong_count(&self.counts).saturating_sub(1)
+    }
+
     pub fn number(&self) -> u64
         ensures { result ≡ self.now.number }
     {

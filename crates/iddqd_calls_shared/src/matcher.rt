@@ -1,5 +1,5 @@
 //! A matcher that accepts one key, and counts how many keys it is asked about.
-ghost use Rattle.std.specs.Prelude.{◌≡◌, ◌==◌, refl};
+ghost use Rattle.std.specs.Prelude.{◌≡◌, ◌==◌, refl, ⊤};
 ghost use Rattle.std.proofs.Common.{◌∙◌, ap};
 
 use crate::counting::Key;
@@ -35,9 +35,13 @@ impl KeyMatcher<Key> for Only {
 
     ghost asked = { λ m. m.asked };
 
+    ghost MayAsk = { λ _ _. ⊤ };
+
     ghost IsKept = { λ m n. n.number ≡ m.number };
 
     ghost accepts_kept = { λ m n key e. ap (λ k. key.number == k) e };
+
+    ghost may_kept = { λ _ _ _ _ _. tt };
 
     ghost kept_refl = { λ m. refl };
 

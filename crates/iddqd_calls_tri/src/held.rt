@@ -9,7 +9,7 @@ use iddqd_tri::{Entry, OccupiedEntry, OccupiedEntryMut, Ranked, TriHashMap};
 use std::hash::{BuildHasher, Hash};
 
 /// Sets the data to 7, and answers what it was.
-fn written(data: Option<&mut u64>) -> Answer {
+pub(crate) fn written(data: Option<&mut u64>) -> Answer {
     match data {
         Some(data) => {
             let old = *data;
@@ -76,10 +76,9 @@ fn of_lent<S: BuildHasher>(held: &mut OccupiedEntryMut<'_, Item, S>, call: &str)
 
 /// Borrows the items that are held, by each key and by all keys in turn, twice.
 pub(crate) fn lent<S: BuildHasher>(held: &mut OccupiedEntryMut<'_, Item, S>) -> Answer {
-    let first = lent_each(held);
-    let second = lent_each(held);
-    let third = lent_each(held);
-    first.behind(second)
+    let once = lent_each(held);
+    let again = lent_each(held);
+    once.behind(again)
 }
 
 fn lent_each<S: BuildHasher>(held: &mut OccupiedEntryMut<'_, Item, S>) -> Answer {

@@ -51,6 +51,30 @@ fn insert_into_parts<S: BuildHasher>(map: &mut TriHashMap<Item, S>, item: Item) 
     }
 }
 
+/// Answers how many keys there are while the error is there.
+fn insert_and_count<S: BuildHasher>(map: &mut TriHashMap<Item, S>, item: Item) -> Answer {
+    match map.insert_unique(item) {
+        Ok(()) => Answer::said("ok"),
+        Err(error) => {
+            let keys = error.item().key1.alive();
+            drop(error);
+            Answer::said("alive").at(keys)
+        }
+    }
+}
+
+/// Answers how many keys there are while the items are there that the item replaced.
+fn overwrite_and_count<S: BuildHasher>(map: &mut TriHashMap<Item, S>, item: Item) -> Answer {
+    match map.insert_overwrite(item) {
+        Ok(items) => {
+            let keys = items.get(0).map(|item| item.key1.alive()).unwrap_or(0);
+            drop(items);
+            Answer::said("alive").at(keys)
+        }
+        Err(error) => back(Answer::said("memory"), error.value),
+    }
+}
+
 /// Answers which keys are taken, as digits, or that there was no memory.
 fn rejected(error: &Rejected<Item>) -> Answer {
     let mut digits: usize = 0;
@@ -77,13 +101,6 @@ fn try_insert<S: BuildHasher>(map: &mut TriHashMap<Item, S>, item: Item) -> Answ
     }
 }
 
-fn insert_or_back<S: BuildHasher>(map: &mut TriHashMap<Item, S>, item: Item) -> Answer {
-    match map.insert_or_back(item) {
-        Ok(()) => Answer::said("ok"),
-        Err(item) => back(Answer::said("back"), item),
-    }
-}
-
 fn overwrite<S: BuildHasher>(map: &mut TriHashMap<Item, S>, item: Item) -> Answer {
     match map.insert_overwrite(item) {
         Ok(items) => displaced(items),
@@ -105,7 +122,7 @@ fn insert_and_remove<S: BuildHasher>(map: &mut TriHashMap<Item, S>, mut item: It
     };
     let mut rounds: usize = 0;
     for _ in 0..1000 {
-        let _ = map.insert_or_back(item).is_ok();
+        let _ = map.try_insert(item).is_ok();
         match map.remove1(&key) {
             Some(found) => item = found,
             None => {
@@ -130,10 +147,21 @@ pub(crate) fn answered<S: BuildHasher>(
         "insert_unique.into_item" => Some(insert_into_item(map, item)),
         "insert_unique.into_parts" => Some(insert_into_parts(map, item)),
         "try_insert" => Some(try_insert(map, item)),
-        "insert_or_back" => Some(insert_or_back(map, item)),
         "insert_overwrite" => Some(overwrite(map, item)),
-        "insert_or_back.remove1" => Some(insert_and_remove(map, item)),
         "conflicts_with" => Some(conflicts(map, item)),
+        _ => counted(map, call, item),
+    }
+}
+
+fn counted<S: BuildHasher>(
+    map: &mut TriHashMap<Item, S>,
+    call: &str,
+    item: Item,
+) -> Option<Answer> {
+    match call {
+        "try_insert.remove1" => Some(insert_and_remove(map, item)),
+        "insert_unique.alive" => Some(insert_and_count(map, item)),
+        "insert_overwrite.alive" => Some(overwrite_and_count(map, item)),
         _ => {
             drop(item);
             None

@@ -1,4 +1,7 @@
 //! The calls of a line on the map with three keys, by what they are given.
+//!
+//! Most of this crate is the text of `iddqd_calls_bi` at three keys, which a script writes: change that text, and then run
+//! `tests/twins --write` with the changed files.
 #![tactic(auto)]
 
 mod commands;
@@ -7,9 +10,11 @@ mod guards;
 mod held;
 mod inserts;
 mod item;
+mod leaving;
 mod lists;
 mod lookups;
 mod vacant;
+mod walks;
 mod wholes;
 
 use crate::item::{Item, NUMBERS, item_of, nth, row_of};
@@ -44,7 +49,7 @@ impl<S: Builder> Table for Called<S> {
 
     fn put(&mut self, counts: &Rc<Counts>, number: u64) -> Result<(), AllocError> {
         self.map
-            .insert_or_back(nth(counts, number)?)
+            .try_insert(nth(counts, number)?)
             .map_err(|_| AllocError)
     }
 
@@ -53,8 +58,8 @@ impl<S: Builder> Table for Called<S> {
         gauge: &mut Gauge,
         line: &Line<'_>,
     ) -> Result<Option<Answer>, AllocError> {
-        if let ("run", [most]) = (line.call, line.numbers.as_slice()) {
-            return Ok(Some(commands::run(&mut self.map, gauge, *most as usize)?));
+        if line.call.starts_with("run") {
+            return commands::run(&mut self.map, gauge, line.call, line.numbers.as_slice());
         }
         let given = given_of(gauge, line)?;
         gauge.begin();
@@ -138,7 +143,7 @@ fn item_from(counts: &Rc<Counts>, numbers: &[u64]) -> Result<Item, AllocError> {
 }
 
 /// Makes the items of these numbers.
-fn items_of(gauge: &Gauge, numbers: &[u64]) -> Result<Vec<Item>, AllocError> {
+pub(crate) fn items_of(gauge: &Gauge, numbers: &[u64]) -> Result<Vec<Item>, AllocError> {
     let mut items = Vec::new(gauge.alloc());
     for numbers in numbers.chunks(NUMBERS) {
         items.push(item_from(&gauge.counts, numbers)?)?;

@@ -1,10 +1,12 @@
 //! Calls on the map as a whole.
 use crate::item::Item;
 use crate::lookups::{more, taken};
+use crate::{leaving, walks};
 use iddqd_calls_shared::answer::Answer;
 use iddqd_calls_shared::builder::Builder;
 use iddqd_calls_shared::counting::Key;
 use iddqd_calls_shared::gauge::Gauge;
+use iddqd_store::IndexTable;
 use iddqd_tri::{Cursor, Iter, TriHashMap};
 use std::alloc::Global;
 use std::hash::BuildHasher;
@@ -24,7 +26,8 @@ pub(crate) fn answered_for<S: Builder>(
         "shrink_to" => Some(Answer::granted(map.shrink_to(items).is_ok())),
         "eq" => Some(compared_changed(map, gauge, key)),
         "with_capacity" => Some(made(gauge.alloc(), items)),
-        _ => None,
+        "table.with_capacity" => Some(made_table(gauge.alloc(), items)),
+        _ => leaving::answered_for(map, call, key),
     }
 }
 
@@ -34,6 +37,18 @@ fn made(alloc: Global, items: usize) -> Answer {
         Ok(map) => {
             let answer = Answer::said("made").at(map.capacity());
             drop(map);
+            answer
+        }
+        Err(_) => Answer::said("memory"),
+    }
+}
+
+/// Answers the capacity of a table that is made with this capacity.
+fn made_table(alloc: Global, pairs: usize) -> Answer {
+    match IndexTable::with_capacity(alloc, pairs) {
+        Ok(table) => {
+            let answer = Answer::said("made").at(table.capacity());
+            drop(table);
             answer
         }
         Err(_) => Answer::said("memory"),
@@ -92,6 +107,7 @@ fn changed<S: Builder>(
         "retain" => Some(retain(map)),
         "update_all" => Some(update_all(map)),
         "clone" => Some(copied(map)),
+        "clone.shrink_to_fit" => Some(copied_and_shrunk(map, gauge)),
         "eq" => Some(compared(map, gauge)),
         "into_iter" => Some(into_iter(map, gauge.alloc())),
         "into_iter.next" => Some(into_iter_next(map, gauge.alloc())),
@@ -99,7 +115,7 @@ fn changed<S: Builder>(
         "new" => Some(new(gauge.alloc())),
         "pop" => Some(taken(map.pop())),
         "pop.each" => Some(pop_each(map)),
-        _ => None,
+        _ => walks::answered(map, gauge.alloc(), call),
     }
 }
 
@@ -205,6 +221,23 @@ fn copied<S: Builder>(map: &TriHashMap<Item, S>) -> Answer {
     match map.clone() {
         Ok(copy) => {
             let answer = Answer::said("cloned").at(copy.len());
+            drop(copy);
+            answer
+        }
+        Err(_) => Answer::said("memory"),
+    }
+}
+
+/// Answers what capacity the clone of the map has once it is shrunk. Making the clone is not measured.
+fn copied_and_shrunk<S: Builder>(map: &TriHashMap<Item, S>, gauge: &mut Gauge) -> Answer {
+    match map.clone() {
+        Ok(mut copy) => {
+            gauge.begin();
+            let is_shrunk = copy.shrink_to_fit().is_ok();
+            gauge.end();
+            let answer = Answer::said(if is_shrunk { "shrunk" } else { "memory" }).at(
+                copy.capacity(),
+            );
             drop(copy);
             answer
         }

@@ -32,9 +32,9 @@ pub fn serialize<T: TriHashItem + Serialize, S: BuildHasher, Out: Serializer>(
 
 /// Reads a map from a sequence of items, which may borrow from the input.
 ///
-/// The call fails at the first item that has an equal key of the same rank as an item before it, with the error that the
-/// format makes of a message of one's own, and at the first item for which there is no memory. Else the error is that of the
-/// format or of an item. There is no map then.
+/// The call fails at the first item that has an equal key of the same rank as an item before it, with the error that
+/// the format makes of a message of one's own, and at the first item for which there is no memory. Else the error is
+/// that of the format or of an item. There is no map then.
 ///
 /// Each item is inserted when it is read: its keys are hashed once, and searched for once. The map grows as it does by
 /// inserts, and no list of the items is made beside it.

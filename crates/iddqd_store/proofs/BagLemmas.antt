@@ -1,6 +1,7 @@
 -- Bags: sound ones, what each step leaves, what keys find in them, when two are the same.
 pub mod BuildRows
 pub mod Building
+pub mod Calling
 pub mod Cancelled
 pub mod Differ
 pub mod Entries

@@ -1,7 +1,9 @@
 -- What a caller of a map cites: from a lookup's clause to membership and back, a lookup after an insert or a removal, batches, lengths, walks, and writes.
 pub mod Asking
 pub mod Batches
+pub mod Calling
 pub mod Entering
+pub mod Extracting
 pub mod Laws
 pub mod Named
 pub mod Updates

@@ -1,5 +1,6 @@
 -- What the maps' invariants share, with any number of ranks.
 pub mod Entered
+pub mod Extracting
 pub mod Places
 pub mod Rekeyed
 pub mod Storing

@@ -10,3 +10,4 @@ pub mod Rehashed
 pub mod Replaced
 pub mod Search
 pub mod Under
+pub mod Walks

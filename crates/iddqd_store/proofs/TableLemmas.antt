@@ -4,6 +4,7 @@ pub mod Grow
 pub mod Limits
 pub mod Line
 pub mod Looks
+pub mod Regrow
 pub mod Remove
 pub mod Renumber
 pub mod Ring

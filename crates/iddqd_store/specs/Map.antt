@@ -1,4 +1,5 @@
 -- What a contract sees of a map, with any number of ranks.
+pub mod Extracting
 pub mod Walk
 pub mod Written
 use Rattle.std.specs.Prelude.{◌≡◌, ◌≢◌, ◌+◌, ◌≤◌, ◌<◌, ℕ, List, [], ◌∷◌, ◌++◌, Option, Some, Result, IsErr, OnOk, OnErr, length, fold, refl, IsPermutation}

@@ -2,9 +2,10 @@
 pub mod Asking
 pub mod Index
 pub mod Keys
-use Rattle.std.specs.Prelude.{◌≡◌, ℕ, ◌+◌, ◌*◌, ◌/◌, ◌≤◌, Bool, true, List, Option, Some, Contains, IfSome, length, map}
+use Rattle.std.specs.Prelude.{◌≡◌, ℕ, ◌+◌, ◌*◌, ◌/◌, ◌≤◌, ◌==◌, Bool, true, false, if◌then◌else◌, List, [], ◌∷◌, Option, None, Some, Contains, IfNone, IfSome, length, map}
 use Rattle.std.specs.Hash.{HashWrites}
 use Rattle.std.specs.List.{IsDistinct}
+use Rattle.std.specs.Option.{option_map_or}
 use Rattle.std.specs.declared.hash.Hasher as hasher
 use Rattle.std.specs.declared.hash.BuildHasher as builder
 use Rattle.iddqd_store.specs.Bag.{crowd}
@@ -70,6 +71,48 @@ module _ {T : Type 0} where
 pub record IsPaired {T : Type 0} (hash : T → ℕ) (pairs : List (ℕ × ℕ)) (found : SlotUnder) (at : ℕ) (x : T) : Type 0 where
   pub pair : Contains pairs (hash x, at)
   pub known : found.slot ≡ Some at → hash x ≡ found.hash
+
+-- `walks_within` is a bound for the cells that some walks through the tables of a map of `n` items probe, where `walks` says how
+-- many walks there are at each rank. A walk goes from the home bucket of a hash on, up to the first empty cell at most, so it
+-- probes at most one cell more than there are pairs.
+-- Example: For 3 items, one walk at the first rank and two at the second it is 12.
+abbrev pub walks_within : ℕ → List ℕ → ℕ
+walks_within n [] = 0
+walks_within n (w ∷ ws) = w * (n + 1) + walks_within n ws
+
+-- A removal by a key costs what a search costs that finds nothing (`SearchCosts`), and then, if it removes an item, `walks` through the
+-- tables of the other ranks (`walks_within`).
+-- Example: With 3 items, two ranks and a hash of its own for each key it asks at most once, and probes at most 8 cells.
+pub record TakingCosts {T A : Type 0} (hash_of : T → ℕ) (bag : List T) (room hash : ℕ) (walks : List ℕ) (answer : Option A) (asks asks_then look look_then : ℕ) : Type 0 where
+  pub between : ℕ
+  pub search : SearchCosts {A = ℕ} hash_of bag room hash None asks asks_then look between
+  pub rest : look_then ≤ between + walks_within (length bag) walks
+  pub absent : IfNone answer (look_then ≡ between)
+
+-- `has_found` tells whether a search found this slot.
+-- Example: If the search found the slot 2, it is true of 2 and false of 3.
+abbrev pub has_found : SlotUnder → ℕ → Bool
+has_found found at = option_map_or (λ s. s == at) found.slot false
+
+module _ {T : Type 0} where
+  -- `walks_one` counts the walks that put a pair under the hash of a search in the place of the pair of the item `gone`: none if
+  -- both hashes are equal, and else one that removes a pair and one that inserts it.
+  -- Example: For an item of the hash 5 and a search for 6 it is 2.
+  abbrev pub walks_one : (T → ℕ) → SlotUnder → T → ℕ
+  walks_one hash found gone = if hash gone == found.hash then 0 else 2
+
+  -- `walks_two` counts those that put one pair in the place of two, of which the second is of the slot `at`. If the search found that
+  -- slot, one walk removes the first pair, and one ends at the second, which gets another number. Else one walk removes
+  -- the second pair, and then the first is replaced (`walks_one`).
+  -- Example: If the search found the second item, it is 2.
+  abbrev pub walks_two : (T → ℕ) → SlotUnder → ℕ → T → ℕ
+  walks_two hash found at gone = if has_found found at then 2 else walks_one hash found gone + 1
+
+  -- `walks_three` counts those that put one pair in the place of three, of which the second and the third are of these slots. One
+  -- walk removes one of both pairs that the search did not find, and then two pairs are replaced (`walks_two`).
+  -- Example: If the search found the third item, it is 3.
+  abbrev pub walks_three : (T → ℕ) → SlotUnder → ℕ → ℕ → T → ℕ
+  walks_three hash found second third gone = if has_found found third then 3 else walks_two hash found second gone + 1
 
 -- A search by one rank needs that no two items have equal keys, and that the table has the pairs of their hashes. No
 -- clause of a map cites it.

@@ -1,6 +1,6 @@
 //! A hash table of pairs of a hash and a slot's index: open addressing with linear probing, and backward-shift
 //! deletion, so there are no tombstones.
-ghost use Rattle.std.specs.Prelude.{Contains, Some, ◌≡◌, ◌≢◌, ◌+◌, ◌*◌, ◌/◌, ◌%◌, ◌∷◌, ◌<◌, ◌≤◌, ◌&&◌, [], true, length, IsSome, IsOk, IsErr, ◌↔◌, IfOk, OnErr, IfErr};
+ghost use Rattle.std.specs.Prelude.{ℕ, Contains, Some, ◌≡◌, ◌≢◌, ◌+◌, ◌*◌, ◌/◌, ◌%◌, ◌∷◌, ◌<◌, ◌≤◌, ◌&&◌, [], true, length, IsSome, IsOk, IsErr, ◌↔◌, IfOk, OnErr, IfErr};
 ghost use Rattle.std.specs.List.Sorted.{IsPermutation};
 ghost use Rattle.std.specs.Option.{option_map};
 ghost use Rattle.std.specs.Result.{result_ok};
@@ -72,7 +72,8 @@ fn with_cells(alloc: Global, count: usize) -> Result<IndexTable, TryReserveError
 // the cells.
 //
 // An old cell without a pair is copied too, over an empty cell. So no branch depends on whether an old cell has a pair,
-// which the processor cannot predict. One empty cell serves for all such copies, until a pair takes it.
+// which the processor cannot predict. One empty cell serves for all such copies, until a pair takes it. Then the next empty
+// cell behind it does, so all such copies together go round the new cells at most once.
 fn regrown(
     alloc: Global,
     cells: &Cells,
@@ -86,6 +87,7 @@ fn regrown(
     requires counted { pairs ≡ length (pairs_in cells.now) }
     ensures pairs { IfOk result (λ t. IsPermutation (pairs_in cells.now) t.pairs) }
     ensures limit { IfOk result (λ t. t.limit ≡ count / 8 * 7) }
+    ensures looks { meter.new ≤ meter.old + 2 * length cells.now + count + pairs * pairs }
 {
     let mut grown = Cells::with_len(alloc, count)?;
     let mut spot = count - 1;
@@ -227,6 +229,7 @@ impl IndexTable {
         matcher: &mut M,
         meter: &mut Meter,
     ) -> Option<ItemIndex>
+        requires { (ix : ℕ) → Contains self.now.pairs (hash, ix) → M.MayAsk matcher.old ix }
         ensures found { FindsUnder self.now hash (M.accepts matcher.old) result }
         ensures is_kept { M.IsKept matcher.old matcher.new }
         ensures costs { CostsUnder self.now hash result (M.asked matcher.old) (M.asked matcher.new)
@@ -248,6 +251,7 @@ impl IndexTable {
         matcher: &mut M,
         meter: &mut Meter,
     ) -> Result<ItemIndex, Vacancy>
+        requires { (ix : ℕ) → Contains self.now.pairs (hash, ix) → M.MayAsk matcher.old ix }
         // What it returns.
         ensures found { FindsUnder self.now hash (M.accepts matcher.old) (result_ok result) }
         ensures vacant { IfErr result (IsVacantUnder self.now hash) }
@@ -271,6 +275,7 @@ impl IndexTable {
         matcher: &mut M,
         meter: &mut Meter,
     ) -> Result<(ItemIndex, usize), Vacancy>
+        requires { (ix : ℕ) → Contains self.now.pairs (hash, ix) → M.MayAsk matcher.old ix }
         ensures found { FindsUnder self.now hash (M.accepts matcher.old) (option_map (λ f. f.0) (result_ok result)) }
         ensures cell { IfOk result (λ f. IsCellOf self.now.row (hash, f.0) f.1) }
         ensures looks { IfOk result (λ f. meter.new

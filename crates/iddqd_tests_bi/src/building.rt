@@ -8,8 +8,8 @@ use std::test::*;
 fn holds<S: BuildHasher>(map: &mut BiHashMap<Row, S>) -> bool {
     let one = row_of(1, 10, 0);
     let two = row_of(2, 20, 0);
-    let went_in = map.insert_or_back(one).is_ok() && map.insert_or_back(two).is_ok();
-    let is_refused = map.insert_or_back(row_of(2, 10, 5)).is_err();
+    let went_in = map.try_insert(one).is_ok() && map.try_insert(two).is_ok();
+    let is_refused = map.try_insert(row_of(2, 10, 5)).is_err();
     went_in && is_refused && map.get1(&1) == Some(&one) && map.get2(&20) == Some(&two)
 }
 

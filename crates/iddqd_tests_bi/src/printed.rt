@@ -2,7 +2,7 @@
 use crate::row::{Row, row_of};
 use iddqd_bi::{
     BiHashMap, DuplicateItem, Entry, EntryError, ExtendUniqueError, ExtendUniqueReason,
-    FromIterError, InsertError, KeyMismatch, MemoryRefused, TryReserveError,
+    FromIterError, InsertError, KeyMismatch, MemoryRefused, NotReplaced, Rejected, TryReserveError,
 };
 use std::alloc::Global;
 use std::fmt::{Debug, Display};
@@ -99,12 +99,12 @@ fn memory_prints(alloc: Global) -> bool {
     ) && prints(
         alloc,
         &refused,
-        "out of memory: the item was not put in",
+        "out of memory: the item was not inserted",
         "MemoryRefused { .. }",
     ) && prints(
         alloc,
         &entry,
-        "out of memory: the item was not put in",
+        "out of memory: the item was not inserted",
         "Memory { .. }",
     ) && prints(
         alloc,
@@ -140,8 +140,58 @@ fn list_prints(alloc: Global) -> bool {
     prints(
         alloc,
         &error,
-        "item 0 has a key that another one has: none was put in",
+        "item 0 has a key that another one has: none was inserted",
         "ExtendUniqueError { reason: Conflict, taken: 0, .. }",
+    )
+}
+
+/// Returns whether the error of `try_insert` prints what it should, with these keys taken.
+fn rejected_prints(alloc: Global, taken1: bool, taken2: bool, told: &str, shown: &str) -> bool {
+    let item = row_of(1, 10, 100);
+    let error = Rejected {
+        item,
+        taken1,
+        taken2,
+    };
+    prints(alloc, &error, told, shown)
+}
+
+/// Returns whether the errors of `try_insert` print what they should.
+fn rejections_print(alloc: Global) -> bool {
+    rejected_prints(
+        alloc,
+        true,
+        true,
+        "an item has the first key",
+        "Rejected { taken1: true, taken2: true, .. }",
+    ) && rejected_prints(
+        alloc,
+        false,
+        true,
+        "an item has the second key",
+        "Rejected { taken1: false, taken2: true, .. }",
+    ) && rejected_prints(
+        alloc,
+        false,
+        false,
+        "out of memory: the item was not inserted",
+        "Rejected { taken1: false, taken2: false, .. }",
+    )
+}
+
+/// Returns whether the errors of `rekey1` print what they should.
+fn not_replaced_prints(alloc: Global) -> bool {
+    let row = row_of(1, 10, 100);
+    prints(
+        alloc,
+        &NotReplaced::Absent(row),
+        "no item has the key asked for",
+        "Absent { .. }",
+    ) && prints(
+        alloc,
+        &NotReplaced::Conflict(row),
+        "a third item has a key of the new one",
+        "Conflict { .. }",
     )
 }
 
@@ -151,6 +201,7 @@ fn errors_print_and_are_errors_of_any_kind(rt: HostRuntime) {
     assert!(rt; memory_prints(alloc));
     assert!(rt; keys_print(alloc));
     assert!(rt; list_prints(alloc));
+    assert!(rt; rejections_print(alloc) && not_replaced_prints(alloc));
     let mut map = BiHashMap::new(alloc);
     assert!(rt; grow(&mut map, 1).is_ok() && grow(&mut map, usize::MAX).is_err());
 }

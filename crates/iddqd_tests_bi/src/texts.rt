@@ -1,7 +1,9 @@
 //! Keys that are texts, lists of bytes and pairs, looked up by borrowed values.
 use iddqd_bi::{BiHashItem, BiHashMap};
 use std::alloc::{AllocError, Global};
+use std::boxed::{BoxedSlice, BoxedStr};
 use std::hash::{Hash, Hasher};
+use std::rc::RcStr;
 use std::test::Fail;
 
 /// An item with keys of any types.
@@ -57,7 +59,7 @@ fn page_of(alloc: Global, number: u64, title: &str, tag: &str) -> Result<Page, A
 
 /// Inserts a page, and returns whether it was inserted.
 fn is_added(map: &mut BiHashMap<Page>, page: Page) -> bool {
-    map.insert_or_back(page).is_ok()
+    map.try_insert(page).is_ok()
 }
 
 /// Returns the page that has this text as its title, looked up by the text and by a reference to it.
@@ -119,7 +121,7 @@ fn seat_of(alloc: Global, row: u32, place: u16, name: &str) -> Result<Seat, Allo
 
 /// Inserts a seat, and returns whether it was inserted.
 fn is_placed(map: &mut BiHashMap<Seat>, seat: Seat) -> bool {
-    map.insert_or_back(seat).is_ok()
+    map.try_insert(seat).is_ok()
 }
 
 /// Returns whether there is a seat of this row and place, and whether there is one of this name.
@@ -147,6 +149,76 @@ fn pairs_and_texts_ask_for_keys(rt: HostRuntime) -> Result<(), Fail> {
     for (row, place, text, is_at, is_named) in &SEATS {
         let found = has_seats(&map, *row, *place, text);
         assert!(rt; found == (*is_at, *is_named), "{row} {place} {text}");
+    }
+    Ok(())
+}
+
+/// A file with a boxed name and a shared path.
+type Named = Keyed<BoxedStr, RcStr>;
+
+fn named_of(alloc: Global, number: u64, name: &str, path: &str) -> Result<Named, AllocError> {
+    let first = BoxedStr::from_str(alloc, name)?;
+    let second = RcStr::from_str(alloc, path)?;
+    Ok(Keyed {
+        first,
+        second,
+        number,
+    })
+}
+
+/// Inserts a file, and returns whether it was inserted.
+fn is_stored(map: &mut BiHashMap<Named>, file: Named) -> bool {
+    map.try_insert(file).is_ok()
+}
+
+/// Returns the file that has this text as its name, and the one that has it as its path.
+fn named(map: &BiHashMap<Named>, text: &str) -> [Option<u64>; 2] {
+    [number_of!(map.get1(text)), number_of!(map.get2(text))]
+}
+
+#[test]
+fn lent_texts_ask_for_boxed_and_shared_ones(rt: HostRuntime) -> Result<(), Fail> {
+    let mut map = BiHashMap::new(rt.alloc());
+    for (number, name, path) in [(1, "ab", "cd"), (2, "cd", "ab")] {
+        let file = named_of(rt.alloc(), number, name, path)?;
+        assert!(rt; is_stored(&mut map, file));
+    }
+    for (text, by_name, by_path) in &PAGES {
+        assert!(rt; named(&map, text) == [*by_name, *by_path], "{text}");
+    }
+    Ok(())
+}
+
+/// A picture with boxed bytes and a boxed name.
+type Picture = Keyed<BoxedSlice<u8>, BoxedStr>;
+
+fn picture_of(alloc: Global, text: &str) -> Result<Picture, AllocError> {
+    let first = text.as_bytes().to_vec(alloc)?.into_boxed_slice();
+    let second = BoxedStr::from_str(alloc, text)?;
+    Ok(Keyed {
+        first,
+        second,
+        number: 0,
+    })
+}
+
+/// Inserts a picture, and returns whether it was inserted.
+fn is_shown(map: &mut BiHashMap<Picture>, picture: Picture) -> bool {
+    map.try_insert(picture).is_ok()
+}
+
+/// Returns whether there is a picture of the bytes of this text.
+fn has_bytes(map: &BiHashMap<Picture>, text: &str) -> bool {
+    map.contains_key1(text.as_bytes())
+}
+
+#[test]
+fn lent_slices_ask_for_boxed_ones(rt: HostRuntime) -> Result<(), Fail> {
+    let mut map = BiHashMap::new(rt.alloc());
+    let picture = picture_of(rt.alloc(), "ab")?;
+    assert!(rt; is_shown(&mut map, picture));
+    for (text, is_there) in [("ab", true), ("a", false), ("abc", false), ("", false)] {
+        assert!(rt; has_bytes(&map, text) == is_there, "{text}");
     }
     Ok(())
 }

@@ -1,6 +1,6 @@
 //! Worked rows of tables, whose places were found by hand. How many cells a call probes is a clause of its contract,
 //! and not tested here.
-ghost use Rattle.std.specs.Prelude.{◌≡◌, ◌&&◌, ◌==◌, refl};
+ghost use Rattle.std.specs.Prelude.{◌≡◌, ◌&&◌, ◌==◌, refl, ⊤};
 ghost use Rattle.std.proofs.Common.{◌∙◌, true, sym, ap₂};
 
 use iddqd_store::{IndexTable, ItemIndex, Matcher, Meter, TryReserveError};
@@ -20,9 +20,13 @@ impl Matcher for Only {
 
     ghost asked = { λ m. m.questions };
 
+    ghost MayAsk = { λ _ _. ⊤ };
+
     ghost IsKept = { λ m n. (m.ix ≡ n.ix) × (m.yes ≡ n.yes) };
 
     ghost accepts_kept = { λ m n ix k. ap₂ (λ y i. y && (ix == i)) (sym k.1) (sym k.0) };
+
+    ghost may_kept = { λ _ _ _ _ _. tt };
 
     ghost kept_refl = { λ _. (refl, refl) };
 

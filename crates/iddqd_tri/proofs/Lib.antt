@@ -1,4 +1,6 @@
+pub mod Entering
 pub mod Iterating
+pub mod Lending
 pub mod MapLemmas
 pub mod RefLemmas
 pub mod Refusing

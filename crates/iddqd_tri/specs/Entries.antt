@@ -1,5 +1,5 @@
 -- What contracts say of entries.
-use Rattle.std.specs.Prelude.{◌≡◌, ◌≢◌, ◌<◌, ℕ, length, Bool, [], ◌∷◌, List, Option, Some, None, Result, IsOk, IfOk, IfErr, OnOk, OnErr, ⊤, IsPermutation}
+use Rattle.std.specs.Prelude.{◌≡◌, ◌≢◌, ◌<◌, ℕ, length, Bool, [], ◌∷◌, List, Option, Some, None, Result, Ok, Err, IsOk, IfOk, IfErr, OnOk, OnErr, ⊤, IsPermutation}
 use Rattle.std.specs.Option.{option_and_then, IfSome}
 use Rattle.std.specs.Borrow.{Fml, GName, RattleType, MutBor, LendsIf, follows, follows_so, name_if_ok}
 use Rattle.std.specs.HashMap.Lent.{HashMembers}
@@ -15,7 +15,7 @@ use Rattle.iddqd_store.specs.Map.Written.{map_with_if}
 use Rattle.iddqd_store.specs.Slots.{get, IsLive}
 use Rattle.iddqd_store.specs.Slots.Found.{AreFound, entry_at, found_by_all, head_of, held_at}
 use Rattle.iddqd_tri.specs.Keys.{has1, has2, has3, key_tests, ranks}
-use Rattle.iddqd_tri.specs.Mismatch.{HandsBack}
+use Rattle.iddqd_tri.specs.Mismatch.{HandsBack, IsInsert}
 use Rattle.iddqd_tri.specs.Refused.{map_row}
 use Rattle.iddqd_tri.specs.RefMuts.{ref_item, ref_lender, ref_map, rests_if_none}
 use Rattle.iddqd_tri.specs.declared.item.TriHashItem as item
@@ -27,6 +27,8 @@ use Rattle.iddqd_tri.specs.declared.entry.VacantEntry.{VacantEntry}
 use Rattle.iddqd_tri.specs.declared.entry.OccupiedEntry.{OccupiedEntry}
 use Rattle.iddqd_tri.specs.declared.entry.OccupiedEntryMut.{OccupiedEntryMut}
 use Rattle.iddqd_tri.specs.declared.error.EntryRefusal.{EntryRefusal}
+use Rattle.iddqd_tri.specs.declared.error.TryEntryError.TheVariants.{Closure}
+use Rattle.iddqd_tri.specs.declared.error.TryEntryRefusal.{TryEntryRefusal}
 use Rattle.iddqd_tri.specs.declared.ref_mut.RefMut.{RefMut}
 use Rattle.iddqd_tri.specs.contracts.entry.OccupiedEntry.{the_row as occupied_row}
 use Rattle.iddqd_tri.specs.contracts.entry.OccupiedEntryMut.{the_row as occupied_mut_row}
@@ -45,7 +47,8 @@ module _ {T S K1 K2 K3 H : Type 0} where
   abbrev pub entry_tests : (K1 → K2 → K3 → List (T → Bool)) → OccupiedEntry T S K1 K2 K3 H → List (T → Bool)
   entry_tests tests o = tests o.key1.now o.key2.now o.key3.now
 
-  -- The occupied entry has found what its keys name, which is at least one item. The call `entry` of a map ensures it.
+  -- The occupied entry has found what its keys name, which is at least one item. The call `entry` of a map ensures
+  -- it.
   -- Example: If its keys name a and b, it has found a and b.
   pub record HasFound (tests : K1 → K2 → K3 → List (T → Bool)) (o : OccupiedEntry T S K1 K2 K3 H) : Type 0 where
     pub found : AreFound (entry_tests tests o) o.map.now.slots (o.slot1 ∷ o.slot2 ∷ o.slot3 ∷ [])
@@ -74,6 +77,12 @@ module _ {T S K1 K2 K3 H : Type 0} where
     pub same1 : p.slot1 ≡ o.slot1
     pub same2 : p.slot2 ≡ o.slot2
     pub same3 : p.slot3 ≡ o.slot3
+
+  -- The call failed as the closure did, with its error.
+  -- Example: If the closure returned `Err e`, the error is `Closure e`.
+  abbrev pub FailsAsClosure : {E M : Type 0} → E → Result M (TryEntryRefusal T E S K1 K2 K3 H) → Type 0
+  FailsAsClosure error (Ok m) = ⊥
+  FailsAsClosure error (Err refusal) = refusal.error ≡ Closure error
 
   -- The item is in the same map in the place of those that conflict with it, and the entry, with the same keys, finds
   -- it alone. Nothing else changes.
@@ -246,6 +255,23 @@ module _ {T S Q K1 K2 K3 H : Type 0} {of : item.Ghosts T K1 K2 K3} {eq1 : equal.
     pub granted : differ (wanted e) x ≡ None → length (bag e.map.now) < e.map.now.capacity → IsOk result
     pub unchanged : IfErr result (λ refusal. refusal.map.now ≡ e.map.now)
     pub hands_back : IfErr result (λ refusal. HandsBack (ranks of eq1.eq eq2.eq eq3.eq) (wanted e) e.map.now x refusal.error)
+
+  -- The item `x`, which a closure made, went into the map of the vacant entry and is held for writing
+  -- (`GainsAndHolds`), or the error is that of the entry and returns it (`HandsBack`). The call succeeds if `x` has the
+  -- keys of the entry and the map is not full.
+  -- Example: If `x` has another first key than the entry, the error is `Insert (Key1 x)`.
+  pub record PutsMadeIn {E : Type 0} (e : VacantEntry T S Q K1 K2 K3 H of eq1 input1 eq2 input2 eq3 input3 build hashes q) (x : T) (result : Result (OccupiedEntryMut T S K1 K2 K3 H) (TryEntryRefusal T E S K1 K2 K3 H)) : Type 0 where
+    pub gains_and_holds : IfOk result (GainsAndHolds e x)
+    pub same_keys : OnOk result (differ (wanted e) x ≡ None)
+    pub granted : differ (wanted e) x ≡ None → length (bag e.map.now) < e.map.now.capacity → IsOk result
+    pub hands_back : IfErr result (λ refusal. IsInsert refusal.error (HandsBack (ranks of eq1.eq eq2.eq eq3.eq) (wanted e) e.map.now x))
+
+  -- What comes of the answer of the closure: the item that it made is put in (`PutsMadeIn`), or its error is returned
+  -- (`FailsAsClosure`).
+  -- Example: If it returned `Ok x`, and `x` has the keys of the entry, then `x` is in the map unless that was full.
+  abbrev pub PutsInMade : {E : Type 0} → VacantEntry T S Q K1 K2 K3 H of eq1 input1 eq2 input2 eq3 input3 build hashes q → Result T E → Result (OccupiedEntryMut T S K1 K2 K3 H) (TryEntryRefusal T E S K1 K2 K3 H) → Type 0
+  PutsInMade e (Ok x) result = PutsMadeIn e x result
+  PutsInMade e (Err error) result = FailsAsClosure error result
 
   -- The entries are vacant, or they are occupied with the same keys and slots.
   abbrev pub IsSameEntry : Entry T S Q K1 K2 K3 H of eq1 input1 eq2 input2 eq3 input3 build hashes q → Entry T S Q K1 K2 K3 H of eq1 input1 eq2 input2 eq3 input3 build hashes q → Type 0

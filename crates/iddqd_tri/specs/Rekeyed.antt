@@ -12,9 +12,9 @@ module _ {T : Type 0} where
   left_out (unreplaced.Absent x) = x
   left_out (unreplaced.Conflict x) = x
 
-  -- The map has `y` in the place of its item `x`: with `x` beside it, it has the items that it had with `y` beside it. Nothing
-  -- else changes.
-  -- Example: A map of the bag in which (4, 10) is in the place of (1, 10) has (4, 10), (2, 20), (3, 30).
+  -- The map has `y` in the place of its item `x`: with `x` beside it, it has the items that it had with `y` beside it.
+  -- Nothing else changes. Example: A map of the bag in which (4, 10) is in the place of (1, 10) has (4, 10), (2, 20),
+  -- (3, 30).
   pub record PutsInPlace {S : Type 0} (old : Map T S) (x y : T) (new : Map T S) : Type 0 where
     pub items : IsPermutation (x ∷ bag new) (y ∷ bag old)
     pub fits : length (bag new) ≤ new.capacity
@@ -23,7 +23,8 @@ module _ {T : Type 0} where
 
   -- `Absent` says that no item of the bag passes the test; `Conflict` says that one does, and that something conflicts
   -- with `y` in the bag without that one.
-  -- Example: In the bag, (1, 20) does not go in the place of the item with the first key 1, since (2, 20) conflicts with it.
+  -- Example: In the bag, (1, 20) does not go in the place of the item with the first key 1, since (2, 20) conflicts
+  -- with it.
   abbrev pub TellsWhyNot : Ranks T → (T → Bool) → List T → T → NotReplaced T → Type 0
   TellsWhyNot ranks test old y (unreplaced.Absent e) = IsOnly test old None
   TellsWhyNot ranks test old y (unreplaced.Conflict e) =

@@ -56,8 +56,8 @@ pub struct VacantEntry<
     pub(crate) map: &'a mut TriHashMap<T, S>,
     pub(crate) keys: Q,
     pub(crate) at: (Vacancy, Vacancy, Vacancy),
-    ghost absent: { listing
-        (key_tests T.TriHashItem T.K1.eq T.K2.eq T.K3.eq (Q.first keys) (Q.second keys) (Q.third keys))
+    ghost absent: { listing (key_tests T.TriHashItem T.K1.eq T.K2.eq T.K3.eq (Q.first keys) (Q.second keys)
+        (Q.third keys))
         (bag map.now) ≡ [] },
     ghost vacant: { AreVacantFor
         (key_hash T.key1 T.K1.hash_input S.BuildHasher S.Hasher.Hasher map.now.builder)

@@ -75,7 +75,7 @@ pub enum KeyMismatch<T> {
     Key3(T),
 }
 
-/// The error of `rekey1` and its like: the item that was not put in the place of another.
+/// The error of `rekey1` and its like: the new item, which did not replace another.
 #[derive(Drop)]
 pub enum NotReplaced<T> {
     /// No item has the key asked for.
@@ -104,6 +104,23 @@ pub enum EntryError<T> {
 pub struct EntryRefusal<'a, T: TriHashItem, S: BuildHasher = DefaultHashBuilder> {
     pub(crate) map: &'a mut TriHashMap<T, S>,
     pub(crate) error: EntryError<T>,
+}
+
+/// Why `Entry::or_try_insert_with` inserted nothing. `R` is the error of the insert, an `EntryError`. (The type is a
+/// parameter, since the checker does not find an enum inside another one where the error is dropped.)
+#[derive(Drop)]
+pub enum TryEntryError<R, E> {
+    /// The closure failed, with this error.
+    Closure(E),
+    /// The closure returned an item, and the entry rejected it.
+    Insert(R),
+}
+
+/// The error of `Entry::or_try_insert_with`: a `TryEntryError`, with a borrow of the map, which is as it was before the
+/// call. By that borrow contracts tell the caller exactly what the map is.
+pub struct TryEntryRefusal<'a, T: TriHashItem, E, S: BuildHasher = DefaultHashBuilder> {
+    pub(crate) map: &'a mut TriHashMap<T, S>,
+    pub(crate) error: TryEntryError<EntryError<T>, E>,
 }
 
 impl<T> KeyMismatch<T> {
@@ -139,7 +156,7 @@ impl<T> KeyMismatch<T> {
 }
 
 impl<T> NotReplaced<T> {
-    /// Returns the item that was not put in.
+    /// Returns the item that was not inserted.
     pub fn item(&self) -> &T
         ensures { result.now ≡ left_out self.now }
     {
@@ -148,7 +165,7 @@ impl<T> NotReplaced<T> {
         }
     }
 
-    /// Returns the item that was not put in, by value.
+    /// Returns the item that was not inserted, by value.
     pub fn into_item(self) -> T
         ensures { result ≡ left_out self }
     {
@@ -226,6 +243,24 @@ impl<T: TriHashItem, S: BuildHasher> EntryRefusal<'_, T, S> {
         ensures map { self.exit.0.now ≡ self.entry.map.now }
     {
         let EntryRefusal { map: _, error } = self;
+        error
+    }
+}
+
+impl<T: TriHashItem, E, S: BuildHasher> TryEntryRefusal<'_, T, E, S> {
+    /// Returns why no item was inserted.
+    pub fn error(&self) -> &TryEntryError<EntryError<T>, E>
+        ensures { result.now ≡ self.now.error }
+    {
+        &self.error
+    }
+
+    /// Returns why no item was inserted, by value.
+    pub fn into_error(self) -> TryEntryError<EntryError<T>, E>
+        ensures error { result ≡ self.entry.error }
+        ensures map { self.exit.0.now ≡ self.entry.map.now }
+    {
+        let TryEntryRefusal { map: _, error } = self;
         error
     }
 }
@@ -313,6 +348,15 @@ impl<T: TriHashItem + Drop, S: BuildHasher> Drop for EntryRefusal<'_, T, S> {
         ensures { self.exit.0.now ≡ self.entry.map.now }
     {
         let EntryRefusal { map: _, error } = self;
+        drop(error);
+    }
+}
+
+impl<T: TriHashItem + Drop, E: Drop, S: BuildHasher> Drop for TryEntryRefusal<'_, T, E, S> {
+    fn drop(self)
+        ensures { self.exit.0.now ≡ self.entry.map.now }
+    {
+        let error = self.into_error();
         drop(error);
     }
 }

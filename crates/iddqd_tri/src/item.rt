@@ -74,19 +74,19 @@ pub trait Ranked: TriHashItem {
     // For each rank, the test whether an item has the key of that rank.
     ghost key_tests: { Self.K1 → Self.K2 → Self.K3 → List (Self → Bool) };
 
-    ghost ranks_are: { ranks
-        ≡ agree Self.key1 Self.K1.eq ∷ agree Self.key2 Self.K2.eq ∷ agree Self.key3 Self.K3.eq ∷ [] };
+    ghost ranks_are: { ranks ≡ agree Self.key1 Self.K1.eq ∷ agree Self.key2 Self.K2.eq ∷ agree Self.key3 Self.K3.eq
+        ∷ [] };
 
     ghost key_tests_are: { key_tests
-        ≡ (λ k1 k2 k3. (λ x. Self.K1.eq k1 (Self.key1 x)) ∷ (λ x. Self.K2.eq k2 (Self.key2 x))
-        ∷ (λ x. Self.K3.eq k3 (Self.key3 x)) ∷ []) };
+        ≡ (λ k1 k2 k3. (λ x. Self.K1.eq k1 (Self.key1 x)) ∷ (λ x. Self.K2.eq k2 (Self.key2 x)) ∷ (λ x. Self.K3.eq k3
+        (Self.key3 x)) ∷ []) };
 }
 
 impl<T: TriHashItem> Ranked for T {
     ghost ranks = { agree T.key1 T.K1.eq ∷ agree T.key2 T.K2.eq ∷ agree T.key3 T.K3.eq ∷ [] };
 
-    ghost key_tests = { λ k1 k2 k3. (λ x. T.K1.eq k1 (T.key1 x)) ∷ (λ x. T.K2.eq k2 (T.key2 x))
-        ∷ (λ x. T.K3.eq k3 (T.key3 x)) ∷ [] };
+    ghost key_tests = { λ k1 k2 k3. (λ x. T.K1.eq k1 (T.key1 x)) ∷ (λ x. T.K2.eq k2 (T.key2 x)) ∷ (λ x. T.K3.eq k3
+        (T.key3 x)) ∷ [] };
 
     ghost ranks_are = { refl };
 

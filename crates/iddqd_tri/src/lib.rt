@@ -1,4 +1,7 @@
 //! `TriHashMap`, a hash map of items with three keys, with its guards, entries, iterations, errors and commands.
+//!
+//! Most of this crate is the text of `iddqd_bi` at three keys, which a script writes: change that text, and then run
+//! `tests/twins --write` with the changed files.
 #![tactic(auto)]
 
 mod command;
@@ -17,6 +20,7 @@ pub use entry::{
 };
 pub use error::{
     EntryError, EntryRefusal, FromIterError, InsertError, KeyMismatch, NotReplaced, Rejected,
+    TryEntryError, TryEntryRefusal,
 };
 pub use item::{Hashed, Ranked, TriHashItem, TriHashItemMut};
 pub use iter_mut::IterMut;

@@ -1,13 +1,11 @@
 //! Lookups and removals by borrowed keys, and by any query.
-ghost use Rattle.std.specs.Prelude.{◌≡◌, ◌&&◌, ◌∷◌, [], nat_eq, string_bytes, IsPermutation, IfSome, IfNone, None, option_copied};
+ghost use Rattle.std.specs.Prelude.{◌≡◌, ◌&&◌, ◌∷◌, [], nat_eq, string_bytes, IsPermutation, IfSome, IfNone, option_copied};
 ghost use Rattle.std.specs.Cmp.Lexicographic.{pointwise};
-ghost use Rattle.std.specs.Cmp.Rules.{comparing};
 ghost use Rattle.std.specs.List.{list_any};
-ghost use Rattle.std.proofs.Common.{rules};
 ghost use Rattle.iddqd_bi.specs.Bag.{IsOnly};
 ghost use Rattle.iddqd_bi.specs.Map.{bag};
 
-use iddqd_bi::{BiHashItem, BiHashItemMut, BiHashMap, Query};
+use iddqd_bi::{BiHashItem, BiHashMap, Query};
 use std::hash::{BuildHasher, Hash};
 
 /// A symbol, known by its name and by where it lies: in which section, and how far from its start.
@@ -33,24 +31,6 @@ impl BiHashItem for Symbol {
 
     fn key2(&self) -> &(String, u32) {
         &self.place
-    }
-}
-
-impl BiHashItemMut for Symbol {
-    type Data = u64;
-
-    ghost data_of = { λ s. s.size };
-
-    ghost put = { λ s n. record s { size = n } };
-
-    ghost keeps_key1 = { Prim.search (comparing, rules) };
-
-    ghost keeps_key2 = { Prim.search (comparing, rules) };
-
-    ghost put_shows = { Prim.search rules };
-
-    fn data_mut(&mut self) -> &mut u64 {
-        &mut self.size
     }
 }
 
@@ -83,17 +63,6 @@ pub fn undefine(symbols: &mut BiHashMap<Symbol>, name: &str) -> Option<Symbol>
     ensures absent { IfNone result (symbols.new ≡ symbols.old) }
 {
     symbols.remove1(name)
-}
-
-/// Writes the size of the symbol with this name, if there is one, through a guard.
-pub fn resize(symbols: &mut BiHashMap<Symbol>, name: &str, size: u64)
-    ensures absent { IsOnly (λ s. pointwise nat_eq name.now (string_bytes s.name)) (bag symbols.old) None
-        → symbols.new ≡ symbols.old }
-    ensures capacity { symbols.new.capacity ≡ symbols.old.capacity }
-{
-    if let Some(mut symbol) = symbols.get1_mut(name) {
-        *symbol.data_mut() = size;
-    }
 }
 
 /// Returns the item with this first key.

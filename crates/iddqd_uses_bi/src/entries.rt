@@ -3,9 +3,10 @@ ghost use Rattle.std.specs.Prelude.{◌≡◌, ◌≢◌, ◌<◌, [], ◌∷◌
 ghost use Rattle.std.specs.Bool.{OnTrue, OnFalse};
 ghost use Rattle.std.specs.Fn.{CalledAt};
 ghost use Rattle.iddqd_bi.specs.Bag.{differ, entry, listing, over};
+ghost use Rattle.iddqd_bi.specs.Calling.{TakesInTurn};
 ghost use Rattle.iddqd_bi.specs.Storing.{Stores};
 ghost use Rattle.iddqd_bi.specs.Map.{bag};
-ghost use Rattle.iddqd_bi.specs.Mismatch.{HandsBack, error_item};
+ghost use Rattle.iddqd_bi.specs.Mismatch.{HandsBack};
 ghost use Rattle.iddqd_bi.specs.Callers.{InsertsOrWrites, WritesEntry};
 
 use iddqd_bi::{BiHashItem, BiHashItemMut, BiHashMap, Entry, EntryError, Ranked, UpToTwo};
@@ -104,7 +105,8 @@ pub fn modify_both<'a, T: BiHashItemMut, S: BuildHasher, F: FnMut(&T) -> T::Data
 where
     T::Data: Drop,
     F: Drop,
-    requires callable { F.IsAlwaysCallable f }
+    requires callable { TakesInTurn F.FnMut f
+        (listing (⟦<T as Ranked>⟧.key_tests key1.now key2.now) (bag map.old)) }
     ensures { Stores (CalledAt F.FnMut) T.put ⟦<T as Ranked>⟧.ranks f
         (listing (⟦<T as Ranked>⟧.key_tests key1.now key2.now) (bag map.old)) (bag map.old)
         (bag map.new) }
@@ -115,7 +117,7 @@ where
     }
 }
 
-/// Does the same by a call of the occupied entry.
+/// Does the same by a call of the occupied entry, with a closure that may always be called.
 pub fn modify_found<'a, T: BiHashItemMut, S: BuildHasher, F: FnMut(&T) -> T::Data>(
     map: &'a mut BiHashMap<T, S>,
     key1: &'a T::K1,
@@ -150,7 +152,8 @@ pub fn modify_and_take<'a, T: BiHashItemMut, S: BuildHasher, F: FnMut(&T) -> T::
 where
     T::Data: Drop,
     F: Drop,
-    requires callable { F.IsAlwaysCallable f }
+    requires callable { TakesInTurn F.FnMut f
+        (listing (⟦<T as Ranked>⟧.key_tests key1.now key2.now) (bag map.old)) }
     // What `f` returns is stored in the items that the keys find, and then these items are removed.
     ensures taken { (stored : List T) × Stores (CalledAt F.FnMut) T.put ⟦<T as Ranked>⟧.ranks f
         (listing (⟦<T as Ranked>⟧.key_tests key1.now key2.now) (bag map.old)) (bag map.old) stored
@@ -187,7 +190,8 @@ where
     ensures occupied { listing (⟦<T as Ranked>⟧.key_tests key1.now key2.now) (bag map.old) ≢ []
         → IsOk result }
     ensures unchanged { OnErr result (map.new ≡ map.old) }
-    ensures handed_back { IfErr result (λ e. error_item e ≡ item) }
+    ensures refused { IfErr result (λ e. HandsBack ⟦<T as Ranked>⟧.ranks
+        (⟦<T as Ranked>⟧.key_tests key1.now key2.now) map.old item e) }
 {
     match map.entry(key1, key2).or_insert(item) {
         Ok(held) => {
@@ -218,7 +222,8 @@ where
     ensures occupied { listing (⟦<T as Ranked>⟧.key_tests key1.now key2.now) (bag map.old) ≢ []
         → IsOk result }
     ensures unchanged { OnErr result (map.new ≡ map.old) }
-    ensures handed_back { IfErr result (λ e. error_item e ≡ item) }
+    ensures refused { IfErr result (λ e. HandsBack ⟦<T as Ranked>⟧.ranks
+        (⟦<T as Ranked>⟧.key_tests key1.now key2.now) map.old item e) }
 {
     match map.entry(key1, key2) {
         Entry::Vacant(v) => match v.insert(item) {

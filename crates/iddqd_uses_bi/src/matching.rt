@@ -1,5 +1,5 @@
 //! What a caller can prove of a search with a matcher of its own, under a hash that the map's builder makes.
-ghost use Rattle.std.specs.Prelude.{◌≡◌, ◌+◌, ◌≤◌, length, refl, option_copied};
+ghost use Rattle.std.specs.Prelude.{◌≡◌, ◌+◌, ◌≤◌, length, refl, option_copied, ⊤};
 ghost use Rattle.std.proofs.Common.{◌∙◌, ap};
 ghost use Rattle.iddqd_bi.specs.Bag.{IsOnly, crowd};
 ghost use Rattle.iddqd_bi.specs.Map.{bag, hash_of};
@@ -33,9 +33,13 @@ impl<'k, K: Eq> KeyMatcher<K> for Same<'k, K> {
 
     ghost asked = { λ m. m.asked };
 
+    ghost MayAsk = { λ _ _. ⊤ };
+
     ghost IsKept = { λ m n. n.key ≡ m.key };
 
     ghost accepts_kept = { λ m n key e. ap (λ k. K.eq k.now key) e };
+
+    ghost may_kept = { λ _ _ _ _ _. tt };
 
     ghost kept_refl = { λ m. refl };
 

@@ -1,5 +1,5 @@
 //! What a caller can do with the error of an insert.
-ghost use Rattle.std.specs.Prelude.{◌≡◌, ◌≢◌, ◌∷◌, ◌<◌, [], true, false, length, IsOk, IsPermutation, OnOk, OnErr, IfErr};
+ghost use Rattle.std.specs.Prelude.{◌≡◌, ◌≢◌, ◌∷◌, ◌<◌, ◌⊎◌, [], true, false, length, IsOk, IsPermutation, OnOk, OnErr, IfErr};
 ghost use Rattle.std.specs.Bool.{OnTrue, OnFalse};
 ghost use Rattle.iddqd_bi.specs.Bag.{clash, order};
 ghost use Rattle.iddqd_bi.specs.Map.{IsFullFor, bag};
@@ -91,7 +91,11 @@ pub fn is_added<T: Ranked + Drop, S: BuildHasher>(map: &mut BiHashMap<T, S>, ite
 
 /// Inserts an item, or drops it, and returns how many items there are then. The map is used behind the `match`.
 pub fn add_and_count<T: Ranked + Drop, S: BuildHasher>(map: &mut BiHashMap<T, S>, item: T) -> usize
-    ensures { result ≡ length (bag map.new) }
+    ensures count { result ≡ length (bag map.new) }
+    ensures went_in { clash T.ranks (bag map.old) item ≡ [] → length (bag map.old) < map.old.capacity
+        → IsPermutation (bag map.new) (item ∷ bag map.old) }
+    ensures one_at_most { IsPermutation (bag map.new) (item ∷ bag map.old) ⊎ (map.new ≡ map.old) }
+    ensures unchanged { clash T.ranks (bag map.old) item ≢ [] → map.new ≡ map.old }
 {
     match map.insert_unique(item) {
         Ok(()) => {}

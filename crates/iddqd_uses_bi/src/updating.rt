@@ -1,5 +1,5 @@
 //! What a caller can prove of a map after updates by closures.
-ghost use Rattle.std.specs.Prelude.{◌≡◌, ◌==◌, ◌<◌, ◌+◌, ◌^◌, true, false, map, Some, IsPermutation};
+ghost use Rattle.std.specs.Prelude.{◌≡◌, ◌==◌, ◌<◌, ◌+◌, ◌^◌, true, false, map, Some, All, IsPermutation};
 ghost use Rattle.std.specs.List.{list_any};
 ghost use Rattle.std.proofs.Common.{rules};
 ghost use Rattle.iddqd_bi.specs.Bag.{IsOnly, swap};
@@ -64,6 +64,14 @@ pub fn note_opened(files: &mut BiHashMap<File>, number: u64) -> bool
     ensures absent { result ≡ false → files.new ≡ files.old }
 {
     files.update1(&number, |file| file.opened + 1)
+}
+
+/// Counts one more opening of every file. No count may be the largest number of its type.
+pub fn note_all_opened(files: &mut BiHashMap<File>)
+    requires { All (λ f. f.opened + 1 < 2 ^ 64) (bag files.old) }
+    ensures { IsPermutation (bag files.new) (map (λ (f : File). record f { opened = f.opened + 1 }) (bag files.old)) }
+{
+    files.update_all(|f| f.opened + 1);
 }
 
 /// Stores this data in every item.

@@ -1,11 +1,12 @@
 //! A registry of users, who are known by a number and by a login.
-ghost use Rattle.std.specs.Prelude.{◌≡◌, ◌<◌, [], ◌∷◌, ◌++◌, length, All, Contains, IsOk, IsPermutation, OnOk, OnErr, IfErr, Some, filter, option_copied};
+ghost use Rattle.std.specs.Prelude.{◌≡◌, ◌<◌, [], ◌∷◌, ◌++◌, length, All, IsOk, IsPermutation, OnOk, OnErr, IfErr, Some, filter, option_copied};
 ghost use Rattle.std.specs.Option.{option_to_list};
 ghost use Rattle.iddqd_bi.specs.Bag.{IsOnly, clash};
+ghost use Rattle.iddqd_bi.specs.Callers.{IsInTheWay};
 ghost use Rattle.iddqd_bi.specs.Map.{bag};
 
 use crate::loading::load;
-use iddqd_bi::{BiHashItem, BiHashMap, Ranked};
+use iddqd_bi::{BiHashItem, BiHashMap, ExtendUniqueReason, Ranked};
 
 /// A user.
 #[derive(Drop)]
@@ -46,14 +47,15 @@ pub fn register(users: &mut BiHashMap<User>, user: User) -> Result<(), User>
     }
 }
 
-/// Registers all of these users, each of whom the login finds then, or none of them. The error is a user who was
-/// rejected.
+/// Registers all of these users, each of whom the login finds then, or none of them. The error is the first user who
+/// conflicts with a registered one or with one before, or for whom there was no memory.
 pub fn register_all(users: &mut BiHashMap<User>, batch: Vec<User>) -> Result<(), User>
     ensures registered { OnOk result (IsPermutation (bag users.new) (batch.items ++ bag users.old)) }
     ensures found { OnOk result (All (λ u.
         IsOnly (λ v. ⟦<String as PartialEq>⟧.eq u.login v.login) (bag users.new) (Some u)) batch.items) }
     ensures unchanged { OnErr result (IsPermutation (bag users.new) (bag users.old)) }
-    ensures handed_back { IfErr result (λ u. Contains batch.items u) }
+    ensures in_the_way { IfErr result (λ u. (reason : ExtendUniqueReason)
+        × IsInTheWay ⟦<User as Ranked>⟧.ranks (bag users.old) batch.items u reason) }
 {
     match load(users, batch) {
         Ok(()) => Ok(()),

@@ -1,13 +1,11 @@
 //! Lookups and removals by borrowed keys, and by any query.
-ghost use Rattle.std.specs.Prelude.{◌≡◌, ◌&&◌, ◌∷◌, [], nat_eq, string_bytes, IsPermutation, IfSome, IfNone, None, option_copied};
+ghost use Rattle.std.specs.Prelude.{◌≡◌, ◌&&◌, ◌∷◌, [], nat_eq, string_bytes, IsPermutation, IfSome, IfNone, option_copied};
 ghost use Rattle.std.specs.Cmp.Lexicographic.{pointwise};
-ghost use Rattle.std.specs.Cmp.Rules.{comparing};
 ghost use Rattle.std.specs.List.{list_any};
-ghost use Rattle.std.proofs.Common.{rules};
 ghost use Rattle.iddqd_tri.specs.Bag.{IsOnly};
 ghost use Rattle.iddqd_tri.specs.Map.{bag};
 
-use iddqd_tri::{Query, TriHashItem, TriHashItemMut, TriHashMap};
+use iddqd_tri::{Query, TriHashItem, TriHashMap};
 use std::hash::{BuildHasher, Hash};
 
 /// A symbol, known by its name, by where it lies (in which section, and how far from its start) and by its number.
@@ -45,26 +43,6 @@ impl TriHashItem for Symbol {
     }
 }
 
-impl TriHashItemMut for Symbol {
-    type Data = u64;
-
-    ghost data_of = { λ s. s.size };
-
-    ghost put = { λ s n. record s { size = n } };
-
-    ghost keeps_key1 = { Prim.search (comparing, rules) };
-
-    ghost keeps_key2 = { Prim.search (comparing, rules) };
-
-    ghost keeps_key3 = { Prim.search (comparing, rules) };
-
-    ghost put_shows = { Prim.search rules };
-
-    fn data_mut(&mut self) -> &mut u64 {
-        &mut self.size
-    }
-}
-
 /// Returns the symbol with this name, which is given as a `&str`.
 pub fn resolve<'s>(symbols: &'s TriHashMap<Symbol>, name: &str) -> Option<&'s Symbol>
     ensures { IsOnly (λ s. pointwise nat_eq name.now (string_bytes s.name)) (bag symbols.now) (option_copied result) }
@@ -74,7 +52,8 @@ pub fn resolve<'s>(symbols: &'s TriHashMap<Symbol>, name: &str) -> Option<&'s Sy
 
 /// Returns the symbol `main`, at which a program begins.
 pub fn entry_point(symbols: &TriHashMap<Symbol>) -> Option<&Symbol>
-    ensures { IsOnly (λ s. pointwise nat_eq (109 ∷ 97 ∷ 105 ∷ 110 ∷ []) (string_bytes s.name)) (bag symbols.now) (option_copied result) }
+    ensures { IsOnly (λ s. pointwise nat_eq (109 ∷ 97 ∷ 105 ∷ 110 ∷ []) (string_bytes s.name)) (bag symbols.now)
+        (option_copied result) }
 {
     symbols.get1("main")
 }
@@ -94,17 +73,6 @@ pub fn undefine(symbols: &mut TriHashMap<Symbol>, name: &str) -> Option<Symbol>
     ensures absent { IfNone result (symbols.new ≡ symbols.old) }
 {
     symbols.remove1(name)
-}
-
-/// Writes the size of the symbol with this name, if there is one, through a guard.
-pub fn resize(symbols: &mut TriHashMap<Symbol>, name: &str, size: u64)
-    ensures absent { IsOnly (λ s. pointwise nat_eq name.now (string_bytes s.name)) (bag symbols.old) None
-        → symbols.new ≡ symbols.old }
-    ensures capacity { symbols.new.capacity ≡ symbols.old.capacity }
-{
-    if let Some(mut symbol) = symbols.get1_mut(name) {
-        *symbol.data_mut() = size;
-    }
 }
 
 /// Returns the item with this first key.

@@ -3,9 +3,10 @@ ghost use Rattle.std.specs.Prelude.{◌≡◌, ◌≢◌, ◌<◌, [], ◌∷◌
 ghost use Rattle.std.specs.Bool.{OnTrue, OnFalse};
 ghost use Rattle.std.specs.Fn.{CalledAt};
 ghost use Rattle.iddqd_tri.specs.Bag.{differ, entry, listing, over};
+ghost use Rattle.iddqd_tri.specs.Calling.{TakesInTurn};
 ghost use Rattle.iddqd_tri.specs.Storing.{Stores};
 ghost use Rattle.iddqd_tri.specs.Map.{bag};
-ghost use Rattle.iddqd_tri.specs.Mismatch.{HandsBack, error_item};
+ghost use Rattle.iddqd_tri.specs.Mismatch.{HandsBack};
 ghost use Rattle.iddqd_tri.specs.Callers.{InsertsOrWrites, WritesEntry};
 
 use iddqd_tri::{Entry, EntryError, Ranked, TriHashItem, TriHashItemMut, TriHashMap, UpToThree};
@@ -63,8 +64,7 @@ pub fn overwrite_through<'a, T: TriHashItem + Drop, S: BuildHasher>(
     ensures went_in { OnTrue result (IsPermutation (bag map.new)
         (over ⟦<T as Ranked>⟧.ranks (bag map.old) item)) }
     ensures granted { listing (⟦<T as Ranked>⟧.key_tests key1.now key2.now key3.now) (bag map.old) ≢ []
-        → differ (⟦<T as Ranked>⟧.key_tests key1.now key2.now key3.now) item ≡ None
-        → result ≡ true }
+        → differ (⟦<T as Ranked>⟧.key_tests key1.now key2.now key3.now) item ≡ None → result ≡ true }
     ensures unchanged { OnFalse result (map.new ≡ map.old) }
 {
     match map.entry(key1, key2, key3) {
@@ -84,8 +84,7 @@ pub fn remove_through<'a, T: TriHashItem + Drop, S: BuildHasher>(
     key3: &'a T::K3,
 ) -> bool
     ensures taken { OnTrue result (IsPermutation (bag map.old)
-        (listing (⟦<T as Ranked>⟧.key_tests key1.now key2.now key3.now)
-        (bag map.old) ++ bag map.new)) }
+        (listing (⟦<T as Ranked>⟧.key_tests key1.now key2.now key3.now) (bag map.old) ++ bag map.new)) }
     ensures none { OnFalse result (map.new ≡ map.old) }
     ensures reason { OnFalse result
         (listing (⟦<T as Ranked>⟧.key_tests key1.now key2.now key3.now) (bag map.old) ≡ []) }
@@ -110,10 +109,11 @@ pub fn modify_all<'a, T: TriHashItemMut, S: BuildHasher, F: FnMut(&T) -> T::Data
 where
     T::Data: Drop,
     F: Drop,
-    requires callable { F.IsAlwaysCallable f }
+    requires callable { TakesInTurn F.FnMut f
+        (listing (⟦<T as Ranked>⟧.key_tests key1.now key2.now key3.now) (bag map.old)) }
     ensures { Stores (CalledAt F.FnMut) T.put ⟦<T as Ranked>⟧.ranks f
-        (listing (⟦<T as Ranked>⟧.key_tests key1.now key2.now key3.now) (bag map.old))
-        (bag map.old) (bag map.new) }
+        (listing (⟦<T as Ranked>⟧.key_tests key1.now key2.now key3.now) (bag map.old)) (bag map.old)
+        (bag map.new) }
 {
     match map.entry(key1, key2, key3).and_modify(f) {
         Entry::Vacant(_v) => return,
@@ -121,7 +121,7 @@ where
     }
 }
 
-/// Does the same by a call of the occupied entry.
+/// Does the same by a call of the occupied entry, with a closure that may always be called.
 pub fn modify_found<'a, T: TriHashItemMut, S: BuildHasher, F: FnMut(&T) -> T::Data>(
     map: &'a mut TriHashMap<T, S>,
     key1: &'a T::K1,
@@ -158,13 +158,15 @@ pub fn modify_and_take<'a, T: TriHashItemMut, S: BuildHasher, F: FnMut(&T) -> T:
 where
     T::Data: Drop,
     F: Drop,
-    requires callable { F.IsAlwaysCallable f }
+    requires callable { TakesInTurn F.FnMut f
+        (listing (⟦<T as Ranked>⟧.key_tests key1.now key2.now key3.now) (bag map.old)) }
     // What `f` returns is stored in the items that the keys find, and then these items are removed.
     ensures taken { (stored : List T) × Stores (CalledAt F.FnMut) T.put ⟦<T as Ranked>⟧.ranks f
         (listing (⟦<T as Ranked>⟧.key_tests key1.now key2.now key3.now) (bag map.old)) (bag map.old) stored
         × (result ≡ listing (⟦<T as Ranked>⟧.key_tests key1.now key2.now key3.now) stored)
         × IsPermutation stored (result ++ bag map.new) }
-    ensures none { listing (⟦<T as Ranked>⟧.key_tests key1.now key2.now key3.now) (bag map.old) ≡ [] → map.new ≡ map.old }
+    ensures none { listing (⟦<T as Ranked>⟧.key_tests key1.now key2.now key3.now) (bag map.old) ≡ [] → map.new
+        ≡ map.old }
     ensures some { listing (⟦<T as Ranked>⟧.key_tests key1.now key2.now key3.now) (bag map.old) ≢ [] → result ≢ [] }
     ensures capacity { map.new.capacity ≡ map.old.capacity }
     ensures builder { map.new.builder ≡ map.old.builder }
@@ -189,16 +191,15 @@ pub fn or_insert_and_write<'a, T: TriHashItemMut + Drop, S: BuildHasher>(
 ) -> Result<(), EntryError<T>>
 where
     T::Data: Drop,
-    ensures writes { OnOk result (WritesEntry ⟦<T as Ranked>⟧.ranks
-        (λ x. T.put x d) (bag map.old) item
-        (entry (⟦<T as Ranked>⟧.key_tests key1.now key2.now key3.now) (bag map.old))
-        (bag map.new)) }
+    ensures writes { OnOk result (WritesEntry ⟦<T as Ranked>⟧.ranks (λ x. T.put x d) (bag map.old) item
+        (entry (⟦<T as Ranked>⟧.key_tests key1.now key2.now key3.now) (bag map.old)) (bag map.new)) }
     ensures granted { differ (⟦<T as Ranked>⟧.key_tests key1.now key2.now key3.now) item ≡ None
         → length (bag map.old) < map.old.capacity → IsOk result }
     ensures occupied { listing (⟦<T as Ranked>⟧.key_tests key1.now key2.now key3.now) (bag map.old) ≢ []
         → IsOk result }
     ensures unchanged { OnErr result (map.new ≡ map.old) }
-    ensures handed_back { IfErr result (λ e. error_item e ≡ item) }
+    ensures refused { IfErr result (λ e. HandsBack ⟦<T as Ranked>⟧.ranks
+        (⟦<T as Ranked>⟧.key_tests key1.now key2.now key3.now) map.old item e) }
 {
     match map.entry(key1, key2, key3).or_insert(item) {
         Ok(held) => {
@@ -223,16 +224,15 @@ pub fn insert_or_write<'a, T: TriHashItemMut + Drop, S: BuildHasher>(
 ) -> Result<(), EntryError<T>>
 where
     T::Data: Drop,
-    ensures writes { OnOk result (InsertsOrWrites ⟦<T as Ranked>⟧.ranks
-        (λ x. T.put x d) (bag map.old) item
-        (entry (⟦<T as Ranked>⟧.key_tests key1.now key2.now key3.now) (bag map.old))
-        (bag map.new)) }
+    ensures writes { OnOk result (InsertsOrWrites ⟦<T as Ranked>⟧.ranks (λ x. T.put x d) (bag map.old)
+        item (entry (⟦<T as Ranked>⟧.key_tests key1.now key2.now key3.now) (bag map.old)) (bag map.new)) }
     ensures granted { differ (⟦<T as Ranked>⟧.key_tests key1.now key2.now key3.now) item ≡ None
         → length (bag map.old) < map.old.capacity → IsOk result }
     ensures occupied { listing (⟦<T as Ranked>⟧.key_tests key1.now key2.now key3.now) (bag map.old) ≢ []
         → IsOk result }
     ensures unchanged { OnErr result (map.new ≡ map.old) }
-    ensures handed_back { IfErr result (λ e. error_item e ≡ item) }
+    ensures refused { IfErr result (λ e. HandsBack ⟦<T as Ranked>⟧.ranks
+        (⟦<T as Ranked>⟧.key_tests key1.now key2.now key3.now) map.old item e) }
 {
     match map.entry(key1, key2, key3) {
         Entry::Vacant(v) => match v.insert(item) {

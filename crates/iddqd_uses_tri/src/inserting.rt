@@ -1,5 +1,5 @@
 //! What a caller can prove of a map after an insert, whether it succeeded or failed.
-ghost use Rattle.std.specs.Prelude.{◌≡◌, ◌≢◌, ◌<◌, ◌≤◌, ◌+◌, ◌⊎◌, ◌∷◌, [], true, length, IsPermutation, OnOk, OnErr, IfErr};
+ghost use Rattle.std.specs.Prelude.{◌≡◌, ◌≢◌, ◌<◌, ◌≤◌, ◌+◌, ◌⊎◌, ◌∷◌, [], true, length, IsPermutation, OnOk, OnErr};
 ghost use Rattle.std.specs.Bool.{OnTrue, OnFalse};
 ghost use Rattle.iddqd_tri.specs.Bag.{clash, order, over};
 ghost use Rattle.iddqd_tri.specs.Map.{Gains, IsFullFor, bag};
@@ -22,22 +22,6 @@ pub fn insert_or_drop<T: Ranked + Drop, S: BuildHasher>(map: &mut TriHashMap<T, 
             drop(refusal);
             false
         }
-    }
-}
-
-/// Inserts an item, or returns it.
-pub fn insert_or_back<T: Ranked, S: BuildHasher>(
-    map: &mut TriHashMap<T, S>,
-    item: T,
-) -> Result<(), T>
-    ensures went_in { OnOk result (IsPermutation (bag map.new) (item ∷ bag map.old)) }
-    ensures handed_back { IfErr result (λ x. x ≡ item) }
-    ensures unchanged { OnErr result (map.new ≡ map.old) }
-    ensures reason { OnErr result (MayRefuse T.ranks map.old item) }
-{
-    match map.insert_unique(item) {
-        Ok(()) => Ok(()),
-        Err(refusal) => Err(refusal.into_item()),
     }
 }
 

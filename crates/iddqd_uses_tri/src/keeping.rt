@@ -1,5 +1,8 @@
 //! What a caller can prove of a map after `retain`.
 ghost use Rattle.std.specs.Prelude.{◌≡◌, ◌-◌, length};
+ghost use Rattle.std.specs.Fn.{CalledAt};
+ghost use Rattle.iddqd_tri.specs.Bag.{Keeps};
+ghost use Rattle.iddqd_tri.specs.Calling.{TakesInAnyOrder};
 ghost use Rattle.iddqd_tri.specs.Map.{bag};
 
 use iddqd_tri::{Ranked, TriHashMap};
@@ -11,8 +14,9 @@ pub fn keep_and_count<T: Ranked + Drop, S: BuildHasher, F: FnMut(&T) -> bool>(
     map: &mut TriHashMap<T, S>,
     keep: F,
 ) -> usize
-    requires { F.IsAlwaysCallable keep }
-    ensures { result ≡ length (bag map.old) - length (bag map.new) }
+    requires { TakesInAnyOrder F.FnMut keep (bag map.old) }
+    ensures kept { Keeps (CalledAt F.FnMut) keep (bag map.old) (bag map.new) }
+    ensures count { result ≡ length (bag map.old) - length (bag map.new) }
 {
     let before = map.len();
     map.retain(keep);

@@ -1,11 +1,12 @@
 //! A table of sessions, each known by its number, by its user and by its token.
-ghost use Rattle.std.specs.Prelude.{◌≡◌, ◌<◌, [], ◌∷◌, ◌++◌, ◌==◌, length, IsOk, All, Contains, IsPermutation, OnOk, OnErr, IfErr, Some, filter, option_copied};
+ghost use Rattle.std.specs.Prelude.{◌≡◌, ◌<◌, [], ◌∷◌, ◌++◌, ◌==◌, length, IsOk, All, IsPermutation, OnOk, OnErr, IfErr, Some, filter, option_copied};
 ghost use Rattle.std.specs.Option.{option_to_list};
 ghost use Rattle.iddqd_tri.specs.Bag.{IsOnly, clash};
+ghost use Rattle.iddqd_tri.specs.Callers.{IsInTheWay};
 ghost use Rattle.iddqd_tri.specs.Map.{bag, Loses};
 
 use crate::loading::load;
-use iddqd_tri::{Ranked, TriHashItem, TriHashMap};
+use iddqd_tri::{ExtendUniqueReason, Ranked, TriHashItem, TriHashMap};
 use std::hash::BuildHasher;
 
 /// A session.
@@ -59,8 +60,8 @@ pub fn open<S: BuildHasher>(
     }
 }
 
-/// Opens all of these sessions, each of which its token finds then, or none of them. The error is a session that was
-/// rejected.
+/// Opens all of these sessions, each of which its token finds then, or none of them. The error is the first session that
+/// conflicts with an open one or with one before, or for which there was no memory.
 pub fn open_all<S: BuildHasher>(
     sessions: &mut TriHashMap<Session, S>,
     batch: Vec<Session>,
@@ -69,7 +70,8 @@ pub fn open_all<S: BuildHasher>(
     ensures found { OnOk result (All (λ s.
         IsOnly (λ t. ⟦<String as PartialEq>⟧.eq s.token t.token) (bag sessions.new) (Some s)) batch.items) }
     ensures unchanged { OnErr result (IsPermutation (bag sessions.new) (bag sessions.old)) }
-    ensures handed_back { IfErr result (λ s. Contains batch.items s) }
+    ensures in_the_way { IfErr result (λ s. (reason : ExtendUniqueReason)
+        × IsInTheWay ⟦<Session as Ranked>⟧.ranks (bag sessions.old) batch.items s reason) }
 {
     match load(sessions, batch) {
         Ok(()) => Ok(()),

@@ -1,6 +1,6 @@
 //! Items of which a key is a reference. For such items no caller of `insert_unique` or of `entry` has a proof on this
 //! toolchain. The callers below have one.
-ghost use Rattle.std.specs.Prelude.{◌≡◌, ◌∷◌, ◌<◌, [], nat_eq, length, IsOk, IsPermutation, OnOk, OnErr, IfSome, IfNone};
+ghost use Rattle.std.specs.Prelude.{◌≡◌, ◌∷◌, ◌<◌, [], nat_eq, length, IsOk, IsPermutation, OnOk, OnErr, IfErr, IfSome, IfNone};
 ghost use Rattle.std.specs.Cmp.Lexicographic.{pointwise};
 ghost use Rattle.std.specs.List.{list_any};
 ghost use Rattle.iddqd_tri.specs.Bag.{IsOnly, clash};
@@ -47,9 +47,10 @@ pub fn add_word(words: &mut TriHashMap<Word>, word: Word) -> Result<(), Word>
     ensures went_in { OnOk result (IsPermutation (bag words.new) (word ∷ bag words.old)) }
     ensures granted { clash ⟦<Word as Ranked>⟧.ranks (bag words.old) word ≡ []
         → length (bag words.old) < words.old.capacity → IsOk result }
+    ensures handed_back { IfErr result (λ w. w ≡ word) }
     ensures unchanged { OnErr result (words.new ≡ words.old) }
 {
-    words.insert_or_back(word)
+    words.try_insert(word).map_err(|rejected| rejected.item)
 }
 
 /// Returns whether there is a word with this text, which may be borrowed for a shorter time than the keys.

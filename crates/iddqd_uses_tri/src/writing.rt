@@ -17,8 +17,7 @@ pub fn write1<T: TriHashItemMut, S: BuildHasher>(
 where
     T::Data: Drop,
     ensures present { (x : T) → IsOnly (has1 T.TriHashItem T.K1.eq key.now) (bag map.old) (Some x)
-        → IsPermutation (bag map.new)
-        (swap ⟦<T as Ranked>⟧.ranks (bag map.old) x (T.put x d)) }
+        → IsPermutation (bag map.new) (swap ⟦<T as Ranked>⟧.ranks (bag map.old) x (T.put x d)) }
     ensures absent { IsOnly (has1 T.TriHashItem T.K1.eq key.now) (bag map.old) None → map.new ≡ map.old }
 {
     if let Some(mut item) = map.get1_mut(key) {
@@ -106,8 +105,8 @@ where
     T::Data: Drop,
     ensures present { (x : T) → IsOnly (has1 T.TriHashItem T.K1.eq key.now) (bag map.old) (Some x)
         → (result ≡ true) × IsPermutation (bag map.new) (swap ⟦<T as Ranked>⟧.ranks (bag map.old) x (T.put x d)) }
-    ensures absent { IsOnly (has1 T.TriHashItem T.K1.eq key.now) (bag map.old) None → (result ≡ false) × (map.new
-        ≡ map.old) }
+    ensures absent { IsOnly (has1 T.TriHashItem T.K1.eq key.now) (bag map.old) None
+        → (result ≡ false) × (map.new ≡ map.old) }
 {
     if let Some(mut lent) = map.get1_mut(key) {
         *lent.data_mut() = d;

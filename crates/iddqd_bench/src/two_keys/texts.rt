@@ -63,7 +63,7 @@ fn with_room(alloc: Global, room: usize) -> BiHashMap<Named> {
 fn fill(map: &mut BiHashMap<Named>, items: Vec<Named>) -> u64 {
     let mut refused = 0u64;
     for item in items {
-        if map.insert_or_back(item).is_err() {
+        if map.try_insert(item).is_err() {
             refused = refused.wrapping_add(1);
         }
     }

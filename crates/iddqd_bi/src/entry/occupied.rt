@@ -4,6 +4,7 @@ ghost use Rattle.std.specs.Option.{option_copied_mut, option_to_list};
 ghost use Rattle.std.specs.Borrow.{sem};
 ghost use Rattle.std.specs.Fn.{CalledAt};
 ghost use Rattle.iddqd_store.specs.Bag.{IsOnly, differ, entry, is_unique, listing, swap};
+ghost use Rattle.iddqd_store.specs.Bag.Calling.{TakesInTurn};
 ghost use Rattle.iddqd_store.specs.Bag.Storing.{Stores};
 ghost use Rattle.iddqd_store.specs.Map.{bag, Loses};
 ghost use Rattle.iddqd_bi.specs.Entries.{FindsSame, HasFound, HoldsFound, PutsOver, entry_with1, entry_with2, entry_tests, lends_data1, lends_data2, lends_held};
@@ -16,7 +17,7 @@ use crate::error::KeyMismatch;
 use crate::item::{BiHashItem, BiHashItemMut, Ranked};
 use crate::map::BiHashMap;
 use crate::map::slots::found::{differ, each_once, one_of};
-use iddqd_store::{SlotUnder, UpToTwo};
+use iddqd_store::{Meter, SlotUnder, UpToTwo};
 use std::hash::{BuildHasher, Hash};
 
 impl<'a, T: BiHashItem, S: BuildHasher> OccupiedEntry<'a, T, S> {
@@ -136,7 +137,7 @@ impl<'a, T: BiHashItem, S: BuildHasher> OccupiedEntry<'a, T, S> {
         }
         let by1 = SlotUnder::new(self.slot1, self.map.hash_of1(&item));
         let by2 = SlotUnder::new(self.slot2, self.map.hash_of2(&item));
-        let (displaced, ix) = self.map.put_over(item, &(by1, by2));
+        let (displaced, ix) = self.map.put_over(item, &(by1, by2), &mut Meter::new());
         self.slot1 = Some(ix);
         self.slot2 = Some(ix);
         Ok(displaced)
@@ -157,8 +158,7 @@ impl<'a, T: BiHashItem, S: BuildHasher> OccupiedEntry<'a, T, S> {
             slot1,
             slot2,
         } = self;
-        let unknown = (SlotUnder::nothing(), SlotUnder::nothing());
-        map.take_all(&each_once(slot1, slot2), &unknown)
+        map.take_all(&each_once(slot1, slot2))
     }
 }
 
@@ -172,6 +172,7 @@ impl<'a, T: BiHashItemMut, S: BuildHasher> OccupiedEntry<'a, T, S> {
             → IsOnly (has1 T.BiHashItem T.K1.eq self.old.key1.now) (bag self.old.map.now) (Some x)
             → IsPermutation (bag (entry_with1 self.old (λ y. T.put y d)).map.now)
             (swap ⟦<T as Ranked>⟧.ranks (bag self.old.map.now) x (T.put x d)) }
+        ensures has_found { (d : T.Data) → HasFound ⟦<T as Ranked>⟧.key_tests (entry_with1 self.old (λ y. T.put y d)) }
         ensures* lends { sem 𝓛 (lends_data1 T.row S.row T.K1.row T.K2.row S.Hasher.row
             T.BiHashItem T.K1.Hash T.K2.Hash S.BuildHasher S.Hasher.Hasher T.Data.row T.put self.entry result) }
     {
@@ -188,6 +189,7 @@ impl<'a, T: BiHashItemMut, S: BuildHasher> OccupiedEntry<'a, T, S> {
             → IsOnly (has2 T.BiHashItem T.K2.eq self.old.key2.now) (bag self.old.map.now) (Some x)
             → IsPermutation (bag (entry_with2 self.old (λ y. T.put y d)).map.now)
             (swap ⟦<T as Ranked>⟧.ranks (bag self.old.map.now) x (T.put x d)) }
+        ensures has_found { (d : T.Data) → HasFound ⟦<T as Ranked>⟧.key_tests (entry_with2 self.old (λ y. T.put y d)) }
         ensures* lends { sem 𝓛 (lends_data2 T.row S.row T.K1.row T.K2.row S.Hasher.row
             T.BiHashItem T.K1.Hash T.K2.Hash S.BuildHasher S.Hasher.Hasher T.Data.row T.put self.entry result) }
     {
@@ -201,7 +203,8 @@ impl<'a, T: BiHashItemMut, S: BuildHasher> OccupiedEntry<'a, T, S> {
     where
         T::Data: Drop,
         requires has_found { HasFound ⟦<T as Ranked>⟧.key_tests self.old }
-        requires callable { F.IsAlwaysCallable f }
+        requires callable { TakesInTurn F.FnMut f
+            (listing (entry_tests ⟦<T as Ranked>⟧.key_tests self.old) (bag self.old.map.now)) }
         ensures same_map { self.new.map.ghost_name ≡ self.old.map.ghost_name }
         ensures stores { Stores (CalledAt F.FnMut) T.put ⟦<T as Ranked>⟧.ranks f
             (listing (entry_tests ⟦<T as Ranked>⟧.key_tests self.old) (bag self.old.map.now))

@@ -4,6 +4,7 @@ ghost use Rattle.std.specs.Borrow.{sem};
 ghost use Rattle.std.specs.Fn.{CalledAt};
 ghost use Rattle.std.specs.Option.{option_and_then, option_copied_mut, option_to_list};
 ghost use Rattle.iddqd_store.specs.Bag.{is_unique, swap};
+ghost use Rattle.iddqd_store.specs.Bag.Calling.{TakesInTurn};
 ghost use Rattle.iddqd_store.specs.Bag.Storing.{Stores};
 ghost use Rattle.iddqd_store.specs.Map.{bag};
 ghost use Rattle.iddqd_bi.specs.Entries.{Holds, HoldsSame, held, held1, held2, held_entry, held_unique, held_rests_if_none, held_with1, held_with2, held_with_unique, lends_held1, lends_held2, lends_held_unique};
@@ -162,7 +163,7 @@ impl<'a, T: BiHashItemMut, S: BuildHasher> OccupiedEntryMut<'a, T, S> {
     where
         T::Data: Drop,
         requires holds { Holds self.old }
-        requires callable { F.IsAlwaysCallable f }
+        requires callable { TakesInTurn F.FnMut f (held self.old) }
         // Each item that is held gets the data that the closure returns for it.
         ensures same_map { self.new.map.ghost_name ≡ self.old.map.ghost_name }
         ensures stores { Stores (CalledAt F.FnMut) T.put ⟦<T as Ranked>⟧.ranks f

@@ -10,7 +10,7 @@ use super::BiHashMap;
 use super::slots::Refusal;
 use crate::error::FromIterError;
 use crate::item::Ranked;
-use iddqd_store::{DuplicateItem, ExtendUniqueError, MemoryRefused, SlotUnder};
+use iddqd_store::{DuplicateItem, ExtendUniqueError, MemoryRefused};
 use std::alloc::Global;
 use std::hash::{BuildHasher, Hash};
 
@@ -163,8 +163,7 @@ impl<T: Ranked + Drop, S: BuildHasher + Default + Drop> BiHashMap<T, S> {
             match map.insert_or_refuse(item) {
                 Ok(()) => {}
                 Err(Refusal::Duplicate(item, found)) => {
-                    let unknown = (SlotUnder::nothing(), SlotUnder::nothing());
-                    let duplicates = map.take_all(&found, &unknown);
+                    let duplicates = map.take_all(&found);
                     return Err(FromIterError::Duplicate(DuplicateItem::new(item, duplicates)));
                 }
                 Err(Refusal::Memory(item)) => return Err(FromIterError::Memory(item)),

@@ -1,5 +1,5 @@
 //! Lookups. Each searches the table of one rank, which leads to the item's slot.
-ghost use Rattle.std.specs.Prelude.{◌≡◌, option_copied};
+ghost use Rattle.std.specs.Prelude.{Contains, ◌≡◌, option_copied};
 ghost use Rattle.std.specs.List.{list_any};
 ghost use Rattle.iddqd_store.specs.Bag.{IsOnly};
 ghost use Rattle.iddqd_store.specs.Map.{bag};
@@ -84,8 +84,10 @@ impl<T: BiHashItem, S: BuildHasher> BiHashMap<T, S> {
         matcher: &mut M,
         meter: &mut Meter,
     ) -> Option<&T>
-        requires { NamesOneUnder (agree T.key1 T.K1.eq) (⟦<T as Hashed<S>>⟧.hash1 self.now.builder) hash
+        requires names { NamesOneUnder (agree T.key1 T.K1.eq) (⟦<T as Hashed<S>>⟧.hash1 self.now.builder) hash
             (λ x. M.accepts matcher.old (T.key1 x)) (bag self.now) }
+        requires asks { (x : T) → Contains (bag self.now) x → ⟦<T as Hashed<S>>⟧.hash1 self.now.builder x ≡ hash
+            → M.MayAsk matcher.old (T.key1 x) }
         ensures found { IsOnly (λ x. M.accepts matcher.old (T.key1 x)) (bag self.now) (option_copied result) }
         ensures is_kept { M.IsKept matcher.old matcher.new }
         ensures costs { SearchCosts (⟦<T as Hashed<S>>⟧.hash1 self.now.builder) (bag self.now)
@@ -105,8 +107,10 @@ impl<T: BiHashItem, S: BuildHasher> BiHashMap<T, S> {
         matcher: &mut M,
         meter: &mut Meter,
     ) -> Option<&T>
-        requires { NamesOneUnder (agree T.key2 T.K2.eq) (⟦<T as Hashed<S>>⟧.hash2 self.now.builder) hash
+        requires names { NamesOneUnder (agree T.key2 T.K2.eq) (⟦<T as Hashed<S>>⟧.hash2 self.now.builder) hash
             (λ x. M.accepts matcher.old (T.key2 x)) (bag self.now) }
+        requires asks { (x : T) → Contains (bag self.now) x → ⟦<T as Hashed<S>>⟧.hash2 self.now.builder x ≡ hash
+            → M.MayAsk matcher.old (T.key2 x) }
         ensures found { IsOnly (λ x. M.accepts matcher.old (T.key2 x)) (bag self.now) (option_copied result) }
         ensures is_kept { M.IsKept matcher.old matcher.new }
         ensures costs { SearchCosts (⟦<T as Hashed<S>>⟧.hash2 self.now.builder) (bag self.now)

@@ -8,7 +8,7 @@ use super::BiHashMap;
 use super::slots::Refusal;
 use crate::error::{InsertError, Rejected};
 use crate::item::Ranked;
-use iddqd_store::UpToTwo;
+use iddqd_store::{Meter, UpToTwo};
 use std::hash::{BuildHasher, Hash};
 
 impl<T: Ranked, S: BuildHasher> BiHashMap<T, S> {
@@ -94,31 +94,7 @@ impl<T: Ranked, S: BuildHasher> BiHashMap<T, S> {
                 taken2: false,
             });
         }
-        self.insert_at(item, at);
+        self.insert_at(item, at, &mut Meter::new());
         Ok(())
-    }
-
-    /// Inserts an item as `insert_unique` does, for a caller who need not know why an insert failed: the error is the
-    /// item alone. The map is as it was then, and not borrowed.
-    ///
-    /// The call hashes each key of the item once, and searches for it once. It allocates memory only if the map is
-    /// full.
-    ///
-    /// `match map.insert_or_back(item) { Ok(()) => {}, Err(item) => keep_for_later(item) }`
-    pub fn insert_or_back(&mut self, item: T) -> Result<(), T>
-        // `Ok` only if nothing conflicts, and then always if there is spare capacity.
-        ensures gains { OnOk result (Gains self.old item self.new) }
-        ensures free { OnOk result (clash T.ranks (bag self.old) item ≡ []) }
-        ensures granted { clash T.ranks (bag self.old) item ≡ []
-            → length (bag self.old) < self.old.capacity → IsOk result }
-        // The error is the item, and the map is as it was. It comes for a conflict or in a full map only.
-        ensures handed_back { IfErr result (λ x. x ≡ item) }
-        ensures unchanged { OnErr result (self.new ≡ self.old) }
-        ensures reason { OnErr result ((clash T.ranks (bag self.old) item ≢ []) ⊎ IsFullFor T.ranks self.old item) }
-    {
-        match self.insert_or_refuse(item) {
-            Ok(()) => Ok(()),
-            Err(Refusal::Duplicate(new_item, _)) | Err(Refusal::Memory(new_item)) => Err(new_item),
-        }
     }
 }

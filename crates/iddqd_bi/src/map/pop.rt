@@ -1,10 +1,12 @@
-//! Removing some item.
+//! Removing some item, or all items one by one.
 ghost use Rattle.std.specs.Prelude.{◌≡◌, [], IfNone};
 ghost use Rattle.std.specs.Option.{option_to_list};
 ghost use Rattle.iddqd_store.specs.Map.{bag, Loses};
+ghost use Rattle.iddqd_store.specs.Map.Extracting.{PopsFrom};
 
 use super::BiHashMap;
 use crate::item::BiHashItem;
+use iddqd_store::{Cursor, Meter};
 use std::hash::{BuildHasher, Hash};
 
 impl<T: BiHashItem, S: BuildHasher> BiHashMap<T, S> {
@@ -12,7 +14,7 @@ impl<T: BiHashItem, S: BuildHasher> BiHashMap<T, S> {
     ///
     /// Which item it is depends on where the items stand, and not on their order of insertion. The call hashes each key
     /// of the item once, compares none, and allocates no memory. It passes all free slots in front of the item, so to
-    /// remove all items of a large map call `clear`, or iterate over the map by value.
+    /// remove all items of a large map one by one call `pop_from`.
     ///
     /// ```text
     /// let Some(item) = map.pop() else {
@@ -27,6 +29,32 @@ impl<T: BiHashItem, S: BuildHasher> BiHashMap<T, S> {
         ensures absent { IfNone result (self.new ≡ self.old) }
     {
         let ix = self.slot_from(0)?;
-        Some(self.take(ix, None, None))
+        Some(self.take(ix, None, None, &mut Meter::new()))
+    }
+
+    /// Removes the next item from the cursor on, and returns it, or `None` if there is none. The cursor moves on to where
+    /// the item was. The capacity stays.
+    ///
+    /// Called with a new cursor until it returns `None`, it removes each item once, and leaves the map empty with its
+    /// capacity, as `drain` of std does. The whole loop passes each slot once. If the loop ends early, the other items
+    /// are still in the map. Between two calls a caller may read the map and write items, but not insert or remove any by
+    /// another call.
+    ///
+    /// The call hashes each key of the item once. It compares no key, and allocates no memory.
+    ///
+    /// ```text
+    /// let mut at = Cursor::new();
+    /// while let Some(item) = map.pop_from(&mut at) {
+    ///     // The item has left the map.
+    /// }
+    /// ```
+    pub fn pop_from(&mut self, at: &mut Cursor) -> Option<T>
+        ensures pops_from { PopsFrom self.old at.old result self.new at.new }
+        ensures loses { Loses self.old (option_to_list result) self.new }
+        ensures absent { IfNone result (self.new ≡ self.old) }
+    {
+        let ix = self.slot_from(at.next())?;
+        at.pass(ix);
+        Some(self.take(ix, None, None, &mut Meter::new()))
     }
 }

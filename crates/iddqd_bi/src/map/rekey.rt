@@ -8,7 +8,7 @@ ghost use Rattle.iddqd_bi.specs.Rekeyed.{PutsInPlace, TellsWhyNot, left_out};
 use super::BiHashMap;
 use crate::error::NotReplaced;
 use crate::item::Ranked;
-use iddqd_store::Query;
+use iddqd_store::{Meter, Query};
 use std::hash::{BuildHasher, Hash};
 
 impl<T: Ranked, S: BuildHasher> BiHashMap<T, S> {
@@ -33,7 +33,7 @@ impl<T: Ranked, S: BuildHasher> BiHashMap<T, S> {
         let Some(ix) = self.by_key1().slot_of(query) else {
             return Err(NotReplaced::Absent(item));
         };
-        match self.rekey_at(ix, item) {
+        match self.rekey_at(ix, item, &mut Meter::new()) {
             Ok(old) => Ok(old),
             Err(new_item) => Err(NotReplaced::Conflict(new_item)),
         }
@@ -60,7 +60,7 @@ impl<T: Ranked, S: BuildHasher> BiHashMap<T, S> {
         let Some(ix) = self.by_key2().slot_of(query) else {
             return Err(NotReplaced::Absent(item));
         };
-        match self.rekey_at(ix, item) {
+        match self.rekey_at(ix, item, &mut Meter::new()) {
             Ok(old) => Ok(old),
             Err(new_item) => Err(NotReplaced::Conflict(new_item)),
         }

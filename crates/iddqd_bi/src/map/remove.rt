@@ -1,14 +1,15 @@
 //! Removing items.
-ghost use Rattle.std.specs.Prelude.{◌≡◌, IfNone};
+ghost use Rattle.std.specs.Prelude.{Contains, [], ◌≡◌, ◌∷◌, IfNone};
 ghost use Rattle.std.specs.Option.{option_to_list};
 ghost use Rattle.iddqd_store.specs.Bag.{IsOnly};
 ghost use Rattle.iddqd_store.specs.Map.{bag, Loses};
+ghost use Rattle.iddqd_store.specs.Rank.{agree, NamesOneUnder, TakingCosts};
 ghost use Rattle.iddqd_bi.specs.Keys.{has1, has2, has_both};
 
 use super::BiHashMap;
-use crate::item::BiHashItem;
+use crate::item::{BiHashItem, Hashed};
 use crate::ranks::{First, Second};
-use iddqd_store::Query;
+use iddqd_store::{ByQuery, KeyMatcher, Meter, Query};
 use std::hash::{BuildHasher, Hash};
 
 impl<T: BiHashItem, S: BuildHasher> BiHashMap<T, S> {
@@ -22,14 +23,46 @@ impl<T: BiHashItem, S: BuildHasher> BiHashMap<T, S> {
         ensures loses { Loses self.old (option_to_list result) self.new }
         ensures absent { IfNone result (self.new ≡ self.old) }
     {
+        let hash = self.hash_builder.hash_one(query);
+        self.remove1_by(hash, &mut ByQuery::new(&query), &mut Meter::new())
+    }
+
+    /// Removes the item whose first key the matcher accepts, and returns it, or `None` if there is none. All first keys
+    /// of items that the matcher accepts must be equal to each other and have this hash.
+    ///
+    /// In the table of the first rank the call costs what `find1_with` costs if it finds nothing. Then it walks once through
+    /// each other table, if it removes an item.
+    fn remove1_by<M: KeyMatcher<T::K1>>(
+        &mut self,
+        hash: u64,
+        matcher: &mut M,
+        meter: &mut Meter,
+    ) -> Option<T>
+        requires names { NamesOneUnder (agree T.key1 T.K1.eq) (⟦<T as Hashed<S>>⟧.hash1 self.old.builder) hash
+            (λ x. M.accepts matcher.old (T.key1 x)) (bag self.old) }
+        requires asks { (x : T) → Contains (bag self.old) x → ⟦<T as Hashed<S>>⟧.hash1 self.old.builder x ≡ hash
+            → M.MayAsk matcher.old (T.key1 x) }
+        ensures taken { IsOnly (λ x. M.accepts matcher.old (T.key1 x)) (bag self.old) result }
+        ensures loses { Loses self.old (option_to_list result) self.new }
+        ensures absent { IfNone result (self.new ≡ self.old) }
+        ensures is_kept { M.IsKept matcher.old matcher.new }
+        ensures costs { TakingCosts (⟦<T as Hashed<S>>⟧.hash1 self.old.builder) (bag self.old) self.old.capacity
+            hash (1 ∷ []) result (M.asked matcher.old) (M.asked matcher.new) meter.old meter.new }
+    {
         let ix = self
             .first
-            .forget_by_key::<T, First, S, Q>(&self.items, &self.hash_builder, query)?;
+            .forget_by_key::<T, First, S, M>(
+                &self.items,
+                &self.hash_builder,
+                hash,
+                matcher,
+                meter,
+            )?;
         let Some(item) = self.items.remove(ix) else {
             unreachable!()
         };
         self.second
-            .forget::<T, Second, S>(&self.hash_builder, &item, ix, None);
+            .forget::<T, Second, S>(&self.hash_builder, &item, ix, None, meter);
         Some(item)
     }
 
@@ -43,14 +76,46 @@ impl<T: BiHashItem, S: BuildHasher> BiHashMap<T, S> {
         ensures loses { Loses self.old (option_to_list result) self.new }
         ensures absent { IfNone result (self.new ≡ self.old) }
     {
+        let hash = self.hash_builder.hash_one(query);
+        self.remove2_by(hash, &mut ByQuery::new(&query), &mut Meter::new())
+    }
+
+    /// Removes the item whose second key the matcher accepts, and returns it, or `None` if there is none. All second keys
+    /// of items that the matcher accepts must be equal to each other and have this hash.
+    ///
+    /// In the table of the second rank the call costs what `find2_with` costs if it finds nothing. Then it walks once through
+    /// each other table, if it removes an item.
+    fn remove2_by<M: KeyMatcher<T::K2>>(
+        &mut self,
+        hash: u64,
+        matcher: &mut M,
+        meter: &mut Meter,
+    ) -> Option<T>
+        requires names { NamesOneUnder (agree T.key2 T.K2.eq) (⟦<T as Hashed<S>>⟧.hash2 self.old.builder) hash
+            (λ x. M.accepts matcher.old (T.key2 x)) (bag self.old) }
+        requires asks { (x : T) → Contains (bag self.old) x → ⟦<T as Hashed<S>>⟧.hash2 self.old.builder x ≡ hash
+            → M.MayAsk matcher.old (T.key2 x) }
+        ensures taken { IsOnly (λ x. M.accepts matcher.old (T.key2 x)) (bag self.old) result }
+        ensures loses { Loses self.old (option_to_list result) self.new }
+        ensures absent { IfNone result (self.new ≡ self.old) }
+        ensures is_kept { M.IsKept matcher.old matcher.new }
+        ensures costs { TakingCosts (⟦<T as Hashed<S>>⟧.hash2 self.old.builder) (bag self.old) self.old.capacity
+            hash (1 ∷ []) result (M.asked matcher.old) (M.asked matcher.new) meter.old meter.new }
+    {
         let ix = self
             .second
-            .forget_by_key::<T, Second, S, Q>(&self.items, &self.hash_builder, query)?;
+            .forget_by_key::<T, Second, S, M>(
+                &self.items,
+                &self.hash_builder,
+                hash,
+                matcher,
+                meter,
+            )?;
         let Some(item) = self.items.remove(ix) else {
             unreachable!()
         };
         self.first
-            .forget::<T, First, S>(&self.hash_builder, &item, ix, None);
+            .forget::<T, First, S>(&self.hash_builder, &item, ix, None, meter);
         Some(item)
     }
 
@@ -70,6 +135,6 @@ impl<T: BiHashItem, S: BuildHasher> BiHashMap<T, S> {
     {
         let hash = self.hash_builder.hash_one(query1);
         let ix = self.slot_unique(hash, query1, query2)?;
-        Some(self.take(ix, Some(hash), None))
+        Some(self.take(ix, Some(hash), None, &mut Meter::new()))
     }
 }

@@ -2,10 +2,12 @@
 ghost use Rattle.std.specs.Prelude.{◌≡◌, ◌≤◌, length};
 ghost use Rattle.std.specs.Fn.{CalledAt};
 ghost use Rattle.iddqd_store.specs.Bag.{Keeps};
+ghost use Rattle.iddqd_store.specs.Bag.Calling.{TakesInAnyOrder};
 ghost use Rattle.iddqd_store.specs.Map.{bag};
 
 use super::BiHashMap;
 use crate::item::BiHashItem;
+use iddqd_store::Meter;
 use std::hash::{BuildHasher, Hash};
 
 impl<T: BiHashItem, S: BuildHasher> BiHashMap<T, S> {
@@ -18,7 +20,7 @@ impl<T: BiHashItem, S: BuildHasher> BiHashMap<T, S> {
     pub fn retain<F: FnMut(&T) -> bool>(&mut self, mut f: F)
     where
         T: Drop,
-        requires { F.IsAlwaysCallable f }
+        requires { TakesInAnyOrder F.FnMut f (bag self.old) }
         ensures kept { Keeps (CalledAt F.FnMut) f (bag self.old) (bag self.new) }
         ensures no_more { length (bag self.new) ≤ length (bag self.old) }
         ensures capacity { self.new.capacity ≡ self.old.capacity }
@@ -28,7 +30,7 @@ impl<T: BiHashItem, S: BuildHasher> BiHashMap<T, S> {
         while let Some(ix) = self.slot_from(from) {
             from = ix.number() + 1;
             if !f(self.item_at(ix)) {
-                drop(self.take(ix, None, None));
+                drop(self.take(ix, None, None, &mut Meter::new()));
             }
         }
     }

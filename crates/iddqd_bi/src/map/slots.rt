@@ -1,13 +1,13 @@
 //! Single items and their slots: where an item is to be inserted, the capacity for it, inserting it and removing it.
 //! The files below have the slots that searches by all keys found (`found`), iterating (`walk`), reading and writing
 //! (`write`), inserting in place of other items (`over`), and inserting a list that may have to be removed again
-//! (`enter`). Calls that treat all slots at once (to clear, clone or rebuild them) use the slots and tables themselves.
-ghost use Rattle.std.specs.Prelude.{◌≡◌, ◌≢◌, ◌==◌, ℕ, ◌<◌, ◌≤◌, ◌+◌, [], ◌∷◌, length, All, IsPermutation, OnOk, OnErr, IfOk, IfErr, Some, None, IfSome, nat_eq, slice_set, is_some, true, false};
+//! (`enter`). Calls on all slots at once and removals by one key use the slots and tables themselves.
+ghost use Rattle.std.specs.Prelude.{◌≡◌, ◌≢◌, ◌==◌, ℕ, ◌<◌, ◌≤◌, ◌+◌, [], ◌∷◌, length, map, All, IsPermutation, OnOk, OnErr, IfOk, IfErr, Some, None, IfSome, nat_eq, slice_set, is_some, true, false};
 ghost use Rattle.std.specs.List.{IsDistinct, list_any};
 ghost use Rattle.iddqd_store.specs.Bag.{IsSound, clash, differ, listing};
 ghost use Rattle.iddqd_store.specs.Rank.Index.{HasHash};
 ghost use Rattle.iddqd_store.specs.Map.{bag, hash_of, Gains, Loses, MakesRoom, PutsAt, IsFullFor, IsBlockedAt};
-ghost use Rattle.iddqd_store.specs.Rank.{agree};
+ghost use Rattle.iddqd_store.specs.Rank.{agree, walks_within};
 ghost use Rattle.iddqd_store.specs.Slots.Found.{AreFound, each_once, items_at};
 ghost use Rattle.iddqd_store.specs.Slots.{get, IsLive, Updates};
 ghost use Rattle.iddqd_store.specs.Table.Limit.{most_room};
@@ -141,9 +141,14 @@ impl<T: BiHashItem, S: BuildHasher> BiHashMap<T, S> {
         self.search_all(item.key1(), item.key2())
     }
 
-    /// Inserts an item with which nothing conflicts, at the place found for it at each rank.
+    /// Inserts an item with which nothing conflicts, at the place found for it at each rank. Only a table that grew is probed.
     #[inline(always)]
-    pub(crate) fn insert_at(&mut self, item: T, at: (Vacancy, Vacancy)) -> ItemIndex
+    pub(crate) fn insert_at(
+        &mut self,
+        item: T,
+        at: (Vacancy, Vacancy),
+        meter: &mut Meter,
+    ) -> ItemIndex
         requires room { length (bag self.old) < self.old.capacity }
         requires free { clash ⟦<T as Ranked>⟧.ranks (bag self.old) item ≡ [] }
         requires places { ArePlacesOf
@@ -152,11 +157,12 @@ impl<T: BiHashItem, S: BuildHasher> BiHashMap<T, S> {
         ensures was_free { get self.old.slots result ≡ None }
         ensures updates { Updates self.old.slots self.new.slots result (Some item) }
         ensures puts_at { PutsAt ⟦<T as Ranked>⟧.ranks self.old result item (item ∷ bag self.old) self.new }
+        ensures costs { meter.new ≤ meter.old + walks_within (length (bag self.old)) (map (λ _. 1) ⟦<T as Ranked>⟧.ranks) }
     {
         let (at1, at2) = at;
         let ix = self.items.insert_reserved(item);
-        self.first.insert_at(at1, ix, &mut Meter::new());
-        self.second.insert_at(at2, ix, &mut Meter::new());
+        self.first.insert_at(at1, ix, meter);
+        self.second.insert_at(at2, ix, meter);
         ix
     }
 
@@ -189,11 +195,17 @@ impl<T: BiHashItem, S: BuildHasher> BiHashMap<T, S> {
         if let Err(_) = self.make_room() {
             return Err(EntryError::Memory(item));
         }
-        Ok(self.insert_at(item, at))
+        Ok(self.insert_at(item, at, &mut Meter::new()))
     }
 
-    /// Removes the item of a slot. The call hashes a key of it only if its hash is not given.
-    pub(crate) fn take(&mut self, ix: ItemIndex, hash1: Option<u64>, hash2: Option<u64>) -> T
+    /// Removes the item of a slot, by one walk through each table. It hashes a key of it only if its hash is not given.
+    pub(crate) fn take(
+        &mut self,
+        ix: ItemIndex,
+        hash1: Option<u64>,
+        hash2: Option<u64>,
+        meter: &mut Meter,
+    ) -> T
         requires live { IsLive self.old.slots ix }
         requires hash1 { IfSome hash1 (HasHash (⟦<T as Hashed<S>>⟧.hash1 self.old.builder) self.old.slots ix) }
         requires hash2 { IfSome hash2 (HasHash (⟦<T as Hashed<S>>⟧.hash2 self.old.builder) self.old.slots ix) }
@@ -201,31 +213,24 @@ impl<T: BiHashItem, S: BuildHasher> BiHashMap<T, S> {
         ensures slots { self.new.slots ≡ slice_set self.old.slots ix None }
         ensures loses { Loses self.old (result ∷ []) self.new }
         ensures updates { Updates self.old.slots self.new.slots ix None }
+        ensures costs { meter.new ≤ meter.old + walks_within (length (bag self.old)) (map (λ _. 1) ⟦<T as Ranked>⟧.ranks) }
     {
         match self.items.remove(ix) {
             Some(item) => {
                 self.first
-                    .forget::<T, First, S>(&self.hash_builder, &item, ix, hash1);
+                    .forget::<T, First, S>(&self.hash_builder, &item, ix, hash1, meter);
                 self.second
-                    .forget::<T, Second, S>(&self.hash_builder, &item, ix, hash2);
+                    .forget::<T, Second, S>(&self.hash_builder, &item, ix, hash2, meter);
                 item
             }
             None => unreachable!(),
         }
     }
 
-    /// Removes the items of these slots, in their order. The call hashes a key only if the search by it did not find
-    /// the slot.
-    pub(crate) fn take_all(
-        &mut self,
-        found: &UpToTwo<ItemIndex>,
-        by: &(SlotUnder, SlotUnder),
-    ) -> UpToTwo<T>
+    /// Removes the items of these slots, in their order. The call hashes each key of them once.
+    pub(crate) fn take_all(&mut self, found: &UpToTwo<ItemIndex>) -> UpToTwo<T>
         requires live { All (IsLive self.old.slots) found.now }
         requires apart { IsDistinct nat_eq found.now }
-        requires under { AreUnder
-            (⟦<T as Hashed<S>>⟧.hash1 self.old.builder) (⟦<T as Hashed<S>>⟧.hash2 self.old.builder)
-            self.old.slots by.now }
         ensures values { result ≡ items_at self.old.slots found.now }
         ensures loses { Loses self.old result self.new }
         ensures others { (at : ℕ) → IsDistinct nat_eq (at ∷ found.now) → get self.new.slots at ≡ get self.old.slots at }
@@ -234,7 +239,7 @@ impl<T: BiHashItem, S: BuildHasher> BiHashMap<T, S> {
         let mut taken = UpToTwo::new();
         for at in 0..found.len() {
             if let Some(ix) = found.get(at) {
-                taken.push(self.take(*ix, by.0.hash_at(*ix), by.1.hash_at(*ix)));
+                taken.push(self.take(*ix, None, None, &mut Meter::new()));
             }
         }
         taken
@@ -262,8 +267,7 @@ impl<T: BiHashItem, S: BuildHasher> BiHashMap<T, S> {
 
     /// Reserves capacity for so many more items. It is not inlined into an insert, which seldom grows.
     ///
-    /// The tables grow first. If the memory for one of them, or for the slots, cannot be allocated, the slots stay as
-    /// they are, so the items do not fit.
+    /// The tables grow first. If one of them, or the slots, cannot be allocated, the items do not fit.
     #[cold]
     #[inline(never)]
     pub(crate) fn grow(&mut self, more: usize) -> Result<(), TryReserveError>
@@ -314,8 +318,7 @@ impl<T: BiHashItem, S: BuildHasher> BiHashMap<T, S> {
     /// Inserts an item if none conflicts with it. The error has the slots of those that do; or, if the map is full and
     /// cannot grow, it is `Memory`.
     ///
-    /// All that this function calls is inlined, except for growing. So a caller's loop branches on the outcome where it
-    /// arises, and an insert writes nothing to memory but the item and its pairs.
+    /// What it calls is inlined, except for growing, so a caller's loop branches where the outcome arises.
     #[inline(always)]
     pub(crate) fn insert_or_refuse(&mut self, item: T) -> Result<(), Refusal<T>>
         ensures gains { OnOk result (Gains self.old item self.new) }
@@ -335,7 +338,7 @@ impl<T: BiHashItem, S: BuildHasher> BiHashMap<T, S> {
         if let Err(_) = self.make_room() {
             return Err(Refusal::Memory(item));
         }
-        self.insert_at(item, at);
+        self.insert_at(item, at, &mut Meter::new());
         Ok(())
     }
 }

@@ -3,6 +3,7 @@ ghost use Rattle.std.specs.Prelude.{◌≡◌, Some, true, false};
 ghost use Rattle.std.specs.Fn.{CalledAt, FnOnceReturnsAt, FnOnceTakesAt};
 ghost use Rattle.std.specs.List.{list_any};
 ghost use Rattle.iddqd_store.specs.Bag.{IsOnly};
+ghost use Rattle.iddqd_store.specs.Bag.Calling.{TakesInAnyOrder};
 ghost use Rattle.iddqd_store.specs.Bag.Storing.{StoresInAll, StoresOne};
 ghost use Rattle.iddqd_store.specs.Map.{bag};
 ghost use Rattle.iddqd_bi.specs.Keys.{has1, has2, has_both};
@@ -109,7 +110,7 @@ impl<T: BiHashItemMut, S: BuildHasher> BiHashMap<T, S> {
     pub fn update_all<F: FnMut(&T) -> T::Data>(&mut self, mut f: F)
     where
         T::Data: Drop,
-        requires { F.IsAlwaysCallable f }
+        requires { TakesInAnyOrder F.FnMut f (bag self.old) }
         ensures stores { StoresInAll (CalledAt F.FnMut) T.put f (bag self.old) (bag self.new) }
         ensures capacity { self.new.capacity ≡ self.old.capacity }
         ensures builder { self.new.builder ≡ self.old.builder }

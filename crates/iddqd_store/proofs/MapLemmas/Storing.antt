@@ -1,6 +1,8 @@
 -- Data stored at the slots that searches found, one after the other.
 use Rattle.std.specs.Prelude.{◌≡◌, ◌≢◌, ℕ, zero, suc, slice_set, false, List, [], ◌∷◌, ◌++◌, All, IsPermutation, Option, Some, None, fold, if◌then◌else◌, nat_eq}
 use Rattle.std.specs.List.{AllByRecursion, IsDistinct}
+use Rattle.std.specs.Borrow.{Bor}
+use Rattle.std.specs.Fn.{Mut, TakesAt, CalledAt}
 use Rattle.std.specs.Option.{IfSome}
 use Rattle.std.proofs.Common.{refl, subst, arith}
 use Rattle.std.proofs.lemmas.Bool.Decides.{nat_tests}
@@ -14,6 +16,7 @@ use Rattle.iddqd_store.specs.Map.{Map, bag}
 use Rattle.iddqd_store.specs.Map.Written.{map_with, of_item}
 use Rattle.iddqd_store.specs.Slots.{get, IsLive}
 use Rattle.iddqd_store.specs.Slots.Found.{each_once, items_at, contains, with_found}
+use Rattle.iddqd_store.proofs.BagLemmas.Calling.{TakesEach}
 use Rattle.iddqd_store.proofs.BagLemmas.Exchanges.{split}
 use Rattle.iddqd_store.proofs.BagLemmas.Theory.{swap-IsPermutation}
 
@@ -77,3 +80,13 @@ module _ {F T D : Type 0} (step : F → T → D → F → Type 0) (put : T → D
   one_store f g old mid new ix rest x d apart here called is swaps stores =
       let same : items_at mid.slots rest ≡ items_at old.slots rest = rw is (items_elsewhere old ix (λ z. put z d) rest (IsDistinct-head nat_eq ix rest apart)) in
       rw here (d, g, called, from_bag g _ _ _ new swaps (subst (λ l. Stores step put ranks g l (bag mid) new) same stores))
+
+-- a closure that may be called at the items of slots in turn may be called at that of the first
+module _ {F T D : Type 0} (g : Mut F (Bor T × Unit {0}) D) (f : F) where
+  pub takes_here : (slots : List (Option T)) (ix : ℕ) (rest : List ℕ) (x : T) → get slots ix ≡ Some x → TakesEach g f (items_at slots (ix ∷ rest)) → TakesAt g f x
+  takes_here slots ix rest x here takes = (rw here at takes).0
+
+  -- and, once what it answered is stored there, at those of the others
+  pub takes_elsewhere : {S : Type 0} (h : F) (m : Map T S) (ix : ℕ) (rest : List ℕ) (x : T) (d : D) (put : T → T) → IsDistinct nat_eq (ix ∷ rest) → get m.slots ix ≡ Some x → CalledAt g f x d h → TakesEach g f (items_at m.slots (ix ∷ rest)) → TakesEach g h (items_at (map_with m ix put).slots rest)
+  takes_elsewhere h m ix rest x d put apart here called takes =
+      rw (items_elsewhere m ix put rest (IsDistinct-head nat_eq ix rest apart)) ((rw here at takes).1 d h called)

@@ -1,5 +1,5 @@
 -- What a search by one rank finds, and what it costs.
-use Rattle.std.specs.Prelude.{◌≡◌, ℕ, ◌*◌, ◌/◌, ◌≤◌, Bool, List, Option, length}
+use Rattle.std.specs.Prelude.{◌≡◌, ℕ, ◌*◌, ◌/◌, ◌≤◌, Bool, List, None, Option, length}
 use Rattle.std.specs.Option.{option_and_then}
 use Rattle.std.specs.Prelude.{Result, Ok, Err, IfOk, IfErr}
 use Rattle.std.specs.Result.{result_ok}
@@ -10,7 +10,7 @@ use Rattle.iddqd_store.specs.Rank.Index.{HasHash, IsIndex, passes_at}
 use Rattle.iddqd_store.specs.Bag.{IsOnly}
 use Rattle.iddqd_store.specs.Rank.{IsSearchable, IsVacantFor, NamesOneUnder, SearchCosts}
 use Rattle.iddqd_store.specs.Table.Room.{IsSized}
-use Rattle.iddqd_store.specs.Table.Search.{CostsUnder, FindsUnder, IsVacantUnder}
+use Rattle.iddqd_store.specs.Table.Search.{CostsUnder, FindsUnder, IsVacantUnder, RemovalCosts}
 use Rattle.iddqd_store.specs.Table.{hashes, IsFree, Spot, Table}
 use Rattle.iddqd_store.proofs.RankLemmas.Search.{search_among}
 use Rattle.iddqd_store.proofs.RankLemmas.Index.{hash_at, crowd_is, length-index}
@@ -27,6 +27,15 @@ module _ {T : Type 0} {agree : T → T → Bool} {hash : T → ℕ} {slots : Lis
     looks = looks_within hash slots table.pairs (length table.row) table.limit h r look look_then rank.index sized.size sized.counted (omega (arith, sized.limit)) own.looks;
     at_most = looks_within_most hash slots table.pairs (length table.row) h r look look_then rank.index own.looks;
   }
+
+  -- a removal by a search costs what a search costs that finds nothing
+  pub removal_costs : (h asks asks_then look look_then : ℕ) → IsSized table → RemovalCosts table h asks asks_then look look_then → SearchCosts {A = ℕ} hash (live_items slots) table.limit h None asks asks_then look look_then
+  removal_costs h asks asks_then look look_then sized own =
+      costs h None asks asks_then look look_then sized record {
+        asked = own.asked;
+        looks = record { no_cells = own.no_cells; miss = own.looks; hit_least = tt; hit_most = tt };
+        within = own.within;
+      }
 
   pub hash_found : {E : Type 0} {accepts : ℕ → Bool} (h : ℕ) (r : Result ℕ E) → FindsUnder table h accepts (result_ok r) → IfOk r (λ at. HasHash hash slots at h)
   hash_found h (Err e) finds = tt

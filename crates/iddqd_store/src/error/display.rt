@@ -23,7 +23,7 @@ impl<T> Debug for MemoryRefused<T> {
 
 impl<T> Display for MemoryRefused<T> {
     fn fmt<W: Write>(&self, f: &mut Formatter<W>) -> fmt::Result {
-        f.write_str("out of memory: the item was not put in")
+        f.write_str("out of memory: the item was not inserted")
     }
 }
 
@@ -33,7 +33,7 @@ impl Display for InsertReason {
     fn fmt<W: Write>(&self, f: &mut Formatter<W>) -> fmt::Result {
         match self {
             InsertReason::Duplicate => f.write_str("an item with an equal key is there already"),
-            InsertReason::Memory => f.write_str("out of memory: the item was not put in"),
+            InsertReason::Memory => f.write_str("out of memory: the item was not inserted"),
         }
     }
 }
@@ -76,9 +76,12 @@ impl<T> Display for ExtendUniqueError<T> {
         match self.reason {
             ExtendUniqueReason::Conflict => write!(
                 f,
-                "item {at} has a key that another one has: none was put in"
+                "item {at} has a key that another one has: none was inserted"
             ),
-            ExtendUniqueReason::Memory => write!(f, "out of memory at item {at}: none was put in"),
+            ExtendUniqueReason::Memory => write!(
+                f,
+                "out of memory at item {at}: none was inserted"
+            ),
         }
     }
 }

@@ -13,16 +13,22 @@ pub trait Matcher {
     // How many questions about a slot were passed on as questions about a key.
     ghost asked: { Self → ℕ };
 
+    // Which slots it may be asked about.
+    ghost MayAsk: { Self → ℕ → Type 0 };
+
     // Relates a matcher before a call to the same one after it. Related matchers accept the same slots.
     ghost IsKept: { Self → Self → Type 0 };
 
     /// Returns whether the item in this slot is the one that is sought.
     fn matches(&mut self, ix: ItemIndex) -> bool
+        requires { MayAsk self.old ix }
         ensures value { result ≡ accepts self.old ix }
         ensures is_kept { IsKept self.old self.new }
         ensures asked { asked self.new ≤ asked self.old + 1 };
 
     ghost accepts_kept: { (m n : Self) (ix : ℕ) → IsKept m n → accepts n ix ≡ accepts m ix };
+
+    ghost may_kept: { (m n : Self) (ix : ℕ) → IsKept m n → MayAsk m ix → MayAsk n ix };
 
     // A matcher that was not called is related to itself, and a relation over one call goes on over the next.
     ghost kept_refl: { (m : Self) → IsKept m m };
@@ -39,16 +45,22 @@ pub trait KeyMatcher<K> {
     // How many keys were asked about.
     ghost asked: { Self → ℕ };
 
+    // Which keys it may be asked about.
+    ghost MayAsk: { Self → K → Type 0 };
+
     // Relates a matcher before a call to the same one after it. Related matchers accept the same keys.
     ghost IsKept: { Self → Self → Type 0 };
 
     /// Returns whether this key is the one that is sought.
     fn matches(&mut self, key: &K) -> bool
+        requires { MayAsk self.old key.now }
         ensures value { result ≡ accepts self.old key.now }
         ensures is_kept { IsKept self.old self.new }
         ensures asked { asked self.new ≡ asked self.old + 1 };
 
     ghost accepts_kept: { (m n : Self) (key : K) → IsKept m n → accepts n key ≡ accepts m key };
+
+    ghost may_kept: { (m n : Self) (key : K) → IsKept m n → MayAsk m key → MayAsk n key };
 
     // A matcher that was not called is related to itself, and a relation over one call goes on over the next.
     ghost kept_refl: { (m : Self) → IsKept m m };

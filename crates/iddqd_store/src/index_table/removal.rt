@@ -1,8 +1,9 @@
 //! Removing a pair from a table: one that is known, or the one that a search finds.
-ghost use Rattle.std.specs.Prelude.{◌≡◌, ◌+◌, ◌%◌, ◌∷◌, ◌<◌, ◌≤◌, length, IfSome, IfNone, Contains};
+ghost use Rattle.std.specs.Prelude.{ℕ, ◌≡◌, ◌+◌, ◌%◌, ◌∷◌, ◌<◌, ◌≤◌, length, IfSome, IfNone, Contains};
 ghost use Rattle.std.specs.List.Sorted.{IsPermutation};
 ghost use Rattle.iddqd_store.specs.Table.Ring.{gap, stretch};
 ghost use Rattle.iddqd_store.specs.Table.Search.{FindsUnder, RemovalCosts};
+ghost use Rattle.iddqd_store.specs.Table.Room.{IsSized};
 ghost use Rattle.iddqd_store.specs.Table.{hashes, IsCellOf};
 
 use super::{IndexTable, Matcher, Meter, probe};
@@ -38,6 +39,7 @@ impl IndexTable {
         matcher: &mut M,
         meter: &mut Meter,
     ) -> Option<ItemIndex>
+        requires { (ix : ℕ) → Contains self.old.pairs (hash, ix) → M.MayAsk matcher.old ix }
         // What it returns, and which pairs are left.
         ensures found { FindsUnder self.old hash (M.accepts matcher.old) result }
         ensures taken { IfSome result (λ ix. IsPermutation self.old.pairs ((hash, ix) ∷ self.new.pairs)) }
@@ -46,6 +48,7 @@ impl IndexTable {
         // What it costs.
         ensures is_kept { M.IsKept matcher.old matcher.new }
         ensures costs { RemovalCosts self.old hash (M.asked matcher.old) (M.asked matcher.new) meter.old meter.new }
+        ensures sized { IsSized self.old }
     {
         let (ix, at) = self.find_cell(hash, matcher, meter).ok()?;
         self.remove_cell(hash, (ix, at), meter);

@@ -1,5 +1,5 @@
 //! Searches for an item by one rank.
-ghost use Rattle.std.specs.Prelude.{◌≡◌, ◌*◌, ◌/◌, option_copied, IfErr, IfOk, IfSome};
+ghost use Rattle.std.specs.Prelude.{Contains, ◌≡◌, ◌*◌, ◌/◌, option_copied, IfErr, IfOk, IfSome};
 ghost use Rattle.std.specs.List.{list_any};
 ghost use Rattle.std.specs.Option.{option_and_then};
 ghost use Rattle.std.specs.Result.{result_ok};
@@ -94,8 +94,10 @@ impl<'a, T, R: KeyOf<T>, S: BuildHasher> Lookup<'a, T, R, S> {
         matcher: &mut M,
         meter: &mut Meter,
     ) -> Option<&'a T>
-        requires { NamesOneUnder (agree R.key R.Key.eq) (⟦<R as HashedKey<T, S>>⟧.hash self.now.builder) hash
+        requires names { NamesOneUnder (agree R.key R.Key.eq) (⟦<R as HashedKey<T, S>>⟧.hash self.now.builder) hash
             (λ x. M.accepts matcher.old (R.key x)) (bag self.now) }
+        requires asks { (x : T) → Contains (bag self.now) x → ⟦<R as HashedKey<T, S>>⟧.hash self.now.builder x ≡ hash
+            → M.MayAsk matcher.old (R.key x) }
         ensures found { IsOnly (λ x. M.accepts matcher.old (R.key x)) (bag self.now) (option_copied result) }
         ensures is_kept { M.IsKept matcher.old matcher.new }
         ensures costs { SearchCosts (⟦<R as HashedKey<T, S>>⟧.hash self.now.builder) (bag self.now)
@@ -146,8 +148,10 @@ impl<'a, T, R: KeyOf<T>, S: BuildHasher> Lookup<'a, T, R, S> {
         matcher: &mut M,
         meter: &mut Meter,
     ) -> Result<ItemIndex, Vacancy>
-        requires { NamesOneUnder (agree R.key R.Key.eq) (⟦<R as HashedKey<T, S>>⟧.hash self.now.builder) hash
+        requires names { NamesOneUnder (agree R.key R.Key.eq) (⟦<R as HashedKey<T, S>>⟧.hash self.now.builder) hash
             (λ x. M.accepts matcher.old (R.key x)) (bag self.now) }
+        requires asks { (x : T) → Contains (bag self.now) x → ⟦<R as HashedKey<T, S>>⟧.hash self.now.builder x ≡ hash
+            → M.MayAsk matcher.old (R.key x) }
         ensures found { IsOnly (λ x. M.accepts matcher.old (R.key x)) (bag self.now)
             (option_and_then (get self.now.slots) (result_ok result)) }
         ensures live { IfOk result (IsLive self.now.slots) }

@@ -1,6 +1,7 @@
 //! What a search by a key asks: the table asks about a slot, and `ByKey` asks about the key of the item there.
-ghost use Rattle.std.specs.Prelude.{◌≡◌, refl, false};
-ghost use Rattle.std.proofs.Common.{ap, ◌∙◌};
+ghost use Rattle.std.specs.Prelude.{◌≡◌, refl, false, Some, ⊤};
+ghost use Rattle.std.proofs.Common.{ap, sym, ◌∙◌};
+ghost use Rattle.iddqd_store.specs.Slots.{get};
 ghost use Rattle.iddqd_store.specs.Rank.Asking.{passes_kept};
 ghost use Rattle.iddqd_store.specs.Rank.Index.{passes_at};
 
@@ -24,11 +25,16 @@ impl<'a, T, R: KeyOf<T>, M: KeyMatcher<R::Key>> Matcher for ByKey<'a, T, R, M> {
 
     ghost asked = { λ m. M.asked m.keys.now };
 
+    ghost MayAsk = { λ m ix. (x : T) → get m.items.now.slots ix ≡ Some x → M.MayAsk m.keys.now (R.key x) };
+
     ghost IsKept = { λ m n. (n.items ≡ m.items) × (n.keys.ghost_name ≡ m.keys.ghost_name)
         × M.IsKept m.keys.now n.keys.now };
 
     ghost accepts_kept = { λ m n ix k. passes_kept _ _
         (λ x. M.accepts_kept m.keys.now n.keys.now (R.key x) k.2) _ _ ix (ap (λ i. i.now.slots) k.0) };
+
+    ghost may_kept = { λ m n ix k may x here. M.may_kept m.keys.now n.keys.now (R.key x) k.2
+        (may x (ap (λ i. get i.now.slots ix) (sym k.0) ∙ here)) };
 
     ghost kept_refl = { λ m. (refl, refl, M.kept_refl m.keys.now) };
 
@@ -67,9 +73,13 @@ impl<'a, K: Eq + Hash, Q: Query<K>> KeyMatcher<K> for ByQuery<'a, Q> {
 
     ghost asked = { λ m. m.asked };
 
+    ghost MayAsk = { λ _ _. ⊤ };
+
     ghost IsKept = { λ m n. n.query ≡ m.query };
 
     ghost accepts_kept = { λ m n key e. ap (λ q. Q.stands_for q.now key) e };
+
+    ghost may_kept = { λ _ _ _ _ _. tt };
 
     ghost kept_refl = { λ m. refl };
 

@@ -1,11 +1,12 @@
 //! The pairs in the table of a rank: those of all items, that of an item that leaves, and that of an item that
 //! another one replaces. A pair has the hash of its item's key. If a search found the item, that hash is known.
-ghost use Rattle.std.specs.Prelude.{◌≡◌, ◌≢◌, ◌<◌, ◌≤◌, [], ◌∷◌, length, Contains, IfSome};
+ghost use Rattle.std.specs.Prelude.{◌≡◌, ◌≢◌, ◌+◌, ◌*◌, ◌<◌, ◌≤◌, [], ◌∷◌, length, Contains, IfSome};
 ghost use Rattle.std.specs.List.Sorted.{IsPermutation};
 ghost use Rattle.iddqd_store.specs.Rank.Index.{IsIndex};
-ghost use Rattle.iddqd_store.specs.Rank.{IsPaired};
+ghost use Rattle.iddqd_store.specs.Rank.{IsPaired, walks_one, walks_three, walks_two};
 ghost use Rattle.iddqd_store.specs.Slots.{live_count};
-ghost use Rattle.iddqd_store.specs.Table.{ReplacesPair, ReplacesThree, ReplacesTwo};
+ghost use Rattle.iddqd_store.specs.Table.Ring.{stretch};
+ghost use Rattle.iddqd_store.specs.Table.{hashes, ReplacesPair, ReplacesThree, ReplacesTwo};
 
 use super::{HashedKey, KeyOf, SlotUnder};
 use crate::index_table::{IndexTable, Meter};
@@ -49,13 +50,15 @@ fn hash_of_key<T, R: KeyOf<T>, S: BuildHasher>(
 }
 
 impl IndexTable {
-    /// Removes the pair of an item that was in this slot. It hashes the item's key only if the hash is not known.
+    /// Removes the pair of an item that was in this slot. It hashes the item's key only if the hash is not known. It probes the
+    /// cells that `remove` probes.
     pub fn forget<T, R: KeyOf<T>, S: BuildHasher>(
         &mut self,
         hash_builder: &S,
         item: &T,
         ix: ItemIndex,
         known: Option<u64>,
+        meter: &mut Meter,
     )
         requires known { IfSome known (λ hash. ⟦<R as HashedKey<T, S>>⟧.hash hash_builder.now item.now ≡ hash) }
         requires paired { Contains self.old.pairs (⟦<R as HashedKey<T, S>>⟧.hash hash_builder.now item.now, ix) }
@@ -64,57 +67,65 @@ impl IndexTable {
             ∷ self.new.pairs) }
         ensures limit { self.new.limit ≡ self.old.limit }
         ensures room { length self.new.pairs < self.new.limit }
+        ensures looks { meter.new ≡ meter.old + stretch (hashes self.old.pairs) (length self.old.row)
+            (⟦<R as HashedKey<T, S>>⟧.hash hash_builder.now item.now) + 1 }
+        ensures within { meter.new ≤ meter.old + length self.old.pairs + 1 }
     {
         let hash = hash_of_key::<T, R, S>(hash_builder, item, known);
-        self.remove(hash, ix, &mut Meter::new());
+        self.remove(hash, ix, meter);
     }
 
-    /// Replaces the pair of the item that was in this slot by a pair of the same slot and another hash. It hashes the
-    /// key of that item only if its hash is not known. If both hashes are equal, it does nothing, and the caller has no
-    /// more than that test.
+    /// Replaces the pair of the item that was in this slot by a pair of the same slot and the hash of a search. It hashes the
+    /// key of that item only if the search did not find the item. If both hashes are equal, it does nothing: it probes no
+    /// cell, and the caller has no more than that test. Else it probes at most what a removal and an insert probe.
     #[inline(always)]
     pub fn rehash<T, R: KeyOf<T>, S: BuildHasher>(
         &mut self,
         hash_builder: &S,
-        gone: &T,
-        ix: ItemIndex,
-        known: Option<u64>,
-        hash: u64,
+        gone: (ItemIndex, &T),
+        by: &SlotUnder,
+        meter: &mut Meter,
     )
-        requires known { IfSome known (λ before. ⟦<R as HashedKey<T, S>>⟧.hash hash_builder.now gone.now ≡ before) }
-        requires paired { Contains self.old.pairs (⟦<R as HashedKey<T, S>>⟧.hash hash_builder.now gone.now, ix) }
+        requires { IsPaired (⟦<R as HashedKey<T, S>>⟧.hash hash_builder.now) self.old.pairs by.now gone.0 gone.1.now }
         ensures moved { ReplacesPair self.old.pairs self.new.pairs
-            (⟦<R as HashedKey<T, S>>⟧.hash hash_builder.now gone.now, ix) (hash, ix) }
+            (⟦<R as HashedKey<T, S>>⟧.hash hash_builder.now gone.entry.1.now, gone.entry.0) (by.now.hash, gone.entry.0) }
         ensures limit { self.new.limit ≡ self.old.limit }
+        ensures stays { ⟦<R as HashedKey<T, S>>⟧.hash hash_builder.now gone.entry.1.now ≡ by.now.hash → self.new ≡ self.old }
+        ensures costs { meter.new ≤ meter.old
+            + walks_one (⟦<R as HashedKey<T, S>>⟧.hash hash_builder.now) by.now gone.entry.1.now * (length self.old.pairs + 1) }
     {
-        let before = hash_of_key::<T, R, S>(hash_builder, gone, known);
+        let (ix, gone) = gone;
+        let before = hash_of_key::<T, R, S>(hash_builder, gone, by.hash_at(ix));
+        let hash = by.hash();
         if before == hash {
             return;
         }
-        self.move_pair(before, hash, ix);
+        self.move_pair(before, hash, ix, meter);
     }
 
     // Replaces the pair of this slot and this hash by a pair of the same slot and another hash.
     #[inline(never)]
-    fn move_pair(&mut self, before: u64, hash: u64, ix: ItemIndex)
+    fn move_pair(&mut self, before: u64, hash: u64, ix: ItemIndex, meter: &mut Meter)
         requires { Contains self.old.pairs (before, ix) }
         ensures moved { ReplacesPair self.old.pairs self.new.pairs (before, ix) (hash, ix) }
         ensures limit { self.new.limit ≡ self.old.limit }
+        ensures costs { meter.new ≤ meter.old + 2 * (length self.old.pairs + 1) }
     {
-        self.remove(before, ix, &mut Meter::new());
-        self.insert_reserved(hash, ix, &mut Meter::new());
+        self.remove(before, ix, meter);
+        self.insert_reserved(hash, ix, meter);
     }
 
     /// Replaces the pairs of two items that were in these slots by one pair: that of an item which takes the slot of the
     /// first, and for whose key a search was made. If the search found the second item, the pair of that item gets the
     /// number of the first slot, so that nothing is inserted. The call allocates nothing, compares no key, and hashes the
-    /// keys of the items that the search did not find.
+    /// keys of the items that the search did not find. The cells that it probes are those of `walks_two`.
     pub fn replace_two<T, R: KeyOf<T>, S: BuildHasher>(
         &mut self,
         hash_builder: &S,
         gone: (ItemIndex, &T),
         other: (ItemIndex, &T),
         by: &SlotUnder,
+        meter: &mut Meter,
     )
         requires apart { gone.0 ≢ other.0 }
         requires gone { IsPaired (⟦<R as HashedKey<T, S>>⟧.hash hash_builder.now) self.old.pairs by.now gone.0 gone.1.now }
@@ -124,23 +135,25 @@ impl IndexTable {
             (⟦<R as HashedKey<T, S>>⟧.hash hash_builder.now other.entry.1.now, other.entry.0)
             (by.now.hash, gone.entry.0) }
         ensures limit { self.new.limit ≡ self.old.limit }
+        ensures costs { meter.new ≤ meter.old
+            + walks_two (⟦<R as HashedKey<T, S>>⟧.hash hash_builder.now) by.now other.entry.0 gone.entry.1.now * (length self.old.pairs + 1) }
     {
         let (ix, gone) = gone;
         let (at, other) = other;
         match by.hash_at(at) {
             Some(hash) => {
-                self.forget::<T, R, S>(hash_builder, gone, ix, None);
-                self.renumber(hash, at, ix, &mut Meter::new());
+                self.forget::<T, R, S>(hash_builder, gone, ix, None, meter);
+                self.renumber(hash, at, ix, meter);
             }
             None => {
-                self.forget::<T, R, S>(hash_builder, other, at, None);
-                self.rehash::<T, R, S>(hash_builder, gone, ix, by.hash_at(ix), by.hash());
+                self.forget::<T, R, S>(hash_builder, other, at, None, meter);
+                self.rehash::<T, R, S>(hash_builder, (ix, gone), by, meter);
             }
         }
     }
 
     /// Replaces the pairs of three items by one pair, as `replace_two` does for two. Of the second and the third item, the
-    /// pair of one that the search did not find leaves first.
+    /// pair of one that the search did not find leaves first. The cells that the call probes are those of `walks_three`.
     pub fn replace_three<T, R: KeyOf<T>, S: BuildHasher>(
         &mut self,
         hash_builder: &S,
@@ -148,6 +161,7 @@ impl IndexTable {
         other: (ItemIndex, &T),
         last: (ItemIndex, &T),
         by: &SlotUnder,
+        meter: &mut Meter,
     )
         requires apart { (gone.0 ≢ other.0) × (gone.0 ≢ last.0) × (other.0 ≢ last.0) }
         requires gone { IsPaired (⟦<R as HashedKey<T, S>>⟧.hash hash_builder.now) self.old.pairs by.now gone.0 gone.1.now }
@@ -159,18 +173,21 @@ impl IndexTable {
             (⟦<R as HashedKey<T, S>>⟧.hash hash_builder.now last.entry.1.now, last.entry.0)
             (by.now.hash, gone.entry.0) }
         ensures limit { self.new.limit ≡ self.old.limit }
+        ensures costs { meter.new ≤ meter.old
+            + walks_three (⟦<R as HashedKey<T, S>>⟧.hash hash_builder.now) by.now other.entry.0 last.entry.0 gone.entry.1.now
+            * (length self.old.pairs + 1) }
     {
         let (ix, gone) = gone;
         let (second, other) = other;
         let (third, last) = last;
         match by.hash_at(third) {
             Some(_) => {
-                self.forget::<T, R, S>(hash_builder, other, second, None);
-                self.replace_two::<T, R, S>(hash_builder, (ix, gone), (third, last), by);
+                self.forget::<T, R, S>(hash_builder, other, second, None, meter);
+                self.replace_two::<T, R, S>(hash_builder, (ix, gone), (third, last), by, meter);
             }
             None => {
-                self.forget::<T, R, S>(hash_builder, last, third, None);
-                self.replace_two::<T, R, S>(hash_builder, (ix, gone), (second, other), by);
+                self.forget::<T, R, S>(hash_builder, last, third, None, meter);
+                self.replace_two::<T, R, S>(hash_builder, (ix, gone), (second, other), by, meter);
             }
         }
     }

@@ -1,44 +1,49 @@
 //! Removing from the table of a rank the pair of the item that a key finds.
-ghost use Rattle.std.specs.Prelude.{◌≡◌, ◌∷◌, IfSome, IfNone};
+ghost use Rattle.std.specs.Prelude.{ℕ, Contains, None, Some, ◌≡◌, ◌∷◌, IfSome, IfNone};
 ghost use Rattle.std.specs.List.Sorted.{IsPermutation};
 ghost use Rattle.iddqd_store.specs.Rank.Index.{LosesPairAt, passes_at};
-ghost use Rattle.iddqd_store.specs.Rank.{agree, IsSearchable};
+ghost use Rattle.iddqd_store.specs.Rank.{agree, IsSearchable, NamesOneUnder, SearchCosts};
 ghost use Rattle.iddqd_store.specs.Slots.Found.{FoundAt};
+ghost use Rattle.iddqd_store.specs.Slots.{get, live_items};
+ghost use Rattle.iddqd_store.specs.Table.Room.{IsSized};
 ghost use Rattle.iddqd_store.specs.Table.Search.{FindsUnder, RemovalCosts};
 
-use super::matchers::{ByKey, ByQuery};
+use super::matchers::ByKey;
 use super::{HashedKey, KeyOf};
 use crate::index_table::{IndexTable, KeyMatcher, Meter};
 use crate::item_set::{ItemIndex, ItemSet};
-use crate::query::Query;
 use std::hash::{BuildHasher, Hash};
 use std::marker::PhantomData;
 
 impl IndexTable {
-    /// Removes the pair of the item whose key the query stands for, and returns the item's slot. It hashes the query once.
-    /// The deletion begins at the cell at which the search ends, so each cell is read once.
+    /// Removes the pair of the item whose key the matcher accepts, and returns the item's slot. All keys that the matcher
+    /// accepts have to be equal, and to have this hash by the builder, of which contracts alone speak. The deletion begins at
+    /// the cell at which the search ends, so each cell is read once: the call costs what a search costs that finds nothing.
     #[inline(always)]
-    pub fn forget_by_key<T, R: KeyOf<T>, S: BuildHasher, Q: Query<R::Key>>(
+    pub fn forget_by_key<T, R: KeyOf<T>, S: BuildHasher, M: KeyMatcher<R::Key>>(
         &mut self,
         items: &ItemSet<T>,
         hash_builder: &S,
-        query: Q,
+        hash: u64,
+        matcher: &mut M,
+        meter: &mut Meter,
     ) -> Option<ItemIndex>
-        requires { IsSearchable (agree R.key R.Key.eq) (⟦<R as HashedKey<T, S>>⟧.hash hash_builder.now)
+        requires searchable { IsSearchable (agree R.key R.Key.eq) (⟦<R as HashedKey<T, S>>⟧.hash hash_builder.now)
             items.now.slots self.old.pairs }
-        ensures found { FoundAt (λ x. Q.stands_for query (R.key x)) items.now.slots result }
+        requires names { NamesOneUnder (agree R.key R.Key.eq) (⟦<R as HashedKey<T, S>>⟧.hash hash_builder.now) hash
+            (λ x. M.accepts matcher.old (R.key x)) (live_items items.now.slots) }
+        requires asks { (x : T) → Contains (live_items items.now.slots) x → ⟦<R as HashedKey<T, S>>⟧.hash hash_builder.now x ≡ hash
+            → M.MayAsk matcher.old (R.key x) }
+        ensures found { FoundAt (λ x. M.accepts matcher.old (R.key x)) items.now.slots result }
         ensures taken { IfSome result (LosesPairAt (⟦<R as HashedKey<T, S>>⟧.hash hash_builder.now)
             items.now.slots self.old.pairs self.new.pairs) }
         ensures absent { IfNone result (self.new ≡ self.old) }
         ensures limit { self.new.limit ≡ self.old.limit }
+        ensures is_kept { M.IsKept matcher.old matcher.new }
+        ensures costs { SearchCosts {A = ℕ} (⟦<R as HashedKey<T, S>>⟧.hash hash_builder.now) (live_items items.now.slots)
+            self.old.limit hash None (M.asked matcher.old) (M.asked matcher.new) meter.old meter.new }
     {
-        let hash = hash_builder.hash_one(query);
-        self.remove_by::<T, R, ByQuery<'_, Q>>(
-            items,
-            hash,
-            &mut ByQuery::new(&query),
-            &mut Meter::new(),
-        )
+        self.remove_by::<T, R, M>(items, hash, matcher, meter)
     }
 
     // Removes the pair of the item whose key the matcher accepts, and returns the item's slot.
@@ -50,6 +55,8 @@ impl IndexTable {
         matcher: &mut M,
         meter: &mut Meter,
     ) -> Option<ItemIndex>
+        requires { (ix : ℕ) → Contains self.old.pairs (hash, ix) → (x : T) → get items.now.slots ix ≡ Some x
+            → M.MayAsk matcher.old (R.key x) }
         ensures found { FindsUnder self.old hash
             (passes_at (λ x. M.accepts matcher.old (R.key x)) items.now.slots) result }
         ensures taken { IfSome result (λ ix. IsPermutation self.old.pairs ((hash, ix) ∷ self.new.pairs)) }
@@ -57,6 +64,7 @@ impl IndexTable {
         ensures limit { self.new.limit ≡ self.old.limit }
         ensures is_kept { M.IsKept matcher.old matcher.new }
         ensures costs { RemovalCosts self.old hash (M.asked matcher.old) (M.asked matcher.new) meter.old meter.new }
+        ensures sized { IsSized self.old }
     {
         let mut keys: ByKey<'_, T, R, M> = ByKey {
             items,

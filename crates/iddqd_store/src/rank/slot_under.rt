@@ -1,5 +1,5 @@
 //! What a search by a hash found.
-ghost use Rattle.std.specs.Prelude.{◌≡◌, None, Some, IfSome};
+ghost use Rattle.std.specs.Prelude.{◌≡◌, Some, IfSome};
 
 use crate::item_set::ItemIndex;
 use std::marker::Model;
@@ -26,16 +26,6 @@ impl SlotUnder {
         ensures { result ≡ record { slot = slot; hash = hash } }
     {
         SlotUnder { slot, hash }
-    }
-
-    /// Makes the result of a search that found nothing.
-    pub fn nothing() -> SlotUnder
-        ensures { result.slot ≡ None }
-    {
-        SlotUnder {
-            slot: None,
-            hash: 0,
-        }
     }
 
     /// Returns the slot.

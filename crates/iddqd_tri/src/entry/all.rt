@@ -1,13 +1,14 @@
 //! The calls of an entry that may be vacant or occupied.
-ghost use Rattle.std.specs.Prelude.{◌≡◌, IfOk, IfErr};
+ghost use Rattle.std.specs.Prelude.{◌≡◌, Result, IfOk, IfErr};
 ghost use Rattle.std.specs.Fn.{CalledAt};
 ghost use Rattle.iddqd_store.specs.Bag.{listing};
+ghost use Rattle.iddqd_store.specs.Bag.Calling.{TakesInTurn};
 ghost use Rattle.iddqd_store.specs.Bag.Storing.{Stores};
 ghost use Rattle.iddqd_store.specs.Map.{bag};
-ghost use Rattle.iddqd_tri.specs.Entries.{IsFound, KeepsEntry, KeepsFound, OnOccupied, OnVacant, PutsIn, entry_lender, entry_map, entry_tests};
+ghost use Rattle.iddqd_tri.specs.Entries.{IsFound, KeepsEntry, KeepsFound, OnOccupied, OnVacant, PutsIn, PutsInMade, entry_lender, entry_map, entry_tests};
 
 use super::{Entry, Keys, OccupiedEntryMut};
-use crate::error::EntryRefusal;
+use crate::error::{EntryRefusal, TryEntryRefusal};
 use crate::item::{Ranked, TriHashItem, TriHashItemMut};
 use std::hash::{BuildHasher, Hash};
 
@@ -49,6 +50,36 @@ impl<'a, T: TriHashItem, S: BuildHasher, Q: Keys<T::K1, T::K2, T::K3>> Entry<'a,
             Entry::Occupied(o) => Ok(o.into_mut()),
         }
     }
+
+    /// Inserts the item that `f` returns, as `or_insert` does. `f` is called once if the entry is vacant, and else not
+    /// at all, so that an item which is not needed is never made.
+    ///
+    /// If `f` fails, the error is what `f` returned (`TryEntryError::Closure`). If `f` returns an item, the errors are
+    /// those of `or_insert` (`TryEntryError::Insert`). Each error borrows the map, which is as it was.
+    ///
+    /// The call itself allocates memory only if `f` returns an item and the map is full.
+    ///
+    /// `map.entry(&key1, &key2, &key3).or_try_insert_with(|| Device::read(file))`
+    pub fn or_try_insert_with<E, F: FnOnce() -> Result<T, E>>(
+        self,
+        f: F,
+    ) -> Result<OccupiedEntryMut<'a, T, S>, TryEntryRefusal<'a, T, E, S>>
+    where
+        F: Drop,
+        requires { OnVacant self (λ v. F.pre f) }
+        // What is returned borrows this very map, which is as it was if the call fails.
+        ensures same_map { IfOk result (λ m. m.map.ghost_name ≡ entry_lender self.entry) }
+        ensures same_map_at_err { IfErr result (λ e. e.map.ghost_name ≡ entry_lender self.entry) }
+        ensures unchanged { IfErr result (λ e. e.map.now ≡ entry_map self.entry) }
+        // The answer of the closure decides what happens to a vacant entry. An occupied one has its items.
+        ensures puts_in { OnVacant self.entry (λ v. (made : Result T E) × F.post f made × PutsInMade v made result) }
+        ensures keeps_found { OnOccupied self.entry (λ o. KeepsFound T.TriHashItem T.K1.eq T.K2.eq T.K3.eq o result) }
+    {
+        match self {
+            Entry::Vacant(v) => v.put_made_in(f()),
+            Entry::Occupied(o) => Ok(o.into_mut()),
+        }
+    }
 }
 
 impl<'a, T: TriHashItemMut, S: BuildHasher, Q: Keys<T::K1, T::K2, T::K3>> Entry<'a, T, S, Q> {
@@ -61,7 +92,8 @@ impl<'a, T: TriHashItemMut, S: BuildHasher, Q: Keys<T::K1, T::K2, T::K3>> Entry<
     where
         T::Data: Drop,
         F: Drop,
-        requires callable { F.IsAlwaysCallable f }
+        requires callable { OnOccupied self (λ o. TakesInTurn F.FnMut f
+            (listing (entry_tests ⟦<T as Ranked>⟧.key_tests o) (bag o.map.now))) }
         requires is_found { IsFound self }
         // A vacant entry stays as it was. Each item that was found gets the data that the closure returns for it.
         ensures vacant { OnVacant self.entry (λ v. result ≡ self.entry) }

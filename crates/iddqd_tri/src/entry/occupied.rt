@@ -4,6 +4,7 @@ ghost use Rattle.std.specs.Option.{option_copied_mut, option_to_list};
 ghost use Rattle.std.specs.Borrow.{sem};
 ghost use Rattle.std.specs.Fn.{CalledAt};
 ghost use Rattle.iddqd_store.specs.Bag.{IsOnly, differ, entry, is_unique, listing, swap};
+ghost use Rattle.iddqd_store.specs.Bag.Calling.{TakesInTurn};
 ghost use Rattle.iddqd_store.specs.Bag.Storing.{Stores};
 ghost use Rattle.iddqd_store.specs.Map.{bag, Loses};
 ghost use Rattle.iddqd_tri.specs.Entries.{FindsSame, HasFound, HoldsFound, PutsOver, entry_with1, entry_with2, entry_with3, entry_tests, lends_data1, lends_data2, lends_data3, lends_held};
@@ -16,15 +17,14 @@ use crate::error::KeyMismatch;
 use crate::item::{Ranked, TriHashItem, TriHashItemMut};
 use crate::map::TriHashMap;
 use crate::map::slots::found::{differ, each_once, one_of};
-use iddqd_store::{SlotUnder, UpToThree};
+use iddqd_store::{Meter, SlotUnder, UpToThree};
 use std::hash::{BuildHasher, Hash};
 
 impl<'a, T: TriHashItem, S: BuildHasher> OccupiedEntry<'a, T, S> {
     /// Returns whether one item has all keys.
     pub fn is_unique(&self) -> bool
         requires { HasFound ⟦<T as Ranked>⟧.key_tests self.now }
-        ensures { result ≡ is_unique
-            (entry (entry_tests ⟦<T as Ranked>⟧.key_tests self.now) (bag self.now.map.now)) }
+        ensures { result ≡ is_unique (entry (entry_tests ⟦<T as Ranked>⟧.key_tests self.now) (bag self.now.map.now)) }
     {
         one_of(self.slot1, self.slot2, self.slot3).is_some()
     }
@@ -158,7 +158,7 @@ impl<'a, T: TriHashItem, S: BuildHasher> OccupiedEntry<'a, T, S> {
         let by1 = SlotUnder::new(self.slot1, self.map.hash_of1(&item));
         let by2 = SlotUnder::new(self.slot2, self.map.hash_of2(&item));
         let by3 = SlotUnder::new(self.slot3, self.map.hash_of3(&item));
-        let (displaced, ix) = self.map.put_over(item, &(by1, by2, by3));
+        let (displaced, ix) = self.map.put_over(item, &(by1, by2, by3), &mut Meter::new());
         self.slot1 = Some(ix);
         self.slot2 = Some(ix);
         self.slot3 = Some(ix);
@@ -170,8 +170,7 @@ impl<'a, T: TriHashItem, S: BuildHasher> OccupiedEntry<'a, T, S> {
     /// The call hashes each key of a removed item. It compares no key, and allocates no memory.
     pub fn remove(self) -> UpToThree<T>
         requires { HasFound ⟦<T as Ranked>⟧.key_tests self }
-        ensures taken { result
-            ≡ listing (entry_tests ⟦<T as Ranked>⟧.key_tests self.entry) (bag self.entry.map.now) }
+        ensures taken { result ≡ listing (entry_tests ⟦<T as Ranked>⟧.key_tests self.entry) (bag self.entry.map.now) }
         ensures loses { Loses self.entry.map.now result self.exit.0.now }
     {
         let OccupiedEntry {
@@ -183,12 +182,7 @@ impl<'a, T: TriHashItem, S: BuildHasher> OccupiedEntry<'a, T, S> {
             slot2,
             slot3,
         } = self;
-        let unknown = (
-            SlotUnder::nothing(),
-            SlotUnder::nothing(),
-            SlotUnder::nothing(),
-        );
-        map.take_all(&each_once(slot1, slot2, slot3), &unknown)
+        map.take_all(&each_once(slot1, slot2, slot3))
     }
 }
 
@@ -202,9 +196,9 @@ impl<'a, T: TriHashItemMut, S: BuildHasher> OccupiedEntry<'a, T, S> {
             → IsOnly (has1 T.TriHashItem T.K1.eq self.old.key1.now) (bag self.old.map.now) (Some x)
             → IsPermutation (bag (entry_with1 self.old (λ y. T.put y d)).map.now)
             (swap ⟦<T as Ranked>⟧.ranks (bag self.old.map.now) x (T.put x d)) }
+        ensures has_found { (d : T.Data) → HasFound ⟦<T as Ranked>⟧.key_tests (entry_with1 self.old (λ y. T.put y d)) }
         ensures* lends { sem 𝓛 (lends_data1 T.row S.row T.K1.row T.K2.row T.K3.row S.Hasher.row
-            T.TriHashItem T.K1.Hash T.K2.Hash T.K3.Hash S.BuildHasher S.Hasher.Hasher
-            T.Data.row T.put self.entry result) }
+            T.TriHashItem T.K1.Hash T.K2.Hash T.K3.Hash S.BuildHasher S.Hasher.Hasher T.Data.row T.put self.entry result) }
     {
         let slot1 = self.slot1;
         self.map.data_mut_of(slot1)
@@ -219,9 +213,9 @@ impl<'a, T: TriHashItemMut, S: BuildHasher> OccupiedEntry<'a, T, S> {
             → IsOnly (has2 T.TriHashItem T.K2.eq self.old.key2.now) (bag self.old.map.now) (Some x)
             → IsPermutation (bag (entry_with2 self.old (λ y. T.put y d)).map.now)
             (swap ⟦<T as Ranked>⟧.ranks (bag self.old.map.now) x (T.put x d)) }
+        ensures has_found { (d : T.Data) → HasFound ⟦<T as Ranked>⟧.key_tests (entry_with2 self.old (λ y. T.put y d)) }
         ensures* lends { sem 𝓛 (lends_data2 T.row S.row T.K1.row T.K2.row T.K3.row S.Hasher.row
-            T.TriHashItem T.K1.Hash T.K2.Hash T.K3.Hash S.BuildHasher S.Hasher.Hasher
-            T.Data.row T.put self.entry result) }
+            T.TriHashItem T.K1.Hash T.K2.Hash T.K3.Hash S.BuildHasher S.Hasher.Hasher T.Data.row T.put self.entry result) }
     {
         let slot2 = self.slot2;
         self.map.data_mut_of(slot2)
@@ -236,9 +230,9 @@ impl<'a, T: TriHashItemMut, S: BuildHasher> OccupiedEntry<'a, T, S> {
             → IsOnly (has3 T.TriHashItem T.K3.eq self.old.key3.now) (bag self.old.map.now) (Some x)
             → IsPermutation (bag (entry_with3 self.old (λ y. T.put y d)).map.now)
             (swap ⟦<T as Ranked>⟧.ranks (bag self.old.map.now) x (T.put x d)) }
+        ensures has_found { (d : T.Data) → HasFound ⟦<T as Ranked>⟧.key_tests (entry_with3 self.old (λ y. T.put y d)) }
         ensures* lends { sem 𝓛 (lends_data3 T.row S.row T.K1.row T.K2.row T.K3.row S.Hasher.row
-            T.TriHashItem T.K1.Hash T.K2.Hash T.K3.Hash S.BuildHasher S.Hasher.Hasher
-            T.Data.row T.put self.entry result) }
+            T.TriHashItem T.K1.Hash T.K2.Hash T.K3.Hash S.BuildHasher S.Hasher.Hasher T.Data.row T.put self.entry result) }
     {
         let slot3 = self.slot3;
         self.map.data_mut_of(slot3)
@@ -250,7 +244,8 @@ impl<'a, T: TriHashItemMut, S: BuildHasher> OccupiedEntry<'a, T, S> {
     where
         T::Data: Drop,
         requires has_found { HasFound ⟦<T as Ranked>⟧.key_tests self.old }
-        requires callable { F.IsAlwaysCallable f }
+        requires callable { TakesInTurn F.FnMut f
+            (listing (entry_tests ⟦<T as Ranked>⟧.key_tests self.old) (bag self.old.map.now)) }
         ensures same_map { self.new.map.ghost_name ≡ self.old.map.ghost_name }
         ensures stores { Stores (CalledAt F.FnMut) T.put ⟦<T as Ranked>⟧.ranks f
             (listing (entry_tests ⟦<T as Ranked>⟧.key_tests self.old) (bag self.old.map.now))

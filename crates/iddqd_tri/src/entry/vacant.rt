@@ -3,11 +3,11 @@ ghost use Rattle.std.specs.Prelude.{◌≡◌, ◌<◌, length, None, IsOk, IfOk
 ghost use Rattle.std.specs.Borrow.{sem};
 ghost use Rattle.iddqd_store.specs.Bag.{differ};
 ghost use Rattle.iddqd_store.specs.Map.{bag};
-ghost use Rattle.iddqd_tri.specs.Entries.{GainsAndFinds, GainsAndHolds, GainsAndLends, IsSameMap, PutsIn, wanted, rests_if_err, held_rests_if_err};
+ghost use Rattle.iddqd_tri.specs.Entries.{GainsAndFinds, GainsAndHolds, GainsAndLends, IsSameMap, PutsIn, PutsInMade, wanted, rests_if_err, held_rests_if_err};
 ghost use Rattle.iddqd_tri.specs.Mismatch.{HandsBack};
 
 use super::{KeyTriple, Keys, OccupiedEntry, OccupiedEntryMut, VacantEntry};
-use crate::error::{EntryError, EntryRefusal};
+use crate::error::{EntryError, EntryRefusal, TryEntryError, TryEntryRefusal};
 use crate::item::{Ranked, TriHashItem};
 use crate::ref_mut::RefMut;
 use std::hash::{BuildHasher, Hash};
@@ -115,6 +115,37 @@ impl<'a, T: TriHashItem, S: BuildHasher, Q: Keys<T::K1, T::K2, T::K3>> VacantEnt
                 slot3: Some(slot),
             }),
             Err(error) => Err(EntryRefusal { map, error }),
+        }
+    }
+
+    /// Inserts the item that a closure made, as `put_in` does, or returns the error with which the closure failed.
+    pub(super) fn put_made_in<E>(
+        self,
+        made: Result<T, E>,
+    ) -> Result<OccupiedEntryMut<'a, T, S>, TryEntryRefusal<'a, T, E, S>>
+        ensures same_map { IfOk result (λ m. m.map.ghost_name ≡ self.entry.map.ghost_name) }
+        ensures same_map_at_err { IfErr result (λ e. e.map.ghost_name ≡ self.entry.map.ghost_name) }
+        ensures unchanged { IfErr result (λ e. e.map.now ≡ self.entry.map.now) }
+        ensures puts_in { PutsInMade self.entry made result }
+    {
+        let VacantEntry { map, keys, at } = self;
+        match made {
+            Ok(item) => match map.insert_free(item, keys.first(), keys.second(), keys.third(), at) {
+                Ok(slot) => Ok(OccupiedEntryMut {
+                    map,
+                    slot1: Some(slot),
+                    slot2: Some(slot),
+                    slot3: Some(slot),
+                }),
+                Err(error) => Err(TryEntryRefusal {
+                    map,
+                    error: TryEntryError::Insert(error),
+                }),
+            },
+            Err(e) => Err(TryEntryRefusal {
+                map,
+                error: TryEntryError::Closure(e),
+            }),
         }
     }
 }

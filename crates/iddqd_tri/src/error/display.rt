@@ -1,6 +1,9 @@
 //! What the errors print. No item is printed, so that an item needs neither `Debug` nor `Display`; `Error` asks for
 //! `Drop`.
-use super::{EntryError, EntryRefusal, InsertError, KeyMismatch, NotReplaced, Rejected};
+use super::{
+    EntryError, EntryRefusal, InsertError, KeyMismatch, NotReplaced, Rejected, TryEntryError,
+    TryEntryRefusal,
+};
 use crate::item::{Ranked, TriHashItem};
 use std::error::Error;
 use std::fmt::{self, Debug, Display, Formatter, Write};
@@ -47,7 +50,7 @@ impl<T> Display for EntryError<T> {
             EntryError::Key1(_item) => "the first key is not the entry's",
             EntryError::Key2(_item) => "the second key is not the entry's",
             EntryError::Key3(_item) => "the third key is not the entry's",
-            EntryError::Memory(_item) => "out of memory: the item was not put in",
+            EntryError::Memory(_item) => "out of memory: the item was not inserted",
         })
     }
 }
@@ -82,6 +85,40 @@ impl<T: TriHashItem, S: BuildHasher> Display for EntryRefusal<'_, T, S> {
     }
 }
 
+impl<R: Debug, E: Debug> Debug for TryEntryError<R, E> {
+    fn fmt<W: Write>(&self, f: &mut Formatter<W>) -> fmt::Result {
+        match self {
+            TryEntryError::Closure(error) => f.debug_tuple("Closure").field(error).finish(),
+            TryEntryError::Insert(error) => f.debug_tuple("Insert").field(error).finish(),
+        }
+    }
+}
+
+impl<R: Display, E: Display> Display for TryEntryError<R, E> {
+    fn fmt<W: Write>(&self, f: &mut Formatter<W>) -> fmt::Result {
+        match self {
+            TryEntryError::Closure(error) => Display::fmt(error, f),
+            TryEntryError::Insert(error) => Display::fmt(error, f),
+        }
+    }
+}
+
+impl<R: Error, E: Error> Error for TryEntryError<R, E> {}
+
+impl<T: TriHashItem, E: Debug, S: BuildHasher> Debug for TryEntryRefusal<'_, T, E, S> {
+    fn fmt<W: Write>(&self, f: &mut Formatter<W>) -> fmt::Result {
+        f.debug_struct("TryEntryRefusal")
+            .field("error", &self.error)
+            .finish_non_exhaustive()
+    }
+}
+
+impl<T: TriHashItem, E: Display, S: BuildHasher> Display for TryEntryRefusal<'_, T, E, S> {
+    fn fmt<W: Write>(&self, f: &mut Formatter<W>) -> fmt::Result {
+        Display::fmt(&self.error, f)
+    }
+}
+
 impl<T> Debug for Rejected<T> {
     fn fmt<W: Write>(&self, f: &mut Formatter<W>) -> fmt::Result {
         f.debug_struct("Rejected")
@@ -103,7 +140,7 @@ impl<T> Display for Rejected<T> {
         if self.taken3 {
             return f.write_str("an item has the third key");
         }
-        f.write_str("out of memory: the item was not put in")
+        f.write_str("out of memory: the item was not inserted")
     }
 }
 

@@ -52,8 +52,7 @@ impl<T: TriHashItemMut, S: BuildHasher> IterMut<'_, T, S> {
         ensures counted { (f : T → T) → IsCounted self.old → IfSome result (λ r. IsCounted (stepped self.old f)) }
         // What is written through the borrow ends in that item.
         ensures* lends { sem 𝓛 (lends_next T.row S.row T.K1.row T.K2.row T.K3.row S.Hasher.row
-            T.TriHashItem T.K1.Hash T.K2.Hash T.K3.Hash S.BuildHasher S.Hasher.Hasher
-            T.Data.row T.put self.entry result) }
+            T.TriHashItem T.K1.Hash T.K2.Hash T.K3.Hash S.BuildHasher S.Hasher.Hasher T.Data.row T.put self.entry result) }
     {
         let ix = self.map.slot_from(self.next)?;
         self.next = ix.number() + 1;

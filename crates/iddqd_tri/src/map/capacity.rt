@@ -6,7 +6,7 @@ ghost use Rattle.iddqd_store.specs.Table.Limit.{most_room};
 
 use super::TriHashMap;
 use crate::item::Ranked;
-use iddqd_store::TryReserveError;
+use iddqd_store::{Meter, TryReserveError};
 use std::hash::{BuildHasher, Hash};
 
 impl<T: Ranked, S: BuildHasher> TriHashMap<T, S> {
@@ -92,7 +92,7 @@ impl<T: Ranked, S: BuildHasher> TriHashMap<T, S> {
         let mut from = 0;
         while let Some(ix) = self.slot_from(from) {
             from = ix.number() + 1;
-            drop(self.take(ix, None, None, None));
+            drop(self.take(ix, None, None, None, &mut Meter::new()));
         }
     }
 }

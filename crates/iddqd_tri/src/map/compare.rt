@@ -23,7 +23,10 @@ impl<T: TriHashItem + PartialEq, S: BuildHasher> PartialEq for TriHashMap<T, S> 
 
     ghost laws = { on_per bag (is_same-partial (ranks T.TriHashItem T.K1.eq T.K2.eq T.K3.eq) T.eq (
       IsEquivalence-key T.K1.eq T.key1 T.K1.Eq.laws,
-      (IsEquivalence-key T.K2.eq T.key2 T.K2.Eq.laws, (IsEquivalence-key T.K3.eq T.key3 T.K3.Eq.laws, tt)),
+      (
+        IsEquivalence-key T.K2.eq T.key2 T.K2.Eq.laws,
+        (IsEquivalence-key T.K3.eq T.key3 T.K3.Eq.laws, tt),
+      ),
     ) T.laws) };
 
     fn eq(&self, other: &Self) -> bool
@@ -47,7 +50,10 @@ impl<T: TriHashItem + PartialEq, S: BuildHasher> PartialEq for TriHashMap<T, S> 
 impl<T: TriHashItem + Eq, S: BuildHasher> Eq for TriHashMap<T, S> {
     ghost laws = { on_equiv bag (is_same-equivalence (ranks T.TriHashItem T.K1.eq T.K2.eq T.K3.eq) T.eq (
       IsEquivalence-key T.K1.eq T.key1 T.K1.Eq.laws,
-      (IsEquivalence-key T.K2.eq T.key2 T.K2.Eq.laws, (IsEquivalence-key T.K3.eq T.key3 T.K3.Eq.laws, tt)),
+      (
+        IsEquivalence-key T.K2.eq T.key2 T.K2.Eq.laws,
+        (IsEquivalence-key T.K3.eq T.key3 T.K3.Eq.laws, tt),
+      ),
     )
         T.Eq.laws) };
 }

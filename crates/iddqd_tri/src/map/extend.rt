@@ -10,7 +10,7 @@ use super::TriHashMap;
 use super::slots::Refusal;
 use crate::error::FromIterError;
 use crate::item::Ranked;
-use iddqd_store::{DuplicateItem, ExtendUniqueError, MemoryRefused, SlotUnder};
+use iddqd_store::{DuplicateItem, ExtendUniqueError, MemoryRefused};
 use std::alloc::Global;
 use std::hash::{BuildHasher, Hash};
 
@@ -63,9 +63,9 @@ impl<T: Ranked + Drop, S: BuildHasher> TriHashMap<T, S> {
     ///
     /// To insert an item, the call hashes each key of it once, and searches for it once. It allocates memory if the map
     /// is full, and for the list of the items inserted, by which an error returns them: each time for as many items as
-    /// the iterator still promises. For a list of no items it
-    /// allocates none. To remove the items again, it hashes each key of them once more, or each key of the other items
-    /// if these are fewer. It compares none then, and allocates no memory. After an error the capacity may have grown.
+    /// the iterator still promises. For a list of no items it allocates none. To remove the items again, it hashes each
+    /// key of them once more, or each key of the other items if these are fewer. It compares none then, and allocates
+    /// no memory. After an error the capacity may have grown.
     ///
     /// ```text
     /// if let Err(refused) = map.extend_unique(batch) {
@@ -163,12 +163,7 @@ impl<T: Ranked + Drop, S: BuildHasher + Default + Drop> TriHashMap<T, S> {
             match map.insert_or_refuse(item) {
                 Ok(()) => {}
                 Err(Refusal::Duplicate(item, found)) => {
-                    let unknown = (
-                        SlotUnder::nothing(),
-                        SlotUnder::nothing(),
-                        SlotUnder::nothing(),
-                    );
-                    let duplicates = map.take_all(&found, &unknown);
+                    let duplicates = map.take_all(&found);
                     return Err(FromIterError::Duplicate(DuplicateItem::new(item, duplicates)));
                 }
                 Err(Refusal::Memory(item)) => return Err(FromIterError::Memory(item)),

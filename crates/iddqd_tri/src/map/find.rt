@@ -1,5 +1,5 @@
 //! Lookups. Each searches the table of one rank, which leads to the item's slot.
-ghost use Rattle.std.specs.Prelude.{◌≡◌, option_copied};
+ghost use Rattle.std.specs.Prelude.{Contains, ◌≡◌, option_copied};
 ghost use Rattle.std.specs.List.{list_any};
 ghost use Rattle.iddqd_store.specs.Bag.{IsOnly};
 ghost use Rattle.iddqd_store.specs.Map.{bag};
@@ -51,8 +51,7 @@ impl<T: TriHashItem, S: BuildHasher> TriHashMap<T, S> {
         query2: Q2,
         query3: Q3,
     ) -> Option<&T>
-        ensures { IsOnly
-            (has_all T.TriHashItem Q1.stands_for Q2.stands_for Q3.stands_for query1 query2 query3)
+        ensures { IsOnly (has_all T.TriHashItem Q1.stands_for Q2.stands_for Q3.stands_for query1 query2 query3)
             (bag self.now) (option_copied result) }
     {
         let hash = self.hash_builder.hash_one(query1);
@@ -88,8 +87,7 @@ impl<T: TriHashItem, S: BuildHasher> TriHashMap<T, S> {
         query3: Q3,
     ) -> bool
         ensures { result
-            ≡ list_any
-            (has_all T.TriHashItem Q1.stands_for Q2.stands_for Q3.stands_for query1 query2 query3)
+            ≡ list_any (has_all T.TriHashItem Q1.stands_for Q2.stands_for Q3.stands_for query1 query2 query3)
             (bag self.now) }
     {
         self.get_unique(query1, query2, query3).is_some()
@@ -106,8 +104,10 @@ impl<T: TriHashItem, S: BuildHasher> TriHashMap<T, S> {
         matcher: &mut M,
         meter: &mut Meter,
     ) -> Option<&T>
-        requires { NamesOneUnder (agree T.key1 T.K1.eq) (⟦<T as Hashed<S>>⟧.hash1 self.now.builder) hash
+        requires names { NamesOneUnder (agree T.key1 T.K1.eq) (⟦<T as Hashed<S>>⟧.hash1 self.now.builder) hash
             (λ x. M.accepts matcher.old (T.key1 x)) (bag self.now) }
+        requires asks { (x : T) → Contains (bag self.now) x → ⟦<T as Hashed<S>>⟧.hash1 self.now.builder x ≡ hash
+            → M.MayAsk matcher.old (T.key1 x) }
         ensures found { IsOnly (λ x. M.accepts matcher.old (T.key1 x)) (bag self.now) (option_copied result) }
         ensures is_kept { M.IsKept matcher.old matcher.new }
         ensures costs { SearchCosts (⟦<T as Hashed<S>>⟧.hash1 self.now.builder) (bag self.now)
@@ -127,8 +127,10 @@ impl<T: TriHashItem, S: BuildHasher> TriHashMap<T, S> {
         matcher: &mut M,
         meter: &mut Meter,
     ) -> Option<&T>
-        requires { NamesOneUnder (agree T.key2 T.K2.eq) (⟦<T as Hashed<S>>⟧.hash2 self.now.builder) hash
+        requires names { NamesOneUnder (agree T.key2 T.K2.eq) (⟦<T as Hashed<S>>⟧.hash2 self.now.builder) hash
             (λ x. M.accepts matcher.old (T.key2 x)) (bag self.now) }
+        requires asks { (x : T) → Contains (bag self.now) x → ⟦<T as Hashed<S>>⟧.hash2 self.now.builder x ≡ hash
+            → M.MayAsk matcher.old (T.key2 x) }
         ensures found { IsOnly (λ x. M.accepts matcher.old (T.key2 x)) (bag self.now) (option_copied result) }
         ensures is_kept { M.IsKept matcher.old matcher.new }
         ensures costs { SearchCosts (⟦<T as Hashed<S>>⟧.hash2 self.now.builder) (bag self.now)
@@ -148,8 +150,10 @@ impl<T: TriHashItem, S: BuildHasher> TriHashMap<T, S> {
         matcher: &mut M,
         meter: &mut Meter,
     ) -> Option<&T>
-        requires { NamesOneUnder (agree T.key3 T.K3.eq) (⟦<T as Hashed<S>>⟧.hash3 self.now.builder) hash
+        requires names { NamesOneUnder (agree T.key3 T.K3.eq) (⟦<T as Hashed<S>>⟧.hash3 self.now.builder) hash
             (λ x. M.accepts matcher.old (T.key3 x)) (bag self.now) }
+        requires asks { (x : T) → Contains (bag self.now) x → ⟦<T as Hashed<S>>⟧.hash3 self.now.builder x ≡ hash
+            → M.MayAsk matcher.old (T.key3 x) }
         ensures found { IsOnly (λ x. M.accepts matcher.old (T.key3 x)) (bag self.now) (option_copied result) }
         ensures is_kept { M.IsKept matcher.old matcher.new }
         ensures costs { SearchCosts (⟦<T as Hashed<S>>⟧.hash3 self.now.builder) (bag self.now)

@@ -5,7 +5,7 @@ ghost use Rattle.iddqd_store.specs.Map.{bag, IsFullFor, Overwrites};
 
 use super::TriHashMap;
 use crate::item::Ranked;
-use iddqd_store::{MemoryRefused, UpToThree};
+use iddqd_store::{MemoryRefused, Meter, UpToThree};
 use std::hash::{BuildHasher, Hash};
 
 impl<T: Ranked, S: BuildHasher> TriHashMap<T, S> {
@@ -29,16 +29,17 @@ impl<T: Ranked, S: BuildHasher> TriHashMap<T, S> {
     {
         // Of the calls below, `put_over` and the growth of a full map are not inlined. The rest is, so a caller's loop
         // branches on the outcome where it arises, and writes no list of removed items if there are none.
+        let mut meter = Meter::new();
         match self.places(&item) {
             Ok(at) => {
                 if let Err(_) = self.make_room() {
                     return Err(MemoryRefused { value: item });
                 }
-                self.insert_at(item, at);
+                self.insert_at(item, at, &mut meter);
                 Ok(UpToThree::new())
             }
             Err(by) => {
-                let (displaced, _) = self.put_over(item, &by);
+                let (displaced, _) = self.put_over(item, &by, &mut meter);
                 Ok(displaced)
             }
         }

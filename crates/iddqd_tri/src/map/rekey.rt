@@ -8,7 +8,7 @@ ghost use Rattle.iddqd_tri.specs.Rekeyed.{PutsInPlace, TellsWhyNot, left_out};
 use super::TriHashMap;
 use crate::error::NotReplaced;
 use crate::item::Ranked;
-use iddqd_store::Query;
+use iddqd_store::{Meter, Query};
 use std::hash::{BuildHasher, Hash};
 
 impl<T: Ranked, S: BuildHasher> TriHashMap<T, S> {
@@ -34,7 +34,7 @@ impl<T: Ranked, S: BuildHasher> TriHashMap<T, S> {
         let Some(ix) = self.by_key1().slot_of(query) else {
             return Err(NotReplaced::Absent(item));
         };
-        match self.rekey_at(ix, item) {
+        match self.rekey_at(ix, item, &mut Meter::new()) {
             Ok(old) => Ok(old),
             Err(new_item) => Err(NotReplaced::Conflict(new_item)),
         }
@@ -62,7 +62,7 @@ impl<T: Ranked, S: BuildHasher> TriHashMap<T, S> {
         let Some(ix) = self.by_key2().slot_of(query) else {
             return Err(NotReplaced::Absent(item));
         };
-        match self.rekey_at(ix, item) {
+        match self.rekey_at(ix, item, &mut Meter::new()) {
             Ok(old) => Ok(old),
             Err(new_item) => Err(NotReplaced::Conflict(new_item)),
         }
@@ -90,7 +90,7 @@ impl<T: Ranked, S: BuildHasher> TriHashMap<T, S> {
         let Some(ix) = self.by_key3().slot_of(query) else {
             return Err(NotReplaced::Absent(item));
         };
-        match self.rekey_at(ix, item) {
+        match self.rekey_at(ix, item, &mut Meter::new()) {
             Ok(old) => Ok(old),
             Err(new_item) => Err(NotReplaced::Conflict(new_item)),
         }

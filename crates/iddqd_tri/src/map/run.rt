@@ -185,7 +185,8 @@ where
 
     // Hands a reply to the sink. `capacity` is called for the fact that the items fit, which the clauses of each of
     // these functions say, since those of each step do. A reply that borrows nothing would leave its lifetime open, so
-    // each reply is handed over from a borrow of the map. The function is inlined, so that the sink's code knows the reply.
+    // each reply is handed over from a borrow of the map. The function is inlined, so that the sink's code knows the
+    // reply.
     #[inline(always)]
     fn tell<'m, K: TriSink<T>>(
         &'m self,

@@ -3,6 +3,7 @@ ghost use Rattle.std.specs.Prelude.{◌≡◌, Some, true, false};
 ghost use Rattle.std.specs.Fn.{CalledAt, FnOnceReturnsAt, FnOnceTakesAt};
 ghost use Rattle.std.specs.List.{list_any};
 ghost use Rattle.iddqd_store.specs.Bag.{IsOnly};
+ghost use Rattle.iddqd_store.specs.Bag.Calling.{TakesInAnyOrder};
 ghost use Rattle.iddqd_store.specs.Bag.Storing.{StoresInAll, StoresOne};
 ghost use Rattle.iddqd_store.specs.Map.{bag};
 ghost use Rattle.iddqd_tri.specs.Keys.{has1, has2, has3, has_all};
@@ -110,12 +111,15 @@ impl<T: TriHashItemMut, S: BuildHasher> TriHashMap<T, S> {
     where
         T::Data: Drop,
         F: Drop,
-        requires { (x : T) → IsOnly (has_all T.TriHashItem Q1.stands_for Q2.stands_for Q3.stands_for query1 query2 query3)
+        requires { (x : T) → IsOnly
+            (has_all T.TriHashItem Q1.stands_for Q2.stands_for Q3.stands_for query1 query2 query3)
             (bag self.old) (Some x) → FnOnceTakesAt F.FnOnce f x }
         ensures found { result
-            ≡ list_any (has_all T.TriHashItem Q1.stands_for Q2.stands_for Q3.stands_for query1 query2 query3) (bag self.old) }
+            ≡ list_any (has_all T.TriHashItem Q1.stands_for Q2.stands_for Q3.stands_for query1 query2 query3)
+            (bag self.old) }
         ensures stores { result ≡ true → StoresOne (FnOnceReturnsAt F.FnOnce f) T.put ⟦<T as Ranked>⟧.ranks
-            (has_all T.TriHashItem Q1.stands_for Q2.stands_for Q3.stands_for query1 query2 query3) (bag self.old) (bag self.new) }
+            (has_all T.TriHashItem Q1.stands_for Q2.stands_for Q3.stands_for query1 query2 query3) (bag self.old)
+            (bag self.new) }
         ensures absent { result ≡ false → self.new ≡ self.old }
         ensures capacity { self.new.capacity ≡ self.old.capacity }
         ensures builder { self.new.builder ≡ self.old.builder }
@@ -137,7 +141,7 @@ impl<T: TriHashItemMut, S: BuildHasher> TriHashMap<T, S> {
     pub fn update_all<F: FnMut(&T) -> T::Data>(&mut self, mut f: F)
     where
         T::Data: Drop,
-        requires { F.IsAlwaysCallable f }
+        requires { TakesInAnyOrder F.FnMut f (bag self.old) }
         ensures stores { StoresInAll (CalledAt F.FnMut) T.put f (bag self.old) (bag self.new) }
         ensures capacity { self.new.capacity ≡ self.old.capacity }
         ensures builder { self.new.builder ≡ self.old.builder }

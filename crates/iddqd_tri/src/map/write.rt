@@ -23,7 +23,8 @@ impl<T: TriHashItem, S: BuildHasher> TriHashMap<T, S> {
     ///
     /// The call compares at most as many keys as items have the query's hash at the first rank. It allocates no memory.
     pub fn get1_mut<Q: Query<T::K1>>(&mut self, query: Q) -> Option<RefMut<'_, T, S>>
-        ensures found { IsOnly (has1 T.TriHashItem Q.stands_for query) (bag self.old) (option_and_then ref_item result) }
+        ensures found { IsOnly (has1 T.TriHashItem Q.stands_for query) (bag self.old)
+            (option_and_then ref_item result) }
         ensures unchanged { IfSome result (λ r. ref_map r ≡ self.old) }
         ensures same_map { IfSome result (λ r. ref_lender r ≡ self.entry.ghost_name) }
         ensures* rests_at_none { sem 𝓛
@@ -40,7 +41,8 @@ impl<T: TriHashItem, S: BuildHasher> TriHashMap<T, S> {
     /// The call compares at most as many keys as items have the query's hash at the second rank. It allocates no
     /// memory.
     pub fn get2_mut<Q: Query<T::K2>>(&mut self, query: Q) -> Option<RefMut<'_, T, S>>
-        ensures found { IsOnly (has2 T.TriHashItem Q.stands_for query) (bag self.old) (option_and_then ref_item result) }
+        ensures found { IsOnly (has2 T.TriHashItem Q.stands_for query) (bag self.old)
+            (option_and_then ref_item result) }
         ensures unchanged { IfSome result (λ r. ref_map r ≡ self.old) }
         ensures same_map { IfSome result (λ r. ref_lender r ≡ self.entry.ghost_name) }
         ensures* rests_at_none { sem 𝓛
@@ -54,9 +56,11 @@ impl<T: TriHashItem, S: BuildHasher> TriHashMap<T, S> {
     /// item's data can be written, as by `*guard.data_mut() = data`, and the item can be replaced by one with equal
     /// keys.
     ///
-    /// The call compares at most as many keys as items have the query's hash at the third rank. It allocates no memory.
+    /// The call compares at most as many keys as items have the query's hash at the third rank. It allocates no
+    /// memory.
     pub fn get3_mut<Q: Query<T::K3>>(&mut self, query: Q) -> Option<RefMut<'_, T, S>>
-        ensures found { IsOnly (has3 T.TriHashItem Q.stands_for query) (bag self.old) (option_and_then ref_item result) }
+        ensures found { IsOnly (has3 T.TriHashItem Q.stands_for query) (bag self.old)
+            (option_and_then ref_item result) }
         ensures unchanged { IfSome result (λ r. ref_map r ≡ self.old) }
         ensures same_map { IfSome result (λ r. ref_lender r ≡ self.entry.ghost_name) }
         ensures* rests_at_none { sem 𝓛
@@ -76,7 +80,8 @@ impl<T: TriHashItem, S: BuildHasher> TriHashMap<T, S> {
         query2: Q2,
         query3: Q3,
     ) -> Option<RefMut<'_, T, S>>
-        ensures found { IsOnly (has_all T.TriHashItem Q1.stands_for Q2.stands_for Q3.stands_for query1 query2 query3) (bag self.old)
+        ensures found { IsOnly (has_all T.TriHashItem Q1.stands_for Q2.stands_for Q3.stands_for query1 query2 query3)
+            (bag self.old)
             (option_and_then ref_item result) }
         ensures unchanged { IfSome result (λ r. ref_map r ≡ self.old) }
         ensures same_map { IfSome result (λ r. ref_lender r ≡ self.entry.ghost_name) }

@@ -4,7 +4,7 @@ ghost use Rattle.std.specs.Borrow.{sem};
 ghost use Rattle.iddqd_store.specs.Bag.{differ, like, swap};
 ghost use Rattle.iddqd_store.specs.Map.{bag};
 ghost use Rattle.iddqd_tri.specs.Mismatch.{mismatch_item, mismatch_rank};
-ghost use Rattle.iddqd_tri.specs.RefMuts.{Replaces, ref_map, ref_item, ref_with, lends_ref_data};
+ghost use Rattle.iddqd_tri.specs.RefMuts.{Replaces, ref_map, ref_item, ref_with, lends_map_data, lends_ref_data};
 
 use super::RefMut;
 use crate::error::KeyMismatch;
@@ -42,6 +42,22 @@ impl<T: TriHashItemMut, S: BuildHasher> RefMut<'_, T, S> {
     {
         let slot = self.slot;
         self.map.data_mut_at(slot)
+    }
+}
+
+impl<'a, T: TriHashItemMut, S: BuildHasher> RefMut<'a, T, S> {
+    /// Returns the item's data, borrowed for writing for as long as the guard borrowed the map. What is written through
+    /// it is the item's data afterwards. No key changes, and the call compares and hashes none.
+    pub fn into_data(self) -> &'a mut T::Data
+        ensures value { IfSome (ref_item self.entry) (λ x. result.now ≡ T.data_of x) }
+        ensures swaps { (d : T.Data) → IfSome (ref_item self.entry) (λ x.
+            IsPermutation (bag (ref_map (ref_with self.entry (λ y. T.put y d))))
+            (swap ⟦<T as Ranked>⟧.ranks (bag (ref_map self.entry)) x (T.put x d))) }
+        ensures* writes_back { sem 𝓛 (lends_map_data T.row S.row T.K1.row T.K2.row T.K3.row S.Hasher.row
+            T.Data.row T.put self.entry result) }
+    {
+        let RefMut { map, slot } = self;
+        map.data_mut_at(slot)
     }
 }
 

@@ -1,8 +1,10 @@
 //! What reserved capacity is good for, and that reserving and shrinking keep the items.
-ghost use Rattle.std.specs.Prelude.{◌≡◌, ◌∷◌, ◌<◌, ◌≤◌, ◌⊎◌, true, length, IsPermutation};
-ghost use Rattle.iddqd_bi.specs.Map.{bag};
+ghost use Rattle.std.specs.Prelude.{◌≡◌, ◌≢◌, ◌∷◌, ◌<◌, ◌≤◌, ◌+◌, ◌⊎◌, [], true, length, IsPermutation};
+ghost use Rattle.std.specs.Bool.{OnTrue, OnFalse};
+ghost use Rattle.iddqd_bi.specs.Bag.{clash};
+ghost use Rattle.iddqd_bi.specs.Map.{IsFullFor, bag};
 
-use iddqd_bi::{BiHashItem, BiHashMap, InsertReason};
+use iddqd_bi::{BiHashItem, BiHashMap, InsertReason, Ranked};
 use std::hash::{BuildHasher, Hash};
 
 /// Tests that an insert does not run out of memory after capacity for one item was reserved.
@@ -18,9 +20,13 @@ pub fn insert_after_reserve<T: BiHashItem + Drop, S: BuildHasher>(
     insert_or_lack(map, item)
 }
 
-/// Inserts an item if nothing conflicts with it, and else drops it. Returns `false` only if there was no memory for it.
+/// Inserts an item if nothing conflicts with it, and else drops it. Returns `false` if nothing conflicts with it and there
+/// was no memory for it.
 fn insert_or_lack<T: BiHashItem + Drop, S: BuildHasher>(map: &mut BiHashMap<T, S>, item: T) -> bool
     ensures memory { length (bag map.old) < map.old.capacity → result ≡ true }
+    ensures taken { OnTrue result (IsPermutation (bag map.new) (item ∷ bag map.old)
+        ⊎ (clash ⟦<T as Ranked>⟧.ranks (bag map.old) item ≢ [])) }
+    ensures lacking { OnFalse result (IsFullFor ⟦<T as Ranked>⟧.ranks map.old item) }
     ensures one_at_most { IsPermutation (bag map.new) (item ∷ bag map.old) ⊎ (map.new ≡ map.old) }
     ensures no_less_room { map.old.capacity ≤ map.new.capacity }
 {
@@ -68,7 +74,9 @@ pub fn extend_after_reserve<T: BiHashItem + Drop, S: BuildHasher>(
 
 /// Reserves capacity, and returns whether that succeeded. The items stay either way.
 pub fn reserve_keeps<T: BiHashItem, S: BuildHasher>(map: &mut BiHashMap<T, S>, more: usize) -> bool
-    ensures { bag map.new ≡ bag map.old }
+    ensures items { bag map.new ≡ bag map.old }
+    ensures room { result ≡ true → length (bag map.old) + more ≤ map.new.capacity }
+    ensures still_short { OnFalse result (map.new.capacity < length (bag map.old) + more) }
 {
     map.reserve(more).is_ok()
 }
@@ -78,7 +86,9 @@ pub fn shrink_keeps<T: BiHashItem + Drop, S: BuildHasher>(
     map: &mut BiHashMap<T, S>,
     least: usize,
 ) -> bool
-    ensures { bag map.new ≡ bag map.old }
+    ensures items { bag map.new ≡ bag map.old }
+    ensures shrunk { result ≡ true → map.new.capacity ≡ length (bag map.old) }
+    ensures granted { length (bag map.old) ≡ map.old.capacity → result ≡ true }
 {
     map.shrink_to(least).is_ok() && map.shrink_to_fit().is_ok()
 }

@@ -1,8 +1,10 @@
 //! What reserved capacity is good for, and that reserving and shrinking keep the items.
-ghost use Rattle.std.specs.Prelude.{◌≡◌, ◌∷◌, ◌<◌, ◌≤◌, ◌⊎◌, true, length, IsPermutation};
-ghost use Rattle.iddqd_tri.specs.Map.{bag};
+ghost use Rattle.std.specs.Prelude.{◌≡◌, ◌≢◌, ◌∷◌, ◌<◌, ◌≤◌, ◌+◌, ◌⊎◌, [], true, length, IsPermutation};
+ghost use Rattle.std.specs.Bool.{OnTrue, OnFalse};
+ghost use Rattle.iddqd_tri.specs.Bag.{clash};
+ghost use Rattle.iddqd_tri.specs.Map.{IsFullFor, bag};
 
-use iddqd_tri::{InsertReason, TriHashItem, TriHashMap};
+use iddqd_tri::{InsertReason, Ranked, TriHashItem, TriHashMap};
 use std::hash::{BuildHasher, Hash};
 
 /// Tests that an insert does not run out of memory after capacity for one item was reserved.
@@ -18,12 +20,16 @@ pub fn insert_after_reserve<T: TriHashItem + Drop, S: BuildHasher>(
     insert_or_lack(map, item)
 }
 
-/// Inserts an item if nothing conflicts with it, and else drops it. Returns `false` only if there was no memory for it.
+/// Inserts an item if nothing conflicts with it, and else drops it. Returns `false` if nothing conflicts with it and
+/// there was no memory for it.
 fn insert_or_lack<T: TriHashItem + Drop, S: BuildHasher>(
     map: &mut TriHashMap<T, S>,
     item: T,
 ) -> bool
     ensures memory { length (bag map.old) < map.old.capacity → result ≡ true }
+    ensures taken { OnTrue result (IsPermutation (bag map.new) (item ∷ bag map.old)
+        ⊎ (clash ⟦<T as Ranked>⟧.ranks (bag map.old) item ≢ [])) }
+    ensures lacking { OnFalse result (IsFullFor ⟦<T as Ranked>⟧.ranks map.old item) }
     ensures one_at_most { IsPermutation (bag map.new) (item ∷ bag map.old) ⊎ (map.new ≡ map.old) }
     ensures no_less_room { map.old.capacity ≤ map.new.capacity }
 {
@@ -74,7 +80,9 @@ pub fn reserve_keeps<T: TriHashItem, S: BuildHasher>(
     map: &mut TriHashMap<T, S>,
     more: usize,
 ) -> bool
-    ensures { bag map.new ≡ bag map.old }
+    ensures items { bag map.new ≡ bag map.old }
+    ensures room { result ≡ true → length (bag map.old) + more ≤ map.new.capacity }
+    ensures still_short { OnFalse result (map.new.capacity < length (bag map.old) + more) }
 {
     map.reserve(more).is_ok()
 }
@@ -84,7 +92,9 @@ pub fn shrink_keeps<T: TriHashItem + Drop, S: BuildHasher>(
     map: &mut TriHashMap<T, S>,
     least: usize,
 ) -> bool
-    ensures { bag map.new ≡ bag map.old }
+    ensures items { bag map.new ≡ bag map.old }
+    ensures shrunk { result ≡ true → map.new.capacity ≡ length (bag map.old) }
+    ensures granted { length (bag map.old) ≡ map.old.capacity → result ≡ true }
 {
     map.shrink_to(least).is_ok() && map.shrink_to_fit().is_ok()
 }

@@ -1,42 +1,59 @@
-use Rattle.std.specs.Prelude.{nat_eq, IsPermutation, refl}
-use Rattle.std.proofs.Common.{◌≡◌, [], ◌∷◌, ◌∙◌, sym, subst, arith}
+use Rattle.std.specs.Prelude.{nat_eq, IsPermutation, Some, filter, true, false}
+use Rattle.std.specs.List.{list_any}
+use Rattle.std.proofs.Common.{◌≡◌, ◌≢◌, [], ◌∷◌, ℕ, suc, List, Bool, length, refl, sym, ap, subst, arith}
 use Rattle.std.proofs.lemmas.Bool.{eqb-true}
-use Rattle.std.proofs.lemmas.Cmp.{nat_eq_equiv, on_equiv}
+use Rattle.std.proofs.lemmas.List.{nil_from_length}
 use Rattle.std.proofs.lemmas.List.Sorted.{length_permutation}
+use Rattle.iddqd_bi.specs.Bag.{IsOnly, Ranks, clash}
 use Rattle.iddqd_bi.specs.Map.{bag}
 use Rattle.iddqd_bi.specs.Rank.{agree}
-use Rattle.iddqd_bi.proofs.CallerLemmas.Asking.{none-clash_again}
+use Rattle.iddqd_bi.specs.Rekeyed.{TellsWhyNot}
+use Rattle.iddqd_bi.proofs.CallerLemmas.Asking.{none-clash}
 use Rattle.iddqd_bi.proofs.CallerLemmas.Laws.{given-has, none-listed}
+use Rattle.iddqd_store.proofs.BagLemmas.Exchanges.{IsPermutation-filter}
 use Rattle.example_devices.specs.declared.devices.Device.{Device}
 use Rattle.example_devices.proofs.devices.move_to.Goals as goal
 
-pub returns-in_default-clause-no_device : goal.returns-in_default-clause-no_device
-returns-in_default-clause-no_device c = λ _. none-listed (λ (d : Device). nat_eq c.args.serial d.serial) (bag c.args.devices.now) c.in_default.ensures.taken
+abbrev by : Ranks Device
+by = agree (λ (d : Device). d.serial) nat_eq ∷ agree (λ (d : Device). d.port) nat_eq ∷ []
 
--- the device that was taken out has the serial number, and it can go in again at the port, which no device has
-pub unreachable-requires : goal.unreachable-requires
-unreachable-requires c =
+-- where only one item passes, none of the others does
+alone : (test : Device → Bool) (old rest : List Device) (x : Device) → x ∷ [] ≡ filter test old → IsPermutation old (x ∷ rest) → list_any test rest ≡ false
+alone test old rest x only taken =
+    let one : 1 ≡ length (filter test old) = ap length only in
+    let passes : test x ≡ true = given-has test old x only in
+    let whole : length (filter test (x ∷ rest)) ≡ suc (length (filter test rest)) = rw passes refl in
+    none-listed test rest (sym (nil_from_length (filter test rest) (omega (arith, one, whole, length_permutation _ _ (IsPermutation-filter test old (x ∷ rest) taken)))))
+
+-- so the one that is in the way is at the port
+at_port : (rest : List Device) (y : Device) (b : Bool) → list_any (λ d. nat_eq y.port d.port) rest ≡ b → list_any (λ d. nat_eq y.serial d.serial) rest ≡ false → clash by rest y ≢ [] → list_any (λ d. nat_eq y.port d.port) rest ≡ true
+at_port rest y true is none some = is
+at_port rest y false is none some = absurd (some (none-clash by rest y (none, (is, tt))))
+
+same : (n : ℕ) (old : List Device) (x : Device) → IsOnly (λ d. nat_eq n d.serial) old (Some x) → x.serial ≡ n
+same n old x only = sym (eqb-true n x.serial (given-has (λ d. nat_eq n d.serial) old x only))
+
+pub returns-in-Ok-clause-was : goal.returns-in-Ok-clause-was
+returns-in-Ok-clause-was c =
     let old = bag c.args.devices.now in
-    let gone = c.in-Some.ensures in
-    let same : c.in-Some.device.serial ≡ c.args.serial = sym (eqb-true c.args.serial c.in-Some.device.serial (given-has (λ (d : Device). nat_eq c.args.serial d.serial) old c.in-Some.device gone.taken)) in
-    let by_serial = λ (d : Device). d.serial in
-    let by_port = λ (d : Device). d.port in
-    let free = none-clash_again (agree by_serial nat_eq ∷ []) [] (agree by_port nat_eq) (on_equiv by_serial nat_eq_equiv, (on_equiv by_port nat_eq_equiv, tt)) old (bag c.remove1.new.self) c.in-Some.device (record { serial = c.args.serial; port = c.args.port }) c.len-len.ensures.sound gone.loses.items (rw (same, nat_eq_equiv.refl c.args.serial) refl) refl (sym c.if-contains_key2.ensures) in
-    let fewer = length_permutation _ _ gone.loses.items in
-    let room = c.capacity-room.ensures in
-    cc (c.in-Err.ensures.granted free (omega (arith, fewer, gone.loses.same_room, room.fits, room.value)))
+    let device = c.in-Ok.device in
+    subst (λ n. IsOnly (λ (d : Device). nat_eq c.args.serial d.serial) old (Some (record { serial = n; port = device.port }))) (same c.args.serial old device c.in-Ok.ensures.found) c.in-Ok.ensures.found
 
-pub returns-clause-moved : goal.returns-clause-moved
-returns-clause-moved c =
+pub returns-in-Ok-clause-moved : goal.returns-in-Ok-clause-moved
+returns-in-Ok-clause-moved c =
     let old = bag c.args.devices.now in
-    let gone = c.in-Some.ensures in
-    let same : c.in-Some.device.serial ≡ c.args.serial = sym (eqb-true c.args.serial c.in-Some.device.serial (given-has (λ (d : Device). nat_eq c.args.serial d.serial) old c.in-Some.device gone.taken)) in
-    (bag c.remove1.new.self, subst (λ n. IsPermutation old (record { serial = n; port = c.in-Some.device.port } ∷ bag c.remove1.new.self)) same gone.loses.items, c.in-Ok.ensures.gains.items)
+    let device = c.in-Ok.device in
+    subst (λ n. IsPermutation (record { serial = n; port = device.port } ∷ bag c.rekey1.new.self) (record { serial = c.args.serial; port = c.args.port } ∷ old)) (same c.args.serial old device c.in-Ok.ensures.found) c.in-Ok.ensures.puts.items
 
--- there is room where the device was, so the map does not grow
-pub returns-clause-same_limit : goal.returns-clause-same_limit
-returns-clause-same_limit c =
-    let gone = c.in-Some.ensures in
-    let fewer = length_permutation _ _ gone.loses.items in
-    let room = c.capacity-room.ensures in
-    c.in-Ok.ensures.gains.same_room (omega (arith, fewer, gone.loses.same_room, room.fits, room.value)) ∙ gone.loses.same_room
+pub returns-in-Err-Absent-clause-no_device : goal.returns-in-Err-Absent-clause-no_device
+returns-in-Err-Absent-clause-no_device c = λ _.
+    let old = bag c.args.devices.now in
+    let test = λ (d : Device). nat_eq c.args.serial d.serial in
+    none-listed test old (subst (λ e. TellsWhyNot by test old (record { serial = c.args.serial; port = c.args.port }) e) c.in-Err-Absent.field-0-is c.in-Err-Absent.ensures.reason)
+
+pub returns-in-Err-Conflict-clause-port_taken : goal.returns-in-Err-Conflict-clause-port_taken
+returns-in-Err-Conflict-clause-port_taken c = λ _.
+    let old = bag c.args.devices.now in
+    let test = λ (d : Device). nat_eq c.args.serial d.serial in
+    let why = subst (λ e. TellsWhyNot by test old (record { serial = c.args.serial; port = c.args.port }) e) c.in-Err-Conflict.field-0-is c.in-Err-Conflict.ensures.reason in
+    (why.0, why.1, same c.args.serial old why.0 why.2, why.3, at_port why.1 (record { serial = c.args.serial; port = c.args.port }) _ refl (alone test old why.1 why.0 why.2 why.3) why.4)

@@ -1,26 +1,38 @@
-use Rattle.std.specs.Prelude.{◌≡◌, List, false, nat_eq}
-use Rattle.std.specs.List.{list_any}
-use Rattle.std.proofs.Common.{[], ◌∷◌, ◌∙◌, sym, arith}
-use Rattle.iddqd_bi.specs.Bag.{Ranks, clash}
+use Rattle.std.specs.Prelude.{nat_eq}
+use Rattle.std.proofs.Common.{◌≡◌, ◌∷◌, ◌∙◌, [], List, Bor, length, map, sym, ap, arith, rules}
+use Rattle.std.proofs.lemmas.List.{nil_from_length, length-map}
+use Rattle.iddqd_bi.specs.Bag.{Ranks, clash, order}
 use Rattle.iddqd_bi.specs.Map.{bag}
 use Rattle.iddqd_bi.specs.Rank.{agree}
-use Rattle.iddqd_bi.proofs.CallerLemmas.Asking.{none-clash}
+use Rattle.iddqd_bi.proofs.CallerLemmas.{length-clash}
 use Rattle.example_devices.specs.declared.devices.Device.{Device}
 use Rattle.example_devices.proofs.devices.plug_in.Goals as goal
+use Rattle.example_devices.proofs.devices.plug_in.Goals.{else-len-capacity-via-then-len-capacity+else-is_empty, else-len-capacity-via-else-len-capacity}
 
 abbrev by : Ranks Device
 by = agree (λ (d : Device). d.serial) nat_eq ∷ agree (λ (d : Device). d.port) nat_eq ∷ []
 
--- where no device has either key, nothing is in the way
-free : (there : List Device) (x : Device) → list_any (λ d. nat_eq x.serial d.serial) there ≡ false → list_any (λ d. nat_eq x.port d.port) there ≡ false → clash by there x ≡ []
-free there x no_serial no_port = none-clash by there x (no_serial, (no_port, tt))
+-- as many conflict as are listed
+as_many : (there : List Device) (x : Device) (found : List (Bor Device)) → map (λ r. r.now) found ≡ order by there x → length (clash by there x) ≡ length found
+as_many there x found is = length-clash by there x ∙ ap length (sym is) ∙ length-map found (λ r. r.now)
 
-pub returns-then-len-capacity-clause-full : goal.returns-then-len-capacity-clause-full
-returns-then-len-capacity-clause-full c = λ _.
-    record { free = free (bag c.args.devices.now) c.args.device (sym c.if-contains_key1.ensures) (sym c.if-contains_key2.ensures); full = sym c.len.ensures.value ∙ c.if-len-capacity.true ∙ c.capacity.ensures.value }
+-- where the limit is reached and nothing conflicts, the map is full for the device
+pub returns-then-is_empty-clause-full : goal.returns-then-is_empty-clause-full
+returns-then-is_empty-clause-full c = λ _.
+    let none : length c.conflicts_with.result ≡ 0 = search (rules, c.if-is_empty.true, c.if-is_empty.ensures) in
+    record {
+      free = nil_from_length _ (as_many (bag c.args.devices.now) c.args.device c.conflicts_with.result c.conflicts_with.ensures ∙ none);
+      full = sym c.len.ensures.value ∙ c.if-len-capacity.true ∙ c.capacity.ensures.value;
+    }
 
--- below its capacity a map grants the insert then
-pub unreachable-requires : goal.unreachable-requires
-unreachable-requires c =
+-- a device goes in below the limit alone
+pub returns-in-Ok-clause-same_limit : goal.returns-in-Ok-clause-same_limit
+returns-in-Ok-clause-same_limit c =
     let room = c.capacity.ensures in
-    cc (c.in-Err.ensures.granted (free (bag c.args.devices.now) c.args.device (sym c.if-contains_key1.ensures) (sym c.if-contains_key2.ensures)) (omega (arith, room.fits, room.value, c.len.ensures.value, c.if-len-capacity.false)))
+    let free = c.in-Ok.ensures.free in
+    elim c.else-len-capacity.branch [
+      | else-len-capacity-via-then-len-capacity+else-is_empty w ↦
+          let none : length w.conflicts_with.result ≡ 0 = sym (as_many (bag c.args.devices.now) c.args.device w.conflicts_with.result w.conflicts_with.ensures) ∙ ap length free in
+          absurd (search (rules, none))
+      | else-len-capacity-via-else-len-capacity w ↦ c.in-Ok.ensures.gains.same_room (omega (arith, room.fits, room.value, c.len.ensures.value, w.if-len-capacity.false))
+    ]

@@ -1,7 +1,8 @@
 //! Inserting an item in place of others.
-ghost use Rattle.std.specs.Prelude.{◌≡◌, ◌≢◌, [], ◌∷◌, length, None, Some, IfOk, IfErr, OnOk, OnErr, slice_set};
+ghost use Rattle.std.specs.Prelude.{◌≡◌, ◌≢◌, ◌+◌, ◌≤◌, [], ◌∷◌, length, map, None, Some, IfOk, IfErr, OnOk, OnErr, slice_set};
 ghost use Rattle.iddqd_store.specs.Bag.{clash, order, over};
 ghost use Rattle.iddqd_store.specs.Map.{bag, ListsConflicts, PutsAt};
+ghost use Rattle.iddqd_store.specs.Rank.{walks_one, walks_two, walks_within};
 ghost use Rattle.iddqd_store.specs.Slots.{get, live_items, IsLive};
 ghost use Rattle.iddqd_store.specs.Slots.Found.{each_once};
 ghost use Rattle.iddqd_bi.specs.Keys.{AreUnder, HaveHashes, ranks};
@@ -10,18 +11,19 @@ use super::super::BiHashMap;
 use super::found::each_once;
 use crate::item::{BiHashItem, Hashed, Ranked};
 use crate::ranks::{First, Second};
-use iddqd_store::{ItemIndex, SlotUnder, UpToTwo};
+use iddqd_store::{ItemIndex, Meter, SlotUnder, UpToTwo};
 use std::hash::{BuildHasher, Hash};
 
 impl<T: BiHashItem, S: BuildHasher> BiHashMap<T, S> {
     /// Inserts an item in place of those that conflict with it, whose slots the searches by its keys found, and returns
     /// these items, with the slot of the new one. There is at least one, whose slot the new item takes. The call does not
-    /// hash a key by which a search found its item.
+    /// hash a key by which a search found its item. It walks through each table at most once more than it displaces items.
     #[inline(never)]
     pub(crate) fn put_over(
         &mut self,
         item: T,
         by: &(SlotUnder, SlotUnder),
+        meter: &mut Meter,
     ) -> (UpToTwo<T>, ItemIndex)
         requires conflicts { ListsConflicts ⟦<T as Ranked>⟧.ranks self.old item
             (each_once (by.now.0.slot ∷ by.now.1.slot ∷ [])) }
@@ -34,6 +36,8 @@ impl<T: BiHashItem, S: BuildHasher> BiHashMap<T, S> {
         ensures displaced { result.0 ≡ order ⟦<T as Ranked>⟧.ranks (bag self.old) item }
         ensures puts_at { PutsAt ⟦<T as Ranked>⟧.ranks self.old result.1 item
             (over ⟦<T as Ranked>⟧.ranks (bag self.old) item) self.new }
+        ensures costs { meter.new ≤ meter.old + walks_within (length (bag self.old))
+            (map (λ _. length result.0 + 1) ⟦<T as Ranked>⟧.ranks) }
     {
         let mut found = each_once(by.0.slot(), by.1.slot());
         let Some(ix) = found.pop_front() else {
@@ -41,11 +45,11 @@ impl<T: BiHashItem, S: BuildHasher> BiHashMap<T, S> {
         };
         let Some(at) = found.pop_front() else {
             let mut displaced = UpToTwo::new();
-            displaced.push(self.exchange(ix, item, by));
+            displaced.push(self.exchange(ix, item, by, meter));
             return (displaced, ix);
         };
         let mut displaced = UpToTwo::new();
-        let (gone, other) = self.exchange_two(ix, at, item, by);
+        let (gone, other) = self.exchange_two(ix, at, item, by, meter);
         displaced.push_front(other);
         displaced.push_front(gone);
         (displaced, ix)
@@ -53,8 +57,8 @@ impl<T: BiHashItem, S: BuildHasher> BiHashMap<T, S> {
 
     /// Puts an item into the slot of another, whatever their keys are, and returns the latter. If an item in a third slot
     /// conflicts with the new one, the new one is returned, and nothing changes. The call hashes each key of the new item
-    /// once, and searches for it once.
-    pub(crate) fn rekey_at(&mut self, ix: ItemIndex, item: T) -> Result<T, T>
+    /// once, and searches for it once. Beside these searches it walks through each table at most twice.
+    pub(crate) fn rekey_at(&mut self, ix: ItemIndex, item: T, meter: &mut Meter) -> Result<T, T>
         requires { IsLive self.old.slots ix }
         ensures value { IfOk result (λ x. get self.old.slots ix ≡ Some x) }
         ensures puts_at { OnOk result (PutsAt ⟦<T as Ranked>⟧.ranks self.old ix item
@@ -63,6 +67,7 @@ impl<T: BiHashItem, S: BuildHasher> BiHashMap<T, S> {
         ensures reason { OnErr result
             (clash ⟦<T as Ranked>⟧.ranks (live_items (slice_set self.old.slots ix None)) item ≢ []) }
         ensures unchanged { OnErr result (self.new ≡ self.old) }
+        ensures costs { meter.new ≤ meter.old + walks_within (length (bag self.old)) (map (λ _. 2) ⟦<T as Ranked>⟧.ranks) }
     {
         let by = match self.places(&item) {
             Ok(at) => {
@@ -70,7 +75,7 @@ impl<T: BiHashItem, S: BuildHasher> BiHashMap<T, S> {
                     SlotUnder::new(None, at.0.hash()),
                     SlotUnder::new(None, at.1.hash()),
                 );
-                return Ok(self.exchange(ix, item, &by));
+                return Ok(self.exchange(ix, item, &by, meter));
             }
             Err(by) => by,
         };
@@ -83,13 +88,19 @@ impl<T: BiHashItem, S: BuildHasher> BiHashMap<T, S> {
         }
         match found.pop_front() {
             Some(_) => Err(item),
-            None => Ok(self.exchange(ix, item, &by)),
+            None => Ok(self.exchange(ix, item, &by, meter)),
         }
     }
 
-    /// Puts an item into the slot of another, and returns the latter. If both have the same hash
-    /// at a rank, the pair in its table stays.
-    fn exchange(&mut self, ix: ItemIndex, item: T, by: &(SlotUnder, SlotUnder)) -> T
+    /// Puts an item into the slot of another, and returns the latter. If both have the same hash at a rank, the pair in its
+    /// table stays, and no cell of it is probed. Else the call walks through the table twice.
+    fn exchange(
+        &mut self,
+        ix: ItemIndex,
+        item: T,
+        by: &(SlotUnder, SlotUnder),
+        meter: &mut Meter,
+    ) -> T
         requires live { IsLive self.old.slots ix }
         requires free { clash ⟦<T as Ranked>⟧.ranks (live_items (slice_set self.old.slots ix None)) item ≡ [] }
         requires hashes { HaveHashes
@@ -100,35 +111,30 @@ impl<T: BiHashItem, S: BuildHasher> BiHashMap<T, S> {
         ensures value { get self.old.slots ix ≡ Some result }
         ensures puts_at { PutsAt ⟦<T as Ranked>⟧.ranks self.old ix item
             (item ∷ live_items (slice_set self.old.slots ix None)) self.new }
+        ensures costs { meter.new ≤ meter.old + walks_within (length (bag self.old))
+            (walks_one (⟦<T as Hashed<S>>⟧.hash1 self.old.builder) by.now.0 result
+            ∷ walks_one (⟦<T as Hashed<S>>⟧.hash2 self.old.builder) by.now.1 result ∷ []) }
     {
         // This call gives the prover the fact that the items fit, for the clause `fits`.
         let _ = self.room();
         let gone = self.items.replace(ix, item);
-        self.first.rehash::<T, First, S>(
-            &self.hash_builder,
-            &gone,
-            ix,
-            by.0.hash_at(ix),
-            by.0.hash(),
-        );
-        self.second.rehash::<T, Second, S>(
-            &self.hash_builder,
-            &gone,
-            ix,
-            by.1.hash_at(ix),
-            by.1.hash(),
-        );
+        self.first
+            .rehash::<T, First, S>(&self.hash_builder, (ix, &gone), &by.0, meter);
+        self.second
+            .rehash::<T, Second, S>(&self.hash_builder, (ix, &gone), &by.1, meter);
         gone
     }
 
     /// Puts an item into the slot `ix` of one that conflicts with it, and returns that one and another, which leaves the
-    /// slot `at`. At a rank at which the search found the other item, its pair gets the number `ix`.
+    /// slot `at`. At a rank at which the search found the other item, its pair gets the number `ix`. How often the call
+    /// walks through each table, `walks_two` says.
     fn exchange_two(
         &mut self,
         ix: ItemIndex,
         at: ItemIndex,
         item: T,
         by: &(SlotUnder, SlotUnder),
+        meter: &mut Meter,
     ) -> (T, T)
         requires live { IsLive self.old.slots ix × IsLive self.old.slots at }
         requires apart { ix ≢ at }
@@ -142,6 +148,9 @@ impl<T: BiHashItem, S: BuildHasher> BiHashMap<T, S> {
         ensures values { (get self.old.slots ix ≡ Some result.0) × (get self.old.slots at ≡ Some result.1) }
         ensures puts_at { PutsAt ⟦<T as Ranked>⟧.ranks self.old ix item
             (item ∷ live_items (slice_set (slice_set self.old.slots at None) ix None)) self.new }
+        ensures costs { meter.new ≤ meter.old + walks_within (length (bag self.old))
+            (walks_two (⟦<T as Hashed<S>>⟧.hash1 self.old.builder) by.now.0 at result.0
+            ∷ walks_two (⟦<T as Hashed<S>>⟧.hash2 self.old.builder) by.now.1 at result.0 ∷ []) }
     {
         // This call gives the prover the fact that the items fit, for the clause `fits`.
         let _ = self.room();
@@ -149,10 +158,20 @@ impl<T: BiHashItem, S: BuildHasher> BiHashMap<T, S> {
             unreachable!()
         };
         let gone = self.items.replace(ix, item);
-        self.first
-            .replace_two::<T, First, S>(&self.hash_builder, (ix, &gone), (at, &other), &by.0);
-        self.second
-            .replace_two::<T, Second, S>(&self.hash_builder, (ix, &gone), (at, &other), &by.1);
+        self.first.replace_two::<T, First, S>(
+            &self.hash_builder,
+            (ix, &gone),
+            (at, &other),
+            &by.0,
+            meter,
+        );
+        self.second.replace_two::<T, Second, S>(
+            &self.hash_builder,
+            (ix, &gone),
+            (at, &other),
+            &by.1,
+            meter,
+        );
         (gone, other)
     }
 }

@@ -1,10 +1,11 @@
 //! Reading and writing items by their slots.
 ghost use Rattle.std.specs.Prelude.{◌≡◌, [], ◌∷◌, true, ℕ, All, nat_eq, Some, IsPermutation, IfSome, is_some};
 ghost use Rattle.std.specs.Borrow.{sem};
-ghost use Rattle.std.specs.Fn.{CalledAt, FnOnceReturnsAt, FnOnceTakesAt};
+ghost use Rattle.std.specs.Fn.{CalledAt, FnOnceReturnsAt, FnOnceTakesAt, TakesAt};
 ghost use Rattle.std.specs.List.{AllByRecursion, IsDistinct};
 ghost use Rattle.std.specs.Option.{option_and_then};
 ghost use Rattle.iddqd_store.specs.Bag.{IsSound, agrees, swap};
+ghost use Rattle.iddqd_store.specs.Bag.Calling.{TakesInTurn};
 ghost use Rattle.iddqd_store.specs.Bag.Storing.{Stores};
 ghost use Rattle.iddqd_store.specs.Map.{bag};
 ghost use Rattle.iddqd_store.specs.Map.Written.{map_with, map_with_if};
@@ -47,6 +48,7 @@ impl<T: BiHashItemMut, S: BuildHasher> BiHashMap<T, S> {
     pub(crate) fn data_mut_at(&mut self, ix: ItemIndex) -> &mut T::Data
         requires { IsLive self.old.slots ix }
         ensures value { (x : T) → get self.old.slots ix ≡ Some x → result.now ≡ T.data_of x }
+        ensures sound { IsSound ⟦<T as Ranked>⟧.ranks (bag self.old) }
         ensures swaps { (x : T) (d : T.Data) → get self.old.slots ix ≡ Some x
             → IsPermutation (bag (map_with self.old ix (λ y. T.put y d)))
             (swap ⟦<T as Ranked>⟧.ranks (bag self.old) x (T.put x d)) }
@@ -61,6 +63,7 @@ impl<T: BiHashItemMut, S: BuildHasher> BiHashMap<T, S> {
     pub(crate) fn data_mut_of(&mut self, slot: Option<ItemIndex>) -> Option<&mut T::Data>
         requires { IfSome slot (IsLive self.old.slots) }
         ensures some { is_some result ≡ is_some slot }
+        ensures sound { IfSome slot (λ ix. IsSound ⟦<T as Ranked>⟧.ranks (bag self.old)) }
         ensures value { (x : T) → option_and_then (get self.old.slots) slot ≡ Some x
             → IfSome result (λ r. r.now ≡ T.data_of x) }
         ensures swaps { (x : T) (d : T.Data) → option_and_then (get self.old.slots) slot ≡ Some x
@@ -81,11 +84,10 @@ impl<T: BiHashItemMut, S: BuildHasher> BiHashMap<T, S> {
     where
         T::Data: Drop,
         requires live { IsLive self.old.slots ix }
-        requires callable { F.IsAlwaysCallable f.old }
+        requires callable { (x : T) → get self.old.slots ix ≡ Some x → TakesAt F.FnMut f.old x }
         ensures stored { (x : T) × (d : T.Data) × (get self.old.slots ix ≡ Some x)
             × (CalledAt F.FnMut) f.old x d f.new × (self.new ≡ map_with self.old ix (λ y. T.put y d))
             × IsPermutation (bag self.new) (swap ⟦<T as Ranked>⟧.ranks (bag self.old) x (T.put x d)) }
-        ensures callable { F.IsAlwaysCallable f.new }
     {
         let d = f(self.item_at(ix));
         *self.data_mut_at(ix) = d;
@@ -112,7 +114,7 @@ impl<T: BiHashItemMut, S: BuildHasher> BiHashMap<T, S> {
         T::Data: Drop,
         requires live { All (IsLive self.old.slots) found.now }
         requires apart { IsDistinct nat_eq found.now }
-        requires callable { F.IsAlwaysCallable f }
+        requires callable { TakesInTurn F.FnMut f (items_at self.old.slots found.now) }
         ensures stores { Stores (CalledAt F.FnMut) T.put ⟦<T as Ranked>⟧.ranks f
             (items_at self.old.slots found.now) (bag self.old) (bag self.new) }
         ensures keeps_keys { KeepsKeys (agrees ⟦<T as Ranked>⟧.ranks) self.old.slots self.new.slots }
@@ -137,7 +139,7 @@ impl<T: BiHashItemMut, S: BuildHasher> BiHashMap<T, S> {
     where
         T::Data: Drop,
         requires live { AllByRecursion (λ slot. IfSome slot (IsLive self.old.slots)) (slot1 ∷ slot2 ∷ []) }
-        requires callable { F.IsAlwaysCallable f }
+        requires callable { TakesInTurn F.FnMut f (held_at self.old.slots (slot1 ∷ slot2 ∷ [])) }
         ensures stores { Stores (CalledAt F.FnMut) T.put ⟦<T as Ranked>⟧.ranks f
             (held_at self.old.slots (slot1 ∷ slot2 ∷ [])) (bag self.old) (bag self.new) }
         ensures keeps_keys { KeepsKeys (agrees ⟦<T as Ranked>⟧.ranks) self.old.slots self.new.slots }

@@ -1,4 +1,6 @@
-use Rattle.std.proofs.Common.{◌≡◌, ◌<◌, length}
+use Rattle.std.proofs.Common.{◌≡◌, ◌+◌, ◌-◌, ◌*◌, ◌<◌, ◌≤◌, length}
+use Rattle.iddqd_store.specs.Table.{IsWayTo}
+use Rattle.iddqd_store.specs.Table.Ring.{gap, pairs_in}
 use Rattle.iddqd_store.proofs.TableLemmas.Grow.{HasFront}
 use Rattle.iddqd_store.proofs.index_table.regrown.Given as goal
 
@@ -7,4 +9,6 @@ invariant-loop-i l = record {
   front : HasFront l.cells l.grown l.i;
   size : length l.grown ≡ l.count;
   spot : l.spot < l.count;
+  way : IsWayTo l.grown (l.count - 1) l.spot;
+  looked : l.meter ≤ l.initial.meter + 2 * l.i + gap (length l.grown) (l.count - 1) l.spot + length (pairs_in l.grown) * l.pairs;
 }

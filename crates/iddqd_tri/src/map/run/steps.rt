@@ -91,8 +91,7 @@ where
         item: T,
         sink: &mut K,
     ) -> Result<(), K::Fault>
-        ensures step { Applies (EntryInserts ⟦<T as Ranked>⟧.ranks
-            (⟦<T as Ranked>⟧.key_tests key1 key2 key3)) K.took
+        ensures step { Applies (EntryInserts ⟦<T as Ranked>⟧.ranks (⟦<T as Ranked>⟧.key_tests key1 key2 key3)) K.took
             (state_of self.old) sink.old item result (state_of self.new) sink.new }
         ensures builder { self.new.builder ≡ self.old.builder }
     {
@@ -128,8 +127,7 @@ where
         item: T,
         sink: &mut K,
     ) -> Result<(), K::Fault>
-        ensures step { Applies (OrInserts ⟦<T as Ranked>⟧.ranks
-            (⟦<T as Ranked>⟧.key_tests key1 key2 key3)) K.took
+        ensures step { Applies (OrInserts ⟦<T as Ranked>⟧.ranks (⟦<T as Ranked>⟧.key_tests key1 key2 key3)) K.took
             (state_of self.old) sink.old item result (state_of self.new) sink.new }
         ensures builder { self.new.builder ≡ self.old.builder }
     {

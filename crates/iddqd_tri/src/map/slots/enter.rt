@@ -10,7 +10,7 @@ ghost use Rattle.iddqd_store.specs.Slots.Found.{items_at, StandAt};
 use crate::item::{Ranked, TriHashItem};
 use crate::map::TriHashMap;
 use crate::ranks::{First, Second, Third};
-use iddqd_store::{Entered, ExtendUniqueReason};
+use iddqd_store::{Entered, ExtendUniqueReason, Meter};
 use std::hash::{BuildHasher, Hash};
 
 impl<T: TriHashItem, S: BuildHasher> TriHashMap<T, S> {
@@ -42,7 +42,7 @@ impl<T: TriHashItem, S: BuildHasher> TriHashMap<T, S> {
         if self.make_room_for(wanted).is_err() || entered.reserve_for(wanted).is_err() {
             return Err((item, ExtendUniqueReason::Memory));
         }
-        let ix = self.insert_at(item, at);
+        let ix = self.insert_at(item, at, &mut Meter::new());
         entered.push(ix);
         Ok(())
     }
@@ -71,7 +71,7 @@ impl<T: TriHashItem, S: BuildHasher> TriHashMap<T, S> {
     {
         let (slots, mut items) = entered.into_parts();
         for at in 0..slots.len() {
-            items.push_reserved(self.take(slots[at], None, None, None));
+            items.push_reserved(self.take(slots[at], None, None, None, &mut Meter::new()));
         }
         items
     }

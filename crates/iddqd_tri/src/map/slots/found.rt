@@ -23,8 +23,8 @@ pub(crate) fn has_others<T: TriHashItem, Q2: Query<T::K2>, Q3: Query<T::K3>>(
     query2: Q2,
     query3: Q3,
 ) -> bool
-    ensures { result ≡ every_of
-        (has2 T.TriHashItem Q2.stands_for query2 ∷ has3 T.TriHashItem Q3.stands_for query3 ∷ []) item.now }
+    ensures { result ≡ every_of (has2 T.TriHashItem Q2.stands_for query2 ∷ has3 T.TriHashItem Q3.stands_for query3
+        ∷ []) item.now }
 {
     query2.stands_for(item.key2()) && query3.stands_for(item.key3())
 }
@@ -91,8 +91,7 @@ impl<T: TriHashItem, S: BuildHasher> TriHashMap<T, S> {
         query3: Q3,
     ) -> Option<ItemIndex>
         requires { hash ≡ hash_of S.BuildHasher S.Hasher.Hasher self.now.builder (Q1.hash_input query1) }
-        ensures found { IsOnly
-            (has_all T.TriHashItem Q1.stands_for Q2.stands_for Q3.stands_for query1 query2 query3)
+        ensures found { IsOnly (has_all T.TriHashItem Q1.stands_for Q2.stands_for Q3.stands_for query1 query2 query3)
             (bag self.now) (option_and_then (get self.now.slots) result) }
         ensures live { IfSome result (IsLive self.now.slots) }
         ensures hashed { IfSome result (λ ix. HasHash
@@ -114,8 +113,8 @@ impl<T: TriHashItem, S: BuildHasher> TriHashMap<T, S> {
         query2: Q2,
         query3: Q3,
     ) -> Option<ItemIndex>
-        ensures { FoundAt (has_all T.TriHashItem Q1.stands_for Q2.stands_for Q3.stands_for query1 query2 query3)
-            self.now.slots result }
+        ensures { FoundAt
+            (has_all T.TriHashItem Q1.stands_for Q2.stands_for Q3.stands_for query1 query2 query3) self.now.slots result }
     {
         let hash = self.hash_builder.hash_one(query1);
         self.slot_unique(hash, query1, query2, query3)

@@ -1,10 +1,11 @@
 //! Reading and writing items by their slots.
 ghost use Rattle.std.specs.Prelude.{◌≡◌, [], ◌∷◌, true, ℕ, All, nat_eq, Some, IsPermutation, IfSome, is_some};
 ghost use Rattle.std.specs.Borrow.{sem};
-ghost use Rattle.std.specs.Fn.{CalledAt, FnOnceReturnsAt, FnOnceTakesAt};
+ghost use Rattle.std.specs.Fn.{CalledAt, FnOnceReturnsAt, FnOnceTakesAt, TakesAt};
 ghost use Rattle.std.specs.List.{AllByRecursion, IsDistinct};
 ghost use Rattle.std.specs.Option.{option_and_then};
 ghost use Rattle.iddqd_store.specs.Bag.{IsSound, agrees, swap};
+ghost use Rattle.iddqd_store.specs.Bag.Calling.{TakesInTurn};
 ghost use Rattle.iddqd_store.specs.Bag.Storing.{Stores};
 ghost use Rattle.iddqd_store.specs.Map.{bag};
 ghost use Rattle.iddqd_store.specs.Map.Written.{map_with, map_with_if};
@@ -31,8 +32,8 @@ impl<T: TriHashItem, S: BuildHasher> TriHashMap<T, S> {
     pub(crate) fn replace_at(&mut self, ix: ItemIndex, item: T) -> T
         requires live { IsLive self.old.slots ix }
         requires keys { (x : T) → get self.old.slots ix ≡ Some x
-            → (T.K1.eq (T.key1 x) (T.key1 item) ≡ true) × (T.K2.eq (T.key2 x) (T.key2 item) ≡ true)
-            × (T.K3.eq (T.key3 x) (T.key3 item) ≡ true) }
+            → (T.K1.eq (T.key1 x) (T.key1 item) ≡ true) × (T.K2.eq (T.key2 x) (T.key2 item) ≡ true) × (T.K3.eq
+            (T.key3 x) (T.key3 item) ≡ true) }
         ensures old { get self.old.slots ix ≡ Some result }
         ensures new { self.new ≡ map_with self.old ix (λ x. item) }
         ensures swaps { IsPermutation (bag self.new) (swap ⟦<T as Ranked>⟧.ranks (bag self.old) result item) }
@@ -48,6 +49,7 @@ impl<T: TriHashItemMut, S: BuildHasher> TriHashMap<T, S> {
     pub(crate) fn data_mut_at(&mut self, ix: ItemIndex) -> &mut T::Data
         requires { IsLive self.old.slots ix }
         ensures value { (x : T) → get self.old.slots ix ≡ Some x → result.now ≡ T.data_of x }
+        ensures sound { IsSound ⟦<T as Ranked>⟧.ranks (bag self.old) }
         ensures swaps { (x : T) (d : T.Data) → get self.old.slots ix ≡ Some x
             → IsPermutation (bag (map_with self.old ix (λ y. T.put y d)))
             (swap ⟦<T as Ranked>⟧.ranks (bag self.old) x (T.put x d)) }
@@ -62,6 +64,7 @@ impl<T: TriHashItemMut, S: BuildHasher> TriHashMap<T, S> {
     pub(crate) fn data_mut_of(&mut self, slot: Option<ItemIndex>) -> Option<&mut T::Data>
         requires { IfSome slot (IsLive self.old.slots) }
         ensures some { is_some result ≡ is_some slot }
+        ensures sound { IfSome slot (λ ix. IsSound ⟦<T as Ranked>⟧.ranks (bag self.old)) }
         ensures value { (x : T) → option_and_then (get self.old.slots) slot ≡ Some x
             → IfSome result (λ r. r.now ≡ T.data_of x) }
         ensures swaps { (x : T) (d : T.Data) → option_and_then (get self.old.slots) slot ≡ Some x
@@ -82,11 +85,10 @@ impl<T: TriHashItemMut, S: BuildHasher> TriHashMap<T, S> {
     where
         T::Data: Drop,
         requires live { IsLive self.old.slots ix }
-        requires callable { F.IsAlwaysCallable f.old }
+        requires callable { (x : T) → get self.old.slots ix ≡ Some x → TakesAt F.FnMut f.old x }
         ensures stored { (x : T) × (d : T.Data) × (get self.old.slots ix ≡ Some x)
             × (CalledAt F.FnMut) f.old x d f.new × (self.new ≡ map_with self.old ix (λ y. T.put y d))
             × IsPermutation (bag self.new) (swap ⟦<T as Ranked>⟧.ranks (bag self.old) x (T.put x d)) }
-        ensures callable { F.IsAlwaysCallable f.new }
     {
         let d = f(self.item_at(ix));
         *self.data_mut_at(ix) = d;
@@ -113,7 +115,7 @@ impl<T: TriHashItemMut, S: BuildHasher> TriHashMap<T, S> {
         T::Data: Drop,
         requires live { All (IsLive self.old.slots) found.now }
         requires apart { IsDistinct nat_eq found.now }
-        requires callable { F.IsAlwaysCallable f }
+        requires callable { TakesInTurn F.FnMut f (items_at self.old.slots found.now) }
         ensures stores { Stores (CalledAt F.FnMut) T.put ⟦<T as Ranked>⟧.ranks f
             (items_at self.old.slots found.now) (bag self.old) (bag self.new) }
         ensures keeps_keys { KeepsKeys (agrees ⟦<T as Ranked>⟧.ranks) self.old.slots self.new.slots }
@@ -139,7 +141,7 @@ impl<T: TriHashItemMut, S: BuildHasher> TriHashMap<T, S> {
     where
         T::Data: Drop,
         requires live { AllByRecursion (λ slot. IfSome slot (IsLive self.old.slots)) (slot1 ∷ slot2 ∷ slot3 ∷ []) }
-        requires callable { F.IsAlwaysCallable f }
+        requires callable { TakesInTurn F.FnMut f (held_at self.old.slots (slot1 ∷ slot2 ∷ slot3 ∷ [])) }
         ensures stores { Stores (CalledAt F.FnMut) T.put ⟦<T as Ranked>⟧.ranks f
             (held_at self.old.slots (slot1 ∷ slot2 ∷ slot3 ∷ [])) (bag self.old) (bag self.new) }
         ensures keeps_keys { KeepsKeys (agrees ⟦<T as Ranked>⟧.ranks) self.old.slots self.new.slots }

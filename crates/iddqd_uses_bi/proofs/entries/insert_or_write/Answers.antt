@@ -4,7 +4,7 @@ use Rattle.iddqd_bi.specs.Bag.{swap}
 use Rattle.iddqd_bi.specs.Keys.{ranks}
 use Rattle.iddqd_bi.specs.Map.{Map, bag}
 use Rattle.iddqd_bi.specs.RefMuts.{ref_item, ref_map, ref_with}
-use Rattle.iddqd_uses_bi.proofs.Entering.{writes_occupied}
+use Rattle.iddqd_bi.proofs.Entering.{writes_occupied}
 use Rattle.iddqd_uses_bi.proofs.entries.insert_or_write.Goals as goal
 
 -- the item that is lent is the one that both keys name

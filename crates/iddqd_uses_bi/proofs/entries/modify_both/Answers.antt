@@ -1,7 +1,7 @@
 use Rattle.std.proofs.Common.{sym, ◌∙◌}
 use Rattle.std.specs.Fn.{CalledAt}
 use Rattle.iddqd_bi.specs.Keys.{ranks}
-use Rattle.iddqd_uses_bi.proofs.Entering.{stores_named}
+use Rattle.iddqd_bi.proofs.Entering.{stores_named}
 use Rattle.iddqd_uses_bi.proofs.entries.modify_both.Goals as goal
 
 pub returns-in-Vacant : goal.returns-in-Vacant

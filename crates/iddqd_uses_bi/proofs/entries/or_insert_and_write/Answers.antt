@@ -7,7 +7,7 @@ use Rattle.iddqd_bi.specs.Keys.{key_tests, ranks}
 use Rattle.iddqd_bi.specs.Map.{Map, bag}
 use Rattle.iddqd_bi.specs.RefMuts.{ref_item, ref_map, ref_with}
 use Rattle.iddqd_bi.proofs.CallerLemmas.Entering.{writes_entry}
-use Rattle.iddqd_uses_bi.proofs.Entering.{entered, none_held, unique_held}
+use Rattle.iddqd_bi.proofs.Entering.{entered, none_held, unique_held}
 use Rattle.iddqd_uses_bi.proofs.entries.or_insert_and_write.Goals as goal
 
 -- the item that is lent is the one that the entry has then

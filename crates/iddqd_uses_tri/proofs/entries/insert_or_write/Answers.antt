@@ -4,7 +4,7 @@ use Rattle.iddqd_tri.specs.Bag.{swap}
 use Rattle.iddqd_tri.specs.Keys.{ranks}
 use Rattle.iddqd_tri.specs.Map.{Map, bag}
 use Rattle.iddqd_tri.specs.RefMuts.{ref_item, ref_map, ref_with}
-use Rattle.iddqd_uses_tri.proofs.Entering.{writes_occupied}
+use Rattle.iddqd_tri.proofs.Entering.{writes_occupied}
 use Rattle.iddqd_uses_tri.proofs.entries.insert_or_write.Goals as goal
 
 -- the item that is lent is the one that all keys name

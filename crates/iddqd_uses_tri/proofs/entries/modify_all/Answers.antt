@@ -1,7 +1,7 @@
 use Rattle.std.proofs.Common.{sym, ◌∙◌}
 use Rattle.std.specs.Fn.{CalledAt}
 use Rattle.iddqd_tri.specs.Keys.{ranks}
-use Rattle.iddqd_uses_tri.proofs.Entering.{stores_named}
+use Rattle.iddqd_tri.proofs.Entering.{stores_named}
 use Rattle.iddqd_uses_tri.proofs.entries.modify_all.Goals as goal
 
 pub returns-in-Vacant : goal.returns-in-Vacant

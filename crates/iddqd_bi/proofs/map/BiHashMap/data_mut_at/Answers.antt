@@ -25,6 +25,7 @@ returns g c = (
   (refl, λ w. rw (← c.self.view_is, ← c.number.ensures, c.item_mut.ensures.value) refl),
   record {
     writes_back = tt;
+    sound = rw (← c.self.view_is) c.self.invariant.sound;
     value = λ x found.
         let at = ap (λ (m : Map g.row.T.Denot g.row.S.Denot). get m.slots c.args.ix) c.self.view_is ∙ found in
         let here = ap (get c.self.inside.items.slots) (sym c.number.ensures) ∙ c.item_mut.ensures.value in

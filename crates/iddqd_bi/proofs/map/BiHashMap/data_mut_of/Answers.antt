@@ -9,6 +9,7 @@ returns-in-Some g c = (
   record {
     writes_back = tt;
     some = search rules;
+    sound = rw c.in-Some.is c.data_mut_at.ensures.sound;
     value = λ x is. c.data_mut_at.ensures.value x (sym (ap (option_and_then (get c.args.self.now.slots)) c.in-Some.is) ∙ is);
     swaps = λ x d is. rw c.in-Some.is (c.data_mut_at.ensures.swaps x d (sym (ap (option_and_then (get c.args.self.now.slots)) c.in-Some.is) ∙ is));
   },

@@ -1,26 +1,16 @@
-use Rattle.std.proofs.Common.{arith, rules, refl, ◌∙◌}
+use Rattle.std.proofs.Common.{arith, rules, refl, [], ◌∷◌}
 use Rattle.std.proofs.lemmas.List.Sorted.{length_permutation}
-use Rattle.iddqd_store.proofs.RankLemmas.Index.{pair_in}
 use Rattle.iddqd_store.proofs.RankLemmas.Rehashed.{IsIndexed-moved, come, left, sound_moved, stands}
-use Rattle.iddqd_store.proofs.RankLemmas.Under.{known_of, known_there}
+use Rattle.iddqd_store.proofs.RankLemmas.Replaced.{paired_at}
+use Rattle.iddqd_store.proofs.RankLemmas.Walks.{walks_all}
 use Rattle.iddqd_bi.proofs.MapLemmas.{AreLawful-ranks}
 use Rattle.iddqd_bi.proofs.map.BiHashMap.exchange.Goals as goal
 
 pub rehash-requires : goal.rehash-requires
-rehash-requires g c =
-    let under = (rw (← c.self.view_is) at c.requires.under).first in
-    record {
-      known = known_of _ _ c.args.ix c.replace-gone.result _ c.replace-gone.ensures.value (known_there _ _ c.args.by.now.0 c.args.ix _ under c.hash_at.ensures.under);
-      paired = pair_in c.args.ix c.replace-gone.result _ c.self.invariant.indexes.0 refl c.replace-gone.ensures.value;
-    }
+rehash-requires g c = paired_at c.args.by.now.0 c.args.ix c.replace-gone.result c.self.invariant.indexes.0 (rw (← c.self.view_is) at c.requires.under).first c.replace-gone.ensures.value
 
 pub rehash-requires-2 : goal.rehash-requires-2
-rehash-requires-2 g c =
-    let under = (rw (← c.self.view_is) at c.requires.under).second in
-    record {
-      known = known_of _ _ c.args.ix c.replace-gone.result _ c.replace-gone.ensures.value (known_there _ _ c.args.by.now.1 c.args.ix _ under c.hash_at-2.ensures.under);
-      paired = pair_in c.args.ix c.replace-gone.result _ c.self.invariant.indexes.1.0 refl c.replace-gone.ensures.value;
-    }
+rehash-requires-2 g c = paired_at c.args.by.now.1 c.args.ix c.replace-gone.result c.self.invariant.indexes.1.0 (rw (← c.self.view_is) at c.requires.under).second c.replace-gone.ensures.value
 
 pub invariant_of-self : goal.invariant_of-self
 invariant_of-self g c =
@@ -28,7 +18,7 @@ invariant_of-self g c =
     rw c.replace-gone.ensures.slots
     (IsIndexed-moved c.replace-gone.result c.args.item c.args.ix c.self.inside.items.slots c.replace-gone.ensures.value
     (AreLawful-ranks g.T.BiHashItem g.met.T.K1.Eq.laws g.met.T.K2.Eq.laws) c.self.invariant (rw (← c.self.view_is) at c.requires.free)
-    ((_, c.hash.ensures ∙ hashes.first, c.rehash.ensures.moved), ((_, c.hash-2.ensures ∙ hashes.second, c.rehash-2.ensures.moved), tt)))
+    ((_, hashes.first, c.rehash.ensures.moved), ((_, hashes.second, c.rehash-2.ensures.moved), tt)))
 
 pub returns-clause-puts_at : goal.returns-clause-puts_at
 returns-clause-puts_at g c =
@@ -48,3 +38,7 @@ returns-clause-puts_at g c =
       same_room = search rules;
       same_builder = search rules;
     }
+
+pub returns-clause-costs : goal.returns-clause-costs
+returns-clause-costs g c =
+    rw (← c.self.view_is) (walks_all (_ ∷ _ ∷ []) _ _ c.self.invariant (c.rehash.new.meter, c.rehash.ensures.costs, (c.rehash-2.new.meter, c.rehash-2.ensures.costs, refl)))

@@ -1,8 +1,9 @@
-use Rattle.std.proofs.Common.{arith, rules}
+use Rattle.std.proofs.Common.{arith, rules, refl, [], ◌∷◌}
 use Rattle.std.proofs.lemmas.List.Sorted.{IsPermutation-map, length_permutation}
 use Rattle.iddqd_store.proofs.RankLemmas.Costs.{place_in}
 use Rattle.iddqd_store.proofs.RankLemmas.Index.{length-live_items, length-index}
 use Rattle.iddqd_store.proofs.RankLemmas.Invariant.{IsIndexed-insert}
+use Rattle.iddqd_store.proofs.RankLemmas.Walks.{insert_most, once, walks_all}
 use Rattle.iddqd_store.proofs.MapLemmas.{free_sound}
 use Rattle.iddqd_bi.specs.Keys.{ranks}
 use Rattle.iddqd_bi.proofs.MapLemmas.{AreLawful-ranks}
@@ -49,3 +50,9 @@ returns-clause-puts_at g c =
       same_room = search rules;
       same_builder = search rules;
     }
+
+pub returns-clause-costs : goal.returns-clause-costs
+returns-clause-costs g c =
+    let into1 = c.insert_at.ensures in
+    let into2 = c.insert_at-2.ensures in
+    rw (← c.self.view_is) (walks_all (_ ∷ _ ∷ []) _ _ c.self.invariant (c.insert_at.new.meter, once _ _ _ (insert_most _ _ _ _ _ _ into1.no_look into1.looks into1.within), (c.insert_at-2.new.meter, once _ _ _ (insert_most _ _ _ _ _ _ into2.no_look into2.looks into2.within), refl)))

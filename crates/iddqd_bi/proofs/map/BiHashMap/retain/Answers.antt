@@ -1,9 +1,13 @@
-use Rattle.std.proofs.Common.{of_calls, ◌∙◌}
+use Rattle.std.proofs.Common.{refl, sym, subst, ◌∙◌}
+use Rattle.std.proofs.lemmas.List.Sorted.{IsPermutation-refl}
 use Rattle.std.proofs.lemmas.Fn.{called_at}
 use Rattle.std.specs.Fn.{CalledAt}
 use Rattle.iddqd_store.specs.Map.{bag}
+use Rattle.iddqd_store.specs.Slots.{items_in}
+use Rattle.iddqd_store.proofs.BagLemmas.Calling.{TakesEach, TakesEach-in_turn, takes_others}
 use Rattle.iddqd_store.proofs.BagLemmas.Theory.{length-keeps}
-use Rattle.iddqd_store.proofs.SlotLemmas.Next.{past_kept, past_taken, none_behind}
+use Rattle.iddqd_store.proofs.SlotLemmas.Chain.{live_items-items_in}
+use Rattle.iddqd_store.proofs.SlotLemmas.Next.{past_kept, past_taken, none_behind, same_behind}
 use Rattle.iddqd_bi.proofs.map.BiHashMap.retain.Goals as goal
 
 pub loop-ix-preserved-then-not-f : goal.loop-ix-preserved-then-not-f
@@ -11,7 +15,7 @@ loop-ix-preserved-then-not-f g c =
     let at = c.loop-ix in
     record {
       completes = rw (c.number-from.ensures, c.take.ensures.slots) (past_taken (CalledAt g.F.FnMut) _ at.f c.f.new.self _ at.self.slots at.from c.in-Some.ix c.item_at.result.now (c.in-Some.ensures.comes _ c.item_at.ensures) (called_at g.F.FnMut c.f.ensures c.if-not-f.true) at.invariant.completes);
-      callable = search of_calls;
+      callable = rw (c.number-from.ensures, c.take.ensures.slots) (subst (λ l. TakesEach g.F.FnMut c.f.new.self l) (sym (same_behind at.self.slots c.in-Some.ix)) (takes_others g.F.FnMut at.f _ c.item_at.result.now _ _ c.f.new.self (c.in-Some.ensures.comes _ c.item_at.ensures).rest (called_at g.F.FnMut c.f.ensures c.if-not-f.true) at.invariant.callable));
       capacity = c.take.ensures.loses.same_room ∙ at.invariant.capacity;
       builder = c.take.ensures.loses.same_builder ∙ at.invariant.builder;
     }
@@ -21,9 +25,19 @@ loop-ix-preserved g c =
     let at = c.loop-ix in
     record {
       completes = rw c.number-from.ensures (past_kept (CalledAt g.F.FnMut) _ at.f c.f.new.self _ at.self.slots at.from c.in-Some.ix c.item_at.result.now (c.in-Some.ensures.comes _ c.item_at.ensures) (called_at g.F.FnMut c.f.ensures c.if-not-f.false) at.invariant.completes);
-      callable = search of_calls;
+      callable = rw c.number-from.ensures (takes_others g.F.FnMut at.f _ c.item_at.result.now _ _ c.f.new.self (c.in-Some.ensures.comes _ c.item_at.ensures).rest (called_at g.F.FnMut c.f.ensures c.if-not-f.false) at.invariant.callable);
       capacity = at.invariant.capacity;
       builder = at.invariant.builder;
+    }
+
+pub loop-ix-init : goal.loop-ix-init
+loop-ix-init g c =
+    let slots = c.args.self.now.slots in
+    record {
+      completes = λ rest h. h;
+      callable = TakesEach-in_turn g.F.FnMut c.args.f (items_in slots) (c.requires (items_in slots) (rw (live_items-items_in slots) (IsPermutation-refl (items_in slots))));
+      capacity = refl;
+      builder = refl;
     }
 
 pub returns-clause-kept : goal.returns-clause-kept

@@ -1,13 +1,14 @@
 use Rattle.std.proofs.Common.{◌≡◌, drop, length}
 use Rattle.std.specs.Fn.{CalledAt}
 use Rattle.iddqd_store.specs.Slots.{items_in}
+use Rattle.iddqd_store.proofs.BagLemmas.Calling.{TakesEach}
 use Rattle.iddqd_store.proofs.SlotLemmas.Next.{Completes}
 use Rattle.iddqd_bi.proofs.map.BiHashMap.retain.Given as goal
 
 abbrev pub invariant-loop-ix : goal.invariant-loop-ix
 invariant-loop-ix g l = record {
   completes : Completes (CalledAt g.F.FnMut) l.fn.f (items_in l.fn.self.slots) l.f l.self.slots l.from;
-  callable : goal.F-IsAlwaysCallable g l.f;
+  callable : TakesEach g.F.FnMut l.f (items_in (drop l.from l.self.slots));
   capacity : l.self.capacity ≡ l.fn.self.capacity;
   builder : l.self.builder ≡ l.fn.self.builder;
 }

@@ -10,7 +10,7 @@ use Rattle.iddqd_store.specs.Slots.Found.{items_at}
 use Rattle.iddqd_store.proofs.BagLemmas.Over.{drop-found, items_at-taken, live-others, IsPermutation-taken}
 use Rattle.std.proofs.lemmas.Bool.Decides.{nat_tests}
 use Rattle.iddqd_store.proofs.RankLemmas.Search.{each_at}
-use Rattle.iddqd_store.proofs.RankLemmas.Under.{IsUnder-fewer, known_there, stood}
+use Rattle.iddqd_store.proofs.RankLemmas.Under.{stood}
 use Rattle.iddqd_bi.proofs.map.BiHashMap.take_all.Goals as goal
 use Rattle.iddqd_bi.proofs.map.BiHashMap.take_all.Goals.{in-Some, in_default}
 
@@ -24,16 +24,6 @@ take-requires-clause-live g c =
     let slots = c.loop-at.self.slots in
     let front = drop-found found c.loop-at.at c.in-Some.ix.now (sym c.in-Some.ensures) in
     All-head (IsLive slots) c.in-Some.ix.now rest (subst (All (IsLive slots)) front c.loop-at.invariant.live)
-
-pub take-requires-clause-hash1 : goal.take-requires-clause-hash1
-take-requires-clause-hash1 g c =
-    let so_far = c.loop-at.invariant in
-    known_there _ _ c.args.by.now.0 _ _ (rw so_far.loses.same_builder (IsUnder-fewer _ _ _ c.args.by.now.0 so_far.left c.requires.under.first)) c.hash_at.ensures.under
-
-pub take-requires-clause-hash2 : goal.take-requires-clause-hash2
-take-requires-clause-hash2 g c =
-    let so_far = c.loop-at.invariant in
-    known_there _ _ c.args.by.now.1 _ _ (rw so_far.loses.same_builder (IsUnder-fewer _ _ _ c.args.by.now.1 so_far.left c.requires.under.second)) c.hash_at-in-Some.ensures.under
 
 pub loop-at-preserved : goal.loop-at-preserved
 loop-at-preserved g c =

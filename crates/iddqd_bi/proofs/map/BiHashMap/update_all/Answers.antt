@@ -1,9 +1,14 @@
-use Rattle.std.proofs.Common.{ap, ◌∙◌, ◌+◌}
+use Rattle.std.proofs.Common.{refl, ap, subst, sym, ◌∙◌, ◌+◌}
+use Rattle.std.proofs.lemmas.List.Sorted.{IsPermutation-refl}
 use Rattle.std.specs.Fn.{CalledAt}
 use Rattle.iddqd_store.specs.Map.Written.{map_with}
 use Rattle.iddqd_store.specs.Slots.{items_in}
+use Rattle.iddqd_store.specs.Map.{Map}
+use Rattle.iddqd_store.specs.Map.Walk.{to_come}
+use Rattle.iddqd_store.proofs.BagLemmas.Calling.{TakesEach, TakesEach-in_turn, takes_first, takes_others}
 use Rattle.iddqd_store.proofs.MapLemmas.Walking.{passes}
 use Rattle.iddqd_store.proofs.MapLemmas.Updating.{all_written, written_one}
+use Rattle.iddqd_store.proofs.SlotLemmas.Chain.{live_items-items_in}
 use Rattle.iddqd_bi.proofs.map.BiHashMap.update_all.Goals as goal
 
 pub loop-ix-preserved : goal.loop-ix-preserved
@@ -13,9 +18,24 @@ loop-ix-preserved g c =
     let next = passes at.self at.from c.in-Some.ix stored.0 (c.in-Some.ensures.comes stored.0 stored.2) in
     record {
       completes = rw c.number-from.ensures (written_one (CalledAt g.F.FnMut) g.T.BiHashItemMut.put c.args.f at.f c.store_at.new.f (items_in c.args.self.now.slots) at.self at.from (c.in-Some.ix + 1) stored.0 stored.1 (λ w. map_with at.self c.in-Some.ix w) c.store_at.new.self stored.4 next stored.3 at.invariant.completes);
-      callable = c.store_at.ensures.callable;
+      callable = rw c.number-from.ensures
+          (subst (λ l. TakesEach g.F.FnMut c.store_at.new.f l) (sym (ap (λ (m : Map g.row.T.Denot g.row.S.Denot). to_come m (c.in-Some.ix + 1)) stored.4 ∙ next.behind (λ y. g.T.BiHashItemMut.put y stored.1)))
+          (takes_others g.F.FnMut at.f _ stored.0 _ stored.1 c.store_at.new.f next.comes stored.3 at.invariant.callable));
       capacity = ap (λ m. m.capacity) stored.4 ∙ at.invariant.capacity;
       builder = ap (λ m. m.builder) stored.4 ∙ at.invariant.builder;
+    }
+
+pub store_at-requires-clause-callable : goal.store_at-requires-clause-callable
+store_at-requires-clause-callable g c = λ x is. takes_first g.F.FnMut c.loop-ix.f _ x _ (c.in-Some.ensures.comes x is).rest c.loop-ix.invariant.callable
+
+pub loop-ix-init : goal.loop-ix-init
+loop-ix-init g c =
+    let slots = c.args.self.now.slots in
+    record {
+      completes = λ rest h. h;
+      callable = TakesEach-in_turn g.F.FnMut c.args.f (items_in slots) (c.requires (items_in slots) (rw (live_items-items_in slots) (IsPermutation-refl (items_in slots))));
+      capacity = refl;
+      builder = refl;
     }
 
 pub returns-clause-stores : goal.returns-clause-stores

@@ -1,13 +1,15 @@
 use Rattle.std.proofs.Common.{◌≡◌, drop, length}
 use Rattle.std.specs.Fn.{CalledAt}
+use Rattle.iddqd_store.specs.Map.Walk.{to_come}
 use Rattle.iddqd_store.specs.Slots.{items_in}
+use Rattle.iddqd_store.proofs.BagLemmas.Calling.{TakesEach}
 use Rattle.iddqd_store.proofs.MapLemmas.Updating.{Completes}
 use Rattle.iddqd_bi.proofs.map.BiHashMap.update_all.Given as goal
 
 abbrev pub invariant-loop-ix : goal.invariant-loop-ix
 invariant-loop-ix g l = record {
   completes : Completes (CalledAt g.F.FnMut) g.T.BiHashItemMut.put l.fn.f (items_in l.fn.self.slots) l.f l.self l.from;
-  callable : goal.F-IsAlwaysCallable g l.f;
+  callable : TakesEach g.F.FnMut l.f (to_come l.self l.from);
   capacity : l.self.capacity ≡ l.fn.self.capacity;
   builder : l.self.builder ≡ l.fn.self.builder;
 }

@@ -149,3 +149,10 @@ returns-clause-costs g c =
       within = stretch_le_pairs (pairs_in row) (length row) hash;
     } in
     subst (λ (r : Table). CostsUnder {A = ℕ × ℕ} r hash None (asked c.args.matcher.now) (asked c.loop-pair.matcher) c.args.meter.now c.cell_at.new.meter) c.self.view_is all
+
+pub matches-requires : goal.matches-requires
+matches-requires g c =
+    let row = c.self.inside.cells in
+    let at_x : cell row c.loop-pair.at ≡ Some c.in-Some.pair = sym c.cell_at.ensures.value ∙ c.in-Some.is in
+    g.met.M.Matcher.may_kept _ _ c.in-Some.pair.1 c.loop-pair.invariant.kept
+    (c.requires c.in-Some.pair.1 (subst (λ (r : Table). Contains r.pairs (c.args.hash, c.in-Some.pair.1)) c.self.view_is (found_there row c.loop-pair.at c.args.hash c.in-Some.pair at_x c.if-stored-hash.true)))

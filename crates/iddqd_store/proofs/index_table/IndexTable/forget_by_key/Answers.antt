@@ -1,18 +1,29 @@
-use Rattle.std.proofs.Common.{rules, Bool}
-use Rattle.iddqd_store.specs.Rank.{agree, key_hash, NamesOneUnder}
-use Rattle.iddqd_store.specs.Slots.{live_items}
-use Rattle.iddqd_store.specs.Rank.Index.{passes_at}
-use Rattle.iddqd_store.specs.Table.Search.{FindsUnder}
-use Rattle.iddqd_store.proofs.RankLemmas.Costs.{searches}
+use Rattle.std.proofs.Common.{rules, ℕ, Bool, List, ◌∷◌, Option, None, Some, Contains, IfSome, sym, subst}
+use Rattle.std.specs.List.Sorted.{IsPermutation}
+use Rattle.iddqd_store.specs.Rank.Index.{IsIndex, LosesPairAt}
+use Rattle.iddqd_store.proofs.RankLemmas.Costs.{removal_costs, searches}
+use Rattle.iddqd_store.proofs.RankLemmas.Index.{hash_at, item_at}
 use Rattle.iddqd_store.proofs.index_table.IndexTable.forget_by_key.Goals as goal
+
+-- the pair that left is that of the item in its slot
+loses : {T : Type 0} {hash : T → ℕ} {slots : List (Option T)} {pairs : List (ℕ × ℕ)} (new : List (ℕ × ℕ)) (h : ℕ) (r : Option ℕ) → IsIndex hash slots pairs → IfSome r (λ ix. Contains pairs (h, ix)) → IfSome r (λ ix. IsPermutation pairs ((h, ix) ∷ new)) → IfSome r (LosesPairAt hash slots pairs new)
+loses new h None index there taken = tt
+loses {pairs = pairs} new h (Some ix) index there taken = λ x here.
+    subst (λ (k : ℕ). IsPermutation pairs ((k, ix) ∷ new)) (sym (hash_at ix h x index there here)) taken
+
+pub remove_by-requires : goal.remove_by-requires
+remove_by-requires g c = λ ix there x here. c.requires.asks x (item_at _ ix x here) (hash_at ix c.args.hash x c.requires.searchable.index there here)
 
 pub returns-clause-found : goal.returns-clause-found
 returns-clause-found g c =
-    let slots = c.args.items.now.slots in
-    let test : g.row.T.Denot → Bool = λ x. g.Q.Query.stands_for c.args.query (g.R.KeyOf.key x) in
-    let names : NamesOneUnder (agree g.R.KeyOf.key g.R.Key.PartialEq.eq) (key_hash g.R.KeyOf.key g.R.Key.Hash.hash_input g.S.BuildHasher g.S.Hasher.Hasher c.args.hash_builder.now) c.hash_one-hash.result test (live_items slots) = search rules in
-    let finds : FindsUnder c.args.self.now c.hash_one-hash.result (passes_at test slots) c.remove_by.result = search rules in
+    let test : g.row.T.Denot → Bool = λ x. g.M.KeyMatcher.accepts c.args.matcher.now (g.R.KeyOf.key x) in
     record {
-      only = searches c.args.self.now c.requires test c.hash_one-hash.result c.remove_by.result names finds;
+      only = searches c.args.self.now c.requires.searchable test c.args.hash c.remove_by.result c.requires.names c.remove_by.ensures.found;
       live = search rules;
     }
+
+pub returns-clause-costs : goal.returns-clause-costs
+returns-clause-costs g c = removal_costs c.args.self.now c.requires.searchable c.args.hash _ _ _ _ c.remove_by.ensures.sized c.remove_by.ensures.costs
+
+pub returns-clause-taken : goal.returns-clause-taken
+returns-clause-taken g c = loses c.remove_by.new.self.pairs c.args.hash c.remove_by.result c.requires.searchable.index c.remove_by.ensures.found.found c.remove_by.ensures.taken

@@ -1,4 +1,5 @@
-use Rattle.std.proofs.lemmas.List.Sorted.{IsPermutation-sym}
+use Rattle.std.proofs.Common.{arith}
+use Rattle.std.proofs.lemmas.List.Sorted.{IsPermutation-sym, length_permutation}
 use Rattle.iddqd_store.proofs.index_table.IndexTable.move_pair.Goals as goal
 
 pub returns-clause-moved : goal.returns-clause-moved
@@ -7,3 +8,9 @@ returns-clause-moved c = record {
   had = c.remove.ensures.taken;
   has = IsPermutation-sym _ _ c.insert_reserved.ensures.added;
 }
+
+pub returns-clause-costs : goal.returns-clause-costs
+returns-clause-costs c =
+    let removed = c.remove.ensures in
+    let put = c.insert_reserved.ensures in
+    omega (arith, removed.looks, removed.within, put.looks, put.within, length_permutation _ _ removed.taken)

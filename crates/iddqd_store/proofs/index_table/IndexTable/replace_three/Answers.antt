@@ -1,9 +1,10 @@
-use Rattle.std.proofs.Common.{ℕ, List, ◌∷◌, [], sym}
+use Rattle.std.proofs.Common.{arith, ℕ, List, ◌∷◌, [], Some, sym}
 use Rattle.std.specs.Prelude.{◌≢◌}
-use Rattle.std.proofs.lemmas.List.Sorted.{IsPermutation-cons, IsPermutation-middle, IsPermutation-sym, IsPermutation-trans}
+use Rattle.std.proofs.lemmas.List.Sorted.{IsPermutation-cons, IsPermutation-middle, IsPermutation-sym, IsPermutation-trans, length_permutation}
 use Rattle.std.specs.List.Sorted.{IsPermutation}
 use Rattle.iddqd_store.specs.Rank.{IsPaired, SlotUnder}
 use Rattle.iddqd_store.specs.Table.{ReplacesTwo, ReplacesThree}
+use Rattle.iddqd_store.proofs.RankLemmas.Walks.{three_found, three_not_found, two_found, walks_more}
 use Rattle.iddqd_store.proofs.TableLemmas.Renumber.{stays}
 use Rattle.iddqd_store.proofs.index_table.IndexTable.replace_three.Goals as goal
 
@@ -47,3 +48,16 @@ returns-in-Some-clause-replaced g c = after_second c.args.self.now.pairs c.forge
 
 pub returns-in-None-clause-replaced : goal.returns-in-None-clause-replaced
 returns-in-None-clause-replaced g c = after_third c.args.self.now.pairs c.forget-in-None.new.self.pairs c.replace_two-in-None.new.self.pairs _ _ _ _ c.forget-in-None.ensures.taken c.replace_two-in-None.ensures.replaced
+
+pub returns-in-Some-clause-costs : goal.returns-in-Some-clause-costs
+returns-in-Some-clause-costs g c =
+    let here = c.in-Some.ensures.under.0 in
+    let less = length_permutation _ _ c.forget.ensures.taken in
+    let rest = rw (two_found _ c.args.by.now _ c.args.last.0 here) at c.replace_two.ensures.costs in
+    rw (three_found _ c.args.by.now _ c.args.other.0 c.args.last.0 here) (omega (arith, less, c.forget.ensures.within, rest))
+
+pub returns-in-None-clause-costs : goal.returns-in-None-clause-costs
+returns-in-None-clause-costs g c =
+    let away : c.args.by.now.slot ≢ Some c.args.last.0 = λ is. let known = c.in-None.ensures.known is in cc in
+    let less = length_permutation _ _ c.forget-in-None.ensures.taken in
+    rw (three_not_found _ c.args.by.now _ c.args.other.0 c.args.last.0 away) (walks_more _ _ _ _ _ _ (omega (arith, less)) c.forget-in-None.ensures.within c.replace_two-in-None.ensures.costs)

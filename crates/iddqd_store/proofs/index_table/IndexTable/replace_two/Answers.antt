@@ -1,7 +1,8 @@
-use Rattle.std.proofs.Common.{ℕ, List, Contains, ◌∷◌, [], sym, subst, ◌∙◌}
-use Rattle.std.proofs.lemmas.List.Sorted.{IsPermutation-cons, IsPermutation-middle, IsPermutation-trans}
+use Rattle.std.proofs.Common.{arith, ℕ, List, Contains, ◌∷◌, [], ◌≢◌, Some, sym, subst, ◌∙◌}
+use Rattle.std.proofs.lemmas.List.Sorted.{IsPermutation-cons, IsPermutation-middle, IsPermutation-trans, length_permutation}
 use Rattle.std.specs.List.Sorted.{IsPermutation}
 use Rattle.iddqd_store.specs.Table.{ReplacesPair, ReplacesTwo}
+use Rattle.iddqd_store.proofs.RankLemmas.Walks.{two_found, two_not_found, walks_more}
 use Rattle.iddqd_store.proofs.TableLemmas.Renumber.{stays}
 use Rattle.iddqd_store.proofs.index_table.IndexTable.replace_two.Goals as goal
 
@@ -28,9 +29,11 @@ renumber-requires g c =
     let same = c.requires.other.known under.0 ∙ sym under.1 in
     stays c.args.self.now.pairs c.forget.new.self.pairs _ _ c.forget.ensures.taken (subst (λ (h : ℕ). Contains c.args.self.now.pairs (h, c.args.other.0)) same c.requires.other.pair) (λ e. c.requires.apart (sym e))
 
-pub rehash-requires-clause-paired : goal.rehash-requires-clause-paired
-rehash-requires-clause-paired g c =
-    stays c.args.self.now.pairs c.forget-in-None.new.self.pairs _ _ c.forget-in-None.ensures.taken c.requires.gone.pair c.requires.apart
+pub rehash-requires : goal.rehash-requires
+rehash-requires g c = record {
+  pair = stays c.args.self.now.pairs c.forget-in-None.new.self.pairs _ _ c.forget-in-None.ensures.taken c.requires.gone.pair c.requires.apart;
+  known = c.requires.gone.known;
+}
 
 pub returns-in-Some-clause-replaced : goal.returns-in-Some-clause-replaced
 returns-in-Some-clause-replaced g c =
@@ -40,4 +43,16 @@ returns-in-Some-clause-replaced g c =
 
 pub returns-in-None-clause-replaced : goal.returns-in-None-clause-replaced
 returns-in-None-clause-replaced g c =
-    rw c.hash.ensures at (after_two c.args.self.now.pairs c.forget-in-None.new.self.pairs c.rehash.new.self.pairs _ _ _ c.forget-in-None.ensures.taken c.rehash.ensures.moved)
+    after_two c.args.self.now.pairs c.forget-in-None.new.self.pairs c.rehash.new.self.pairs _ _ _ c.forget-in-None.ensures.taken c.rehash.ensures.moved
+
+pub returns-in-Some-clause-costs : goal.returns-in-Some-clause-costs
+returns-in-Some-clause-costs g c =
+    let less = length_permutation _ _ c.forget.ensures.taken in
+    let number = c.renumber.ensures in
+    rw (two_found _ c.args.by.now _ c.args.other.0 c.in-Some.ensures.under.0) (omega (arith, less, c.forget.ensures.within, number.looks.hit_most, number.within))
+
+pub returns-in-None-clause-costs : goal.returns-in-None-clause-costs
+returns-in-None-clause-costs g c =
+    let away : c.args.by.now.slot ≢ Some c.args.other.0 = λ is. let known = c.in-None.ensures.known is in cc in
+    let less = length_permutation _ _ c.forget-in-None.ensures.taken in
+    rw (two_not_found _ c.args.by.now _ c.args.other.0 away) (walks_more _ _ _ _ _ _ (omega (arith, less)) c.forget-in-None.ensures.within c.rehash.ensures.costs)

@@ -1,9 +1,13 @@
-use Rattle.std.proofs.Common.{[], ◌∷◌}
+use Rattle.std.proofs.Common.{[], ◌∷◌, sym, subst}
+use Rattle.iddqd_store.specs.Bag.Calling.{TakesInTurn}
 use Rattle.iddqd_store.specs.Rank.{agree}
 use Rattle.iddqd_store.proofs.SlotLemmas.Kept.{finds_still}
 use Rattle.iddqd_tri.specs.Keys.{key_tests}
 use Rattle.iddqd_tri.proofs.MapLemmas.{AreKeyTests-keys, AreLawful-ranks}
 use Rattle.iddqd_tri.proofs.entry.OccupiedEntry.for_each.Goals as goal
+
+pub store_found-requires-clause-callable : goal.store_found-requires-clause-callable
+store_found-requires-clause-callable g c = subst (λ l. TakesInTurn g.F.FnMut c.args.f l) (sym c.requires.has_found.listed) c.requires.callable
 
 pub returns-clause-has_found : goal.returns-clause-has_found
 returns-clause-has_found g c =

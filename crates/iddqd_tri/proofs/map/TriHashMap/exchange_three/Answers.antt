@@ -1,10 +1,11 @@
-use Rattle.std.proofs.Common.{arith, rules, sym, ◌∙◌, ◌≡◌, ℕ, List, Option, None, Some}
+use Rattle.std.proofs.Common.{arith, rules, refl, [], ◌∷◌, sym, ◌∙◌, ◌≡◌, ℕ, List, Option, None, Some}
 use Rattle.std.specs.Prelude.{◌≢◌, slice_set}
 use Rattle.std.proofs.lemmas.List.{get_or-set_other}
 use Rattle.std.proofs.lemmas.List.Sorted.{IsPermutation-map, length_permutation}
 use Rattle.iddqd_store.specs.Slots.{get}
 use Rattle.iddqd_store.proofs.RankLemmas.Rehashed.{come, left, stands}
 use Rattle.iddqd_store.proofs.RankLemmas.Replaced.{IsIndexed-all_replaced, paired_at, sound_all_replaced}
+use Rattle.iddqd_store.proofs.RankLemmas.Walks.{walks_all}
 use Rattle.iddqd_tri.specs.Keys.{ranks}
 use Rattle.iddqd_tri.proofs.MapLemmas.{AreLawful-ranks}
 use Rattle.iddqd_tri.proofs.map.TriHashMap.exchange_three.Goals as goal
@@ -102,3 +103,7 @@ returns-clause-puts_at g c =
       same_room = search rules;
       same_builder = search rules;
     }
+
+pub returns-clause-costs : goal.returns-clause-costs
+returns-clause-costs g c =
+    rw (← c.self.view_is) (walks_all (_ ∷ _ ∷ _ ∷ []) _ _ c.self.invariant (c.replace_three.new.meter, c.replace_three.ensures.costs, (c.replace_three-2.new.meter, c.replace_three-2.ensures.costs, (c.replace_three-3.new.meter, c.replace_three-3.ensures.costs, refl))))

@@ -1,8 +1,9 @@
-use Rattle.std.proofs.Common.{arith, rules, sym, ◌∙◌, None}
+use Rattle.std.proofs.Common.{arith, rules, refl, sym, ◌∙◌, None, [], ◌∷◌}
 use Rattle.std.proofs.lemmas.List.{get_or-set_other}
 use Rattle.std.proofs.lemmas.List.Sorted.{IsPermutation-map, length_permutation}
 use Rattle.iddqd_store.proofs.RankLemmas.Rehashed.{come, left, stands}
 use Rattle.iddqd_store.proofs.RankLemmas.Replaced.{IsIndexed-replaced, paired_at, sound_replaced}
+use Rattle.iddqd_store.proofs.RankLemmas.Walks.{walks_all}
 use Rattle.iddqd_tri.specs.Keys.{ranks}
 use Rattle.iddqd_tri.proofs.MapLemmas.{AreLawful-ranks}
 use Rattle.iddqd_tri.proofs.map.TriHashMap.exchange_two.Goals as goal
@@ -71,3 +72,7 @@ returns-clause-puts_at g c =
       same_room = search rules;
       same_builder = search rules;
     }
+
+pub returns-clause-costs : goal.returns-clause-costs
+returns-clause-costs g c =
+    rw (← c.self.view_is) (walks_all (_ ∷ _ ∷ _ ∷ []) _ _ c.self.invariant (c.replace_two.new.meter, c.replace_two.ensures.costs, (c.replace_two-2.new.meter, c.replace_two-2.ensures.costs, (c.replace_two-3.new.meter, c.replace_two-3.ensures.costs, refl))))

@@ -1,8 +1,9 @@
-use Rattle.std.proofs.Common.{arith, rules}
+use Rattle.std.proofs.Common.{arith, rules, refl, [], ◌∷◌}
 use Rattle.std.proofs.lemmas.List.Sorted.{IsPermutation-map, length_permutation}
 use Rattle.iddqd_store.proofs.RankLemmas.Costs.{place_in}
 use Rattle.iddqd_store.proofs.RankLemmas.Index.{length-live_items, length-index}
 use Rattle.iddqd_store.proofs.RankLemmas.Invariant.{IsIndexed-insert}
+use Rattle.iddqd_store.proofs.RankLemmas.Walks.{insert_most, once, walks_all}
 use Rattle.iddqd_store.proofs.MapLemmas.{free_sound}
 use Rattle.iddqd_tri.specs.Keys.{ranks}
 use Rattle.iddqd_tri.proofs.MapLemmas.{AreLawful-ranks}
@@ -52,9 +53,15 @@ returns-clause-puts_at g c =
     record {
       at = c.insert_reserved-ix.ensures.updates.changed;
       items = rw (← c.self.view_is) items;
-      sound =
-          free_sound (ranks g.T.TriHashItem g.T.K1.PartialEq.eq g.T.K2.PartialEq.eq g.T.K3.PartialEq.eq) (AreLawful-ranks g.T.TriHashItem g.met.T.K1.Eq.laws g.met.T.K2.Eq.laws g.met.T.K3.Eq.laws) c.self.inside.items.slots c.insert_reserved-ix.new.self.slots c.insert_reserved-ix.result c.args.item c.self.invariant.sound free c.insert_reserved-ix.ensures.members;
+      sound = free_sound (ranks g.T.TriHashItem g.T.K1.PartialEq.eq g.T.K2.PartialEq.eq g.T.K3.PartialEq.eq) (AreLawful-ranks g.T.TriHashItem g.met.T.K1.Eq.laws g.met.T.K2.Eq.laws g.met.T.K3.Eq.laws) c.self.inside.items.slots c.insert_reserved-ix.new.self.slots c.insert_reserved-ix.result c.args.item c.self.invariant.sound free c.insert_reserved-ix.ensures.members;
       fits = omega (arith, room, more, c.insert_reserved-ix.ensures.capacity, c.insert_at.ensures.limit, c.insert_at-2.ensures.limit, c.insert_at-3.ensures.limit);
       same_room = search rules;
       same_builder = search rules;
     }
+
+pub returns-clause-costs : goal.returns-clause-costs
+returns-clause-costs g c =
+    let into1 = c.insert_at.ensures in
+    let into2 = c.insert_at-2.ensures in
+    let into3 = c.insert_at-3.ensures in
+    rw (← c.self.view_is) (walks_all (_ ∷ _ ∷ _ ∷ []) _ _ c.self.invariant (c.insert_at.new.meter, once _ _ _ (insert_most _ _ _ _ _ _ into1.no_look into1.looks into1.within), (c.insert_at-2.new.meter, once _ _ _ (insert_most _ _ _ _ _ _ into2.no_look into2.looks into2.within), (c.insert_at-3.new.meter, once _ _ _ (insert_most _ _ _ _ _ _ into3.no_look into3.looks into3.within), refl))))

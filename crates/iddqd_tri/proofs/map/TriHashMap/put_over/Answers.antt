@@ -1,8 +1,10 @@
-use Rattle.std.proofs.Common.{arith, ap, refl, ◌∙◌, ◌≡◌, ◌<◌, ◌∷◌, [], ℕ, List, length}
+use Rattle.std.proofs.Common.{arith, rules, ap, refl, ◌∙◌, ◌≡◌, ◌<◌, ◌∷◌, [], ℕ, List, length}
 use Rattle.std.proofs.lemmas.List.Sorted.{IsPermutation-refl}
 use Rattle.iddqd_store.specs.Map.{bag}
 use Rattle.iddqd_store.proofs.BagLemmas.Over.{clash-taken, over-taken}
 use Rattle.iddqd_store.proofs.MapLemmas.Places.{one_leaves, three_leave, two_leave, stand_in}
+use Rattle.iddqd_store.specs.Rank.{key_hash, walks_two}
+use Rattle.iddqd_store.proofs.RankLemmas.Walks.{two_most, walks_most}
 use Rattle.iddqd_tri.specs.Keys.{ranks}
 use Rattle.iddqd_tri.proofs.map.TriHashMap.put_over.Goals as goal
 
@@ -98,3 +100,16 @@ returns-clause-puts_at g c =
       same_room = put.same_room;
       same_builder = put.same_builder;
     }
+
+pub returns-clause-costs : goal.returns-clause-costs
+returns-clause-costs g c =
+    let by = c.args.by.now in
+    let builder = c.args.self.now.builder in
+    let hash1 = key_hash g.T.TriHashItem.key1 g.T.K1.Hash.hash_input g.S.BuildHasher g.S.Hasher.Hasher builder in
+    let hash2 = key_hash g.T.TriHashItem.key2 g.T.K2.Hash.hash_input g.S.BuildHasher g.S.Hasher.Hasher builder in
+    let hash3 = key_hash g.T.TriHashItem.key3 g.T.K3.Hash.hash_input g.S.BuildHasher g.S.Hasher.Hasher builder in
+    let at = c.in-Some-pop_front.at in
+    let gone = c.exchange_two-gone.result.0 in
+    let listed : c.push_front-2.new.self ≡ gone ∷ c.exchange_two-gone.result.1 ∷ [] = search rules in
+    let most = walks_most (length (bag c.args.self.now)) (walks_two hash1 by.0 at gone ∷ walks_two hash2 by.1 at gone ∷ walks_two hash3 by.2 at gone ∷ []) (3 ∷ 3 ∷ 3 ∷ []) (two_most hash1 by.0 gone at, (two_most hash2 by.1 gone at, (two_most hash3 by.2 gone at, tt))) in
+    rw listed (omega (arith, c.exchange_two-gone.ensures.costs, most))

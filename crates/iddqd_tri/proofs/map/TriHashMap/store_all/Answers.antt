@@ -12,7 +12,8 @@ use Rattle.iddqd_store.specs.Slots.{IsLive}
 use Rattle.iddqd_store.specs.Slots.Found.{items_at}
 use Rattle.iddqd_store.specs.Slots.Kept.{KeepsKeys}
 use Rattle.iddqd_store.proofs.BagLemmas.Over.{drop-found}
-use Rattle.iddqd_store.proofs.MapLemmas.Storing.{live_elsewhere, one_store, stays_live}
+use Rattle.iddqd_store.proofs.BagLemmas.Calling.{TakesEach, TakesEach-in_turn}
+use Rattle.iddqd_store.proofs.MapLemmas.Storing.{live_elsewhere, one_store, stays_live, takes_here, takes_elsewhere}
 use Rattle.iddqd_store.proofs.SlotLemmas.Kept.{kept-same, kept-set}
 use Rattle.iddqd_tri.specs.Keys.{ranks}
 use Rattle.iddqd_tri.proofs.MapLemmas.{AreLawful-ranks, agrees-keys}
@@ -25,6 +26,13 @@ store_at-requires-clause-live g c =
     let rest = drop (c.loop-at.at + 1) found in
     let front = drop-found found c.loop-at.at c.in-Some.ix.now (sym c.in-Some.ensures) in
     All-head (IsLive c.loop-at.self.slots) c.in-Some.ix.now rest (subst (All (IsLive c.loop-at.self.slots)) front c.loop-at.invariant.live)
+
+pub store_at-requires-clause-callable : goal.store_at-requires-clause-callable
+store_at-requires-clause-callable g c =
+    let found = c.args.found.now in
+    let slots = c.loop-at.self.slots in
+    let front = drop-found found c.loop-at.at c.in-Some.ix.now (sym c.in-Some.ensures) in
+    λ x there. takes_here g.F.FnMut c.loop-at.f slots c.in-Some.ix.now (drop (c.loop-at.at + 1) found) x there (subst (λ l. TakesEach g.F.FnMut c.loop-at.f (items_at slots l)) front c.loop-at.invariant.callable)
 
 pub loop-at-preserved : goal.loop-at-preserved
 loop-at-preserved g c =
@@ -47,7 +55,8 @@ loop-at-preserved g c =
           record {
             live = rw w.self-is (subst (λ (m : Map g.row.T.Denot g.row.S.Denot). All (IsLive m.slots) rest) (sym stored.4) (live_elsewhere c.loop-at.self ix written rest apart (All-tail (IsLive slots) ix rest live)));
             apart = IsDistinct-tail nat_eq ix rest apart;
-            callable = rw w.f-is w.store_at.ensures.callable;
+            callable = rw (w.self-is, w.f-is) (subst (λ (m : Map g.row.T.Denot g.row.S.Denot). TakesEach g.F.FnMut w.store_at.new.f (items_at m.slots rest)) (sym stored.4)
+                (takes_elsewhere g.F.FnMut c.loop-at.f w.store_at.new.f c.loop-at.self ix rest stored.0 stored.1 written apart stored.2 stored.3 (subst (λ l. TakesEach g.F.FnMut c.loop-at.f (items_at slots l)) front so_far.callable)));
             completes = λ new stores.
                 so_far.completes new
                 (subst (λ l. Stores (CalledAt g.F.FnMut) put by c.loop-at.f (items_at slots l) (bag c.loop-at.self) new) (sym front)
@@ -66,7 +75,7 @@ pub loop-at-init : goal.loop-at-init
 loop-at-init g c = record {
   live = c.requires.live;
   apart = c.requires.apart;
-  callable = c.requires.callable;
+  callable = TakesEach-in_turn g.F.FnMut c.args.f (items_at c.args.self.now.slots c.args.found.now) c.requires.callable;
   completes = λ new stores. stores;
   kept = kept-same (ranks g.T.TriHashItem g.T.K1.PartialEq.eq g.T.K2.PartialEq.eq g.T.K3.PartialEq.eq) (AreLawful-ranks g.T.TriHashItem g.met.T.K1.Eq.laws g.met.T.K2.Eq.laws g.met.T.K3.Eq.laws) c.args.self.now.slots;
   live_still = λ at there. there;

@@ -8,6 +8,7 @@ use Rattle.iddqd_store.specs.Map.{bag}
 use Rattle.iddqd_store.specs.Slots.{IsLive}
 use Rattle.iddqd_store.specs.Slots.Found.{items_at}
 use Rattle.iddqd_store.specs.Slots.Kept.{KeepsKeys}
+use Rattle.iddqd_store.proofs.BagLemmas.Calling.{TakesEach}
 use Rattle.iddqd_tri.specs.Keys.{ranks}
 use Rattle.iddqd_tri.proofs.map.TriHashMap.store_all.Given as goal
 
@@ -19,7 +20,7 @@ invariant-loop-at g l =
     record {
       live : All (IsLive l.self.slots) (drop l.at l.found);
       apart : IsDistinct nat_eq (drop l.at l.found);
-      callable : goal.F-IsAlwaysCallable g l.f;
+      callable : TakesEach g.F.FnMut l.f (items_at l.self.slots (drop l.at l.found));
       completes : (new : List g.row.T.Denot) → stores l.f (items_at l.self.slots (drop l.at l.found)) (bag l.self) new → stores l.fn.f (items_at l.fn.self.slots l.found) (bag l.fn.self) new;
       kept : KeepsKeys (agrees by) l.fn.self.slots l.self.slots;
       live_still : (at : ℕ) → IsLive l.fn.self.slots at → IsLive l.self.slots at;

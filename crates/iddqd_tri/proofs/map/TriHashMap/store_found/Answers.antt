@@ -8,3 +8,6 @@ store_all-requires-clause-live g c = rw c.each_once.ensures (live_found c.args.s
 
 pub store_all-requires-clause-apart : goal.store_all-requires-clause-apart
 store_all-requires-clause-apart g c = rw c.each_once.ensures (IsDistinct-each_once (c.args.slot1 ∷ c.args.slot2 ∷ c.args.slot3 ∷ []))
+
+pub store_all-requires-clause-callable : goal.store_all-requires-clause-callable
+store_all-requires-clause-callable g c = rw c.each_once.ensures c.requires.callable

@@ -1,7 +1,8 @@
-use Rattle.std.proofs.Common.{sym, refl, ◌∙◌}
+use Rattle.std.proofs.Common.{sym, refl, ◌∙◌, [], ◌∷◌}
 use Rattle.std.proofs.lemmas.List.Sorted.{IsPermutation-map}
 use Rattle.iddqd_store.proofs.RankLemmas.Index.{pair_in, hash_known}
 use Rattle.iddqd_store.proofs.RankLemmas.Invariant.{IsIndexed-remove}
+use Rattle.iddqd_store.proofs.RankLemmas.Walks.{once, walks_all}
 use Rattle.iddqd_tri.proofs.MapLemmas.{AreLawful-ranks}
 use Rattle.iddqd_tri.proofs.map.TriHashMap.take.Goals as goal
 
@@ -40,3 +41,7 @@ returns-clause-loses g c = record {
   same_room = rw (← c.self.view_is, c.remove.ensures.capacity, c.forget.ensures.limit, c.forget-in-Some.ensures.limit, c.forget-in-Some-2.ensures.limit) refl;
   same_builder = rw (← c.self.view_is) refl;
 }
+
+pub returns-clause-costs : goal.returns-clause-costs
+returns-clause-costs g c =
+    rw (← c.self.view_is) (walks_all (_ ∷ _ ∷ _ ∷ []) _ _ c.self.invariant (c.forget.new.meter, once _ _ _ c.forget.ensures.within, (c.forget-in-Some.new.meter, once _ _ _ c.forget-in-Some.ensures.within, (c.forget-in-Some-2.new.meter, once _ _ _ c.forget-in-Some-2.ensures.within, refl))))

@@ -1,24 +1,27 @@
 //! Inserting an item in place of three others, each of which has one of its keys.
-ghost use Rattle.std.specs.Prelude.{◌≡◌, ◌≢◌, [], ◌∷◌, None, Some, slice_set};
+ghost use Rattle.std.specs.Prelude.{◌≡◌, ◌≢◌, ◌+◌, ◌≤◌, [], ◌∷◌, length, None, Some, slice_set};
 ghost use Rattle.iddqd_store.specs.Bag.{clash};
-ghost use Rattle.iddqd_store.specs.Map.{PutsAt};
+ghost use Rattle.iddqd_store.specs.Map.{bag, PutsAt};
+ghost use Rattle.iddqd_store.specs.Rank.{walks_three, walks_within};
 ghost use Rattle.iddqd_store.specs.Slots.{get, live_items, IsLive};
 ghost use Rattle.iddqd_tri.specs.Keys.{AreUnder, HaveHashes};
 
 use crate::item::{Hashed, Ranked, TriHashItem};
 use crate::map::TriHashMap;
 use crate::ranks::{First, Second, Third};
-use iddqd_store::{ItemIndex, SlotUnder};
+use iddqd_store::{ItemIndex, Meter, SlotUnder};
 use std::hash::{BuildHasher, Hash};
 
 impl<T: TriHashItem, S: BuildHasher> TriHashMap<T, S> {
     /// Puts an item into the slot `slots.0` of one that conflicts with it, and returns that one and two others, which leave the
-    /// other slots. At a rank at which the search found one of these, its pair gets the number `slots.0`.
+    /// other slots. At a rank at which the search found one of these, its pair gets the number `slots.0`. How often the call
+    /// walks through each table, `walks_three` says.
     pub(crate) fn exchange_three(
         &mut self,
         slots: (ItemIndex, ItemIndex, ItemIndex),
         item: T,
         by: &(SlotUnder, SlotUnder, SlotUnder),
+        meter: &mut Meter,
     ) -> (T, T, T)
         requires live { IsLive self.old.slots slots.0 × IsLive self.old.slots slots.1 × IsLive self.old.slots slots.2 }
         requires apart { (slots.0 ≢ slots.1) × (slots.0 ≢ slots.2) × (slots.1 ≢ slots.2) }
@@ -34,6 +37,10 @@ impl<T: TriHashItem, S: BuildHasher> TriHashMap<T, S> {
             × (get self.old.slots slots.2 ≡ Some result.2) }
         ensures puts_at { PutsAt ⟦<T as Ranked>⟧.ranks self.old slots.0 item (item ∷ live_items
             (slice_set (slice_set (slice_set self.old.slots slots.2 None) slots.1 None) slots.0 None)) self.new }
+        ensures costs { meter.new ≤ meter.old + walks_within (length (bag self.old))
+            (walks_three (⟦<T as Hashed<S>>⟧.hash1 self.old.builder) by.now.0 slots.1 slots.2 result.0
+            ∷ walks_three (⟦<T as Hashed<S>>⟧.hash2 self.old.builder) by.now.1 slots.1 slots.2 result.0
+            ∷ walks_three (⟦<T as Hashed<S>>⟧.hash3 self.old.builder) by.now.2 slots.1 slots.2 result.0 ∷ []) }
     {
         // This call gives the prover the fact that the items fit, for the clause `fits`.
         let _ = self.room();
@@ -51,6 +58,7 @@ impl<T: TriHashItem, S: BuildHasher> TriHashMap<T, S> {
             (at, &other),
             (end, &last),
             &by.0,
+            meter,
         );
         self.second.replace_three::<T, Second, S>(
             &self.hash_builder,
@@ -58,6 +66,7 @@ impl<T: TriHashItem, S: BuildHasher> TriHashMap<T, S> {
             (at, &other),
             (end, &last),
             &by.1,
+            meter,
         );
         self.third.replace_three::<T, Third, S>(
             &self.hash_builder,
@@ -65,6 +74,7 @@ impl<T: TriHashItem, S: BuildHasher> TriHashMap<T, S> {
             (at, &other),
             (end, &last),
             &by.2,
+            meter,
         );
         (gone, other, last)
     }

@@ -1,0 +1,102 @@
+//! Orders: an error of `anyhow`, the first few in an order, and a change of several items that is rolled back.
+ghost use Rattle.std.specs.Prelude.{◌≡◌, ◌∷◌, ◌≤◌, length, IsPermutation, OnOk, OnErr, IfOk};
+ghost use Rattle.iddqd_bi.specs.Map.{bag};
+
+use iddqd_bi::{BiHashItem, BiHashMap, TryReserveError};
+use std::alloc::{AllocError, Global};
+
+/// An order, known by its number and by its place in a queue.
+#[derive(Clone, Copy)]
+pub struct Order {
+    pub number: u64,
+    pub place: u32,
+    pub price: u64,
+}
+
+impl BiHashItem for Order {
+    type K1 = u64;
+
+    type K2 = u32;
+
+    ghost key1 = { λ o. o.number };
+
+    ghost key2 = { λ o. o.place };
+
+    fn key1(&self) -> &u64 {
+        &self.number
+    }
+
+    fn key2(&self) -> &u32 {
+        &self.place
+    }
+}
+
+impl Order {
+    /// Makes an order.
+    pub fn new(number: u64, place: u32, price: u64) -> Self {
+        Order {
+            number,
+            place,
+            price,
+        }
+    }
+}
+
+/// Adds an order. The error is one of `anyhow`, made by `?`.
+pub fn add(orders: &mut BiHashMap<Order>, order: Order) -> anyhow::Result<()>
+    ensures went_in { OnOk result (IsPermutation (bag orders.new) (order ∷ bag orders.old)) }
+    ensures unchanged { OnErr result (orders.new ≡ orders.old) }
+{
+    orders.try_insert(order)?;
+    Ok(())
+}
+
+/// Returns the cheapest orders, so many at most, the cheapest first.
+pub fn cheapest(
+    alloc: Global,
+    orders: &BiHashMap<Order>,
+    most: usize,
+) -> Result<Vec<&Order>, AllocError>
+    ensures { IfOk result (λ cheap. length cheap.items ≤ most) }
+{
+    let mut sorted: Vec<&Order> = orders.iter().collect(alloc)?;
+    sorted.sort_by_key(|order| order.price)?;
+    sorted.truncate(most);
+    Ok(sorted)
+}
+
+/// Puts each order in the place of the one with its number. If one of them has no such order, or the place of a third
+/// one, the map becomes what it was before, and the result is `false`.
+pub fn replace_all(
+    orders: &mut BiHashMap<Order>,
+    changed: Vec<Order>,
+) -> Result<bool, TryReserveError> {
+    let before = orders.clone()?;
+    for order in changed {
+        if orders.rekey1(&order.number, order).is_err() {
+            *orders = before;
+            return Ok(false);
+        }
+    }
+    Ok(true)
+}
+
+/// Lets two orders change places in the queue, and returns whether there are both. One of them leaves the map for a
+/// moment, so that no place is taken twice. The map has capacity for it, so nothing runs out of memory.
+pub fn swap_places(orders: &mut BiHashMap<Order>, one: u64, other: u64) -> bool {
+    let Some(place) = orders.get1(&one).map(|order| order.place) else {
+        return false;
+    };
+    let Some(leaving) = orders.remove1(&other) else {
+        return false;
+    };
+    let back = Order { place, ..leaving };
+    let Some(staying) = orders.get1(&one).copied() else {
+        return orders.try_insert(leaving).is_ok() && one == other;
+    };
+    let moved = Order {
+        place: leaving.place,
+        ..staying
+    };
+    orders.rekey1(&one, moved).is_ok() && orders.try_insert(back).is_ok()
+}

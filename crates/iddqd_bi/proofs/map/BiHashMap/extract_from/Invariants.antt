@@ -1,0 +1,16 @@
+use Rattle.std.proofs.Common.{◌≡◌, length}
+use Rattle.std.specs.Fn.{CalledAt}
+use Rattle.iddqd_store.specs.Map.Walk.{to_come}
+use Rattle.iddqd_store.proofs.BagLemmas.Calling.{TakesEach}
+use Rattle.iddqd_store.proofs.MapLemmas.Extracting.{HasRejected}
+use Rattle.iddqd_bi.proofs.map.BiHashMap.extract_from.Given as goal
+
+abbrev pub invariant-loop-ix : goal.invariant-loop-ix
+invariant-loop-ix g l = record {
+  rejected : HasRejected (CalledAt g.F.FnMut) l.fn.f l.self l.fn.at l.f l.at;
+  callable : TakesEach g.F.FnMut l.f (to_come l.self l.at);
+  same : l.self ≡ l.fn.self;
+}
+
+abbrev pub decreases-loop-ix : goal.decreases-loop-ix
+decreases-loop-ix g l = length (to_come l.self l.at)

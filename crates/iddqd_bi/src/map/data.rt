@@ -1,0 +1,88 @@
+//! Borrowing the data of an item for writing, without a guard.
+ghost use Rattle.std.specs.Prelude.{◌≡◌, Some, None, IfSome, IfNone};
+ghost use Rattle.std.specs.Borrow.{sem};
+ghost use Rattle.iddqd_store.specs.Bag.{IsOnly};
+ghost use Rattle.iddqd_store.specs.Map.{bag};
+ghost use Rattle.iddqd_bi.specs.Keys.{has1, has2, has_both};
+
+use super::BiHashMap;
+use crate::item::{BiHashItemMut, Ranked};
+use iddqd_store::Query;
+use std::hash::{BuildHasher, Hash};
+
+impl<T: BiHashItemMut, S: BuildHasher> BiHashMap<T, S> {
+    ghost use Rattle.iddqd_bi.specs.Lent.{lends_data_to};
+
+    /// Returns the data of the item with the first key that the query stands for, borrowed for writing, or `None` if
+    /// no item has that key. What is written through the reference is the item's data, and nothing else changes.
+    ///
+    /// The call compares at most as many keys as items have the query's hash at the first rank. It allocates no memory.
+    ///
+    /// `*map.data1_mut(&key)? = data;`
+    pub fn data1_mut<Q: Query<T::K1>>(&mut self, query: Q) -> Option<&mut T::Data>
+        // The data that the item has is lent, or nothing if there is no such item.
+        ensures value { IfSome result (λ d. (x : T) × IsOnly (has1 T.BiHashItem Q.stands_for query)
+            (bag self.old) (Some x) × (d.now ≡ T.data_of x)) }
+        ensures absent { IfNone result (IsOnly (has1 T.BiHashItem Q.stands_for query)
+            (bag self.old) None) }
+        // What is written through it is the item's data, and nothing else changes. At `None` the map is as it was.
+        ensures* writes_back { sem 𝓛 (lends_data_to T.row S.row T.K1.row T.K2.row S.Hasher.row
+            T.BiHashItem T.K1.Hash T.K2.Hash S.BuildHasher S.Hasher.Hasher T.Data.row T.put
+            ⟦<T as Ranked>⟧.ranks (has1 T.BiHashItem Q.stands_for query) self.entry result) }
+    {
+        match self.by_key1().slot_of(query) {
+            Some(ix) => Some(self.data_mut_at(ix)),
+            None => None,
+        }
+    }
+
+    /// Returns the data of the item with the second key that the query stands for, borrowed for writing, or `None` if
+    /// no item has that key. What is written through the reference is the item's data, and nothing else changes.
+    ///
+    /// The call compares at most as many keys as items have the query's hash at the second rank. It allocates no
+    /// memory.
+    ///
+    /// `*map.data2_mut(&key)? = data;`
+    pub fn data2_mut<Q: Query<T::K2>>(&mut self, query: Q) -> Option<&mut T::Data>
+        // The data that the item has is lent, or nothing if there is no such item.
+        ensures value { IfSome result (λ d. (x : T) × IsOnly (has2 T.BiHashItem Q.stands_for query)
+            (bag self.old) (Some x) × (d.now ≡ T.data_of x)) }
+        ensures absent { IfNone result (IsOnly (has2 T.BiHashItem Q.stands_for query)
+            (bag self.old) None) }
+        // What is written through it is the item's data, and nothing else changes. At `None` the map is as it was.
+        ensures* writes_back { sem 𝓛 (lends_data_to T.row S.row T.K1.row T.K2.row S.Hasher.row
+            T.BiHashItem T.K1.Hash T.K2.Hash S.BuildHasher S.Hasher.Hasher T.Data.row T.put
+            ⟦<T as Ranked>⟧.ranks (has2 T.BiHashItem Q.stands_for query) self.entry result) }
+    {
+        match self.by_key2().slot_of(query) {
+            Some(ix) => Some(self.data_mut_at(ix)),
+            None => None,
+        }
+    }
+
+    /// Returns the data of the item that has both keys that the queries stand for, borrowed for writing, or `None` if
+    /// there is no such item. What is written through the reference is the item's data, and nothing else changes.
+    ///
+    /// The call compares the keys that `get_unique` compares. It allocates no memory.
+    pub fn data_unique_mut<Q1: Query<T::K1>, Q2: Query<T::K2>>(
+        &mut self,
+        query1: Q1,
+        query2: Q2,
+    ) -> Option<&mut T::Data>
+        // The data that the item has is lent, or nothing if there is no such item.
+        ensures value { IfSome result (λ d. (x : T) × IsOnly (has_both T.BiHashItem Q1.stands_for Q2.stands_for query1 query2)
+            (bag self.old) (Some x) × (d.now ≡ T.data_of x)) }
+        ensures absent { IfNone result (IsOnly (has_both T.BiHashItem Q1.stands_for Q2.stands_for query1 query2)
+            (bag self.old) None) }
+        // What is written through it is the item's data, and nothing else changes. At `None` the map is as it was.
+        ensures* writes_back { sem 𝓛 (lends_data_to T.row S.row T.K1.row T.K2.row S.Hasher.row
+            T.BiHashItem T.K1.Hash T.K2.Hash S.BuildHasher S.Hasher.Hasher T.Data.row T.put
+            ⟦<T as Ranked>⟧.ranks (has_both T.BiHashItem Q1.stands_for Q2.stands_for query1 query2)
+            self.entry result) }
+    {
+        match self.slot_of_both(query1, query2) {
+            Some(ix) => Some(self.data_mut_at(ix)),
+            None => None,
+        }
+    }
+}

@@ -1,0 +1,47 @@
+//! Taking out the items for which a closure returns `true`, one by one.
+ghost use Rattle.std.specs.Prelude.{◌≡◌, IfNone};
+ghost use Rattle.std.specs.Fn.{CalledAt};
+ghost use Rattle.std.specs.Option.{option_to_list};
+ghost use Rattle.iddqd_store.specs.Bag.Calling.{TakesInTurn};
+ghost use Rattle.iddqd_store.specs.Map.{Loses};
+ghost use Rattle.iddqd_store.specs.Map.Extracting.{Extracts};
+ghost use Rattle.iddqd_store.specs.Map.Walk.{to_come};
+
+use super::BiHashMap;
+use crate::item::BiHashItem;
+use iddqd_store::{Cursor, Meter};
+use std::hash::{BuildHasher, Hash};
+
+impl<T: BiHashItem, S: BuildHasher> BiHashMap<T, S> {
+    /// Removes the next item for which `f` returns `true`, and returns it, or `None` if there is none from the cursor
+    /// on. The cursor moves on behind the last item with which `f` was called. The items in front of that one stay, and
+    /// the capacity stays.
+    ///
+    /// Called until it returns `None`, it removes each item for which `f` returns `true` once, as `extract_if` of std
+    /// does, and `f` is called once with each item. Between two calls a caller may read the map and write items, but
+    /// not insert or remove any by another call. A loop that ends early leaves the other items in the map.
+    ///
+    /// The call hashes each key of the item that it removes once. It compares no key, and allocates no memory. The whole
+    /// loop passes each slot once.
+    ///
+    /// ```text
+    /// let mut at = Cursor::new();
+    /// while let Some(lease) = leases.extract_from(&mut at, |lease| lease.until < now) {
+    ///     // The lease has left the map.
+    /// }
+    /// ```
+    pub fn extract_from<F: FnMut(&T) -> bool>(&mut self, at: &mut Cursor, mut f: F) -> Option<T>
+        requires { TakesInTurn F.FnMut f (to_come self.old at.old) }
+        ensures extracts { Extracts (CalledAt F.FnMut) f self.old at.old result self.new at.new }
+        ensures loses { Loses self.old (option_to_list result) self.new }
+        ensures absent { IfNone result (self.new ≡ self.old) }
+    {
+        while let Some(ix) = self.slot_from(at.next()) {
+            at.pass(ix);
+            if f(self.item_at(ix)) {
+                return Some(self.take(ix, None, None, &mut Meter::new()));
+            }
+        }
+        None
+    }
+}

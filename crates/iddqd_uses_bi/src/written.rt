@@ -1,0 +1,34 @@
+//! What a caller can prove of an entry after writing what it lends for one key: it still knows what it found.
+ghost use Rattle.std.specs.Prelude.{◌≡◌, None, Some, IsPermutation};
+ghost use Rattle.iddqd_bi.specs.Bag.{IsOnly, swap};
+ghost use Rattle.iddqd_bi.specs.Keys.{has1};
+ghost use Rattle.iddqd_bi.specs.Map.{bag};
+
+use iddqd_bi::{BiHashItemMut, BiHashMap, Entry, Ranked};
+use std::hash::{BuildHasher, Hash};
+
+/// Writes the data of the item that has the first of two keys, if there is one, and then returns whether one item has
+/// both keys.
+pub fn write_and_ask1<'a, T: BiHashItemMut, S: BuildHasher>(
+    map: &'a mut BiHashMap<T, S>,
+    key1: &'a T::K1,
+    key2: &'a T::K2,
+    d: T::Data,
+) -> bool
+where
+    T::Data: Drop,
+    ensures present { (x : T) → IsOnly (has1 T.BiHashItem T.K1.eq key1.now) (bag map.old) (Some x)
+        → IsPermutation (bag map.new) (swap ⟦<T as Ranked>⟧.ranks (bag map.old) x (T.put x d)) }
+    ensures absent { IsOnly (has1 T.BiHashItem T.K1.eq key1.now) (bag map.old) None → map.new ≡ map.old }
+{
+    match map.entry(key1, key2) {
+        Entry::Vacant(_v) => return false,
+        Entry::Occupied(mut found) => match found.data1_mut() {
+            Some(data) => {
+                *data = d;
+                return found.is_unique();
+            }
+            None => return found.is_unique(),
+        },
+    }
+}
