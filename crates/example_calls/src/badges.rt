@@ -1,4 +1,4 @@
-//! An insert whose error owns the item and says which keys are taken: handed on by `?`, and mapped.
+//! An insert whose error owns the item and says which keys are taken. It is returned by `?`, or mapped.
 ghost use Rattle.std.specs.Prelude.{◌≡◌, ◌<◌, ◌∷◌, [], length, IsOk, IsPermutation, OnOk, OnErr, IfErr};
 ghost use Rattle.iddqd_bi.specs.Bag.{clash};
 ghost use Rattle.iddqd_bi.specs.Map.{bag};

@@ -30,7 +30,7 @@ impl BiHashItem for Record {
     }
 }
 
-/// Why a batch was not loaded: the record that was rejected, how many records stand before it in the batch, and whether
+/// Why a batch was not loaded: the record that was rejected, how many records are before it in the batch, and whether
 /// it conflicts with one of these or of the map, or found no memory.
 #[derive(Drop)]
 pub struct Rejected {

@@ -1,4 +1,4 @@
-//! Another item in the place of one, with other keys.
+//! Replacing an item by one with other keys.
 ghost use Rattle.std.specs.Prelude.{◌≡◌, ◌∷◌, ◌==◌, Some, IsPermutation, IfOk, OnErr};
 ghost use Rattle.iddqd_bi.specs.Bag.{IsOnly};
 ghost use Rattle.iddqd_bi.specs.Map.{bag};

@@ -103,7 +103,7 @@ pub fn join(alloc: Global, teams: &mut BiHashMap<Team>, id: u64, lab: u32, membe
     false
 }
 
-/// Opens a team with memory for so many members if no team has one of the keys. Only then is the memory requested.
+/// Opens a team with memory for this many members if no team has one of the keys. Only then is the memory requested.
 pub fn open_for(
     alloc: Global,
     teams: &mut BiHashMap<Team>,

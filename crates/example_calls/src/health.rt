@@ -1,4 +1,4 @@
-//! Handing an item's data on, borrowed for writing, and data that owns memory.
+//! Returning an item's data, borrowed for writing, and data that owns memory.
 ghost use Rattle.std.specs.Prelude.{◌≡◌, ◌==◌, ◌∷◌, ◌++◌, [], true, false, Some, None, IfSome, IfNone, IfOk, OnErr, IsPermutation};
 ghost use Rattle.std.specs.Borrow.{sem};
 ghost use Rattle.std.specs.Fn.{FnOnceReturnsAtMut};

@@ -78,7 +78,8 @@ pub fn forget_doors(cards: &mut BiHashMap<Card>)
     });
 }
 
-/// Puts the time of each last use one on, as where a clock was slow. No time may be the largest number of its type.
+/// Adds one to the time of each last use, for example because a clock was slow. No time may be the largest number of
+/// its type.
 pub fn correct_times(cards: &mut BiHashMap<Card>)
     requires { All (λ c. c.last.time + 1 < 2 ^ 64) (bag cards.old) }
     ensures { IsPermutation (bag cards.new)

@@ -11,7 +11,7 @@ ghost use Rattle.iddqd_bi.specs.Map.{bag};
 use iddqd_bi::{BiHashItem, BiHashMap, Equivalent, Ranked, Rejected};
 use std::hash::{Hash, Hasher};
 
-/// Where a volume stands, and since when. As a key it is the shelf and the place.
+/// Where a volume is shelved, and since when. As a key it is the shelf and the place.
 #[derive(Drop)]
 pub struct Spot {
     pub shelf: u32,
@@ -44,7 +44,7 @@ impl Hash for Spot {
     }
 }
 
-/// A volume of a series, and where it stands. As a key it is the series and the number.
+/// A volume of a series, and where it is shelved. As a key it is the series and the number.
 #[derive(Drop)]
 pub struct Volume {
     pub series: u64,

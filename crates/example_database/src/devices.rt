@@ -33,7 +33,7 @@ impl BiHashItem for Device {
     }
 }
 
-/// Why a batch was not inserted: the device that was rejected, how many devices stand before it in the batch, and whether
+/// Why a batch was not inserted: the device that was rejected, how many devices are before it in the batch, and whether
 /// it conflicts with one of these or of the map, or found no memory.
 #[derive(Drop)]
 pub struct Rejected {

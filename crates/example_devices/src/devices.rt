@@ -72,7 +72,7 @@ pub fn plug_in(devices: &mut BiHashMap<Device>, device: Device) -> Result<(), Pl
     ensures full { IsErrOf result PlugError.Full → IsFullFor ⟦<Device as Ranked>⟧.ranks devices.old device }
     ensures same_limit { devices.new.capacity ≡ devices.old.capacity }
 {
-    // Where the limit is reached, an insert of a device that conflicts with none would raise it.
+    // If the limit is reached, an insert of a device that conflicts with none would raise it.
     if devices.len() == devices.capacity() && devices.conflicts_with(&device).is_empty() {
         return Err(PlugError::Full);
     }

@@ -18,7 +18,7 @@ returns-in-Ok-clause-all c =
     let all = c.in-Ok.ensures.all in
     batch-inserted by (bag c.args.records.now) c.args.batch.items all.0 all.2.0 (bag c.extend_unique.new.self) all.1 all.3 all.4
 
--- behind as many of the batch as were taken stands the one in the way
+-- the rejected item comes after as many of the batch as were taken
 pub returns-in-Err-clause-which : goal.returns-in-Err-clause-which
 returns-in-Err-clause-which c =
     let refused = c.in-Err.refused in
@@ -27,7 +27,7 @@ returns-in-Err-clause-which c =
     let same : c.len.result ≡ length refused.taken.items = search rules in
     rw same (batch-index c.args.batch.items refused.taken.items (into_iter_items came.2) refused.value split)
 
--- as many stand in front of it, which can all go in, and something conflicts with it exactly if that is the reason
+-- as many are before it, which can all be inserted, and something conflicts with it exactly if that is the reason
 pub returns-in-Err-clause-why : goal.returns-in-Err-clause-why
 returns-in-Err-clause-why c =
     let refused = c.in-Err.refused in

@@ -15,11 +15,11 @@ use Rattle.example_calls.proofs.entry.note_visit.Goals as goal
 abbrev by : Ranks Visit
 by = agree (λ (v : Visit). v.number) nat_eq ∷ agree (λ (v : Visit). v.page) nat_eq ∷ []
 
--- where nothing conflicts with the visit its keys find nothing
+-- if nothing conflicts with the visit, its keys find nothing
 none_found : (there : List Visit) (v : Visit) → clash by there v ≡ [] → order by there v ≡ []
 none_found there v free = nil_from_length _ (sym (length-clash by there v) ∙ ap length free)
 
--- what fails at no rank lacks memory
+-- an insert that fails although no key differs lacks memory
 lacks_memory : {P : Type 0} (e : EntryError Visit) → error_rank e ≡ None → OnNoMemory e P → P
 lacks_memory (Key1 v) no_rank full = absurd (cc no_rank)
 lacks_memory (Key2 v) no_rank full = absurd (cc no_rank)

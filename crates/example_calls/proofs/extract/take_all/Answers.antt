@@ -10,7 +10,7 @@ loop-task-init c = record {
   capacity = refl;
 }
 
--- none is left
+-- no item is left
 pub returns-clause-items : goal.returns-clause-items
 returns-clause-items c =
     let at = c.loop-task in

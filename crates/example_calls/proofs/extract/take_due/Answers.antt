@@ -10,7 +10,7 @@ loop-task-init c = record {
   room = c.in_ok-due.ensures.exact ∙ c.len.ensures.value;
 }
 
--- the closure answers the same of a task whenever it is called
+-- the closure returns the same for a task whenever it is called
 pub push_reserved-requires : goal.push_reserved-requires
 push_reserved-requires c =
     let at = c.loop-task in

@@ -29,7 +29,7 @@ unlisted (x ∷ listed) (y ∷ whole) is = absurd (cc is)
 free_of : (old : List Team) (x : Team) (id lab : ℕ) → x.id ≡ id → x.lab ≡ lab → entry (key_tests item.ghosts nat_eq nat_eq id lab) old ≡ vacant → clash by old x ≡ []
 free_of old x id lab is1 is2 is = clash-empty by old x (unlisted _ _ (rw (← is1, ← is2) at is))
 
--- a team that went in and then got members stands beside the others
+-- a team that was inserted and then got members is in the map beside the others
 gained_as : (old middle new : List Team) (x y : Team) → clash by old x ≡ [] → IsPermutation middle (x ∷ old) → IsPermutation new (swap by middle x y) → IsPermutation new (y ∷ old)
 gained_as old middle new x y free went p =
     let test : Team → Bool = λ w. not (some_of (like by x) w) in
@@ -50,7 +50,7 @@ on_true : (P : Type 0) (b : Bool) → (b ≡ true → P) → OnTrue b P
 on_true P true if_so = if_so refl
 on_true P false if_so = tt
 
--- the members that are lent are those of the team with both keys
+-- the borrowed members are those of the team with both keys
 pub returns-in-Some-clause-joined : goal.returns-in-Some-clause-joined
 returns-in-Some-clause-joined c = λ t is.
     let asked = c.entry.ensures in

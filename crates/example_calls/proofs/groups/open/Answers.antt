@@ -13,7 +13,7 @@ returns-in-Ok-clause-opened c = λ free.
     let held = c.in-Ok in
     rw (c.teams-1.given.1 (sym (held.ensures.same_map ∙ asked.same_map))) (went_in c.entry.result held._held c.args.team _ _ c.args.teams.now held.ensures.puts_in asked.is_found asked.keys.key1 asked.keys.key2 asked.unchanged (order-empty (ranks item.ghosts nat_eq nat_eq) (bag c.args.teams.now) c.args.team free))
 
--- and else occupied
+-- otherwise it is occupied
 pub returns-in-Ok-clause-kept : goal.returns-in-Ok-clause-kept
 returns-in-Ok-clause-kept c = λ taken.
     let asked = c.entry.ensures in

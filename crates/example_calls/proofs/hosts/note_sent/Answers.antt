@@ -9,7 +9,7 @@ use Rattle.example_calls.specs.contracts.hosts.DutyPartialEq.TheImpl as duty
 use Rattle.example_calls.specs.declared.hosts.Host.{Host}
 use Rattle.example_calls.proofs.hosts.note_sent.Goals as goal
 
--- the item that is lent is the one that the address names
+-- the borrowed item is the one that the address names
 pub returns-in-Some-clause-present : goal.returns-in-Some-clause-present
 returns-in-Some-clause-present c = λ s is.
     (let one = c.in-Some.ensures in

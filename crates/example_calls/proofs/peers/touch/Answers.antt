@@ -9,7 +9,7 @@ use Rattle.example_calls.specs.contracts.peers.PeerPartialEq.TheImpl as peer
 use Rattle.example_calls.specs.declared.peers.Session.{Session}
 use Rattle.example_calls.proofs.peers.touch.Goals as goal
 
--- the item that is lent is the one that the token names
+-- the borrowed item is the one that the token names
 pub returns-in-Some-clause-present : goal.returns-in-Some-clause-present
 returns-in-Some-clause-present c = λ s is.
     (let one = c.in-Some.ensures in

@@ -4,7 +4,7 @@ use Rattle.iddqd_bi.proofs.CallerLemmas.Asking.{kept-filter}
 use Rattle.example_calls.specs.declared.retain.Lease.{Lease}
 use Rattle.example_calls.proofs.retain.expire.Goals as goal
 
--- the closure answers the same of a lease whenever it is called
+-- the closure returns the same for a lease whenever it is called
 pub returns : goal.returns
 returns c =
     let test = λ (l : Lease). nat_le c.args.now l.until in

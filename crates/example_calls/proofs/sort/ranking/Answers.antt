@@ -6,7 +6,7 @@ use Rattle.iddqd_bi.specs.Map.{bag}
 use Rattle.example_calls.specs.declared.sort.Runner.{Runner}
 use Rattle.example_calls.proofs.sort.ranking.Goals as goal
 
--- what was collected shows the items, and the sort keeps it
+-- the collected references are those of the items, and the sort keeps them
 pub returns-clause-same_items : goal.returns-clause-same_items
 returns-clause-same_items c =
     let shown : mapped (λ (r : Bor Runner). r.now) c.in_ok-sorted.sorted.items ≡ bag c.args.runners.now = search (rules, chains) in

@@ -3,7 +3,7 @@ use Rattle.iddqd_bi.specs.Map.{bag}
 use Rattle.example_calls.proofs.walk.sum_of_heat.Invariants.{total}
 use Rattle.example_calls.proofs.walk.sum_of_heat.Goals as goal
 
--- where none is left, what is summed up is the whole
+-- if no sensor is left, the sum is complete
 pub returns : goal.returns
 returns c =
     let sum = c.loop-sensor.sum in

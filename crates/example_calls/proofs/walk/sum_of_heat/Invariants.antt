@@ -7,6 +7,6 @@ use Rattle.example_calls.proofs.walk.sum_of_heat.Given as goal
 abbrev pub total : List Sensor → ℕ
 total sensors = sum (map (λ (s : Sensor). s.heat) sensors)
 
--- what is summed up and what is left make the whole, up to the limit
+-- the sum so far and the heat of the sensors that are left make the whole, up to the limit
 abbrev pub invariant-loop-sensor : goal.invariant-loop-sensor
 invariant-loop-sensor l = (min (l.sum + total l.sensor-iterator) (2 ^ 32 - 1) ≡ min (total (bag l.sensors)) (2 ^ 32 - 1)) × (l.sum ≤ 2 ^ 32 - 1)

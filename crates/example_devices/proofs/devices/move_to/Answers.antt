@@ -17,7 +17,7 @@ use Rattle.example_devices.proofs.devices.move_to.Goals as goal
 abbrev by : Ranks Device
 by = agree (λ (d : Device). d.serial) nat_eq ∷ agree (λ (d : Device). d.port) nat_eq ∷ []
 
--- where only one item passes, none of the others does
+-- if only one item passes, no other item passes
 alone : (test : Device → Bool) (old rest : List Device) (x : Device) → x ∷ [] ≡ filter test old → IsPermutation old (x ∷ rest) → list_any test rest ≡ false
 alone test old rest x only taken =
     let one : 1 ≡ length (filter test old) = ap length only in
@@ -25,7 +25,7 @@ alone test old rest x only taken =
     let whole : length (filter test (x ∷ rest)) ≡ suc (length (filter test rest)) = rw passes refl in
     none-listed test rest (sym (nil_from_length (filter test rest) (omega (arith, one, whole, length_permutation _ _ (IsPermutation-filter test old (x ∷ rest) taken)))))
 
--- so the one that is in the way is at the port
+-- so the conflicting item is the one at the port
 at_port : (rest : List Device) (y : Device) (b : Bool) → list_any (λ d. nat_eq y.port d.port) rest ≡ b → list_any (λ d. nat_eq y.serial d.serial) rest ≡ false → clash by rest y ≢ [] → list_any (λ d. nat_eq y.port d.port) rest ≡ true
 at_port rest y true is none some = is
 at_port rest y false is none some = absurd (some (none-clash by rest y (none, (is, tt))))

@@ -12,11 +12,11 @@ use Rattle.example_devices.proofs.devices.plug_in.Goals.{else-len-capacity-via-t
 abbrev by : Ranks Device
 by = agree (λ (d : Device). d.serial) nat_eq ∷ agree (λ (d : Device). d.port) nat_eq ∷ []
 
--- as many conflict as are listed
+-- as many items conflict as are listed
 as_many : (there : List Device) (x : Device) (found : List (Bor Device)) → map (λ r. r.now) found ≡ order by there x → length (clash by there x) ≡ length found
 as_many there x found is = length-clash by there x ∙ ap length (sym is) ∙ length-map found (λ r. r.now)
 
--- where the limit is reached and nothing conflicts, the map is full for the device
+-- if the limit is reached and nothing conflicts, the map is full for the device
 pub returns-then-is_empty-clause-full : goal.returns-then-is_empty-clause-full
 returns-then-is_empty-clause-full c = λ _.
     let none : length c.conflicts_with.result ≡ 0 = search (rules, c.if-is_empty.true, c.if-is_empty.ensures) in
@@ -25,7 +25,7 @@ returns-then-is_empty-clause-full c = λ _.
       full = sym c.len.ensures.value ∙ c.if-len-capacity.true ∙ c.capacity.ensures.value;
     }
 
--- a device goes in below the limit alone
+-- a device is inserted only below the limit
 pub returns-in-Ok-clause-same_limit : goal.returns-in-Ok-clause-same_limit
 returns-in-Ok-clause-same_limit c =
     let room = c.capacity.ensures in

@@ -7,7 +7,7 @@ use Rattle.iddqd_bi.proofs.CallerLemmas.Asking.{length-overwritten}
 use Rattle.example_cache.specs.declared.pages.Page.{Page}
 use Rattle.example_cache.proofs.pages.Cache.put.Goals as goal
 
--- one more at most than there were once a place was made
+-- there is at most one page more than after a place was made
 pub invariant_of-self-clause-bounded : goal.invariant_of-self-clause-bounded
 invariant_of-self-clause-bounded c =
     let by = agree (λ (p : Page). p.number) nat_eq ∷ agree (λ (p : Page). p.frame) nat_eq ∷ [] in
