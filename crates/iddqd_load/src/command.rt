@@ -1,7 +1,7 @@
 //! Commands that both maps and the list carry out.
 use crate::item::{Item, Keys, Rank};
 
-/// What a command by one key does. `Replace` and `Set` write through `get1_mut`, or its like for another key.
+/// What a command by one key does. `Replace` and `Set` write through `get1_mut`, or the same call for another key.
 #[derive(Clone, Copy, Drop)]
 pub enum Asked {
     Get,

@@ -1,4 +1,4 @@
-//! A plain list of items, no two of which have an equal key of the same rank. A search looks at each item in turn.
+//! A plain list of items, no two of which have an equal key of the same rank. A search compares each item in turn.
 use crate::command::{Asked, AskedByAll, Command};
 use crate::item::{Item, Keys, Rank};
 use crate::reply::{Kind, Reply, all_items, reply_of};

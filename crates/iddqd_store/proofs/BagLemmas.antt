@@ -1,4 +1,4 @@
--- Bags: sound ones, what each step leaves, what keys find in them, when two are the same.
+-- Lemmas on bags: which are sound, what each step leaves, what keys find in them, and when two are the same.
 pub mod BuildRows
 pub mod Building
 pub mod Calling

@@ -8,7 +8,7 @@ pub mod Laws
 pub mod Named
 pub mod Updates
 pub mod Walks
--- as many members conflict as are listed, and what conflicts with none conflicts with none in another order
+-- as many members conflict as are listed, and an item that conflicts with none conflicts with none in another order
 pub use Rattle.iddqd_store.proofs.BagLemmas.Steps.{length-clash}
 pub use Rattle.iddqd_store.proofs.BagLemmas.Building.{clash-none}
 use Rattle.std.specs.Prelude.{◌≡◌, ℕ, zero, suc, ◌+◌, ◌<◌, Bool, true, false, cond, not, List, [], ◌∷◌, ◌++◌, length, filter, IsPermutation, Contains, Option, Some, None}
@@ -49,13 +49,14 @@ passes-listed test (y ∷ ys) x there =
     (λ _ in_it. later test y x ys (rest in_it))
     there
 
--- In what follows `test` is what a lookup asks of an item, as `λ x. Q.stands_for query (T.key1 x)`, and `is` its clause.
+-- In what follows `test` is what a lookup asks of an item, for example `λ x. Q.stands_for query (T.key1 x)`, and `is`
+-- its clause.
 module _ {T : Type 0} (test : T → Bool) (bag : List T) (found : Option T) (is : option_to_list found ≡ filter test bag) where
-  -- what a lookup gives is a member and passes
+  -- the item that a lookup gives is a member and passes
   pub member-found : (x : T) → found ≡ Some x → Contains bag x × (test x ≡ true)
   member-found x here = passes-listed test bag x (subst (λ l. Contains l x) (ap option_to_list (sym here) ∙ is) (Contains-here x []))
 
-  -- where it gives nothing, no member passes
+  -- if the lookup gives nothing, no member passes
   pub none-found : found ≡ None → (x : T) → Contains bag x → test x ≡ false
   none-found none x there =
       split (λ b. b ≡ false) (test x)
@@ -70,29 +71,29 @@ one_of : {T : Type 0} (found : Option T) (x : T) → option_to_list found ≡ x 
 one_of None x e = absurd (cc)
 one_of (Some y) x e = let same : y ≡ x = cc in ap Some same
 
--- no two members have equal keys of any rank; `first` and `rest` are the ranks before and behind
+-- no two members have equal keys of any rank; `first` and `rest` are the ranks before and after it
 pub distinct_at : {T : Type 0} (first rest : Ranks T) (agree : T → T → Bool) (bag : List T) → IsSound (first ++ agree ∷ rest) bag → IsDistinct agree bag
 distinct_at [] rest agree bag sound = (IsSound-rank agree rest bag sound).0
 distinct_at (other ∷ first) rest agree bag sound = distinct_at first rest agree bag (IsSound-rank other (first ++ agree ∷ rest) bag sound).1
 
 -- In what follows `agree` is a rank: whether two items have equal keys there; `first` and `rest` are the ranks before
--- and behind it. `names` says that the test names one key.
+-- and after it. `names` says that the test names one key.
 module _ {T : Type 0} (first rest : Ranks T) (agree : T → T → Bool) (test : T → Bool) (names : NamesOne agree test) (bag : List T) (sound : IsSound (first ++ agree ∷ rest) bag) where
-  -- a member that passes is what the lookup gives
+  -- the lookup gives a member that passes
   pub found-member : (found : Option T) (x : T) → option_to_list found ≡ filter test bag → Contains bag x → test x ≡ true → found ≡ Some x
   found-member found x is there passes = one_of found x (is ∙ named_is agree test names bag x (distinct_at first rest agree bag sound) passes there)
 
-  -- an item that went in is found by its key
+  -- an item that was inserted is found by its key
   pub found-inserted : (old : List T) (found : Option T) (x : T) → IsPermutation bag (x ∷ old) → option_to_list found ≡ filter test bag → test x ≡ true → found ≡ Some x
   found-inserted old found x went_in is passes =
       found-member found x is (Contains-permutation (x ∷ old) bag x (IsPermutation-sym bag (x ∷ old) went_in) (Contains-here x old)) passes
 
-  -- and the map says that it has the key
+  -- the map says that it has that key
   pub contains-inserted : (old : List T) (x : T) → IsPermutation bag (x ∷ old) → test x ≡ true → list_any test bag ≡ true
   contains-inserted old x went_in passes =
       any_listed test bag ∙ ap some_item (named_is agree test names bag x (distinct_at first rest agree bag sound) passes (Contains-permutation (x ∷ old) bag x (IsPermutation-sym bag (x ∷ old) went_in) (Contains-here x old)))
 
--- an item that was taken out is found under its key no more
+-- an item that was removed is no longer found by its key
 pub none-removed : {T : Type 0} (first rest : Ranks T) (agree : T → T → Bool) → AreLawful (first ++ agree ∷ rest) → (test : T → Bool) → NamesOne agree test → (old bag : List T) (x : T) → IsSound (first ++ agree ∷ rest) old → IsPermutation old (x ∷ bag) → test x ≡ true → filter test bag ≡ []
 none-removed first rest agree laws test names old bag x sound taken passes =
     let apart = distinct_at first rest agree (x ∷ bag) (IsSound-IsPermutation (first ++ agree ∷ rest) laws old (x ∷ bag) taken sound) in
@@ -102,7 +103,7 @@ no_more : {T : Type 0} (xs : List T) → IsPermutation [] xs → xs ≡ []
 no_more [] p = refl
 no_more (x ∷ xs) p = absurd (let more : suc (length xs) ≡ 0 = length_permutation [] (x ∷ xs) p in omega (arith, more))
 
--- the map says that it has the key no more, whether a removal by it found an item or not
+-- the map says that it no longer has the key, whether a removal by it found an item or not
 pub contains-removed : {T : Type 0} (first rest : Ranks T) (agree : T → T → Bool) → AreLawful (first ++ agree ∷ rest) → (test : T → Bool) → NamesOne agree test → (old bag : List T) (gone : Option T) → IsSound (first ++ agree ∷ rest) old → option_to_list gone ≡ filter test old → IsPermutation old (option_to_list gone ++ bag) → list_any test bag ≡ false
 contains-removed first rest agree laws test names old bag None sound is left =
     let none : IsPermutation [] (filter test bag) = subst (λ l. IsPermutation l (filter test bag)) (sym is) (IsPermutation-filter test old bag left) in
@@ -110,20 +111,20 @@ contains-removed first rest agree laws test names old bag None sound is left =
 contains-removed first rest agree laws test names old bag (Some x) sound is left =
     any_listed test bag ∙ ap some_item (none-removed first rest agree laws test names old bag x sound left (member-found test old (Some x) is x refl).1)
 
--- one more after an insert
+-- there is one item more after an insert
 pub length-inserted : {T : Type 0} (old new : List T) (x : T) → IsPermutation new (x ∷ old) → length new ≡ length old + 1
 length-inserted old new x went_in = sym (length_permutation new (x ∷ old) went_in) ∙ omega arith
 
--- one more after an overwrite, less what was displaced
+-- there is one item more after an overwrite, less what was displaced
 pub length-overwritten_by : {T : Type 0} (ranks : Ranks T) (old new : List T) (x : T) → IsPermutation new (over ranks old x) → length new + length (order ranks old x) ≡ length old + 1
 length-overwritten_by ranks old new x went_in =
     omega (arith, length_permutation new (over ranks old x) went_in, length-over ranks old x, length-clash ranks old x)
 
--- the items before a place of a walk, and those behind it, are all there are
+-- the items before a place of an iteration and those after it are all the items
 pub passed-to_come : {T S : Type 0} (m : Map T S) (at : ℕ) → bag m ≡ passed m at ++ to_come m at
 passed-to_come m at = live_items-items_in m.slots ∙ sym (before_and_behind m.slots at)
 
--- of two writes of a member, one after the other, the last stands
+-- of two writes of a member, one after the other, the last one counts
 pub swap-twice : {T : Type 0} (ranks : Ranks T) → AreLawful ranks → 0 < length ranks → (old middle new : List T) (x y z : T) → agrees ranks x y ≡ true → IsPermutation middle (swap ranks old x y) → IsPermutation new (swap ranks middle y z) → IsPermutation new (swap ranks old x z)
 swap-twice {T} ranks laws some old middle new x y z same first last =
     let rest : List T = without (like ranks x) old in

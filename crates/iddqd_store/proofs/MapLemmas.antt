@@ -1,4 +1,4 @@
--- What the maps' invariants share, with any number of ranks.
+-- Lemmas for the invariants of the maps, with any number of ranks.
 pub mod Entered
 pub mod Extracting
 pub mod Places
@@ -27,7 +27,7 @@ IsEquivalence-key eq key laws = record {
   congr = λ x y z. laws.congr (key x) (key y) (key z);
 }
 
--- a key is a test: an item that has it is told apart from others as it tells them
+-- a key is a test: an item that has the key agrees with exactly the items that have it
 pub IsKeyTest-key : {T K : Type 0} (eq : K → K → Bool) (key : T → K) → IsEquivalence eq → (k : K) → IsKeyTest (λ x y. eq (key x) (key y)) (λ x. eq k (key x))
 IsKeyTest-key eq key laws k = λ x y has. laws.congr (key x) k (key y) (laws.symm (key x) k ∙ has)
 
@@ -59,7 +59,7 @@ on_err (Ok _) p = tt
 on_err (Err _) p = p
 
 module _ {T S : Type 0} where
-  -- room is refused, where so many items don't fit
+  -- a request for room fails if that many items don't fit
   pub MakesRoom-err : {A E : Type 0} {old new : Map T S} {more : ℕ} (r : Result A E) (e : E) → r ≡ Err e → new.capacity < length (bag old) + more → old.capacity ≤ new.capacity → new.builder ≡ old.builder → MakesRoom old more r new
   MakesRoom-err {A = A} {E = E} {old = old} {new = new} {more = more} r e is short no_less same = subst (λ (x : Result A E). MakesRoom old more x new) (sym is) record {
     room = tt;

@@ -1,4 +1,4 @@
--- Steps and runs: what they keep, and worked rows.
+-- Lemmas on steps and runs: what they keep, and worked rows.
 pub mod EntrySteps
 pub mod ExtendUniqueRows
 pub mod Extending

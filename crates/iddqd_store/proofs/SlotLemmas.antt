@@ -1,4 +1,4 @@
--- Slots: the chain of the free ones, and what is found in them.
+-- Lemmas on slots: the chain of the free ones, and what is found in them.
 pub mod Chain
 pub mod Clone
 pub mod Entered

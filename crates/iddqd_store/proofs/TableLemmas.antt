@@ -1,4 +1,4 @@
--- Cells: sizes, full places, stretches, searches, writes, removals.
+-- Lemmas on cells: sizes, full places, stretches, searches, writes, removals.
 pub mod Full
 pub mod Grow
 pub mod Limits

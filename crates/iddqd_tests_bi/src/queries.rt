@@ -41,7 +41,7 @@ fn number_asked(map: &BiHashMap<Keyed<&'static str, u64>>, text: &str) -> Option
     number_of!(map.get1(&Text { text }))
 }
 
-/// Does the same by the store's query for a `&str`.
+/// Returns the number of the item with this text, looked up by the store's query for a `&str`.
 fn number_lent(map: &BiHashMap<Keyed<&'static str, u64>>, text: &str) -> Option<u64> {
     number_of!(map.get1(text))
 }

@@ -1,4 +1,4 @@
-//! Maps where only traits of std are asked for: cloned and compared with a struct, and made by `or_default`.
+//! Maps in code that requires only traits of std: cloned and compared with a struct, and made by `or_default`.
 ghost use Rattle.std.proofs.Common.{rules};
 
 use crate::row::{Row, row_of};

@@ -1,5 +1,5 @@
-//! Worked rows of tables, whose places were found by hand. How many cells a call probes is a clause of its contract,
-//! and not tested here.
+//! Worked rows of tables, whose places were found by hand. The contract of each call says how many cells it probes;
+//! this is not tested here.
 ghost use Rattle.std.specs.Prelude.{◌≡◌, ◌&&◌, ◌==◌, refl, ⊤};
 ghost use Rattle.std.proofs.Common.{◌∙◌, true, sym, ap₂};
 
@@ -41,7 +41,7 @@ impl Matcher for Only {
 /// A hash and an index. The index is written as a letter, whose byte is its number.
 type Pair = (u64, u8);
 
-/// Makes a matcher that accepts this index if `yes`, and else none.
+/// Makes a matcher that accepts this index if `yes`, otherwise none.
 fn asking_for(ix: u8, yes: bool) -> Only {
     Only {
         ix: ItemIndex::new(ix as usize),
@@ -112,8 +112,8 @@ const PLACES: &[Place] = &[
     (&[], &[(1, b'a'), (9, b'b')], 10, ".a.......b......"),
     (&[], SEVEN, 0, "abcdefg."),
     (&[], SEVEN, 1, "abcdefg........."),
-    // Whatever the order of three inserts, they occupy the same cells. They still do after a pair that was inserted
-    // before them was removed.
+    // Whatever the order of three inserts, they occupy the same cells. They still occupy these after a pair that was
+    // inserted before them was removed.
     (&[], &[(6, b'a'), (7, b'b'), (6, b'c')], 0, "c.....ab"),
     (&[], &[(6, b'a'), (6, b'c'), (7, b'b')], 0, "b.....ac"),
     (&[], &[(7, b'b'), (6, b'a'), (6, b'c')], 0, "c.....ab"),

@@ -15,7 +15,7 @@ module _ {C T D : Type 0} (Steps : State T → C → Reply T D → State T → T
   Chain old (command ∷ commands) (reply ∷ replies) new =
       (next : State T) × Steps old command reply next × Fits next × Chain next commands replies new
 
-  -- such a run behind these replies
+  -- such a run after these replies
   abbrev Kept : State T → List (Reply T D) → List C → State T → List (Reply T D) → Type 0
   Kept old kept commands new after = Run Steps KeepsReply old kept commands (Ok tt) new after
 
@@ -38,7 +38,7 @@ module _ {C T D : Type 0} (Steps : State T → C → Reply T D → State T → T
   chain_of (command ∷ commands) old new kept after h =
       first old h.0 new kept h.1 after command commands h.2 h.3 h.4 (λ run. chain_of commands h.0 new h.1 after run)
 
-  -- and the other way
+  -- a chain gives such a run
   pub run_of : (commands : List C) (replies : List (Reply T D)) (old new : State T) (kept : List (Reply T D)) → Chain old commands replies new → Kept old kept commands new (kept ++ replies)
   run_of [] [] old new kept h = (refl, h, append-nil kept)
   run_of [] (reply ∷ replies) old new kept h = absurd h

@@ -6,7 +6,7 @@ use Rattle.std.proofs.lemmas.List.{take_all, length-drop}
 use Rattle.std.proofs.Math.ListN.{drop_of_length-le}
 use Rattle.iddqd_text.specs.Lines.{lines_of, onto_first}
 
--- how many bytes stand before the first line end
+-- how many bytes are before the first line end
 abbrev pub line_len : List ℕ → ℕ
 line_len bytes = prefix_len (λ b. not (b == 10)) bytes
 
@@ -32,12 +32,12 @@ cut_text (b ∷ bs) h = cut_byte b bs (b == 10) refl (cut_text bs)
 whole : (k : ℕ) (xs : List ℕ) → take (length xs - k) (drop k xs) ≡ drop k xs
 whole k xs = take_all (length xs - k) (drop k xs) (omega (arith, length-drop k xs))
 
--- the first line, where it has an end
+-- the first line, if it has an end
 pub first_line : (bytes : List ℕ) (at : ℕ) → at ≡ line_len bytes → 0 < length bytes
     → lines_of bytes ≡ take at bytes ∷ lines_of (take (length bytes - (at + 1)) (drop (at + 1) bytes))
 first_line bytes at e h = rw (whole (at + 1) bytes, add-one, e) (cut_text bytes h)
 
--- the last line, where it has none
+-- the last line, if it has no end
 pub last_line : (bytes : List ℕ) (at : ℕ) → at ≡ line_len bytes → 0 < length bytes → length bytes ≤ at → lines_of bytes ≡ bytes ∷ []
 last_line bytes at e h k =
     cut_text bytes h ∙ rw (← e) (ap (λ line. line ∷ lines_of (drop (suc at) bytes)) (take_all at bytes k)

@@ -9,11 +9,11 @@ use Rattle.iddqd_text.proofs.Counting.{after_all, after_one}
 use Rattle.iddqd_text.specs.Words.{word_of}
 use Rattle.iddqd_text.specs.declared.words.Word.{Word}
 
--- how many bytes stand before the first space
+-- how many bytes are before the first space
 abbrev pub field_len : List ℕ → ℕ
 field_len bytes = prefix_len (λ b. not (b == 32)) bytes
 
--- the fields behind the first, of what stands behind the first
+-- the fields after the first one are those of what comes after it
 abbrev pub fields_behind : List ℕ → List (List ℕ)
 fields_behind [] = []
 fields_behind (space ∷ bytes) = slice_split (λ b. b == 32) bytes
@@ -45,7 +45,7 @@ pub numbers_first : (text rest xs : List ℕ) (at : ℕ) → at ≡ field_len te
 numbers_first text rest xs at e r x =
     rw (x, r, whole at text, e) (after_none (numbers_of (fields_behind (drop (field_len text) text))) ∙ ap (λ fields. numbers_of (drop 1 fields)) (sym (cut_line text)))
 
--- the field behind a space, and the others
+-- the field after a space, and the others
 behind : (rest fields : List ℕ) → 1 ≤ length rest → fields ≡ take (length rest - 1) (drop 1 rest) → fields_behind rest ≡ before_first (λ b. b == 32) fields ∷ fields_behind (drop (position_or_len (λ b. b == 32) fields) fields)
 behind [] fields h e = absurd (omega arith)
 behind (space ∷ bytes) fields h e = let f : fields ≡ bytes = e ∙ whole 1 (space ∷ bytes) in rw f (cut_line bytes)
@@ -67,7 +67,7 @@ numbers_none rest fields xs all h e m v =
     sym v ∙ (ap (λ (fs : List (List ℕ)). after_all xs (numbers_of fs)) (behind rest fields h e)
     ∙ ap (λ (o : Option ℕ). after_all xs (before o (numbers_of (fields_behind (drop (position_or_len (λ b. b == 32) fields) fields))))) m)
 
--- the first field of what stands behind a field is empty
+-- the first field of what comes after a field is empty
 empty_byte : (b : ℕ) (bs : List ℕ) (is_space : Bool) → (b == 32) ≡ is_space → drop 1 (slice_split (λ b. b == 32) (drop (field_len bs) bs)) ≡ fields_behind (drop (field_len bs) bs)
     → drop 1 (slice_split (λ b. b == 32) (drop (cond (not is_space) (1 + field_len bs) 0) (b ∷ bs))) ≡ fields_behind (drop (cond (not is_space) (1 + field_len bs) 0) (b ∷ bs))
 empty_byte b bs true e h = ap (λ is. drop 1 (cond is ([] ∷ slice_split (λ b. b == 32) bs) (onto_first b (slice_split (λ b. b == 32) bs)))) e

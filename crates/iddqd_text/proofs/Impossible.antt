@@ -87,7 +87,7 @@ no_memory_after_displacing_two run =
       length-over by two.0.items over_both,
     )
 
--- The same of what is printed. Lines are told apart by their first bytes.
+-- The same for what is printed. The first bytes of lines distinguish them.
 abbrev at : ℕ → List ℕ → ℕ
 at place text = get_or text place 0
 
@@ -111,7 +111,7 @@ not_printed_for_no_more prints = by_replies prints.0 (from_empty Steps (reservin
     by_replies (one ∷ two ∷ []) chain e = by_first one two chain e
     by_replies (one ∷ two ∷ three ∷ more) chain e = absurd (chain.1.3.3)
 
--- the one member is what is taken out
+-- the one member is what is removed
 the_member : (held left : List BiItem) (x y : BiItem) → IsPermutation held (x ∷ []) → IsPermutation held (y ∷ left) → y ≡ x
 the_member held left x y has had =
     let none : left ≡ [] = nil_from_length left (omega (arith, length_permutation _ _ has, length_permutation _ _ had)) in

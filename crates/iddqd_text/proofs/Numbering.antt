@@ -43,11 +43,11 @@ from_step n b rest h =
 grown : (n p v : ℕ) → 1 ≤ p → 2 ^ 64 ≤ n → 2 ^ 64 ≤ n * p + v
 grown n p v h k = let e : n ≤ n * p = le-mul_of_pos_right {m = p} n h in omega arith
 
--- the same, of the digits that are left
+-- the same for the digits that are left
 from_large : (n : ℕ) (rest : List ℕ) → 2 ^ 64 ≤ n → number_from n rest ≡ None
 from_large n rest h = kept_large (all_digits rest) (n * 10 ^ length rest + value rest) (grown n (10 ^ length rest) (value rest) (one-le-pow (length rest) 10 (omega arith)) h)
 
--- what was kept is the number
+-- the kept value is the number
 some_of : (q : Bool) (x m : ℕ) → cond q (Some x) None ≡ Some m → x ≡ m
 some_of true x m h = cc
 some_of false x m h = cc
@@ -57,7 +57,7 @@ kept_is : (p : Bool) (x m : ℕ) → kept p x ≡ Some m → (p ≡ true) × (x 
 kept_is true x m h = (refl, some_of (nat_lt x (2 ^ 64)) x m h)
 kept_is false x m h = cc
 
--- what was not kept did not fit
+-- a value that was not kept did not fit
 none_of : (q : Bool) (x : ℕ) → nat_lt x (2 ^ 64) ≡ q → cond q (Some x) None ≡ None → 2 ^ 64 ≤ x
 none_of true x e h = cc
 none_of false x e h = grind (arith, nat_tests)
@@ -77,17 +77,17 @@ none_at n b rest false e h = kept_bad (is_digit b) (all_digits rest) (n * 10 ^ s
 pushed_none : (n b : ℕ) (rest : List ℕ) → pushed n b ≡ None → number_from n (b ∷ rest) ≡ None
 pushed_none n b rest h = none_at n b rest (is_digit b) refl h
 
--- what was kept fits
+-- the kept value fits
 lt_of : (q : Bool) (x m : ℕ) → nat_lt x (2 ^ 64) ≡ q → cond q (Some x) None ≡ Some m → m < 2 ^ 64
 lt_of true x m e h = let k : x ≡ m = cc in let l : x < 2 ^ 64 = grind (arith, nat_tests) in omega arith
 lt_of false x m e h = cc
 
--- the same, of digits
+-- the same for digits
 kept_lt : (p : Bool) (x m : ℕ) → kept p x ≡ Some m → m < 2 ^ 64
 kept_lt true x m h = lt_of (nat_lt x (2 ^ 64)) x m refl h
 kept_lt false x m h = cc
 
--- the same, of a digit more
+-- the same for one digit more
 pub pushed_fits : (n b m : ℕ) → pushed n b ≡ Some m → m < 2 ^ 64
 pushed_fits n b m h = kept_lt (is_digit b) (n * 10 + (b - 48)) m h
 
@@ -100,7 +100,7 @@ in_field : (b : ℕ) (bs : List ℕ) (is : Bool) → is_space b ≡ is → b ≢
 in_field b bs true e h = let same : b ≡ 32 = grind (arith, nat_tests) in absurd (h same)
 in_field b bs false e h = ap (λ is. cond (not is) (1 + position_or_len is_space bs) 0) e
 
--- what stands behind a byte of a field
+-- what comes after a byte of a field
 pub field_goes_on : (rest after : List ℕ) → 1 ≤ length rest → after ≡ take (length rest - 1) (drop 1 rest) → get_or rest 0 0 ≢ 32
     → (position_or_len is_space rest ≡ 1 + position_or_len is_space after) × (length rest ≡ 1 + length after) × (before_first is_space rest ≡ get_or rest 0 0 ∷ before_first is_space after)
     × (drop (position_or_len is_space rest) rest ≡ drop (position_or_len is_space after) after)

@@ -7,7 +7,7 @@ use Rattle.iddqd_text.specs.Commands.{command_of_line, first_bad_line}
 use Rattle.iddqd_text.specs.declared.words.Word.{Word}
 
 module _ {C S : Type 0} (command_of : Word → List ℕ → Option S) (spelled : C → S) where
-  -- what each command is spelled by, found
+  -- finds what each command is spelled by
   abbrev pub found : List C → List (Option S)
   found commands = map (λ command. Some (spelled command)) commands
 
@@ -34,7 +34,7 @@ module _ {C S : Type 0} (command_of : Word → List ℕ → Option S) (spelled :
   pub spells_all : (text : List ℕ) (xs : List C) → SpellsSoFar text xs [] → map (command_of_line command_of) (lines_of text) ≡ found xs
   spells_all text xs r = sym r ∙ append-nil (found xs)
 
-  -- the first that spells none stands behind those found
+  -- the first line that spells none comes after those found
   first_none : (n : ℕ) (xs : List C) (ys : List (Option S)) → position_from (λ o. is_none o) n (found xs ++ None ∷ ys) ≡ Some (n + length xs)
   first_none n [] ys = ap (λ (k : ℕ). Some k) (let e : n ≡ n + 0 = omega arith in e)
   first_none n (x ∷ xs) ys = first_none (n + 1) xs ys ∙ ap (λ (k : ℕ). Some k) (let e : n + 1 + length xs ≡ n + suc (length xs) = omega arith in e)

@@ -1,4 +1,4 @@
--- Items behind a text, one after another.
+-- Items after a text, one after another.
 use Rattle.std.proofs.Common.{◌≡◌, ap, sym, ◌∙◌, ℕ, suc, ◌+◌, ◌<◌, ◌≤◌, List, [], ◌∷◌, ◌++◌, length, get_or, drop, Option, Some, None, codes, refl, append-nil, append_assoc, add-one, drop-cons}
 use Rattle.std.specs.Prelude.{map, slice_get}
 use Rattle.std.proofs.Math.ListN.{drop_of_length-le}
@@ -6,7 +6,7 @@ use Rattle.std.specs.Fmt.{decimal, digits}
 use Rattle.iddqd_text.specs.Printed.{printed, items_text}
 
 module _ {T : Type 0} (numbers : T → List ℕ) where
-  -- a line of items is ended where no item is left
+  -- a line of items ends if no item is left
   pub items_end : {X : Type 0} (item_of : X → T) (items : List X) (first : Option X) (line word all end new : List ℕ)
       → first ≡ slice_get items 0 → first ≡ None → new ≡ line ++ end → line ++ items_text numbers (map item_of items) ≡ word ++ all → new ≡ word ++ all ++ end
   items_end item_of [] first line word all end new h e n r = n ∙ ap (λ (xs : List ℕ). xs ++ end) (sym (append-nil line) ∙ r)
@@ -16,7 +16,7 @@ module _ {T : Type 0} (numbers : T → List ℕ) where
   items_next : (item : T) (items : List T) (line : List ℕ) → (line ++ codes " " ++ printed (numbers item)) ++ items_text numbers items ≡ line ++ items_text numbers (item ∷ items)
   items_next item items line = append_assoc (line ++ codes " ") (printed (numbers item)) (items_text numbers items) ∙ append_assoc line (codes " ") (printed (numbers item) ++ items_text numbers items)
 
-  -- the item at a place, behind those before it
+  -- the item at a place, after those before it
   pub items_more : (items : List T) (i : ℕ) (item : T) (line new all : List ℕ) → i < length items → item ≡ get_or items i item
       → new ≡ line ++ codes " " ++ printed (numbers item) → line ++ items_text numbers (drop i items) ≡ all → new ++ items_text numbers (drop (i + 1) items) ≡ all
   items_more items i item line new all h is n r =

@@ -12,7 +12,7 @@ abbrev pub into_lines : {S R F : Type 0} → (S → List ℕ) → (R → List �
 into_lines text line sink reply answer after = GrowsByLine line (text sink) reply answer (text after)
 
 module _ {C T D S : Type 0} (Steps : State T → C → Reply T D → State T → Type 0) (text : S → List ℕ) (line : Reply T D → List ℕ) where
-  -- the run into a list of replies that begins with these, and the lines of those behind them
+  -- the run into a list of replies that begins with these, and the lines of those after them
   abbrev pub Replied : State T → S → List (Reply T D) → List C → State T → S → Type 0
   Replied old sink kept commands new after =
       (replies : List (Reply T D)) × Run Steps KeepsReply old kept commands (Ok tt) new (kept ++ replies) × (text after ≡ text sink ++ flat_map line replies)

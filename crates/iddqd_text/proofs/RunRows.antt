@@ -1,4 +1,4 @@
--- Worked rows of runs: what commands on a new map may answer, and print.
+-- Worked rows of runs: what commands on a new map may return, and print.
 use Rattle.std.proofs.Common.{◌≡◌, ◌<◌, ◌^◌, refl, ap, ℕ, List, [], ◌∷◌, length, Some, None, Ok, arith}
 use Rattle.std.specs.Prelude.{Vec, codes, nat_eq}
 use denote.RawPtr.{null_ptr}
@@ -31,7 +31,7 @@ item k1 k2 v = record { key1 = k1; key2 = k2; value = v }
 abbrev state : List BiItem → ℕ → State BiItem
 state xs room = record { items = xs; capacity = room }
 
--- an insert into a removed item's room
+-- an insert into the room of a removed item
 abbrev removing : List Command
 removing = InsertUnique (item 1 10 100) ∷ Remove1 1 ∷ InsertUnique (item 2 20 200) ∷ []
 
@@ -58,7 +58,7 @@ prints_room_after_a_removal : Prints removing (codes "ok\nitem (1 10 100)\nok\n"
 unfolding printed digits
 prints_room_after_a_removal = (removing_replies, room_after_a_removal, refl)
 
--- overwriting two, then none is found by the key that went
+-- an overwrite of two items, after which no item is found by the key that left
 abbrev a : BiItem
 a = item 1 10 100
 
@@ -138,7 +138,7 @@ prints_conflicted : IsOutcome Bi (codes "new 1 10 100\nnew 2 20 200\nnew 2 10 5\
 unfolding printed digits
 prints_conflicted = (conflicting, refl, (conflicting_replies, conflicted, refl))
 
--- more room than memory can count
+-- a request for more room than memory can count
 abbrev too_many : List Command
 too_many = InsertUnique a ∷ Reserve 18446744073709551615 ∷ Len ∷ []
 
@@ -165,7 +165,7 @@ prints_not_so_many : IsOutcome Bi (codes "new 1 10 100\nreserve 1844674407370955
 unfolding printed digits
 prints_not_so_many = (too_many, refl, (too_many_replies, not_so_many, refl))
 
--- a list of which the second item is refused, and one that goes in, stored somewhere
+-- a list whose second item is rejected, and one that is inserted, stored somewhere
 abbrev stored : Global → (xs : List BiItem) → length xs < 2 ^ 63 → Vec BiItem Global
 stored alloc xs small = record { ptr = null_ptr; len = length xs; cap = length xs; alloc = alloc; items = xs; ok = (refl, omega arith); small = small }
 

@@ -13,7 +13,7 @@ module _ {T : Type 0} (numbers : T → List ℕ) where
   abbrev key : T → ℕ
   key = first_key numbers
 
-  -- the two have one first key
+  -- the two have the same first key
   abbrev pub same_key : T → T → Bool
   same_key = ties (λ x y. is_lt (nat_cmp (key x) (key y)))
 
@@ -38,14 +38,14 @@ module _ {T : Type 0} (numbers : T → List ℕ) where
   filter-dropped : (p : T → Bool) (y : T) (ys : List T) → p y ≡ false → filter p (y ∷ ys) ≡ filter p ys
   filter-dropped p y ys h = cond-false _ _ _ h
 
-  -- where the item goes at the first of the others
+  -- where the item is put, by the first of the others
   put_past : (x y : T) (ys : List T) → nat_lt (key y) (key x) ≡ true → put_in numbers x (y ∷ ys) ≡ y ∷ put_in numbers x ys
   put_past x y ys h = cond-true _ _ _ h
 
   put_first : (x y : T) (ys : List T) → nat_lt (key y) (key x) ≡ false → put_in numbers x (y ∷ ys) ≡ x ∷ y ∷ ys
   put_first x y ys h = cond-false _ _ _ h
 
-  -- an item stands before those of its key
+  -- an item is put before those with its key
   filter-put_in : (x c : T) (ds : List T) → filter (same_key x) (put_in numbers c ds) ≡ filter (same_key x) (c ∷ ds)
   filter-put_in x c [] = refl
   filter-put_in x c (d ∷ ds) =
@@ -133,7 +133,7 @@ module _ {T : Type 0} (numbers : T → List ℕ) where
         | inr without ↦ AreAtLeast-found n x ys w ws h.1 (sym (filter-dropped (same_key x) y ys without) ∙ e)
       ]
 
-  -- lists that rise and have the same items of each key, in the same order, are one
+  -- rising lists that have the same items of each key, in the same order, are equal
   same_from_keys : (ys zs : List T) → Rises ys → Rises zs → ((x : T) → filter (same_key x) ys ≡ filter (same_key x) zs) → ys ≡ zs
   same_from_keys [] [] left right same = refl
   same_from_keys [] (z ∷ zs) left right same =
@@ -156,12 +156,12 @@ module _ {T : Type 0} (numbers : T → List ℕ) where
       ] in
       ap (λ w. w ∷ ys) head ∙ ap (λ l. z ∷ l) (same_from_keys ys zs left.1 right.1 tails)
 
-  -- what a stable sort by first keys leaves
+  -- what a stable sort by first keys keeps
   pub by_first_key-from_sort : (xs ys : List T) → IsNonDecreasingBy (λ item. key item) ys → IsStableByKey (λ item. key item) nat_cmp xs ys → ys ≡ by_first_key numbers xs
   by_first_key-from_sort xs ys sorted stable =
       same_from_keys ys (by_first_key numbers xs) (Rises-from_sort ys sorted) (Rises-by_first_key xs) (λ x. stable x ∙ sym (filter-by_first_key x xs))
 
-  -- items of which no two have one first key are sorted to one list, in whatever order they come
+  -- items with distinct first keys are sorted to the same list, in whatever order they come
   pub by_first_key-IsPermutation : (xs ys : List T) → IsDistinct (λ x y. nat_eq (key x) (key y)) xs → IsPermutation xs ys → by_first_key numbers xs ≡ by_first_key numbers ys
   by_first_key-IsPermutation xs ys apart same =
       same_from_keys (by_first_key numbers xs) (by_first_key numbers ys) (Rises-by_first_key xs) (Rises-by_first_key ys)

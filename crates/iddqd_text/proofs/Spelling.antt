@@ -6,7 +6,7 @@ use Rattle.std.proofs.lemmas.Bool.{eq-eqb}
 use Rattle.std.specs.Cmp.Lexicographic.{unequal}
 use Rattle.iddqd_text.specs.Texts.{is_text}
 
--- the next byte, and those behind it
+-- the next byte, and those after it
 split_at : (xs ys : List ℕ) (i : ℕ) → i < length xs → i < length ys
     → is_text (drop i xs) (drop i ys) ≡ (nat_eq (get_or xs i 0) (get_or ys i 0) && is_text (drop (i + 1) xs) (drop (i + 1) ys))
 split_at xs ys i h k =

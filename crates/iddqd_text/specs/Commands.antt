@@ -17,20 +17,20 @@ numbers_of [] = Some []
 numbers_of (field ∷ fields) = before (number_of field) (numbers_of fields)
 
 -- What a line spells: a command without a list, or `extend_unique` of these items. A command with a list holds a `Vec`,
--- and no line tells where this is stored.
+-- and no line says where this is stored.
 pub data Spelled (C T : Type 0) : Type 0 where
   single : C → Spelled C T
   add_all : List T → Spelled C T
 
--- `command_of` is what the words of a kind of map stand for, where each stands for something of type `S`
+-- `command_of` is the meaning of the words of a kind of map, each of type `S`
 module _ {S : Type 0} (command_of : Word → List ℕ → Option S) where
-  -- what a word and the numbers behind it spell
+  -- what a word and the numbers after it spell
   abbrev pub command_of_fields : List (List ℕ) → Option S
   command_of_fields [] = None
   command_of_fields (name ∷ digits) =
       option_and_then (λ word. option_and_then (command_of word) (numbers_of digits)) (word_of name)
 
-  -- what a line spells: one space stands before each number
+  -- what a line spells: there is one space before each number
   abbrev pub command_of_line : List ℕ → Option S
   command_of_line line = command_of_fields (slice_split (λ b. b == 32) line)
 

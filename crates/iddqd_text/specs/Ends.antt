@@ -12,10 +12,10 @@ abbrev pub failures_after : {A E : Type 0} → Result A E → ℕ → ℕ
 failures_after (Ok x) failures = failures
 failures_after (Err e) failures = failures + 1
 
--- a byte at least, where there is one
+-- at least one byte, if there is one
 abbrev pub TakesSome : {E : Type 0} → Result ℕ E → List ℕ → Type 0
 TakesSome r bytes = IfOk r (λ n. 0 < length bytes → 0 < n)
 
--- a front of the bytes was appended, but not all
+-- a proper prefix of the bytes was appended
 abbrev pub AppendsFront : Option (List ℕ) → Option (List ℕ) → List ℕ → Type 0
 AppendsFront old new bytes = (n : ℕ) × (n < length bytes) × Appends old new (take n bytes)

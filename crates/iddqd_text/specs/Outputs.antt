@@ -15,7 +15,7 @@ abbrev pub KeepsReply : {R : Type 0} → List R → R → Result (Unit {0}) (Uni
 KeepsReply old reply (Ok u) new = new ≡ old ++ reply ∷ []
 KeepsReply old reply (Err e) new = ⊥
 
--- `Steps` is what each command of a kind of map may answer
+-- `Steps` is what each command of a kind of map may return
 module _ {C T D : Type 0} (Steps : State T → C → Reply T D → State T → Type 0) where
   -- the replies of a run of the commands on a new map
   abbrev pub Replies : List C → List (Reply T D) → Type 0

@@ -1,4 +1,4 @@
--- What is printed of items and replies. An item is told by its numbers, of which the first is its first key.
+-- How items and replies are printed. An item is printed as its numbers, of which the first is its first key.
 use Rattle.std.specs.Prelude.{ℕ, ◌+◌, List, [], ◌∷◌, ◌++◌, codes, Option, Some, None, true, false}
 use Rattle.std.specs.Fmt.{decimal}
 use Rattle.std.specs.List.{flat_map}
@@ -6,7 +6,7 @@ use Rattle.iddqd_store.specs.Runs.Reply.{Reply, done, duplicate, found, taken, m
 use Rattle.iddqd_store.specs.declared.error.ExtendUniqueReason.TheVariants.{Conflict, Memory}
 use Rattle.iddqd_text.specs.Sorted.{by_first_key}
 
--- a space and the number, for each, and the bracket behind
+-- a space and the number, for each, and the bracket after them
 abbrev pub to_the_bracket : List ℕ → List ℕ
 to_the_bracket [] = codes ")"
 to_the_bracket (n ∷ numbers) = codes " " ++ decimal n ++ to_the_bracket numbers
@@ -47,6 +47,6 @@ module _ {T : Type 0} (numbers : T → List ℕ) where
   line_of (present true) = codes "yes\n"
   line_of (present false) = codes "no\n"
 
--- what is printed where a line is bad
+-- what is printed if a line is bad
 abbrev pub bad_line_message : ℕ → List ℕ
 bad_line_message number = codes "line " ++ decimal number ++ codes ": bad command\n"

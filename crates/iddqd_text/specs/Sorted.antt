@@ -16,7 +16,7 @@ module _ {T : Type 0} (numbers : T → List ℕ) where
   put_in x [] = x ∷ []
   put_in x (y ∷ ys) = if nat_lt (first_key y) (first_key x) then y ∷ put_in x ys else x ∷ y ∷ ys
 
-  -- items by their first keys, the smallest first; those with one first key stay in their order
+  -- items by their first keys, the smallest first; those with the same first key stay in their order
   abbrev pub by_first_key : List T → List T
   by_first_key [] = []
   by_first_key (x ∷ xs) = put_in x (by_first_key xs)

@@ -1,4 +1,4 @@
--- Kind `tri`: its items, what its words stand for, and what a run prints.
+-- The kind `tri`: its items, what its words mean, and what a run prints.
 use Rattle.std.specs.Prelude.{ℕ, nat_eq, List, [], ◌∷◌, Option, Some, None}
 use Rattle.std.specs.Option.{option_map}
 use Rattle.iddqd_store.specs.Runs.Reply.{Reply}
@@ -74,7 +74,7 @@ abbrev pub spelled : Command → Spelled Command TriItem
 spelled (command.ExtendUnique xs) = add_all xs.items
 spelled other = single other
 
--- what each command may answer
+-- what each command may return
 abbrev pub Steps : State TriItem → Command → Reply TriItem ℕ → State TriItem → Type 0
 Steps = Step keys nat_eq nat_eq nat_eq with_value
 

@@ -1,4 +1,4 @@
--- Kind `bi`: its items, what its words stand for, and what a run prints.
+-- The kind `bi`: its items, what its words mean, and what a run prints.
 use Rattle.std.specs.Prelude.{ℕ, nat_eq, List, [], ◌∷◌, Option, Some, None}
 use Rattle.std.specs.Option.{option_map}
 use Rattle.iddqd_store.specs.Runs.Reply.{Reply}
@@ -54,7 +54,7 @@ single_of Set1 (k ∷ v ∷ []) = Some (command.Set1 k v)
 single_of EntPut (k1 ∷ k2 ∷ x1 ∷ x2 ∷ v ∷ []) = Some (command.EntryInsert k1 k2 (item x1 x2 v))
 single_of EntDel (k1 ∷ k2 ∷ []) = Some (command.EntryRemove k1 k2)
 single_of OrPut (k1 ∷ k2 ∷ x1 ∷ x2 ∷ v ∷ []) = Some (command.OrInsert k1 k2 (item x1 x2 v))
--- so for `get3` and `del3`, whatever their numbers
+-- the same for `get3` and `del3`, whatever their numbers are
 single_of word numbers = None
 
 -- the items of the numbers, three for each, if none is left over
@@ -73,7 +73,7 @@ abbrev pub spelled : Command → Spelled Command BiItem
 spelled (command.ExtendUnique xs) = add_all xs.items
 spelled other = single other
 
--- what each command may answer
+-- what each command may return
 abbrev pub Steps : State BiItem → Command → Reply BiItem ℕ → State BiItem → Type 0
 Steps = Step keys nat_eq nat_eq with_value
 

@@ -1,4 +1,4 @@
--- Worked rows of what is built, copied and kept, with outcomes that these words do not allow.
+-- Worked rows of bags that are built, copied and filtered, with outcomes that these words do not allow.
 use Rattle.std.specs.Prelude.{◌≡◌, ℕ, Bool, true, false, List, [], ◌∷◌, length, Result, Ok, Err}
 use Rattle.std.specs.List.{items_where_true}
 use Rattle.std.specs.List.Retain.{ReturnsInTurn}
@@ -19,7 +19,7 @@ two = (1, 10, 0) ∷ (2, 20, 0) ∷ []
 abbrev Added : Type 0
 Added = Result (List Item) (Item × List Item)
 
--- how many there are after an addition, and the first key of the first one in its way
+-- how many items there are after an addition, and the first key of the first conflicting one
 abbrev count : Added → ℕ
 count (Ok made) = length made
 count (Err refusal) = 0
@@ -68,7 +68,7 @@ no_place_at_a_conflict place =
 none_left_out : (is_clone : Item → Item → Type 0) (bag other : List Item) → IsCopy is_clone bag other → length other ≡ length bag
 none_left_out is_clone bag other copy = omega (arith, length_permutation _ _ copy.1, length_all_zip is_clone bag copy.0 copy.2)
 
--- what answers `true` at each item keeps each, and what answers `false` keeps none
+-- a closure that returns `true` at each item keeps each, and one that returns `false` keeps none
 module _ {F : Type 0} (step : F → Item → Bool → F → Type 0) where
   all_left : ((f g : F) (x : Item) (b : Bool) → step f x b g → b ≡ true) → (f g : F) (bs : List Bool) (xs : List Item) → length bs ≡ length xs → ReturnsInTurn step f bs xs g → items_where_true bs xs ≡ xs
   all_left says f g [] [] long run = refl

@@ -1,4 +1,4 @@
--- Bags built along a list.
+-- Bags that are built from a list.
 use Rattle.std.specs.Prelude.{◌≡◌, ◌≢◌, ◌≤◌, ◌==◌, suc, List, [], ◌∷◌, ◌++◌, length, fold, Result, Ok, Err, Option, IsPermutation}
 use Rattle.std.proofs.Common.{refl, sym, ap, subst, ◌∙◌, arith}
 use Rattle.std.proofs.lemmas.List.Folds.{fold_stays}
@@ -19,7 +19,7 @@ ok_or_err : {A E : Type 0} (r : Result A E) (a : A) (e : E) → r ≡ Ok a → r
 ok_or_err r a e h k = cc
 
 module _ {T : Type 0} where
-  -- an item more at most
+  -- at most one item more
   pub length-overwritten : (ranks : Ranks T) (bag new : List T) (x : T) → IsPermutation new (over ranks bag x) → length new ≤ suc (length bag)
   length-overwritten ranks bag new x p = omega (arith, length_permutation new (over ranks bag x) p, length-over ranks bag x)
 
@@ -27,7 +27,7 @@ module _ {T : Type 0} where
   nothing [] h = refl
   nothing (x ∷ xs) h = absurd (omega arith)
 
-  -- what conflicts with no member conflicts with none in another order
+  -- an item that conflicts with no member conflicts with none in another order
   pub clash-none : (ranks : Ranks T) (held made : List T) (x : T) → IsPermutation held made → clash ranks held x ≡ [] → clash ranks made x ≡ []
   clash-none ranks held made x p free =
       nothing (clash ranks made x) (length_permutation _ _ (clash-IsPermutation ranks held made x p) ∙ ap length free)
@@ -42,7 +42,7 @@ module _ {T : Type 0} where
   stays_refused ranks xs made refusal h =
       let still = fold_stays (add_next ranks) (Err refusal) (λ x. refl) xs in cc
 
-  -- a list that was added makes a sound bag
+  -- the bag is sound after a list was added
   pub IsSound-adds : (ranks : Ranks T) (bag xs made : List T) → IsSound ranks bag → adds ranks bag xs ≡ Ok made → IsSound ranks made
   IsSound-adds ranks bag [] made sound is = subst (IsSound ranks) (same_ok ranks bag made is) sound
   IsSound-adds ranks bag (x ∷ xs) made sound is = by_first (λ next. IsSound-adds ranks next xs made) (add ranks bag x) refl is
@@ -57,7 +57,7 @@ module _ {T : Type 0} where
       (λ yes. same_made (add ranks bag x) next (x ∷ bag) put (rw yes refl))
       (λ no. absurd (ok_or_err (add ranks bag x) next (x, order ranks bag x) put (rw no refl)))
 
-  -- a list that was added is in the bag with what was there
+  -- the bag has the list that was added and the items that it had
   pub adds-IsPermutation : (ranks : Ranks T) (bag xs made : List T) → adds ranks bag xs ≡ Ok made → IsPermutation made (xs ++ bag)
   adds-IsPermutation ranks bag [] made is = subst (λ l. IsPermutation made l) (sym (same_ok ranks bag made is)) (IsPermutation-refl made)
   adds-IsPermutation ranks bag (x ∷ xs) made is = by_first (λ next. adds-IsPermutation ranks next xs made) (add ranks bag x) refl is
@@ -78,7 +78,7 @@ module _ {T : Type 0} where
   pub AddsTo-nil : (ranks : Ranks T) (bag : List T) → AddsTo ranks bag bag []
   AddsTo-nil ranks bag = (bag, refl, IsPermutation-refl bag)
 
-  -- one more was added
+  -- one more item was added
   pub AddsTo-push : (ranks : Ranks T) (old held new xs : List T) (x : T) → AddsTo ranks old held xs → clash ranks held x ≡ [] → IsPermutation new (x ∷ held) → AddsTo ranks old new (xs ++ x ∷ [])
   AddsTo-push ranks old held new xs x added free put =
       let made = added.0 in (
@@ -91,7 +91,7 @@ module _ {T : Type 0} where
     pub HasPlaceFor-free : clash ranks held x ≡ [] → HasPlaceFor ranks x xs
     HasPlaceFor-free free = (added.0, added.1, add-free ranks added.0 x (clash-none ranks held added.0 x added.2 free))
 
-    -- one was refused, and what is listed of the bag is what the definition lists
+    -- one item was rejected, and the items listed for it are those that the definition lists
     pub RefusesFor-found : AreLawful ranks → clash ranks held x ≢ [] → RefusesFor ranks x (order ranks held x) xs
     RefusesFor-found laws some =
         let made = added.0 in

@@ -8,7 +8,7 @@ use Rattle.std.proofs.lemmas.Option.{none-some}
 use Rattle.iddqd_store.specs.Bag.{Ranks, differ, every_of, like, agrees}
 
 module _ {X : Type 0} where
-  -- where the first passes there is a place, and a place further on is one
+  -- if there is no place, the first element fails, and there is no place further on
   no_place : (p : X → Bool) (x : X) (xs : List X) → position p (x ∷ xs) ≡ None → (p x ≡ false) × (position p xs ≡ None)
   no_place p x xs none = go (p x) refl
     where
@@ -47,6 +47,6 @@ module _ {T : Type 0} where
   every_passed [] x passes = refl
   every_passed (test ∷ tests) x passes = rw (passes.0, every_passed tests x passes.1) refl
 
-  -- what has the keys of x at each rank agrees with it
+  -- an item that has the keys of x at each rank agrees with it
   pub agrees-differ : (ranks : Ranks T) (x y : T) → differ (like ranks x) y ≡ None → agrees ranks x y ≡ true
   agrees-differ ranks x y none = every_passed (like ranks x) y (differ-none (like ranks x) y none)

@@ -11,13 +11,13 @@ module _ {T : Type 0} where
   pub all_of-next : (test : T → Bool) (tests : List (T → Bool)) (bag : List T) → all_of (test ∷ tests) bag ≡ all_of tests (filter test bag)
   all_of-next test tests bag = sym (filter_twice test (every_of tests) bag)
 
-  -- one key names the members that have them all
+  -- one key names the members that have all keys
   pub NamesOne-every : (agree : T → T → Bool) (ranks : Ranks T) (tests : List (T → Bool)) → AreNames (agree ∷ ranks) tests → NamesOne agree (every_of tests)
   NamesOne-every agree ranks [] names = absurd names
   NamesOne-every agree ranks (test ∷ tests) names =
       λ x y p q. names.0 x y (and-true (test x) (every_of tests x) p).0 (and-true (test y) (every_of tests y) q).0
 
-  -- so there is one such member at most
+  -- there is at most one such member
   pub length-all_of : (ranks : Ranks T) (tests : List (T → Bool)) → 0 < length ranks → AreNames ranks tests → (bag : List T) → IsSound ranks bag → length (all_of tests bag) ≤ 1
   length-all_of [] tests some names bag sound = absurd (omega arith)
   length-all_of (agree ∷ ranks) tests some names bag sound =
@@ -33,7 +33,7 @@ module _ {T : Type 0} where
       ap (λ l. entry_of l (all_of tests xs)) (listing-IsPermutation ranks tests names xs ys sound p)
       ∙ ap (entry_of (listing tests ys)) (all_of-IsPermutation ranks tests some names xs ys sound p)
 
-  -- where no test finds a member, none is listed
+  -- if no test finds a member, none is listed
   pub listing-none : (tests : List (T → Bool)) (bag : List T) → AllByRecursion (λ test. filter test bag ≡ []) tests → listing tests bag ≡ []
   listing-none [] bag h = refl
   listing-none (test ∷ tests) bag h =
@@ -45,7 +45,7 @@ module _ {T : Type 0} where
       still [] h = tt
       still (t ∷ tests) h = (filter_swap t (λ x. not (test x)) bag ∙ ap (filter (λ x. not (test x))) h.0, still tests h.1)
 
-  -- where each test finds the one member, it is listed once
+  -- if each test finds the one member, it is listed once
   pub listing-one : (tests : List (T → Bool)) (bag : List T) (y : T) → 0 < length tests → AllByRecursion (λ test. filter test bag ≡ y ∷ []) tests → listing tests bag ≡ y ∷ []
   listing-one [] bag y some h = absurd (omega arith)
   listing-one (test ∷ tests) bag y some h =
@@ -58,7 +58,7 @@ module _ {T : Type 0} where
       rest [] gone h = tt
       rest (t ∷ tests) gone h = (filter_swap t (λ x. not (test x)) bag ∙ ap (filter (λ x. not (test x))) h.0 ∙ gone, rest tests gone h.1)
 
-  -- and it passes every test
+  -- that member passes every test
   pub all_of-one : (tests : List (T → Bool)) (bag : List T) (y : T) → 0 < length tests → AllByRecursion (λ test. filter test bag ≡ y ∷ []) tests → all_of tests bag ≡ y ∷ []
   all_of-one [] bag y some h = absurd (omega arith)
   all_of-one (test ∷ tests) bag y some h = all_of-next test tests bag ∙ ap (all_of tests) h.0 ∙ whole tests h.1

@@ -21,7 +21,7 @@ module _ {T : Type 0} where
   Shuffled-refl [] = done
   Shuffled-refl (x ∷ xs) = keep (Shuffled-refl xs)
 
-  -- x changes places with the element at j of those behind it
+  -- x changes places with the element at j of those after it
   Shuffled-front : (x d : T) (xs : List T) (j : ℕ) → j < length xs → Shuffled (x ∷ xs) (get_or xs j d ∷ set xs j x)
   Shuffled-front x d [] j h = absurd (omega arith)
   Shuffled-front x d (y ∷ xs) zero h = flip x y xs

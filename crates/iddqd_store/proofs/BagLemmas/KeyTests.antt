@@ -1,4 +1,4 @@
--- What an item that has the keys conflicts with is what the keys find.
+-- An item that has the keys conflicts with exactly the items that the keys find.
 use Rattle.std.specs.Prelude.{◌≡◌, ◌≤◌, length, Contains, Bool, true, not, List, [], ◌∷◌, ◌++◌, filter}
 use Rattle.std.specs.List.{AllByRecursion}
 use Rattle.std.proofs.Common.{inl, inr, refl, ap, ◌∙◌, arith}
@@ -13,7 +13,7 @@ module _ {T : Type 0} where
   filter_same p q same [] = refl
   filter_same p q same (x ∷ xs) = rw (same x, filter_same p q same xs) refl
 
-  -- an item that has the keys lists the members that they list
+  -- an item that has the keys lists the same members as the keys
   pub order-keys : (ranks : Ranks T) (tests : List (T → Bool)) (x : T) → AreKeyTests ranks tests → AllByRecursion (λ test. test x ≡ true) tests → (bag : List T) → order ranks bag x ≡ listing tests bag
   order-keys [] [] x keys passes bag = refl
   order-keys [] (test ∷ tests) x keys passes bag = absurd keys
@@ -24,7 +24,7 @@ module _ {T : Type 0} where
       ∙ ap (λ l. filter test bag ++ listing (like ranks x) l) (filter_same _ _ (λ y. ap not (same y)) bag)
       ∙ ap (λ l. filter test bag ++ l) (order-keys ranks tests x keys.1 passes.1 (filter (λ y. not (test y)) bag))
 
-  -- where the keys find nothing, nothing conflicts with it
+  -- if the keys find nothing, nothing conflicts with it
   pub clash-keys : (ranks : Ranks T) (tests : List (T → Bool)) (x : T) → AreKeyTests ranks tests → AllByRecursion (λ test. test x ≡ true) tests → (bag : List T) → listing tests bag ≡ [] → clash ranks bag x ≡ []
   clash-keys ranks tests x keys passes bag none = clash-empty ranks bag x (order-keys ranks tests x keys passes bag ∙ none)
 

@@ -1,4 +1,4 @@
--- How items leave their slots in turn, and what is left where those that conflict left.
+-- How items leave their slots in turn, and what is left once the conflicting ones have left.
 use Rattle.std.specs.Prelude.{◌≡◌, ◌≢◌, ℕ, ◌+◌, slice_get, drop, Bool, false, not, List, [], ◌∷◌, ◌++◌, length, filter, IsPermutation, Option, Some, None, nat_eq, All, if◌then◌else◌}
 use Rattle.std.specs.List.{IsDistinct, AllByRecursion}
 use Rattle.std.proofs.Common.{refl, sym, ap, subst, ◌∙◌, arith, add-one, append_assoc, length-append}
@@ -65,11 +65,11 @@ module _ {T : Type 0} where
   pub items_at-seen : (slots : List (Option T)) (ix : ℕ) (rest : List ℕ) (x : T) (seen whole : List T) → get slots ix ≡ Some x → seen ++ items_at slots (ix ∷ rest) ≡ whole → (seen ++ x ∷ []) ++ items_at slots rest ≡ whole
   items_at-seen slots ix rest x seen whole found before = append_assoc seen (x ∷ []) (items_at slots rest) ∙ (rw found at before)
 
-  -- or its slot had none
+  -- or its slot had no item
   pub items_at-none : (slots : List (Option T)) (ix : ℕ) (rest : List ℕ) (seen whole : List T) → get slots ix ≡ None → seen ++ items_at slots (ix ∷ rest) ≡ whole → seen ++ items_at slots rest ≡ whole
   items_at-none slots ix rest seen whole none before = rw none at before
 
-  -- they stay live
+  -- the other slots stay live
   pub live-unchanged : (old new : List (Option T)) (ix : ℕ) (slot : Option T) (rest : List ℕ) → Updates old new ix slot → AllByRecursion (λ y. nat_eq ix y ≡ false) rest → All (IsLive old) rest → All (IsLive new) rest
   live-unchanged old new ix slot [] updates apart live = All-nil (IsLive new)
   live-unchanged old new ix slot (a ∷ rest) updates apart live =
@@ -80,7 +80,7 @@ module _ {T : Type 0} where
   pub live-others : (old new : List (Option T)) (ix : ℕ) (rest : List ℕ) → Updates old new ix None → IsDistinct nat_eq (ix ∷ rest) → All (IsLive old) rest → All (IsLive new) rest
   live-others old new ix rest updates apart live = live-unchanged old new ix None rest updates (IsDistinct-head nat_eq ix rest apart) live
 
-  -- the bag by what was taken out of it
+  -- the bag consists of what was removed and what is left
   pub IsPermutation-taken : (bag held new taken : List T) (x : T) → IsPermutation bag (taken ++ held) → IsPermutation held (x ∷ new) → IsPermutation bag ((taken ++ x ∷ []) ++ new)
   IsPermutation-taken bag held new taken x before out =
       subst (IsPermutation bag) (sym (append_assoc taken (x ∷ []) new))
@@ -90,14 +90,14 @@ module _ {T : Type 0} where
   nothing [] h = refl
   nothing (x ∷ xs) h = absurd (omega arith)
 
-  -- a filter of the bag is that of what conflicts, and of the rest
+  -- a filter of the bag is that of the conflicting items and that of the rest
   filter-taken : (p : T → Bool) (ranks : Ranks T) (bag rest : List T) (x : T) → IsPermutation bag (order ranks bag x ++ rest) → IsPermutation (filter p bag) (filter p (clash ranks bag x) ++ filter p rest)
   filter-taken p ranks bag rest x out =
       IsPermutation-trans _ _ _
       (subst (IsPermutation (filter p bag)) (filter-append p (order ranks bag x) rest) (IsPermutation-filter p bag (order ranks bag x ++ rest) out))
       (IsPermutation-append _ _ _ _ (IsPermutation-filter p (order ranks bag x) (clash ranks bag x) (IsPermutation-order ranks bag x)) (IsPermutation-refl (filter p rest)))
 
-  -- where what conflicts with x was taken out, nothing conflicts with it
+  -- once the items that conflict with x are removed, nothing conflicts with it
   pub clash-taken : (ranks : Ranks T) (bag rest : List T) (x : T) → IsPermutation bag (order ranks bag x ++ rest) → clash ranks rest x ≡ []
   clash-taken ranks bag rest x out =
       let p : T → Bool = conflicts ranks x in
@@ -106,7 +106,7 @@ module _ {T : Type 0} where
       length_permutation _ _ (subst (λ l. IsPermutation (filter p bag) (l ++ filter p rest)) again (filter-taken p ranks bag rest x out)) in
       nothing (clash ranks rest x) (omega (arith, long, length-append (clash ranks bag x) (filter p rest)))
 
-  -- and what is left, with x, is the bag overwritten by x
+  -- what is left, with x, is the bag overwritten by x
   pub over-taken : (ranks : Ranks T) (bag rest new : List T) (x : T) → IsPermutation bag (order ranks bag x ++ rest) → IsPermutation new (x ∷ rest) → IsPermutation new (over ranks bag x)
   over-taken ranks bag rest new x out put =
       let p : T → Bool = λ y. not (some_of (like ranks x) y) in

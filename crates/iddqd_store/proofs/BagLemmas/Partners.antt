@@ -51,7 +51,7 @@ module _ {T : Type 0} where
   all_out p (z ∷ zs) h = and-both (p z) (list_all p zs) (h z (Contains-here z zs)) (all_out p zs (λ x found. h x (Contains-cons z x zs found)))
 
 module _ {T : Type 0} (ranks : Ranks T) (eq : T → T → Bool) (laws : AreLawful ranks) (same : IsPartialEquivalence eq) (bag other : List T) where
-  -- whatever answers as the test does decides whether the bags are the same
+  -- any function that agrees with the test decides whether the bags are the same
   pub same_decides : (r : Bool) → r ≡ is_same ranks eq bag other → IsTrue r ↔ IsSameBag ranks eq bag other
   same_decides r is = (λ h. is_same-IsSameBag ranks eq laws same bag other (sym is ∙ h), λ h. is ∙ IsSameBag-is_same ranks eq laws same bag other h)
 
@@ -62,18 +62,18 @@ module _ {T : Type 0} (ranks : Ranks T) (eq : T → T → Bool) (laws : AreLawfu
       cases false is = is
       cases true is = absurd (never is)
 
-  -- bags of other lengths are not the same
+  -- bags of different lengths are not the same
   pub told_longer : length bag ≢ length other → is_same ranks eq bag other ≡ false
   told_longer differs = by_answer (λ h. differs (IsSameBag-length ranks eq bag other (is_same-IsSameBag ranks eq laws same bag other h)))
 
-  -- nor is a bag in which not every member has a partner
+  -- bags are not the same if some member has no partner
   pub told_alone : list_all (λ x. list_any (same_item ranks eq x) other) bag ≡ false → is_same ranks eq bag other ≡ false
   told_alone none =
       by_answer (λ h. false≢true (sym none ∙ all_out _ bag (λ x found.
       let pair = IsSameBag-pair ranks eq bag other (is_same-IsSameBag ranks eq laws same bag other h) x found in
       any_in (same_item ranks eq x) other pair.0 pair.1 pair.2)))
 
-  -- where as many members of a sound bag all have partners, the bags are the same
+  -- if there are as many members, and all members of a sound bag have partners, the bags are the same
   pub told_same : 0 < length ranks → IsSound ranks bag → length bag ≡ length other → list_all (λ x. list_any (same_item ranks eq x) other) bag ≡ true → is_same ranks eq bag other ≡ true
   told_same some sound long all =
       IsSameBag-is_same ranks eq laws same bag other

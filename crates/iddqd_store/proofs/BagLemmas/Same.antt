@@ -63,7 +63,7 @@ module _ {T : Type 0} where
             rw (agrees-trans ranks laws x y z first.0 second.0, same.trans x y z first.1 second.1) refl;
       }
 
-  -- the laws of `IsSameBag`, of which no proof cites reflexivity, symmetry and transitivity so far
+  -- the laws of `IsSameBag`; no proof cites reflexivity, symmetry and transitivity so far
   pub IsSameBag-refl : (ranks : Ranks T) (eq : T → T → Bool) → AreLawful ranks → IsEquivalence eq → (bag : List T) → IsSameBag ranks eq bag bag
   IsSameBag-refl ranks eq laws same bag = (bag, IsPermutation-refl bag, AllZip-refl (λ x y. same_item ranks eq x y ≡ true) (same_item-refl ranks eq laws same) bag)
 
@@ -135,7 +135,7 @@ module _ {T : Type 0} where
           absurd (false≢true (sym apart.0 ∙ agrees-conflict ranks some x z alike))
       by_place (suc k, lt, is) = (pairs.0.0, (k, omega arith, is), pairs.0.2)
 
-  -- as many members, and for each member of a sound bag its partner: the bags are the same
+  -- if there are as many members, and each member of a sound bag has a partner, the bags are the same
   pub IsSameBag-from_pairs : (ranks : Ranks T) (eq : T → T → Bool) → AreLawful ranks → 0 < length ranks → (bag other : List T) → IsSound ranks bag → length bag ≡ length other → AllByRecursion (HasPair ranks eq other) bag → IsSameBag ranks eq bag other
   IsSameBag-from_pairs ranks eq laws some [] other sound long pairs = ([], subst (λ l. IsPermutation l []) (sym (nothing other long)) (IsPermutation-refl []), tt)
   IsSameBag-from_pairs ranks eq laws some (x ∷ xs) other sound long pairs =
@@ -153,7 +153,7 @@ module _ {T : Type 0} where
       let moved = AllZip-follow (λ y x. is_clone x y) h.0 bag held (AllZip-flip is_clone bag h.0 h.2) p in
       (moved.0, IsPermutation-trans _ _ _ (IsPermutation-sym _ _ q) (IsPermutation-trans _ _ _ h.1 moved.1), AllZip-flip (λ y x. is_clone x y) moved.0 held moved.2)
 
-  -- where a clone has the keys of its source, a copy of a sound bag is sound
+  -- if a clone has the keys of its source, a copy of a sound bag is sound
   copies-apart : (is_clone : T → T → Type 0) (ranks : Ranks T) → AreLawful ranks → (x c : T) (xs cs : List T) → agrees ranks x c ≡ true → ((y d : T) → Contains (x ∷ xs) y → is_clone y d → agrees ranks y d ≡ true) → AllZip is_clone xs cs → AllByRecursion (λ y. conflicts ranks x y ≡ false) xs → AllByRecursion (λ d. conflicts ranks c d ≡ false) cs
   copies-apart is_clone ranks laws x c [] [] same keys all apart = tt
   copies-apart is_clone ranks laws x c [] (d ∷ cs) same keys all apart = absurd all

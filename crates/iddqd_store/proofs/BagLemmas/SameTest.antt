@@ -1,4 +1,4 @@
--- The test whether two bags are the same: it says so exactly where their members pair off, and it is an equivalence.
+-- The test whether two bags are the same is true exactly if their members pair off, and it is an equivalence.
 use Rattle.std.specs.Prelude.{◌≡◌, ℕ, zero, suc, ◌+◌, ◌<◌, ◌==◌, ◌⊎◌, Bool, true, cond, ◌&&◌, List, [], ◌∷◌, ◌++◌, IsPermutation, Contains, count_by}
 use Rattle.std.specs.Cmp.{IsEquivalence, IsPartialEquivalence, per_alike, equiv, both_ways, partial_equiv_from_equiv}
 use Rattle.std.specs.List.{AllZip, list_all}
@@ -71,7 +71,7 @@ module _ {T : Type 0} where
       let rest = counted p xs x (k, omega arith, is) h in
       omega (arith, count-cons p y xs)
 
-  -- what is counted stands in the list
+  -- an element that is counted is in the list
   standing : (p : T → Bool) (xs : List T) → 0 < count_by p xs → (y : T) × Contains xs y × (p y ≡ true)
   standing p [] h = absurd (omega arith)
   standing p (x ∷ xs) h =
@@ -161,7 +161,7 @@ module _ {T : Type 0} where
         subst (λ w. P w w ≡ true) is here
     right_partner (x ∷ xs) (z ∷ ys) all y (suc k, lt, is) = right_partner xs ys all.1 y (k, omega arith, is)
 
-    -- members of two bags pair off exactly where the test says so
+    -- members of two bags pair off exactly if the test is true
     pub test-from_pairs : (bag other matched : List T) → IsPermutation other matched → AllZip (λ x y. P x y ≡ true) bag matched → test_of bag other ≡ true
     test-from_pairs bag other matched p all =
         tested bag other (λ x found.
@@ -175,7 +175,7 @@ module _ {T : Type 0} where
         let both = h y (inr found) in
         absurd (omega (arith, counted (P y) (y ∷ other) y found both.0, both.1))
 
-    -- y goes back in front of what was matched without it
+    -- y is put back before what was matched without it
     put_back : (other rest matched : List T) (y : T) → IsPermutation other (y ∷ rest) → IsPermutation rest matched → IsPermutation other (y ∷ matched)
     put_back other rest matched y p q = IsPermutation-trans other (y ∷ rest) (y ∷ matched) p (IsPermutation-cons y rest matched q)
 

@@ -50,13 +50,13 @@ module _ {T : Type 0} where
       (λ _. IsDistinct-cons e x (filter p xs) (each-filter _ p xs (IsDistinct-head e x xs h)) rest)
       (λ _. rest)
 
-  -- what one key does not have, no name of it passes
+  -- an item without the key does not pass a test that names the key
   pub NamesOne-apart : (agree : T → T → Bool) (test : T → Bool) → NamesOne agree test → (x y : T) → test x ≡ true → agree x y ≡ false → test y ≡ false
   NamesOne-apart agree test names x y passes apart =
       let by : (b : Bool) → test y ≡ b → b ≡ false = λ b. elim b as (λ b. test y ≡ b → b ≡ false) [ true ↦ (λ e. absurd (false≢true (sym apart ∙ names x y passes e))) | false ↦ (λ e. refl) ] in
       by (test y) refl
 
-  -- at most one member has a key that is named
+  -- at most one member has the named key
   pub length-named : (agree : T → T → Bool) (test : T → Bool) → NamesOne agree test → (xs : List T) → IsDistinct agree xs → length (filter test xs) ≤ 1
   length-named agree test names [] h = omega arith
   length-named agree test names (x ∷ xs) h =
@@ -81,7 +81,7 @@ module _ {T : Type 0} where
   length-append [] ys = omega arith
   length-append (x ∷ xs) ys = omega (arith, length-append xs ys)
 
-  -- so a listing of named members has at most one for each rank
+  -- a listing of named members has at most one for each rank
   pub length-listing : (ranks : Ranks T) (tests : List (T → Bool)) → AreNames ranks tests → (xs : List T) → IsSound ranks xs → length (listing tests xs) ≤ length ranks
   length-listing [] tests names xs h = rw names (omega arith)
   length-listing (agree ∷ ranks) [] names xs h = absurd names
@@ -105,7 +105,7 @@ module _ {T : Type 0} where
       (λ _. ap (λ l. cond (q x) (x ∷ l) l) rest)
       (λ _. rest)
 
-  -- one test, and then the other on the rest, against either
+  -- one test, and then the other on the rest, finds what either test finds
   pub IsPermutation-either : (p q : T → Bool) (xs : List T) → IsPermutation (filter p xs ++ filter q (filter (λ x. not (p x)) xs)) (filter (λ x. p x || q x) xs)
   IsPermutation-either p q [] = IsPermutation-refl []
   IsPermutation-either p q (x ∷ xs) =
@@ -171,7 +171,7 @@ module _ {T : Type 0} where
   named-IsPermutation agree test names xs ys h p =
       same_from_short (filter test xs) (filter test ys) (IsPermutation-filter test xs ys p) (length-named agree test names xs h)
 
-  -- and so is a listing by names
+  -- a listing by names is the same list in a permutation too
   pub listing-IsPermutation : (ranks : Ranks T) (tests : List (T → Bool)) → AreNames ranks tests → (xs ys : List T) → IsSound ranks xs → IsPermutation xs ys → listing tests xs ≡ listing tests ys
   listing-IsPermutation [] tests names xs ys h p = rw names refl
   listing-IsPermutation (agree ∷ ranks) [] names xs ys h p = absurd names
@@ -211,7 +211,7 @@ module _ {T : Type 0} where
   all_pass p [] h = refl
   all_pass p (x ∷ xs) h = rw h.0 (ap (λ l. x ∷ l) (all_pass p xs h.1))
 
-  -- the bag that is left after its named member is taken out
+  -- the bag that is left after its named member is removed
   pub without_named : (agree : T → T → Bool) (test : T → Bool) → NamesOne agree test → (xs ys : List T) (x : T) → IsDistinct agree (x ∷ ys) → test x ≡ true → IsPermutation xs (x ∷ ys) → IsPermutation (filter (λ y. not (test y)) xs) ys
   without_named agree test names xs ys x h e p =
       let kept : AllByRecursion (λ y. not (test y) ≡ true) ys = each_weaker _ _ (λ y apart. ap not (NamesOne-apart agree test names x y e apart)) ys (IsDistinct-head agree x ys h) in

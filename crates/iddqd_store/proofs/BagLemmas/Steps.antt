@@ -1,4 +1,4 @@
--- How a bag changes: one item more, one in the place of others, one in the place of another, some taken away.
+-- How a bag changes: it gets one item more, one replaces others, one replaces another, or some are removed.
 use Rattle.std.specs.Prelude.{◌≡◌, ◌≢◌, ℕ, ◌==◌, Bool, true, false, cond, ◌&&◌, List, [], ◌∷◌, ◌++◌, length, map, filter, Result, Ok, Err, IsPermutation}
 use Rattle.std.specs.List.{AllByRecursion}
 use Rattle.std.proofs.Common.{refl, sym, ap, subst, ◌∙◌, arith}
@@ -47,14 +47,14 @@ module _ {T : Type 0} where
       (λ e z. (e, none_passes p xs z))
       h
 
-  -- where nothing is listed, nothing conflicts
+  -- if nothing is listed, nothing conflicts
   pub clash-empty : (ranks : Ranks T) (bag : List T) (x : T) → order ranks bag x ≡ [] → clash ranks bag x ≡ []
   clash-empty ranks bag x h = nothing (clash ranks bag x) (length-clash ranks bag x ∙ ap length h)
 
   pub order-empty : (ranks : Ranks T) (bag : List T) (x : T) → clash ranks bag x ≡ [] → order ranks bag x ≡ []
   order-empty ranks bag x h = nothing (order ranks bag x) (sym (length-clash ranks bag x) ∙ ap length h)
 
-  -- none conflicts where none is listed, and some where some is
+  -- no item conflicts if none is listed, and some item conflicts if some item is listed
   pub clash-unlisted : {X : Type 0} (f : X → T) (found : List X) (ranks : Ranks T) (bag : List T) (x : T) → map f found ≡ order ranks bag x → (length found == 0) ≡ true → clash ranks bag x ≡ []
   clash-unlisted f [] ranks bag x is t = clash-empty ranks bag x (sym is)
   clash-unlisted f (y ∷ found) ranks bag x is t =
@@ -68,11 +68,11 @@ module _ {T : Type 0} where
   pub IsSound-cons : (ranks : Ranks T) (bag : List T) (x : T) → order ranks bag x ≡ [] → IsSound ranks bag → IsSound ranks (x ∷ bag)
   IsSound-cons ranks bag x h sound = IsDistinct-cons (conflicts ranks) x bag (none_passes (conflicts ranks x) bag (clash-empty ranks bag x h)) sound
 
-  -- `add` where nothing conflicts
+  -- `add` if nothing conflicts
   pub add-apart : (ranks : Ranks T) (bag : List T) (x : T) → order ranks bag x ≡ [] → add ranks bag x ≡ Ok (x ∷ bag)
   add-apart ranks bag x h = rw (clash-empty ranks bag x h) refl
 
-  -- `add` where something does
+  -- `add` if something conflicts
   pub add-refused : (ranks : Ranks T) (bag : List T) (x : T) → order ranks bag x ≢ [] → add ranks bag x ≡ Err (x, order ranks bag x)
   add-refused ranks bag x h =
       let some = more_than_none (length (clash ranks bag x)) (λ e. h (order-empty ranks bag x (nothing (clash ranks bag x) e))) in
@@ -98,7 +98,7 @@ module _ {T : Type 0} where
   IsSound-overs ranks bag [] h = h
   IsSound-overs ranks bag (x ∷ xs) h = IsSound-overs ranks (over ranks bag x) xs (IsSound-over ranks bag x h)
 
-  -- one step of `overs` at a bag that is held in another order
+  -- one step of `overs` at a bag in another order
   pub overs-step : (ranks : Ranks T) (bag xs held new : List T) (x : T) → IsPermutation held (overs ranks bag xs) → IsPermutation new (over ranks held x) → IsPermutation new (overs ranks bag (xs ++ x ∷ []))
   overs-step ranks bag xs held new x p q = rw (overs_push ranks bag xs x) (IsPermutation-trans _ _ _ q (over-IsPermutation ranks held (overs ranks bag xs) x p))
 

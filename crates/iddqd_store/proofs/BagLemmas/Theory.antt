@@ -1,5 +1,5 @@
--- Theorems about a bag, of which calls rest on some. They say how its words go together: writing in place (`swap`), building
--- along a list (`overs`, `adds`), keeping some, counting by hashes.
+-- Theorems about a bag; some of them are used for calls. They say how its words are related: writing in place (`swap`),
+-- building from a list (`overs`, `adds`), keeping some items, counting by hashes.
 use Rattle.std.specs.Prelude.{◌≡◌, ◌≢◌, ℕ, ◌<◌, ◌≤◌, ◌==◌, Bool, true, false, cond, not, List, [], ◌∷◌, ◌++◌, length, filter, fold, Ok, Err, IsPermutation}
 use Rattle.std.specs.List.{IsDistinct, AllByRecursion, items_where_true}
 use Rattle.std.proofs.Common.{refl, sym, ap, subst, ◌∙◌, arith}
@@ -16,7 +16,7 @@ module _ {T : Type 0} where
   pub length-order : (ranks : Ranks T) (bag : List T) (x : T) → AreLawful ranks → IsSound ranks bag → length (order ranks bag x) ≤ length ranks
   length-order ranks bag x laws h = length-listing ranks (like ranks x) (AreNames-like ranks x laws) bag h
 
-  -- then x in the place of what conflicts is x beside the others
+  -- if nothing conflicts, x in place of what conflicts is x beside the others
   pub over-apart : (ranks : Ranks T) (bag : List T) (x : T) → order ranks bag x ≡ [] → over ranks bag x ≡ x ∷ bag
   over-apart ranks bag x h =
       let none = none_passes (conflicts ranks x) bag (clash-empty ranks bag x h) in
@@ -25,18 +25,18 @@ module _ {T : Type 0} where
   pub overs-append : (ranks : Ranks T) (bag xs ys : List T) → overs ranks bag (xs ++ ys) ≡ overs ranks (overs ranks bag xs) ys
   overs-append ranks bag xs ys = fold-append (over ranks) bag xs ys
 
-  -- after a refusal the rest of the list changes nothing
+  -- after an error the rest of the list changes nothing
   pub adds-refused : (ranks : Ranks T) (bag xs ys : List T) (refusal : T × List T) → adds ranks bag xs ≡ Err refusal → adds ranks bag (xs ++ ys) ≡ Err refusal
   adds-refused ranks bag xs ys refusal h =
       fold-append (add_next ranks) (Ok bag) xs ys ∙ ap (λ r. fold (add_next ranks) r ys) h ∙ fold_stays (add_next ranks) (Err refusal) (λ x. refl) ys
 
-  -- one step of `adds` at a bag that is held in another order: x is taken
+  -- one step of `adds` at a bag in another order: x is added
   pub adds-taken : (ranks : Ranks T) → AreLawful ranks → (bag xs made held : List T) (x : T) → adds ranks bag xs ≡ Ok made → IsSound ranks held → IsPermutation held made → order ranks held x ≡ [] → adds ranks bag (xs ++ x ∷ []) ≡ Ok (x ∷ made)
   adds-taken ranks laws bag xs made held x so_far sound p none =
       adds_push ranks bag xs x ∙ ap (λ r. add_next ranks r x) so_far
       ∙ add-apart ranks made x (sym (order-IsPermutation ranks laws held made x sound p) ∙ none)
 
-  -- or refused, and with it the rest of the list
+  -- or x is rejected, and with it the rest of the list
   pub adds-stopped : (ranks : Ranks T) → AreLawful ranks → (bag xs rest made held : List T) (x : T) → adds ranks bag xs ≡ Ok made → IsSound ranks held → IsPermutation held made → order ranks held x ≢ [] → adds ranks bag (xs ++ x ∷ rest) ≡ Err (x, order ranks held x)
   adds-stopped ranks laws bag xs rest made held x so_far sound p some =
       let same = order-IsPermutation ranks laws held made x sound p in
@@ -51,12 +51,12 @@ module _ {T : Type 0} where
       (each_weaker _ _ (λ z e. sym (agrees-conflicts ranks laws x y z same) ∙ not-true (conflicts ranks x z) e) rest (each_passes (λ z. not (some_of (like ranks x) z)) bag))
       (IsDistinct-filter (conflicts ranks) (λ z. not (some_of (like ranks x) z)) bag h)
 
-  -- an item conflicts with itself, where there is a rank
+  -- an item conflicts with itself if there is a rank
   pub conflicts-self : (ranks : Ranks T) → AreLawful ranks → 0 < length ranks → (x : T) → conflicts ranks x x ≡ true
   conflicts-self [] laws h x = absurd (omega arith)
   conflicts-self (agree ∷ ranks) laws h x = rw (laws.0.refl x) refl
 
-  -- `swap` takes its member out and puts the other in
+  -- `swap` removes its member and inserts the other
   pub swap-is : (ranks : Ranks T) → AreLawful ranks → 0 < length ranks → (bag rest : List T) (x y : T) → IsSound ranks bag → IsPermutation bag (x ∷ rest) → IsPermutation (swap ranks bag x y) (y ∷ rest)
   swap-is ranks laws some bag rest x y sound p =
       let test : T → Bool = λ z. not (some_of (like ranks x) z) in
@@ -68,7 +68,7 @@ module _ {T : Type 0} where
   pub swap-IsPermutation : (ranks : Ranks T) (xs ys : List T) (x y : T) → IsPermutation xs ys → IsPermutation (swap ranks xs x y) (swap ranks ys x y)
   swap-IsPermutation ranks xs ys x y p = IsPermutation-cons y _ _ (IsPermutation-filter (λ z. not (some_of (like ranks x) z)) xs ys p)
 
-  -- some of a sound bag is sound
+  -- a part of a sound bag is sound
   pub IsSound-filter : (ranks : Ranks T) (p : T → Bool) (bag : List T) → IsSound ranks bag → IsSound ranks (filter p bag)
   IsSound-filter ranks p bag h = IsDistinct-filter (conflicts ranks) p bag h
 
@@ -98,7 +98,7 @@ module _ {T : Type 0} where
   length-where_true (true ∷ bs) (x ∷ xs) = omega (arith, length-where_true bs xs)
   length-where_true (false ∷ bs) (x ∷ xs) = omega (arith, length-where_true bs xs)
 
-  -- what is kept is no more than there was
+  -- no more items are kept than there were
   pub length-keeps : {F : Type 0} (step : F → T → Bool → F → Type 0) (f : F) (bag kept : List T) → Keeps step f bag kept → length kept ≤ length bag
   length-keeps step f bag kept h =
       omega (arith, length_permutation _ _ h.same, length_permutation _ _ h.are, ap length h.filtered.4, length-where_true h.filtered.0 h.listed)

@@ -17,18 +17,18 @@ module _ {T : Type 0} where
       (λ _. split (λ b. cond b (x ∷ all_of (test ∷ tests) xs) (all_of (test ∷ tests) xs) ≡ cond b (x ∷ all_of tests (filter test xs)) (all_of tests (filter test xs))) (every_of tests x) (λ _. ap (λ l. x ∷ l) rest) (λ _. rest))
       (λ _. rest)
 
-  -- none passes the first
+  -- no item passes the first test
   pub all_of-none : (test : T → Bool) (tests : List (T → Bool)) (xs : List T) → [] ≡ filter test xs → [] ≡ all_of (test ∷ tests) xs
   all_of-none test tests xs none = ap (all_of tests) none ∙ sym (all_of-first test tests xs)
 
-  -- the one that passes the first passes the others too
+  -- the item that passes the first test passes the others too
   pub all_of-kept : (test : T → Bool) (tests : List (T → Bool)) (xs : List T) (found : Option T) (x : T) → found ≡ Some x → option_to_list found ≡ filter test xs → every_of tests x ≡ true → option_to_list found ≡ all_of (test ∷ tests) xs
   all_of-kept test tests xs None x is one passes = absurd (cc)
   all_of-kept test tests xs (Some y) x is one passes =
       let too : every_of tests y ≡ true = let same : y ≡ x = cc in ap (every_of tests) same ∙ passes in
       sym (all_of-first test tests xs ∙ ap (all_of tests) (sym one) ∙ ap (λ b. cond b (y ∷ []) []) too)
 
-  -- or it does not
+  -- or it does not pass them
   pub all_of-lost : (test : T → Bool) (tests : List (T → Bool)) (xs : List T) (found : Option T) (x : T) → found ≡ Some x → option_to_list found ≡ filter test xs → every_of tests x ≡ false → [] ≡ all_of (test ∷ tests) xs
   all_of-lost test tests xs None x is one fails = absurd (cc)
   all_of-lost test tests xs (Some y) x is one fails =

@@ -1,4 +1,4 @@
--- What a caller knows who asked first, who keeps some of the items, and who overwrites.
+-- What a caller knows that asked first, that keeps some of the items, or that overwrites.
 use Rattle.std.specs.Prelude.{◌≡◌, ◌≤◌, ◌+◌, Bool, true, false, ◌||◌, List, [], ◌∷◌, ◌++◌, length, filter, IsPermutation, Result, Ok, Err, OnOk, OnErr}
 use Rattle.std.specs.Cmp.{IsEquivalence}
 use Rattle.std.specs.List.{AllByRecursion, IsDistinct, list_any}
@@ -36,11 +36,11 @@ module _ {T : Type 0} where
       let both = none_here tests x xs none in
       rw both.0 (none_left tests xs both.1)
 
-  -- nothing conflicts with an item where no member has its key of any rank
+  -- nothing conflicts with an item if no member has its key of any rank
   pub none-clash : (ranks : Ranks T) (bag : List T) (x : T) → PassNone (like ranks x) bag → clash ranks bag x ≡ []
   none-clash ranks bag x none = none_left (like ranks x) bag none
 
-  -- no more does any of what is left where an item was taken out
+  -- no item that is left after a removal conflicts with it either
   pub none-left : (test : T → Bool) (old bag : List T) (x : T) → IsPermutation old (x ∷ bag) → list_any test old ≡ false → list_any test bag ≡ false
   none-left test old bag x taken none =
       (or_none (test x) (list_any test bag) (sym (list_any-IsPermutation test old (x ∷ bag) taken) ∙ none)).1
@@ -64,20 +64,20 @@ module _ {T : Type 0} where
       let apart = IsSound-rank other (first ++ agree ∷ rest) (x ∷ bag) sound in
       (none_at other laws.0 bag x y apart.0 both.0, none_again first rest agree laws.1 bag x y apart.1 both.1 behind none)
 
-  -- an item x that was taken out can go in again as y, with another key of one rank, where no member had that key;
-  -- at the ranks before and behind it y has the keys of x
+  -- an item x that was removed can be inserted again as y, with another key of one rank, if no member had that key; at
+  -- the ranks before and after it y has the keys of x
   pub none-clash_again : (first rest : Ranks T) (agree : T → T → Bool) → AreLawful (first ++ agree ∷ rest) → (old bag : List T) (x y : T) → IsSound (first ++ agree ∷ rest) old → IsPermutation old (x ∷ bag) → agrees first x y ≡ true → agrees rest x y ≡ true → list_any (agree y) old ≡ false → clash (first ++ agree ∷ rest) bag y ≡ []
   none-clash_again first rest agree laws old bag x y sound taken before behind none =
       none-clash (first ++ agree ∷ rest) bag y
       (none_again first rest agree laws bag x y (IsSound-IsPermutation (first ++ agree ∷ rest) laws old (x ∷ bag) taken sound) before behind (none-left (agree y) old bag x taken none))
 
-  -- `retain` with a closure that a call leaves as it is, and that answers `test`, keeps those that pass
+  -- `retain` with a closure that a call leaves as it is, and that returns `test`, keeps those that pass
   pub kept-filter : {F : Type 0} (step : F → T → Bool → F → Type 0) (test : T → Bool) (f : F) → ((x : T) (b : Bool) (f' : F) → step f x b f' → (b ≡ test x) × (f' ≡ f)) → (old new : List T) → Keeps step f old new → IsPermutation new (filter test old)
   kept-filter step test f answers old new kept =
       let left : kept.left ≡ filter test kept.listed = filter_same step test f answers kept.listed kept.left kept.filtered in
       IsPermutation-trans _ _ _ (subst (IsPermutation new) left kept.are) (IsPermutation-sym _ _ (IsPermutation-filter test old kept.listed kept.same))
 
-  -- one more at most after an overwrite, granted or refused
+  -- there is at most one item more after an overwrite, whether it succeeds or fails
   pub length-overwritten : {S A E : Type 0} (ranks : Ranks T) (old new : Map T S) (x : T) (r : Result A E) → OnOk r (Overwrites ranks old x new) → OnErr r (new ≡ old) → length (bag new) ≤ length (bag old) + 1
   length-overwritten ranks old new x (Ok a) put same = omega (arith, length-overwritten_by ranks (bag old) (bag new) x put.items)
   length-overwritten ranks old new x (Err e) put same = omega (arith, ap (λ m. length (bag m)) same)

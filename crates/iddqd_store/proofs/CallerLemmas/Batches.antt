@@ -1,4 +1,4 @@
--- What a caller knows of a batch of items that a vector handed over.
+-- What a caller knows of a batch of items that a vector gave.
 use Rattle.std.specs.Prelude.{◌≡◌, Bool, List, [], ◌∷◌, ◌++◌, length, slice_get, Some, All, Contains, IsPermutation}
 use Rattle.std.specs.Cmp.{IsEquivalence}
 use Rattle.std.specs.Iterator.{Drains, YieldsThen}
@@ -21,17 +21,17 @@ use Rattle.iddqd_store.proofs.RunLemmas.Extending.{yielded_then}
 
 -- In what follows `it` is what the vector became, and `is` that it had the batch to give.
 module _ {T Z : Type 0} (ranks : Ranks T) (old batch : List T) (it : IntoIter T Z) (is : into_iter_items it ≡ batch) where
-  -- the whole batch went in
+  -- the whole batch was inserted
   pub batch-inserted : (new xs : List T) → Drains into_iter_steps it xs → AddsTo ranks old new xs → IsPermutation new (batch ++ old)
   batch-inserted new xs came added =
       subst (λ l. IsPermutation new (l ++ old)) (All-taken it xs came ∙ is) (AddsTo-IsPermutation ranks old new xs added)
 
-  -- a front of it came, then an item, and the rest is left
+  -- some first items of it came, then an item, and the rest is left
   pub batch-split : (x : T) (taken xs : List T) (rest : IntoIter T Z) → YieldsThen into_iter_steps it xs (Some x) rest → xs ≡ taken → batch ≡ taken ++ x ∷ into_iter_items rest
   batch-split x taken xs rest came same =
       subst (λ l. batch ≡ l ++ x ∷ into_iter_items rest) same (sym is ∙ yielded_then (into_iter_steps {X = T} {Z = Z}) (λ (s : IntoIter T Z). into_iter_items s) (λ s t y step. step.0) xs it rest x came)
 
-  -- that item was in the way
+  -- that item was rejected
   pub batch-refused : (x : T) (reason : ExtendUniqueReason) (taken xs : List T) (rest : IntoIter T Z) → YieldsThen into_iter_steps it xs (Some x) rest → xs ≡ taken → IsSound ranks (taken ++ old) → IsReason reason (clash ranks (taken ++ old) x) → IsInTheWay ranks old batch x reason
   batch-refused x reason taken xs rest came same apart why =
       (taken, into_iter_items rest, batch-split x taken xs rest came same, apart, why)
@@ -41,16 +41,17 @@ module _ {T : Type 0} where
   item_behind [] behind x = refl
   item_behind (y ∷ before) behind x = item_behind before behind x
 
-  -- the item in the way stands behind as many of the batch as were taken
+  -- the rejected item comes after as many of the batch as were taken
   pub batch-index : (batch taken behind : List T) (x : T) → batch ≡ taken ++ x ∷ behind → slice_get batch (length taken) ≡ Some x
   batch-index batch taken behind x is = ap (λ l. slice_get l (length taken)) is ∙ item_behind taken behind x
 
-  -- the item in the way is one of the batch
+  -- the rejected item is one of the batch
   pub Contains-in_the_way : (batch before behind : List T) (x : T) → batch ≡ before ++ x ∷ behind → Contains batch x
   Contains-in_the_way batch before behind x is =
       subst (λ l. Contains l x) (sym is) (Contains-append_right before (x ∷ behind) x (Contains-here x behind))
 
-  -- each of a batch that went in is the one that its key of a rank names; `first` and `rest` are the ranks before and behind
+  -- each item of a batch that was inserted is the one that its key of a rank names; `first` and `rest` are the ranks
+  -- before and after it
   pub batch-found : {K : Type 0} (first rest : Ranks T) (key : T → K) (eq : K → K → Bool) → IsEquivalence eq → (old new batch : List T) → IsSound (first ++ agree key eq ∷ rest) new → IsPermutation new (batch ++ old) → All (λ x. IsOnly (λ y. eq (key x) (key y)) new (Some x)) batch
   batch-found first rest key eq laws old new batch sound went_in =
       let one = distinct_at first rest (agree key eq) new sound in

@@ -1,4 +1,5 @@
--- That a closure may be called at the items of a map, from what a caller knows of the closure or of the items.
+-- Lemmas by which a closure may be called at the items of a map, from what a caller knows of the closure or of the
+-- items.
 use denote.Param.Always.{always_mut, mut_next}
 use Rattle.std.specs.Prelude.{List, [], ◌∷◌, ◌++◌, All, ⊤}
 use Rattle.std.specs.Borrow.{Bor}
@@ -22,7 +23,7 @@ module _ {F T R : Type 0} (g : Mut F (Bor T × Unit {0}) R) where
   takes_always f always bag listed same = takes_in_turn_always f always listed
 
   -- A closure that may be called at each item with a property, in each state with another that calls keep, may be
-  -- called at each item of a list in turn, or of a bag in any order, where all have the first property.
+  -- called at each item of a list in turn, or of a bag in any order, if all have the first property.
   pub takes_in_turn_by_state : (Is : F → Type 0) (P : T → Type 0) → ((q : F) (x : T) → Is q → P x → TakesAt g q x) → ((q : F) (x : T) (r : R) (h : F) → Is q → P x → CalledAt g q x r h → Is h) → (f : F) → Is f → (list : List T) → All P list → TakesInTurn g f list
   takes_in_turn_by_state Is P takes keeps f is list all before x after q at reached = reach f is before (subst (All P) at all) reached
     where
@@ -35,8 +36,8 @@ module _ {F T R : Type 0} (g : Mut F (Bor T × Unit {0}) R) where
   takes_by_state Is P takes keeps f is bag all listed same =
       takes_in_turn_by_state Is P takes keeps f is listed (All-permutation P bag listed same all)
 
-  -- Where no call depends on the closure's state, this is enough: the closure may be called at each item with a
-  -- property, and all items have it.
+  -- If no call depends on the closure's state, this is enough: the closure may be called at each item with a property,
+  -- and all items have it.
   pub takes_in_turn_by_items : (P : T → Type 0) → ((q : F) (x : T) → P x → TakesAt g q x) → (f : F) (list : List T) → All P list → TakesInTurn g f list
   takes_in_turn_by_items P takes f list all =
       takes_in_turn_by_state (λ q. ⊤) P (λ q x is p. takes q x p) (λ q x r h is p called. tt) f tt list all

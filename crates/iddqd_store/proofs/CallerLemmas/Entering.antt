@@ -1,4 +1,4 @@
--- What an entry's calls do to the bag that it was asked of.
+-- What the calls of an entry do to the bag in which its keys were looked up.
 use Rattle.std.specs.Prelude.{◌≡◌, ◌≢◌, ◌≤◌, ℕ, Bool, true, false, if◌then◌else◌, [], ◌∷◌, List, length, filter_map, is_some, Option, Some, None, IfSome, IsPermutation}
 use Rattle.std.proofs.Common.{refl, ap, ◌∙◌, arith}
 use Rattle.std.specs.List.{list_all}
@@ -43,7 +43,7 @@ module _ {T : Type 0} where
   all_not got listed (ix ∷ at ∷ ixs) ys short is = absurd (omega (arith, short))
 
 module _ {T : Type 0} (old : List T) (x : T) where
-  -- x went in, or what was there is held
+  -- x was inserted, or what was there is held
   abbrev pub Entered : bags.Entry T → List T → bags.Entry T → Type 0
   Entered vacant there held = IsPermutation there (x ∷ old) × (held ≡ unique x)
   Entered (unique y) there held = (there ≡ old) × (held ≡ unique y)
@@ -63,7 +63,7 @@ module _ {T : Type 0} (old : List T) (x : T) where
   writes_entry by write (non_unique ys) held there new found one entered is_one is_none same some swaps =
       absurd (cc (some, same, is_none ys entered.1))
 
-  -- where none has all keys, nothing is written
+  -- if no item has all keys, nothing is written
   pub rests_entry : (by : Ranks T) (write : T → T) (E held : bags.Entry T) (there new : List T) (found one : Option T) → Entered E there held → ((y : T) → held ≡ unique y → one ≡ Some y) → found ≡ one → found ≡ None → new ≡ there → WritesEntry by write old x E new
   rests_entry by write vacant held there new found one entered is_one same none rests = absurd (cc (none, same, is_one x entered.1))
   rests_entry by write (unique y) held there new found one entered is_one same none rests = absurd (cc (none, same, is_one y entered.1))

@@ -9,7 +9,7 @@ use Rattle.iddqd_store.specs.Map.Walk.{passed, to_come}
 use Rattle.iddqd_store.proofs.BagLemmas.Exchanges.{split}
 use Rattle.iddqd_store.proofs.CallerLemmas.{passed-to_come}
 
--- `told`: a call of the closure answers `test`, and leaves the closure as it is.
+-- `told`: a call of the closure returns `test`, and leaves the closure as it is.
 module _ {F T : Type 0} (step : F → T → Bool → F → Type 0) (test : T → Bool) (f : F) (told : (x : T) (b : Bool) (g : F) → step f x b g → (b ≡ test x) × (g ≡ f)) where
   rejected-fail : (q : F) (xs : List T) → Rejects step f xs q → (filter test xs ≡ []) × (filter (λ x. not (test x)) xs ≡ xs) × (q ≡ f)
   rejected-fail q [] is = (refl, refl, sym is)

@@ -1,10 +1,10 @@
--- What `update_all` makes of a bag where the function's answer depends on the item alone.
+-- What `update_all` makes of a bag if the closure's result depends only on the item.
 use Rattle.std.specs.Prelude.{◌≡◌, List, [], ◌∷◌, map, IsPermutation}
 use Rattle.std.proofs.Common.{refl, ap, subst, ◌∙◌}
 use Rattle.std.proofs.lemmas.List.Sorted.{IsPermutation-map, IsPermutation-sym, IsPermutation-trans}
 use Rattle.iddqd_store.specs.Bag.Storing.{StoresInAll, Writes}
 
--- `told`: a call at x answers `answers f x`, and a later call what it would have answered before.
+-- `told`: a call at x returns `answers f x`, and a later call returns what it would have returned before.
 module _ {F T D : Type 0} (step : F → T → D → F → Type 0) (put : T → D → T) (answers : F → T → D) (told : (f : F) (x : T) (d : D) (g : F) → step f x d g → (d ≡ answers f x) × ((y : T) → answers g y ≡ answers f y)) where
   -- in order, each is written
   pub writes-map : (h : T → D) (f : F) (xs ys : List T) → ((y : T) → answers f y ≡ h y) → Writes step put f xs ys → ys ≡ map (λ x. put x (h x)) xs

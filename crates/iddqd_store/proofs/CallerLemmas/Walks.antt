@@ -1,4 +1,4 @@
--- A walk in which each item is written.
+-- An iteration in which each item is written.
 use Rattle.std.specs.Prelude.{◌≡◌, ℕ, true, is_some, List, [], ◌∷◌, ◌++◌, map, IsPermutation, Option, Some, None, IfSome, IfNone}
 use Rattle.std.proofs.Common.{refl, sym, ap, ◌∙◌, subst}
 use Rattle.std.proofs.lemmas.List.Sorted.{IsPermutation-refl}
@@ -25,24 +25,24 @@ module _ {T : Type 0} (put : T → T) where
   step_done done before behind after rest all later x was held comes goes stays =
       (goes ∙ ap (λ l. l ++ put x ∷ []) was ∙ sym (map-append done (x ∷ [])), join done x rest ∙ ap (λ l. done ++ x ∷ l) stays ∙ ap (λ l. done ++ l) (sym comes) ∙ held)
 
-  -- all are written, where none is to come
+  -- all items are written if none is to come
   pub all_done : {S : Type 0} (m : Map T S) (at : ℕ) (done all : List T) → passed m at ≡ map put done → done ++ to_come m at ≡ all → to_come m at ≡ [] → IsPermutation (bag m) (map put all)
   all_done m at done all was held none =
       let whole : bag m ≡ passed m at = passed-to_come m at ∙ ap (λ l. passed m at ++ l) none ∙ append-nil (passed m at) in
       let same : done ≡ all = sym (append-nil done) ∙ ap (λ l. done ++ l) (sym none) ∙ held in
       subst (IsPermutation (bag m)) (whole ∙ was ∙ ap (map put) same) (IsPermutation-refl (bag m))
 
--- P where there is nothing
+-- P holds if there is no item
 pub none_holds : {X P : Type 0} (o : Option X) → o ≡ None → IfNone o P → P
 none_holds None is h = h
 none_holds (Some x) is h = absurd (cc is)
 
--- the item that there is
+-- P holds for the item that there is
 pub some_holds : {X : Type 0} (P : X → Type 0) (o : Option X) → is_some o ≡ true → IfSome o P → (x : X) × P x
 some_holds P None some h = absurd (cc some)
 some_holds P (Some x) some h = (x, h)
 
--- the first item is written, where none was passed
+-- the first item is written if none was passed
 pub first_written : {T S : Type 0} (m : Map T S) (from : ℕ) (x : T) (w : (T → T) → Map T S) (to : ℕ) (all : List T) → passed m from ≡ [] → to_come m from ≡ all → Passes m from x w to → (f : T → T) → (all ≡ x ∷ to_come m to) × (bag (w f) ≡ f x ∷ to_come m to)
 first_written m from x w to all none is pass f =
     (sym is ∙ pass.comes, passed-to_come (w f) to ∙ ap (λ l. l ++ to_come (w f) to) (pass.before f ∙ ap (λ l. l ++ f x ∷ []) none) ∙ ap (λ l. f x ∷ l) (pass.behind f))

@@ -1,4 +1,4 @@
--- A bag to which a list was added, and out of which it was taken again.
+-- A bag to which a list was added, and from which it was removed again.
 use Rattle.std.specs.Prelude.{◌≡◌, ◌<◌, List, ◌++◌, length, IsPermutation}
 use Rattle.std.proofs.Common.{sym, subst}
 use Rattle.std.proofs.lemmas.List.Sorted.{IsPermutation-sym}
@@ -14,7 +14,7 @@ module _ {T : Type 0} (by : Ranks T) (some : 0 < length by) (laws : AreLawful by
   listed : IsPermutation held (taken ++ old)
   listed = subst (λ l. IsPermutation held (l ++ old)) (sym all) (AddsTo-IsPermutation by old held xs added)
 
-  -- they were sound with the bag
+  -- the list and the bag were sound together
   pub taken_sound : IsSound by (taken ++ old)
   taken_sound = IsSound-IsPermutation by laws held (taken ++ old) listed (AddsTo-sound by old held xs added laws sound)
 

@@ -1,4 +1,4 @@
--- A walk in which items leave: how a call steps on past an item that stays, and past one that leaves.
+-- An iteration in which items leave: how a call steps on past an item that stays, and past one that leaves.
 use Rattle.std.specs.Prelude.{◌≡◌, ◌≤◌, ℕ, ◌+◌, Bool, true, false, List, [], ◌∷◌, ◌++◌, Some, None}
 use Rattle.std.proofs.Common.{arith, refl, sym, ap, ◌∙◌, subst, set, append_assoc, append-nil}
 use Rattle.iddqd_store.specs.Map.{Map}

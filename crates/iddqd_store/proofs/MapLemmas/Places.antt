@@ -1,4 +1,4 @@
--- What searches by each key of an item say of what conflicts with it.
+-- What searches by each key of an item say of the items that conflict with it.
 use Rattle.std.specs.Prelude.{◌≡◌, ◌≢◌, ℕ, nat_eq, Bool, true, false, List, [], ◌∷◌, ◌++◌, length, filter, Option, Some, None, is_some, IsSome, IsPermutation, slice_set}
 use Rattle.std.specs.Cmp.{IsEquivalence}
 use Rattle.std.specs.List.{AllByRecursion, IsDistinct, list_any}
@@ -33,7 +33,7 @@ module _ {T : Type 0} (slots : List (Option T)) where
   none_at (a ∷ ixs) short = absurd (omega arith)
 
 module _ {T S : Type 0} {agree : T → T → Bool} (laws : IsEquivalence agree) (m : Map T S) (apart : IsDistinct agree (bag m)) (ranks : Ranks T) (x : T) (found : List (Option ℕ)) (are : AreFound (like ranks x) m.slots found) where
-  -- the slots found list it
+  -- the slots that were found list these items
   conflicts_found : StandAt m.slots (each_once found) (order ranks (bag m) x)
   conflicts_found = record {
     items = found_listing laws m.slots apart (like ranks x) found are;
@@ -41,18 +41,18 @@ module _ {T S : Type 0} {agree : T → T → Bool} (laws : IsEquivalence agree) 
     apart = IsDistinct-each_once found;
   }
 
-  -- where one is found, the item is blocked
+  -- if a slot is found, the item conflicts
   pub blocked_by : list_any is_some found ≡ true → IsBlockedAt ranks m x (each_once found)
   blocked_by some = record {
     some = clash_some ranks m.slots x (each_once found) conflicts_found.items conflicts_found.live (λ short. held_some m.slots (like ranks x) found are some (none_at m.slots (each_once found) short));
     found = conflicts_found;
   }
 
-  -- and where none is, nothing conflicts with it
+  -- if no slot is found, nothing conflicts with it
   pub free_by : list_any is_some found ≡ false → clash ranks (bag m) x ≡ []
   free_by none = clash_none ranks m.slots x [] (sym (held_none m.slots found none) ∙ conflicts_found.items) refl
 
--- a search finds a slot where some item passes its test, and only there
+-- a search finds a slot exactly if some item passes its test
 pub is_some-at : {T : Type 0} (test : T → Bool) (slots : List (Option T)) (at : Option ℕ) → FoundAt test slots at → is_some at ≡ list_any test (live_items slots)
 is_some-at test slots None found = sym (any_listed test (live_items slots) ∙ ap some_item (sym found.only))
 is_some-at {T} test slots (Some ix) found = by_slot (get slots ix) found.live found.only
@@ -62,15 +62,15 @@ is_some-at {T} test slots (Some ix) found = by_slot (get slots ix) found.live fo
     by_slot (Some y) some only = sym (any_listed test (live_items slots) ∙ ap some_item (sym only))
 
 module _ {T : Type 0} (ranks : Ranks T) (bag : List T) (x : T) (free : clash ranks bag x ≡ []) where
-  -- where nothing conflicts with an item, nothing is listed
+  -- if nothing conflicts with an item, nothing is listed
   pub order_none : order ranks bag x ≡ []
   order_none = sym (same_from_short [] (order ranks bag x) (IsPermutation-sym _ _ (subst (IsPermutation (order ranks bag x)) free (IsPermutation-order ranks bag x))) (omega arith))
 
-  -- and what goes in is in the place of none
+  -- an item that is inserted then replaces none
   pub over_none : (new : List T) → IsPermutation new (x ∷ bag) → IsPermutation new (over ranks bag x)
   over_none new put = over-taken ranks bag bag new x (subst (λ l. IsPermutation bag (l ++ bag)) (sym order_none) (IsPermutation-refl bag)) put
 
--- where the items of the other slots found are taken out and that of the first gives way, what conflicts is gone
+-- once the items of the other slots are removed and that of the first is replaced, no conflicting item is left
 pub gives_way : {T : Type 0} (ranks : Ranks T) (slots rest : List (Option T)) (x : T) (ix : ℕ) (ixs : List ℕ) (others : List T) → items_at slots (ix ∷ ixs) ≡ order ranks (live_items slots) x → IsLive slots ix → get rest ix ≡ get slots ix → others ≡ items_at slots ixs → IsPermutation (live_items slots) (others ++ live_items rest) → IsPermutation (live_items slots) (order ranks (live_items slots) x ++ live_items (slice_set rest ix None))
 gives_way {T} ranks slots rest x ix ixs others items live same are taken = by_slot (get slots ix) refl live
   where
@@ -84,7 +84,7 @@ gives_way {T} ranks slots rest x ix ixs others items live same are taken = by_sl
         IsPermutation-trans _ _ _ taken (IsPermutation-trans _ _ _ (IsPermutation-append others others _ _ (IsPermutation-refl others) out) (IsPermutation-middle others y left)) in
         subst (λ l. IsPermutation (live_items slots) (l ++ left)) (sym listed ∙ items) all
 
--- and so where the item of one more slot is taken out
+-- the same if the item of one more slot is removed
 gives_way_two : {T : Type 0} (ranks : Ranks T) (slots rest : List (Option T)) (x : T) (ix other : ℕ) (ixs : List ℕ) (others : List T) → items_at slots (ix ∷ other ∷ ixs) ≡ order ranks (live_items slots) x → IsLive slots ix → IsLive slots other → ix ≢ other → get rest ix ≡ get slots ix → get rest other ≡ get slots other → others ≡ items_at slots ixs → IsPermutation (live_items slots) (others ++ live_items rest)
     → IsPermutation (live_items slots) (order ranks (live_items slots) x ++ live_items (slice_set (slice_set rest other None) ix None))
 gives_way_two {T} ranks slots rest x ix other ixs others items live live_too apart same same_too are taken = by_slot (get slots other) refl live_too
@@ -102,20 +102,20 @@ gives_way_two {T} ranks slots rest x ix other ixs others items live live_too apa
         let listed : y ∷ others ≡ items_at slots (other ∷ ixs) = rw (is, are) refl in
         gives_way ranks slots less x ix (other ∷ ixs) (y ∷ others) items live stays listed all
 
--- items that stand in these slots stand in the same slots
+-- items in these slots are in equal lists of slots
 pub stand_in : {T : Type 0} {slots : List (Option T)} {xs : List T} {found others : List ℕ} → found ≡ others → StandAt slots others xs → StandAt slots found xs
 stand_in {slots = slots} {xs = xs} same stand = subst (λ l. StandAt slots l xs) (sym same) stand
 
 other_number : (a b : ℕ) → nat_eq a b ≡ false → a ≢ b
 other_number a b h = grind (arith, nat_tests)
 
--- where one slot was found, and its item is taken out, what conflicts is gone
+-- if one slot was found, and its item is removed, no conflicting item is left
 pub one_leaves : {T : Type 0} (ranks : Ranks T) (slots : List (Option T)) (x : T) (ix : ℕ) (found : List ℕ) → StandAt slots found (order ranks (live_items slots) x) → found ≡ ix ∷ [] → IsPermutation (live_items slots) (order ranks (live_items slots) x ++ live_items (slice_set slots ix None))
 one_leaves ranks slots x ix found stand is =
     let only = stand_in (sym is) stand in
     gives_way ranks slots slots x ix [] [] only.items (All-head (IsLive slots) ix [] only.live) refl refl (IsPermutation-refl _)
 
--- and where two were found, or more, of which the others were taken out before
+-- the same if two slots were found, or more, of which the others were removed before
 pub two_leave : {T : Type 0} (ranks : Ranks T) (slots rest : List (Option T)) (x : T) (ix at : ℕ) (ixs : List ℕ) (others : List T) (found : List ℕ) → StandAt slots found (order ranks (live_items slots) x) → found ≡ ix ∷ at ∷ ixs → ((k : ℕ) → IsDistinct nat_eq (k ∷ ixs) → get rest k ≡ get slots k) → others ≡ items_at slots ixs → IsPermutation (live_items slots) (others ++ live_items rest)
     → IsPermutation (live_items slots) (order ranks (live_items slots) x ++ live_items (slice_set (slice_set rest at None) ix None))
 two_leave ranks slots rest x ix at ixs others found stand is same are taken =
@@ -125,7 +125,7 @@ two_leave ranks slots rest x ix at ixs others found stand is same are taken =
     gives_way_two ranks slots rest x ix at ixs others both.items (All-head (IsLive slots) ix (at ∷ ixs) both.live) (All-head (IsLive slots) at ixs (All-tail (IsLive slots) ix (at ∷ ixs) both.live))
     (other_number ix at apart.0) (same ix (IsDistinct-cons nat_eq ix ixs apart.1 (IsDistinct-tail nat_eq at ixs behind))) (same at behind) are taken
 
--- and where three were found
+-- the same if three slots were found
 pub three_leave : {T : Type 0} (ranks : Ranks T) (slots : List (Option T)) (x : T) (ix at end : ℕ) (found : List ℕ) → StandAt slots found (order ranks (live_items slots) x) → found ≡ ix ∷ at ∷ end ∷ []
     → IsPermutation (live_items slots) (order ranks (live_items slots) x ++ live_items (slice_set (slice_set (slice_set slots end None) at None) ix None))
 three_leave {T} ranks slots x ix at end found stand is =

@@ -1,4 +1,4 @@
--- What is left where the item of one slot gives way to another, and what stands in the way of that.
+-- What is left if another item replaces the item of one slot, and which items conflict with that.
 use Rattle.std.specs.Prelude.{◌≡◌, ◌≢◌, ℕ, nat_eq, Bool, true, false, cond, List, [], ◌∷◌, filter, Option, Some, None, IsSome, IsPermutation, Contains, All, slice_set}
 use Rattle.std.proofs.Common.{refl, sym, subst, ◌∙◌, arith}
 use Rattle.std.proofs.lemmas.Bool.Decides.{nat_tests}
@@ -45,12 +45,12 @@ module _ {T : Type 0} (ranks : Ranks T) (slots : List (Option T)) (x : T) (ix : 
           let gone = subst (λ l. Contains l y) none left in
           absurd (omega (arith, gone.1))
 
-  -- where the first slot found is another one, its item is in the way
+  -- if the first slot found is another one, its item conflicts
   pub another_found : (at : ℕ) (more : List ℕ) → found ≡ at ∷ more → at ≢ ix → clash ranks (live_items (slice_set slots ix None)) x ≢ []
   another_found at more is apart =
       elsewhere at (subst (λ l. contains l at ≡ true) (sym is) (listed_first at more)) (All-head (IsLive slots) at more (subst (λ l. All (IsLive slots) l) is stand.live)) apart
 
-  -- and where a second slot was found
+  -- the same if a second slot was found
   pub more_found : (at : ℕ) (more : List ℕ) → found ≡ ix ∷ at ∷ more → clash ranks (live_items (slice_set slots ix None)) x ≢ []
   more_found at more is =
       let alive : All (IsLive slots) (ix ∷ at ∷ more) = subst (λ l. All (IsLive slots) l) is stand.live in
@@ -66,12 +66,12 @@ module _ {T : Type 0} where
       by_test true h = absurd (cc h)
       by_test false h = h
 
-  -- what conflicts with nothing does not conflict with what is left
+  -- an item that conflicts with nothing does not conflict with what is left
   pub free_left : (ranks : Ranks T) (old rest : List T) (x y : T) → IsPermutation old (x ∷ rest) → clash ranks old y ≡ [] → clash ranks rest y ≡ []
   free_left ranks old rest x y out free =
       behind (conflicts ranks y) x rest (sym (same_from_short [] _ (subst (λ l. IsPermutation l (clash ranks (x ∷ rest) y)) free (IsPermutation-filter (conflicts ranks y) old (x ∷ rest) out)) (omega arith)))
 
-  -- and so for what is left where the item of a slot is taken out
+  -- the same for what is left if the item of a slot is removed
   pub free_slot : (ranks : Ranks T) (slots : List (Option T)) (ix : ℕ) (y : T) → IsLive slots ix → clash ranks (live_items slots) y ≡ [] → clash ranks (live_items (slice_set slots ix None)) y ≡ []
   free_slot ranks slots ix y live free = by_slot (get slots ix) refl live
     where
@@ -89,7 +89,7 @@ module _ {T : Type 0} where
       by_slot (Some x) is some only =
           (x, live_items (slice_set slots ix None), only, IsPermutation-map (λ m. m.1) _ _ (members-take slots ix x is), blocked)
 
-  -- one item is in the place of the other
+  -- one item has replaced the other
   pub exchanged : (x y : T) (old new rest : List T) → IsPermutation old (x ∷ rest) → IsPermutation new (y ∷ rest) → IsPermutation (x ∷ new) (y ∷ old)
   exchanged x y old new rest out into =
       let one : IsPermutation (x ∷ new) (x ∷ y ∷ rest) = IsPermutation-append (x ∷ []) (x ∷ []) new (y ∷ rest) (IsPermutation-refl _) into in

@@ -56,7 +56,7 @@ module _ {T S : Type 0} (m : Map T S) (ix : ℕ) (f : T → T) where
           (rw (written_elsewhere other apart.0) (All-head (IsLive m.slots) other rest live))
           (each rest apart.1 (All-tail (IsLive m.slots) other rest live))
 
--- and so does every slot that was live
+-- every slot that was live stays live
 module _ {T : Type 0} (f : T → T) where
   stays : (slots : List (Option T)) (ix at : ℕ) → IsLive slots at → IsLive (slice_set slots ix (of_item f (get slots ix))) at
   stays [] ix at live = live
@@ -75,7 +75,7 @@ module _ {F T D : Type 0} (step : F → T → D → F → Type 0) (put : T → D
   from_bag f [] held other new same stores = IsPermutation-trans _ _ _ stores same
   from_bag f (x ∷ xs) held other new same stores = (stores.0, stores.1, stores.2, from_bag stores.1 xs _ _ new (swap-IsPermutation ranks held other x (put x stores.0) same) stores.3)
 
-  -- data that is stored at the first slot, and then at the others
+  -- data is stored at the first slot, and then at the others
   pub one_store : {S : Type 0} (f g : F) (old mid : Map T S) (new : List T) (ix : ℕ) (rest : List ℕ) (x : T) (d : D) → IsDistinct nat_eq (ix ∷ rest) → get old.slots ix ≡ Some x → step f x d g → mid ≡ map_with old ix (λ z. put z d) → IsPermutation (bag mid) (swap ranks (bag old) x (put x d)) → Stores step put ranks g (items_at mid.slots rest) (bag mid) new → Stores step put ranks f (items_at old.slots (ix ∷ rest)) (bag old) new
   one_store f g old mid new ix rest x d apart here called is swaps stores =
       let same : items_at mid.slots rest ≡ items_at old.slots rest = rw is (items_elsewhere old ix (λ z. put z d) rest (IsDistinct-head nat_eq ix rest apart)) in
@@ -86,7 +86,7 @@ module _ {F T D : Type 0} (g : Mut F (Bor T × Unit {0}) D) (f : F) where
   pub takes_here : (slots : List (Option T)) (ix : ℕ) (rest : List ℕ) (x : T) → get slots ix ≡ Some x → TakesEach g f (items_at slots (ix ∷ rest)) → TakesAt g f x
   takes_here slots ix rest x here takes = (rw here at takes).0
 
-  -- and, once what it answered is stored there, at those of the others
+  -- once its result is stored there, it may be called at those of the others
   pub takes_elsewhere : {S : Type 0} (h : F) (m : Map T S) (ix : ℕ) (rest : List ℕ) (x : T) (d : D) (put : T → T) → IsDistinct nat_eq (ix ∷ rest) → get m.slots ix ≡ Some x → CalledAt g f x d h → TakesEach g f (items_at m.slots (ix ∷ rest)) → TakesEach g h (items_at (map_with m ix put).slots rest)
   takes_elsewhere h m ix rest x d put apart here called takes =
       rw (items_elsewhere m ix put rest (IsDistinct-head nat_eq ix rest apart)) ((rw here at takes).1 d h called)

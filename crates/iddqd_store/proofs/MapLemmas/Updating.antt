@@ -1,4 +1,4 @@
--- A walk in which each item gets the data that a function answers.
+-- An iteration in which each item gets the data that a closure returns.
 use Rattle.std.specs.Prelude.{◌≡◌, ℕ, Bool, true, false, is_some, List, [], ◌∷◌, ◌++◌, map, Option, Some, None, IsSome}
 use Rattle.std.specs.List.{list_any}
 use Rattle.std.specs.Borrow.{MutBor}
@@ -19,7 +19,7 @@ use Rattle.iddqd_store.proofs.SlotLemmas.Chain.{live_items-items_in}
 use Rattle.iddqd_store.proofs.SlotLemmas.Next.{before_and_behind}
 
 module _ {F T D S : Type 0} (step : F → T → D → F → Type 0) (put : T → D → T) where
-  -- what is stored in the rest, behind what is stored so far, is what is stored in all
+  -- what is stored so far and what is stored in the rest make what is stored in all
   abbrev pub Completes : F → List T → F → Map T S → ℕ → Type 0
   Completes start all f m from = (rest : List T) → Writes step put f (to_come m from) rest → Writes step put start all (passed m from ++ rest)
 
@@ -60,7 +60,7 @@ module _ {T : Type 0} (test : T → Bool) (slots : List (Option T)) where
   pub any_absent : FoundAt test slots None → false ≡ list_any test (live_items slots)
   any_absent found = ap some_item found.only ∙ sym (any_listed test (live_items slots))
 
--- what is lent of the slot that there may be is of its item
+-- what is borrowed from the slot, if there is one, is a part of its item
 pub held_data : {T D : Type 0} (part : T → D) (slots : List (Option T)) (at : Option ℕ) (r : Option (MutBor D)) → IfSome at (IsLive slots) → is_some r ≡ is_some at →
     ((x : T) → option_and_then (get slots) at ≡ Some x → IfSome r (λ m. m.now ≡ part x)) → option_to_list (option_copied_mut r) ≡ map part (option_to_list (option_and_then (get slots) at))
 held_data part slots None None live some value = refl
@@ -72,7 +72,7 @@ held_data {T} part slots (Some ix) (Some m) live some value = by_slot (get slots
     by_slot None there some = absurd (cc)
     by_slot (Some x) there some = ap (λ d. d ∷ []) (value x there)
 
--- what is held for writing stays in the map that is written
+-- an item that is held for writing is in the map after a write
 pub held_live : {T S : Type 0} (f : T → T) (m : Map T S) (slot at : Option ℕ) → IfSome at (IsLive m.slots) → IfSome at (IsLive (map_with_if m slot f).slots)
 held_live f m None at h = h
 held_live f m (Some i) None h = h

@@ -1,4 +1,4 @@
--- A walk over the items, in which each may be written.
+-- An iteration over the items, in which each may be written.
 use Rattle.std.specs.Prelude.{◌≡◌, ◌≤◌, ◌<◌, ℕ, zero, suc, ◌+◌, List, [], ◌∷◌, ◌++◌, take, drop, Option, Some, None, IsSome, slice_set}
 use Rattle.std.proofs.Common.{refl, ap, ◌∙◌, arith, add-one}
 use Rattle.iddqd_store.specs.Map.{Map}
@@ -44,7 +44,7 @@ module _ {T : Type 0} where
       let below = next_step f slots from at x (omega (arith, ahead)) is (λ k le lt. free (suc k) (omega (arith, le)) (omega (arith, lt))) in
       (ap (λ l. Some y ∷ l) below.0, ap suc below.1)
 
-  -- the slot of the next item, as the walk's functions see it
+  -- the slot of the next item, as the functions of the iteration see it
   pub next_slot : (slots : List (Option T)) (from at : ℕ) (x : T) → from ≤ at → get slots at ≡ Some x → ((k : ℕ) → from ≤ k → k < at → get slots k ≡ None) → IsNextSlot slots from at x
   next_slot slots from at x ahead is free = record {
     after = rw (add-one at) (next_step (λ y. y) slots from at x ahead is free).1;

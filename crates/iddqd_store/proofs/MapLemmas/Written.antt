@@ -26,7 +26,7 @@ pub if_some : {X : Type 0} {P : X → Type 0} (o : Option X) → ((x : X) → o 
 if_some None h = tt
 if_some (Some x) h = h x refl
 
--- An entry still finds what its keys name where one item was written that keeps its keys.
+-- An entry still finds what its keys name after a write to an item that keeps its keys.
 module _ {T S : Type 0} (agree : T → T → Bool) (ranks : Ranks T) (laws : AreLawful (agree ∷ ranks)) (tests : List (T → Bool)) (keys : AreKeyTests (agree ∷ ranks) tests) (m : Map T S) (at : Option ℕ) (found : List (Option ℕ)) where
   pub finds_written : (slot : Option ℕ) (f : T → T) → ((x : T) → agrees (agree ∷ ranks) x (f x) ≡ true) → IfSome slot (IsLive m.slots) → IfSome slot (λ ix. IsSound (agree ∷ ranks) (bag m)) → ((x : T) → option_and_then (get m.slots) slot ≡ Some x → IsPermutation (bag (map_with_if m slot f)) (swap (agree ∷ ranks) (bag m) x (f x))) → FindsAt tests m.slots (at ∷ found) → FindsAt tests (map_with_if m slot f).slots (at ∷ found)
   finds_written None f same live sound swaps finds = finds

@@ -1,4 +1,4 @@
--- A table indexes a copy of the slots as it does the slots.
+-- A table that indexes the slots also indexes a copy of them.
 use Rattle.std.specs.Prelude.{◌≡◌, ℕ, ◌+◌, List, [], ◌∷◌, map, Option, Some, None, Contains, IsPermutation}
 use Rattle.std.specs.List.{AllZip}
 use Rattle.std.proofs.Common.{refl, sym, subst}

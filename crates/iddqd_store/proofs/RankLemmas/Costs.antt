@@ -28,7 +28,7 @@ module _ {T : Type 0} {agree : T → T → Bool} {hash : T → ℕ} {slots : Lis
     at_most = looks_within_most hash slots table.pairs (length table.row) h r look look_then rank.index own.looks;
   }
 
-  -- a removal by a search costs what a search costs that finds nothing
+  -- a removal by a search costs as much as a search that finds nothing
   pub removal_costs : (h asks asks_then look look_then : ℕ) → IsSized table → RemovalCosts table h asks asks_then look look_then → SearchCosts {A = ℕ} hash (live_items slots) table.limit h None asks asks_then look look_then
   removal_costs h asks asks_then look look_then sized own =
       costs h None asks asks_then look look_then sized record {
@@ -56,12 +56,12 @@ module _ {T : Type 0} {agree : T → T → Bool} {hash : T → ℕ} {slots : Lis
   cells_found h (Ok at) sized vacant = tt
   cells_found h (Err spot) sized vacant = rw vacant.cells (sym sized.limit)
 
--- where a pair of the members' hashes goes in, it does in a table that indexes them
+-- the place for a pair by the members' hashes is its place in a table that indexes them
 pub place_in : {T : Type 0} {hash : T → ℕ} {slots : List (Option T)} {pairs : List (ℕ × ℕ)} {h : ℕ} {spot : Spot} → IsIndex hash slots pairs → IsVacantFor hash (live_items slots) h spot → IsFree (hashes pairs) spot
 place_in {hash = hash} {slots = slots} {pairs = pairs} {spot = spot} index vacant =
     free_permutation _ _ spot (IsPermutation-sym _ _ (hashes-index hash slots pairs index)) vacant.free
 
--- a search costs no more where there is less room
+-- a search costs no more if there is less room
 pub SearchCosts-room : {T A : Type 0} {hash : T → ℕ} {bag : List T} {room h : ℕ} {answer : Option A} {asks asks_then look look_then : ℕ} (less : ℕ) → less ≤ room → SearchCosts hash bag room h answer asks asks_then look look_then → SearchCosts hash bag less h answer asks asks_then look look_then
 SearchCosts-room less below costs =
     let looks = costs.looks in

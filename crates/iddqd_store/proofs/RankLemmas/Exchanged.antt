@@ -1,4 +1,4 @@
--- How a map stays indexed where an item gives way to one with the same keys.
+-- How a map stays indexed if an item with the same keys replaces an item.
 use Rattle.std.specs.Prelude.{◌≡◌, ◌<◌, ℕ, true, List, [], ◌∷◌, length, map, IsPermutation, Option, Some, slice_set}
 use Rattle.std.specs.List.{AllByRecursion}
 use Rattle.std.proofs.Common.{subst}
@@ -40,7 +40,7 @@ module _ {T : Type 0} where
       indexes = AreIndexes-exchange hashes old new tables at x y alike ex indexed.indexes;
     }
 
-    -- the same where a slot was written
+    -- the same if a slot was written
     pub IsIndexed-set : get old at ≡ Some x → agrees ranks x y ≡ true → AllByRecursion (λ hash. hash y ≡ hash x) hashes → IsIndexed ranks hashes (slice_set old at (Some y)) tables
     IsIndexed-set found = IsIndexed-exchange _ (Exchanges-set old at x y found)
 

@@ -13,7 +13,7 @@ module _ {T : Type 0} (hash : T → ℕ) (slots : List (Option T)) where
   abbrev pub pairs_from : ℕ → List (ℕ × ℕ)
   pairs_from at = map (pair_of hash) (members_from at (drop at slots))
 
-  -- with these pairs, those of the slots from a number on are all
+  -- these pairs and those of the slots from a number on are all pairs
   abbrev pub IsFilling : ℕ → List (ℕ × ℕ) → Type 0
   IsFilling at pairs = IsPermutation (pairs ++ pairs_from at) (map (pair_of hash) (members slots))
 
@@ -40,7 +40,7 @@ module _ {T : Type 0} (hash : T → ℕ) (slots : List (Option T)) where
       let named : IsPermutation ((hash x, at) ∷ before) after = subst (λ k. IsPermutation ((k, at) ∷ before) after) is entered in
       IsPermutation-trans _ _ _ (IsPermutation-append_left rest after ((hash x, at) ∷ before) (IsPermutation-sym _ _ named)) moved
 
-  -- there is room for the pair of a live slot where there is room for all
+  -- there is room for the pair of a live slot if there is room for all
   pub IsFilling-room : (at : ℕ) (x : T) (pairs : List (ℕ × ℕ)) → at < length slots → get slots at ≡ Some x → IsFilling at pairs → length pairs < live_count slots
   IsFilling-room at x pairs within live filling =
       let all : length (pairs ++ pairs_from at) ≡ length (map (pair_of hash) (members slots)) = sym (length_permutation _ _ filling) in
@@ -54,7 +54,7 @@ module _ {T : Type 0} where
   items_in-all [] = refl
   items_in-all (x ∷ xs) = ap (λ rest. x ∷ rest) (items_in-all xs)
 
-  -- where no slot is free, the items are all that the slots have
+  -- if no slot is free, the slots have exactly the items
   pub live_items-all : (xs : List T) → live_items (map Some xs) ≡ xs
   live_items-all xs = live_items-items_in (map Some xs) ∙ items_in-all xs
 
@@ -62,6 +62,6 @@ module _ {T : Type 0} where
   pub live_items-compact : (old new : List (Option T)) → new ≡ map Some (live_items old) → live_items new ≡ live_items old
   live_items-compact old new is = ap live_items is ∙ live_items-all (live_items old)
 
-  -- if some of the items leave, there is room for the others where there was room for all
+  -- if some of the items leave, there is room for the others if there was room for all
   pub fewer : (old new : List (Option T)) (taken : List T) {room : ℕ} → IsPermutation (live_items old) (taken ++ live_items new) → length (live_items old) ≤ room → live_count new ≤ room
   fewer old new taken left fits = omega (arith, fits, length_permutation _ _ left, length-append taken (live_items new), length-live_items new)

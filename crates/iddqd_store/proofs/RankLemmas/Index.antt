@@ -94,7 +94,7 @@ module _ {T : Type 0} where
   pub member_at : (slots : List (Option T)) (at : ℕ) (x : T) → get slots at ≡ Some x → Contains (members slots) (at, x)
   member_at slots at x found = rw zero-add at (listed_from 0 slots at x found)
 
-  -- a member stands in its slot
+  -- a member is in its slot
   pub at_member : (slots : List (Option T)) (at : ℕ) (x : T) → Contains (members slots) (at, x) → get slots at ≡ Some x
   at_member slots at x listed = let found = slot_from 0 slots at x listed in ap (get slots) (found.1 ∙ zero-add found.0) ∙ found.2
 
@@ -105,7 +105,7 @@ module _ {T : Type 0} where
   none_of_map f test [] h = refl
   none_of_map f test (x ∷ xs) h = rw h.0 (none_of_map f test xs h.1)
 
-  -- where no index under the hash is accepted, no item is named
+  -- if no index with the hash is accepted, no item is named
   pub none_is : (hash : T → ℕ) (test : T → Bool) (h : ℕ) (slots : List (Option T)) (pairs : List (ℕ × ℕ)) → IsIndex hash slots pairs → ((x : T) → Contains (live_items slots) x → test x ≡ true → hash x ≡ h) → ((at : ℕ) → Contains pairs (h, at) → passes_at test slots at ≡ false) → filter test (live_items slots) ≡ []
   none_is hash test h slots pairs index alike none =
       none_of_map (λ m. m.1) test (members slots) (each_from_Contains (λ m. test m.1 ≡ false) (members slots) (λ m listed.
@@ -122,7 +122,7 @@ module _ {T : Type 0} where
   pub IsIndex-empty : {hash : T → ℕ} → IsIndex hash [] []
   IsIndex-empty = record { paired = IsPermutation-refl [] }
 
-  -- a table in another order indexes the same
+  -- a table in another order indexes the same slots
   pub IsIndex-reorder : {hash : T → ℕ} {slots : List (Option T)} {pairs more : List (ℕ × ℕ)} → IsIndex hash slots pairs → IsPermutation pairs more → IsIndex hash slots more
   IsIndex-reorder index same = record { paired = IsPermutation-trans _ _ _ (IsPermutation-sym _ _ same) index.paired }
 
@@ -186,7 +186,7 @@ module _ {T : Type 0} where
   length-index {hash = hash} {slots = slots} index =
       sym (length_permutation _ _ index.paired) ∙ length-map (pair_of hash) (members slots) ∙ sym (length-map (λ m. m.1) (members slots))
 
-  -- two slots whose items agree are one
+  -- two slots whose items agree are the same slot
   pub same_slot : (agree : T → T → Bool) (slots : List (Option T)) (a b : ℕ) (x y : T) → IsDistinct agree (live_items slots) → ((x y : T) → agree x y ≡ agree y x) → get slots a ≡ Some x → get slots b ≡ Some y → agree x y ≡ true → a ≡ b
   same_slot agree slots a b x y apart symm found other alike =
       elim (cases_eq a b) [

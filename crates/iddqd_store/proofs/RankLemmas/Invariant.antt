@@ -30,12 +30,12 @@ module _ {T : Type 0} where
   AreIndexes-reorder (hash ∷ hashes) slots (pairs ∷ tables) (other ∷ others) all same =
       (IsIndex-reorder all.0 same.0, AreIndexes-reorder hashes slots tables others all.1 same.1)
 
-  -- tables in another order index the same
+  -- tables in another order index the same slots
   pub IsIndexed-reorder : {ranks : Ranks T} {hashes : List (T → ℕ)} {slots : List (Option T)} {tables others : List (List (ℕ × ℕ))} → IsIndexed ranks hashes slots tables → AllZip IsPermutation tables others → IsIndexed ranks hashes slots others
   IsIndexed-reorder {hashes = hashes} {slots = slots} {tables = tables} {others = others} indexed same =
       record { sound = indexed.sound; indexes = AreIndexes-reorder hashes slots tables others indexed.indexes same }
 
-  -- each table gets the pair of an item in a slot, under a hash that is the item's
+  -- each table gets the pair of an item in a slot, with the item's hash
   abbrev pub AreEntered : T → ℕ → List (T → ℕ) → List (List (ℕ × ℕ)) → List (List (ℕ × ℕ)) → Type 0
   AreEntered x at [] [] [] = ⊤
   AreEntered x at (hash ∷ hashes) (pairs ∷ tables) (more ∷ others) =
@@ -51,7 +51,7 @@ module _ {T : Type 0} where
   AreIndexes-insert x at old new added (hash ∷ hashes) (pairs ∷ tables) (more ∷ others) all entered =
       (IsIndex-insert x all.0 entered.0.1 added entered.0.2, AreIndexes-insert x at old new added hashes tables others all.1 entered.1)
 
-  -- an item that nothing conflicts with goes into a slot and into each table
+  -- an item that nothing conflicts with is put into a slot and into each table
   pub IsIndexed-insert : {ranks : Ranks T} {hashes : List (T → ℕ)} {old new : List (Option T)} {tables others : List (List (ℕ × ℕ))} {at : ℕ} (x : T) → AreLawful ranks → IsIndexed ranks hashes old tables → clash ranks (live_items old) x ≡ [] → IsPermutation (members new) ((at, x) ∷ members old) → AreEntered x at hashes tables others → IsIndexed ranks hashes new others
   IsIndexed-insert {ranks = ranks} {hashes = hashes} {old = old} {new = new} {tables = tables} {others = others} {at = at} x laws indexed free added entered = record {
     sound = free_sound ranks laws old new at x indexed.sound free added;

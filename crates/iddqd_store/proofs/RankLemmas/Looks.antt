@@ -1,4 +1,4 @@
--- How many cells a search of a map looks at.
+-- How many cells a search of a map probes.
 use Rattle.std.specs.Prelude.{ℕ, ◌+◌, ◌*◌, ◌/◌, ◌^◌, ◌<◌, ◌≤◌, List, length, map, IsPermutation, Option}
 use Rattle.std.proofs.Common.{sym, subst, ◌∙◌, arith}
 use Rattle.std.proofs.lemmas.Simd.{map-map}
@@ -17,12 +17,12 @@ module _ {T : Type 0} where
       (map-map (λ (p : ℕ × ℕ). p.0) (pair_of hash) (members slots) ∙ sym (map-map hash (λ (m : ℕ × T). m.1) (members slots)))
       (IsPermutation-map (λ (p : ℕ × ℕ). p.0) pairs (map (pair_of hash) (members slots)) index.paired)
 
-  -- a table's search looks as one over the members' hashes
+  -- a table's search probes as many cells as one over the members' hashes
   pub looks_within : {A : Type 0} (hash : T → ℕ) (slots : List (Option T)) (pairs : List (ℕ × ℕ)) (cells room h : ℕ) (answer : Option A) (before after : ℕ) → IsIndex hash slots pairs → IsSize cells → cells < 2 ^ 64 → room ≤ cells / 8 * 7 → LooksUp (hashes pairs) cells h answer before after → LooksUpWithin (map hash (live_items slots)) room h answer before after
   looks_within hash slots pairs cells room h answer before after index size counted fits looks =
       (cells, size, counted, fits, looks_permutation (hashes pairs) (map hash (live_items slots)) cells h answer before after (hashes-index hash slots pairs index) looks)
 
-  -- and at no more cells than there are members, and one
+  -- it probes at most one cell more than there are members
   pub looks_within_most : {A : Type 0} (hash : T → ℕ) (slots : List (Option T)) (pairs : List (ℕ × ℕ)) (cells h : ℕ) (answer : Option A) (before after : ℕ) → IsIndex hash slots pairs → LooksUp (hashes pairs) cells h answer before after → after ≤ before + length (live_items slots) + 1
   looks_within_most hash slots pairs cells h answer before after index looks =
       omega (arith, looks_most (hashes pairs) cells h answer before after looks, length_permutation _ _ (hashes-index hash slots pairs index), length-map (live_items slots) hash)

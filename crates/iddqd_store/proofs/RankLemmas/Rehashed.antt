@@ -1,4 +1,4 @@
--- How a map stays indexed where an item gives way to one with other keys.
+-- How a map stays indexed if an item with other keys replaces an item.
 use Rattle.std.specs.Prelude.{◌≡◌, ◌<◌, ℕ, length, List, [], ◌∷◌, IsPermutation, Option, Some, None, slice_set, ⊤}
 use Rattle.std.proofs.Common.{arith, get_or, refl}
 use Rattle.std.proofs.lemmas.List.{get_or_past, get_or-set_same}
@@ -12,7 +12,7 @@ use Rattle.iddqd_store.proofs.RankLemmas.Index.{IsIndex-insert, IsIndex-remove}
 use Rattle.iddqd_store.proofs.SlotLemmas.Chain.{members-take, members-set}
 
 module _ {T : Type 0} where
-  -- each table has the slot under the hash of another item
+  -- each table has the slot with the hash of another item
   abbrev pub AreMoved : T → T → ℕ → List (T → ℕ) → List (List (ℕ × ℕ)) → List (List (ℕ × ℕ)) → Type 0
   AreMoved x y at [] [] [] = ⊤
   AreMoved x y at (hash ∷ hashes) (pairs ∷ tables) (more ∷ others) =
@@ -33,21 +33,21 @@ module _ {T : Type 0} where
     AreIndexes-moved (hash ∷ hashes) (pairs ∷ tables) (more ∷ others) all moved =
         (IsIndex-moved all.0 moved.0.1 moved.0.2, AreIndexes-moved hashes tables others all.1 moved.1)
 
-    -- the slot has the other
+    -- the slot has the other item
     pub stands : get (slice_set slots at (Some y)) at ≡ Some y
     stands =
         let has : get_or slots at None ≡ Some x = found in
         let within : at < length slots = grind (arith, get_or_past) in
         get_or-set_same slots at (Some y) None within
 
-    -- the bag without the one, and with the other
+    -- the bag is without the one item, and has the other
     pub left : IsPermutation (live_items slots) (x ∷ live_items (slice_set slots at None))
     left = IsPermutation-map (λ m. m.1) _ _ (members-take slots at x found)
 
     pub come : IsPermutation (live_items (slice_set slots at (Some y))) (y ∷ live_items (slice_set slots at None))
     come = IsPermutation-map (λ m. m.1) _ _ (members-set slots at x y found)
 
-    -- it is sound, where nothing else conflicts with the other
+    -- the bag is sound if nothing else conflicts with the other
     pub sound_moved : {ranks : Ranks T} {hashes : List (T → ℕ)} {tables : List (List (ℕ × ℕ))} → AreLawful ranks → IsIndexed ranks hashes slots tables → clash ranks (live_items (slice_set slots at None)) y ≡ [] → IsSound ranks (live_items (slice_set slots at (Some y)))
     sound_moved {ranks = ranks} laws indexed free =
         free_sound ranks laws (slice_set slots at None) (slice_set slots at (Some y)) at y (sound_without ranks laws slots (slice_set slots at None) at x indexed.sound (members-take slots at x found)) free (members-set slots at x y found)

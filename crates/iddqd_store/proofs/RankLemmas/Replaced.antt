@@ -1,4 +1,4 @@
--- How a map stays indexed where two items leave, and another item takes the slot of the first.
+-- How a map stays indexed if two items leave, and another item takes the slot of the first.
 use Rattle.std.specs.Prelude.{◌≡◌, ◌≢◌, ℕ, List, [], ◌∷◌, Option, Some, None, slice_set, ⊤, IfSome}
 use Rattle.std.proofs.Common.{refl, ◌∙◌, subst}
 use Rattle.std.proofs.lemmas.List.{get_or-set_other}
@@ -21,7 +21,7 @@ module _ {T : Type 0} where
     known = λ is. subst (λ (o : Option ℕ). IfSome o (λ i. HasHash hash slots i found.hash)) is under x stands;
   }
 
-  -- each table has the pair of another item in the place of the pairs of both
+  -- in each table the pair of another item has replaced the pairs of both
   abbrev pub AreReplaced : T → T → T → ℕ → ℕ → List (T → ℕ) → List (List (ℕ × ℕ)) → List (List (ℕ × ℕ)) → Type 0
   AreReplaced one two y at other [] [] [] = ⊤
   AreReplaced one two y at other (hash ∷ hashes) (pairs ∷ tables) (more ∷ others) =
@@ -32,7 +32,7 @@ module _ {T : Type 0} where
     abbrev rest : List (Option T)
     rest = slice_set slots other None
 
-    -- the first item stays in its slot where the second leaves
+    -- the first item stays in its slot if the second leaves
     pub still : get rest at ≡ Some one
     still = get_or-set_other slots other at None None apart ∙ first
 
@@ -54,7 +54,7 @@ module _ {T : Type 0} where
     AreIndexes-replaced (hash ∷ hashes) (pairs ∷ tables) (more ∷ others) all replaced =
         (IsIndex-replaced all.0 replaced.0.1 replaced.0.2, AreIndexes-replaced hashes tables others all.1 replaced.1)
 
-    -- it is sound, where nothing else conflicts with the item
+    -- the bag is sound if nothing else conflicts with the item
     pub sound_replaced : (ranks : Ranks T) → AreLawful ranks → IsSound ranks (live_items slots) → clash ranks (live_items (slice_set rest at None)) y ≡ [] → IsSound ranks (live_items (slice_set rest at (Some y)))
     sound_replaced ranks laws sound free =
         let without = sound_without ranks laws slots rest other two sound (members-take slots other two second) in
@@ -66,7 +66,7 @@ module _ {T : Type 0} where
       indexes = AreIndexes-replaced hashes tables others indexed.indexes replaced;
     }
 
-  -- each table has the pair of another item in the place of the pairs of all three
+  -- in each table the pair of another item has replaced the pairs of all three
   abbrev pub AreAllReplaced : T → T → T → T → ℕ → ℕ → ℕ → List (T → ℕ) → List (List (ℕ × ℕ)) → List (List (ℕ × ℕ)) → Type 0
   AreAllReplaced one two three y at other end [] [] [] = ⊤
   AreAllReplaced one two three y at other end (hash ∷ hashes) (pairs ∷ tables) (more ∷ others) =
@@ -77,7 +77,7 @@ module _ {T : Type 0} where
     abbrev less : List (Option T)
     less = slice_set slots end None
 
-    -- the first two items stay in their slots where the third leaves
+    -- the first two items stay in their slots if the third leaves
     pub still_first : get less at ≡ Some one
     still_first = get_or-set_other slots end at None None apart.1 ∙ first
 

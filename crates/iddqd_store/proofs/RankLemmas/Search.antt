@@ -18,7 +18,7 @@ module _ {T : Type 0} where
   each_at P (z ∷ zs) y h (zero, lt, is) = subst P is h.0
   each_at P (z ∷ zs) y h (suc k, lt, is) = each_at P zs y h.1 (k, omega arith, is)
 
-  -- behind a member that is named, none is
+  -- after a member that is named, no other member is named
   none_behind : (agree : T → T → Bool) (test : T → Bool) (x : T) (xs : List T) → NamesOneOf agree test (x ∷ xs) → IsDistinct agree (x ∷ xs) → test x ≡ true → filter test xs ≡ []
   none_behind agree test x xs names apart passes =
       none_pass test xs (each_from_Contains (λ y. test y ≡ false) xs (λ y found.
@@ -26,7 +26,7 @@ module _ {T : Type 0} where
       (λ yes. absurd (false≢true (sym (each_at (λ z. agree x z ≡ false) xs y (IsDistinct-head agree x xs apart) found) ∙ names x y (Contains-here x xs) (Contains-cons x y xs found) passes yes)))
       (λ _. refl)))
 
-  -- the one member that is named
+  -- there is one member that is named
   pub named_among : (agree : T → T → Bool) (test : T → Bool) (xs : List T) (x : T) → NamesOneOf agree test xs → IsDistinct agree xs → test x ≡ true → Contains xs x → filter test xs ≡ x ∷ []
   named_among agree test [] x names apart passes found = absurd (omega (arith, found.1))
   named_among agree test (y ∷ ys) x names apart passes found =

@@ -1,4 +1,4 @@
--- What a search by a hash lets be known of the slot that it found.
+-- What is known of the slot that a search by a hash found.
 use Rattle.std.specs.Prelude.{◌≡◌, ℕ, Bool, true, All, List, [], ◌∷◌, Option, None, Some, IfSome}
 use Rattle.std.specs.List.{filter}
 use Rattle.std.proofs.Common.{sym, subst, ◌∙◌}
@@ -19,7 +19,7 @@ module _ {T : Type 0} (hash : T → ℕ) (slots : List (Option T)) where
   known_of ix x None stands has = tt
   known_of ix x (Some h) stands has = has x stands
 
-  -- it stays known where items only leave
+  -- this stays known if items only leave
   under_fewer : (less : List (Option T)) (o : Option ℕ) (h : ℕ) → ((at : ℕ) (x : T) → get less at ≡ Some x → get slots at ≡ Some x) → IfSome o (λ at. HasHash hash slots at h) → IfSome o (λ at. HasHash hash less at h)
   under_fewer less None h fewer under = tt
   under_fewer less (Some at) h fewer under = λ x stands. under x (fewer at x stands)
@@ -27,14 +27,14 @@ module _ {T : Type 0} (hash : T → ℕ) (slots : List (Option T)) where
   pub IsUnder-fewer : (less : List (Option T)) (s : SlotUnder) → ((at : ℕ) (x : T) → get less at ≡ Some x → get slots at ≡ Some x) → IsUnder hash slots s → IsUnder hash less s
   IsUnder-fewer less s fewer under = under_fewer less s.slot s.hash fewer under
 
-  -- the slot that a search by a test found is known, where all that pass the test have one hash
+  -- the slot that a search by a test found is known if all items that pass the test have one hash
   pub found_under : (test : T → Bool) (at : Option ℕ) (h : ℕ) → FoundAt test slots at → ((x : T) → test x ≡ true → hash x ≡ h) → IfSome at (λ i. HasHash hash slots i h)
   found_under test None h found same = tt
   found_under test (Some ix) h found same = λ x stands.
       let only : x ∷ [] ≡ filter test (live_items slots) = rw stands at found.only in
       same x (All-head (λ y. test y ≡ true) x [] (subst (All (λ y. test y ≡ true)) (sym only) (filter_passes test (live_items slots))))
 
--- an item that stands somewhere once another was taken out stood there
+-- an item that is in a slot after a removal was there before
 pub stood : {T : Type 0} (slots less : List (Option T)) (ix at : ℕ) (x : T) → Updates slots less ix None → get less at ≡ Some x → get slots at ≡ Some x
 stood slots less ix at x out stands =
     sym (out.others at (λ same. let gone : get less at ≡ None = rw same out.changed in cc (gone, stands))) ∙ stands

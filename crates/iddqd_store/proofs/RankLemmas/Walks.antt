@@ -1,4 +1,4 @@
--- How many walks through a table put one pair in the place of others.
+-- How many walks through a table replace pairs by one pair.
 use Rattle.std.specs.Prelude.{◌≡◌, ◌≢◌, ℕ, zero, suc, ◌+◌, ◌*◌, ◌≤◌, ◌==◌, Bool, true, false, List, [], ◌∷◌, length, Option, None, Some, ⊤, if◌then◌else◌}
 use Rattle.std.specs.Option.{option_map_or}
 use Rattle.std.proofs.Common.{refl, ap, arith, subst}
@@ -68,16 +68,16 @@ module _ {T : Type 0} (hash : T → ℕ) (found : SlotUnder) (gone : T) where
   pub three_most : (second third : ℕ) → walks_three hash found second third gone ≤ 4
   three_most second third = at_most_three (has_found found third) (walks_two hash found second gone + 1) (let two = two_most second in omega (arith, two))
 
--- walks through fewer pairs
+-- walks through fewer pairs probe no more cells
 pub walks_less : (w k n : ℕ) → k ≤ n → w * (k + 1) ≤ w * (n + 1)
 walks_less zero k n less = omega arith
 walks_less (suc w) k n less = let rest = walks_less w k n less in omega (arith, rest)
 
--- one walk, and then others through fewer pairs
+-- one walk, and then other walks through fewer pairs
 pub walks_more : (w k n before between after : ℕ) → k ≤ n → between ≤ before + n + 1 → after ≤ between + w * (k + 1) → after ≤ before + (w + 1) * (n + 1)
 walks_more w k n before between after less first rest = let fewer = walks_less w k n less in omega (arith, fewer)
 
--- an insert at a place that a search found
+-- an insert at a place that a search found makes at most one walk
 pub insert_most : (cells row stretch n before after : ℕ) → (cells ≡ row → after ≡ before) → (cells ≢ row → after ≡ before + stretch + 1) → stretch ≤ n → after ≤ before + n + 1
 insert_most cells row stretch n before after same other within = by (cells == row) refl
   where
@@ -96,7 +96,7 @@ AreWalked [] (w ∷ ws) before after = ⊥
 AreWalked (pairs ∷ tables) [] before after = ⊥
 AreWalked (pairs ∷ tables) (w ∷ ws) before after = (between : ℕ) × (between ≤ before + w * (length pairs + 1)) × AreWalked tables ws between after
 
--- in a table that has a pair for each item
+-- walks through a table that has a pair for each item
 pub walk_through : {T : Type 0} {hash : T → ℕ} {slots : List (Option T)} {pairs : List (ℕ × ℕ)} (w before after : ℕ) → IsIndex hash slots pairs → after ≤ before + w * (length pairs + 1) → after ≤ before + w * (length (live_items slots) + 1)
 walk_through w before after index walk = subst (λ (n : ℕ). after ≤ before + w * (n + 1)) (length-index index) walk
 

@@ -1,4 +1,4 @@
--- Worked rows of `ExtendsUnique`: what it may answer, and outcomes that it may not have.
+-- Worked rows of `ExtendsUnique`: what it may return, and outcomes that it may not have.
 use Rattle.std.specs.Prelude.{◌≡◌, ℕ, List, [], ◌∷◌, length, Ok, Err, Result}
 use Rattle.std.proofs.Common.{refl, ap, arith, get_or}
 use Rattle.std.proofs.lemmas.List.Sorted.{IsPermutation-refl, length_permutation}
@@ -18,7 +18,7 @@ alike = (3, 30, 0) ∷ (4, 30, 0) ∷ (5, 50, 0) ∷ []
 abbrev apart : List Item
 apart = (10, 1, 0) ∷ (20, 2, 0) ∷ []
 
--- the second of these conflicts with none, and the third with the first
+-- the second of these conflicts with none, and the third conflicts with the first
 abbrev late : List Item
 late = (3, 30, 0) ∷ (6, 60, 0) ∷ (4, 30, 0) ∷ []
 
@@ -31,7 +31,7 @@ sound_m2 = sound_by ((2, 20, 200) ∷ (1, 10, 100) ∷ []) m2 refl
 sound_with_third : IsSound pairs ((3, 30, 0) ∷ m2)
 sound_with_third = sound_by ((2, 20, 200) ∷ (1, 10, 100) ∷ (3, 30, 0) ∷ []) ((3, 30, 0) ∷ m2) refl
 
--- how many there are after an addition, and none where it was refused
+-- how many items there are after an addition, or `None` if it failed
 abbrev count : Result (List Item) (Item × List Item) → ℕ
 count (Ok made) = length made
 count (Err refusal) = 0

@@ -1,4 +1,4 @@
--- What an iterator over a `Vec` by value gives, and how a bag is extended along a list.
+-- What an iterator over a `Vec` by value gives, and how a bag is extended by a list.
 use Rattle.std.proofs.Common.{◌≡◌, ◌≤◌, ◌<◌, sym, ap, subst, ◌∙◌, ⊎_elim, arith, List, [], ◌∷◌, ◌++◌, length, Option, Some, length-append}
 use Rattle.std.specs.Prelude.{IsPermutation}
 use Rattle.std.specs.Iterator.{Yields, YieldsThen}
@@ -10,7 +10,7 @@ use Rattle.iddqd_store.specs.Runs.Step.{State, FitsOnTheWay, ExtendsTo}
 use Rattle.iddqd_store.proofs.BagLemmas.Steps.{overs-step}
 
 module _ {S T : Type 0} (steps : S → Option T → S → Type 0) (left : S → List T) (first : (s t : S) (x : T) → steps s (Some x) t → left s ≡ x ∷ left t) where
-  -- what came and what is left are what was left
+  -- the items that came and those that are left are those that were left before
   pub yielded : (xs : List T) (s t : S) → Yields steps s xs t → left s ≡ xs ++ left t
   yielded [] s t same = ap left same
   yielded (x ∷ xs) s t run = first s run.0 x run.1 ∙ ap (λ ys. x ∷ ys) (yielded xs run.0 t run.2)

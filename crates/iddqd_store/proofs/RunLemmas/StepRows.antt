@@ -1,4 +1,4 @@
--- Worked rows of the steps: what each may answer, and outcomes that it may not have.
+-- Worked rows of the steps: what each may return, and outcomes that it may not have.
 use Rattle.std.specs.Prelude.{◌≡◌, ℕ, ◌==◌, zero, suc, Bool, true, false, List, [], ◌∷◌, ◌++◌, length, Some, None}
 use Rattle.std.proofs.Common.{refl, ap, arith, get_or}
 use Rattle.std.proofs.lemmas.List.Sorted.{IsPermutation-refl, length_permutation}
@@ -61,7 +61,7 @@ not_in_another_order step = cc (step.2)
 not_beside_a_conflict : (new : State Item) → InsertsUnique {D = ℕ} pairs (state m2 7) (1, 99, 0) done new → ⊥
 not_beside_a_conflict new step = omega (arith, ap length step.0)
 
--- memory is not asked for where something conflicts
+-- if something conflicts, no memory is requested
 no_want_of_memory_at_a_conflict : InsertsUnique {D = ℕ} pairs (state m2 2) (1, 99, 0) (memory (1, 99, 0)) (state m2 2) → ⊥
 no_want_of_memory_at_a_conflict step = omega (arith, ap length step.1)
 
@@ -138,7 +138,7 @@ not_granted_without_room step = omega (arith, step.1)
 no_growth_where_room_is_there : Reserves {D = ℕ} (state m2 7) 5 done (state m2 14) → ⊥
 no_growth_where_room_is_there step = omega (arith, step.3 (omega arith))
 
--- giving room back
+-- shrinking
 shrinks : ShrinksTo {D = ℕ} (state m2 100) 10 done (state m2 10)
 shrinks = (refl, refl)
 
@@ -179,7 +179,7 @@ listed = (IsPermutation-flip (2, 20, 200) (1, 10, 100) [], refl)
 none_left_out : Lists {D = ℕ} (state m2 7) (items ((2, 20, 200) ∷ [])) (state m2 7) → ⊥
 none_left_out step = omega (arith, length_permutation _ _ step.0)
 
--- extending: (3, 20, 0) goes in for what has its keys by then
+-- extending: (3, 20, 0) replaces the items that have its keys by then
 abbrev two_more : List Item
 two_more = third ∷ (3, 20, 0) ∷ []
 
@@ -218,11 +218,11 @@ not_for_an_item_that_displaces new step = nowhere step.0 step.1 step.2
     nowhere (x ∷ []) rest e = omega (arith, ap length e)
     nowhere (x ∷ y ∷ front) rest e = omega (arith, ap length e)
 
--- an entry: whether an item has the first key, and the second
+-- an entry, whether or not an item has the first key, and the second
 abbrev keyed : ℕ → ℕ → List (Item → Bool)
 keyed a b = (λ x. x.0 == a) ∷ (λ x. x.1 == b) ∷ []
 
--- the second key is free, and (1, 99, 7) goes in for the item of the first
+-- the second key is free, and (1, 99, 7) replaces the item of the first
 goes_in_by_an_entry : EntryInserts {D = ℕ} pairs (keyed 1 99) (state m2 2) (1, 99, 7) (displaced ((1, 10, 100) ∷ [])) (state ((1, 99, 7) ∷ (2, 20, 200) ∷ []) 2)
 goes_in_by_an_entry = (refl, (refl, IsPermutation-refl _, omega arith, (λ room. refl), λ some. refl))
 
@@ -232,7 +232,7 @@ goes_in_by_an_entry_for_two = (refl, (refl, IsPermutation-refl _, omega arith, (
 goes_in_by_a_vacant_entry : EntryInserts {D = ℕ} pairs (keyed 3 30) (state m2 2) third (displaced []) (state with_third 7)
 goes_in_by_a_vacant_entry = (refl, (refl, IsPermutation-refl _, omega arith, (λ room. omega (arith, room)), λ some. absurd (some refl)))
 
--- it is refused though no item has the second key asked for
+-- it is rejected though no item has the second key asked for
 another_second_key : EntryInserts {D = ℕ} pairs (keyed 1 99) (state m2 2) (1, 98, 0) (key 1 (1, 98, 0)) (state m2 2)
 another_second_key = (refl, refl, refl)
 
@@ -260,7 +260,7 @@ not_left_in_by_an_entry step = omega (arith, length_permutation _ _ step.1)
 no_item_forgotten : (new : State Item) → EntryRemoves {D = ℕ} (keyed 1 99) (state m2 2) (displaced []) new → ⊥
 no_item_forgotten new step = omega (arith, ap length step.0)
 
--- an item where none is
+-- an item if there is none
 kept_where_one_is : OrInserts {D = ℕ} pairs (keyed 1 99) (state m2 2) (8, 8, 8) kept (state m2 2)
 kept_where_one_is = ((λ none. omega (arith, ap length none)), refl)
 

@@ -22,7 +22,7 @@ module _ {T : Type 0} (ranks : Ranks T) (laws : AreLawful ranks) (old new : Stat
   moved : (made : List T) → IsPermutation new.items made → IsSound ranks made → IsSound ranks new.items
   moved made made_of h = IsSound-IsPermutation ranks laws made new.items (IsPermutation-sym _ _ made_of) h
 
--- what stands behind others in a sound bag is sound
+-- the items after others in a sound bag are sound
 IsSound-back : {T : Type 0} (ranks : Ranks T) (xs ys : List T) → IsSound ranks (xs ++ ys) → IsSound ranks ys
 IsSound-back ranks [] ys h = h
 IsSound-back ranks (x ∷ xs) ys h = IsSound-back ranks xs ys (IsDistinct-tail (conflicts ranks) x (xs ++ ys) h)
@@ -111,7 +111,7 @@ module _ {T D : Type 0} (ranks : Ranks T) (laws : AreLawful ranks) (old new : St
   IsSound-Replaces test x (absent y) step = same ranks laws old new sound step.2
   IsSound-Replaces test x reply step = absurd step
 
-  -- where an item with other data has its keys
+  -- if an item with other data has its keys
   pub IsSound-Sets : (put : T → D → T) → ((z : T) (d : D) → agrees ranks z (put z d) ≡ true) → (test : T → Bool) (d : D) (reply : Reply T D) → Sets ranks put test old d reply new → IsSound ranks new.items
   IsSound-Sets put keeps test d done step =
       moved ranks laws old new sound (swap ranks old.items step.0 (put step.0 d)) step.2
@@ -127,13 +127,13 @@ module _ {C T D S F : Type 0} (Step : State T → C → Reply T D → State T �
   on next new then after commands (Ok u) answer here rest run = rest run
   on next new then after commands (Err fault) answer here rest run = subst P (sym run.1) here
 
-  -- what each step keeps, a run keeps
+  -- a run keeps what each step keeps
   pub run_keeps : (commands : List C) (old new : State T) (sink after : S) (answer : Result (Unit {0}) F) → P old → Run Step took old sink commands answer new after → P new
   run_keeps [] old new sink after answer here run = subst P (sym run.1) here
   run_keeps (command ∷ commands) old new sink after answer here run =
       let next = kept old run.0 command run.3.0 here run.3.1 run.3.2 in
       on run.0 new run.1 after commands run.2 answer next (run_keeps commands run.0 new run.1 after answer next) run.4
 
--- the items fit behind a run, where they did before
+-- the items fit after a run if they fit before it
 pub run_fits : {C T D S F : Type 0} (Step : State T → C → Reply T D → State T → Type 0) (took : S → Reply T D → Result (Unit {0}) F → S → Type 0) (commands : List C) (old new : State T) (sink after : S) (answer : Result (Unit {0}) F) → Fits old → Run Step took old sink commands answer new after → Fits new
 run_fits Step took commands old new sink after answer here run = run_keeps Step took Fits (λ old new command reply before step fits. fits) commands old new sink after answer here run

@@ -11,7 +11,7 @@ use Rattle.iddqd_store.specs.Slots.Chain.{item_of, live_slots, IsChain, IsChaine
 use Rattle.iddqd_store.specs.Slots.{live_count, Updates, Exchanges, members_from, live_items, items_in}
 
 module _ {T : Type 0} where
-  -- a key starts one list of vacant entries at most
+  -- a key starts at most one list of vacant entries
   pub IsChain-count_unique : (es : List (Slot T)) (m n key : ℕ) → IsChain es m key → IsChain es n key → m ≡ n
   IsChain-count_unique es zero zero key p q = refl
   IsChain-count_unique es zero (suc n) key p q = absurd (omega (arith, slice_get_within es key _ q.1))
@@ -89,7 +89,7 @@ module _ {T : Type 0} where
   pub next_within : (es : List (Slot T)) (len next : ℕ) → IsChained es len next → next ≢ length es → next < length es
   next_within es len next sound before = slice_get_within es next _ (vacant_before_end es len next sound before).1
 
-  -- what a read at the next key gives is the entry there
+  -- a read at the next key gives the entry there
   pub read_at_next : (es : List (Slot T)) (len next : ℕ) (e : Slot T) → IsChained es len next → next ≢ length es → e ≡ get_or es next e → slice_get es next ≡ Some e
   read_at_next es len next e sound before read = slice_get_read es (length es) next e refl (next_within es len next sound before) read
 
@@ -202,7 +202,7 @@ module _ {T : Type 0} where
   members-take slots at x e = rw zero-add at (members_from-take 0 slots at x e)
 
 module _ {T : Type 0} where
-  -- a write of one slot changes what that number finds, and no other
+  -- a write of one slot changes only what that number finds
   pub Updates-set : (old new : List (Option T)) (key : ℕ) (slot : Option T) → key < length old → new ≡ set old key slot → Updates old new key slot
   Updates-set old new key slot within written =
       record {
@@ -254,7 +254,7 @@ module _ {T : Type 0} where
   items_of-live_slots (Free next ∷ slots) = items_of-live_slots slots
   items_of-live_slots (Live x ∷ slots) = ap (λ l. Some x ∷ l) (items_of-live_slots slots)
 
-  -- what is left of the slots are their items, in order
+  -- the slots that are left have the items, in order
   pub view-live_slots : (slots : List (Slot T)) → map item_of (live_slots slots) ≡ map Some (live_items (map item_of slots))
   view-live_slots slots = items_of-live_slots slots ∙ ap (map Some) (sym (live_items-items_in (map item_of slots)))
 

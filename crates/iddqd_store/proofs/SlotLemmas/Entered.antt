@@ -1,4 +1,4 @@
--- Slots of items that went in one after another.
+-- Slots of items that were inserted one after another.
 use Rattle.std.specs.Prelude.{◌≡◌, ℕ, true, false, List, [], ◌∷◌, ◌++◌, Option, Some, None, is_some, All, nat_eq}
 use Rattle.std.specs.List.{AllByRecursion}
 use Rattle.std.specs.Option.{option_to_list}
@@ -35,7 +35,7 @@ module _ {T : Type 0} where
       not_live ixs (All-tail (IsLive old) at ixs live),
     )
 
-  -- one more item went into a slot that was free
+  -- one more item was put into a slot that was free
   pub StandAt-push : (old new : List (Option T)) (ixs : List ℕ) (xs : List T) (ix : ℕ) (x : T) → get old ix ≡ None → Updates old new ix (Some x) → StandAt old ixs xs → StandAt new (ixs ++ ix ∷ []) (xs ++ x ∷ [])
   StandAt-push old new ixs xs ix x free updates stand =
       let others = not_live old ix free ixs stand.live in

@@ -1,4 +1,4 @@
--- What the slots that searches found hold is what their tests find in the bag.
+-- The slots that searches found hold what the tests find in the bag.
 use Rattle.std.specs.Prelude.{◌≡◌, ◌≢◌, ℕ, Bool, true, false, cond, List, [], ◌∷◌, ◌++◌, length, filter, fold, map, Contains, Option, Some, None, is_some, nat_eq, if◌then◌else◌}
 use Rattle.std.specs.Cmp.{IsEquivalence}
 use Rattle.std.specs.List.{AllByRecursion, IsDistinct, list_all, list_any}
@@ -20,12 +20,12 @@ use Rattle.iddqd_store.proofs.SlotLemmas.Found.{listing_found}
 itself : (a : ℕ) → nat_eq a a ≡ true
 itself a = grind (arith, nat_tests)
 
--- what a search found is the one member that passes
+-- a search found the one member that passes
 pub found_only : {T : Type 0} (found : Option T) (x : T) (xs : List T) → option_to_list found ≡ xs → x ∷ [] ≡ xs → found ≡ Some x
 found_only None x xs is only = absurd (cc (is, only))
 found_only (Some y) x xs is only = let same : y ≡ x = cc (is, only) in ap Some same
 
--- what is a part of the item in a slot is the part of what is there
+-- a part of the item in a slot is that part of what is there
 pub part_there : {T D : Type 0} (part : T → D) (d : D) (o : Option T) → IsSome o → ((x : T) → o ≡ Some x → d ≡ part x) → Some d ≡ option_map part o
 part_there part d None some is = absurd (cc)
 part_there part d (Some x) some is = ap (λ y. Some y) (is x refl)
@@ -101,7 +101,7 @@ module _ {T : Type 0} {agree : T → T → Bool} (laws : IsEquivalence agree) (s
           all_of-next test tests (live_items slots) ∙ ap (all_of tests) (sym only) ∙ ap (λ b. cond b (x ∷ []) []) (every_found tests found ix x there are.1) in
           sym (whole ∙ split (λ b. cond b (x ∷ []) [] ≡ items_at slots (cond b (ix ∷ []) [])) (list_all (is_at ix) found) (λ _. rw there refl) (λ _. refl))
 
-  -- so they hold what the tests find
+  -- the slots hold what the tests find
   pub found_entry : (tests : List (T → Bool)) (at : Option ℕ) (found : List (Option ℕ)) → AreFound tests slots (at ∷ found) → entry_at slots (at ∷ found) ≡ entry tests (live_items slots)
   found_entry [] at found are = absurd are
   found_entry (test ∷ tests) at found are =
@@ -118,7 +118,7 @@ module _ {T : Type 0} (slots : List (Option T)) where
       (λ _. front_stays ix l found)
       (λ _. front_stays ix (l ++ b ∷ []) found)
 
-  -- where a search found a slot, some item is held
+  -- if a search found a slot, some item is held
   pub held_some : (tests : List (T → Bool)) (found : List (Option ℕ)) → AreFound tests slots found → list_any is_some found ≡ true → held_at slots found ≢ []
   held_some [] [] are some = absurd (false≢true some)
   held_some [] (at ∷ found) are some = absurd are
@@ -133,13 +133,13 @@ module _ {T : Type 0} (slots : List (Option T)) where
           let held : held_at slots (Some ix ∷ found) ≡ x ∷ items_at slots front.0 = ap (items_at slots) front.1 ∙ (rw there refl) in
           absurd (omega (arith, ap length (sym held ∙ none)))
 
-  -- where none did, nothing is
+  -- if no search found one, no item is held
   pub held_none : (found : List (Option ℕ)) → list_any is_some found ≡ false → held_at slots found ≡ []
   held_none [] none = refl
   held_none (None ∷ found) none = held_none found none
   held_none (Some ix ∷ found) none = absurd (false≢true (sym none))
 
-  -- what is lent of the slot that a search found is of the one member that passes
+  -- what is borrowed from the slot that a search found is a part of the one member that passes
   pub found_data : {D : Type 0} (part : T → D) (test : T → Bool) (at : Option ℕ) → FoundAt test slots at → (r : Option (MutBor D)) → is_some r ≡ is_some at →
       ((x : T) → option_and_then (get slots) at ≡ Some x → IfSome r (λ m. m.now ≡ part x)) → option_to_list (option_copied_mut r) ≡ map part (filter test (live_items slots))
   found_data part test None found None some value = ap (map part) found.only

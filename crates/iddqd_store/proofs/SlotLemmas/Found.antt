@@ -45,7 +45,7 @@ module _ {T : Type 0} where
       filter_twice (λ x. not (test x)) (λ x. not (some_of tests x)) xs
       ∙ filter_alike (λ x. not (test x) && not (some_of tests x)) (λ x. not (test x || some_of tests x)) (λ x. not_either (test x) (some_of tests x)) xs
 
-  -- one more test lists what passes it of the rest
+  -- one more test lists those of the rest that pass it
   pub listing-push : (tests : List (T → Bool)) (test : T → Bool) (xs : List T) → listing (tests ++ test ∷ []) xs ≡ listing tests xs ++ filter test (without tests xs)
   listing-push [] test xs = append-nil _ ∙ ap (filter test) (sym (filter_everything xs))
   listing-push (first ∷ tests) test xs =
@@ -57,7 +57,7 @@ module _ {T : Type 0} where
   pub some_passes : (tests : List (T → Bool)) (xs : List T) (y : T) → Contains (listing tests xs) y → some_of tests y ≡ true
   some_passes tests xs y found = each_at (λ y. some_of tests y ≡ true) _ y (each_passes (some_of tests) xs) (Contains-permutation _ _ y (IsPermutation-listing tests xs) found)
 
-  -- and each member that passes some test is in it
+  -- each member that passes some test is in a listing
   pub passer_listed : (tests : List (T → Bool)) (xs : List T) (y : T) → some_of tests y ≡ true → Contains xs y → Contains (listing tests xs) y
   passer_listed tests xs y passes found = Contains-permutation _ _ y (IsPermutation-sym _ _ (IsPermutation-listing tests xs)) (Contains-filter (some_of tests) xs y passes found)
 
@@ -73,7 +73,7 @@ module _ {T : Type 0} where
       by_slot None is e = rw is e
       by_slot (Some x) is e = rw is (ap (λ l. x ∷ l) e)
 
-  -- an item at some of the slots stands in one that is listed
+  -- an item at some of the slots is in one that is listed
   slot_of : (slots : List (Option T)) (ixs : List ℕ) (y : T) → Contains (items_at slots ixs) y → (a : ℕ) × (contains ixs a ≡ true) × (get slots a ≡ Some y)
   slot_of slots [] y found = absurd (omega (arith, found.1))
   slot_of slots (a ∷ ixs) y found = by_slot (get slots a) refl found (slot_of slots ixs y)
@@ -133,12 +133,12 @@ module _ {T : Type 0} where
           ∙ sym (goal ∙ ap (λ t. listing tests bag ++ cond (not t) (y ∷ []) []) fails))
 
 module _ {T : Type 0} where
-  -- where no conflicting slot is found, nothing conflicts
+  -- if no conflicting slot is found, nothing conflicts
   pub clash_none : (ranks : Ranks T) (slots : List (Option T)) (x : T) (ixs : List ℕ) → items_at slots ixs ≡ order ranks (live_items slots) x → length ixs ≡ 0 → clash ranks (live_items slots) x ≡ []
   clash_none ranks slots x [] is short = sym (same_from_short [] _ (subst (λ l. IsPermutation l (clash ranks (live_items slots) x)) (sym is) (IsPermutation-order ranks (live_items slots) x)) (omega arith))
   clash_none ranks slots x (a ∷ ixs) is short = absurd (omega arith)
 
-  -- and where one is found, something does
+  -- if a slot is found, something conflicts
   pub clash_some : (ranks : Ranks T) (slots : List (Option T)) (x : T) (ixs : List ℕ) → items_at slots ixs ≡ order ranks (live_items slots) x → All (IsLive slots) ixs → length ixs ≢ 0 → clash ranks (live_items slots) x ≢ []
   clash_some ranks slots x [] is live some none = some refl
   clash_some ranks slots x (a ∷ ixs) is live some none = by_slot (get slots a) refl (All-head (IsLive slots) a ixs live)

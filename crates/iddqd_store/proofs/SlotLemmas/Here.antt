@@ -1,4 +1,4 @@
--- What searches by an item's own keys find where the item stands, in a sound bag.
+-- What searches by the keys of an item of a sound bag find: the slot of the item.
 use Rattle.std.specs.Prelude.{◌≡◌, ◌≢◌, ◌<◌, ℕ, Bool, true, List, [], ◌∷◌, Option, Some, filter, fold, length, map, nat_eq, false, ◌||◌, if◌then◌else◌}
 use Rattle.std.specs.List.{AllByRecursion, list_all}
 use Rattle.std.proofs.Common.{IsSome, refl, sym, ap, ◌∙◌, arith}
@@ -21,7 +21,7 @@ some_is o x is = rw is refl
 abbrev pub all_at : {T : Type 0} → ℕ → List (T → Bool) → List (Option ℕ)
 all_at ix tests = map (λ _. Some ix) tests
 
--- what an entry says whose searches all found the slot of x
+-- what an entry is if all its searches found the slot of x
 pub record FindsHere {T : Type 0} (tests : List (T → Bool)) (slots : List (Option T)) (ix : ℕ) (x : T) : Type 0 where
   pub found : AreFound tests slots (all_at ix tests)
   pub value : entry_at slots (all_at ix tests) ≡ entry tests (live_items slots)
@@ -50,7 +50,7 @@ module _ {T : Type 0} (slots : List (Option T)) (ix : ℕ) (x : T) (here : get s
   holds_whole [] some = absurd (omega arith)
   holds_whole (test ∷ tests) some = rw (all_there tests) (rw here refl)
 
--- x stands in the slot, and has the keys that the tests ask for
+-- x is in the slot, and has the keys that the tests ask for
 module _ {T : Type 0} (ranks : Ranks T) (tests : List (T → Bool)) (some : 0 < length tests) (keys : AreKeyTests ranks tests) (slots : List (Option T)) (ix : ℕ) (x : T) (passes : AllByRecursion (λ test. test x ≡ true) tests) (sound : IsSound ranks (live_items slots)) (here : get slots ix ≡ Some x) where
   only : AllByRecursion (λ test. filter test (live_items slots) ≡ x ∷ []) tests
   only = each_only ranks tests (live_items slots) x keys passes sound (item_at slots ix x here)

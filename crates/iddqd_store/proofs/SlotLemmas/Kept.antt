@@ -1,4 +1,4 @@
--- What searches found stays found where items change, but none of their keys.
+-- What searches found stays found if items change and keep their keys.
 use Rattle.std.specs.Prelude.{◌≡◌, ◌≢◌, ◌≤◌, is_some, ℕ, zero, suc, Bool, true, false, List, [], ◌∷◌, length, filter, Option, Some, None, slice_set, if◌then◌else◌}
 use Rattle.std.specs.Cmp.{IsEquivalence}
 use Rattle.std.specs.List.{AllByRecursion, IsDistinct, list_any}
@@ -98,7 +98,7 @@ module _ {T : Type 0} {agree : T → T → Bool} (laws : IsEquivalence agree) (t
             let listed = only_one (filter test (live_items new)) now.0 one (Contains-filter test (live_items new) now.0 passes_now (item_at new ix now.0 now.1)) in
             record { only = rw now.1 (sym listed); live = rw now.1 refl }
 
--- the same of a search by each test
+-- the same for a search by each test
 pub found_kept : {T : Type 0} (ranks : Ranks T) (tests : List (T → Bool)) → AreLawful ranks → AreKeyTests ranks tests → (old new : List (Option T)) → KeepsKeys (agrees ranks) old new → (found : List (Option ℕ)) → AreFound tests old found → AreFound tests new found
 found_kept [] [] laws keys old new kept [] are = tt
 found_kept [] [] laws keys old new kept (at ∷ found) are = absurd are
@@ -110,14 +110,14 @@ found_kept (agree ∷ ranks) (test ∷ tests) laws keys old new kept (at ∷ fou
     let others = weaker (agrees (agree ∷ ranks)) (agrees ranks) (λ x y same. (and-true (agree x y) (agrees ranks x y) same).1) old new kept in
     (found_still laws.0 test keys.0 old new first at are.0, found_kept ranks tests laws.1 keys.1 old new others found are.1)
 
--- what an entry says of the slots that its searches found
+-- what an entry is by the slots that its searches found
 pub record FindsAt {T : Type 0} (tests : List (T → Bool)) (slots : List (Option T)) (found : List (Option ℕ)) : Type 0 where
   pub found_each : AreFound tests slots found
   pub value : entry_at slots found ≡ entry tests (live_items slots)
   pub listed : held_at slots found ≡ listing tests (live_items slots)
   pub some : listing tests (live_items slots) ≢ []
 
--- and goes on to say where the items keep their keys
+-- it stays the same if the items keep their keys
 module _ {T : Type 0} (agree : T → T → Bool) (ranks : Ranks T) (laws : AreLawful (agree ∷ ranks)) (tests : List (T → Bool)) (keys : AreKeyTests (agree ∷ ranks) tests) (old new : List (Option T)) (kept : KeepsKeys (agrees (agree ∷ ranks)) old new) (sound : IsSound (agree ∷ ranks) (live_items new)) where
   apart : IsDistinct agree (live_items new)
   apart = (IsSound-rank agree ranks (live_items new) sound).0

@@ -1,4 +1,4 @@
--- A walk over the slots, in which the items that a test turns down are taken out.
+-- An iteration over the slots, in which the items that a test rejects are removed.
 use Rattle.std.specs.Prelude.{◌≡◌, ◌≤◌, ◌<◌, ℕ, zero, suc, ◌+◌, Bool, true, false, cond, List, [], ◌∷◌, ◌++◌, take, drop, Option, Some, None}
 use Rattle.std.specs.List.Retain.{IsFiltered}
 use Rattle.std.proofs.Common.{refl, sym, ap, subst, ◌∙◌, arith, set, append_assoc, add-one}
@@ -9,7 +9,7 @@ use Rattle.iddqd_store.specs.Slots.Next.{ComesNext}
 use Rattle.iddqd_store.proofs.SlotLemmas.Chain.{live_items-items_in}
 
 module _ {T : Type 0} where
-  -- where every slot from a number on is free, no items are left
+  -- if every slot from a number on is free, no items are left
   pub nothing_left : (slots : List (Option T)) (from : ℕ) → ((k : ℕ) → from ≤ k → get slots k ≡ None) → items_in (drop from slots) ≡ []
   nothing_left [] zero free = refl
   nothing_left [] (suc from) free = refl
@@ -50,7 +50,7 @@ module _ {T : Type 0} where
       let over = passed slots from at ahead free in
       record { ahead = ahead; value = is; rest = rw (add-one at) (over.0 ∙ (got slots at x is).0); before = over.1 }
 
-  -- the items before a slot that is taken, those behind a slot that is emptied, and all of them
+  -- the items before a slot that is taken, those after a slot that is emptied, and all of them
   pub taken_before : (slots : List (Option T)) (from at : ℕ) (x : T) → ComesNext slots from at x → items_in (take (at + 1) slots) ≡ items_in (take from slots) ++ x ∷ []
   taken_before slots from at x next = rw (add-one at) ((got slots at x next.value).1 ∙ ap (λ l. l ++ x ∷ []) next.before)
 
@@ -77,7 +77,7 @@ module _ {T : Type 0} where
   before_and_behind (Some x ∷ slots) (suc from) = ap (λ l. x ∷ l) (before_and_behind slots from)
 
 module _ {F T : Type 0} (step : F → T → Bool → F → Type 0) where
-  -- one more call in front
+  -- one more call before the others
   pub filtered_on : (f g : F) (x : T) (b : Bool) (xs ys : List T) → step f x b g → IsFiltered step g xs ys → IsFiltered step f (x ∷ xs) (cond b (x ∷ ys) ys)
   filtered_on f g x true xs ys called (bs, last, long, told, are) = (true ∷ bs, last, ap suc long, (g, called, told), ap (λ l. x ∷ l) are)
   filtered_on f g x false xs ys called (bs, last, long, told, are) = (false ∷ bs, last, ap suc long, (g, called, told), are)
@@ -90,7 +90,8 @@ module _ {F T : Type 0} (step : F → T → Bool → F → Type 0) where
       rw (live_items-items_in old, live_items-items_in new)
       (record { listed = items_in old; same = IsPermutation-refl (items_in old); left = items_in new; filtered = filtered; are = IsPermutation-refl (items_in new) })
 
-  -- what a test leaves of the rest, behind what it has left so far, is what it leaves of all: on past an item that stays, and past one that is taken out
+  -- what a test has left so far and what it leaves of the rest make what it leaves of all, after a step past an item
+  -- that stays, and after one past an item that is removed
   abbrev pub Completes : F → List T → F → List (Option T) → ℕ → Type 0
   Completes start all f slots from = (rest : List T) → IsFiltered step f (items_in (drop from slots)) rest → IsFiltered step start all (items_in (take from slots) ++ rest)
 

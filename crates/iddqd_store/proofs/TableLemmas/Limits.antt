@@ -58,7 +58,7 @@ pub some_not_none : {X : Type 0} (o : Option X) → IsSome o ↔ (o ≢ None)
 some_not_none None = (λ s. search rules, λ n. absurd (n refl))
 some_not_none (Some x) = (λ s e. cc e, λ n. search rules)
 
--- a mask in place of a division
+-- a mask is the same as a division
 pub mask_home : (hash count : ℕ) → IsSize count → 0 < count → bit_and hash (count - 1) ≡ hash % count
 mask_home hash count size some =
     ⊎_elim (λ (none : count ≡ 0). absurd (omega arith))
@@ -103,7 +103,7 @@ rounds n size fits some =
     (cases_lt p.0 61))
     size
 
--- the same for a difference, which comes round at 2 ^ 64 where it would be below 0
+-- the same for a difference, which wraps around at 2 ^ 64 if it would be below 0
 pub mask_steps : (a b n : ℕ) → IsSize n → n < 2 ^ 64 → a < n → b < n → bit_and ((b + (2 ^ 64 - a)) % 2 ^ 64) (n - 1) ≡ gap n a b
 mask_steps a b n size fits la lb =
     let m : bit_and ((b + (2 ^ 64 - a)) % 2 ^ 64) (n - 1) ≡ (b + (2 ^ 64 - a)) % 2 ^ 64 % n = mask_home ((b + (2 ^ 64 - a)) % 2 ^ 64) n size (omega arith) in
@@ -134,7 +134,7 @@ size_most n size fits =
 pub size_eighths : (n : ℕ) → IsSize n → n ≡ n / 8 * 8
 size_eighths n size = ⊎_elim (λ (none : n ≡ 0). omega arith) (λ (p : (k : ℕ) × (n ≡ 8 * 2 ^ k)). omega (arith, p.1)) size
 
--- a table has the least limit for so many pairs exactly if it has as many cells as one that is made for them
+-- a table has the least limit for this many pairs exactly if it has as many cells as one that is made for them
 pub made_for : (pairs n least : ℕ) → IsSize n → IsSize least → IsLeast pairs (least / 8 * 7) → (n ≡ least) ↔ IsLeast pairs (n / 8 * 7)
 made_for pairs n least size size_of is = (
   λ same. subst (λ (m : ℕ). IsLeast pairs (m / 8 * 7)) (sym same) is,

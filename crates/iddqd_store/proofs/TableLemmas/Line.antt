@@ -1,4 +1,4 @@
--- Cells on a line, where cell 0 is the place in question and the others lie behind it.
+-- Cells on a line, where cell 0 is the place in question and the others come after it.
 use Rattle.std.proofs.Common.{◌≡◌, ℕ, suc, zero, ◌+◌, ◌-◌, ◌<◌, ◌≤◌, ltb, List, [], ◌∷◌, Option, None, Some, refl, inl, inr, arith, rules}
 use Rattle.std.specs.List.{count_by}
 use Rattle.std.specs.Prelude.{◌⊎◌, cond}
@@ -16,7 +16,7 @@ one_more_few g j o n a b = grind (arith, nat_tests)
 one_more_many : (g j m n : ℕ) → g < j → m ≤ n → suc m ≤ cond (ltb g j) 1 0 + n
 one_more_many g j m n a b = grind (arith, nat_tests)
 
--- where each pair's home lies at or behind its cell, few homes are near
+-- if each pair's home is at its cell or after it, few homes are near
 pub few : {X : Type 0} (g : X → ℕ) (j : ℕ) (cs : List (Option X)) (o : ℕ) → ((k : ℕ) (x : X) → cell cs k ≡ Some x → o + k ≤ g x) → count_by (λ x. ltb (g x) j) (pairs_in cs) ≤ j - o
 few g j [] o h = omega arith
 few g j (None ∷ cs) o h =
@@ -27,7 +27,7 @@ few g j (Some x ∷ cs) o h =
     let at : o + 0 ≤ g x = h 0 x refl in
     rw (sum_by-cons (λ x. cond (ltb (g x) j) 1 0) x (pairs_in cs)) (one_more_few (g x) j o _ (omega arith) ih)
 
--- where each of the first m cells has a pair with a near home, many homes are near
+-- if each of the first m cells has a pair with a near home, many homes are near
 pub many : {X : Type 0} (g : X → ℕ) (j : ℕ) (cs : List (Option X)) (m : ℕ) → ((k : ℕ) → k < m → (x : X) × (cell cs k ≡ Some x) × (g x < j)) → m ≤ count_by (λ x. ltb (g x) j) (pairs_in cs)
 many g j cs zero h = omega arith
 many g j [] (suc m) h = let f = h 0 (omega arith) in absurd (search rules)

@@ -1,4 +1,4 @@
--- Looks depend on the hashes alone, in any order.
+-- The number of probes depends only on the hashes, in any order.
 use Rattle.std.proofs.Common.{◌≡◌, ℕ, ◌+◌, ◌<◌, ◌≤◌, List, Option, None, Some, length, ⊎_elim, arith}
 use Rattle.std.specs.List.Sorted.{IsPermutation}
 use Rattle.std.proofs.lemmas.Bool.{cases_lt}
@@ -17,7 +17,7 @@ looks_permutation xs ys n hash answer before after same l =
       hit_most = rw e at l.hit_most;
     }
 
--- no search looks at more cells than there are pairs, and one
+-- a search probes at most one cell more than there are pairs
 pub looks_most : {A : Type 0} (hashes : List ℕ) (n hash : ℕ) (answer : Option A) (before after : ℕ) → LooksUp hashes n hash answer before after → after ≤ before + length hashes + 1
 looks_most hashes n hash None before after l =
     let s : stretch hashes n hash ≤ length hashes = stretch_le_length hashes n hash in

@@ -1,4 +1,4 @@
--- How far the cells are probed where a row is copied into a larger one.
+-- How many cells are probed when a row is copied into a larger one.
 use Rattle.std.proofs.Common.{◌≡◌, ℕ, ◌+◌, ◌-◌, ◌*◌, ◌<◌, ◌≤◌, ◌%◌, List, Option, None, Some, length, replicate, set, sym, ap, ◌∙◌, ⊎_elim, arith}
 use Rattle.std.specs.Prelude.{◌≢◌}
 use Rattle.std.proofs.lemmas.Bool.{cases_eq, cases_lt}
@@ -25,7 +25,7 @@ gap_rest : (n a s q : ℕ) → a < n → s < n → q < n → gap n a s ≤ gap n
 gap_rest n a s q la ls lq behind = grind (arith, nat_tests)
 
 module _ (row : List (Option (ℕ × ℕ))) (a s at : ℕ) (la : a < length row) (way : IsWayTo row a s) (free : IsFirstEmpty row s at) where
-  -- from the start over the spot the way leads no more than round
+  -- the way from the start over the spot goes round at most once
   pub no_round : gap (length row) a s + gap (length row) s at < length row
   no_round =
       ⊎_elim (λ (near : gap (length row) a s + gap (length row) s at < length row). near)
@@ -48,7 +48,7 @@ module _ (row : List (Option (ℕ × ℕ))) (a s at : ℕ) (la : a < length row)
         (cases_lt (gap (length row) a q) (gap (length row) a s));
   }
 
--- a way stays where a pair goes in
+-- a way stays if a pair is inserted
 pub way_put : (row : List (Option (ℕ × ℕ))) (a s at : ℕ) (x : ℕ × ℕ) → at < length row → IsWayTo row a s → IsWayTo (set row at (Some x)) a s
 way_put row a s at x lat way =
     let len : length (set row at (Some x)) ≡ length row = length-set row at (Some x) in
@@ -84,7 +84,7 @@ times_less k pairs less = grind arith
 pub looked_pair : (start read walked done i way far k pairs : ℕ) → read ≤ start + 2 * i + way + k * pairs → walked ≡ read + 1 → done ≡ walked + far + 1 → far ≤ k → k ≤ pairs → done ≤ start + 2 * (i + 1) + way + (k + 1) * pairs
 looked_pair start read walked done i way far k pairs before look looks near fits = let more = times_more k pairs in omega (arith, before, look, looks, near, fits, more)
 
--- and of one that is read and empty
+-- the probes of a cell that is read and empty
 pub looked_empty : (start read walked done i way far all : ℕ) → read ≤ start + 2 * i + way + all → walked ≡ read + 1 → done ≡ walked + far + 1 → done ≤ start + 2 * (i + 1) + (way + far) + all
 looked_empty start read walked done i way far all before look looks = omega (arith, before, look, looks)
 
@@ -97,6 +97,6 @@ way_none count some =
       first = λ q lq less. absurd (let none = gap_none (length (replicate {A = Option (ℕ × ℕ)} count None)) (count - 1) in omega (arith, less, none));
     }
 
--- of a front there are no more pairs than of the whole row
+-- a prefix of the row has no more pairs than the whole row
 pub front_fits : (old new : List (Option (ℕ × ℕ))) (i : ℕ) → HasFront old new i → length (pairs_in new) ≤ length (pairs_in old)
 front_fits old new i front = omega (arith, length_permutation _ _ front.pairs, held_front old i)

@@ -15,14 +15,14 @@ wraps n a h p q e la lh lp lq le x y z = grind (arith, nat_tests)
 pub between : (n a h p m q : ℕ) → a < n → h < n → p < n → m < n → q < n → gap n h p ≤ gap n h q → gap n a p ≤ gap n a m → gap n a m ≤ gap n a q → gap n h m ≤ gap n h q
 between n a h p m q la lh lp lm lq x y z = grind (arith, nat_tests)
 
--- whether a place lies on the way from h to q is told by how far it is from q
+-- the distance of a place from q says whether it is on the way from h to q
 pub reaches : (n a h o q far : ℕ) → a < n → h < n → o < n → q < n → 0 < far → far + gap n a o ≡ gap n a q → far ≤ gap n h q → gap n h o ≤ gap n h q
 reaches n a h o q far la lh lo lq pos e l = grind (arith, nat_tests)
 
 pub falls_short : (n a h o q far : ℕ) → a < n → h < n → o < n → q < n → 0 < far → far + gap n a o ≡ gap n a q → gap n h q < far → gap n h q < gap n h o
 falls_short n a h o q far la lh lo lq pos e l = grind (arith, nat_tests)
 
--- what stood at a place moves into the hole, whatever that pairs_in
+-- what was at a place moves into the hole, whatever it is
 pub left_behind : {X : Type 0} (cs : List (Option X)) (hole at : ℕ) (y : X) → at ≢ hole → set (set cs hole (Some y)) at None ≡ set (set (set cs hole None) at None) hole (Some y)
 left_behind cs hole at y apart =
     sym (set_comm (set cs hole None) at hole None (Some y) apart ∙ ap (λ (r : List (Option _)). set r at None) (set-set cs hole None (Some y)))

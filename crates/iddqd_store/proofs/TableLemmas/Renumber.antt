@@ -22,7 +22,7 @@ renumbered row at hash from to l is = record {
   has = held_over row at (hash, to) l;
 }
 
--- where the home stays, each pair is still reached
+-- if the home stays, each pair is still reached
 reached_over : {X : Type 0} (home : X → ℕ) (n : ℕ) (cs : List (Option X)) (at : ℕ) (x y : X) → length cs ≡ n → at < n → cell cs at ≡ Some x → home y ≡ home x → IsReached home n cs → IsReached home n (set cs at (Some y))
 reached_over {X} home n cs at x y len la is same reached q z lq e i li h none =
     let here : cell (set cs at (Some y)) at ≡ Some y = get_or-set_same cs at (Some y) None (omega arith) in
@@ -52,7 +52,7 @@ table_renumbered row at hash from to t l is =
       reached = subst (λ (m : ℕ). IsReached (λ (p : ℕ × ℕ). p.0 % m) m (set row at (Some (hash, to)))) (sym len) (reached_over (λ (p : ℕ × ℕ). p.0 % n) n row at (hash, from) (hash, to) refl l is refl t.reached);
     }
 
--- a pair that stays where another one leaves
+-- a pair that stays when another one leaves
 pub stays : (pairs rest : List (ℕ × ℕ)) (gone pair : ℕ × ℕ) → IsPermutation pairs (gone ∷ rest) → Contains pairs pair → pair.1 ≢ gone.1 → Contains rest pair
 stays pairs rest gone pair taken there apart = behind (Contains-permutation _ _ _ taken there)
   where

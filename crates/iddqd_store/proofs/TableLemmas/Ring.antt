@@ -26,7 +26,7 @@ turn_gap n p q a b = grind (arith, nat_tests)
 pub gap_below : (n a b : ℕ) → a < n → b < n → gap n a b < n
 gap_below n a b l m = grind (arith, nat_tests)
 
--- a cell that lies farther behind p than a home is reached from that home by way of p
+-- a cell that is farther after p than a home is reached from that home by way of p
 pub far : (n a p k : ℕ) → a < n → p < n → k < n → gap n a p < k → gap n a p ≤ gap n a (turn n p k)
 far n a p k la lp lk h = grind (arith, nat_tests)
 

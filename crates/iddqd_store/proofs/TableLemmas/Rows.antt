@@ -1,4 +1,5 @@
--- Worked rows of full places, stretches, looks and limits. A call that finds nothing looks at one cell more than the stretch.
+-- Worked rows of full places, stretches, probes and limits. A call that finds nothing probes one cell more than the
+-- stretch.
 use Rattle.std.proofs.Common.{◌≡◌, ℕ, ◌+◌, ◌*◌, ◌^◌, ◌<◌, ◌≤◌, List, [], ◌∷◌, Option, None, Some, true, false, refl, arith, inr}
 use Rattle.std.proofs.Math.Pow.{pow_mono}
 use Rattle.std.specs.Prelude.{map}
@@ -32,14 +33,14 @@ stretch_12 = refl
 stretch_19 : stretch (1 ∷ 9 ∷ []) 16 9 ≡ 1
 stretch_19 = refl
 
--- looks of a removal: one more than the stretch
+-- probes of a removal: one more than the stretch
 removal_6670 : stretch (6 ∷ 6 ∷ 7 ∷ 0 ∷ []) 8 6 + 1 ≡ 5
 removal_6670 = refl
 
 removal_676 : stretch (6 ∷ 7 ∷ 6 ∷ []) 8 6 + 1 ≡ 4
 removal_676 = refl
 
--- looks of a search
+-- probes of a search
 three_looks : LooksUp {A = ℕ} (1 ∷ 2 ∷ []) 8 9 None 0 3
 three_looks = record { no_cells = λ none. absurd (omega (arith, none)); miss = λ some. refl; hit_least = tt; hit_most = tt }
 
@@ -61,7 +62,7 @@ not_found_past_the_stretch looks = omega (arith, looks.hit_most)
 not_found_without_a_look : LooksUp {A = ℕ} (6 ∷ 6 ∷ 7 ∷ 0 ∷ []) 8 6 (Some 1) 0 0 → ⊥
 not_found_without_a_look looks = omega (arith, looks.hit_least)
 
--- looks of a search in a map with room for so many
+-- probes of a search in a map with room for this many items
 three_looks_within : LooksUpWithin {A = ℕ} (1 ∷ 2 ∷ []) 7 9 None 0 3
 three_looks_within = (8, inr (0, refl), omega arith, omega arith, three_looks)
 
@@ -76,7 +77,7 @@ a_look_at_least_within within =
 no_answer_among_none_within : (hash before after found : ℕ) → LooksUpWithin [] 0 hash (Some found) before after → ⊥
 no_answer_among_none_within hash before after found within = omega (arith, stretch_le_length [] within.0 hash, within.4.hit_least, within.4.hit_most)
 
--- the least limit in which so many fit
+-- the least limit in which this many pairs fit
 least_of_none : IsLeast 0 0
 least_of_none = least_nothing
 

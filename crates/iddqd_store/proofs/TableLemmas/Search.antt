@@ -16,7 +16,7 @@ use Rattle.iddqd_store.proofs.TableLemmas.Stretch.{place, place_below, gap_place
 abbrev pub Empty : {X : Type 0} → List (Option X) → Type 0
 Empty cs = (e : ℕ) × (e < length cs) × (cell cs e ≡ None)
 
--- where not all cells are occupied, one is empty
+-- if not all cells are occupied, one is empty
 pub has_empty : {X : Type 0} (cs : List (Option X)) → length (pairs_in cs) < length cs → Empty cs
 has_empty [] h = absurd (omega arith)
 has_empty (None ∷ cs) h = (0, omega arith, refl)
@@ -49,7 +49,7 @@ room row t l = has_empty row (let f : length (pairs_in row) ≤ length row / 8 *
 pub walk_below : (row : List (Option (ℕ × ℕ))) (home at s : ℕ) → home < length row → Walk row home at s → at < length row
 walk_below row home at s l w = rw w.at_is (place_below (length row) home s l w.within)
 
--- the next cell, where this one is occupied
+-- the next cell, if this one is occupied
 pub walk_more : (row : List (Option (ℕ × ℕ))) (home at s : ℕ) → IsTable row → home < length row → Walk row home at s → cell row at ≢ None → (at' s' : ℕ) → at' ≡ (if nat_lt (at + 1) (length row) then at + 1 else 0) → s' ≡ s + 1 → Walk row home at' s'
 walk_more row home at s t l w some at' s' ea es =
     let e : Empty row = room row t (omega arith) in
@@ -71,7 +71,7 @@ walk_more row home at s t l w some at' s' ea es =
 pub walk_end : (row : List (Option (ℕ × ℕ))) (hash at s : ℕ) → IsTable row → Walk row (hash % length row) at s → cell row at ≡ None → stretch (hashes (pairs_in row)) (length row) hash ≡ s
 walk_end row hash at s t w none = stretch_is (λ (p : ℕ × ℕ). p.0) (length row) row refl (let l = w.within in omega arith) t.reached hash s w.within w.passed (rw w.at_is at none)
 
--- what stands under a hash is met before the first empty cell
+-- a pair with a hash is met before the first empty cell
 pub walk_meets : (row : List (Option (ℕ × ℕ))) (hash at s index : ℕ) → IsTable row → Walk row (hash % length row) at s → cell row at ≡ None → Contains (pairs_in row) (hash, index)
     → (k : ℕ) × (k < s) × (cell row (place (length row) (hash % length row) k) ≡ Some (hash, index))
 walk_meets row hash at s index t w none c =
@@ -139,7 +139,7 @@ met_within q cs a s =
     let t : met q cs a s ≤ sum_by (weight q) (ahead cs a) = sum_by-take-le (weight q) (ahead cs a) s in
     omega arith
 
--- one more that stands under the hash
+-- one more pair with the hash
 pub met_under : (hash : ℕ) (row : List (Option (ℕ × ℕ))) (a s : ℕ) (x : ℕ × ℕ) → a < length row → s < length row → cell row (place (length row) a s) ≡ Some x → x.0 ≡ hash → (t : ℕ) → t ≡ s + 1
     → met (under hash) row a t ≡ met (under hash) row a s + 1
 met_under hash row a s x l m e h t et =
@@ -149,7 +149,7 @@ pub met_grows : (hash : ℕ) (row : List (Option (ℕ × ℕ))) (a s : ℕ) (x :
     → met (under hash) row a s ≤ met (under hash) row a t
 met_grows hash row a s x l m e t et = let f = met_more (under hash) row a s x l m e t et in omega arith
 
--- the looks of a search that finds
+-- the probes of a search that finds a pair
 pub walk_found : (row : List (Option (ℕ × ℕ))) (hash at s t : ℕ) → IsTable row → Walk row (hash % length row) at s → cell row at ≢ None → t ≡ s + 1 → t ≤ stretch (hashes (pairs_in row)) (length row) hash
 walk_found row hash at s t table w some e =
     let within : s < length row = w.within in

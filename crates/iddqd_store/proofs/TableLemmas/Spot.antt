@@ -13,7 +13,7 @@ use Rattle.iddqd_store.proofs.TableLemmas.Search.{Walk, Empty, room, walk_end, w
 abbrev Ends : List (Option (ℕ × ℕ)) → ℕ → Type 0
 Ends row home = (at : ℕ) × (s : ℕ) × Walk row home at s × (cell row at ≡ None)
 
--- so many steps from a home on lead over occupied cells alone, or some walk ends
+-- this many steps from a home on lead only over occupied cells, or some walk ends
 walk_on : (row : List (Option (ℕ × ℕ))) (home : ℕ) → home < length row → (m : ℕ) → m ≤ length row → ((k : ℕ) → k < m → cell row (place (length row) home k) ≢ None) ⊎ Ends row home
 walk_on row home l zero lm = inl (λ k lk. absurd (omega arith))
 walk_on row home l (suc m) lm = by_cell (cell row (place (length row) home m)) refl (walk_on row home l m (omega arith))
@@ -57,7 +57,7 @@ free_first row spot t free same some =
     let at : ends.0 ≡ spot.at = w.at_is ∙ (ap (place (length row) home) (sym e ∙ sym away) ∙ place_gap (length row) home spot.at l below) in
     subst (IsFirstEmpty row home) at (walk_first row home ends.0 ends.1 l w ends.3)
 
--- the order of the hashes plays no part
+-- the order of the hashes does not matter
 pub free_permutation : (xs ys : List ℕ) (spot : Spot) → IsPermutation xs ys → IsFree xs spot → IsFree ys spot
 free_permutation xs ys spot same free =
     record { below = free.below; away = λ some. free.away some ∙ stretch_permutation xs ys spot.cells spot.hash same }

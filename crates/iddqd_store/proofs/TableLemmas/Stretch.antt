@@ -72,7 +72,7 @@ module _ {X : Type 0} (key : X → ℕ) (n : ℕ) (cs : List (Option X)) (len : 
       (λ k lk. rw (get_or-round n (h % n) k a (omega arith)) (full_at (place n (h % n) s) pl none (place n (h % n) k) (place_below n (h % n) k a (omega arith)) (some k lk)))
       (λ _. rw (get_or-round n (h % n) s a ls) (not_full_at (place n (h % n) s) pl none))
 
-  -- and is no shorter than the occupied cells that are known
+  -- the run is no shorter than the occupied cells that are known
   pub stretch_at_least : (e : ℕ) → e < n → cell cs e ≡ None → (h m : ℕ) → m ≤ n → ((k : ℕ) → k < m → cell cs (place n (h % n) k) ≢ None) → m ≤ stretch (map key (pairs_in cs)) n h
   stretch_at_least e le none h m lm some =
       let a : h % n < n = omega arith in

@@ -1,4 +1,4 @@
--- No stretch is longer than the pairs are many.
+-- No stretch is longer than the number of pairs.
 use Rattle.std.proofs.Common.{◌≡◌, ℕ, suc, zero, ◌+◌, ◌<◌, ◌≤◌, ◌%◌, true, List, [], ◌∷◌, Option, None, Some, length, get_or, set, map, replicate, refl, sym, ap, ◌∙◌, subst, ⊎_elim, arith}
 use Rattle.std.specs.List.{count_by, prefix_len}
 use Rattle.std.specs.List.Sorted.{IsPermutation}

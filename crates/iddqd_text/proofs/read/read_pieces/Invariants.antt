@@ -2,7 +2,7 @@ use Rattle.std.proofs.Common.{◌≡◌, ◌-◌, ◌^◌, vec_len}
 use Rattle.std.specs.Io.KnownBytes.{Consumes}
 use Rattle.iddqd_text.proofs.read.read_pieces.Given as goal
 
--- what was read so far was at the front
+-- what was read so far is a prefix
 abbrev pub invariant-loop-text : goal.invariant-loop-text
 invariant-loop-text g l = record {
   bytes : Consumes (g.R.Source.left l.fn.source) (g.R.Source.left l.source) l.text.items;

@@ -12,7 +12,7 @@ returns c =
     let limit = sized.limit in
     grind (arith, nat_tests, both)
 
--- where the cells for so many pairs are more than `usize` counts, no table has room for them
+-- if the cells for this many pairs are more than `usize` counts, no table has room for them
 pub returns-in_default : goal.returns-in_default
 returns-in_default c =
     let sized = c.cells-cells.ensures.sized in

@@ -8,7 +8,7 @@ use Rattle.iddqd_store.proofs.RankLemmas.Walks.{three_found, three_not_found, tw
 use Rattle.iddqd_store.proofs.TableLemmas.Renumber.{stays}
 use Rattle.iddqd_store.proofs.index_table.IndexTable.replace_three.Goals as goal
 
--- an item stays paired where the pair of another slot leaves
+-- an item stays paired if the pair of another slot leaves
 paired : {T : Type 0} (hash : T → ℕ) (pairs rest : List (ℕ × ℕ)) (found : SlotUnder) (gone : ℕ × ℕ) (at : ℕ) (x : T) → IsPermutation pairs (gone ∷ rest) → at ≢ gone.1 → IsPaired hash pairs found at x → IsPaired hash rest found at x
 paired hash pairs rest found gone at x taken apart is = record { pair = stays pairs rest gone (hash x, at) taken is.pair apart; known = is.known }
 

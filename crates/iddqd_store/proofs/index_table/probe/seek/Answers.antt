@@ -29,7 +29,7 @@ loop-pair-preserved c =
       unmet = unmet_more row home c.loop-pair.at s t (c.args.hash, c.args.index) more i.walk i.unmet other;
     }
 
--- the first empty cell lies behind the pair
+-- the first empty cell is after the pair
 pub unreachable-requires : goal.unreachable-requires
 unreachable-requires c =
     let row = c.args.cells.now in
