@@ -12,7 +12,7 @@ fn sum_of(numbers: impl Iterator<Item = u64>) -> u64 {
     numbers.fold(0, u64::wrapping_add)
 }
 
-/// The sum of what is done with a map of each part of the rows, and with a part of the others where there are any.
+/// Returns the sum of what is done with a map of each part of the rows, and with a part of the others if there are any.
 fn each_map<const N: usize>(
     load: &Workload<N>,
     mut made: impl FnMut(&[Row<N>], &[Row<N>]) -> u64,
@@ -24,7 +24,7 @@ fn each_map<const N: usize>(
     sum_of(parts.map(|rows| made(rows, asked.next().unwrap_or(&[]))))
 }
 
-/// How often a loop is done over.
+/// Returns how often a loop is repeated.
 fn times<const N: usize>(load: &Workload<N>, whole: bool) -> usize {
     if whole { load.number } else { 0 }
 }
@@ -184,7 +184,7 @@ fn iter_mut<const N: usize, M: Map<N>>(load: &Workload<N>, whole: bool) -> u64 {
     sum
 }
 
-/// The sum of what is done with copies of a map.
+/// Returns the sum of what is done with copies of a map.
 fn each_copy<const N: usize, M: Map<N>>(
     load: &Workload<N>,
     map: &M,
@@ -193,7 +193,7 @@ fn each_copy<const N: usize, M: Map<N>>(
     sum_of((0..copies(load.number)).map(|_| made(map.clone())))
 }
 
-/// What is done with copies of a map of each part of the rows: how many items each copy has then.
+/// Changes copies of a map of each part of the rows, and sums how many items each copy then has.
 fn each_changed<const N: usize, M: Map<N>>(
     load: &Workload<N>,
     whole: bool,
@@ -289,7 +289,7 @@ fn from_iter_unique<const N: usize, M: Map<N>>(load: &Workload<N>, whole: bool) 
     })
 }
 
-/// Inserts all rows, or none of them: how many it removed again.
+/// Inserts all rows, or none of them. Returns how many it removed again.
 fn enter_all<const N: usize, M: Map<N>>(map: &mut M, rows: &[Row<N>]) -> usize {
     let mut entered = Vec::new();
     for row in rows {
@@ -297,7 +297,7 @@ fn enter_all<const N: usize, M: Map<N>>(map: &mut M, rows: &[Row<N>]) -> usize {
             entered.push(row.keys[0]);
             continue;
         }
-        // The removed items are kept, as the error of the call here keeps them.
+        // The removed items are kept, because the error of this repository's call keeps them.
         let mut taken = Vec::with_capacity(entered.len());
         taken.extend(entered.into_iter().filter_map(|key| map.remove(key)));
         return taken.len();
@@ -316,7 +316,7 @@ fn extend_unique<const N: usize, M: Map<N>>(load: &Workload<N>, whole: bool) -> 
 type Loop<const N: usize> = fn(&Workload<N>, bool) -> u64;
 type Named<const N: usize> = (&'static str, Loop<N>);
 
-/// The loop for each operation that both maps of the crate have.
+/// Lists the loop for each operation that both maps of the crate have.
 fn loops<const N: usize, M: Map<N>>() -> Vec<Named<N>> {
     vec![
         ("insert without room", insert::<N, M>),
@@ -348,7 +348,7 @@ fn loops<const N: usize, M: Map<N>>() -> Vec<Named<N>> {
     ]
 }
 
-/// The operations with the loops of the crate on the other side. It says which operations have no loop there.
+/// Returns the operations with the loops of the crate on the other side. It prints which operations have no loop there.
 fn beside<const N: usize>(all: Vec<Operation<N>>, loops: Vec<Named<N>>) -> Vec<Operation<N>> {
     for (name, _) in &loops {
         let names = all.iter().filter(|operation| operation.name == *name);

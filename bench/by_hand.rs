@@ -1,4 +1,4 @@
-//! Items by several keys as a careful user of std keeps them: a slab of items, and a hash map from each key to a
+//! A map with several keys, as a careful user of std would write it: a slab of items, and a hash map from each key to a
 //! slot.
 use crate::workload::Row;
 use std::array::from_fn;
@@ -6,7 +6,7 @@ use std::collections::HashMap;
 use std::collections::hash_map::Entry;
 use std::hash::{BuildHasher, BuildHasherDefault, Hasher};
 
-/// `FoldHasher` of Rattle's std, written anew.
+/// `FoldHasher` of Rattle's std, rewritten in Rust.
 pub struct FoldHasher(u64);
 
 impl Default for FoldHasher {
@@ -82,7 +82,7 @@ type Slots = HashMap<u64, usize, BuildHasherDefault<FoldHasher>>;
 /// The slots that the keys of an item found, in the order of the keys.
 pub type Found<const N: usize> = [Option<usize>; N];
 
-/// The error of a list of which no item was inserted.
+/// The error of a list if no item of it was inserted.
 pub struct Refused<const N: usize> {
     /// The items before the one that conflicts.
     pub taken: Vec<Row<N>>,
@@ -173,7 +173,7 @@ impl<const N: usize> ByHand<N> {
 
     /// Inserts an item if no item has one of its keys, and returns its slot. Otherwise returns what its keys found.
     pub fn insert(&mut self, row: Row<N>) -> Result<usize, Found<N>> {
-        // The compiler keeps one arm for each number of keys, which is what one writes by hand for that number.
+        // The compiler keeps one arm for each number of keys, which is what one would write by hand for that number.
         match &mut self.tables[..] {
             [first, second] => insert_by!(self, row, first 0, second 1),
             [first, second, third] => insert_by!(self, row, first 0, second 1, third 2),
@@ -307,7 +307,7 @@ impl<const N: usize> ByHand<N> {
         }
     }
 
-    /// Moves the items to the first slots, so that they get other numbers, and makes the tables anew.
+    /// Moves the items to the first slots, so that they get other numbers, and makes new tables.
     pub fn shrink(&mut self) {
         self.slab.retain(|row| row.is_some());
         self.slab.shrink_to_fit();

@@ -1,4 +1,4 @@
-//! Times the map with two keys under keys that somebody chose to slow it down. The default builder has a fixed seed,
+//! Times the map with two keys and keys that an attacker chose to slow it down. The default builder has a fixed seed,
 //! so such keys can be found for it. A random seed makes them harmless, and costs time itself.
 use crate::by_hand;
 use crate::workload::{Row, rows};
@@ -7,7 +7,7 @@ use std::time::Instant;
 /// The number of items in a map.
 const ITEMS: usize = 20_000;
 
-/// The least number of cells that holds so many items. The home bucket of a hash is given by its lowest bits.
+/// The least number of cells that holds this many items. The home bucket of a hash is given by its lowest bits.
 const CELLS: u64 = 32_768;
 
 /// How often each loop is timed. The least time counts.
@@ -57,7 +57,7 @@ unsafe extern "C" {
     ) -> u64;
 }
 
-/// Returns the rows with other first keys, which all have the same home bucket under the default builder.
+/// Returns the rows with other first keys, which all have the same home bucket with the default builder.
 fn of_one_home(rows: &[Row<2>]) -> Vec<Row<2>> {
     let keys = (0..).filter(|key| by_hand::hash(*key) % CELLS == 0);
     rows.iter()
@@ -69,7 +69,7 @@ fn of_one_home(rows: &[Row<2>]) -> Vec<Row<2>> {
         .collect()
 }
 
-/// Returns how many seconds the loop takes, with what prepares it, or that alone if `whole` is false.
+/// Returns how many seconds the loop takes, with what prepares it, or only its preparation if `whole` is false.
 fn seconds(exported: Exported, rows: &[Row<2>], whole: bool) -> f64 {
     let began = Instant::now();
     let (at, len) = (rows.as_ptr(), rows.len());
@@ -82,13 +82,13 @@ fn least(exported: Exported, rows: &[Row<2>], whole: bool) -> f64 {
     all.fold(f64::INFINITY, f64::min)
 }
 
-/// Returns nanoseconds an item, without what prepares the loop.
+/// Returns nanoseconds for each item, without what prepares the loop.
 fn time(exported: Exported, rows: &[Row<2>]) -> f64 {
     let spent = least(exported, rows, true) - least(exported, rows, false);
     spent.max(0.0) * 1e9 / ITEMS as f64
 }
 
-/// Prints a table of the times an item.
+/// Prints a table of the times for each item.
 pub fn print() {
     let spread = rows::<2>(0, ITEMS);
     let together = of_one_home(&spread);

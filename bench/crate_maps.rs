@@ -1,5 +1,5 @@
-//! The maps of the Rust crate iddqd over the bench's rows, and the calls of theirs that the loops make. The keys are handed
-//! out by value, as the crate advises for small keys, and the hasher is the same as on the other side.
+//! The maps of the Rust crate iddqd over the bench's rows, and their calls that the loops make. The keys are returned
+//! by value, as the crate advises for small keys, and the hasher is the same as on the other side.
 use crate::by_hand::FoldHasher;
 use crate::workload::Row;
 use iddqd::{BiHashItem, BiHashMap, TriHashItem, TriHashMap};
@@ -10,7 +10,7 @@ pub type Builder = BuildHasherDefault<FoldHasher>;
 pub type Two = BiHashMap<Row<2>, Builder>;
 pub type Three = TriHashMap<Row<3>, Builder>;
 
-/// A trait of items for a row, which has so many keys.
+/// Implements a trait of items for a row, which has this many keys.
 macro_rules! item {
     ($trait:ident $keys:literal: $($key_type:ident $key:ident $upcast:ident $rank:literal),*) => {
         impl $trait for Row<$keys> {
@@ -38,9 +38,9 @@ pub trait Map<const N: usize>: Clone + PartialEq {
     fn from_rows(rows: impl Iterator<Item = Row<N>>) -> Self;
     fn from_unique_rows(rows: impl Iterator<Item = Row<N>>) -> Option<Self>;
     fn len(&self) -> usize;
-    /// Says whether the row went in.
+    /// Returns whether the row was inserted.
     fn insert(&mut self, row: Row<N>) -> bool;
-    /// How many items were in the way.
+    /// Returns how many items conflicted.
     fn overwrite(&mut self, row: Row<N>) -> usize;
     fn extend(&mut self, rows: impl Iterator<Item = Row<N>>);
     fn get(&self, key: u64) -> Option<&Row<N>>;

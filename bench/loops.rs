@@ -18,7 +18,7 @@ fn each_map<const N: usize>(
     sum_of(parts.map(|rows| made(rows, asked.next().unwrap_or(&[]))))
 }
 
-/// Returns how often a loop repeats what it does.
+/// Returns how often a loop repeats its operation.
 fn times<const N: usize>(load: &Workload<N>, whole: bool) -> usize {
     if whole { load.number } else { 0 }
 }

@@ -63,7 +63,7 @@ struct Wanted {
     picture: Option<String>,
 }
 
-/// Returns the word behind an option.
+/// Returns the word after an option.
 fn behind(words: &mut impl Iterator<Item = String>, option: &str) -> String {
     words
         .next()

@@ -3,7 +3,7 @@ use crate::operations::Operation;
 use crate::workload::Workload;
 use std::time::Instant;
 
-/// How often something is measured.
+/// How often the operations are measured.
 #[derive(Clone, Copy)]
 pub struct Plan {
     /// How often the whole measurement is made.

@@ -13,8 +13,8 @@ pub type Exported<const N: usize> = unsafe extern "C" fn(
     whole: bool,
 ) -> u64;
 
-/// An operation on a map with N keys. The loop of each side returns a sum of what it met. If it is not wanted whole,
-/// it does only what prepares it.
+/// An operation on a map with N keys. The loop of each side returns a sum of what it met. If `whole` is false, it does
+/// only what prepares it.
 pub struct Operation<const N: usize> {
     pub name: &'static str,
     /// Whether the operation is one call that visits all items. Its time is given for one item all the same.

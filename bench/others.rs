@@ -1,5 +1,5 @@
-//! Other keys, items and hashers, at two keys: text keys, items of 128 bytes, and the hasher of `RandomState`. On one side
-//! stand the loops that `iddqd_bench` exports, on the other the same loops over std hash maps kept by hand.
+//! Other keys, items and hashers, at two keys: text keys, items of 128 bytes, and the hasher of `RandomState`. One side
+//! has the loops that `iddqd_bench` exports, and the other the same loops over std hash maps kept by hand.
 use crate::by_hand::FoldHasher;
 use crate::operations::{Exported, Operation, exported};
 use crate::workload::{self, Row, Workload};
@@ -22,7 +22,7 @@ struct Named {
     number: u64,
 }
 
-/// The first key of a row as a text. All of them have the same length.
+/// Returns the first key of a row as a text. All of them have the same length.
 fn name_of(row: &Row<2>) -> String {
     format!("{:020}", row.keys[0])
 }

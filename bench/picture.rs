@@ -43,7 +43,7 @@ struct Span {
 }
 
 impl Span {
-    /// Returns where a number stands on the axis, from 0 to 1.
+    /// Returns the place of a number on the axis, from 0 to 1.
     fn part(&self, number: f64) -> f64 {
         (number / self.from).log10() / (self.to / self.from).log10()
     }
@@ -137,7 +137,7 @@ impl Scales {
         for (i, tick) in self.items.ticks(1.0).into_iter().enumerate() {
             let (x, bottom) = self.place(corner, tick, self.time.from);
             line(out, (x, corner.1), (x, bottom), FAINT, 1.0);
-            // There is space for the name of every second tick alone.
+            // There is only space for the name of every second tick.
             if i % 2 == 0 {
                 text(out, (x, bottom + 17.0), "middle", 12.0, false, &short(tick));
             }

@@ -72,14 +72,14 @@ fn print_row(cells: impl Iterator<Item = String>) {
     println!("| {} |", cells.join(" | "));
 }
 
-/// Prints the head of a table: its first cell, and those behind it.
+/// Prints the head of a table: its first cell, and those after it.
 fn print_head(first: String, others: Vec<String>) {
     let line = vec!["---".to_string(); others.len() + 1];
     print_row([first].into_iter().chain(others));
     println!("|{}|", line.join("|"));
 }
 
-/// The figures of one map: of each operation at each size.
+/// The figures of one map, for each operation at each size.
 pub struct Map {
     keys: usize,
     rows: Vec<(&'static str, Vec<Figures>)>,
@@ -137,7 +137,7 @@ fn heads(sizes: &[usize]) -> String {
     heads
 }
 
-/// Prints the ratios of the maps side by side, as a page has them.
+/// Prints the ratios of the maps side by side, in the form of a page.
 pub fn print_table(maps: &[Map], sizes: &[usize], plan: Plan) {
     // Each map has all operations but those that the other side lacks.
     let longest = maps.iter().max_by_key(|map| map.rows.len());
@@ -169,7 +169,7 @@ pub fn print_table(maps: &[Map], sizes: &[usize], plan: Plan) {
     println!("```\n");
 }
 
-/// Prints the maps here alone at each size, as a table for a page.
+/// Prints only the figures of this repository's maps at each size, as a table for a page.
 pub fn print_growth<const N: usize>(operations: &[Operation<N>], sizes: &[usize], plan: Plan) {
     let figures = measure(operations, sizes, plan);
     let heads = sizes.iter().map(|items| grouped(*items)).collect();
@@ -216,7 +216,7 @@ fn load() -> String {
     text.split(' ').next().unwrap_or_default().to_string()
 }
 
-/// Says when and on what the figures were measured.
+/// Returns when and on what machine the figures were measured.
 pub fn circumstances(plan: Plan) -> String {
     let seconds = SystemTime::now()
         .duration_since(UNIX_EPOCH)

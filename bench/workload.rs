@@ -110,9 +110,9 @@ pub fn exchanged<const N: usize>(items: usize) -> Workload<N> {
     }
 }
 
-/// One map, all of whose items something is done to repeatedly.
+/// One map, and an operation on all of its items that is repeated.
 pub fn repeated<const N: usize>(items: usize) -> Workload<N> {
-    // An iteration is short beside the inserts that prepare it, so it is repeated often.
+    // An iteration is short in comparison with the inserts that prepare it, so it is repeated often.
     let number = (8_000_000 / items).clamp(20, 80);
     Workload {
         rows: rows(0, items),

@@ -1,7 +1,8 @@
-//! What Rattle's std has and that of Rust has not, or has in another form. `docs/reference` shows signatures that use it.
+//! Items that Rattle's std has and Rust's std does not have, or has in another form. `docs/reference` shows signatures
+//! that use it.
 use std::marker::PhantomData;
 
-/// Memory from the allocator `A`.
+/// A value that allocates memory from the allocator `A`.
 pub trait Allocator: Eq + std::hash::Hash {}
 
 /// The allocator of the program: `rt.alloc()`.
@@ -101,18 +102,18 @@ impl Clone for std::hash::RandomState {
 /// A type whose values are copied by their bytes.
 pub trait Copy {}
 
-/// Printing a value.
+/// Traits and types for printing a value.
 pub mod fmt {
-    /// Whether printing worked.
+    /// The result of printing.
     pub type Result = std::result::Result<(), Error>;
 
     /// Printing failed.
     pub struct Error;
 
-    /// What can be written to.
+    /// A target that can be written to.
     pub trait Write {}
 
-    /// Where a value is printed, with the options of the format.
+    /// The target that a value is printed to, with the options of the format.
     pub struct Formatter<W: Write>(std::marker::PhantomData<W>);
 
     /// A value that can be printed for a programmer.

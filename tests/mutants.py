@@ -8,7 +8,7 @@ import types
 import widen
 
 MAPS = ("BiHashMap", "TriHashMap")
-# The lines of turns.md on functions that no edit turns, or that go by others too.
+# The lines of turns.md on functions that no edit turns, or whose work other functions do.
 SAYS = re.compile(r"(goes by|like|no edit): (.*)")
 
 
@@ -156,7 +156,7 @@ class Mutants:
                 self.faults.append(f"{it.crate}: {'an' if it.why else 'no'} edit turns {it.full}, {but}")
 
     def table(self, crates):
-        """The lines of the list of these crates: what turns each function, and behind that why some have no edit."""
+        """The lines of the list of these crates: what turns each function, and then why some have no edit."""
         lines, before, reasons = ["| File | Function | Edits that have it as target |", "|---|---|---|"], None, {}
         used = {other.key for it in self.functions[crates] for other in it.by + it.like}
         for it in self.functions[crates]:

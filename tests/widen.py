@@ -3,13 +3,13 @@
 three-key file.
 
 It knows the name of no function. First it renames the words that say how many keys there are (RENAMED). Then it searches
-for pieces of the text that are followed by their like at the next rank, and adds the third piece behind them: a field, a
-clause, a statement, a whole function, or a part of a line, as `item.key1(), item.key2()` or `K1.eq ∷ K2.eq ∷ []`. The like
-of a piece has the same words, except for the words of a rank: it has `2` where the piece has `1`, and `second` for `first`.
+for pieces of the text that are followed by their counterpart at the next rank, and adds the third piece after them: a field,
+a clause, a statement, a whole function, or a part of a line, such as `item.key1(), item.key2()` or `K1.eq ∷ K2.eq ∷ []`. The
+counterpart of a piece has the same words, except for the words of a rank: it has `2` where the piece has `1`, and `second` for `first`.
 White space, line breaks and the marks that begin the lines of a comment are no words.
 
-It widens three more forms: pairs in pairs, `(a1, (a2, tt))`; a list of what is at the second rank alone, `a2 ∷ []`; and some
-forms without words of a rank, into which such words are put for the time being (`spelled`).
+It widens three more forms: pairs in pairs, `(a1, (a2, tt))`; a list with an element of the second rank alone, `a2 ∷ []`; and some
+forms without words of a rank, into which such words are put temporarily (`spelled`).
 """
 import re
 import sys
@@ -32,9 +32,9 @@ RANKS = ["01234", "KLM", "klm", ("one", "two", "three"), ("first", "second", "th
 AFTER = {(it[at], it[at + 1]): it[at + 2] for it in RANKS for at in range(len(it) - 2)}
 BEFORE = {it[1]: it[0] for it in ["12", "KL", "kl", ("second", "first"), ("Second", "First"), (".1.0", ".0")]}
 LIKE = {word: it[0] for it in RANKS for word in it}
-# What may be between a piece and its like, by its last word, if it is more than white space.
+# What may be between a piece and its counterpart, by its last word, if it is more than white space.
 BETWEEN = {it[-1]: tuple(it) for it in [",", ";", "∷", "→", "×", "|", "&&", ",("]}
-# How the line of a comment begins, with the character that stands for it as white space; and the character that ends a comment.
+# How the line of a comment begins, with the character that replaces it and counts as white space; and the character that ends a comment.
 MARKS = {"///": "\ue000", "//!": "\ue001", "//": "\ue002", "--": "\ue003"}
 COMMENT_END = "\ue004"
 SPACE = r"[\s\ue000-\ue003]"
@@ -44,7 +44,7 @@ NAME = re.compile(r"(?<![\w-])[^\W\d][\w-]*")
 ALONE = {"some": ("Some({0})", "None"), "bound": ("{0}{1}", "{0}{1}: _")}
 # The marks of the forms that are spelled: such a name with its rank, an arm of a match, the last check of some.
 AT_RANK, ARM, CHECK = "\ue005", "\ue006", "\ue007"
-# The likes of a piece are looked up by this many words. Those of shorter pieces are tried one by one.
+# The counterparts of a piece are looked up by this many words. Those of shorter pieces are tried one by one.
 LONG = 8
 
 
@@ -70,7 +70,7 @@ def unfolded(text):
 
 def third(one, two, in_list=False):
     """Returns the words at the third rank, from those at the first and the second, or None if these are not alike or have no
-    rank. Parts that follow each other, as `at.0, at.1`, may be any two parts. They have a rank only in a list, or if they
+    rank. Parts that follow each other, such as `at.0, at.1`, may be any two parts. They have a rank only in a list, or if they
     are in calls that are arguments of a call."""
     found, of_rank = [], False
     for (_, word), (space, like) in zip(one, two):
@@ -99,7 +99,7 @@ def matches(words, at, wanted):
 
 
 class Pieces:
-    """Words, each with the white space before it, which are searched for pieces that are followed by their like."""
+    """Words, each with the white space before it, which are searched for pieces that are followed by their counterpart."""
 
     def __init__(self, words):
         self.words, self.likes, self.places = words, [LIKE.get(word, word) for _, word in words], {}
@@ -121,13 +121,13 @@ class Pieces:
         return not (before.isalnum() or before in "_.") or not (word[0].isalnum() or word[0] in "_.")
 
     def distances(self, at, end):
-        """Returns the distances at which the like of a piece that begins here may begin, the largest first."""
+        """Returns the distances at which the counterpart of a piece that begins here may begin, the largest first."""
         far = [it - at for it in self.places.get(tuple(self.likes[at:at + LONG]), []) if at + LONG + 1 < it < end]
         near = range(min(LONG + 1, end - at - 1), 0, -1) if self.near_rank[at] else ()
         return far[::-1] + [it for it in near if self.likes[at + it] == self.likes[at]]
 
     def alike(self, at, begin, end):
-        """Returns what is between the piece that begins at the one place and its like, which begins at the other, and the
+        """Returns what is between the piece that begins at the one place and its counterpart, which begins at the other, and the
         piece of the third rank; or None."""
         divider = BETWEEN.get(self.words[begin - 1][1], ())
         for between in ((), divider) if divider else ((),):
@@ -144,7 +144,7 @@ class Pieces:
         return None
 
     def spread(self, at, end):
-        """Returns where the like of the piece that begins here ends, and both with the third one; or None if it has no like."""
+        """Returns where the counterpart of the piece that begins here ends, and both with the third one; or None if it has no counterpart."""
         for far in self.distances(at, end):
             begin = at + far
             found = self.alike(at, begin, end)
@@ -161,7 +161,7 @@ class Pieces:
         return None
 
     def second_alone(self, at, end):
-        """Returns where the only part of a list ends, if it is of the second rank, as `a2 ∷ []`, and the part with the third
+        """Returns where the only part of a list ends, if it is of the second rank, such as `a2 ∷ []`, and the part with the third
         one; or None."""
         if at and self.words[at - 1][1] not in ("(", "{", "∷"):
             return None

@@ -11,7 +11,7 @@ CRATES = ("iddqd_store", "iddqd_bi", "iddqd_tri")
 HEAD = re.compile(r"^( *)(abbrev pub|pub record|pub data) (\w+)(.*)$")
 USE = re.compile(r"ghost use Rattle\.iddqd_\w+\.specs\.([\w.]*)\.\{([^}]*)\}")
 LABEL = re.compile(r"(?:requires|ensures)\*? (\w+) \{")
-# What the types, keys and builder of a map bring along: the table has `..` for them.
+# Arguments that come with the types, keys and builder of a map: the table has `..` for them.
 OF_TRAITS = re.compile(r"RattleType|\.Ghosts\b|HashMembers")
 LONG_TYPES = re.compile(
     r"(?<![.\w])(Entry|VacantEntry|OccupiedEntry|OccupiedEntryMut|RefMut|IterMut|InsertError|EntryRefusal)( (\w+|\([^()]*\))){3,}")
@@ -33,7 +33,7 @@ def read(path):
 
 
 def split(text, mark):
-    """The parts of a text between marks that stand in no brackets."""
+    """The parts of a text between marks that are not in brackets."""
     parts, depth, begin, at = [], 0, 0, 0
     while at < len(text):
         depth += (text[at] in "([{") - (text[at] in ")]}")
@@ -131,7 +131,7 @@ def files_of_specs():
 
 
 class Words:
-    """The words of all lists, and what is amiss with them."""
+    """The words of all lists, and what is wrong with them."""
 
     def __init__(self, lists):
         self.words, self.faults = {file: list(words_of(file)) for file in sorted({*files_of_specs(), *(it for files in lists for it in files)})}, []
@@ -159,7 +159,7 @@ def is_at_other_rank(name, names):
 
 
 def faults_of(word, cited):
-    """Yields what is amiss with the comment of a word."""
+    """Yields what is wrong with the comment of a word."""
     if word.meaning and not (word.meaning.endswith(".") and (word.meaning[0].isupper() or word.meaning[0] == "`")):
         yield f"{word.file}: the comment of {word.name} is no whole sentence: {word.meaning}"
     if word.example and not word.example.endswith("."):
@@ -190,8 +190,8 @@ def cited_by(crate, clauses):
 
 
 def faults_of_labels(clauses, words):
-    """Yields the labels of the maps' clauses that docs/DEFINITIONS.md does not tell, and that are none of these words in small
-    letters; and those that it tells and no clause has."""
+    """Yields the labels of the maps' clauses that docs/DEFINITIONS.md does not explain, and that are none of these words in small
+    letters; and those that it explains and no clause has."""
     page = read("docs/DEFINITIONS.md")
     section = re.search(r"^## Labels of clauses\n(.*?)^## ", page, re.M | re.S)[1]
     told = {it for row in re.findall(r"^\| (.*?) \|", section, re.M) for it in re.findall(r"`(\w+)`", row)}
@@ -208,7 +208,7 @@ def faults_of_labels(clauses, words):
 
 
 def faults_of_proved():
-    """Yields what docs/PROVED.md names in brackets, and no crate has it: labels, fields, definitions, ghost members and functions."""
+    """Yields what docs/PROVED.md names in brackets and no crate has: labels, fields, definitions, ghost members and functions."""
     files = (path for kind in ("src/**/*.rt", "specs/**/*.antt") for path in glob.glob(f"crates/*/{kind}", recursive=True))
     name = r"(?:requires|ensures)\*? (\w+) \{|\bfn (\w+)|ghost (\w+)\b|\bpub (?!fn )(?:record |data )?(\w+) |^ *abbrev pub (\w+)"
     there = {word for path in files for found in re.findall(name, read(path), re.M) for word in found}

@@ -21,12 +21,12 @@ use Rattle.iddqd_bi.specs.declared.entry.OccupiedEntry.{OccupiedEntry}
 use Rattle.iddqd_bi.specs.declared.entry.OccupiedEntryMut.{OccupiedEntryMut}
 use Rattle.iddqd_bi.specs.declared.error.EntryRefusal.{EntryRefusal}
 use Rattle.iddqd_store.specs.Callers.{InsertsOrWrites}
--- if nothing conflicts with an item, its keys find nothing, and the other way round
+-- nothing conflicts with an item exactly if its keys find nothing
 pub use Rattle.iddqd_store.proofs.BagLemmas.Steps.{clash-empty, order-empty}
 use Rattle.iddqd_store.proofs.CallerLemmas.Entering.{Entered, all_not, all_unique, occupied_as, short_all, writes_found}
 
 module _ {T S K1 K2 H : Type 0} (m : OccupiedEntryMut T S K1 K2 H) where
-  -- a unique entry holds its item under both keys, and another holds none so
+  -- a unique entry holds its item under both keys, and any other entry holds no item under both
   pub unique_held : (y : T) → held_entry m ≡ unique y → held_unique m ≡ Some y
   unique_held y is = all_unique _ _ (found_by_all (m.slot1 ∷ m.slot2 ∷ [])) y (short_all (m.slot1 ∷ m.slot2 ∷ [])) is
 
@@ -34,7 +34,7 @@ module _ {T S K1 K2 H : Type 0} (m : OccupiedEntryMut T S K1 K2 H) where
   none_held ys is = all_not _ _ (found_by_all (m.slot1 ∷ m.slot2 ∷ [])) ys (short_all (m.slot1 ∷ m.slot2 ∷ [])) is
 
 module _ {T S K1 K2 H : Type 0} (of : item.Ghosts T K1 K2) (eq1 : K1 → K1 → Bool) (eq2 : K2 → K2 → Bool) where
-  -- so where `into_mut` holds what an occupied entry found
+  -- the same where `into_mut` holds what an occupied entry found
   pub writes_occupied : (by : Ranks T) (write : T → T) (o : OccupiedEntry T S K1 K2 H) (m : OccupiedEntryMut T S K1 K2 H) (x : T) (k1 : K1) (k2 : K2) (old : Map T S) (new : List T) (found : Option T) →
       HasFound (key_tests of eq1 eq2) o → HoldsFound of eq1 eq2 o m → m.map.now ≡ o.map.now → o.key1.now ≡ k1 → o.key2.now ≡ k2 → o.map.now ≡ old →
       found ≡ held_unique m → is_some found ≡ true → IfSome found (λ y. IsPermutation new (swap by (bag m.map.now) y (write y))) →
@@ -52,7 +52,7 @@ module _ {T S Q K1 K2 H : Type 0} {of : item.Ghosts T K1 K2} {eq1 : equal.Ghosts
       rw (← is1, ← is2, ← is, stays, v.absent) (IsPermutation-refl (bag v.map.now))
   stores_named step put by f (Occupied o) r k1 k2 m stays stored is1 is2 is = rw (← is1, ← is2, ← is) stored
 
-  -- what `or_insert` leaves where it is granted
+  -- what `or_insert` leaves if it succeeds
   pub entered : (e : Entry T S Q K1 K2 H of eq1 input1 eq2 input2 build hashes q) (m : OccupiedEntryMut T S K1 K2 H) (x : T) (k1 : K1) (k2 : K2) (old : Map T S) →
       OnVacant e (λ v. PutsIn v x (Ok m)) → OnOccupied e (λ o. KeepsFound {E = EntryRefusal T S K1 K2 H} of eq1.eq eq2.eq o (Ok m)) → IsFound e →
       entry_key1 e ≡ k1 → entry_key2 e ≡ k2 → entry_map e ≡ old →
@@ -62,14 +62,14 @@ module _ {T S Q K1 K2 H : Type 0} {of : item.Ghosts T K1 K2} {eq1 : equal.Ghosts
   entered (Occupied o) m x k1 k2 old put kept found is1 is2 is =
       rw (← is1, ← is2, ← is) (occupied_as (bag o.map.now) x (listing (entry_tests (key_tests of eq1.eq eq2.eq) o) (bag o.map.now)) _ (bag m.map.now) (held_entry m) found.some (ap (λ (n : Map T S). bag n) kept.unchanged) (kept.holds found).value)
 
-  -- an item that `or_insert` was granted is in the map if its keys found nothing
+  -- an item that `or_insert` inserted is in the map if its keys found nothing
   pub went_in : (e : Entry T S Q K1 K2 H of eq1 input1 eq2 input2 build hashes q) (m : OccupiedEntryMut T S K1 K2 H) (x : T) (k1 : K1) (k2 : K2) (old : Map T S) →
       OnVacant e (λ v. PutsIn v x (Ok m)) → IsFound e → entry_key1 e ≡ k1 → entry_key2 e ≡ k2 → entry_map e ≡ old →
       listing (key_tests of eq1.eq eq2.eq k1 k2) (bag old) ≡ [] → IsPermutation (bag m.map.now) (x ∷ bag old)
   went_in (Vacant v) m x k1 k2 old put found is1 is2 is none = rw (← is) put.gains_and_holds.gains.items
   went_in (Occupied o) m x k1 k2 old put found is1 is2 is none = absurd (found.some (rw (is1, is2, is) none))
 
-  -- and if they found something, the map is as it was
+  -- if its keys found something, the map is as it was
   pub stayed : (e : Entry T S Q K1 K2 H of eq1 input1 eq2 input2 build hashes q) (m : OccupiedEntryMut T S K1 K2 H) (k1 : K1) (k2 : K2) (old : Map T S) →
       OnOccupied e (λ o. KeepsFound {E = EntryRefusal T S K1 K2 H} of eq1.eq eq2.eq o (Ok m)) → entry_key1 e ≡ k1 → entry_key2 e ≡ k2 → entry_map e ≡ old →
       listing (key_tests of eq1.eq eq2.eq k1 k2) (bag old) ≢ [] → m.map.now ≡ old

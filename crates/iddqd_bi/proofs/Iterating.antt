@@ -1,4 +1,4 @@
--- What a walk ends as, where the next item was written.
+-- What an iteration ends as, if the next item was written.
 use Rattle.std.specs.Prelude.{◌≡◌, ℕ, ◌+◌, ◌-◌}
 use Rattle.std.specs.Borrow.{GName}
 use Rattle.std.proofs.Common.{refl, ap, inl, ◌⊎◌}
@@ -17,7 +17,7 @@ module _ {T S K1 K2 H : Type 0} (it : IterMut T S K1 K2 H) where
       let same : (w : D) → ends w ≡ steps w = λ w. rw (is, fewer, step.after, step.writes (put w)) refl in
       ap (λ (F : D → IterMut T S K1 K2 H). inl (name, F)) (fun_ext same)
 
--- a walk that is counted right stays so where its next item is written
+-- an iteration that is counted right is still counted right after its next item is written
 module _ {T S K1 K2 H : Type 0} (it : IterMut T S K1 K2 H) where
   pub counted_on : (f : T → T) → IsCounted it → IsNextOf it → IsCounted (stepped it f)
   counted_on f counted next = rw (counted, next.1.comes, next.1.behind f) (simp unary_clauses refl)

@@ -1,4 +1,4 @@
--- Each run from a sound bag ends in a sound bag, where other data leaves an item its keys.
+-- Each run from a sound bag ends in a sound bag, if other data does not change an item's keys.
 use Rattle.std.proofs.Common.{◌≡◌, Bool, true, List, Result}
 use Rattle.iddqd_store.specs.Bag.{AreLawful, IsSound, agrees}
 use Rattle.iddqd_store.specs.Runs.Reply.{Reply}
@@ -13,7 +13,7 @@ use Rattle.iddqd_bi.specs.declared.command.BiCommand.TheVariants.{InsertUnique, 
 
 module _ {T D K1 K2 : Type 0} (of : item.Ghosts T K1 K2) (eq1 : K1 → K1 → Bool) (eq2 : K2 → K2 → Bool) (put : T → D → T) (laws : AreLawful (ranks of eq1 eq2))
     (keeps : (x : T) (d : D) → agrees (ranks of eq1 eq2) x (put x d) ≡ true) where
-  -- the same of one step
+  -- the same holds for one step
   pub IsSound-Step : (old new : State T) (command : BiCommand T D K1 K2) (reply : Reply T D) → IsSound (ranks of eq1 eq2) old.items → Step of eq1 eq2 put old command reply new → IsSound (ranks of eq1 eq2) new.items
   IsSound-Step old new (InsertUnique x) reply sound step = IsSound-InsertsUnique (ranks of eq1 eq2) laws old new sound x reply step
   IsSound-Step old new (InsertOverwrite x) reply sound step = IsSound-InsertsOverwrite (ranks of eq1 eq2) laws old new sound x reply step

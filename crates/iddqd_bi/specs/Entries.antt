@@ -74,7 +74,7 @@ module _ {T S K1 K2 H : Type 0} where
     pub same1 : p.slot1 ≡ o.slot1
     pub same2 : p.slot2 ≡ o.slot2
 
-  -- The call failed as the closure did, with its error.
+  -- The call failed because the closure failed, and returns the closure's error.
   -- Example: If the closure returned `Err e`, the error is `Closure e`.
   abbrev pub FailsAsClosure : {E M : Type 0} → E → Result M (TryEntryRefusal T E S K1 K2 H) → Type 0
   FailsAsClosure error (Ok m) = ⊥
@@ -98,7 +98,7 @@ module _ {T S K1 K2 H : Type 0} where
   abbrev pub held : OccupiedEntryMut T S K1 K2 H → List T
   held m = held_at m.map.now.slots (m.slot1 ∷ m.slot2 ∷ [])
 
-  -- `held_entry` is what is held for writing, as `Entry` has it.
+  -- `held_entry` is what is held for writing, as an `Entry`.
   -- Example: If every key names a, it is `unique a`.
   abbrev pub held_entry : OccupiedEntryMut T S K1 K2 H → bags.Entry T
   held_entry m = entry_at m.map.now.slots (m.slot1 ∷ m.slot2 ∷ [])
@@ -116,11 +116,11 @@ module _ {T S K1 K2 H : Type 0} where
   abbrev pub held_unique : OccupiedEntryMut T S K1 K2 H → Option T
   held_unique m = option_and_then (get m.map.now.slots) (head_of (found_by_all (m.slot1 ∷ m.slot2 ∷ [])))
 
-  -- `held_with` is what is held, with `f` of the item of this slot in its place in the map.
+  -- `held_with` is what is held, where `f` of the item of this slot has replaced it in the map.
   abbrev held_with : OccupiedEntryMut T S K1 K2 H → Option ℕ → (T → T) → OccupiedEntryMut T S K1 K2 H
   held_with m slot f = record m { map = record m.map { now = map_with_if m.map.now slot f } }
 
-  -- `held_with1` is what is held, with `f` of the item with the first key in its place in the map.
+  -- `held_with1` is what is held, where `f` of the item with the first key has replaced it in the map.
   -- Example: If that item is a, the map has `f a` in its place.
   abbrev pub held_with1 : OccupiedEntryMut T S K1 K2 H → (T → T) → OccupiedEntryMut T S K1 K2 H
   held_with1 m f = held_with m m.slot1 f
@@ -128,7 +128,7 @@ module _ {T S K1 K2 H : Type 0} where
   abbrev pub held_with2 : OccupiedEntryMut T S K1 K2 H → (T → T) → OccupiedEntryMut T S K1 K2 H
   held_with2 m f = held_with m m.slot2 f
 
-  -- `held_with_unique` is what is held, with `f` of the item that has both keys in its place in the map.
+  -- `held_with_unique` is what is held, where `f` of the item that has both keys has replaced it in the map.
   -- Example: If that item is a, the map has `f a` in its place.
   abbrev pub held_with_unique : OccupiedEntryMut T S K1 K2 H → (T → T) → OccupiedEntryMut T S K1 K2 H
   held_with_unique m f = held_with m (head_of (found_by_all (m.slot1 ∷ m.slot2 ∷ []))) f
@@ -150,7 +150,7 @@ module _ {T S K1 K2 H : Type 0} where
     pub unchanged : IfOk result (λ m. m.map.now ≡ o.map.now)
     pub holds : HasFound (key_tests of eq1 eq2) o → IfOk result (HoldsFound of eq1 eq2 o)
 
-  -- `entry_with1` is the entry, with `f` of the item with the first key in its place in the map.
+  -- `entry_with1` is the entry, where `f` of the item with the first key has replaced it in the map.
   -- Example: If that item is a, the map has `f a` in its place.
   abbrev pub entry_with1 : OccupiedEntry T S K1 K2 H → (T → T) → OccupiedEntry T S K1 K2 H
   entry_with1 o f = record o { map = record o.map { now = map_with_if o.map.now o.slot1 f } }
@@ -184,7 +184,7 @@ module _ {T S Q K1 K2 H : Type 0} {of : item.Ghosts T K1 K2} {eq1 : equal.Ghosts
     pub key2 : entry_key2 e ≡ k2
 
   -- `entry_value` is what the entry has found.
-  -- Example: It is `vacant` of a vacant entry, and `unique a` of an occupied one all of whose keys name a.
+  -- Example: It is `vacant` for a vacant entry, and `unique a` for an occupied one all of whose keys name a.
   abbrev pub entry_value : Entry T S Q K1 K2 H of eq1 input1 eq2 input2 build hashes q → bags.Entry T
   entry_value (Vacant e) = vacant
   entry_value (Occupied e) = entry_at e.map.now.slots (e.slot1 ∷ e.slot2 ∷ [])
@@ -194,26 +194,26 @@ module _ {T S Q K1 K2 H : Type 0} {of : item.Ghosts T K1 K2} {eq1 : equal.Ghosts
   abbrev pub wanted : VacantEntry T S Q K1 K2 H of eq1 input1 eq2 input2 build hashes q → List (T → Bool)
   wanted e = key_tests of eq1.eq eq2.eq (q.first e.keys) (q.second e.keys)
 
-  -- If the entry is vacant, then `P` holds of it.
-  -- Example: It holds of an occupied entry.
+  -- If the entry is vacant, then `P` holds for it.
+  -- Example: The word holds for any occupied entry.
   abbrev pub OnVacant : Entry T S Q K1 K2 H of eq1 input1 eq2 input2 build hashes q → (VacantEntry T S Q K1 K2 H of eq1 input1 eq2 input2 build hashes q → Type 0) → Type 0
   OnVacant (Vacant e) P = P e
   OnVacant (Occupied e) P = ⊤
 
-  -- If the entry is occupied, then `P` holds of it.
-  -- Example: It holds of a vacant entry.
+  -- If the entry is occupied, then `P` holds for it.
+  -- Example: The word holds for any vacant entry.
   abbrev pub OnOccupied : Entry T S Q K1 K2 H of eq1 input1 eq2 input2 build hashes q → (OccupiedEntry T S K1 K2 H → Type 0) → Type 0
   OnOccupied (Vacant e) P = ⊤
   OnOccupied (Occupied e) P = P e
 
-  -- The item `x` went into this very map (`Gains`), and the guard `r` borrows it.
+  -- The item `x` was inserted into this very map (`Gains`), and the guard `r` borrows it.
   -- Example: A map of a, b becomes `x`, a, b, and `ref_item r` is `Some x`.
   pub record GainsAndLends (e : VacantEntry T S Q K1 K2 H of eq1 input1 eq2 input2 build hashes q) (x : T) (r : RefMut T S K1 K2 H of eq1 input1 eq2 input2 build hashes) : Type 0 where
     pub same_map : ref_lender r ≡ e.map.ghost_name
     pub item : ref_item r ≡ Some x
     pub gains : Gains e.map.now x (ref_map r)
 
-  -- The item `x` went into this very map (`Gains`), and is held for writing, by each of its keys.
+  -- The item `x` was inserted into this very map (`Gains`), and is held for writing, by each of its keys.
   -- Example: A map of a, b becomes `x`, a, b, and `held` is `x`.
   pub record GainsAndHolds (e : VacantEntry T S Q K1 K2 H of eq1 input1 eq2 input2 build hashes q) (x : T) (m : OccupiedEntryMut T S K1 K2 H) : Type 0 where
     pub same_map : m.map.ghost_name ≡ e.map.ghost_name
@@ -225,7 +225,7 @@ module _ {T S Q K1 K2 H : Type 0} {of : item.Ghosts T K1 K2} {eq1 : equal.Ghosts
     pub by_key1 : held1 m ≡ Some x
     pub by_key2 : held2 m ≡ Some x
 
-  -- The item `x` went into the map of the vacant entry and is held for writing (`GainsAndHolds`), or the error
+  -- The item `x` was inserted into the map of the vacant entry and is held for writing (`GainsAndHolds`), or the error
   -- returns it (`HandsBack`) and the map is as it was. The call succeeds if `x` has the keys of the entry and the map
   -- is not full.
   -- Example: If `x` has another first key than the entry, the error is `Key1 x`.
@@ -236,7 +236,7 @@ module _ {T S Q K1 K2 H : Type 0} {of : item.Ghosts T K1 K2} {eq1 : equal.Ghosts
     pub unchanged : IfErr result (λ refusal. refusal.map.now ≡ e.map.now)
     pub hands_back : IfErr result (λ refusal. HandsBack (ranks of eq1.eq eq2.eq) (wanted e) e.map.now x refusal.error)
 
-  -- The item `x`, which a closure made, went into the map of the vacant entry and is held for writing
+  -- The item `x`, which a closure made, was inserted into the map of the vacant entry and is held for writing
   -- (`GainsAndHolds`), or the error is that of the entry and returns it (`HandsBack`). The call succeeds if `x` has the
   -- keys of the entry and the map is not full.
   -- Example: If `x` has another first key than the entry, the error is `Insert (Key1 x)`.
@@ -246,8 +246,7 @@ module _ {T S Q K1 K2 H : Type 0} {of : item.Ghosts T K1 K2} {eq1 : equal.Ghosts
     pub granted : differ (wanted e) x ≡ None → length (bag e.map.now) < e.map.now.capacity → IsOk result
     pub hands_back : IfErr result (λ refusal. IsInsert refusal.error (HandsBack (ranks of eq1.eq eq2.eq) (wanted e) e.map.now x))
 
-  -- What comes of the answer of the closure: the item that it made is put in (`PutsMadeIn`), or its error is returned
-  -- (`FailsAsClosure`).
+  -- The item that the closure made is inserted (`PutsMadeIn`), or the closure's error is returned (`FailsAsClosure`).
   -- Example: If it returned `Ok x`, and `x` has the keys of the entry, then `x` is in the map unless that was full.
   abbrev pub PutsInMade : {E : Type 0} → VacantEntry T S Q K1 K2 H of eq1 input1 eq2 input2 build hashes q → Result T E → Result (OccupiedEntryMut T S K1 K2 H) (TryEntryRefusal T E S K1 K2 H) → Type 0
   PutsInMade e (Ok x) result = PutsMadeIn e x result
@@ -269,14 +268,14 @@ module _ {T S Q K1 K2 H : Type 0} {of : item.Ghosts T K1 K2} {eq1 : equal.Ghosts
     pub places : IsSameEntry before after
 
   -- If the entry is occupied, it has found what its keys name (`HasFound`).
-  -- Example: It holds of a vacant entry.
+  -- Example: It holds for any vacant entry.
   abbrev pub IsFound : Entry T S Q K1 K2 H of eq1 input1 eq2 input2 build hashes q → Type 0
   IsFound (Vacant e) = ⊤
   IsFound (Occupied e) = HasFound (key_tests of eq1.eq eq2.eq) e
 
 module _ {T S K1 K2 H : Type 0} {of : item.Ghosts T K1 K2} {eq1 : equal.Ghosts K1} {input1 : hash.Ghosts K1} {eq2 : equal.Ghosts K2} {input2 : hash.Ghosts K2} {build : builder.Ghosts S H} {hashes : hasher.Ghosts H} {q : pair.Ghosts (KeyPair K1 K2) K1 K2} where
-  -- The item `x` went into this very map (`Gains`), and the occupied entry, with the keys of the vacant one, finds it
-  -- alone.
+  -- The item `x` was inserted into this very map (`Gains`), and the occupied entry, with the keys of the vacant one,
+  -- finds it alone.
   -- Example: A map of a, b becomes `x`, a, b, and the entry has found `unique x`.
   pub record GainsAndFinds (tests : K1 → K2 → List (T → Bool)) (e : VacantEntry T S (KeyPair K1 K2) K1 K2 H of eq1 input1 eq2 input2 build hashes q) (x : T) (o : OccupiedEntry T S K1 K2 H) : Type 0 where
     pub same_map : o.map.ghost_name ≡ e.map.ghost_name
@@ -299,7 +298,7 @@ module _ (T S K1 K2 H : RattleType) (of : item.Ghosts T.Denot K1.Denot K2.Denot)
   abbrev pub held_rests_if_err : {E : Type 0} → MutBor (Map T.Denot S.Denot) → Result (OccupiedEntryMut T.Denot S.Denot K1.Denot K2.Denot H.Denot) E → Fml
   held_rests_if_err m r = follows_so (map_row T S K1 K2 H of keys1 keys2 build hashes) (map_row T S K1 K2 H of keys1 keys2 build hashes) m.ghost_name (name_if_ok (λ e. e.map.ghost_name) r) (λ x n. OnOk r (n ≡ x)) (λ n. OnErr r (n ≡ m.now))
 
-  -- `entry_row` is the type of an occupied entry, as the logic has it. No public clause cites it.
+  -- `entry_row` is the type of an occupied entry in the logic. No public clause cites it.
   abbrev pub entry_row : RattleType
   entry_row = occupied_row (record { mir = named 1; lft = [] }) T S K1 K2 H of (record { eq = keys1.eq }) (record { hash_input = keys1.hash_input }) (record { eq = keys2.eq }) (record { hash_input = keys2.hash_input }) build hashes
 

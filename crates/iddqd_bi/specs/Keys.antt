@@ -30,8 +30,8 @@ module _ {T K1 K2 : Type 0} (of : item.Ghosts T K1 K2) where
   has_both stands1 stands2 q1 q2 = every_of (key_tests stands1 stands2 q1 q2)
 
 module _ {T : Type 0} (hash1 hash2 : T → ℕ) where
-  -- For each rank, a pair under its hash goes into this cell of its table. Of what is public, only the ghost field `vacant` of
-  -- `VacantEntry` cites it.
+  -- For each rank, a pair with its hash goes into this cell of its table. Among public items, only the ghost field
+  -- `vacant` of `VacantEntry` cites it.
   pub record AreVacantFor (bag : List T) (h1 h2 : ℕ) (at : Spot × Spot) : Type 0 where
     pub first : IsVacantFor hash1 bag h1 at.0
     pub second : IsVacantFor hash2 bag h2 at.1
@@ -55,7 +55,7 @@ pub record HaveRoom (room : ℕ) (at : Spot × Spot) : Type 0 where
   pub first : room ≤ at.0.cells / 8 * 7
   pub second : room ≤ at.1.cells / 8 * 7
 
--- `slots_found` has for each rank the slot that a search found, or none. No public clause cites it.
+-- `slots_found` has for each rank the slot that a search found, or `None`. No public clause cites it.
 abbrev pub slots_found : Result (Spot × Spot) (SlotUnder × SlotUnder) → List (Option ℕ)
 slots_found (Ok at) = None ∷ None ∷ []
 slots_found (Err found) = found.0.slot ∷ found.1.slot ∷ []

@@ -1,4 +1,4 @@
--- What a map ends as, where a `&mut` to the data of an item is returned.
+-- What a map ends as, if a `&mut` to the data of an item is returned.
 use Rattle.std.specs.Prelude.{◌≡◌, ℕ, Bool, Option, Some, IsPermutation, OnSome}
 use Rattle.std.specs.Borrow.{Lends, LendsIf, LendsSo, Fml, RattleType, MutBor}
 use Rattle.std.specs.HashMap.Lent.{HashMembers}

@@ -1,4 +1,4 @@
--- Why an item may not stand where others do: the item, and the rank at which its key differs, counted from 0.
+-- Why an item may not replace others: the item, and the rank at which its key differs, counted from 0.
 use Rattle.std.specs.Prelude.{◌≡◌, ℕ, Bool, List, Option, Some, None, ⊤}
 use Rattle.iddqd_store.specs.Bag.{Ranks, differ}
 use Rattle.iddqd_store.specs.Map.{Map, IsFullFor}
@@ -11,19 +11,19 @@ use Rattle.iddqd_bi.specs.declared.error.TryEntryError.TheVariants.{Closure, Ins
 
 module _ {T : Type 0} where
   -- `mismatch_item` is the item that is returned because a key of it differs.
-  -- Example: Of `Key1 x` it is `x`.
+  -- Example: For `Key1 x` it is `x`.
   abbrev pub mismatch_item : KeyMismatch T → T
   mismatch_item (mismatch.Key1 x) = x
   mismatch_item (mismatch.Key2 x) = x
 
   -- `mismatch_rank` is the rank of the key that differs, counted from 0.
-  -- Example: Of `Key1 x` it is 0.
+  -- Example: For `Key1 x` it is 0.
   abbrev pub mismatch_rank : KeyMismatch T → ℕ
   mismatch_rank (mismatch.Key1 x) = 0
   mismatch_rank (mismatch.Key2 x) = 1
 
   -- `error_item` is the item that the error of an entry returns.
-  -- Example: Of `Memory x` it is `x`.
+  -- Example: For `Memory x` it is `x`.
   abbrev pub error_item : EntryError T → T
   error_item (Key1 x) = x
   error_item (Key2 x) = x
@@ -31,29 +31,29 @@ module _ {T : Type 0} where
 
   -- `error_rank` is the rank of the key that differs from that of the entry, counted from 0, or `None` if memory ran
   -- out.
-  -- Example: Of `Memory x` it is `None`.
+  -- Example: For `Memory x` it is `None`.
   abbrev pub error_rank : EntryError T → Option ℕ
   error_rank (Key1 x) = Some 0
   error_rank (Key2 x) = Some 1
   error_rank (Memory x) = None
 
-  -- If the error is for lack of memory, then `P` holds.
-  -- Example: It holds of `Key1 x`.
+  -- If memory ran out, then `P` holds.
+  -- Example: It holds for `Key1 x`, whatever `P` is.
   abbrev pub OnNoMemory : EntryError T → Type 0 → Type 0
   OnNoMemory (Key1 x) P = ⊤
   OnNoMemory (Key2 x) P = ⊤
   OnNoMemory (Memory x) P = P
 
-  -- The error returns `x`. It names the lowest rank at which `x` fails its test, and if there is none, it is for lack
-  -- of memory in a full map where nothing conflicts with `x`.
-  -- Example: Of `Key1 x` the item fails the test at the rank 0.
+  -- The error returns `x`. It names the lowest rank at which `x` fails its test; if there is none, memory ran out in a
+  -- full map where nothing conflicts with `x`.
+  -- Example: If the error is `Key1 x`, the item fails the test at the rank 0.
   pub record HandsBack {S : Type 0} (ranks : Ranks T) (tests : List (T → Bool)) (m : Map T S) (x : T) (error : EntryError T) : Type 0 where
     pub handed_back : error_item error ≡ x
     pub rank : differ tests x ≡ error_rank error
     pub memory : OnNoMemory error (IsFullFor ranks m x)
 
-  -- The error is that of the entry, and `P` holds of that.
-  -- Example: It does not hold of `Closure e`.
+  -- The error is that of the entry, and `P` holds for that error.
+  -- Example: It does not hold for `Closure e`.
   abbrev pub IsInsert : {E : Type 0} → TryEntryError (EntryError T) E → (EntryError T → Type 0) → Type 0
   IsInsert (Closure e) P = ⊥
   IsInsert (Insert error) P = P error

@@ -20,13 +20,13 @@ module _ {T S K1 K2 H : Type 0} {of : item.Ghosts T K1 K2} {eq1 : equal.Ghosts K
   abbrev pub ref_lender : RefMut T S K1 K2 H of eq1 input1 eq2 input2 build hashes → GName
   ref_lender r = r.map.ghost_name
 
-  -- `ref_map` is the map of the guard, as the guard has it.
-  -- Example: Of a guard in a map of a, b it has a, b.
+  -- `ref_map` is the map that the guard borrows.
+  -- Example: For a guard in a map of a, b it has a, b.
   abbrev pub ref_map : RefMut T S K1 K2 H of eq1 input1 eq2 input2 build hashes → Map T S
   ref_map r = r.map.now
 
   -- `ref_item` is the item that the guard borrows.
-  -- Example: Of a guard of a it is `Some a`.
+  -- Example: For a guard of a it is `Some a`.
   abbrev pub ref_item : RefMut T S K1 K2 H of eq1 input1 eq2 input2 build hashes → Option T
   ref_item r = get r.map.now.slots r.slot
 
@@ -42,8 +42,8 @@ module _ {T S K1 K2 H : Type 0} {of : item.Ghosts T K1 K2} {eq1 : equal.Ghosts K
     pub capacity : (ref_map after).capacity ≡ (ref_map before).capacity
     pub builder : (ref_map after).builder ≡ (ref_map before).builder
 
-  -- `ref_with` is the guard, with `f` of its item in the place of the item.
-  -- Example: Of a guard of a it is a guard of `f a`.
+  -- `ref_with` is the guard, where `f` of its item has replaced the item.
+  -- Example: For a guard of a it is a guard of `f a`.
   abbrev pub ref_with : RefMut T S K1 K2 H of eq1 input1 eq2 input2 build hashes → (T → T) → RefMut T S K1 K2 H of eq1 input1 eq2 input2 build hashes
   ref_with r f = record {
     map = record r.map { now = map_with r.map.now r.slot f };

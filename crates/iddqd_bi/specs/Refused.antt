@@ -1,4 +1,4 @@
--- What a refused insert says, and what the map ends as.
+-- What the error of an insert says, and what the map ends as.
 use Rattle.std.specs.Prelude.{◌≡◌, Bool, false, List, ℕ, Result, Ok, Err, OnOk, OnErr}
 use Rattle.std.specs.List.{list_any}
 use Rattle.std.specs.Borrow.{RattleType, MutBor, Fml, GName, follows_so}
@@ -18,14 +18,14 @@ use Rattle.iddqd_bi.specs.declared.error.Rejected.{Rejected}
 use Rattle.iddqd_bi.specs.contracts.map.BiHashMap.{the_row}
 
 -- `refusal_item` is the item that was rejected. No public clause cites it.
--- Example: Of `Memory x` it is `x`.
+-- Example: For `Memory x` it is `x`.
 abbrev pub refusal_item : {T : Type 0} → Refusal T → T
 refusal_item (refusal.Duplicate x found) = x
 refusal_item (refusal.Memory x) = x
 
--- If items conflict, then `P` holds of the slots that were found, and if memory ran out, then `Q` holds. No
--- public clause cites it.
--- Example: Of `Memory x` it is `Q`.
+-- If items conflict, then `P` holds for the slots that were found, and if memory ran out, then `Q` holds. No public
+-- clause cites it.
+-- Example: For `Memory x` it is `Q`.
 abbrev pub MatchRefusal : {T : Type 0} → Refusal T → (List ℕ → Type 0) → Type 0 → Type 0
 MatchRefusal (refusal.Duplicate x found) P Q = P found
 MatchRefusal (refusal.Memory x) P Q = Q
@@ -51,11 +51,11 @@ module _ {T S K1 K2 H : Type 0} {of : item.Ghosts T K1 K2} {eq1 : equal.Ghosts K
   refused_name (Err e) = maybe.some e.map.ghost_name
 
 module _ (T S K1 K2 H : RattleType) (of : item.Ghosts T.Denot K1.Denot K2.Denot) (keys1 : HashMembers K1.Denot) (keys2 : HashMembers K2.Denot) (build : builder.Ghosts S.Denot H.Denot) (hashes : hasher.Ghosts H.Denot) where
-  -- `map_row` is the type of the map, as the logic has it. No public clause cites it.
+  -- `map_row` is the type of the map in the logic. No public clause cites it.
   abbrev pub map_row : RattleType
   map_row = the_row T S K1 K2 H of (record { eq = keys1.eq }) (record { hash_input = keys1.hash_input }) (record { eq = keys2.eq }) (record { hash_input = keys2.hash_input }) build hashes
 
-  -- After an error the map ends as the error leaves it, and after `Ok` it ends so that `P` holds of it.
-  -- Example: Where `P` says that the map gained c, it ends with c or as the error leaves it.
+  -- After an error the map ends as the error leaves it, and after `Ok` it ends so that `P` holds for it.
+  -- Example: If `P` says that the map gained c, it ends with c or as the error leaves it.
   abbrev pub ends_as : {X : Type 0} → MutBor (Map T.Denot S.Denot) → Result X (InsertError T.Denot S.Denot K1.Denot K2.Denot H.Denot of (record { eq = keys1.eq }) (record { hash_input = keys1.hash_input }) (record { eq = keys2.eq }) (record { hash_input = keys2.hash_input }) build hashes) → (Map T.Denot S.Denot → Type 0) → Fml
   ends_as m r P = follows_so map_row map_row m.ghost_name (refused_name r) (λ x n. OnErr r (n ≡ x)) (λ n. OnOk r (P n))

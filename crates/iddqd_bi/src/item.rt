@@ -82,7 +82,7 @@ impl<T: BiHashItem> Ranked for T {
 /// What contracts say of the hashes of an item's keys, for a builder of hashers. Every item type implements this trait
 /// by the blanket impl below, and nobody implements it by hand.
 pub trait Hashed<S: BuildHasher>: BiHashItem {
-    // The hash of each key of an item, under a builder.
+    // The hash of each key of an item, by a builder.
     ghost hash1: { S → Self → ℕ };
 
     ghost hash2: { S → Self → ℕ };

@@ -1,5 +1,5 @@
-//! The two ranks of an item, as types. The searches of `iddqd_store` are generic over the rank, and these types tell
-//! them which key is meant.
+//! The two ranks of an item, as types. The searches of `iddqd_store` are generic over the rank, and these types say
+//! which key is meant.
 use crate::item::BiHashItem;
 use iddqd_store::KeyOf;
 use std::hash::Hash;

@@ -10,13 +10,13 @@
 //!
 //! With ITEMS the line begins a new map with that many items, (1, 10, 100), (2, 20, 200) and so on with two keys,
 //! where the last number is the value. With ROOM the map is made with that capacity. Without ITEMS the line goes on
-//! with the map of the line before. CALL names the functions to call, one on the result of another, as
+//! with the map of the line before. CALL names the functions to call, one on the result of another, for example
 //! `entry.or_insert`. The NUMBERs are keys, items, or a number of items.
 //!
-//! The answer to a line is the line itself, a colon, and what the call returned. If the third argument is `costs`, it
-//! goes on with how many keys were compared, hashed and dropped, and how many allocations were requested. At its end
-//! are the number of items and the capacity. With !REQUEST that allocation of the call fails. tests/refuse.c counts
-//! allocations and makes one fail, if it is loaded into the program; otherwise the count is 0.
+//! The answer to a line is the line itself, a colon, and what the call returned. If the third argument is `costs`, the
+//! answer goes on with how many keys were compared, hashed and dropped, and how many allocations were requested. At its
+//! end are the number of items and the capacity. With !REQUEST the allocation of the call that has this number fails.
+//! tests/refuse.c counts allocations and makes one fail, if it is loaded into the program; otherwise the count is 0.
 #![tactic(auto)]
 
 use iddqd_bi::DefaultHashBuilder;

@@ -71,7 +71,7 @@ fn answer_of(reply: BiReply<'_, Item>) -> Answer {
     }
 }
 
-/// Returns what a reply says that returns an item or data.
+/// Returns what a reply with an item or data says.
 fn refusal_of(reply: BiReply<'_, Item>) -> Answer {
     match reply {
         BiReply::Duplicate(refused) => {
@@ -104,9 +104,10 @@ pub(crate) fn answered<S: BuildHasher>(
     Some(heard.answer)
 }
 
-/// Runs the list of commands of the call of this name, with a sink that returns a fault at the reply behind the first `most`. The
-/// first number is `most`. If no other follows, the answer has the number of replies that the sink got. Else it is the reply
-/// of that number, and the numbers behind it are the items of the list. Making the list of commands is not measured.
+/// Runs the list of commands of the call of this name, with a sink that returns a fault at the reply after the first
+/// `most`. The first number is `most`. If no other follows, the answer has the number of replies that the sink got.
+/// Otherwise it is the reply of that number, and the numbers after it are the items of the list. Making the list of
+/// commands is not measured.
 pub(crate) fn run<S: BuildHasher>(
     map: &mut BiHashMap<Item, S>,
     gauge: &mut Gauge,

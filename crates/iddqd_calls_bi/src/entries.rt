@@ -83,7 +83,7 @@ fn if_occupied<S: BuildHasher>(
     }
 }
 
-/// Does the same as `and_modify`, for an occupied entry.
+/// Does what `and_modify` does, for an occupied entry.
 fn for_each<S: BuildHasher>(entry: &mut OccupiedEntry<'_, Item, S>) -> Answer
     requires { HasFound ⟦<Item as Ranked>⟧.key_tests entry.old }
     ensures { HasFound ⟦<Item as Ranked>⟧.key_tests entry.new }

@@ -179,8 +179,8 @@ pub(crate) fn answered<S: Builder>(
     }
 }
 
-/// Answers whether the map equals a map of these items, from either side. The other map reserves capacity for so many items
-/// before they are inserted.
+/// Answers whether the map equals a map of these items, from either side. The other map reserves capacity for that many
+/// items before they are inserted.
 fn compared<S: Builder>(
     map: &BiHashMap<Item, S>,
     alloc: Global,

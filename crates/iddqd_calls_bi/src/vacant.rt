@@ -23,13 +23,14 @@ fn refused(error: EntryError<Item>) -> Answer {
     back(Answer::of(word, row_of(error.item())), error.into_item())
 }
 
-/// Does so for an error that borrows the map. The answer has the item once more.
+/// Answers why an item came back, and the item, for an error that borrows the map. The answer has the item once more.
 fn refused_by<S: BuildHasher>(error: EntryRefusal<'_, Item, S>) -> Answer {
     let shown = row_of(error.error().item());
     refused(error.into_error()).with(shown)
 }
 
-/// Does so for the error of a call whose closure may fail, and then returns the item that it was to make.
+/// Answers why an item came back, and the item, for the error of a call whose closure may fail. The closure then
+/// returns the item that it was to make.
 fn not_tried<S: BuildHasher>(error: TryEntryRefusal<'_, Item, Item, S>) -> Answer {
     let shown = match error.error() {
         TryEntryError::Closure(item) => row_of(item),

@@ -119,7 +119,7 @@ fn changed<S: Builder>(
     }
 }
 
-/// Answers how many items an iteration gave, and whether it always said how many were left, also behind its end.
+/// Answers how many items an iteration gave, and whether it always said how many were left, also after its end.
 fn stepped(lent: usize, is_exact: bool) -> Answer {
     Answer::said(if is_exact { "lent" } else { "inexact" }).at(lent)
 }
@@ -194,7 +194,7 @@ fn retain<S: BuildHasher>(map: &mut BiHashMap<Item, S>) -> Answer {
     Answer::said("asked").at(asked)
 }
 
-/// Removes some item, as often as there are items, and once more. The answer has how many were removed.
+/// Calls `pop` as often as there are items, and once more. The answer has how many were removed.
 fn pop_each<S: BuildHasher>(map: &mut BiHashMap<Item, S>) -> Answer {
     let mut popped: usize = 0;
     for _ in 0..=map.len() {

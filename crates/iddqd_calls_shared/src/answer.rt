@@ -83,7 +83,7 @@ impl Answer {
         self
     }
 
-    /// Returns the answer with the items of another one behind its own, or with a `-` if that one has none.
+    /// Returns the answer with the items of another one after its own, or with a `-` if that one has none.
     pub fn behind(mut self, other: Answer) -> Self {
         if other.length == 0 {
             return self.at_place(None);
@@ -101,8 +101,7 @@ impl Answer {
     }
 }
 
-/// How many items were added, and the sum of each of their numbers. It tells which items these were in whatever order they
-/// came.
+/// How many items were added, and the sum of each of their numbers. It does not depend on the order in which they came.
 #[derive(Clone, Copy)]
 pub struct Sum {
     items: usize,

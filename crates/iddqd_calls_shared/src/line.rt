@@ -29,7 +29,7 @@ pub fn line_of<'l>(alloc: Global, text: &'l str) -> Result<Line<'l>, AllocError>
     Ok(line)
 }
 
-/// Takes a word: one before the call, the call itself, or a number behind it.
+/// Takes a word: one before the call, the call itself, or a number after it.
 fn put<'l>(line: &mut Line<'l>, word: &'l str) -> Result<(), AllocError> {
     if !line.call.is_empty() {
         if let Ok(number) = word.parse::<u64>() {
@@ -46,7 +46,7 @@ fn put<'l>(line: &mut Line<'l>, word: &'l str) -> Result<(), AllocError> {
     Ok(())
 }
 
-/// Reads a word before the call that begins a map, or returns `None` if the word is no such word.
+/// Reads a word before the call that begins a map, or returns `None` for any other word.
 fn begins_of(word: &str) -> Option<Begins> {
     match word.split_once("/") {
         Some((items, room)) => {

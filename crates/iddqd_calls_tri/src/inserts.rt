@@ -115,7 +115,7 @@ fn conflicts<S: BuildHasher>(map: &TriHashMap<Item, S>, item: Item) -> Answer {
     answer
 }
 
-/// Inserts an item and removes it again, a thousand times. The answer has how often it was there to be removed.
+/// Inserts an item and removes it again, a thousand times. The answer has how often the item was found and removed.
 fn insert_and_remove<S: BuildHasher>(map: &mut TriHashMap<Item, S>, mut item: Item) -> Answer {
     let Ok(key) = item.key1.clone() else {
         return back(Answer::said("memory"), item);

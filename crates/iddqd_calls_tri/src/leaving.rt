@@ -1,4 +1,4 @@
-//! Calls by which items leave the map one by one, along a cursor.
+//! Calls that remove items from the map one by one, at a cursor.
 use crate::guards::back;
 use crate::item::Item;
 use crate::lookups::taken;
@@ -37,8 +37,8 @@ fn is_multiple(item: &Item, of: u64) -> bool {
     of != 0 && item.key1.number() % of == 0
 }
 
-/// Removes the items whose first key is a multiple of a number, and goes on once more behind the last one. The answer
-/// has how often the closure was called, and the items that were removed.
+/// Removes the items whose first key is a multiple of a number, and calls once more after the last one. The answer has
+/// how often the closure was called, and the items that were removed.
 fn extract_each<S: BuildHasher>(map: &mut TriHashMap<Item, S>, of: u64) -> Answer {
     let mut at = Cursor::new();
     let mut asked: usize = 0;
@@ -66,7 +66,7 @@ fn extract_next<S: BuildHasher>(map: &mut TriHashMap<Item, S>, of: u64) -> Answe
     taken(item).at(asked)
 }
 
-/// Removes one item after another, and goes on once more behind the last one. The answer has how many were removed.
+/// Removes one item after another, and calls once more after the last one. The answer has how many were removed.
 fn pop_each<S: BuildHasher>(map: &mut TriHashMap<Item, S>) -> Answer {
     let mut at = Cursor::new();
     let mut popped: usize = 0;

@@ -122,7 +122,7 @@ fn given_of(gauge: &Gauge, line: &Line<'_>) -> Result<Given, AllocError> {
     })
 }
 
-/// Reads the keys, and the item behind them.
+/// Reads the keys, and the item after them.
 fn keys_and_item(counts: &Rc<Counts>, numbers: &[u64]) -> Result<Given, AllocError> {
     match numbers {
         [key1, key2, key3, rest @ ..] => {

@@ -179,7 +179,7 @@ pub(crate) fn answered<S: Builder>(
     }
 }
 
-/// Answers whether the map equals a map of these items, from either side. The other map reserves capacity for so many
+/// Answers whether the map equals a map of these items, from either side. The other map reserves capacity for that many
 /// items before they are inserted.
 fn compared<S: Builder>(
     map: &TriHashMap<Item, S>,

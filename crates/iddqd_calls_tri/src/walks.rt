@@ -1,5 +1,5 @@
-//! What iterators give, how many items they say are left, and what becomes of those that end early; and a clone of
-//! which the map is built anew.
+//! What iterators give, how many items they say are left, and what happens if they are dropped early; and a map that is
+//! built anew from its clone.
 use crate::item::{Item, row_of};
 use crate::leaving;
 use iddqd_calls_shared::answer::{Answer, Sum};
@@ -37,7 +37,7 @@ fn sum<S: BuildHasher>(map: &TriHashMap<Item, S>) -> Answer {
     sum.answer()
 }
 
-/// Does as `sum` does for the items that the map lends for writing.
+/// Does what `sum` does, for the items that the map lends for writing.
 fn sum_mut<S: BuildHasher>(map: &mut TriHashMap<Item, S>) -> Answer {
     let mut sum = Sum::none();
     let mut items = map.iter_mut();
@@ -49,7 +49,7 @@ fn sum_mut<S: BuildHasher>(map: &mut TriHashMap<Item, S>) -> Answer {
     sum.answer()
 }
 
-/// Does as `sum` does for the items that the map gives by value. It leaves an empty map.
+/// Does what `sum` does, for the items that the map gives by value. It leaves an empty map.
 fn sum_by_value<S: Builder>(map: &mut TriHashMap<Item, S>, alloc: Global) -> Answer {
     let map = mem::replace(map, TriHashMap::default(alloc));
     let mut sum = Sum::none();
@@ -60,8 +60,7 @@ fn sum_by_value<S: Builder>(map: &mut TriHashMap<Item, S>, alloc: Global) -> Ans
     sum.answer()
 }
 
-/// Answers whether an iterator said at each step how many items were left, also behind its end, and how many there
-/// were.
+/// Answers whether an iterator said at each step how many items were left, also after its end, and how many there were.
 fn hinted<S: BuildHasher>(map: &TriHashMap<Item, S>) -> Answer {
     let mut items = map.iter();
     let mut is_exact = true;
@@ -73,7 +72,7 @@ fn hinted<S: BuildHasher>(map: &TriHashMap<Item, S>) -> Answer {
     Answer::said(if is_exact { "exact" } else { "inexact" }).at(map.len())
 }
 
-/// Does as `hinted` does for the items that the map gives by value. It leaves an empty map.
+/// Does what `hinted` does, for the items that the map gives by value. It leaves an empty map.
 fn hinted_by_value<S: Builder>(map: &mut TriHashMap<Item, S>, alloc: Global) -> Answer {
     let length = map.len();
     let mut items = mem::replace(map, TriHashMap::default(alloc)).into_iter();

@@ -11,8 +11,8 @@ use iddqd_text::to_write::ToWrite;
 use std::process::ExitCode;
 use std::{env, io};
 
-/// The exit status is 0 if each line was run, 1 at a fault, and 2 if a line is malformed or the arguments are not one
-/// kind.
+/// The exit status is 0 if each line was run, 1 at a fault, and 2 if a line is malformed or the arguments do not name
+/// one kind.
 fn main(rt: HostRuntime) -> ExitCode {
     let (status, message) = match asked(arguments(&rt)) {
         Err(fault) => ending(&Err(fault)),
@@ -30,7 +30,7 @@ fn main(rt: HostRuntime) -> ExitCode {
     ExitCode::from(status)
 }
 
-/// Returns the arguments behind the program's name. It fails if one is not UTF-8, or if memory runs out.
+/// Returns the arguments after the program's name. It fails if one is not UTF-8, or if memory runs out.
 fn arguments(rt: &HostRuntime) -> io::Result<Vec<String>> {
     let mut arguments = Vec::new(rt.alloc());
     for argument in env::args(rt)?.skip(1) {

@@ -65,7 +65,7 @@ fn is_due(fails_after: &mut Option<usize>) -> bool {
 }
 
 /// A writer that takes at most `most` bytes at a time. If `fails_at` is set, one write fails, after that many bytes
-/// were taken: with this error, or, if there is none, by taking no byte.
+/// were taken: with this error or, if there is none, by taking no byte.
 #[derive(Drop)]
 struct PartWriter {
     taken: Vec<u8>,

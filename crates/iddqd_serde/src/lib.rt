@@ -5,8 +5,8 @@
 //! and `DeserializeOwned`.
 //!
 //! A map is written as the sequence of its items, each once, in the order of `iter`. It is read from such a sequence, item by
-//! item. The first item that has a key of an item before it is an error of the format's own kind, which a format such as
-//! `serde_json` ends with the line and the column. So is a lack of memory.
+//! item. An item that has a key of an item before it is an error of the format's own kind, which a format such as
+//! `serde_json` ends with the line and the column. A lack of memory is such an error too.
 //!
 //! What is proved of reading is that each item that was read is in the map (`reads`): the map has as many items as the
 //! sequence, and no two of them have an equal key of the same rank. Nothing is said of which items these are, since the

@@ -20,7 +20,7 @@ pub fn serialize<T: TriHashItem + Serialize, S: BuildHasher, Out: Serializer>(
     map: &TriHashMap<T, S>,
     out: &mut Out,
 ) -> Result<(), Out::Error>
-    // Between the marks of a sequence of as many items as the map has, each item writes what it writes.
+    // A sequence of as many items as the map has begins, each item is written, and the sequence ends.
     ensures { OnOk result (WritesSeq T.writes (bag map.now) (Out.written out.old) (Out.written out.new)) }
 {
     out.begin_seq(Some(map.len()))?;
@@ -33,11 +33,11 @@ pub fn serialize<T: TriHashItem + Serialize, S: BuildHasher, Out: Serializer>(
 /// Reads a map from a sequence of items, which may borrow from the input.
 ///
 /// The call fails at the first item that has an equal key of the same rank as an item before it, with the error that
-/// the format makes of a message of one's own, and at the first item for which there is no memory. Else the error is
-/// that of the format or of an item. There is no map then.
+/// the format makes from a message of the reader, and at the first item for which there is no memory. Any other error
+/// is that of the format or of an item. There is no map then.
 ///
 /// Each item is inserted when it is read: its keys are hashed once, and searched for once. The map grows as it does by
-/// inserts, and no list of the items is made beside it.
+/// inserts, and no list of the items is made.
 pub fn deserialize<'de, T: Ranked + Deserialize<'de>, S: BuildHasher + Default + Drop, F: Format>(
     alloc: Global,
     from: &mut Deserializer<'de, '_, F>,
@@ -96,8 +96,8 @@ fn put<T: Ranked + Drop, S: BuildHasher + Drop, F: Format>(
     }
 }
 
-/// A map that is written and read as a sequence: `Seq(map)` can be written by itself, as `serde_json::to_string(alloc,
-/// &Seq(map))`, and `Seq(map)` is what is read. It costs nothing beside the map.
+/// A map that is written and read as a sequence: `Seq(map)` can be written by itself, for example by
+/// `serde_json::to_string(alloc, &Seq(map))`, and `Seq(map)` is what is read. It takes no memory beside the map.
 #[derive(Drop)]
 pub struct Seq<T: TriHashItem, S: BuildHasher = DefaultHashBuilder>(pub TriHashMap<T, S>);
 
@@ -106,7 +106,7 @@ impl<T: TriHashItem + Described, S: BuildHasher> Described for Seq<T, S> {
 }
 
 impl<T: TriHashItem + Serialize, S: BuildHasher> Serialize for Seq<T, S> {
-    /// As the function `serialize`.
+    /// Does what the function `serialize` does.
     fn serialize<Out: Serializer>(&self, out: &mut Out) -> Result<(), Out::Error> {
         serialize(&self.0, out)
     }
@@ -114,7 +114,7 @@ impl<T: TriHashItem + Serialize, S: BuildHasher> Serialize for Seq<T, S> {
 
 impl<'de, T: Ranked + Deserialize<'de>, S: BuildHasher + Default + Drop> Deserialize<'de>
     for Seq<T, S> {
-    /// As the function `deserialize`.
+    /// Does what the function `deserialize` does.
     fn deserialize<F: Format>(
         alloc: Global,
         from: &mut Deserializer<'de, '_, F>,
@@ -127,7 +127,7 @@ impl<'de, T: Ranked + Deserialize<'de>, S: BuildHasher + Default + Drop> Deseria
 }
 
 impl<T: Ranked + DeserializeOwned, S: BuildHasher + Default + Drop> DeserializeOwned for Seq<T, S> {
-    /// As the function `deserialize_owned`.
+    /// Does what the function `deserialize_owned` does.
     fn deserialize_owned<F: Format>(
         alloc: Global,
         from: &mut Deserializer<'_, '_, F>,

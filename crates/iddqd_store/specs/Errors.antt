@@ -2,7 +2,7 @@
 use Rattle.std.specs.Prelude.{refl}
 use Rattle.std.specs.Coded.{Coded, code_by, coded×}
 
--- A contract sees of a `DuplicateItem` the item that was rejected, and the items that conflict with it.
+-- Contracts see a `DuplicateItem` as the item that was rejected and the items that conflict with it.
 -- Example: (1, 20), and (1, 10), (2, 20).
 pub record Duplicates (T L : Type 0) : Type 0 where
   pub new_item : T

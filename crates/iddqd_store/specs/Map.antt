@@ -12,8 +12,8 @@ use Rattle.iddqd_store.specs.Slots.Found.{StandAt}
 use Rattle.iddqd_store.specs.Slots.{get, live_items}
 use Rattle.iddqd_store.specs.Table.Limit.{most_room}
 
--- A contract sees of a map the items by their slots, the capacity, and the hash builder. Public clauses cite the
--- slots as `bag` alone.
+-- Contracts see a map as its items by their slots, its capacity, and its hash builder. Public clauses cite the slots
+-- only as `bag`.
 -- Example: The slots `Some (1, 10)`, `None`, `Some (2, 20)`, and the capacity 7.
 pub record Map (T S : Type 0) : Type 0 where
   pub slots : List (Option T)
@@ -26,12 +26,12 @@ map_code {T} {S} t s =
     (λ m. (m.slots, (m.capacity, m.builder))) (λ p. record { slots = p.0; capacity = p.1.0; builder = p.1.1 }) (λ _. refl)
 
 -- `bag` lists the items of the map. Their order means nothing.
--- Example: Of the slots `Some (1, 10)`, `None`, `Some (2, 20)` it is (1, 10), (2, 20).
+-- Example: For the slots `Some (1, 10)`, `None`, `Some (2, 20)` it is (1, 10), (2, 20).
 abbrev pub bag : {T S : Type 0} → Map T S → List T
 bag m = live_items m.slots
 
 -- `hash_of` is the hash that `hash_one` of the builder gives for what a key writes.
--- Example: Under a builder that gives every key the same hash, it is that hash.
+-- Example: With a builder that gives every key the same hash, it is that hash.
 abbrev pub hash_of : {S H : Type 0} → builder.Ghosts S H → hasher.Ghosts H → S → HashWrites → ℕ
 hash_of b h s writes = h.finish (fold h.write (b.build_hasher s) writes)
 
@@ -46,7 +46,7 @@ pub record Gains {T S : Type 0} (old : Map T S) (item : T) (new : Map T S) : Typ
   pub same_builder : new.builder ≡ old.builder
 
 -- Exactly the items of `gone` left the map, and nothing else changes.
--- Example: A map of the bag loses (2, 20), and has (1, 10), (3, 30) then.
+-- Example: A map of the bag that loses (2, 20) has (1, 10), (3, 30) then.
 pub record Loses {T S : Type 0} (old : Map T S) (gone : List T) (new : Map T S) : Type 0 where
   pub items : IsPermutation (bag old) (gone ++ bag new)
   pub same_room : new.capacity ≡ old.capacity
@@ -81,8 +81,8 @@ pub record GrowsUnless {T S : Type 0} (fits : Type 0) (old new : Map T S) : Type
   pub same_room : fits → new.capacity ≡ old.capacity
   pub same_builder : new.builder ≡ old.builder
 
--- After `Ok`, `more` items fit beside those that are there. The call fails only if they fitted neither before nor
--- after it, and always if no map can hold them. The capacity grows only if they did not fit, and the builder stays.
+-- After `Ok`, `more` items fit beside those that are there. The call fails only if they fit neither before nor after
+-- it, and it always fails if no map can hold them. The capacity grows only if they did not fit, and the builder stays.
 -- Example: With 3 items and the capacity 7, 4 more fit and nothing changes, and for 5 more the capacity has to be 8 at
 -- least.
 pub record MakesRoom {T S A E : Type 0} (old : Map T S) (more : ℕ) (result : Result A E) (new : Map T S) : Type 0 where

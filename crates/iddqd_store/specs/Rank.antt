@@ -1,4 +1,4 @@
--- One rank of keys: what tells items apart by it, their hashes, what a search by it asks for, and what it costs.
+-- One rank of keys: how it tells items apart, their hashes, what a search by it asks for, and what the search costs.
 pub mod Asking
 pub mod Index
 pub mod Keys
@@ -23,12 +23,12 @@ module _ {T K : Type 0} where
 
 module _ {T K S H : Type 0} where
   -- `key_hash` is the hash of an item's key of this rank.
-  -- Example: Under a builder that gives every key the same hash, it is that hash.
+  -- Example: With a builder that gives every key the same hash, it is that hash.
   abbrev pub key_hash : (T → K) → (K → HashWrites) → builder.Ghosts S H → hasher.Ghosts H → S → T → ℕ
   key_hash key input build hash s x = hash_of build hash s (input (key x))
 
 -- The items of the bag that pass the test have equal keys by `agree`, and they have this hash.
--- Example: It holds of the test whether the first key is 2, and of the hash of 2.
+-- Example: It holds for the test whether the first key is 2, and the hash of 2.
 pub record NamesOneUnder {T : Type 0} (agree : T → T → Bool) (hash_of : T → ℕ) (hash : ℕ) (test : T → Bool) (bag : List T) : Type 0 where
   pub one : NamesOneOf agree test bag
   pub hashed : (x : T) → Contains bag x → test x ≡ true → hash_of x ≡ hash
@@ -54,7 +54,7 @@ module _ {T : Type 0} where
   abbrev pub IsPlaceOf : (T → ℕ) → List T → T → Spot → Type 0
   IsPlaceOf hash_of bag x spot = IsVacantFor hash_of bag (hash_of x) spot
 
--- A contract sees of the outcome of a search by a hash the slot that it found, if any, and the hash.
+-- Contracts see the outcome of a search by a hash as the slot that it found, if any, and the hash.
 -- Example: `Some 2` and the hash 5.
 pub record SlotUnder : Type 0 where
   pub slot : Option ℕ
@@ -67,7 +67,8 @@ module _ {T : Type 0} where
 
 -- The pair of the item in this slot is in the table, and the item has the hash of the search if the search found the
 -- slot. No public clause of a map cites it.
--- Example: With the pairs (5, 0), (6, 2) it holds of an item of the hash 6 in the slot 2, and a search for 6 that found 2.
+-- Example: With the pairs (5, 0), (6, 2) it holds for an item with the hash 6 in the slot 2, and a search for 6 that
+-- found 2.
 pub record IsPaired {T : Type 0} (hash : T → ℕ) (pairs : List (ℕ × ℕ)) (found : SlotUnder) (at : ℕ) (x : T) : Type 0 where
   pub pair : Contains pairs (hash x, at)
   pub known : found.slot ≡ Some at → hash x ≡ found.hash
@@ -80,8 +81,8 @@ abbrev pub walks_within : ℕ → List ℕ → ℕ
 walks_within n [] = 0
 walks_within n (w ∷ ws) = w * (n + 1) + walks_within n ws
 
--- A removal by a key costs what a search costs that finds nothing (`SearchCosts`), and then, if it removes an item, `walks` through the
--- tables of the other ranks (`walks_within`).
+-- A removal by a key costs as much as a search that finds nothing (`SearchCosts`) and, if it removes an item, `walks`
+-- through the tables of the other ranks (`walks_within`).
 -- Example: With 3 items, two ranks and a hash of its own for each key it asks at most once, and probes at most 8 cells.
 pub record TakingCosts {T A : Type 0} (hash_of : T → ℕ) (bag : List T) (room hash : ℕ) (walks : List ℕ) (answer : Option A) (asks asks_then look look_then : ℕ) : Type 0 where
   pub between : ℕ
@@ -90,31 +91,32 @@ pub record TakingCosts {T A : Type 0} (hash_of : T → ℕ) (bag : List T) (room
   pub absent : IfNone answer (look_then ≡ between)
 
 -- `has_found` tells whether a search found this slot.
--- Example: If the search found the slot 2, it is true of 2 and false of 3.
+-- Example: If the search found the slot 2, it is true for 2 and false for 3.
 abbrev pub has_found : SlotUnder → ℕ → Bool
 has_found found at = option_map_or (λ s. s == at) found.slot false
 
 module _ {T : Type 0} where
-  -- `walks_one` counts the walks that put a pair under the hash of a search in the place of the pair of the item `gone`: none if
-  -- both hashes are equal, and else one that removes a pair and one that inserts it.
-  -- Example: For an item of the hash 5 and a search for 6 it is 2.
+  -- `walks_one` counts the walks that put a pair under the hash of a search in the place of the pair of the item
+  -- `gone`: none if both hashes are equal, otherwise one that removes a pair and one that inserts it.
+  -- Example: For an item with the hash 5 and a search for 6 it is 2.
   abbrev pub walks_one : (T → ℕ) → SlotUnder → T → ℕ
   walks_one hash found gone = if hash gone == found.hash then 0 else 2
 
-  -- `walks_two` counts those that put one pair in the place of two, of which the second is of the slot `at`. If the search found that
-  -- slot, one walk removes the first pair, and one ends at the second, which gets another number. Else one walk removes
-  -- the second pair, and then the first is replaced (`walks_one`).
+  -- `walks_two` counts the walks that put one pair in the place of two, of which the second is that of the slot `at`.
+  -- If the search found that slot, one walk removes the first pair, and one ends at the second, which gets another
+  -- number. Otherwise one walk removes the second pair, and then the first is replaced (`walks_one`).
   -- Example: If the search found the second item, it is 2.
   abbrev pub walks_two : (T → ℕ) → SlotUnder → ℕ → T → ℕ
   walks_two hash found at gone = if has_found found at then 2 else walks_one hash found gone + 1
 
-  -- `walks_three` counts those that put one pair in the place of three, of which the second and the third are of these slots. One
-  -- walk removes one of both pairs that the search did not find, and then two pairs are replaced (`walks_two`).
+  -- `walks_three` counts the walks that put one pair in the place of three, of which the second and the third are those
+  -- of these slots. One walk removes one of these two pairs, which the search did not find, and then two pairs are
+  -- replaced (`walks_two`).
   -- Example: If the search found the third item, it is 3.
   abbrev pub walks_three : (T → ℕ) → SlotUnder → ℕ → ℕ → T → ℕ
   walks_three hash found second third gone = if has_found found third then 3 else walks_two hash found second gone + 1
 
--- A search by one rank needs that no two items have equal keys, and that the table has the pairs of their hashes. No
+-- A search by one rank requires that no two items have equal keys, and that the table has the pairs of their hashes. No
 -- clause of a map cites it.
 -- Example: In the slots `Some a`, `None`, `Some b` the table has the pairs of a with 0 and of b with 2.
 pub record IsSearchable {T : Type 0} (agree : T → T → Bool) (hash : T → ℕ) (slots : List (Option T)) (pairs : List (ℕ × ℕ)) : Type 0 where

@@ -37,7 +37,7 @@ pub use vacancy::Vacancy;
 /// are occupied depends only on the hashes of the pairs and the number of cells (`cell_at`), and not on the order in
 /// which pairs were inserted and removed.
 ///
-/// To read what a cell has is a probe. Only `Cells::cell_at` does so, and it counts the probe on the meter that it is
+/// Reading what a cell has is a probe. Only `Cells::cell_at` probes, and it counts the probe on the meter that it is
 /// given. The clauses `look`, `looks`, `no_look` and `costs` count probes. Growth and `clone` also copy cells, which is
 /// no probe. A public function whose clauses count no probes makes a meter of its own: in this file only `try_reserve`.
 /// The script `tests/forms` lists all functions that make one.
@@ -72,8 +72,8 @@ fn with_cells(alloc: Global, count: usize) -> Result<IndexTable, TryReserveError
 // the cells.
 //
 // An old cell without a pair is copied too, over an empty cell. So no branch depends on whether an old cell has a pair,
-// which the processor cannot predict. One empty cell serves for all such copies, until a pair takes it. Then the next empty
-// cell behind it does, so all such copies together go round the new cells at most once.
+// which the processor cannot predict. One empty cell serves for all such copies, until a pair takes it. Then the next
+// empty cell after it serves, so all such copies together go round the new cells at most once.
 fn regrown(
     alloc: Global,
     cells: &Cells,

@@ -21,8 +21,8 @@ pub trait Command: Drop {
     // What a run of commands on a new map prints.
     ghost Prints: { List Self → List ℕ → Type 0 };
 
-    /// Returns the command that a word with these numbers spells, or `None` if it spells none. It allocates memory
-    /// for a list of items alone.
+    /// Returns the command that a word with these numbers spells, or `None` if it spells none. It allocates memory only
+    /// for a list of items.
     fn command_of(alloc: Global, word: Word, numbers: &[u64]) -> Result<Option<Self>, AllocError>
         ensures { IfOk result (λ found. option_map spelled found ≡ command_of word numbers.now) };
 

@@ -3,7 +3,7 @@ ghost use Rattle.std.specs.Prelude.{◌≡◌, ◌<◌, ◌≤◌, ◌∷◌, �
 ghost use Rattle.std.specs.List.{prefix_len};
 ghost use Rattle.iddqd_text.specs.Lines.{lines_of};
 
-/// Returns the first line, without its line feed, and the text behind it.
+/// Returns the first line, without its line feed, and the text after it.
 #[tactic(auto, using(crate::proofs::Cutting::first_line, crate::proofs::Cutting::last_line))]
 pub fn cut(rest: &[u8]) -> (&[u8], &[u8])
     requires { 0 < length rest.now }

@@ -4,7 +4,7 @@ ghost use Rattle.std.specs.List.{before_first, position_or_len};
 ghost use Rattle.std.specs.Option.{option_map};
 ghost use Rattle.iddqd_text.specs.Numbers.{number_of, pushed};
 
-/// Reads the number that the first field spells, and returns it with the bytes behind the field. It returns `None` if
+/// Reads the number that the first field spells, and returns it with the bytes after the field. It returns `None` if
 /// the field spells no number of 64 bits.
 pub fn first_number(fields: &[u8]) -> Option<(u64, &[u8])>
     ensures number { option_map (λ found. found.0) result ≡ number_of (before_first (λ b. b == 32) fields.now) }

@@ -49,8 +49,8 @@ impl From<AllocError> for RunFault {
 /// Returns the kind of map that the arguments ask for, given the result of reading them, or `None` if they ask for
 /// none.
 ///
-/// Arguments that cannot be read ask for none, as one that is not UTF-8. It fails only if there was no memory to read
-/// them.
+/// Arguments that cannot be read, for example one that is not UTF-8, ask for none. It fails only if there was no memory
+/// to read them.
 pub fn asked(read: io::Result<Vec<String>>) -> Result<Option<Kind>, RunFault>
     ensures read { IfOk read (λ arguments. result ≡ Ok (kind_of (map string_bytes arguments.items))) }
     ensures memory { IfErr read (λ error. error_kind error ≡ ErrorKind.OutOfMemory → result ≡ Err RunFault.Memory) }
@@ -65,8 +65,8 @@ pub fn asked(read: io::Result<Vec<String>>) -> Result<Option<Kind>, RunFault>
     }
 }
 
-/// Returns the kind of map that the arguments behind the program's name ask for: two keys for `bi` alone, three for
-/// `tri` alone, and `None` for all else.
+/// Returns the kind of map that the arguments after the program's name ask for: two keys for `bi` alone, three for
+/// `tri` alone, and `None` for anything else.
 pub fn kind_of(arguments: &[String]) -> Option<Kind>
     ensures { result ≡ kind_of (map string_bytes arguments.now) }
 {

@@ -67,8 +67,8 @@ pub fn command_of_line<C: Command>(
     C::command_of(alloc, word, numbers.as_slice())
 }
 
-/// Replaces the list by the numbers of the fields behind the first one, and returns whether each of these fields
-/// spells a number.
+/// Replaces the list by the numbers of the fields after the first one, and returns whether each of these fields spells
+/// a number.
 #[tactic(auto, using(crate::proofs::Fields::numbers_first, crate::proofs::Fields::numbers_more, crate::proofs::Fields::numbers_none))]
 fn read_numbers(text: &[u8], numbers: &mut Vec<u64>) -> Result<bool, AllocError>
     ensures { IfOk result (λ all. numbers_of (drop 1 (slice_split (λ b. b == 32) text.now)) ≡

@@ -9,8 +9,8 @@ use std::alloc::Global;
 
 /// Reads all bytes of a source, and keeps them in memory. While it reads it has a buffer of 64 KiB too.
 ///
-/// It fails with `Read` at the first read that fails, and tries none again. It fails with `Memory` if memory runs
-/// out, as it does for a source that never ends.
+/// It fails with `Read` at the first read that fails, and tries none again. It fails with `Memory` if memory runs out,
+/// for example for a source that never ends.
 pub fn read_all<R: Source>(alloc: Global, source: &mut R) -> Result<Vec<u8>, RunFault>
     ensures text { IfOk result (λ text. IfSome (R.left source.old) (λ bytes. text.items ≡ bytes)) }
     ensures to_the_end { OnOk result (IsAtEnd (R.left source.new)) }
@@ -21,7 +21,7 @@ pub fn read_all<R: Source>(alloc: Global, source: &mut R) -> Result<Vec<u8>, Run
     read_pieces(alloc, source, &mut piece)
 }
 
-/// Does so with this buffer, which it overwrites.
+/// Reads all bytes of a source with this buffer, which it overwrites.
 fn read_pieces<R: Source>(
     alloc: Global,
     source: &mut R,

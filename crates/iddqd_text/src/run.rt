@@ -22,7 +22,7 @@ use std::alloc::{AllocError, Global};
 /// If a line is malformed, it runs no line, and writes only a message that names the first such line.
 ///
 /// It fails with `Read` or `Write` at the first read or write that fails, and tries none again. The input, the
-/// commands and the output are kept in memory. If memory for these runs out, as it does for an input that never ends,
+/// commands and the output are kept in memory. If memory for these runs out, for example for an input that never ends,
 /// it fails with `Memory`. If the map runs out of memory, that is a reply and no fault.
 pub fn run_text<R: Source, W: Out>(
     alloc: Global,
@@ -59,7 +59,7 @@ fn answer(alloc: Global, kind: Kind, input: &[u8]) -> Result<(RunEnd, String), A
     }
 }
 
-/// Does so for the commands of one kind.
+/// Returns how the run of a text ends, and what it prints, for the commands of one kind.
 fn answer_of<C: Command>(alloc: Global, input: &[u8]) -> Result<(RunEnd, String), AllocError>
     ensures { IfOk result (λ answer.
         IsAnswer C.command_of C.spelled C.Prints input.now answer.0 (string_bytes answer.1)) }

@@ -4,7 +4,7 @@ use crate::print::line_of;
 use iddqd_store::{MapReply, ShortList};
 use std::alloc::{AllocError, Global};
 
-/// Keeps the line of each reply, one behind the other.
+/// Keeps the line of each reply, one after the other.
 #[derive(Drop)]
 pub struct LineSink {
     alloc: Global,
@@ -50,8 +50,8 @@ impl LineSink {
             (value_by L.list G.list reply.entry) result (string_bytes self.new.text) }
     {
         match reply {
-            // These lines do not need the buffer, since one word is appended whole or not at all. The function is inlined, so
-            // a caller that knows its reply appends the word, and does not look at the reply again.
+            // These lines do not need the buffer, since one word is appended whole or not at all. The function is
+            // inlined, so a caller that knows its reply appends the word, and does not match on the reply again.
             MapReply::Done => self.text.push_str("ok\n"),
             MapReply::Found(None) => self.text.push_str("none\n"),
             MapReply::AbsentData(_) => self.text.push_str("none\n"),

@@ -1,4 +1,4 @@
--- What a map ends as, where the data of the item that a search found was written.
+-- What a map ends as, if the data of the item that a search found was written.
 use Rattle.std.specs.Prelude.{◌≡◌, ℕ, Bool, [], ◌∷◌, Option, None, Some, IsSome, IsPermutation}
 use Rattle.std.proofs.Common.{refl, sym, ap, ◌∙◌}
 use Rattle.iddqd_store.specs.Bag.{IsOnly, Ranks, swap}

@@ -1,11 +1,11 @@
--- What a refusal for memory says.
+-- What an error for lack of memory says.
 use Rattle.std.specs.Prelude.{◌≡◌, ℕ, List}
 use Rattle.std.proofs.Common.{sym, ap, subst, ◌∙◌}
 use Rattle.iddqd_tri.specs.Refused.{MatchRefusal, refusal_item}
 use Rattle.iddqd_tri.specs.declared.map.slots.Refusal.{Refusal}
 use Rattle.iddqd_tri.specs.declared.map.slots.Refusal.TheVariants.{Memory}
 
--- of a refusal for memory, the reason and the item
+-- an error for lack of memory has that reason and the item
 module _ {T : Type 0} (r : Refusal T) (x : T) (is : r ≡ Memory x) where
   pub memory_reason : (P : List ℕ → Type 0) (Q : Type 0) → MatchRefusal r P Q → Q
   memory_reason P Q reason = subst (λ s. MatchRefusal s P Q) is reason

@@ -1,4 +1,4 @@
--- Each run from a sound bag ends in a sound bag, where other data leaves an item its keys.
+-- Each run from a sound bag ends in a sound bag, if other data does not change an item's keys.
 use Rattle.std.proofs.Common.{◌≡◌, Bool, true, List, Result}
 use Rattle.iddqd_store.specs.Bag.{AreLawful, IsSound, agrees}
 use Rattle.iddqd_store.specs.Runs.Reply.{Reply}
@@ -13,7 +13,7 @@ use Rattle.iddqd_tri.specs.declared.command.TriCommand.TheVariants.{InsertUnique
 
 module _ {T D K1 K2 K3 : Type 0} (of : item.Ghosts T K1 K2 K3) (eq1 : K1 → K1 → Bool) (eq2 : K2 → K2 → Bool) (eq3 : K3 → K3 → Bool) (put : T → D → T) (laws : AreLawful (ranks of eq1 eq2 eq3))
     (keeps : (x : T) (d : D) → agrees (ranks of eq1 eq2 eq3) x (put x d) ≡ true) where
-  -- the same of one step
+  -- the same holds for one step
   pub IsSound-Step : (old new : State T) (command : TriCommand T D K1 K2 K3) (reply : Reply T D) → IsSound (ranks of eq1 eq2 eq3) old.items → Step of eq1 eq2 eq3 put old command reply new → IsSound (ranks of eq1 eq2 eq3) new.items
   IsSound-Step old new (InsertUnique x) reply sound step = IsSound-InsertsUnique (ranks of eq1 eq2 eq3) laws old new sound x reply step
   IsSound-Step old new (InsertOverwrite x) reply sound step = IsSound-InsertsOverwrite (ranks of eq1 eq2 eq3) laws old new sound x reply step

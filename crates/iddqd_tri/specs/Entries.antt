@@ -78,7 +78,7 @@ module _ {T S K1 K2 K3 H : Type 0} where
     pub same2 : p.slot2 ≡ o.slot2
     pub same3 : p.slot3 ≡ o.slot3
 
-  -- The call failed as the closure did, with its error.
+  -- The call failed because the closure failed, and returns the closure's error.
   -- Example: If the closure returned `Err e`, the error is `Closure e`.
   abbrev pub FailsAsClosure : {E M : Type 0} → E → Result M (TryEntryRefusal T E S K1 K2 K3 H) → Type 0
   FailsAsClosure error (Ok m) = ⊥
@@ -102,7 +102,7 @@ module _ {T S K1 K2 K3 H : Type 0} where
   abbrev pub held : OccupiedEntryMut T S K1 K2 K3 H → List T
   held m = held_at m.map.now.slots (m.slot1 ∷ m.slot2 ∷ m.slot3 ∷ [])
 
-  -- `held_entry` is what is held for writing, as `Entry` has it.
+  -- `held_entry` is what is held for writing, as an `Entry`.
   -- Example: If every key names a, it is `unique a`.
   abbrev pub held_entry : OccupiedEntryMut T S K1 K2 K3 H → bags.Entry T
   held_entry m = entry_at m.map.now.slots (m.slot1 ∷ m.slot2 ∷ m.slot3 ∷ [])
@@ -123,11 +123,11 @@ module _ {T S K1 K2 K3 H : Type 0} where
   abbrev pub held_unique : OccupiedEntryMut T S K1 K2 K3 H → Option T
   held_unique m = option_and_then (get m.map.now.slots) (head_of (found_by_all (m.slot1 ∷ m.slot2 ∷ m.slot3 ∷ [])))
 
-  -- `held_with` is what is held, with `f` of the item of this slot in its place in the map.
+  -- `held_with` is what is held, where `f` of the item of this slot has replaced it in the map.
   abbrev held_with : OccupiedEntryMut T S K1 K2 K3 H → Option ℕ → (T → T) → OccupiedEntryMut T S K1 K2 K3 H
   held_with m slot f = record m { map = record m.map { now = map_with_if m.map.now slot f } }
 
-  -- `held_with1` is what is held, with `f` of the item with the first key in its place in the map.
+  -- `held_with1` is what is held, where `f` of the item with the first key has replaced it in the map.
   -- Example: If that item is a, the map has `f a` in its place.
   abbrev pub held_with1 : OccupiedEntryMut T S K1 K2 K3 H → (T → T) → OccupiedEntryMut T S K1 K2 K3 H
   held_with1 m f = held_with m m.slot1 f
@@ -138,7 +138,7 @@ module _ {T S K1 K2 K3 H : Type 0} where
   abbrev pub held_with3 : OccupiedEntryMut T S K1 K2 K3 H → (T → T) → OccupiedEntryMut T S K1 K2 K3 H
   held_with3 m f = held_with m m.slot3 f
 
-  -- `held_with_unique` is what is held, with `f` of the item that has all keys in its place in the map.
+  -- `held_with_unique` is what is held, where `f` of the item that has all keys has replaced it in the map.
   -- Example: If that item is a, the map has `f a` in its place.
   abbrev pub held_with_unique : OccupiedEntryMut T S K1 K2 K3 H → (T → T) → OccupiedEntryMut T S K1 K2 K3 H
   held_with_unique m f = held_with m (head_of (found_by_all (m.slot1 ∷ m.slot2 ∷ m.slot3 ∷ []))) f
@@ -161,7 +161,7 @@ module _ {T S K1 K2 K3 H : Type 0} where
     pub unchanged : IfOk result (λ m. m.map.now ≡ o.map.now)
     pub holds : HasFound (key_tests of eq1 eq2 eq3) o → IfOk result (HoldsFound of eq1 eq2 eq3 o)
 
-  -- `entry_with1` is the entry, with `f` of the item with the first key in its place in the map.
+  -- `entry_with1` is the entry, where `f` of the item with the first key has replaced it in the map.
   -- Example: If that item is a, the map has `f a` in its place.
   abbrev pub entry_with1 : OccupiedEntry T S K1 K2 K3 H → (T → T) → OccupiedEntry T S K1 K2 K3 H
   entry_with1 o f = record o { map = record o.map { now = map_with_if o.map.now o.slot1 f } }
@@ -203,7 +203,7 @@ module _ {T S Q K1 K2 K3 H : Type 0} {of : item.Ghosts T K1 K2 K3} {eq1 : equal.
     pub key3 : entry_key3 e ≡ k3
 
   -- `entry_value` is what the entry has found.
-  -- Example: It is `vacant` of a vacant entry, and `unique a` of an occupied one all of whose keys name a.
+  -- Example: It is `vacant` for a vacant entry, and `unique a` for an occupied one all of whose keys name a.
   abbrev pub entry_value : Entry T S Q K1 K2 K3 H of eq1 input1 eq2 input2 eq3 input3 build hashes q → bags.Entry T
   entry_value (Vacant e) = vacant
   entry_value (Occupied e) = entry_at e.map.now.slots (e.slot1 ∷ e.slot2 ∷ e.slot3 ∷ [])
@@ -213,26 +213,26 @@ module _ {T S Q K1 K2 K3 H : Type 0} {of : item.Ghosts T K1 K2 K3} {eq1 : equal.
   abbrev pub wanted : VacantEntry T S Q K1 K2 K3 H of eq1 input1 eq2 input2 eq3 input3 build hashes q → List (T → Bool)
   wanted e = key_tests of eq1.eq eq2.eq eq3.eq (q.first e.keys) (q.second e.keys) (q.third e.keys)
 
-  -- If the entry is vacant, then `P` holds of it.
-  -- Example: It holds of an occupied entry.
+  -- If the entry is vacant, then `P` holds for it.
+  -- Example: The word holds for any occupied entry.
   abbrev pub OnVacant : Entry T S Q K1 K2 K3 H of eq1 input1 eq2 input2 eq3 input3 build hashes q → (VacantEntry T S Q K1 K2 K3 H of eq1 input1 eq2 input2 eq3 input3 build hashes q → Type 0) → Type 0
   OnVacant (Vacant e) P = P e
   OnVacant (Occupied e) P = ⊤
 
-  -- If the entry is occupied, then `P` holds of it.
-  -- Example: It holds of a vacant entry.
+  -- If the entry is occupied, then `P` holds for it.
+  -- Example: The word holds for any vacant entry.
   abbrev pub OnOccupied : Entry T S Q K1 K2 K3 H of eq1 input1 eq2 input2 eq3 input3 build hashes q → (OccupiedEntry T S K1 K2 K3 H → Type 0) → Type 0
   OnOccupied (Vacant e) P = ⊤
   OnOccupied (Occupied e) P = P e
 
-  -- The item `x` went into this very map (`Gains`), and the guard `r` borrows it.
+  -- The item `x` was inserted into this very map (`Gains`), and the guard `r` borrows it.
   -- Example: A map of a, b becomes `x`, a, b, and `ref_item r` is `Some x`.
   pub record GainsAndLends (e : VacantEntry T S Q K1 K2 K3 H of eq1 input1 eq2 input2 eq3 input3 build hashes q) (x : T) (r : RefMut T S K1 K2 K3 H of eq1 input1 eq2 input2 eq3 input3 build hashes) : Type 0 where
     pub same_map : ref_lender r ≡ e.map.ghost_name
     pub item : ref_item r ≡ Some x
     pub gains : Gains e.map.now x (ref_map r)
 
-  -- The item `x` went into this very map (`Gains`), and is held for writing, by each of its keys.
+  -- The item `x` was inserted into this very map (`Gains`), and is held for writing, by each of its keys.
   -- Example: A map of a, b becomes `x`, a, b, and `held` is `x`.
   pub record GainsAndHolds (e : VacantEntry T S Q K1 K2 K3 H of eq1 input1 eq2 input2 eq3 input3 build hashes q) (x : T) (m : OccupiedEntryMut T S K1 K2 K3 H) : Type 0 where
     pub same_map : m.map.ghost_name ≡ e.map.ghost_name
@@ -245,7 +245,7 @@ module _ {T S Q K1 K2 K3 H : Type 0} {of : item.Ghosts T K1 K2 K3} {eq1 : equal.
     pub by_key2 : held2 m ≡ Some x
     pub by_key3 : held3 m ≡ Some x
 
-  -- The item `x` went into the map of the vacant entry and is held for writing (`GainsAndHolds`), or the error
+  -- The item `x` was inserted into the map of the vacant entry and is held for writing (`GainsAndHolds`), or the error
   -- returns it (`HandsBack`) and the map is as it was. The call succeeds if `x` has the keys of the entry and the map
   -- is not full.
   -- Example: If `x` has another first key than the entry, the error is `Key1 x`.
@@ -256,7 +256,7 @@ module _ {T S Q K1 K2 K3 H : Type 0} {of : item.Ghosts T K1 K2 K3} {eq1 : equal.
     pub unchanged : IfErr result (λ refusal. refusal.map.now ≡ e.map.now)
     pub hands_back : IfErr result (λ refusal. HandsBack (ranks of eq1.eq eq2.eq eq3.eq) (wanted e) e.map.now x refusal.error)
 
-  -- The item `x`, which a closure made, went into the map of the vacant entry and is held for writing
+  -- The item `x`, which a closure made, was inserted into the map of the vacant entry and is held for writing
   -- (`GainsAndHolds`), or the error is that of the entry and returns it (`HandsBack`). The call succeeds if `x` has the
   -- keys of the entry and the map is not full.
   -- Example: If `x` has another first key than the entry, the error is `Insert (Key1 x)`.
@@ -266,8 +266,7 @@ module _ {T S Q K1 K2 K3 H : Type 0} {of : item.Ghosts T K1 K2 K3} {eq1 : equal.
     pub granted : differ (wanted e) x ≡ None → length (bag e.map.now) < e.map.now.capacity → IsOk result
     pub hands_back : IfErr result (λ refusal. IsInsert refusal.error (HandsBack (ranks of eq1.eq eq2.eq eq3.eq) (wanted e) e.map.now x))
 
-  -- What comes of the answer of the closure: the item that it made is put in (`PutsMadeIn`), or its error is returned
-  -- (`FailsAsClosure`).
+  -- The item that the closure made is inserted (`PutsMadeIn`), or the closure's error is returned (`FailsAsClosure`).
   -- Example: If it returned `Ok x`, and `x` has the keys of the entry, then `x` is in the map unless that was full.
   abbrev pub PutsInMade : {E : Type 0} → VacantEntry T S Q K1 K2 K3 H of eq1 input1 eq2 input2 eq3 input3 build hashes q → Result T E → Result (OccupiedEntryMut T S K1 K2 K3 H) (TryEntryRefusal T E S K1 K2 K3 H) → Type 0
   PutsInMade e (Ok x) result = PutsMadeIn e x result
@@ -289,14 +288,14 @@ module _ {T S Q K1 K2 K3 H : Type 0} {of : item.Ghosts T K1 K2 K3} {eq1 : equal.
     pub places : IsSameEntry before after
 
   -- If the entry is occupied, it has found what its keys name (`HasFound`).
-  -- Example: It holds of a vacant entry.
+  -- Example: It holds for any vacant entry.
   abbrev pub IsFound : Entry T S Q K1 K2 K3 H of eq1 input1 eq2 input2 eq3 input3 build hashes q → Type 0
   IsFound (Vacant e) = ⊤
   IsFound (Occupied e) = HasFound (key_tests of eq1.eq eq2.eq eq3.eq) e
 
 module _ {T S K1 K2 K3 H : Type 0} {of : item.Ghosts T K1 K2 K3} {eq1 : equal.Ghosts K1} {input1 : hash.Ghosts K1} {eq2 : equal.Ghosts K2} {input2 : hash.Ghosts K2} {eq3 : equal.Ghosts K3} {input3 : hash.Ghosts K3} {build : builder.Ghosts S H} {hashes : hasher.Ghosts H} {q : pair.Ghosts (KeyTriple K1 K2 K3) K1 K2 K3} where
-  -- The item `x` went into this very map (`Gains`), and the occupied entry, with the keys of the vacant one, finds it
-  -- alone.
+  -- The item `x` was inserted into this very map (`Gains`), and the occupied entry, with the keys of the vacant one,
+  -- finds it alone.
   -- Example: A map of a, b becomes `x`, a, b, and the entry has found `unique x`.
   pub record GainsAndFinds (tests : K1 → K2 → K3 → List (T → Bool)) (e : VacantEntry T S (KeyTriple K1 K2 K3) K1 K2 K3 H of eq1 input1 eq2 input2 eq3 input3 build hashes q) (x : T) (o : OccupiedEntry T S K1 K2 K3 H) : Type 0 where
     pub same_map : o.map.ghost_name ≡ e.map.ghost_name
@@ -319,7 +318,7 @@ module _ (T S K1 K2 K3 H : RattleType) (of : item.Ghosts T.Denot K1.Denot K2.Den
   abbrev pub held_rests_if_err : {E : Type 0} → MutBor (Map T.Denot S.Denot) → Result (OccupiedEntryMut T.Denot S.Denot K1.Denot K2.Denot K3.Denot H.Denot) E → Fml
   held_rests_if_err m r = follows_so (map_row T S K1 K2 K3 H of keys1 keys2 keys3 build hashes) (map_row T S K1 K2 K3 H of keys1 keys2 keys3 build hashes) m.ghost_name (name_if_ok (λ e. e.map.ghost_name) r) (λ x n. OnOk r (n ≡ x)) (λ n. OnErr r (n ≡ m.now))
 
-  -- `entry_row` is the type of an occupied entry, as the logic has it. No public clause cites it.
+  -- `entry_row` is the type of an occupied entry in the logic. No public clause cites it.
   abbrev pub entry_row : RattleType
   entry_row = occupied_row (record { mir = named 1; lft = [] }) T S K1 K2 K3 H of (record { eq = keys1.eq }) (record { hash_input = keys1.hash_input }) (record { eq = keys2.eq }) (record { hash_input = keys2.hash_input }) (record { eq = keys3.eq }) (record { hash_input = keys3.hash_input }) build hashes
 

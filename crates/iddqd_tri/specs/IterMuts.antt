@@ -13,32 +13,32 @@ use Rattle.iddqd_tri.specs.contracts.iter_mut.IterMut.{the_row}
 
 module _ {T S K1 K2 K3 H : Type 0} where
   -- `rest_of` lists the items that are left to the iteration.
-  -- Example: In a, b, c, of which a has been passed, it is b, c.
+  -- Example: For a, b, c, of which a has been passed, it is b, c.
   abbrev pub rest_of : IterMut T S K1 K2 K3 H → List T
   rest_of it = to_come it.map.now it.next
 
   -- `done_of` lists the items that the iteration has passed, as they were written.
-  -- Example: In a, b, c, of which a has been passed, it is a.
+  -- Example: For a, b, c, of which a has been passed, it is a.
   abbrev pub done_of : IterMut T S K1 K2 K3 H → List T
   done_of it = passed it.map.now it.next
 
-  -- `next_written` is the map, with `f` of the next item in its place.
-  -- Example: In a, b, c, of which a has been passed, it has a, `f b`, c.
+  -- `next_written` is the map, where `f` of the next item has replaced it.
+  -- Example: For a, b, c, of which a has been passed, it has a, `f b`, c.
   abbrev pub next_written : IterMut T S K1 K2 K3 H → (T → T) → Map T S
   next_written it f = record it.map.now { slots = write_next f it.map.now.slots it.next }
 
-  -- `stepped` is the iteration behind the next item, with `f` of that item in its place.
-  -- Example: In a, b, c, of which a has been passed, it has passed a, `f b`.
+  -- `stepped` is the iteration after the next item, where `f` of that item has replaced it.
+  -- Example: For a, b, c, of which a has been passed, it has passed a, `f b`.
   abbrev pub stepped : IterMut T S K1 K2 K3 H → (T → T) → IterMut T S K1 K2 K3 H
   stepped it f = record { map = record it.map { now = next_written it f }; next = after_next it.map.now.slots it.next; left = it.left - 1 }
 
   -- The count that the iteration keeps is the number of items that are left.
-  -- Example: In a, b, c, of which a has been passed, it is 2.
+  -- Example: For a, b, c, of which a has been passed, it is 2.
   abbrev pub IsCounted : IterMut T S K1 K2 K3 H → Type 0
   IsCounted it = it.left ≡ length (rest_of it)
 
   -- There is a next item (`Passes`).
-  -- Example: In a, b, c it holds until c has been passed.
+  -- Example: For a, b, c it holds until c has been passed.
   abbrev pub IsNextOf : IterMut T S K1 K2 K3 H → Type 0
   IsNextOf it = (x : T) × Passes it.map.now it.next x (next_written it) (after_next it.map.now.slots it.next)
 
@@ -46,8 +46,8 @@ module _ (T S K1 K2 K3 H : RattleType) (of : item.Ghosts T.Denot K1.Denot K2.Den
   abbrev pub iter_row : RattleType
   iter_row = the_row (record { mir = named 1; lft = [] }) T S K1 K2 K3 H of (record { eq = keys1.eq }) (record { hash_input = keys1.hash_input }) (record { eq = keys2.eq }) (record { hash_input = keys2.hash_input }) (record { eq = keys3.eq }) (record { hash_input = keys3.hash_input }) build hashes
 
-  -- What is written through `r` is the data of the next item, and the iteration is behind it. If there is no `r`, the
+  -- What is written through `r` is the data of the next item, and the iteration has passed it. If there is no `r`, the
   -- iteration stays.
-  -- Example: In a, b, c, of which a has been passed, if d is written, it has passed a, `put b d`.
+  -- Example: For a, b, c, of which a has been passed, if d is written, it has passed a, `put b d`.
   abbrev pub lends_next : (D : RattleType) → (T.Denot → D.Denot → T.Denot) → MutBor (IterMut T.Denot S.Denot K1.Denot K2.Denot K3.Denot H.Denot) → Option (MutBor D.Denot) → Fml
   lends_next D put m r = LendsIf iter_row D m r (λ d. stepped m.now (λ x. put x d)) m.now

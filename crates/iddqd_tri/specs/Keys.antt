@@ -33,7 +33,7 @@ module _ {T K1 K2 K3 : Type 0} (of : item.Ghosts T K1 K2 K3) where
   has_all stands1 stands2 stands3 q1 q2 q3 = every_of (key_tests stands1 stands2 stands3 q1 q2 q3)
 
 module _ {T : Type 0} (hash1 hash2 hash3 : T → ℕ) where
-  -- For each rank, a pair under its hash goes into this cell of its table. Of what is public, only the ghost field
+  -- For each rank, a pair with its hash goes into this cell of its table. Among public items, only the ghost field
   -- `vacant` of `VacantEntry` cites it.
   pub record AreVacantFor (bag : List T) (h1 h2 h3 : ℕ) (at : Spot × Spot × Spot) : Type 0 where
     pub first : IsVacantFor hash1 bag h1 at.0
@@ -62,7 +62,7 @@ pub record HaveRoom (room : ℕ) (at : Spot × Spot × Spot) : Type 0 where
   pub second : room ≤ at.1.cells / 8 * 7
   pub third : room ≤ at.2.cells / 8 * 7
 
--- `slots_found` has for each rank the slot that a search found, or none. No public clause cites it.
+-- `slots_found` has for each rank the slot that a search found, or `None`. No public clause cites it.
 abbrev pub slots_found : Result (Spot × Spot × Spot) (SlotUnder × SlotUnder × SlotUnder) → List (Option ℕ)
 slots_found (Ok at) = None ∷ None ∷ None ∷ []
 slots_found (Err found) = found.0.slot ∷ found.1.slot ∷ found.2.slot ∷ []

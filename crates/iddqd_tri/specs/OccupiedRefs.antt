@@ -5,19 +5,19 @@ use Rattle.iddqd_tri.specs.declared.entry.occupied_ref.OccupiedEntryRef.TheVaria
 
 module _ {T : Type 0} where
   -- `is_one` tells whether one item has all keys.
-  -- Example: Of `Unique a` it is true.
+  -- Example: For `Unique a` it is true.
   abbrev pub is_one : OccupiedEntryRef T → Bool
   is_one (Unique x) = true
   is_one (NonUnique x1 x2 x3) = false
 
   -- `seen_unique` is the item that has all keys, if there is one.
-  -- Example: Of `Unique a` it is `Some a`.
+  -- Example: For `Unique a` it is `Some a`.
   abbrev pub seen_unique : OccupiedEntryRef T → Option T
   seen_unique (Unique x) = Some x.now
   seen_unique (NonUnique x1 x2 x3) = None
 
   -- `seen1` is the item with the first key, if there is one.
-  -- Example: Of `Unique a` it is `Some a`.
+  -- Example: For `Unique a` it is `Some a`.
   abbrev pub seen1 : OccupiedEntryRef T → Option T
   seen1 (Unique x) = Some x.now
   seen1 (NonUnique x1 x2 x3) = option_copied x1

@@ -1,4 +1,4 @@
--- An item in the place of another, whatever their keys are.
+-- An item that replaces another, whatever their keys are.
 use Rattle.std.specs.Prelude.{◌≡◌, ◌≢◌, ◌≤◌, Bool, List, [], ◌∷◌, length, Some, None, IsPermutation}
 use Rattle.iddqd_store.specs.Bag.{IsOnly, Ranks, clash}
 use Rattle.iddqd_store.specs.Map.{Map, bag}
@@ -6,15 +6,14 @@ use Rattle.iddqd_tri.specs.declared.error.NotReplaced.{NotReplaced}
 use Rattle.iddqd_tri.specs.declared.error.NotReplaced.TheVariants as unreplaced
 
 module _ {T : Type 0} where
-  -- `left_out` is the item that was not put in the place of another.
-  -- Example: Of `Absent x` it is `x`.
+  -- `left_out` is the item that did not replace another.
+  -- Example: For `Absent x` it is `x`.
   abbrev pub left_out : NotReplaced T → T
   left_out (unreplaced.Absent x) = x
   left_out (unreplaced.Conflict x) = x
 
-  -- The map has `y` in the place of its item `x`: with `x` beside it, it has the items that it had with `y` beside it.
-  -- Nothing else changes. Example: A map of the bag in which (4, 10) is in the place of (1, 10) has (4, 10), (2, 20),
-  -- (3, 30).
+  -- In the map `y` has replaced the item `x`: the new items and `x` are the old items and `y`. Nothing else changes.
+  -- Example: A map of the bag in which (4, 10) is in the place of (1, 10) has (4, 10), (2, 20), (3, 30).
   pub record PutsInPlace {S : Type 0} (old : Map T S) (x y : T) (new : Map T S) : Type 0 where
     pub items : IsPermutation (x ∷ bag new) (y ∷ bag old)
     pub fits : length (bag new) ≤ new.capacity
@@ -23,8 +22,7 @@ module _ {T : Type 0} where
 
   -- `Absent` says that no item of the bag passes the test; `Conflict` says that one does, and that something conflicts
   -- with `y` in the bag without that one.
-  -- Example: In the bag, (1, 20) does not go in the place of the item with the first key 1, since (2, 20) conflicts
-  -- with it.
+  -- Example: In the bag, (1, 20) cannot replace the item with the first key 1, since (2, 20) conflicts with it.
   abbrev pub TellsWhyNot : Ranks T → (T → Bool) → List T → T → NotReplaced T → Type 0
   TellsWhyNot ranks test old y (unreplaced.Absent e) = IsOnly test old None
   TellsWhyNot ranks test old y (unreplaced.Conflict e) =

@@ -1,4 +1,4 @@
--- One step of a map with three keys: each command with what it may answer.
+-- One step of a map with three keys: each command with what it may return.
 use Rattle.std.specs.Prelude.{Bool}
 use Rattle.iddqd_store.specs.Runs.Reply.{Reply}
 use Rattle.iddqd_store.specs.Runs.Step.{State, InsertsUnique, InsertsOverwrite, Gets, Tells, Removes, Reserves, ShrinksTo, Clears, Sizes, Lists, Extends, ExtendsUnique, EntryInserts, EntryRemoves, OrInserts, Replaces, Sets}

@@ -75,12 +75,12 @@ pub enum KeyMismatch<T> {
     Key3(T),
 }
 
-/// The error of `rekey1` and its like: the new item, which did not replace another.
+/// The error of `rekey1`, `rekey2`, `rekey3`: the new item, which did not replace another.
 #[derive(Drop)]
 pub enum NotReplaced<T> {
-    /// No item has the key asked for.
+    /// No item has the key that was asked for.
     Absent(T),
-    /// An item has it, and another item than that one conflicts with the new item.
+    /// An item has that key, but some other item conflicts with the new item.
     Conflict(T),
 }
 
@@ -277,8 +277,8 @@ impl<T: Ranked, S: BuildHasher> InsertError<'_, T, S> {
         &self.item
     }
 
-    /// Returns why the item was not inserted: `Duplicate` if an item of the map conflicts with it, else `Memory`. The
-    /// call compares no key.
+    /// Returns why the item was not inserted: `Duplicate` if an item of the map conflicts with it, otherwise `Memory`.
+    /// The call compares no key.
     pub fn reason(&self) -> InsertReason
         ensures duplicate { result ≡ InsertReason.Duplicate → clash T.ranks (bag self.now.map.now) self.now.item ≢ [] }
         ensures memory { result ≡ InsertReason.Memory → clash T.ranks (bag self.now.map.now) self.now.item ≡ [] }

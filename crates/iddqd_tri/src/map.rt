@@ -30,13 +30,13 @@ mod write;
 
 pub use collect::{ClonesHashes, ClonesKeys};
 
-/// The default builder of hashers, which is std's, with a fixed seed. It does not protect against strangers who choose
+/// The default builder of hashers, which is std's, with a fixed seed. It does not protect against attackers who choose
 /// keys with equal hashes. For such keys make the map by `with_hasher(alloc, RandomState::new(&rt)?)`.
 pub type DefaultHashBuilder = BuildHasherDefault<FoldHasher>;
 
 /// A hash map of items with three keys. No two items of a map have an equal key of the same rank.
 ///
-/// The items stand in numbered slots, and for each rank a table leads from the hash of a key to the slot of its item. A
+/// The items are in numbered slots, and for each rank a table leads from the hash of a key to the slot of its item. A
 /// lookup by one key hashes it once, and compares at most as many keys as items have that hash.
 #[derive(Drop)]
 pub struct TriHashMap<T: TriHashItem, S: BuildHasher = DefaultHashBuilder> {

@@ -8,7 +8,7 @@ ghost use Rattle.iddqd_bi.specs.Map.{bag};
 use iddqd_bi::{BiHashItem, BiHashMap, Query};
 use std::hash::{BuildHasher, Hash};
 
-/// A symbol, known by its name and by where it lies: in which section, and how far from its start.
+/// A symbol, known by its name and by its place: the section, and the distance from the section's start.
 #[derive(Drop)]
 pub struct Symbol {
     pub name: String,

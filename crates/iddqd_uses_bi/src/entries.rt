@@ -117,7 +117,7 @@ where
     }
 }
 
-/// Does the same by a call of the occupied entry, with a closure that may always be called.
+/// Does what `modify_both` does by a call of the occupied entry, with a closure that may always be called.
 pub fn modify_found<'a, T: BiHashItemMut, S: BuildHasher, F: FnMut(&T) -> T::Data>(
     map: &'a mut BiHashMap<T, S>,
     key1: &'a T::K1,
@@ -205,7 +205,7 @@ where
     }
 }
 
-/// Inserts an item if no item has one of two keys, and else writes data into the item that has both, if there is one.
+/// Inserts an item if no item has one of two keys. Otherwise writes data into the item that has both, if there is one.
 pub fn insert_or_write<'a, T: BiHashItemMut + Drop, S: BuildHasher>(
     map: &'a mut BiHashMap<T, S>,
     key1: &'a T::K1,

@@ -26,11 +26,11 @@ pub fn insert_or_drop<T: Ranked + Drop, S: BuildHasher>(map: &mut BiHashMap<T, S
 }
 
 /// Inserts two items, one after the other, and returns whether both were inserted: they are, if nothing conflicts and
-/// there is spare capacity. Otherwise one of them may have been inserted all the same, and the reason for the other is
+/// there is spare capacity. Otherwise one of them may have been inserted nevertheless, and the reason for the other is
 /// known.
 pub fn insert_both<T: Ranked + Drop, S: BuildHasher>(map: &mut BiHashMap<T, S>, a: T, b: T) -> bool
     ensures both { OnTrue result (GainsBoth (bag map.old) a b (bag map.new)) }
-    // Otherwise neither was inserted, or b alone, or a alone.
+    // Otherwise neither was inserted, or only b was, or only a was.
     ensures refused { OnFalse result (((map.new ≡ map.old) × MayRefuse T.ranks map.old a × MayRefuse T.ranks map.old b)
         ⊎ (Gains map.old b map.new × MayRefuse T.ranks map.old a)
         ⊎ (Gains map.old a map.new × MayRefuse T.ranks map.new b)) }

@@ -51,7 +51,7 @@ pub fn add<T: Ranked, S: BuildHasher>(map: &mut BiHashMap<T, S>, item: T) -> Res
     }
 }
 
-/// Does the same by `From`. After an error nothing is known of the map.
+/// Does what `add` does, by `From`. After an error nothing is known of the map.
 pub fn add_by_from<T: Ranked, S: BuildHasher>(
     map: &mut BiHashMap<T, S>,
     item: T,
@@ -67,7 +67,7 @@ pub fn add_by_from<T: Ranked, S: BuildHasher>(
     }
 }
 
-/// Does the same by `map_err` and `?`, after which nothing is known of the map.
+/// Does what `add` does, by `map_err` and `?`, after which nothing is known of the map.
 pub fn add_by_map_err<T: Ranked, S: BuildHasher>(
     map: &mut BiHashMap<T, S>,
     item: T,
@@ -89,7 +89,7 @@ pub fn is_added<T: Ranked + Drop, S: BuildHasher>(map: &mut BiHashMap<T, S>, ite
     map.insert_unique(item).is_ok()
 }
 
-/// Inserts an item, or drops it, and returns how many items there are then. The map is used behind the `match`.
+/// Inserts an item, or drops it, and returns how many items there are then. The map is used after the `match`.
 pub fn add_and_count<T: Ranked + Drop, S: BuildHasher>(map: &mut BiHashMap<T, S>, item: T) -> usize
     ensures count { result ≡ length (bag map.new) }
     ensures went_in { clash T.ranks (bag map.old) item ≡ [] → length (bag map.old) < map.old.capacity

@@ -47,8 +47,8 @@ pub fn register(users: &mut BiHashMap<User>, user: User) -> Result<(), User>
     }
 }
 
-/// Registers all of these users, each of whom the login finds then, or none of them. The error is the first user who
-/// conflicts with a registered one or with one before, or for whom there was no memory.
+/// Registers all of these users, each of whom is then found by the login, or none of them. The error is the first user
+/// who conflicts with a registered one or with an earlier one of the list, or for whom there was no memory.
 pub fn register_all(users: &mut BiHashMap<User>, batch: Vec<User>) -> Result<(), User>
     ensures registered { OnOk result (IsPermutation (bag users.new) (batch.items ++ bag users.old)) }
     ensures found { OnOk result (All (λ u.

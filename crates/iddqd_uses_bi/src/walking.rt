@@ -35,7 +35,7 @@ where
     return false;
 }
 
-/// Writes the data of the first item of an iteration, and returns how many are left behind it. No slot is read to count
+/// Writes the data of the first item of an iteration, and returns how many are left after it. No slot is read to count
 /// them.
 pub fn write_first_and_count<T: BiHashItemMut, S: BuildHasher>(
     map: &mut BiHashMap<T, S>,
@@ -55,8 +55,8 @@ where
     return 0;
 }
 
-/// Returns how many items an iteration for writing has left before its first step. The iteration is then dropped by
-/// name, and the map is as it was.
+/// Returns how many items an iteration for writing has left before its first step. The iteration is then dropped by a
+/// call of `drop`, and the map is as it was.
 pub fn count_by_walk<T: BiHashItem, S: BuildHasher>(map: &mut BiHashMap<T, S>) -> usize
     ensures count { result ≡ length (bag map.old) }
     ensures unchanged { map.new ≡ map.old }

@@ -8,7 +8,7 @@ ghost use Rattle.iddqd_tri.specs.Map.{bag};
 use iddqd_tri::{Query, TriHashItem, TriHashMap};
 use std::hash::{BuildHasher, Hash};
 
-/// A symbol, known by its name, by where it lies (in which section, and how far from its start) and by its number.
+/// A symbol, known by its name, by its place (the section, and the distance from the section's start) and by its number.
 #[derive(Drop)]
 pub struct Symbol {
     pub name: String,

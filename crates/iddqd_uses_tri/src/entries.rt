@@ -121,7 +121,7 @@ where
     }
 }
 
-/// Does the same by a call of the occupied entry, with a closure that may always be called.
+/// Does what `modify_all` does by a call of the occupied entry, with a closure that may always be called.
 pub fn modify_found<'a, T: TriHashItemMut, S: BuildHasher, F: FnMut(&T) -> T::Data>(
     map: &'a mut TriHashMap<T, S>,
     key1: &'a T::K1,
@@ -213,7 +213,7 @@ where
     }
 }
 
-/// Inserts an item if no item has one of three keys, and else writes data into the item that has all, if there is one.
+/// Inserts an item if no item has one of three keys. Otherwise writes data into the item that has all, if there is one.
 pub fn insert_or_write<'a, T: TriHashItemMut + Drop, S: BuildHasher>(
     map: &'a mut TriHashMap<T, S>,
     key1: &'a T::K1,

@@ -1,4 +1,4 @@
-//! Laws that hold of several calls of the map together, for every item type and builder. Each function tests its law,
+//! Laws that hold for several calls of the map together, for every item type and builder. Each function tests its law,
 //! and its contract says that the law holds.
 mod comparing;
 mod finding;

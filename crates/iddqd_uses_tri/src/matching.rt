@@ -1,4 +1,4 @@
-//! What a caller can prove of a search with a matcher of its own, under a hash that the map's builder makes.
+//! What a caller can prove of a search with a matcher of its own, by a hash that the map's builder makes.
 ghost use Rattle.std.specs.Prelude.{◌≡◌, ◌+◌, ◌≤◌, length, refl, option_copied, ⊤};
 ghost use Rattle.std.proofs.Common.{◌∙◌, ap};
 ghost use Rattle.iddqd_tri.specs.Bag.{IsOnly, crowd};

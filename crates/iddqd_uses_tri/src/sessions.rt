@@ -60,8 +60,8 @@ pub fn open<S: BuildHasher>(
     }
 }
 
-/// Opens all of these sessions, each of which its token finds then, or none of them. The error is the first session that
-/// conflicts with an open one or with one before, or for which there was no memory.
+/// Opens all of these sessions, each of which is then found by its token, or none of them. The error is the first
+/// session that conflicts with an open one or with an earlier one of the list, or for which there was no memory.
 pub fn open_all<S: BuildHasher>(
     sessions: &mut TriHashMap<Session, S>,
     batch: Vec<Session>,

@@ -1,4 +1,4 @@
-//! Items of which a key is a reference. For such items no caller of `insert_unique` or of `entry` has a proof on this
+//! Items with a key that is a reference. For such items no caller of `insert_unique` or of `entry` has a proof on this
 //! toolchain. The callers below have one.
 ghost use Rattle.std.specs.Prelude.{◌≡◌, ◌∷◌, ◌<◌, [], nat_eq, length, IsOk, IsPermutation, OnOk, OnErr, IfErr, IfSome, IfNone};
 ghost use Rattle.std.specs.Cmp.Lexicographic.{pointwise};

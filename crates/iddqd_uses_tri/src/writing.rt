@@ -95,7 +95,7 @@ pub fn is_lent1<T: TriHashItem, S: BuildHasher>(map: &mut TriHashMap<T, S>, key:
     map.get1_mut(key).is_some()
 }
 
-/// Does what `write1` does, and returns whether there is such an item. The guard is dropped by name.
+/// Does what `write1` does, and returns whether there is such an item. The guard is dropped by a call of `drop`.
 pub fn write1_and_tell<T: TriHashItemMut, S: BuildHasher>(
     map: &mut TriHashMap<T, S>,
     key: &T::K1,

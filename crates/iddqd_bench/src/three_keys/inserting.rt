@@ -66,7 +66,7 @@ fn filled_with_room(alloc: Global, rows: &[Row], room: usize, way: Way) -> u64 {
     refused.wrapping_add(map.len() as u64)
 }
 
-/// Does so with each part of `number` rows.
+/// Inserts each part of `number` rows into a new map, made with capacity `number`.
 fn fill_parts(alloc: Global, rows: &[Row], number: usize, way: Way) -> u64 {
     let mut sum = 0u64;
     for rows in rows.chunks(number.max(1)) {

@@ -34,7 +34,8 @@ fn come_back(map: &mut BiHashMap<Row>, rows: &[Row]) -> u64 {
     }
 }
 
-/// Does so with a new map. Returns the sum of that and of how many items the map then has.
+/// Extends a new map by the rows, all or none. Returns the sum of how many rows the error has and how many items the
+/// map then has.
 fn extended_unique(alloc: Global, rows: &[Row], whole: bool) -> u64 {
     let mut map = BiHashMap::new(alloc);
     let back = if whole { come_back(&mut map, rows) } else { 0 };

@@ -3,7 +3,7 @@ use super::Row;
 use iddqd_bi::{BiHashItem, BiHashMap};
 use std::alloc::Global;
 
-/// Two keys, and data of 112 bytes.
+/// An item with two keys and 112 bytes of data.
 #[derive(Clone, Copy)]
 struct Large {
     key1: u64,
@@ -45,21 +45,21 @@ fn fill(map: &mut BiHashMap<Large>, rows: &[Row]) -> u64 {
     refused
 }
 
-/// A map with spare capacity for so many items, or for none if there is no memory: the sums say so.
+/// Makes a map with spare capacity for this many items, or for none if there is no memory: then the sums differ.
 fn with_room(alloc: Global, room: usize) -> BiHashMap<Large> {
     let mut map = BiHashMap::new(alloc);
     let _ = map.reserve(room);
     map
 }
 
-/// A map with an item for each row.
+/// Makes a map with an item for each row.
 fn filled(alloc: Global, rows: &[Row]) -> BiHashMap<Large> {
     let mut map = with_room(alloc, rows.len());
     fill(&mut map, rows);
     map
 }
 
-/// Inserts an item for each row of each part of so many rows into a map with spare capacity.
+/// Inserts an item for each row of each part of `number` rows into a map with spare capacity.
 #[unsafe(no_mangle)]
 pub extern "C" fn bi_insert_large(
     alloc: Global,
@@ -111,7 +111,7 @@ fn take_out(map: &mut BiHashMap<Large>, rows: &[Row]) -> u64 {
     sum
 }
 
-/// Fills a map with each part of so many rows, and removes as many items by the first keys of others.
+/// Fills a map with each part of `number` rows, and removes as many items by the first keys of others.
 #[unsafe(no_mangle)]
 pub extern "C" fn bi_remove_large(
     alloc: Global,

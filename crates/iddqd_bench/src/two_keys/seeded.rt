@@ -1,4 +1,4 @@
-//! Loops over the map with two keys under the hasher that std's `RandomState` makes. A loop cannot draw a seed, so its
+//! Loops over the map with two keys and the hasher that std's `RandomState` makes. A loop cannot draw a seed, so its
 //! seed is 0. The time does not depend on the seed.
 use super::Row;
 use iddqd_bi::BiHashMap;
@@ -25,7 +25,7 @@ fn fill(map: &mut Seeded, rows: &[Row]) -> u64 {
     refused
 }
 
-/// Fills a new map with spare capacity for so many items from each part of so many rows.
+/// Fills a new map with spare capacity for `number` items from each part of `number` rows.
 #[unsafe(no_mangle)]
 pub extern "C" fn bi_insert_seeded(
     alloc: Global,

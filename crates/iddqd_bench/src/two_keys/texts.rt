@@ -29,7 +29,7 @@ impl BiHashItem for Named {
     }
 }
 
-/// The first keys of rows as texts of the same length.
+/// Makes the first keys of rows as texts of the same length.
 fn names_of(alloc: Global, rows: &[Row]) -> Result<Vec<String>, AllocError> {
     let mut names = Vec::with_capacity(alloc, rows.len())?;
     for row in rows {
@@ -38,7 +38,7 @@ fn names_of(alloc: Global, rows: &[Row]) -> Result<Vec<String>, AllocError> {
     Ok(names)
 }
 
-/// An item for each row.
+/// Makes an item for each row.
 fn items_of(alloc: Global, rows: &[Row]) -> Result<Vec<Named>, AllocError> {
     let mut items = Vec::with_capacity(alloc, rows.len())?;
     for row in rows {
@@ -79,7 +79,8 @@ fn filled(alloc: Global, rows: &[Row]) -> BiHashMap<Named> {
     map
 }
 
-/// Inserts an item for each row of each part of so many rows into a map with spare capacity. The texts are made before.
+/// Inserts an item for each row of each part of `number` rows into a map with spare capacity. The texts are made
+/// before.
 #[unsafe(no_mangle)]
 pub extern "C" fn bi_insert_texts(
     alloc: Global,
@@ -139,7 +140,7 @@ fn take_out(map: &mut BiHashMap<Named>, names: &[String]) -> u64 {
     sum
 }
 
-/// Fills a map with each part of so many rows, and removes as many items by the texts of others.
+/// Fills a map with each part of `number` rows, and removes as many items by the texts of others.
 #[unsafe(no_mangle)]
 pub extern "C" fn bi_remove_texts(
     alloc: Global,

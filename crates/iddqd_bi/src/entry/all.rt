@@ -32,7 +32,7 @@ impl<'a, T: BiHashItem, S: BuildHasher, Q: Keys<T::K1, T::K2>> Entry<'a, T, S, Q
         }
     }
 
-    /// Inserts what `f` returns, as `or_insert` does. `f` is called once if the entry is vacant, and else not at all.
+    /// Inserts what `f` returns, as `or_insert` does. `f` is called once if the entry is vacant, otherwise not at all.
     pub fn or_insert_with<F: FnOnce() -> T>(
         self,
         f: F,
@@ -51,7 +51,7 @@ impl<'a, T: BiHashItem, S: BuildHasher, Q: Keys<T::K1, T::K2>> Entry<'a, T, S, Q
         }
     }
 
-    /// Inserts the item that `f` returns, as `or_insert` does. `f` is called once if the entry is vacant, and else not
+    /// Inserts the item that `f` returns, as `or_insert` does. `f` is called once if the entry is vacant, otherwise not
     /// at all, so that an item which is not needed is never made.
     ///
     /// If `f` fails, the error is what `f` returned (`TryEntryError::Closure`). If `f` returns an item, the errors are
@@ -71,7 +71,7 @@ impl<'a, T: BiHashItem, S: BuildHasher, Q: Keys<T::K1, T::K2>> Entry<'a, T, S, Q
         ensures same_map { IfOk result (λ m. m.map.ghost_name ≡ entry_lender self.entry) }
         ensures same_map_at_err { IfErr result (λ e. e.map.ghost_name ≡ entry_lender self.entry) }
         ensures unchanged { IfErr result (λ e. e.map.now ≡ entry_map self.entry) }
-        // The answer of the closure decides what happens to a vacant entry. An occupied one has its items.
+        // What the closure returns decides what happens to a vacant entry. An occupied entry keeps its items.
         ensures puts_in { OnVacant self.entry (λ v. (made : Result T E) × F.post f made × PutsInMade v made result) }
         ensures keeps_found { OnOccupied self.entry (λ o. KeepsFound T.BiHashItem T.K1.eq T.K2.eq o result) }
     {

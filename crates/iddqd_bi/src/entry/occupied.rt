@@ -119,7 +119,8 @@ impl<'a, T: BiHashItem, S: BuildHasher> OccupiedEntry<'a, T, S> {
     /// and allocates no memory.
     pub fn insert(&mut self, item: T) -> Result<UpToTwo<T>, KeyMismatch<T>>
         requires { HasFound ⟦<T as Ranked>⟧.key_tests self.old }
-        // `Ok` only for an item with the entry's keys. The items that these found are returned, in their order.
+        // The result is `Ok` only for an item with the entry's keys. The items that these keys found are returned, in
+        // their order.
         ensures same_keys { OnOk result (differ (entry_tests ⟦<T as Ranked>⟧.key_tests self.old) item ≡ None) }
         ensures displaced { IfOk result (λ gone. gone
             ≡ listing (entry_tests ⟦<T as Ranked>⟧.key_tests self.old) (bag self.old.map.now)) }

@@ -8,8 +8,8 @@ use std::hash::{BuildHasher, Hash};
 
 impl<T: BiHashItem, S: BuildHasher> IterMut<'_, T, S> {
     /// Returns how many items are left, in constant time. After steps by `next_data` the contract says that the number
-    /// is exact. After a guard of `next_mut` it is exact too, but no clause says so; there call `count_remaining` to
-    /// prove it.
+    /// is exact. After a guard of `next_mut` the number is exact too, but no clause says that; call `count_remaining`
+    /// there to prove it.
     pub fn len(&self) -> usize
         ensures { IsCounted self.now → result ≡ length (rest_of self.now) }
     {

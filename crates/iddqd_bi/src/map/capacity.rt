@@ -35,10 +35,12 @@ impl<T: Ranked, S: BuildHasher> BiHashMap<T, S> {
         self.room()
     }
 
-    /// Reserves capacity for so many more items. If they fit already, the call allocates no memory. It compares no key.
+    /// Reserves capacity for this many more items. If they fit already, the call allocates no memory. It compares no
+    /// key.
     ///
-    /// The call fails if an allocation for more slots or for a larger table fails, or if so many items are more than
-    /// memory can count. Then the items are as before. The capacity may have grown, but so many more items do not fit.
+    /// The call fails if an allocation for more slots or for a larger table fails, or if the number of items would be
+    /// too large for memory. Then the items are as before. The capacity may have grown, but this many more items do not
+    /// fit.
     pub fn reserve(&mut self, more: usize) -> Result<(), TryReserveError>
         ensures items { bag self.new ≡ bag self.old }
         ensures room { MakesRoom self.old more result self.new }
@@ -73,8 +75,8 @@ impl<T: Ranked, S: BuildHasher> BiHashMap<T, S> {
         self.second.clear();
     }
 
-    /// Returns whether there are items, but so few beside the cells of a table that to remove them one by one takes less
-    /// time than to empty each cell.
+    /// Returns whether there are items, but so few in comparison with the cells of a table that removing them one by
+    /// one takes less time than emptying each cell.
     fn is_sparse(&self) -> bool {
         let items = self.len();
         0 < items && items < self.first.cells() / 64

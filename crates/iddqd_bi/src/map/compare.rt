@@ -15,7 +15,8 @@ use crate::item::BiHashItem;
 use std::hash::{BuildHasher, Hash};
 
 /// Two maps are equal if and only if their items pair off, so that the items of each pair agree in both keys and are
-/// equal by `==`. How the maps came about, their capacity and the state of their builders do not matter.
+/// equal by `==`. It does not matter how the maps were made, what their capacity is, or what state their builders are
+/// in.
 ///
 /// There is at most one search for each item of the left map, by its first key.
 impl<T: BiHashItem + PartialEq, S: BuildHasher> PartialEq for BiHashMap<T, S> {

@@ -1,4 +1,4 @@
-//! Which items an insert would find in its way.
+//! Which items conflict with an item that is to be inserted.
 ghost use Rattle.std.specs.Prelude.{◌≡◌, map};
 ghost use Rattle.iddqd_store.specs.Bag.{order};
 ghost use Rattle.iddqd_store.specs.Map.{bag};
@@ -23,7 +23,7 @@ impl<T: Ranked, S: BuildHasher> BiHashMap<T, S> {
     pub fn conflicts_with(&self, item: &T) -> UpToTwo<&T>
         ensures { map (λ x. x.now) result ≡ order T.ranks (bag self.now) item.now }
     {
-        // The slots are chosen first and borrowed behind the match, so that its arms join before anything is borrowed.
+        // The slots are chosen first and borrowed after the match, so that its arms join before anything is borrowed.
         let found = match self.places(item) {
             Ok(_) => UpToTwo::new(),
             Err(by) => each_once(by.0.slot(), by.1.slot()),

@@ -18,7 +18,7 @@ impl<T: Ranked + Drop, S: BuildHasher> BiHashMap<T, S> {
     /// Inserts the items one by one, as `insert_overwrite` does, and drops the items that this removes.
     ///
     /// First the call reserves capacity for as many items as the iterator promises, or for half as many if the map has
-    /// items, since these may have the same keys. If that fails the call goes on, and the map grows as it fills. If
+    /// items, since these may have the same keys. If that fails, the call goes on, and the map grows as it fills. If
     /// there is no memory for an item, the error has that item. Those before it stay in the map, and the rest are
     /// dropped with the iterator.
     pub fn extend<I: IntoIterator<Item = T>>(&mut self, iter: I) -> Result<(), MemoryRefused<T>>
@@ -55,7 +55,7 @@ impl<T: Ranked + Drop, S: BuildHasher> BiHashMap<T, S> {
         Ok(())
     }
 
-    /// Inserts all the items if none of them conflicts with an item of the map or with another of them, and else none.
+    /// Inserts all the items, or none if one of them conflicts with an item of the map or with another of them.
     ///
     /// If an item conflicts, or if there is no memory for it, the call removes the items before it again. The error has
     /// these in order, that item, and the reason. The rest are dropped with the iterator. For an item that conflicts
@@ -78,7 +78,7 @@ impl<T: Ranked + Drop, S: BuildHasher> BiHashMap<T, S> {
         iter: I,
     ) -> Result<(), ExtendUniqueError<T>>
         requires finite { IsFiniteIterable I.into_iter_gives I.IntoIter.can_next I.IntoIter.remaining iter }
-        // All items are inserted, or none; then the error has those before the rejected item, and that item.
+        // All items are inserted, or none is; then the error has those before the rejected item, and that item.
         ensures all { OnOk result (GivesAll I.into_iter_gives I.IntoIter.next_gives iter
             (AddsTo T.ranks (bag self.old) (bag self.new))) }
         ensures refused { IfErr result (λ e. GivesThen I.into_iter_gives I.IntoIter.next_gives iter e.value

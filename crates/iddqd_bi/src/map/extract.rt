@@ -14,8 +14,8 @@ use std::hash::{BuildHasher, Hash};
 
 impl<T: BiHashItem, S: BuildHasher> BiHashMap<T, S> {
     /// Removes the next item for which `f` returns `true`, and returns it, or `None` if there is none from the cursor
-    /// on. The cursor moves on behind the last item with which `f` was called. The items in front of that one stay, and
-    /// the capacity stays.
+    /// on. The cursor moves on past the last item with which `f` was called. The items before that one stay, and the
+    /// capacity stays.
     ///
     /// Called until it returns `None`, it removes each item for which `f` returns `true` once, as `extract_if` of std
     /// does, and `f` is called once with each item. Between two calls a caller may read the map and write items, but

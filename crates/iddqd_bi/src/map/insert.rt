@@ -32,14 +32,14 @@ impl<T: Ranked, S: BuildHasher> BiHashMap<T, S> {
     /// ```
     #[inline(always)]
     pub fn insert_unique(&mut self, item: T) -> Result<(), InsertError<'_, T, S>>
-        // `Ok` only if nothing conflicts, and then always if there is spare capacity.
+        // The result is `Ok` only if nothing conflicts, and then always if there is spare capacity.
         ensures free { OnOk result (clash T.ranks (bag self.old) item ≡ []) }
         ensures granted { clash T.ranks (bag self.old) item ≡ []
             → length (bag self.old) < self.old.capacity → IsOk result }
-        // The error has the item and borrows the map as it was. It comes for a conflict or in a full map only.
+        // The error has the item and borrows the map as it was. It occurs only for a conflict or in a full map.
         ensures handed_back { IfErr result (λ e. HandsBackAndHolds self.entry item e) }
         ensures reason { OnErr result ((clash T.ranks (bag self.old) item ≢ []) ⊎ IsFullFor T.ranks self.old item) }
-        // How the map ends, once the error is gone: with the item after `Ok`, else as it was.
+        // Once the error is gone, the map has the item after `Ok`, and otherwise it is as it was.
         ensures* ends { sem 𝓛 (ends_as T.row S.row T.K1.row T.K2.row S.Hasher.row
             T.BiHashItem T.K1.Hash T.K2.Hash S.BuildHasher S.Hasher.Hasher
             self.entry result (λ new. Gains self.old item new)) }
@@ -72,12 +72,13 @@ impl<T: Ranked, S: BuildHasher> BiHashMap<T, S> {
     ///
     /// `match map.try_insert(item) { Ok(()) => {}, Err(e) => report(e.taken1, e.item) }`
     pub fn try_insert(&mut self, item: T) -> Result<(), Rejected<T>>
-        // `Ok` only if nothing conflicts, and then always if there is spare capacity.
+        // The result is `Ok` only if nothing conflicts, and then always if there is spare capacity.
         ensures gains { OnOk result (Gains self.old item self.new) }
         ensures free { OnOk result (clash T.ranks (bag self.old) item ≡ []) }
         ensures granted { clash T.ranks (bag self.old) item ≡ []
             → length (bag self.old) < self.old.capacity → IsOk result }
-        // The error has the item and says which keys are taken, or none, in a full map only. The map is as it was.
+        // The error has the item and says which keys are taken. In a full map it may say that none is. The map is as it
+        // was.
         ensures handed_back { IfErr result (λ e. e.item ≡ item) }
         ensures unchanged { OnErr result (self.new ≡ self.old) }
         ensures reason { IfErr result (λ e. TellsWhy T.BiHashItem T.K1.eq T.K2.eq self.old item e) }

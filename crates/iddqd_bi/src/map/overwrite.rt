@@ -27,8 +27,8 @@ impl<T: Ranked, S: BuildHasher> BiHashMap<T, S> {
         ensures unchanged { OnErr result (self.new ≡ self.old) }
         ensures reason { OnErr result (IsFullFor T.ranks self.old item) }
     {
-        // Of the calls below, `put_over` and the growth of a full map are not inlined. The rest is, so a caller's loop
-        // branches on the outcome where it arises, and writes no list of removed items if there are none.
+        // Of the calls below, `put_over` and the growth of a full map are not inlined. The rest is inlined, so a
+        // caller's loop branches on the outcome where it arises, and writes no list of removed items if there are none.
         let mut meter = Meter::new();
         match self.places(&item) {
             Ok(at) => {

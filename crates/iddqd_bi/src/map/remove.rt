@@ -36,8 +36,8 @@ impl<T: BiHashItem, S: BuildHasher> BiHashMap<T, S> {
     /// Removes the item whose first key the matcher accepts, and returns it, or `None` if there is none. All first keys
     /// of items that the matcher accepts must be equal to each other and have this hash.
     ///
-    /// In the table of the first rank the call costs what `find1_with` costs if it finds nothing. Then it walks once through
-    /// each other table, if it removes an item.
+    /// In the table of the first rank the call costs as much as a call of `find1_with` that finds nothing. If it
+    /// removes an item, it then walks once through each other table.
     fn remove1_by<M: KeyMatcher<T::K1>>(
         &mut self,
         hash: u64,
@@ -95,8 +95,8 @@ impl<T: BiHashItem, S: BuildHasher> BiHashMap<T, S> {
     /// Removes the item whose second key the matcher accepts, and returns it, or `None` if there is none. All second keys
     /// of items that the matcher accepts must be equal to each other and have this hash.
     ///
-    /// In the table of the second rank the call costs what `find2_with` costs if it finds nothing. Then it walks once through
-    /// each other table, if it removes an item.
+    /// In the table of the second rank the call costs as much as a call of `find2_with` that finds nothing. If it
+    /// removes an item, it then walks once through each other table.
     fn remove2_by<M: KeyMatcher<T::K2>>(
         &mut self,
         hash: u64,

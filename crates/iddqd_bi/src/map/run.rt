@@ -26,7 +26,7 @@ where
     T::Data: Drop,
 {
     /// Carries out the commands in order, and hands each reply to the sink. The run ends at the sink's first fault,
-    /// which it returns. The run has carried out the command of that reply, and none behind it.
+    /// which it returns. The run has carried out the command of that reply, and none after it.
     pub fn run<K: BiSink<T>>(
         &mut self,
         commands: Vec<BiCommand<T>>,
@@ -42,8 +42,8 @@ where
         Ok(())
     }
 
-    /// Carries out one command, and hands its reply to the sink. An error is a fault of the sink; the call has carried
-    /// out the command all the same.
+    /// Carries out one command, and hands its reply to the sink. An error is a fault of the sink; the command was
+    /// carried out nevertheless.
     pub fn apply<K: BiSink<T>>(
         &mut self,
         command: BiCommand<T>,
@@ -170,8 +170,9 @@ where
     }
 
     // Hands a reply to the sink. `capacity` is called for the fact that the items fit, which the clauses of each of
-    // these functions say, since those of each step do. A reply that borrows nothing would leave its lifetime open, so
-    // each reply is handed over from a borrow of the map. The function is inlined, so that the sink's code knows the reply.
+    // these functions state, because the clauses of each step state it. A reply that borrows nothing would leave its
+    // lifetime open, so each reply is handed over from a borrow of the map. The function is inlined, so that the sink's
+    // code knows the reply.
     #[inline(always)]
     fn tell<'m, K: BiSink<T>>(&'m self, reply: BiReply<'m, T>, sink: &mut K) -> Result<(), K::Fault>
         ensures took { K.took sink.old (value_of reply.entry) result sink.new }

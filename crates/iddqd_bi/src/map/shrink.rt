@@ -15,9 +15,10 @@ impl<T: BiHashItem + Drop, S: BuildHasher> BiHashMap<T, S> {
     /// The call allocates smaller slots and tables, and hashes each key anew. It compares none. If an allocation fails,
     /// the map is as before. For a map that gets capacity 0 the call allocates nothing.
     ///
-    /// If the slots and tables are those of a map made with the new capacity, the call allocates and hashes nothing. They
-    /// may be larger although the capacity stays, as after a failed `reserve`. Then the call makes them smaller if
-    /// there is memory for that, and succeeds in any case: a call that does not change the capacity never fails.
+    /// If the slots and tables are those of a map made with the new capacity, the call allocates and hashes nothing.
+    /// They may be larger although the capacity stays, for example after a failed `reserve`. Then the call makes them
+    /// smaller if there is memory for that, and succeeds in any case: a call that does not change the capacity never
+    /// fails.
     pub fn shrink_to(&mut self, least: usize) -> Result<(), TryReserveError>
         // The items and the builder stay.
         ensures items { bag self.new ≡ bag self.old }
@@ -57,8 +58,8 @@ impl<T: BiHashItem + Drop, S: BuildHasher> BiHashMap<T, S> {
         self.shrink_to(0)
     }
 
-    /// Returns whether the slots hold exactly so many items, and each table has as many cells as one that is made for so
-    /// many pairs.
+    /// Returns whether the slots hold exactly this many items, and each table has as many cells as one that is made for
+    /// this many pairs.
     fn is_made_for(
         items: &ItemSet<T>,
         first: &IndexTable,
@@ -73,7 +74,7 @@ impl<T: BiHashItem + Drop, S: BuildHasher> BiHashMap<T, S> {
         items.capacity() == wanted && first.is_made_for(pairs) && second.is_made_for(pairs)
     }
 
-    /// Makes slots and tables anew, for so many items. After an error the map is as before.
+    /// Makes slots and tables anew, for this many items. After an error the map is as before.
     fn rebuild(&mut self, wanted: usize) -> Result<(), TryReserveError>
         requires enough { length (bag self.old) ≤ wanted }
         requires within { wanted ≤ self.old.capacity }

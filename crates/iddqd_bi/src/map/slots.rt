@@ -265,7 +265,7 @@ impl<T: BiHashItem, S: BuildHasher> BiHashMap<T, S> {
         self.items.len() == self.room()
     }
 
-    /// Reserves capacity for so many more items. It is not inlined into an insert, which seldom grows.
+    /// Reserves capacity for this many more items. It is not inlined into an insert, which seldom grows.
     ///
     /// The tables grow first. If one of them, or the slots, cannot be allocated, the items do not fit.
     #[cold]
@@ -297,7 +297,7 @@ impl<T: BiHashItem, S: BuildHasher> BiHashMap<T, S> {
         self.make_room_for(1)
     }
 
-    /// Reserves capacity for so many more items if the map is full.
+    /// Reserves capacity for this many more items if the map is full.
     #[inline(always)]
     pub(crate) fn make_room_for(&mut self, wanted: usize) -> Result<(), TryReserveError>
         requires { 0 < wanted }

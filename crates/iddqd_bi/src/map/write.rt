@@ -18,8 +18,8 @@ use std::hash::{BuildHasher, Hash};
 
 impl<T: BiHashItem, S: BuildHasher> BiHashMap<T, S> {
     /// Returns a guard of the item with the first key that the query stands for, or `None`. Through the guard the
-    /// item's data can be written, as by `*guard.data_mut() = data`, and the item can be replaced by one with equal
-    /// keys.
+    /// item's data can be written, for example by `*guard.data_mut() = data`, and the item can be replaced by one with
+    /// equal keys.
     ///
     /// The call compares at most as many keys as items have the query's hash at the first rank. It allocates no memory.
     ///
@@ -39,8 +39,8 @@ impl<T: BiHashItem, S: BuildHasher> BiHashMap<T, S> {
     }
 
     /// Returns a guard of the item with the second key that the query stands for, or `None`. Through the guard the
-    /// item's data can be written, as by `*guard.data_mut() = data`, and the item can be replaced by one with equal
-    /// keys.
+    /// item's data can be written, for example by `*guard.data_mut() = data`, and the item can be replaced by one with
+    /// equal keys.
     ///
     /// The call compares at most as many keys as items have the query's hash at the second rank. It allocates no
     /// memory.
@@ -79,9 +79,9 @@ impl<T: BiHashItem, S: BuildHasher> BiHashMap<T, S> {
         Some(RefMut { map: self, slot })
     }
 
-    /// Returns a guard of the next item of an iteration over the map, or `None` behind the last one. The cursor moves
-    /// on behind that item. Between two steps a caller may write items, but not insert or remove any. The call
-    /// allocates no memory.
+    /// Returns a guard of the next item of an iteration over the map, or `None` after the last one. The cursor moves on
+    /// past that item. Between two steps a caller may write items, but not insert or remove any. The call allocates no
+    /// memory.
     ///
     /// ```text
     /// let mut at = Cursor::new();

@@ -1,4 +1,4 @@
--- What is built of the items that an iterator gives.
+-- What is built from the items that an iterator gives.
 use Rattle.std.specs.Prelude.{◌≡◌, ◌≢◌, ◌+◌, ◌≤◌, ℕ, List, [], ◌∷◌, ◌++◌, Option, Some, Ok, Err, IsPermutation}
 use Rattle.std.specs.Iterator.{Count, Drains, YieldsThen, size}
 use Rattle.iddqd_store.specs.Bag.{Ranks, IsSound, add, adds, clash}
@@ -18,44 +18,44 @@ module _ {U S T : Type 0} (becomes : U → S → Type 0) (steps : S → Option T
   abbrev pub GivesThen : U → T → (List T → Type 0) → Type 0
   GivesThen iter x P = (it : S) × (xs : List T) × (rest : S) × becomes iter it × YieldsThen steps it xs (Some x) rest × P xs
 
--- However the iterator begins, as many items as it may give fit beside those that are held.
--- Example: An iterator that may give at most 4 items fits on 3 items if the capacity is 7.
+-- Whatever state the iterator begins in, as many items as it may give fit beside those that are there.
+-- Example: An iterator that may give at most 4 items fits beside 3 items if the capacity is 7.
 abbrev pub FitsOn : {U S : Type 0} → (U → S → Type 0) → (S → Count) → U → ℕ → ℕ → Type 0
 FitsOn becomes remaining iter held room = (it : _) → becomes iter it → held + size (remaining it) ≤ room
 
 module _ {T : Type 0} (ranks : Ranks T) where
   -- Each item of the list was added to the bag `old`, where nothing conflicted with it, and `new` is the result.
-  -- Example: Along (4, 40), (5, 50) the bag becomes itself with these two.
+  -- Example: With the list (4, 40), (5, 50) the bag gets these two more items.
   abbrev pub AddsTo : List T → List T → List T → Type 0
   AddsTo old new xs = (made : List T) × (adds ranks old xs ≡ Ok made) × IsPermutation new made
 
   -- Each item of the list was added to the empty bag, and then `x` was rejected because `duplicates` conflict with
   -- it.
-  -- Example: Along (1, 10), (2, 20) the item (1, 20) is rejected for (1, 10), (2, 20).
+  -- Example: After the list (1, 10), (2, 20) the item (1, 20) is rejected because of (1, 10), (2, 20).
   abbrev pub RefusesFor : T → List T → List T → Type 0
   RefusesFor x duplicates xs = (made : List T) × (adds ranks [] xs ≡ Ok made) × (add ranks made x ≡ Err (x, duplicates))
 
   -- Each item of the list was added to the empty bag, and then nothing conflicts with `x`.
-  -- Example: Along (1, 10), (2, 20) there is a place for (3, 30).
+  -- Example: After the list (1, 10), (2, 20) nothing conflicts with (3, 30).
   abbrev pub HasPlaceFor : T → List T → Type 0
   HasPlaceFor x xs = (made : List T) × (adds ranks [] xs ≡ Ok made) × (add ranks made x ≡ Ok (x ∷ made))
 
 -- There is a conflicting item if the reason is `Conflict`, and there is none if it is `Memory`.
--- Example: It holds of `Conflict` and (1, 10), and of `Memory` and no item.
+-- Example: It holds for `Conflict` and (1, 10), and for `Memory` and no item.
 abbrev pub IsReason : {T : Type 0} → ExtendUniqueReason → List T → Type 0
 IsReason Conflict found = found ≢ []
 IsReason Memory found = found ≡ []
 
--- The items of `taken` can all stand beside those of `old`, and something among both conflicts with `x` exactly if
--- the reason is `Conflict`.
--- Example: Behind (4, 40) the item (4, 50) is rejected for `Conflict`.
+-- No items of `taken` and `old` conflict, and some item of `taken` or `old` conflicts with `x` exactly if the reason is
+-- `Conflict`.
+-- Example: If `taken` is (4, 40), the item (4, 50) is rejected with the reason `Conflict`.
 pub record IsRefusedBehind {T : Type 0} (ranks : Ranks T) (old taken : List T) (x : T) (why : ExtendUniqueReason) : Type 0 where
   pub apart : IsSound ranks (taken ++ old)
   pub reason : IsReason why (clash ranks (taken ++ old) x)
 
--- If the error is for a conflict, then `P` holds of its item and of the items that conflict with it, and if it is for
--- lack of memory, then `Q` holds of its item.
--- Example: Of `Duplicate` with (1, 20) and (1, 10), (2, 20) it is `P` of these.
+-- If the error is a conflict, then `P` holds for its item and the items that conflict with it, and if memory ran out,
+-- then `Q` holds for its item.
+-- Example: For `Duplicate` with (1, 20) and (1, 10), (2, 20) it says that `P` holds for these.
 abbrev pub MatchFromIterError : {T L : Type 0} → FromIterError T L → (T → L → Type 0) → (T → Type 0) → Type 0
 MatchFromIterError (from_iter.Duplicate d) P Q = P d.new_item d.duplicates
 MatchFromIterError (from_iter.Memory x) P Q = Q x

@@ -1,4 +1,4 @@
--- At which items a closure may be called.
+-- Which items a closure may be called with.
 use Rattle.std.specs.Prelude.{◌≡◌, List, [], ◌∷◌, ◌++◌, IsPermutation}
 use Rattle.std.specs.Borrow.{Bor}
 use Rattle.std.specs.Fn.{Mut, TakesAt, CalledAt}

@@ -1,4 +1,4 @@
--- Data that a function answers, stored in the members of a bag.
+-- Data that a closure returns, stored in the items of a bag.
 use Rattle.std.specs.Prelude.{◌≡◌, Bool, List, [], ◌∷◌, Some, IsPermutation}
 use Rattle.iddqd_store.specs.Bag.{IsOnly, Ranks, swap}
 

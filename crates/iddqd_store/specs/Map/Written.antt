@@ -5,18 +5,18 @@ use Rattle.iddqd_store.specs.Slots.{get}
 
 module _ {T : Type 0} where
   -- `of_item` is the result of `f` at the item, if there is one.
-  -- Example: Of `Some a` it is `Some (f a)`, and of `None` it is `None`.
+  -- Example: For `Some a` it is `Some (f a)`, and for `None` it is `None`.
   abbrev pub of_item : (T → T) → Option T → Option T
   of_item f None = None
   of_item f (Some x) = Some (f x)
 
-  -- `map_with` is the map, with `f` of the item of the slot `at` in its place.
-  -- Example: Of the slots `Some a`, `Some b` and 1 it has the slots `Some a`, `Some (f b)`.
+  -- `map_with` is the map, where the item of the slot `at` is replaced by `f` of it.
+  -- Example: For the slots `Some a`, `Some b` and 1 it has the slots `Some a`, `Some (f b)`.
   abbrev pub map_with : {S : Type 0} → Map T S → ℕ → (T → T) → Map T S
   map_with m at f = record m { slots = slice_set m.slots at (of_item f (get m.slots at)) }
 
-  -- `map_with_if` is the map, with `f` of the item of this slot in its place, if there is such a slot.
-  -- Example: Of `None` it is the map itself.
+  -- `map_with_if` is the map, where the item of this slot, if there is such a slot, is replaced by `f` of it.
+  -- Example: For `None` it is the map itself.
   abbrev pub map_with_if : {S : Type 0} → Map T S → Option ℕ → (T → T) → Map T S
   map_with_if m None f = m
   map_with_if m (Some at) f = map_with m at f

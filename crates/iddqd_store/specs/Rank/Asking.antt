@@ -1,4 +1,4 @@
--- What a test that stays says of the slots.
+-- What a test that does not change says of the slots.
 use Rattle.std.specs.Prelude.{◌≡◌, ℕ, Bool, false, List, Option, Some, None}
 use Rattle.std.specs.Option.{option_map_or}
 use Rattle.std.proofs.Common.{refl, ap, ◌∙◌}
@@ -10,6 +10,6 @@ module _ {T : Type 0} (p q : T → Bool) (same : (x : T) → q x ≡ p x) where
   by_slot None = refl
   by_slot (Some x) = same x
 
-  -- Where the slots and the test stay, the slots that pass the test stay.
+  -- If the slots and the test do not change, the same slots pass the test.
   pub passes_kept : (slots more : List (Option T)) (ix : ℕ) → more ≡ slots → passes_at q more ix ≡ passes_at p slots ix
   passes_kept slots more ix e = ap (λ s. option_map_or q (get s ix) false) e ∙ by_slot (get slots ix)

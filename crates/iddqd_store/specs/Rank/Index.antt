@@ -6,17 +6,17 @@ use Rattle.iddqd_store.specs.Slots.{members, live_items, get}
 
 module _ {T : Type 0} where
   -- `pair_of` is the pair of a live slot: the hash of its item, and its number.
-  -- Example: Of the slot 2 with an item of the hash 5 it is (5, 2).
+  -- Example: For the slot 2 with an item of the hash 5 it is (5, 2).
   abbrev pub pair_of : (T → ℕ) → ℕ × T → ℕ × ℕ
   pair_of hash m = (hash m.1, m.0)
 
   -- `passes_at` tells whether the slot has an item that passes the test.
-  -- Example: Of the slots `Some a`, `None` it is false at 1.
+  -- Example: For the slots `Some a`, `None` it is false at 1.
   abbrev pub passes_at : (T → Bool) → List (Option T) → ℕ → Bool
   passes_at test slots at = option_map_or test (get slots at) false
 
   -- The item of the slot `at` has the hash `h`.
-  -- Example: It holds of a free slot, which has no item, and any hash.
+  -- Example: It holds for a free slot, which has no item, and any hash.
   abbrev pub HasHash : (T → ℕ) → List (Option T) → ℕ → ℕ → Type 0
   HasHash hash slots at h = (x : T) → get slots at ≡ Some x → hash x ≡ h
 
@@ -26,7 +26,7 @@ module _ {T : Type 0} where
   LosesPairAt hash slots old new at = (x : T) → get slots at ≡ Some x → IsPermutation old ((hash x, at) ∷ new)
 
 -- The pairs are those of the live slots.
--- Example: Of the slots `Some a`, `None`, `Some b` with the hashes 5 and 6 they are (5, 0), (6, 2).
+-- Example: For the slots `Some a`, `None`, `Some b` with the hashes 5 and 6 they are (5, 0), (6, 2).
 pub record IsIndex {T : Type 0} (hash : T → ℕ) (slots : List (Option T)) (pairs : List (ℕ × ℕ)) : Type 0 where
   pub paired : IsPermutation pairs (map (pair_of hash) (members slots))
 

@@ -1,9 +1,9 @@
--- What a command on a map answers: items that a reply lends are here as their values, an iterator as the list that it gives.
+-- What a command on a map returns. Items that a reply lends are given as their values, and an iterator is given as its
+-- list.
 use Rattle.std.specs.Prelude.{ℕ, Bool, List, Option}
 use Rattle.iddqd_store.specs.declared.error.ExtendUniqueReason.{ExtendUniqueReason}
 
--- `Reply` is what a command on a map returns. Borrowed items are here as values, and an iterator is the list that it
--- gives.
+-- `Reply` is what a command on a map returns. Borrowed items are given as values, and an iterator is given as its list.
 -- Example: `done`, `found (Some (2, 20))`, or `duplicate` with (1, 20) and (1, 10), (2, 20).
 pub data Reply (T D : Type 0) : Type 0 where
   done : Reply T D
@@ -21,5 +21,5 @@ pub data Reply (T D : Type 0) : Type 0 where
   key : ℕ → T → Reply T D
   absent : T → Reply T D
   absent_data : D → Reply T D
-  -- The items of the list came out again, and the item behind them was rejected.
+  -- The items of the list were removed again, and the item after them was rejected.
   extend_refused : ExtendUniqueReason → List T → T → Reply T D

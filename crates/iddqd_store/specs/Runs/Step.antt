@@ -1,4 +1,4 @@
--- One step of a map, for any number of ranks: what a command may answer, and what the map holds then.
+-- One step of a map, for any number of ranks: what a command may return, and what the map holds then.
 use Rattle.std.specs.Prelude.{◌≡◌, ◌≢◌, ◌+◌, ◌<◌, ◌≤◌, ℕ, min, max, List, [], ◌∷◌, ◌++◌, Bool, Some, None, filter, length, take, IsPermutation}
 use Rattle.std.specs.List.{list_any}
 use Rattle.std.specs.Option.{option_to_list}
@@ -20,7 +20,7 @@ abbrev pub Fits : {T : Type 0} → State T → Type 0
 Fits s = (length s.items ≤ s.capacity) × (s.capacity ≤ most_room)
 
 -- `state_of` is the state of the map.
--- Example: Of a map of the bag with the capacity 7 it is the bag and 7.
+-- Example: For a map of the bag with the capacity 7 it is the bag and 7.
 abbrev pub state_of : {T S : Type 0} → Map T S → State T
 state_of m = record { items = bag m; capacity = m.capacity }
 
@@ -30,14 +30,14 @@ abbrev pub empty_state : {T : Type 0} → State T
 empty_state = record { items = []; capacity = 0 }
 
 module _ {T : Type 0} where
-  -- After each number of items of the list that went in with `over`, the items fit the capacity.
-  -- Example: Along (4, 40), (4, 50) the bag needs the capacity 4.
+  -- The items of the list are inserted one by one with `over`, and after each of them the items fit the capacity.
+  -- Example: With the list (4, 40), (4, 50) the bag needs the capacity 4.
   abbrev pub FitsOnTheWay : Ranks T → List T → List T → ℕ → Type 0
   FitsOnTheWay ranks bag xs capacity = (n : ℕ) → length (overs ranks bag (take n xs)) ≤ capacity
 
-  -- The items of the list went in one by one, each with `over`. The capacity is no lower, and was enough at each
+  -- The items of the list were inserted one by one, each with `over`. The capacity is no lower, and was enough at each
   -- step.
-  -- Example: Along (1, 20), (3, 40) the bag becomes (3, 40), (1, 20).
+  -- Example: With the list (1, 20), (3, 40) the bag becomes (3, 40), (1, 20).
   abbrev pub ExtendsTo : Ranks T → State T → List T → State T → Type 0
   ExtendsTo ranks old xs new =
       IsPermutation new.items (overs ranks old.items xs) × FitsOnTheWay ranks old.items xs new.capacity
@@ -50,16 +50,16 @@ module _ {T : Type 0} where
   Starves ranks old x y new =
       (y ≡ x) × (clash ranks old.items x ≡ []) × (length old.items ≡ old.capacity) × (new ≡ old)
 
-  -- The capacity is no lower, and it stays if as many more items as the list has fitted before.
+  -- The capacity is no lower, and it stays if the items of the list fit before the call.
   -- Example: With the bag and the capacity 7, it stays for a list of 4 items.
   abbrev pub GrowsFor : List T → State T → State T → Type 0
   GrowsFor xs old new =
       (old.capacity ≤ new.capacity) × (length old.items + length xs ≤ old.capacity → new.capacity ≡ old.capacity)
 
 module _ {T D : Type 0} where
-  -- If nothing conflicts with `x`, it goes in, and the capacity grows only if the map was full. Else the reply has
-  -- `x` and the items that conflict with it. In a full map where nothing conflicts, the reply may be `x` for lack of
-  -- memory.
+  -- If nothing conflicts with `x`, it is inserted, and the capacity grows only if the map was full. Otherwise the reply
+  -- has `x` and the items that conflict with it. In a full map where nothing conflicts, the reply may be `x` for lack
+  -- of memory.
   -- Example: For (4, 40) the reply is `done`, and for (1, 20) it is `duplicate` with (1, 20) and (1, 10), (2, 20).
   abbrev pub InsertsUnique : Ranks T → State T → T → Reply T D → State T → Type 0
   InsertsUnique ranks old x done new =
@@ -70,8 +70,8 @@ module _ {T D : Type 0} where
   InsertsUnique ranks old x (memory y) new = Starves ranks old x y new
   InsertsUnique ranks old x reply new = ⊥
 
-  -- The item goes in for the items that conflict with it, which the reply has. The capacity grows only if the map was
-  -- full and nothing conflicts. In a full map where nothing conflicts, the reply may be `x` for lack of memory.
+  -- The item replaces the items that conflict with it, which the reply has. The capacity grows only if the map was full
+  -- and nothing conflicts. In a full map where nothing conflicts, the reply may be `x` for lack of memory.
   -- Example: For (1, 20) the reply is `displaced` with (1, 10), (2, 20), and the bag becomes (1, 20), (3, 30).
   abbrev pub InsertsOverwrite : Ranks T → State T → T → Reply T D → State T → Type 0
   InsertsOverwrite ranks old x (displaced ys) new =
@@ -81,7 +81,7 @@ module _ {T D : Type 0} where
   InsertsOverwrite ranks old x (memory y) new = Starves ranks old x y new
   InsertsOverwrite ranks old x reply new = ⊥
 
-  -- The reply is the only item that passes the test, or none, and nothing changes.
+  -- The reply is the only item that passes the test, or `None`, and nothing changes.
   -- Example: For the first key 2 it is `found` with (2, 20).
   abbrev pub Gets : State T → (T → Bool) → Reply T D → State T → Type 0
   Gets old test (found o) new = IsOnly test old.items o × (new ≡ old)
@@ -140,8 +140,8 @@ module _ {T D : Type 0} where
   Lists old (items xs) new = IsPermutation xs old.items × (new ≡ old)
   Lists old reply new = ⊥
 
-  -- The items of the list go in one by one, each with `over`, until one finds no memory in a full map, which the
-  -- reply has. The capacity grows only if the items may not all fit.
+  -- The items of the list are inserted one by one, each with `over`, until there is no memory for one in a full map.
+  -- The reply has that one. The capacity grows only if the items may not all fit.
   -- Example: For (1, 20), (3, 40) the reply is `done`, and the bag becomes (3, 40), (1, 20).
   abbrev pub Extends : Ranks T → State T → List T → Reply T D → State T → Type 0
   Extends ranks old xs done new =
@@ -151,8 +151,8 @@ module _ {T D : Type 0} where
       × (clash ranks new.items y ≡ []) × (length new.items ≡ new.capacity)
   Extends ranks old xs reply new = ⊥
 
-  -- All items of the list go in, or none does, because one is rejected for a conflict or for lack of memory: then the
-  -- reply has those before it, in order, and it. The capacity grows only if they do not all fit.
+  -- All items of the list are inserted, or none is, because one is rejected for a conflict or for lack of memory. Then
+  -- the reply has that item, and those before it in order. The capacity grows only if they do not all fit.
   -- Example: For (4, 40), (1, 50) the reply is `extend_refused` with `Conflict`, (4, 40), and (1, 50).
   abbrev pub ExtendsUnique : Ranks T → State T → List T → Reply T D → State T → Type 0
   ExtendsUnique ranks old xs done new =
@@ -162,9 +162,9 @@ module _ {T D : Type 0} where
       × IsReason reason (clash ranks (ys ++ old.items) y) × GrowsFor xs old new
   ExtendsUnique ranks old xs reply new = ⊥
 
-  -- The item goes in for the items that have one of the keys, which the reply has. If a key of `x` is not the one
-  -- asked for, the reply has the lowest such rank, and in a full map where nothing conflicts it may be `x` for lack
-  -- of memory.
+  -- The item replaces the items that have one of the keys, which the reply has. If a key of `x` is not the one asked
+  -- for, the reply has the lowest such rank. In a full map where nothing conflicts, the reply may be `x` for lack of
+  -- memory.
   -- Example: For the keys 1 and 20 and the item (1, 20) the reply is `displaced` with (1, 10), (2, 20), and for the
   -- item (1, 50) it is `key 1 (1, 50)`.
   abbrev pub EntryInserts : Ranks T → List (T → Bool) → State T → T → Reply T D → State T → Type 0
@@ -180,7 +180,7 @@ module _ {T D : Type 0} where
       (ys ≡ listing tests old.items) × IsPermutation old.items (ys ++ new.items) × (new.capacity ≡ old.capacity)
   EntryRemoves tests old reply new = ⊥
 
-  -- The item goes in if no item has one of the keys, as with `InsertsUnique`, and if a key of `x` is not the one
+  -- If no item has one of the keys, the item is inserted as by `InsertsUnique`, and if a key of `x` is not the one
   -- asked for, the reply has the lowest such rank. If an item has one of the keys, nothing changes, whatever the keys
   -- of `x` are.
   -- Example: For the keys 4 and 40 and the item (4, 40) the reply is `done`, and for the keys 1 and 20 it is `kept`.
@@ -193,9 +193,8 @@ module _ {T D : Type 0} where
   OrInserts ranks tests old x (memory y) new = (listing tests old.items ≡ []) × (differ tests x ≡ None) × Starves ranks old x y new
   OrInserts ranks tests old x reply new = ⊥
 
-  -- The item goes in for the one that passes the test, if it has the same keys, and the reply has the old one. Else
-  -- the reply has the lowest rank at which the keys differ, or says that no item passes the test, and nothing
-  -- changes.
+  -- The item replaces the one that passes the test, if it has the same keys, and the reply has the old one. Otherwise
+  -- nothing changes, and the reply has the lowest rank at which the keys differ, or says that no item passes the test.
   -- Example: For the first key 2 the item (2, 50) is returned with `key 1`, and for the first key 7 it is `absent`.
   abbrev pub Replaces : Ranks T → (T → Bool) → State T → T → Reply T D → State T → Type 0
   Replaces ranks test old x (displaced ys) new =

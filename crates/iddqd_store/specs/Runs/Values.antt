@@ -6,7 +6,7 @@ use Rattle.iddqd_store.specs.declared.reply.MapReply.{MapReply}
 use Rattle.iddqd_store.specs.declared.reply.MapReply.TheVariants.{Done, Duplicate, Displaced, Found, Present, Taken, Memory, Refused, Length, Items, Kept, Key1, Key2, Key3, Absent, AbsentData, ExtendRefused}
 
 -- `value_by` is the value of a reply, where `lent` and `given` are the lists of what its short lists hold.
--- Example: Of `Length 3` it is `size 3`.
+-- Example: For `Length 3` it is `size 3`.
 abbrev pub value_by : {T D L G : Type 0} → (L → List (Bor T)) → (G → List T) → MapReply T D L G → Reply T D
 value_by lent given Done = done
 value_by lent given (Duplicate d) = duplicate d.new_item (map (λ b. b.now) (lent d.duplicates))
@@ -27,6 +27,6 @@ value_by lent given (AbsentData d) = absent_data d
 value_by lent given (ExtendRefused e) = extend_refused e.reason e.taken.items e.value
 
 -- `value_of` is the value of a reply that has lists of items.
--- Example: Of `Length 3` it is `size 3`.
+-- Example: For `Length 3` it is `size 3`.
 abbrev pub value_of : {T D : Type 0} → MapReply T D (List (Bor T)) (List T) → Reply T D
 value_of reply = value_by (λ lent. lent) (λ given. given) reply

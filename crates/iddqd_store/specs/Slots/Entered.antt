@@ -1,9 +1,9 @@
--- What a contract sees of an `Entered`.
+-- How contracts see an `Entered`.
 use Rattle.std.specs.Prelude.{ℕ, List, refl}
 use Rattle.std.specs.Coded.{Coded, code_by, coded×, coded_ℕ, coded_list}
 
--- A contract sees of an `Entered` the slots of the items that went in, and how many can be noted without an
--- allocation.
+-- Contracts see an `Entered` as the slots of the items that were inserted, and the number of items that can be noted
+-- without an allocation.
 -- Example: The slots 4, 2, and 8.
 pub record Entered : Type 0 where
   pub slots : List ℕ

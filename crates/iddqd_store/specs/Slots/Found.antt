@@ -7,16 +7,16 @@ use Rattle.iddqd_store.specs.Slots.{get, IsLive, live_items}
 
 module _ {T : Type 0} where
   -- The items of the bag that pass the test have equal keys by `agree`.
-  -- Example: It holds of the test whether the first key is 2, and of the first rank.
+  -- Example: It holds for the test whether the first key is 2, and the first rank.
   abbrev pub NamesOneOf : (T → T → Bool) → (T → Bool) → List T → Type 0
   NamesOneOf agree test bag = (x y : T) → Contains bag x → Contains bag y → test x ≡ true → test y ≡ true → agree x y ≡ true
 
   -- `items_at` lists the items of these slots.
-  -- Example: Of `Some a`, `None`, `Some b` and the slots 2, 0 it is b, a.
+  -- Example: For `Some a`, `None`, `Some b` and the slots 2, 0 it is b, a.
   abbrev pub items_at : List (Option T) → List ℕ → List T
   items_at slots ixs = filter_map (get slots) ixs
 
-  -- These slots have these items, in this order, and no slot stands twice.
+  -- These slots have these items, in this order, and no slot is listed twice.
   -- Example: In `Some a`, `None`, `Some b` the slots 2, 0 have b, a.
   pub record StandAt (slots : List (Option T)) (ixs : List ℕ) (xs : List T) : Type 0 where
     pub items : items_at slots ixs ≡ xs
@@ -28,14 +28,14 @@ module _ {T : Type 0} where
 abbrev pub contains : List ℕ → ℕ → Bool
 contains ixs ix = list_any (nat_eq ix) ixs
 
--- `with_found` lists the slots, and behind them the one that a search found, unless it is among them.
--- Example: Of 0, 2 and `Some 5` it is 0, 2, 5, and of 0, 2 and `Some 0` it is 0, 2.
+-- `with_found` lists the slots, and after them the one that a search found, unless it is among them.
+-- Example: For 0, 2 and `Some 5` it is 0, 2, 5, and for 0, 2 and `Some 0` it is 0, 2.
 abbrev pub with_found : List ℕ → Option ℕ → List ℕ
 with_found ixs None = ixs
 with_found ixs (Some ix) = if contains ixs ix then ixs else ixs ++ ix ∷ []
 
 -- `each_once` lists the slots that searches found, each once.
--- Example: Of `Some 2`, `None`, `Some 2` it is 2.
+-- Example: For `Some 2`, `None`, `Some 2` it is 2.
 abbrev pub each_once : List (Option ℕ) → List ℕ
 each_once found = fold with_found [] found
 
@@ -44,7 +44,7 @@ is_at ix None = false
 is_at ix (Some at) = nat_eq ix at
 
 -- `found_by_all` lists the one slot that every search found, if there is one.
--- Example: Of `Some 2`, `Some 2` it is 2, and of `Some 2`, `None` there is none.
+-- Example: For `Some 2`, `Some 2` it is 2, and for `Some 2`, `None` there is none.
 abbrev pub found_by_all : List (Option ℕ) → List ℕ
 found_by_all [] = []
 found_by_all (None ∷ found) = []
@@ -71,11 +71,11 @@ module _ {T : Type 0} where
   AreFound (test ∷ tests) slots (at ∷ found) = FoundAt test slots at × AreFound tests slots found
 
   -- `held_at` lists the items of the slots that searches found, each once.
-  -- Example: Of `Some a`, `None`, `Some b` and `Some 2`, `Some 2` it is b.
+  -- Example: For `Some a`, `None`, `Some b` and `Some 2`, `Some 2` it is b.
   abbrev pub held_at : List (Option T) → List (Option ℕ) → List T
   held_at slots found = items_at slots (each_once found)
 
-  -- `entry_at` is what searches by all keys found, as `Entry` has it.
-  -- Example: Of `Some a`, `None`, `Some b` and `Some 2`, `Some 2` it is `unique b`.
+  -- `entry_at` is what searches by all keys found, as an `Entry`.
+  -- Example: For `Some a`, `None`, `Some b` and `Some 2`, `Some 2` it is `unique b`.
   abbrev pub entry_at : List (Option T) → List (Option ℕ) → Entry T
   entry_at slots found = entry_of (held_at slots found) (items_at slots (found_by_all found))

@@ -1,4 +1,4 @@
--- Slots whose items may have changed, but none of their keys.
+-- Slots whose items may have changed, while their keys have not.
 use Rattle.std.specs.Prelude.{◌≡◌, Bool, true, List, Option, Some, None, ⊤}
 use Rattle.std.specs.List.{AllZip}
 
@@ -10,6 +10,6 @@ module _ {T : Type 0} (same : T → T → Bool) where
   IsSlotKept (Some x) None = ⊥
   IsSlotKept (Some x) (Some y) = same x y ≡ true
 
-  -- Slot by slot, `IsSlotKept` holds.
+  -- `IsSlotKept` holds slot by slot.
   abbrev pub KeepsKeys : List (Option T) → List (Option T) → Type 0
   KeepsKeys old new = AllZip IsSlotKept old new

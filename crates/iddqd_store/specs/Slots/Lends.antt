@@ -1,11 +1,11 @@
--- What an `ItemSet` ends as, where a `&mut` to one of its items is returned.
+-- What an `ItemSet` ends as, if a `&mut` to one of its items is returned.
 use Rattle.std.specs.Prelude.{ℕ, Option, Some, slice_set}
 use Rattle.std.specs.Borrow.{Lends, LendsIf, Fml, RattleType, MutBor}
 use Rattle.iddqd_store.specs.Slots.{Slots}
 use Rattle.iddqd_store.specs.contracts.item_set.ItemSet.{the_row}
 
 -- `with_item` is the set, with this item in the slot `at`.
--- Example: Of `Some a`, `Some b` and 1 it has the slots `Some a`, `Some c`.
+-- Example: For `Some a`, `Some b`, the slot 1 and the item c it has the slots `Some a`, `Some c`.
 abbrev pub with_item : {T : Type 0} → Slots T → ℕ → T → Slots T
 with_item s at item = record s { slots = slice_set s.slots at (Some item) }
 

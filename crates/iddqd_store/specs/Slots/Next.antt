@@ -1,8 +1,8 @@
--- A walk over the slots by their numbers.
+-- An iteration over the slots by their numbers.
 use Rattle.std.specs.Prelude.{◌≡◌, ◌≤◌, ℕ, ◌+◌, List, ◌∷◌, take, drop, Option, Some}
 use Rattle.iddqd_store.specs.Slots.{get, items_in}
 
--- Of the slots from `from` on, `at` is the first with an item, which is `item`.
+-- Among the slots from `from` on, `at` is the first with an item, which is `item`.
 -- Example: In `Some a`, `None`, `Some b`, from 1 on it is 2 with b.
 pub record ComesNext {T : Type 0} (slots : List (Option T)) (from at : ℕ) (item : T) : Type 0 where
   pub ahead : from ≤ at

@@ -1,4 +1,4 @@
--- A cell as two numbers, which are both all ones where it is empty.
+-- A cell as two numbers. In an empty cell all bits of both are ones.
 use Rattle.std.specs.Prelude.{ℕ, ◌-◌, ◌^◌, ◌==◌, Option, None, Some, if◌then◌else◌}
 
 -- No slot has this number.

@@ -11,8 +11,8 @@ pub record IsSized (table : Table) : Type 0 where
   pub limit : table.limit ≡ length table.row / 8 * 7
   pub fits : length table.pairs ≤ table.limit
 
--- After `Ok` so many more pairs fit, in the fewest cells that hold them if they did not fit before. The call fails
--- only if they did not fit, and always if no table can hold them.
+-- After `Ok` this many more pairs fit, in the fewest cells that hold them if they did not fit before. The call fails
+-- only if they did not fit, and it always fails if no table can hold them.
 -- Example: With 3 pairs and the capacity 7, the capacity is 14 after `Ok` for 5 more.
 pub record GrowsFor {A E : Type 0} (old : Table) (more : ℕ) (result : Result A E) (new : Table) : Type 0 where
   pub room : OnOk result (length old.pairs + more ≤ new.limit)

@@ -1,5 +1,5 @@
-//! What the errors print that do not borrow the map. They implement `Error`, so `?` converts them into
-//! `anyhow::Error`. Printing asks nothing of the items, and `Error` asks for `Drop` alone.
+//! What the errors that do not borrow the map print. They implement `Error`, so `?` converts them into `anyhow::Error`.
+//! Printing needs no trait of the items, and `Error` needs only `Drop`.
 use super::{
     DuplicateItem, ExtendUniqueError, ExtendUniqueReason, FromIterError, InsertReason,
     MemoryRefused, TryReserveError,

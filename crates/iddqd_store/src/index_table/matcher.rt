@@ -36,8 +36,8 @@ pub trait Matcher {
     ghost kept_trans: { (m n o : Self) → IsKept m n → IsKept n o → IsKept m o };
 }
 
-/// What a search by hash asks of each key with this hash: whether it is the one that is sought. `find1_with` and its
-/// like take a matcher, and call it for no other keys.
+/// What a search by hash asks of each key with this hash: whether it is the one that is sought. `find1_with`,
+/// `find2_with` and `find3_with` take a matcher, and call it for no other keys.
 pub trait KeyMatcher<K> {
     // The result of `matches`.
     ghost accepts: { Self → K → Bool };

@@ -1,4 +1,4 @@
-//! Removing a pair from a table: one that is known, or the one that a search finds.
+//! Removal of a pair from a table: of one that is known, or of the one that a search finds.
 ghost use Rattle.std.specs.Prelude.{ℕ, ◌≡◌, ◌+◌, ◌%◌, ◌∷◌, ◌<◌, ◌≤◌, length, IfSome, IfNone, Contains};
 ghost use Rattle.std.specs.List.Sorted.{IsPermutation};
 ghost use Rattle.iddqd_store.specs.Table.Ring.{gap, stretch};

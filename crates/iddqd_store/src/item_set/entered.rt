@@ -14,7 +14,7 @@ use std::marker::Model;
 #[derive(Drop)]
 pub struct Entered<T> {
     slots: Vec<ItemIndex>,
-    // It is empty, and has the capacity for the items that are removed again.
+    // This list is empty, and has the capacity for the items that are removed again.
     items: Vec<T>,
 }
 

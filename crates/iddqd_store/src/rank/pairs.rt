@@ -76,8 +76,8 @@ impl IndexTable {
     }
 
     /// Replaces the pair of the item that was in this slot by a pair of the same slot and the hash of a search. It hashes the
-    /// key of that item only if the search did not find the item. If both hashes are equal, it does nothing: it probes no
-    /// cell, and the caller has no more than that test. Else it probes at most what a removal and an insert probe.
+    /// key of that item only if the search did not find the item. If both hashes are equal, it does nothing and probes
+    /// no cell; only that test is inlined into the caller. Else it probes at most what a removal and an insert probe.
     #[inline(always)]
     pub fn rehash<T, R: KeyOf<T>, S: BuildHasher>(
         &mut self,

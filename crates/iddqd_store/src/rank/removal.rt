@@ -1,4 +1,4 @@
-//! Removing from the table of a rank the pair of the item that a key finds.
+//! Removal of an item's pair from the table of a rank, by the item's key.
 ghost use Rattle.std.specs.Prelude.{ℕ, Contains, None, Some, ◌≡◌, ◌∷◌, IfSome, IfNone};
 ghost use Rattle.std.specs.List.Sorted.{IsPermutation};
 ghost use Rattle.iddqd_store.specs.Rank.Index.{LosesPairAt, passes_at};
@@ -18,7 +18,8 @@ use std::marker::PhantomData;
 impl IndexTable {
     /// Removes the pair of the item whose key the matcher accepts, and returns the item's slot. All keys that the matcher
     /// accepts have to be equal, and to have this hash by the builder, of which contracts alone speak. The deletion begins at
-    /// the cell at which the search ends, so each cell is read once: the call costs what a search costs that finds nothing.
+    /// the cell at which the search ends, so each cell is read once: the call costs as much as a search that finds
+    /// nothing.
     #[inline(always)]
     pub fn forget_by_key<T, R: KeyOf<T>, S: BuildHasher, M: KeyMatcher<R::Key>>(
         &mut self,

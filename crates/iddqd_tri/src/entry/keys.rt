@@ -3,8 +3,8 @@ ghost use Rattle.std.specs.Prelude.{◌≡◌, ⊤};
 
 use std::alloc::AllocError;
 
-/// Three keys, as a vacant entry has them. The entry is generic over this trait because the prover cannot follow what
-/// becomes of a borrowed map that stands beside plain references.
+/// The three keys of a vacant entry. The entry is generic over this trait because the prover cannot follow what becomes
+/// of a borrowed map if a struct has plain references beside it.
 pub trait Keys<K, L, M>: Copy {
     // The keys, as contracts see them.
     ghost first: { Self → K };

@@ -24,7 +24,8 @@ impl<'a, T: Ranked, S: BuildHasher, Q: Keys<T::K1, T::K2, T::K3>> VacantEntry<'a
     pub fn insert(self, item: T) -> Result<RefMut<'a, T, S>, EntryError<T>>
         // The guard borrows the item, in this very map.
         ensures gains_and_lends { IfOk result (GainsAndLends self.entry item) }
-        // `Ok` only for an item with the entry's keys, and then always if there is spare capacity.
+        // The result is `Ok` only for an item with the entry's keys, and always for such an item if there is spare
+        // capacity.
         ensures same_keys { OnOk result (differ (wanted self.entry) item ≡ None) }
         ensures granted { differ (wanted self.entry) item ≡ None
             → length (bag self.entry.map.now) < self.entry.map.now.capacity → IsOk result }
@@ -38,12 +39,13 @@ impl<'a, T: Ranked, S: BuildHasher, Q: Keys<T::K1, T::K2, T::K3>> VacantEntry<'a
         Ok(RefMut { map, slot })
     }
 
-    /// Inserts an item as `insert` does, and returns it as `into_mut` of an occupied entry returns items: held for
-    /// writing, found by each key.
+    /// Inserts an item as `insert` does, and returns it as `into_mut` of an occupied entry would: held for writing,
+    /// found by each key.
     pub fn insert_mut(self, item: T) -> Result<OccupiedEntryMut<'a, T, S>, EntryError<T>>
         // The result borrows this very map, with the item in it, which each key finds.
         ensures gains_and_holds { IfOk result (GainsAndHolds self.entry item) }
-        // `Ok` only for an item with the entry's keys, and then always if there is spare capacity.
+        // The result is `Ok` only for an item with the entry's keys, and always for such an item if there is spare
+        // capacity.
         ensures same_keys { OnOk result (differ (wanted self.entry) item ≡ None) }
         ensures granted { differ (wanted self.entry) item ≡ None
             → length (bag self.entry.map.now) < self.entry.map.now.capacity → IsOk result }
@@ -69,7 +71,8 @@ impl<'a, T: TriHashItem, S: BuildHasher> VacantEntry<'a, T, S> {
     pub fn insert_entry(self, item: T) -> Result<OccupiedEntry<'a, T, S>, EntryRefusal<'a, T, S>>
         // The entry borrows this very map, with the item in it, which all its keys find.
         ensures gains_and_finds { IfOk result (GainsAndFinds ⟦<T as Ranked>⟧.key_tests self.entry item) }
-        // `Ok` only for an item with the entry's keys, and then always if there is spare capacity.
+        // The result is `Ok` only for an item with the entry's keys, and always for such an item if there is spare
+        // capacity.
         ensures same_keys { OnOk result (differ (wanted self.entry) item ≡ None) }
         ensures granted { differ (wanted self.entry) item ≡ None
             → length (bag self.entry.map.now) < self.entry.map.now.capacity → IsOk result }

@@ -1,5 +1,4 @@
-//! What the errors print. No item is printed, so that an item needs neither `Debug` nor `Display`; `Error` asks for
-//! `Drop`.
+//! What the errors print. No item is printed, so an item needs neither `Debug` nor `Display`; `Error` needs `Drop`.
 use super::{
     EntryError, EntryRefusal, InsertError, KeyMismatch, NotReplaced, Rejected, TryEntryError,
     TryEntryRefusal,

@@ -13,7 +13,7 @@ use iddqd_store::ItemIndex;
 use std::hash::{BuildHasher, Hash};
 
 impl<T: TriHashItem, S: BuildHasher> IterMut<'_, T, S> {
-    /// Returns a guard of the next item, or `None` behind the last one. Contracts say less of the map afterwards than
+    /// Returns a guard of the next item, or `None` after the last one. Contracts say less of the map afterwards than
     /// after `next_data`, or after `TriHashMap::next_from`.
     pub fn next_mut(&mut self) -> Option<RefMut<'_, T, S>>
         ensures next { option_and_then ref_item result ≡ slice_get (rest_of self.old) 0 }
@@ -26,7 +26,7 @@ impl<T: TriHashItem, S: BuildHasher> IterMut<'_, T, S> {
         })
     }
 
-    /// Moves on behind the next item, and returns its slot.
+    /// Moves on past the next item, and returns its slot.
     fn advance(&mut self) -> Option<ItemIndex>
         ensures next { option_and_then (get self.old.map.now.slots) result ≡ slice_get (rest_of self.old) 0 }
         ensures behind { IfSome result (λ ix. self.new.next ≡ ix + 1) }
@@ -43,7 +43,7 @@ impl<T: TriHashItem, S: BuildHasher> IterMut<'_, T, S> {
 }
 
 impl<T: TriHashItemMut, S: BuildHasher> IterMut<'_, T, S> {
-    /// Returns the data of the next item, borrowed for writing, or `None` behind the last one.
+    /// Returns the data of the next item, borrowed for writing, or `None` after the last one.
     pub fn next_data(&mut self) -> Option<&mut T::Data>
         // It is the data of the next item, and `None` at the end.
         ensures next { IfSome result (λ r. IsNextOf self.old) }

@@ -21,8 +21,8 @@ impl<T: TriHashItem> TriHashMap<T, DefaultHashBuilder> {
 
     /// Makes an empty map with the default builder, in which exactly `items` items fit.
     ///
-    /// The call allocates the slots and each table. It fails if an allocation fails, or if so many items are more than
-    /// memory can count. For 0 items it allocates nothing, and succeeds. A table has 16 bytes for each of its cells,
+    /// The call allocates the slots and each table. It fails if an allocation fails, or if the number of items is too
+    /// large for memory. For 0 items it allocates nothing, and succeeds. A table has 16 bytes for each of its cells,
     /// whose number is a power of two: up to 4,096 items the least that is three times as many, up to 16,384 the least
     /// that is twice as many, and above that the least of which the items fill seven eighths.
     pub fn with_capacity(alloc: Global, items: usize) -> Result<Self, TryReserveError>
@@ -72,8 +72,8 @@ impl<T: TriHashItem, S: BuildHasher> TriHashMap<T, S> {
 
     /// Makes an empty map with this builder, in which exactly `items` items fit.
     ///
-    /// The call allocates the slots and each table. It fails if an allocation fails, or if so many items are more than
-    /// memory can count. For 0 items it allocates nothing, and succeeds. A table has 16 bytes for each of its cells,
+    /// The call allocates the slots and each table. It fails if an allocation fails, or if the number of items is too
+    /// large for memory. For 0 items it allocates nothing, and succeeds. A table has 16 bytes for each of its cells,
     /// whose number is a power of two: up to 4,096 items the least that is three times as many, up to 16,384 the least
     /// that is twice as many, and above that the least of which the items fill seven eighths.
     pub fn with_capacity_and_hasher(
@@ -87,7 +87,7 @@ impl<T: TriHashItem, S: BuildHasher> TriHashMap<T, S> {
         ensures empty { IfOk result (λ map. bag map ≡ []) }
         ensures capacity { IfOk result (λ map. map.capacity ≡ items) }
         ensures builder { IfOk result (λ map. map.builder ≡ hash_builder) }
-        // Capacity 0 never fails, and more than the largest table holds always does.
+        // The call never fails for capacity 0, and always fails for more than the largest table holds.
         ensures never_refused { items ≡ 0 → IsOk result }
         ensures past { most_room < items → IsErr result }
     {

@@ -20,7 +20,7 @@ impl<T: TriHashItemMut, S: BuildHasher> TriHashMap<T, S> {
     ///
     /// `*map.data1_mut(&key)? = data;`
     pub fn data1_mut<Q: Query<T::K1>>(&mut self, query: Q) -> Option<&mut T::Data>
-        // The data that the item has is lent, or nothing if there is no such item.
+        // The result borrows the data of the item, or is `None` if there is no such item.
         ensures value { IfSome result (λ d. (x : T) × IsOnly (has1 T.TriHashItem Q.stands_for query)
             (bag self.old) (Some x) × (d.now ≡ T.data_of x)) }
         ensures absent { IfNone result (IsOnly (has1 T.TriHashItem Q.stands_for query)
@@ -44,7 +44,7 @@ impl<T: TriHashItemMut, S: BuildHasher> TriHashMap<T, S> {
     ///
     /// `*map.data2_mut(&key)? = data;`
     pub fn data2_mut<Q: Query<T::K2>>(&mut self, query: Q) -> Option<&mut T::Data>
-        // The data that the item has is lent, or nothing if there is no such item.
+        // The result borrows the data of the item, or is `None` if there is no such item.
         ensures value { IfSome result (λ d. (x : T) × IsOnly (has2 T.TriHashItem Q.stands_for query)
             (bag self.old) (Some x) × (d.now ≡ T.data_of x)) }
         ensures absent { IfNone result (IsOnly (has2 T.TriHashItem Q.stands_for query)
@@ -68,7 +68,7 @@ impl<T: TriHashItemMut, S: BuildHasher> TriHashMap<T, S> {
     ///
     /// `*map.data3_mut(&key)? = data;`
     pub fn data3_mut<Q: Query<T::K3>>(&mut self, query: Q) -> Option<&mut T::Data>
-        // The data that the item has is lent, or nothing if there is no such item.
+        // The result borrows the data of the item, or is `None` if there is no such item.
         ensures value { IfSome result (λ d. (x : T) × IsOnly (has3 T.TriHashItem Q.stands_for query)
             (bag self.old) (Some x) × (d.now ≡ T.data_of x)) }
         ensures absent { IfNone result (IsOnly (has3 T.TriHashItem Q.stands_for query)
@@ -94,7 +94,7 @@ impl<T: TriHashItemMut, S: BuildHasher> TriHashMap<T, S> {
         query2: Q2,
         query3: Q3,
     ) -> Option<&mut T::Data>
-        // The data that the item has is lent, or nothing if there is no such item.
+        // The result borrows the data of the item, or is `None` if there is no such item.
         ensures value { IfSome result (λ d. (x : T) × IsOnly
             (has_all T.TriHashItem Q1.stands_for Q2.stands_for Q3.stands_for query1 query2 query3)
             (bag self.old) (Some x) × (d.now ≡ T.data_of x)) }

@@ -10,7 +10,7 @@ use crate::item::{Ranked, TriHashItem};
 use std::hash::{BuildHasher, Hash};
 
 impl<T: TriHashItem, S: BuildHasher> TriHashMap<T, S> {
-    /// Looks up three keys at once. The result is `Vacant` if no item has one of the keys, and else `Occupied`, with
+    /// Looks up three keys at once. The result is `Vacant` if no item has one of the keys, otherwise `Occupied`, with
     /// the items that have one. The entry keeps what the keys found, so that its calls need not search again.
     ///
     /// The call hashes each key once, and searches for it once. It allocates no memory.

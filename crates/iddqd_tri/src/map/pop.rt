@@ -12,8 +12,8 @@ use std::hash::{BuildHasher, Hash};
 impl<T: TriHashItem, S: BuildHasher> TriHashMap<T, S> {
     /// Removes some item, and returns it, or `None` if the map has none. The capacity stays.
     ///
-    /// Which item it is depends on where the items stand, and not on their order of insertion. The call hashes each key
-    /// of the item once, compares none, and allocates no memory. It passes all free slots in front of the item, so to
+    /// Which item it is depends on the slots of the items, and not on their order of insertion. The call hashes each
+    /// key of the item once, compares none, and allocates no memory. It passes all free slots before the item, so to
     /// remove all items of a large map one by one call `pop_from`.
     ///
     /// ```text

@@ -1,4 +1,4 @@
-//! Putting an item in the place of another, whatever their keys are.
+//! Replacing an item by another, whatever their keys are.
 ghost use Rattle.std.specs.Prelude.{◌≡◌, Some, IfOk, IfErr, OnErr};
 ghost use Rattle.iddqd_store.specs.Bag.{IsOnly};
 ghost use Rattle.iddqd_store.specs.Map.{bag};
@@ -14,10 +14,10 @@ use std::hash::{BuildHasher, Hash};
 impl<T: Ranked, S: BuildHasher> TriHashMap<T, S> {
     /// Puts an item in the place of the one with the first key that the query stands for, and returns the latter. The
     /// new item may have other keys. The error has the new item, and the map is as it was: `Absent` if no item has the
-    /// key asked for, and `Conflict` if another item than that one conflicts with the new one.
+    /// key asked for, and `Conflict` if some other item conflicts with the new one.
     ///
     /// The call hashes the query and searches for it once, and hashes each key of the new item and searches for it
-    /// once. Of the old item it hashes the keys that the new one does not have. It allocates no memory, and the
+    /// once. It also hashes those keys of the old item that the new one does not have. It allocates no memory, and the
     /// capacity stays.
     ///
     /// `match map.rekey1(&key, item) { Ok(old) => drop(old), Err(e) => keep_for_later(e.into_item()) }`
@@ -25,7 +25,7 @@ impl<T: Ranked, S: BuildHasher> TriHashMap<T, S> {
         // The item with that key is returned, and the new one is in its place.
         ensures found { IfOk result (λ x. IsOnly (has1 T.TriHashItem Q.stands_for query) (bag self.old) (Some x)) }
         ensures puts { IfOk result (λ x. PutsInPlace self.old x item self.new) }
-        // The error has the new item, and says which of the two is so. The map is as it was.
+        // The error has the new item, and says which of the two cases it is. The map is as it was.
         ensures handed_back { IfErr result (λ e. left_out e ≡ item) }
         ensures unchanged { OnErr result (self.new ≡ self.old) }
         ensures reason { IfErr result (λ e. TellsWhyNot T.ranks
@@ -42,10 +42,10 @@ impl<T: Ranked, S: BuildHasher> TriHashMap<T, S> {
 
     /// Puts an item in the place of the one with the second key that the query stands for, and returns the latter. The
     /// new item may have other keys. The error has the new item, and the map is as it was: `Absent` if no item has the
-    /// key asked for, and `Conflict` if another item than that one conflicts with the new one.
+    /// key asked for, and `Conflict` if some other item conflicts with the new one.
     ///
     /// The call hashes the query and searches for it once, and hashes each key of the new item and searches for it
-    /// once. Of the old item it hashes the keys that the new one does not have. It allocates no memory, and the
+    /// once. It also hashes those keys of the old item that the new one does not have. It allocates no memory, and the
     /// capacity stays.
     ///
     /// `match map.rekey2(&key, item) { Ok(old) => drop(old), Err(e) => keep_for_later(e.into_item()) }`
@@ -53,7 +53,7 @@ impl<T: Ranked, S: BuildHasher> TriHashMap<T, S> {
         // The item with that key is returned, and the new one is in its place.
         ensures found { IfOk result (λ x. IsOnly (has2 T.TriHashItem Q.stands_for query) (bag self.old) (Some x)) }
         ensures puts { IfOk result (λ x. PutsInPlace self.old x item self.new) }
-        // The error has the new item, and says which of the two is so. The map is as it was.
+        // The error has the new item, and says which of the two cases it is. The map is as it was.
         ensures handed_back { IfErr result (λ e. left_out e ≡ item) }
         ensures unchanged { OnErr result (self.new ≡ self.old) }
         ensures reason { IfErr result (λ e. TellsWhyNot T.ranks
@@ -70,10 +70,10 @@ impl<T: Ranked, S: BuildHasher> TriHashMap<T, S> {
 
     /// Puts an item in the place of the one with the third key that the query stands for, and returns the latter. The
     /// new item may have other keys. The error has the new item, and the map is as it was: `Absent` if no item has the
-    /// key asked for, and `Conflict` if another item than that one conflicts with the new one.
+    /// key asked for, and `Conflict` if some other item conflicts with the new one.
     ///
     /// The call hashes the query and searches for it once, and hashes each key of the new item and searches for it
-    /// once. Of the old item it hashes the keys that the new one does not have. It allocates no memory, and the
+    /// once. It also hashes those keys of the old item that the new one does not have. It allocates no memory, and the
     /// capacity stays.
     ///
     /// `match map.rekey3(&key, item) { Ok(old) => drop(old), Err(e) => keep_for_later(e.into_item()) }`
@@ -81,7 +81,7 @@ impl<T: Ranked, S: BuildHasher> TriHashMap<T, S> {
         // The item with that key is returned, and the new one is in its place.
         ensures found { IfOk result (λ x. IsOnly (has3 T.TriHashItem Q.stands_for query) (bag self.old) (Some x)) }
         ensures puts { IfOk result (λ x. PutsInPlace self.old x item self.new) }
-        // The error has the new item, and says which of the two is so. The map is as it was.
+        // The error has the new item, and says which of the two cases it is. The map is as it was.
         ensures handed_back { IfErr result (λ e. left_out e ≡ item) }
         ensures unchanged { OnErr result (self.new ≡ self.old) }
         ensures reason { IfErr result (λ e. TellsWhyNot T.ranks

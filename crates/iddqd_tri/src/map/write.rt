@@ -18,8 +18,8 @@ use std::hash::{BuildHasher, Hash};
 
 impl<T: TriHashItem, S: BuildHasher> TriHashMap<T, S> {
     /// Returns a guard of the item with the first key that the query stands for, or `None`. Through the guard the
-    /// item's data can be written, as by `*guard.data_mut() = data`, and the item can be replaced by one with equal
-    /// keys.
+    /// item's data can be written, for example by `*guard.data_mut() = data`, and the item can be replaced by one with
+    /// equal keys.
     ///
     /// The call compares at most as many keys as items have the query's hash at the first rank. It allocates no memory.
     ///
@@ -41,8 +41,8 @@ impl<T: TriHashItem, S: BuildHasher> TriHashMap<T, S> {
     }
 
     /// Returns a guard of the item with the second key that the query stands for, or `None`. Through the guard the
-    /// item's data can be written, as by `*guard.data_mut() = data`, and the item can be replaced by one with equal
-    /// keys.
+    /// item's data can be written, for example by `*guard.data_mut() = data`, and the item can be replaced by one with
+    /// equal keys.
     ///
     /// The call compares at most as many keys as items have the query's hash at the second rank. It allocates no
     /// memory.
@@ -65,8 +65,8 @@ impl<T: TriHashItem, S: BuildHasher> TriHashMap<T, S> {
     }
 
     /// Returns a guard of the item with the third key that the query stands for, or `None`. Through the guard the
-    /// item's data can be written, as by `*guard.data_mut() = data`, and the item can be replaced by one with equal
-    /// keys.
+    /// item's data can be written, for example by `*guard.data_mut() = data`, and the item can be replaced by one with
+    /// equal keys.
     ///
     /// The call compares at most as many keys as items have the query's hash at the third rank. It allocates no
     /// memory.
@@ -110,9 +110,9 @@ impl<T: TriHashItem, S: BuildHasher> TriHashMap<T, S> {
         Some(RefMut { map: self, slot })
     }
 
-    /// Returns a guard of the next item of an iteration over the map, or `None` behind the last one. The cursor moves
-    /// on behind that item. Between two steps a caller may write items, but not insert or remove any. The call
-    /// allocates no memory.
+    /// Returns a guard of the next item of an iteration over the map, or `None` after the last one. The cursor moves on
+    /// past that item. Between two steps a caller may write items, but not insert or remove any. The call allocates no
+    /// memory.
     ///
     /// ```text
     /// let mut at = Cursor::new();

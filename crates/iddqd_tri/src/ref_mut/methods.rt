@@ -28,8 +28,8 @@ impl<T: TriHashItem, S: BuildHasher> Deref for RefMut<'_, T, S> {
 }
 
 impl<T: TriHashItemMut, S: BuildHasher> RefMut<'_, T, S> {
-    /// Returns the item's data, borrowed for writing, as in `*guard.data_mut() = data`. No key changes, and the call
-    /// compares and hashes none.
+    /// Returns the item's data, borrowed for writing, for example by `*guard.data_mut() = data`. No key changes, and
+    /// the call compares and hashes none.
     pub fn data_mut(&mut self) -> &mut T::Data
         ensures value { IfSome (ref_item self.old) (λ x. result.now ≡ T.data_of x) }
         ensures writes { (d : T.Data) → IfSome (ref_item self.old) (λ x.

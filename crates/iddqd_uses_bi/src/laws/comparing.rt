@@ -42,8 +42,8 @@ pub fn equal_through_a_third<T: BiHashItem + PartialEq, S: BuildHasher>(
     true
 }
 
-/// Returns whether two maps are equal. They are if they have the same items, however these were inserted, in whatever
-/// order they stand, and whatever the capacity is.
+/// Returns whether two maps are equal. They are equal if they have the same items, however these were inserted,
+/// whatever their order is, and whatever the capacity is.
 pub fn equal_to_the_same_items<T: BiHashItem + Eq, S: BuildHasher>(
     left: &BiHashMap<T, S>,
     right: &BiHashMap<T, S>,

@@ -1,4 +1,4 @@
-//! How lookups agree with each other.
+//! Laws by which lookups agree with each other.
 ghost use Rattle.std.specs.Prelude.{◌≡◌, true};
 
 use iddqd_bi::{BiHashItem, BiHashMap, Query};

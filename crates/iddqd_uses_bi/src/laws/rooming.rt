@@ -1,4 +1,4 @@
-//! What reserved capacity is good for, and that reserving and shrinking keep the items.
+//! Tests that inserts succeed after capacity was reserved, and that reserving and shrinking keep the items.
 ghost use Rattle.std.specs.Prelude.{◌≡◌, ◌≢◌, ◌∷◌, ◌<◌, ◌≤◌, ◌+◌, ◌⊎◌, [], true, length, IsPermutation};
 ghost use Rattle.std.specs.Bool.{OnTrue, OnFalse};
 ghost use Rattle.iddqd_bi.specs.Bag.{clash};
@@ -20,8 +20,8 @@ pub fn insert_after_reserve<T: BiHashItem + Drop, S: BuildHasher>(
     insert_or_lack(map, item)
 }
 
-/// Inserts an item if nothing conflicts with it, and else drops it. Returns `false` if nothing conflicts with it and there
-/// was no memory for it.
+/// Inserts an item if nothing conflicts with it, otherwise drops it. Returns `false` if nothing conflicts with it and
+/// there was no memory for it.
 fn insert_or_lack<T: BiHashItem + Drop, S: BuildHasher>(map: &mut BiHashMap<T, S>, item: T) -> bool
     ensures memory { length (bag map.old) < map.old.capacity → result ≡ true }
     ensures taken { OnTrue result (IsPermutation (bag map.new) (item ∷ bag map.old)

@@ -16,7 +16,7 @@ pub fn none_again<T>(walk: &mut Iter<'_, T>) -> bool
     }
 }
 
-/// Tests that the length of an iteration is that of the map, and one less behind its first item.
+/// Tests that the length of an iteration is that of the map, and one less after its first item.
 pub fn length_is_exact<T: BiHashItem, S: BuildHasher>(map: &BiHashMap<T, S>) -> bool
     ensures { result ≡ true }
 {

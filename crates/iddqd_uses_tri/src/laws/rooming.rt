@@ -1,4 +1,4 @@
-//! What reserved capacity is good for, and that reserving and shrinking keep the items.
+//! Tests that inserts succeed after capacity was reserved, and that reserving and shrinking keep the items.
 ghost use Rattle.std.specs.Prelude.{◌≡◌, ◌≢◌, ◌∷◌, ◌<◌, ◌≤◌, ◌+◌, ◌⊎◌, [], true, length, IsPermutation};
 ghost use Rattle.std.specs.Bool.{OnTrue, OnFalse};
 ghost use Rattle.iddqd_tri.specs.Bag.{clash};
@@ -20,7 +20,7 @@ pub fn insert_after_reserve<T: TriHashItem + Drop, S: BuildHasher>(
     insert_or_lack(map, item)
 }
 
-/// Inserts an item if nothing conflicts with it, and else drops it. Returns `false` if nothing conflicts with it and
+/// Inserts an item if nothing conflicts with it, otherwise drops it. Returns `false` if nothing conflicts with it and
 /// there was no memory for it.
 fn insert_or_lack<T: TriHashItem + Drop, S: BuildHasher>(
     map: &mut TriHashMap<T, S>,

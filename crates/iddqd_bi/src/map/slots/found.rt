@@ -17,7 +17,7 @@ use crate::ref_mut::RefMut;
 use iddqd_store::{ItemIndex, Query, UpToTwo};
 use std::hash::{BuildHasher, Hash};
 
-/// Returns whether the item has the keys asked for at all ranks behind the first.
+/// Returns whether the item has the keys asked for at all ranks after the first.
 pub(crate) fn has_others<T: BiHashItem, Q2: Query<T::K2>>(item: &T, query2: Q2) -> bool
     ensures { result ≡ every_of (has2 T.BiHashItem Q2.stands_for query2 ∷ []) item.now }
 {
@@ -39,7 +39,7 @@ pub(crate) fn differ<T: BiHashItem>(item: &T, key1: &T::K1, key2: &T::K2) -> Opt
     None
 }
 
-/// Returns the slot that both searches found, or `None` if they did not find the same.
+/// Returns the slot that both searches found, or `None` if they did not find the same one.
 pub(crate) fn one_of(slot1: Option<ItemIndex>, slot2: Option<ItemIndex>) -> Option<ItemIndex>
     ensures { result ≡ head_of (found_by_all (slot1 ∷ slot2 ∷ [])) }
 {

@@ -108,7 +108,8 @@ impl<T: BiHashItemMut, S: BuildHasher> BiHashMap<T, S> {
         *self.data_mut_at(ix) = d;
     }
 
-    /// Does so for the items of these slots, in their order.
+    /// Calls a closure with the item of each of these slots, in their order, and stores what it returns as the item's
+    /// data.
     fn store_all<F: FnMut(&T) -> T::Data>(&mut self, found: &UpToTwo<ItemIndex>, mut f: F)
     where
         T::Data: Drop,
@@ -129,7 +130,7 @@ impl<T: BiHashItemMut, S: BuildHasher> BiHashMap<T, S> {
         }
     }
 
-    /// Does so for the items of the slots that searches found, for each once.
+    /// Calls a closure once with each item whose slot a search found, and stores what it returns as the item's data.
     pub(crate) fn store_found<F: FnMut(&T) -> T::Data>(
         &mut self,
         slot1: Option<ItemIndex>,

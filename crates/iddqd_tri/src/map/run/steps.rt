@@ -1,5 +1,5 @@
-//! Carrying out the commands that change the map by a key. Each has a function of its own, which is not inlined into
-//! `apply`, since it needs stack space for a reply.
+//! Carrying out the commands that change the map by a key. Each command has a function of its own, which is not inlined
+//! into `apply`, since it needs stack space for a reply.
 ghost use Rattle.std.specs.Prelude.{◌≡◌};
 ghost use Rattle.iddqd_store.specs.Runs.Step.{state_of, Removes, Replaces, Sets};
 ghost use Rattle.iddqd_store.specs.Runs.Step.{EntryInserts, EntryRemoves, OrInserts};

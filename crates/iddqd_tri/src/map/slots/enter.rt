@@ -47,7 +47,7 @@ impl<T: TriHashItem, S: BuildHasher> TriHashMap<T, S> {
         Ok(())
     }
 
-    /// Removes again the items that were inserted, in the order in which they were. The call allocates no memory, and
+    /// Removes the inserted items again, in the order in which they were inserted. The call allocates no memory, and
     /// compares no key.
     pub(crate) fn take_entered(&mut self, entered: Entered<T>) -> Vec<T>
         requires live { All (IsLive self.old.slots) entered.slots }

@@ -17,7 +17,7 @@ use crate::ref_mut::RefMut;
 use iddqd_store::{ItemIndex, Query, UpToThree};
 use std::hash::{BuildHasher, Hash};
 
-/// Returns whether the item has the keys asked for at all ranks behind the first.
+/// Returns whether the item has the keys asked for at all ranks after the first.
 pub(crate) fn has_others<T: TriHashItem, Q2: Query<T::K2>, Q3: Query<T::K3>>(
     item: &T,
     query2: Q2,
@@ -52,7 +52,7 @@ pub(crate) fn differ<T: TriHashItem>(
     None
 }
 
-/// Returns the slot that all searches found, or `None` if they did not find the same.
+/// Returns the slot that all searches found, or `None` if they did not find the same one.
 pub(crate) fn one_of(
     slot1: Option<ItemIndex>,
     slot2: Option<ItemIndex>,

@@ -19,8 +19,8 @@ use std::hash::{BuildHasher, Hash};
 impl<T: TriHashItem, S: BuildHasher> TriHashMap<T, S> {
     /// Inserts an item in place of those that conflict with it, whose slots the searches by its keys found, and returns
     /// these items, with the slot of the new one. There is at least one, whose slot the new item takes. The call does
-    /// not hash a key by which a search found its item. It walks through each table at most once more than it displaces
-    /// items.
+    /// not hash a key by which a search found its item. The number of its walks through each table is at most one more
+    /// than the number of items that it displaces.
     #[inline(never)]
     pub(crate) fn put_over(
         &mut self,
@@ -107,7 +107,7 @@ impl<T: TriHashItem, S: BuildHasher> TriHashMap<T, S> {
     }
 
     /// Puts an item into the slot of another, and returns the latter. If both have the same hash at a rank, the pair in
-    /// its table stays, and no cell of it is probed. Else the call walks through the table twice.
+    /// its table stays, and no cell of it is probed. Otherwise the call walks through the table twice.
     fn exchange(
         &mut self,
         ix: ItemIndex,
@@ -145,8 +145,8 @@ impl<T: TriHashItem, S: BuildHasher> TriHashMap<T, S> {
     }
 
     /// Puts an item into the slot `ix` of one that conflicts with it, and returns that one and another, which leaves
-    /// the slot `at`. At a rank at which the search found the other item, its pair gets the number `ix`. How often the
-    /// call walks through each table, `walks_two` says.
+    /// the slot `at`. At a rank at which the search found the other item, its pair gets the number `ix`. `walks_two`
+    /// says how often the call walks through each table.
     fn exchange_two(
         &mut self,
         ix: ItemIndex,

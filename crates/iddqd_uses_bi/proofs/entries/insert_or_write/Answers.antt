@@ -7,7 +7,7 @@ use Rattle.iddqd_bi.specs.RefMuts.{ref_item, ref_map, ref_with}
 use Rattle.iddqd_bi.proofs.Entering.{writes_occupied}
 use Rattle.iddqd_uses_bi.proofs.entries.insert_or_write.Goals as goal
 
--- the item that is lent is the one that both keys name
+-- the item that is borrowed is the one that both keys name
 pub returns-in-Some-clause-writes : goal.returns-in-Some-clause-writes
 returns-in-Some-clause-writes g c =
     let asked = c.in-Occupied.ensures in

@@ -7,7 +7,7 @@ use Rattle.iddqd_bi.proofs.CallerLemmas.{NamesOne-query, contains-inserted}
 use Rattle.iddqd_bi.specs.Keys.{ranks, has1}
 use Rattle.iddqd_uses_bi.proofs.finding.put_and_find.Goals as goal
 
--- the item that went in is found by its key
+-- the item that was inserted is found by its key
 pub returns-in-Ok : goal.returns-in-Ok
 returns-in-Ok g c =
     let eq1 = g.T.K1.PartialEq.eq in

@@ -5,13 +5,13 @@ use Rattle.iddqd_bi.specs.Map.{Gains, bag}
 use Rattle.iddqd_bi.proofs.CallerLemmas.{clash-none}
 use Rattle.iddqd_uses_bi.proofs.inserting.insert_both.Goals as goal
 
--- what lacks both reasons is granted
+-- an insert that has neither reason to fail succeeds
 granted : {T : Type 0} (answer : Bool) (met : List T) (held room : ℕ) → OnFalse answer ((met ≢ []) ⊎ (held ≡ room)) → met ≡ [] → held < room → answer ≡ true
 granted true met held room reason free fits = refl
 granted false met held room (inl some) free fits = absurd (some free)
 granted false met held room (inr full) free fits = absurd (omega (arith, full, fits))
 
--- the second is free beside the first, and there is room for it
+-- the second item does not conflict with the first, and there is room for it
 pub returns-then-first-clause-granted : goal.returns-then-first-clause-granted
 returns-then-first-clause-granted g c free_a free_b room =
     let middle = c.insert_or_drop-first.new.map in

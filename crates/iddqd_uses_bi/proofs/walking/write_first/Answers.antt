@@ -3,7 +3,7 @@ use Rattle.iddqd_bi.specs.Walk.{to_come}
 use Rattle.iddqd_bi.proofs.CallerLemmas.Walks.{first_written}
 use Rattle.iddqd_uses_bi.proofs.walking.write_first.Goals as goal
 
--- the first item of the walk is the first of the bag
+-- the first item of the iteration is the first of the bag
 pub returns-in-Some-clause-some : goal.returns-in-Some-clause-some
 returns-in-Some-clause-some g c =
     let walk = c.iter_mut-walk in

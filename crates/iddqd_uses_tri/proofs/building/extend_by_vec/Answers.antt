@@ -9,13 +9,13 @@ use Rattle.iddqd_tri.specs.Keys.{ranks}
 use Rattle.iddqd_tri.proofs.CallerLemmas.Batches.{batch-split}
 use Rattle.iddqd_uses_tri.proofs.building.extend_by_vec.Goals as goal
 
--- what the iterator of a vector gives are its items
+-- the iterator of a vector gives its items
 pub returns-clause-all : goal.returns-clause-all
 returns-clause-all g c =
     let by = ranks g.T.TriHashItem g.T.K1.PartialEq.eq g.T.K2.PartialEq.eq g.T.K3.PartialEq.eq in
     on_ok_weaker c.extend.result (λ h. (subst (λ (xs : List g.row.T.Denot). IsPermutation (bag c.extend.new.self) (overs by (bag c.args.map.now) xs)) (All-taken h.0 h.1 h.3 ∙ h.2.0) h.4.0)) c.extend.ensures.all
 
--- those before the item that came back are a front of the vector's
+-- the items before the one that came back are the first of the vector
 pub returns-clause-refused : goal.returns-clause-refused
 returns-clause-refused g c =
     let by = ranks g.T.TriHashItem g.T.K1.PartialEq.eq g.T.K2.PartialEq.eq g.T.K3.PartialEq.eq in

@@ -10,7 +10,7 @@ use Rattle.iddqd_tri.proofs.CallerLemmas.Entering.{rests_entry, writes_entry}
 use Rattle.iddqd_tri.proofs.Entering.{entered, none_held, unique_held}
 use Rattle.iddqd_uses_tri.proofs.entries.or_insert_and_write.Goals as goal
 
--- the item that is lent is the one that the entry has then
+-- the item that is borrowed is the one that the entry has then
 pub returns-in-Some-clause-writes : goal.returns-in-Some-clause-writes
 returns-in-Some-clause-writes g c =
     let asked = c.entry.ensures in

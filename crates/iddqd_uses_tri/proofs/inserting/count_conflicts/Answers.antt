@@ -5,7 +5,7 @@ use Rattle.iddqd_tri.specs.Map.{bag}
 use Rattle.iddqd_tri.proofs.CallerLemmas.{length-clash}
 use Rattle.iddqd_uses_tri.proofs.inserting.count_conflicts.Goals as goal
 
--- as many are listed as conflict
+-- as many items are listed as conflict
 pub returns-in-Ok-clause-count : goal.returns-in-Ok-clause-count
 returns-in-Ok-clause-count g c =
     ap length (sym c.in-Ok.ensures.free) ∙ length-clash g.T.Ranked.ranks (bag c.args.map.now) c.args.item

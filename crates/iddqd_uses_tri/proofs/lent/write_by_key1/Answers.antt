@@ -5,7 +5,7 @@ use Rattle.iddqd_tri.specs.RefMuts.{ref_item, ref_map, ref_with}
 use Rattle.iddqd_tri.proofs.CallerLemmas.Named.{only_written}
 use Rattle.iddqd_uses_tri.proofs.lent.write_by_key1.Goals as goal
 
--- the item that is lent is the one that the first key names
+-- the item that is borrowed is the one that the first key names
 pub returns-in-Some-clause-present : goal.returns-in-Some-clause-present
 returns-in-Some-clause-present g c = λ x is.
     let asked = c.in-Occupied.ensures in

@@ -5,7 +5,7 @@ use Rattle.iddqd_tri.proofs.CallerLemmas.Batches.{batch-found}
 use Rattle.iddqd_uses_tri.specs.declared.sessions.Session.{Session}
 use Rattle.iddqd_uses_tri.proofs.sessions.open_all.Goals as goal
 
--- a token names one of a sound bag
+-- a token names one session of a sound bag
 pub returns-in-Ok-clause-found : goal.returns-in-Ok-clause-found
 returns-in-Ok-clause-found g c =
     batch-found (_ ∷ _ ∷ []) [] (λ (s : Session). s.token) string_eq string_eq_equiv (bag c.args.sessions.now) (bag c.load.new.map) c.args.batch.items c.in-Ok.ensures.sound c.in-Ok.ensures.all

@@ -25,7 +25,7 @@ loop-item-preserved g c =
       builder = put.same_builder ∙ so_far.builder;
     }
 
--- answered here, so that a wrong body is refused here, and no second search for it follows
+-- this goal is answered here, so that a wrong body fails here, without a second search for it
 pub loop-item-init : goal.loop-item-init
 loop-item-init g c = record {
   callable = search rules;
@@ -39,7 +39,7 @@ loop-item-init g c = record {
 at_err : {A E : Type 0} (r : Result A E) (e : E) (P : E → Type 0) → r ≡ Err e → P e → IfErr r P
 at_err {A} {E} r e P is p = subst (λ (r : Result A E). IfErr r P) (sym is) p
 
--- what was refused left the map as it was
+-- an insert that failed left the map as it was
 pub returns-in_err-insert_overwrite-clause-refused : goal.returns-in_err-insert_overwrite-clause-refused
 returns-in_err-insert_overwrite-clause-refused g c =
     let refused = c.in_err-insert_overwrite in

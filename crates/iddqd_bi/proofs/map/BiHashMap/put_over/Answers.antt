@@ -6,7 +6,7 @@ use Rattle.iddqd_store.proofs.MapLemmas.Places.{one_leaves, two_leave, stand_in}
 use Rattle.iddqd_bi.specs.Keys.{ranks}
 use Rattle.iddqd_bi.proofs.map.BiHashMap.put_over.Goals as goal
 
--- of two slots no third one is left
+-- after two slots there is no third one
 none_left : (xs : List ℕ) → length xs < 1 → xs ≡ []
 none_left [] short = refl
 none_left (x ∷ xs) short = absurd (omega (arith, short))

@@ -28,7 +28,7 @@ loop-item-preserved g c =
 at_err : {A E : Type 0} (r : Result A E) (e : E) (P : E → Type 0) → r ≡ Err e → P e → IfErr r P
 at_err {A} {E} r e P is p = subst (λ (r : Result A E). IfErr r P) (sym is) p
 
--- what was refused left the map as it was
+-- an insert that failed left the map as it was
 pub returns-in_err-insert_overwrite-clause-refused : goal.returns-in_err-insert_overwrite-clause-refused
 returns-in_err-insert_overwrite-clause-refused g c =
     let refused = c.in_err-insert_overwrite in

@@ -5,7 +5,7 @@ use Rattle.iddqd_store.specs.Runs.Step.{ExtendsTo, state_of}
 use Rattle.iddqd_store.specs.Bag.Building.{FitsOn}
 use Rattle.iddqd_tri.proofs.map.TriHashMap.extend.Given as goal
 
--- the items that came so far went in
+-- the items that came so far were inserted
 abbrev pub invariant-loop-item : goal.invariant-loop-item
 invariant-loop-item g l = record {
   callable : (goal.iterator-loop-item g).can_next l.item-iterator;

@@ -14,8 +14,8 @@ use std::hash::{BuildHasher, Hash};
 
 impl<T: TriHashItem, S: BuildHasher> TriHashMap<T, S> {
     /// Puts an item into the slot `slots.0` of one that conflicts with it, and returns that one and two others, which leave the
-    /// other slots. At a rank at which the search found one of these, its pair gets the number `slots.0`. How often the call
-    /// walks through each table, `walks_three` says.
+    /// other slots. At a rank at which the search found one of these, its pair gets the number `slots.0`. `walks_three`
+    /// says how often the call walks through each table.
     pub(crate) fn exchange_three(
         &mut self,
         slots: (ItemIndex, ItemIndex, ItemIndex),

@@ -13,7 +13,7 @@ pub returns-else-contains_key2 : goal.returns-else-contains_key2
 returns-else-contains_key2 g c =
     c.contains_key2.ensures ∙ given-listed (has2 g.T.BiHashItem g.Q.Query.stands_for c.args.query) (bag c.args.map.now) c.in-Some.item.now c.in-Some.ensures
 
--- and where none is given, none has it
+-- if none is given, no item has the key
 pub returns-in-None : goal.returns-in-None
 returns-in-None g c =
     rw (c.contains_key2-in-None.ensures ∙ none-listed (has2 g.T.BiHashItem g.Q.Query.stands_for c.args.query) (bag c.args.map.now) c.in-None.ensures) refl

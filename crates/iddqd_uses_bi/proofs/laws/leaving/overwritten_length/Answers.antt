@@ -5,7 +5,7 @@ use Rattle.iddqd_bi.specs.Map.{bag}
 use Rattle.iddqd_bi.proofs.CallerLemmas.{length-overwritten_by}
 use Rattle.iddqd_uses_bi.proofs.laws.leaving.overwritten_length.Goals as goal
 
--- those that are given back are those that conflicted
+-- the items that are returned are those that conflicted
 pub returns-then-count-le2 : goal.returns-then-count-le2
 returns-then-count-le2 g c =
     let by = ranks g.T.BiHashItem g.T.K1.PartialEq.eq g.T.K2.PartialEq.eq in

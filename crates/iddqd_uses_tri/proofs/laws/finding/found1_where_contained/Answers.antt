@@ -13,7 +13,7 @@ pub returns-else-contains_key1 : goal.returns-else-contains_key1
 returns-else-contains_key1 g c =
     c.contains_key1.ensures ∙ given-listed (has1 g.T.TriHashItem g.Q.Query.stands_for c.args.query) (bag c.args.map.now) c.in-Some.item.now c.in-Some.ensures
 
--- and where none is given, none has it
+-- if none is given, no item has the key
 pub returns-in-None : goal.returns-in-None
 returns-in-None g c =
     rw (c.contains_key1-in-None.ensures ∙ none-listed (has1 g.T.TriHashItem g.Q.Query.stands_for c.args.query) (bag c.args.map.now) c.in-None.ensures) refl

@@ -5,7 +5,7 @@ use Rattle.iddqd_tri.specs.Map.{bag}
 use Rattle.iddqd_tri.proofs.CallerLemmas.{length-overwritten_by}
 use Rattle.iddqd_uses_tri.proofs.laws.leaving.overwritten_length.Goals as goal
 
--- those that are given back are those that conflicted
+-- the items that are returned are those that conflicted
 pub returns-then-count-le3 : goal.returns-then-count-le3
 returns-then-count-le3 g c =
     let by = ranks g.T.TriHashItem g.T.K1.PartialEq.eq g.T.K2.PartialEq.eq g.T.K3.PartialEq.eq in

@@ -3,7 +3,7 @@ use Rattle.iddqd_tri.specs.Map.{bag}
 use Rattle.iddqd_tri.proofs.CallerLemmas.{length-inserted}
 use Rattle.iddqd_uses_tri.proofs.laws.rooming.insert_all_after_reserve.Goals as goal
 
--- one less is left, and the map has one more at most
+-- one item less is left, and the map has at most one more
 pub loop-item-preserved : goal.loop-item-preserved
 loop-item-preserved g c =
     elim c.insert_or_lack.ensures.one_at_most [
