@@ -11,6 +11,8 @@ mod building;
 #[cfg(test)]
 mod copies;
 #[cfg(test)]
+mod debug;
+#[cfg(test)]
 mod pointers;
 #[cfg(test)]
 mod printed;

@@ -62,24 +62,14 @@ fn is_added(map: &mut BiHashMap<Page>, page: Page) -> bool {
     map.try_insert(page).is_ok()
 }
 
-/// Returns the page that has this text as its title, looked up by the text and by a reference to it.
+/// Returns the page that has this text as its title.
 fn titled(map: &BiHashMap<Page>, text: &str) -> Option<u64> {
-    let found = number_of!(map.get1(text));
-    if number_of!(map.get1(&text)) == found {
-        found
-    } else {
-        None
-    }
+    number_of!(map.get1(text))
 }
 
-/// Returns the page that has the bytes of this text as its tag, looked up by the bytes and by a reference to them.
+/// Returns the page that has the bytes of this text as its tag.
 fn tagged(map: &BiHashMap<Page>, text: &str) -> Option<u64> {
-    let found = number_of!(map.get2(text.as_bytes()));
-    if number_of!(map.get2(&text.as_bytes())) == found {
-        found
-    } else {
-        None
-    }
+    number_of!(map.get2(text.as_bytes()))
 }
 
 /// A text, the page that has it as its title, and the page that has its bytes as its tag.

@@ -5,6 +5,7 @@
 #![tactic(auto)]
 
 mod command;
+mod debug;
 mod entry;
 mod error;
 mod item;

@@ -3,7 +3,7 @@ ghost use Rattle.std.specs.Prelude.{◌≡◌, true, is_some, not, option_copied
 ghost use Rattle.iddqd_bi.specs.OccupiedRefs.{is_one, seen_unique, seen1, seen2};
 
 /// The items that two keys found, borrowed for reading.
-#[derive(Drop)]
+#[derive(Debug, Drop)]
 pub enum OccupiedEntryRef<'a, T> {
     /// One item has both keys.
     Unique(&'a T),

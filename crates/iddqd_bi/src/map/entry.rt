@@ -15,7 +15,14 @@ impl<T: BiHashItem, S: BuildHasher> BiHashMap<T, S> {
     ///
     /// The call hashes each key once, and searches for it once. It allocates no memory.
     ///
-    /// `map.entry(&key1, &key2).or_insert(item)`
+    /// ```text
+    /// match map.entry(&key1, &key2) {
+    ///     Entry::Vacant(entry) => {
+    ///         entry.insert(item)?;
+    ///     }
+    ///     Entry::Occupied(entry) => println!(rt; "taken: {:?}", entry.get())?,
+    /// }
+    /// ```
     pub fn entry<'a>(&'a mut self, key1: &'a T::K1, key2: &'a T::K2) -> Entry<'a, T, S>
         // The entry borrows this very map, unchanged, and has these keys.
         ensures same_map { entry_lender result ≡ self.entry.ghost_name }

@@ -16,6 +16,13 @@ impl<T: BiHashItem, S: BuildHasher> BiHashMap<T, S> {
     /// for a key, such as a `&str` for a `String`: `map.get1(&key)`, `map.get1("main")`.
     ///
     /// The call compares at most as many keys as items have the query's hash at the first rank.
+    ///
+    /// ```text
+    /// match map.get1(&key1) {
+    ///     Some(item) => println!(rt; "{item:?}")?,
+    ///     None => println!(rt; "no item has this key")?,
+    /// }
+    /// ```
     pub fn get1<Q: Query<T::K1>>(&self, query: Q) -> Option<&T>
         ensures { IsOnly (has1 T.BiHashItem Q.stands_for query) (bag self.now) (option_copied result) }
     {
@@ -26,6 +33,13 @@ impl<T: BiHashItem, S: BuildHasher> BiHashMap<T, S> {
     /// for a key, such as a `&str` for a `String`: `map.get2(&key)`, `map.get2("main")`.
     ///
     /// The call compares at most as many keys as items have the query's hash at the second rank.
+    ///
+    /// ```text
+    /// match map.get2(&key2) {
+    ///     Some(item) => println!(rt; "{item:?}")?,
+    ///     None => println!(rt; "no item has this key")?,
+    /// }
+    /// ```
     pub fn get2<Q: Query<T::K2>>(&self, query: Q) -> Option<&T>
         ensures { IsOnly (has2 T.BiHashItem Q.stands_for query) (bag self.now) (option_copied result) }
     {

@@ -23,6 +23,13 @@ impl<T: Ranked, S: BuildHasher> BiHashMap<T, S> {
     ///
     /// The call hashes each key of the item once, and searches for it once. It allocates memory only if the map is
     /// full.
+    ///
+    /// ```text
+    /// match devices.insert_unique(device) {
+    ///     Ok(()) => {}
+    ///     Err(refused) => println!(rt; "{refused}: {:?}", refused.duplicates())?,
+    /// }
+    /// ```
     #[inline(always)]
     pub fn insert_unique(&mut self, item: T) -> Result<(), InsertError<'_, T, S>>
         // The result is `Ok` only if nothing conflicts, and then always if there is spare capacity.

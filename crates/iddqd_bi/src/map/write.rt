@@ -22,6 +22,12 @@ impl<T: BiHashItem, S: BuildHasher> BiHashMap<T, S> {
     /// equal keys.
     ///
     /// The call compares at most as many keys as items have the query's hash at the first rank. It allocates no memory.
+    ///
+    /// ```text
+    /// if let Some(mut item) = map.get1_mut(&key1) {
+    ///     *item.data_mut() = data;
+    /// }
+    /// ```
     pub fn get1_mut<Q: Query<T::K1>>(&mut self, query: Q) -> Option<RefMut<'_, T, S>>
         ensures found { IsOnly (has1 T.BiHashItem Q.stands_for query) (bag self.old) (option_and_then ref_item result) }
         ensures unchanged { IfSome result (λ r. ref_map r ≡ self.old) }
@@ -38,6 +44,12 @@ impl<T: BiHashItem, S: BuildHasher> BiHashMap<T, S> {
     ///
     /// The call compares at most as many keys as items have the query's hash at the second rank. It allocates no
     /// memory.
+    ///
+    /// ```text
+    /// if let Some(mut item) = map.get2_mut(&key2) {
+    ///     *item.data_mut() = data;
+    /// }
+    /// ```
     pub fn get2_mut<Q: Query<T::K2>>(&mut self, query: Q) -> Option<RefMut<'_, T, S>>
         ensures found { IsOnly (has2 T.BiHashItem Q.stands_for query) (bag self.old) (option_and_then ref_item result) }
         ensures unchanged { IfSome result (λ r. ref_map r ≡ self.old) }

@@ -14,7 +14,7 @@ use std::marker::Model;
 ///     *item.data_mut() = 0;
 /// }
 /// ```
-#[derive(Clone, Copy)]
+#[derive(Clone, Copy, Debug)]
 pub struct Cursor {
     next: usize,
 }

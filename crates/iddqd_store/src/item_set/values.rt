@@ -5,6 +5,7 @@ ghost use Rattle.std.specs.Iterator.SizeHint.{IsWithinCount};
 ghost use Rattle.iddqd_store.specs.Slots.{live_items, live_count};
 
 use super::{ItemSet, Slot};
+use std::fmt::{self, Debug, Formatter, Write};
 use std::iter::FusedIterator;
 use std::marker::Model;
 use std::vec;
@@ -92,6 +93,13 @@ impl<'a, T> ExactSizeIterator for Iter<'a, T> {
 
 impl<'a, T> FusedIterator for Iter<'a, T> {}
 
+impl<T: Debug> Debug for Iter<'_, T> {
+    /// Writes the items that are left as a list.
+    fn fmt<W: Write>(&self, f: &mut Formatter<W>) -> fmt::Result {
+        f.debug_list().entries(self.clone()).finish()
+    }
+}
+
 /// Iterates over the items of a set by value, each once. `len` takes one step. Contracts see the items that are left,
 /// as a list.
 #[derive(Drop)]
@@ -154,6 +162,15 @@ impl<T: Drop> ExactSizeIterator for IntoIter<T> {
 }
 
 impl<T: Drop> FusedIterator for IntoIter<T> {}
+
+impl<T> Debug for IntoIter<T> {
+    /// Writes how many items are left, and none of them.
+    fn fmt<W: Write>(&self, f: &mut Formatter<W>) -> fmt::Result {
+        f.debug_struct("IntoIter")
+            .field("len", &self.len)
+            .finish_non_exhaustive()
+    }
+}
 
 impl<T> ItemSet<T> {
     /// Returns an iterator over references to the items, in the order of the slots. It allocates nothing.

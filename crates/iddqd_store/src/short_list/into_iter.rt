@@ -4,6 +4,7 @@ ghost use Rattle.std.specs.Iterator.{YieldsFirst, UpTo, item_count};
 ghost use Rattle.std.specs.Iterator.SizeHint.{IsWithinCount};
 
 use super::ShortList;
+use std::fmt::{self, Debug, Formatter, Write};
 use std::iter::FusedIterator;
 
 /// Iterates over the items of a short list by value, in their order. Items that are not asked for are dropped with
@@ -50,3 +51,10 @@ impl<L: ShortList + Drop> ExactSizeIterator for ShortIntoIter<L> {
 }
 
 impl<L: ShortList + Drop> FusedIterator for ShortIntoIter<L> {}
+
+impl<L: Debug> Debug for ShortIntoIter<L> {
+    /// Writes the items that are left as a list.
+    fn fmt<W: Write>(&self, f: &mut Formatter<W>) -> fmt::Result {
+        Debug::fmt(&self.left, f)
+    }
+}

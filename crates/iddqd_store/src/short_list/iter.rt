@@ -3,6 +3,7 @@ ghost use Rattle.std.specs.Prelude.{◌≡◌, length, IfSome, Some};
 ghost use Rattle.std.specs.Iterator.{YieldsFirstRef, UpTo, item_count};
 ghost use Rattle.std.specs.Iterator.SizeHint.{IsWithinCount};
 
+use std::fmt::{self, Debug, Formatter, Write};
 use std::iter::FusedIterator;
 use std::marker::Model;
 use std::mem;
@@ -76,3 +77,10 @@ impl<'a, T> ExactSizeIterator for ShortIter<'a, T> {
 }
 
 impl<'a, T> FusedIterator for ShortIter<'a, T> {}
+
+impl<T: Debug> Debug for ShortIter<'_, T> {
+    /// Writes the items that are left as a list.
+    fn fmt<W: Write>(&self, f: &mut Formatter<W>) -> fmt::Result {
+        f.debug_list().entries(self.clone()).finish()
+    }
+}

@@ -3,7 +3,7 @@ ghost use Rattle.std.specs.Prelude.{◌≡◌, true, is_some, not, option_copied
 ghost use Rattle.iddqd_tri.specs.OccupiedRefs.{is_one, seen_unique, seen1, seen2, seen3};
 
 /// The items that three keys found, borrowed for reading.
-#[derive(Drop)]
+#[derive(Debug, Drop)]
 pub enum OccupiedEntryRef<'a, T> {
     /// One item has all keys.
     Unique(&'a T),

@@ -15,7 +15,14 @@ impl<T: TriHashItem, S: BuildHasher> TriHashMap<T, S> {
     ///
     /// The call hashes each key once, and searches for it once. It allocates no memory.
     ///
-    /// `map.entry(&key1, &key2, &key3).or_insert(item)`
+    /// ```text
+    /// match map.entry(&key1, &key2, &key3) {
+    ///     Entry::Vacant(entry) => {
+    ///         entry.insert(item)?;
+    ///     }
+    ///     Entry::Occupied(entry) => println!(rt; "taken: {:?}", entry.get())?,
+    /// }
+    /// ```
     pub fn entry<'a>(
         &'a mut self,
         key1: &'a T::K1,

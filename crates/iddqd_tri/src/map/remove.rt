@@ -18,6 +18,12 @@ impl<T: TriHashItem, S: BuildHasher> TriHashMap<T, S> {
     ///
     /// The call compares at most as many keys as items have the query's hash at the first rank. It hashes the query and
     /// the other keys of the item, and allocates no memory.
+    ///
+    /// ```text
+    /// if let Some(item) = map.remove1(&key1) {
+    ///     println!(rt; "removed: {item:?}")?;
+    /// }
+    /// ```
     pub fn remove1<Q: Query<T::K1>>(&mut self, query: Q) -> Option<T>
         ensures taken { IsOnly (has1 T.TriHashItem Q.stands_for query) (bag self.old) result }
         ensures loses { Loses self.old (option_to_list result) self.new }
@@ -73,6 +79,12 @@ impl<T: TriHashItem, S: BuildHasher> TriHashMap<T, S> {
     ///
     /// The call compares at most as many keys as items have the query's hash at the second rank. It hashes the query
     /// and the other keys of the item, and allocates no memory.
+    ///
+    /// ```text
+    /// if let Some(item) = map.remove2(&key2) {
+    ///     println!(rt; "removed: {item:?}")?;
+    /// }
+    /// ```
     pub fn remove2<Q: Query<T::K2>>(&mut self, query: Q) -> Option<T>
         ensures taken { IsOnly (has2 T.TriHashItem Q.stands_for query) (bag self.old) result }
         ensures loses { Loses self.old (option_to_list result) self.new }

@@ -22,6 +22,12 @@ impl<T: TriHashItem, S: BuildHasher> TriHashMap<T, S> {
     /// equal keys.
     ///
     /// The call compares at most as many keys as items have the query's hash at the first rank. It allocates no memory.
+    ///
+    /// ```text
+    /// if let Some(mut item) = map.get1_mut(&key1) {
+    ///     *item.data_mut() = data;
+    /// }
+    /// ```
     pub fn get1_mut<Q: Query<T::K1>>(&mut self, query: Q) -> Option<RefMut<'_, T, S>>
         ensures found { IsOnly (has1 T.TriHashItem Q.stands_for query) (bag self.old)
             (option_and_then ref_item result) }
@@ -40,6 +46,12 @@ impl<T: TriHashItem, S: BuildHasher> TriHashMap<T, S> {
     ///
     /// The call compares at most as many keys as items have the query's hash at the second rank. It allocates no
     /// memory.
+    ///
+    /// ```text
+    /// if let Some(mut item) = map.get2_mut(&key2) {
+    ///     *item.data_mut() = data;
+    /// }
+    /// ```
     pub fn get2_mut<Q: Query<T::K2>>(&mut self, query: Q) -> Option<RefMut<'_, T, S>>
         ensures found { IsOnly (has2 T.TriHashItem Q.stands_for query) (bag self.old)
             (option_and_then ref_item result) }
@@ -58,6 +70,12 @@ impl<T: TriHashItem, S: BuildHasher> TriHashMap<T, S> {
     ///
     /// The call compares at most as many keys as items have the query's hash at the third rank. It allocates no
     /// memory.
+    ///
+    /// ```text
+    /// if let Some(mut item) = map.get3_mut(&key3) {
+    ///     *item.data_mut() = data;
+    /// }
+    /// ```
     pub fn get3_mut<Q: Query<T::K3>>(&mut self, query: Q) -> Option<RefMut<'_, T, S>>
         ensures found { IsOnly (has3 T.TriHashItem Q.stands_for query) (bag self.old)
             (option_and_then ref_item result) }
