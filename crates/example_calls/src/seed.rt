@@ -1,4 +1,4 @@
-//! A map with a random seed, for keys that strangers choose: they cannot foresee which keys have equal hashes.
+//! A map with a random seed, for keys that attackers may choose: they cannot foresee which keys have equal hashes.
 ghost use Rattle.std.specs.Prelude.{◌≡◌, [], IfOk};
 ghost use Rattle.iddqd_bi.specs.Map.{bag};
 
@@ -7,7 +7,7 @@ use std::hash::RandomState;
 use std::io;
 use std::random::RandomSource;
 
-/// A login, known by its token, which a stranger sends, and by its user.
+/// A login, known by its token, which comes from outside, and by its user.
 #[derive(Drop)]
 pub struct Login {
     pub token: u64,

@@ -69,8 +69,8 @@ impl TriHashItemMut for Session {
     }
 }
 
-/// The open sessions. Strangers choose the tokens and the peers, so the hashes have a random seed. With a fixed seed,
-/// strangers could choose keys with the same home bucket in the table, and each lookup would probe them all.
+/// The open sessions. Attackers may choose the tokens and the peers, so the hashes have a random seed. With a fixed
+/// seed, attackers could choose keys with the same home bucket in the table, and each lookup would probe them all.
 pub type Sessions = TriHashMap<Session, RandomState>;
 
 /// Opens a session. The sessions with its number, its token or its peer are closed, and returned in this order.

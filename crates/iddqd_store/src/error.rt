@@ -99,7 +99,7 @@ pub enum ExtendUniqueReason {
 }
 
 /// The error of `extend_unique`, after which the map has the items that it had before the call. The items of the list
-/// behind `value` were dropped.
+/// after `value` were dropped.
 #[derive(Drop)]
 pub struct ExtendUniqueError<T> {
     /// The items before `value`, in the order of the list.

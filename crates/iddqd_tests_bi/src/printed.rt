@@ -30,7 +30,7 @@ fn shows<T: Debug>(alloc: Global, value: &T, shown: &str) -> bool {
 /// What `Display` prints for a conflict.
 const TAKEN: &str = "an item with an equal key is there already";
 
-/// Returns whether the error of an insert prints what it should, and so does the list of its duplicates.
+/// Returns whether the error of an insert and the list of its duplicates print what they should.
 fn refusal_prints(alloc: Global, map: &mut BiHashMap<Row>) -> bool {
     match map.insert_unique(row_of(1, 20, 0)) {
         Ok(()) => false,

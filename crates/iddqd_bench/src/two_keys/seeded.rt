@@ -7,7 +7,7 @@ use std::hash::{BuildHasherDefault, DefaultHasher};
 
 type Seeded = BiHashMap<Row, BuildHasherDefault<DefaultHasher>>;
 
-/// A map with spare capacity for so many items, or for none if there is no memory: the sums say so.
+/// Makes a map with spare capacity for this many items, or for none if there is no memory: then the sums differ.
 fn with_room(alloc: Global, room: usize) -> Seeded {
     let mut map = Seeded::default(alloc);
     let _ = map.reserve(room);
@@ -78,7 +78,7 @@ fn take_out(map: &mut Seeded, rows: &[Row]) -> u64 {
     sum
 }
 
-/// Fills a map with each part of so many rows, and removes as many items by the first keys of others.
+/// Fills a map with each part of `number` rows, and removes as many items by the first keys of others.
 #[unsafe(no_mangle)]
 pub extern "C" fn bi_remove_seeded(
     alloc: Global,

@@ -52,7 +52,7 @@ fn items_of(alloc: Global, rows: &[Row]) -> Result<Vec<Named>, AllocError> {
     Ok(items)
 }
 
-/// A map with spare capacity for so many items, or for none if there is no memory: the sums say so.
+/// Makes a map with spare capacity for this many items, or for none if there is no memory: then the sums differ.
 fn with_room(alloc: Global, room: usize) -> BiHashMap<Named> {
     let mut map = BiHashMap::new(alloc);
     let _ = map.reserve(room);

@@ -7,7 +7,7 @@ use Rattle.iddqd_store.proofs.BagLemmas.Rows.{Item, pairs, m2}
 use Rattle.iddqd_store.specs.Runs.Reply.{done, duplicate, displaced, found, present, taken, memory, refused, size, items, kept, key, absent, absent_data}
 use Rattle.iddqd_store.specs.Runs.Step.{State, Fits, FitsOnTheWay, empty_state, InsertsUnique, InsertsOverwrite, Gets, Tells, Removes, Reserves, ShrinksTo, Clears, Sizes, Lists, Extends, EntryInserts, EntryRemoves, OrInserts, Replaces, Sets}
 
--- these items, where so many fit
+-- these items, in a map in which this many fit
 abbrev pub state : List Item → ℕ → State Item
 state xs room = record { items = xs; capacity = room }
 

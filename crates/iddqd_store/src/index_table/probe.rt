@@ -102,7 +102,7 @@ pub(super) fn seek(cells: &Cells, hash: u64, index: ItemIndex, meter: &mut Meter
     unreachable!()
 }
 
-// Empties a cell by backward-shift deletion: pairs behind the hole move into it.
+// Empties a cell by backward-shift deletion: pairs after the hole move into it.
 //
 // Each pair that is probed is written into the hole. The write counts only if the hole then moves to the cell of that
 // pair. Otherwise another pair is written over it, or the cell is emptied at the end, as the last hole. So no branch

@@ -13,7 +13,7 @@ impl IndexTable {
     /// Removes a pair. It allocates nothing. It probes the cells from the home of the hash on, up to the first empty
     /// one.
     ///
-    /// It leaves no tombstone: each pair behind the hole moves into the hole if that is on the way from the pair's
+    /// It leaves no tombstone: each pair after the hole moves into the hole if that is on the way from the pair's
     /// home to the pair (backward-shift deletion).
     pub fn remove(&mut self, hash: u64, ix: ItemIndex, meter: &mut Meter)
         requires { Contains self.old.pairs (hash, ix) }
@@ -55,7 +55,7 @@ impl IndexTable {
         Some(ix)
     }
 
-    // Removes the pair that a search found in a cell. It probes the cells behind that one, up to the first empty one.
+    // Removes the pair that a search found in a cell. It probes the cells after that one, up to the first empty one.
     fn remove_cell(&mut self, hash: u64, found: (ItemIndex, usize), meter: &mut Meter)
         requires { IsCellOf self.old.row (hash, found.0) found.1 }
         ensures taken { IsPermutation self.old.pairs ((hash, found.0) ∷ self.new.pairs) }

@@ -37,14 +37,14 @@ impl Cursor {
         Cursor { next: 0 }
     }
 
-    /// Returns the number of the first slot behind the place.
+    /// Returns the number of the first slot after the place.
     pub fn next(&self) -> usize
         ensures { result ≡ self.now }
     {
         self.next
     }
 
-    /// Moves on to the place behind the item in a slot.
+    /// Moves on to the place after the item in a slot.
     pub fn pass(&mut self, ix: ItemIndex)
         ensures { self.new ≡ ix + 1 }
     {

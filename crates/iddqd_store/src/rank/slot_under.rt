@@ -42,7 +42,7 @@ impl SlotUnder {
         self.hash
     }
 
-    /// Returns the hash of the key in this slot if the search found the slot, and else `None`.
+    /// Returns the hash of the key in this slot if the search found the slot, otherwise `None`.
     pub fn hash_at(&self, ix: ItemIndex) -> Option<u64>
         ensures known { self.now.slot ≡ Some ix → result ≡ Some self.now.hash }
         ensures under { IfSome result (λ hash. (self.now.slot ≡ Some ix) × (hash ≡ self.now.hash)) }

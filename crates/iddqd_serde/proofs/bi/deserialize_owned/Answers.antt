@@ -6,7 +6,7 @@ use Rattle.iddqd_bi.specs.Map.{bag}
 use Rattle.iddqd_serde.proofs.Counting.{HasRead-more}
 use Rattle.iddqd_serde.proofs.bi.deserialize_owned.Goals as goal
 
--- the sequence ends behind the items that were read
+-- the sequence ends after the items that were read
 pub returns-then-not-branch-clause-reads : goal.returns-then-not-branch-clause-reads
 returns-then-not-branch-clause-reads g c =
     let ended : Gives g.F.Format.gives c.loop.from seq_ends c.next_item.new.self = search rules in

@@ -10,7 +10,7 @@ use Rattle.iddqd_tri.specs.Keys.{ranks}
 use Rattle.iddqd_tri.proofs.MapLemmas.{AreLawful-ranks}
 use Rattle.iddqd_tri.proofs.map.TriHashMap.exchange_three.Goals as goal
 
--- what stands in a slot once others left stood there before
+-- an item that is in a slot after others left was there before
 second_there : {T : Type 0} (slots : List (Option T)) (at end : ℕ) (x : T) → at ≢ end → get (slice_set slots end None) at ≡ Some x → get slots at ≡ Some x
 second_there slots at end x apart is = sym (get_or-set_other slots end at None None apart) ∙ is
 
