@@ -8,10 +8,10 @@
 //! item. An item that has a key of an item before it is an error of the format's own kind, which a format such as
 //! `serde_json` ends with the line and the column. A lack of memory is such an error too.
 //!
-//! What is proved of reading is that each item that was read is in the map (`reads`): the map has as many items as the
-//! sequence, and no two of them have an equal key of the same rank. Nothing is said of which items these are, since the
-//! contracts of `serde` say nothing of what a derived `Deserialize` reads. So no contract says that a map that is written and
-//! read again is equal to the first.
+//! It is proved of reading that each item that was read is in the map (`reads`): the map has as many items as the
+//! sequence, and no two of them have an equal key of the same rank. No clause says which items these are, since the
+//! contracts of `serde` say nothing of what a derived `Deserialize` reads. So no contract says that a map that is
+//! written and read again is equal to the first.
 #![tactic(auto)]
 
 pub mod bi;
