@@ -175,7 +175,7 @@ module _ {T : Type 0} where
       let later = subst (λ n. IsPermutation (members_from (first + 1) (set rest at (Some x))) ((n, x) ∷ members_from (first + 1) rest)) shift (members_from-put (first + 1) rest at x (omega arith) e) in
       IsPermutation-trans _ _ _ (IsPermutation-cons (first, y) _ _ later) (IsPermutation-middle ((first, y) ∷ []) (first + suc at, x) rest_of)
 
-  -- an item taken out of its slot
+  -- an item removed from its slot
   members_from-take : (first : ℕ) (slots : List (Option T)) (at : ℕ) (x : T) → get_or slots at None ≡ Some x → IsPermutation (members_from first slots) ((first + at, x) ∷ members_from first (set slots at None))
   members_from-take first [] at x e = absurd (cc)
   members_from-take first (None ∷ rest) zero x e = absurd (cc)

@@ -7,7 +7,7 @@ only_is : {T : Type 0} (found : Option T) (x : T) (xs : List T) → option_to_li
 only_is None x xs is only = absurd (cc (is, only))
 only_is (Some y) x xs is only = let same : y ≡ x = cc (is, only) in ap Some same
 
--- the item whose data is lent is the one that the first key names
+-- the item whose data is borrowed is the one that the first key names
 pub returns-in-Some-clause-present : goal.returns-in-Some-clause-present
 returns-in-Some-clause-present g c = λ x is.
     (let asked = c.in-Occupied.ensures in

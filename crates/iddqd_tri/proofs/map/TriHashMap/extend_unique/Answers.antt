@@ -50,7 +50,7 @@ loop-item-preserved g c =
       builder = put.grows.same_builder ∙ so_far.builder;
     }
 
--- what came out again is what came
+-- the items that were removed again are those that came
 module _ (g : given.Over) (c : goal.After-drop-item-iterator g) where
   abbrev old : List g.row.T.Denot
   old = bag c.args.self.now

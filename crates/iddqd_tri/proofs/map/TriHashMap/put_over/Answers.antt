@@ -8,7 +8,7 @@ use Rattle.iddqd_store.proofs.RankLemmas.Walks.{two_most, walks_most}
 use Rattle.iddqd_tri.specs.Keys.{ranks}
 use Rattle.iddqd_tri.proofs.map.TriHashMap.put_over.Goals as goal
 
--- of three slots no fourth one is left
+-- after three slots there is no fourth one
 none_left : (xs : List ℕ) → length xs < 1 → xs ≡ []
 none_left [] short = refl
 none_left (x ∷ xs) short = absurd (omega (arith, short))

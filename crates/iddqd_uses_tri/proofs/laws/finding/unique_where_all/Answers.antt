@@ -5,7 +5,7 @@ use Rattle.iddqd_tri.specs.Map.{bag}
 use Rattle.iddqd_tri.proofs.CallerLemmas.Laws.{given-unique, none-unique}
 use Rattle.iddqd_uses_tri.proofs.laws.finding.unique_where_all.Goals as goal
 
--- the item of the first key is the one of all, where it has the others
+-- the item of the first key is that of all keys, if it has the others
 pub returns-then-stands_for-2 : goal.returns-then-stands_for-2
 returns-then-stands_for-2 g c =
     let first = has1 g.T.TriHashItem g.Q1.Query.stands_for c.args.query1 in
@@ -31,7 +31,7 @@ returns-else-stands_for g c =
     let no : c.is_some-given.result ≡ false = c.is_some-given.ensures ∙ given-unique first others (bag c.args.map.now) c.in-Some.item.now c.get_unique.result c.in-Some.ensures c.get_unique.ensures ∙ rw second refl in
     rw no refl
 
--- none of the first key, none of all
+-- if no item has the first key, none has all keys
 pub returns-in-None : goal.returns-in-None
 returns-in-None g c =
     rw (c.is_some-given.ensures ∙ none-unique (has1 g.T.TriHashItem g.Q1.Query.stands_for c.args.query1) (has2 g.T.TriHashItem g.Q2.Query.stands_for c.args.query2 ∷ has3 g.T.TriHashItem g.Q3.Query.stands_for c.args.query3 ∷ []) (bag c.args.map.now) c.get_unique.result c.in-None.ensures c.get_unique.ensures) refl
