@@ -5,7 +5,7 @@ use Rattle.iddqd_bi.specs.RefMuts.{ref_item, ref_map, ref_with}
 use Rattle.iddqd_bi.proofs.CallerLemmas.Named.{only_written}
 use Rattle.iddqd_uses_bi.proofs.writing.write1.Goals as goal
 
--- the item that is lent is the one that the key names
+-- the borrowed item is the one that the key names
 pub returns-in-Some-clause-present : goal.returns-in-Some-clause-present
 returns-in-Some-clause-present g c = λ x is.
     (let one = c.in-Some.ensures in

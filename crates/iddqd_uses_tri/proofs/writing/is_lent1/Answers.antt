@@ -12,7 +12,7 @@ listed : {T : Type 0} (test : T → Bool) (bag : List T) (o : Option T) → is_s
 listed test bag (Some x) some is = sym (given-listed test bag x is)
 listed test bag None some is = absurd (cc some)
 
--- what is lent has an item
+-- the guard has an item
 lent : {T R : Type 0} (item : R → Option T) (live : (r : R) → is_some (item r) ≡ true) (test : T → Bool) (bag : List T) (r : Option R) → option_to_list (option_and_then item r) ≡ filter test bag → is_some r ≡ list_any test bag
 lent item live test bag (Some r) is = listed test bag (item r) (live r) is
 lent item live test bag None is = sym (none-listed test bag is)

@@ -6,7 +6,7 @@ use Rattle.iddqd_tri.specs.RefMuts.{ref_item, ref_map, ref_with}
 use Rattle.iddqd_tri.proofs.CallerLemmas.Named.{only_written}
 use Rattle.iddqd_uses_tri.proofs.writing.write1_again.Goals as goal
 
--- the item that is lent, and lent again, is the one that the key names
+-- the item that is borrowed, and borrowed again, is the one that the key names
 pub returns-in-Some-clause-present : goal.returns-in-Some-clause-present
 returns-in-Some-clause-present g c = λ x is.
     (let one = c.in-Some.ensures in
