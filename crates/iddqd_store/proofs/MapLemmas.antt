@@ -7,9 +7,9 @@ pub mod Storing
 pub mod Updating
 pub mod Walking
 pub mod Written
-use Rattle.std.specs.Prelude.{◌≡◌, ◌+◌, ◌<◌, ◌≤◌, ℕ, Bool, List, [], ◌∷◌, ◌++◌, length, IsPermutation, Option, Result, Ok, Err, OnErr}
+use Rattle.std.specs.Prelude.{◌≡◌, ◌+◌, ◌<◌, ℕ, Bool, List, [], ◌∷◌, ◌++◌, length, IsPermutation, Option, Result, Ok, Err, OnErr}
 use Rattle.std.specs.Cmp.{IsEquivalence}
-use Rattle.std.proofs.Common.{refl, sym, subst, ◌∙◌, arith}
+use Rattle.std.proofs.Common.{refl, sym, subst, ap, ◌∙◌, arith}
 use Rattle.std.proofs.lemmas.Map.Keys.{IsDistinct-cons, IsDistinct-tail}
 use Rattle.std.proofs.lemmas.List.Sorted.{IsPermutation-refl, IsPermutation-sym, IsPermutation-map}
 use Rattle.iddqd_store.specs.Slots.{members, live_items}
@@ -59,14 +59,13 @@ on_err (Ok _) p = tt
 on_err (Err _) p = p
 
 module _ {T S : Type 0} where
-  -- a request for room fails if that many items don't fit
-  pub MakesRoom-err : {A E : Type 0} {old new : Map T S} {more : ℕ} (r : Result A E) (e : E) → r ≡ Err e → new.capacity < length (bag old) + more → old.capacity ≤ new.capacity → new.builder ≡ old.builder → MakesRoom old more r new
-  MakesRoom-err {A = A} {E = E} {old = old} {new = new} {more = more} r e is short no_less same = subst (λ (x : Result A E). MakesRoom old more x new) (sym is) record {
+  -- a request for room fails if that many items don't fit, and nothing changes then
+  pub MakesRoom-err : {A E : Type 0} {old new : Map T S} {more : ℕ} (r : Result A E) (e : E) → r ≡ Err e → old.capacity < length (bag old) + more → new ≡ old → MakesRoom old more r new
+  MakesRoom-err {A = A} {E = E} {old = old} {new = new} {more = more} r e is short same = subst (λ (x : Result A E). MakesRoom old more x new) (sym is) record {
     room = tt;
-    reason = omega (arith, short, no_less);
-    still_short = short;
+    reason = short;
     past = λ _. refl;
-    no_less_room = no_less;
-    same_room = λ fits. absurd (omega (arith, short, no_less, fits));
-    same_builder = same;
+    no_less_room = let room = ap (λ (m : Map T S). m.capacity) same in omega (arith, room);
+    same_room = λ _. ap (λ (m : Map T S). m.capacity) same;
+    same_builder = ap (λ (m : Map T S). m.builder) same;
   }

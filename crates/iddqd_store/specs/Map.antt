@@ -81,14 +81,13 @@ pub record GrowsUnless {T S : Type 0} (fits : Type 0) (old new : Map T S) : Type
   pub same_room : fits → new.capacity ≡ old.capacity
   pub same_builder : new.builder ≡ old.builder
 
--- After `Ok`, `more` items fit beside those that are there. The call fails only if they fit neither before nor after
--- it, and it always fails if no map can hold them. The capacity grows only if they did not fit, and the builder stays.
+-- After `Ok`, `more` items fit beside those that are there. The call fails only if they did not fit before it, and
+-- it always fails if no map can hold them. The capacity grows only if they did not fit, and the builder stays.
 -- Example: With 3 items and the capacity 7, 4 more fit and nothing changes, and for 5 more the capacity has to be 8 at
 -- least.
 pub record MakesRoom {T S A E : Type 0} (old : Map T S) (more : ℕ) (result : Result A E) (new : Map T S) : Type 0 where
   pub room : OnOk result (length (bag old) + more ≤ new.capacity)
   pub reason : OnErr result (old.capacity < length (bag old) + more)
-  pub still_short : OnErr result (new.capacity < length (bag old) + more)
   pub past : most_room < length (bag old) + more → IsErr result
   pub no_less_room : old.capacity ≤ new.capacity
   pub same_room : length (bag old) + more ≤ old.capacity → new.capacity ≡ old.capacity

@@ -1,12 +1,12 @@
 //! A hash table of pairs of a hash and a slot's index: open addressing with linear probing, and backward-shift
 //! deletion, so there are no tombstones.
-ghost use Rattle.std.specs.Prelude.{ℕ, Contains, Some, ◌≡◌, ◌≢◌, ◌+◌, ◌*◌, ◌/◌, ◌%◌, ◌∷◌, ◌<◌, ◌≤◌, ◌&&◌, [], true, length, IsSome, IsOk, IsErr, ◌↔◌, IfOk, OnErr, IfErr};
+ghost use Rattle.std.specs.Prelude.{ℕ, Contains, Some, ◌≡◌, ◌≢◌, ◌+◌, ◌*◌, ◌/◌, ◌%◌, ◌∷◌, ◌<◌, ◌≤◌, ◌&&◌, [], true, length, IsSome, IsOk, IsErr, ◌↔◌, IfOk, IfErr};
 ghost use Rattle.std.specs.List.Sorted.{IsPermutation};
 ghost use Rattle.std.specs.Option.{option_map};
 ghost use Rattle.std.specs.Result.{result_ok};
 ghost use Rattle.iddqd_store.specs.Table.Ring.{cell, gap, pairs_in, stretch, IsFull};
 ghost use Rattle.iddqd_store.specs.Table.Limit.{IsLeast, IsSize, most_room};
-ghost use Rattle.iddqd_store.specs.Table.Room.{GrowsFor, IsSized};
+ghost use Rattle.iddqd_store.specs.Table.Room.{IsSized};
 ghost use Rattle.iddqd_store.specs.Table.Search.{CostsUnder, FindsUnder, IsVacantUnder};
 ghost use Rattle.iddqd_store.specs.Table.{hashes, IsCellOf, IsFree, IsTable, LooksUp, ReplacesPair, Table, table_of};
 
@@ -17,6 +17,7 @@ use std::alloc::Global;
 use std::marker::Model;
 
 mod cells;
+mod growth;
 mod matcher;
 mod meter;
 mod probe;
@@ -39,8 +40,8 @@ pub use vacancy::Vacancy;
 ///
 /// Reading what a cell has is a probe. Only `Cells::cell_at` probes, and it counts the probe on the meter that it is
 /// given. The clauses `look`, `looks`, `no_look` and `costs` count probes. Growth and `clone` also copy cells, which is
-/// no probe. A public function whose clauses count no probes makes a meter of its own: in this file only `try_reserve`.
-/// The script `tests/forms` lists all functions that make one.
+/// no probe. A function whose clauses count no probes may make a meter of its own: in this file none does. The script
+/// `tests/forms` lists all functions that make one.
 #[derive(Drop)]
 pub struct IndexTable {
     alloc: Global,
@@ -66,46 +67,6 @@ fn with_cells(alloc: Global, count: usize) -> Result<IndexTable, TryReserveError
     let mut table = IndexTable::new(alloc);
     table.cells = Cells::with_len(alloc, count)?;
     Ok(table)
-}
-
-// Makes a table with this many cells and with the pairs of other cells, which are inserted in order, by the hashes in
-// the cells.
-//
-// An old cell without a pair is copied too, over an empty cell. So no branch depends on whether an old cell has a pair,
-// which the processor cannot predict. One empty cell serves for all such copies, until a pair takes it. Then the next
-// empty cell after it serves, so all such copies together go round the new cells at most once.
-fn regrown(
-    alloc: Global,
-    cells: &Cells,
-    count: usize,
-    pairs: usize,
-    meter: &mut Meter,
-) -> Result<IndexTable, TryReserveError>
-    requires size { IsSize count }
-    requires some { 0 < count }
-    requires fits { length (pairs_in cells.now) ≤ count / 8 * 7 }
-    requires counted { pairs ≡ length (pairs_in cells.now) }
-    ensures pairs { IfOk result (λ t. IsPermutation (pairs_in cells.now) t.pairs) }
-    ensures limit { IfOk result (λ t. t.limit ≡ count / 8 * 7) }
-    ensures looks { meter.new ≤ meter.old + 2 * length cells.now + count + pairs * pairs }
-{
-    let mut grown = Cells::with_len(alloc, count)?;
-    let mut spot = count - 1;
-    for i in 0..cells.len() {
-        let pair = cells.cell_at(i, meter);
-        let from = match pair {
-            Some((hash, _)) => probe::home_of(hash, count),
-            None => spot,
-        };
-        let at = probe::first_empty_from(&grown, from, meter);
-        grown.copy_cell(at, cells, i);
-        spot = if pair.is_some() { spot } else { at };
-    }
-    Ok(IndexTable {
-        alloc,
-        cells: grown,
-        count: pairs,
-    })
 }
 
 impl IndexTable {
@@ -187,35 +148,6 @@ impl IndexTable {
         ensures sized { IsSized self.now }
     {
         self.cells.len()
-    }
-
-    /// Reserves spare capacity for this many more pairs. If they fit already it does nothing.
-    ///
-    /// It fails only if they do not fit and more cells cannot be allocated; the table is then unchanged. All cells
-    /// are allocated before the first pair moves. Pairs move by the hashes in their cells, so no matcher is asked,
-    /// and no item is read.
-    pub fn try_reserve(&mut self, more: usize) -> Result<(), TryReserveError>
-        // Afterwards the pairs fit, or the call fails.
-        ensures room { GrowsFor self.old more result self.new }
-        ensures unchanged { OnErr result (self.new ≡ self.old) }
-        // The pairs stay. The table grows only if more pairs would not fit.
-        ensures pairs { IsPermutation self.old.pairs self.new.pairs }
-        ensures limit { self.old.limit ≤ self.new.limit }
-        ensures same_room { length self.old.pairs + more ≤ self.old.limit → self.new ≡ self.old }
-    {
-        let limit = self.capacity();
-        let Some(wanted) = self.count.checked_add(more) else {
-            return Err(TryReserveError);
-        };
-        if wanted <= limit {
-            return Ok(());
-        }
-        let Some(count) = probe::cells_for(wanted) else {
-            return Err(TryReserveError);
-        };
-        let mut meter = Meter::new();
-        *self = regrown(self.alloc, &self.cells, count, self.count, &mut meter)?;
-        Ok(())
     }
 
     /// Returns an index that the table has under this hash and that the matcher accepts, or `None` if there is none.

@@ -170,7 +170,8 @@ fn entered(
     enter(&mut table, gone);
     enter(&mut table, pairs);
     take_out(&mut table, gone);
-    table.try_reserve(more)?;
+    let larger = table.grown(more, &mut Meter::new())?;
+    table.grow_into(larger);
     Ok(table)
 }
 

@@ -1,12 +1,12 @@
-//! How many items there are and how many fit.
-ghost use Rattle.std.specs.Prelude.{◌≡◌, ◌≤◌, [], length, ◌==◌};
+//! How many items there are and how many fit, and growing.
+ghost use Rattle.std.specs.Prelude.{◌≡◌, ◌≤◌, [], length, ◌==◌, OnErr};
 ghost use Rattle.iddqd_store.specs.Bag.{IsSound};
 ghost use Rattle.iddqd_store.specs.Map.{bag, MakesRoom};
 ghost use Rattle.iddqd_store.specs.Table.Limit.{most_room};
 
 use super::BiHashMap;
-use crate::item::Ranked;
-use iddqd_store::{Meter, TryReserveError};
+use crate::item::{BiHashItem, Ranked};
+use iddqd_store::{Meter, TryReserveError, pairs_wanted};
 use std::hash::{BuildHasher, Hash};
 
 impl<T: Ranked, S: BuildHasher> BiHashMap<T, S> {
@@ -39,19 +39,21 @@ impl<T: Ranked, S: BuildHasher> BiHashMap<T, S> {
     /// key.
     ///
     /// The call fails if an allocation for more slots or for a larger table fails, or if the number of items would be
-    /// too large for memory. Then the items are as before. The capacity may have grown, but this many more items do not
-    /// fit.
+    /// too large for memory. Then the map is as before: it grows whole or not at all. While it grows, it has the old
+    /// tables and the new ones at once.
     pub fn reserve(&mut self, more: usize) -> Result<(), TryReserveError>
         ensures items { bag self.new ≡ bag self.old }
         ensures room { MakesRoom self.old more result self.new }
+        ensures unchanged { OnErr result (self.new ≡ self.old) }
     {
         self.grow(more)
     }
 
-    /// Reserves capacity as `reserve` does.
+    /// Reserves capacity as `reserve` does. If the call fails, the map is as before.
     pub fn try_reserve(&mut self, more: usize) -> Result<(), TryReserveError>
         ensures items { bag self.new ≡ bag self.old }
         ensures room { MakesRoom self.old more result self.new }
+        ensures unchanged { OnErr result (self.new ≡ self.old) }
     {
         self.reserve(more)
     }
@@ -95,5 +97,31 @@ impl<T: Ranked, S: BuildHasher> BiHashMap<T, S> {
             from = ix.number() + 1;
             drop(self.take(ix, None, None, &mut Meter::new()));
         }
+    }
+}
+
+impl<T: BiHashItem, S: BuildHasher> BiHashMap<T, S> {
+    /// Reserves capacity for this many more items. If that fails, the map is as before. The call is not inlined into an
+    /// insert, which seldom grows.
+    ///
+    /// All that can fail comes first: the larger tables, then the slots. Each table stays until then, so there are the
+    /// old tables and the new ones at once.
+    #[cold]
+    #[inline(never)]
+    pub(crate) fn grow(&mut self, more: usize) -> Result<(), TryReserveError>
+        ensures slots { self.new.slots ≡ self.old.slots }
+        ensures room { MakesRoom self.old more result self.new }
+        ensures unchanged { OnErr result (self.new ≡ self.old) }
+    {
+        let Some(wanted) = pairs_wanted(self.items.len(), self.items.capacity(), more) else {
+            return Err(TryReserveError);
+        };
+        let mut meter = Meter::new();
+        let first = self.first.grown(wanted, &mut meter)?;
+        let second = self.second.grown(wanted, &mut meter)?;
+        self.items.try_reserve(more)?;
+        self.first.grow_into(first);
+        self.second.grow_into(second);
+        Ok(())
     }
 }

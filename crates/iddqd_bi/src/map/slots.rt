@@ -6,7 +6,7 @@ ghost use Rattle.std.specs.Prelude.{◌≡◌, ◌≢◌, ◌==◌, ℕ, ◌<◌
 ghost use Rattle.std.specs.List.{IsDistinct, list_any};
 ghost use Rattle.iddqd_store.specs.Bag.{IsSound, clash, differ, listing};
 ghost use Rattle.iddqd_store.specs.Rank.Index.{HasHash};
-ghost use Rattle.iddqd_store.specs.Map.{bag, hash_of, Gains, Loses, MakesRoom, PutsAt, IsFullFor, IsBlockedAt};
+ghost use Rattle.iddqd_store.specs.Map.{bag, hash_of, Gains, Loses, PutsAt, IsFullFor, IsBlockedAt};
 ghost use Rattle.iddqd_store.specs.Rank.{agree, walks_within};
 ghost use Rattle.iddqd_store.specs.Slots.Found.{AreFound, each_once, items_at};
 ghost use Rattle.iddqd_store.specs.Slots.{get, IsLive, Updates};
@@ -25,9 +25,7 @@ use super::BiHashMap;
 use crate::error::EntryError;
 use crate::item::{BiHashItem, Hashed, Ranked};
 use crate::ranks::{First, Second};
-use iddqd_store::{
-    ItemIndex, Lookup, Meter, SlotUnder, TryReserveError, UpToTwo, Vacancy, pairs_wanted,
-};
+use iddqd_store::{ItemIndex, Lookup, Meter, SlotUnder, TryReserveError, UpToTwo, Vacancy};
 use std::hash::{BuildHasher, Hash};
 
 /// An item that was not inserted, and why. It does not borrow the map.
@@ -265,25 +263,7 @@ impl<T: BiHashItem, S: BuildHasher> BiHashMap<T, S> {
         self.items.len() == self.room()
     }
 
-    /// Reserves capacity for this many more items. It is not inlined into an insert, which seldom grows.
-    ///
-    /// The tables grow first. If one of them, or the slots, cannot be allocated, the items do not fit.
-    #[cold]
-    #[inline(never)]
-    pub(crate) fn grow(&mut self, more: usize) -> Result<(), TryReserveError>
-        ensures slots { self.new.slots ≡ self.old.slots }
-        ensures room { MakesRoom self.old more result self.new }
-    {
-        let Some(wanted) = pairs_wanted(self.items.len(), self.items.capacity(), more) else {
-            return Err(TryReserveError);
-        };
-        self.first.try_reserve(wanted)?;
-        self.second.try_reserve(wanted)?;
-        self.items.try_reserve(more)?;
-        Ok(())
-    }
-
-    /// Reserves capacity for one more item if the map is full.
+    /// Reserves capacity for one more item if the map is full. If that fails, the map is as before.
     #[inline(always)]
     pub(crate) fn make_room(&mut self) -> Result<(), TryReserveError>
         ensures slots { self.new.slots ≡ self.old.slots }
@@ -297,7 +277,7 @@ impl<T: BiHashItem, S: BuildHasher> BiHashMap<T, S> {
         self.make_room_for(1)
     }
 
-    /// Reserves capacity for this many more items if the map is full.
+    /// Reserves capacity for this many more items if the map is full. If that fails, the map is as before.
     #[inline(always)]
     pub(crate) fn make_room_for(&mut self, wanted: usize) -> Result<(), TryReserveError>
         requires { 0 < wanted }
@@ -307,7 +287,7 @@ impl<T: BiHashItem, S: BuildHasher> BiHashMap<T, S> {
         ensures same_room { length (bag self.old) < self.old.capacity → self.new ≡ self.old }
         ensures room { OnOk result (length (bag self.old) < self.new.capacity) }
         ensures reason { OnErr result (length (bag self.old) ≡ self.old.capacity) }
-        ensures still_short { OnErr result (self.new.capacity < length (bag self.old) + wanted) }
+        ensures unchanged { OnErr result (self.new ≡ self.old) }
     {
         if self.is_full() {
             self.grow(wanted)?;

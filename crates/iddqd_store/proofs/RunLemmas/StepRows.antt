@@ -123,14 +123,17 @@ room_is_there = (refl, omega arith, omega arith, λ room. refl)
 room_is_made : Reserves {D = ℕ} (state m2 7) 6 done (state m2 14)
 room_is_made = (refl, omega arith, omega arith, λ room. omega (arith, room))
 
-some_room_is_made : Reserves {T = Item} {D = ℕ} (state m2 7) 6 refused (state m2 7)
-some_room_is_made = (refl, omega arith, omega arith)
+room_is_refused : Reserves {T = Item} {D = ℕ} (state m2 7) 6 refused (state m2 7)
+room_is_refused = (omega arith, refl)
 
 not_refused_where_room_is_there : (new : State Item) → Reserves {D = ℕ} (state m2 7) 5 refused new → ⊥
-not_refused_where_room_is_there new step = omega (arith, step.1, step.2)
+not_refused_where_room_is_there new step = omega (arith, step.0)
 
 not_refused_with_the_room_made : Reserves {D = ℕ} (state m2 7) 6 refused (state m2 14) → ⊥
-not_refused_with_the_room_made step = omega (arith, step.1)
+not_refused_with_the_room_made step = let same = ap (λ (s : State Item). s.capacity) step.1 in omega (arith, same)
+
+not_refused_with_some_room_made : Reserves {D = ℕ} (state m2 7) 60 refused (state m2 14) → ⊥
+not_refused_with_some_room_made step = let same = ap (λ (s : State Item). s.capacity) step.1 in omega (arith, same)
 
 not_granted_without_room : Reserves {D = ℕ} (state m2 7) 6 done (state m2 7) → ⊥
 not_granted_without_room step = omega (arith, step.1)

@@ -55,7 +55,7 @@ module _ {T D : Type 0} (ranks : Ranks T) (laws : AreLawful ranks) (old new : St
 
   pub IsSound-Reserves : (more : ℕ) (reply : Reply T D) → Reserves old more reply new → IsSound ranks new.items
   IsSound-Reserves more done step = same_items ranks laws old new sound step.0
-  IsSound-Reserves more refused step = same_items ranks laws old new sound step.0
+  IsSound-Reserves more refused step = same ranks laws old new sound step.1
   IsSound-Reserves more reply step = absurd step
 
   pub IsSound-ShrinksTo : (least : ℕ) (reply : Reply T D) → ShrinksTo old least reply new → IsSound ranks new.items

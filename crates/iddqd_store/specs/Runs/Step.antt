@@ -101,15 +101,14 @@ module _ {T D : Type 0} where
       × (new.capacity ≡ old.capacity)
   Removes old test reply new = ⊥
 
-  -- After `done`, `more` items fit, and the capacity grew only if they did not fit before. After `refused` they do
-  -- not fit. The bag stays.
-  -- Example: With the bag and the capacity 7, after `done` for 5 more the capacity is 8 at least.
+  -- After `done`, `more` items fit, and the capacity grew only if they did not fit before. The bag stays. The reply is
+  -- `refused` only if they do not fit, and then nothing changes.
+  -- Example: With the bag and the capacity 7, after `done` for 5 more the capacity is 8 at least, and after `refused` it is 7.
   abbrev pub Reserves : State T → ℕ → Reply T D → State T → Type 0
   Reserves old more done new =
       (new.items ≡ old.items) × (length old.items + more ≤ new.capacity) × (old.capacity ≤ new.capacity)
       × (length old.items + more ≤ old.capacity → new.capacity ≡ old.capacity)
-  Reserves old more refused new =
-      (new.items ≡ old.items) × (new.capacity < length old.items + more) × (old.capacity ≤ new.capacity)
+  Reserves old more refused new = (old.capacity < length old.items + more) × (new ≡ old)
   Reserves old more reply new = ⊥
 
   -- After `done` the capacity is the number of items or, if that is more, the lower one of `least` and the old

@@ -16,9 +16,9 @@ impl<T: TriHashItem + Drop, S: BuildHasher> TriHashMap<T, S> {
     /// the map is as before. For a map that gets capacity 0 the call allocates nothing.
     ///
     /// If the slots and tables are those of a map made with the new capacity, the call allocates and hashes nothing.
-    /// They may be larger although the capacity stays, for example after a failed `reserve`. Then the call makes them
-    /// smaller if there is memory for that, and succeeds in any case: a call that does not change the capacity never
-    /// fails.
+    /// They may be larger although the capacity stays, for example the slots of a large map that has grown. Then the
+    /// call makes them smaller if there is memory for that, and succeeds in any case: a call that does not change the
+    /// capacity never fails.
     pub fn shrink_to(&mut self, least: usize) -> Result<(), TryReserveError>
         // The items and the builder stay.
         ensures items { bag self.new ≡ bag self.old }

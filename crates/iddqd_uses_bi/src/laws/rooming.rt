@@ -72,11 +72,12 @@ pub fn extend_after_reserve<T: BiHashItem + Drop, S: BuildHasher>(
     map.extend(items).is_ok()
 }
 
-/// Reserves capacity, and returns whether that succeeded. The items stay either way.
+/// Reserves capacity, and returns whether that succeeded. The items stay either way, and if it failed the map does.
 pub fn reserve_keeps<T: BiHashItem, S: BuildHasher>(map: &mut BiHashMap<T, S>, more: usize) -> bool
     ensures items { bag map.new ≡ bag map.old }
     ensures room { result ≡ true → length (bag map.old) + more ≤ map.new.capacity }
     ensures still_short { OnFalse result (map.new.capacity < length (bag map.old) + more) }
+    ensures unchanged { OnFalse result (map.new ≡ map.old) }
 {
     map.reserve(more).is_ok()
 }

@@ -75,7 +75,7 @@ pub fn extend_after_reserve<T: TriHashItem + Drop, S: BuildHasher>(
     map.extend(items).is_ok()
 }
 
-/// Reserves capacity, and returns whether that succeeded. The items stay either way.
+/// Reserves capacity, and returns whether that succeeded. The items stay either way, and if it failed the map does.
 pub fn reserve_keeps<T: TriHashItem, S: BuildHasher>(
     map: &mut TriHashMap<T, S>,
     more: usize,
@@ -83,6 +83,7 @@ pub fn reserve_keeps<T: TriHashItem, S: BuildHasher>(
     ensures items { bag map.new ≡ bag map.old }
     ensures room { result ≡ true → length (bag map.old) + more ≤ map.new.capacity }
     ensures still_short { OnFalse result (map.new.capacity < length (bag map.old) + more) }
+    ensures unchanged { OnFalse result (map.new ≡ map.old) }
 {
     map.reserve(more).is_ok()
 }

@@ -8,8 +8,8 @@ use Rattle.iddqd_store.proofs.TableLemmas.Grow.{HasFront, front_none, front_full
 use Rattle.iddqd_store.proofs.TableLemmas.Limits.{held-empty}
 use Rattle.iddqd_store.proofs.TableLemmas.Regrow.{front_fits, gap_none, home_walk, looked_empty, looked_pair, pairs_put, spot_on, times_less, way_none, way_on, way_put}
 use Rattle.iddqd_store.proofs.TableLemmas.Ring.{gap_below}
-use Rattle.iddqd_store.proofs.index_table.regrown.Goals as goal
-use Rattle.iddqd_store.proofs.index_table.regrown.Goals.{in-Some, in-None, then-is_some, else-is_some}
+use Rattle.iddqd_store.proofs.index_table.growth.regrown.Goals as goal
+use Rattle.iddqd_store.proofs.index_table.growth.regrown.Goals.{in-Some, in-None, then-is_some, else-is_some}
 
 pub loop-i-init : goal.loop-i-init
 loop-i-init c =
@@ -92,4 +92,4 @@ returns-clause-looks c =
     let count = length_permutation _ _ all in
     let fewer = times_less (length (pairs_in row)) c.args.pairs (let counted = c.requires.counted in omega (arith, counted, count)) in
     let near : gap (length row) (c.args.count - 1) c.loop-i.spot < length row = gap_below (length row) (c.args.count - 1) c.loop-i.spot (omega arith) i.way.below in
-    omega (arith, c.loop-i-test.false, c.len-i-end.ensures)
+    record { done = omega (arith, c.loop-i-test.false, c.len-i-end.ensures); refused = tt }

@@ -2,7 +2,7 @@ use Rattle.std.proofs.Common.{◌≡◌, ◌+◌, ◌-◌, ◌*◌, ◌<◌, ◌
 use Rattle.iddqd_store.specs.Table.{IsWayTo}
 use Rattle.iddqd_store.specs.Table.Ring.{gap, pairs_in}
 use Rattle.iddqd_store.proofs.TableLemmas.Grow.{HasFront}
-use Rattle.iddqd_store.proofs.index_table.regrown.Given as goal
+use Rattle.iddqd_store.proofs.index_table.growth.regrown.Given as goal
 
 abbrev pub invariant-loop-i : goal.invariant-loop-i
 invariant-loop-i l = record {
