@@ -87,10 +87,18 @@ where
             ),
             BiCommand::EntryRemove(key1, key2) => self.apply_entry_remove(key1, key2, sink),
             BiCommand::OrInsert(key1, key2, item) => self.apply_or_insert(key1, key2, item, sink),
-            BiCommand::Replace1(key, item) => self.apply_replace1(key, item, sink),
-            BiCommand::Replace2(key, item) => self.apply_replace2(key, item, sink),
-            BiCommand::Set1(key, data) => self.apply_set1(key, data, sink),
-            BiCommand::Set2(key, data) => self.apply_set2(key, data, sink),
+            BiCommand::Replace1(key, item) => self.apply_replace(
+                self.by_key1().slot_of(&key),
+                item,
+                sink,
+            ),
+            BiCommand::Replace2(key, item) => self.apply_replace(
+                self.by_key2().slot_of(&key),
+                item,
+                sink,
+            ),
+            BiCommand::Set1(key, data) => self.apply_set(self.by_key1().slot_of(&key), data, sink),
+            BiCommand::Set2(key, data) => self.apply_set(self.by_key2().slot_of(&key), data, sink),
         }
     }
 

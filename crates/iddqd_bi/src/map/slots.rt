@@ -108,13 +108,9 @@ impl<T: BiHashItem, S: BuildHasher> BiHashMap<T, S> {
         let by2 = self.by_key2().search(hash2, key2);
         match (by1, by2) {
             (Err(at1), Err(at2)) => Ok((at1, at2)),
-            (Ok(ix1), by2) => Err((
-                SlotUnder::new(Some(ix1), hash1),
+            (by1, by2) => Err((
+                SlotUnder::new(by1.ok(), hash1),
                 SlotUnder::new(by2.ok(), hash2),
-            )),
-            (Err(_), Ok(ix2)) => Err((
-                SlotUnder::new(None, hash1),
-                SlotUnder::new(Some(ix2), hash2),
             )),
         }
     }

@@ -99,12 +99,24 @@ where
             TriCommand::OrInsert(key1, key2, key3, item) => self.apply_or_insert(
                 key1, key2, key3, item, sink,
             ),
-            TriCommand::Replace1(key, item) => self.apply_replace1(key, item, sink),
-            TriCommand::Replace2(key, item) => self.apply_replace2(key, item, sink),
-            TriCommand::Replace3(key, item) => self.apply_replace3(key, item, sink),
-            TriCommand::Set1(key, data) => self.apply_set1(key, data, sink),
-            TriCommand::Set2(key, data) => self.apply_set2(key, data, sink),
-            TriCommand::Set3(key, data) => self.apply_set3(key, data, sink),
+            TriCommand::Replace1(key, item) => self.apply_replace(
+                self.by_key1().slot_of(&key),
+                item,
+                sink,
+            ),
+            TriCommand::Replace2(key, item) => self.apply_replace(
+                self.by_key2().slot_of(&key),
+                item,
+                sink,
+            ),
+            TriCommand::Replace3(key, item) => self.apply_replace(
+                self.by_key3().slot_of(&key),
+                item,
+                sink,
+            ),
+            TriCommand::Set1(key, data) => self.apply_set(self.by_key1().slot_of(&key), data, sink),
+            TriCommand::Set2(key, data) => self.apply_set(self.by_key2().slot_of(&key), data, sink),
+            TriCommand::Set3(key, data) => self.apply_set(self.by_key3().slot_of(&key), data, sink),
         }
     }
 

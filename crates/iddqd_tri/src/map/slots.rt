@@ -134,20 +134,10 @@ impl<T: TriHashItem, S: BuildHasher> TriHashMap<T, S> {
         let by3 = self.by_key3().search(hash3, key3);
         match (by1, by2, by3) {
             (Err(at1), Err(at2), Err(at3)) => Ok((at1, at2, at3)),
-            (Ok(ix1), by2, by3) => Err((
-                SlotUnder::new(Some(ix1), hash1),
+            (by1, by2, by3) => Err((
+                SlotUnder::new(by1.ok(), hash1),
                 SlotUnder::new(by2.ok(), hash2),
                 SlotUnder::new(by3.ok(), hash3),
-            )),
-            (Err(_), Ok(ix2), by3) => Err((
-                SlotUnder::new(None, hash1),
-                SlotUnder::new(Some(ix2), hash2),
-                SlotUnder::new(by3.ok(), hash3),
-            )),
-            (Err(_), Err(_), Ok(ix3)) => Err((
-                SlotUnder::new(None, hash1),
-                SlotUnder::new(None, hash2),
-                SlotUnder::new(Some(ix3), hash3),
             )),
         }
     }

@@ -1,10 +1,10 @@
 //! The replies to commands on entries and guards. Each function carries out a command and makes its reply, which
 //! borrows nothing. Each arm returns by itself, since the prover knows less of the map where arms join.
-ghost use Rattle.std.specs.Prelude.{◌≡◌, [], ◌∷◌};
+ghost use Rattle.std.specs.Prelude.{◌≡◌, [], ◌∷◌, Bool};
 ghost use Rattle.iddqd_store.specs.Runs.Reply.{displaced, key};
 ghost use Rattle.iddqd_store.specs.Runs.Step.{state_of, EntryInserts, EntryRemoves, OrInserts, Replaces, Sets};
 ghost use Rattle.iddqd_store.specs.Runs.Values.{value_of};
-ghost use Rattle.iddqd_bi.specs.Keys.{has1, has2};
+ghost use Rattle.iddqd_store.specs.Slots.Found.{FoundAt};
 ghost use Rattle.iddqd_bi.specs.Mismatch.{mismatch_item, mismatch_rank};
 ghost use Rattle.iddqd_bi.specs.Refusals.{refusal_value};
 
@@ -13,7 +13,7 @@ use crate::entry::Entry;
 use crate::error::{EntryError, KeyMismatch};
 use crate::item::{BiHashItemMut, Ranked};
 use crate::map::BiHashMap;
-use iddqd_store::UpToTwo;
+use iddqd_store::{ItemIndex, UpToTwo};
 use std::hash::{BuildHasher, Hash};
 
 impl<T: BiHashItemMut + Drop, S: BuildHasher> BiHashMap<T, S>
@@ -81,13 +81,13 @@ where
         }
     }
 
-    /// Replaces the item with this first key.
-    pub(super) fn replace1<'m>(&mut self, key: &T::K1, item: T) -> BiReply<'m, T>
-        ensures step { Replaces ⟦<T as Ranked>⟧.ranks (has1 T.BiHashItem T.K1.eq key.now)
-            (state_of self.old) item (value_of result) (state_of self.new) }
+    /// Replaces the item of the slot that a search found.
+    pub(super) fn replace<'m>(&mut self, slot: Option<ItemIndex>, item: T) -> BiReply<'m, T>
+        ensures step { (test : T → Bool) → FoundAt test self.old.slots slot
+            → Replaces ⟦<T as Ranked>⟧.ranks test (state_of self.old) item (value_of result) (state_of self.new) }
         ensures builder { self.new.builder ≡ self.old.builder }
     {
-        match self.get1_mut(key) {
+        match self.lend(slot) {
             Some(mut r) => match r.replace(item) {
                 Ok(old) => return displaced_one(old),
                 Err(e) => return mismatch(e),
@@ -96,43 +96,13 @@ where
         }
     }
 
-    /// Replaces the item with this second key.
-    pub(super) fn replace2<'m>(&mut self, key: &T::K2, item: T) -> BiReply<'m, T>
-        ensures step { Replaces ⟦<T as Ranked>⟧.ranks (has2 T.BiHashItem T.K2.eq key.now)
-            (state_of self.old) item (value_of result) (state_of self.new) }
+    /// Writes the data of the item of the slot that a search found.
+    pub(super) fn set<'m>(&mut self, slot: Option<ItemIndex>, new_data: T::Data) -> BiReply<'m, T>
+        ensures step { (test : T → Bool) → FoundAt test self.old.slots slot
+            → Sets ⟦<T as Ranked>⟧.ranks T.put test (state_of self.old) new_data (value_of result) (state_of self.new) }
         ensures builder { self.new.builder ≡ self.old.builder }
     {
-        match self.get2_mut(key) {
-            Some(mut r) => match r.replace(item) {
-                Ok(old) => return displaced_one(old),
-                Err(e) => return mismatch(e),
-            },
-            None => return BiReply::Absent(item),
-        }
-    }
-
-    /// Writes the data of the item with this first key.
-    pub(super) fn set1<'m>(&mut self, key1: &T::K1, new_data: T::Data) -> BiReply<'m, T>
-        ensures step { Sets ⟦<T as Ranked>⟧.ranks T.put (has1 T.BiHashItem T.K1.eq key1.now)
-            (state_of self.old) new_data (value_of result) (state_of self.new) }
-        ensures builder { self.new.builder ≡ self.old.builder }
-    {
-        match self.get1_mut(key1) {
-            Some(mut r) => {
-                *r.data_mut() = new_data;
-                return BiReply::Done;
-            }
-            None => return BiReply::AbsentData(new_data),
-        }
-    }
-
-    /// Writes the data of the item with this second key.
-    pub(super) fn set2<'m>(&mut self, key2: &T::K2, new_data: T::Data) -> BiReply<'m, T>
-        ensures step { Sets ⟦<T as Ranked>⟧.ranks T.put (has2 T.BiHashItem T.K2.eq key2.now)
-            (state_of self.old) new_data (value_of result) (state_of self.new) }
-        ensures builder { self.new.builder ≡ self.old.builder }
-    {
-        match self.get2_mut(key2) {
+        match self.lend(slot) {
             Some(mut r) => {
                 *r.data_mut() = new_data;
                 return BiReply::Done;

@@ -1,10 +1,10 @@
 //! The replies to commands on entries and guards. Each function carries out a command and makes its reply, which
 //! borrows nothing. Each arm returns by itself, since the prover knows less of the map where arms join.
-ghost use Rattle.std.specs.Prelude.{◌≡◌, [], ◌∷◌};
+ghost use Rattle.std.specs.Prelude.{◌≡◌, [], ◌∷◌, Bool};
 ghost use Rattle.iddqd_store.specs.Runs.Reply.{displaced, key};
 ghost use Rattle.iddqd_store.specs.Runs.Step.{state_of, EntryInserts, EntryRemoves, OrInserts, Replaces, Sets};
 ghost use Rattle.iddqd_store.specs.Runs.Values.{value_of};
-ghost use Rattle.iddqd_tri.specs.Keys.{has1, has2, has3};
+ghost use Rattle.iddqd_store.specs.Slots.Found.{FoundAt};
 ghost use Rattle.iddqd_tri.specs.Mismatch.{mismatch_item, mismatch_rank};
 ghost use Rattle.iddqd_tri.specs.Refusals.{refusal_value};
 
@@ -13,7 +13,7 @@ use crate::entry::Entry;
 use crate::error::{EntryError, KeyMismatch};
 use crate::item::{Ranked, TriHashItemMut};
 use crate::map::TriHashMap;
-use iddqd_store::UpToThree;
+use iddqd_store::{ItemIndex, UpToThree};
 use std::hash::{BuildHasher, Hash};
 
 impl<T: TriHashItemMut + Drop, S: BuildHasher> TriHashMap<T, S>
@@ -85,13 +85,13 @@ where
         }
     }
 
-    /// Replaces the item with this first key.
-    pub(super) fn replace1<'m>(&mut self, key: &T::K1, item: T) -> TriReply<'m, T>
-        ensures step { Replaces ⟦<T as Ranked>⟧.ranks (has1 T.TriHashItem T.K1.eq key.now)
-            (state_of self.old) item (value_of result) (state_of self.new) }
+    /// Replaces the item of the slot that a search found.
+    pub(super) fn replace<'m>(&mut self, slot: Option<ItemIndex>, item: T) -> TriReply<'m, T>
+        ensures step { (test : T → Bool) → FoundAt test self.old.slots slot
+            → Replaces ⟦<T as Ranked>⟧.ranks test (state_of self.old) item (value_of result) (state_of self.new) }
         ensures builder { self.new.builder ≡ self.old.builder }
     {
-        match self.get1_mut(key) {
+        match self.lend(slot) {
             Some(mut r) => match r.replace(item) {
                 Ok(old) => return displaced_one(old),
                 Err(e) => return mismatch(e),
@@ -100,73 +100,13 @@ where
         }
     }
 
-    /// Replaces the item with this second key.
-    pub(super) fn replace2<'m>(&mut self, key: &T::K2, item: T) -> TriReply<'m, T>
-        ensures step { Replaces ⟦<T as Ranked>⟧.ranks (has2 T.TriHashItem T.K2.eq key.now)
-            (state_of self.old) item (value_of result) (state_of self.new) }
+    /// Writes the data of the item of the slot that a search found.
+    pub(super) fn set<'m>(&mut self, slot: Option<ItemIndex>, new_data: T::Data) -> TriReply<'m, T>
+        ensures step { (test : T → Bool) → FoundAt test self.old.slots slot
+            → Sets ⟦<T as Ranked>⟧.ranks T.put test (state_of self.old) new_data (value_of result) (state_of self.new) }
         ensures builder { self.new.builder ≡ self.old.builder }
     {
-        match self.get2_mut(key) {
-            Some(mut r) => match r.replace(item) {
-                Ok(old) => return displaced_one(old),
-                Err(e) => return mismatch(e),
-            },
-            None => return TriReply::Absent(item),
-        }
-    }
-
-    /// Replaces the item with this third key.
-    pub(super) fn replace3<'m>(&mut self, key: &T::K3, item: T) -> TriReply<'m, T>
-        ensures step { Replaces ⟦<T as Ranked>⟧.ranks (has3 T.TriHashItem T.K3.eq key.now)
-            (state_of self.old) item (value_of result) (state_of self.new) }
-        ensures builder { self.new.builder ≡ self.old.builder }
-    {
-        match self.get3_mut(key) {
-            Some(mut r) => match r.replace(item) {
-                Ok(old) => return displaced_one(old),
-                Err(e) => return mismatch(e),
-            },
-            None => return TriReply::Absent(item),
-        }
-    }
-
-    /// Writes the data of the item with this first key.
-    pub(super) fn set1<'m>(&mut self, key1: &T::K1, new_data: T::Data) -> TriReply<'m, T>
-        ensures step { Sets ⟦<T as Ranked>⟧.ranks T.put (has1 T.TriHashItem T.K1.eq key1.now)
-            (state_of self.old) new_data (value_of result) (state_of self.new) }
-        ensures builder { self.new.builder ≡ self.old.builder }
-    {
-        match self.get1_mut(key1) {
-            Some(mut r) => {
-                *r.data_mut() = new_data;
-                return TriReply::Done;
-            }
-            None => return TriReply::AbsentData(new_data),
-        }
-    }
-
-    /// Writes the data of the item with this second key.
-    pub(super) fn set2<'m>(&mut self, key2: &T::K2, new_data: T::Data) -> TriReply<'m, T>
-        ensures step { Sets ⟦<T as Ranked>⟧.ranks T.put (has2 T.TriHashItem T.K2.eq key2.now)
-            (state_of self.old) new_data (value_of result) (state_of self.new) }
-        ensures builder { self.new.builder ≡ self.old.builder }
-    {
-        match self.get2_mut(key2) {
-            Some(mut r) => {
-                *r.data_mut() = new_data;
-                return TriReply::Done;
-            }
-            None => return TriReply::AbsentData(new_data),
-        }
-    }
-
-    /// Writes the data of the item with this third key.
-    pub(super) fn set3<'m>(&mut self, key3: &T::K3, new_data: T::Data) -> TriReply<'m, T>
-        ensures step { Sets ⟦<T as Ranked>⟧.ranks T.put (has3 T.TriHashItem T.K3.eq key3.now)
-            (state_of self.old) new_data (value_of result) (state_of self.new) }
-        ensures builder { self.new.builder ≡ self.old.builder }
-    {
-        match self.get3_mut(key3) {
+        match self.lend(slot) {
             Some(mut r) => {
                 *r.data_mut() = new_data;
                 return TriReply::Done;

@@ -1,14 +1,16 @@
 //! Carrying out the commands that change the map by a key. Each command has a function of its own, which is not inlined
 //! into `apply`, since it needs stack space for a reply.
-ghost use Rattle.std.specs.Prelude.{◌≡◌};
+ghost use Rattle.std.specs.Prelude.{◌≡◌, Bool};
 ghost use Rattle.iddqd_store.specs.Runs.Step.{state_of, Removes, Replaces, Sets};
 ghost use Rattle.iddqd_store.specs.Runs.Step.{EntryInserts, EntryRemoves, OrInserts};
 ghost use Rattle.iddqd_store.specs.Runs.Run.{Applies};
+ghost use Rattle.iddqd_store.specs.Slots.Found.{FoundAt};
 ghost use Rattle.iddqd_tri.specs.Keys.{has1, has2, has3, has_all};
 
 use crate::command::{TriReply, TriSink};
 use crate::item::{Ranked, TriHashItemMut};
 use crate::map::TriHashMap;
+use iddqd_store::ItemIndex;
 use std::hash::{BuildHasher, Hash};
 
 impl<T: TriHashItemMut + Drop, S: BuildHasher> TriHashMap<T, S>
@@ -135,99 +137,37 @@ where
         self.tell(reply, sink)
     }
 
-    /// Replaces the item with this first key.
+    /// Replaces the item of the slot that a search found.
     #[inline(never)]
-    pub(super) fn apply_replace1<K: TriSink<T>>(
+    pub(super) fn apply_replace<K: TriSink<T>>(
         &mut self,
-        key: T::K1,
+        slot: Option<ItemIndex>,
         item: T,
         sink: &mut K,
     ) -> Result<(), K::Fault>
-        ensures step { Applies (Replaces ⟦<T as Ranked>⟧.ranks (has1 T.TriHashItem T.K1.eq key)) K.took
+        ensures step { (test : T → Bool) → FoundAt test self.old.slots slot
+            → Applies (Replaces ⟦<T as Ranked>⟧.ranks test) K.took
             (state_of self.old) sink.old item result (state_of self.new) sink.new }
         ensures builder { self.new.builder ≡ self.old.builder }
     {
-        let reply = self.replace1(&key, item);
+        let reply = self.replace(slot, item);
         self.tell(reply, sink)
     }
 
-    /// Replaces the item with this second key.
+    /// Writes the data of the item of the slot that a search found.
     #[inline(never)]
-    pub(super) fn apply_replace2<K: TriSink<T>>(
+    pub(super) fn apply_set<K: TriSink<T>>(
         &mut self,
-        key: T::K2,
-        item: T,
-        sink: &mut K,
-    ) -> Result<(), K::Fault>
-        ensures step { Applies (Replaces ⟦<T as Ranked>⟧.ranks (has2 T.TriHashItem T.K2.eq key)) K.took
-            (state_of self.old) sink.old item result (state_of self.new) sink.new }
-        ensures builder { self.new.builder ≡ self.old.builder }
-    {
-        let reply = self.replace2(&key, item);
-        self.tell(reply, sink)
-    }
-
-    /// Replaces the item with this third key.
-    #[inline(never)]
-    pub(super) fn apply_replace3<K: TriSink<T>>(
-        &mut self,
-        key: T::K3,
-        item: T,
-        sink: &mut K,
-    ) -> Result<(), K::Fault>
-        ensures step { Applies (Replaces ⟦<T as Ranked>⟧.ranks (has3 T.TriHashItem T.K3.eq key)) K.took
-            (state_of self.old) sink.old item result (state_of self.new) sink.new }
-        ensures builder { self.new.builder ≡ self.old.builder }
-    {
-        let reply = self.replace3(&key, item);
-        self.tell(reply, sink)
-    }
-
-    /// Writes the data of the item with this first key.
-    #[inline(never)]
-    pub(super) fn apply_set1<K: TriSink<T>>(
-        &mut self,
-        key: T::K1,
+        slot: Option<ItemIndex>,
         new_data: T::Data,
         sink: &mut K,
     ) -> Result<(), K::Fault>
-        ensures step { Applies (Sets ⟦<T as Ranked>⟧.ranks T.put (has1 T.TriHashItem T.K1.eq key)) K.took
+        ensures step { (test : T → Bool) → FoundAt test self.old.slots slot
+            → Applies (Sets ⟦<T as Ranked>⟧.ranks T.put test) K.took
             (state_of self.old) sink.old new_data result (state_of self.new) sink.new }
         ensures builder { self.new.builder ≡ self.old.builder }
     {
-        let reply = self.set1(&key, new_data);
-        self.tell(reply, sink)
-    }
-
-    /// Writes the data of the item with this second key.
-    #[inline(never)]
-    pub(super) fn apply_set2<K: TriSink<T>>(
-        &mut self,
-        key: T::K2,
-        new_data: T::Data,
-        sink: &mut K,
-    ) -> Result<(), K::Fault>
-        ensures step { Applies (Sets ⟦<T as Ranked>⟧.ranks T.put (has2 T.TriHashItem T.K2.eq key)) K.took
-            (state_of self.old) sink.old new_data result (state_of self.new) sink.new }
-        ensures builder { self.new.builder ≡ self.old.builder }
-    {
-        let reply = self.set2(&key, new_data);
-        self.tell(reply, sink)
-    }
-
-    /// Writes the data of the item with this third key.
-    #[inline(never)]
-    pub(super) fn apply_set3<K: TriSink<T>>(
-        &mut self,
-        key: T::K3,
-        new_data: T::Data,
-        sink: &mut K,
-    ) -> Result<(), K::Fault>
-        ensures step { Applies (Sets ⟦<T as Ranked>⟧.ranks T.put (has3 T.TriHashItem T.K3.eq key)) K.took
-            (state_of self.old) sink.old new_data result (state_of self.new) sink.new }
-        ensures builder { self.new.builder ≡ self.old.builder }
-    {
-        let reply = self.set3(&key, new_data);
+        let reply = self.set(slot, new_data);
         self.tell(reply, sink)
     }
 }
