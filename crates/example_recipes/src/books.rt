@@ -1,8 +1,12 @@
 //! A map in a map: books of orders, each known by its name and by its shelf.
+ghost use Rattle.std.specs.Prelude.{◌≡◌, ◌∷◌, nat_eq, string_bytes, true, Some, IsPermutation};
+ghost use Rattle.std.specs.Cmp.Lexicographic.{pointwise};
 ghost use Rattle.std.proofs.Common.{rules};
+ghost use Rattle.iddqd_bi.specs.Bag.{IsOnly, swap};
+ghost use Rattle.iddqd_bi.specs.Map.{bag};
 
 use crate::orders::Order;
-use iddqd_bi::{BiHashItem, BiHashItemMut, BiHashMap};
+use iddqd_bi::{BiHashItem, BiHashItemMut, BiHashMap, Ranked};
 
 /// A book of orders.
 #[derive(Drop)]
@@ -49,9 +53,14 @@ impl BiHashItemMut for Book {
 }
 
 /// Enters an order into the book with this name. Returns whether there is such a book, and the order went in.
-pub fn enter(books: &mut BiHashMap<Book>, name: &str, order: Order) -> bool {
-    match books.get1_mut(name) {
-        Some(mut book) => book.data_mut().try_insert(order).is_ok(),
+pub fn enter(books: &mut BiHashMap<Book>, name: &str, order: Order) -> bool
+    ensures entered { result ≡ true → (b c : Book)
+        × IsOnly (λ b. pointwise nat_eq name.now (string_bytes b.name)) (bag books.old) (Some b)
+        × (c.name ≡ b.name) × (c.shelf ≡ b.shelf) × IsPermutation (bag c.orders) (order ∷ bag b.orders)
+        × IsPermutation (bag books.new) (swap ⟦<Book as Ranked>⟧.ranks (bag books.old) b c) }
+{
+    match books.data1_mut(name) {
+        Some(orders) => orders.try_insert(order).is_ok(),
         None => false,
     }
 }

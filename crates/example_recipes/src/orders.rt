@@ -1,8 +1,11 @@
 //! Orders: an error of `anyhow`, the first few in an order, and a change of several items that is rolled back.
-ghost use Rattle.std.specs.Prelude.{◌≡◌, ◌∷◌, ◌≤◌, length, IsPermutation, OnOk, OnErr, IfOk};
+ghost use Rattle.std.specs.Prelude.{◌≡◌, ◌<◌, ◌==◌, [], ◌∷◌, true, false, List, Some, length, take, map as mapped, IsOk, IsPermutation, OnOk, OnErr, IfOk};
+ghost use Rattle.std.specs.Borrow.{Bor};
+ghost use Rattle.std.specs.List.Sorted.{IsNonDecreasingBy};
+ghost use Rattle.iddqd_bi.specs.Bag.{IsOnly, clash};
 ghost use Rattle.iddqd_bi.specs.Map.{bag};
 
-use iddqd_bi::{BiHashItem, BiHashMap, TryReserveError};
+use iddqd_bi::{BiHashItem, BiHashMap, Ranked, TryReserveError};
 use std::alloc::{AllocError, Global};
 
 /// An order, known by its number and by its place in a queue.
@@ -45,19 +48,22 @@ impl Order {
 /// Adds an order. The error is one of `anyhow`, made by `?`.
 pub fn add(orders: &mut BiHashMap<Order>, order: Order) -> anyhow::Result<()>
     ensures went_in { OnOk result (IsPermutation (bag orders.new) (order ∷ bag orders.old)) }
+    ensures granted { clash ⟦<Order as Ranked>⟧.ranks (bag orders.old) order ≡ []
+        → length (bag orders.old) < orders.old.capacity → IsOk result }
     ensures unchanged { OnErr result (orders.new ≡ orders.old) }
 {
     orders.try_insert(order)?;
     Ok(())
 }
 
-/// Returns the cheapest orders, so many at most, the cheapest first.
+/// Returns at most `most` orders: the cheapest ones, the cheapest first.
 pub fn cheapest(
     alloc: Global,
     orders: &BiHashMap<Order>,
     most: usize,
 ) -> Result<Vec<&Order>, AllocError>
-    ensures { IfOk result (λ cheap. length cheap.items ≤ most) }
+    ensures { IfOk result (λ cheap. (sorted : List (Bor Order)) × (cheap.items ≡ take most sorted)
+        × IsPermutation (bag orders.now) (mapped (λ o. o.now) sorted) × IsNonDecreasingBy (λ o. o.now.price) sorted) }
 {
     let mut sorted: Vec<&Order> = orders.iter().collect(alloc)?;
     sorted.sort_by_key(|order| order.price)?;
@@ -70,7 +76,11 @@ pub fn cheapest(
 pub fn replace_all(
     orders: &mut BiHashMap<Order>,
     changed: Vec<Order>,
-) -> Result<bool, TryReserveError> {
+) -> Result<bool, TryReserveError>
+    ensures rolled_back { IfOk result (λ done. done ≡ false → IsPermutation (bag orders.new) (bag orders.old)) }
+    ensures unchanged { OnErr result (orders.new ≡ orders.old) }
+    ensures count { length (bag orders.new) ≡ length (bag orders.old) }
+{
     let before = orders.clone()?;
     for order in changed {
         if orders.rekey1(&order.number, order).is_err() {
@@ -83,20 +93,32 @@ pub fn replace_all(
 
 /// Lets two orders change places in the queue, and returns whether there are both. One of them leaves the map for a
 /// moment, so that no place is taken twice. The map has capacity for it, so nothing runs out of memory.
-pub fn swap_places(orders: &mut BiHashMap<Order>, one: u64, other: u64) -> bool {
-    let Some(place) = orders.get1(&one).map(|order| order.place) else {
+pub fn swap_places(orders: &mut BiHashMap<Order>, one: u64, other: u64) -> bool
+    ensures swapped { result ≡ true → (a b : Order)
+        × IsOnly (λ o. one == o.number) (bag orders.old) (Some a)
+        × IsOnly (λ o. other == o.number) (bag orders.old) (Some b)
+        × IsPermutation (a ∷ b ∷ bag orders.new)
+        (record a { place = b.place } ∷ record b { place = a.place } ∷ bag orders.old) }
+{
+    let Some(first) = orders.get1(&one).copied() else {
         return false;
     };
-    let Some(leaving) = orders.remove1(&other) else {
+    if one == other {
+        return true;
+    }
+    let Some(second) = orders.remove1(&other) else {
         return false;
-    };
-    let back = Order { place, ..leaving };
-    let Some(staying) = orders.get1(&one).copied() else {
-        return orders.try_insert(leaving).is_ok() && one == other;
     };
     let moved = Order {
-        place: leaving.place,
-        ..staying
+        place: second.place,
+        ..first
     };
-    orders.rekey1(&one, moved).is_ok() && orders.try_insert(back).is_ok()
+    let back = Order {
+        place: first.place,
+        ..second
+    };
+    if orders.rekey1(&one, moved).is_err() {
+        return false;
+    }
+    orders.try_insert(back).is_ok()
 }

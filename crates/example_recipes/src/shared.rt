@@ -1,5 +1,7 @@
 //! Items with shared owners, in two maps: all orders, and those that are open.
-ghost use Rattle.std.specs.Prelude.{◌≡◌, IfNone};
+ghost use Rattle.std.specs.Prelude.{◌≡◌, ◌==◌, ◌∷◌, map as mapped, IsPermutation, OnOk, OnErr, IfSome, IfNone};
+ghost use Rattle.iddqd_bi.specs.Bag.{IsOnly};
+ghost use Rattle.iddqd_bi.specs.Map.{bag};
 
 use crate::orders::Order;
 use iddqd_bi::BiHashMap;
@@ -12,7 +14,13 @@ pub fn open(
     all: &mut BiHashMap<Rc<Order>>,
     opened: &mut BiHashMap<Rc<Order>>,
     order: Order,
-) -> anyhow::Result<()> {
+) -> anyhow::Result<()>
+    ensures among_all { OnOk result (IsPermutation (mapped (λ o. o.value) (bag all.new))
+        (order ∷ mapped (λ o. o.value) (bag all.old))) }
+    ensures among_opened { OnOk result (IsPermutation (mapped (λ o. o.value) (bag opened.new))
+        (order ∷ mapped (λ o. o.value) (bag opened.old))) }
+    ensures unchanged { OnErr result (opened.new ≡ opened.old) }
+{
     let order = Rc::new(alloc, order)?;
     all.try_insert(order.clone()?)?;
     opened.try_insert(order)?;
@@ -21,7 +29,9 @@ pub fn open(
 
 /// Closes the order with this number: it stays among all orders. Returns it, if it was open.
 pub fn close(opened: &mut BiHashMap<Rc<Order>>, number: u64) -> Option<Rc<Order>>
-    ensures { IfNone result (opened.new ≡ opened.old) }
+    ensures it { IsOnly (λ o. number == o.value.number) (bag opened.old) result }
+    ensures gone { IfSome result (λ o. IsPermutation (bag opened.old) (o ∷ bag opened.new)) }
+    ensures none { IfNone result (opened.new ≡ opened.old) }
 {
     opened.remove1(&number)
 }

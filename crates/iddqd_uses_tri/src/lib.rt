@@ -51,4 +51,4 @@ pub use updating::{File, note_all_opened, note_opened, set_all, set1};
 pub use walking::{count_by_walk, write_all, write_first, write_first_and_count};
 pub use words::{Word, add_word, forget_word, has_word};
 pub use writing::{is_lent1, replace1, write1, write1_again, write1_and_tell, write1_twice};
-pub use written::write_and_ask1;
+pub use written::{write_and_ask1, write_and_remove1};

@@ -1,10 +1,10 @@
 //! What a caller can prove of an entry after writing what it lends for one key: it still knows what it found.
-ghost use Rattle.std.specs.Prelude.{◌≡◌, None, Some, IsPermutation};
-ghost use Rattle.iddqd_tri.specs.Bag.{IsOnly, swap};
+ghost use Rattle.std.specs.Prelude.{◌≡◌, ◌∷◌, ◌++◌, None, Some, drop, IsPermutation};
+ghost use Rattle.iddqd_tri.specs.Bag.{IsOnly, entry, is_unique, listing, swap};
 ghost use Rattle.iddqd_tri.specs.Keys.{has1};
 ghost use Rattle.iddqd_tri.specs.Map.{bag};
 
-use iddqd_tri::{Entry, Ranked, TriHashItemMut, TriHashMap};
+use iddqd_tri::{Entry, Ranked, TriHashItemMut, TriHashMap, UpToThree};
 use std::hash::{BuildHasher, Hash};
 
 /// Writes the data of the item that has the first of three keys, if there is one, and then returns whether one item has
@@ -21,6 +21,7 @@ where
     ensures present { (x : T) → IsOnly (has1 T.TriHashItem T.K1.eq key1.now) (bag map.old) (Some x)
         → IsPermutation (bag map.new) (swap ⟦<T as Ranked>⟧.ranks (bag map.old) x (T.put x d)) }
     ensures absent { IsOnly (has1 T.TriHashItem T.K1.eq key1.now) (bag map.old) None → map.new ≡ map.old }
+    ensures one { result ≡ is_unique (entry (⟦<T as Ranked>⟧.key_tests key1.now key2.now key3.now) (bag map.old)) }
 {
     match map.entry(key1, key2, key3) {
         Entry::Vacant(_v) => return false,
@@ -30,6 +31,38 @@ where
                 return found.is_unique();
             }
             None => return found.is_unique(),
+        },
+    }
+}
+
+/// Writes the data of the item that has the first of three keys, if there is one. Then it removes the items that have
+/// one of the keys, and returns them.
+pub fn write_and_remove1<'a, T: TriHashItemMut, S: BuildHasher>(
+    map: &'a mut TriHashMap<T, S>,
+    key1: &'a T::K1,
+    key2: &'a T::K2,
+    key3: &'a T::K3,
+    d: T::Data,
+) -> UpToThree<T>
+where
+    T::Data: Drop,
+    // The item that was written is the first one, with the new data.
+    ensures written { (x : T) → IsOnly (has1 T.TriHashItem T.K1.eq key1.now) (bag map.old) (Some x)
+        → result ≡ T.put x d ∷ drop 1 (listing (⟦<T as Ranked>⟧.key_tests key1.now key2.now key3.now) (bag map.old)) }
+    ensures left { (x : T) → IsOnly (has1 T.TriHashItem T.K1.eq key1.now) (bag map.old) (Some x)
+        → IsPermutation (swap ⟦<T as Ranked>⟧.ranks (bag map.old) x (T.put x d)) (result ++ bag map.new) }
+    ensures absent { IsOnly (has1 T.TriHashItem T.K1.eq key1.now) (bag map.old) None
+        → (result ≡ listing (⟦<T as Ranked>⟧.key_tests key1.now key2.now key3.now) (bag map.old))
+        × IsPermutation (bag map.old) (result ++ bag map.new) }
+{
+    match map.entry(key1, key2, key3) {
+        Entry::Vacant(_v) => return UpToThree::new(),
+        Entry::Occupied(mut found) => match found.data1_mut() {
+            Some(lent) => {
+                *lent = d;
+                return found.remove();
+            }
+            None => return found.remove(),
         },
     }
 }

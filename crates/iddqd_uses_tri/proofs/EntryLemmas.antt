@@ -1,0 +1,92 @@
+-- What an entry still finds once the item of its first key is written.
+use Rattle.std.specs.Prelude.{◌≡◌, ◌≢◌, ℕ, zero, suc, Bool, true, false, ◌||◌, cond, nat_eq, is_some, List, [], ◌∷◌, ◌++◌, drop, fold, Option, Some, None, slice_set}
+use Rattle.std.specs.List.{list_all}
+use Rattle.std.specs.Option.{option_and_then, option_to_list}
+use Rattle.std.proofs.Common.{IsSome, refl, sym, ap, subst, ◌∙◌}
+use Rattle.std.proofs.lemmas.Bool.{eqb-false, ne_eqb}
+use Rattle.std.proofs.lemmas.List.{get_or-set_other}
+use Rattle.iddqd_store.specs.Bag.{entry_of, is_unique}
+use Rattle.iddqd_store.specs.Map.{Map}
+use Rattle.iddqd_store.specs.Map.Written.{map_with_if, of_item}
+use Rattle.iddqd_store.specs.Slots.{get, IsLive}
+use Rattle.iddqd_store.specs.Slots.Found.{AreFound, contains, each_once, entry_at, found_by_all, head_of, held_at, is_at, items_at, with_found}
+use Rattle.iddqd_store.proofs.BagLemmas.Exchanges.{split}
+
+neither : (a b : Bool) → (a || b) ≡ false → (a ≡ false) × (b ≡ false)
+neither true b h = absurd (cc h)
+neither false b h = (refl, h)
+
+nat_eq-flip : (a b : ℕ) → nat_eq a b ≡ false → nat_eq b a ≡ false
+nat_eq-flip a b apart = ne_eqb b a (λ e. eqb-false a b apart (sym e))
+
+contains-push : (ys : List ℕ) (j ix : ℕ) → contains ys ix ≡ false → nat_eq ix j ≡ false → contains (ys ++ j ∷ []) ix ≡ false
+contains-push [] j ix none apart = rw apart refl
+contains-push (k ∷ ys) j ix none apart =
+    let both = neither (nat_eq ix k) (contains ys ix) none in
+    rw both.0 (contains-push ys j ix both.1 apart)
+
+module _ {T : Type 0} where
+  unique_of : (listed whole : List T) → listed ≢ [] → is_unique (entry_of listed whole) ≡ is_some (head_of whole)
+  unique_of [] whole some = absurd (some refl)
+  unique_of (x ∷ listed) [] some = refl
+  unique_of (x ∷ listed) (y ∷ whole) some = refl
+
+  one_live : (slots : List (Option T)) (ix : ℕ) → IsLive slots ix → is_some (head_of (items_at slots (ix ∷ []))) ≡ true
+  one_live slots ix live = by_slot (get slots ix) refl live
+    where
+      by_slot : (o : Option T) → get slots ix ≡ o → IsSome o → is_some (head_of (items_at slots (ix ∷ []))) ≡ true
+      by_slot None there some = absurd (cc)
+      by_slot (Some x) there some = rw there refl
+
+  whole_still : (tests : List (T → Bool)) (old new : List (Option T)) (found : List (Option ℕ)) → AreFound tests old found → AreFound tests new found → is_some (head_of (items_at new (found_by_all found))) ≡ is_some (head_of (items_at old (found_by_all found)))
+  whole_still tests old new [] was is = refl
+  whole_still tests old new (None ∷ found) was is = refl
+  whole_still [] old new (Some ix ∷ found) was is = absurd was
+  whole_still (test ∷ tests) old new (Some ix ∷ found) was is =
+      split (λ b. is_some (head_of (items_at new (cond b (ix ∷ []) []))) ≡ is_some (head_of (items_at old (cond b (ix ∷ []) [])))) (list_all (is_at ix) found)
+      (λ _. one_live new ix is.0.live ∙ sym (one_live old ix was.0.live)) (λ _. refl)
+
+  -- an entry still tells whether one item has all keys
+  pub still_unique : (tests : List (T → Bool)) (old new : List (Option T)) (found : List (Option ℕ)) → AreFound tests old found → AreFound tests new found → held_at old found ≢ [] → held_at new found ≢ [] → is_unique (entry_at new found) ≡ is_unique (entry_at old found)
+  still_unique tests old new found was is some_old some_new =
+      unique_of (held_at new found) (items_at new (found_by_all found)) some_new ∙ whole_still tests old new found was is ∙ sym (unique_of (held_at old found) (items_at old (found_by_all found)) some_old)
+
+  get-set_other : (slots : List (Option T)) (at k : ℕ) (o : Option T) → nat_eq at k ≡ false → get (slice_set slots at o) k ≡ get slots k
+  get-set_other slots at k o apart = get_or-set_other slots at k o None (λ e. eqb-false at k apart (sym e))
+
+  get-set_same : (slots : List (Option T)) (at : ℕ) (x y : T) → get slots at ≡ Some x → get (slice_set slots at (Some y)) at ≡ Some y
+  get-set_same [] zero x y is = absurd (cc is)
+  get-set_same [] (suc at) x y is = absurd (cc is)
+  get-set_same (o ∷ slots) zero x y is = refl
+  get-set_same (o ∷ slots) (suc at) x y is = get-set_same slots at x y is
+
+  -- the items of other slots stay
+  others_at : (slots : List (Option T)) (ix : ℕ) (o : Option T) (ys : List ℕ) → contains ys ix ≡ false → items_at (slice_set slots ix o) ys ≡ items_at slots ys
+  others_at slots ix o [] apart = refl
+  others_at slots ix o (k ∷ ys) apart =
+      let both = neither (nat_eq ix k) (contains ys ix) apart in
+      rw (get-set_other slots ix k o both.0, others_at slots ix o ys both.1) refl
+
+  -- a written item is the first of those found, and the others are as they were
+  first_written : (slots : List (Option T)) (ix : ℕ) (x y : T) → get slots ix ≡ Some x → (ys : List ℕ) (found : List (Option ℕ)) → contains ys ix ≡ false →
+      items_at (slice_set slots ix (Some y)) (fold with_found (ix ∷ ys) found) ≡ y ∷ drop 1 (items_at slots (fold with_found (ix ∷ ys) found))
+  first_written slots ix x y there ys [] none =
+      rw (there, get-set_same slots ix x y there, others_at slots ix (Some y) ys none) refl
+  first_written slots ix x y there ys (None ∷ found) none = first_written slots ix x y there ys found none
+  first_written slots ix x y there ys (Some j ∷ found) none =
+      split (λ b. items_at (slice_set slots ix (Some y)) (fold with_found (cond b (ix ∷ ys) (ix ∷ ys ++ j ∷ [])) found) ≡ y ∷ drop 1 (items_at slots (fold with_found (cond b (ix ∷ ys) (ix ∷ ys ++ j ∷ [])) found))) (contains (ix ∷ ys) j)
+      (λ _. first_written slots ix x y there ys found none)
+      (λ apart. first_written slots ix x y there (ys ++ j ∷ []) found (contains-push ys j ix none (nat_eq-flip j ix (neither (nat_eq j ix) (contains ys j) apart).0)))
+
+  -- so where it is the item of the first key
+  pub held_written : {S : Type 0} (m : Map T S) (slot : Option ℕ) (found : List (Option ℕ)) (f : T → T) (x : T) (xs : List T) → option_to_list (option_and_then (get m.slots) slot) ≡ xs → x ∷ [] ≡ xs →
+      held_at (map_with_if m slot f).slots (slot ∷ found) ≡ f x ∷ drop 1 (held_at m.slots (slot ∷ found))
+  held_written m None found f x xs none only = absurd (cc (none, only))
+  held_written m (Some ix) found f x xs some only = by_slot (get m.slots ix) refl some
+    where
+      by_slot : (o : Option T) → get m.slots ix ≡ o → option_to_list o ≡ xs → held_at (map_with_if m (Some ix) f).slots (Some ix ∷ found) ≡ f x ∷ drop 1 (held_at m.slots (Some ix ∷ found))
+      by_slot None there is = absurd (cc (is, only))
+      by_slot (Some y) there is =
+          let same : y ≡ x = cc (is, only) in
+          let written : of_item f (get m.slots ix) ≡ Some (f x) = ap (of_item f) (there ∙ ap Some same) in
+          subst (λ o. items_at (slice_set m.slots ix o) (each_once (Some ix ∷ found)) ≡ f x ∷ drop 1 (held_at m.slots (Some ix ∷ found))) (sym written) (first_written m.slots ix x (f x) (there ∙ ap Some same) [] found refl)
