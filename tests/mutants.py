@@ -1,27 +1,11 @@
 """Which edits of must-fail/ turn which functions: the lists `mutants CRATE ..` of tests/lists, whose head says what they are."""
 import fnmatch
-import glob
-import os
 import re
-import types
 
+import sources
 import widen
 
 MAPS = ("BiHashMap", "TriHashMap")
-# The lines of turns.md on functions that no edit turns, or whose work other functions do.
-SAYS = re.compile(r"(goes by|like|no edit): (.*)")
-
-
-def read(path):
-    with open(path, encoding="utf-8") as file:
-        return file.read()
-
-
-def edit_lines(crate):
-    """The lines `EDIT: PATH ..` of a crate's turns.md: each edit with the functions that it turns, in the order of the file."""
-    path = f"crates/{crate}/must-fail/turns.md"
-    lines = read(path).splitlines() if os.path.isfile(path) else []
-    return [(name, paths.split()) for name, _, paths in (it.partition(": ") for it in lines if not SAYS.match(it))]
 
 
 def renamed(crate, text):
@@ -29,19 +13,13 @@ def renamed(crate, text):
     return widen.renamed(text) if crate == "iddqd_bi" else text
 
 
-def impl_of(line):
+def owner_of(block):
     """The type and the trait of an impl, by its first line; the trait is empty where it has none."""
-    rest, depth = line[len("impl"):], 0
-    for at, letter in enumerate(rest if rest.startswith("<") else ""):
-        depth += (letter == "<") - (letter == ">" and rest[at - 1] != "-")
-        if not depth:
-            rest = rest[at + 1:]
-            break
-    trait, _, of = rest.strip(" {").rpartition(" for ")
+    _, trait, of = sources.impl_of(block)
     of = re.sub(r"'\w+ ", "", of)
     if of[0] not in "&(":
         of = re.match(r"(?:\w+::)*(\w+)", of)[1]
-    return of.partition("<")[0].replace(" ", ""), re.sub(r"<.*", "", trait.strip())
+    return of.partition("<")[0].replace(" ", ""), re.sub(r"<.*", "", trait)
 
 
 def checked_name(of, trait):
@@ -56,34 +34,20 @@ def checked_name(of, trait):
 
 def functions(crate):
     """Yields the functions of a crate: those of its types, its impls of traits, and those that belong to no type. What a trait
-    only asks for has no body, and is left out."""
-    for path in sorted(glob.glob(f"crates/{crate}/src/**/*.rt", recursive=True)):
-        module, of, trait = os.path.relpath(path, f"crates/{crate}/src")[:-len(".rt")].replace("/", "::"), "", ""
-        asks, last = False, None
-        for line in renamed(crate, read(path)).split("\n"):
-            if line.startswith("impl"):
-                of, trait = impl_of(line)
-            asks = line.startswith("pub trait ") or asks and line != "}"
-            found = re.match(r"( *)(pub )?(?:pub\(\w+\) )?(?:const )?fn (\w+)", line)
-            if found and not asks:
-                inner = (of, trait) if found[1] else ("", "")
-                owner = inner[0] or module
-                key = found[3] if owner in MAPS else f"{owner}::{found[3]}"
-                paths = f"{module}::{checked_name(*inner)}" if inner[1] and inner[1] != "Drop" else owner
-                last = Function(
-                    crate=crate, file=module.replace("::", "/"), key=key, full=f"{module}::{key}" if inner[0] else key,
-                    owner=paths, name=found[3], is_public=bool(found[2] or inner[1]), edits=[], by=[], like=[], why=None, calls=set())
-                yield last
-            elif last:
-                last.calls.update(re.findall(r"\b(\w+)(?:::<[^()]*>)?\(", line))
-            if line == "}":
-                of, trait = "", ""
-
-
-class Function(types.SimpleNamespace):
-    """A function of the sources, with what turns.md says of it. No other one is equal to it."""
-
-    __eq__, __hash__ = object.__eq__, object.__hash__
+    only asks for has no body, and is left out. Each has what turns.md says of it, from no line on."""
+    for path in sources.files(crate):
+        module, text = sources.module_of(path), renamed(crate, sources.read(path))
+        lines = text.split("\n")
+        for it in (it for it in sources.functions(text) if not it.is_asked):
+            of, trait = owner_of(it.block) if it.block else ("", "")
+            it.crate, it.file = crate, module.replace("::", "/")
+            it.key = it.name if (of or module) in MAPS else f"{of or module}::{it.name}"
+            it.full = f"{module}::{it.key}" if of else it.key
+            it.owner = f"{module}::{checked_name(of, trait)}" if trait and trait != "Drop" else of or module
+            it.is_listed = it.is_public or bool(trait)
+            it.calls = {*re.findall(r"\b(\w+)(?:::<[^()]*>)?\(", "\n".join(lines[it.head + 1:it.end]))}
+            it.edits, it.by, it.like, it.why = [], [], [], None
+            yield it
 
 
 def is_named(function, path):
@@ -112,7 +76,7 @@ class Mutants:
             self.look(crates)
 
     def take_edits(self, crates, crate):
-        for edit, paths in edit_lines(crate):
+        for edit, paths in sources.turns(crate)[0]:
             for path in paths:
                 turned = [it for it in self.functions[crates] if is_named(it, renamed(crate, path))]
                 for it in turned:
@@ -134,7 +98,7 @@ class Mutants:
     def take_lines(self, crates, crate):
         """Takes the lines that say by which functions others go, or why none can be turned."""
         where = f"crates/{crate}/must-fail/turns.md"
-        for kind, text in (it.groups() for it in map(SAYS.match, read(where).splitlines()) if it):
+        for kind, text in sources.turns(crate)[1]:
             words, _, rest = text.partition(": " if kind == "no edit" else " -> ")
             others = [] if kind == "no edit" else list(self.named(crates, crate, rest))
             for it in self.named(crates, crate, words):
@@ -150,7 +114,7 @@ class Mutants:
         return bool(function.edits) or any(self.has_edit(it, (*seen, function)) for it in others)
 
     def look(self, crates):
-        for it in (it for it in self.functions[crates] if it.is_public):
+        for it in (it for it in self.functions[crates] if it.is_listed):
             if self.has_edit(it) == bool(it.why):
                 but = "and turns.md says why none does" if it.why else "and no line of turns.md says by which it goes, or why none does"
                 self.faults.append(f"{it.crate}: {'an' if it.why else 'no'} edit turns {it.full}, {but}")
@@ -160,9 +124,9 @@ class Mutants:
         lines, before, reasons = ["| File | Function | Edits that have it as target |", "|---|---|---|"], None, {}
         used = {other.key for it in self.functions[crates] for other in it.by + it.like}
         for it in self.functions[crates]:
-            if it.why and it.is_public:
+            if it.why and it.is_listed:
                 reasons.setdefault(it.why, {})[f"`{it.key}`"] = None
-            elif it.is_public or it.edits or it.key in used:
+            elif it.is_listed or it.edits or it.key in used:
                 file = f"`{it.file}`" if it.file != before else ""
                 lines.append(f"| {file} | `{it.key}` | {'; '.join(said_of(it))} |")
                 before = it.file

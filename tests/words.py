@@ -1,12 +1,11 @@
 """The definitions of specs/ as tables: the lists `words FILE ..` of tests/lists, whose head says what they are."""
-import glob
-import importlib.machinery
-import importlib.util
-import os
+import itertools
 import re
 
+from sources import files, functions, read
 import widen
 
+SPECS = "specs/**/*.antt"
 CRATES = ("iddqd_store", "iddqd_bi", "iddqd_tri")
 HEAD = re.compile(r"^( *)(abbrev pub|pub record|pub data) (\w+)(.*)$")
 USE = re.compile(r"ghost use Rattle\.iddqd_\w+\.specs\.([\w.]*)\.\{([^}]*)\}")
@@ -17,19 +16,6 @@ LONG_TYPES = re.compile(
     r"(?<![.\w])(Entry|VacantEntry|OccupiedEntry|OccupiedEntryMut|RefMut|IterMut|InsertError|EntryRefusal)( (\w+|\([^()]*\))){3,}")
 # What a comment says of a word that the contracts of public functions do not cite; and of one that those of the maps do not.
 UNCITED, UNCITED_BY_MAPS = "No public clause cites it.", "No clause of a map cites it."
-
-
-def loaded(path):
-    """The script of this path, as a module."""
-    loader = importlib.machinery.SourceFileLoader(os.path.basename(path), path)
-    module = importlib.util.module_from_spec(importlib.util.spec_from_loader(loader.name, loader))
-    loader.exec_module(module)
-    return module
-
-
-def read(path):
-    with open(path, encoding="utf-8") as file:
-        return file.read()
 
 
 def split(text, mark):
@@ -127,14 +113,14 @@ def files_of_specs():
     """The files of specs/ of the store and of the two-key map, as a list names them."""
     for crate in CRATES[:2]:
         begin = len(f"crates/{crate}/specs/")
-        yield from (f"{crate}/{it[begin:-5]}" for it in glob.glob(f"crates/{crate}/specs/**/*.antt", recursive=True))
+        yield from (f"{crate}/{it[begin:-5]}" for it in files(crate, SPECS))
 
 
 class Words:
     """The words of all lists, and what is wrong with them."""
 
     def __init__(self, lists):
-        self.words, self.faults = {file: list(words_of(file)) for file in sorted({*files_of_specs(), *(it for files in lists for it in files)})}, []
+        self.words, self.faults = {file: list(words_of(file)) for file in sorted({*files_of_specs(), *itertools.chain(*lists)})}, []
         found = [it for words in self.words.values() for it in words]
         told = {name for it in found if it.meaning and UNCITED not in it.meaning for name in (it.name, widen.renamed(it.name))}
         clauses = {crate: list(public_clauses(crate)) for crate in CRATES}
@@ -172,17 +158,14 @@ def faults_of(word, cited):
 
 def public_clauses(crate):
     """Yields the clauses of a crate's public functions by lines, each with the text of its file."""
-    reference = loaded("docs/reference")
-    for path in glob.glob(f"crates/{crate}/src/**/*.rt", recursive=True):
-        text = read(path)
-        for function in (it for it in reference.FUNCTION.finditer(text) if it["head"].startswith("pub fn")):
-            lines, _ = reference.clauses_of(text, reference.signature_end(text, function.end()))
-            yield from ((it.strip(), text) for it in lines if not it.strip().startswith("//"))
+    for text in map(read, files(crate)):
+        lines = (line.strip() for it in functions(text) if it.is_public for line in it.contract)
+        yield from ((it, text) for it in lines if not it.startswith("//"))
 
 
 def cited_by(crate, clauses):
     """The words of specs/ that these clauses of a crate cite."""
-    defined = {found[3] for path in glob.glob("crates/iddqd_*/specs/**/*.antt", recursive=True)
+    defined = {found[3] for path in files("iddqd_*", SPECS)
                for found in map(HEAD.match, read(path).split("\n")) if found}
     used = {text: {name.strip() for module, names in USE.findall(text) if "declared" not in module for name in names.split(",")}
             for text in {text for _, text in clauses}}
@@ -198,7 +181,7 @@ def faults_of_labels(clauses, words):
     shown = {name for code in re.findall(r"`([^`\n]+)`", page) for name in re.findall(r"[^\W\d]\w*", code)}
     spelled = {re.sub(r"(?<=[a-z])(?=[A-Z])", "_", it).lower() for it in shown | words}
     labels = {crate: {it[1] for it in map(LABEL.match, (line for line, _ in clauses[crate])) if it} for crate in CRATES}
-    specs = map(read, glob.glob("crates/iddqd_*/specs/**/*.antt", recursive=True))
+    specs = map(read, files("iddqd_*", SPECS))
     fields = {it for text in specs for it in re.findall(r"^ +pub (\w+) :", text, re.M)}
     for name in sorted(labels["iddqd_bi"] | labels["iddqd_tri"]):
         if name not in spelled and not is_at_other_rank(name, spelled):
@@ -209,9 +192,8 @@ def faults_of_labels(clauses, words):
 
 def faults_of_proved():
     """Yields what docs/PROVED.md names in brackets and no crate has: labels, fields, definitions, ghost members and functions."""
-    files = (path for kind in ("src/**/*.rt", "specs/**/*.antt") for path in glob.glob(f"crates/*/{kind}", recursive=True))
     name = r"(?:requires|ensures)\*? (\w+) \{|\bfn (\w+)|ghost (\w+)\b|\bpub (?!fn )(?:record |data )?(\w+) |^ *abbrev pub (\w+)"
-    there = {word for path in files for found in re.findall(name, read(path), re.M) for word in found}
+    there = {word for path in files() + files("*", SPECS) for found in re.findall(name, read(path), re.M) for word in found}
     for inside in re.findall(r"\(([^()]*`[^()]*)\)", read("docs/PROVED.md")):
         for word in re.findall(r"`(\w+)`", inside):
             if word not in there:

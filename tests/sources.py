@@ -1,0 +1,194 @@
+"""What scripts read of this repository: the functions of the .rt sources with their contracts, the edits that must fail with the
+functions that they turn, and crates.txt. A script that imports this module works at the top of the repository from then on.
+
+Functions are found by the layout that rt fmt writes. Each place in a text is the number of a line, from 0 on.
+"""
+import dataclasses
+import glob
+import itertools
+import os
+import re
+import shutil
+import sys
+
+# The folder in which the script was begun.
+FROM = os.getcwd()
+os.chdir(os.path.join(os.path.dirname(os.path.abspath(__file__)), ".."))
+HEAD = re.compile(r'( *)((?:(?:[a-z]+(?:\([^)]*\))?|"C") )*)fn (\w+)')
+# The lines of turns.md on functions that no edit turns, or whose work other functions do.
+SAYS = re.compile(r"(goes by|like|no edit): (.*)")
+
+
+def read(path):
+    """Returns the text of a file."""
+    with open(path, encoding="utf-8") as file:
+        return file.read()
+
+
+def write(path, text):
+    """Writes a file, and makes its folder if there is none."""
+    os.makedirs(os.path.dirname(path), exist_ok=True)
+    with open(path, "w", encoding="utf-8") as file:
+        file.write(text)
+
+
+def finish(faults, *well):
+    """Prints what is wrong, or else what is well, after the script's name, and ends the script with status 1 or 0."""
+    for it in faults or well:
+        print(f"tests/{os.path.basename(sys.argv[0])}: {it}")
+    sys.exit(bool(faults))
+
+
+def kit():
+    """Returns the folder of the toolchain."""
+    return os.path.dirname(os.path.dirname(os.path.realpath(shutil.which("rt"))))
+
+
+def libraries():
+    """Returns each crate with the libraries that crates.txt names for it."""
+    lines = (it for it in read("crates.txt").split("\n") if it and not it.startswith("#"))
+    return {it.partition(":")[0].split()[0]: it.partition(":")[2].split() for it in lines}
+
+
+def below(crate, named):
+    """Returns the libraries of the repository that a crate uses, also by way of others."""
+    return {it for dep in named[crate] if dep in named for it in {dep} | below(dep, named)}
+
+
+def check_words(crate, folder, built):
+    """Returns the command that checks the crate whose files are in the folder, with libraries that were built there."""
+    named, kit_folder = libraries(), kit()
+    of = lambda it: f"{built}/crates/{it}/out/rlib"
+    root = "src/main.rt" if os.path.exists(f"{folder}/src/main.rt") else "src/lib.rt"
+    words = [f"{kit_folder}/bin/rattle", "check", "--crate-name", crate, root]
+    for it in ["std", *named[crate]]:
+        words += ["--extern", f"{it}={of(it) if it in named else f'{kit_folder}/rlibs'}/{it}.rlib"]
+    for it in [f"{kit_folder}/rlibs", *map(of, sorted(below(crate, named)))]:
+        words += ["-L", f"dependency={it}"]
+    return [*words, "--antt-project", f"{kit_folder}/rattle/logic/antt-project.json", "--logic-built", f"{kit_folder}/logic_built"]
+
+
+def files(crate="*", part="src/**/*.rt"):
+    """Returns the source files of a crate, or other files of it, in order. The name of the crate may have `*`."""
+    return sorted(glob.glob(f"crates/{crate}/{part}", recursive=True))
+
+
+def module_of(path):
+    """Returns the module of a source file, for example `map::slots`."""
+    return re.sub(r"^crates/\w+/src/|\.rt$", "", path).replace("/", "::")
+
+
+@dataclasses.dataclass(eq=False)
+class Function:
+    """A function of a text. Its block is the first line of the impl or of the public trait that it is in, or nothing; the words
+    are those before `fn`; its comment has the lines `///` above it; its signature ends before its contract; its contract has
+    its clauses, and the comments between them, where a line that continues a clause is indented; its body has the lines
+    between its braces. The four places are those of its first attribute or else its head, of its head, of its body, and behind all of it."""
+
+    name: str
+    words: str
+    indent: str
+    block: str
+    comment: list
+    signature: str
+    contract: list
+    has_body: bool
+    body: list
+    first: int
+    head: int
+    begin: int
+    end: int
+
+    @property
+    def is_public(self):
+        """Whether it is public by its own words."""
+        return self.words == "pub "
+
+    @property
+    def is_asked(self):
+        """Whether a public trait asks for it."""
+        return self.block.startswith("pub trait ")
+
+    @property
+    def is_offered(self):
+        """Whether callers can use it."""
+        return self.is_public or self.is_asked
+
+
+def functions(text):
+    """Yields the functions of a text, in order."""
+    lines, block = [*text.split("\n"), ""], ""
+    for at, line in enumerate(lines):
+        found = HEAD.match(line)
+        if found:
+            yield function_at(lines, at, *found.groups(), block)
+        elif line.startswith(("impl", "pub trait ")):
+            block = line
+        elif line == "}":
+            block = ""
+
+
+def function_at(lines, head, indent, words, name, block):
+    """Returns the function that has its head in this line. What opens its body has the indent of the head, and other lines in
+    between have more, except for those that close a bracket and those of a `where`."""
+    first = open_at = head
+    while lines[first - 1].startswith(f"{indent}#["):
+        first -= 1
+    above = itertools.takewhile(lambda it: it.startswith("///"), (it.strip() for it in lines[:first][::-1]))
+    opens, goes_on = re.compile(rf"{indent}(?:\S.* )?{{$"), re.compile(rf"{indent}(?:[ )>]|where\b|{{$)")
+    while not opens.match(lines[open_at]) and goes_on.match(lines[open_at + 1]):
+        open_at += 1
+    is_open, begin = bool(opens.match(lines[open_at])), open_at + 1
+    close = next((it for it in range(begin, len(lines)) if lines[it] == indent + "}"), len(lines)) if is_open else begin
+    # Without a line that has only the brace.
+    told = lines[head : begin - (lines[open_at] == indent + "{")]
+    clause = re.compile(rf"{indent}    (?:requires|ensures|//)")
+    at = next((it for it, line in enumerate(told) if clause.match(line)), len(told))
+    contract = [("" if clause.match(it) else "    ") + it.strip() for it in told[at:]]
+    if contract and not is_open:
+        contract[-1] = contract[-1].removesuffix(";")
+    return Function(
+        name=name, words=words, indent=indent, block=block if indent else "", comment=[*above][::-1],
+        signature=re.sub(r" *(?:\{\}?|;)$", "", "\n".join(told[:at])), contract=contract, has_body=is_open or lines[head].endswith("{}"),
+        body=lines[begin:close], first=first, head=head, begin=begin, end=close + is_open)
+
+
+def impl_of(line):
+    """Returns the parameters, the trait and the type of an impl, from its first line."""
+    rest, depth, own = line[len("impl"):], 0, ""
+    for at, letter in enumerate(rest if rest.startswith("<") else ""):
+        depth += (letter == "<") - (letter == ">" and rest[at - 1] != "-")
+        if not depth:
+            own, rest = rest[: at + 1], rest[at + 1 :]
+            break
+    trait, _, of = rest.strip(" {").rpartition(" for ")
+    return own, trait.strip(), of
+
+
+def turns(crate):
+    """Returns the lines `EDIT: PATH ..` of a crate's turns.md, each as the edit and the functions that it turns, and its other
+    lines, each as its kind and its text."""
+    path = f"crates/{crate}/must-fail/turns.md"
+    lines = read(path).splitlines() if os.path.isfile(path) else []
+    edits = [(name, paths.split()) for name, _, paths in (it.partition(": ") for it in lines if not SAYS.match(it))]
+    return edits, [it.groups() for it in map(SAYS.match, lines) if it]
+
+
+def edits_of(crate):
+    """Returns the names of a crate's edits, in order."""
+    return [os.path.basename(it)[: -len(".edit")] for it in files(crate, "must-fail/*.edit")]
+
+
+def changes(crate, edit):
+    """Returns the files that an edit changes, each with its pairs of an old and a new text."""
+    found, old, pairs = {}, None, None
+    for line in read(f"crates/{crate}/must-fail/{edit}.edit").split("\n"):
+        word, _, text = line.partition(": ")
+        if word == "file":
+            pairs = found.setdefault(f"crates/{crate}/{text}", [])
+        elif word == "old":
+            old = text
+        elif line.startswith("new:") and pairs is not None:
+            pairs.append((old, text))
+            old = None
+    return found
