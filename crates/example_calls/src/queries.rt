@@ -1,5 +1,5 @@
 //! A query type of one's own: a borrowed text asks for a key that is a type around a `String`.
-ghost use Rattle.std.specs.Prelude.{◌≡◌, nat_eq, string_bytes, option_copied};
+ghost use Rattle.std.specs.Prelude.{nat_eq, string_bytes, option_copied};
 ghost use Rattle.std.specs.Cmp.Lexicographic.{pointwise};
 ghost use Rattle.std.specs.Cmp.Rules.{comparing, hashing};
 ghost use Rattle.std.proofs.Common.{rules};

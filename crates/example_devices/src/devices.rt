@@ -1,6 +1,6 @@
 //! Devices, each known by its serial number and by the port that it is plugged into, up to a limit. The memory for all
 //! of them is allocated at the start, so that no later call can run out of memory.
-ghost use Rattle.std.specs.Prelude.{◌≡◌, ◌∷◌, ◌==◌, [], List, Some, true, false, length, IsPermutation, IsErrOf, OnOk, OnErr, IfOk, IfSome, IfNone, option_copied};
+ghost use Rattle.std.specs.Prelude.{◌≡◌, ◌∷◌, ◌==◌, [], List, Some, true, false, IsPermutation, IsErrOf, OnOk, OnErr, IfOk, IfSome, IfNone, option_copied};
 ghost use Rattle.std.specs.List.{list_any};
 ghost use Rattle.iddqd_bi.specs.Bag.{IsOnly};
 ghost use Rattle.iddqd_bi.specs.Map.{IsFullFor, bag};

@@ -1,5 +1,5 @@
 //! What a caller can do with the error of an insert.
-ghost use Rattle.std.specs.Prelude.{◌≡◌, ◌≢◌, ◌∷◌, ◌<◌, ◌⊎◌, [], true, false, length, IsOk, IsPermutation, OnOk, OnErr, IfErr};
+ghost use Rattle.std.specs.Prelude.{◌≡◌, ◌≢◌, ◌∷◌, ◌<◌, ◌⊎◌, [], true, length, IsOk, IsPermutation, OnOk, OnErr, IfErr};
 ghost use Rattle.std.specs.Bool.{OnTrue, OnFalse};
 ghost use Rattle.iddqd_bi.specs.Bag.{clash, order};
 ghost use Rattle.iddqd_bi.specs.Map.{IsFullFor, bag};

@@ -1,5 +1,5 @@
 //! What a caller can prove of a map after an insert, whether it succeeded or failed.
-ghost use Rattle.std.specs.Prelude.{◌≡◌, ◌≢◌, ◌<◌, ◌≤◌, ◌+◌, ◌⊎◌, ◌∷◌, [], true, length, IsPermutation, OnOk, OnErr};
+ghost use Rattle.std.specs.Prelude.{◌≡◌, ◌≢◌, ◌<◌, ◌≤◌, ◌+◌, ◌⊎◌, ◌∷◌, [], true, length, IsPermutation};
 ghost use Rattle.std.specs.Bool.{OnTrue, OnFalse};
 ghost use Rattle.iddqd_tri.specs.Bag.{clash, order, over};
 ghost use Rattle.iddqd_tri.specs.Map.{Gains, IsFullFor, bag};

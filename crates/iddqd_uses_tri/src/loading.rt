@@ -1,5 +1,5 @@
 //! What a caller can prove of a map into which a batch of items is inserted as a whole, or not at all.
-ghost use Rattle.std.specs.Prelude.{◌≡◌, ◌++◌, IsPermutation, OnOk, OnErr, IfErr};
+ghost use Rattle.std.specs.Prelude.{◌++◌, IsPermutation, OnOk, OnErr, IfErr};
 ghost use Rattle.iddqd_tri.specs.Bag.{IsSound};
 ghost use Rattle.iddqd_tri.specs.Callers.{IsInTheWay};
 ghost use Rattle.iddqd_tri.specs.Map.{bag};

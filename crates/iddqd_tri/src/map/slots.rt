@@ -2,7 +2,7 @@
 //! The files below have the slots that searches by all keys found (`found`), iterating (`walk`), reading and writing
 //! (`write`), inserting in place of other items (`over`), and inserting a list that may have to be removed again
 //! (`enter`). Calls on all slots at once and removals by one key use the slots and tables themselves.
-ghost use Rattle.std.specs.Prelude.{◌≡◌, ◌≢◌, ◌==◌, ℕ, ◌<◌, ◌≤◌, ◌+◌, [], ◌∷◌, length, map, All, IsPermutation, OnOk, OnErr, IfOk, IfErr, Some, None, IfSome, nat_eq, slice_set, is_some, true, false};
+ghost use Rattle.std.specs.Prelude.{◌≡◌, ◌==◌, ℕ, ◌<◌, ◌≤◌, ◌+◌, [], ◌∷◌, length, map, All, OnOk, OnErr, IfOk, IfErr, Some, None, IfSome, nat_eq, slice_set, is_some, true, false};
 ghost use Rattle.std.specs.List.{IsDistinct, list_any};
 ghost use Rattle.iddqd_store.specs.Bag.{IsSound, clash, differ, listing};
 ghost use Rattle.iddqd_store.specs.Rank.Index.{HasHash};
