@@ -1,5 +1,5 @@
 -- What recipes cite: of an insert that was granted, of an item in the place of another, and of two that change places.
-use Rattle.std.specs.Prelude.{◌≡◌, Bool, true, false, List, [], ◌∷◌, filter, length, Contains, IsPermutation, Result, Ok, Err, IfOk, OnOk, is_ok, is_err}
+use Rattle.std.specs.Prelude.{◌≡◌, Bool, true, false, List, [], ◌∷◌, filter, length, Contains, IsPermutation, Result, Ok, Err, IfOk, IsOk, OnOk, is_ok, is_err}
 use Rattle.std.proofs.Common.{refl, sym, subst, arith}
 use Rattle.std.proofs.lemmas.List.Elements.{All-contains, All-cons, All-nil}
 use Rattle.std.proofs.lemmas.List.Sorted.{Contains-permutation, IsPermutation-cons, IsPermutation-middle, IsPermutation-sym, IsPermutation-trans, length_permutation}
@@ -15,6 +15,10 @@ use Rattle.iddqd_bi.specs.Rekeyed.{PutsInPlace}
 pub on_ok : {A E P : Type 0} (r : Result A E) → is_ok r ≡ true → OnOk r P → P
 on_ok (Ok x) done p = p
 on_ok (Err e) done p = absurd (cc done)
+
+pub is_ok-yes : {A E : Type 0} (r : Result A E) → IsOk r → is_ok r ≡ true
+is_ok-yes (Ok x) done = refl
+is_ok-yes (Err e) done = absurd (cc done)
 
 module _ {T : Type 0} where
   only_member : (x y : T) → Contains (y ∷ []) x → x ≡ y

@@ -1,8 +1,8 @@
 //! A map in a map: books of orders, each known by its name and by its shelf.
-ghost use Rattle.std.specs.Prelude.{◌≡◌, ◌∷◌, nat_eq, string_bytes, true, Some, IsPermutation};
+ghost use Rattle.std.specs.Prelude.{◌≡◌, ◌<◌, [], ◌∷◌, nat_eq, string_bytes, length, true, None, Some, IsPermutation};
 ghost use Rattle.std.specs.Cmp.Lexicographic.{pointwise};
 ghost use Rattle.std.proofs.Common.{rules};
-ghost use Rattle.iddqd_bi.specs.Bag.{IsOnly, swap};
+ghost use Rattle.iddqd_bi.specs.Bag.{IsOnly, clash, swap};
 ghost use Rattle.iddqd_bi.specs.Map.{bag};
 
 use crate::orders::Order;
@@ -58,6 +58,11 @@ pub fn enter(books: &mut BiHashMap<Book>, name: &str, order: Order) -> bool
         × IsOnly (λ b. pointwise nat_eq name.now (string_bytes b.name)) (bag books.old) (Some b)
         × (c.name ≡ b.name) × (c.shelf ≡ b.shelf) × IsPermutation (bag c.orders) (order ∷ bag b.orders)
         × IsPermutation (bag books.new) (swap ⟦<Book as Ranked>⟧.ranks (bag books.old) b c) }
+    ensures granted { (b : Book) → IsOnly (λ b. pointwise nat_eq name.now (string_bytes b.name)) (bag books.old) (Some b)
+        → clash ⟦<Order as Ranked>⟧.ranks (bag b.orders) order ≡ []
+        → length (bag b.orders) < b.orders.capacity → result ≡ true }
+    ensures absent { IsOnly (λ b. pointwise nat_eq name.now (string_bytes b.name)) (bag books.old) None
+        → books.new ≡ books.old }
 {
     match books.data1_mut(name) {
         Some(orders) => orders.try_insert(order).is_ok(),

@@ -1,5 +1,5 @@
 //! Orders: an error of `anyhow`, the first few in an order, and a change of several items that is rolled back.
-ghost use Rattle.std.specs.Prelude.{◌≡◌, ◌<◌, ◌==◌, [], ◌∷◌, true, false, List, Some, length, take, map as mapped, IsOk, IsPermutation, OnOk, OnErr, IfOk};
+ghost use Rattle.std.specs.Prelude.{◌≡◌, ◌<◌, ◌==◌, [], ◌∷◌, true, false, List, None, Some, length, take, map as mapped, IsOk, IsPermutation, OnOk, OnErr, IfOk};
 ghost use Rattle.std.specs.Borrow.{Bor};
 ghost use Rattle.std.specs.List.Sorted.{IsNonDecreasingBy};
 ghost use Rattle.iddqd_bi.specs.Bag.{IsOnly, clash};
@@ -99,6 +99,8 @@ pub fn swap_places(orders: &mut BiHashMap<Order>, one: u64, other: u64) -> bool
         × IsOnly (λ o. other == o.number) (bag orders.old) (Some b)
         × IsPermutation (a ∷ b ∷ bag orders.new)
         (record a { place = b.place } ∷ record b { place = a.place } ∷ bag orders.old) }
+    ensures first_absent { IsOnly (λ o. one == o.number) (bag orders.old) None → orders.new ≡ orders.old }
+    ensures second_absent { IsOnly (λ o. other == o.number) (bag orders.old) None → orders.new ≡ orders.old }
 {
     let Some(first) = orders.get1(&one).copied() else {
         return false;
