@@ -40,7 +40,7 @@ no_refusal_of_no_more : FromEmpty Steps (reserving 0) (done ∷ refused ∷ []) 
 no_refusal_of_no_more chain =
     let one = chain.1 in
     let two = one.3 in
-    omega (arith, one.2.0, two.1.1, two.1.2)
+    omega (arith, one.2.0, two.1.0)
 
 -- `new 1 10 100`, `del1 1`, `new 2 20 200` are not answered by `ok`, `item (1 10 100)`, `memory (2 20 200)`: a removal leaves room
 pub no_memory_after_a_removal : Replies Steps removing (done ∷ taken (Some first) ∷ memory second ∷ []) → ⊥

@@ -154,7 +154,7 @@ not_so_many = replies_from Steps too_many too_many_replies (
     (omega arith, omega arith),
     (
       state (a ∷ []) 7,
-      (refl, omega arith, omega arith),
+      (omega arith, refl),
       (omega arith, omega arith),
       (state (a ∷ []) 7, (refl, refl), (omega arith, omega arith), refl),
     ),
