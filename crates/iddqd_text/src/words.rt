@@ -1,7 +1,7 @@
 //! The words of the commands.
 ghost use Rattle.std.specs.Prelude.{◌≡◌};
 ghost use Rattle.iddqd_text.specs.Texts.{is_text};
-ghost use Rattle.iddqd_text.specs.Words.{word_of};
+ghost use Rattle.iddqd_text.specs.Words.{word_of, word_without_key};
 
 /// The word that begins a line.
 #[derive(Clone, Copy, Debug, PartialEq, Eq, Drop)]
@@ -53,18 +53,8 @@ pub fn word_of(bytes: &[u8]) -> Option<Word>
         Some(Word::Del3)
     } else if is_word(bytes, b"delboth") {
         Some(Word::DelBoth)
-    } else if is_word(bytes, b"len") {
-        Some(Word::Len)
     } else if is_word(bytes, b"put") {
         Some(Word::Put)
-    } else if is_word(bytes, b"reserve") {
-        Some(Word::Reserve)
-    } else if is_word(bytes, b"fit") {
-        Some(Word::Fit)
-    } else if is_word(bytes, b"clear") {
-        Some(Word::Clear)
-    } else if is_word(bytes, b"list") {
-        Some(Word::List)
     } else if is_word(bytes, b"replace1") {
         Some(Word::Replace1)
     } else if is_word(bytes, b"set1") {
@@ -75,6 +65,25 @@ pub fn word_of(bytes: &[u8]) -> Option<Word>
         Some(Word::EntDel)
     } else if is_word(bytes, b"orput") {
         Some(Word::OrPut)
+    } else {
+        word_without_key(bytes)
+    }
+}
+
+/// Returns the word without a key that the bytes spell, or `None` if they spell none.
+fn word_without_key(bytes: &[u8]) -> Option<Word>
+    ensures { result ≡ word_without_key bytes.now }
+{
+    if is_word(bytes, b"len") {
+        Some(Word::Len)
+    } else if is_word(bytes, b"reserve") {
+        Some(Word::Reserve)
+    } else if is_word(bytes, b"fit") {
+        Some(Word::Fit)
+    } else if is_word(bytes, b"clear") {
+        Some(Word::Clear)
+    } else if is_word(bytes, b"list") {
+        Some(Word::List)
     } else if is_word(bytes, b"addall") {
         Some(Word::AddAll)
     } else {
