@@ -16,14 +16,14 @@ import sys
 
 RENAMED = [
     (r"iddqd(_calls|_tests|_uses)?_bi\b", r"iddqd\1_tri"), (r"\bbi_(?=\w)", "tri_"),
-    (r"\b(iddqd_serde(?:::|/src/|/proofs/|\.proofs\.))bi\b", r"\1tri"),
-    (r"\bBi(?=Command|Hash|Item|Reply|Sink)", "Tri"), (r"\bUpToTwo\b", "UpToThree"), (r"\bup_to_two\b", "up_to_three"),
-    (r"\bKeyPair\b", "KeyTriple"), (r"\b([Tt])wo(?=[ _]keys?\b|[ _]ranks\b| at most\b)", r"\1hree"),
+    (r"\b(iddqd_serde(?:::|/src/|/proofs/|\.proofs\.)|item[./]|kind `)bi\b", r"\1tri"),
+    (r"Bi(?=Command|Hash|Item|Reply|Sink)", "Tri"), (r"\bUpToTwo\b", "UpToThree"), (r"\bup_to_two\b", "up_to_three"),
+    (r"\bKeyPair\b", "KeyTriple"), (r"\b([Tt])wo(?=[ _]keys?\b|Keys\b|[ _]ranks\b| at most\b)", r"\1hree"),
     (r"(?<!insert)([_-])both\b", r"\1all"), (r"\b(has|have|with|of) both\b", r"\1 all"),
     (r"\bboth(?= (?:keys|searches|name)\b)", "all"), (r"\bBoth(?= (?:keys|searches)\b)", "All"),
     (r"\bthe other key\b", "the other keys"), (r"(?<=rank < )2\b|(?<=<= )2\b|(?<=-le)2\b", "3"),
     # What is the same at each rank: types or proofs, parts of a list, and arguments of a call.
-    (r"\(([\w:]+(?:\(\))?), \1\)", r"(\1, \1, \1)"), (r"\b(\w+) × \1\b", r"\1 × \1 × \1"), (r"\bNone ∷ None(?= ∷)", "None ∷ None ∷ None"), (r"\b_ ∷ _ ∷ \[\]", "_ ∷ _ ∷ _ ∷ []"),
+    (r"\(([\w:]+(?:\(\))?), \1\)", r"(\1, \1, \1)"), (r"\b(\w+) × \1\b", r"\1 × \1 × \1"), (r"\b(ℕ|nat_eq) \1\b", r"\1 \1 \1"), (r"\bNone ∷ None(?= ∷)", "None ∷ None ∷ None"), (r"\b_ ∷ _ ∷ \[\]", "_ ∷ _ ∷ _ ∷ []"),
     (r"(?<=, )(None|&nothing),\s+\1(?=,?\s*(?:\)|&mut Meter\b))", r"\1, \1, \1"),
 ]
 # The words of a rank, in order: numbers, types, names of keys, and the parts of pairs in pairs.

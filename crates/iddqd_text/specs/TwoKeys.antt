@@ -12,14 +12,14 @@ use Rattle.iddqd_text.specs.Outputs as outputs
 use Rattle.iddqd_text.specs.Printed.{line_of}
 use Rattle.iddqd_text.specs.declared.item.bi.BiItem.{BiItem}
 use Rattle.iddqd_text.specs.declared.words.Word.{Word}
-use Rattle.iddqd_text.specs.declared.words.Word.TheVariants.{New, Get1, Get2, Del1, Both, Del2, DelBoth, Len, Put, Reserve, Fit, Clear, List as ListAll, Replace1, Set1, EntPut, EntDel, OrPut, AddAll}
+use Rattle.iddqd_text.specs.declared.words.Word.TheVariants.{New, Get1, Get2, Both, Del1, Del2, DelBoth, Len, Put, Reserve, Fit, Clear, List as ListAll, Replace1, Set1, EntPut, EntDel, OrPut, AddAll}
 
 -- the numbers of an item
 abbrev pub numbers : BiItem → List ℕ
 numbers item = item.key1 ∷ item.key2 ∷ item.value ∷ []
 
 -- the item of these numbers
-abbrev pub item : ℕ → ℕ → ℕ → BiItem
+abbrev pub item : (k1 k2 v : ℕ) → BiItem
 item k1 k2 v = record { key1 = k1; key2 = k2; value = v }
 
 -- the keys of an item
@@ -39,8 +39,8 @@ abbrev pub single_of : Word → List ℕ → Option Command
 single_of New (k1 ∷ k2 ∷ v ∷ []) = Some (command.InsertUnique (item k1 k2 v))
 single_of Get1 (k ∷ []) = Some (command.Get1 k)
 single_of Get2 (k ∷ []) = Some (command.Get2 k)
-single_of Del1 (k ∷ []) = Some (command.Remove1 k)
 single_of Both (k1 ∷ k2 ∷ []) = Some (command.GetUnique k1 k2)
+single_of Del1 (k ∷ []) = Some (command.Remove1 k)
 single_of Del2 (k ∷ []) = Some (command.Remove2 k)
 single_of DelBoth (k1 ∷ k2 ∷ []) = Some (command.RemoveUnique k1 k2)
 single_of Len [] = Some command.Len
@@ -54,10 +54,10 @@ single_of Set1 (k ∷ v ∷ []) = Some (command.Set1 k v)
 single_of EntPut (k1 ∷ k2 ∷ x1 ∷ x2 ∷ v ∷ []) = Some (command.EntryInsert k1 k2 (item x1 x2 v))
 single_of EntDel (k1 ∷ k2 ∷ []) = Some (command.EntryRemove k1 k2)
 single_of OrPut (k1 ∷ k2 ∷ x1 ∷ x2 ∷ v ∷ []) = Some (command.OrInsert k1 k2 (item x1 x2 v))
--- the same for `get3` and `del3`, whatever their numbers are
+-- no other word spells one, and no word with other numbers
 single_of word numbers = None
 
--- the items of the numbers, three for each, if none is left over
+-- the items of the numbers, one after the other, if no number is left over
 abbrev pub items_of : List ℕ → Option (List BiItem)
 items_of [] = Some []
 items_of (k1 ∷ k2 ∷ v ∷ numbers) = option_map (λ items. item k1 k2 v ∷ items) (items_of numbers)

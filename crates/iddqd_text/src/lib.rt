@@ -1,5 +1,9 @@
 //! The text program between its reader and its writer: it runs a text of commands on a map with two or with three
 //! keys. The program itself is `iddqd_run`.
+//!
+//! The modules `three_keys` and `item::tri`, with specs/ThreeKeys.antt, are the text of `two_keys`, `item::bi` and
+//! specs/TwoKeys.antt at three keys, which a script writes: change that text, and then run `tests/twins --write` with the
+//! changed files.
 #![tactic(auto)]
 
 pub mod command;

@@ -5,7 +5,7 @@ ghost use Rattle.iddqd_store.specs.Runs.Values.{value_of};
 ghost use Rattle.iddqd_text.specs.Commands.{single};
 ghost use Rattle.iddqd_text.specs.Outputs.{GrowsByLine};
 ghost use Rattle.iddqd_text.specs.Printed.{line_of};
-ghost use Rattle.iddqd_text.specs.ThreeKeys.{command_of, items_of, numbers, single_of, spelled, Prints};
+ghost use Rattle.iddqd_text.specs.ThreeKeys.{command_of, item, items_of, numbers, single_of, spelled, Prints};
 
 use crate::command::Command;
 use crate::item::TriItem;
@@ -52,142 +52,63 @@ fn single_of(word: Word, numbers: &[u64]) -> Option<TriCommand<TriItem>>
     ensures meaning { result ≡ single_of word numbers.now }
     ensures spelling { option_map spelled result ≡ option_map single result }
 {
-    match word {
-        Word::New => match numbers {
-            [key1, key2, key3, value] => Some(TriCommand::InsertUnique(TriItem {
-                key1: *key1,
-                key2: *key2,
-                key3: *key3,
-                value: *value,
-            })),
-            _ => None,
-        },
-        Word::Get1 => match numbers {
-            [key] => Some(TriCommand::Get1(*key)),
-            _ => None,
-        },
-        Word::Get2 => match numbers {
-            [key] => Some(TriCommand::Get2(*key)),
-            _ => None,
-        },
-        Word::Get3 => match numbers {
-            [key] => Some(TriCommand::Get3(*key)),
-            _ => None,
-        },
-        Word::Del1 => match numbers {
-            [key] => Some(TriCommand::Remove1(*key)),
-            _ => None,
-        },
-        Word::Both => match numbers {
-            [key1, key2, key3] => Some(TriCommand::GetUnique(*key1, *key2, *key3)),
-            _ => None,
-        },
-        Word::Del2 => match numbers {
-            [key] => Some(TriCommand::Remove2(*key)),
-            _ => None,
-        },
-        Word::Del3 => match numbers {
-            [key] => Some(TriCommand::Remove3(*key)),
-            _ => None,
-        },
-        Word::DelBoth => match numbers {
-            [key1, key2, key3] => Some(TriCommand::RemoveUnique(*key1, *key2, *key3)),
-            _ => None,
-        },
-        Word::Len => match numbers {
-            [] => Some(TriCommand::Len),
-            _ => None,
-        },
-        Word::Put => match numbers {
-            [key1, key2, key3, value] => Some(TriCommand::InsertOverwrite(TriItem {
-                key1: *key1,
-                key2: *key2,
-                key3: *key3,
-                value: *value,
-            })),
-            _ => None,
-        },
-        Word::Reserve => match numbers {
-            [more] => Some(TriCommand::Reserve(*more as usize)),
-            _ => None,
-        },
-        Word::Fit => match numbers {
-            [] => Some(TriCommand::ShrinkToFit),
-            _ => None,
-        },
-        Word::Clear => match numbers {
-            [] => Some(TriCommand::Clear),
-            _ => None,
-        },
-        Word::List => match numbers {
-            [] => Some(TriCommand::Items),
-            _ => None,
-        },
-        Word::Replace1 => match numbers {
-            [key, item1, item2, item3, value] => Some(TriCommand::Replace1(
-                *key,
-                TriItem {
-                    key1: *item1,
-                    key2: *item2,
-                    key3: *item3,
-                    value: *value,
-                },
-            )),
-            _ => None,
-        },
-        Word::Set1 => match numbers {
-            [key, value] => Some(TriCommand::Set1(*key, *value)),
-            _ => None,
-        },
-        Word::EntPut => match numbers {
-            [key1, key2, key3, item1, item2, item3, value] => Some(TriCommand::EntryInsert(
-                *key1,
-                *key2,
-                *key3,
-                TriItem {
-                    key1: *item1,
-                    key2: *item2,
-                    key3: *item3,
-                    value: *value,
-                },
-            )),
-            _ => None,
-        },
-        Word::EntDel => match numbers {
-            [key1, key2, key3] => Some(TriCommand::EntryRemove(*key1, *key2, *key3)),
-            _ => None,
-        },
-        Word::OrPut => match numbers {
-            [key1, key2, key3, item1, item2, item3, value] => Some(TriCommand::OrInsert(
-                *key1,
-                *key2,
-                *key3,
-                TriItem {
-                    key1: *item1,
-                    key2: *item2,
-                    key3: *item3,
-                    value: *value,
-                },
-            )),
-            _ => None,
-        },
-        Word::AddAll => None,
+    // The numbers are matched first, and then the word: so fewer ways lead to the last arm, and the prover tries them
+    // all.
+    match (numbers, word) {
+        ([key1, key2, key3, value], Word::New) => Some(TriCommand::InsertUnique(item(
+            *key1, *key2, *key3, *value,
+        ))),
+        ([key], Word::Get1) => Some(TriCommand::Get1(*key)),
+        ([key], Word::Get2) => Some(TriCommand::Get2(*key)),
+        ([key], Word::Get3) => Some(TriCommand::Get3(*key)),
+        ([key1, key2, key3], Word::Both) => Some(TriCommand::GetUnique(*key1, *key2, *key3)),
+        ([key], Word::Del1) => Some(TriCommand::Remove1(*key)),
+        ([key], Word::Del2) => Some(TriCommand::Remove2(*key)),
+        ([key], Word::Del3) => Some(TriCommand::Remove3(*key)),
+        ([key1, key2, key3], Word::DelBoth) => Some(TriCommand::RemoveUnique(*key1, *key2, *key3)),
+        ([], Word::Len) => Some(TriCommand::Len),
+        ([key1, key2, key3, value], Word::Put) => Some(TriCommand::InsertOverwrite(item(
+            *key1, *key2, *key3, *value,
+        ))),
+        ([more], Word::Reserve) => Some(TriCommand::Reserve(*more as usize)),
+        ([], Word::Fit) => Some(TriCommand::ShrinkToFit),
+        ([], Word::Clear) => Some(TriCommand::Clear),
+        ([], Word::List) => Some(TriCommand::Items),
+        ([key, item1, item2, item3, value], Word::Replace1) => {
+            Some(TriCommand::Replace1(*key, item(*item1, *item2, *item3, *value)))
+        }
+        ([key, value], Word::Set1) => Some(TriCommand::Set1(*key, *value)),
+        ([key1, key2, key3, item1, item2, item3, value], Word::EntPut) => {
+            Some(TriCommand::EntryInsert(*key1, *key2, *key3, item(*item1, *item2, *item3, *value)))
+        }
+        ([key1, key2, key3], Word::EntDel) => Some(TriCommand::EntryRemove(*key1, *key2, *key3)),
+        ([key1, key2, key3, item1, item2, item3, value], Word::OrPut) => {
+            Some(TriCommand::OrInsert(*key1, *key2, *key3, item(*item1, *item2, *item3, *value)))
+        }
+        _ => None,
     }
 }
 
-/// Returns the items that these numbers spell, four numbers for each, or `None` if numbers are left over.
+/// Makes the item of these numbers.
+fn item(key1: u64, key2: u64, key3: u64, value: u64) -> TriItem
+    ensures { result ≡ item key1 key2 key3 value }
+{
+    TriItem {
+        key1,
+        key2,
+        key3,
+        value,
+    }
+}
+
+/// Returns the items that these numbers spell, one after the other, or `None` if numbers are left over.
 fn items_of(alloc: Global, numbers: &[u64]) -> Result<Option<Vec<TriItem>>, AllocError>
     ensures { IfOk result (λ found. option_map (λ v. v.items) found ≡ items_of numbers.now) }
 {
     let mut items = Vec::new(alloc);
     let mut rest = numbers;
     while let [key1, key2, key3, value, after @ ..] = rest {
-        items.push(TriItem {
-            key1: *key1,
-            key2: *key2,
-            key3: *key3,
-            value: *value,
-        })?;
+        items.push(item(*key1, *key2, *key3, *value))?;
         rest = after;
     }
     if rest.is_empty() {

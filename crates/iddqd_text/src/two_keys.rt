@@ -5,7 +5,7 @@ ghost use Rattle.iddqd_store.specs.Runs.Values.{value_of};
 ghost use Rattle.iddqd_text.specs.Commands.{single};
 ghost use Rattle.iddqd_text.specs.Outputs.{GrowsByLine};
 ghost use Rattle.iddqd_text.specs.Printed.{line_of};
-ghost use Rattle.iddqd_text.specs.TwoKeys.{command_of, items_of, numbers, single_of, spelled, Prints};
+ghost use Rattle.iddqd_text.specs.TwoKeys.{command_of, item, items_of, numbers, single_of, spelled, Prints};
 
 use crate::command::Command;
 use crate::item::BiItem;
@@ -52,126 +52,55 @@ fn single_of(word: Word, numbers: &[u64]) -> Option<BiCommand<BiItem>>
     ensures meaning { result ≡ single_of word numbers.now }
     ensures spelling { option_map spelled result ≡ option_map single result }
 {
-    match word {
-        Word::New => match numbers {
-            [key1, key2, value] => Some(BiCommand::InsertUnique(BiItem {
-                key1: *key1,
-                key2: *key2,
-                value: *value,
-            })),
-            _ => None,
-        },
-        Word::Get1 => match numbers {
-            [key] => Some(BiCommand::Get1(*key)),
-            _ => None,
-        },
-        Word::Get2 => match numbers {
-            [key] => Some(BiCommand::Get2(*key)),
-            _ => None,
-        },
-        Word::Del1 => match numbers {
-            [key] => Some(BiCommand::Remove1(*key)),
-            _ => None,
-        },
-        Word::Both => match numbers {
-            [key1, key2] => Some(BiCommand::GetUnique(*key1, *key2)),
-            _ => None,
-        },
-        Word::Del2 => match numbers {
-            [key] => Some(BiCommand::Remove2(*key)),
-            _ => None,
-        },
-        Word::DelBoth => match numbers {
-            [key1, key2] => Some(BiCommand::RemoveUnique(*key1, *key2)),
-            _ => None,
-        },
-        Word::Len => match numbers {
-            [] => Some(BiCommand::Len),
-            _ => None,
-        },
-        Word::Put => match numbers {
-            [key1, key2, value] => Some(BiCommand::InsertOverwrite(BiItem {
-                key1: *key1,
-                key2: *key2,
-                value: *value,
-            })),
-            _ => None,
-        },
-        Word::Reserve => match numbers {
-            [more] => Some(BiCommand::Reserve(*more as usize)),
-            _ => None,
-        },
-        Word::Fit => match numbers {
-            [] => Some(BiCommand::ShrinkToFit),
-            _ => None,
-        },
-        Word::Clear => match numbers {
-            [] => Some(BiCommand::Clear),
-            _ => None,
-        },
-        Word::List => match numbers {
-            [] => Some(BiCommand::Items),
-            _ => None,
-        },
-        Word::Replace1 => match numbers {
-            [key, item1, item2, value] => Some(BiCommand::Replace1(
-                *key,
-                BiItem {
-                    key1: *item1,
-                    key2: *item2,
-                    value: *value,
-                },
-            )),
-            _ => None,
-        },
-        Word::Set1 => match numbers {
-            [key, value] => Some(BiCommand::Set1(*key, *value)),
-            _ => None,
-        },
-        Word::EntPut => match numbers {
-            [key1, key2, item1, item2, value] => Some(BiCommand::EntryInsert(
-                *key1,
-                *key2,
-                BiItem {
-                    key1: *item1,
-                    key2: *item2,
-                    value: *value,
-                },
-            )),
-            _ => None,
-        },
-        Word::EntDel => match numbers {
-            [key1, key2] => Some(BiCommand::EntryRemove(*key1, *key2)),
-            _ => None,
-        },
-        Word::OrPut => match numbers {
-            [key1, key2, item1, item2, value] => Some(BiCommand::OrInsert(
-                *key1,
-                *key2,
-                BiItem {
-                    key1: *item1,
-                    key2: *item2,
-                    value: *value,
-                },
-            )),
-            _ => None,
-        },
-        Word::Get3 | Word::Del3 | Word::AddAll => None,
+    // The numbers are matched first, and then the word: so fewer ways lead to the last arm, and the prover tries them all.
+    match (numbers, word) {
+        ([key1, key2, value], Word::New) => Some(BiCommand::InsertUnique(item(
+            *key1, *key2, *value,
+        ))),
+        ([key], Word::Get1) => Some(BiCommand::Get1(*key)),
+        ([key], Word::Get2) => Some(BiCommand::Get2(*key)),
+        ([key1, key2], Word::Both) => Some(BiCommand::GetUnique(*key1, *key2)),
+        ([key], Word::Del1) => Some(BiCommand::Remove1(*key)),
+        ([key], Word::Del2) => Some(BiCommand::Remove2(*key)),
+        ([key1, key2], Word::DelBoth) => Some(BiCommand::RemoveUnique(*key1, *key2)),
+        ([], Word::Len) => Some(BiCommand::Len),
+        ([key1, key2, value], Word::Put) => Some(BiCommand::InsertOverwrite(item(
+            *key1, *key2, *value,
+        ))),
+        ([more], Word::Reserve) => Some(BiCommand::Reserve(*more as usize)),
+        ([], Word::Fit) => Some(BiCommand::ShrinkToFit),
+        ([], Word::Clear) => Some(BiCommand::Clear),
+        ([], Word::List) => Some(BiCommand::Items),
+        ([key, item1, item2, value], Word::Replace1) => {
+            Some(BiCommand::Replace1(*key, item(*item1, *item2, *value)))
+        }
+        ([key, value], Word::Set1) => Some(BiCommand::Set1(*key, *value)),
+        ([key1, key2, item1, item2, value], Word::EntPut) => {
+            Some(BiCommand::EntryInsert(*key1, *key2, item(*item1, *item2, *value)))
+        }
+        ([key1, key2], Word::EntDel) => Some(BiCommand::EntryRemove(*key1, *key2)),
+        ([key1, key2, item1, item2, value], Word::OrPut) => {
+            Some(BiCommand::OrInsert(*key1, *key2, item(*item1, *item2, *value)))
+        }
+        _ => None,
     }
 }
 
-/// Returns the items that these numbers spell, three numbers for each, or `None` if numbers are left over.
+/// Makes the item of these numbers.
+fn item(key1: u64, key2: u64, value: u64) -> BiItem
+    ensures { result ≡ item key1 key2 value }
+{
+    BiItem { key1, key2, value }
+}
+
+/// Returns the items that these numbers spell, one after the other, or `None` if numbers are left over.
 fn items_of(alloc: Global, numbers: &[u64]) -> Result<Option<Vec<BiItem>>, AllocError>
     ensures { IfOk result (λ found. option_map (λ v. v.items) found ≡ items_of numbers.now) }
 {
     let mut items = Vec::new(alloc);
     let mut rest = numbers;
     while let [key1, key2, value, after @ ..] = rest {
-        items.push(BiItem {
-            key1: *key1,
-            key2: *key2,
-            value: *value,
-        })?;
+        items.push(item(*key1, *key2, *value))?;
         rest = after;
     }
     if rest.is_empty() {
