@@ -54,7 +54,7 @@ module _ {T S Q K1 K2 H : Type 0} {of : item.Ghosts T K1 K2} {eq1 : equal.Ghosts
 
   -- what `or_insert` leaves if it succeeds
   pub entered : (e : Entry T S Q K1 K2 H of eq1 input1 eq2 input2 build hashes q) (m : OccupiedEntryMut T S K1 K2 H) (x : T) (k1 : K1) (k2 : K2) (old : Map T S) →
-      OnVacant e (λ v. PutsIn v x (Ok m)) → OnOccupied e (λ o. KeepsFound {E = EntryRefusal T S K1 K2 H} of eq1.eq eq2.eq o (Ok m)) → IsFound e →
+      OnVacant e (λ v. PutsIn v x (Ok m)) → OnOccupied e (λ o. KeepsFound of eq1.eq eq2.eq o {E = EntryRefusal T S K1 K2 H} (Ok m)) → IsFound e →
       entry_key1 e ≡ k1 → entry_key2 e ≡ k2 → entry_map e ≡ old →
       Entered (bag old) x (bags.entry (key_tests of eq1.eq eq2.eq k1 k2) (bag old)) (bag m.map.now) (held_entry m)
   entered (Vacant v) m x k1 k2 old put kept found is1 is2 is =
@@ -71,7 +71,7 @@ module _ {T S Q K1 K2 H : Type 0} {of : item.Ghosts T K1 K2} {eq1 : equal.Ghosts
 
   -- if its keys found something, the map is as it was
   pub stayed : (e : Entry T S Q K1 K2 H of eq1 input1 eq2 input2 build hashes q) (m : OccupiedEntryMut T S K1 K2 H) (k1 : K1) (k2 : K2) (old : Map T S) →
-      OnOccupied e (λ o. KeepsFound {E = EntryRefusal T S K1 K2 H} of eq1.eq eq2.eq o (Ok m)) → entry_key1 e ≡ k1 → entry_key2 e ≡ k2 → entry_map e ≡ old →
+      OnOccupied e (λ o. KeepsFound of eq1.eq eq2.eq o {E = EntryRefusal T S K1 K2 H} (Ok m)) → entry_key1 e ≡ k1 → entry_key2 e ≡ k2 → entry_map e ≡ old →
       listing (key_tests of eq1.eq eq2.eq k1 k2) (bag old) ≢ [] → m.map.now ≡ old
   stayed (Vacant v) m k1 k2 old kept is1 is2 is some = absurd (some (rw (← is1, ← is2, ← is) v.absent))
   stayed (Occupied o) m k1 k2 old kept is1 is2 is some = kept.unchanged ∙ is

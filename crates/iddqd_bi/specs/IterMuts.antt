@@ -30,7 +30,11 @@ module _ {T S K1 K2 H : Type 0} where
   -- `stepped` is the iteration after the next item, where `f` of that item has replaced it.
   -- Example: For a, b, c, of which a has been passed, it has passed a, `f b`.
   abbrev pub stepped : IterMut T S K1 K2 H → (T → T) → IterMut T S K1 K2 H
-  stepped it f = record { map = record it.map { now = next_written it f }; next = after_next it.map.now.slots it.next; left = it.left - 1 }
+  stepped it f = record {
+    map = record it.map { now = next_written it f };
+    next = after_next it.map.now.slots it.next;
+    left = it.left - 1;
+  }
 
   -- The count that the iteration keeps is the number of items that are left.
   -- Example: For a, b, c, of which a has been passed, it is 2.
@@ -42,12 +46,17 @@ module _ {T S K1 K2 H : Type 0} where
   abbrev pub IsNextOf : IterMut T S K1 K2 H → Type 0
   IsNextOf it = (x : T) × Passes it.map.now it.next x (next_written it) (after_next it.map.now.slots it.next)
 
-module _ (T S K1 K2 H : RattleType) (of : item.Ghosts T.Denot K1.Denot K2.Denot) (keys1 : HashMembers K1.Denot) (keys2 : HashMembers K2.Denot) (build : builder.Ghosts S.Denot H.Denot) (hashes : hasher.Ghosts H.Denot) where
+module _ (T S K1 K2 H : RattleType) (of : item.Ghosts T.Denot K1.Denot K2.Denot)
+    (keys1 : HashMembers K1.Denot) (keys2 : HashMembers K2.Denot)
+    (build : builder.Ghosts S.Denot H.Denot) (hashes : hasher.Ghosts H.Denot) where
   abbrev pub iter_row : RattleType
-  iter_row = the_row (record { mir = named 1; lft = [] }) T S K1 K2 H of (record { eq = keys1.eq }) (record { hash_input = keys1.hash_input }) (record { eq = keys2.eq }) (record { hash_input = keys2.hash_input }) build hashes
+  iter_row = the_row (record { mir = named 1; lft = [] }) T S K1 K2 H of
+      (record { eq = keys1.eq }) (record { hash_input = keys1.hash_input })
+      (record { eq = keys2.eq }) (record { hash_input = keys2.hash_input }) build hashes
 
   -- What is written through `r` is the data of the next item, and the iteration has passed it. If there is no `r`, the
   -- iteration stays.
   -- Example: For a, b, c, of which a has been passed, if d is written, it has passed a, `put b d`.
-  abbrev pub lends_next : (D : RattleType) → (T.Denot → D.Denot → T.Denot) → MutBor (IterMut T.Denot S.Denot K1.Denot K2.Denot H.Denot) → Option (MutBor D.Denot) → Fml
+  abbrev pub lends_next : (D : RattleType) → (T.Denot → D.Denot → T.Denot)
+      → MutBor (IterMut T.Denot S.Denot K1.Denot K2.Denot H.Denot) → Option (MutBor D.Denot) → Fml
   lends_next D put m r = LendsIf iter_row D m r (λ d. stepped m.now (λ x. put x d)) m.now

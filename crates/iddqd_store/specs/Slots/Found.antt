@@ -1,5 +1,6 @@
 -- What searches ask for, and what they find.
-use Rattle.std.specs.Prelude.{◌≡◌, ℕ, Bool, true, false, List, [], ◌∷◌, ◌++◌, Option, Some, None, filter_map, fold, if◌then◌else◌, nat_eq, All, ⊤}
+use Rattle.std.specs.Prelude.{◌≡◌, ℕ, Bool, true, false, List, [], ◌∷◌, ◌++◌, Option, Some}
+use Rattle.std.specs.Prelude.{None, filter_map, fold, if◌then◌else◌, nat_eq, All, ⊤}
 use Rattle.std.specs.List.{Contains, IsDistinct, list_any, list_all}
 use Rattle.std.specs.Option.{option_and_then, IfSome}
 use Rattle.iddqd_store.specs.Bag.{Entry, IsOnly, entry_of}
@@ -9,7 +10,8 @@ module _ {T : Type 0} where
   -- The items of the bag that pass the test have equal keys by `agree`.
   -- Example: It holds for the test whether the first key is 2, and the first rank.
   abbrev pub NamesOneOf : (T → T → Bool) → (T → Bool) → List T → Type 0
-  NamesOneOf agree test bag = (x y : T) → Contains bag x → Contains bag y → test x ≡ true → test y ≡ true → agree x y ≡ true
+  NamesOneOf agree test bag =
+      (x y : T) → Contains bag x → Contains bag y → test x ≡ true → test y ≡ true → agree x y ≡ true
 
   -- `items_at` lists the items of these slots.
   -- Example: For `Some a`, `None`, `Some b` and the slots 2, 0 it is b, a.
