@@ -8,7 +8,6 @@ use Rattle.std.specs.declared.hash.Hasher as hasher
 use Rattle.std.specs.declared.hash.BuildHasher as builder
 use Rattle.iddqd_store.specs.Bag.{Ranks, listing, swap, unique, non_unique}
 use Rattle.iddqd_store.specs.Bag as bags
-use Rattle.iddqd_store.specs.Slots.Found.{found_by_all}
 use Rattle.iddqd_store.specs.Bag.Storing.{Stores}
 use Rattle.iddqd_store.specs.Map.{Map, bag}
 use Rattle.iddqd_bi.specs.Keys.{key_tests}
@@ -23,15 +22,15 @@ use Rattle.iddqd_bi.specs.declared.error.EntryRefusal.{EntryRefusal}
 use Rattle.iddqd_store.specs.Callers.{InsertsOrWrites}
 -- nothing conflicts with an item exactly if its keys find nothing
 pub use Rattle.iddqd_store.proofs.BagLemmas.Steps.{clash-empty, order-empty}
-use Rattle.iddqd_store.proofs.CallerLemmas.Entering.{Entered, all_not, all_unique, occupied_as, short_all, writes_found}
+use Rattle.iddqd_store.proofs.CallerLemmas.Entering.{Entered, occupied_as, one_not, one_unique, writes_found}
 
 module _ {T S K1 K2 H : Type 0} (m : OccupiedEntryMut T S K1 K2 H) where
   -- a unique entry holds its item under both keys, and any other entry holds no item under both
   pub unique_held : (y : T) → held_entry m ≡ unique y → held_unique m ≡ Some y
-  unique_held y is = all_unique _ _ (found_by_all (m.slot1 ∷ m.slot2 ∷ [])) y (short_all (m.slot1 ∷ m.slot2 ∷ [])) is
+  unique_held y is = one_unique _ (held_unique m) y is
 
   pub none_held : (ys : List T) → held_entry m ≡ non_unique ys → held_unique m ≡ None
-  none_held ys is = all_not _ _ (found_by_all (m.slot1 ∷ m.slot2 ∷ [])) ys (short_all (m.slot1 ∷ m.slot2 ∷ [])) is
+  none_held ys is = one_not _ (held_unique m) ys is
 
 module _ {T S K1 K2 H : Type 0} (of : item.Ghosts T K1 K2) (eq1 : K1 → K1 → Bool) (eq2 : K2 → K2 → Bool) where
   -- the same where `into_mut` holds what an occupied entry found

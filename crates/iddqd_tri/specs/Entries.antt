@@ -14,7 +14,7 @@ use Rattle.iddqd_store.specs.Bag as bags
 use Rattle.iddqd_store.specs.Map.{Map, bag, Gains}
 use Rattle.iddqd_store.specs.Map.Written.{map_with_if}
 use Rattle.iddqd_store.specs.Slots.{get, IsLive}
-use Rattle.iddqd_store.specs.Slots.Found.{AreFound, entry_at, found_by_all, head_of, held_at}
+use Rattle.iddqd_store.specs.Slots.Found.{AreFound, entry_at, found_by_all, held_at}
 use Rattle.iddqd_tri.specs.Keys.{has1, has2, has3, key_tests, ranks}
 use Rattle.iddqd_tri.specs.Mismatch.{HandsBack, IsInsert}
 use Rattle.iddqd_tri.specs.Refused.{map_row}
@@ -128,7 +128,7 @@ module _ {T S K1 K2 K3 H : Type 0} where
   -- `unique_slot` is the slot of the item that has all keys, if there is one.
   -- Example: If every key names a, in the slot 2, it is `Some 2`.
   abbrev pub unique_slot : OccupiedEntryMut T S K1 K2 K3 H → Option ℕ
-  unique_slot m = head_of (found_by_all (held_slots m))
+  unique_slot m = found_by_all (held_slots m)
 
   -- `held_unique` is the item that has all keys, if there is one.
   -- Example: If every key names a, it is `Some a`.
