@@ -92,6 +92,23 @@ class Word:
         return f"`{self.name}`" + (f" `{rest}`" if rest else "")
 
 
+def indent(line):
+    """How many spaces begin a line."""
+    return len(line) - len(line.lstrip(" "))
+
+
+def whole_lines(text):
+    """The lines of a text, each with those that go on with it, which are indented by four spaces more or further."""
+    lines, begin = [], 0
+    for line in text.split("\n"):
+        if line and lines and lines[-1] and indent(line) >= begin + 4:
+            lines[-1] += " " + line.lstrip(" ")
+        else:
+            lines.append(line)
+            begin = indent(line)
+    return lines
+
+
 def words_of(file):
     """Yields the definitions of a file, in order."""
     crate, _, name = file.partition("/")
@@ -99,13 +116,15 @@ def words_of(file):
     imported = ", ".join(re.findall(r"^use .*\b(?:Reply|TheVariants|Bag|Prelude)\.\{(.*)\}$", text, re.M)).split(", ")
     own = re.findall(r"^ +(\w+) :", "".join(re.findall(r"^pub data .*?\n\n", text, re.M | re.S)), re.M)
     constructors = {"refl", "tt", *imported, *own}
-    comment, around, lines = [], "", text.split("\n")
+    comment, modules, lines = [], [], whole_lines(text)
     for at, line in enumerate(lines):
-        module, head = re.match(r"module _ (.*) where$", line), HEAD.match(line)
-        around = module[1] if module else around if line.startswith(" ") or not line else ""
+        module, head = re.match(r" *module _ (.*) where$", line), HEAD.match(line)
+        modules = [it for it in modules if not line or it[0] < indent(line)]
+        if module:
+            modules.append((indent(line), module[1]))
         if head:
             end = next((it for it in range(at + 1, len(lines)) if not lines[it].strip()), len(lines))
-            yield Word(file, comment, around, head, lines[at + 1:end], constructors)
+            yield Word(file, comment, " ".join(it[1] for it in modules), head, lines[at + 1:end], constructors)
         comment = [*comment, line.strip()[2:].strip()] if line.strip().startswith("--") else []
 
 

@@ -8,7 +8,6 @@ use Rattle.std.specs.declared.hash.Hasher as hasher
 use Rattle.std.specs.declared.hash.BuildHasher as builder
 use Rattle.iddqd_store.specs.Bag.{Ranks, listing, swap, unique, non_unique}
 use Rattle.iddqd_store.specs.Bag as bags
-use Rattle.iddqd_store.specs.Slots.Found.{found_by_all}
 use Rattle.iddqd_store.specs.Bag.Storing.{Stores}
 use Rattle.iddqd_store.specs.Map.{Map, bag}
 use Rattle.iddqd_bi.specs.Keys.{key_tests}
@@ -23,15 +22,15 @@ use Rattle.iddqd_bi.specs.declared.error.EntryRefusal.{EntryRefusal}
 use Rattle.iddqd_store.specs.Callers.{InsertsOrWrites}
 -- nothing conflicts with an item exactly if its keys find nothing
 pub use Rattle.iddqd_store.proofs.BagLemmas.Steps.{clash-empty, order-empty}
-use Rattle.iddqd_store.proofs.CallerLemmas.Entering.{Entered, all_not, all_unique, occupied_as, short_all, writes_found}
+use Rattle.iddqd_store.proofs.CallerLemmas.Entering.{Entered, occupied_as, one_not, one_unique, writes_found}
 
 module _ {T S K1 K2 H : Type 0} (m : OccupiedEntryMut T S K1 K2 H) where
   -- a unique entry holds its item under both keys, and any other entry holds no item under both
   pub unique_held : (y : T) → held_entry m ≡ unique y → held_unique m ≡ Some y
-  unique_held y is = all_unique _ _ (found_by_all (m.slot1 ∷ m.slot2 ∷ [])) y (short_all (m.slot1 ∷ m.slot2 ∷ [])) is
+  unique_held y is = one_unique _ (held_unique m) y is
 
   pub none_held : (ys : List T) → held_entry m ≡ non_unique ys → held_unique m ≡ None
-  none_held ys is = all_not _ _ (found_by_all (m.slot1 ∷ m.slot2 ∷ [])) ys (short_all (m.slot1 ∷ m.slot2 ∷ [])) is
+  none_held ys is = one_not _ (held_unique m) ys is
 
 module _ {T S K1 K2 H : Type 0} (of : item.Ghosts T K1 K2) (eq1 : K1 → K1 → Bool) (eq2 : K2 → K2 → Bool) where
   -- the same where `into_mut` holds what an occupied entry found
@@ -54,7 +53,7 @@ module _ {T S Q K1 K2 H : Type 0} {of : item.Ghosts T K1 K2} {eq1 : equal.Ghosts
 
   -- what `or_insert` leaves if it succeeds
   pub entered : (e : Entry T S Q K1 K2 H of eq1 input1 eq2 input2 build hashes q) (m : OccupiedEntryMut T S K1 K2 H) (x : T) (k1 : K1) (k2 : K2) (old : Map T S) →
-      OnVacant e (λ v. PutsIn v x (Ok m)) → OnOccupied e (λ o. KeepsFound {E = EntryRefusal T S K1 K2 H} of eq1.eq eq2.eq o (Ok m)) → IsFound e →
+      OnVacant e (λ v. PutsIn v x (Ok m)) → OnOccupied e (λ o. KeepsFound of eq1.eq eq2.eq o {E = EntryRefusal T S K1 K2 H} (Ok m)) → IsFound e →
       entry_key1 e ≡ k1 → entry_key2 e ≡ k2 → entry_map e ≡ old →
       Entered (bag old) x (bags.entry (key_tests of eq1.eq eq2.eq k1 k2) (bag old)) (bag m.map.now) (held_entry m)
   entered (Vacant v) m x k1 k2 old put kept found is1 is2 is =
@@ -71,7 +70,7 @@ module _ {T S Q K1 K2 H : Type 0} {of : item.Ghosts T K1 K2} {eq1 : equal.Ghosts
 
   -- if its keys found something, the map is as it was
   pub stayed : (e : Entry T S Q K1 K2 H of eq1 input1 eq2 input2 build hashes q) (m : OccupiedEntryMut T S K1 K2 H) (k1 : K1) (k2 : K2) (old : Map T S) →
-      OnOccupied e (λ o. KeepsFound {E = EntryRefusal T S K1 K2 H} of eq1.eq eq2.eq o (Ok m)) → entry_key1 e ≡ k1 → entry_key2 e ≡ k2 → entry_map e ≡ old →
+      OnOccupied e (λ o. KeepsFound of eq1.eq eq2.eq o {E = EntryRefusal T S K1 K2 H} (Ok m)) → entry_key1 e ≡ k1 → entry_key2 e ≡ k2 → entry_map e ≡ old →
       listing (key_tests of eq1.eq eq2.eq k1 k2) (bag old) ≢ [] → m.map.now ≡ old
   stayed (Vacant v) m k1 k2 old kept is1 is2 is some = absurd (some (rw (← is1, ← is2, ← is) v.absent))
   stayed (Occupied o) m k1 k2 old kept is1 is2 is some = kept.unchanged ∙ is

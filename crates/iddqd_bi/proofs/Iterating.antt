@@ -1,20 +1,20 @@
 -- What an iteration ends as, if the next item was written.
-use Rattle.std.specs.Prelude.{◌≡◌, ℕ, ◌+◌, ◌-◌}
+use Rattle.std.specs.Prelude.{◌≡◌, ℕ, ◌+◌, ◌-◌, Some}
 use Rattle.std.specs.Borrow.{GName}
 use Rattle.std.proofs.Common.{refl, ap, inl, ◌⊎◌}
 use mathlib.Core.Path.{fun_ext}
 use native.Mathlib.Numerals.{unary_clauses}
 use Rattle.iddqd_store.specs.Map.Written.{map_with}
-use Rattle.iddqd_store.specs.Map.Walk.{IsNextSlot}
+use Rattle.iddqd_store.specs.Map.Walk.{first_from}
 use Rattle.iddqd_bi.specs.IterMuts.{stepped, IsCounted, IsNextOf}
 use Rattle.iddqd_bi.specs.declared.iter_mut.IterMut.{IterMut}
 
 module _ {T S K1 K2 H : Type 0} (it : IterMut T S K1 K2 H) where
-  pub steps_to : {D : Type 0} (put : D → T → T) (name : GName) (ix n left : ℕ) (x : T) → n ≡ ix → left ≡ it.left - 1 → IsNextSlot it.map.now.slots it.next ix x → ◌≡◌ {A = (GName × (D → IterMut T S K1 K2 H)) ⊎ IterMut T S K1 K2 H} (inl (name, λ w. record { map = record it.map { now = map_with it.map.now ix (put w) }; next = n + 1; left = left })) (inl (name, λ w. stepped it (put w)))
-  steps_to {D} put name ix n left x is fewer step =
+  pub steps_to : {D : Type 0} (put : D → T → T) (name : GName) (ix n left : ℕ) → n ≡ ix → left ≡ it.left - 1 → first_from it.map.now.slots it.next ≡ Some ix → ◌≡◌ {A = (GName × (D → IterMut T S K1 K2 H)) ⊎ IterMut T S K1 K2 H} (inl (name, λ w. record { map = record it.map { now = map_with it.map.now ix (put w) }; next = n + 1; left = left })) (inl (name, λ w. stepped it (put w)))
+  steps_to {D} put name ix n left is fewer step =
       let ends : D → IterMut T S K1 K2 H = λ w. record { map = record it.map { now = map_with it.map.now ix (put w) }; next = n + 1; left = left } in
       let steps : D → IterMut T S K1 K2 H = λ w. stepped it (put w) in
-      let same : (w : D) → ends w ≡ steps w = λ w. rw (is, fewer, step.after, step.writes (put w)) refl in
+      let same : (w : D) → ends w ≡ steps w = λ w. rw (is, fewer, step) refl in
       ap (λ (F : D → IterMut T S K1 K2 H). inl (name, F)) (fun_ext same)
 
 -- an iteration that is counted right is still counted right after its next item is written

@@ -1,7 +1,8 @@
 -- What contracts say of entries.
-use Rattle.std.specs.Prelude.{◌≡◌, ◌≢◌, ◌<◌, ℕ, length, Bool, [], ◌∷◌, List, Option, Some, None, Result, Ok, Err, IsOk, IfOk, IfErr, OnOk, OnErr, ⊤, IsPermutation}
+use Rattle.std.specs.Prelude.{◌≡◌, ◌≢◌, ◌<◌, ℕ, length, Bool, [], ◌∷◌, List, Option, Some, None, ⊤}
+use Rattle.std.specs.Prelude.{IsPermutation, Result, Ok, Err, IsOk, IfOk, IfErr, OnOk}
 use Rattle.std.specs.Option.{option_and_then, IfSome}
-use Rattle.std.specs.Borrow.{Fml, GName, RattleType, MutBor, LendsIf, follows, follows_so, name_if_ok}
+use Rattle.std.specs.Borrow.{Fml, GName, RattleType, MutBor, LendsIf, RestsIfErr, follows}
 use Rattle.std.specs.HashMap.Lent.{HashMembers}
 use Rattle.std.specs.declared.cmp.PartialEq as equal
 use Rattle.std.specs.declared.hash.Hash as hash
@@ -13,11 +14,11 @@ use Rattle.iddqd_store.specs.Bag as bags
 use Rattle.iddqd_store.specs.Map.{Map, bag, Gains}
 use Rattle.iddqd_store.specs.Map.Written.{map_with_if}
 use Rattle.iddqd_store.specs.Slots.{get, IsLive}
-use Rattle.iddqd_store.specs.Slots.Found.{AreFound, entry_at, found_by_all, head_of, held_at}
+use Rattle.iddqd_store.specs.Slots.Found.{AreFound, entry_at, found_by_all, held_at}
 use Rattle.iddqd_bi.specs.Keys.{has1, has2, key_tests, ranks}
 use Rattle.iddqd_bi.specs.Mismatch.{HandsBack, IsInsert}
 use Rattle.iddqd_bi.specs.Refused.{map_row}
-use Rattle.iddqd_bi.specs.RefMuts.{ref_item, ref_lender, ref_map, rests_if_none}
+use Rattle.iddqd_bi.specs.RefMuts.{ref_item, ref_lender, ref_map}
 use Rattle.iddqd_bi.specs.declared.item.BiHashItem as item
 use Rattle.iddqd_bi.specs.declared.entry.keys.KeyPair.{KeyPair}
 use Rattle.iddqd_bi.specs.declared.entry.keys.Keys as pair
@@ -32,7 +33,6 @@ use Rattle.iddqd_bi.specs.declared.error.TryEntryRefusal.{TryEntryRefusal}
 use Rattle.iddqd_bi.specs.declared.ref_mut.RefMut.{RefMut}
 use Rattle.iddqd_bi.specs.contracts.entry.OccupiedEntry.{the_row as occupied_row}
 use Rattle.iddqd_bi.specs.contracts.entry.OccupiedEntryMut.{the_row as occupied_mut_row}
-use Rattle.iddqd_bi.specs.contracts.map.BiHashMap.{the_row as row_of_map}
 
 module _ {T S : Type 0} where
   -- The second reference is to the same map as the first, and the map is as it was.
@@ -47,13 +47,16 @@ module _ {T S K1 K2 H : Type 0} where
   abbrev pub entry_tests : (K1 → K2 → List (T → Bool)) → OccupiedEntry T S K1 K2 H → List (T → Bool)
   entry_tests tests o = tests o.key1.now o.key2.now
 
+  abbrev entry_slots : OccupiedEntry T S K1 K2 H → List (Option ℕ)
+  entry_slots o = o.slot1 ∷ o.slot2 ∷ []
+
   -- The occupied entry has found what its keys name, which is at least one item. The call `entry` of a map ensures
   -- it.
   -- Example: If its keys name a and b, it has found a and b.
   pub record HasFound (tests : K1 → K2 → List (T → Bool)) (o : OccupiedEntry T S K1 K2 H) : Type 0 where
-    pub found : AreFound (entry_tests tests o) o.map.now.slots (o.slot1 ∷ o.slot2 ∷ [])
-    pub value : entry_at o.map.now.slots (o.slot1 ∷ o.slot2 ∷ []) ≡ entry (entry_tests tests o) (bag o.map.now)
-    pub listed : held_at o.map.now.slots (o.slot1 ∷ o.slot2 ∷ []) ≡ listing (entry_tests tests o) (bag o.map.now)
+    pub found : AreFound (entry_tests tests o) o.map.now.slots (entry_slots o)
+    pub value : entry_at o.map.now.slots (entry_slots o) ≡ entry (entry_tests tests o) (bag o.map.now)
+    pub listed : held_at o.map.now.slots (entry_slots o) ≡ listing (entry_tests tests o) (bag o.map.now)
     pub some : listing (entry_tests tests o) (bag o.map.now) ≢ []
 
   -- The items that are held for writing are in the map. The call `into_mut` of an occupied entry ensures it.
@@ -84,7 +87,8 @@ module _ {T S K1 K2 H : Type 0} where
   -- it alone. Nothing else changes.
   -- Example: In a map of a, b, c, where `item` conflicts with a and b, the map becomes `item`, c, and the entry has
   -- found `unique item`.
-  pub record PutsOver (ranks : Ranks T) (tests : K1 → K2 → List (T → Bool)) (before : OccupiedEntry T S K1 K2 H) (item : T) (after : OccupiedEntry T S K1 K2 H) : Type 0 where
+  pub record PutsOver (ranks : Ranks T) (tests : K1 → K2 → List (T → Bool))
+      (before : OccupiedEntry T S K1 K2 H) (item : T) (after : OccupiedEntry T S K1 K2 H) : Type 0 where
     pub same_map : after.map.ghost_name ≡ before.map.ghost_name
     pub items : IsPermutation (bag after.map.now) (over ranks (bag before.map.now) item)
     pub has_found : HasFound tests after
@@ -93,15 +97,18 @@ module _ {T S K1 K2 H : Type 0} where
     pub capacity : after.map.now.capacity ≡ before.map.now.capacity
     pub builder : after.map.now.builder ≡ before.map.now.builder
 
+  abbrev held_slots : OccupiedEntryMut T S K1 K2 H → List (Option ℕ)
+  held_slots m = m.slot1 ∷ m.slot2 ∷ []
+
   -- `held` lists the items that are held for writing, each once.
   -- Example: If every key names a, it is a.
   abbrev pub held : OccupiedEntryMut T S K1 K2 H → List T
-  held m = held_at m.map.now.slots (m.slot1 ∷ m.slot2 ∷ [])
+  held m = held_at m.map.now.slots (held_slots m)
 
   -- `held_entry` is what is held for writing, as an `Entry`.
   -- Example: If every key names a, it is `unique a`.
   abbrev pub held_entry : OccupiedEntryMut T S K1 K2 H → bags.Entry T
-  held_entry m = entry_at m.map.now.slots (m.slot1 ∷ m.slot2 ∷ [])
+  held_entry m = entry_at m.map.now.slots (held_slots m)
 
   -- `held1` is the item that is held for the first key, if there is one.
   -- Example: If every key names a, it is `Some a`.
@@ -111,222 +118,232 @@ module _ {T S K1 K2 H : Type 0} where
   abbrev pub held2 : OccupiedEntryMut T S K1 K2 H → Option T
   held2 m = option_and_then (get m.map.now.slots) m.slot2
 
+  -- `unique_slot` is the slot of the item that has both keys, if there is one.
+  -- Example: If every key names a, in the slot 2, it is `Some 2`.
+  abbrev pub unique_slot : OccupiedEntryMut T S K1 K2 H → Option ℕ
+  unique_slot m = found_by_all (held_slots m)
+
   -- `held_unique` is the item that has both keys, if there is one.
   -- Example: If every key names a, it is `Some a`.
   abbrev pub held_unique : OccupiedEntryMut T S K1 K2 H → Option T
-  held_unique m = option_and_then (get m.map.now.slots) (head_of (found_by_all (m.slot1 ∷ m.slot2 ∷ [])))
+  held_unique m = option_and_then (get m.map.now.slots) (unique_slot m)
 
-  -- `held_with` is what is held, where `f` of the item of this slot has replaced it in the map.
-  abbrev held_with : OccupiedEntryMut T S K1 K2 H → Option ℕ → (T → T) → OccupiedEntryMut T S K1 K2 H
+  -- `held_with` is what is held, where `f` of the item of this slot, if there is one, has replaced it in the map.
+  -- Example: If that item is a, the map has `f a` in its place.
+  abbrev pub held_with : OccupiedEntryMut T S K1 K2 H → Option ℕ → (T → T) → OccupiedEntryMut T S K1 K2 H
   held_with m slot f = record m { map = record m.map { now = map_with_if m.map.now slot f } }
 
-  -- `held_with1` is what is held, where `f` of the item with the first key has replaced it in the map.
+  module _ (of : item.Ghosts T K1 K2) (eq1 : K1 → K1 → Bool) (eq2 : K2 → K2 → Bool)
+      (o : OccupiedEntry T S K1 K2 H) where
+    -- What is held for writing is what the entry found.
+    -- Example: If the entry has found a and b, then a and b are held.
+    pub record HoldsFound (m : OccupiedEntryMut T S K1 K2 H) : Type 0 where
+      pub holds : Holds m
+      pub listed : held m ≡ listing (entry_tests (key_tests of eq1 eq2) o) (bag o.map.now)
+      pub value : held_entry m ≡ entry (entry_tests (key_tests of eq1 eq2) o) (bag o.map.now)
+      pub by_key1 : IsOnly (has1 of eq1 o.key1.now) (bag o.map.now) (held1 m)
+      pub by_key2 : IsOnly (has2 of eq2 o.key2.now) (bag o.map.now) (held2 m)
+
+    -- The call succeeds and changes nothing, and if the entry has found what its keys name, then that is held for
+    -- writing.
+    -- Example: If the entry has found a and b, then a and b are held.
+    pub record KeepsFound {E : Type 0} (result : Result (OccupiedEntryMut T S K1 K2 H) E) : Type 0 where
+      pub granted : IsOk result
+      pub unchanged : IfOk result (λ m. m.map.now ≡ o.map.now)
+      pub holds : HasFound (key_tests of eq1 eq2) o → IfOk result HoldsFound
+
+  -- `entry_with` is the entry, where `f` of the item of this slot, if there is one, has replaced it in the map.
   -- Example: If that item is a, the map has `f a` in its place.
-  abbrev pub held_with1 : OccupiedEntryMut T S K1 K2 H → (T → T) → OccupiedEntryMut T S K1 K2 H
-  held_with1 m f = held_with m m.slot1 f
+  abbrev pub entry_with : OccupiedEntry T S K1 K2 H → Option ℕ → (T → T) → OccupiedEntry T S K1 K2 H
+  entry_with o slot f = record o { map = record o.map { now = map_with_if o.map.now slot f } }
 
-  abbrev pub held_with2 : OccupiedEntryMut T S K1 K2 H → (T → T) → OccupiedEntryMut T S K1 K2 H
-  held_with2 m f = held_with m m.slot2 f
+module _ {T S K1 K2 H : Type 0} {of : item.Ghosts T K1 K2}
+    {eq1 : equal.Ghosts K1} {input1 : hash.Ghosts K1}
+    {eq2 : equal.Ghosts K2} {input2 : hash.Ghosts K2}
+    {build : builder.Ghosts S H} {hashes : hasher.Ghosts H} where
+  module _ {Q : Type 0} {q : pair.Ghosts Q K1 K2} where
+    -- `entry_lender` is the name of the entry's reference to the map.
+    abbrev pub entry_lender : Entry T S Q K1 K2 H of eq1 input1 eq2 input2 build hashes q → GName
+    entry_lender (Vacant e) = e.map.ghost_name
+    entry_lender (Occupied e) = e.map.ghost_name
 
-  -- `held_with_unique` is what is held, where `f` of the item that has both keys has replaced it in the map.
-  -- Example: If that item is a, the map has `f a` in its place.
-  abbrev pub held_with_unique : OccupiedEntryMut T S K1 K2 H → (T → T) → OccupiedEntryMut T S K1 K2 H
-  held_with_unique m f = held_with m (head_of (found_by_all (m.slot1 ∷ m.slot2 ∷ []))) f
+    -- `entry_map` is the map of the entry.
+    abbrev pub entry_map : Entry T S Q K1 K2 H of eq1 input1 eq2 input2 build hashes q → Map T S
+    entry_map (Vacant e) = e.map.now
+    entry_map (Occupied e) = e.map.now
 
-  -- What is held for writing is what the entry found.
-  -- Example: If the entry has found a and b, then a and b are held.
-  pub record HoldsFound (of : item.Ghosts T K1 K2) (eq1 : K1 → K1 → Bool) (eq2 : K2 → K2 → Bool) (o : OccupiedEntry T S K1 K2 H) (m : OccupiedEntryMut T S K1 K2 H) : Type 0 where
-    pub holds : Holds m
-    pub listed : held m ≡ listing (entry_tests (key_tests of eq1 eq2) o) (bag o.map.now)
-    pub value : held_entry m ≡ entry (entry_tests (key_tests of eq1 eq2) o) (bag o.map.now)
-    pub by_key1 : IsOnly (has1 of eq1 o.key1.now) (bag o.map.now) (held1 m)
-    pub by_key2 : IsOnly (has2 of eq2 o.key2.now) (bag o.map.now) (held2 m)
+    -- `entry_key1` is the first key of the entry.
+    abbrev pub entry_key1 : Entry T S Q K1 K2 H of eq1 input1 eq2 input2 build hashes q → K1
+    entry_key1 (Vacant e) = q.first e.keys
+    entry_key1 (Occupied e) = e.key1.now
 
-  -- The call succeeds and changes nothing, and if the entry has found what its keys name, then that is held for
-  -- writing.
-  -- Example: If the entry has found a and b, then a and b are held.
-  pub record KeepsFound {E : Type 0} (of : item.Ghosts T K1 K2) (eq1 : K1 → K1 → Bool) (eq2 : K2 → K2 → Bool) (o : OccupiedEntry T S K1 K2 H) (result : Result (OccupiedEntryMut T S K1 K2 H) E) : Type 0 where
-    pub granted : IsOk result
-    pub unchanged : IfOk result (λ m. m.map.now ≡ o.map.now)
-    pub holds : HasFound (key_tests of eq1 eq2) o → IfOk result (HoldsFound of eq1 eq2 o)
+    abbrev pub entry_key2 : Entry T S Q K1 K2 H of eq1 input1 eq2 input2 build hashes q → K2
+    entry_key2 (Vacant e) = q.second e.keys
+    entry_key2 (Occupied e) = e.key2.now
 
-  -- `entry_with1` is the entry, where `f` of the item with the first key has replaced it in the map.
-  -- Example: If that item is a, the map has `f a` in its place.
-  abbrev pub entry_with1 : OccupiedEntry T S K1 K2 H → (T → T) → OccupiedEntry T S K1 K2 H
-  entry_with1 o f = record o { map = record o.map { now = map_with_if o.map.now o.slot1 f } }
+    -- The entry has these keys.
+    pub record HasKeys (e : Entry T S Q K1 K2 H of eq1 input1 eq2 input2 build hashes q)
+        (k1 : K1) (k2 : K2) : Type 0 where
+      pub key1 : entry_key1 e ≡ k1
+      pub key2 : entry_key2 e ≡ k2
 
-  abbrev pub entry_with2 : OccupiedEntry T S K1 K2 H → (T → T) → OccupiedEntry T S K1 K2 H
-  entry_with2 o f = record o { map = record o.map { now = map_with_if o.map.now o.slot2 f } }
+    -- `entry_value` is what the entry has found.
+    -- Example: It is `vacant` for a vacant entry, and `unique a` for an occupied one all of whose keys name a.
+    abbrev pub entry_value : Entry T S Q K1 K2 H of eq1 input1 eq2 input2 build hashes q → bags.Entry T
+    entry_value (Vacant e) = vacant
+    entry_value (Occupied e) = entry_at e.map.now.slots (entry_slots e)
 
-module _ {T S Q K1 K2 H : Type 0} {of : item.Ghosts T K1 K2} {eq1 : equal.Ghosts K1} {input1 : hash.Ghosts K1} {eq2 : equal.Ghosts K2} {input2 : hash.Ghosts K2} {build : builder.Ghosts S H} {hashes : hasher.Ghosts H} {q : pair.Ghosts Q K1 K2} where
-  -- `entry_lender` is the name of the entry's reference to the map.
-  abbrev pub entry_lender : Entry T S Q K1 K2 H of eq1 input1 eq2 input2 build hashes q → GName
-  entry_lender (Vacant e) = e.map.ghost_name
-  entry_lender (Occupied e) = e.map.ghost_name
+    -- If the entry is vacant, then `P` holds for it.
+    -- Example: The word holds for any occupied entry.
+    abbrev pub OnVacant : Entry T S Q K1 K2 H of eq1 input1 eq2 input2 build hashes q
+        → (VacantEntry T S Q K1 K2 H of eq1 input1 eq2 input2 build hashes q → Type 0) → Type 0
+    OnVacant (Vacant e) P = P e
+    OnVacant (Occupied e) P = ⊤
 
-  -- `entry_map` is the map of the entry.
-  abbrev pub entry_map : Entry T S Q K1 K2 H of eq1 input1 eq2 input2 build hashes q → Map T S
-  entry_map (Vacant e) = e.map.now
-  entry_map (Occupied e) = e.map.now
+    -- If the entry is occupied, then `P` holds for it.
+    -- Example: The word holds for any vacant entry.
+    abbrev pub OnOccupied : Entry T S Q K1 K2 H of eq1 input1 eq2 input2 build hashes q
+        → (OccupiedEntry T S K1 K2 H → Type 0) → Type 0
+    OnOccupied (Vacant e) P = ⊤
+    OnOccupied (Occupied e) P = P e
 
-  -- `entry_key1` is the first key of the entry.
-  abbrev pub entry_key1 : Entry T S Q K1 K2 H of eq1 input1 eq2 input2 build hashes q → K1
-  entry_key1 (Vacant e) = q.first e.keys
-  entry_key1 (Occupied e) = e.key1.now
+    module _ (e : VacantEntry T S Q K1 K2 H of eq1 input1 eq2 input2 build hashes q) where
+      -- `wanted` has for each rank the test whether an item has the key of the vacant entry.
+      -- Example: No item of the map passes one of them.
+      abbrev pub wanted : List (T → Bool)
+      wanted = key_tests of eq1.eq eq2.eq (q.first e.keys) (q.second e.keys)
 
-  abbrev pub entry_key2 : Entry T S Q K1 K2 H of eq1 input1 eq2 input2 build hashes q → K2
-  entry_key2 (Vacant e) = q.second e.keys
-  entry_key2 (Occupied e) = e.key2.now
+      -- The item `x` was inserted into this very map (`Gains`), and the guard `r` borrows it.
+      -- Example: A map of a, b becomes `x`, a, b, and `ref_item r` is `Some x`.
+      pub record GainsAndLends (x : T)
+          (r : RefMut T S K1 K2 H of eq1 input1 eq2 input2 build hashes) : Type 0 where
+        pub same_map : ref_lender r ≡ e.map.ghost_name
+        pub item : ref_item r ≡ Some x
+        pub gains : Gains e.map.now x (ref_map r)
 
-  -- The entry has these keys.
-  pub record HasKeys (e : Entry T S Q K1 K2 H of eq1 input1 eq2 input2 build hashes q) (k1 : K1) (k2 : K2) : Type 0 where
-    pub key1 : entry_key1 e ≡ k1
-    pub key2 : entry_key2 e ≡ k2
+      -- The item `x` was inserted into this very map (`Gains`), and is held for writing, by each of its keys.
+      -- Example: A map of a, b becomes `x`, a, b, and `held` is `x`.
+      pub record GainsAndHolds (x : T) (m : OccupiedEntryMut T S K1 K2 H) : Type 0 where
+        pub same_map : m.map.ghost_name ≡ e.map.ghost_name
+        pub gains : Gains e.map.now x m.map.now
+        pub holds : Holds m
+        pub held : held m ≡ x ∷ []
+        pub unique : held_entry m ≡ unique x
+        pub unique_held : held_unique m ≡ Some x
+        pub by_key1 : held1 m ≡ Some x
+        pub by_key2 : held2 m ≡ Some x
 
-  -- `entry_value` is what the entry has found.
-  -- Example: It is `vacant` for a vacant entry, and `unique a` for an occupied one all of whose keys name a.
-  abbrev pub entry_value : Entry T S Q K1 K2 H of eq1 input1 eq2 input2 build hashes q → bags.Entry T
-  entry_value (Vacant e) = vacant
-  entry_value (Occupied e) = entry_at e.map.now.slots (e.slot1 ∷ e.slot2 ∷ [])
+      -- The item `x` was inserted into the map of the vacant entry and is held for writing (`GainsAndHolds`), or the
+      -- error returns it (`HandsBack`) and the map is as it was. The call succeeds if `x` has the keys of the entry and
+      -- the map is not full.
+      -- Example: If `x` has another first key than the entry, the error is `Key1 x`.
+      pub record PutsIn (x : T)
+          (result : Result (OccupiedEntryMut T S K1 K2 H) (EntryRefusal T S K1 K2 H)) : Type 0 where
+        pub gains_and_holds : IfOk result (GainsAndHolds x)
+        pub same_keys : OnOk result (differ wanted x ≡ None)
+        pub granted : differ wanted x ≡ None → length (bag e.map.now) < e.map.now.capacity → IsOk result
+        pub unchanged : IfErr result (λ refusal. refusal.map.now ≡ e.map.now)
+        pub hands_back : IfErr result (λ refusal.
+            HandsBack (ranks of eq1.eq eq2.eq) wanted e.map.now x refusal.error)
 
-  -- `wanted` has for each rank the test whether an item has the key of the vacant entry.
-  -- Example: No item of the map passes one of them.
-  abbrev pub wanted : VacantEntry T S Q K1 K2 H of eq1 input1 eq2 input2 build hashes q → List (T → Bool)
-  wanted e = key_tests of eq1.eq eq2.eq (q.first e.keys) (q.second e.keys)
+      -- The item `x`, which a closure made, was inserted into the map of the vacant entry and is held for writing
+      -- (`GainsAndHolds`), or the error is that of the entry and returns it (`HandsBack`). The call succeeds if `x` has
+      -- the keys of the entry and the map is not full.
+      -- Example: If `x` has another first key than the entry, the error is `Insert (Key1 x)`.
+      pub record PutsMadeIn {E : Type 0} (x : T)
+          (result : Result (OccupiedEntryMut T S K1 K2 H) (TryEntryRefusal T E S K1 K2 H)) : Type 0 where
+        pub gains_and_holds : IfOk result (GainsAndHolds x)
+        pub same_keys : OnOk result (differ wanted x ≡ None)
+        pub granted : differ wanted x ≡ None → length (bag e.map.now) < e.map.now.capacity → IsOk result
+        pub hands_back : IfErr result (λ refusal.
+            IsInsert refusal.error (HandsBack (ranks of eq1.eq eq2.eq) wanted e.map.now x))
 
-  -- If the entry is vacant, then `P` holds for it.
-  -- Example: The word holds for any occupied entry.
-  abbrev pub OnVacant : Entry T S Q K1 K2 H of eq1 input1 eq2 input2 build hashes q → (VacantEntry T S Q K1 K2 H of eq1 input1 eq2 input2 build hashes q → Type 0) → Type 0
-  OnVacant (Vacant e) P = P e
-  OnVacant (Occupied e) P = ⊤
+      -- The item that the closure made is inserted (`PutsMadeIn`), or the closure's error is returned
+      -- (`FailsAsClosure`).
+      -- Example: If it returned `Ok x`, and `x` has the keys of the entry, then `x` is in the map unless that was full.
+      abbrev pub PutsInMade : {E : Type 0} → Result T E
+          → Result (OccupiedEntryMut T S K1 K2 H) (TryEntryRefusal T E S K1 K2 H) → Type 0
+      PutsInMade (Ok x) result = PutsMadeIn x result
+      PutsInMade (Err error) result = FailsAsClosure error result
 
-  -- If the entry is occupied, then `P` holds for it.
-  -- Example: The word holds for any vacant entry.
-  abbrev pub OnOccupied : Entry T S Q K1 K2 H of eq1 input1 eq2 input2 build hashes q → (OccupiedEntry T S K1 K2 H → Type 0) → Type 0
-  OnOccupied (Vacant e) P = ⊤
-  OnOccupied (Occupied e) P = P e
+    -- The entries are vacant, or they are occupied with the same keys and slots.
+    abbrev pub IsSameEntry : Entry T S Q K1 K2 H of eq1 input1 eq2 input2 build hashes q
+        → Entry T S Q K1 K2 H of eq1 input1 eq2 input2 build hashes q → Type 0
+    IsSameEntry (Vacant e) (Vacant f) = ⊤
+    IsSameEntry (Vacant e) (Occupied p) = ⊥
+    IsSameEntry (Occupied o) (Vacant f) = ⊥
+    IsSameEntry (Occupied o) (Occupied p) = FindsSame o p
 
-  -- The item `x` was inserted into this very map (`Gains`), and the guard `r` borrows it.
-  -- Example: A map of a, b becomes `x`, a, b, and `ref_item r` is `Some x`.
-  pub record GainsAndLends (e : VacantEntry T S Q K1 K2 H of eq1 input1 eq2 input2 build hashes q) (x : T) (r : RefMut T S K1 K2 H of eq1 input1 eq2 input2 build hashes) : Type 0 where
-    pub same_map : ref_lender r ≡ e.map.ghost_name
-    pub item : ref_item r ≡ Some x
-    pub gains : Gains e.map.now x (ref_map r)
+    -- The entries have the same map, kind, keys and slots. The capacity and the builder stay.
+    -- Example: An entry that has found a still finds its slot once a is written.
+    pub record KeepsEntry
+        (before after : Entry T S Q K1 K2 H of eq1 input1 eq2 input2 build hashes q) : Type 0 where
+      pub same_map : entry_lender after ≡ entry_lender before
+      pub capacity : (entry_map after).capacity ≡ (entry_map before).capacity
+      pub builder : (entry_map after).builder ≡ (entry_map before).builder
+      pub places : IsSameEntry before after
 
-  -- The item `x` was inserted into this very map (`Gains`), and is held for writing, by each of its keys.
-  -- Example: A map of a, b becomes `x`, a, b, and `held` is `x`.
-  pub record GainsAndHolds (e : VacantEntry T S Q K1 K2 H of eq1 input1 eq2 input2 build hashes q) (x : T) (m : OccupiedEntryMut T S K1 K2 H) : Type 0 where
-    pub same_map : m.map.ghost_name ≡ e.map.ghost_name
-    pub gains : Gains e.map.now x m.map.now
-    pub holds : Holds m
-    pub held : held m ≡ x ∷ []
-    pub unique : held_entry m ≡ unique x
-    pub unique_held : held_unique m ≡ Some x
-    pub by_key1 : held1 m ≡ Some x
-    pub by_key2 : held2 m ≡ Some x
+    -- If the entry is occupied, it has found what its keys name (`HasFound`).
+    -- Example: It holds for any vacant entry.
+    abbrev pub IsFound : Entry T S Q K1 K2 H of eq1 input1 eq2 input2 build hashes q → Type 0
+    IsFound (Vacant e) = ⊤
+    IsFound (Occupied e) = HasFound (key_tests of eq1.eq eq2.eq) e
 
-  -- The item `x` was inserted into the map of the vacant entry and is held for writing (`GainsAndHolds`), or the error
-  -- returns it (`HandsBack`) and the map is as it was. The call succeeds if `x` has the keys of the entry and the map
-  -- is not full.
-  -- Example: If `x` has another first key than the entry, the error is `Key1 x`.
-  pub record PutsIn (e : VacantEntry T S Q K1 K2 H of eq1 input1 eq2 input2 build hashes q) (x : T) (result : Result (OccupiedEntryMut T S K1 K2 H) (EntryRefusal T S K1 K2 H)) : Type 0 where
-    pub gains_and_holds : IfOk result (GainsAndHolds e x)
-    pub same_keys : OnOk result (differ (wanted e) x ≡ None)
-    pub granted : differ (wanted e) x ≡ None → length (bag e.map.now) < e.map.now.capacity → IsOk result
-    pub unchanged : IfErr result (λ refusal. refusal.map.now ≡ e.map.now)
-    pub hands_back : IfErr result (λ refusal. HandsBack (ranks of eq1.eq eq2.eq) (wanted e) e.map.now x refusal.error)
+  module _ {q : pair.Ghosts (KeyPair K1 K2) K1 K2} where
+    -- The item `x` was inserted into this very map (`Gains`), and the occupied entry, with the keys of the vacant one,
+    -- finds it alone.
+    -- Example: A map of a, b becomes `x`, a, b, and the entry has found `unique x`.
+    pub record GainsAndFinds (tests : K1 → K2 → List (T → Bool))
+        (e : VacantEntry T S (KeyPair K1 K2) K1 K2 H of eq1 input1 eq2 input2 build hashes q)
+        (x : T) (o : OccupiedEntry T S K1 K2 H) : Type 0 where
+      pub same_map : o.map.ghost_name ≡ e.map.ghost_name
+      pub gains : Gains e.map.now x o.map.now
+      pub keys : (o.key1 ≡ e.keys.key1) × (o.key2 ≡ e.keys.key2)
+      pub has_found : HasFound tests o
+      pub unique : entry (entry_tests tests o) (bag o.map.now) ≡ unique x
 
-  -- The item `x`, which a closure made, was inserted into the map of the vacant entry and is held for writing
-  -- (`GainsAndHolds`), or the error is that of the entry and returns it (`HandsBack`). The call succeeds if `x` has the
-  -- keys of the entry and the map is not full.
-  -- Example: If `x` has another first key than the entry, the error is `Insert (Key1 x)`.
-  pub record PutsMadeIn {E : Type 0} (e : VacantEntry T S Q K1 K2 H of eq1 input1 eq2 input2 build hashes q) (x : T) (result : Result (OccupiedEntryMut T S K1 K2 H) (TryEntryRefusal T E S K1 K2 H)) : Type 0 where
-    pub gains_and_holds : IfOk result (GainsAndHolds e x)
-    pub same_keys : OnOk result (differ (wanted e) x ≡ None)
-    pub granted : differ (wanted e) x ≡ None → length (bag e.map.now) < e.map.now.capacity → IsOk result
-    pub hands_back : IfErr result (λ refusal. IsInsert refusal.error (HandsBack (ranks of eq1.eq eq2.eq) (wanted e) e.map.now x))
+module _ (T S K1 K2 H : RattleType) (of : item.Ghosts T.Denot K1.Denot K2.Denot)
+    (keys1 : HashMembers K1.Denot) (keys2 : HashMembers K2.Denot)
+    (build : builder.Ghosts S.Denot H.Denot) (hashes : hasher.Ghosts H.Denot) where
+  abbrev Found : Type 0
+  Found = OccupiedEntry T.Denot S.Denot K1.Denot K2.Denot H.Denot
 
-  -- The item that the closure made is inserted (`PutsMadeIn`), or the closure's error is returned (`FailsAsClosure`).
-  -- Example: If it returned `Ok x`, and `x` has the keys of the entry, then `x` is in the map unless that was full.
-  abbrev pub PutsInMade : {E : Type 0} → VacantEntry T S Q K1 K2 H of eq1 input1 eq2 input2 build hashes q → Result T E → Result (OccupiedEntryMut T S K1 K2 H) (TryEntryRefusal T E S K1 K2 H) → Type 0
-  PutsInMade e (Ok x) result = PutsMadeIn e x result
-  PutsInMade e (Err error) result = FailsAsClosure error result
+  abbrev Held : Type 0
+  Held = OccupiedEntryMut T.Denot S.Denot K1.Denot K2.Denot H.Denot
 
-  -- The entries are vacant, or they are occupied with the same keys and slots.
-  abbrev pub IsSameEntry : Entry T S Q K1 K2 H of eq1 input1 eq2 input2 build hashes q → Entry T S Q K1 K2 H of eq1 input1 eq2 input2 build hashes q → Type 0
-  IsSameEntry (Vacant e) (Vacant f) = ⊤
-  IsSameEntry (Vacant e) (Occupied p) = ⊥
-  IsSameEntry (Occupied o) (Vacant f) = ⊥
-  IsSameEntry (Occupied o) (Occupied p) = FindsSame o p
+  abbrev whole_row : RattleType
+  whole_row = map_row T S K1 K2 H of keys1 keys2 build hashes
 
-  -- The entries have the same map, kind, keys and slots. The capacity and the builder stay.
-  -- Example: An entry that has found a still finds its slot once a is written.
-  pub record KeepsEntry (before after : Entry T S Q K1 K2 H of eq1 input1 eq2 input2 build hashes q) : Type 0 where
-    pub same_map : entry_lender after ≡ entry_lender before
-    pub capacity : (entry_map after).capacity ≡ (entry_map before).capacity
-    pub builder : (entry_map after).builder ≡ (entry_map before).builder
-    pub places : IsSameEntry before after
-
-  -- If the entry is occupied, it has found what its keys name (`HasFound`).
-  -- Example: It holds for any vacant entry.
-  abbrev pub IsFound : Entry T S Q K1 K2 H of eq1 input1 eq2 input2 build hashes q → Type 0
-  IsFound (Vacant e) = ⊤
-  IsFound (Occupied e) = HasFound (key_tests of eq1.eq eq2.eq) e
-
-module _ {T S K1 K2 H : Type 0} {of : item.Ghosts T K1 K2} {eq1 : equal.Ghosts K1} {input1 : hash.Ghosts K1} {eq2 : equal.Ghosts K2} {input2 : hash.Ghosts K2} {build : builder.Ghosts S H} {hashes : hasher.Ghosts H} {q : pair.Ghosts (KeyPair K1 K2) K1 K2} where
-  -- The item `x` was inserted into this very map (`Gains`), and the occupied entry, with the keys of the vacant one,
-  -- finds it alone.
-  -- Example: A map of a, b becomes `x`, a, b, and the entry has found `unique x`.
-  pub record GainsAndFinds (tests : K1 → K2 → List (T → Bool)) (e : VacantEntry T S (KeyPair K1 K2) K1 K2 H of eq1 input1 eq2 input2 build hashes q) (x : T) (o : OccupiedEntry T S K1 K2 H) : Type 0 where
-    pub same_map : o.map.ghost_name ≡ e.map.ghost_name
-    pub gains : Gains e.map.now x o.map.now
-    pub keys : (o.key1 ≡ e.keys.key1) × (o.key2 ≡ e.keys.key2)
-    pub has_found : HasFound tests o
-    pub unique : entry (entry_tests tests o) (bag o.map.now) ≡ unique x
-
-module _ (T S K1 K2 H : RattleType) {of : item.Ghosts T.Denot K1.Denot K2.Denot} {eq1 : equal.Ghosts K1.Denot} {input1 : hash.Ghosts K1.Denot} {eq2 : equal.Ghosts K2.Denot} {input2 : hash.Ghosts K2.Denot} {build : builder.Ghosts S.Denot H.Denot} {hashes : hasher.Ghosts H.Denot} where
-  -- If there is no guard, because the call failed, the map ends as it was.
-  abbrev pub rests_if_err : {E : Type 0} → MutBor (Map T.Denot S.Denot) → Result (RefMut T.Denot S.Denot K1.Denot K2.Denot H.Denot of eq1 input1 eq2 input2 build hashes) E → Fml
-  rests_if_err m r = follows_so (row_of_map T S K1 K2 H of eq1 input1 eq2 input2 build hashes) (row_of_map T S K1 K2 H of eq1 input1 eq2 input2 build hashes) m.ghost_name (name_if_ok ref_lender r) (λ x n. OnOk r (n ≡ x)) (λ n. OnErr r (n ≡ m.now))
-
-  -- If there is no guard, the map of the entry, which the call consumed, ends as it was.
-  abbrev pub held_rests_if_none : MutBor (Map T.Denot S.Denot) → Option (RefMut T.Denot S.Denot K1.Denot K2.Denot H.Denot of eq1 input1 eq2 input2 build hashes) → Fml
-  held_rests_if_none m r = rests_if_none T S K1 K2 H m r
-
-module _ (T S K1 K2 H : RattleType) (of : item.Ghosts T.Denot K1.Denot K2.Denot) (keys1 : HashMembers K1.Denot) (keys2 : HashMembers K2.Denot) (build : builder.Ghosts S.Denot H.Denot) (hashes : hasher.Ghosts H.Denot) where
-  -- If no items are held, because the call failed, the map ends as it was.
-  abbrev pub held_rests_if_err : {E : Type 0} → MutBor (Map T.Denot S.Denot) → Result (OccupiedEntryMut T.Denot S.Denot K1.Denot K2.Denot H.Denot) E → Fml
-  held_rests_if_err m r = follows_so (map_row T S K1 K2 H of keys1 keys2 build hashes) (map_row T S K1 K2 H of keys1 keys2 build hashes) m.ghost_name (name_if_ok (λ e. e.map.ghost_name) r) (λ x n. OnOk r (n ≡ x)) (λ n. OnErr r (n ≡ m.now))
+  -- If the call failed, the map ends as it was. Otherwise it ends as the result leaves it, whose reference to the map
+  -- has the name `lender`.
+  -- Example: After an error a map of a, b ends as a, b.
+  abbrev pub rests_if_err : {A E : Type 0} → (A → GName) → MutBor (Map T.Denot S.Denot) → Result A E → Fml
+  rests_if_err lender m r = RestsIfErr whole_row m lender r (λ n. n ≡ m.now)
 
   -- `entry_row` is the type of an occupied entry in the logic. No public clause cites it.
   abbrev pub entry_row : RattleType
-  entry_row = occupied_row (record { mir = named 1; lft = [] }) T S K1 K2 H of (record { eq = keys1.eq }) (record { hash_input = keys1.hash_input }) (record { eq = keys2.eq }) (record { hash_input = keys2.hash_input }) build hashes
+  entry_row = occupied_row (record { mir = named 1; lft = [] }) T S K1 K2 H of
+      (record { eq = keys1.eq }) (record { hash_input = keys1.hash_input })
+      (record { eq = keys2.eq }) (record { hash_input = keys2.hash_input }) build hashes
 
   -- The entry ends with the map as the borrow of its items leaves it.
   -- Example: If a becomes `put a d` in that borrow, the map of the entry has `put a d`.
-  abbrev pub lends_held : MutBor (OccupiedEntry T.Denot S.Denot K1.Denot K2.Denot H.Denot) → OccupiedEntryMut T.Denot S.Denot K1.Denot K2.Denot H.Denot → Fml
-  lends_held m r = follows entry_row (map_row T S K1 K2 H of keys1 keys2 build hashes) m.ghost_name r.map.ghost_name (λ n. record m.now { map = record m.now.map { now = n } })
+  abbrev pub lends_held : MutBor Found → Held → Fml
+  lends_held m r = follows entry_row whole_row m.ghost_name r.map.ghost_name
+      (λ n. record m.now { map = record m.now.map { now = n } })
 
   abbrev held_row : RattleType
-  held_row = occupied_mut_row (record { mir = named 1; lft = [] }) T S K1 K2 H of (record { eq = keys1.eq }) (record { hash_input = keys1.hash_input }) (record { eq = keys2.eq }) (record { hash_input = keys2.hash_input }) build hashes
+  held_row = occupied_mut_row (record { mir = named 1; lft = [] }) T S K1 K2 H of
+      (record { eq = keys1.eq }) (record { hash_input = keys1.hash_input })
+      (record { eq = keys2.eq }) (record { hash_input = keys2.hash_input }) build hashes
 
-  -- What is written through `r` is the data of the item with the first key. If there is no `r`, what is held stays.
-  -- Example: If d is written, and that item is a, the map has `put a d` in its place.
-  abbrev pub lends_held1 : (D : RattleType) → (T.Denot → D.Denot → T.Denot) → MutBor (OccupiedEntryMut T.Denot S.Denot K1.Denot K2.Denot H.Denot) → Option (MutBor D.Denot) → Fml
-  lends_held1 D put m r = LendsIf held_row D m r (λ d. held_with1 m.now (λ x. put x d)) m.now
+  module _ (D : RattleType) (put : T.Denot → D.Denot → T.Denot) where
+    -- What is written through `r` is the data of the item of this slot. If there is no `r`, what is held stays.
+    -- Example: If d is written, and that item is a, the map has `put a d` in its place.
+    abbrev pub lends_held_data : MutBor Held → Option ℕ → Option (MutBor D.Denot) → Fml
+    lends_held_data m slot r = LendsIf held_row D m r (λ d. held_with m.now slot (λ x. put x d)) m.now
 
-  abbrev pub lends_held2 : (D : RattleType) → (T.Denot → D.Denot → T.Denot) → MutBor (OccupiedEntryMut T.Denot S.Denot K1.Denot K2.Denot H.Denot) → Option (MutBor D.Denot) → Fml
-  lends_held2 D put m r = LendsIf held_row D m r (λ d. held_with2 m.now (λ x. put x d)) m.now
-
-  -- What is written through `r` is the data of the item that has both keys. If there is no `r`, what is held stays.
-  -- Example: If d is written, and that item is a, the map has `put a d` in its place.
-  abbrev pub lends_held_unique : (D : RattleType) → (T.Denot → D.Denot → T.Denot) → MutBor (OccupiedEntryMut T.Denot S.Denot K1.Denot K2.Denot H.Denot) → Option (MutBor D.Denot) → Fml
-  lends_held_unique D put m r = LendsIf held_row D m r (λ d. held_with_unique m.now (λ x. put x d)) m.now
-
-  -- What is written through `r` is the data of the item with the first key. If there is no `r`, the entry stays.
-  -- Example: If d is written, and that item is a, the map has `put a d` in its place.
-  abbrev pub lends_data1 : (D : RattleType) → (T.Denot → D.Denot → T.Denot) → MutBor (OccupiedEntry T.Denot S.Denot K1.Denot K2.Denot H.Denot) → Option (MutBor D.Denot) → Fml
-  lends_data1 D put m r = LendsIf entry_row D m r (λ d. entry_with1 m.now (λ x. put x d)) m.now
-
-  abbrev pub lends_data2 : (D : RattleType) → (T.Denot → D.Denot → T.Denot) → MutBor (OccupiedEntry T.Denot S.Denot K1.Denot K2.Denot H.Denot) → Option (MutBor D.Denot) → Fml
-  lends_data2 D put m r = LendsIf entry_row D m r (λ d. entry_with2 m.now (λ x. put x d)) m.now
+    -- What is written through `r` is the data of the item of this slot. If there is no `r`, the entry stays.
+    -- Example: If d is written, and that item is a, the map has `put a d` in its place.
+    abbrev pub lends_entry_data : MutBor Found → Option ℕ → Option (MutBor D.Denot) → Fml
+    lends_entry_data m slot r = LendsIf entry_row D m r (λ d. entry_with m.now slot (λ x. put x d)) m.now

@@ -21,12 +21,14 @@ module _ {T K1 K2 : Type 0} (of : item.Ghosts T K1 K2) where
 
   -- `key_tests` has for each rank the test whether an item has the key that the query of this rank stands for.
   -- Example: If the queries are the keys of an item, it passes every test.
-  abbrev pub key_tests : {Q1 Q2 : Type 0} → (Q1 → K1 → Bool) → (Q2 → K2 → Bool) → Q1 → Q2 → List (T → Bool)
+  abbrev pub key_tests : {Q1 Q2 : Type 0} → (Q1 → K1 → Bool) → (Q2 → K2 → Bool)
+      → Q1 → Q2 → List (T → Bool)
   key_tests stands1 stands2 q1 q2 = has1 stands1 q1 ∷ has2 stands2 q2 ∷ []
 
   -- `has_both` tells whether the item has both keys that the queries stand for.
   -- Example: If the queries are the keys of the item, it is true.
-  abbrev pub has_both : {Q1 Q2 : Type 0} → (Q1 → K1 → Bool) → (Q2 → K2 → Bool) → Q1 → Q2 → T → Bool
+  abbrev pub has_both : {Q1 Q2 : Type 0} → (Q1 → K1 → Bool) → (Q2 → K2 → Bool)
+      → Q1 → Q2 → T → Bool
   has_both stands1 stands2 q1 q2 = every_of (key_tests stands1 stands2 q1 q2)
 
 module _ {T : Type 0} (hash1 hash2 : T → ℕ) where

@@ -19,15 +19,23 @@ module _ {T S D : Type 0} (put : T → D → T) (ranks : Ranks T) (test : T → 
     pub same_room : new.capacity ≡ old.capacity
     pub same_builder : new.builder ≡ old.builder
 
-module _ (T S K1 K2 H : RattleType) (of : item.Ghosts T.Denot K1.Denot K2.Denot) (keys1 : HashMembers K1.Denot) (keys2 : HashMembers K2.Denot) (build : builder.Ghosts S.Denot H.Denot) (hashes : hasher.Ghosts H.Denot) where
-  abbrev pub lends_data : (D : RattleType) → (T.Denot → D.Denot → T.Denot) → MutBor (Map T.Denot S.Denot) → ℕ → MutBor D.Denot → Fml
-  lends_data D put m at r = Lends (map_row T S K1 K2 H of keys1 keys2 build hashes) D m r (λ d. map_with m.now at (λ x. put x d))
+module _ (T S K1 K2 H : RattleType) (of : item.Ghosts T.Denot K1.Denot K2.Denot)
+    (keys1 : HashMembers K1.Denot) (keys2 : HashMembers K2.Denot)
+    (build : builder.Ghosts S.Denot H.Denot) (hashes : hasher.Ghosts H.Denot) where
+  abbrev whole_row : RattleType
+  whole_row = map_row T S K1 K2 H of keys1 keys2 build hashes
 
-  abbrev pub lends_data_if : (D : RattleType) → (T.Denot → D.Denot → T.Denot) → MutBor (Map T.Denot S.Denot) → Option ℕ → Option (MutBor D.Denot) → Fml
-  lends_data_if D put m slot r = LendsIf (map_row T S K1 K2 H of keys1 keys2 build hashes) D m r (λ d. map_with_if m.now slot (λ x. put x d)) m.now
+  module _ (D : RattleType) (put : T.Denot → D.Denot → T.Denot) where
+    abbrev pub lends_data : MutBor (Map T.Denot S.Denot) → ℕ → MutBor D.Denot → Fml
+    lends_data m at r = Lends whole_row D m r (λ d. map_with m.now at (λ x. put x d))
 
-  -- What is written through `r` is the data of the only item that passes the test, and nothing else changes. If there
-  -- is no `r`, the map ends as it was.
-  -- Example: If d is written, and that item is a, the map has `put a d` in its place.
-  abbrev pub lends_data_to : (D : RattleType) → (T.Denot → D.Denot → T.Denot) → Ranks T.Denot → (T.Denot → Bool) → MutBor (Map T.Denot S.Denot) → Option (MutBor D.Denot) → Fml
-  lends_data_to D put ranks test m r = LendsSo (map_row T S K1 K2 H of keys1 keys2 build hashes) D m r (λ n d. OnSome r (WritesTo put ranks test m.now d n)) (λ n. n ≡ m.now)
+    abbrev pub lends_data_if : MutBor (Map T.Denot S.Denot) → Option ℕ → Option (MutBor D.Denot) → Fml
+    lends_data_if m slot r = LendsIf whole_row D m r (λ d. map_with_if m.now slot (λ x. put x d)) m.now
+
+    -- What is written through `r` is the data of the only item that passes the test, and nothing else changes. If
+    -- there is no `r`, the map ends as it was.
+    -- Example: If d is written, and that item is a, the map has `put a d` in its place.
+    abbrev pub lends_data_to : Ranks T.Denot → (T.Denot → Bool) → MutBor (Map T.Denot S.Denot)
+        → Option (MutBor D.Denot) → Fml
+    lends_data_to ranks test m r =
+        LendsSo whole_row D m r (λ n d. OnSome r (WritesTo put ranks test m.now d n)) (λ n. n ≡ m.now)

@@ -2,7 +2,8 @@
 pub mod Extracting
 pub mod Walk
 pub mod Written
-use Rattle.std.specs.Prelude.{◌≡◌, ◌≢◌, ◌+◌, ◌≤◌, ◌<◌, ℕ, List, [], ◌∷◌, ◌++◌, Option, Some, Result, IsErr, OnOk, OnErr, length, fold, refl, IsPermutation}
+use Rattle.std.specs.Prelude.{◌≡◌, ◌≢◌, ◌+◌, ◌≤◌, ◌<◌, ℕ, List, [], ◌∷◌, ◌++◌, Option, Some}
+use Rattle.std.specs.Prelude.{Result, IsErr, OnOk, OnErr, length, max, min, fold, refl, IsPermutation}
 use Rattle.std.specs.Coded.{Coded, code_by, coded×, coded_ℕ, coded_list, coded_option}
 use Rattle.std.specs.Hash.{HashWrites}
 use Rattle.std.specs.declared.hash.Hasher as hasher
@@ -23,7 +24,8 @@ pub record Map (T S : Type 0) : Type 0 where
 abbrev pub map_code : {T S : Type 0} → Coded T → Coded S → Coded (Map T S)
 map_code {T} {S} t s =
     code_by (List (Option T) × (ℕ × S)) (coded× (coded_list (coded_option t)) (coded× coded_ℕ s))
-    (λ m. (m.slots, (m.capacity, m.builder))) (λ p. record { slots = p.0; capacity = p.1.0; builder = p.1.1 }) (λ _. refl)
+    (λ m. (m.slots, (m.capacity, m.builder)))
+    (λ p. record { slots = p.0; capacity = p.1.0; builder = p.1.1 }) (λ _. refl)
 
 -- `bag` lists the items of the map. Their order means nothing.
 -- Example: For the slots `Some (1, 10)`, `None`, `Some (2, 20)` it is (1, 10), (2, 20).
@@ -54,7 +56,8 @@ pub record Loses {T S : Type 0} (old : Map T S) (gone : List T) (new : Map T S) 
 
 -- The map has the items `xs`, of which `item` is in the slot `ix`. They are sound and fit, and the capacity and the
 -- builder stay. No public clause cites it.
-pub record PutsAt {T S : Type 0} (ranks : Ranks T) (old : Map T S) (ix : ℕ) (item : T) (xs : List T) (new : Map T S) : Type 0 where
+pub record PutsAt {T S : Type 0} (ranks : Ranks T) (old : Map T S) (ix : ℕ) (item : T) (xs : List T)
+    (new : Map T S) : Type 0 where
   pub at : get new.slots ix ≡ Some item
   pub items : IsPermutation (bag new) xs
   pub sound : IsSound ranks (bag new)
@@ -92,6 +95,12 @@ pub record MakesRoom {T S A E : Type 0} (old : Map T S) (more : ℕ) (result : R
   pub no_less_room : old.capacity ≤ new.capacity
   pub same_room : length (bag old) + more ≤ old.capacity → new.capacity ≡ old.capacity
   pub same_builder : new.builder ≡ old.builder
+
+-- `shrunk_to` is the capacity after a shrink: `least`, but not below the number of items that are `held`, and not above
+-- the old capacity.
+-- Example: For 3 items, the least 5 and the capacity 14 it is 5, for the least 0 it is 3, and for 20 it is 14.
+abbrev pub shrunk_to : ℕ → ℕ → ℕ → ℕ
+shrunk_to held least capacity = max held (min least capacity)
 
 -- Nothing conflicts with `x`, and the map is full.
 -- Example: With the capacity 3, a map of the bag is full for (4, 40), and not for (1, 40).

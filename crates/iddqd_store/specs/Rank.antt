@@ -2,7 +2,8 @@
 pub mod Asking
 pub mod Index
 pub mod Keys
-use Rattle.std.specs.Prelude.{◌≡◌, ℕ, ◌+◌, ◌*◌, ◌/◌, ◌≤◌, ◌==◌, Bool, true, false, if◌then◌else◌, List, [], ◌∷◌, Option, None, Some, Contains, IfNone, IfSome, length, map}
+use Rattle.std.specs.Prelude.{◌≡◌, ℕ, ◌+◌, ◌*◌, ◌/◌, ◌≤◌, ◌==◌, Bool, true, false, if◌then◌else◌, List}
+use Rattle.std.specs.Prelude.{[], ◌∷◌, Option, None, Some, Contains, IfNone, IfSome, length, map}
 use Rattle.std.specs.Hash.{HashWrites}
 use Rattle.std.specs.List.{IsDistinct}
 use Rattle.std.specs.Option.{option_map_or}
@@ -29,14 +30,16 @@ module _ {T K S H : Type 0} where
 
 -- The items of the bag that pass the test have equal keys by `agree`, and they have this hash.
 -- Example: It holds for the test whether the first key is 2, and the hash of 2.
-pub record NamesOneUnder {T : Type 0} (agree : T → T → Bool) (hash_of : T → ℕ) (hash : ℕ) (test : T → Bool) (bag : List T) : Type 0 where
+pub record NamesOneUnder {T : Type 0} (agree : T → T → Bool) (hash_of : T → ℕ) (hash : ℕ)
+    (test : T → Bool) (bag : List T) : Type 0 where
   pub one : NamesOneOf agree test bag
   pub hashed : (x : T) → Contains bag x → test x ≡ true → hash_of x ≡ hash
 
 -- The matcher was asked no more often than items have the hash, and the search probed the cells up to its answer, at
 -- most one more than there are items.
 -- Example: If each key has its own hash, a search asks at most once.
-pub record SearchCosts {T A : Type 0} (hash_of : T → ℕ) (bag : List T) (room hash : ℕ) (answer : Option A) (asks asks_then look look_then : ℕ) : Type 0 where
+pub record SearchCosts {T A : Type 0} (hash_of : T → ℕ) (bag : List T) (room hash : ℕ) (answer : Option A)
+    (asks asks_then look look_then : ℕ) : Type 0 where
   pub asked : asks_then ≤ asks + crowd hash_of bag hash
   pub looks : LooksUpWithin (map hash_of bag) room hash answer look look_then
   pub at_most : look_then ≤ look + length bag + 1
@@ -69,13 +72,14 @@ module _ {T : Type 0} where
 -- slot. No public clause of a map cites it.
 -- Example: With the pairs (5, 0), (6, 2) it holds for an item with the hash 6 in the slot 2, and a search for 6 that
 -- found 2.
-pub record IsPaired {T : Type 0} (hash : T → ℕ) (pairs : List (ℕ × ℕ)) (found : SlotUnder) (at : ℕ) (x : T) : Type 0 where
+pub record IsPaired {T : Type 0} (hash : T → ℕ) (pairs : List (ℕ × ℕ)) (found : SlotUnder)
+    (at : ℕ) (x : T) : Type 0 where
   pub pair : Contains pairs (hash x, at)
   pub known : found.slot ≡ Some at → hash x ≡ found.hash
 
--- `walks_within` is a bound for the cells that some walks through the tables of a map of `n` items probe, where `walks` says how
--- many walks there are at each rank. A walk goes from the home bucket of a hash on, up to the first empty cell at most, so it
--- probes at most one cell more than there are pairs.
+-- `walks_within` is a bound for the cells that some walks through the tables of a map of `n` items probe, where
+-- `walks` says how many walks there are at each rank. A walk goes from the home bucket of a hash on, up to the first
+-- empty cell at most, so it probes at most one cell more than there are pairs.
 -- Example: For 3 items, one walk at the first rank and two at the second it is 12.
 abbrev pub walks_within : ℕ → List ℕ → ℕ
 walks_within n [] = 0
@@ -84,7 +88,8 @@ walks_within n (w ∷ ws) = w * (n + 1) + walks_within n ws
 -- A removal by a key costs as much as a search that finds nothing (`SearchCosts`) and, if it removes an item, `walks`
 -- through the tables of the other ranks (`walks_within`).
 -- Example: With 3 items, two ranks and a hash of its own for each key it asks at most once, and probes at most 8 cells.
-pub record TakingCosts {T A : Type 0} (hash_of : T → ℕ) (bag : List T) (room hash : ℕ) (walks : List ℕ) (answer : Option A) (asks asks_then look look_then : ℕ) : Type 0 where
+pub record TakingCosts {T A : Type 0} (hash_of : T → ℕ) (bag : List T) (room hash : ℕ) (walks : List ℕ)
+    (answer : Option A) (asks asks_then look look_then : ℕ) : Type 0 where
   pub between : ℕ
   pub search : SearchCosts {A = ℕ} hash_of bag room hash None asks asks_then look between
   pub rest : look_then ≤ between + walks_within (length bag) walks
@@ -119,6 +124,7 @@ module _ {T : Type 0} where
 -- A search by one rank requires that no two items have equal keys, and that the table has the pairs of their hashes. No
 -- clause of a map cites it.
 -- Example: In the slots `Some a`, `None`, `Some b` the table has the pairs of a with 0 and of b with 2.
-pub record IsSearchable {T : Type 0} (agree : T → T → Bool) (hash : T → ℕ) (slots : List (Option T)) (pairs : List (ℕ × ℕ)) : Type 0 where
+pub record IsSearchable {T : Type 0} (agree : T → T → Bool) (hash : T → ℕ)
+    (slots : List (Option T)) (pairs : List (ℕ × ℕ)) : Type 0 where
   pub apart : IsDistinct agree (live_items slots)
   pub index : IsIndex hash slots pairs

@@ -4,7 +4,8 @@ pub mod Limit
 pub mod Ring
 pub mod Room
 pub mod Search
-use Rattle.std.specs.Prelude.{ℕ, ◌+◌, ◌*◌, ◌/◌, ◌%◌, ◌^◌, ◌≡◌, ◌<◌, ◌≤◌, ◌==◌, Bool, List, ◌∷◌, Option, None, Some, ◌≢◌, length, map, IfNone, OnSome}
+use Rattle.std.specs.Prelude.{ℕ, ◌+◌, ◌*◌, ◌/◌, ◌%◌, ◌^◌, ◌≡◌, ◌<◌, ◌≤◌, ◌==◌, Bool, List}
+use Rattle.std.specs.Prelude.{◌∷◌, Option, None, Some, ◌≢◌, length, map, IfNone, OnSome}
 use Rattle.std.specs.List.Sorted.{IsPermutation}
 use Rattle.iddqd_store.specs.Table.Limit.{IsSize}
 use Rattle.iddqd_store.specs.Table.Ring.{pairs_in, cell, gap, stretch, IsReached}
@@ -33,7 +34,8 @@ pub record LooksUp {A : Type 0} (hashes : List ℕ) (cells hash : ℕ) (answer :
 -- has 8.
 abbrev pub LooksUpWithin : {A : Type 0} → List ℕ → ℕ → ℕ → Option A → ℕ → ℕ → Type 0
 LooksUpWithin hashes room hash answer before after =
-    (cells : ℕ) × IsSize cells × (cells < 2 ^ 64) × (room ≤ cells / 8 * 7) × LooksUp hashes cells hash answer before after
+    (cells : ℕ) × IsSize cells × (cells < 2 ^ 64) × (room ≤ cells / 8 * 7)
+    × LooksUp hashes cells hash answer before after
 
 -- The pair `after` has replaced `before`, and every other pair stays.
 -- Example: From (5, 0), (6, 2) to (5, 0), (7, 2) the pair (7, 2) replaces (6, 2).

@@ -33,4 +33,5 @@ Writes kind input end old new = (output : List ℕ) × IsOutcome kind input end 
 
 -- a proper prefix of such an output was written
 abbrev pub WritesFront : Kind → List ℕ → Option (List ℕ) → Option (List ℕ) → Type 0
-WritesFront kind input old new = (end : RunEnd) × (output : List ℕ) × IsOutcome kind input end output × AppendsFront old new output
+WritesFront kind input old new =
+    (end : RunEnd) × (output : List ℕ) × IsOutcome kind input end output × AppendsFront old new output

@@ -12,7 +12,9 @@ use Rattle.iddqd_text.specs.Outputs as outputs
 use Rattle.iddqd_text.specs.Printed.{line_of}
 use Rattle.iddqd_text.specs.declared.item.tri.TriItem.{TriItem}
 use Rattle.iddqd_text.specs.declared.words.Word.{Word}
-use Rattle.iddqd_text.specs.declared.words.Word.TheVariants.{New, Get1, Get2, Get3, Both, Del1, Del2, Del3, DelBoth, Len, Put, Reserve, Fit, Clear, List as ListAll, Replace1, Set1, EntPut, EntDel, OrPut, AddAll}
+use Rattle.iddqd_text.specs.declared.words.Word.TheVariants.{New, Get1, Get2, Get3, Both, Del1, Del2, Del3, DelBoth}
+use Rattle.iddqd_text.specs.declared.words.Word.TheVariants.{Len, Put, Reserve, Fit, Clear, List as ListAll}
+use Rattle.iddqd_text.specs.declared.words.Word.TheVariants.{Replace1, Set1, EntPut, EntDel, OrPut, AddAll}
 
 -- the numbers of an item
 abbrev pub numbers : TriItem → List ℕ

@@ -2,7 +2,9 @@
 use Rattle.std.specs.Prelude.{ℕ, List, codes, Option, Some, None, if◌then◌else◌}
 use Rattle.iddqd_text.specs.Texts.{is_text}
 use Rattle.iddqd_text.specs.declared.words.Word.{Word}
-use Rattle.iddqd_text.specs.declared.words.Word.TheVariants.{New, Get1, Get2, Get3, Del1, Both, Del2, Del3, DelBoth, Len, Put, Reserve, Fit, Clear, List as ListAll, Replace1, Set1, EntPut, EntDel, OrPut, AddAll}
+use Rattle.iddqd_text.specs.declared.words.Word.TheVariants.{New, Get1, Get2, Get3, Del1, Both, Del2, Del3, DelBoth}
+use Rattle.iddqd_text.specs.declared.words.Word.TheVariants.{Len, Put, Reserve, Fit, Clear, List as ListAll, Replace1}
+use Rattle.iddqd_text.specs.declared.words.Word.TheVariants.{Set1, EntPut, EntDel, OrPut, AddAll}
 
 -- the word without a key that the bytes spell
 abbrev pub word_without_key : List ℕ → Option Word

@@ -24,12 +24,14 @@ module _ {T K1 K2 K3 : Type 0} (of : item.Ghosts T K1 K2 K3) where
 
   -- `key_tests` has for each rank the test whether an item has the key that the query of this rank stands for.
   -- Example: If the queries are the keys of an item, it passes every test.
-  abbrev pub key_tests : {Q1 Q2 Q3 : Type 0} → (Q1 → K1 → Bool) → (Q2 → K2 → Bool) → (Q3 → K3 → Bool) → Q1 → Q2 → Q3 → List (T → Bool)
+  abbrev pub key_tests : {Q1 Q2 Q3 : Type 0} → (Q1 → K1 → Bool) → (Q2 → K2 → Bool) → (Q3 → K3 → Bool)
+      → Q1 → Q2 → Q3 → List (T → Bool)
   key_tests stands1 stands2 stands3 q1 q2 q3 = has1 stands1 q1 ∷ has2 stands2 q2 ∷ has3 stands3 q3 ∷ []
 
   -- `has_all` tells whether the item has all keys that the queries stand for.
   -- Example: If the queries are the keys of the item, it is true.
-  abbrev pub has_all : {Q1 Q2 Q3 : Type 0} → (Q1 → K1 → Bool) → (Q2 → K2 → Bool) → (Q3 → K3 → Bool) → Q1 → Q2 → Q3 → T → Bool
+  abbrev pub has_all : {Q1 Q2 Q3 : Type 0} → (Q1 → K1 → Bool) → (Q2 → K2 → Bool) → (Q3 → K3 → Bool)
+      → Q1 → Q2 → Q3 → T → Bool
   has_all stands1 stands2 stands3 q1 q2 q3 = every_of (key_tests stands1 stands2 stands3 q1 q2 q3)
 
 module _ {T : Type 0} (hash1 hash2 hash3 : T → ℕ) where

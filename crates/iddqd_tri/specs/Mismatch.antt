@@ -1,5 +1,5 @@
 -- Why an item may not replace others: the item, and the rank at which its key differs, counted from 0.
-use Rattle.std.specs.Prelude.{◌≡◌, ℕ, Bool, List, Option, Some, None, ⊤}
+use Rattle.std.specs.Prelude.{◌≡◌, ℕ, Bool, List, Option, Some, None}
 use Rattle.iddqd_store.specs.Bag.{Ranks, differ}
 use Rattle.iddqd_store.specs.Map.{Map, IsFullFor}
 use Rattle.iddqd_tri.specs.declared.error.KeyMismatch.{KeyMismatch}
@@ -41,21 +41,14 @@ module _ {T : Type 0} where
   error_rank (Key3 x) = Some 2
   error_rank (Memory x) = None
 
-  -- If memory ran out, then `P` holds.
-  -- Example: It holds for `Key1 x`, whatever `P` is.
-  abbrev pub OnNoMemory : EntryError T → Type 0 → Type 0
-  OnNoMemory (Key1 x) P = ⊤
-  OnNoMemory (Key2 x) P = ⊤
-  OnNoMemory (Key3 x) P = ⊤
-  OnNoMemory (Memory x) P = P
-
   -- The error returns `x`. It names the lowest rank at which `x` fails its test; if there is none, memory ran out in a
   -- full map where nothing conflicts with `x`.
   -- Example: If the error is `Key1 x`, the item fails the test at the rank 0.
-  pub record HandsBack {S : Type 0} (ranks : Ranks T) (tests : List (T → Bool)) (m : Map T S) (x : T) (error : EntryError T) : Type 0 where
+  pub record HandsBack {S : Type 0} (ranks : Ranks T) (tests : List (T → Bool))
+      (m : Map T S) (x : T) (error : EntryError T) : Type 0 where
     pub handed_back : error_item error ≡ x
     pub rank : differ tests x ≡ error_rank error
-    pub memory : OnNoMemory error (IsFullFor ranks m x)
+    pub memory : error_rank error ≡ None → IsFullFor ranks m x
 
   -- The error is that of the entry, and `P` holds for that error.
   -- Example: It does not hold for `Closure e`.

@@ -30,7 +30,8 @@ abbrev pub MatchRefusal : {T : Type 0} → Refusal T → (List ℕ → Type 0) �
 MatchRefusal (refusal.Duplicate x found) P Q = P found
 MatchRefusal (refusal.Memory x) P Q = Q
 
-module _ {T K1 K2 K3 : Type 0} (of : item.Ghosts T K1 K2 K3) (eq1 : K1 → K1 → Bool) (eq2 : K2 → K2 → Bool) (eq3 : K3 → K3 → Bool) where
+module _ {T K1 K2 K3 : Type 0} (of : item.Ghosts T K1 K2 K3)
+    (eq1 : K1 → K1 → Bool) (eq2 : K2 → K2 → Bool) (eq3 : K3 → K3 → Bool) where
   -- The error says of each key of `x` whether an item of the map has it. If none is taken, the map is full.
   -- Example: In a map of the bag the first key of (1, 40) is taken, and the second is not.
   pub record TellsWhy {S : Type 0} (m : Map T S) (x : T) (e : Rejected T) : Type 0 where
@@ -39,24 +40,41 @@ module _ {T K1 K2 K3 : Type 0} (of : item.Ghosts T K1 K2 K3) (eq1 : K1 → K1 �
     pub taken3 : e.taken3 ≡ list_any (has3 of eq3 (of.key3 x)) (bag m)
     pub full : e.taken1 ≡ false → e.taken2 ≡ false → e.taken3 ≡ false → IsFullFor (ranks of eq1 eq2 eq3) m x
 
-module _ {T S K1 K2 K3 H : Type 0} {of : item.Ghosts T K1 K2 K3} {eq1 : equal.Ghosts K1} {input1 : hash.Ghosts K1} {eq2 : equal.Ghosts K2} {input2 : hash.Ghosts K2} {eq3 : equal.Ghosts K3} {input3 : hash.Ghosts K3} {build : builder.Ghosts S H} {hashes : hasher.Ghosts H} where
+module _ {T S K1 K2 K3 H : Type 0} {of : item.Ghosts T K1 K2 K3}
+    {eq1 : equal.Ghosts K1} {input1 : hash.Ghosts K1}
+    {eq2 : equal.Ghosts K2} {input2 : hash.Ghosts K2}
+    {eq3 : equal.Ghosts K3} {input3 : hash.Ghosts K3}
+    {build : builder.Ghosts S H} {hashes : hasher.Ghosts H} where
   -- The error of an insert has the item `x`, and borrows this very map, which is as it was.
   -- Example: After an insert of c into a map of a, b has failed, the error has c, and its map has a, b.
-  pub record HandsBackAndHolds (m : MutBor (Map T S)) (x : T) (e : InsertError T S K1 K2 K3 H of eq1 input1 eq2 input2 eq3 input3 build hashes) : Type 0 where
+  pub record HandsBackAndHolds (m : MutBor (Map T S)) (x : T)
+      (e : InsertError T S K1 K2 K3 H of eq1 input1 eq2 input2 eq3 input3 build hashes) : Type 0 where
     pub handed_back : e.item ≡ x
     pub same_map : e.map.ghost_name ≡ m.ghost_name
     pub unchanged : e.map.now ≡ m.now
 
-  abbrev pub refused_name : {X : Type 0} → Result X (InsertError T S K1 K2 K3 H of eq1 input1 eq2 input2 eq3 input3 build hashes) → maybe.Option GName
+  abbrev pub refused_name : {X : Type 0}
+      → Result X (InsertError T S K1 K2 K3 H of eq1 input1 eq2 input2 eq3 input3 build hashes) → maybe.Option GName
   refused_name (Ok _) = maybe.none
   refused_name (Err e) = maybe.some e.map.ghost_name
 
-module _ (T S K1 K2 K3 H : RattleType) (of : item.Ghosts T.Denot K1.Denot K2.Denot K3.Denot) (keys1 : HashMembers K1.Denot) (keys2 : HashMembers K2.Denot) (keys3 : HashMembers K3.Denot) (build : builder.Ghosts S.Denot H.Denot) (hashes : hasher.Ghosts H.Denot) where
+module _ (T S K1 K2 K3 H : RattleType) (of : item.Ghosts T.Denot K1.Denot K2.Denot K3.Denot)
+    (keys1 : HashMembers K1.Denot) (keys2 : HashMembers K2.Denot) (keys3 : HashMembers K3.Denot)
+    (build : builder.Ghosts S.Denot H.Denot) (hashes : hasher.Ghosts H.Denot) where
   -- `map_row` is the type of the map in the logic. No public clause cites it.
   abbrev pub map_row : RattleType
-  map_row = the_row T S K1 K2 K3 H of (record { eq = keys1.eq }) (record { hash_input = keys1.hash_input }) (record { eq = keys2.eq }) (record { hash_input = keys2.hash_input }) (record { eq = keys3.eq }) (record { hash_input = keys3.hash_input }) build hashes
+  map_row = the_row T S K1 K2 K3 H of
+      (record { eq = keys1.eq }) (record { hash_input = keys1.hash_input })
+      (record { eq = keys2.eq }) (record { hash_input = keys2.hash_input })
+      (record { eq = keys3.eq }) (record { hash_input = keys3.hash_input }) build hashes
 
   -- After an error the map ends as the error leaves it, and after `Ok` it ends so that `P` holds for it.
   -- Example: If `P` says that the map gained c, it ends with c or as the error leaves it.
-  abbrev pub ends_as : {X : Type 0} → MutBor (Map T.Denot S.Denot) → Result X (InsertError T.Denot S.Denot K1.Denot K2.Denot K3.Denot H.Denot of (record { eq = keys1.eq }) (record { hash_input = keys1.hash_input }) (record { eq = keys2.eq }) (record { hash_input = keys2.hash_input }) (record { eq = keys3.eq }) (record { hash_input = keys3.hash_input }) build hashes) → (Map T.Denot S.Denot → Type 0) → Fml
-  ends_as m r P = follows_so map_row map_row m.ghost_name (refused_name r) (λ x n. OnErr r (n ≡ x)) (λ n. OnOk r (P n))
+  abbrev pub ends_as : {X : Type 0} → MutBor (Map T.Denot S.Denot)
+      → Result X (InsertError T.Denot S.Denot K1.Denot K2.Denot K3.Denot H.Denot of
+      (record { eq = keys1.eq }) (record { hash_input = keys1.hash_input })
+      (record { eq = keys2.eq }) (record { hash_input = keys2.hash_input })
+      (record { eq = keys3.eq }) (record { hash_input = keys3.hash_input }) build hashes)
+      → (Map T.Denot S.Denot → Type 0) → Fml
+  ends_as m r P =
+      follows_so map_row map_row m.ghost_name (refused_name r) (λ x n. OnErr r (n ≡ x)) (λ n. OnOk r (P n))

@@ -1,14 +1,24 @@
 -- One step of a map with three keys: each command with what it may return.
 use Rattle.std.specs.Prelude.{Bool}
 use Rattle.iddqd_store.specs.Runs.Reply.{Reply}
-use Rattle.iddqd_store.specs.Runs.Step.{State, InsertsUnique, InsertsOverwrite, Gets, Tells, Removes, Reserves, ShrinksTo, Clears, Sizes, Lists, Extends, ExtendsUnique, EntryInserts, EntryRemoves, OrInserts, Replaces, Sets}
+use Rattle.iddqd_store.specs.Runs.Step.{State, Gets, Tells, Reserves, ShrinksTo, Clears, Sizes, Lists}
+use Rattle.iddqd_store.specs.Runs.Step.{InsertsUnique, InsertsOverwrite, Removes, Extends, ExtendsUnique}
+use Rattle.iddqd_store.specs.Runs.Step.{EntryInserts, EntryRemoves, OrInserts, Replaces, Sets}
 use Rattle.iddqd_tri.specs.Keys.{ranks, has1, has2, has3, has_all, key_tests}
 use Rattle.iddqd_tri.specs.declared.item.TriHashItem as item
 use Rattle.iddqd_tri.specs.declared.command.TriCommand.{TriCommand}
-use Rattle.iddqd_tri.specs.declared.command.TriCommand.TheVariants.{InsertUnique, InsertOverwrite, Get1, Get2, Get3, GetUnique, Contains1, Contains2, Contains3, ContainsUnique, Remove1, Remove2, Remove3, RemoveUnique, Reserve, ShrinkTo, ShrinkToFit, Clear, Len, Items, Extend, ExtendUnique, EntryInsert, EntryRemove, OrInsert, Replace1, Replace2, Replace3, Set1, Set2, Set3}
+use Rattle.iddqd_tri.specs.declared.command.TriCommand.TheVariants.{InsertUnique, InsertOverwrite}
+use Rattle.iddqd_tri.specs.declared.command.TriCommand.TheVariants.{Get1, Get2, Get3, GetUnique}
+use Rattle.iddqd_tri.specs.declared.command.TriCommand.TheVariants.{Contains1, Contains2, Contains3, ContainsUnique}
+use Rattle.iddqd_tri.specs.declared.command.TriCommand.TheVariants.{Remove1, Remove2, Remove3, RemoveUnique}
+use Rattle.iddqd_tri.specs.declared.command.TriCommand.TheVariants.{Reserve, ShrinkTo, ShrinkToFit, Clear, Len, Items}
+use Rattle.iddqd_tri.specs.declared.command.TriCommand.TheVariants.{Extend, ExtendUnique}
+use Rattle.iddqd_tri.specs.declared.command.TriCommand.TheVariants.{EntryInsert, EntryRemove, OrInsert}
+use Rattle.iddqd_tri.specs.declared.command.TriCommand.TheVariants.{Replace1, Replace2, Replace3, Set1, Set2, Set3}
 
 -- The function `put` gives an item with other data.
-module _ {T D K1 K2 K3 : Type 0} (of : item.Ghosts T K1 K2 K3) (eq1 : K1 → K1 → Bool) (eq2 : K2 → K2 → Bool) (eq3 : K3 → K3 → Bool) (put : T → D → T) where
+module _ {T D K1 K2 K3 : Type 0} (of : item.Ghosts T K1 K2 K3)
+    (eq1 : K1 → K1 → Bool) (eq2 : K2 → K2 → Bool) (eq3 : K3 → K3 → Bool) (put : T → D → T) where
   -- A map in the state `old` may give this reply to the command, and go on to the state `new`.
   -- Example: `Len` in the state of three items gives `size 3`, and the state stays.
   abbrev pub Step : State T → TriCommand T D K1 K2 K3 → Reply T D → State T → Type 0
@@ -34,9 +44,11 @@ module _ {T D K1 K2 K3 : Type 0} (of : item.Ghosts T K1 K2 K3) (eq1 : K1 → K1 
   Step old Items reply new = Lists old reply new
   Step old (Extend xs) reply new = Extends (ranks of eq1 eq2 eq3) old xs.items reply new
   Step old (ExtendUnique xs) reply new = ExtendsUnique (ranks of eq1 eq2 eq3) old xs.items reply new
-  Step old (EntryInsert k l m x) reply new = EntryInserts (ranks of eq1 eq2 eq3) (key_tests of eq1 eq2 eq3 k l m) old x reply new
+  Step old (EntryInsert k l m x) reply new =
+      EntryInserts (ranks of eq1 eq2 eq3) (key_tests of eq1 eq2 eq3 k l m) old x reply new
   Step old (EntryRemove k l m) reply new = EntryRemoves (key_tests of eq1 eq2 eq3 k l m) old reply new
-  Step old (OrInsert k l m x) reply new = OrInserts (ranks of eq1 eq2 eq3) (key_tests of eq1 eq2 eq3 k l m) old x reply new
+  Step old (OrInsert k l m x) reply new =
+      OrInserts (ranks of eq1 eq2 eq3) (key_tests of eq1 eq2 eq3 k l m) old x reply new
   Step old (Replace1 k x) reply new = Replaces (ranks of eq1 eq2 eq3) (has1 of eq1 k) old x reply new
   Step old (Replace2 k x) reply new = Replaces (ranks of eq1 eq2 eq3) (has2 of eq2 k) old x reply new
   Step old (Replace3 k x) reply new = Replaces (ranks of eq1 eq2 eq3) (has3 of eq3 k) old x reply new

@@ -9,7 +9,7 @@ use Rattle.iddqd_store.specs.Bag.{entry_of, is_unique}
 use Rattle.iddqd_store.specs.Map.{Map}
 use Rattle.iddqd_store.specs.Map.Written.{map_with_if, of_item}
 use Rattle.iddqd_store.specs.Slots.{get, IsLive}
-use Rattle.iddqd_store.specs.Slots.Found.{AreFound, contains, each_once, entry_at, found_by_all, head_of, held_at, is_at, items_at, with_found}
+use Rattle.iddqd_store.specs.Slots.Found.{AreFound, contains, each_once, entry_at, found_by_all, held_at, is_at, items_at, with_found}
 use Rattle.iddqd_store.proofs.BagLemmas.Exchanges.{split}
 
 neither : (a b : Bool) → (a || b) ≡ false → (a ≡ false) × (b ≡ false)
@@ -26,30 +26,23 @@ contains-push (k ∷ ys) j ix none apart =
     rw both.0 (contains-push ys j ix both.1 apart)
 
 module _ {T : Type 0} where
-  unique_of : (listed whole : List T) → listed ≢ [] → is_unique (entry_of listed whole) ≡ is_some (head_of whole)
-  unique_of [] whole some = absurd (some refl)
-  unique_of (x ∷ listed) [] some = refl
-  unique_of (x ∷ listed) (y ∷ whole) some = refl
+  unique_of : (listed : List T) (o : Option T) → listed ≢ [] → is_unique (entry_of listed (option_to_list o)) ≡ is_some o
+  unique_of [] o some = absurd (some refl)
+  unique_of (x ∷ listed) None some = refl
+  unique_of (x ∷ listed) (Some y) some = refl
 
-  one_live : (slots : List (Option T)) (ix : ℕ) → IsLive slots ix → is_some (head_of (items_at slots (ix ∷ []))) ≡ true
-  one_live slots ix live = by_slot (get slots ix) refl live
-    where
-      by_slot : (o : Option T) → get slots ix ≡ o → IsSome o → is_some (head_of (items_at slots (ix ∷ []))) ≡ true
-      by_slot None there some = absurd (cc)
-      by_slot (Some x) there some = rw there refl
-
-  whole_still : (tests : List (T → Bool)) (old new : List (Option T)) (found : List (Option ℕ)) → AreFound tests old found → AreFound tests new found → is_some (head_of (items_at new (found_by_all found))) ≡ is_some (head_of (items_at old (found_by_all found)))
+  whole_still : (tests : List (T → Bool)) (old new : List (Option T)) (found : List (Option ℕ)) → AreFound tests old found → AreFound tests new found → is_some (option_and_then (get new) (found_by_all found)) ≡ is_some (option_and_then (get old) (found_by_all found))
   whole_still tests old new [] was is = refl
   whole_still tests old new (None ∷ found) was is = refl
   whole_still [] old new (Some ix ∷ found) was is = absurd was
   whole_still (test ∷ tests) old new (Some ix ∷ found) was is =
-      split (λ b. is_some (head_of (items_at new (cond b (ix ∷ []) []))) ≡ is_some (head_of (items_at old (cond b (ix ∷ []) [])))) (list_all (is_at ix) found)
-      (λ _. one_live new ix is.0.live ∙ sym (one_live old ix was.0.live)) (λ _. refl)
+      split (λ b. is_some (option_and_then (get new) (cond b (Some ix) None)) ≡ is_some (option_and_then (get old) (cond b (Some ix) None))) (list_all (is_at ix) found)
+      (λ _. is.0.live ∙ sym was.0.live) (λ _. refl)
 
   -- an entry still tells whether one item has all keys
   pub still_unique : (tests : List (T → Bool)) (old new : List (Option T)) (found : List (Option ℕ)) → AreFound tests old found → AreFound tests new found → held_at old found ≢ [] → held_at new found ≢ [] → is_unique (entry_at new found) ≡ is_unique (entry_at old found)
   still_unique tests old new found was is some_old some_new =
-      unique_of (held_at new found) (items_at new (found_by_all found)) some_new ∙ whole_still tests old new found was is ∙ sym (unique_of (held_at old found) (items_at old (found_by_all found)) some_old)
+      unique_of (held_at new found) (option_and_then (get new) (found_by_all found)) some_new ∙ whole_still tests old new found was is ∙ sym (unique_of (held_at old found) (option_and_then (get old) (found_by_all found)) some_old)
 
   get-set_other : (slots : List (Option T)) (at k : ℕ) (o : Option T) → nat_eq at k ≡ false → get (slice_set slots at o) k ≡ get slots k
   get-set_other slots at k o apart = get_or-set_other slots at k o None (λ e. eqb-false at k apart (sym e))

@@ -7,7 +7,7 @@ ghost use Rattle.iddqd_store.specs.Bag.{IsOnly, differ, entry, is_unique, listin
 ghost use Rattle.iddqd_store.specs.Bag.Calling.{TakesInTurn};
 ghost use Rattle.iddqd_store.specs.Bag.Storing.{Stores};
 ghost use Rattle.iddqd_store.specs.Map.{bag, Loses};
-ghost use Rattle.iddqd_bi.specs.Entries.{FindsSame, HasFound, HoldsFound, PutsOver, entry_with1, entry_with2, entry_tests, lends_data1, lends_data2, lends_held};
+ghost use Rattle.iddqd_bi.specs.Entries.{FindsSame, HasFound, HoldsFound, PutsOver, entry_tests, entry_with, lends_entry_data, lends_held};
 ghost use Rattle.iddqd_bi.specs.Keys.{has1, has2};
 ghost use Rattle.iddqd_bi.specs.Mismatch.{mismatch_item, mismatch_rank};
 ghost use Rattle.iddqd_bi.specs.OccupiedRefs.{is_one, seen1, seen2};
@@ -171,11 +171,13 @@ impl<'a, T: BiHashItemMut, S: BuildHasher> OccupiedEntry<'a, T, S> {
             ≡ map T.data_of (filter (has1 T.BiHashItem T.K1.eq self.old.key1.now) (bag self.old.map.now)) }
         ensures swaps { (x : T) (d : T.Data)
             → IsOnly (has1 T.BiHashItem T.K1.eq self.old.key1.now) (bag self.old.map.now) (Some x)
-            → IsPermutation (bag (entry_with1 self.old (λ y. T.put y d)).map.now)
+            → IsPermutation (bag (entry_with self.old self.old.slot1 (λ y. T.put y d)).map.now)
             (swap ⟦<T as Ranked>⟧.ranks (bag self.old.map.now) x (T.put x d)) }
-        ensures has_found { (d : T.Data) → HasFound ⟦<T as Ranked>⟧.key_tests (entry_with1 self.old (λ y. T.put y d)) }
-        ensures* lends { sem 𝓛 (lends_data1 T.row S.row T.K1.row T.K2.row S.Hasher.row
-            T.BiHashItem T.K1.Hash T.K2.Hash S.BuildHasher S.Hasher.Hasher T.Data.row T.put self.entry result) }
+        ensures has_found { (d : T.Data)
+            → HasFound ⟦<T as Ranked>⟧.key_tests (entry_with self.old self.old.slot1 (λ y. T.put y d)) }
+        ensures* lends { sem 𝓛 (lends_entry_data T.row S.row T.K1.row T.K2.row S.Hasher.row
+            T.BiHashItem T.K1.Hash T.K2.Hash S.BuildHasher S.Hasher.Hasher T.Data.row T.put
+            self.entry self.old.slot1 result) }
     {
         let slot1 = self.slot1;
         self.map.data_mut_of(slot1)
@@ -188,11 +190,13 @@ impl<'a, T: BiHashItemMut, S: BuildHasher> OccupiedEntry<'a, T, S> {
             ≡ map T.data_of (filter (has2 T.BiHashItem T.K2.eq self.old.key2.now) (bag self.old.map.now)) }
         ensures swaps { (x : T) (d : T.Data)
             → IsOnly (has2 T.BiHashItem T.K2.eq self.old.key2.now) (bag self.old.map.now) (Some x)
-            → IsPermutation (bag (entry_with2 self.old (λ y. T.put y d)).map.now)
+            → IsPermutation (bag (entry_with self.old self.old.slot2 (λ y. T.put y d)).map.now)
             (swap ⟦<T as Ranked>⟧.ranks (bag self.old.map.now) x (T.put x d)) }
-        ensures has_found { (d : T.Data) → HasFound ⟦<T as Ranked>⟧.key_tests (entry_with2 self.old (λ y. T.put y d)) }
-        ensures* lends { sem 𝓛 (lends_data2 T.row S.row T.K1.row T.K2.row S.Hasher.row
-            T.BiHashItem T.K1.Hash T.K2.Hash S.BuildHasher S.Hasher.Hasher T.Data.row T.put self.entry result) }
+        ensures has_found { (d : T.Data)
+            → HasFound ⟦<T as Ranked>⟧.key_tests (entry_with self.old self.old.slot2 (λ y. T.put y d)) }
+        ensures* lends { sem 𝓛 (lends_entry_data T.row S.row T.K1.row T.K2.row S.Hasher.row
+            T.BiHashItem T.K1.Hash T.K2.Hash S.BuildHasher S.Hasher.Hasher T.Data.row T.put
+            self.entry self.old.slot2 result) }
     {
         let slot2 = self.slot2;
         self.map.data_mut_of(slot2)

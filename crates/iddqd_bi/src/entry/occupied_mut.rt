@@ -7,8 +7,8 @@ ghost use Rattle.iddqd_store.specs.Bag.{is_unique, swap};
 ghost use Rattle.iddqd_store.specs.Bag.Calling.{TakesInTurn};
 ghost use Rattle.iddqd_store.specs.Bag.Storing.{Stores};
 ghost use Rattle.iddqd_store.specs.Map.{bag};
-ghost use Rattle.iddqd_bi.specs.Entries.{Holds, HoldsSame, held, held1, held2, held_entry, held_unique, held_rests_if_none, held_with1, held_with2, held_with_unique, lends_held1, lends_held2, lends_held_unique};
-ghost use Rattle.iddqd_bi.specs.RefMuts.{ref_lender, ref_map, ref_item};
+ghost use Rattle.iddqd_bi.specs.Entries.{Holds, HoldsSame, held, held1, held2, held_entry, held_unique, held_with, lends_held_data, unique_slot};
+ghost use Rattle.iddqd_bi.specs.RefMuts.{ref_lender, ref_map, ref_item, rests_if_none};
 
 use super::OccupiedEntryMut;
 use crate::item::{BiHashItem, BiHashItemMut, Ranked};
@@ -69,7 +69,7 @@ impl<'a, T: BiHashItem, S: BuildHasher> OccupiedEntryMut<'a, T, S> {
         ensures item { option_and_then ref_item result ≡ held_unique self.entry }
         ensures unchanged { IfSome result (λ r. ref_map r ≡ self.entry.map.now) }
         ensures same_map { IfSome result (λ r. ref_lender r ≡ self.entry.map.ghost_name) }
-        ensures* rests_at_none { sem 𝓛 (held_rests_if_none T.row S.row T.K1.row T.K2.row S.Hasher.row
+        ensures* rests_at_none { sem 𝓛 (rests_if_none T.row S.row T.K1.row T.K2.row S.Hasher.row
             self.entry.map result) }
     {
         let OccupiedEntryMut { map, slot1, slot2 } = self;
@@ -82,7 +82,7 @@ impl<'a, T: BiHashItem, S: BuildHasher> OccupiedEntryMut<'a, T, S> {
         ensures item { option_and_then ref_item result ≡ held1 self.entry }
         ensures unchanged { IfSome result (λ r. ref_map r ≡ self.entry.map.now) }
         ensures same_map { IfSome result (λ r. ref_lender r ≡ self.entry.map.ghost_name) }
-        ensures* rests_at_none { sem 𝓛 (held_rests_if_none T.row S.row T.K1.row T.K2.row S.Hasher.row
+        ensures* rests_at_none { sem 𝓛 (rests_if_none T.row S.row T.K1.row T.K2.row S.Hasher.row
             self.entry.map result) }
     {
         let OccupiedEntryMut {
@@ -99,7 +99,7 @@ impl<'a, T: BiHashItem, S: BuildHasher> OccupiedEntryMut<'a, T, S> {
         ensures item { option_and_then ref_item result ≡ held2 self.entry }
         ensures unchanged { IfSome result (λ r. ref_map r ≡ self.entry.map.now) }
         ensures same_map { IfSome result (λ r. ref_lender r ≡ self.entry.map.ghost_name) }
-        ensures* rests_at_none { sem 𝓛 (held_rests_if_none T.row S.row T.K1.row T.K2.row S.Hasher.row
+        ensures* rests_at_none { sem 𝓛 (rests_if_none T.row S.row T.K1.row T.K2.row S.Hasher.row
             self.entry.map result) }
     {
         let OccupiedEntryMut {
@@ -117,11 +117,12 @@ impl<'a, T: BiHashItemMut, S: BuildHasher> OccupiedEntryMut<'a, T, S> {
         requires { Holds self.old }
         ensures value { option_to_list (option_copied_mut result) ≡ map T.data_of (option_to_list (held1 self.old)) }
         ensures swaps { (x : T) (d : T.Data) → held1 self.old ≡ Some x
-            → IsPermutation (bag (held_with1 self.old (λ y. T.put y d)).map.now)
+            → IsPermutation (bag (held_with self.old self.old.slot1 (λ y. T.put y d)).map.now)
             (swap ⟦<T as Ranked>⟧.ranks (bag self.old.map.now) x (T.put x d)) }
-        ensures holds { (f : T → T) → Holds (held_with1 self.old f) }
-        ensures* lends { sem 𝓛 (lends_held1 T.row S.row T.K1.row T.K2.row S.Hasher.row
-            T.BiHashItem T.K1.Hash T.K2.Hash S.BuildHasher S.Hasher.Hasher T.Data.row T.put self.entry result) }
+        ensures holds { (f : T → T) → Holds (held_with self.old self.old.slot1 f) }
+        ensures* lends { sem 𝓛 (lends_held_data T.row S.row T.K1.row T.K2.row S.Hasher.row
+            T.BiHashItem T.K1.Hash T.K2.Hash S.BuildHasher S.Hasher.Hasher T.Data.row T.put
+            self.entry self.old.slot1 result) }
     {
         let slot1 = self.slot1;
         self.map.data_mut_of(slot1)
@@ -132,11 +133,12 @@ impl<'a, T: BiHashItemMut, S: BuildHasher> OccupiedEntryMut<'a, T, S> {
         requires { Holds self.old }
         ensures value { option_to_list (option_copied_mut result) ≡ map T.data_of (option_to_list (held2 self.old)) }
         ensures swaps { (x : T) (d : T.Data) → held2 self.old ≡ Some x
-            → IsPermutation (bag (held_with2 self.old (λ y. T.put y d)).map.now)
+            → IsPermutation (bag (held_with self.old self.old.slot2 (λ y. T.put y d)).map.now)
             (swap ⟦<T as Ranked>⟧.ranks (bag self.old.map.now) x (T.put x d)) }
-        ensures holds { (f : T → T) → Holds (held_with2 self.old f) }
-        ensures* lends { sem 𝓛 (lends_held2 T.row S.row T.K1.row T.K2.row S.Hasher.row
-            T.BiHashItem T.K1.Hash T.K2.Hash S.BuildHasher S.Hasher.Hasher T.Data.row T.put self.entry result) }
+        ensures holds { (f : T → T) → Holds (held_with self.old self.old.slot2 f) }
+        ensures* lends { sem 𝓛 (lends_held_data T.row S.row T.K1.row T.K2.row S.Hasher.row
+            T.BiHashItem T.K1.Hash T.K2.Hash S.BuildHasher S.Hasher.Hasher T.Data.row T.put
+            self.entry self.old.slot2 result) }
     {
         let slot2 = self.slot2;
         self.map.data_mut_of(slot2)
@@ -147,11 +149,12 @@ impl<'a, T: BiHashItemMut, S: BuildHasher> OccupiedEntryMut<'a, T, S> {
         requires { Holds self.old }
         ensures value { option_to_list (option_copied_mut result) ≡ map T.data_of (option_to_list (held_unique self.old)) }
         ensures swaps { (x : T) (d : T.Data) → held_unique self.old ≡ Some x
-            → IsPermutation (bag (held_with_unique self.old (λ y. T.put y d)).map.now)
+            → IsPermutation (bag (held_with self.old (unique_slot self.old) (λ y. T.put y d)).map.now)
             (swap ⟦<T as Ranked>⟧.ranks (bag self.old.map.now) x (T.put x d)) }
-        ensures holds { (f : T → T) → Holds (held_with_unique self.old f) }
-        ensures* lends { sem 𝓛 (lends_held_unique T.row S.row T.K1.row T.K2.row S.Hasher.row
-            T.BiHashItem T.K1.Hash T.K2.Hash S.BuildHasher S.Hasher.Hasher T.Data.row T.put self.entry result) }
+        ensures holds { (f : T → T) → Holds (held_with self.old (unique_slot self.old) f) }
+        ensures* lends { sem 𝓛 (lends_held_data T.row S.row T.K1.row T.K2.row S.Hasher.row
+            T.BiHashItem T.K1.Hash T.K2.Hash S.BuildHasher S.Hasher.Hasher T.Data.row T.put
+            self.entry (unique_slot self.old) result) }
     {
         let slot = one_of(self.slot1, self.slot2);
         self.map.data_mut_of(slot)

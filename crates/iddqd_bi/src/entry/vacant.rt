@@ -3,7 +3,8 @@ ghost use Rattle.std.specs.Prelude.{◌≡◌, ◌<◌, length, None, IsOk, IfOk
 ghost use Rattle.std.specs.Borrow.{sem};
 ghost use Rattle.iddqd_store.specs.Bag.{differ};
 ghost use Rattle.iddqd_store.specs.Map.{bag};
-ghost use Rattle.iddqd_bi.specs.Entries.{GainsAndFinds, GainsAndHolds, GainsAndLends, IsSameMap, PutsIn, PutsInMade, wanted, rests_if_err, held_rests_if_err};
+ghost use Rattle.iddqd_bi.specs.Entries.{GainsAndFinds, GainsAndHolds, GainsAndLends, IsSameMap, PutsIn, PutsInMade, wanted, rests_if_err};
+ghost use Rattle.iddqd_bi.specs.RefMuts.{ref_lender};
 ghost use Rattle.iddqd_bi.specs.Mismatch.{HandsBack};
 
 use super::{KeyPair, Keys, OccupiedEntry, OccupiedEntryMut, VacantEntry};
@@ -32,7 +33,7 @@ impl<'a, T: Ranked, S: BuildHasher, Q: Keys<T::K1, T::K2>> VacantEntry<'a, T, S,
         // After an error the item is returned, with the reason, and the map ends as it was.
         ensures hands_back { IfErr result (HandsBack T.ranks (wanted self.entry) self.entry.map.now item) }
         ensures* unchanged_at_err { sem 𝓛 (rests_if_err T.row S.row T.K1.row T.K2.row S.Hasher.row
-            self.entry.map result) }
+            T.BiHashItem T.K1.Hash T.K2.Hash S.BuildHasher S.Hasher.Hasher ref_lender self.entry.map result) }
     {
         let VacantEntry { map, keys, at } = self;
         let slot = map.insert_free(item, keys.first(), keys.second(), at)?;
@@ -51,8 +52,9 @@ impl<'a, T: Ranked, S: BuildHasher, Q: Keys<T::K1, T::K2>> VacantEntry<'a, T, S,
             → length (bag self.entry.map.now) < self.entry.map.now.capacity → IsOk result }
         // After an error the item is returned, with the reason, and the map ends as it was.
         ensures hands_back { IfErr result (HandsBack T.ranks (wanted self.entry) self.entry.map.now item) }
-        ensures* unchanged_at_err { sem 𝓛 (held_rests_if_err T.row S.row T.K1.row T.K2.row S.Hasher.row
-            T.BiHashItem T.K1.Hash T.K2.Hash S.BuildHasher S.Hasher.Hasher self.entry.map result) }
+        ensures* unchanged_at_err { sem 𝓛 (rests_if_err T.row S.row T.K1.row T.K2.row S.Hasher.row
+            T.BiHashItem T.K1.Hash T.K2.Hash S.BuildHasher S.Hasher.Hasher
+            (λ m. m.map.ghost_name) self.entry.map result) }
     {
         let VacantEntry { map, keys, at } = self;
         let slot = map.insert_free(item, keys.first(), keys.second(), at)?;

@@ -1,6 +1,6 @@
 //! Shrinking the capacity.
-ghost use Rattle.std.specs.Prelude.{◌≡◌, ◌<◌, ◌≤◌, ◌↔◌, length, max, min, true, IsOk, OnOk, OnErr};
-ghost use Rattle.iddqd_store.specs.Map.{bag};
+ghost use Rattle.std.specs.Prelude.{◌≡◌, ◌<◌, ◌≤◌, ◌↔◌, length, true, IsOk, OnOk, OnErr};
+ghost use Rattle.iddqd_store.specs.Map.{bag, shrunk_to};
 ghost use Rattle.iddqd_store.specs.Table.Limit.{IsLeast};
 
 use super::BiHashMap;
@@ -25,9 +25,9 @@ impl<T: BiHashItem + Drop, S: BuildHasher> BiHashMap<T, S> {
         ensures builder { self.new.builder ≡ self.old.builder }
         // The capacity is the one asked for, but no less than the number of items and no more than before. After an
         // error nothing has changed.
-        ensures shrunk { OnOk result (self.new.capacity ≡ max (length (bag self.old)) (min least self.old.capacity)) }
-        ensures reason { OnErr result (0 < max (length (bag self.old)) (min least self.old.capacity)) }
-        ensures granted { max (length (bag self.old)) (min least self.old.capacity) ≡ self.old.capacity → IsOk result }
+        ensures shrunk { OnOk result (self.new.capacity ≡ shrunk_to (length (bag self.old)) least self.old.capacity) }
+        ensures reason { OnErr result (0 < shrunk_to (length (bag self.old)) least self.old.capacity) }
+        ensures granted { shrunk_to (length (bag self.old)) least self.old.capacity ≡ self.old.capacity → IsOk result }
         ensures unchanged { OnErr result (self.new ≡ self.old) }
     {
         let room = self.capacity();

@@ -1,13 +1,12 @@
 -- Bags that are built from a list.
-use Rattle.std.specs.Prelude.{◌≡◌, ◌≢◌, ◌≤◌, ◌==◌, suc, List, [], ◌∷◌, ◌++◌, length, fold, Result, Ok, Err, Option, IsPermutation}
+use Rattle.std.specs.Prelude.{◌≡◌, ◌≢◌, ◌≤◌, suc, List, [], ◌∷◌, ◌++◌, length, fold, Result, Ok, Err, Option, IsPermutation}
 use Rattle.std.proofs.Common.{refl, sym, ap, subst, ◌∙◌, arith}
 use Rattle.std.proofs.lemmas.List.Folds.{fold_stays}
 use Rattle.std.proofs.lemmas.List.Sorted.{IsPermutation-refl, IsPermutation-middle, IsPermutation-sym, IsPermutation-cons, IsPermutation-trans, length_permutation}
 use Rattle.iddqd_store.specs.Bag.{Ranks, AreLawful, IsSound, clash, order, over, add, add_next, adds}
 use Rattle.iddqd_store.specs.Bag.Building.{GivesThen, AddsTo, RefusesFor, HasPlaceFor}
-use Rattle.iddqd_store.proofs.BagLemmas.Exchanges.{split}
 use Rattle.iddqd_store.proofs.BagLemmas.Sound.{length-over, order-IsPermutation, IsSound-IsPermutation}
-use Rattle.iddqd_store.proofs.BagLemmas.Steps.{IsSound-nil, IsSound-add, clash-IsPermutation, clash-empty, add-refused, adds_push}
+use Rattle.iddqd_store.proofs.BagLemmas.Steps.{IsSound-nil, IsSound-add, clash-IsPermutation, clash-empty, order-empty, add-apart, add-refused, adds_push}
 
 pub GivesThen-weaker : {U S T : Type 0} (becomes : U → S → Type 0) (steps : S → Option T → S → Type 0) (iter : U) (x : T) (P Q : List T → Type 0) → ((xs : List T) → P xs → Q xs) → GivesThen becomes steps iter x P → GivesThen becomes steps iter x Q
 GivesThen-weaker becomes steps iter x P Q f h = (h.0, h.1, h.2, h.3, h.4, f h.1 h.5)
@@ -33,7 +32,7 @@ module _ {T : Type 0} where
       nothing (clash ranks made x) (length_permutation _ _ (clash-IsPermutation ranks held made x p) ∙ ap length free)
 
   add-free : (ranks : Ranks T) (made : List T) (x : T) → clash ranks made x ≡ [] → add ranks made x ≡ Ok (x ∷ made)
-  add-free ranks made x free = rw free refl
+  add-free ranks made x free = add-apart ranks made x (order-empty ranks made x free)
 
   same_ok : (ranks : Ranks T) (bag made : List T) → adds ranks bag [] ≡ Ok made → bag ≡ made
   same_ok ranks bag made h = cc
@@ -52,10 +51,12 @@ module _ {T : Type 0} where
       by_first on (Err refusal) put rest = absurd (stays_refused ranks xs made refusal rest)
 
   added_is : (ranks : Ranks T) (bag next : List T) (x : T) → add ranks bag x ≡ Ok next → next ≡ x ∷ bag
-  added_is ranks bag next x put =
-      split (λ b. next ≡ x ∷ bag) (length (clash ranks bag x) == 0)
-      (λ yes. same_made (add ranks bag x) next (x ∷ bag) put (rw yes refl))
-      (λ no. absurd (ok_or_err (add ranks bag x) next (x, order ranks bag x) put (rw no refl)))
+  added_is ranks bag next x put = by_order (order ranks bag x) refl
+    where
+      by_order : (l : List T) → order ranks bag x ≡ l → next ≡ x ∷ bag
+      by_order [] none = same_made (add ranks bag x) next (x ∷ bag) put (add-apart ranks bag x none)
+      by_order (y ∷ ys) some =
+          absurd (ok_or_err (add ranks bag x) next (x, order ranks bag x) put (add-refused ranks bag x (λ none. absurd (cc (some, none)))))
 
   -- the bag has the list that was added and the items that it had
   pub adds-IsPermutation : (ranks : Ranks T) (bag xs made : List T) → adds ranks bag xs ≡ Ok made → IsPermutation made (xs ++ bag)

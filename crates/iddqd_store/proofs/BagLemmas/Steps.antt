@@ -11,12 +11,6 @@ use Rattle.iddqd_store.proofs.BagLemmas.Exchanges.{split, IsPermutation-filter}
 use Rattle.iddqd_store.proofs.BagLemmas.Sound.{IsDistinct-nil, IsPermutation-order, IsSound-over, over-IsPermutation}
 use Rattle.iddqd_store.specs.Bag.{Ranks, conflicts, agrees, IsSound, clash, order, over, overs, add, add_next, adds, AreLawful}
 
-more_than_none : (n : ℕ) → n ≢ 0 → (n == 0) ≡ false
-more_than_none n h = grind (arith, nat_tests)
-
-zero_from : (n : ℕ) → (n == 0) ≡ true → n ≡ 0
-zero_from n h = grind (arith, nat_tests)
-
 same_ok : {A E : Type 0} (r : Result A E) (a b : A) → r ≡ Ok a → r ≡ Ok b → a ≡ b
 same_ok r a b h k = cc
 
@@ -70,21 +64,24 @@ module _ {T : Type 0} where
 
   -- `add` if nothing conflicts
   pub add-apart : (ranks : Ranks T) (bag : List T) (x : T) → order ranks bag x ≡ [] → add ranks bag x ≡ Ok (x ∷ bag)
-  add-apart ranks bag x h = rw (clash-empty ranks bag x h) refl
+  add-apart ranks bag x h = rw (add, h) refl
 
   -- `add` if something conflicts
   pub add-refused : (ranks : Ranks T) (bag : List T) (x : T) → order ranks bag x ≢ [] → add ranks bag x ≡ Err (x, order ranks bag x)
-  add-refused ranks bag x h =
-      let some = more_than_none (length (clash ranks bag x)) (λ e. h (order-empty ranks bag x (nothing (clash ranks bag x) e))) in
-      rw some refl
+  add-refused ranks bag x h = by_order (order ranks bag x) refl
+    where
+      by_order : (l : List T) → order ranks bag x ≡ l → add ranks bag x ≡ Err (x, order ranks bag x)
+      by_order [] none = absurd (h none)
+      by_order (y ∷ ys) some = rw (add, some) refl
 
   pub IsSound-add : (ranks : Ranks T) (bag new : List T) (x : T) → IsSound ranks bag → add ranks bag x ≡ Ok new → IsSound ranks new
-  IsSound-add ranks bag new x sound made =
-      split (λ b. IsSound ranks new) (length (clash ranks bag x) == 0)
-      (λ yes.
-      let none = order-empty ranks bag x (nothing (clash ranks bag x) (zero_from _ yes)) in
-      subst (IsSound ranks) (same_ok (add ranks bag x) (x ∷ bag) new (add-apart ranks bag x none) made) (IsSound-cons ranks bag x none sound))
-      (λ no. absurd (ok_or_err (add ranks bag x) new (x, order ranks bag x) made (rw no refl)))
+  IsSound-add ranks bag new x sound made = by_order (order ranks bag x) refl
+    where
+      by_order : (l : List T) → order ranks bag x ≡ l → IsSound ranks new
+      by_order [] none =
+          subst (IsSound ranks) (same_ok (add ranks bag x) (x ∷ bag) new (add-apart ranks bag x none) made) (IsSound-cons ranks bag x none sound)
+      by_order (y ∷ ys) some =
+          absurd (ok_or_err (add ranks bag x) new (x, order ranks bag x) made (add-refused ranks bag x (λ none. absurd (cc (some, none)))))
 
   -- the items of a list one after another
   pub overs_push : (ranks : Ranks T) (bag xs : List T) (x : T) → overs ranks bag (xs ++ x ∷ []) ≡ over ranks (overs ranks bag xs) x

@@ -1,46 +1,24 @@
 -- What the calls of an entry do to the bag in which its keys were looked up.
-use Rattle.std.specs.Prelude.{◌≡◌, ◌≢◌, ◌≤◌, ℕ, Bool, true, false, if◌then◌else◌, [], ◌∷◌, List, length, filter_map, is_some, Option, Some, None, IfSome, IsPermutation}
-use Rattle.std.proofs.Common.{refl, ap, ◌∙◌, arith}
-use Rattle.std.specs.List.{list_all}
+use Rattle.std.specs.Prelude.{◌≡◌, ◌≢◌, true, [], ◌∷◌, List, is_some, Option, Some, None, IfSome, IsPermutation}
+use Rattle.std.proofs.Common.{refl, ap, ◌∙◌}
 use Rattle.std.proofs.lemmas.List.Sorted.{IsPermutation-refl}
-use Rattle.std.specs.Option.{option_and_then}
+use Rattle.std.specs.Option.{option_to_list}
 use Rattle.iddqd_store.specs.Bag.{Ranks, swap, entry_of, vacant, unique, non_unique}
 use Rattle.iddqd_store.specs.Bag as bags
 use Rattle.iddqd_store.specs.Callers.{InsertsOrWrites, WritesEntry}
-use Rattle.iddqd_store.specs.Slots.Found.{found_by_all, head_of, is_at}
 
-short_if : (b : Bool) (ix : ℕ) → length (if b then ix ∷ [] else []) ≤ 1
-short_if true ix = omega arith
-short_if false ix = omega arith
-
-pub short_all : (found : List (Option ℕ)) → length (found_by_all found) ≤ 1
-short_all [] = omega arith
-short_all (None ∷ found) = omega arith
-short_all (Some ix ∷ found) = short_if (list_all (is_at ix) found) ix
-
--- In what follows `got` is what the slots hold.
+-- A unique entry has the one item `o`, and any other entry has none.
 module _ {T : Type 0} where
-  one_unique : (listed : List T) (o : Option T) (y : T) → entry_of listed (filter_map (λ (n : ℕ). o) (0 ∷ [])) ≡ unique y → o ≡ Some y
+  pub one_unique : (listed : List T) (o : Option T) (y : T) → entry_of listed (option_to_list o) ≡ unique y → o ≡ Some y
   one_unique [] None y is = absurd (cc is)
   one_unique (x ∷ listed) None y is = absurd (cc is)
   one_unique [] (Some z) y is = absurd (cc is)
   one_unique (x ∷ listed) (Some z) y is = let same : z ≡ y = cc is in ap Some same
 
-  one_not : (listed : List T) (o : Option T) (ys : List T) → entry_of listed (filter_map (λ (n : ℕ). o) (0 ∷ [])) ≡ non_unique ys → o ≡ None
+  pub one_not : (listed : List T) (o : Option T) (ys : List T) → entry_of listed (option_to_list o) ≡ non_unique ys → o ≡ None
   one_not listed None ys is = refl
   one_not [] (Some z) ys is = absurd (cc is)
   one_not (x ∷ listed) (Some z) ys is = absurd (cc is)
-
-  pub all_unique : (got : ℕ → Option T) (listed : List T) (ixs : List ℕ) (y : T) → length ixs ≤ 1 → entry_of listed (filter_map got ixs) ≡ unique y → option_and_then got (head_of ixs) ≡ Some y
-  all_unique got [] [] y short is = absurd (cc is)
-  all_unique got (x ∷ listed) [] y short is = absurd (cc is)
-  all_unique got listed (ix ∷ []) y short is = one_unique listed (got ix) y is
-  all_unique got listed (ix ∷ at ∷ ixs) y short is = absurd (omega (arith, short))
-
-  pub all_not : (got : ℕ → Option T) (listed : List T) (ixs : List ℕ) (ys : List T) → length ixs ≤ 1 → entry_of listed (filter_map got ixs) ≡ non_unique ys → option_and_then got (head_of ixs) ≡ None
-  all_not got listed [] ys short is = refl
-  all_not got listed (ix ∷ []) ys short is = one_not listed (got ix) ys is
-  all_not got listed (ix ∷ at ∷ ixs) ys short is = absurd (omega (arith, short))
 
 module _ {T : Type 0} (old : List T) (x : T) where
   -- x was inserted, or what was there is held

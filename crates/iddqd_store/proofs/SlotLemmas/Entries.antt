@@ -88,24 +88,24 @@ module _ {T : Type 0} {agree : T → T → Bool} (laws : IsEquivalence agree) (s
       rw (passes_found test at ix x here are.0, every_found tests found ix x here are.1) refl
 
   -- the slot found by all has the member that passes every test
-  found_whole : (test : T → Bool) (tests : List (T → Bool)) (found : List (Option ℕ)) → AreFound (test ∷ tests) slots found → items_at slots (found_by_all found) ≡ all_of (test ∷ tests) (live_items slots)
+  found_whole : (test : T → Bool) (tests : List (T → Bool)) (found : List (Option ℕ)) → AreFound (test ∷ tests) slots found → option_to_list (option_and_then (get slots) (found_by_all found)) ≡ all_of (test ∷ tests) (live_items slots)
   found_whole test tests [] are = absurd are
   found_whole test tests (None ∷ found) are =
       sym (all_of-next test tests (live_items slots) ∙ ap (all_of tests) (sym are.0.only))
   found_whole test tests (Some ix ∷ found) are = by_slot (get slots ix) refl are.0.only are.0.live
     where
-      by_slot : (o : Option T) → get slots ix ≡ o → option_to_list o ≡ filter test (live_items slots) → IsSome o → items_at slots (found_by_all (Some ix ∷ found)) ≡ all_of (test ∷ tests) (live_items slots)
+      by_slot : (o : Option T) → get slots ix ≡ o → option_to_list o ≡ filter test (live_items slots) → IsSome o → option_to_list (option_and_then (get slots) (found_by_all (Some ix ∷ found))) ≡ all_of (test ∷ tests) (live_items slots)
       by_slot None there only some = absurd (cc)
       by_slot (Some x) there only some =
           let whole : all_of (test ∷ tests) (live_items slots) ≡ cond (list_all (is_at ix) found) (x ∷ []) [] =
           all_of-next test tests (live_items slots) ∙ ap (all_of tests) (sym only) ∙ ap (λ b. cond b (x ∷ []) []) (every_found tests found ix x there are.1) in
-          sym (whole ∙ split (λ b. cond b (x ∷ []) [] ≡ items_at slots (cond b (ix ∷ []) [])) (list_all (is_at ix) found) (λ _. rw there refl) (λ _. refl))
+          sym (whole ∙ split (λ b. cond b (x ∷ []) [] ≡ option_to_list (option_and_then (get slots) (cond b (Some ix) None))) (list_all (is_at ix) found) (λ _. rw there refl) (λ _. refl))
 
   -- the slots hold what the tests find
   pub found_entry : (tests : List (T → Bool)) (at : Option ℕ) (found : List (Option ℕ)) → AreFound tests slots (at ∷ found) → entry_at slots (at ∷ found) ≡ entry tests (live_items slots)
   found_entry [] at found are = absurd are
   found_entry (test ∷ tests) at found are =
-      ap (λ l. entry_of l (items_at slots (found_by_all (at ∷ found)))) (found_listing (test ∷ tests) (at ∷ found) are)
+      ap (λ l. entry_of l (option_to_list (option_and_then (get slots) (found_by_all (at ∷ found))))) (found_listing (test ∷ tests) (at ∷ found) are)
       ∙ ap (entry_of (listing (test ∷ tests) (live_items slots))) (found_whole test tests (at ∷ found) are)
 
 -- what the slots that searches found hold

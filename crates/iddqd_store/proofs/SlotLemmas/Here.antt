@@ -1,6 +1,7 @@
 -- What searches by the keys of an item of a sound bag find: the slot of the item.
 use Rattle.std.specs.Prelude.{◌≡◌, ◌≢◌, ◌<◌, ℕ, Bool, true, List, [], ◌∷◌, Option, Some, filter, fold, length, map, nat_eq, false, ◌||◌, if◌then◌else◌}
 use Rattle.std.specs.List.{AllByRecursion, list_all}
+use Rattle.std.specs.Option.{option_and_then, option_to_list}
 use Rattle.std.proofs.Common.{IsSome, refl, sym, ap, ◌∙◌, arith}
 use Rattle.std.proofs.lemmas.Bool.Decides.{nat_tests}
 use Rattle.iddqd_store.specs.Bag.{Ranks, IsSound, entry, entry_of, listing, unique}
@@ -46,7 +47,7 @@ module _ {T : Type 0} (slots : List (Option T)) (ix : ℕ) (x : T) (here : get s
   holds_one [] some = absurd (omega arith)
   holds_one (test ∷ tests) some = ap (items_at slots) (one_slot tests) ∙ (rw here refl)
 
-  holds_whole : (tests : List (T → Bool)) → 0 < length tests → items_at slots (found_by_all (all_at ix tests)) ≡ x ∷ []
+  holds_whole : (tests : List (T → Bool)) → 0 < length tests → option_to_list (option_and_then (get slots) (found_by_all (all_at ix tests))) ≡ x ∷ []
   holds_whole [] some = absurd (omega arith)
   holds_whole (test ∷ tests) some = rw (all_there tests) (rw here refl)
 
@@ -64,7 +65,7 @@ module _ {T : Type 0} (ranks : Ranks T) (tests : List (T → Bool)) (some : 0 < 
   pub finds_here : FindsHere tests slots ix x
   finds_here = record {
     found = are_found slots ix x here tests only;
-    value = ap (λ l. entry_of l (items_at slots (found_by_all (all_at ix tests)))) (holds_one slots ix x here tests some) ∙ ap (entry_of (x ∷ [])) (holds_whole slots ix x here tests some) ∙ sym is_unique_here;
+    value = ap (λ l. entry_of l (option_to_list (option_and_then (get slots) (found_by_all (all_at ix tests))))) (holds_one slots ix x here tests some) ∙ ap (entry_of (x ∷ [])) (holds_whole slots ix x here tests some) ∙ sym is_unique_here;
     listed = holds_one slots ix x here tests some ∙ sym one_listed;
     some = λ none. absurd (omega (arith, ap length (sym one_listed ∙ none)));
     unique_item = is_unique_here;

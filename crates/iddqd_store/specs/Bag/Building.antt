@@ -16,7 +16,8 @@ module _ {U S T : Type 0} (becomes : U → S → Type 0) (steps : S → Option T
   -- The iterator gave a list for which `P` holds, and then `x`.
   -- Example: For an iterator over 1, 2, 3, and 3 as `x`, the list is 1, 2.
   abbrev pub GivesThen : U → T → (List T → Type 0) → Type 0
-  GivesThen iter x P = (it : S) × (xs : List T) × (rest : S) × becomes iter it × YieldsThen steps it xs (Some x) rest × P xs
+  GivesThen iter x P =
+      (it : S) × (xs : List T) × (rest : S) × becomes iter it × YieldsThen steps it xs (Some x) rest × P xs
 
 -- Whatever state the iterator begins in, as many items as it may give fit beside those that are there.
 -- Example: An iterator that may give at most 4 items fits beside 3 items if the capacity is 7.
@@ -49,7 +50,8 @@ IsReason Memory found = found ≡ []
 -- No items of `taken` and `old` conflict, and some item of `taken` or `old` conflicts with `x` exactly if the reason is
 -- `Conflict`.
 -- Example: If `taken` is (4, 40), the item (4, 50) is rejected with the reason `Conflict`.
-pub record IsRefusedBehind {T : Type 0} (ranks : Ranks T) (old taken : List T) (x : T) (why : ExtendUniqueReason) : Type 0 where
+pub record IsRefusedBehind {T : Type 0} (ranks : Ranks T) (old taken : List T) (x : T)
+    (why : ExtendUniqueReason) : Type 0 where
   pub apart : IsSound ranks (taken ++ old)
   pub reason : IsReason why (clash ranks (taken ++ old) x)
 

@@ -14,7 +14,8 @@ module _ {F T R : Type 0} (g : Mut F (Bor T × Unit {0}) R) where
   -- items before it may leave.
   -- Example: A closure that divides by the second key may be called at (1, 10), (2, 20), and not at (1, 0).
   abbrev pub TakesInTurn : F → List T → Type 0
-  TakesInTurn f list = (before : List T) (x : T) (after : List T) (q : F) → list ≡ before ++ x ∷ after → Reaches f before q → TakesAt g q x
+  TakesInTurn f list = (before : List T) (x : T) (after : List T) (q : F)
+      → list ≡ before ++ x ∷ after → Reaches f before q → TakesAt g q x
 
   -- The closure `f` may be called at each item of the bag once, in any order.
   -- Example: A closure that adds 1 to the second key may be called at the bag, and not if a second key is the largest

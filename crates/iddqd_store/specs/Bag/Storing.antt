@@ -34,4 +34,5 @@ module _ {T D : Type 0} (answers : T → D → Type 0) (put : T → D → T) (ra
   -- Example: For the test whether the first key is 2, and the answer 7, `new` has (2, 20) with the data 7, (1, 10)
   -- and (3, 30).
   abbrev pub StoresOne : (T → Bool) → List T → List T → Type 0
-  StoresOne test bag new = (x : T) × (d : D) × IsOnly test bag (Some x) × answers x d × IsPermutation new (swap ranks bag x (put x d))
+  StoresOne test bag new =
+      (x : T) × (d : D) × IsOnly test bag (Some x) × answers x d × IsPermutation new (swap ranks bag x (put x d))

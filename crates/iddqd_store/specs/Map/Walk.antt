@@ -1,8 +1,8 @@
 -- An iteration over a map's items, in which each may be written.
-use Rattle.std.specs.Prelude.{◌≡◌, ℕ, zero, suc, ◌+◌, List, [], ◌∷◌, ◌++◌, take, drop, Option, Some, None, slice_set}
+use Rattle.std.specs.Prelude.{◌≡◌, ℕ, zero, suc, List, [], ◌∷◌, ◌++◌, take, drop, Option, Some, None}
+use Rattle.std.specs.Option.{option_map}
 use Rattle.iddqd_store.specs.Map.{Map}
-use Rattle.iddqd_store.specs.Map.Written.{of_item}
-use Rattle.iddqd_store.specs.Slots.{items_in, get}
+use Rattle.iddqd_store.specs.Slots.{items_in}
 
 module _ {T S : Type 0} where
   -- `passed` lists the items in the slots before the place `at`.
@@ -24,24 +24,10 @@ module _ {T S : Type 0} where
     pub behind : (f : T → T) → to_come (written f) to ≡ to_come m to
 
 module _ {T : Type 0} where
-  -- `write_next` lists the slots, where the first item from the slot `from` on is replaced by `f` of it.
-  -- Example: For `Some a`, `None`, `Some b` and 1 it is `Some a`, `None`, `Some (f b)`.
-  abbrev pub write_next : (T → T) → List (Option T) → ℕ → List (Option T)
-  write_next f [] from = []
-  write_next f (None ∷ rest) zero = None ∷ write_next f rest zero
-  write_next f (Some x ∷ rest) zero = Some (f x) ∷ rest
-  write_next f (o ∷ rest) (suc from) = o ∷ write_next f rest from
-
-  -- `after_next` is the number after the slot of the first item from the slot `from` on.
-  -- Example: For `Some a`, `None`, `Some b` and 1 it is 3.
-  abbrev pub after_next : List (Option T) → ℕ → ℕ
-  after_next [] from = from
-  after_next (None ∷ rest) zero = suc (after_next rest zero)
-  after_next (Some x ∷ rest) zero = 1
-  after_next (o ∷ rest) (suc from) = suc (after_next rest from)
-
-  -- The slot `at` is the first with an item, from the slot `from` on.
-  -- Example: For `Some a`, `None`, `Some b` and 1 it is 2.
-  pub record IsNextSlot (slots : List (Option T)) (from at : ℕ) (x : T) : Type 0 where
-    pub after : after_next slots from ≡ at + 1
-    pub writes : (f : T → T) → write_next f slots from ≡ slice_set slots at (of_item f (get slots at))
+  -- `first_from` is the first slot with an item, from the slot `from` on, or `None` if there is none.
+  -- Example: For `Some a`, `None`, `Some b` and 1 it is `Some 2`, and for 3 it is `None`.
+  abbrev pub first_from : List (Option T) → ℕ → Option ℕ
+  first_from [] from = None
+  first_from (None ∷ rest) zero = option_map suc (first_from rest zero)
+  first_from (Some x ∷ rest) zero = Some 0
+  first_from (o ∷ rest) (suc from) = option_map suc (first_from rest from)

@@ -22,7 +22,8 @@ module _ {T : Type 0} where
   map_with_if m (Some at) f = map_with m at f
 
 -- A slot that is live stays live.
-pub still_live : {T : Type 0} (f : T → T) (slots : List (Option T)) (i j : ℕ) → is_some (get slots j) ≡ true → is_some (get (slice_set slots i (of_item f (get slots i))) j) ≡ true
+pub still_live : {T : Type 0} (f : T → T) (slots : List (Option T)) (i j : ℕ) → is_some (get slots j) ≡ true
+    → is_some (get (slice_set slots i (of_item f (get slots i))) j) ≡ true
 still_live f [] i j h = h
 still_live f (None ∷ xs) zero j h = h
 still_live f (Some x ∷ xs) zero zero h = refl

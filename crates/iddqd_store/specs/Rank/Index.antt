@@ -41,6 +41,7 @@ module _ {T : Type 0} where
 
 -- A map keeps its items so that no two of them conflict and a table for each rank has their pairs.
 -- Example: A map of the bag has three pairs in each of two tables.
-pub record IsIndexed {T : Type 0} (ranks : Ranks T) (hashes : List (T → ℕ)) (slots : List (Option T)) (tables : List (List (ℕ × ℕ))) : Type 0 where
+pub record IsIndexed {T : Type 0} (ranks : Ranks T) (hashes : List (T → ℕ))
+    (slots : List (Option T)) (tables : List (List (ℕ × ℕ))) : Type 0 where
   pub sound : IsSound ranks (live_items slots)
   pub indexes : AreIndexes hashes slots tables

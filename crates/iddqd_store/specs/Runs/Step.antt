@@ -1,12 +1,14 @@
 -- One step of a map, for any number of ranks: what a command may return, and what the map holds then.
-use Rattle.std.specs.Prelude.{◌≡◌, ◌≢◌, ◌+◌, ◌<◌, ◌≤◌, ℕ, min, max, List, [], ◌∷◌, ◌++◌, Bool, Some, None, filter, length, take, IsPermutation}
+use Rattle.std.specs.Prelude.{◌≡◌, ◌≢◌, ◌+◌, ◌<◌, ◌≤◌, ℕ, List, [], ◌∷◌, ◌++◌}
+use Rattle.std.specs.Prelude.{Bool, Some, None, filter, length, take, IsPermutation}
 use Rattle.std.specs.List.{list_any}
 use Rattle.std.specs.Option.{option_to_list}
 use Rattle.iddqd_store.specs.Bag.{Ranks, IsOnly, IsSound, clash, differ, like, listing, order, over, overs, swap}
 use Rattle.iddqd_store.specs.Bag.Building.{AddsTo, IsReason}
-use Rattle.iddqd_store.specs.Map.{Map, bag}
+use Rattle.iddqd_store.specs.Map.{Map, bag, shrunk_to}
 use Rattle.iddqd_store.specs.Table.Limit.{most_room}
-use Rattle.iddqd_store.specs.Runs.Reply.{Reply, done, duplicate, displaced, found, present, taken, memory, refused, size, items, kept, key, absent, absent_data, extend_refused}
+use Rattle.iddqd_store.specs.Runs.Reply.{Reply, done, duplicate, displaced, found, present, taken, memory}
+use Rattle.iddqd_store.specs.Runs.Reply.{refused, size, items, kept, key, absent, absent_data, extend_refused}
 
 -- `State` is the state of a map: its bag, and its capacity.
 -- Example: (1, 10), (2, 20), (3, 30), and 7.
@@ -103,7 +105,8 @@ module _ {T D : Type 0} where
 
   -- After `done`, `more` items fit, and the capacity grew only if they did not fit before. The bag stays. The reply is
   -- `refused` only if they do not fit, and then nothing changes.
-  -- Example: With the bag and the capacity 7, after `done` for 5 more the capacity is 8 at least, and after `refused` it is 7.
+  -- Example: With the bag and the capacity 7, after `done` for 5 more the capacity is 8 at least, and after `refused`
+  -- it is 7.
   abbrev pub Reserves : State T → ℕ → Reply T D → State T → Type 0
   Reserves old more done new =
       (new.items ≡ old.items) × (length old.items + more ≤ new.capacity) × (old.capacity ≤ new.capacity)
@@ -115,10 +118,11 @@ module _ {T D : Type 0} where
   -- capacity. The reply is `refused` only if that is neither 0 nor the old capacity, and then nothing changes.
   -- Example: With the bag and the capacity 14, it is 5 for the least 5, and 3 for 0.
   abbrev pub ShrinksTo : State T → ℕ → Reply T D → State T → Type 0
-  ShrinksTo old least done new = (new.items ≡ old.items) × (new.capacity ≡ max (length old.items) (min least old.capacity))
+  ShrinksTo old least done new =
+      (new.items ≡ old.items) × (new.capacity ≡ shrunk_to (length old.items) least old.capacity)
   ShrinksTo old least refused new =
-      (0 < max (length old.items) (min least old.capacity)) × (max (length old.items) (min least old.capacity) ≢ old.capacity)
-      × (new ≡ old)
+      (0 < shrunk_to (length old.items) least old.capacity)
+      × (shrunk_to (length old.items) least old.capacity ≢ old.capacity) × (new ≡ old)
   ShrinksTo old least reply new = ⊥
 
   -- No item is left, and the capacity stays.
@@ -167,7 +171,8 @@ module _ {T D : Type 0} where
   -- Example: For the keys 1 and 20 and the item (1, 20) the reply is `displaced` with (1, 10), (2, 20), and for the
   -- item (1, 50) it is `key 1 (1, 50)`.
   abbrev pub EntryInserts : Ranks T → List (T → Bool) → State T → T → Reply T D → State T → Type 0
-  EntryInserts ranks tests old x (displaced ys) new = (differ tests x ≡ None) × InsertsOverwrite ranks old x (displaced ys) new
+  EntryInserts ranks tests old x (displaced ys) new =
+      (differ tests x ≡ None) × InsertsOverwrite ranks old x (displaced ys) new
   EntryInserts ranks tests old x (key r y) new = (differ tests x ≡ Some r) × (y ≡ x) × (new ≡ old)
   EntryInserts ranks tests old x (memory y) new = (differ tests x ≡ None) × Starves ranks old x y new
   EntryInserts ranks tests old x reply new = ⊥
@@ -189,7 +194,8 @@ module _ {T D : Type 0} where
       (listing tests old.items ≡ []) × (differ tests x ≡ Some r) × (y ≡ x) × (new ≡ old)
   OrInserts ranks tests old x done new =
       (listing tests old.items ≡ []) × (differ tests x ≡ None) × InsertsUnique ranks old x done new
-  OrInserts ranks tests old x (memory y) new = (listing tests old.items ≡ []) × (differ tests x ≡ None) × Starves ranks old x y new
+  OrInserts ranks tests old x (memory y) new =
+      (listing tests old.items ≡ []) × (differ tests x ≡ None) × Starves ranks old x y new
   OrInserts ranks tests old x reply new = ⊥
 
   -- The item replaces the one that passes the test, if it has the same keys, and the reply has the old one. Otherwise

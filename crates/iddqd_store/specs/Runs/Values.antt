@@ -1,9 +1,12 @@
 -- The value of a reply.
 use Rattle.std.specs.Prelude.{List, map, option_copied}
 use Rattle.std.specs.Borrow.{Bor}
-use Rattle.iddqd_store.specs.Runs.Reply.{Reply, done, duplicate, displaced, found, present, taken, memory, refused, size, items, kept, key, absent, absent_data, extend_refused}
+use Rattle.iddqd_store.specs.Runs.Reply.{Reply, done, duplicate, displaced, found, present, taken, memory}
+use Rattle.iddqd_store.specs.Runs.Reply.{refused, size, items, kept, key, absent, absent_data, extend_refused}
 use Rattle.iddqd_store.specs.declared.reply.MapReply.{MapReply}
-use Rattle.iddqd_store.specs.declared.reply.MapReply.TheVariants.{Done, Duplicate, Displaced, Found, Present, Taken, Memory, Refused, Length, Items, Kept, Key1, Key2, Key3, Absent, AbsentData, ExtendRefused}
+use Rattle.iddqd_store.specs.declared.reply.MapReply.TheVariants.{Done, Duplicate, Displaced, Found, Present, Taken}
+use Rattle.iddqd_store.specs.declared.reply.MapReply.TheVariants.{Memory, Refused, Length, Items, Kept, Key1, Key2}
+use Rattle.iddqd_store.specs.declared.reply.MapReply.TheVariants.{Key3, Absent, AbsentData, ExtendRefused}
 
 -- `value_by` is the value of a reply, where `lent` and `given` are the lists of what its short lists hold.
 -- Example: For `Length 3` it is `size 3`.

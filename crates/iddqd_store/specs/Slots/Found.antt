@@ -1,7 +1,8 @@
 -- What searches ask for, and what they find.
-use Rattle.std.specs.Prelude.{◌≡◌, ℕ, Bool, true, false, List, [], ◌∷◌, ◌++◌, Option, Some, None, filter_map, fold, if◌then◌else◌, nat_eq, All, ⊤}
+use Rattle.std.specs.Prelude.{◌≡◌, ℕ, Bool, true, false, List, [], ◌∷◌, ◌++◌, Option, Some}
+use Rattle.std.specs.Prelude.{None, filter_map, fold, if◌then◌else◌, nat_eq, All, ⊤}
 use Rattle.std.specs.List.{Contains, IsDistinct, list_any, list_all}
-use Rattle.std.specs.Option.{option_and_then, IfSome}
+use Rattle.std.specs.Option.{option_and_then, option_to_list, IfSome}
 use Rattle.iddqd_store.specs.Bag.{Entry, IsOnly, entry_of}
 use Rattle.iddqd_store.specs.Slots.{get, IsLive, live_items}
 
@@ -9,7 +10,8 @@ module _ {T : Type 0} where
   -- The items of the bag that pass the test have equal keys by `agree`.
   -- Example: It holds for the test whether the first key is 2, and the first rank.
   abbrev pub NamesOneOf : (T → T → Bool) → (T → Bool) → List T → Type 0
-  NamesOneOf agree test bag = (x y : T) → Contains bag x → Contains bag y → test x ≡ true → test y ≡ true → agree x y ≡ true
+  NamesOneOf agree test bag =
+      (x y : T) → Contains bag x → Contains bag y → test x ≡ true → test y ≡ true → agree x y ≡ true
 
   -- `items_at` lists the items of these slots.
   -- Example: For `Some a`, `None`, `Some b` and the slots 2, 0 it is b, a.
@@ -43,16 +45,12 @@ abbrev pub is_at : ℕ → Option ℕ → Bool
 is_at ix None = false
 is_at ix (Some at) = nat_eq ix at
 
--- `found_by_all` lists the one slot that every search found, if there is one.
--- Example: For `Some 2`, `Some 2` it is 2, and for `Some 2`, `None` there is none.
-abbrev pub found_by_all : List (Option ℕ) → List ℕ
-found_by_all [] = []
-found_by_all (None ∷ found) = []
-found_by_all (Some ix ∷ found) = if list_all (is_at ix) found then ix ∷ [] else []
-
-abbrev pub head_of : {X : Type 0} → List X → Option X
-head_of [] = None
-head_of (x ∷ xs) = Some x
+-- `found_by_all` is the one slot that every search found, or `None` if there is none.
+-- Example: For `Some 2`, `Some 2` it is `Some 2`, and for `Some 2`, `None` it is `None`.
+abbrev pub found_by_all : List (Option ℕ) → Option ℕ
+found_by_all [] = None
+found_by_all (None ∷ found) = None
+found_by_all (Some ix ∷ found) = if list_all (is_at ix) found then Some ix else None
 
 module _ {T : Type 0} where
   -- A search by the test found this slot, or none if no item passes the test.
@@ -78,4 +76,5 @@ module _ {T : Type 0} where
   -- `entry_at` is what searches by all keys found, as an `Entry`.
   -- Example: For `Some a`, `None`, `Some b` and `Some 2`, `Some 2` it is `unique b`.
   abbrev pub entry_at : List (Option T) → List (Option ℕ) → Entry T
-  entry_at slots found = entry_of (held_at slots found) (items_at slots (found_by_all found))
+  entry_at slots found =
+      entry_of (held_at slots found) (option_to_list (option_and_then (get slots) (found_by_all found)))

@@ -1,5 +1,6 @@
 -- How many pairs fit into a table.
-use Rattle.std.specs.Prelude.{ℕ, ◌+◌, ◌*◌, ◌/◌, ◌^◌, ◌≡◌, ◌<◌, ◌≤◌, Option, None, Some, Result, IsErr, IfOk, IfSome, OnErr, length}
+use Rattle.std.specs.Prelude.{ℕ, ◌+◌, ◌*◌, ◌/◌, ◌^◌, ◌≡◌, ◌<◌, ◌≤◌, Option, None}
+use Rattle.std.specs.Prelude.{Some, Result, IsErr, IfOk, IfSome, OnErr, length}
 use Rattle.std.specs.Option.{unwrap_or}
 use Rattle.iddqd_store.specs.Table.Limit.{IsLeast, IsSize, most_room}
 use Rattle.iddqd_store.specs.Table.{Table}
@@ -12,8 +13,9 @@ pub record IsSized (table : Table) : Type 0 where
   pub limit : table.limit ≡ length table.row / 8 * 7
   pub fits : length table.pairs ≤ table.limit
 
--- There is a larger table, or `None` if this many more pairs fit in the old one. They fit in the larger table, which has
--- the fewest cells that hold them. The call fails only if they do not fit, and it always fails if no table can hold them.
+-- There is a larger table, or `None` if this many more pairs fit in the old one. They fit in the larger table, which
+-- has the fewest cells that hold them. The call fails only if they do not fit, and it always fails if no table can hold
+-- them.
 -- Example: With 3 pairs and the capacity 7, the larger table for 5 more has the capacity 14.
 pub record GrowsFor {E : Type 0} (old : Table) (more : ℕ) (result : Result (Option Table) E) : Type 0 where
   pub room : IfOk result (λ larger. length old.pairs + more ≤ (unwrap_or larger old).limit)
@@ -22,8 +24,8 @@ pub record GrowsFor {E : Type 0} (old : Table) (more : ℕ) (result : Result (Op
   pub reason : OnErr result (old.limit < length old.pairs + more)
   pub past : most_room < length old.pairs + more → IsErr result
 
--- At most this many cells are probed to make a larger table: each old cell and a new one for it, the new cells once more,
--- and for each pair as many as there are pairs. For none it is 0.
+-- At most this many cells are probed to make a larger table: each old cell and a new one for it, the new cells once
+-- more, and for each pair as many as there are pairs. For none it is 0.
 -- Example: From 8 cells with 7 pairs into 16 cells it is 2 * 8 + 16 + 7 * 7 = 81.
 abbrev pub growth_within : Table → Option Table → ℕ
 growth_within old None = 0

@@ -1,5 +1,6 @@
 -- What a search of a table returns and costs.
-use Rattle.std.specs.Prelude.{ℕ, ◌+◌, ◌≡◌, ◌<◌, ◌≤◌, Bool, true, false, Option, Contains, IfSome, IfNone, length, count_by}
+use Rattle.std.specs.Prelude.{ℕ, ◌+◌, ◌≡◌, ◌<◌, ◌≤◌, Bool, true, false, Option}
+use Rattle.std.specs.Prelude.{Contains, IfSome, IfNone, length, count_by}
 use Rattle.iddqd_store.specs.Table.Ring.{stretch}
 use Rattle.iddqd_store.specs.Table.{hashes, under, IsFree, LooksUp, Spot, Table}
 
@@ -20,7 +21,8 @@ pub record IsVacantUnder (table : Table) (sought : ℕ) (spot : Spot) : Type 0 w
 -- The matcher is asked no more questions than there are pairs with the hash, and cells are probed from the home of the
 -- hash up to the result (`LooksUp`).
 -- Example: In (5, 0), (6, 2) a search for 6 asks at most once.
-pub record CostsUnder {A : Type 0} (table : Table) (hash : ℕ) (answer : Option A) (asks asks_then look look_then : ℕ) : Type 0 where
+pub record CostsUnder {A : Type 0} (table : Table) (hash : ℕ) (answer : Option A)
+    (asks asks_then look look_then : ℕ) : Type 0 where
   pub asked : asks_then ≤ asks + count_by (under hash) table.pairs
   pub looks : LooksUp (hashes table.pairs) (length table.row) hash answer look look_then
   pub within : stretch (hashes table.pairs) (length table.row) hash ≤ length table.pairs

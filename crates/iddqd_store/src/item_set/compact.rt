@@ -1,5 +1,6 @@
 //! Sets without free slots: `compact` and `shrink_to`.
-ghost use Rattle.std.specs.Prelude.{◌≡◌, ◌<◌, ◌≤◌, [], length, map, min, max, Some, OnOk, OnErr, vec_capacity};
+ghost use Rattle.std.specs.Prelude.{◌≡◌, ◌<◌, ◌≤◌, [], length, map, Some, OnOk, OnErr, vec_capacity};
+ghost use Rattle.iddqd_store.specs.Map.{shrunk_to};
 ghost use Rattle.iddqd_store.specs.Slots.{live_items, live_count};
 ghost use Rattle.iddqd_store.specs.Slots.Chain.{live_slots};
 
@@ -42,11 +43,11 @@ impl<T: Drop> ItemSet<T> {
     pub fn shrink_to(&mut self, least: usize) -> Result<(), TryReserveError>
         ensures slots { OnOk result (self.new.slots ≡ map Some (live_items self.old.slots)) }
         ensures capacity { OnOk result (self.new.capacity
-            ≡ max (live_count self.old.slots) (min least self.old.capacity)) }
+            ≡ shrunk_to (live_count self.old.slots) least self.old.capacity) }
         ensures unchanged { OnErr result (self.new ≡ self.old) }
-        ensures reason { OnErr result (0 < max (live_count self.old.slots) (min least self.old.capacity)) }
+        ensures reason { OnErr result (0 < shrunk_to (live_count self.old.slots) least self.old.capacity) }
         ensures less { OnErr result
-            (max (live_count self.old.slots) (min least self.old.capacity) < self.old.capacity) }
+            (shrunk_to (live_count self.old.slots) least self.old.capacity < self.old.capacity) }
     {
         let wanted = self.live.max(least.min(self.slots.capacity()));
         if wanted == self.slots.capacity() {

@@ -7,7 +7,7 @@ ghost use Rattle.iddqd_store.specs.Bag.{IsOnly, differ, entry, is_unique, listin
 ghost use Rattle.iddqd_store.specs.Bag.Calling.{TakesInTurn};
 ghost use Rattle.iddqd_store.specs.Bag.Storing.{Stores};
 ghost use Rattle.iddqd_store.specs.Map.{bag, Loses};
-ghost use Rattle.iddqd_tri.specs.Entries.{FindsSame, HasFound, HoldsFound, PutsOver, entry_with1, entry_with2, entry_with3, entry_tests, lends_data1, lends_data2, lends_data3, lends_held};
+ghost use Rattle.iddqd_tri.specs.Entries.{FindsSame, HasFound, HoldsFound, PutsOver, entry_tests, entry_with, lends_entry_data, lends_held};
 ghost use Rattle.iddqd_tri.specs.Keys.{has1, has2, has3};
 ghost use Rattle.iddqd_tri.specs.Mismatch.{mismatch_item, mismatch_rank};
 ghost use Rattle.iddqd_tri.specs.OccupiedRefs.{is_one, seen1, seen2, seen3};
@@ -195,11 +195,13 @@ impl<'a, T: TriHashItemMut, S: BuildHasher> OccupiedEntry<'a, T, S> {
             ≡ map T.data_of (filter (has1 T.TriHashItem T.K1.eq self.old.key1.now) (bag self.old.map.now)) }
         ensures swaps { (x : T) (d : T.Data)
             → IsOnly (has1 T.TriHashItem T.K1.eq self.old.key1.now) (bag self.old.map.now) (Some x)
-            → IsPermutation (bag (entry_with1 self.old (λ y. T.put y d)).map.now)
+            → IsPermutation (bag (entry_with self.old self.old.slot1 (λ y. T.put y d)).map.now)
             (swap ⟦<T as Ranked>⟧.ranks (bag self.old.map.now) x (T.put x d)) }
-        ensures has_found { (d : T.Data) → HasFound ⟦<T as Ranked>⟧.key_tests (entry_with1 self.old (λ y. T.put y d)) }
-        ensures* lends { sem 𝓛 (lends_data1 T.row S.row T.K1.row T.K2.row T.K3.row S.Hasher.row
-            T.TriHashItem T.K1.Hash T.K2.Hash T.K3.Hash S.BuildHasher S.Hasher.Hasher T.Data.row T.put self.entry result) }
+        ensures has_found { (d : T.Data)
+            → HasFound ⟦<T as Ranked>⟧.key_tests (entry_with self.old self.old.slot1 (λ y. T.put y d)) }
+        ensures* lends { sem 𝓛 (lends_entry_data T.row S.row T.K1.row T.K2.row T.K3.row S.Hasher.row
+            T.TriHashItem T.K1.Hash T.K2.Hash T.K3.Hash S.BuildHasher S.Hasher.Hasher T.Data.row T.put
+            self.entry self.old.slot1 result) }
     {
         let slot1 = self.slot1;
         self.map.data_mut_of(slot1)
@@ -212,11 +214,13 @@ impl<'a, T: TriHashItemMut, S: BuildHasher> OccupiedEntry<'a, T, S> {
             ≡ map T.data_of (filter (has2 T.TriHashItem T.K2.eq self.old.key2.now) (bag self.old.map.now)) }
         ensures swaps { (x : T) (d : T.Data)
             → IsOnly (has2 T.TriHashItem T.K2.eq self.old.key2.now) (bag self.old.map.now) (Some x)
-            → IsPermutation (bag (entry_with2 self.old (λ y. T.put y d)).map.now)
+            → IsPermutation (bag (entry_with self.old self.old.slot2 (λ y. T.put y d)).map.now)
             (swap ⟦<T as Ranked>⟧.ranks (bag self.old.map.now) x (T.put x d)) }
-        ensures has_found { (d : T.Data) → HasFound ⟦<T as Ranked>⟧.key_tests (entry_with2 self.old (λ y. T.put y d)) }
-        ensures* lends { sem 𝓛 (lends_data2 T.row S.row T.K1.row T.K2.row T.K3.row S.Hasher.row
-            T.TriHashItem T.K1.Hash T.K2.Hash T.K3.Hash S.BuildHasher S.Hasher.Hasher T.Data.row T.put self.entry result) }
+        ensures has_found { (d : T.Data)
+            → HasFound ⟦<T as Ranked>⟧.key_tests (entry_with self.old self.old.slot2 (λ y. T.put y d)) }
+        ensures* lends { sem 𝓛 (lends_entry_data T.row S.row T.K1.row T.K2.row T.K3.row S.Hasher.row
+            T.TriHashItem T.K1.Hash T.K2.Hash T.K3.Hash S.BuildHasher S.Hasher.Hasher T.Data.row T.put
+            self.entry self.old.slot2 result) }
     {
         let slot2 = self.slot2;
         self.map.data_mut_of(slot2)
@@ -229,11 +233,13 @@ impl<'a, T: TriHashItemMut, S: BuildHasher> OccupiedEntry<'a, T, S> {
             ≡ map T.data_of (filter (has3 T.TriHashItem T.K3.eq self.old.key3.now) (bag self.old.map.now)) }
         ensures swaps { (x : T) (d : T.Data)
             → IsOnly (has3 T.TriHashItem T.K3.eq self.old.key3.now) (bag self.old.map.now) (Some x)
-            → IsPermutation (bag (entry_with3 self.old (λ y. T.put y d)).map.now)
+            → IsPermutation (bag (entry_with self.old self.old.slot3 (λ y. T.put y d)).map.now)
             (swap ⟦<T as Ranked>⟧.ranks (bag self.old.map.now) x (T.put x d)) }
-        ensures has_found { (d : T.Data) → HasFound ⟦<T as Ranked>⟧.key_tests (entry_with3 self.old (λ y. T.put y d)) }
-        ensures* lends { sem 𝓛 (lends_data3 T.row S.row T.K1.row T.K2.row T.K3.row S.Hasher.row
-            T.TriHashItem T.K1.Hash T.K2.Hash T.K3.Hash S.BuildHasher S.Hasher.Hasher T.Data.row T.put self.entry result) }
+        ensures has_found { (d : T.Data)
+            → HasFound ⟦<T as Ranked>⟧.key_tests (entry_with self.old self.old.slot3 (λ y. T.put y d)) }
+        ensures* lends { sem 𝓛 (lends_entry_data T.row S.row T.K1.row T.K2.row T.K3.row S.Hasher.row
+            T.TriHashItem T.K1.Hash T.K2.Hash T.K3.Hash S.BuildHasher S.Hasher.Hasher T.Data.row T.put
+            self.entry self.old.slot3 result) }
     {
         let slot3 = self.slot3;
         self.map.data_mut_of(slot3)

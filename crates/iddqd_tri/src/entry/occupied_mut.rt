@@ -7,8 +7,8 @@ ghost use Rattle.iddqd_store.specs.Bag.{is_unique, swap};
 ghost use Rattle.iddqd_store.specs.Bag.Calling.{TakesInTurn};
 ghost use Rattle.iddqd_store.specs.Bag.Storing.{Stores};
 ghost use Rattle.iddqd_store.specs.Map.{bag};
-ghost use Rattle.iddqd_tri.specs.Entries.{Holds, HoldsSame, held, held1, held2, held3, held_entry, held_unique, held_rests_if_none, held_with1, held_with2, held_with3, held_with_unique, lends_held1, lends_held2, lends_held3, lends_held_unique};
-ghost use Rattle.iddqd_tri.specs.RefMuts.{ref_lender, ref_map, ref_item};
+ghost use Rattle.iddqd_tri.specs.Entries.{Holds, HoldsSame, held, held1, held2, held3, held_entry, held_unique, held_with, lends_held_data, unique_slot};
+ghost use Rattle.iddqd_tri.specs.RefMuts.{ref_lender, ref_map, ref_item, rests_if_none};
 
 use super::OccupiedEntryMut;
 use crate::item::{Ranked, TriHashItem, TriHashItemMut};
@@ -79,7 +79,7 @@ impl<'a, T: TriHashItem, S: BuildHasher> OccupiedEntryMut<'a, T, S> {
         ensures item { option_and_then ref_item result ≡ held_unique self.entry }
         ensures unchanged { IfSome result (λ r. ref_map r ≡ self.entry.map.now) }
         ensures same_map { IfSome result (λ r. ref_lender r ≡ self.entry.map.ghost_name) }
-        ensures* rests_at_none { sem 𝓛 (held_rests_if_none T.row S.row T.K1.row T.K2.row T.K3.row S.Hasher.row
+        ensures* rests_at_none { sem 𝓛 (rests_if_none T.row S.row T.K1.row T.K2.row T.K3.row S.Hasher.row
             self.entry.map result) }
     {
         let OccupiedEntryMut {
@@ -97,7 +97,7 @@ impl<'a, T: TriHashItem, S: BuildHasher> OccupiedEntryMut<'a, T, S> {
         ensures item { option_and_then ref_item result ≡ held1 self.entry }
         ensures unchanged { IfSome result (λ r. ref_map r ≡ self.entry.map.now) }
         ensures same_map { IfSome result (λ r. ref_lender r ≡ self.entry.map.ghost_name) }
-        ensures* rests_at_none { sem 𝓛 (held_rests_if_none T.row S.row T.K1.row T.K2.row T.K3.row S.Hasher.row
+        ensures* rests_at_none { sem 𝓛 (rests_if_none T.row S.row T.K1.row T.K2.row T.K3.row S.Hasher.row
             self.entry.map result) }
     {
         let OccupiedEntryMut {
@@ -115,7 +115,7 @@ impl<'a, T: TriHashItem, S: BuildHasher> OccupiedEntryMut<'a, T, S> {
         ensures item { option_and_then ref_item result ≡ held2 self.entry }
         ensures unchanged { IfSome result (λ r. ref_map r ≡ self.entry.map.now) }
         ensures same_map { IfSome result (λ r. ref_lender r ≡ self.entry.map.ghost_name) }
-        ensures* rests_at_none { sem 𝓛 (held_rests_if_none T.row S.row T.K1.row T.K2.row T.K3.row S.Hasher.row
+        ensures* rests_at_none { sem 𝓛 (rests_if_none T.row S.row T.K1.row T.K2.row T.K3.row S.Hasher.row
             self.entry.map result) }
     {
         let OccupiedEntryMut {
@@ -133,7 +133,7 @@ impl<'a, T: TriHashItem, S: BuildHasher> OccupiedEntryMut<'a, T, S> {
         ensures item { option_and_then ref_item result ≡ held3 self.entry }
         ensures unchanged { IfSome result (λ r. ref_map r ≡ self.entry.map.now) }
         ensures same_map { IfSome result (λ r. ref_lender r ≡ self.entry.map.ghost_name) }
-        ensures* rests_at_none { sem 𝓛 (held_rests_if_none T.row S.row T.K1.row T.K2.row T.K3.row S.Hasher.row
+        ensures* rests_at_none { sem 𝓛 (rests_if_none T.row S.row T.K1.row T.K2.row T.K3.row S.Hasher.row
             self.entry.map result) }
     {
         let OccupiedEntryMut {
@@ -152,11 +152,12 @@ impl<'a, T: TriHashItemMut, S: BuildHasher> OccupiedEntryMut<'a, T, S> {
         requires { Holds self.old }
         ensures value { option_to_list (option_copied_mut result) ≡ map T.data_of (option_to_list (held1 self.old)) }
         ensures swaps { (x : T) (d : T.Data) → held1 self.old ≡ Some x
-            → IsPermutation (bag (held_with1 self.old (λ y. T.put y d)).map.now)
+            → IsPermutation (bag (held_with self.old self.old.slot1 (λ y. T.put y d)).map.now)
             (swap ⟦<T as Ranked>⟧.ranks (bag self.old.map.now) x (T.put x d)) }
-        ensures holds { (f : T → T) → Holds (held_with1 self.old f) }
-        ensures* lends { sem 𝓛 (lends_held1 T.row S.row T.K1.row T.K2.row T.K3.row S.Hasher.row
-            T.TriHashItem T.K1.Hash T.K2.Hash T.K3.Hash S.BuildHasher S.Hasher.Hasher T.Data.row T.put self.entry result) }
+        ensures holds { (f : T → T) → Holds (held_with self.old self.old.slot1 f) }
+        ensures* lends { sem 𝓛 (lends_held_data T.row S.row T.K1.row T.K2.row T.K3.row S.Hasher.row
+            T.TriHashItem T.K1.Hash T.K2.Hash T.K3.Hash S.BuildHasher S.Hasher.Hasher T.Data.row T.put
+            self.entry self.old.slot1 result) }
     {
         let slot1 = self.slot1;
         self.map.data_mut_of(slot1)
@@ -167,11 +168,12 @@ impl<'a, T: TriHashItemMut, S: BuildHasher> OccupiedEntryMut<'a, T, S> {
         requires { Holds self.old }
         ensures value { option_to_list (option_copied_mut result) ≡ map T.data_of (option_to_list (held2 self.old)) }
         ensures swaps { (x : T) (d : T.Data) → held2 self.old ≡ Some x
-            → IsPermutation (bag (held_with2 self.old (λ y. T.put y d)).map.now)
+            → IsPermutation (bag (held_with self.old self.old.slot2 (λ y. T.put y d)).map.now)
             (swap ⟦<T as Ranked>⟧.ranks (bag self.old.map.now) x (T.put x d)) }
-        ensures holds { (f : T → T) → Holds (held_with2 self.old f) }
-        ensures* lends { sem 𝓛 (lends_held2 T.row S.row T.K1.row T.K2.row T.K3.row S.Hasher.row
-            T.TriHashItem T.K1.Hash T.K2.Hash T.K3.Hash S.BuildHasher S.Hasher.Hasher T.Data.row T.put self.entry result) }
+        ensures holds { (f : T → T) → Holds (held_with self.old self.old.slot2 f) }
+        ensures* lends { sem 𝓛 (lends_held_data T.row S.row T.K1.row T.K2.row T.K3.row S.Hasher.row
+            T.TriHashItem T.K1.Hash T.K2.Hash T.K3.Hash S.BuildHasher S.Hasher.Hasher T.Data.row T.put
+            self.entry self.old.slot2 result) }
     {
         let slot2 = self.slot2;
         self.map.data_mut_of(slot2)
@@ -182,11 +184,12 @@ impl<'a, T: TriHashItemMut, S: BuildHasher> OccupiedEntryMut<'a, T, S> {
         requires { Holds self.old }
         ensures value { option_to_list (option_copied_mut result) ≡ map T.data_of (option_to_list (held3 self.old)) }
         ensures swaps { (x : T) (d : T.Data) → held3 self.old ≡ Some x
-            → IsPermutation (bag (held_with3 self.old (λ y. T.put y d)).map.now)
+            → IsPermutation (bag (held_with self.old self.old.slot3 (λ y. T.put y d)).map.now)
             (swap ⟦<T as Ranked>⟧.ranks (bag self.old.map.now) x (T.put x d)) }
-        ensures holds { (f : T → T) → Holds (held_with3 self.old f) }
-        ensures* lends { sem 𝓛 (lends_held3 T.row S.row T.K1.row T.K2.row T.K3.row S.Hasher.row
-            T.TriHashItem T.K1.Hash T.K2.Hash T.K3.Hash S.BuildHasher S.Hasher.Hasher T.Data.row T.put self.entry result) }
+        ensures holds { (f : T → T) → Holds (held_with self.old self.old.slot3 f) }
+        ensures* lends { sem 𝓛 (lends_held_data T.row S.row T.K1.row T.K2.row T.K3.row S.Hasher.row
+            T.TriHashItem T.K1.Hash T.K2.Hash T.K3.Hash S.BuildHasher S.Hasher.Hasher T.Data.row T.put
+            self.entry self.old.slot3 result) }
     {
         let slot3 = self.slot3;
         self.map.data_mut_of(slot3)
@@ -198,11 +201,12 @@ impl<'a, T: TriHashItemMut, S: BuildHasher> OccupiedEntryMut<'a, T, S> {
         ensures value { option_to_list (option_copied_mut result) ≡ map T.data_of (option_to_list
             (held_unique self.old)) }
         ensures swaps { (x : T) (d : T.Data) → held_unique self.old ≡ Some x
-            → IsPermutation (bag (held_with_unique self.old (λ y. T.put y d)).map.now)
+            → IsPermutation (bag (held_with self.old (unique_slot self.old) (λ y. T.put y d)).map.now)
             (swap ⟦<T as Ranked>⟧.ranks (bag self.old.map.now) x (T.put x d)) }
-        ensures holds { (f : T → T) → Holds (held_with_unique self.old f) }
-        ensures* lends { sem 𝓛 (lends_held_unique T.row S.row T.K1.row T.K2.row T.K3.row S.Hasher.row
-            T.TriHashItem T.K1.Hash T.K2.Hash T.K3.Hash S.BuildHasher S.Hasher.Hasher T.Data.row T.put self.entry result) }
+        ensures holds { (f : T → T) → Holds (held_with self.old (unique_slot self.old) f) }
+        ensures* lends { sem 𝓛 (lends_held_data T.row S.row T.K1.row T.K2.row T.K3.row S.Hasher.row
+            T.TriHashItem T.K1.Hash T.K2.Hash T.K3.Hash S.BuildHasher S.Hasher.Hasher T.Data.row T.put
+            self.entry (unique_slot self.old) result) }
     {
         let slot = one_of(self.slot1, self.slot2, self.slot3);
         self.map.data_mut_of(slot)

@@ -4,10 +4,8 @@ use Rattle.std.proofs.lemmas.Cmp.{nat_eq_equiv}
 use Rattle.std.proofs.lemmas.List.{nil_from_length}
 use Rattle.iddqd_bi.specs.Bag.{Ranks, clash, order}
 use Rattle.iddqd_bi.specs.Map.{bag}
-use Rattle.iddqd_bi.specs.Mismatch.{OnNoMemory, error_rank}
+use Rattle.iddqd_bi.specs.Mismatch.{error_rank}
 use Rattle.iddqd_bi.specs.Rank.{agree}
-use Rattle.iddqd_bi.specs.declared.error.EntryError.{EntryError}
-use Rattle.iddqd_bi.specs.declared.error.EntryError.TheVariants.{Key1, Key2, Memory}
 use Rattle.iddqd_bi.proofs.CallerLemmas.{length-clash}
 use Rattle.example_calls.specs.declared.entry.Visit.{Visit}
 use Rattle.example_calls.proofs.entry.note_visit.Goals as goal
@@ -19,12 +17,6 @@ by = agree (λ (v : Visit). v.number) nat_eq ∷ agree (λ (v : Visit). v.page) 
 none_found : (there : List Visit) (v : Visit) → clash by there v ≡ [] → order by there v ≡ []
 none_found there v free = nil_from_length _ (sym (length-clash by there v) ∙ ap length free)
 
--- an insert that fails although no key differs lacks memory
-lacks_memory : {P : Type 0} (e : EntryError Visit) → error_rank e ≡ None → OnNoMemory e P → P
-lacks_memory (Key1 v) no_rank full = absurd (cc no_rank)
-lacks_memory (Key2 v) no_rank full = absurd (cc no_rank)
-lacks_memory (Memory v) no_rank full = full
-
 pub returns-in-Occupied-clause-granted : goal.returns-in-Occupied-clause-granted
 returns-in-Occupied-clause-granted c free room =
     let found = c.in-Occupied.ensures in
@@ -35,10 +27,10 @@ returns-in-Occupied-clause-occupied c = λ _ free.
     let found = c.in-Occupied.ensures in
     found.is_found.some (rw (found.unchanged, found.keys.key1, found.keys.key2) (none_found (bag c.args.visits.now) c.args.visit free))
 
--- the entry has the visit's own keys
+-- the entry has the visit's own keys, so that an insert fails only for lack of memory
 pub returns-in-Err-clause-full : goal.returns-in-Err-clause-full
 returns-in-Err-clause-full c = λ _.
     let asked = c.in-Vacant.ensures in
     let back = c.in-Err.ensures.hands_back in
     let own : error_rank c.in-Err.e ≡ None = sym back.rank ∙ rw (asked.keys.key1, asked.keys.key2, nat_eq_equiv.refl c.args.visit.number, nat_eq_equiv.refl c.args.visit.page) refl in
-    rw (← asked.unchanged) (lacks_memory c.in-Err.e own back.memory)
+    rw (← asked.unchanged) (back.memory own)

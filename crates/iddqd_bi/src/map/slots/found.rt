@@ -5,7 +5,7 @@ ghost use Rattle.std.specs.Option.{option_and_then};
 ghost use Rattle.iddqd_store.specs.Bag.{IsOnly, differ, every_of};
 ghost use Rattle.iddqd_store.specs.Rank.Index.{HasHash};
 ghost use Rattle.iddqd_store.specs.Map.{bag, hash_of};
-ghost use Rattle.iddqd_store.specs.Slots.Found.{each_once, items_at, FoundAt, found_by_all, head_of};
+ghost use Rattle.iddqd_store.specs.Slots.Found.{each_once, items_at, FoundAt, found_by_all};
 ghost use Rattle.iddqd_store.specs.Slots.{get, IsLive};
 ghost use Rattle.iddqd_bi.specs.Keys.{has2, has_both};
 ghost use Rattle.std.specs.Borrow.{sem};
@@ -41,7 +41,7 @@ pub(crate) fn differ<T: BiHashItem>(item: &T, key1: &T::K1, key2: &T::K2) -> Opt
 
 /// Returns the slot that both searches found, or `None` if they did not find the same one.
 pub(crate) fn one_of(slot1: Option<ItemIndex>, slot2: Option<ItemIndex>) -> Option<ItemIndex>
-    ensures { result ≡ head_of (found_by_all (slot1 ∷ slot2 ∷ [])) }
+    ensures { result ≡ found_by_all (slot1 ∷ slot2 ∷ []) }
 {
     match (slot1, slot2) {
         (Some(a), Some(b)) => { if a == b { Some(a) } else { None } }

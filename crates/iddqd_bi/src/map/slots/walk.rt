@@ -2,7 +2,7 @@
 ghost use Rattle.std.specs.Prelude.{◌≡◌, ◌+◌, ◌^◌, ◌<◌, [], length, Some, IfSome, IfNone};
 ghost use Rattle.iddqd_store.specs.Slots.{get, IsLive};
 ghost use Rattle.iddqd_store.specs.Slots.Next.{ComesNext};
-ghost use Rattle.iddqd_store.specs.Map.Walk.{IsNextSlot, Passes, to_come};
+ghost use Rattle.iddqd_store.specs.Map.Walk.{Passes, first_from, to_come};
 ghost use Rattle.iddqd_store.specs.Map.Written.{map_with};
 
 use super::super::BiHashMap;
@@ -17,8 +17,7 @@ impl<T: BiHashItem, S: BuildHasher> BiHashMap<T, S> {
             → ComesNext self.now.slots from ix x) }
         ensures next { IfSome result (λ ix. (x : T) × (get self.now.slots ix ≡ Some x)
             × Passes self.now from x (map_with self.now ix) (ix + 1)) }
-        ensures step { IfSome result (λ ix. (x : T) × (get self.now.slots ix ≡ Some x)
-            × IsNextSlot self.now.slots from ix x) }
+        ensures step { IfSome result (λ ix. first_from self.now.slots from ≡ Some ix) }
         ensures live { IfSome result (IsLive self.now.slots) }
         ensures countable { IfSome result (λ ix. ix + 1 < 2 ^ 64) }
         ensures none { IfNone result (to_come self.now from ≡ []) }

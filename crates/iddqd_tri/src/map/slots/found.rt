@@ -5,7 +5,7 @@ ghost use Rattle.std.specs.Option.{option_and_then};
 ghost use Rattle.iddqd_store.specs.Bag.{IsOnly, differ, every_of};
 ghost use Rattle.iddqd_store.specs.Rank.Index.{HasHash};
 ghost use Rattle.iddqd_store.specs.Map.{bag, hash_of};
-ghost use Rattle.iddqd_store.specs.Slots.Found.{each_once, items_at, FoundAt, found_by_all, head_of};
+ghost use Rattle.iddqd_store.specs.Slots.Found.{each_once, items_at, FoundAt, found_by_all};
 ghost use Rattle.iddqd_store.specs.Slots.{get, IsLive};
 ghost use Rattle.iddqd_tri.specs.Keys.{has2, has3, has_all};
 ghost use Rattle.std.specs.Borrow.{sem};
@@ -58,7 +58,7 @@ pub(crate) fn one_of(
     slot2: Option<ItemIndex>,
     slot3: Option<ItemIndex>,
 ) -> Option<ItemIndex>
-    ensures { result ≡ head_of (found_by_all (slot1 ∷ slot2 ∷ slot3 ∷ [])) }
+    ensures { result ≡ found_by_all (slot1 ∷ slot2 ∷ slot3 ∷ []) }
 {
     match (slot1, slot2, slot3) {
         (Some(a), Some(b), Some(c)) => { if a == b && a == c { Some(a) } else { None } }

@@ -8,17 +8,17 @@ use Rattle.iddqd_bi.proofs.iter_mut.IterMut.next_data.Goals as goal
 
 pub returns : goal.returns
 returns g c =
-    let step = c.in_ok-ix.ensures.step.2 in
+    let step = c.in_ok-ix.ensures.step in
     let pass = c.in_ok-ix.ensures.next.2 in
     let next : IsNextOf c.args.self.now = (
       c.in_ok-ix.ensures.next.0,
       record {
-        comes = rw step.after pass.comes;
-        before = λ f. rw (step.after, step.writes f) (pass.before f);
-        behind = λ f. rw (step.after, step.writes f) (pass.behind f);
+        comes = rw step pass.comes;
+        before = λ f. rw step (pass.before f);
+        behind = λ f. rw step (pass.behind f);
       },
     ) in (
-      steps_to c.args.self.now (λ w x. g.T.BiHashItemMut.put x w) c.data_mut_at.result.ghost_name c.in_ok-ix.ix c.number.result c.saturating_sub-self.result c.in_ok-ix.ensures.step.0 c.number.ensures c.saturating_sub-self.ensures step,
+      steps_to c.args.self.now (λ w x. g.T.BiHashItemMut.put x w) c.data_mut_at.result.ghost_name c.in_ok-ix.ix c.number.result c.saturating_sub-self.result c.number.ensures c.saturating_sub-self.ensures step,
       record {
         lends = tt;
         next = next;

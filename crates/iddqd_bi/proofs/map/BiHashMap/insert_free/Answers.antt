@@ -28,5 +28,5 @@ returns-in-Err-clause-hands_back g c =
     record {
       handed_back = refl;
       rank = search rules;
-      memory = record { free = clash-both g.T.BiHashItem g.T.K1.PartialEq.eq g.T.K2.PartialEq.eq g.met.T.K1.Eq.laws g.met.T.K2.Eq.laws c.args.item _ _ same1 same2 _ c.requires.absent; full = c.in-Err.ensures.reason };
+      memory = λ _. record { free = clash-both g.T.BiHashItem g.T.K1.PartialEq.eq g.T.K2.PartialEq.eq g.met.T.K1.Eq.laws g.met.T.K2.Eq.laws c.args.item _ _ same1 same2 _ c.requires.absent; full = c.in-Err.ensures.reason };
     }

@@ -1,14 +1,14 @@
-use Rattle.std.proofs.Common.{rules, ◌≡◌, [], ◌∷◌, map, subst, sym}
+use Rattle.std.proofs.Common.{rules, ◌≡◌, map, subst, sym}
 use Rattle.std.specs.Option.{IfSome, option_and_then, option_copied_mut, option_to_list}
 use Rattle.iddqd_store.specs.Slots.{IsLive, get}
-use Rattle.iddqd_store.specs.Slots.Found.{found_by_all, head_of}
 use Rattle.iddqd_store.proofs.MapLemmas.Updating.{held_data, held_live}
+use Rattle.iddqd_tri.specs.Entries.{unique_slot}
 use Rattle.iddqd_tri.proofs.entry.OccupiedEntryMut.data_unique_mut.Goals as goal
 
 pub returns : goal.returns
 returns g c =
     let m = c.args.self.now.map.now in
-    let slot = head_of (found_by_all (c.args.self.now.slot1 ∷ c.args.self.now.slot2 ∷ c.args.self.now.slot3 ∷ [])) in
+    let slot = unique_slot c.args.self.now in
     let same = c.one_of-slot.ensures in
     let live : IfSome slot (IsLive m.slots) = search rules in
     let part = g.T.TriHashItemMut.data_of in (

@@ -32,5 +32,5 @@ returns-in-Err-clause-hands_back g c =
     record {
       handed_back = refl;
       rank = search rules;
-      memory = record { free = clash-all g.T.TriHashItem g.T.K1.PartialEq.eq g.T.K2.PartialEq.eq g.T.K3.PartialEq.eq g.met.T.K1.Eq.laws g.met.T.K2.Eq.laws g.met.T.K3.Eq.laws c.args.item _ _ _ same1 same2 same3 _ c.requires.absent; full = c.in-Err.ensures.reason };
+      memory = λ _. record { free = clash-all g.T.TriHashItem g.T.K1.PartialEq.eq g.T.K2.PartialEq.eq g.T.K3.PartialEq.eq g.met.T.K1.Eq.laws g.met.T.K2.Eq.laws g.met.T.K3.Eq.laws c.args.item _ _ _ same1 same2 same3 _ c.requires.absent; full = c.in-Err.ensures.reason };
     }
