@@ -168,19 +168,19 @@ impl<T> ItemSet<T> {
         ensures* writes_back { sem 𝓛 (lends_get T.row self.entry ix result) }
     {
         if self.is_live(ix) {
-            Some(self.item_mut(ix.number()))
+            Some(self.item_mut(ix))
         } else {
             None
         }
     }
 
     /// Returns the item of a live slot, borrowed for writing.
-    pub fn item_mut(&mut self, at: usize) -> &mut T
-        requires { IsLive self.old.slots at }
-        ensures value { get self.old.slots at ≡ Some result.now }
-        ensures* writes_back { sem 𝓛 (lends_item T.row self.entry at result) }
+    pub fn item_mut(&mut self, ix: ItemIndex) -> &mut T
+        requires { IsLive self.old.slots ix }
+        ensures value { get self.old.slots ix ≡ Some result.now }
+        ensures* writes_back { sem 𝓛 (lends_item T.row self.entry ix result) }
     {
-        self.slots[at].item_mut()
+        self.slots[ix.number()].item_mut()
     }
 
     /// Returns the first live slot from this number on. It visits each slot up to that one.
@@ -307,7 +307,7 @@ impl<T> ItemSet<T> {
         ensures members { Exchanges self.old.slots self.new.slots ix result item }
         ensures capacity { self.new.capacity ≡ self.old.capacity }
     {
-        mem::replace(self.item_mut(ix.number()), item)
+        mem::replace(self.item_mut(ix), item)
     }
 
     /// Drops all items, and keeps the capacity.

@@ -95,7 +95,7 @@ impl<T: Ranked, S: BuildHasher> BiHashMap<T, S> {
                 });
             }
         };
-        if let Err(_) = self.make_room() {
+        if let Err(_) = self.make_room(1) {
             return Err(Rejected {
                 item,
                 taken1: false,

@@ -67,6 +67,7 @@ impl<T: BiHashItem, S: BuildHasher> BiHashMap<T, S> {
         let Some(item) = self.items.remove(ix) else {
             unreachable!()
         };
+        // At each other rank:
         self.second
             .forget::<T, Second, S>(&self.hash_builder, &item, ix, None, meter);
         Some(item)
@@ -126,6 +127,7 @@ impl<T: BiHashItem, S: BuildHasher> BiHashMap<T, S> {
         let Some(item) = self.items.remove(ix) else {
             unreachable!()
         };
+        // At each other rank:
         self.first
             .forget::<T, First, S>(&self.hash_builder, &item, ix, None, meter);
         Some(item)

@@ -1,12 +1,11 @@
 //! Shrinking the capacity.
-ghost use Rattle.std.specs.Prelude.{◌≡◌, ◌<◌, ◌≤◌, ◌↔◌, length, true, IsOk, OnOk, OnErr};
+ghost use Rattle.std.specs.Prelude.{◌≡◌, ◌<◌, ◌≤◌, length, IsOk, OnOk, OnErr};
 ghost use Rattle.iddqd_store.specs.Map.{bag, shrunk_to};
-ghost use Rattle.iddqd_store.specs.Table.Limit.{IsLeast};
 
 use super::BiHashMap;
 use crate::item::BiHashItem;
 use crate::ranks::{First, Second};
-use iddqd_store::{IndexTable, ItemSet, TryReserveError, table_room};
+use iddqd_store::{TryReserveError, table_room};
 use std::hash::{BuildHasher, Hash};
 
 impl<T: BiHashItem + Drop, S: BuildHasher> BiHashMap<T, S> {
@@ -33,8 +32,11 @@ impl<T: BiHashItem + Drop, S: BuildHasher> BiHashMap<T, S> {
         let room = self.capacity();
         let wanted = self.len().max(least.min(room));
         let pairs = table_room(wanted);
-        let is_made = Self::is_made_for(&self.items, &self.first, &self.second, wanted, pairs);
-        if is_made {
+        // A map that is made for this many items stays as it is.
+        if self.items.capacity() == wanted
+            && self.first.is_made_for(pairs)
+            && self.second.is_made_for(pairs)
+        {
             return Ok(());
         }
         let rebuilt = self.rebuild(wanted);
@@ -56,22 +58,6 @@ impl<T: BiHashItem + Drop, S: BuildHasher> BiHashMap<T, S> {
         ensures unchanged { OnErr result (self.new ≡ self.old) }
     {
         self.shrink_to(0)
-    }
-
-    /// Returns whether the slots hold exactly this many items, and each table has as many cells as one that is made for
-    /// this many pairs.
-    fn is_made_for(
-        items: &ItemSet<T>,
-        first: &IndexTable,
-        second: &IndexTable,
-        wanted: usize,
-        pairs: usize,
-    ) -> bool
-        ensures { result ≡ true ↔ (items.now.capacity ≡ wanted)
-            × IsLeast pairs first.now.limit
-            × IsLeast pairs second.now.limit }
-    {
-        items.capacity() == wanted && first.is_made_for(pairs) && second.is_made_for(pairs)
     }
 
     /// Makes slots and tables anew, for this many items. After an error the map is as before.

@@ -186,7 +186,7 @@ impl<T: BiHashItem, S: BuildHasher> BiHashMap<T, S> {
         if let Some(rank) = differ(&item, key1, key2) {
             return Err(EntryError::at(rank, item));
         }
-        if let Err(_) = self.make_room() {
+        if let Err(_) = self.make_room(1) {
             return Err(EntryError::Memory(item));
         }
         Ok(self.insert_at(item, at, &mut Meter::new()))
@@ -247,7 +247,8 @@ impl<T: BiHashItem, S: BuildHasher> BiHashMap<T, S> {
     {
         self.items
             .capacity()
-            .min(self.first.capacity().min(self.second.capacity()))
+            .min(self.first.capacity())
+            .min(self.second.capacity())
     }
 
     /// Returns whether no further item fits.
@@ -259,23 +260,9 @@ impl<T: BiHashItem, S: BuildHasher> BiHashMap<T, S> {
         self.items.len() == self.room()
     }
 
-    /// Reserves capacity for one more item if the map is full. If that fails, the map is as before.
-    #[inline(always)]
-    pub(crate) fn make_room(&mut self) -> Result<(), TryReserveError>
-        ensures slots { self.new.slots ≡ self.old.slots }
-        ensures builder { self.new.builder ≡ self.old.builder }
-        ensures no_less_room { self.old.capacity ≤ self.new.capacity }
-        ensures same_room { length (bag self.old) < self.old.capacity → self.new ≡ self.old }
-        ensures room { OnOk result (length (bag self.old) < self.new.capacity) }
-        ensures reason { OnErr result (length (bag self.old) ≡ self.old.capacity) }
-        ensures unchanged { OnErr result (self.new ≡ self.old) }
-    {
-        self.make_room_for(1)
-    }
-
     /// Reserves capacity for this many more items if the map is full. If that fails, the map is as before.
     #[inline(always)]
-    pub(crate) fn make_room_for(&mut self, wanted: usize) -> Result<(), TryReserveError>
+    pub(crate) fn make_room(&mut self, wanted: usize) -> Result<(), TryReserveError>
         requires { 0 < wanted }
         ensures slots { self.new.slots ≡ self.old.slots }
         ensures builder { self.new.builder ≡ self.old.builder }
@@ -308,10 +295,11 @@ impl<T: BiHashItem, S: BuildHasher> BiHashMap<T, S> {
         let at = match self.places(&item) {
             Ok(at) => at,
             Err((by1, by2)) => {
-                return Err(Refusal::Duplicate(item, each_once(by1.slot(), by2.slot())));
+                let found = each_once(by1.slot(), by2.slot());
+                return Err(Refusal::Duplicate(item, found));
             }
         };
-        if let Err(_) = self.make_room() {
+        if let Err(_) = self.make_room(1) {
             return Err(Refusal::Memory(item));
         }
         self.insert_at(item, at, &mut Meter::new());

@@ -48,7 +48,7 @@ impl Cell {
     {
         Cell {
             hash,
-            number: ix.cell_number(),
+            number: ix.number(),
         }
     }
 

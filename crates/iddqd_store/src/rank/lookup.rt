@@ -118,10 +118,7 @@ impl<'a, T, R: KeyOf<T>, S: BuildHasher> Lookup<'a, T, R, S> {
         ensures hashed { IfSome result (λ ix. HasHash
             (⟦<R as HashedKey<T, S>>⟧.hash self.now.builder) self.now.slots ix hash) }
     {
-        match self.search(hash, query) {
-            Ok(ix) => Some(ix),
-            Err(_) => None,
-        }
+        self.search(hash, query).ok()
     }
 
     /// Returns the slot of the item whose key the query stands for. If there is none, it returns the empty cell for a

@@ -56,7 +56,7 @@ impl<T: BiHashItemMut, S: BuildHasher> BiHashMap<T, S> {
             T.BiHashItem T.K1.Hash T.K2.Hash S.BuildHasher S.Hasher.Hasher
             T.Data.row T.put self.entry ix result) }
     {
-        self.items.item_mut(ix.number()).data_mut()
+        self.items.item_mut(ix).data_mut()
     }
 
     /// Returns the data of the item of a live slot, borrowed for writing, or `None` if there is no slot.

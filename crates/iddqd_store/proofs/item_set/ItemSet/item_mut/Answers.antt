@@ -7,14 +7,16 @@ use Rattle.iddqd_store.proofs.item_set.ItemSet.item_mut.Goals as goal
 
 pub invariant_of-self-lent : goal.invariant_of-self-lent
 invariant_of-self-lent g c w =
-    let found = occupied_at c.self.inside.slots.items c.args.at (rw (← c.self.view_is) at c.requires) in
-    IsChained-rewrite _ _ _ c.args.at found.0 w c.self.invariant found.1
+    let at = c.number.result in
+    let found = occupied_at c.self.inside.slots.items at (rw (← c.self.view_is, ← c.number.ensures.value) at c.requires) in
+    IsChained-rewrite _ _ _ at found.0 w c.self.invariant found.1
 
 pub returns : goal.returns
 returns g c =
-    let found = occupied_at c.self.inside.slots.items c.args.at (rw (← c.self.view_is) at c.requires) in
-    let within = slice_get_within c.self.inside.slots.items c.args.at _ found.1 in
-    let value = get_or-map item_of c.self.inside.slots.items c.args.at c.index_mut.result.now None within in (
-      (refl, λ w. rw (← c.self.view_is, map-set)),
-      record { writes_back = tt; value = rw (← c.self.view_is) (value ∙ ap item_of (sym c.index_mut.ensures.value) ∙ c.item_mut.ensures.value) },
+    let at = c.number.result in
+    let found = occupied_at c.self.inside.slots.items at (rw (← c.self.view_is, ← c.number.ensures.value) at c.requires) in
+    let within = slice_get_within c.self.inside.slots.items at _ found.1 in
+    let value = get_or-map item_of c.self.inside.slots.items at c.index_mut.result.now None within in (
+      (refl, λ w. rw (← c.self.view_is, ← c.number.ensures.value, map-set)),
+      record { writes_back = tt; value = rw (← c.self.view_is, ← c.number.ensures.value) (value ∙ ap item_of (sym c.index_mut.ensures.value) ∙ c.item_mut.ensures.value) },
     )
