@@ -18,7 +18,7 @@ returns g c =
         behind = λ f. rw (step.after, step.writes f) (pass.behind f);
       },
     ) in (
-      steps_to c.args.self.now (λ w x. g.T.TriHashItemMut.put x w) c.data_mut_at.result.ghost_name c.in_ok-ix.ix c.number.result c.saturating_sub-self.result c.in_ok-ix.ensures.step.0 c.number.ensures c.saturating_sub-self.ensures step,
+      steps_to c.args.self.now (λ w x. g.T.TriHashItemMut.put x w) c.data_mut_at.result.ghost_name c.in_ok-ix.ix c.number.result c.saturating_sub-self.result c.in_ok-ix.ensures.step.0 c.number.ensures.value c.saturating_sub-self.ensures step,
       record {
         lends = tt;
         next = next;
