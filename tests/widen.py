@@ -8,8 +8,9 @@ a clause, a statement, a whole function, or a part of a line, such as `item.key1
 counterpart of a piece has the same words, except for the words of a rank: it has `2` where the piece has `1`, and `second` for `first`.
 White space, line breaks and the marks that begin the lines of a comment are no words.
 
-It widens three more forms: pairs in pairs, `(a1, (a2, tt))`; a list with an element of the second rank alone, `a2 ∷ []`; and some
-forms without words of a rank, into which such words are put temporarily (`spelled`).
+It widens four more forms: pairs in pairs, `(a1, (a2, tt))`; a list with an element of the second rank alone, `a2 ∷ []`; a
+statement below the comment `// At each other rank:`, which is written for each rank but that of its function; and some forms
+without words of a rank, into which such words are put temporarily (`spelled`).
 """
 import re
 import sys
@@ -21,9 +22,11 @@ RENAMED = [
     (r"\bKeyPair\b", "KeyTriple"), (r"\b([Tt])wo(?=[ _]keys?\b|Keys\b|[ _]ranks\b| at most\b)", r"\1hree"),
     (r"(?<!insert)([_-])both\b", r"\1all"), (r"\b(has|have|with|of) both\b", r"\1 all"),
     (r"\bboth(?= (?:keys|searches|name)\b)", "all"), (r"\bBoth(?= (?:keys|searches)\b)", "All"),
-    (r"\bthe other key\b", "the other keys"), (r"(?<=rank < )2\b|(?<=<= )2\b|(?<=-le)2\b", "3"),
-    # What is the same at each rank: types or proofs, parts of a list, and arguments of a call.
-    (r"\(([\w:]+(?:\(\))?), \1\)", r"(\1, \1, \1)"), (r"\b(\w+) × \1\b", r"\1 × \1 × \1"), (r"\b(ℕ|nat_eq) \1\b", r"\1 \1 \1"), (r"\bNone ∷ None(?= ∷)", "None ∷ None ∷ None"), (r"\b_ ∷ _ ∷ \[\]", "_ ∷ _ ∷ _ ∷ []"),
+    (r"\bthe other key\b", "the other keys"), (r"(?<=rank < )2\b|(?<=<= )2\b|(?<=-le)2\b|(?<=KEYS: usize = )2\b", "3"),
+    # What is the same at each rank: types or proofs (if no function returns them), parts of a list, and arguments of a call.
+    (r"(?<!-> )\(([\w:]+(?:\(\))?), \1\)", r"(\1, \1, \1)"), (r"\b(\w+) × \1\b", r"\1 × \1 × \1"), (r"\b(ℕ|nat_eq) \1\b", r"\1 \1 \1"), (r"\bNone ∷ None(?= ∷)", "None ∷ None ∷ None"), (r"\b_ ∷ _ ∷ \[\]", "_ ∷ _ ∷ _ ∷ []"),
+    # The walks through each other table, and the least of all.
+    (r"\(1 ∷ \[\]\)", "(1 ∷ 1 ∷ [])"), (r"\bmin ([\w.]*)first([\w.]*) \1second\2", r"min \1first\2 (min \1second\2 \1third\2)"),
     (r"(?<=, )(None|&nothing),\s+\1(?=,?\s*(?:\)|&mut Meter\b))", r"\1, \1, \1"),
 ]
 # The words of a rank, in order: numbers, types, names of keys, and the parts of pairs in pairs.
@@ -42,8 +45,10 @@ WORD = re.compile(rf"({SPACE}*)((?:\.\d)+(?!\w)|[^\W\d_]+?(?=\d|_|\b|first|secon
 NAME = re.compile(r"(?<![\w-])[^\W\d][\w-]*")
 # What code takes at one rank, and what at the others. {0} is the name, and {1} the rank.
 ALONE = {"some": ("Some({0})", "None"), "bound": ("{0}{1}", "{0}{1}: _")}
-# The marks of the forms that are spelled: such a name with its rank, an arm of a match, the last check of some.
-AT_RANK, ARM, CHECK = "\ue005", "\ue006", "\ue007"
+# The marks of the forms that are spelled: such a name with its rank, an arm of a match, the last check of some, and a
+# statement for each rank but that of its function, below a comment that says so.
+AT_RANK, ARM, CHECK, OTHERS = "\ue005", "\ue006", "\ue007", "\ue008"
+OTHER_RANKS = re.compile(r"(?<=// At each other rank:\n)( *)([^;]*;)")
 # The counterparts of a piece are looked up by this many words. Those of shorter pieces are tried one by one.
 LONG = 8
 
@@ -225,6 +230,18 @@ def alone(kind, name, rank, ranks):
     return ", ".join(ALONE[kind][it != rank].format(name, it) for it in range(1, ranks + 1))
 
 
+def at_other(text, rank, other):
+    """Returns the text, which has the words of the one rank, with those of the other."""
+    names = {it[rank - 1]: it[other - 1] for it in RANKS[4:6]}
+    return re.sub("|".join(names), lambda it: names[it[0]], text)
+
+
+def at_others(found):
+    """Returns the statement, which has the words of its function's rank, once for each other rank."""
+    rank = 1 + next(at for at, name in enumerate(RANKS[4]) if name in found[2])
+    return ("\n" + found[1]).join(at_other(found[2], rank, it) for it in (1, 2, 3) if it != rank)
+
+
 def spelled(text, spellings):
     """Returns the text with words of a rank in the forms that have none: the first of the names that a check numbers; what
     code takes at one rank alone; the last arm of a match on ranks; and the last of some checks, of which the others return."""
@@ -233,8 +250,9 @@ def spelled(text, spellings):
         for rank in (1, 2):
             form = re.escape(alone(kind, "NAME", rank, 2)).replace(r"\ ", r"\s+")
             form = form.replace("NAME", r"(?P<name>\w+?)", 1).replace("NAME", "(?P=name)")
-            text = re.sub(rf"\b{form}(?=,?\s*[)}}])", rf"\1{AT_RANK}{kind}{rank}", text)
+            text = re.sub(rf"\b{form}(?=,?\s*(?:[)}}]|&mut Meter\b))", rf"\1{AT_RANK}{kind}{rank}", text)
     text = re.sub(r"\b0( => [^,]*,\s+)_(?= =>)", rf"0{ARM}\g<1>1{ARM}", text)
+    text = OTHER_RANKS.sub(lambda it: it[1] + OTHERS + at_other(it[2], *((2, 1) if RANKS[4][1] in it[2] else (1, 2))), text)
     checks = r"(\bif [^{}]+ \{\s+return (\w+);\s+\}\s+)([^\s{};][^{};]*)(?=\s+\})"
     return re.sub(checks, rf"\1if \3 {{ return \2; }}{CHECK}", text)
 
@@ -243,6 +261,9 @@ def unspelled(text, spellings):
     """Returns the text with the forms of the code again."""
     text = re.sub(rf"if ([^{{}}]+) \{{\s+return \w+;\s+\}}{CHECK}", r"\1", text)
     text = text.replace(f"2{ARM}", "_").replace(ARM, "")
+    # What a proof rewrites by at each rank after the first.
+    text = re.sub(r"\brw \(([\w.]*)2([\w.]*)\)", r"rw (\g<1>2\2, \g<1>3\2)", text)
+    text = re.sub(rf"(?m)^( *){OTHERS}([^;]*;)", lambda it: it[1] + at_others(it), text)
     text = re.sub(rf"(\w+){AT_RANK}([a-z]+)(\d)", lambda it: alone(it[2], it[1], int(it[3]), 3), text)
     names = {spelling: name for name, spelling in spellings.items()}
     return NAME.sub(lambda it: names.get(it[0], it[0]), text) if names else text

@@ -6,6 +6,10 @@
 //! returns a sum of what it met, which the bench compares with the sum of the same loop over another map.
 #![tactic(auto)]
 
+// Other keys, items and hashers are timed in the two-key map alone.
+pub mod large;
+pub mod seeded;
+pub mod texts;
 pub mod three_keys;
 pub mod two_keys;
 

@@ -7,10 +7,7 @@ use std::alloc::Global;
 pub mod building;
 pub mod changing;
 pub mod inserting;
-pub mod large;
 pub mod searching;
-pub mod seeded;
-pub mod texts;
 pub mod walking;
 
 /// Inserts the rows, and counts those that are not inserted.

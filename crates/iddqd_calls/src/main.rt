@@ -21,7 +21,7 @@
 
 use iddqd_bi::DefaultHashBuilder;
 use iddqd_calls_shared::answer::shown;
-use iddqd_calls_shared::builder::{Builder, Largest, Own, Zero};
+use iddqd_calls_shared::builder::{Alike, Builder, Largest, Own};
 use iddqd_calls_shared::gauge::Gauge;
 use iddqd_calls_shared::line::{Line, line_of};
 use iddqd_calls_shared::table::{Table, filled};
@@ -54,7 +54,7 @@ fn main(rt: HostRuntime) -> io::Result<ExitCode> {
 fn chosen(rt: &HostRuntime, kind: &str, builder: &str, tells: bool) -> io::Result<bool> {
     match builder {
         "own" => of_kind::<Own>(rt, kind, tells),
-        "zero" => of_kind::<Zero>(rt, kind, tells),
+        "zero" => of_kind::<Alike>(rt, kind, tells),
         "max" => of_kind::<Largest>(rt, kind, tells),
         "default" => of_kind::<DefaultHashBuilder>(rt, kind, tells),
         _ => Ok(false),

@@ -9,8 +9,11 @@ use iddqd_calls_shared::counting::{Counts, Key};
 use std::alloc::AllocError;
 use std::rc::Rc;
 
+/// How many keys an item has.
+const KEYS: usize = 2;
+
 /// How many numbers an item has: its keys, and then its value.
-pub(crate) const NUMBERS: usize = 3;
+pub(crate) const NUMBERS: usize = KEYS + 1;
 
 /// An item.
 #[derive(Drop)]

@@ -1,4 +1,7 @@
 //! The calls of a line on the map with two keys, by what they are given.
+//!
+//! A script makes most of the three-key text from the two-key text: change the latter, and then run
+//! `tests/twins --write` with the changed files.
 #![tactic(auto)]
 
 mod commands;

@@ -9,8 +9,11 @@ use iddqd_tri::{TriHashItem, TriHashItemMut};
 use std::alloc::AllocError;
 use std::rc::Rc;
 
+/// How many keys an item has.
+const KEYS: usize = 3;
+
 /// How many numbers an item has: its keys, and then its value.
-pub(crate) const NUMBERS: usize = 4;
+pub(crate) const NUMBERS: usize = KEYS + 1;
 
 /// An item.
 #[derive(Drop)]

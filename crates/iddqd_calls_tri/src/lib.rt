@@ -1,6 +1,6 @@
 //! The calls of a line on the map with three keys, by what they are given.
 //!
-//! Most of this crate is the text of `iddqd_calls_bi` at three keys, which a script writes: change that text, and then run
+//! A script makes most of the three-key text from the two-key text: change the latter, and then run
 //! `tests/twins --write` with the changed files.
 #![tactic(auto)]
 

@@ -18,7 +18,7 @@ use crate::list::List;
 use crate::reply::Sink;
 use crate::table::Table;
 use iddqd_bi::BiHashMap;
-use iddqd_builders::Alike;
+use iddqd_calls_shared::builder::Alike;
 use iddqd_tri::TriHashMap;
 use std::alloc::{AllocError, Global};
 use std::hash::RandomState;

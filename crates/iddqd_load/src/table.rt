@@ -5,7 +5,7 @@ ghost use Rattle.std.proofs.Common.{rules};
 use crate::command::Command;
 use crate::reply::Sink;
 use iddqd_bi::DefaultHashBuilder;
-use iddqd_builders::Alike;
+use iddqd_calls_shared::builder::Alike;
 use std::alloc::AllocError;
 use std::hash::{BuildHasher, RandomState};
 

@@ -1,6 +1,6 @@
 //! `TriHashMap`, a hash map of items with three keys, with its guards, entries, iterations, errors and commands.
 //!
-//! Most of this crate is the text of `iddqd_bi` at three keys, which a script writes: change that text, and then run
+//! A script makes most of the three-key text from the two-key text: change the latter, and then run
 //! `tests/twins --write` with the changed files.
 #![tactic(auto)]
 

@@ -5,34 +5,9 @@ ghost use Rattle.std.specs.List.{list_any};
 ghost use Rattle.iddqd_bi.specs.Bag.{IsOnly};
 ghost use Rattle.iddqd_bi.specs.Map.{bag};
 
+use crate::items::Symbol;
 use iddqd_bi::{BiHashItem, BiHashMap, Query};
 use std::hash::{BuildHasher, Hash};
-
-/// A symbol, known by its name and by its place: the section, and the distance from the section's start.
-#[derive(Drop)]
-pub struct Symbol {
-    pub name: String,
-    pub place: (String, u32),
-    pub size: u64,
-}
-
-impl BiHashItem for Symbol {
-    type K1 = String;
-
-    type K2 = (String, u32);
-
-    ghost key1 = { λ s. s.name };
-
-    ghost key2 = { λ s. s.place };
-
-    fn key1(&self) -> &String {
-        &self.name
-    }
-
-    fn key2(&self) -> &(String, u32) {
-        &self.place
-    }
-}
 
 /// Returns the symbol with this name, which is given as a `&str`.
 pub fn resolve<'s>(symbols: &'s BiHashMap<Symbol>, name: &str) -> Option<&'s Symbol>

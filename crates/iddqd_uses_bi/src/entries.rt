@@ -232,8 +232,8 @@ where
         },
         Entry::Occupied(o) => {
             let held = o.into_mut();
-            if let Some(mut both) = held.into_unique() {
-                *both.data_mut() = d;
+            if let Some(mut one) = held.into_unique() {
+                *one.data_mut() = d;
                 return Ok(());
             }
             return Ok(());

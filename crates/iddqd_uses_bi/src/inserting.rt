@@ -38,9 +38,9 @@ pub fn insert_both<T: Ranked + Drop, S: BuildHasher>(map: &mut BiHashMap<T, S>, 
     ensures granted { clash T.ranks (bag map.old) a ≡ [] → clash T.ranks (a ∷ bag map.old) b ≡ []
         → 1 + length (bag map.old) < map.old.capacity → result ≡ true }
 {
-    let first = insert_or_drop(map, a);
-    let second = insert_or_drop(map, b);
-    first && second
+    let has_a = insert_or_drop(map, a);
+    let has_b = insert_or_drop(map, b);
+    has_a && has_b
 }
 
 /// Inserts an item, and returns how many items conflict with it. If some do, the item is dropped, and the map is as

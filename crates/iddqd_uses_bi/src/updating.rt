@@ -1,57 +1,13 @@
 //! What a caller can prove of a map after updates by closures.
 ghost use Rattle.std.specs.Prelude.{◌≡◌, ◌==◌, ◌<◌, ◌+◌, ◌^◌, true, false, map, Some, All, IsPermutation};
 ghost use Rattle.std.specs.List.{list_any};
-ghost use Rattle.std.proofs.Common.{rules};
 ghost use Rattle.iddqd_bi.specs.Bag.{IsOnly, swap};
 ghost use Rattle.iddqd_bi.specs.Keys.{has1};
 ghost use Rattle.iddqd_bi.specs.Map.{bag};
 
+use crate::items::File;
 use iddqd_bi::{BiHashItem, BiHashItemMut, BiHashMap, Query, Ranked};
 use std::hash::{BuildHasher, Hash};
-
-/// A file, known by its number and by its place, and how often it was opened.
-#[derive(Drop)]
-pub struct File {
-    pub number: u64,
-    pub place: u64,
-    pub opened: u64,
-}
-
-impl BiHashItem for File {
-    type K1 = u64;
-
-    type K2 = u64;
-
-    ghost key1 = { λ f. f.number };
-
-    ghost key2 = { λ f. f.place };
-
-    fn key1(&self) -> &u64 {
-        &self.number
-    }
-
-    fn key2(&self) -> &u64 {
-        &self.place
-    }
-}
-
-impl BiHashItemMut for File {
-    type Data = u64;
-
-    ghost data_of = { λ f. f.opened };
-
-    ghost put = { λ f n. record f { opened = n } };
-
-    ghost keeps_key1 = { Prim.search rules };
-
-    ghost keeps_key2 = { Prim.search rules };
-
-    ghost put_shows = { Prim.search rules };
-
-    fn data_mut(&mut self) -> &mut u64 {
-        &mut self.opened
-    }
-}
 
 /// Counts one more opening of the file with this number, and returns whether there is such a file. The count of the
 /// file must be below the largest number of its type.

@@ -6,32 +6,8 @@ ghost use Rattle.std.specs.List.{list_any};
 ghost use Rattle.iddqd_bi.specs.Bag.{IsOnly, clash};
 ghost use Rattle.iddqd_bi.specs.Map.{bag};
 
-use iddqd_bi::{BiHashItem, BiHashMap, Ranked};
-
-/// A word, known by its text and by its number.
-#[derive(Drop)]
-pub struct Word {
-    pub text: &'static str,
-    pub number: u64,
-}
-
-impl BiHashItem for Word {
-    type K1 = &'static str;
-
-    type K2 = u64;
-
-    ghost key1 = { λ w. w.text };
-
-    ghost key2 = { λ w. w.number };
-
-    fn key1(&self) -> &&'static str {
-        &self.text
-    }
-
-    fn key2(&self) -> &u64 {
-        &self.number
-    }
-}
+use crate::items::Word;
+use iddqd_bi::{BiHashMap, Ranked};
 
 /// Inserts a word, or returns it.
 pub fn add_word(words: &mut BiHashMap<Word>, word: Word) -> Result<(), Word>

@@ -5,43 +5,9 @@ ghost use Rattle.std.specs.List.{list_any};
 ghost use Rattle.iddqd_tri.specs.Bag.{IsOnly};
 ghost use Rattle.iddqd_tri.specs.Map.{bag};
 
+use crate::items::Symbol;
 use iddqd_tri::{Query, TriHashItem, TriHashMap};
 use std::hash::{BuildHasher, Hash};
-
-/// A symbol, known by its name, by its place (the section, and the distance from the section's start) and by its number.
-#[derive(Drop)]
-pub struct Symbol {
-    pub name: String,
-    pub place: (String, u32),
-    pub number: u64,
-    pub size: u64,
-}
-
-impl TriHashItem for Symbol {
-    type K1 = String;
-
-    type K2 = (String, u32);
-
-    type K3 = u64;
-
-    ghost key1 = { λ s. s.name };
-
-    ghost key2 = { λ s. s.place };
-
-    ghost key3 = { λ s. s.number };
-
-    fn key1(&self) -> &String {
-        &self.name
-    }
-
-    fn key2(&self) -> &(String, u32) {
-        &self.place
-    }
-
-    fn key3(&self) -> &u64 {
-        &self.number
-    }
-}
 
 /// Returns the symbol with this name, which is given as a `&str`.
 pub fn resolve<'s>(symbols: &'s TriHashMap<Symbol>, name: &str) -> Option<&'s Symbol>

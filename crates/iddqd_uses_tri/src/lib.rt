@@ -1,6 +1,6 @@
 //! Callers of the map with three keys, proved from its public contracts alone.
 //!
-//! Most of this crate is the text of `iddqd_uses_bi` at three keys, which a script writes: change that text, and then run
+//! A script makes most of the three-key text from the two-key text: change the latter, and then run
 //! `tests/twins --write` with the changed files.
 #![tactic(auto)]
 
@@ -10,6 +10,7 @@ mod emptying;
 mod entries;
 mod finding;
 mod inserting;
+mod items;
 mod keeping;
 mod laws;
 mod lent;
@@ -23,7 +24,7 @@ mod words;
 mod writing;
 mod written;
 
-pub use asking::{Symbol, by_key, by_query, entry_point, is_at, resolve, take_by_query, undefine};
+pub use asking::{by_key, by_query, entry_point, is_at, resolve, take_by_query, undefine};
 pub use building::extend_by_vec;
 pub use emptying::drained;
 pub use entries::{
@@ -32,6 +33,7 @@ pub use entries::{
 };
 pub use finding::{count_all, put_and_find, remove_and_find};
 pub use inserting::{count_conflicts, insert_both, insert_or_drop, overwrite_or_drop};
+pub use items::{File, Symbol, Word};
 pub use keeping::keep_and_count;
 pub use laws::{
     all_given, equal_through_a_third, equal_to_itself, equal_to_the_same_items, equal_turned_round,
@@ -47,8 +49,8 @@ pub use refusing::{
     NotAdded, add, add_and_count, add_by_from, add_by_map_err, add_or_count, is_added,
 };
 pub use sessions::{Session, by_token, close_of_user, open, open_all};
-pub use updating::{File, note_all_opened, note_opened, set_all, set1};
+pub use updating::{note_all_opened, note_opened, set_all, set1};
 pub use walking::{count_by_walk, write_all, write_first, write_first_and_count};
-pub use words::{Word, add_word, forget_word, has_word};
+pub use words::{add_word, forget_word, has_word};
 pub use writing::{is_lent1, replace1, write1, write1_again, write1_and_tell, write1_twice};
 pub use written::{write_and_ask1, write_and_remove1};

@@ -1,68 +1,13 @@
 //! What a caller can prove of a map after updates by closures.
 ghost use Rattle.std.specs.Prelude.{◌≡◌, ◌==◌, ◌<◌, ◌+◌, ◌^◌, true, false, map, Some, All, IsPermutation};
 ghost use Rattle.std.specs.List.{list_any};
-ghost use Rattle.std.proofs.Common.{rules};
 ghost use Rattle.iddqd_tri.specs.Bag.{IsOnly, swap};
 ghost use Rattle.iddqd_tri.specs.Keys.{has1};
 ghost use Rattle.iddqd_tri.specs.Map.{bag};
 
+use crate::items::File;
 use iddqd_tri::{Query, Ranked, TriHashItem, TriHashItemMut, TriHashMap};
 use std::hash::{BuildHasher, Hash};
-
-/// A file, known by its number, by its place and by its handle, and how often it was opened.
-#[derive(Drop)]
-pub struct File {
-    pub number: u64,
-    pub place: u64,
-    pub handle: u64,
-    pub opened: u64,
-}
-
-impl TriHashItem for File {
-    type K1 = u64;
-
-    type K2 = u64;
-
-    type K3 = u64;
-
-    ghost key1 = { λ f. f.number };
-
-    ghost key2 = { λ f. f.place };
-
-    ghost key3 = { λ f. f.handle };
-
-    fn key1(&self) -> &u64 {
-        &self.number
-    }
-
-    fn key2(&self) -> &u64 {
-        &self.place
-    }
-
-    fn key3(&self) -> &u64 {
-        &self.handle
-    }
-}
-
-impl TriHashItemMut for File {
-    type Data = u64;
-
-    ghost data_of = { λ f. f.opened };
-
-    ghost put = { λ f n. record f { opened = n } };
-
-    ghost keeps_key1 = { Prim.search rules };
-
-    ghost keeps_key2 = { Prim.search rules };
-
-    ghost keeps_key3 = { Prim.search rules };
-
-    ghost put_shows = { Prim.search rules };
-
-    fn data_mut(&mut self) -> &mut u64 {
-        &mut self.opened
-    }
-}
 
 /// Counts one more opening of the file with this number, and returns whether there is such a file. The count of the
 /// file must be below the largest number of its type.

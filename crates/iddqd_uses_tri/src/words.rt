@@ -6,41 +6,8 @@ ghost use Rattle.std.specs.List.{list_any};
 ghost use Rattle.iddqd_tri.specs.Bag.{IsOnly, clash};
 ghost use Rattle.iddqd_tri.specs.Map.{bag};
 
-use iddqd_tri::{Ranked, TriHashItem, TriHashMap};
-
-/// A word, known by its text, by its number and by its code.
-#[derive(Drop)]
-pub struct Word {
-    pub text: &'static str,
-    pub number: u64,
-    pub code: u64,
-}
-
-impl TriHashItem for Word {
-    type K1 = &'static str;
-
-    type K2 = u64;
-
-    type K3 = u64;
-
-    ghost key1 = { λ w. w.text };
-
-    ghost key2 = { λ w. w.number };
-
-    ghost key3 = { λ w. w.code };
-
-    fn key1(&self) -> &&'static str {
-        &self.text
-    }
-
-    fn key2(&self) -> &u64 {
-        &self.number
-    }
-
-    fn key3(&self) -> &u64 {
-        &self.code
-    }
-}
+use crate::items::Word;
+use iddqd_tri::{Ranked, TriHashMap};
 
 /// Inserts a word, or returns it.
 pub fn add_word(words: &mut TriHashMap<Word>, word: Word) -> Result<(), Word>

@@ -140,8 +140,11 @@ pub extern "C" fn bi_entry_occupied(
     sum
 }
 
-/// Fills a map with each part of `number` rows, and overwrites with the rows asked for. Each of them removes two
-/// items, so there are half as many of them.
+/// How many keys an item has.
+const KEYS: usize = 2;
+
+/// Fills a map with each part of `number` rows, and overwrites with the rows asked for. Each of them removes an item
+/// for each of its keys, so there are fewer of them by that factor.
 #[unsafe(no_mangle)]
 pub extern "C" fn bi_overwrite(
     alloc: Global,
@@ -152,7 +155,7 @@ pub extern "C" fn bi_overwrite(
 ) -> u64 {
     let mut sum = 0u64;
     let parts = rows.chunks(number.max(1));
-    for (rows, asked) in parts.zip(asked.chunks((number / 2).max(1))) {
+    for (rows, asked) in parts.zip(asked.chunks((number / KEYS).max(1))) {
         let mut map = filled(alloc, rows);
         if whole {
             sum = sum.wrapping_add(overwrite(&mut map, asked));

@@ -97,7 +97,7 @@ impl<T: Ranked, S: BuildHasher> TriHashMap<T, S> {
                 });
             }
         };
-        if let Err(_) = self.make_room() {
+        if let Err(_) = self.make_room(1) {
             return Err(Rejected {
                 item,
                 taken1: false,

@@ -32,7 +32,7 @@ impl<T: Ranked, S: BuildHasher> TriHashMap<T, S> {
         let mut meter = Meter::new();
         match self.places(&item) {
             Ok(at) => {
-                if let Err(_) = self.make_room() {
+                if let Err(_) = self.make_room(1) {
                     return Err(MemoryRefused { value: item });
                 }
                 self.insert_at(item, at, &mut meter);

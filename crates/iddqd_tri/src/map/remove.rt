@@ -67,6 +67,7 @@ impl<T: TriHashItem, S: BuildHasher> TriHashMap<T, S> {
         let Some(item) = self.items.remove(ix) else {
             unreachable!()
         };
+        // At each other rank:
         self.second
             .forget::<T, Second, S>(&self.hash_builder, &item, ix, None, meter);
         self.third
@@ -128,17 +129,25 @@ impl<T: TriHashItem, S: BuildHasher> TriHashMap<T, S> {
         let Some(item) = self.items.remove(ix) else {
             unreachable!()
         };
+        // At each other rank:
         self.first
             .forget::<T, First, S>(&self.hash_builder, &item, ix, None, meter);
         self.third
             .forget::<T, Third, S>(&self.hash_builder, &item, ix, None, meter);
         Some(item)
     }
+
     /// Removes the item with the third key that the query stands for, and returns it, or `None` if there is none. The
     /// capacity stays.
     ///
-    /// The call compares at most as many keys as items have the query's hash at the third rank. It hashes the query and
-    /// the other keys of the item, and allocates no memory.
+    /// The call compares at most as many keys as items have the query's hash at the third rank. It hashes the query
+    /// and the other keys of the item, and allocates no memory.
+    ///
+    /// ```text
+    /// if let Some(item) = map.remove3(&key3) {
+    ///     println!(rt; "removed: {item:?}")?;
+    /// }
+    /// ```
     pub fn remove3<Q: Query<T::K3>>(&mut self, query: Q) -> Option<T>
         ensures taken { IsOnly (has3 T.TriHashItem Q.stands_for query) (bag self.old) result }
         ensures loses { Loses self.old (option_to_list result) self.new }
@@ -147,6 +156,7 @@ impl<T: TriHashItem, S: BuildHasher> TriHashMap<T, S> {
         let hash = self.hash_builder.hash_one(query);
         self.remove3_by(hash, &mut ByQuery::new(&query), &mut Meter::new())
     }
+
     /// Removes the item whose third key the matcher accepts, and returns it, or `None` if there is none. All third keys
     /// of items that the matcher accepts must be equal to each other and have this hash.
     ///
@@ -181,6 +191,7 @@ impl<T: TriHashItem, S: BuildHasher> TriHashMap<T, S> {
         let Some(item) = self.items.remove(ix) else {
             unreachable!()
         };
+        // At each other rank:
         self.first
             .forget::<T, First, S>(&self.hash_builder, &item, ix, None, meter);
         self.second
@@ -205,9 +216,7 @@ impl<T: TriHashItem, S: BuildHasher> TriHashMap<T, S> {
         ensures absent { IfNone result (self.new ≡ self.old) }
     {
         let hash = self.hash_builder.hash_one(query1);
-        match self.slot_unique(hash, query1, query2, query3) {
-            Some(ix) => Some(self.take(ix, Some(hash), None, None, &mut Meter::new())),
-            None => None,
-        }
+        let ix = self.slot_unique(hash, query1, query2, query3)?;
+        Some(self.take(ix, Some(hash), None, None, &mut Meter::new()))
     }
 }

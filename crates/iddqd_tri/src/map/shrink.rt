@@ -1,12 +1,11 @@
 //! Shrinking the capacity.
-ghost use Rattle.std.specs.Prelude.{◌≡◌, ◌<◌, ◌≤◌, ◌↔◌, length, true, IsOk, OnOk, OnErr};
+ghost use Rattle.std.specs.Prelude.{◌≡◌, ◌<◌, ◌≤◌, length, IsOk, OnOk, OnErr};
 ghost use Rattle.iddqd_store.specs.Map.{bag, shrunk_to};
-ghost use Rattle.iddqd_store.specs.Table.Limit.{IsLeast};
 
 use super::TriHashMap;
 use crate::item::TriHashItem;
 use crate::ranks::{First, Second, Third};
-use iddqd_store::{IndexTable, ItemSet, TryReserveError, table_room};
+use iddqd_store::{TryReserveError, table_room};
 use std::hash::{BuildHasher, Hash};
 
 impl<T: TriHashItem + Drop, S: BuildHasher> TriHashMap<T, S> {
@@ -33,15 +32,12 @@ impl<T: TriHashItem + Drop, S: BuildHasher> TriHashMap<T, S> {
         let room = self.capacity();
         let wanted = self.len().max(least.min(room));
         let pairs = table_room(wanted);
-        let is_made = Self::is_made_for(
-            &self.items,
-            &self.first,
-            &self.second,
-            &self.third,
-            wanted,
-            pairs,
-        );
-        if is_made {
+        // A map that is made for this many items stays as it is.
+        if self.items.capacity() == wanted
+            && self.first.is_made_for(pairs)
+            && self.second.is_made_for(pairs)
+            && self.third.is_made_for(pairs)
+        {
             return Ok(());
         }
         let rebuilt = self.rebuild(wanted);
@@ -63,27 +59,6 @@ impl<T: TriHashItem + Drop, S: BuildHasher> TriHashMap<T, S> {
         ensures unchanged { OnErr result (self.new ≡ self.old) }
     {
         self.shrink_to(0)
-    }
-
-    /// Returns whether the slots hold exactly this many items, and each table has as many cells as one that is made for
-    /// this many pairs.
-    fn is_made_for(
-        items: &ItemSet<T>,
-        first: &IndexTable,
-        second: &IndexTable,
-        third: &IndexTable,
-        wanted: usize,
-        pairs: usize,
-    ) -> bool
-        ensures { result ≡ true ↔ (items.now.capacity ≡ wanted)
-            × IsLeast pairs first.now.limit
-            × IsLeast pairs second.now.limit
-            × IsLeast pairs third.now.limit }
-    {
-        items.capacity() == wanted
-            && first.is_made_for(pairs)
-            && second.is_made_for(pairs)
-            && third.is_made_for(pairs)
     }
 
     /// Makes slots and tables anew, for this many items. After an error the map is as before.

@@ -226,7 +226,7 @@ impl<T: TriHashItem, S: BuildHasher> TriHashMap<T, S> {
         if let Some(rank) = differ(&item, key1, key2, key3) {
             return Err(EntryError::at(rank, item));
         }
-        if let Err(_) = self.make_room() {
+        if let Err(_) = self.make_room(1) {
             return Err(EntryError::Memory(item));
         }
         Ok(self.insert_at(item, at, &mut Meter::new()))
@@ -290,11 +290,11 @@ impl<T: TriHashItem, S: BuildHasher> TriHashMap<T, S> {
         ensures fits { length (bag self.now) ≤ result }
         ensures most { result ≤ most_room }
     {
-        self.items.capacity().min(
-            self.first
-                .capacity()
-                .min(self.second.capacity().min(self.third.capacity())),
-        )
+        self.items
+            .capacity()
+            .min(self.first.capacity())
+            .min(self.second.capacity())
+            .min(self.third.capacity())
     }
 
     /// Returns whether no further item fits.
@@ -306,23 +306,9 @@ impl<T: TriHashItem, S: BuildHasher> TriHashMap<T, S> {
         self.items.len() == self.room()
     }
 
-    /// Reserves capacity for one more item if the map is full. If that fails, the map is as before.
-    #[inline(always)]
-    pub(crate) fn make_room(&mut self) -> Result<(), TryReserveError>
-        ensures slots { self.new.slots ≡ self.old.slots }
-        ensures builder { self.new.builder ≡ self.old.builder }
-        ensures no_less_room { self.old.capacity ≤ self.new.capacity }
-        ensures same_room { length (bag self.old) < self.old.capacity → self.new ≡ self.old }
-        ensures room { OnOk result (length (bag self.old) < self.new.capacity) }
-        ensures reason { OnErr result (length (bag self.old) ≡ self.old.capacity) }
-        ensures unchanged { OnErr result (self.new ≡ self.old) }
-    {
-        self.make_room_for(1)
-    }
-
     /// Reserves capacity for this many more items if the map is full. If that fails, the map is as before.
     #[inline(always)]
-    pub(crate) fn make_room_for(&mut self, wanted: usize) -> Result<(), TryReserveError>
+    pub(crate) fn make_room(&mut self, wanted: usize) -> Result<(), TryReserveError>
         requires { 0 < wanted }
         ensures slots { self.new.slots ≡ self.old.slots }
         ensures builder { self.new.builder ≡ self.old.builder }
@@ -359,7 +345,7 @@ impl<T: TriHashItem, S: BuildHasher> TriHashMap<T, S> {
                 return Err(Refusal::Duplicate(item, found));
             }
         };
-        if let Err(_) = self.make_room() {
+        if let Err(_) = self.make_room(1) {
             return Err(Refusal::Memory(item));
         }
         self.insert_at(item, at, &mut Meter::new());

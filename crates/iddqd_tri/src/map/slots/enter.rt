@@ -39,7 +39,7 @@ impl<T: TriHashItem, S: BuildHasher> TriHashMap<T, S> {
             Ok(at) => at,
             Err(_) => return Err((item, ExtendUniqueReason::Conflict)),
         };
-        if self.make_room_for(wanted).is_err() || entered.reserve_for(wanted).is_err() {
+        if self.make_room(wanted).is_err() || entered.reserve_for(wanted).is_err() {
             return Err((item, ExtendUniqueReason::Memory));
         }
         let ix = self.insert_at(item, at, &mut Meter::new());

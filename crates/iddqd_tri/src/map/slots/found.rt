@@ -142,19 +142,6 @@ impl<T: TriHashItem, S: BuildHasher> TriHashMap<T, S> {
         self.items.get(slot?)
     }
 
-    /// Returns the slot, if it has an item.
-    fn if_live(&self, slot: Option<ItemIndex>) -> Option<ItemIndex>
-        ensures live { IfSome result (IsLive self.now.slots) }
-        ensures item { option_and_then (get self.now.slots) result ≡ option_and_then (get self.now.slots) slot }
-    {
-        let ix = slot?;
-        if self.items.get(ix).is_some() {
-            Some(ix)
-        } else {
-            None
-        }
-    }
-
     /// Returns a guard of the item of a slot, or `None` if there is no slot or if it has none.
     pub(crate) fn lend(&mut self, slot: Option<ItemIndex>) -> Option<RefMut<'_, T, S>>
         ensures item { option_and_then ref_item result ≡ option_and_then (get self.old.slots) slot }
@@ -163,7 +150,10 @@ impl<T: TriHashItem, S: BuildHasher> TriHashMap<T, S> {
         ensures* rests_at_none { sem 𝓛
             (rests_if_none T.row S.row T.K1.row T.K2.row T.K3.row S.Hasher.row self.entry result) }
     {
-        let slot = self.if_live(slot)?;
+        let slot = slot?;
+        if self.items.get(slot).is_none() {
+            return None;
+        }
         Some(RefMut { map: self, slot })
     }
 }

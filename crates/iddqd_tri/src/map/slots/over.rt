@@ -2,7 +2,7 @@
 ghost use Rattle.std.specs.Prelude.{◌≡◌, ◌≢◌, ◌+◌, ◌≤◌, [], ◌∷◌, length, map, None, Some, IfOk, IfErr, OnOk, OnErr, slice_set};
 ghost use Rattle.iddqd_store.specs.Bag.{clash, order, over};
 ghost use Rattle.iddqd_store.specs.Map.{bag, ListsConflicts, PutsAt};
-ghost use Rattle.iddqd_store.specs.Rank.{walks_one, walks_two, walks_within};
+ghost use Rattle.iddqd_store.specs.Rank.{walks_one, walks_within, walks_two};
 ghost use Rattle.iddqd_store.specs.Slots.{get, live_items, IsLive};
 ghost use Rattle.iddqd_store.specs.Slots.Found.{each_once};
 ghost use Rattle.iddqd_tri.specs.Keys.{AreUnder, HaveHashes, ranks};
@@ -62,8 +62,8 @@ impl<T: TriHashItem, S: BuildHasher> TriHashMap<T, S> {
             return (displaced, ix);
         }
         let (gone, other) = self.exchange_two(ix, at, item, by, meter);
-        displaced.push_front(other);
-        displaced.push_front(gone);
+        displaced.push(gone);
+        displaced.push(other);
         (displaced, ix)
     }
 

@@ -57,7 +57,7 @@ impl<T: TriHashItemMut, S: BuildHasher> TriHashMap<T, S> {
             T.TriHashItem T.K1.Hash T.K2.Hash T.K3.Hash S.BuildHasher S.Hasher.Hasher
             T.Data.row T.put self.entry ix result) }
     {
-        self.items.item_mut(ix.number()).data_mut()
+        self.items.item_mut(ix).data_mut()
     }
 
     /// Returns the data of the item of a live slot, borrowed for writing, or `None` if there is no slot.

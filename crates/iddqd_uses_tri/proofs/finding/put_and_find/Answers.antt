@@ -11,7 +11,7 @@ use Rattle.iddqd_uses_tri.proofs.finding.put_and_find.Goals as goal
 pub returns-in-Ok : goal.returns-in-Ok
 returns-in-Ok g c =
     let eq1 = g.T.K1.PartialEq.eq in
-    let by = ranks g.T.TriHashItem eq1 g.T.K2.PartialEq.eq g.T.K3.PartialEq.eq in
+    let by = ranks g.T.TriHashItem g.T.K1.PartialEq.eq g.T.K2.PartialEq.eq g.T.K3.PartialEq.eq in
     c.contains_key1.ensures
     ∙ contains-inserted [] (agree g.T.TriHashItem.key2 g.T.K2.PartialEq.eq ∷ agree g.T.TriHashItem.key3 g.T.K3.PartialEq.eq ∷ []) (agree g.T.TriHashItem.key1 eq1)
     (has1 g.T.TriHashItem eq1 c.args.key.now) (NamesOne-query eq1 eq1 g.T.TriHashItem.key1 g.met.T.K1.Eq.laws.congr c.args.key.now)

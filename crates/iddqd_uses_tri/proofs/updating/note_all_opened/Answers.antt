@@ -1,7 +1,7 @@
 use Rattle.std.proofs.Common.{◌<◌, ◌+◌, ◌^◌, rules}
 use Rattle.iddqd_tri.proofs.CallerLemmas.Calling.{takes_by_items}
 use Rattle.iddqd_tri.proofs.CallerLemmas.Updates.{stores-map}
-use Rattle.iddqd_uses_tri.specs.declared.updating.File.{File}
+use Rattle.iddqd_uses_tri.specs.declared.items.File.{File}
 use Rattle.iddqd_uses_tri.proofs.updating.note_all_opened.Goals as goal
 
 pub update_all-requires : goal.update_all-requires

@@ -18,7 +18,7 @@ returns g c =
         behind = λ f. rw step (pass.behind f);
       },
     ) in (
-      steps_to c.args.self.now (λ w x. g.T.TriHashItemMut.put x w) c.data_mut_at.result.ghost_name c.in_ok-ix.ix c.number.result c.saturating_sub-self.result c.number.ensures c.saturating_sub-self.ensures step,
+      steps_to c.args.self.now (λ w x. g.T.TriHashItemMut.put x w) c.data_mut_at.result.ghost_name c.in_ok-ix.ix c.number.result c.saturating_sub-self.result c.number.ensures.value c.saturating_sub-self.ensures step,
       record {
         lends = tt;
         next = next;

@@ -25,6 +25,17 @@ loop-item-preserved g c =
       builder = put.same_builder ∙ so_far.builder;
     }
 
+-- this goal is answered here, so that a wrong body fails here, without a second search for it
+pub loop-item-init : goal.loop-item-init
+loop-item-init g c = record {
+  callable = search rules;
+  ending = search rules;
+  extends = search rules;
+  no_less_room = search rules;
+  fits = search rules;
+  builder = search rules;
+}
+
 at_err : {A E : Type 0} (r : Result A E) (e : E) (P : E → Type 0) → r ≡ Err e → P e → IfErr r P
 at_err {A} {E} r e P is p = subst (λ (r : Result A E). IfErr r P) (sym is) p
 

@@ -1,5 +1,5 @@
 use Rattle.std.proofs.Common.{◌≡◌, ◌++◌, ◌∙◌, List, arith, rules, subst}
-use Rattle.std.specs.Prelude.{IsPermutation}
+use Rattle.std.specs.Prelude.{◌<◌, length, IsPermutation}
 use Rattle.iddqd_store.specs.Bag.{Ranks, AreLawful, IsSound, clash}
 use Rattle.iddqd_store.specs.Bag.Building.{IsReason}
 use Rattle.iddqd_store.specs.Slots.{live_items}
@@ -9,16 +9,18 @@ use Rattle.iddqd_store.specs.Map.{bag}
 use Rattle.iddqd_store.proofs.BagLemmas.Building.{AddsTo-nil, AddsTo-push, AddsTo-sound}
 use Rattle.iddqd_store.proofs.MapLemmas.Entered.{taken_sound, left_same, left_sound, taken_reason}
 use Rattle.iddqd_store.proofs.SlotLemmas.Entered.{StandAt-nil}
-use Rattle.iddqd_tri.specs.Keys.{ranks}
 use Rattle.iddqd_tri.proofs.MapLemmas.{AreLawful-ranks}
 use Rattle.iddqd_tri.proofs.map.TriHashMap.extend_unique.Given as given
 use Rattle.iddqd_tri.proofs.map.TriHashMap.extend_unique.Goals as goal
 
 abbrev by : (g : given.Over) → Ranks g.row.T.Denot
-by g = ranks g.T.TriHashItem g.T.K1.PartialEq.eq g.T.K2.PartialEq.eq g.T.K3.PartialEq.eq
+by g = g.T.Ranked.ranks
+
+some : (g : given.Over) → 0 < length (by g)
+some g = rw g.met.T.Ranked.ranks_are (omega arith)
 
 laws : (g : given.Over) → AreLawful (by g)
-laws g = AreLawful-ranks g.T.TriHashItem g.met.T.K1.Eq.laws g.met.T.K2.Eq.laws g.met.T.K3.Eq.laws
+laws g = rw g.met.T.Ranked.ranks_are (AreLawful-ranks g.T.TriHashItem g.met.T.K1.Eq.laws g.met.T.K2.Eq.laws g.met.T.K3.Eq.laws)
 
 pub loop-item-init : goal.loop-item-init
 loop-item-init g c = record {
@@ -40,7 +42,7 @@ loop-item-preserved g c =
     record {
       callable = search rules;
       ending = search rules;
-      added = AddsTo-push (by g) (bag c.args.self.now) (bag c.loop-item.self) (bag c.enter.new.self) c.loop-item.yielded item so_far.added put.free put.gains.items;
+      added = AddsTo-push (by g) (bag c.args.self.now) (bag c.loop-item.self) (bag c.enter.new.self) c.loop-item.yielded item so_far.added (rw g.met.T.Ranked.ranks_are put.free) put.gains.items;
       noted = put.noted c.loop-item.yielded so_far.noted;
       no_less_room = omega (arith, so_far.no_less_room, put.grows.no_less_room);
       fits = λ fit.
@@ -65,7 +67,7 @@ module _ (g : given.Over) (c : goal.After-drop-item-iterator g) where
   taken = c.take_entered-taken.result.items
 
   sound : IsSound (by g) old
-  sound = rw (← c.self.view_is) c.self.invariant.sound
+  sound = rw (g.met.T.Ranked.ranks_are, ← c.self.view_is) c.self.invariant.sound
 
   all : taken ≡ c.loop-item.yielded
   all = c.take_entered-taken.ensures.values ∙ rw (c.in-Err.ensures.slots, c.in-Err.ensures.same_notes) c.loop-item.invariant.noted.items
@@ -74,23 +76,20 @@ module _ (g : given.Over) (c : goal.After-drop-item-iterator g) where
   out = subst (λ l. IsPermutation (live_items l) (taken ++ new)) c.in-Err.ensures.slots c.take_entered-taken.ensures.loses.items
 
 pub returns-in-Err-clause-same_items : goal.returns-in-Err-clause-same_items
-returns-in-Err-clause-same_items g c = left_same (by g) (omega arith) (laws g) (old g c) (held g c) (new g c) _ (taken g c) (sound g c) c.loop-item.invariant.added (all g c) (out g c)
+returns-in-Err-clause-same_items g c = left_same (by g) (some g) (laws g) (old g c) (held g c) (new g c) _ (taken g c) (sound g c) c.loop-item.invariant.added (all g c) (out g c)
 
 pub returns-in-Err-clause-reason : goal.returns-in-Err-clause-reason
 returns-in-Err-clause-reason g c =
     let item : c.in-Err.value ≡ c.in-Some.item = rw c.in-Err.value-is at c.in-Err.ensures.handed_back in
-    let reason : IsReason c.in-Err.reason (clash (by g) (held g c) c.in-Some.item) = rw c.in-Err.reason-is at c.in-Err.ensures.reason in
+    let reason : IsReason c.in-Err.reason (clash (by g) (held g c) c.in-Some.item) = rw g.met.T.Ranked.ranks_are (rw c.in-Err.reason-is at c.in-Err.ensures.reason) in
     record {
-      apart = rw g.met.T.Ranked.ranks_are (taken_sound (by g) (omega arith) (laws g) (old g c) (held g c) (new g c) _ (taken g c) (sound g c) c.loop-item.invariant.added (all g c) (out g c));
-      reason = rw (g.met.T.Ranked.ranks_are, item) (taken_reason (by g) (omega arith) (laws g) (old g c) (held g c) (new g c) _ (taken g c) (sound g c) c.loop-item.invariant.added (all g c) (out g c) c.in-Err.reason c.in-Some.item reason);
+      apart = taken_sound (by g) (some g) (laws g) (old g c) (held g c) (new g c) _ (taken g c) (sound g c) c.loop-item.invariant.added (all g c) (out g c);
+      reason = rw item (taken_reason (by g) (some g) (laws g) (old g c) (held g c) (new g c) _ (taken g c) (sound g c) c.loop-item.invariant.added (all g c) (out g c) c.in-Err.reason c.in-Some.item reason);
     }
 
 pub returns-in-Err-clause-sound : goal.returns-in-Err-clause-sound
-returns-in-Err-clause-sound g c = rw g.met.T.Ranked.ranks_are (left_sound (by g) (omega arith) (laws g) (old g c) (held g c) (new g c) _ (taken g c) (sound g c) c.loop-item.invariant.added (all g c) (out g c))
-
-pub returns-clause-all : goal.returns-clause-all
-returns-clause-all g c = rw g.met.T.Ranked.ranks_are (search rules)
+returns-in-Err-clause-sound g c = left_sound (by g) (some g) (laws g) (old g c) (held g c) (new g c) _ (taken g c) (sound g c) c.loop-item.invariant.added (all g c) (out g c)
 
 pub returns-clause-sound : goal.returns-clause-sound
 returns-clause-sound g c =
-    rw g.met.T.Ranked.ranks_are (AddsTo-sound (by g) (bag c.args.self.now) (bag c.loop-item.self) c.loop-item.yielded c.loop-item.invariant.added (laws g) (rw (← c.self.view_is) c.self.invariant.sound))
+    AddsTo-sound (by g) (bag c.args.self.now) (bag c.loop-item.self) c.loop-item.yielded c.loop-item.invariant.added (laws g) (rw (g.met.T.Ranked.ranks_are, ← c.self.view_is) c.self.invariant.sound)

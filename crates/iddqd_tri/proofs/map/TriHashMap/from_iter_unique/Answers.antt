@@ -4,7 +4,6 @@ use Rattle.std.specs.Iterator.{Yields}
 use Rattle.iddqd_store.specs.Bag.{order}
 use Rattle.iddqd_store.specs.Map.{bag, IsFullFor, IsBlockedAt}
 use Rattle.iddqd_store.proofs.BagLemmas.Building.{AddsTo-push, HasPlaceFor-free, RefusesFor-found}
-use Rattle.iddqd_tri.specs.Keys.{ranks}
 use Rattle.iddqd_tri.proofs.MapLemmas.{AreLawful-ranks}
 use Rattle.iddqd_tri.proofs.map.TriHashMap.from_iter_unique.Goals as goal
 
@@ -19,44 +18,44 @@ loop-item-init g c =
 
 pub loop-item-preserved : goal.loop-item-preserved
 loop-item-preserved g c =
-    let by = ranks g.T.TriHashItem g.T.K1.PartialEq.eq g.T.K2.PartialEq.eq g.T.K3.PartialEq.eq in
+    let by = g.T.Ranked.ranks in
     let gains = c.in-Ok.ensures.gains in
     record {
       callable = search rules;
       ending = search rules;
-      added = AddsTo-push by [] (bag c.loop-item.map) (bag c.insert_or_refuse.new.self) c.loop-item.yielded c.in-Some.item c.loop-item.invariant.added c.in-Ok.ensures.free gains.items;
+      added = AddsTo-push by [] (bag c.loop-item.map) (bag c.insert_or_refuse.new.self) c.loop-item.yielded c.in-Some.item c.loop-item.invariant.added (rw g.met.T.Ranked.ranks_are c.in-Ok.ensures.free) gains.items;
       builder = rw gains.same_builder c.loop-item.invariant.builder;
     }
 
 pub returns-in-Err-Memory-clause-refused : goal.returns-in-Err-Memory-clause-refused
 returns-in-Err-Memory-clause-refused g c =
-    let by = ranks g.T.TriHashItem g.T.K1.PartialEq.eq g.T.K2.PartialEq.eq g.T.K3.PartialEq.eq in
+    let by = g.T.Ranked.ranks in
     let item : c.in-Err-Memory.item ≡ c.in-Some.item = rw c.in-Err-Memory.field-0-is at c.in-Err-Memory.ensures.handed_back in
-    let full : IsFullFor by c.loop-item.map c.in-Some.item = rw c.in-Err-Memory.field-0-is at c.in-Err-Memory.ensures.reason in
+    let full : IsFullFor by c.loop-item.map c.in-Some.item = rw g.met.T.Ranked.ranks_are (rw c.in-Err-Memory.field-0-is at c.in-Err-Memory.ensures.reason) in
     let gave = subst (λ s. Yields g.I.IntoIter.Iterator.next_gives s c.loop-item.yielded c.loop-item.item-iterator) c.into_iter-item-iterator.ensures.into_iter_gives c.loop-item.yielded_by in
     let place = HasPlaceFor-free by (bag c.loop-item.map) c.loop-item.yielded c.in-Some.item c.loop-item.invariant.added full.free in
-    rw (g.met.T.Ranked.ranks_are, item) (c.into_iter-items.result, c.loop-item.yielded, c.next.new.self, c.into_iter-items.ensures.into_iter_gives, (c.loop-item.item-iterator, gave, c.in-Some.ensures.steps), place)
+    rw item (c.into_iter-items.result, c.loop-item.yielded, c.next.new.self, c.into_iter-items.ensures.into_iter_gives, (c.loop-item.item-iterator, gave, c.in-Some.ensures.steps), place)
 
 pub take_all-duplicates-requires-clause-live : goal.take_all-duplicates-requires-clause-live
 take_all-duplicates-requires-clause-live g c =
-    let by = ranks g.T.TriHashItem g.T.K1.PartialEq.eq g.T.K2.PartialEq.eq g.T.K3.PartialEq.eq in
-    let blocked : IsBlockedAt by c.loop-item.map c.in-Some.item c.in-Err-Duplicate.found = rw c.in-Err-Duplicate.field-0-is at c.in-Err-Duplicate.ensures.reason in
+    let by = g.T.Ranked.ranks in
+    let blocked : IsBlockedAt by c.loop-item.map c.in-Some.item c.in-Err-Duplicate.found = rw g.met.T.Ranked.ranks_are (rw c.in-Err-Duplicate.field-0-is at c.in-Err-Duplicate.ensures.reason) in
     rw c.in-Err-Duplicate.ensures.unchanged blocked.found.live
 
 pub take_all-duplicates-requires-clause-apart : goal.take_all-duplicates-requires-clause-apart
 take_all-duplicates-requires-clause-apart g c =
-    let by = ranks g.T.TriHashItem g.T.K1.PartialEq.eq g.T.K2.PartialEq.eq g.T.K3.PartialEq.eq in
-    let blocked : IsBlockedAt by c.loop-item.map c.in-Some.item c.in-Err-Duplicate.found = rw c.in-Err-Duplicate.field-0-is at c.in-Err-Duplicate.ensures.reason in
+    let by = g.T.Ranked.ranks in
+    let blocked : IsBlockedAt by c.loop-item.map c.in-Some.item c.in-Err-Duplicate.found = rw g.met.T.Ranked.ranks_are (rw c.in-Err-Duplicate.field-0-is at c.in-Err-Duplicate.ensures.reason) in
     blocked.found.apart
 
 pub returns-in-Err-Duplicate-clause-refused : goal.returns-in-Err-Duplicate-clause-refused
 returns-in-Err-Duplicate-clause-refused g c =
-    let by = ranks g.T.TriHashItem g.T.K1.PartialEq.eq g.T.K2.PartialEq.eq g.T.K3.PartialEq.eq in
+    let by = g.T.Ranked.ranks in
     let held = c.loop-item.map in
     let item = c.in-Some.item in
     let same : c.in-Err-Duplicate.item ≡ item = rw c.in-Err-Duplicate.field-0-is at c.in-Err-Duplicate.ensures.handed_back in
-    let blocked : IsBlockedAt by held item c.in-Err-Duplicate.found = rw c.in-Err-Duplicate.field-0-is at c.in-Err-Duplicate.ensures.reason in
+    let blocked : IsBlockedAt by held item c.in-Err-Duplicate.found = rw g.met.T.Ranked.ranks_are (rw c.in-Err-Duplicate.field-0-is at c.in-Err-Duplicate.ensures.reason) in
     let listed : c.take_all-duplicates.result ≡ order by (bag held) item = c.take_all-duplicates.ensures.values ∙ (rw c.in-Err-Duplicate.ensures.unchanged blocked.found.items) in
     let gave = subst (λ s. Yields g.I.IntoIter.Iterator.next_gives s c.loop-item.yielded c.loop-item.item-iterator) c.into_iter-item-iterator.ensures.into_iter_gives c.loop-item.yielded_by in
-    let stopped = RefusesFor-found by (bag held) c.loop-item.yielded item c.loop-item.invariant.added (AreLawful-ranks g.T.TriHashItem g.met.T.K1.Eq.laws g.met.T.K2.Eq.laws g.met.T.K3.Eq.laws) blocked.some in
-    rw (g.met.T.Ranked.ranks_are, c.new.ensures, listed, same) (c.into_iter-items.result, c.loop-item.yielded, c.next.new.self, c.into_iter-items.ensures.into_iter_gives, (c.loop-item.item-iterator, gave, c.in-Some.ensures.steps), stopped)
+    let stopped = RefusesFor-found by (bag held) c.loop-item.yielded item c.loop-item.invariant.added (rw g.met.T.Ranked.ranks_are (AreLawful-ranks g.T.TriHashItem g.met.T.K1.Eq.laws g.met.T.K2.Eq.laws g.met.T.K3.Eq.laws)) blocked.some in
+    rw (c.new.ensures, listed, same) (c.into_iter-items.result, c.loop-item.yielded, c.next.new.self, c.into_iter-items.ensures.into_iter_gives, (c.loop-item.item-iterator, gave, c.in-Some.ensures.steps), stopped)

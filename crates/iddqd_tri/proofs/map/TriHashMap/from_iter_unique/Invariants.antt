@@ -1,7 +1,6 @@
 use Rattle.std.proofs.Common.{[]}
 use Rattle.iddqd_store.specs.Map.{bag}
 use Rattle.iddqd_store.specs.Bag.Building.{AddsTo}
-use Rattle.iddqd_tri.specs.Keys.{ranks}
 use Rattle.iddqd_tri.proofs.map.TriHashMap.from_iter_unique.Given as goal
 
 -- the items that came so far were added
@@ -9,6 +8,6 @@ abbrev pub invariant-loop-item : goal.invariant-loop-item
 invariant-loop-item g l = record {
   callable : (goal.iterator-loop-item g).can_next l.item-iterator;
   ending : (goal.iterator-loop-item g).is_finite l.item-iterator;
-  added : AddsTo (ranks g.T.TriHashItem g.T.K1.PartialEq.eq g.T.K2.PartialEq.eq g.T.K3.PartialEq.eq) [] (bag l.map) l.yielded;
+  added : AddsTo g.T.Ranked.ranks [] (bag l.map) l.yielded;
   builder : g.S.Default.is_default l.map.builder;
 }

@@ -8,7 +8,7 @@ insert_at-requires-clause-free g c =
     let same1 : g.T.K1.PartialEq.eq c.args.key1.now (g.T.TriHashItem.key1 c.args.item) ≡ true = search rules in
     let same2 : g.T.K2.PartialEq.eq c.args.key2.now (g.T.TriHashItem.key2 c.args.item) ≡ true = search rules in
     let same3 : g.T.K3.PartialEq.eq c.args.key3.now (g.T.TriHashItem.key3 c.args.item) ≡ true = search rules in
-    rw c.make_room.ensures.slots (clash-all g.T.TriHashItem g.T.K1.PartialEq.eq g.T.K2.PartialEq.eq g.T.K3.PartialEq.eq g.met.T.K1.Eq.laws g.met.T.K2.Eq.laws g.met.T.K3.Eq.laws c.args.item _ _ _ same1 same2 same3 _ c.requires.absent)
+    rw c.make_room.ensures.slots (clash-all g.T.TriHashItem g.T.K1.PartialEq.eq g.T.K2.PartialEq.eq g.T.K3.PartialEq.eq g.met.T.K1.Eq.laws g.met.T.K2.Eq.laws g.met.T.K3.Eq.laws c.args.item c.args.key1.now c.args.key2.now c.args.key3.now same1 same2 same3 _ c.requires.absent)
 
 pub insert_at-requires-clause-places : goal.insert_at-requires-clause-places
 insert_at-requires-clause-places g c =
@@ -32,5 +32,5 @@ returns-in-Err-clause-hands_back g c =
     record {
       handed_back = refl;
       rank = search rules;
-      memory = λ _. record { free = clash-all g.T.TriHashItem g.T.K1.PartialEq.eq g.T.K2.PartialEq.eq g.T.K3.PartialEq.eq g.met.T.K1.Eq.laws g.met.T.K2.Eq.laws g.met.T.K3.Eq.laws c.args.item _ _ _ same1 same2 same3 _ c.requires.absent; full = c.in-Err.ensures.reason };
+      memory = λ _. record { free = clash-all g.T.TriHashItem g.T.K1.PartialEq.eq g.T.K2.PartialEq.eq g.T.K3.PartialEq.eq g.met.T.K1.Eq.laws g.met.T.K2.Eq.laws g.met.T.K3.Eq.laws c.args.item c.args.key1.now c.args.key2.now c.args.key3.now same1 same2 same3 _ c.requires.absent; full = c.in-Err.ensures.reason };
     }

@@ -14,8 +14,8 @@ pub loop-ix-preserved-then-not-f : goal.loop-ix-preserved-then-not-f
 loop-ix-preserved-then-not-f g c =
     let at = c.loop-ix in
     record {
-      completes = rw (c.number-from.ensures, c.take.ensures.slots) (past_taken (CalledAt g.F.FnMut) _ at.f c.f.new.self _ at.self.slots at.from c.in-Some.ix c.item_at.result.now (c.in-Some.ensures.comes _ c.item_at.ensures) (called_at g.F.FnMut c.f.ensures c.if-not-f.true) at.invariant.completes);
-      callable = rw (c.number-from.ensures, c.take.ensures.slots) (subst (λ l. TakesEach g.F.FnMut c.f.new.self l) (sym (same_behind at.self.slots c.in-Some.ix)) (takes_others g.F.FnMut at.f _ c.item_at.result.now _ _ c.f.new.self (c.in-Some.ensures.comes _ c.item_at.ensures).rest (called_at g.F.FnMut c.f.ensures c.if-not-f.true) at.invariant.callable));
+      completes = rw (c.number-from.ensures.value, c.take.ensures.slots) (past_taken (CalledAt g.F.FnMut) _ at.f c.f.new.self _ at.self.slots at.from c.in-Some.ix c.item_at.result.now (c.in-Some.ensures.comes _ c.item_at.ensures) (called_at g.F.FnMut c.f.ensures c.if-not-f.true) at.invariant.completes);
+      callable = rw (c.number-from.ensures.value, c.take.ensures.slots) (subst (λ l. TakesEach g.F.FnMut c.f.new.self l) (sym (same_behind at.self.slots c.in-Some.ix)) (takes_others g.F.FnMut at.f _ c.item_at.result.now _ _ c.f.new.self (c.in-Some.ensures.comes _ c.item_at.ensures).rest (called_at g.F.FnMut c.f.ensures c.if-not-f.true) at.invariant.callable));
       capacity = c.take.ensures.loses.same_room ∙ at.invariant.capacity;
       builder = c.take.ensures.loses.same_builder ∙ at.invariant.builder;
     }
@@ -24,8 +24,8 @@ pub loop-ix-preserved : goal.loop-ix-preserved
 loop-ix-preserved g c =
     let at = c.loop-ix in
     record {
-      completes = rw c.number-from.ensures (past_kept (CalledAt g.F.FnMut) _ at.f c.f.new.self _ at.self.slots at.from c.in-Some.ix c.item_at.result.now (c.in-Some.ensures.comes _ c.item_at.ensures) (called_at g.F.FnMut c.f.ensures c.if-not-f.false) at.invariant.completes);
-      callable = rw c.number-from.ensures (takes_others g.F.FnMut at.f _ c.item_at.result.now _ _ c.f.new.self (c.in-Some.ensures.comes _ c.item_at.ensures).rest (called_at g.F.FnMut c.f.ensures c.if-not-f.false) at.invariant.callable);
+      completes = rw c.number-from.ensures.value (past_kept (CalledAt g.F.FnMut) _ at.f c.f.new.self _ at.self.slots at.from c.in-Some.ix c.item_at.result.now (c.in-Some.ensures.comes _ c.item_at.ensures) (called_at g.F.FnMut c.f.ensures c.if-not-f.false) at.invariant.completes);
+      callable = rw c.number-from.ensures.value (takes_others g.F.FnMut at.f _ c.item_at.result.now _ _ c.f.new.self (c.in-Some.ensures.comes _ c.item_at.ensures).rest (called_at g.F.FnMut c.f.ensures c.if-not-f.false) at.invariant.callable);
       capacity = at.invariant.capacity;
       builder = at.invariant.builder;
     }

@@ -8,7 +8,7 @@ pub loop-ix-preserved : goal.loop-ix-preserved
 loop-ix-preserved g c =
     let at = c.loop-ix in
     record {
-      empty = rw (c.number-from.ensures, c.take.ensures.slots) (emptied_before at.self.slots at.from c.in-Some.ix c.take.result (c.in-Some.ensures.comes _ c.take.ensures.value) ∙ at.invariant.empty);
+      empty = rw (c.number-from.ensures.value, c.take.ensures.slots) (emptied_before at.self.slots at.from c.in-Some.ix c.take.result (c.in-Some.ensures.comes _ c.take.ensures.value) ∙ at.invariant.empty);
       capacity = c.take.ensures.loses.same_room ∙ at.invariant.capacity;
       builder = c.take.ensures.loses.same_builder ∙ at.invariant.builder;
     }

@@ -17,8 +17,8 @@ loop-ix-preserved g c =
     let stored = c.store_at.ensures.stored in
     let next = passes at.self at.from c.in-Some.ix stored.0 (c.in-Some.ensures.comes stored.0 stored.2) in
     record {
-      completes = rw c.number-from.ensures (written_one (CalledAt g.F.FnMut) g.T.TriHashItemMut.put c.args.f at.f c.store_at.new.f (items_in c.args.self.now.slots) at.self at.from (c.in-Some.ix + 1) stored.0 stored.1 (λ w. map_with at.self c.in-Some.ix w) c.store_at.new.self stored.4 next stored.3 at.invariant.completes);
-      callable = rw c.number-from.ensures
+      completes = rw c.number-from.ensures.value (written_one (CalledAt g.F.FnMut) g.T.TriHashItemMut.put c.args.f at.f c.store_at.new.f (items_in c.args.self.now.slots) at.self at.from (c.in-Some.ix + 1) stored.0 stored.1 (λ w. map_with at.self c.in-Some.ix w) c.store_at.new.self stored.4 next stored.3 at.invariant.completes);
+      callable = rw c.number-from.ensures.value
           (subst (λ l. TakesEach g.F.FnMut c.store_at.new.f l) (sym (ap (λ (m : Map g.row.T.Denot g.row.S.Denot). to_come m (c.in-Some.ix + 1)) stored.4 ∙ next.behind (λ y. g.T.TriHashItemMut.put y stored.1)))
           (takes_others g.F.FnMut at.f _ stored.0 _ stored.1 c.store_at.new.f next.comes stored.3 at.invariant.callable));
       capacity = ap (λ m. m.capacity) stored.4 ∙ at.invariant.capacity;

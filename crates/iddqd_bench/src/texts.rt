@@ -1,6 +1,6 @@
 //! Loops over a map of items whose first key is a text: a `String`, by which items are looked up with a `&str`.
-use super::Row;
 use iddqd_bi::{BiHashItem, BiHashMap};
+use iddqd_tests_bi::Row;
 use std::alloc::{AllocError, Global};
 
 /// An item with a text and a number as keys.

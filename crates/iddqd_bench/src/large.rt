@@ -1,6 +1,6 @@
 //! Loops over a map of items of 128 bytes.
-use super::Row;
 use iddqd_bi::{BiHashItem, BiHashMap};
+use iddqd_tests_bi::Row;
 use std::alloc::Global;
 
 /// An item with two keys and 112 bytes of data.

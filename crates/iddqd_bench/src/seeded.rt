@@ -1,7 +1,7 @@
 //! Loops over the map with two keys and the hasher that std's `RandomState` makes. A loop cannot draw a seed, so its
 //! seed is 0. The time does not depend on the seed.
-use super::Row;
 use iddqd_bi::BiHashMap;
+use iddqd_tests_bi::Row;
 use std::alloc::Global;
 use std::hash::{BuildHasherDefault, DefaultHasher};
 
