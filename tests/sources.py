@@ -1,5 +1,5 @@
-"""What scripts read of this repository: the functions of the .rt sources with their contracts, the edits that must fail with the
-functions that they turn, and crates.txt. A script that imports this module works at the top of the repository from then on.
+"""What scripts read of this repository: the functions of the .rt sources with their contracts, the mutants with their targets, and
+crates.txt. A script that imports this module works at the top of the repository from then on.
 
 Functions are found by the layout that rt fmt writes. Each place in a text is the number of a line, from 0 on.
 """
@@ -15,8 +15,8 @@ import sys
 FROM = os.getcwd()
 os.chdir(os.path.join(os.path.dirname(os.path.abspath(__file__)), ".."))
 HEAD = re.compile(r'( *)((?:(?:[a-z]+(?:\([^)]*\))?|"C") )*)fn (\w+)')
-# The lines of turns.md on functions that no edit turns, or whose work other functions do.
-SAYS = re.compile(r"(goes by|like|no edit): (.*)")
+# The lines of targets.md on functions that are no targets, or whose work other functions do.
+SAYS = re.compile(r"(goes by|like|no mutant): (.*)")
 
 
 def read(path):
@@ -165,24 +165,24 @@ def impl_of(line):
     return own, trait.strip(), of
 
 
-def turns(crate):
-    """Returns the lines `EDIT: PATH ..` of a crate's turns.md, each as the edit and the functions that it turns, and its other
-    lines, each as its kind and its text."""
-    path = f"crates/{crate}/must-fail/turns.md"
+def targets(crate):
+    """Returns the lines `MUTANT: PATH ..` of a crate's targets.md, each as the mutant and its targets, and its other lines,
+    each as its kind and its text."""
+    path = f"crates/{crate}/must-fail/targets.md"
     lines = read(path).splitlines() if os.path.isfile(path) else []
-    edits = [(name, paths.split()) for name, _, paths in (it.partition(": ") for it in lines if not SAYS.match(it))]
-    return edits, [it.groups() for it in map(SAYS.match, lines) if it]
+    mutants = [(name, paths.split()) for name, _, paths in (it.partition(": ") for it in lines if not SAYS.match(it))]
+    return mutants, [it.groups() for it in map(SAYS.match, lines) if it]
 
 
-def edits_of(crate):
-    """Returns the names of a crate's edits, in order."""
+def mutants_of(crate):
+    """Returns the names of a crate's mutants, in order."""
     return [os.path.basename(it)[: -len(".edit")] for it in files(crate, "must-fail/*.edit")]
 
 
-def changes(crate, edit):
-    """Returns the files that an edit changes, each with its pairs of an old and a new text."""
+def changes(crate, mutant):
+    """Returns the files that a mutant changes, each with its pairs of an old and a new text."""
     found, old, pairs = {}, None, None
-    for line in read(f"crates/{crate}/must-fail/{edit}.edit").split("\n"):
+    for line in read(f"crates/{crate}/must-fail/{mutant}.edit").split("\n"):
         word, _, text = line.partition(": ")
         if word == "file":
             pairs = found.setdefault(f"crates/{crate}/{text}", [])

@@ -1,4 +1,4 @@
-"""The definitions of specs/ as tables: the lists `words FILE ..` of tests/lists, whose head says what they are."""
+"""The definitions of specs/ as tables: the lists `words FILE ..` of tests/page_tables, whose head says what they are."""
 import itertools
 import re
 

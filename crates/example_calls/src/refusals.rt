@@ -34,7 +34,7 @@ impl BiHashItem for Line {
 #[derive(Drop)]
 pub struct Refused {
     pub line: Line,
-    pub in_the_way: usize,
+    pub conflicts: usize,
     pub reason: InsertReason,
 }
 
@@ -46,16 +46,16 @@ pub fn connect(lines: &mut BiHashMap<Line>, line: Line) -> Result<(), Refused>
     ensures full { IfErr result (λ r. r.reason ≡ InsertReason.Memory → IsFullFor ⟦<Line as Ranked>⟧.ranks lines.old line) }
     ensures taken { IfErr result (λ r. r.reason ≡ InsertReason.Duplicate
         → clash ⟦<Line as Ranked>⟧.ranks (bag lines.old) line ≢ []) }
-    ensures count { IfErr result (λ r. r.in_the_way ≡ length (order ⟦<Line as Ranked>⟧.ranks (bag lines.old) line)) }
+    ensures count { IfErr result (λ r. r.conflicts ≡ length (order ⟦<Line as Ranked>⟧.ranks (bag lines.old) line)) }
 {
     match lines.insert_unique(line) {
         Ok(()) => Ok(()),
         Err(refusal) => {
-            let in_the_way = refusal.duplicates().len();
+            let conflicts = refusal.duplicates().len();
             let reason = refusal.reason();
             Err(Refused {
                 line: refusal.into_item(),
-                in_the_way,
+                conflicts,
                 reason,
             })
         }

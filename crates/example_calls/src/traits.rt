@@ -84,7 +84,7 @@ pub fn open_level(
 }
 
 /// Returns how many badges have the number or the holder of this one.
-pub fn in_the_way(badges: &BiHashMap<DoorBadge>, badge: &DoorBadge) -> usize
+pub fn conflicts(badges: &BiHashMap<DoorBadge>, badge: &DoorBadge) -> usize
     ensures { result ≡ length (order ⟦<DoorBadge as Ranked>⟧.ranks (bag badges.now) badge.now) }
 {
     badges.conflicts_with(badge).len()

@@ -37,7 +37,7 @@ impl BiHashItem for Device {
 /// it conflicts with one of these or of the map, or found no memory.
 #[derive(Drop)]
 pub struct Rejected {
-    pub in_the_way: Device,
+    pub item: Device,
     pub index: usize,
     pub reason: ExtendUniqueReason,
 }
@@ -98,15 +98,15 @@ fn device_of(row: &Row) -> Result<Device, Error> {
 pub fn insert_all(devices: &mut BiHashMap<Device>, batch: Vec<Device>) -> Result<(), Rejected>
     ensures all { OnOk result (IsPermutation (bag devices.new) (batch.items ++ bag devices.old)) }
     ensures none { OnErr result (IsPermutation (bag devices.new) (bag devices.old)) }
-    ensures which { IfErr result (λ e. slice_get batch.items e.index ≡ Some e.in_the_way) }
+    ensures which { IfErr result (λ e. slice_get batch.items e.index ≡ Some e.item) }
     ensures why { IfErr result (λ e. IsRefusedBehind
-        ⟦<Device as Ranked>⟧.ranks (bag devices.old) (take e.index batch.items) e.in_the_way e.reason) }
+        ⟦<Device as Ranked>⟧.ranks (bag devices.old) (take e.index batch.items) e.item e.reason) }
 {
     match devices.extend_unique(batch) {
         Ok(()) => Ok(()),
         Err(refused) => Err(Rejected {
             index: refused.taken.len(),
-            in_the_way: refused.value,
+            item: refused.value,
             reason: refused.reason,
         }),
     }

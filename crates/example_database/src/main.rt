@@ -50,7 +50,7 @@ fn answer(rt: &(impl Print + AllocGlobal), conn: &mut Connection<MemStore>) -> i
         Ok(count) => println!(rt; "loaded {count}"),
         Err(NotLoaded::Row(rejected)) => {
             let row = rejected.index.saturating_add(1);
-            let device = rejected.in_the_way;
+            let device = rejected.item;
             match rejected.reason {
                 ExtendUniqueReason::Conflict => {
                     println!(rt; "row {row}: duplicate {} {}", device.serial, device.port)

@@ -36,7 +36,7 @@ impl BiHashItem for Record {
 /// it conflicts with one of these or of the map, or found no memory.
 #[derive(Drop)]
 pub struct Rejected {
-    pub in_the_way: Record,
+    pub item: Record,
     pub index: usize,
     pub reason: ExtendUniqueReason,
 }
@@ -45,15 +45,15 @@ pub struct Rejected {
 pub fn load(records: &mut BiHashMap<Record>, batch: Vec<Record>) -> Result<(), Rejected>
     ensures all { OnOk result (IsPermutation (bag records.new) (batch.items ++ bag records.old)) }
     ensures none { OnErr result (IsPermutation (bag records.new) (bag records.old)) }
-    ensures which { IfErr result (λ e. slice_get batch.items e.index ≡ Some e.in_the_way) }
+    ensures which { IfErr result (λ e. slice_get batch.items e.index ≡ Some e.item) }
     ensures why { IfErr result (λ e. IsRefusedBehind
-        ⟦<Record as Ranked>⟧.ranks (bag records.old) (take e.index batch.items) e.in_the_way e.reason) }
+        ⟦<Record as Ranked>⟧.ranks (bag records.old) (take e.index batch.items) e.item e.reason) }
 {
     match records.extend_unique(batch) {
         Ok(()) => Ok(()),
         Err(refused) => Err(Rejected {
             index: refused.taken.len(),
-            in_the_way: refused.value,
+            item: refused.value,
             reason: refused.reason,
         }),
     }

@@ -16,7 +16,8 @@
 //! The answer to a line is the line itself, a colon, and what the call returned. If the third argument is `costs`, the
 //! answer goes on with how many keys were compared, hashed and dropped, and how many allocations were requested. At its
 //! end are the number of items and the capacity. With !REQUEST the allocation of the call that has this number fails.
-//! tests/refuse.c counts allocations and makes one fail, if it is loaded into the program; otherwise the count is 0.
+//! tests/fail_alloc.c counts allocations and makes one fail, if it is loaded into the program; otherwise the count is
+//! 0.
 #![tactic(auto)]
 
 use iddqd_bi::DefaultHashBuilder;

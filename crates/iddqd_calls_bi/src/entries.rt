@@ -83,7 +83,7 @@ fn if_occupied<S: BuildHasher>(
     }
 }
 
-/// Does what `and_modify` does, for an occupied entry.
+/// Updates the items of an occupied entry by one closure, and answers which items the closure saw.
 fn for_each<S: BuildHasher>(entry: &mut OccupiedEntry<'_, Item, S>) -> Answer
     requires { HasFound ⟦<Item as Ranked>⟧.key_tests entry.old }
     ensures { HasFound ⟦<Item as Ranked>⟧.key_tests entry.new }

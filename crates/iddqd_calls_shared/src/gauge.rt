@@ -3,11 +3,11 @@ use crate::counting::Counts;
 use std::alloc::{AllocError, Global};
 use std::rc::Rc;
 
-/// A request for BEGINS + N bytes tells tests/refuse.c that a call begins, and that the Nth allocation of the call is
-/// to fail, or none if N is 0.
+/// A request for BEGINS + N bytes tells tests/fail_alloc.c that a call begins, and that the Nth allocation of the call
+/// is to fail, or none if N is 0.
 const BEGINS: usize = 1_000_000;
 
-/// Then tests/refuse.c makes a request for MADE + N bytes fail, unless the call made exactly N allocations.
+/// Then tests/fail_alloc.c makes a request for MADE + N bytes fail, unless the call made exactly N allocations.
 const MADE: usize = 2_000_000;
 
 /// How many allocations of a call can be told apart.

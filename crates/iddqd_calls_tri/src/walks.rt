@@ -37,7 +37,7 @@ fn sum<S: BuildHasher>(map: &TriHashMap<Item, S>) -> Answer {
     sum.answer()
 }
 
-/// Does what `sum` does, for the items that the map lends for writing.
+/// Answers how many items the map lends for writing, and the sum of their numbers.
 fn sum_mut<S: BuildHasher>(map: &mut TriHashMap<Item, S>) -> Answer {
     let mut sum = Sum::none();
     let mut items = map.iter_mut();
@@ -49,7 +49,7 @@ fn sum_mut<S: BuildHasher>(map: &mut TriHashMap<Item, S>) -> Answer {
     sum.answer()
 }
 
-/// Does what `sum` does, for the items that the map gives by value. It leaves an empty map.
+/// Answers how many items the map gives by value, and the sum of their numbers. It leaves an empty map.
 fn sum_by_value<S: Builder>(map: &mut TriHashMap<Item, S>, alloc: Global) -> Answer {
     let map = mem::replace(map, TriHashMap::default(alloc));
     let mut sum = Sum::none();
@@ -72,7 +72,7 @@ fn hinted<S: BuildHasher>(map: &TriHashMap<Item, S>) -> Answer {
     Answer::said(if is_exact { "exact" } else { "inexact" }).at(map.len())
 }
 
-/// Does what `hinted` does, for the items that the map gives by value. It leaves an empty map.
+/// Answers whether an iterator by value said at each step how many items were left. It leaves an empty map.
 fn hinted_by_value<S: Builder>(map: &mut TriHashMap<Item, S>, alloc: Global) -> Answer {
     let length = map.len();
     let mut items = mem::replace(map, TriHashMap::default(alloc)).into_iter();

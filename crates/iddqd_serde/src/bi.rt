@@ -106,7 +106,7 @@ impl<T: BiHashItem + Described, S: BuildHasher> Described for Seq<T, S> {
 }
 
 impl<T: BiHashItem + Serialize, S: BuildHasher> Serialize for Seq<T, S> {
-    /// Does what the function `serialize` does.
+    /// Writes the map as a sequence of its items, as the function `serialize` does.
     fn serialize<Out: Serializer>(&self, out: &mut Out) -> Result<(), Out::Error> {
         serialize(&self.0, out)
     }
@@ -114,7 +114,7 @@ impl<T: BiHashItem + Serialize, S: BuildHasher> Serialize for Seq<T, S> {
 
 impl<'de, T: Ranked + Deserialize<'de>, S: BuildHasher + Default + Drop> Deserialize<'de>
     for Seq<T, S> {
-    /// Does what the function `deserialize` does.
+    /// Reads a map from a sequence of items, as the function `deserialize` does.
     fn deserialize<F: Format>(
         alloc: Global,
         from: &mut Deserializer<'de, '_, F>,
@@ -127,7 +127,7 @@ impl<'de, T: Ranked + Deserialize<'de>, S: BuildHasher + Default + Drop> Deseria
 }
 
 impl<T: Ranked + DeserializeOwned, S: BuildHasher + Default + Drop> DeserializeOwned for Seq<T, S> {
-    /// Does what the function `deserialize_owned` does.
+    /// Reads a map from items that borrow nothing, as the function `deserialize_owned` does.
     fn deserialize_owned<F: Format>(
         alloc: Global,
         from: &mut Deserializer<'_, '_, F>,

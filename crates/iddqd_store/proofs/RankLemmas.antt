@@ -5,7 +5,7 @@ pub mod Exchanged
 pub mod Fill
 pub mod Index
 pub mod Invariant
-pub mod Looks
+pub mod Probes
 pub mod Rehashed
 pub mod Replaced
 pub mod Search

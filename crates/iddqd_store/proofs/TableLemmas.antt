@@ -3,7 +3,7 @@ pub mod Full
 pub mod Grow
 pub mod Limits
 pub mod Line
-pub mod Looks
+pub mod Probes
 pub mod Regrow
 pub mod Remove
 pub mod Renumber

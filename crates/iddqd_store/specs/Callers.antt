@@ -18,8 +18,8 @@ MayRefuse ranks m x = (clash ranks (bag m) x ≢ []) ⊎ (length (bag m) ≡ m.c
 -- The batch has `x`; the items before `x` conflict neither with each other nor with those of `old`, and some item of
 -- these or of `old` conflicts with `x` exactly if the reason is `Conflict`.
 -- Example: In the batch (4, 40), (1, 50) the item (1, 50) is rejected with the reason `Conflict`.
-abbrev pub IsInTheWay : {T : Type 0} → Ranks T → List T → List T → T → ExtendUniqueReason → Type 0
-IsInTheWay {T} ranks old batch x reason =
+abbrev pub IsRejected : {T : Type 0} → Ranks T → List T → List T → T → ExtendUniqueReason → Type 0
+IsRejected {T} ranks old batch x reason =
     (before : List T) × (behind : List T) × (batch ≡ before ++ x ∷ behind) × IsSound ranks (before ++ old)
     × IsReason reason (clash ranks (before ++ old) x)
 

@@ -54,11 +54,11 @@ pub record Loses {T S : Type 0} (old : Map T S) (gone : List T) (new : Map T S) 
   pub same_room : new.capacity ≡ old.capacity
   pub same_builder : new.builder ≡ old.builder
 
--- The map has the items `xs`, of which `item` is in the slot `ix`. They are sound and fit, and the capacity and the
+-- The map has the items `xs`, of which `item` is in the slot `slot`. They are sound and fit, and the capacity and the
 -- builder stay. No public clause cites it.
-pub record PutsAt {T S : Type 0} (ranks : Ranks T) (old : Map T S) (ix : ℕ) (item : T) (xs : List T)
+pub record PutsAt {T S : Type 0} (ranks : Ranks T) (old : Map T S) (slot : ℕ) (item : T) (xs : List T)
     (new : Map T S) : Type 0 where
-  pub at : get new.slots ix ≡ Some item
+  pub at : get new.slots slot ≡ Some item
   pub items : IsPermutation (bag new) xs
   pub sound : IsSound ranks (bag new)
   pub fits : length (bag new) ≤ new.capacity

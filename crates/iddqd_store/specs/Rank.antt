@@ -14,7 +14,7 @@ use Rattle.iddqd_store.specs.Rank.Index.{HasHash, IsIndex}
 use Rattle.iddqd_store.specs.Map.{hash_of}
 use Rattle.iddqd_store.specs.Slots.Found.{NamesOneOf}
 use Rattle.iddqd_store.specs.Slots.{live_items}
-use Rattle.iddqd_store.specs.Table.{IsFree, LooksUpWithin, Spot}
+use Rattle.iddqd_store.specs.Table.{IsFree, ProbesWithin, Spot}
 
 module _ {T K : Type 0} where
   -- `agree` tells whether the two items have equal keys of this rank.
@@ -39,10 +39,10 @@ pub record NamesOneUnder {T : Type 0} (agree : T → T → Bool) (hash_of : T �
 -- most one more than there are items.
 -- Example: If each key has its own hash, a search asks at most once.
 pub record SearchCosts {T A : Type 0} (hash_of : T → ℕ) (bag : List T) (room hash : ℕ) (answer : Option A)
-    (asks asks_then look look_then : ℕ) : Type 0 where
+    (asks asks_then before after : ℕ) : Type 0 where
   pub asked : asks_then ≤ asks + crowd hash_of bag hash
-  pub looks : LooksUpWithin (map hash_of bag) room hash answer look look_then
-  pub at_most : look_then ≤ look + length bag + 1
+  pub probes : ProbesWithin (map hash_of bag) room hash answer before after
+  pub at_most : after ≤ before + length bag + 1
 
 -- A pair under this hash goes into this cell of a table that has the hashes of the items. The cell is one of as many
 -- as the items need, so it is known if there are items. No clause of a map cites it.
@@ -66,16 +66,16 @@ pub record SlotUnder : Type 0 where
 module _ {T : Type 0} where
   -- The item in the slot that was found has the hash of the search. No public clause cites it.
   abbrev pub IsUnder : (T → ℕ) → List (Option T) → SlotUnder → Type 0
-  IsUnder hash slots found = IfSome found.slot (λ at. HasHash hash slots at found.hash)
+  IsUnder hash slots found = IfSome found.slot (λ slot. HasHash hash slots slot found.hash)
 
 -- The pair of the item in this slot is in the table, and the item has the hash of the search if the search found the
 -- slot. No public clause of a map cites it.
 -- Example: With the pairs (5, 0), (6, 2) it holds for an item with the hash 6 in the slot 2, and a search for 6 that
 -- found 2.
 pub record IsPaired {T : Type 0} (hash : T → ℕ) (pairs : List (ℕ × ℕ)) (found : SlotUnder)
-    (at : ℕ) (x : T) : Type 0 where
-  pub pair : Contains pairs (hash x, at)
-  pub known : found.slot ≡ Some at → hash x ≡ found.hash
+    (slot : ℕ) (x : T) : Type 0 where
+  pub pair : Contains pairs (hash x, slot)
+  pub known : found.slot ≡ Some slot → hash x ≡ found.hash
 
 -- `walks_within` is a bound for the cells that some walks through the tables of a map of `n` items probe, where
 -- `walks` says how many walks there are at each rank. A walk goes from the home bucket of a hash on, up to the first
@@ -89,16 +89,16 @@ walks_within n (w ∷ ws) = w * (n + 1) + walks_within n ws
 -- through the tables of the other ranks (`walks_within`).
 -- Example: With 3 items, two ranks and a hash of its own for each key it asks at most once, and probes at most 8 cells.
 pub record TakingCosts {T A : Type 0} (hash_of : T → ℕ) (bag : List T) (room hash : ℕ) (walks : List ℕ)
-    (answer : Option A) (asks asks_then look look_then : ℕ) : Type 0 where
+    (answer : Option A) (asks asks_then before after : ℕ) : Type 0 where
   pub between : ℕ
-  pub search : SearchCosts {A = ℕ} hash_of bag room hash None asks asks_then look between
-  pub rest : look_then ≤ between + walks_within (length bag) walks
-  pub absent : IfNone answer (look_then ≡ between)
+  pub search : SearchCosts {A = ℕ} hash_of bag room hash None asks asks_then before between
+  pub rest : after ≤ between + walks_within (length bag) walks
+  pub absent : IfNone answer (after ≡ between)
 
 -- `has_found` tells whether a search found this slot.
 -- Example: If the search found the slot 2, it is true for 2 and false for 3.
 abbrev pub has_found : SlotUnder → ℕ → Bool
-has_found found at = option_map_or (λ s. s == at) found.slot false
+has_found found slot = option_map_or (λ s. s == slot) found.slot false
 
 module _ {T : Type 0} where
   -- `walks_one` counts the walks that put a pair under the hash of a search in the place of the pair of the item
@@ -107,12 +107,12 @@ module _ {T : Type 0} where
   abbrev pub walks_one : (T → ℕ) → SlotUnder → T → ℕ
   walks_one hash found gone = if hash gone == found.hash then 0 else 2
 
-  -- `walks_two` counts the walks that put one pair in the place of two, of which the second is that of the slot `at`.
+  -- `walks_two` counts the walks that put one pair in the place of two, of which the second is that of this slot.
   -- If the search found that slot, one walk removes the first pair, and one ends at the second, which gets another
   -- number. Otherwise one walk removes the second pair, and then the first is replaced (`walks_one`).
   -- Example: If the search found the second item, it is 2.
   abbrev pub walks_two : (T → ℕ) → SlotUnder → ℕ → T → ℕ
-  walks_two hash found at gone = if has_found found at then 2 else walks_one hash found gone + 1
+  walks_two hash found slot gone = if has_found found slot then 2 else walks_one hash found gone + 1
 
   -- `walks_three` counts the walks that put one pair in the place of three, of which the second and the third are those
   -- of these slots. One walk removes one of these two pairs, which the search did not find, and then two pairs are

@@ -23,19 +23,19 @@ under hash p = p.0 == hash
 -- A search for a hash probes no cell if there is none. If it finds nothing, it probes one more than the stretch of
 -- the hash, and if it finds something, from 1 up to the stretch.
 -- Example: Among 8 cells with the hashes 2, 2 a search for 2 that finds nothing probes 3.
-pub record LooksUp {A : Type 0} (hashes : List ℕ) (cells hash : ℕ) (answer : Option A) (before after : ℕ) : Type 0 where
+pub record Probes {A : Type 0} (hashes : List ℕ) (cells hash : ℕ) (answer : Option A) (before after : ℕ) : Type 0 where
   pub no_cells : cells ≡ 0 → after ≡ before
   pub miss : 0 < cells → IfNone answer (after ≡ before + stretch hashes cells hash + 1)
   pub hit_least : OnSome answer (before + 1 ≤ after)
   pub hit_most : OnSome answer (after ≤ before + stretch hashes cells hash)
 
--- A search probes this many cells (`LooksUp`) of some table in which this many pairs fit.
+-- A search probes this many cells (`Probes`) of some table in which this many pairs fit.
 -- Example: With the capacity 7 and the hash 2 once, a search for 2 that finds nothing probes 2 cells, where the table
 -- has 8.
-abbrev pub LooksUpWithin : {A : Type 0} → List ℕ → ℕ → ℕ → Option A → ℕ → ℕ → Type 0
-LooksUpWithin hashes room hash answer before after =
+abbrev pub ProbesWithin : {A : Type 0} → List ℕ → ℕ → ℕ → Option A → ℕ → ℕ → Type 0
+ProbesWithin hashes room hash answer before after =
     (cells : ℕ) × IsSize cells × (cells < 2 ^ 64) × (room ≤ cells / 8 * 7)
-    × LooksUp hashes cells hash answer before after
+    × Probes hashes cells hash answer before after
 
 -- The pair `after` has replaced `before`, and every other pair stays.
 -- Example: From (5, 0), (6, 2) to (5, 0), (7, 2) the pair (7, 2) replaces (6, 2).

@@ -8,7 +8,7 @@ ghost use Rattle.iddqd_store.specs.Table.Ring.{cell, gap, pairs_in, stretch, IsF
 ghost use Rattle.iddqd_store.specs.Table.Limit.{IsLeast, IsSize, most_room};
 ghost use Rattle.iddqd_store.specs.Table.Room.{IsSized};
 ghost use Rattle.iddqd_store.specs.Table.Search.{CostsUnder, FindsUnder, IsVacantUnder};
-ghost use Rattle.iddqd_store.specs.Table.{hashes, IsCellOf, IsFree, IsTable, LooksUp, ReplacesPair, Table, table_of};
+ghost use Rattle.iddqd_store.specs.Table.{hashes, IsCellOf, IsFree, IsTable, Probes, ReplacesPair, Table, table_of};
 
 use crate::TryReserveError;
 use crate::item_set::ItemIndex;
@@ -39,9 +39,9 @@ pub use vacancy::Vacancy;
 /// which pairs were inserted and removed.
 ///
 /// Reading what a cell has is a probe. Only `Cells::cell_at` probes, and it counts the probe on the meter that it is
-/// given. The clauses `look`, `looks`, `no_look` and `costs` count probes. Growth and `clone` also copy cells, which is
-/// no probe. A function whose clauses count no probes may make a meter of its own: in this file none does. The script
-/// `tests/forms` lists all functions that make one.
+/// given. The clauses `probe`, `probes`, `no_probe` and `costs` count probes. Growth and `clone` also copy cells, which
+/// is no probe. A function whose clauses count no probes may make a meter of its own: in this file none does. The
+/// script `tests/metered_cells` lists all functions that make one.
 #[derive(Drop)]
 pub struct IndexTable {
     alloc: Global,
@@ -161,7 +161,7 @@ impl IndexTable {
         matcher: &mut M,
         meter: &mut Meter,
     ) -> Option<ItemIndex>
-        requires { (ix : ℕ) → Contains self.now.pairs (hash, ix) → M.MayAsk matcher.old ix }
+        requires { (slot : ℕ) → Contains self.now.pairs (hash, slot) → M.MayAsk matcher.old slot }
         ensures found { FindsUnder self.now hash (M.accepts matcher.old) result }
         ensures is_kept { M.IsKept matcher.old matcher.new }
         ensures costs { CostsUnder self.now hash result (M.asked matcher.old) (M.asked matcher.new)
@@ -169,7 +169,7 @@ impl IndexTable {
         ensures sized { IsSized self.now }
     {
         match self.find_or_vacancy(hash, matcher, meter) {
-            Ok(ix) => Some(ix),
+            Ok(slot) => Some(slot),
             Err(_) => None,
         }
     }
@@ -183,7 +183,7 @@ impl IndexTable {
         matcher: &mut M,
         meter: &mut Meter,
     ) -> Result<ItemIndex, Vacancy>
-        requires { (ix : ℕ) → Contains self.now.pairs (hash, ix) → M.MayAsk matcher.old ix }
+        requires { (slot : ℕ) → Contains self.now.pairs (hash, slot) → M.MayAsk matcher.old slot }
         // What it returns.
         ensures found { FindsUnder self.now hash (M.accepts matcher.old) (result_ok result) }
         ensures vacant { IfErr result (IsVacantUnder self.now hash) }
@@ -207,10 +207,10 @@ impl IndexTable {
         matcher: &mut M,
         meter: &mut Meter,
     ) -> Result<(ItemIndex, usize), Vacancy>
-        requires { (ix : ℕ) → Contains self.now.pairs (hash, ix) → M.MayAsk matcher.old ix }
+        requires { (slot : ℕ) → Contains self.now.pairs (hash, slot) → M.MayAsk matcher.old slot }
         ensures found { FindsUnder self.now hash (M.accepts matcher.old) (option_map (λ f. f.0) (result_ok result)) }
         ensures cell { IfOk result (λ f. IsCellOf self.now.row (hash, f.0) f.1) }
-        ensures looks { IfOk result (λ f. meter.new
+        ensures probes { IfOk result (λ f. meter.new
             ≡ meter.old + gap (length self.now.row) (hash % length self.now.row) f.1 + 1) }
         ensures vacant { IfErr result (IsVacantUnder self.now hash) }
         ensures is_kept { M.IsKept matcher.old matcher.new }
@@ -224,9 +224,9 @@ impl IndexTable {
         }
         let mut at = probe::home_of(hash, count);
         while let Some(pair) = self.cells.cell_at(at, meter) {
-            let (stored, ix) = pair;
-            if stored == hash && matcher.matches(ix) {
-                return Ok((ix, at));
+            let (stored, slot) = pair;
+            if stored == hash && matcher.matches(slot) {
+                return Ok((slot, at));
             }
             at = probe::after(at, count);
         }
@@ -235,18 +235,18 @@ impl IndexTable {
 
     /// Inserts a pair. There has to be spare capacity, so it allocates nothing. It probes the cells from the home of
     /// the hash on, up to the first empty one.
-    pub fn insert_reserved(&mut self, hash: u64, ix: ItemIndex, meter: &mut Meter)
+    pub fn insert_reserved(&mut self, hash: u64, slot: ItemIndex, meter: &mut Meter)
         requires { length self.old.pairs < self.old.limit }
-        ensures added { IsPermutation ((hash, ix) ∷ self.old.pairs) self.new.pairs }
+        ensures added { IsPermutation ((hash, slot) ∷ self.old.pairs) self.new.pairs }
         ensures cells { length self.new.row ≡ length self.old.row }
         ensures limit { self.new.limit ≡ self.old.limit }
-        ensures looks { meter.new
+        ensures probes { meter.new
             ≡ meter.old + stretch (hashes self.old.pairs) (length self.old.row) hash + 1 }
         ensures within { stretch (hashes self.old.pairs) (length self.old.row) hash
             ≤ length self.old.pairs }
     {
         let at = probe::first_empty(&self.cells, hash, meter);
-        self.cells.write(at, hash, ix);
+        self.cells.write(at, hash, slot);
         self.count += 1;
     }
 
@@ -254,23 +254,23 @@ impl IndexTable {
     /// probes no cell, unless the number of cells has changed since that search: then it probes for the cell as
     /// `insert_reserved` does.
     #[inline(always)]
-    pub fn insert_at(&mut self, spot: Vacancy, ix: ItemIndex, meter: &mut Meter)
+    pub fn insert_at(&mut self, spot: Vacancy, slot: ItemIndex, meter: &mut Meter)
         requires room { length self.old.pairs < self.old.limit }
         requires vacant { IsFree (hashes self.old.pairs) spot }
-        ensures added { IsPermutation ((spot.hash, ix) ∷ self.old.pairs) self.new.pairs }
+        ensures added { IsPermutation ((spot.hash, slot) ∷ self.old.pairs) self.new.pairs }
         ensures cells { length self.new.row ≡ length self.old.row }
         ensures limit { self.new.limit ≡ self.old.limit }
-        ensures no_look { spot.cells ≡ length self.old.row → meter.new ≡ meter.old }
-        ensures looks { spot.cells ≢ length self.old.row → meter.new
+        ensures no_probe { spot.cells ≡ length self.old.row → meter.new ≡ meter.old }
+        ensures probes { spot.cells ≢ length self.old.row → meter.new
             ≡ meter.old + stretch (hashes self.old.pairs) (length self.old.row) spot.hash + 1 }
         ensures within { stretch (hashes self.old.pairs) (length self.old.row) spot.hash
             ≤ length self.old.pairs }
     {
         if spot.cells() != self.cells.len() {
-            self.insert_reserved(spot.hash(), ix, meter);
+            self.insert_reserved(spot.hash(), slot, meter);
             return;
         }
-        self.cells.write(spot.at(), spot.hash(), ix);
+        self.cells.write(spot.at(), spot.hash(), slot);
         self.count += 1;
     }
 
@@ -281,7 +281,7 @@ impl IndexTable {
         ensures replaced { ReplacesPair self.old.pairs self.new.pairs (hash, from) (hash, to) }
         ensures cells { length self.new.row ≡ length self.old.row }
         ensures limit { self.new.limit ≡ self.old.limit }
-        ensures looks { LooksUp (hashes self.old.pairs) (length self.old.row) hash (Some from) meter.old meter.new }
+        ensures probes { Probes (hashes self.old.pairs) (length self.old.row) hash (Some from) meter.old meter.new }
         ensures within { stretch (hashes self.old.pairs) (length self.old.row) hash
             ≤ length self.old.pairs }
     {
@@ -307,7 +307,7 @@ impl IndexTable {
     pub fn cell_at(&self, i: usize, meter: &mut Meter) -> Option<(u64, ItemIndex)>
         requires { i < length self.now.row }
         ensures value { result ≡ cell self.now.row i }
-        ensures look { meter.new ≡ meter.old + 1 }
+        ensures probe { meter.new ≡ meter.old + 1 }
         ensures full { IsSome result ↔ IsFull (hashes self.now.pairs) (length self.now.row) i }
     {
         self.cells.cell_at(i, meter)

@@ -32,8 +32,8 @@ pub use values::{IntoIter, Iter};
 /// ```
 /// let mut set = ItemSet::new(alloc);
 /// set.try_reserve(1)?;
-/// let ix = set.insert_reserved("a");
-/// set.remove(ix);
+/// let slot = set.insert_reserved("a");
+/// set.remove(slot);
 /// ```
 #[derive(Drop)]
 pub struct ItemSet<T> {
@@ -147,40 +147,40 @@ impl<T> ItemSet<T> {
     }
 
     /// Returns the item of a live slot, or `None` for any other number.
-    pub fn get(&self, ix: ItemIndex) -> Option<&T>
-        ensures { option_copied result ≡ get self.now.slots ix }
+    pub fn get(&self, slot: ItemIndex) -> Option<&T>
+        ensures { option_copied result ≡ get self.now.slots slot }
     {
-        match self.slots.get(ix.number()) {
+        match self.slots.get(slot.number()) {
             Some(Slot::Live(item)) => Some(item),
             _ => None,
         }
     }
 
-    fn is_live(&self, ix: ItemIndex) -> bool
-        ensures { result ≡ is_some (get self.now.slots ix) }
+    fn is_live(&self, slot: ItemIndex) -> bool
+        ensures { result ≡ is_some (get self.now.slots slot) }
     {
-        self.get(ix).is_some()
+        self.get(slot).is_some()
     }
 
     /// Returns the item of a live slot, borrowed for writing, or `None` for any other number.
-    pub fn get_mut(&mut self, ix: ItemIndex) -> Option<&mut T>
-        ensures value { option_copied_mut result ≡ get self.old.slots ix }
-        ensures* writes_back { sem 𝓛 (lends_get T.row self.entry ix result) }
+    pub fn get_mut(&mut self, slot: ItemIndex) -> Option<&mut T>
+        ensures value { option_copied_mut result ≡ get self.old.slots slot }
+        ensures* writes_back { sem 𝓛 (lends_get T.row self.entry slot result) }
     {
-        if self.is_live(ix) {
-            Some(self.item_mut(ix))
+        if self.is_live(slot) {
+            Some(self.item_mut(slot))
         } else {
             None
         }
     }
 
     /// Returns the item of a live slot, borrowed for writing.
-    pub fn item_mut(&mut self, ix: ItemIndex) -> &mut T
-        requires { IsLive self.old.slots ix }
-        ensures value { get self.old.slots ix ≡ Some result.now }
-        ensures* writes_back { sem 𝓛 (lends_item T.row self.entry ix result) }
+    pub fn item_mut(&mut self, slot: ItemIndex) -> &mut T
+        requires { IsLive self.old.slots slot }
+        ensures value { get self.old.slots slot ≡ Some result.now }
+        ensures* writes_back { sem 𝓛 (lends_item T.row self.entry slot result) }
     {
-        self.slots[ix.number()].item_mut()
+        self.slots[slot.number()].item_mut()
     }
 
     /// Returns the first live slot from this number on. It visits each slot up to that one.
@@ -196,10 +196,10 @@ impl<T> ItemSet<T> {
                 return Some(first);
             }
         }
-        for at in from..self.slots.len() {
-            let ix = ItemIndex::new(at);
-            if self.is_live(ix) {
-                return Some(ix);
+        for index in from..self.slots.len() {
+            let slot = ItemIndex::new(index);
+            if self.is_live(slot) {
+                return Some(slot);
             }
         }
         None
@@ -249,50 +249,50 @@ impl<T> ItemSet<T> {
             → length self.new.slots ≡ length self.old.slots }
         ensures capacity { self.new.capacity ≡ self.old.capacity }
     {
-        let at = self.head;
+        let slot = self.head;
         self.live += 1;
-        if at == self.slots.len() {
+        if slot == self.slots.len() {
             self.slots.push_reserved(Slot::Live(item));
-            self.head = at + 1;
-            return ItemIndex::new(at);
+            self.head = slot + 1;
+            return ItemIndex::new(slot);
         }
-        match mem::replace(&mut self.slots[at], Slot::Live(item)) {
+        match mem::replace(&mut self.slots[slot], Slot::Live(item)) {
             Slot::Free(next) => self.head = next,
             Slot::Live(_) => unreachable!(),
         }
-        ItemIndex::new(at)
+        ItemIndex::new(slot)
     }
 
     /// Removes the item of a slot, and frees the slot, which is the next to be used. It returns `None` if the slot is
     /// not live.
-    pub fn remove(&mut self, ix: ItemIndex) -> Option<T>
+    pub fn remove(&mut self, slot: ItemIndex) -> Option<T>
         // The item leaves its slot, or nothing changes.
-        ensures value { result ≡ get self.old.slots ix }
-        ensures taken { IfSome result (λ item. TakesOut self.old ix item self.new) }
+        ensures value { result ≡ get self.old.slots slot }
+        ensures taken { IfSome result (λ item. TakesOut self.old slot item self.new) }
         ensures absent { IfNone result (self.new ≡ self.old) }
         // No other slot changes, and neither does the capacity.
-        ensures updates { Updates self.old.slots self.new.slots ix None }
+        ensures updates { Updates self.old.slots self.new.slots slot None }
         ensures capacity { self.new.capacity ≡ self.old.capacity }
     {
-        if self.is_live(ix) {
-            Some(self.take(ix.number()))
+        if self.is_live(slot) {
+            Some(self.take(slot.number()))
         } else {
             None
         }
     }
 
-    fn take(&mut self, at: usize) -> T
-        requires { IsLive self.old.slots at }
-        ensures value { get self.old.slots at ≡ Some result }
-        ensures slots { self.new.slots ≡ slice_set self.old.slots at None }
+    fn take(&mut self, slot: usize) -> T
+        requires { IsLive self.old.slots slot }
+        ensures value { get self.old.slots slot ≡ Some result }
+        ensures slots { self.new.slots ≡ slice_set self.old.slots slot None }
         ensures capacity { self.new.capacity ≡ self.old.capacity }
         ensures room { live_count self.new.slots < self.new.capacity }
     {
         let free = Slot::Free(self.head);
-        match mem::replace(&mut self.slots[at], free) {
+        match mem::replace(&mut self.slots[slot], free) {
             Slot::Live(item) => {
                 self.live -= 1;
-                self.head = at;
+                self.head = slot;
                 item
             }
             Slot::Free(_) => unreachable!(),
@@ -300,14 +300,14 @@ impl<T> ItemSet<T> {
     }
 
     /// Replaces the item of a live slot, and returns the old item.
-    pub fn replace(&mut self, ix: ItemIndex, item: T) -> T
-        requires { IsLive self.old.slots ix }
-        ensures value { get self.old.slots ix ≡ Some result }
-        ensures slots { self.new.slots ≡ slice_set self.old.slots ix (Some item) }
-        ensures members { Exchanges self.old.slots self.new.slots ix result item }
+    pub fn replace(&mut self, slot: ItemIndex, item: T) -> T
+        requires { IsLive self.old.slots slot }
+        ensures value { get self.old.slots slot ≡ Some result }
+        ensures slots { self.new.slots ≡ slice_set self.old.slots slot (Some item) }
+        ensures members { Exchanges self.old.slots self.new.slots slot result item }
         ensures capacity { self.new.capacity ≡ self.old.capacity }
     {
-        mem::replace(self.item_mut(ix), item)
+        mem::replace(self.item_mut(slot), item)
     }
 
     /// Drops all items, and keeps the capacity.

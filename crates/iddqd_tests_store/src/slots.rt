@@ -17,11 +17,11 @@ fn two_of_three(alloc: Global) -> Result<ItemSet<u64>, Fail> {
 }
 
 /// Adds one to the item of a slot, then replaces it by seven, and returns the old item.
-fn write(set: &mut ItemSet<u64>, ix: ItemIndex) -> Option<u64> {
-    let item = set.get_mut(ix)?;
+fn write(set: &mut ItemSet<u64>, slot: ItemIndex) -> Option<u64> {
+    let item = set.get_mut(slot)?;
     *item = item.wrapping_add(1);
-    set.get(ix)?;
-    Some(set.replace(ix, 7))
+    set.get(slot)?;
+    Some(set.replace(slot, 7))
 }
 
 /// Returns whether a set has two items, and both are seven.

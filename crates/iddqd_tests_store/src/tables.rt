@@ -10,21 +10,21 @@ use std::test::Fail;
 /// A matcher that accepts one index, or none, and counts its questions.
 #[derive(Drop)]
 struct Only {
-    ix: ItemIndex,
+    slot: ItemIndex,
     yes: bool,
     questions: usize,
 }
 
 impl Matcher for Only {
-    ghost accepts = { λ m ix. m.yes && (ix == m.ix) };
+    ghost accepts = { λ m slot. m.yes && (slot == m.slot) };
 
     ghost asked = { λ m. m.questions };
 
     ghost MayAsk = { λ _ _. ⊤ };
 
-    ghost IsKept = { λ m n. (m.ix ≡ n.ix) × (m.yes ≡ n.yes) };
+    ghost IsKept = { λ m n. (m.slot ≡ n.slot) × (m.yes ≡ n.yes) };
 
-    ghost accepts_kept = { λ m n ix k. ap₂ (λ y i. y && (ix == i)) (sym k.1) (sym k.0) };
+    ghost accepts_kept = { λ m n slot k. ap₂ (λ y i. y && (slot == i)) (sym k.1) (sym k.0) };
 
     ghost may_kept = { λ _ _ _ _ _. tt };
 
@@ -32,9 +32,9 @@ impl Matcher for Only {
 
     ghost kept_trans = { λ _ _ _ k l. (k.0 ∙ l.0, k.1 ∙ l.1) };
 
-    fn matches(&mut self, ix: ItemIndex) -> bool {
+    fn matches(&mut self, slot: ItemIndex) -> bool {
         self.questions = self.questions.saturating_add(1);
-        self.yes && ix == self.ix
+        self.yes && slot == self.slot
     }
 }
 
@@ -42,9 +42,9 @@ impl Matcher for Only {
 type Pair = (u64, u8);
 
 /// Makes a matcher that accepts this index if `yes`, otherwise none.
-fn asking_for(ix: u8, yes: bool) -> Only {
+fn asking_for(slot: u8, yes: bool) -> Only {
     Only {
-        ix: ItemIndex::new(ix as usize),
+        slot: ItemIndex::new(slot as usize),
         yes,
         questions: 0,
     }
@@ -52,9 +52,9 @@ fn asking_for(ix: u8, yes: bool) -> Only {
 
 /// Inserts pairs in order, as long as there is spare capacity.
 fn enter(table: &mut IndexTable, pairs: &[Pair]) {
-    for (hash, ix) in pairs {
+    for (hash, slot) in pairs {
         if table.len() < table.capacity() {
-            table.insert_reserved(*hash, ItemIndex::new(*ix as usize), &mut Meter::new());
+            table.insert_reserved(*hash, ItemIndex::new(*slot as usize), &mut Meter::new());
         }
     }
 }
@@ -62,9 +62,9 @@ fn enter(table: &mut IndexTable, pairs: &[Pair]) {
 /// Removes pairs.
 fn take_out(table: &mut IndexTable, pairs: &[Pair]) {
     for pair in pairs {
-        let (hash, ix) = *pair;
-        if let Some(ix) = table.find(hash, &mut asking_for(ix, true), &mut Meter::new()) {
-            table.remove(hash, ix, &mut Meter::new());
+        let (hash, slot) = *pair;
+        if let Some(slot) = table.find(hash, &mut asking_for(slot, true), &mut Meter::new()) {
+            table.remove(hash, slot, &mut Meter::new());
         }
     }
 }
@@ -215,8 +215,8 @@ const SEARCHES: [(usize, &[Pair], Pair, bool, Option<u8>, usize); 4] = [
 ];
 
 /// Searches by a hash for an index, or for none. Returns what it finds, and how many questions it asks.
-fn search(table: &IndexTable, (hash, ix): Pair, yes: bool) -> (Option<ItemIndex>, usize) {
-    let mut matcher = asking_for(ix, yes);
+fn search(table: &IndexTable, (hash, slot): Pair, yes: bool) -> (Option<ItemIndex>, usize) {
+    let mut matcher = asking_for(slot, yes);
     let found = table.find(hash, &mut matcher, &mut Meter::new());
     (found, matcher.questions)
 }
@@ -226,7 +226,7 @@ fn searches_ask_under_their_hash_alone(rt: HostRuntime) -> Result<(), Fail> {
     for (room, pairs, pair, yes, wanted, asked) in SEARCHES {
         let mut table = IndexTable::with_capacity(rt.alloc(), room)?;
         enter(&mut table, pairs);
-        let wanted = wanted.map(|ix| ItemIndex::new(ix as usize));
+        let wanted = wanted.map(|slot| ItemIndex::new(slot as usize));
         assert!(rt; search(&table, pair, yes) == (wanted, asked));
     }
     Ok(())

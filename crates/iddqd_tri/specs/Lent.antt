@@ -27,7 +27,7 @@ module _ (T S K1 K2 K3 H : RattleType) (of : item.Ghosts T.Denot K1.Denot K2.Den
 
   module _ (D : RattleType) (put : T.Denot → D.Denot → T.Denot) where
     abbrev pub lends_data : MutBor (Map T.Denot S.Denot) → ℕ → MutBor D.Denot → Fml
-    lends_data m at r = Lends whole_row D m r (λ d. map_with m.now at (λ x. put x d))
+    lends_data m slot r = Lends whole_row D m r (λ d. map_with m.now slot (λ x. put x d))
 
     abbrev pub lends_data_if : MutBor (Map T.Denot S.Denot) → Option ℕ → Option (MutBor D.Denot) → Fml
     lends_data_if m slot r = LendsIf whole_row D m r (λ d. map_with_if m.now slot (λ x. put x d)) m.now

@@ -78,9 +78,9 @@ impl<T: TriHashItemMut, S: BuildHasher> IterMut<'_, T, S> {
             T.TriHashItem T.K1.Hash T.K2.Hash T.K3.Hash S.BuildHasher S.Hasher.Hasher T.Data.row T.put self.entry result) }
     {
         // The step is that of `next_mut`. As a function it would have to state all that both contracts need.
-        let ix = self.map.slot_from(self.next)?;
-        self.next = ix.number() + 1;
+        let live = self.map.slot_from(self.next)?;
+        self.next = live.number() + 1;
         self.left = self.left.saturating_sub(1);
-        Some(self.map.data_mut_at(ix))
+        Some(self.map.data_mut_at(live))
     }
 }

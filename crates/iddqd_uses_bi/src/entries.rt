@@ -117,7 +117,7 @@ where
     }
 }
 
-/// Does what `modify_both` does by a call of the occupied entry, with a closure that may always be called.
+/// Updates the items that the keys name by a call of the occupied entry, with a closure that may always be called.
 pub fn modify_found<'a, T: BiHashItemMut, S: BuildHasher, F: FnMut(&T) -> T::Data>(
     map: &'a mut BiHashMap<T, S>,
     key1: &'a T::K1,

@@ -29,7 +29,7 @@ where
     }
 }
 
-/// Does what `write_data1` does through a guard of that item, which lasts for as long as the map is borrowed.
+/// Writes the data of the item through a guard of it, which lasts for as long as the map is borrowed.
 pub fn write_by_key1<'a, T: BiHashItemMut, S: BuildHasher>(
     map: &'a mut BiHashMap<T, S>,
     key1: &'a T::K1,
@@ -49,7 +49,7 @@ where
     }
 }
 
-/// Does what `write_data1` does through the data that the held items borrow. They stay held.
+/// Writes the data of the item through the data that the held items borrow. They stay held.
 pub fn write_held1<'a, T: BiHashItemMut, S: BuildHasher>(
     map: &'a mut BiHashMap<T, S>,
     key1: &'a T::K1,

@@ -1,7 +1,7 @@
 //! What a caller can prove of a map into which a batch of items is inserted as a whole, or not at all.
 ghost use Rattle.std.specs.Prelude.{◌++◌, IsPermutation, OnOk, OnErr, IfErr};
 ghost use Rattle.iddqd_bi.specs.Bag.{IsSound};
-ghost use Rattle.iddqd_bi.specs.Callers.{IsInTheWay};
+ghost use Rattle.iddqd_bi.specs.Callers.{IsRejected};
 ghost use Rattle.iddqd_bi.specs.Map.{bag};
 
 use iddqd_bi::{BiHashItem, BiHashMap, ExtendUniqueReason, Ranked};
@@ -14,8 +14,8 @@ pub fn load<T: BiHashItem + Drop, S: BuildHasher>(
 ) -> Result<(), (T, ExtendUniqueReason)>
     ensures all { OnOk result (IsPermutation (bag map.new) (batch.items ++ bag map.old)) }
     ensures none { OnErr result (IsPermutation (bag map.new) (bag map.old)) }
-    ensures in_the_way { IfErr result (λ e.
-        IsInTheWay ⟦<T as Ranked>⟧.ranks (bag map.old) batch.items e.0 e.1) }
+    ensures rejected { IfErr result (λ e.
+        IsRejected ⟦<T as Ranked>⟧.ranks (bag map.old) batch.items e.0 e.1) }
     ensures sound { IsSound ⟦<T as Ranked>⟧.ranks (bag map.new) }
 {
     match map.extend_unique(batch) {

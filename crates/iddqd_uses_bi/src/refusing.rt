@@ -51,7 +51,7 @@ pub fn add<T: Ranked, S: BuildHasher>(map: &mut BiHashMap<T, S>, item: T) -> Res
     }
 }
 
-/// Does what `add` does, by `From`. After an error nothing is known of the map.
+/// Inserts an item, with an error made by `From`. After it nothing is known of the map.
 pub fn add_by_from<T: Ranked, S: BuildHasher>(
     map: &mut BiHashMap<T, S>,
     item: T,
@@ -67,7 +67,7 @@ pub fn add_by_from<T: Ranked, S: BuildHasher>(
     }
 }
 
-/// Does what `add` does, by `map_err` and `?`, after which nothing is known of the map.
+/// Inserts an item, with an error made by `map_err` and `?`, after which nothing is known of the map.
 pub fn add_by_map_err<T: Ranked, S: BuildHasher>(
     map: &mut BiHashMap<T, S>,
     item: T,

@@ -2,7 +2,7 @@
 ghost use Rattle.std.specs.Prelude.{◌≡◌, ◌<◌, [], ◌∷◌, ◌++◌, length, All, IsOk, IsPermutation, OnOk, OnErr, IfErr, Some, filter, option_copied};
 ghost use Rattle.std.specs.Option.{option_to_list};
 ghost use Rattle.iddqd_bi.specs.Bag.{IsOnly, clash};
-ghost use Rattle.iddqd_bi.specs.Callers.{IsInTheWay};
+ghost use Rattle.iddqd_bi.specs.Callers.{IsRejected};
 ghost use Rattle.iddqd_bi.specs.Map.{bag};
 
 use crate::loading::load;
@@ -54,8 +54,8 @@ pub fn register_all(users: &mut BiHashMap<User>, batch: Vec<User>) -> Result<(),
     ensures found { OnOk result (All (λ u.
         IsOnly (λ v. ⟦<String as PartialEq>⟧.eq u.login v.login) (bag users.new) (Some u)) batch.items) }
     ensures unchanged { OnErr result (IsPermutation (bag users.new) (bag users.old)) }
-    ensures in_the_way { IfErr result (λ u. (reason : ExtendUniqueReason)
-        × IsInTheWay ⟦<User as Ranked>⟧.ranks (bag users.old) batch.items u reason) }
+    ensures rejected { IfErr result (λ u. (reason : ExtendUniqueReason)
+        × IsRejected ⟦<User as Ranked>⟧.ranks (bag users.old) batch.items u reason) }
 {
     match load(users, batch) {
         Ok(()) => Ok(()),

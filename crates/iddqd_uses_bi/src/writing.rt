@@ -41,7 +41,7 @@ where
     }
 }
 
-/// Does what `write1` does, through a guard that is borrowed again.
+/// Writes the data of the item with this first key through a guard that is borrowed again.
 pub fn write1_again<T: BiHashItemMut, S: BuildHasher, Q: Query<T::K1>>(
     map: &mut BiHashMap<T, S>,
     query: Q,
@@ -91,7 +91,7 @@ pub fn is_lent1<T: BiHashItem, S: BuildHasher>(map: &mut BiHashMap<T, S>, key: &
     map.get1_mut(key).is_some()
 }
 
-/// Does what `write1` does, and returns whether there is such an item. The guard is dropped by a call of `drop`.
+/// Writes the data of the item with this first key, and returns whether there is one. It calls `drop` of the guard.
 pub fn write1_and_tell<T: BiHashItemMut, S: BuildHasher>(
     map: &mut BiHashMap<T, S>,
     key: &T::K1,

@@ -121,7 +121,7 @@ where
     }
 }
 
-/// Does what `modify_all` does by a call of the occupied entry, with a closure that may always be called.
+/// Updates the items that the keys name by a call of the occupied entry, with a closure that may always be called.
 pub fn modify_found<'a, T: TriHashItemMut, S: BuildHasher, F: FnMut(&T) -> T::Data>(
     map: &'a mut TriHashMap<T, S>,
     key1: &'a T::K1,

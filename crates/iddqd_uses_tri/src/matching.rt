@@ -57,15 +57,15 @@ impl<'k, K: Eq> KeyMatcher<K> for Same<'k, K> {
 pub fn find_same<'m, T: TriHashItem, S: BuildHasher>(
     map: &'m TriHashMap<T, S>,
     matcher: &mut Same<'_, T::K1>,
-    looks: &mut Meter,
+    meter: &mut Meter,
 ) -> Option<&'m T>
     ensures found { IsOnly (has1 T.TriHashItem T.K1.eq matcher.old.key.now) (bag map.now) (option_copied result) }
     ensures same_key { matcher.new.key ≡ matcher.old.key }
     ensures asked { matcher.new.asked ≤ matcher.old.asked
         + crowd (⟦<T as Hashed<S>>⟧.hash1 map.now.builder) (bag map.now)
         (hash_of S.BuildHasher S.Hasher.Hasher map.now.builder (T.K1.hash_input matcher.old.key.now)) }
-    ensures looks { looks.new ≤ looks.old + length (bag map.now) + 1 }
+    ensures probes { meter.new ≤ meter.old + length (bag map.now) + 1 }
 {
     let hash = map.hasher().hash_one(matcher.key);
-    map.find1_with(hash, matcher, looks)
+    map.find1_with(hash, matcher, meter)
 }

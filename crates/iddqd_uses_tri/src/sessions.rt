@@ -2,7 +2,7 @@
 ghost use Rattle.std.specs.Prelude.{◌≡◌, ◌<◌, [], ◌∷◌, ◌++◌, ◌==◌, length, IsOk, All, IsPermutation, OnOk, OnErr, IfErr, Some, filter, option_copied};
 ghost use Rattle.std.specs.Option.{option_to_list};
 ghost use Rattle.iddqd_tri.specs.Bag.{IsOnly, clash};
-ghost use Rattle.iddqd_tri.specs.Callers.{IsInTheWay};
+ghost use Rattle.iddqd_tri.specs.Callers.{IsRejected};
 ghost use Rattle.iddqd_tri.specs.Map.{bag, Loses};
 
 use crate::loading::load;
@@ -70,8 +70,8 @@ pub fn open_all<S: BuildHasher>(
     ensures found { OnOk result (All (λ s.
         IsOnly (λ t. ⟦<String as PartialEq>⟧.eq s.token t.token) (bag sessions.new) (Some s)) batch.items) }
     ensures unchanged { OnErr result (IsPermutation (bag sessions.new) (bag sessions.old)) }
-    ensures in_the_way { IfErr result (λ s. (reason : ExtendUniqueReason)
-        × IsInTheWay ⟦<Session as Ranked>⟧.ranks (bag sessions.old) batch.items s reason) }
+    ensures rejected { IfErr result (λ s. (reason : ExtendUniqueReason)
+        × IsRejected ⟦<Session as Ranked>⟧.ranks (bag sessions.old) batch.items s reason) }
 {
     match load(sessions, batch) {
         Ok(()) => Ok(()),

@@ -45,7 +45,7 @@ where
     }
 }
 
-/// Does what `write1` does, through a guard that is borrowed again.
+/// Writes the data of the item with this first key through a guard that is borrowed again.
 pub fn write1_again<T: TriHashItemMut, S: BuildHasher, Q: Query<T::K1>>(
     map: &mut TriHashMap<T, S>,
     query: Q,
@@ -95,7 +95,7 @@ pub fn is_lent1<T: TriHashItem, S: BuildHasher>(map: &mut TriHashMap<T, S>, key:
     map.get1_mut(key).is_some()
 }
 
-/// Does what `write1` does, and returns whether there is such an item. The guard is dropped by a call of `drop`.
+/// Writes the data of the item with this first key, and returns whether there is one. It calls `drop` of the guard.
 pub fn write1_and_tell<T: TriHashItemMut, S: BuildHasher>(
     map: &mut TriHashMap<T, S>,
     key: &T::K1,

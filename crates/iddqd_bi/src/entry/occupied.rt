@@ -138,9 +138,9 @@ impl<'a, T: BiHashItem, S: BuildHasher> OccupiedEntry<'a, T, S> {
         }
         let by1 = SlotUnder::new(self.slot1, self.map.hash_of1(&item));
         let by2 = SlotUnder::new(self.slot2, self.map.hash_of2(&item));
-        let (displaced, ix) = self.map.put_over(item, &(by1, by2), &mut Meter::new());
-        self.slot1 = Some(ix);
-        self.slot2 = Some(ix);
+        let (displaced, slot) = self.map.put_over(item, &(by1, by2), &mut Meter::new());
+        self.slot1 = Some(slot);
+        self.slot2 = Some(slot);
         Ok(displaced)
     }
 

@@ -31,7 +31,7 @@ impl<T: BiHashItemMut, S: BuildHasher> BiHashMap<T, S> {
             ⟦<T as Ranked>⟧.ranks (has1 T.BiHashItem Q.stands_for query) self.entry result) }
     {
         match self.by_key1().slot_of(query) {
-            Some(ix) => Some(self.data_mut_at(ix)),
+            Some(slot) => Some(self.data_mut_at(slot)),
             None => None,
         }
     }
@@ -55,7 +55,7 @@ impl<T: BiHashItemMut, S: BuildHasher> BiHashMap<T, S> {
             ⟦<T as Ranked>⟧.ranks (has2 T.BiHashItem Q.stands_for query) self.entry result) }
     {
         match self.by_key2().slot_of(query) {
-            Some(ix) => Some(self.data_mut_at(ix)),
+            Some(slot) => Some(self.data_mut_at(slot)),
             None => None,
         }
     }
@@ -81,7 +81,7 @@ impl<T: BiHashItemMut, S: BuildHasher> BiHashMap<T, S> {
             self.entry result) }
     {
         match self.slot_of_both(query1, query2) {
-            Some(ix) => Some(self.data_mut_at(ix)),
+            Some(slot) => Some(self.data_mut_at(slot)),
             None => None,
         }
     }

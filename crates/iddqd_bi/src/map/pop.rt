@@ -28,8 +28,8 @@ impl<T: BiHashItem, S: BuildHasher> BiHashMap<T, S> {
         ensures empty { IfNone result (bag self.old ≡ []) }
         ensures absent { IfNone result (self.new ≡ self.old) }
     {
-        let ix = self.slot_from(0)?;
-        Some(self.take(ix, None, None, &mut Meter::new()))
+        let slot = self.slot_from(0)?;
+        Some(self.take(slot, None, None, &mut Meter::new()))
     }
 
     /// Removes the next item from the cursor on, and returns it, or `None` if there is none. The cursor moves on to where
@@ -48,13 +48,13 @@ impl<T: BiHashItem, S: BuildHasher> BiHashMap<T, S> {
     ///     // The item has left the map.
     /// }
     /// ```
-    pub fn pop_from(&mut self, at: &mut Cursor) -> Option<T>
-        ensures pops_from { PopsFrom self.old at.old result self.new at.new }
+    pub fn pop_from(&mut self, cursor: &mut Cursor) -> Option<T>
+        ensures pops_from { PopsFrom self.old cursor.old result self.new cursor.new }
         ensures loses { Loses self.old (option_to_list result) self.new }
         ensures absent { IfNone result (self.new ≡ self.old) }
     {
-        let ix = self.slot_from(at.next())?;
-        at.pass(ix);
-        Some(self.take(ix, None, None, &mut Meter::new()))
+        let slot = self.slot_from(cursor.next())?;
+        cursor.pass(slot);
+        Some(self.take(slot, None, None, &mut Meter::new()))
     }
 }

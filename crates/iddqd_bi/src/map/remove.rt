@@ -55,7 +55,7 @@ impl<T: BiHashItem, S: BuildHasher> BiHashMap<T, S> {
         ensures costs { TakingCosts (⟦<T as Hashed<S>>⟧.hash1 self.old.builder) (bag self.old) self.old.capacity
             hash (1 ∷ []) result (M.asked matcher.old) (M.asked matcher.new) meter.old meter.new }
     {
-        let ix = self
+        let slot = self
             .first
             .forget_by_key::<T, First, S, M>(
                 &self.items,
@@ -64,12 +64,12 @@ impl<T: BiHashItem, S: BuildHasher> BiHashMap<T, S> {
                 matcher,
                 meter,
             )?;
-        let Some(item) = self.items.remove(ix) else {
+        let Some(item) = self.items.remove(slot) else {
             unreachable!()
         };
         // At each other rank:
         self.second
-            .forget::<T, Second, S>(&self.hash_builder, &item, ix, None, meter);
+            .forget::<T, Second, S>(&self.hash_builder, &item, slot, None, meter);
         Some(item)
     }
 
@@ -115,7 +115,7 @@ impl<T: BiHashItem, S: BuildHasher> BiHashMap<T, S> {
         ensures costs { TakingCosts (⟦<T as Hashed<S>>⟧.hash2 self.old.builder) (bag self.old) self.old.capacity
             hash (1 ∷ []) result (M.asked matcher.old) (M.asked matcher.new) meter.old meter.new }
     {
-        let ix = self
+        let slot = self
             .second
             .forget_by_key::<T, Second, S, M>(
                 &self.items,
@@ -124,12 +124,12 @@ impl<T: BiHashItem, S: BuildHasher> BiHashMap<T, S> {
                 matcher,
                 meter,
             )?;
-        let Some(item) = self.items.remove(ix) else {
+        let Some(item) = self.items.remove(slot) else {
             unreachable!()
         };
         // At each other rank:
         self.first
-            .forget::<T, First, S>(&self.hash_builder, &item, ix, None, meter);
+            .forget::<T, First, S>(&self.hash_builder, &item, slot, None, meter);
         Some(item)
     }
 
@@ -148,7 +148,7 @@ impl<T: BiHashItem, S: BuildHasher> BiHashMap<T, S> {
         ensures absent { IfNone result (self.new ≡ self.old) }
     {
         let hash = self.hash_builder.hash_one(query1);
-        let ix = self.slot_unique(hash, query1, query2)?;
-        Some(self.take(ix, Some(hash), None, &mut Meter::new()))
+        let slot = self.slot_unique(hash, query1, query2)?;
+        Some(self.take(slot, Some(hash), None, &mut Meter::new()))
     }
 }

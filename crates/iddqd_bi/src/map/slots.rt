@@ -154,10 +154,10 @@ impl<T: BiHashItem, S: BuildHasher> BiHashMap<T, S> {
         ensures costs { meter.new ≤ meter.old + walks_within (length (bag self.old)) (map (λ _. 1) ⟦<T as Ranked>⟧.ranks) }
     {
         let (at1, at2) = at;
-        let ix = self.items.insert_reserved(item);
-        self.first.insert_at(at1, ix, meter);
-        self.second.insert_at(at2, ix, meter);
-        ix
+        let slot = self.items.insert_reserved(item);
+        self.first.insert_at(at1, slot, meter);
+        self.second.insert_at(at2, slot, meter);
+        slot
     }
 
     /// Inserts an item that has these keys, which no item of the map has, and returns its slot. The error names the
@@ -176,7 +176,7 @@ impl<T: BiHashItem, S: BuildHasher> BiHashMap<T, S> {
             (hash_of S.BuildHasher S.Hasher.Hasher self.old.builder (T.K1.hash_input key1.now))
             (hash_of S.BuildHasher S.Hasher.Hasher self.old.builder (T.K2.hash_input key2.now)) at }
         ensures gains { OnOk result (Gains self.old item self.new) }
-        ensures at { IfOk result (λ ix. get self.new.slots ix ≡ Some item) }
+        ensures at { IfOk result (λ slot. get self.new.slots slot ≡ Some item) }
         ensures sound { OnOk result (IsSound ⟦<T as Ranked>⟧.ranks (bag self.new)) }
         ensures same_keys { OnOk result (differ (⟦<T as Ranked>⟧.key_tests key1.now key2.now) item ≡ None) }
         ensures hands_back { IfErr result (HandsBack ⟦<T as Ranked>⟧.ranks
@@ -195,26 +195,26 @@ impl<T: BiHashItem, S: BuildHasher> BiHashMap<T, S> {
     /// Removes the item of a slot, by one walk through each table. It hashes a key of it only if its hash is not given.
     pub(crate) fn take(
         &mut self,
-        ix: ItemIndex,
+        slot: ItemIndex,
         hash1: Option<u64>,
         hash2: Option<u64>,
         meter: &mut Meter,
     ) -> T
-        requires live { IsLive self.old.slots ix }
-        requires hash1 { IfSome hash1 (HasHash (⟦<T as Hashed<S>>⟧.hash1 self.old.builder) self.old.slots ix) }
-        requires hash2 { IfSome hash2 (HasHash (⟦<T as Hashed<S>>⟧.hash2 self.old.builder) self.old.slots ix) }
-        ensures value { get self.old.slots ix ≡ Some result }
-        ensures slots { self.new.slots ≡ slice_set self.old.slots ix None }
+        requires live { IsLive self.old.slots slot }
+        requires hash1 { IfSome hash1 (HasHash (⟦<T as Hashed<S>>⟧.hash1 self.old.builder) self.old.slots slot) }
+        requires hash2 { IfSome hash2 (HasHash (⟦<T as Hashed<S>>⟧.hash2 self.old.builder) self.old.slots slot) }
+        ensures value { get self.old.slots slot ≡ Some result }
+        ensures slots { self.new.slots ≡ slice_set self.old.slots slot None }
         ensures loses { Loses self.old (result ∷ []) self.new }
-        ensures updates { Updates self.old.slots self.new.slots ix None }
+        ensures updates { Updates self.old.slots self.new.slots slot None }
         ensures costs { meter.new ≤ meter.old + walks_within (length (bag self.old)) (map (λ _. 1) ⟦<T as Ranked>⟧.ranks) }
     {
-        match self.items.remove(ix) {
+        match self.items.remove(slot) {
             Some(item) => {
                 self.first
-                    .forget::<T, First, S>(&self.hash_builder, &item, ix, hash1, meter);
+                    .forget::<T, First, S>(&self.hash_builder, &item, slot, hash1, meter);
                 self.second
-                    .forget::<T, Second, S>(&self.hash_builder, &item, ix, hash2, meter);
+                    .forget::<T, Second, S>(&self.hash_builder, &item, slot, hash2, meter);
                 item
             }
             None => unreachable!(),
@@ -227,13 +227,14 @@ impl<T: BiHashItem, S: BuildHasher> BiHashMap<T, S> {
         requires apart { IsDistinct nat_eq found.now }
         ensures values { result ≡ items_at self.old.slots found.now }
         ensures loses { Loses self.old result self.new }
-        ensures others { (at : ℕ) → IsDistinct nat_eq (at ∷ found.now) → get self.new.slots at ≡ get self.old.slots at }
-        ensures left { (at : ℕ) (x : T) → get self.new.slots at ≡ Some x → get self.old.slots at ≡ Some x }
+        ensures others { (slot : ℕ) → IsDistinct nat_eq (slot ∷ found.now) → get self.new.slots slot
+            ≡ get self.old.slots slot }
+        ensures left { (slot : ℕ) (x : T) → get self.new.slots slot ≡ Some x → get self.old.slots slot ≡ Some x }
     {
         let mut taken = UpToTwo::new();
-        for at in 0..found.len() {
-            if let Some(ix) = found.get(at) {
-                taken.push(self.take(*ix, None, None, &mut Meter::new()));
+        for index in 0..found.len() {
+            if let Some(slot) = found.get(index) {
+                taken.push(self.take(*slot, None, None, &mut Meter::new()));
             }
         }
         taken

@@ -34,8 +34,8 @@ impl<T: BiHashItemMut, S: BuildHasher> BiHashMap<T, S> {
         ensures builder { self.new.builder ≡ self.old.builder }
     {
         match self.by_key1().slot_of(query) {
-            Some(ix) => {
-                self.store_once(ix, f);
+            Some(slot) => {
+                self.store_once(slot, f);
                 true
             }
             None => false,
@@ -62,8 +62,8 @@ impl<T: BiHashItemMut, S: BuildHasher> BiHashMap<T, S> {
         ensures builder { self.new.builder ≡ self.old.builder }
     {
         match self.by_key2().slot_of(query) {
-            Some(ix) => {
-                self.store_once(ix, f);
+            Some(slot) => {
+                self.store_once(slot, f);
                 true
             }
             None => false,
@@ -94,8 +94,8 @@ impl<T: BiHashItemMut, S: BuildHasher> BiHashMap<T, S> {
         ensures builder { self.new.builder ≡ self.old.builder }
     {
         match self.slot_of_both(query1, query2) {
-            Some(ix) => {
-                self.store_once(ix, f);
+            Some(slot) => {
+                self.store_once(slot, f);
                 true
             }
             None => false,
@@ -116,9 +116,9 @@ impl<T: BiHashItemMut, S: BuildHasher> BiHashMap<T, S> {
         ensures builder { self.new.builder ≡ self.old.builder }
     {
         let mut from = 0;
-        while let Some(ix) = self.slot_from(from) {
-            from = ix.number() + 1;
-            self.store_at(ix, &mut f);
+        while let Some(slot) = self.slot_from(from) {
+            from = slot.number() + 1;
+            self.store_at(slot, &mut f);
         }
     }
 }

@@ -89,20 +89,20 @@ impl<T: BiHashItem, S: BuildHasher> BiHashMap<T, S> {
     ///     *item.data_mut() = 0;
     /// }
     /// ```
-    pub fn next_from(&mut self, at: &mut Cursor) -> Option<RefMut<'_, T, S>>
+    pub fn next_from(&mut self, cursor: &mut Cursor) -> Option<RefMut<'_, T, S>>
         // The guard borrows the next item, and the cursor passes it; or no item is left, and the cursor stays.
         ensures next { IfSome result (λ r. IfSome (ref_item r) (λ x.
-            Passes self.old at.old x (λ f. ref_map (ref_with r f)) at.new)) }
-        ensures end { IfNone result (to_come self.old at.old ≡ []) }
-        ensures stays { IfNone result (at.new ≡ at.old) }
+            Passes self.old cursor.old x (λ f. ref_map (ref_with r f)) cursor.new)) }
+        ensures end { IfNone result (to_come self.old cursor.old ≡ []) }
+        ensures stays { IfNone result (cursor.new ≡ cursor.old) }
         // The guard borrows this very map, unchanged so far.
         ensures unchanged { IfSome result (λ r. ref_map r ≡ self.old) }
         ensures same_map { IfSome result (λ r. ref_lender r ≡ self.entry.ghost_name) }
         // If no item is left, the map ends as it was.
         ensures* rests_at_none { sem 𝓛 (rests_if_none T.row S.row T.K1.row T.K2.row S.Hasher.row self.entry result) }
     {
-        let slot = self.slot_from(at.next())?;
-        at.pass(slot);
+        let slot = self.slot_from(cursor.next())?;
+        cursor.pass(slot);
         Some(RefMut { map: self, slot })
     }
 

@@ -24,9 +24,9 @@ abbrev count : Added → ℕ
 count (Ok made) = length made
 count (Err refusal) = 0
 
-abbrev in_the_way : Added → ℕ
-in_the_way (Ok made) = 0
-in_the_way (Err refusal) = (get_or refusal.1 0 refusal.0).0
+abbrev first_conflict : Added → ℕ
+first_conflict (Ok made) = 0
+first_conflict (Err refusal) = (get_or refusal.1 0 refusal.0).0
 
 made_of : (xs made : List Item) → ◌≡◌ {A = Added} (Ok xs) (Ok made) → made ≡ xs
 made_of xs made e = cc
@@ -47,7 +47,7 @@ not_in_another_order : RefusesFor pairs (2, 10, 5) two two → ⊥
 not_in_another_order refuses =
     let is : refuses.0 ≡ (2, 20, 0) ∷ (1, 10, 0) ∷ [] = made_of ((2, 20, 0) ∷ (1, 10, 0) ∷ []) refuses.0 refuses.1 in
     let then = subst (λ (made : List Item). add pairs made (2, 10, 5) ≡ Err ((2, 10, 5), two)) is refuses.2 in
-    omega (arith, ap in_the_way then)
+    omega (arith, ap first_conflict then)
 
 not_without_a_conflict : (listed : List Item) → RefusesFor pairs (3, 30, 0) listed one → ⊥
 not_without_a_conflict listed refuses =

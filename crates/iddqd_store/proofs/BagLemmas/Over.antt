@@ -22,63 +22,63 @@ flipped : (a b : ℕ) → nat_eq a b ≡ false → nat_eq b a ≡ false
 flipped a b h = grind (arith, nat_tests)
 
 -- the slots found are distinct
-pub IsDistinct-push : (ixs : List ℕ) (ix : ℕ) → IsDistinct nat_eq ixs → contains ixs ix ≡ false → IsDistinct nat_eq (ixs ++ ix ∷ [])
-IsDistinct-push [] ix apart new = IsDistinct-cons nat_eq ix [] tt (IsDistinct-nil nat_eq)
-IsDistinct-push (a ∷ ixs) ix apart new =
-    let both = or-false (nat_eq ix a) (contains ixs ix) new in
-    IsDistinct-cons nat_eq a (ixs ++ ix ∷ [])
-    (further ixs (IsDistinct-head nat_eq a ixs apart) (flipped ix a both.0))
-    (IsDistinct-push ixs ix (IsDistinct-tail nat_eq a ixs apart) both.1)
+pub IsDistinct-push : (numbers : List ℕ) (slot : ℕ) → IsDistinct nat_eq numbers → contains numbers slot ≡ false → IsDistinct nat_eq (numbers ++ slot ∷ [])
+IsDistinct-push [] slot apart new = IsDistinct-cons nat_eq slot [] tt (IsDistinct-nil nat_eq)
+IsDistinct-push (a ∷ numbers) slot apart new =
+    let both = or-false (nat_eq slot a) (contains numbers slot) new in
+    IsDistinct-cons nat_eq a (numbers ++ slot ∷ [])
+    (further numbers (IsDistinct-head nat_eq a numbers apart) (flipped slot a both.0))
+    (IsDistinct-push numbers slot (IsDistinct-tail nat_eq a numbers apart) both.1)
   where
-    further : (rest : List ℕ) → AllByRecursion (λ y. nat_eq a y ≡ false) rest → nat_eq a ix ≡ false → AllByRecursion (λ y. nat_eq a y ≡ false) (rest ++ ix ∷ [])
+    further : (rest : List ℕ) → AllByRecursion (λ y. nat_eq a y ≡ false) rest → nat_eq a slot ≡ false → AllByRecursion (λ y. nat_eq a y ≡ false) (rest ++ slot ∷ [])
     further [] others last = (last, tt)
     further (b ∷ rest) others last = (others.0, further rest others.1 last)
 
-pub IsDistinct-with_found : (ixs : List ℕ) (found : Option ℕ) → IsDistinct nat_eq ixs → IsDistinct nat_eq (with_found ixs found)
-IsDistinct-with_found ixs None apart = apart
-IsDistinct-with_found ixs (Some ix) apart =
-    split (λ b. IsDistinct nat_eq (if b then ixs else ixs ++ ix ∷ [])) (contains ixs ix) (λ _. apart) (λ no. IsDistinct-push ixs ix apart no)
+pub IsDistinct-with_found : (numbers : List ℕ) (found : Option ℕ) → IsDistinct nat_eq numbers → IsDistinct nat_eq (with_found numbers found)
+IsDistinct-with_found numbers None apart = apart
+IsDistinct-with_found numbers (Some slot) apart =
+    split (λ b. IsDistinct nat_eq (if b then numbers else numbers ++ slot ∷ [])) (contains numbers slot) (λ _. apart) (λ no. IsDistinct-push numbers slot apart no)
 
 -- the slots from this place on, by their first
-pub drop-found : (ixs : List ℕ) (at ix : ℕ) → slice_get ixs at ≡ Some ix → drop at ixs ≡ ix ∷ drop (at + 1) ixs
-drop-found ixs at ix is =
-    let within = slice_get_within ixs at ix is in
-    let first = get_or_from_slice_get ixs at ix 0 is in
-    rw (add-one, drop-cons ixs at 0, first) refl
+pub drop-found : (numbers : List ℕ) (at slot : ℕ) → slice_get numbers at ≡ Some slot → drop at numbers ≡ slot ∷ drop (at + 1) numbers
+drop-found numbers at slot is =
+    let within = slice_get_within numbers at slot is in
+    let first = get_or_from_slice_get numbers at slot 0 is in
+    rw (add-one, drop-cons numbers at 0, first) refl
 
 module _ {T : Type 0} where
-  -- a change of one slot leaves the items of the others
-  pub items_at-others : (old new : List (Option T)) (at : ℕ) (slot : Option T) (ixs : List ℕ) → Updates old new at slot → AllByRecursion (λ ix. nat_eq at ix ≡ false) ixs → items_at new ixs ≡ items_at old ixs
-  items_at-others old new at slot [] updates apart = refl
-  items_at-others old new at slot (ix ∷ ixs) updates apart =
-      let here : get new ix ≡ get old ix = updates.others ix (other_number at ix apart.0) in
-      rw (here, items_at-others old new at slot ixs updates apart.1) refl
+  -- a change of one content leaves the items of the others
+  pub items_at-others : (old new : List (Option T)) (at : ℕ) (content : Option T) (numbers : List ℕ) → Updates old new at content → AllByRecursion (λ slot. nat_eq at slot ≡ false) numbers → items_at new numbers ≡ items_at old numbers
+  items_at-others old new at content [] updates apart = refl
+  items_at-others old new at content (slot ∷ numbers) updates apart =
+      let here : get new slot ≡ get old slot = updates.others slot (other_number at slot apart.0) in
+      rw (here, items_at-others old new at content numbers updates apart.1) refl
 
-  -- one more item left its slot
-  pub items_at-taken : (old new : List (Option T)) (ix : ℕ) (rest : List ℕ) (x : T) (taken whole : List T) → Updates old new ix None → get old ix ≡ Some x → IsDistinct nat_eq (ix ∷ rest) → taken ++ items_at old (ix ∷ rest) ≡ whole → (taken ++ x ∷ []) ++ items_at new rest ≡ whole
-  items_at-taken old new ix rest x taken whole updates found apart before =
+  -- one more item left its content
+  pub items_at-taken : (old new : List (Option T)) (slot : ℕ) (rest : List ℕ) (x : T) (taken whole : List T) → Updates old new slot None → get old slot ≡ Some x → IsDistinct nat_eq (slot ∷ rest) → taken ++ items_at old (slot ∷ rest) ≡ whole → (taken ++ x ∷ []) ++ items_at new rest ≡ whole
+  items_at-taken old new slot rest x taken whole updates found apart before =
       append_assoc taken (x ∷ []) (items_at new rest)
-      ∙ ap (λ l. taken ++ x ∷ l) (items_at-others old new ix None rest updates (IsDistinct-head nat_eq ix rest apart))
+      ∙ ap (λ l. taken ++ x ∷ l) (items_at-others old new slot None rest updates (IsDistinct-head nat_eq slot rest apart))
       ∙ (rw found at before)
 
-  -- one more item was seen in its slot
-  pub items_at-seen : (slots : List (Option T)) (ix : ℕ) (rest : List ℕ) (x : T) (seen whole : List T) → get slots ix ≡ Some x → seen ++ items_at slots (ix ∷ rest) ≡ whole → (seen ++ x ∷ []) ++ items_at slots rest ≡ whole
-  items_at-seen slots ix rest x seen whole found before = append_assoc seen (x ∷ []) (items_at slots rest) ∙ (rw found at before)
+  -- one more item was seen in its content
+  pub items_at-seen : (slots : List (Option T)) (slot : ℕ) (rest : List ℕ) (x : T) (seen whole : List T) → get slots slot ≡ Some x → seen ++ items_at slots (slot ∷ rest) ≡ whole → (seen ++ x ∷ []) ++ items_at slots rest ≡ whole
+  items_at-seen slots slot rest x seen whole found before = append_assoc seen (x ∷ []) (items_at slots rest) ∙ (rw found at before)
 
-  -- or its slot had no item
-  pub items_at-none : (slots : List (Option T)) (ix : ℕ) (rest : List ℕ) (seen whole : List T) → get slots ix ≡ None → seen ++ items_at slots (ix ∷ rest) ≡ whole → seen ++ items_at slots rest ≡ whole
-  items_at-none slots ix rest seen whole none before = rw none at before
+  -- or its content had no item
+  pub items_at-none : (slots : List (Option T)) (slot : ℕ) (rest : List ℕ) (seen whole : List T) → get slots slot ≡ None → seen ++ items_at slots (slot ∷ rest) ≡ whole → seen ++ items_at slots rest ≡ whole
+  items_at-none slots slot rest seen whole none before = rw none at before
 
   -- the other slots stay live
-  pub live-unchanged : (old new : List (Option T)) (ix : ℕ) (slot : Option T) (rest : List ℕ) → Updates old new ix slot → AllByRecursion (λ y. nat_eq ix y ≡ false) rest → All (IsLive old) rest → All (IsLive new) rest
-  live-unchanged old new ix slot [] updates apart live = All-nil (IsLive new)
-  live-unchanged old new ix slot (a ∷ rest) updates apart live =
+  pub live-unchanged : (old new : List (Option T)) (slot : ℕ) (content : Option T) (rest : List ℕ) → Updates old new slot content → AllByRecursion (λ y. nat_eq slot y ≡ false) rest → All (IsLive old) rest → All (IsLive new) rest
+  live-unchanged old new slot content [] updates apart live = All-nil (IsLive new)
+  live-unchanged old new slot content (a ∷ rest) updates apart live =
       All-cons (IsLive new) a rest
-      (rw (updates.others a (other_number ix a apart.0)) (All-head (IsLive old) a rest live))
-      (live-unchanged old new ix slot rest updates apart.1 (All-tail (IsLive old) a rest live))
+      (rw (updates.others a (other_number slot a apart.0)) (All-head (IsLive old) a rest live))
+      (live-unchanged old new slot content rest updates apart.1 (All-tail (IsLive old) a rest live))
 
-  pub live-others : (old new : List (Option T)) (ix : ℕ) (rest : List ℕ) → Updates old new ix None → IsDistinct nat_eq (ix ∷ rest) → All (IsLive old) rest → All (IsLive new) rest
-  live-others old new ix rest updates apart live = live-unchanged old new ix None rest updates (IsDistinct-head nat_eq ix rest apart) live
+  pub live-others : (old new : List (Option T)) (slot : ℕ) (rest : List ℕ) → Updates old new slot None → IsDistinct nat_eq (slot ∷ rest) → All (IsLive old) rest → All (IsLive new) rest
+  live-others old new slot rest updates apart live = live-unchanged old new slot None rest updates (IsDistinct-head nat_eq slot rest apart) live
 
   -- the bag consists of what was removed and what is left
   pub IsPermutation-taken : (bag held new taken : List T) (x : T) → IsPermutation bag (taken ++ held) → IsPermutation held (x ∷ new) → IsPermutation bag ((taken ++ x ∷ []) ++ new)

@@ -10,7 +10,7 @@ use Rattle.std.proofs.lemmas.List.Elements.{All-contains_itself, All-weaker, Con
 use Rattle.std.proofs.lemmas.List.Sorted.{Contains-permutation, IsPermutation-sym}
 use Rattle.iddqd_store.specs.Bag.{Ranks, IsOnly, IsSound, clash}
 use Rattle.iddqd_store.specs.Bag.Building.{AddsTo, IsReason}
-use Rattle.iddqd_store.specs.Callers.{IsInTheWay}
+use Rattle.iddqd_store.specs.Callers.{IsRejected}
 use Rattle.iddqd_store.specs.Rank.{agree}
 use Rattle.iddqd_store.specs.declared.error.ExtendUniqueReason.{ExtendUniqueReason}
 use Rattle.iddqd_store.proofs.BagLemmas.Building.{AddsTo-IsPermutation}
@@ -32,7 +32,7 @@ module _ {T Z : Type 0} (ranks : Ranks T) (old batch : List T) (it : IntoIter T 
       subst (λ l. batch ≡ l ++ x ∷ into_iter_items rest) same (sym is ∙ yielded_then (into_iter_steps {X = T} {Z = Z}) (λ (s : IntoIter T Z). into_iter_items s) (λ s t y step. step.0) xs it rest x came)
 
   -- that item was rejected
-  pub batch-refused : (x : T) (reason : ExtendUniqueReason) (taken xs : List T) (rest : IntoIter T Z) → YieldsThen into_iter_steps it xs (Some x) rest → xs ≡ taken → IsSound ranks (taken ++ old) → IsReason reason (clash ranks (taken ++ old) x) → IsInTheWay ranks old batch x reason
+  pub batch-refused : (x : T) (reason : ExtendUniqueReason) (taken xs : List T) (rest : IntoIter T Z) → YieldsThen into_iter_steps it xs (Some x) rest → xs ≡ taken → IsSound ranks (taken ++ old) → IsReason reason (clash ranks (taken ++ old) x) → IsRejected ranks old batch x reason
   batch-refused x reason taken xs rest came same apart why =
       (taken, into_iter_items rest, batch-split x taken xs rest came same, apart, why)
 
@@ -46,8 +46,8 @@ module _ {T : Type 0} where
   batch-index batch taken behind x is = ap (λ l. slice_get l (length taken)) is ∙ item_behind taken behind x
 
   -- the rejected item is one of the batch
-  pub Contains-in_the_way : (batch before behind : List T) (x : T) → batch ≡ before ++ x ∷ behind → Contains batch x
-  Contains-in_the_way batch before behind x is =
+  pub Contains-rejected : (batch before behind : List T) (x : T) → batch ≡ before ++ x ∷ behind → Contains batch x
+  Contains-rejected batch before behind x is =
       subst (λ l. Contains l x) (sym is) (Contains-append_right before (x ∷ behind) x (Contains-here x behind))
 
   -- each item of a batch that was inserted is the one that its key of a rank names; `first` and `rest` are the ranks

@@ -24,25 +24,25 @@ module _ {F T S : Type 0} (step : F → T → Bool → F → Type 0) where
   pub rejected-start : (f : F) (m : Map T S) (from : ℕ) → HasRejected f m from f from
   rejected-start f m from = record { rejected = []; rejects = refl; comes = refl; before = sym (append-nil (passed m from)); onward = omega arith }
 
-  pub rejected-on : (f q g : F) (m : Map T S) (from at ix : ℕ) (x : T) → ComesNext m.slots at ix x → step q x false g → HasRejected f m from q at → HasRejected f m from g (ix + 1)
-  rejected-on f q g m from at ix x next called was =
+  pub rejected-on : (f q g : F) (m : Map T S) (from at slot : ℕ) (x : T) → ComesNext m.slots at slot x → step q x false g → HasRejected f m from q at → HasRejected f m from g (slot + 1)
+  rejected-on f q g m from at slot x next called was =
       record {
         rejected = was.rejected ++ x ∷ [];
         rejects = rejects_on step f q g was.rejected x was.rejects called;
-        comes = was.comes ∙ ap (λ l. was.rejected ++ l) next.rest ∙ sym (append_assoc was.rejected (x ∷ []) (to_come m (ix + 1)));
-        before = taken_before m.slots at ix x next ∙ ap (λ l. l ++ x ∷ []) was.before ∙ append_assoc (passed m from) was.rejected (x ∷ []);
+        comes = was.comes ∙ ap (λ l. was.rejected ++ l) next.rest ∙ sym (append_assoc was.rejected (x ∷ []) (to_come m (slot + 1)));
+        before = taken_before m.slots at slot x next ∙ ap (λ l. l ++ x ∷ []) was.before ∙ append_assoc (passed m from) was.rejected (x ∷ []);
         onward = omega (arith, was.onward, next.ahead);
       }
 
-  pub extracts-some : (f q g : F) (m n : Map T S) (from at ix : ℕ) (x : T) → ComesNext m.slots at ix x → n.slots ≡ set m.slots ix None → step q x true g → HasRejected f m from q at → Extracts step f m from (Some x) n (ix + 1)
-  extracts-some f q g m n from at ix x next emptied called was =
+  pub extracts-some : (f q g : F) (m n : Map T S) (from at slot : ℕ) (x : T) → ComesNext m.slots at slot x → n.slots ≡ set m.slots slot None → step q x true g → HasRejected f m from q at → Extracts step f m from (Some x) n (slot + 1)
+  extracts-some f q g m n from at slot x next emptied called was =
       record {
         rejected = was.rejected;
         state = q;
         rejects = was.rejects;
         accepts = (g, called);
-        comes = was.comes ∙ ap (λ l. was.rejected ++ l) (next.rest ∙ ap (λ l. x ∷ l) (rw emptied (sym (same_behind m.slots ix))));
-        before = rw emptied (emptied_before m.slots at ix x next ∙ was.before);
+        comes = was.comes ∙ ap (λ l. was.rejected ++ l) (next.rest ∙ ap (λ l. x ∷ l) (rw emptied (sym (same_behind m.slots slot))));
+        before = rw emptied (emptied_before m.slots at slot x next ∙ was.before);
         none_left = tt;
         onward = omega (arith, was.onward, next.ahead);
       }
@@ -61,11 +61,11 @@ module _ {F T S : Type 0} (step : F → T → Bool → F → Type 0) where
       }
 
 module _ {T S : Type 0} where
-  pub pops-some : (m n : Map T S) (from ix : ℕ) (x : T) → ComesNext m.slots from ix x → n.slots ≡ set m.slots ix None → PopsFrom m from (Some x) n (ix + 1)
-  pops-some m n from ix x next emptied =
+  pub pops-some : (m n : Map T S) (from slot : ℕ) (x : T) → ComesNext m.slots from slot x → n.slots ≡ set m.slots slot None → PopsFrom m from (Some x) n (slot + 1)
+  pops-some m n from slot x next emptied =
       record {
-        comes = next.rest ∙ ap (λ l. x ∷ l) (rw emptied (sym (same_behind m.slots ix)));
-        before = rw emptied (emptied_before m.slots from ix x next);
+        comes = next.rest ∙ ap (λ l. x ∷ l) (rw emptied (sym (same_behind m.slots slot)));
+        before = rw emptied (emptied_before m.slots from slot x next);
         none_left = tt;
         onward = omega (arith, next.ahead);
       }

@@ -28,9 +28,9 @@ module _ {T : Type 0} (slots : List (Option T)) where
   each_live (test ∷ tests) [] are = absurd are
   each_live (test ∷ tests) (at ∷ found) are = (are.0.live, each_live tests found are.1)
 
-  none_at : (ixs : List ℕ) → length ixs ≡ 0 → items_at slots ixs ≡ []
+  none_at : (numbers : List ℕ) → length numbers ≡ 0 → items_at slots numbers ≡ []
   none_at [] short = refl
-  none_at (a ∷ ixs) short = absurd (omega arith)
+  none_at (a ∷ numbers) short = absurd (omega arith)
 
 module _ {T S : Type 0} {agree : T → T → Bool} (laws : IsEquivalence agree) (m : Map T S) (apart : IsDistinct agree (bag m)) (ranks : Ranks T) (x : T) (found : List (Option ℕ)) (are : AreFound (like ranks x) m.slots found) where
   -- the slots that were found list these items
@@ -55,7 +55,7 @@ module _ {T S : Type 0} {agree : T → T → Bool} (laws : IsEquivalence agree) 
 -- a search finds a slot exactly if some item passes its test
 pub is_some-at : {T : Type 0} (test : T → Bool) (slots : List (Option T)) (at : Option ℕ) → FoundAt test slots at → is_some at ≡ list_any test (live_items slots)
 is_some-at test slots None found = sym (any_listed test (live_items slots) ∙ ap some_item (sym found.only))
-is_some-at {T} test slots (Some ix) found = by_slot (get slots ix) found.live found.only
+is_some-at {T} test slots (Some slot) found = by_slot (get slots slot) found.live found.only
   where
     by_slot : (o : Option T) → IsSome o → option_to_list o ≡ filter test (live_items slots) → true ≡ list_any test (live_items slots)
     by_slot None some only = absurd (cc)
@@ -71,36 +71,36 @@ module _ {T : Type 0} (ranks : Ranks T) (bag : List T) (x : T) (free : clash ran
   over_none new put = over-taken ranks bag bag new x (subst (λ l. IsPermutation bag (l ++ bag)) (sym order_none) (IsPermutation-refl bag)) put
 
 -- once the items of the other slots are removed and that of the first is replaced, no conflicting item is left
-pub gives_way : {T : Type 0} (ranks : Ranks T) (slots rest : List (Option T)) (x : T) (ix : ℕ) (ixs : List ℕ) (others : List T) → items_at slots (ix ∷ ixs) ≡ order ranks (live_items slots) x → IsLive slots ix → get rest ix ≡ get slots ix → others ≡ items_at slots ixs → IsPermutation (live_items slots) (others ++ live_items rest) → IsPermutation (live_items slots) (order ranks (live_items slots) x ++ live_items (slice_set rest ix None))
-gives_way {T} ranks slots rest x ix ixs others items live same are taken = by_slot (get slots ix) refl live
+pub gives_way : {T : Type 0} (ranks : Ranks T) (slots rest : List (Option T)) (x : T) (slot : ℕ) (numbers : List ℕ) (others : List T) → items_at slots (slot ∷ numbers) ≡ order ranks (live_items slots) x → IsLive slots slot → get rest slot ≡ get slots slot → others ≡ items_at slots numbers → IsPermutation (live_items slots) (others ++ live_items rest) → IsPermutation (live_items slots) (order ranks (live_items slots) x ++ live_items (slice_set rest slot None))
+gives_way {T} ranks slots rest x slot numbers others items live same are taken = by_slot (get slots slot) refl live
   where
-    by_slot : (o : Option T) → get slots ix ≡ o → IsSome o → IsPermutation (live_items slots) (order ranks (live_items slots) x ++ live_items (slice_set rest ix None))
+    by_slot : (o : Option T) → get slots slot ≡ o → IsSome o → IsPermutation (live_items slots) (order ranks (live_items slots) x ++ live_items (slice_set rest slot None))
     by_slot None is some = absurd (cc)
     by_slot (Some y) is some =
-        let left : List T = live_items (slice_set rest ix None) in
-        let listed : items_at slots (ix ∷ ixs) ≡ y ∷ others = rw (is, are) refl in
-        let out : IsPermutation (live_items rest) (y ∷ left) = IsPermutation-map (λ m. m.1) _ _ (members-take rest ix y (same ∙ is)) in
+        let left : List T = live_items (slice_set rest slot None) in
+        let listed : items_at slots (slot ∷ numbers) ≡ y ∷ others = rw (is, are) refl in
+        let out : IsPermutation (live_items rest) (y ∷ left) = IsPermutation-map (λ m. m.1) _ _ (members-take rest slot y (same ∙ is)) in
         let all : IsPermutation (live_items slots) (y ∷ (others ++ left)) =
         IsPermutation-trans _ _ _ taken (IsPermutation-trans _ _ _ (IsPermutation-append others others _ _ (IsPermutation-refl others) out) (IsPermutation-middle others y left)) in
         subst (λ l. IsPermutation (live_items slots) (l ++ left)) (sym listed ∙ items) all
 
 -- the same if the item of one more slot is removed
-gives_way_two : {T : Type 0} (ranks : Ranks T) (slots rest : List (Option T)) (x : T) (ix other : ℕ) (ixs : List ℕ) (others : List T) → items_at slots (ix ∷ other ∷ ixs) ≡ order ranks (live_items slots) x → IsLive slots ix → IsLive slots other → ix ≢ other → get rest ix ≡ get slots ix → get rest other ≡ get slots other → others ≡ items_at slots ixs → IsPermutation (live_items slots) (others ++ live_items rest)
-    → IsPermutation (live_items slots) (order ranks (live_items slots) x ++ live_items (slice_set (slice_set rest other None) ix None))
-gives_way_two {T} ranks slots rest x ix other ixs others items live live_too apart same same_too are taken = by_slot (get slots other) refl live_too
+gives_way_two : {T : Type 0} (ranks : Ranks T) (slots rest : List (Option T)) (x : T) (slot other : ℕ) (numbers : List ℕ) (others : List T) → items_at slots (slot ∷ other ∷ numbers) ≡ order ranks (live_items slots) x → IsLive slots slot → IsLive slots other → slot ≢ other → get rest slot ≡ get slots slot → get rest other ≡ get slots other → others ≡ items_at slots numbers → IsPermutation (live_items slots) (others ++ live_items rest)
+    → IsPermutation (live_items slots) (order ranks (live_items slots) x ++ live_items (slice_set (slice_set rest other None) slot None))
+gives_way_two {T} ranks slots rest x slot other numbers others items live live_too apart same same_too are taken = by_slot (get slots other) refl live_too
   where
     less : List (Option T)
     less = slice_set rest other None
 
-    by_slot : (o : Option T) → get slots other ≡ o → IsSome o → IsPermutation (live_items slots) (order ranks (live_items slots) x ++ live_items (slice_set less ix None))
+    by_slot : (o : Option T) → get slots other ≡ o → IsSome o → IsPermutation (live_items slots) (order ranks (live_items slots) x ++ live_items (slice_set less slot None))
     by_slot None is some = absurd (cc)
     by_slot (Some y) is some =
-        let stays : get less ix ≡ get slots ix = get_or-set_other rest other ix None None apart ∙ same in
+        let stays : get less slot ≡ get slots slot = get_or-set_other rest other slot None None apart ∙ same in
         let out : IsPermutation (live_items rest) (y ∷ live_items less) = IsPermutation-map (λ m. m.1) _ _ (members-take rest other y (same_too ∙ is)) in
         let all : IsPermutation (live_items slots) (y ∷ (others ++ live_items less)) =
         IsPermutation-trans _ _ _ taken (IsPermutation-trans _ _ _ (IsPermutation-append others others _ _ (IsPermutation-refl others) out) (IsPermutation-middle others y (live_items less))) in
-        let listed : y ∷ others ≡ items_at slots (other ∷ ixs) = rw (is, are) refl in
-        gives_way ranks slots less x ix (other ∷ ixs) (y ∷ others) items live stays listed all
+        let listed : y ∷ others ≡ items_at slots (other ∷ numbers) = rw (is, are) refl in
+        gives_way ranks slots less x slot (other ∷ numbers) (y ∷ others) items live stays listed all
 
 -- items in these slots are in equal lists of slots
 pub stand_in : {T : Type 0} {slots : List (Option T)} {xs : List T} {found others : List ℕ} → found ≡ others → StandAt slots others xs → StandAt slots found xs
@@ -110,32 +110,32 @@ other_number : (a b : ℕ) → nat_eq a b ≡ false → a ≢ b
 other_number a b h = grind (arith, nat_tests)
 
 -- if one slot was found, and its item is removed, no conflicting item is left
-pub one_leaves : {T : Type 0} (ranks : Ranks T) (slots : List (Option T)) (x : T) (ix : ℕ) (found : List ℕ) → StandAt slots found (order ranks (live_items slots) x) → found ≡ ix ∷ [] → IsPermutation (live_items slots) (order ranks (live_items slots) x ++ live_items (slice_set slots ix None))
-one_leaves ranks slots x ix found stand is =
+pub one_leaves : {T : Type 0} (ranks : Ranks T) (slots : List (Option T)) (x : T) (slot : ℕ) (found : List ℕ) → StandAt slots found (order ranks (live_items slots) x) → found ≡ slot ∷ [] → IsPermutation (live_items slots) (order ranks (live_items slots) x ++ live_items (slice_set slots slot None))
+one_leaves ranks slots x slot found stand is =
     let only = stand_in (sym is) stand in
-    gives_way ranks slots slots x ix [] [] only.items (All-head (IsLive slots) ix [] only.live) refl refl (IsPermutation-refl _)
+    gives_way ranks slots slots x slot [] [] only.items (All-head (IsLive slots) slot [] only.live) refl refl (IsPermutation-refl _)
 
 -- the same if two slots were found, or more, of which the others were removed before
-pub two_leave : {T : Type 0} (ranks : Ranks T) (slots rest : List (Option T)) (x : T) (ix at : ℕ) (ixs : List ℕ) (others : List T) (found : List ℕ) → StandAt slots found (order ranks (live_items slots) x) → found ≡ ix ∷ at ∷ ixs → ((k : ℕ) → IsDistinct nat_eq (k ∷ ixs) → get rest k ≡ get slots k) → others ≡ items_at slots ixs → IsPermutation (live_items slots) (others ++ live_items rest)
-    → IsPermutation (live_items slots) (order ranks (live_items slots) x ++ live_items (slice_set (slice_set rest at None) ix None))
-two_leave ranks slots rest x ix at ixs others found stand is same are taken =
+pub two_leave : {T : Type 0} (ranks : Ranks T) (slots rest : List (Option T)) (x : T) (slot at : ℕ) (numbers : List ℕ) (others : List T) (found : List ℕ) → StandAt slots found (order ranks (live_items slots) x) → found ≡ slot ∷ at ∷ numbers → ((k : ℕ) → IsDistinct nat_eq (k ∷ numbers) → get rest k ≡ get slots k) → others ≡ items_at slots numbers → IsPermutation (live_items slots) (others ++ live_items rest)
+    → IsPermutation (live_items slots) (order ranks (live_items slots) x ++ live_items (slice_set (slice_set rest at None) slot None))
+two_leave ranks slots rest x slot at numbers others found stand is same are taken =
     let both = stand_in (sym is) stand in
-    let behind = IsDistinct-tail nat_eq ix (at ∷ ixs) both.apart in
-    let apart = IsDistinct-head nat_eq ix (at ∷ ixs) both.apart in
-    gives_way_two ranks slots rest x ix at ixs others both.items (All-head (IsLive slots) ix (at ∷ ixs) both.live) (All-head (IsLive slots) at ixs (All-tail (IsLive slots) ix (at ∷ ixs) both.live))
-    (other_number ix at apart.0) (same ix (IsDistinct-cons nat_eq ix ixs apart.1 (IsDistinct-tail nat_eq at ixs behind))) (same at behind) are taken
+    let behind = IsDistinct-tail nat_eq slot (at ∷ numbers) both.apart in
+    let apart = IsDistinct-head nat_eq slot (at ∷ numbers) both.apart in
+    gives_way_two ranks slots rest x slot at numbers others both.items (All-head (IsLive slots) slot (at ∷ numbers) both.live) (All-head (IsLive slots) at numbers (All-tail (IsLive slots) slot (at ∷ numbers) both.live))
+    (other_number slot at apart.0) (same slot (IsDistinct-cons nat_eq slot numbers apart.1 (IsDistinct-tail nat_eq at numbers behind))) (same at behind) are taken
 
 -- the same if three slots were found
-pub three_leave : {T : Type 0} (ranks : Ranks T) (slots : List (Option T)) (x : T) (ix at end : ℕ) (found : List ℕ) → StandAt slots found (order ranks (live_items slots) x) → found ≡ ix ∷ at ∷ end ∷ []
-    → IsPermutation (live_items slots) (order ranks (live_items slots) x ++ live_items (slice_set (slice_set (slice_set slots end None) at None) ix None))
-three_leave {T} ranks slots x ix at end found stand is =
+pub three_leave : {T : Type 0} (ranks : Ranks T) (slots : List (Option T)) (x : T) (slot at end : ℕ) (found : List ℕ) → StandAt slots found (order ranks (live_items slots) x) → found ≡ slot ∷ at ∷ end ∷ []
+    → IsPermutation (live_items slots) (order ranks (live_items slots) x ++ live_items (slice_set (slice_set (slice_set slots end None) at None) slot None))
+three_leave {T} ranks slots x slot at end found stand is =
     let all = stand_in (sym is) stand in
-    by_slot (get slots end) refl (All-head (IsLive slots) end [] (All-tail (IsLive slots) at (end ∷ []) (All-tail (IsLive slots) ix (at ∷ end ∷ []) all.live)))
+    by_slot (get slots end) refl (All-head (IsLive slots) end [] (All-tail (IsLive slots) at (end ∷ []) (All-tail (IsLive slots) slot (at ∷ end ∷ []) all.live)))
   where
-    by_slot : (o : Option T) → get slots end ≡ o → IsSome o → IsPermutation (live_items slots) (order ranks (live_items slots) x ++ live_items (slice_set (slice_set (slice_set slots end None) at None) ix None))
+    by_slot : (o : Option T) → get slots end ≡ o → IsSome o → IsPermutation (live_items slots) (order ranks (live_items slots) x ++ live_items (slice_set (slice_set (slice_set slots end None) at None) slot None))
     by_slot None is_none some = absurd (cc)
     by_slot (Some z) is_some some =
         let listed : z ∷ [] ≡ items_at slots (end ∷ []) = rw is_some refl in
-        two_leave ranks slots (slice_set slots end None) x ix at (end ∷ []) (z ∷ []) found stand is
+        two_leave ranks slots (slice_set slots end None) x slot at (end ∷ []) (z ∷ []) found stand is
         (λ k apart. get_or-set_other slots end k None None (other_number k end (IsDistinct-head nat_eq k (end ∷ []) apart).0))
         listed (IsPermutation-map (λ m. m.1) _ _ (members-take slots end z is_some))

@@ -50,12 +50,12 @@ any_one test xs (Some x) only live = ap some_item only ∙ sym (any_listed test 
 
 -- a search that found a slot, or none, tells whether there is a member
 module _ {T : Type 0} (test : T → Bool) (slots : List (Option T)) where
-  pub any_found : (ix : ℕ) → FoundAt test slots (Some ix) → true ≡ list_any test (live_items slots)
-  any_found ix found = any_one test (live_items slots) (get slots ix) found.only found.live
+  pub any_found : (slot : ℕ) → FoundAt test slots (Some slot) → true ≡ list_any test (live_items slots)
+  any_found slot found = any_one test (live_items slots) (get slots slot) found.only found.live
 
   -- the member that it found is the only one
-  pub found_one : (ix : ℕ) (x : T) → FoundAt test slots (Some ix) → get slots ix ≡ Some x → IsOnly test (live_items slots) (Some x)
-  found_one ix x found here = ap option_to_list (sym here) ∙ found.only
+  pub found_one : (slot : ℕ) (x : T) → FoundAt test slots (Some slot) → get slots slot ≡ Some x → IsOnly test (live_items slots) (Some x)
+  found_one slot x found here = ap option_to_list (sym here) ∙ found.only
 
   pub any_absent : FoundAt test slots None → false ≡ list_any test (live_items slots)
   any_absent found = ap some_item found.only ∙ sym (any_listed test (live_items slots))
@@ -65,10 +65,10 @@ pub held_data : {T D : Type 0} (part : T → D) (slots : List (Option T)) (at : 
     ((x : T) → option_and_then (get slots) at ≡ Some x → IfSome r (λ m. m.now ≡ part x)) → option_to_list (option_copied_mut r) ≡ map part (option_to_list (option_and_then (get slots) at))
 held_data part slots None None live some value = refl
 held_data part slots None (Some m) live some value = absurd (false≢true (sym some))
-held_data part slots (Some ix) None live some value = absurd (false≢true some)
-held_data {T} part slots (Some ix) (Some m) live some value = by_slot (get slots ix) refl live
+held_data part slots (Some slot) None live some value = absurd (false≢true some)
+held_data {T} part slots (Some slot) (Some m) live some value = by_slot (get slots slot) refl live
   where
-    by_slot : (o : Option T) → get slots ix ≡ o → IsSome o → m.now ∷ [] ≡ map part (option_to_list o)
+    by_slot : (o : Option T) → get slots slot ≡ o → IsSome o → m.now ∷ [] ≡ map part (option_to_list o)
     by_slot None there some = absurd (cc)
     by_slot (Some x) there some = ap (λ d. d ∷ []) (value x there)
 

@@ -14,26 +14,26 @@ use Rattle.iddqd_store.specs.Table.Search.{CostsUnder, FindsUnder, IsVacantUnder
 use Rattle.iddqd_store.specs.Table.{hashes, IsFree, Spot, Table}
 use Rattle.iddqd_store.proofs.RankLemmas.Search.{search_among}
 use Rattle.iddqd_store.proofs.RankLemmas.Index.{hash_at, crowd_is, length-index}
-use Rattle.iddqd_store.proofs.RankLemmas.Looks.{hashes-index, looks_within, looks_within_most}
+use Rattle.iddqd_store.proofs.RankLemmas.Probes.{hashes-index, probes_within, probes_within_most}
 use Rattle.iddqd_store.proofs.TableLemmas.Spot.{free_permutation}
 
 module _ {T : Type 0} {agree : T → T → Bool} {hash : T → ℕ} {slots : List (Option T)} (table : Table) (rank : IsSearchable agree hash slots table.pairs) where
   pub searches : (test : T → Bool) (h : ℕ) (r : Option ℕ) → NamesOneUnder agree hash h test (live_items slots) → FindsUnder table h (passes_at test slots) r → IsOnly test (live_items slots) (option_and_then (get slots) r)
   searches test h r names finds = search_among agree test hash h slots table.pairs r names.one rank.apart rank.index names.hashed finds.accepted finds.none
 
-  pub costs : (h : ℕ) (r : Option ℕ) (asks asks_then look look_then : ℕ) → IsSized table → CostsUnder table h r asks asks_then look look_then → SearchCosts hash (live_items slots) table.limit h r asks asks_then look look_then
-  costs h r asks asks_then look look_then sized own = record {
+  pub costs : (h : ℕ) (r : Option ℕ) (asks asks_then before after : ℕ) → IsSized table → CostsUnder table h r asks asks_then before after → SearchCosts hash (live_items slots) table.limit h r asks asks_then before after
+  costs h r asks asks_then before after sized own = record {
     asked = omega (arith, own.asked, crowd_is hash h slots table.pairs rank.index);
-    looks = looks_within hash slots table.pairs (length table.row) table.limit h r look look_then rank.index sized.size sized.counted (omega (arith, sized.limit)) own.looks;
-    at_most = looks_within_most hash slots table.pairs (length table.row) h r look look_then rank.index own.looks;
+    probes = probes_within hash slots table.pairs (length table.row) table.limit h r before after rank.index sized.size sized.counted (omega (arith, sized.limit)) own.probes;
+    at_most = probes_within_most hash slots table.pairs (length table.row) h r before after rank.index own.probes;
   }
 
   -- a removal by a search costs as much as a search that finds nothing
-  pub removal_costs : (h asks asks_then look look_then : ℕ) → IsSized table → RemovalCosts table h asks asks_then look look_then → SearchCosts {A = ℕ} hash (live_items slots) table.limit h None asks asks_then look look_then
-  removal_costs h asks asks_then look look_then sized own =
-      costs h None asks asks_then look look_then sized record {
+  pub removal_costs : (h asks asks_then before after : ℕ) → IsSized table → RemovalCosts table h asks asks_then before after → SearchCosts {A = ℕ} hash (live_items slots) table.limit h None asks asks_then before after
+  removal_costs h asks asks_then before after sized own =
+      costs h None asks asks_then before after sized record {
         asked = own.asked;
-        looks = record { no_cells = own.no_cells; miss = own.looks; hit_least = tt; hit_most = tt };
+        probes = record { no_cells = own.no_cells; miss = own.probes; hit_least = tt; hit_most = tt };
         within = own.within;
       }
 
@@ -62,7 +62,7 @@ place_in {hash = hash} {slots = slots} {pairs = pairs} {spot = spot} index vacan
     free_permutation _ _ spot (IsPermutation-sym _ _ (hashes-index hash slots pairs index)) vacant.free
 
 -- a search costs no more if there is less room
-pub SearchCosts-room : {T A : Type 0} {hash : T → ℕ} {bag : List T} {room h : ℕ} {answer : Option A} {asks asks_then look look_then : ℕ} (less : ℕ) → less ≤ room → SearchCosts hash bag room h answer asks asks_then look look_then → SearchCosts hash bag less h answer asks asks_then look look_then
+pub SearchCosts-room : {T A : Type 0} {hash : T → ℕ} {bag : List T} {room h : ℕ} {answer : Option A} {asks asks_then before after : ℕ} (less : ℕ) → less ≤ room → SearchCosts hash bag room h answer asks asks_then before after → SearchCosts hash bag less h answer asks asks_then before after
 SearchCosts-room less below costs =
-    let looks = costs.looks in
-    record { asked = costs.asked; looks = (looks.0, looks.1, looks.2, omega (arith, below, looks.3), looks.4); at_most = costs.at_most }
+    let probes = costs.probes in
+    record { asked = costs.asked; probes = (probes.0, probes.1, probes.2, omega (arith, below, probes.3), probes.4); at_most = costs.at_most }

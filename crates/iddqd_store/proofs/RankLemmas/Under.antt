@@ -10,14 +10,14 @@ use Rattle.iddqd_store.specs.Slots.Found.{FoundAt}
 
 module _ {T : Type 0} (hash : T → ℕ) (slots : List (Option T)) where
   -- what it knows of a slot is the hash of the item there
-  pub known_there : (s : SlotUnder) (ix : ℕ) (known : Option ℕ) → IsUnder hash slots s → IfSome known (λ h. (s.slot ≡ Some ix) × (h ≡ s.hash)) → IfSome known (HasHash hash slots ix)
-  known_there s ix None under at = tt
-  known_there s ix (Some h) under at = λ x stands.
+  pub known_there : (s : SlotUnder) (slot : ℕ) (known : Option ℕ) → IsUnder hash slots s → IfSome known (λ h. (s.slot ≡ Some slot) × (h ≡ s.hash)) → IfSome known (HasHash hash slots slot)
+  known_there s slot None under at = tt
+  known_there s slot (Some h) under at = λ x stands.
       subst (λ (o : Option ℕ). IfSome o (λ i. HasHash hash slots i s.hash)) at.0 under x stands ∙ sym at.1
 
-  pub known_of : (ix : ℕ) (x : T) (known : Option ℕ) → get slots ix ≡ Some x → IfSome known (HasHash hash slots ix) → IfSome known (λ h. hash x ≡ h)
-  known_of ix x None stands has = tt
-  known_of ix x (Some h) stands has = has x stands
+  pub known_of : (slot : ℕ) (x : T) (known : Option ℕ) → get slots slot ≡ Some x → IfSome known (HasHash hash slots slot) → IfSome known (λ h. hash x ≡ h)
+  known_of slot x None stands has = tt
+  known_of slot x (Some h) stands has = has x stands
 
   -- this stays known if items only leave
   under_fewer : (less : List (Option T)) (o : Option ℕ) (h : ℕ) → ((at : ℕ) (x : T) → get less at ≡ Some x → get slots at ≡ Some x) → IfSome o (λ at. HasHash hash slots at h) → IfSome o (λ at. HasHash hash less at h)
@@ -30,11 +30,11 @@ module _ {T : Type 0} (hash : T → ℕ) (slots : List (Option T)) where
   -- the slot that a search by a test found is known if all items that pass the test have one hash
   pub found_under : (test : T → Bool) (at : Option ℕ) (h : ℕ) → FoundAt test slots at → ((x : T) → test x ≡ true → hash x ≡ h) → IfSome at (λ i. HasHash hash slots i h)
   found_under test None h found same = tt
-  found_under test (Some ix) h found same = λ x stands.
+  found_under test (Some slot) h found same = λ x stands.
       let only : x ∷ [] ≡ filter test (live_items slots) = rw stands at found.only in
       same x (All-head (λ y. test y ≡ true) x [] (subst (All (λ y. test y ≡ true)) (sym only) (filter_passes test (live_items slots))))
 
 -- an item that is in a slot after a removal was there before
-pub stood : {T : Type 0} (slots less : List (Option T)) (ix at : ℕ) (x : T) → Updates slots less ix None → get less at ≡ Some x → get slots at ≡ Some x
-stood slots less ix at x out stands =
+pub stood : {T : Type 0} (slots less : List (Option T)) (slot at : ℕ) (x : T) → Updates slots less slot None → get less at ≡ Some x → get slots at ≡ Some x
+stood slots less slot at x out stands =
     sym (out.others at (λ same. let gone : get less at ≡ None = rw same out.changed in cc (gone, stands))) ∙ stands

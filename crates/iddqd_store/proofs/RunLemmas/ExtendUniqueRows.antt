@@ -65,8 +65,8 @@ alike_come_back : ExtendsUnique {D = ℕ} pairs (state m2 7) alike (extend_refus
 alike_come_back =
     ((5, 50, 0) ∷ [], refl, IsPermutation-refl m2, sound_with_third, (λ none. omega (arith, ap length none)), (omega arith, λ room. refl))
 
-first_in_the_way : ExtendsUnique {D = ℕ} pairs (state m2 2) ((1, 60, 0) ∷ (5, 50, 0) ∷ []) (extend_refused Conflict [] (1, 60, 0)) (state m2 2)
-first_in_the_way =
+first_conflicts : ExtendsUnique {D = ℕ} pairs (state m2 2) ((1, 60, 0) ∷ (5, 50, 0) ∷ []) (extend_refused Conflict [] (1, 60, 0)) (state m2 2)
+first_conflicts =
     ((5, 50, 0) ∷ [], refl, IsPermutation-refl m2, sound_m2, (λ none. omega (arith, ap length none)), (omega arith, λ room. refl))
 
 comes_back_for_memory : ExtendsUnique {D = ℕ} pairs (state m2 2) apart (extend_refused Memory [] (10, 1, 0)) (state m2 7)

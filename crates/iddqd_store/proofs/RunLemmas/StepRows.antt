@@ -49,11 +49,11 @@ nothing_else_is_dropped : InsertsUnique {D = ℕ} pairs (state m2 7) third done 
 nothing_else_is_dropped step = omega (arith, length_permutation _ _ step.1)
 
 -- an insert with a conflict
-in_the_way : InsertsUnique {D = ℕ} pairs (state m2 7) (1, 99, 0) (duplicate (1, 99, 0) ((1, 10, 100) ∷ [])) (state m2 7)
-in_the_way = (refl, (λ none. omega (arith, ap length none)), refl, refl)
+one_conflicts : InsertsUnique {D = ℕ} pairs (state m2 7) (1, 99, 0) (duplicate (1, 99, 0) ((1, 10, 100) ∷ [])) (state m2 7)
+one_conflicts = (refl, (λ none. omega (arith, ap length none)), refl, refl)
 
-two_in_the_way : InsertsUnique {D = ℕ} pairs (state m2 2) (2, 10, 5) (duplicate (2, 10, 5) ((2, 20, 200) ∷ (1, 10, 100) ∷ [])) (state m2 2)
-two_in_the_way = (refl, (λ none. omega (arith, ap length none)), refl, refl)
+two_conflict : InsertsUnique {D = ℕ} pairs (state m2 2) (2, 10, 5) (duplicate (2, 10, 5) ((2, 20, 200) ∷ (1, 10, 100) ∷ [])) (state m2 2)
+two_conflict = (refl, (λ none. omega (arith, ap length none)), refl, refl)
 
 not_in_another_order : InsertsUnique {D = ℕ} pairs (state m2 2) (2, 10, 5) (duplicate (2, 10, 5) ((1, 10, 100) ∷ (2, 20, 200) ∷ [])) (state m2 2) → ⊥
 not_in_another_order step = cc (step.2)

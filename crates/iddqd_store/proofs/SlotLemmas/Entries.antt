@@ -34,72 +34,72 @@ part_there part d (Some x) some is = ap (λ y. Some y) (is x refl)
 pub IsDistinct-each_once : (found : List (Option ℕ)) → IsDistinct nat_eq (each_once found)
 IsDistinct-each_once found = on [] found (IsDistinct-nil nat_eq)
   where
-    on : (ixs : List ℕ) (found : List (Option ℕ)) → IsDistinct nat_eq ixs → IsDistinct nat_eq (fold with_found ixs found)
-    on ixs [] apart = apart
-    on ixs (at ∷ found) apart = on (with_found ixs at) found (IsDistinct-with_found ixs at apart)
+    on : (numbers : List ℕ) (found : List (Option ℕ)) → IsDistinct nat_eq numbers → IsDistinct nat_eq (fold with_found numbers found)
+    on numbers [] apart = apart
+    on numbers (at ∷ found) apart = on (with_found numbers at) found (IsDistinct-with_found numbers at apart)
 
 module _ {T : Type 0} {agree : T → T → Bool} (laws : IsEquivalence agree) (slots : List (Option T)) (apart : IsDistinct agree (live_items slots)) where
   -- the slots found have the members that the tests list
   pub found_listing : (tests : List (T → Bool)) (found : List (Option ℕ)) → AreFound tests slots found → held_at slots found ≡ listing tests (live_items slots)
   found_listing tests found are = on [] [] tests found refl are
     where
-      on : (done : List (T → Bool)) (ixs : List ℕ) (tests : List (T → Bool)) (found : List (Option ℕ)) → items_at slots ixs ≡ listing done (live_items slots) → AreFound tests slots found → items_at slots (fold with_found ixs found) ≡ listing (done ++ tests) (live_items slots)
-      on done ixs [] [] so_far are = so_far ∙ ap (λ l. listing l (live_items slots)) (sym (append-nil done))
-      on done ixs [] (at ∷ found) so_far are = absurd are
-      on done ixs (test ∷ tests) [] so_far are = absurd are
-      on done ixs (test ∷ tests) (at ∷ found) so_far are =
-          let one_more = listing_found agree slots done test ixs at laws.refl laws.symm apart so_far are.0.live are.0.only in
-          on (done ++ test ∷ []) (with_found ixs at) tests found one_more are.1
+      on : (done : List (T → Bool)) (numbers : List ℕ) (tests : List (T → Bool)) (found : List (Option ℕ)) → items_at slots numbers ≡ listing done (live_items slots) → AreFound tests slots found → items_at slots (fold with_found numbers found) ≡ listing (done ++ tests) (live_items slots)
+      on done numbers [] [] so_far are = so_far ∙ ap (λ l. listing l (live_items slots)) (sym (append-nil done))
+      on done numbers [] (at ∷ found) so_far are = absurd are
+      on done numbers (test ∷ tests) [] so_far are = absurd are
+      on done numbers (test ∷ tests) (at ∷ found) so_far are =
+          let one_more = listing_found agree slots done test numbers at laws.refl laws.symm apart so_far are.0.live are.0.only in
+          on (done ++ test ∷ []) (with_found numbers at) tests found one_more are.1
           ∙ ap (λ l. listing l (live_items slots)) (append_assoc done (test ∷ []) tests)
 
   -- an item passes a test exactly if the search by the test found its slot
-  passes_found : (test : T → Bool) (at : Option ℕ) (ix : ℕ) (x : T) → get slots ix ≡ Some x → FoundAt test slots at → test x ≡ is_at ix at
-  passes_found test None ix x here found =
+  passes_found : (test : T → Bool) (at : Option ℕ) (slot : ℕ) (x : T) → get slots slot ≡ Some x → FoundAt test slots at → test x ≡ is_at slot at
+  passes_found test None slot x here found =
       split (λ b. b ≡ false) (test x)
-      (λ yes. absurd (omega (arith, (subst (λ l. Contains l x) (sym found.only) (Contains-filter test (live_items slots) x yes (item_at slots ix x here))).1)))
+      (λ yes. absurd (omega (arith, (subst (λ l. Contains l x) (sym found.only) (Contains-filter test (live_items slots) x yes (item_at slots slot x here))).1)))
       (λ _. refl)
-  passes_found test (Some j) ix x here found = by_slot (get slots j) refl found.only found.live
+  passes_found test (Some j) slot x here found = by_slot (get slots j) refl found.only found.live
     where
-      by_slot : (o : Option T) → get slots j ≡ o → option_to_list o ≡ filter test (live_items slots) → IsSome o → test x ≡ nat_eq ix j
+      by_slot : (o : Option T) → get slots j ≡ o → option_to_list o ≡ filter test (live_items slots) → IsSome o → test x ≡ nat_eq slot j
       by_slot None there only some = absurd (cc)
       by_slot (Some y) there only some =
-          split (λ b. test x ≡ b) (nat_eq ix j)
+          split (λ b. test x ≡ b) (nat_eq slot j)
           (λ same.
-          let one : ix ≡ j = grind (arith, nat_tests) in
+          let one : slot ≡ j = grind (arith, nat_tests) in
           let is : Some x ≡ Some y = sym here ∙ ap (get slots) one ∙ there in
           let item : x ≡ y = cc is in
           ap test item ∙ (subst (λ l. AllByRecursion (λ z. test z ≡ true) l) (sym only) (each_passes test (live_items slots))).0)
           (λ differs. split (λ b. b ≡ false) (test x)
           (λ yes.
-          let found_x = subst (λ l. Contains l x) (sym only) (Contains-filter test (live_items slots) x yes (item_at slots ix x here)) in
+          let found_x = subst (λ l. Contains l x) (sym only) (Contains-filter test (live_items slots) x yes (item_at slots slot x here)) in
           elim (Contains-cons_cases y x [] found_x) [
             | inl same ↦
-                let one : ix ≡ j = same_slot agree slots ix j x y apart laws.symm here there (ap (agree x) same ∙ laws.refl x) in
-                absurd (false≢true (sym differs ∙ ap (nat_eq ix) (sym one) ∙ itself ix))
+                let one : slot ≡ j = same_slot agree slots slot j x y apart laws.symm here there (ap (agree x) same ∙ laws.refl x) in
+                absurd (false≢true (sym differs ∙ ap (nat_eq slot) (sym one) ∙ itself slot))
             | inr further ↦ absurd (omega (arith, further.1))
           ])
           (λ _. refl))
 
-  every_found : (tests : List (T → Bool)) (found : List (Option ℕ)) (ix : ℕ) (x : T) → get slots ix ≡ Some x → AreFound tests slots found → every_of tests x ≡ list_all (is_at ix) found
-  every_found [] [] ix x here are = refl
-  every_found [] (at ∷ found) ix x here are = absurd are
-  every_found (test ∷ tests) [] ix x here are = absurd are
-  every_found (test ∷ tests) (at ∷ found) ix x here are =
-      rw (passes_found test at ix x here are.0, every_found tests found ix x here are.1) refl
+  every_found : (tests : List (T → Bool)) (found : List (Option ℕ)) (slot : ℕ) (x : T) → get slots slot ≡ Some x → AreFound tests slots found → every_of tests x ≡ list_all (is_at slot) found
+  every_found [] [] slot x here are = refl
+  every_found [] (at ∷ found) slot x here are = absurd are
+  every_found (test ∷ tests) [] slot x here are = absurd are
+  every_found (test ∷ tests) (at ∷ found) slot x here are =
+      rw (passes_found test at slot x here are.0, every_found tests found slot x here are.1) refl
 
   -- the slot found by all has the member that passes every test
   found_whole : (test : T → Bool) (tests : List (T → Bool)) (found : List (Option ℕ)) → AreFound (test ∷ tests) slots found → option_to_list (option_and_then (get slots) (found_by_all found)) ≡ all_of (test ∷ tests) (live_items slots)
   found_whole test tests [] are = absurd are
   found_whole test tests (None ∷ found) are =
       sym (all_of-next test tests (live_items slots) ∙ ap (all_of tests) (sym are.0.only))
-  found_whole test tests (Some ix ∷ found) are = by_slot (get slots ix) refl are.0.only are.0.live
+  found_whole test tests (Some slot ∷ found) are = by_slot (get slots slot) refl are.0.only are.0.live
     where
-      by_slot : (o : Option T) → get slots ix ≡ o → option_to_list o ≡ filter test (live_items slots) → IsSome o → option_to_list (option_and_then (get slots) (found_by_all (Some ix ∷ found))) ≡ all_of (test ∷ tests) (live_items slots)
+      by_slot : (o : Option T) → get slots slot ≡ o → option_to_list o ≡ filter test (live_items slots) → IsSome o → option_to_list (option_and_then (get slots) (found_by_all (Some slot ∷ found))) ≡ all_of (test ∷ tests) (live_items slots)
       by_slot None there only some = absurd (cc)
       by_slot (Some x) there only some =
-          let whole : all_of (test ∷ tests) (live_items slots) ≡ cond (list_all (is_at ix) found) (x ∷ []) [] =
-          all_of-next test tests (live_items slots) ∙ ap (all_of tests) (sym only) ∙ ap (λ b. cond b (x ∷ []) []) (every_found tests found ix x there are.1) in
-          sym (whole ∙ split (λ b. cond b (x ∷ []) [] ≡ option_to_list (option_and_then (get slots) (cond b (Some ix) None))) (list_all (is_at ix) found) (λ _. rw there refl) (λ _. refl))
+          let whole : all_of (test ∷ tests) (live_items slots) ≡ cond (list_all (is_at slot) found) (x ∷ []) [] =
+          all_of-next test tests (live_items slots) ∙ ap (all_of tests) (sym only) ∙ ap (λ b. cond b (x ∷ []) []) (every_found tests found slot x there are.1) in
+          sym (whole ∙ split (λ b. cond b (x ∷ []) [] ≡ option_to_list (option_and_then (get slots) (cond b (Some slot) None))) (list_all (is_at slot) found) (λ _. rw there refl) (λ _. refl))
 
   -- the slots hold what the tests find
   pub found_entry : (tests : List (T → Bool)) (at : Option ℕ) (found : List (Option ℕ)) → AreFound tests slots (at ∷ found) → entry_at slots (at ∷ found) ≡ entry tests (live_items slots)
@@ -110,13 +110,13 @@ module _ {T : Type 0} {agree : T → T → Bool} (laws : IsEquivalence agree) (s
 
 -- what the slots that searches found hold
 module _ {T : Type 0} (slots : List (Option T)) where
-  front_stays : (ix : ℕ) (l : List ℕ) (found : List (Option ℕ)) → (rest : List ℕ) × (fold with_found (ix ∷ l) found ≡ ix ∷ rest)
-  front_stays ix l [] = (l, refl)
-  front_stays ix l (None ∷ found) = front_stays ix l found
-  front_stays ix l (Some b ∷ found) =
-      split (λ t. (rest : List ℕ) × (fold with_found (if t then ix ∷ l else (ix ∷ l) ++ b ∷ []) found ≡ ix ∷ rest)) (contains (ix ∷ l) b)
-      (λ _. front_stays ix l found)
-      (λ _. front_stays ix (l ++ b ∷ []) found)
+  front_stays : (slot : ℕ) (l : List ℕ) (found : List (Option ℕ)) → (rest : List ℕ) × (fold with_found (slot ∷ l) found ≡ slot ∷ rest)
+  front_stays slot l [] = (l, refl)
+  front_stays slot l (None ∷ found) = front_stays slot l found
+  front_stays slot l (Some b ∷ found) =
+      split (λ t. (rest : List ℕ) × (fold with_found (if t then slot ∷ l else (slot ∷ l) ++ b ∷ []) found ≡ slot ∷ rest)) (contains (slot ∷ l) b)
+      (λ _. front_stays slot l found)
+      (λ _. front_stays slot (l ++ b ∷ []) found)
 
   -- if a search found a slot, some item is held
   pub held_some : (tests : List (T → Bool)) (found : List (Option ℕ)) → AreFound tests slots found → list_any is_some found ≡ true → held_at slots found ≢ []
@@ -124,29 +124,29 @@ module _ {T : Type 0} (slots : List (Option T)) where
   held_some [] (at ∷ found) are some = absurd are
   held_some (test ∷ tests) [] are some = absurd are
   held_some (test ∷ tests) (None ∷ found) are some = held_some tests found are.1 some
-  held_some (test ∷ tests) (Some ix ∷ found) are some = by_slot (get slots ix) refl are.0.live
+  held_some (test ∷ tests) (Some slot ∷ found) are some = by_slot (get slots slot) refl are.0.live
     where
-      by_slot : (o : Option T) → get slots ix ≡ o → IsSome o → held_at slots (Some ix ∷ found) ≢ []
+      by_slot : (o : Option T) → get slots slot ≡ o → IsSome o → held_at slots (Some slot ∷ found) ≢ []
       by_slot None there some = absurd (cc)
       by_slot (Some x) there some = λ none.
-          let front = front_stays ix [] found in
-          let held : held_at slots (Some ix ∷ found) ≡ x ∷ items_at slots front.0 = ap (items_at slots) front.1 ∙ (rw there refl) in
+          let front = front_stays slot [] found in
+          let held : held_at slots (Some slot ∷ found) ≡ x ∷ items_at slots front.0 = ap (items_at slots) front.1 ∙ (rw there refl) in
           absurd (omega (arith, ap length (sym held ∙ none)))
 
   -- if no search found one, no item is held
   pub held_none : (found : List (Option ℕ)) → list_any is_some found ≡ false → held_at slots found ≡ []
   held_none [] none = refl
   held_none (None ∷ found) none = held_none found none
-  held_none (Some ix ∷ found) none = absurd (false≢true (sym none))
+  held_none (Some slot ∷ found) none = absurd (false≢true (sym none))
 
   -- what is borrowed from the slot that a search found is a part of the one member that passes
   pub found_data : {D : Type 0} (part : T → D) (test : T → Bool) (at : Option ℕ) → FoundAt test slots at → (r : Option (MutBor D)) → is_some r ≡ is_some at →
       ((x : T) → option_and_then (get slots) at ≡ Some x → IfSome r (λ m. m.now ≡ part x)) → option_to_list (option_copied_mut r) ≡ map part (filter test (live_items slots))
   found_data part test None found None some value = ap (map part) found.only
   found_data part test None found (Some m) some value = absurd (false≢true (sym some))
-  found_data part test (Some ix) found None some value = absurd (false≢true some)
-  found_data part test (Some ix) found (Some m) some value = by_slot (get slots ix) refl found.only found.live
+  found_data part test (Some slot) found None some value = absurd (false≢true some)
+  found_data part test (Some slot) found (Some m) some value = by_slot (get slots slot) refl found.only found.live
     where
-      by_slot : (o : Option T) → get slots ix ≡ o → option_to_list o ≡ filter test (live_items slots) → IsSome o → m.now ∷ [] ≡ map part (filter test (live_items slots))
+      by_slot : (o : Option T) → get slots slot ≡ o → option_to_list o ≡ filter test (live_items slots) → IsSome o → m.now ∷ [] ≡ map part (filter test (live_items slots))
       by_slot None there only some = absurd (cc)
       by_slot (Some x) there only some = ap (λ d. d ∷ []) (value x there) ∙ ap (map part) only

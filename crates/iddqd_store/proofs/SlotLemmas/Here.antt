@@ -20,41 +20,41 @@ some_is o x is = rw is refl
 
 -- each search found the slot
 abbrev pub all_at : {T : Type 0} → ℕ → List (T → Bool) → List (Option ℕ)
-all_at ix tests = map (λ _. Some ix) tests
+all_at slot tests = map (λ _. Some slot) tests
 
 -- what an entry is if all its searches found the slot of x
-pub record FindsHere {T : Type 0} (tests : List (T → Bool)) (slots : List (Option T)) (ix : ℕ) (x : T) : Type 0 where
-  pub found : AreFound tests slots (all_at ix tests)
-  pub value : entry_at slots (all_at ix tests) ≡ entry tests (live_items slots)
-  pub listed : held_at slots (all_at ix tests) ≡ listing tests (live_items slots)
+pub record FindsHere {T : Type 0} (tests : List (T → Bool)) (slots : List (Option T)) (slot : ℕ) (x : T) : Type 0 where
+  pub found : AreFound tests slots (all_at slot tests)
+  pub value : entry_at slots (all_at slot tests) ≡ entry tests (live_items slots)
+  pub listed : held_at slots (all_at slot tests) ≡ listing tests (live_items slots)
   pub some : listing tests (live_items slots) ≢ []
   pub unique_item : entry tests (live_items slots) ≡ unique x
 
-module _ {T : Type 0} (slots : List (Option T)) (ix : ℕ) (x : T) (here : get slots ix ≡ Some x) where
-  are_found : (tests : List (T → Bool)) → AllByRecursion (λ test. filter test (live_items slots) ≡ x ∷ []) tests → AreFound tests slots (all_at ix tests)
+module _ {T : Type 0} (slots : List (Option T)) (slot : ℕ) (x : T) (here : get slots slot ≡ Some x) where
+  are_found : (tests : List (T → Bool)) → AllByRecursion (λ test. filter test (live_items slots) ≡ x ∷ []) tests → AreFound tests slots (all_at slot tests)
   are_found [] only = tt
   are_found (test ∷ tests) only = (record { only = rw here (sym only.0); live = some_is _ x here }, are_found tests only.1)
 
-  one_slot : (tests : List (T → Bool)) → fold with_found (ix ∷ []) (all_at ix tests) ≡ ix ∷ []
+  one_slot : (tests : List (T → Bool)) → fold with_found (slot ∷ []) (all_at slot tests) ≡ slot ∷ []
   one_slot [] = refl
-  one_slot (test ∷ tests) = ap (λ b. fold with_found (if b || false then ix ∷ [] else ix ∷ ix ∷ []) (all_at ix tests)) (itself ix) ∙ one_slot tests
+  one_slot (test ∷ tests) = ap (λ b. fold with_found (if b || false then slot ∷ [] else slot ∷ slot ∷ []) (all_at slot tests)) (itself slot) ∙ one_slot tests
 
-  all_there : (tests : List (T → Bool)) → list_all (is_at ix) (all_at ix tests) ≡ true
+  all_there : (tests : List (T → Bool)) → list_all (is_at slot) (all_at slot tests) ≡ true
   all_there [] = refl
-  all_there (test ∷ tests) = rw (itself ix) (all_there tests)
+  all_there (test ∷ tests) = rw (itself slot) (all_there tests)
 
-  holds_one : (tests : List (T → Bool)) → 0 < length tests → held_at slots (all_at ix tests) ≡ x ∷ []
+  holds_one : (tests : List (T → Bool)) → 0 < length tests → held_at slots (all_at slot tests) ≡ x ∷ []
   holds_one [] some = absurd (omega arith)
   holds_one (test ∷ tests) some = ap (items_at slots) (one_slot tests) ∙ (rw here refl)
 
-  holds_whole : (tests : List (T → Bool)) → 0 < length tests → option_to_list (option_and_then (get slots) (found_by_all (all_at ix tests))) ≡ x ∷ []
+  holds_whole : (tests : List (T → Bool)) → 0 < length tests → option_to_list (option_and_then (get slots) (found_by_all (all_at slot tests))) ≡ x ∷ []
   holds_whole [] some = absurd (omega arith)
   holds_whole (test ∷ tests) some = rw (all_there tests) (rw here refl)
 
 -- x is in the slot, and has the keys that the tests ask for
-module _ {T : Type 0} (ranks : Ranks T) (tests : List (T → Bool)) (some : 0 < length tests) (keys : AreKeyTests ranks tests) (slots : List (Option T)) (ix : ℕ) (x : T) (passes : AllByRecursion (λ test. test x ≡ true) tests) (sound : IsSound ranks (live_items slots)) (here : get slots ix ≡ Some x) where
+module _ {T : Type 0} (ranks : Ranks T) (tests : List (T → Bool)) (some : 0 < length tests) (keys : AreKeyTests ranks tests) (slots : List (Option T)) (slot : ℕ) (x : T) (passes : AllByRecursion (λ test. test x ≡ true) tests) (sound : IsSound ranks (live_items slots)) (here : get slots slot ≡ Some x) where
   only : AllByRecursion (λ test. filter test (live_items slots) ≡ x ∷ []) tests
-  only = each_only ranks tests (live_items slots) x keys passes sound (item_at slots ix x here)
+  only = each_only ranks tests (live_items slots) x keys passes sound (item_at slots slot x here)
 
   one_listed : listing tests (live_items slots) ≡ x ∷ []
   one_listed = listing-one tests (live_items slots) x some only
@@ -62,11 +62,11 @@ module _ {T : Type 0} (ranks : Ranks T) (tests : List (T → Bool)) (some : 0 < 
   is_unique_here : entry tests (live_items slots) ≡ unique x
   is_unique_here = entry-unique tests (live_items slots) x some only
 
-  pub finds_here : FindsHere tests slots ix x
+  pub finds_here : FindsHere tests slots slot x
   finds_here = record {
-    found = are_found slots ix x here tests only;
-    value = ap (λ l. entry_of l (option_to_list (option_and_then (get slots) (found_by_all (all_at ix tests))))) (holds_one slots ix x here tests some) ∙ ap (entry_of (x ∷ [])) (holds_whole slots ix x here tests some) ∙ sym is_unique_here;
-    listed = holds_one slots ix x here tests some ∙ sym one_listed;
+    found = are_found slots slot x here tests only;
+    value = ap (λ l. entry_of l (option_to_list (option_and_then (get slots) (found_by_all (all_at slot tests))))) (holds_one slots slot x here tests some) ∙ ap (entry_of (x ∷ [])) (holds_whole slots slot x here tests some) ∙ sym is_unique_here;
+    listed = holds_one slots slot x here tests some ∙ sym one_listed;
     some = λ none. absurd (omega (arith, ap length (sym one_listed ∙ none)));
     unique_item = is_unique_here;
   }

@@ -86,16 +86,16 @@ module _ {T : Type 0} {agree : T → T → Bool} (laws : IsEquivalence agree) (t
     -- a search by the test found this slot before, and would find it now
     found_still : (at : Option ℕ) → FoundAt test old at → FoundAt test new at
     found_still None found = record { only = sym (nil_from_length (filter test (live_items new)) (passing ∙ ap length (sym found.only))); live = tt }
-    found_still (Some ix) found = by_slot (get old ix) refl found.only found.live
+    found_still (Some slot) found = by_slot (get old slot) refl found.only found.live
       where
-        by_slot : (o : Option T) → get old ix ≡ o → option_to_list o ≡ filter test (live_items old) → IsSome o → FoundAt test new (Some ix)
+        by_slot : (o : Option T) → get old slot ≡ o → option_to_list o ≡ filter test (live_items old) → IsSome o → FoundAt test new (Some slot)
         by_slot None there only some = absurd (cc)
         by_slot (Some x) there only some =
-            let now = there_still old new ix x kept there in
+            let now = there_still old new slot x kept there in
             let passes : test x ≡ true = (subst (λ l. AllByRecursion (λ z. test z ≡ true) l) (sym only) (each_passes test (live_items old))).0 in
             let passes_now : test now.0 ≡ true = sym (same_answer x now.0 now.2) ∙ passes in
             let one : length (filter test (live_items new)) ≤ 1 = omega (arith, passing, ap length only) in
-            let listed = only_one (filter test (live_items new)) now.0 one (Contains-filter test (live_items new) now.0 passes_now (item_at new ix now.0 now.1)) in
+            let listed = only_one (filter test (live_items new)) now.0 one (Contains-filter test (live_items new) now.0 passes_now (item_at new slot now.0 now.1)) in
             record { only = rw now.1 (sym listed); live = rw now.1 refl }
 
 -- the same for a search by each test

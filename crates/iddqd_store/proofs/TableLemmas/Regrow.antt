@@ -81,12 +81,12 @@ pub times_less : (k pairs : ℕ) → k ≤ pairs → k * pairs ≤ pairs * pairs
 times_less k pairs less = grind arith
 
 -- the probes of a cell that is read, and of the walk of its pair
-pub looked_pair : (start read walked done i way far k pairs : ℕ) → read ≤ start + 2 * i + way + k * pairs → walked ≡ read + 1 → done ≡ walked + far + 1 → far ≤ k → k ≤ pairs → done ≤ start + 2 * (i + 1) + way + (k + 1) * pairs
-looked_pair start read walked done i way far k pairs before look looks near fits = let more = times_more k pairs in omega (arith, before, look, looks, near, fits, more)
+pub probed_pair : (start read walked done i way far k pairs : ℕ) → read ≤ start + 2 * i + way + k * pairs → walked ≡ read + 1 → done ≡ walked + far + 1 → far ≤ k → k ≤ pairs → done ≤ start + 2 * (i + 1) + way + (k + 1) * pairs
+probed_pair start read walked done i way far k pairs before probe probes near fits = let more = times_more k pairs in omega (arith, before, probe, probes, near, fits, more)
 
 -- the probes of a cell that is read and empty
-pub looked_empty : (start read walked done i way far all : ℕ) → read ≤ start + 2 * i + way + all → walked ≡ read + 1 → done ≡ walked + far + 1 → done ≤ start + 2 * (i + 1) + (way + far) + all
-looked_empty start read walked done i way far all before look looks = omega (arith, before, look, looks)
+pub probed_empty : (start read walked done i way far all : ℕ) → read ≤ start + 2 * i + way + all → walked ≡ read + 1 → done ≡ walked + far + 1 → done ≤ start + 2 * (i + 1) + (way + far) + all
+probed_empty start read walked done i way far all before probe probes = omega (arith, before, probe, probes)
 
 -- the way begins at an empty row's last cell
 pub way_none : (count : ℕ) → 0 < count → IsWayTo (replicate count None) (count - 1) (count - 1)

@@ -4,12 +4,12 @@ use Rattle.std.proofs.Common.{◌≡◌, ℕ, ◌+◌, ◌*◌, ◌^◌, ◌<◌
 use Rattle.std.proofs.Math.Pow.{pow_mono}
 use Rattle.std.specs.Prelude.{map}
 use Rattle.std.specs.List.{range_with_len}
-use Rattle.iddqd_store.proofs.TableLemmas.Looks.{looks_most}
+use Rattle.iddqd_store.proofs.TableLemmas.Probes.{probes_most}
 use Rattle.iddqd_store.proofs.TableLemmas.StretchBound.{stretch_le_length}
 use Rattle.iddqd_store.proofs.TableLemmas.Limits.{least_nothing, least_found}
 use Rattle.iddqd_store.specs.Table.Limit.{IsLeast}
 use Rattle.iddqd_store.specs.Table.Ring.{is_full, stretch}
-use Rattle.iddqd_store.specs.Table.{LooksUp, LooksUpWithin}
+use Rattle.iddqd_store.specs.Table.{Probes, ProbesWithin}
 
 -- 6, 6, 7 and 0 among 8 cells
 full_6670 : map (is_full (6 ∷ 6 ∷ 7 ∷ 0 ∷ []) 8) (range_with_len 0 8) ≡ true ∷ true ∷ false ∷ false ∷ false ∷ false ∷ true ∷ true ∷ []
@@ -41,40 +41,40 @@ removal_676 : stretch (6 ∷ 7 ∷ 6 ∷ []) 8 6 + 1 ≡ 4
 removal_676 = refl
 
 -- probes of a search
-three_looks : LooksUp {A = ℕ} (1 ∷ 2 ∷ []) 8 9 None 0 3
-three_looks = record { no_cells = λ none. absurd (omega (arith, none)); miss = λ some. refl; hit_least = tt; hit_most = tt }
+three_probes : Probes {A = ℕ} (1 ∷ 2 ∷ []) 8 9 None 0 3
+three_probes = record { no_cells = λ none. absurd (omega (arith, none)); miss = λ some. refl; hit_least = tt; hit_most = tt }
 
-always_three_looks : (before after : ℕ) → LooksUp {A = ℕ} (1 ∷ 2 ∷ []) 8 9 None before after → after ≡ before + 3
-always_three_looks before after looks = omega (arith, looks.miss (omega arith))
+always_three_probes : (before after : ℕ) → Probes {A = ℕ} (1 ∷ 2 ∷ []) 8 9 None before after → after ≡ before + 3
+always_three_probes before after probes = omega (arith, probes.miss (omega arith))
 
-no_looks_without_cells : (hashes : List ℕ) (hash before after : ℕ) (answer : Option ℕ) → LooksUp hashes 0 hash answer before after → after ≡ before
-no_looks_without_cells hashes hash before after answer looks = looks.no_cells refl
+no_probes_without_cells : (hashes : List ℕ) (hash before after : ℕ) (answer : Option ℕ) → Probes hashes 0 hash answer before after → after ≡ before
+no_probes_without_cells hashes hash before after answer probes = probes.no_cells refl
 
-no_answer_without_cells : (hashes : List ℕ) (hash before after found : ℕ) → LooksUp hashes 0 hash (Some found) before after → ⊥
-no_answer_without_cells hashes hash before after found looks = omega (arith, looks.no_cells refl, looks.hit_least)
+no_answer_without_cells : (hashes : List ℕ) (hash before after found : ℕ) → Probes hashes 0 hash (Some found) before after → ⊥
+no_answer_without_cells hashes hash before after found probes = omega (arith, probes.no_cells refl, probes.hit_least)
 
-found_in_the_fourth_cell : LooksUp {A = ℕ} (6 ∷ 6 ∷ 7 ∷ 0 ∷ []) 8 6 (Some 1) 0 4
+found_in_the_fourth_cell : Probes {A = ℕ} (6 ∷ 6 ∷ 7 ∷ 0 ∷ []) 8 6 (Some 1) 0 4
 found_in_the_fourth_cell = record { no_cells = λ none. absurd (omega (arith, none)); miss = λ some. tt; hit_least = omega arith; hit_most = omega arith }
 
-not_found_past_the_stretch : LooksUp {A = ℕ} (6 ∷ 6 ∷ 7 ∷ 0 ∷ []) 8 6 (Some 1) 0 5 → ⊥
-not_found_past_the_stretch looks = omega (arith, looks.hit_most)
+not_found_past_the_stretch : Probes {A = ℕ} (6 ∷ 6 ∷ 7 ∷ 0 ∷ []) 8 6 (Some 1) 0 5 → ⊥
+not_found_past_the_stretch probes = omega (arith, probes.hit_most)
 
-not_found_without_a_look : LooksUp {A = ℕ} (6 ∷ 6 ∷ 7 ∷ 0 ∷ []) 8 6 (Some 1) 0 0 → ⊥
-not_found_without_a_look looks = omega (arith, looks.hit_least)
+not_found_without_a_probe : Probes {A = ℕ} (6 ∷ 6 ∷ 7 ∷ 0 ∷ []) 8 6 (Some 1) 0 0 → ⊥
+not_found_without_a_probe probes = omega (arith, probes.hit_least)
 
 -- probes of a search in a map with room for this many items
-three_looks_within : LooksUpWithin {A = ℕ} (1 ∷ 2 ∷ []) 7 9 None 0 3
-three_looks_within = (8, inr (0, refl), omega arith, omega arith, three_looks)
+three_probes_within : ProbesWithin {A = ℕ} (1 ∷ 2 ∷ []) 7 9 None 0 3
+three_probes_within = (8, inr (0, refl), omega arith, omega arith, three_probes)
 
-no_fourth_look_within : LooksUpWithin {A = ℕ} (1 ∷ 2 ∷ []) 7 9 None 0 4 → ⊥
-no_fourth_look_within within = omega (arith, looks_most {A = ℕ} (1 ∷ 2 ∷ []) within.0 9 None 0 4 within.4)
+no_fourth_probe_within : ProbesWithin {A = ℕ} (1 ∷ 2 ∷ []) 7 9 None 0 4 → ⊥
+no_fourth_probe_within within = omega (arith, probes_most {A = ℕ} (1 ∷ 2 ∷ []) within.0 9 None 0 4 within.4)
 
-a_look_at_least_within : LooksUpWithin {A = ℕ} (1 ∷ 2 ∷ []) 7 9 None 0 0 → ⊥
-a_look_at_least_within within =
+a_probe_at_least_within : ProbesWithin {A = ℕ} (1 ∷ 2 ∷ []) 7 9 None 0 0 → ⊥
+a_probe_at_least_within within =
     let some : 0 < within.0 = omega (arith, within.3) in
     omega (arith, within.4.miss some)
 
-no_answer_among_none_within : (hash before after found : ℕ) → LooksUpWithin [] 0 hash (Some found) before after → ⊥
+no_answer_among_none_within : (hash before after found : ℕ) → ProbesWithin [] 0 hash (Some found) before after → ⊥
 no_answer_among_none_within hash before after found within = omega (arith, stretch_le_length [] within.0 hash, within.4.hit_least, within.4.hit_most)
 
 -- the least limit in which this many pairs fit

@@ -10,16 +10,16 @@ module _ {T : Type 0} where
   of_item f None = None
   of_item f (Some x) = Some (f x)
 
-  -- `map_with` is the map, where the item of the slot `at` is replaced by `f` of it.
+  -- `map_with` is the map, where the item of this slot is replaced by `f` of it.
   -- Example: For the slots `Some a`, `Some b` and 1 it has the slots `Some a`, `Some (f b)`.
   abbrev pub map_with : {S : Type 0} → Map T S → ℕ → (T → T) → Map T S
-  map_with m at f = record m { slots = slice_set m.slots at (of_item f (get m.slots at)) }
+  map_with m slot f = record m { slots = slice_set m.slots slot (of_item f (get m.slots slot)) }
 
   -- `map_with_if` is the map, where the item of this slot, if there is such a slot, is replaced by `f` of it.
   -- Example: For `None` it is the map itself.
   abbrev pub map_with_if : {S : Type 0} → Map T S → Option ℕ → (T → T) → Map T S
   map_with_if m None f = m
-  map_with_if m (Some at) f = map_with m at f
+  map_with_if m (Some slot) f = map_with m slot f
 
 -- A slot that is live stays live.
 pub still_live : {T : Type 0} (f : T → T) (slots : List (Option T)) (i j : ℕ) → is_some (get slots j) ≡ true

@@ -11,5 +11,5 @@ module _ {T : Type 0} (p q : T → Bool) (same : (x : T) → q x ≡ p x) where
   by_slot (Some x) = same x
 
   -- If the slots and the test do not change, the same slots pass the test.
-  pub passes_kept : (slots more : List (Option T)) (ix : ℕ) → more ≡ slots → passes_at q more ix ≡ passes_at p slots ix
-  passes_kept slots more ix e = ap (λ s. option_map_or q (get s ix) false) e ∙ by_slot (get slots ix)
+  pub passes_kept : (slots more : List (Option T)) (slot : ℕ) → more ≡ slots → passes_at q more slot ≡ passes_at p slots slot
+  passes_kept slots more slot e = ap (λ s. option_map_or q (get s slot) false) e ∙ by_slot (get slots slot)

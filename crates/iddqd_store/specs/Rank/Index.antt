@@ -13,17 +13,17 @@ module _ {T : Type 0} where
   -- `passes_at` tells whether the slot has an item that passes the test.
   -- Example: For the slots `Some a`, `None` it is false at 1.
   abbrev pub passes_at : (T → Bool) → List (Option T) → ℕ → Bool
-  passes_at test slots at = option_map_or test (get slots at) false
+  passes_at test slots slot = option_map_or test (get slots slot) false
 
-  -- The item of the slot `at` has the hash `h`.
+  -- The item of this slot has the hash `h`.
   -- Example: It holds for a free slot, which has no item, and any hash.
   abbrev pub HasHash : (T → ℕ) → List (Option T) → ℕ → ℕ → Type 0
-  HasHash hash slots at h = (x : T) → get slots at ≡ Some x → hash x ≡ h
+  HasHash hash slots slot h = (x : T) → get slots slot ≡ Some x → hash x ≡ h
 
   -- The pair of the item in the slot has left, and no other.
   -- Example: For an item of the hash 5 in the slot 2 the new pairs with (5, 2) are the old pairs.
   abbrev pub LosesPairAt : (T → ℕ) → List (Option T) → List (ℕ × ℕ) → List (ℕ × ℕ) → ℕ → Type 0
-  LosesPairAt hash slots old new at = (x : T) → get slots at ≡ Some x → IsPermutation old ((hash x, at) ∷ new)
+  LosesPairAt hash slots old new slot = (x : T) → get slots slot ≡ Some x → IsPermutation old ((hash x, slot) ∷ new)
 
 -- The pairs are those of the live slots.
 -- Example: For the slots `Some a`, `None`, `Some b` with the hashes 5 and 6 they are (5, 0), (6, 2).

@@ -14,11 +14,11 @@ module _ {T : Type 0} where
   abbrev pub live_slots : List (Slot T) → List (Slot T)
   live_slots slots = filter (λ slot. is_some (item_of slot)) slots
 
-  -- From the slot `at` on, this many free slots each name the next one, and the last of them names the end of the
+  -- From this slot on, this many free slots each name the next one, and the last of them names the end of the
   -- slots.
   abbrev pub IsChain : List (Slot T) → ℕ → ℕ → Type 0
-  IsChain slots zero at = at ≡ length slots
-  IsChain slots (suc count) at = (next : ℕ) × (slice_get slots at ≡ Some (Free next)) × IsChain slots count next
+  IsChain slots zero slot = slot ≡ length slots
+  IsChain slots (suc count) slot = (next : ℕ) × (slice_get slots slot ≡ Some (Free next)) × IsChain slots count next
 
   -- The number of items is `live`, and the chain from `head` goes through every free slot.
   pub record IsChained (slots : List (Slot T)) (live head : ℕ) : Type 0 where

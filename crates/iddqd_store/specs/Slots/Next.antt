@@ -2,10 +2,10 @@
 use Rattle.std.specs.Prelude.{◌≡◌, ◌≤◌, ℕ, ◌+◌, List, ◌∷◌, take, drop, Option, Some}
 use Rattle.iddqd_store.specs.Slots.{get, items_in}
 
--- Among the slots from `from` on, `at` is the first with an item, which is `item`.
+-- Among the slots from `from` on, `slot` is the first with an item, which is `item`.
 -- Example: In `Some a`, `None`, `Some b`, from 1 on it is 2 with b.
-pub record ComesNext {T : Type 0} (slots : List (Option T)) (from at : ℕ) (item : T) : Type 0 where
-  pub ahead : from ≤ at
-  pub value : get slots at ≡ Some item
-  pub rest : items_in (drop from slots) ≡ item ∷ items_in (drop (at + 1) slots)
-  pub before : items_in (take at slots) ≡ items_in (take from slots)
+pub record ComesNext {T : Type 0} (slots : List (Option T)) (from slot : ℕ) (item : T) : Type 0 where
+  pub ahead : from ≤ slot
+  pub value : get slots slot ≡ Some item
+  pub rest : items_in (drop from slots) ≡ item ∷ items_in (drop (slot + 1) slots)
+  pub before : items_in (take slot slots) ≡ items_in (take from slots)

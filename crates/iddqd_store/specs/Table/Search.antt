@@ -2,7 +2,7 @@
 use Rattle.std.specs.Prelude.{ℕ, ◌+◌, ◌≡◌, ◌<◌, ◌≤◌, Bool, true, false, Option}
 use Rattle.std.specs.Prelude.{Contains, IfSome, IfNone, length, count_by}
 use Rattle.iddqd_store.specs.Table.Ring.{stretch}
-use Rattle.iddqd_store.specs.Table.{hashes, under, IsFree, LooksUp, Spot, Table}
+use Rattle.iddqd_store.specs.Table.{hashes, under, IsFree, Probes, Spot, Table}
 
 -- The result is a slot with this hash that is accepted, or `None` if no slot with the hash is accepted.
 -- Example: In (5, 0), (6, 2) it is `Some 2` for the hash 6, if 2 is accepted.
@@ -19,18 +19,18 @@ pub record IsVacantUnder (table : Table) (sought : ℕ) (spot : Spot) : Type 0 w
   pub vacant : IsFree (hashes table.pairs) spot
 
 -- The matcher is asked no more questions than there are pairs with the hash, and cells are probed from the home of the
--- hash up to the result (`LooksUp`).
+-- hash up to the result (`Probes`).
 -- Example: In (5, 0), (6, 2) a search for 6 asks at most once.
 pub record CostsUnder {A : Type 0} (table : Table) (hash : ℕ) (answer : Option A)
-    (asks asks_then look look_then : ℕ) : Type 0 where
+    (asks asks_then before after : ℕ) : Type 0 where
   pub asked : asks_then ≤ asks + count_by (under hash) table.pairs
-  pub looks : LooksUp (hashes table.pairs) (length table.row) hash answer look look_then
+  pub probes : Probes (hashes table.pairs) (length table.row) hash answer before after
   pub within : stretch (hashes table.pairs) (length table.row) hash ≤ length table.pairs
 
 -- A removal by a search asks about no more pairs than have the hash, and probes each cell from the home of the hash on
 -- up to the first empty one once, whatever it finds.
-pub record RemovalCosts (table : Table) (hash asks asks_then look look_then : ℕ) : Type 0 where
+pub record RemovalCosts (table : Table) (hash asks asks_then before after : ℕ) : Type 0 where
   pub asked : asks_then ≤ asks + count_by (under hash) table.pairs
-  pub no_cells : length table.row ≡ 0 → look_then ≡ look
-  pub looks : 0 < length table.row → look_then ≡ look + stretch (hashes table.pairs) (length table.row) hash + 1
+  pub no_cells : length table.row ≡ 0 → after ≡ before
+  pub probes : 0 < length table.row → after ≡ before + stretch (hashes table.pairs) (length table.row) hash + 1
   pub within : stretch (hashes table.pairs) (length table.row) hash ≤ length table.pairs

@@ -1,6 +1,6 @@
 //! The cells of a table. One function reads what a cell has, and counts that on the meter that it takes. `copy_cell`
-//! copies a cell, and `clone` all cells, without reading what they have. The script `tests/forms` lists each line that
-//! names the row.
+//! copies a cell, and `clone` all cells, without reading what they have. The script `tests/metered_cells` lists each
+//! line that names the row.
 ghost use Rattle.std.specs.Prelude.{◌≡◌, ℕ, ◌+◌, ◌^◌, ◌<◌, List, [], Option, None, Some, length, slice_set, replicate, IfOk};
 ghost use Rattle.iddqd_store.specs.Table.Cell.{pair_of, hash_of, number_of};
 ghost use Rattle.iddqd_store.specs.Table.Ring.{cell};
@@ -43,12 +43,12 @@ impl Cell {
     }
 
     /// Makes a cell with a pair.
-    fn full(hash: u64, ix: ItemIndex) -> Cell
-        ensures { result ≡ Some (hash, ix) }
+    fn full(hash: u64, slot: ItemIndex) -> Cell
+        ensures { result ≡ Some (hash, slot) }
     {
         Cell {
             hash,
-            number: ix.number(),
+            number: slot.number(),
         }
     }
 
@@ -107,18 +107,18 @@ impl Cells {
     pub fn cell_at(&self, i: usize, meter: &mut Meter) -> Option<(u64, ItemIndex)>
         requires { i < length self.now }
         ensures value { result ≡ cell self.now i }
-        ensures look { meter.new ≡ meter.old + 1 }
+        ensures probe { meter.new ≡ meter.old + 1 }
     {
         meter.tick();
         self.row[i].pair()
     }
 
     /// Writes a pair into cell `i`.
-    pub fn write(&mut self, i: usize, hash: u64, ix: ItemIndex)
+    pub fn write(&mut self, i: usize, hash: u64, slot: ItemIndex)
         requires { i < length self.old }
-        ensures { self.new ≡ slice_set self.old i (Some (hash, ix)) }
+        ensures { self.new ≡ slice_set self.old i (Some (hash, slot)) }
     {
-        self.row[i] = Cell::full(hash, ix);
+        self.row[i] = Cell::full(hash, slot);
     }
 
     /// Copies cell `j` of other cells into cell `i`, whether it has a pair or is empty. This is no probe: the function

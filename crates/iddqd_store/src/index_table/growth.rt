@@ -31,7 +31,7 @@ fn regrown(
     ensures pairs { IfOk result (λ t. IsPermutation (pairs_in cells.now) t.pairs) }
     ensures cells { IfOk result (λ t. length t.row ≡ count) }
     ensures limit { IfOk result (λ t. t.limit ≡ count / 8 * 7) }
-    ensures looks { ProbesAtMost (λ _. 2 * length cells.now + count + pairs * pairs) result meter.old meter.new }
+    ensures probes { ProbesAtMost (λ _. 2 * length cells.now + count + pairs * pairs) result meter.old meter.new }
 {
     let mut grown = Cells::with_len(alloc, count)?;
     let mut spot = count - 1;

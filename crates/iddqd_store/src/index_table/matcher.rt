@@ -20,15 +20,15 @@ pub trait Matcher {
     ghost IsKept: { Self → Self → Type 0 };
 
     /// Returns whether the item in this slot is the one that is sought.
-    fn matches(&mut self, ix: ItemIndex) -> bool
-        requires { MayAsk self.old ix }
-        ensures value { result ≡ accepts self.old ix }
+    fn matches(&mut self, slot: ItemIndex) -> bool
+        requires { MayAsk self.old slot }
+        ensures value { result ≡ accepts self.old slot }
         ensures is_kept { IsKept self.old self.new }
         ensures asked { asked self.new ≤ asked self.old + 1 };
 
-    ghost accepts_kept: { (m n : Self) (ix : ℕ) → IsKept m n → accepts n ix ≡ accepts m ix };
+    ghost accepts_kept: { (m n : Self) (slot : ℕ) → IsKept m n → accepts n slot ≡ accepts m slot };
 
-    ghost may_kept: { (m n : Self) (ix : ℕ) → IsKept m n → MayAsk m ix → MayAsk n ix };
+    ghost may_kept: { (m n : Self) (slot : ℕ) → IsKept m n → MayAsk m slot → MayAsk n slot };
 
     // A matcher that was not called is related to itself, and a relation over one call goes on over the next.
     ghost kept_refl: { (m : Self) → IsKept m m };

@@ -50,7 +50,7 @@ pub(super) fn first_empty_from(cells: &Cells, from: usize, meter: &mut Meter) ->
     requires table { IsTable cells.now }
     requires from { from < length cells.now }
     ensures first { IsFirstEmpty cells.now from result }
-    ensures looks { meter.new ≡ meter.old + gap (length cells.now) from result + 1 }
+    ensures probes { meter.new ≡ meter.old + gap (length cells.now) from result + 1 }
 {
     let count = cells.len();
     let mut at = from;
@@ -66,7 +66,7 @@ pub(super) fn first_empty(cells: &Cells, hash: u64, meter: &mut Meter) -> usize
     requires some { 0 < length cells.now }
     ensures first { IsFirstEmpty cells.now (hash % length cells.now) result }
     ensures small { length cells.now < 2 ^ 64 }
-    ensures looks { meter.new
+    ensures probes { meter.new
         ≡ meter.old + stretch (hashes (pairs_in cells.now)) (length cells.now) hash + 1 }
 {
     first_empty_from(cells, home_of(hash, cells.len()), meter)
@@ -88,13 +88,13 @@ pub(super) fn seek(cells: &Cells, hash: u64, index: ItemIndex, meter: &mut Meter
     requires there { Contains (pairs_in cells.now) (hash, index) }
     ensures pair { cell cells.now result ≡ Some (hash, index) }
     ensures way { IsWayTo cells.now (hash % length cells.now) result }
-    ensures looks { meter.new ≡ meter.old + gap (length cells.now) (hash % length cells.now) result + 1 }
+    ensures probes { meter.new ≡ meter.old + gap (length cells.now) (hash % length cells.now) result + 1 }
 {
     let count = cells.len();
     let mut at = home_of(hash, count);
     while let Some(pair) = cells.cell_at(at, meter) {
-        let (stored, ix) = pair;
-        if ix == index && stored == hash {
+        let (stored, slot) = pair;
+        if slot == index && stored == hash {
             return at;
         }
         at = after(at, count);
@@ -115,7 +115,7 @@ pub(super) fn close_up(cells: &mut Cells, hash: u64, emptied: usize, meter: &mut
     ensures len { length cells.new ≡ length cells.old }
     ensures taken { (pair : ℕ × ℕ) → cell cells.old emptied ≡ Some pair
         → IsPermutation (pairs_in cells.old) (pair ∷ pairs_in cells.new) }
-    ensures looks { meter.new + gap (length cells.old) (hash % length cells.old) emptied
+    ensures probes { meter.new + gap (length cells.old) (hash % length cells.old) emptied
         ≡ meter.old + stretch (hashes (pairs_in cells.old)) (length cells.old) hash }
 {
     let count = cells.len();

@@ -15,19 +15,19 @@ impl IndexTable {
     ///
     /// It leaves no tombstone: each pair after the hole moves into the hole if that is on the way from the pair's
     /// home to the pair (backward-shift deletion).
-    pub fn remove(&mut self, hash: u64, ix: ItemIndex, meter: &mut Meter)
-        requires { Contains self.old.pairs (hash, ix) }
-        ensures taken { IsPermutation self.old.pairs ((hash, ix) ∷ self.new.pairs) }
+    pub fn remove(&mut self, hash: u64, slot: ItemIndex, meter: &mut Meter)
+        requires { Contains self.old.pairs (hash, slot) }
+        ensures taken { IsPermutation self.old.pairs ((hash, slot) ∷ self.new.pairs) }
         ensures cells { length self.new.row ≡ length self.old.row }
         ensures limit { self.new.limit ≡ self.old.limit }
         ensures room { length self.new.pairs < self.new.limit }
-        ensures looks { meter.new
+        ensures probes { meter.new
             ≡ meter.old + stretch (hashes self.old.pairs) (length self.old.row) hash + 1 }
         ensures within { stretch (hashes self.old.pairs) (length self.old.row) hash
             ≤ length self.old.pairs }
     {
-        let at = probe::seek(&self.cells, hash, ix, meter);
-        self.remove_cell(hash, (ix, at), meter);
+        let at = probe::seek(&self.cells, hash, slot, meter);
+        self.remove_cell(hash, (slot, at), meter);
     }
 
     /// Removes the pair that `find` finds, and returns its index. It allocates nothing. It probes the cells from the home
@@ -39,10 +39,10 @@ impl IndexTable {
         matcher: &mut M,
         meter: &mut Meter,
     ) -> Option<ItemIndex>
-        requires { (ix : ℕ) → Contains self.old.pairs (hash, ix) → M.MayAsk matcher.old ix }
+        requires { (slot : ℕ) → Contains self.old.pairs (hash, slot) → M.MayAsk matcher.old slot }
         // What it returns, and which pairs are left.
         ensures found { FindsUnder self.old hash (M.accepts matcher.old) result }
-        ensures taken { IfSome result (λ ix. IsPermutation self.old.pairs ((hash, ix) ∷ self.new.pairs)) }
+        ensures taken { IfSome result (λ slot. IsPermutation self.old.pairs ((hash, slot) ∷ self.new.pairs)) }
         ensures absent { IfNone result (self.new ≡ self.old) }
         ensures limit { self.new.limit ≡ self.old.limit }
         // What it costs.
@@ -50,9 +50,9 @@ impl IndexTable {
         ensures costs { RemovalCosts self.old hash (M.asked matcher.old) (M.asked matcher.new) meter.old meter.new }
         ensures sized { IsSized self.old }
     {
-        let (ix, at) = self.find_cell(hash, matcher, meter).ok()?;
-        self.remove_cell(hash, (ix, at), meter);
-        Some(ix)
+        let (slot, at) = self.find_cell(hash, matcher, meter).ok()?;
+        self.remove_cell(hash, (slot, at), meter);
+        Some(slot)
     }
 
     // Removes the pair that a search found in a cell. It probes the cells after that one, up to the first empty one.
@@ -62,7 +62,7 @@ impl IndexTable {
         ensures cells { length self.new.row ≡ length self.old.row }
         ensures limit { self.new.limit ≡ self.old.limit }
         ensures room { length self.new.pairs < self.new.limit }
-        ensures looks { meter.new + gap (length self.old.row) (hash % length self.old.row) found.1
+        ensures probes { meter.new + gap (length self.old.row) (hash % length self.old.row) found.1
             ≡ meter.old + stretch (hashes self.old.pairs) (length self.old.row) hash }
     {
         probe::close_up(&mut self.cells, hash, found.1, meter);

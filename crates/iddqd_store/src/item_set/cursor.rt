@@ -45,9 +45,9 @@ impl Cursor {
     }
 
     /// Moves on to the place after the item in a slot.
-    pub fn pass(&mut self, ix: ItemIndex)
-        ensures { self.new ≡ ix + 1 }
+    pub fn pass(&mut self, slot: ItemIndex)
+        ensures { self.new ≡ slot + 1 }
     {
-        self.next = ix.number() + 1;
+        self.next = slot.number() + 1;
     }
 }

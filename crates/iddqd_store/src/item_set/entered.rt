@@ -50,11 +50,11 @@ impl<T> Entered<T> {
     }
 
     /// Appends the slot of an item that was inserted.
-    pub fn push(&mut self, ix: ItemIndex)
+    pub fn push(&mut self, slot: ItemIndex)
         requires { length self.old.slots < self.old.room }
-        ensures { self.new.slots ≡ self.old.slots ++ ix ∷ [] }
+        ensures { self.new.slots ≡ self.old.slots ++ slot ∷ [] }
     {
-        self.slots.push_reserved(ix);
+        self.slots.push_reserved(slot);
     }
 
     /// Returns the slots, and an empty list with the capacity for their items.
@@ -113,8 +113,8 @@ impl<T> ItemSet<T> {
         ensures capacity { self.new.capacity ≡ self.old.capacity }
     {
         let (slots, mut items) = entered.into_parts();
-        for at in 0..slots.len() {
-            match self.remove(slots[at]) {
+        for index in 0..slots.len() {
+            match self.remove(slots[index]) {
                 Some(item) => items.push_reserved(item),
                 None => unreachable!(),
             }

@@ -67,8 +67,8 @@ impl<'a, T, R: KeyOf<T>, S: BuildHasher> Lookup<'a, T, R, S> {
     pub fn get<Q: Query<R::Key>>(&self, query: Q) -> Option<&'a T>
         ensures { IsOnly (λ x. Q.stands_for query (R.key x)) (bag self.now) (option_copied result) }
     {
-        let ix = self.slot_of(query)?;
-        self.items.get(ix)
+        let slot = self.slot_of(query)?;
+        self.items.get(slot)
     }
 
     /// Returns the slot of the item whose key the query stands for, or `None`.
@@ -104,7 +104,7 @@ impl<'a, T, R: KeyOf<T>, S: BuildHasher> Lookup<'a, T, R, S> {
             self.now.capacity hash result (M.asked matcher.old) (M.asked matcher.new) meter.old meter.new }
     {
         match self.search_with(hash, matcher, meter) {
-            Ok(ix) => self.items.get(ix),
+            Ok(slot) => self.items.get(slot),
             Err(_) => None,
         }
     }
@@ -115,8 +115,8 @@ impl<'a, T, R: KeyOf<T>, S: BuildHasher> Lookup<'a, T, R, S> {
         ensures found { IsOnly (λ x. Q.stands_for query (R.key x)) (bag self.now)
             (option_and_then (get self.now.slots) result) }
         ensures live { IfSome result (IsLive self.now.slots) }
-        ensures hashed { IfSome result (λ ix. HasHash
-            (⟦<R as HashedKey<T, S>>⟧.hash self.now.builder) self.now.slots ix hash) }
+        ensures hashed { IfSome result (λ slot. HasHash
+            (⟦<R as HashedKey<T, S>>⟧.hash self.now.builder) self.now.slots slot hash) }
     {
         self.search(hash, query).ok()
     }
@@ -127,8 +127,8 @@ impl<'a, T, R: KeyOf<T>, S: BuildHasher> Lookup<'a, T, R, S> {
     pub fn search<Q: Query<R::Key>>(&self, hash: u64, query: Q) -> Result<ItemIndex, Vacancy>
         requires { hash ≡ hash_of S.BuildHasher S.Hasher.Hasher self.now.builder (Q.hash_input query) }
         ensures found { FoundAt (λ x. Q.stands_for query (R.key x)) self.now.slots (result_ok result) }
-        ensures hashed { IfOk result (λ ix. HasHash
-            (⟦<R as HashedKey<T, S>>⟧.hash self.now.builder) self.now.slots ix hash) }
+        ensures hashed { IfOk result (λ slot. HasHash
+            (⟦<R as HashedKey<T, S>>⟧.hash self.now.builder) self.now.slots slot hash) }
         ensures vacant { IfErr result (IsVacantFor
             (⟦<R as HashedKey<T, S>>⟧.hash self.now.builder) (bag self.now) hash) }
         ensures cells { IfErr result (λ at. at.cells / 8 * 7 ≡ self.now.capacity) }
@@ -152,8 +152,8 @@ impl<'a, T, R: KeyOf<T>, S: BuildHasher> Lookup<'a, T, R, S> {
         ensures found { IsOnly (λ x. M.accepts matcher.old (R.key x)) (bag self.now)
             (option_and_then (get self.now.slots) (result_ok result)) }
         ensures live { IfOk result (IsLive self.now.slots) }
-        ensures hashed { IfOk result (λ ix. HasHash
-            (⟦<R as HashedKey<T, S>>⟧.hash self.now.builder) self.now.slots ix hash) }
+        ensures hashed { IfOk result (λ slot. HasHash
+            (⟦<R as HashedKey<T, S>>⟧.hash self.now.builder) self.now.slots slot hash) }
         ensures vacant { IfErr result (IsVacantFor
             (⟦<R as HashedKey<T, S>>⟧.hash self.now.builder) (bag self.now) hash) }
         ensures cells { IfErr result (λ at. at.cells / 8 * 7 ≡ self.now.capacity) }

@@ -21,27 +21,27 @@ pub(crate) struct ByKey<'a, T, R: KeyOf<T>, M: KeyMatcher<R::Key>> {
 }
 
 impl<'a, T, R: KeyOf<T>, M: KeyMatcher<R::Key>> Matcher for ByKey<'a, T, R, M> {
-    ghost accepts = { λ m ix. passes_at (λ x. M.accepts m.keys.now (R.key x)) m.items.now.slots ix };
+    ghost accepts = { λ m slot. passes_at (λ x. M.accepts m.keys.now (R.key x)) m.items.now.slots slot };
 
     ghost asked = { λ m. M.asked m.keys.now };
 
-    ghost MayAsk = { λ m ix. (x : T) → get m.items.now.slots ix ≡ Some x → M.MayAsk m.keys.now (R.key x) };
+    ghost MayAsk = { λ m slot. (x : T) → get m.items.now.slots slot ≡ Some x → M.MayAsk m.keys.now (R.key x) };
 
     ghost IsKept = { λ m n. (n.items ≡ m.items) × (n.keys.ghost_name ≡ m.keys.ghost_name)
         × M.IsKept m.keys.now n.keys.now };
 
-    ghost accepts_kept = { λ m n ix k. passes_kept _ _
-        (λ x. M.accepts_kept m.keys.now n.keys.now (R.key x) k.2) _ _ ix (ap (λ i. i.now.slots) k.0) };
+    ghost accepts_kept = { λ m n slot k. passes_kept _ _
+        (λ x. M.accepts_kept m.keys.now n.keys.now (R.key x) k.2) _ _ slot (ap (λ i. i.now.slots) k.0) };
 
-    ghost may_kept = { λ m n ix k may x here. M.may_kept m.keys.now n.keys.now (R.key x) k.2
-        (may x (ap (λ i. get i.now.slots ix) (sym k.0) ∙ here)) };
+    ghost may_kept = { λ m n slot k may x here. M.may_kept m.keys.now n.keys.now (R.key x) k.2
+        (may x (ap (λ i. get i.now.slots slot) (sym k.0) ∙ here)) };
 
     ghost kept_refl = { λ m. (refl, refl, M.kept_refl m.keys.now) };
 
     ghost kept_trans = { λ m n o p q. (q.0 ∙ p.0, q.1 ∙ p.1, M.kept_trans m.keys.now n.keys.now o.keys.now p.2 q.2) };
 
-    fn matches(&mut self, ix: ItemIndex) -> bool {
-        match self.items.get(ix) {
+    fn matches(&mut self, slot: ItemIndex) -> bool {
+        match self.items.get(slot) {
             Some(item) => self.keys.matches(R::key(item)),
             None => false,
         }

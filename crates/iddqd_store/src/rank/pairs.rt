@@ -24,11 +24,11 @@ impl<T> ItemSet<T> {
         ensures limit { table.new.limit ≡ table.old.limit }
     {
         let mut meter = Meter::new();
-        for at in 0..self.slot_count() {
-            let ix = ItemIndex::new(at);
-            if let Some(item) = self.get(ix) {
+        for index in 0..self.slot_count() {
+            let slot = ItemIndex::new(index);
+            if let Some(item) = self.get(slot) {
                 let hash = hash_builder.hash_one(R::key(item));
-                table.insert_reserved(hash, ix, &mut meter);
+                table.insert_reserved(hash, slot, &mut meter);
             }
         }
     }
@@ -56,23 +56,23 @@ impl IndexTable {
         &mut self,
         hash_builder: &S,
         item: &T,
-        ix: ItemIndex,
+        slot: ItemIndex,
         known: Option<u64>,
         meter: &mut Meter,
     )
         requires known { IfSome known (λ hash. ⟦<R as HashedKey<T, S>>⟧.hash hash_builder.now item.now ≡ hash) }
-        requires paired { Contains self.old.pairs (⟦<R as HashedKey<T, S>>⟧.hash hash_builder.now item.now, ix) }
+        requires paired { Contains self.old.pairs (⟦<R as HashedKey<T, S>>⟧.hash hash_builder.now item.now, slot) }
         ensures taken { IsPermutation self.old.pairs
-            ((⟦<R as HashedKey<T, S>>⟧.hash hash_builder.now item.now, ix)
+            ((⟦<R as HashedKey<T, S>>⟧.hash hash_builder.now item.now, slot)
             ∷ self.new.pairs) }
         ensures limit { self.new.limit ≡ self.old.limit }
         ensures room { length self.new.pairs < self.new.limit }
-        ensures looks { meter.new ≡ meter.old + stretch (hashes self.old.pairs) (length self.old.row)
+        ensures probes { meter.new ≡ meter.old + stretch (hashes self.old.pairs) (length self.old.row)
             (⟦<R as HashedKey<T, S>>⟧.hash hash_builder.now item.now) + 1 }
         ensures within { meter.new ≤ meter.old + length self.old.pairs + 1 }
     {
         let hash = hash_of_key::<T, R, S>(hash_builder, item, known);
-        self.remove(hash, ix, meter);
+        self.remove(hash, slot, meter);
     }
 
     /// Replaces the pair of the item that was in this slot by a pair of the same slot and the hash of a search. It hashes the
@@ -94,25 +94,25 @@ impl IndexTable {
         ensures costs { meter.new ≤ meter.old
             + walks_one (⟦<R as HashedKey<T, S>>⟧.hash hash_builder.now) by.now gone.entry.1.now * (length self.old.pairs + 1) }
     {
-        let (ix, gone) = gone;
-        let before = hash_of_key::<T, R, S>(hash_builder, gone, by.hash_at(ix));
+        let (slot, gone) = gone;
+        let before = hash_of_key::<T, R, S>(hash_builder, gone, by.hash_at(slot));
         let hash = by.hash();
         if before == hash {
             return;
         }
-        self.move_pair(before, hash, ix, meter);
+        self.move_pair(before, hash, slot, meter);
     }
 
     // Replaces the pair of this slot and this hash by a pair of the same slot and another hash.
     #[inline(never)]
-    fn move_pair(&mut self, before: u64, hash: u64, ix: ItemIndex, meter: &mut Meter)
-        requires { Contains self.old.pairs (before, ix) }
-        ensures moved { ReplacesPair self.old.pairs self.new.pairs (before, ix) (hash, ix) }
+    fn move_pair(&mut self, before: u64, hash: u64, slot: ItemIndex, meter: &mut Meter)
+        requires { Contains self.old.pairs (before, slot) }
+        ensures moved { ReplacesPair self.old.pairs self.new.pairs (before, slot) (hash, slot) }
         ensures limit { self.new.limit ≡ self.old.limit }
         ensures costs { meter.new ≤ meter.old + 2 * (length self.old.pairs + 1) }
     {
-        self.remove(before, ix, meter);
-        self.insert_reserved(hash, ix, meter);
+        self.remove(before, slot, meter);
+        self.insert_reserved(hash, slot, meter);
     }
 
     /// Replaces the pairs of two items that were in these slots by one pair: that of an item which takes the slot of the
@@ -138,16 +138,16 @@ impl IndexTable {
         ensures costs { meter.new ≤ meter.old
             + walks_two (⟦<R as HashedKey<T, S>>⟧.hash hash_builder.now) by.now other.entry.0 gone.entry.1.now * (length self.old.pairs + 1) }
     {
-        let (ix, gone) = gone;
-        let (at, other) = other;
-        match by.hash_at(at) {
+        let (slot, gone) = gone;
+        let (other_slot, other) = other;
+        match by.hash_at(other_slot) {
             Some(hash) => {
-                self.forget::<T, R, S>(hash_builder, gone, ix, None, meter);
-                self.renumber(hash, at, ix, meter);
+                self.forget::<T, R, S>(hash_builder, gone, slot, None, meter);
+                self.renumber(hash, other_slot, slot, meter);
             }
             None => {
-                self.forget::<T, R, S>(hash_builder, other, at, None, meter);
-                self.rehash::<T, R, S>(hash_builder, (ix, gone), by, meter);
+                self.forget::<T, R, S>(hash_builder, other, other_slot, None, meter);
+                self.rehash::<T, R, S>(hash_builder, (slot, gone), by, meter);
             }
         }
     }
@@ -177,17 +177,17 @@ impl IndexTable {
             + walks_three (⟦<R as HashedKey<T, S>>⟧.hash hash_builder.now) by.now other.entry.0 last.entry.0 gone.entry.1.now
             * (length self.old.pairs + 1) }
     {
-        let (ix, gone) = gone;
+        let (slot, gone) = gone;
         let (second, other) = other;
         let (third, last) = last;
         match by.hash_at(third) {
             Some(_) => {
                 self.forget::<T, R, S>(hash_builder, other, second, None, meter);
-                self.replace_two::<T, R, S>(hash_builder, (ix, gone), (third, last), by, meter);
+                self.replace_two::<T, R, S>(hash_builder, (slot, gone), (third, last), by, meter);
             }
             None => {
                 self.forget::<T, R, S>(hash_builder, last, third, None, meter);
-                self.replace_two::<T, R, S>(hash_builder, (ix, gone), (second, other), by, meter);
+                self.replace_two::<T, R, S>(hash_builder, (slot, gone), (second, other), by, meter);
             }
         }
     }

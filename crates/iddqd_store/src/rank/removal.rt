@@ -56,11 +56,11 @@ impl IndexTable {
         matcher: &mut M,
         meter: &mut Meter,
     ) -> Option<ItemIndex>
-        requires { (ix : ℕ) → Contains self.old.pairs (hash, ix) → (x : T) → get items.now.slots ix ≡ Some x
+        requires { (slot : ℕ) → Contains self.old.pairs (hash, slot) → (x : T) → get items.now.slots slot ≡ Some x
             → M.MayAsk matcher.old (R.key x) }
         ensures found { FindsUnder self.old hash
             (passes_at (λ x. M.accepts matcher.old (R.key x)) items.now.slots) result }
-        ensures taken { IfSome result (λ ix. IsPermutation self.old.pairs ((hash, ix) ∷ self.new.pairs)) }
+        ensures taken { IfSome result (λ slot. IsPermutation self.old.pairs ((hash, slot) ∷ self.new.pairs)) }
         ensures absent { IfNone result (self.new ≡ self.old) }
         ensures limit { self.new.limit ≡ self.old.limit }
         ensures is_kept { M.IsKept matcher.old matcher.new }

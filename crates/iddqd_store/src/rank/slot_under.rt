@@ -43,12 +43,12 @@ impl SlotUnder {
     }
 
     /// Returns the hash of the key in this slot if the search found the slot, otherwise `None`.
-    pub fn hash_at(&self, ix: ItemIndex) -> Option<u64>
-        ensures known { self.now.slot ≡ Some ix → result ≡ Some self.now.hash }
-        ensures under { IfSome result (λ hash. (self.now.slot ≡ Some ix) × (hash ≡ self.now.hash)) }
+    pub fn hash_at(&self, slot: ItemIndex) -> Option<u64>
+        ensures known { self.now.slot ≡ Some slot → result ≡ Some self.now.hash }
+        ensures under { IfSome result (λ hash. (self.now.slot ≡ Some slot) × (hash ≡ self.now.hash)) }
     {
         match self.slot {
-            Some(at) => { if at == ix { Some(self.hash) } else { None } }
+            Some(found) => { if found == slot { Some(self.hash) } else { None } }
             None => None,
         }
     }

@@ -61,10 +61,10 @@ impl<T> UpToThree<T> {
     }
 
     /// Returns the item at this place, counted from 0, or `None` if there are fewer items.
-    pub fn get(&self, at: usize) -> Option<&T>
-        ensures { option_copied result ≡ slice_get self.now at }
+    pub fn get(&self, index: usize) -> Option<&T>
+        ensures { option_copied result ≡ slice_get self.now index }
     {
-        match at {
+        match index {
             0 => self.first.as_ref(),
             1 => self.second.as_ref(),
             2 => self.third.as_ref(),
@@ -181,15 +181,15 @@ impl UpToThree<ItemIndex> {
     ghost use Rattle.iddqd_store.specs.Slots.Found.{contains, with_found};
 
     /// Returns whether the list has this slot.
-    pub fn contains(&self, ix: ItemIndex) -> bool
-        ensures { result ≡ contains self.now ix }
+    pub fn contains(&self, slot: ItemIndex) -> bool
+        ensures { result ≡ contains self.now slot }
     {
         match (&self.first, &self.second, &self.third) {
             (None, _, _) => false,
-            (Some(first), None, _) => ix == *first,
-            (Some(first), Some(second), None) => ix == *first || ix == *second,
+            (Some(first), None, _) => slot == *first,
+            (Some(first), Some(second), None) => slot == *first || slot == *second,
             (Some(first), Some(second), Some(third)) => {
-                ix == *first || ix == *second || ix == *third
+                slot == *first || slot == *second || slot == *third
             }
         }
     }
@@ -199,9 +199,9 @@ impl UpToThree<ItemIndex> {
         requires { length self.old < 3 }
         ensures { self.new ≡ with_found self.old found }
     {
-        if let Some(ix) = found {
-            if !self.contains(ix) {
-                self.push(ix);
+        if let Some(slot) = found {
+            if !self.contains(slot) {
+                self.push(slot);
             }
         }
     }

@@ -58,10 +58,10 @@ impl<T> UpToTwo<T> {
     }
 
     /// Returns the item at this place, counted from 0, or `None` if there are fewer items.
-    pub fn get(&self, at: usize) -> Option<&T>
-        ensures { option_copied result ≡ slice_get self.now at }
+    pub fn get(&self, index: usize) -> Option<&T>
+        ensures { option_copied result ≡ slice_get self.now index }
     {
-        match at {
+        match index {
             0 => self.first.as_ref(),
             1 => self.second.as_ref(),
             _ => None,
@@ -173,13 +173,13 @@ impl UpToTwo<ItemIndex> {
     ghost use Rattle.iddqd_store.specs.Slots.Found.{contains, with_found};
 
     /// Returns whether the list has this slot.
-    pub fn contains(&self, ix: ItemIndex) -> bool
-        ensures { result ≡ contains self.now ix }
+    pub fn contains(&self, slot: ItemIndex) -> bool
+        ensures { result ≡ contains self.now slot }
     {
         match (&self.first, &self.second) {
             (None, _) => false,
-            (Some(first), None) => ix == *first,
-            (Some(first), Some(second)) => ix == *first || ix == *second,
+            (Some(first), None) => slot == *first,
+            (Some(first), Some(second)) => slot == *first || slot == *second,
         }
     }
 
@@ -188,9 +188,9 @@ impl UpToTwo<ItemIndex> {
         requires { length self.old < 2 }
         ensures { self.new ≡ with_found self.old found }
     {
-        if let Some(ix) = found {
-            if !self.contains(ix) {
-                self.push(ix);
+        if let Some(slot) = found {
+            if !self.contains(slot) {
+                self.push(slot);
             }
         }
     }

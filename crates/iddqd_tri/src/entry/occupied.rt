@@ -159,10 +159,10 @@ impl<'a, T: TriHashItem, S: BuildHasher> OccupiedEntry<'a, T, S> {
         let by1 = SlotUnder::new(self.slot1, self.map.hash_of1(&item));
         let by2 = SlotUnder::new(self.slot2, self.map.hash_of2(&item));
         let by3 = SlotUnder::new(self.slot3, self.map.hash_of3(&item));
-        let (displaced, ix) = self.map.put_over(item, &(by1, by2, by3), &mut Meter::new());
-        self.slot1 = Some(ix);
-        self.slot2 = Some(ix);
-        self.slot3 = Some(ix);
+        let (displaced, slot) = self.map.put_over(item, &(by1, by2, by3), &mut Meter::new());
+        self.slot1 = Some(slot);
+        self.slot2 = Some(slot);
+        self.slot3 = Some(slot);
         Ok(displaced)
     }
 

@@ -94,9 +94,9 @@ impl<T: Ranked, S: BuildHasher> TriHashMap<T, S> {
         ensures builder { self.new.builder ≡ self.old.builder }
     {
         let mut from = 0;
-        while let Some(ix) = self.slot_from(from) {
-            from = ix.number() + 1;
-            drop(self.take(ix, None, None, None, &mut Meter::new()));
+        while let Some(slot) = self.slot_from(from) {
+            from = slot.number() + 1;
+            drop(self.take(slot, None, None, None, &mut Meter::new()));
         }
     }
 }

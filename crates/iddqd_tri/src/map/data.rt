@@ -31,7 +31,7 @@ impl<T: TriHashItemMut, S: BuildHasher> TriHashMap<T, S> {
             ⟦<T as Ranked>⟧.ranks (has1 T.TriHashItem Q.stands_for query) self.entry result) }
     {
         match self.by_key1().slot_of(query) {
-            Some(ix) => Some(self.data_mut_at(ix)),
+            Some(slot) => Some(self.data_mut_at(slot)),
             None => None,
         }
     }
@@ -55,7 +55,7 @@ impl<T: TriHashItemMut, S: BuildHasher> TriHashMap<T, S> {
             ⟦<T as Ranked>⟧.ranks (has2 T.TriHashItem Q.stands_for query) self.entry result) }
     {
         match self.by_key2().slot_of(query) {
-            Some(ix) => Some(self.data_mut_at(ix)),
+            Some(slot) => Some(self.data_mut_at(slot)),
             None => None,
         }
     }
@@ -79,7 +79,7 @@ impl<T: TriHashItemMut, S: BuildHasher> TriHashMap<T, S> {
             ⟦<T as Ranked>⟧.ranks (has3 T.TriHashItem Q.stands_for query) self.entry result) }
     {
         match self.by_key3().slot_of(query) {
-            Some(ix) => Some(self.data_mut_at(ix)),
+            Some(slot) => Some(self.data_mut_at(slot)),
             None => None,
         }
     }
@@ -108,7 +108,7 @@ impl<T: TriHashItemMut, S: BuildHasher> TriHashMap<T, S> {
             self.entry result) }
     {
         match self.slot_of_all(query1, query2, query3) {
-            Some(ix) => Some(self.data_mut_at(ix)),
+            Some(slot) => Some(self.data_mut_at(slot)),
             None => None,
         }
     }

@@ -30,16 +30,16 @@ impl<T: TriHashItem, S: BuildHasher> TriHashMap<T, S> {
     ///     // The lease has left the map.
     /// }
     /// ```
-    pub fn extract_from<F: FnMut(&T) -> bool>(&mut self, at: &mut Cursor, mut f: F) -> Option<T>
-        requires { TakesInTurn F.FnMut f (to_come self.old at.old) }
-        ensures extracts { Extracts (CalledAt F.FnMut) f self.old at.old result self.new at.new }
+    pub fn extract_from<F: FnMut(&T) -> bool>(&mut self, cursor: &mut Cursor, mut f: F) -> Option<T>
+        requires { TakesInTurn F.FnMut f (to_come self.old cursor.old) }
+        ensures extracts { Extracts (CalledAt F.FnMut) f self.old cursor.old result self.new cursor.new }
         ensures loses { Loses self.old (option_to_list result) self.new }
         ensures absent { IfNone result (self.new ≡ self.old) }
     {
-        while let Some(ix) = self.slot_from(at.next()) {
-            at.pass(ix);
-            if f(self.item_at(ix)) {
-                return Some(self.take(ix, None, None, None, &mut Meter::new()));
+        while let Some(slot) = self.slot_from(cursor.next()) {
+            cursor.pass(slot);
+            if f(self.item_at(slot)) {
+                return Some(self.take(slot, None, None, None, &mut Meter::new()));
             }
         }
         None

@@ -31,10 +31,10 @@ impl<T: Ranked, S: BuildHasher> TriHashMap<T, S> {
         ensures reason { IfErr result (λ e. TellsWhyNot T.ranks
             (has1 T.TriHashItem Q.stands_for query) (bag self.old) item e) }
     {
-        let Some(ix) = self.by_key1().slot_of(query) else {
+        let Some(slot) = self.by_key1().slot_of(query) else {
             return Err(NotReplaced::Absent(item));
         };
-        match self.rekey_at(ix, item, &mut Meter::new()) {
+        match self.rekey_at(slot, item, &mut Meter::new()) {
             Ok(old) => Ok(old),
             Err(new_item) => Err(NotReplaced::Conflict(new_item)),
         }
@@ -59,10 +59,10 @@ impl<T: Ranked, S: BuildHasher> TriHashMap<T, S> {
         ensures reason { IfErr result (λ e. TellsWhyNot T.ranks
             (has2 T.TriHashItem Q.stands_for query) (bag self.old) item e) }
     {
-        let Some(ix) = self.by_key2().slot_of(query) else {
+        let Some(slot) = self.by_key2().slot_of(query) else {
             return Err(NotReplaced::Absent(item));
         };
-        match self.rekey_at(ix, item, &mut Meter::new()) {
+        match self.rekey_at(slot, item, &mut Meter::new()) {
             Ok(old) => Ok(old),
             Err(new_item) => Err(NotReplaced::Conflict(new_item)),
         }
@@ -87,10 +87,10 @@ impl<T: Ranked, S: BuildHasher> TriHashMap<T, S> {
         ensures reason { IfErr result (λ e. TellsWhyNot T.ranks
             (has3 T.TriHashItem Q.stands_for query) (bag self.old) item e) }
     {
-        let Some(ix) = self.by_key3().slot_of(query) else {
+        let Some(slot) = self.by_key3().slot_of(query) else {
             return Err(NotReplaced::Absent(item));
         };
-        match self.rekey_at(ix, item, &mut Meter::new()) {
+        match self.rekey_at(slot, item, &mut Meter::new()) {
             Ok(old) => Ok(old),
             Err(new_item) => Err(NotReplaced::Conflict(new_item)),
         }

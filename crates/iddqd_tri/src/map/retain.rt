@@ -27,10 +27,10 @@ impl<T: TriHashItem, S: BuildHasher> TriHashMap<T, S> {
         ensures builder { self.new.builder ≡ self.old.builder }
     {
         let mut from = 0;
-        while let Some(ix) = self.slot_from(from) {
-            from = ix.number() + 1;
-            if !f(self.item_at(ix)) {
-                drop(self.take(ix, None, None, None, &mut Meter::new()));
+        while let Some(slot) = self.slot_from(from) {
+            from = slot.number() + 1;
+            if !f(self.item_at(slot)) {
+                drop(self.take(slot, None, None, None, &mut Meter::new()));
             }
         }
     }

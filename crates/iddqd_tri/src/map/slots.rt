@@ -190,11 +190,11 @@ impl<T: TriHashItem, S: BuildHasher> TriHashMap<T, S> {
             (λ _. 1) ⟦<T as Ranked>⟧.ranks) }
     {
         let (at1, at2, at3) = at;
-        let ix = self.items.insert_reserved(item);
-        self.first.insert_at(at1, ix, meter);
-        self.second.insert_at(at2, ix, meter);
-        self.third.insert_at(at3, ix, meter);
-        ix
+        let slot = self.items.insert_reserved(item);
+        self.first.insert_at(at1, slot, meter);
+        self.second.insert_at(at2, slot, meter);
+        self.third.insert_at(at3, slot, meter);
+        slot
     }
 
     /// Inserts an item that has these keys, which no item of the map has, and returns its slot. The error names the
@@ -216,7 +216,7 @@ impl<T: TriHashItem, S: BuildHasher> TriHashMap<T, S> {
             (hash_of S.BuildHasher S.Hasher.Hasher self.old.builder (T.K2.hash_input key2.now))
             (hash_of S.BuildHasher S.Hasher.Hasher self.old.builder (T.K3.hash_input key3.now)) at }
         ensures gains { OnOk result (Gains self.old item self.new) }
-        ensures at { IfOk result (λ ix. get self.new.slots ix ≡ Some item) }
+        ensures at { IfOk result (λ slot. get self.new.slots slot ≡ Some item) }
         ensures sound { OnOk result (IsSound ⟦<T as Ranked>⟧.ranks (bag self.new)) }
         ensures same_keys { OnOk result (differ (⟦<T as Ranked>⟧.key_tests key1.now key2.now key3.now) item ≡ None) }
         ensures hands_back { IfErr result (HandsBack ⟦<T as Ranked>⟧.ranks
@@ -235,31 +235,31 @@ impl<T: TriHashItem, S: BuildHasher> TriHashMap<T, S> {
     /// Removes the item of a slot, by one walk through each table. It hashes a key of it only if its hash is not given.
     pub(crate) fn take(
         &mut self,
-        ix: ItemIndex,
+        slot: ItemIndex,
         hash1: Option<u64>,
         hash2: Option<u64>,
         hash3: Option<u64>,
         meter: &mut Meter,
     ) -> T
-        requires live { IsLive self.old.slots ix }
-        requires hash1 { IfSome hash1 (HasHash (⟦<T as Hashed<S>>⟧.hash1 self.old.builder) self.old.slots ix) }
-        requires hash2 { IfSome hash2 (HasHash (⟦<T as Hashed<S>>⟧.hash2 self.old.builder) self.old.slots ix) }
-        requires hash3 { IfSome hash3 (HasHash (⟦<T as Hashed<S>>⟧.hash3 self.old.builder) self.old.slots ix) }
-        ensures value { get self.old.slots ix ≡ Some result }
-        ensures slots { self.new.slots ≡ slice_set self.old.slots ix None }
+        requires live { IsLive self.old.slots slot }
+        requires hash1 { IfSome hash1 (HasHash (⟦<T as Hashed<S>>⟧.hash1 self.old.builder) self.old.slots slot) }
+        requires hash2 { IfSome hash2 (HasHash (⟦<T as Hashed<S>>⟧.hash2 self.old.builder) self.old.slots slot) }
+        requires hash3 { IfSome hash3 (HasHash (⟦<T as Hashed<S>>⟧.hash3 self.old.builder) self.old.slots slot) }
+        ensures value { get self.old.slots slot ≡ Some result }
+        ensures slots { self.new.slots ≡ slice_set self.old.slots slot None }
         ensures loses { Loses self.old (result ∷ []) self.new }
-        ensures updates { Updates self.old.slots self.new.slots ix None }
+        ensures updates { Updates self.old.slots self.new.slots slot None }
         ensures costs { meter.new ≤ meter.old + walks_within (length (bag self.old)) (map
             (λ _. 1) ⟦<T as Ranked>⟧.ranks) }
     {
-        match self.items.remove(ix) {
+        match self.items.remove(slot) {
             Some(item) => {
                 self.first
-                    .forget::<T, First, S>(&self.hash_builder, &item, ix, hash1, meter);
+                    .forget::<T, First, S>(&self.hash_builder, &item, slot, hash1, meter);
                 self.second
-                    .forget::<T, Second, S>(&self.hash_builder, &item, ix, hash2, meter);
+                    .forget::<T, Second, S>(&self.hash_builder, &item, slot, hash2, meter);
                 self.third
-                    .forget::<T, Third, S>(&self.hash_builder, &item, ix, hash3, meter);
+                    .forget::<T, Third, S>(&self.hash_builder, &item, slot, hash3, meter);
                 item
             }
             None => unreachable!(),
@@ -272,13 +272,14 @@ impl<T: TriHashItem, S: BuildHasher> TriHashMap<T, S> {
         requires apart { IsDistinct nat_eq found.now }
         ensures values { result ≡ items_at self.old.slots found.now }
         ensures loses { Loses self.old result self.new }
-        ensures others { (at : ℕ) → IsDistinct nat_eq (at ∷ found.now) → get self.new.slots at ≡ get self.old.slots at }
-        ensures left { (at : ℕ) (x : T) → get self.new.slots at ≡ Some x → get self.old.slots at ≡ Some x }
+        ensures others { (slot : ℕ) → IsDistinct nat_eq (slot ∷ found.now) → get self.new.slots slot
+            ≡ get self.old.slots slot }
+        ensures left { (slot : ℕ) (x : T) → get self.new.slots slot ≡ Some x → get self.old.slots slot ≡ Some x }
     {
         let mut taken = UpToThree::new();
-        for at in 0..found.len() {
-            if let Some(ix) = found.get(at) {
-                taken.push(self.take(*ix, None, None, None, &mut Meter::new()));
+        for index in 0..found.len() {
+            if let Some(slot) = found.get(index) {
+                taken.push(self.take(*slot, None, None, None, &mut Meter::new()));
             }
         }
         taken

@@ -34,8 +34,8 @@ impl<T: TriHashItemMut, S: BuildHasher> TriHashMap<T, S> {
         ensures builder { self.new.builder ≡ self.old.builder }
     {
         match self.by_key1().slot_of(query) {
-            Some(ix) => {
-                self.store_once(ix, f);
+            Some(slot) => {
+                self.store_once(slot, f);
                 true
             }
             None => false,
@@ -62,8 +62,8 @@ impl<T: TriHashItemMut, S: BuildHasher> TriHashMap<T, S> {
         ensures builder { self.new.builder ≡ self.old.builder }
     {
         match self.by_key2().slot_of(query) {
-            Some(ix) => {
-                self.store_once(ix, f);
+            Some(slot) => {
+                self.store_once(slot, f);
                 true
             }
             None => false,
@@ -90,8 +90,8 @@ impl<T: TriHashItemMut, S: BuildHasher> TriHashMap<T, S> {
         ensures builder { self.new.builder ≡ self.old.builder }
     {
         match self.by_key3().slot_of(query) {
-            Some(ix) => {
-                self.store_once(ix, f);
+            Some(slot) => {
+                self.store_once(slot, f);
                 true
             }
             None => false,
@@ -125,8 +125,8 @@ impl<T: TriHashItemMut, S: BuildHasher> TriHashMap<T, S> {
         ensures builder { self.new.builder ≡ self.old.builder }
     {
         match self.slot_of_all(query1, query2, query3) {
-            Some(ix) => {
-                self.store_once(ix, f);
+            Some(slot) => {
+                self.store_once(slot, f);
                 true
             }
             None => false,
@@ -147,9 +147,9 @@ impl<T: TriHashItemMut, S: BuildHasher> TriHashMap<T, S> {
         ensures builder { self.new.builder ≡ self.old.builder }
     {
         let mut from = 0;
-        while let Some(ix) = self.slot_from(from) {
-            from = ix.number() + 1;
-            self.store_at(ix, &mut f);
+        while let Some(slot) = self.slot_from(from) {
+            from = slot.number() + 1;
+            self.store_at(slot, &mut f);
         }
     }
 }

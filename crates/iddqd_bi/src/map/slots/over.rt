@@ -41,32 +41,32 @@ impl<T: BiHashItem, S: BuildHasher> BiHashMap<T, S> {
             (map (λ _. length result.0 + 1) ⟦<T as Ranked>⟧.ranks) }
     {
         let mut found = each_once(by.0.slot(), by.1.slot());
-        let Some(ix) = found.pop_front() else {
+        let Some(slot) = found.pop_front() else {
             unreachable!()
         };
-        let Some(at) = found.pop_front() else {
+        let Some(other_slot) = found.pop_front() else {
             let mut displaced = UpToTwo::new();
-            displaced.push(self.exchange(ix, item, by, meter));
-            return (displaced, ix);
+            displaced.push(self.exchange(slot, item, by, meter));
+            return (displaced, slot);
         };
         let mut displaced = UpToTwo::new();
-        let (gone, other) = self.exchange_two(ix, at, item, by, meter);
+        let (gone, other) = self.exchange_two(slot, other_slot, item, by, meter);
         displaced.push(gone);
         displaced.push(other);
-        (displaced, ix)
+        (displaced, slot)
     }
 
     /// Puts an item into the slot of another, whatever their keys are, and returns the latter. If an item in a third slot
     /// conflicts with the new one, the new one is returned, and nothing changes. The call hashes each key of the new item
     /// once, and searches for it once. Beside these searches it walks through each table at most twice.
-    pub(crate) fn rekey_at(&mut self, ix: ItemIndex, item: T, meter: &mut Meter) -> Result<T, T>
-        requires { IsLive self.old.slots ix }
-        ensures value { IfOk result (λ x. get self.old.slots ix ≡ Some x) }
-        ensures puts_at { OnOk result (PutsAt ⟦<T as Ranked>⟧.ranks self.old ix item
-            (item ∷ live_items (slice_set self.old.slots ix None)) self.new) }
+    pub(crate) fn rekey_at(&mut self, slot: ItemIndex, item: T, meter: &mut Meter) -> Result<T, T>
+        requires { IsLive self.old.slots slot }
+        ensures value { IfOk result (λ x. get self.old.slots slot ≡ Some x) }
+        ensures puts_at { OnOk result (PutsAt ⟦<T as Ranked>⟧.ranks self.old slot item
+            (item ∷ live_items (slice_set self.old.slots slot None)) self.new) }
         ensures handed_back { IfErr result (λ x. x ≡ item) }
         ensures reason { OnErr result
-            (clash ⟦<T as Ranked>⟧.ranks (live_items (slice_set self.old.slots ix None)) item ≢ []) }
+            (clash ⟦<T as Ranked>⟧.ranks (live_items (slice_set self.old.slots slot None)) item ≢ []) }
         ensures unchanged { OnErr result (self.new ≡ self.old) }
         ensures costs { meter.new ≤ meter.old + walks_within (length (bag self.old)) (map (λ _. 2) ⟦<T as Ranked>⟧.ranks) }
     {
@@ -76,20 +76,20 @@ impl<T: BiHashItem, S: BuildHasher> BiHashMap<T, S> {
                     SlotUnder::new(None, at.0.hash()),
                     SlotUnder::new(None, at.1.hash()),
                 );
-                return Ok(self.exchange(ix, item, &by, meter));
+                return Ok(self.exchange(slot, item, &by, meter));
             }
             Err(by) => by,
         };
         let mut found = each_once(by.0.slot(), by.1.slot());
-        let Some(at) = found.pop_front() else {
+        let Some(other) = found.pop_front() else {
             unreachable!()
         };
-        if at != ix {
+        if other != slot {
             return Err(item);
         }
         match found.pop_front() {
             Some(_) => Err(item),
-            None => Ok(self.exchange(ix, item, &by, meter)),
+            None => Ok(self.exchange(slot, item, &by, meter)),
         }
     }
 
@@ -97,79 +97,79 @@ impl<T: BiHashItem, S: BuildHasher> BiHashMap<T, S> {
     /// table stays, and no cell of it is probed. Otherwise the call walks through the table twice.
     fn exchange(
         &mut self,
-        ix: ItemIndex,
+        slot: ItemIndex,
         item: T,
         by: &(SlotUnder, SlotUnder),
         meter: &mut Meter,
     ) -> T
-        requires live { IsLive self.old.slots ix }
-        requires free { clash ⟦<T as Ranked>⟧.ranks (live_items (slice_set self.old.slots ix None)) item ≡ [] }
+        requires live { IsLive self.old.slots slot }
+        requires free { clash ⟦<T as Ranked>⟧.ranks (live_items (slice_set self.old.slots slot None)) item ≡ [] }
         requires hashes { HaveHashes
             (⟦<T as Hashed<S>>⟧.hash1 self.old.builder item) (⟦<T as Hashed<S>>⟧.hash2 self.old.builder item) by.now }
         requires under { AreUnder
             (⟦<T as Hashed<S>>⟧.hash1 self.old.builder) (⟦<T as Hashed<S>>⟧.hash2 self.old.builder)
             self.old.slots by.now }
-        ensures value { get self.old.slots ix ≡ Some result }
-        ensures puts_at { PutsAt ⟦<T as Ranked>⟧.ranks self.old ix item
-            (item ∷ live_items (slice_set self.old.slots ix None)) self.new }
+        ensures value { get self.old.slots slot ≡ Some result }
+        ensures puts_at { PutsAt ⟦<T as Ranked>⟧.ranks self.old slot item
+            (item ∷ live_items (slice_set self.old.slots slot None)) self.new }
         ensures costs { meter.new ≤ meter.old + walks_within (length (bag self.old))
             (walks_one (⟦<T as Hashed<S>>⟧.hash1 self.old.builder) by.now.0 result
             ∷ walks_one (⟦<T as Hashed<S>>⟧.hash2 self.old.builder) by.now.1 result ∷ []) }
     {
         // This call gives the prover the fact that the items fit, for the clause `fits`.
         let _ = self.room();
-        let gone = self.items.replace(ix, item);
+        let gone = self.items.replace(slot, item);
         self.first
-            .rehash::<T, First, S>(&self.hash_builder, (ix, &gone), &by.0, meter);
+            .rehash::<T, First, S>(&self.hash_builder, (slot, &gone), &by.0, meter);
         self.second
-            .rehash::<T, Second, S>(&self.hash_builder, (ix, &gone), &by.1, meter);
+            .rehash::<T, Second, S>(&self.hash_builder, (slot, &gone), &by.1, meter);
         gone
     }
 
-    /// Puts an item into the slot `ix` of one that conflicts with it, and returns that one and another, which leaves the
-    /// slot `at`. At a rank at which the search found the other item, its pair gets the number `ix`. `walks_two` says
-    /// how often the call walks through each table.
+    /// Puts an item into the slot `slot` of one that conflicts with it, and returns that one and another, which leaves
+    /// the slot `other_slot`. At a rank at which the search found the other item, its pair gets the number `slot`.
+    /// `walks_two` says how often the call walks through each table.
     fn exchange_two(
         &mut self,
-        ix: ItemIndex,
-        at: ItemIndex,
+        slot: ItemIndex,
+        other_slot: ItemIndex,
         item: T,
         by: &(SlotUnder, SlotUnder),
         meter: &mut Meter,
     ) -> (T, T)
-        requires live { IsLive self.old.slots ix × IsLive self.old.slots at }
-        requires apart { ix ≢ at }
+        requires live { IsLive self.old.slots slot × IsLive self.old.slots other_slot }
+        requires apart { slot ≢ other_slot }
         requires free { clash ⟦<T as Ranked>⟧.ranks
-            (live_items (slice_set (slice_set self.old.slots at None) ix None)) item ≡ [] }
+            (live_items (slice_set (slice_set self.old.slots other_slot None) slot None)) item ≡ [] }
         requires hashes { HaveHashes
             (⟦<T as Hashed<S>>⟧.hash1 self.old.builder item) (⟦<T as Hashed<S>>⟧.hash2 self.old.builder item) by.now }
         requires under { AreUnder
             (⟦<T as Hashed<S>>⟧.hash1 self.old.builder) (⟦<T as Hashed<S>>⟧.hash2 self.old.builder)
             self.old.slots by.now }
-        ensures values { (get self.old.slots ix ≡ Some result.0) × (get self.old.slots at ≡ Some result.1) }
-        ensures puts_at { PutsAt ⟦<T as Ranked>⟧.ranks self.old ix item
-            (item ∷ live_items (slice_set (slice_set self.old.slots at None) ix None)) self.new }
+        ensures values { (get self.old.slots slot ≡ Some result.0) × (get self.old.slots other_slot ≡ Some result.1) }
+        ensures puts_at { PutsAt ⟦<T as Ranked>⟧.ranks self.old slot item
+            (item ∷ live_items (slice_set (slice_set self.old.slots other_slot None) slot None)) self.new }
         ensures costs { meter.new ≤ meter.old + walks_within (length (bag self.old))
-            (walks_two (⟦<T as Hashed<S>>⟧.hash1 self.old.builder) by.now.0 at result.0
-            ∷ walks_two (⟦<T as Hashed<S>>⟧.hash2 self.old.builder) by.now.1 at result.0 ∷ []) }
+            (walks_two (⟦<T as Hashed<S>>⟧.hash1 self.old.builder) by.now.0 other_slot result.0
+            ∷ walks_two (⟦<T as Hashed<S>>⟧.hash2 self.old.builder) by.now.1 other_slot result.0 ∷ []) }
     {
         // This call gives the prover the fact that the items fit, for the clause `fits`.
         let _ = self.room();
-        let Some(other) = self.items.remove(at) else {
+        let Some(other) = self.items.remove(other_slot) else {
             unreachable!()
         };
-        let gone = self.items.replace(ix, item);
+        let gone = self.items.replace(slot, item);
         self.first.replace_two::<T, First, S>(
             &self.hash_builder,
-            (ix, &gone),
-            (at, &other),
+            (slot, &gone),
+            (other_slot, &other),
             &by.0,
             meter,
         );
         self.second.replace_two::<T, Second, S>(
             &self.hash_builder,
-            (ix, &gone),
-            (at, &other),
+            (slot, &gone),
+            (other_slot, &other),
             &by.1,
             meter,
         );

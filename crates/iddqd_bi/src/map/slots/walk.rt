@@ -13,18 +13,18 @@ use std::hash::{BuildHasher, Hash};
 impl<T: BiHashItem, S: BuildHasher> BiHashMap<T, S> {
     /// Returns the first slot with an item whose number is this one or a higher one.
     pub(crate) fn slot_from(&self, from: usize) -> Option<ItemIndex>
-        ensures comes { IfSome result (λ ix. (x : T) → get self.now.slots ix ≡ Some x
-            → ComesNext self.now.slots from ix x) }
-        ensures next { IfSome result (λ ix. (x : T) × (get self.now.slots ix ≡ Some x)
-            × Passes self.now from x (map_with self.now ix) (ix + 1)) }
-        ensures step { IfSome result (λ ix. first_from self.now.slots from ≡ Some ix) }
+        ensures comes { IfSome result (λ slot. (x : T) → get self.now.slots slot ≡ Some x
+            → ComesNext self.now.slots from slot x) }
+        ensures next { IfSome result (λ slot. (x : T) × (get self.now.slots slot ≡ Some x)
+            × Passes self.now from x (map_with self.now slot) (slot + 1)) }
+        ensures step { IfSome result (λ slot. first_from self.now.slots from ≡ Some slot) }
         ensures live { IfSome result (IsLive self.now.slots) }
-        ensures countable { IfSome result (λ ix. ix + 1 < 2 ^ 64) }
+        ensures countable { IfSome result (λ slot. slot + 1 < 2 ^ 64) }
         ensures none { IfNone result (to_come self.now from ≡ []) }
     {
         // The match lets the proof treat each outcome by itself.
         match self.items.next_live(from) {
-            Some(ix) => Some(ix),
+            Some(slot) => Some(slot),
             None => None,
         }
     }

@@ -42,8 +42,8 @@ impl<T: TriHashItem, S: BuildHasher> TriHashMap<T, S> {
         if self.make_room(wanted).is_err() || entered.reserve_for(wanted).is_err() {
             return Err((item, ExtendUniqueReason::Memory));
         }
-        let ix = self.insert_at(item, at, &mut Meter::new());
-        entered.push(ix);
+        let slot = self.insert_at(item, at, &mut Meter::new());
+        entered.push(slot);
         Ok(())
     }
 
@@ -70,8 +70,8 @@ impl<T: TriHashItem, S: BuildHasher> TriHashMap<T, S> {
         ensures loses { Loses self.old result.items self.new }
     {
         let (slots, mut items) = entered.into_parts();
-        for at in 0..slots.len() {
-            items.push_reserved(self.take(slots[at], None, None, None, &mut Meter::new()));
+        for index in 0..slots.len() {
+            items.push_reserved(self.take(slots[index], None, None, None, &mut Meter::new()));
         }
         items
     }

@@ -94,13 +94,13 @@ impl<T: TriHashItem, S: BuildHasher> TriHashMap<T, S> {
         ensures found { IsOnly (has_all T.TriHashItem Q1.stands_for Q2.stands_for Q3.stands_for query1 query2 query3)
             (bag self.now) (option_and_then (get self.now.slots) result) }
         ensures live { IfSome result (IsLive self.now.slots) }
-        ensures hashed { IfSome result (λ ix. HasHash
-            (⟦<T as Hashed<S>>⟧.hash1 self.now.builder) self.now.slots ix hash) }
+        ensures hashed { IfSome result (λ slot. HasHash
+            (⟦<T as Hashed<S>>⟧.hash1 self.now.builder) self.now.slots slot hash) }
     {
-        let ix = self.by_key1().slot(hash, query1)?;
-        let item = self.items.get(ix)?;
+        let slot = self.by_key1().slot(hash, query1)?;
+        let item = self.items.get(slot)?;
         if has_others(item, query2, query3) {
-            Some(ix)
+            Some(slot)
         } else {
             None
         }
@@ -125,9 +125,9 @@ impl<T: TriHashItem, S: BuildHasher> TriHashMap<T, S> {
         ensures { map (λ item. item.now) result ≡ items_at self.now.slots found.now }
     {
         let mut items = UpToThree::new();
-        for at in 0..found.len() {
-            if let Some(ix) = found.get(at) {
-                if let Some(item) = self.items.get(*ix) {
+        for index in 0..found.len() {
+            if let Some(slot) = found.get(index) {
+                if let Some(item) = self.items.get(*slot) {
                     items.push(item);
                 }
             }

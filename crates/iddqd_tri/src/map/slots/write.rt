@@ -21,24 +21,24 @@ use std::hash::{BuildHasher, Hash};
 
 impl<T: TriHashItem, S: BuildHasher> TriHashMap<T, S> {
     /// Returns the item of a live slot.
-    pub(crate) fn item_at(&self, ix: ItemIndex) -> &T
-        requires { IsLive self.now.slots ix }
-        ensures { get self.now.slots ix ≡ Some result.now }
+    pub(crate) fn item_at(&self, slot: ItemIndex) -> &T
+        requires { IsLive self.now.slots slot }
+        ensures { get self.now.slots slot ≡ Some result.now }
     {
-        self.items.get(ix).unwrap()
+        self.items.get(slot).unwrap()
     }
 
     /// Replaces the item of a live slot by one with equal keys, and returns it.
-    pub(crate) fn replace_at(&mut self, ix: ItemIndex, item: T) -> T
-        requires live { IsLive self.old.slots ix }
-        requires keys { (x : T) → get self.old.slots ix ≡ Some x
+    pub(crate) fn replace_at(&mut self, slot: ItemIndex, item: T) -> T
+        requires live { IsLive self.old.slots slot }
+        requires keys { (x : T) → get self.old.slots slot ≡ Some x
             → (T.K1.eq (T.key1 x) (T.key1 item) ≡ true) × (T.K2.eq (T.key2 x) (T.key2 item) ≡ true) × (T.K3.eq
             (T.key3 x) (T.key3 item) ≡ true) }
-        ensures old { get self.old.slots ix ≡ Some result }
-        ensures new { self.new ≡ map_with self.old ix (λ x. item) }
+        ensures old { get self.old.slots slot ≡ Some result }
+        ensures new { self.new ≡ map_with self.old slot (λ x. item) }
         ensures swaps { IsPermutation (bag self.new) (swap ⟦<T as Ranked>⟧.ranks (bag self.old) result item) }
     {
-        self.items.replace(ix, item)
+        self.items.replace(slot, item)
     }
 }
 
@@ -46,25 +46,25 @@ impl<T: TriHashItemMut, S: BuildHasher> TriHashMap<T, S> {
     ghost use Rattle.iddqd_tri.specs.Lent.{lends_data, lends_data_if};
 
     /// Returns the data of the item of a live slot, borrowed for writing.
-    pub(crate) fn data_mut_at(&mut self, ix: ItemIndex) -> &mut T::Data
-        requires { IsLive self.old.slots ix }
-        ensures value { (x : T) → get self.old.slots ix ≡ Some x → result.now ≡ T.data_of x }
+    pub(crate) fn data_mut_at(&mut self, slot: ItemIndex) -> &mut T::Data
+        requires { IsLive self.old.slots slot }
+        ensures value { (x : T) → get self.old.slots slot ≡ Some x → result.now ≡ T.data_of x }
         ensures sound { IsSound ⟦<T as Ranked>⟧.ranks (bag self.old) }
-        ensures swaps { (x : T) (d : T.Data) → get self.old.slots ix ≡ Some x
-            → IsPermutation (bag (map_with self.old ix (λ y. T.put y d)))
+        ensures swaps { (x : T) (d : T.Data) → get self.old.slots slot ≡ Some x
+            → IsPermutation (bag (map_with self.old slot (λ y. T.put y d)))
             (swap ⟦<T as Ranked>⟧.ranks (bag self.old) x (T.put x d)) }
         ensures* writes_back { sem 𝓛 (lends_data T.row S.row T.K1.row T.K2.row T.K3.row S.Hasher.row
             T.TriHashItem T.K1.Hash T.K2.Hash T.K3.Hash S.BuildHasher S.Hasher.Hasher
-            T.Data.row T.put self.entry ix result) }
+            T.Data.row T.put self.entry slot result) }
     {
-        self.items.item_mut(ix).data_mut()
+        self.items.item_mut(slot).data_mut()
     }
 
     /// Returns the data of the item of a live slot, borrowed for writing, or `None` if there is no slot.
     pub(crate) fn data_mut_of(&mut self, slot: Option<ItemIndex>) -> Option<&mut T::Data>
         requires { IfSome slot (IsLive self.old.slots) }
         ensures some { is_some result ≡ is_some slot }
-        ensures sound { IfSome slot (λ ix. IsSound ⟦<T as Ranked>⟧.ranks (bag self.old)) }
+        ensures sound { IfSome slot (λ slot. IsSound ⟦<T as Ranked>⟧.ranks (bag self.old)) }
         ensures value { (x : T) → option_and_then (get self.old.slots) slot ≡ Some x
             → IfSome result (λ r. r.now ≡ T.data_of x) }
         ensures swaps { (x : T) (d : T.Data) → option_and_then (get self.old.slots) slot ≡ Some x
@@ -75,38 +75,38 @@ impl<T: TriHashItemMut, S: BuildHasher> TriHashMap<T, S> {
             T.Data.row T.put self.entry slot result) }
     {
         match slot {
-            Some(ix) => Some(self.data_mut_at(ix)),
+            Some(slot) => Some(self.data_mut_at(slot)),
             None => None,
         }
     }
 
     /// Calls a closure with the item of a slot, and stores what it returns as the item's data.
-    pub(crate) fn store_at<F: FnMut(&T) -> T::Data>(&mut self, ix: ItemIndex, f: &mut F)
+    pub(crate) fn store_at<F: FnMut(&T) -> T::Data>(&mut self, slot: ItemIndex, f: &mut F)
     where
         T::Data: Drop,
-        requires live { IsLive self.old.slots ix }
-        requires callable { (x : T) → get self.old.slots ix ≡ Some x → TakesAt F.FnMut f.old x }
-        ensures stored { (x : T) × (d : T.Data) × (get self.old.slots ix ≡ Some x)
-            × (CalledAt F.FnMut) f.old x d f.new × (self.new ≡ map_with self.old ix (λ y. T.put y d))
+        requires live { IsLive self.old.slots slot }
+        requires callable { (x : T) → get self.old.slots slot ≡ Some x → TakesAt F.FnMut f.old x }
+        ensures stored { (x : T) × (d : T.Data) × (get self.old.slots slot ≡ Some x)
+            × (CalledAt F.FnMut) f.old x d f.new × (self.new ≡ map_with self.old slot (λ y. T.put y d))
             × IsPermutation (bag self.new) (swap ⟦<T as Ranked>⟧.ranks (bag self.old) x (T.put x d)) }
     {
-        let d = f(self.item_at(ix));
-        *self.data_mut_at(ix) = d;
+        let d = f(self.item_at(slot));
+        *self.data_mut_at(slot) = d;
     }
 
     /// Calls a closure with the item of a slot, and stores what it returns as the item's data. The closure is called
     /// only once.
-    pub(crate) fn store_once<F: FnOnce(&T) -> T::Data>(&mut self, ix: ItemIndex, f: F)
+    pub(crate) fn store_once<F: FnOnce(&T) -> T::Data>(&mut self, slot: ItemIndex, f: F)
     where
         T::Data: Drop,
-        requires live { IsLive self.old.slots ix }
-        requires callable { (x : T) → get self.old.slots ix ≡ Some x → FnOnceTakesAt F.FnOnce f x }
-        ensures stored { (x : T) × (d : T.Data) × (get self.old.slots ix ≡ Some x)
-            × FnOnceReturnsAt F.FnOnce f x d × (self.new ≡ map_with self.old ix (λ y. T.put y d))
+        requires live { IsLive self.old.slots slot }
+        requires callable { (x : T) → get self.old.slots slot ≡ Some x → FnOnceTakesAt F.FnOnce f x }
+        ensures stored { (x : T) × (d : T.Data) × (get self.old.slots slot ≡ Some x)
+            × FnOnceReturnsAt F.FnOnce f x d × (self.new ≡ map_with self.old slot (λ y. T.put y d))
             × IsPermutation (bag self.new) (swap ⟦<T as Ranked>⟧.ranks (bag self.old) x (T.put x d)) }
     {
-        let d = f(self.item_at(ix));
-        *self.data_mut_at(ix) = d;
+        let d = f(self.item_at(slot));
+        *self.data_mut_at(slot) = d;
     }
 
     /// Calls a closure with the item of each of these slots, in their order, and stores what it returns as the item's
@@ -122,11 +122,11 @@ impl<T: TriHashItemMut, S: BuildHasher> TriHashMap<T, S> {
         ensures keeps_keys { KeepsKeys (agrees ⟦<T as Ranked>⟧.ranks) self.old.slots self.new.slots }
         ensures capacity { self.new.capacity ≡ self.old.capacity }
         ensures builder { self.new.builder ≡ self.old.builder }
-        ensures live { (at : ℕ) → IsLive self.old.slots at → IsLive self.new.slots at }
+        ensures live { (slot : ℕ) → IsLive self.old.slots slot → IsLive self.new.slots slot }
     {
-        for at in 0..found.len() {
-            if let Some(ix) = found.get(at) {
-                self.store_at(*ix, &mut f);
+        for index in 0..found.len() {
+            if let Some(slot) = found.get(index) {
+                self.store_at(*slot, &mut f);
             }
         }
     }
@@ -149,7 +149,7 @@ impl<T: TriHashItemMut, S: BuildHasher> TriHashMap<T, S> {
         ensures sound { IsSound ⟦<T as Ranked>⟧.ranks (bag self.new) }
         ensures capacity { self.new.capacity ≡ self.old.capacity }
         ensures builder { self.new.builder ≡ self.old.builder }
-        ensures still_live { (at : ℕ) → IsLive self.old.slots at → IsLive self.new.slots at }
+        ensures still_live { (slot : ℕ) → IsLive self.old.slots slot → IsLive self.new.slots slot }
     {
         self.store_all(&each_once(slot1, slot2, slot3), f);
         // This borrow gives the prover the map's invariant after the writes, for the clause `sound`.

@@ -10,8 +10,8 @@ returns-in-Ok-clause-all g c =
     let all = c.in-Ok.ensures.all in
     batch-inserted by (bag c.args.map.now) c.args.batch.items all.0 all.2.0 (bag c.extend_unique.new.self) all.1 all.3 all.4
 
-pub returns-in-Err-clause-in_the_way : goal.returns-in-Err-clause-in_the_way
-returns-in-Err-clause-in_the_way g c =
+pub returns-in-Err-clause-rejected : goal.returns-in-Err-clause-rejected
+returns-in-Err-clause-rejected g c =
     let by = ranks g.T.BiHashItem g.T.K1.PartialEq.eq g.T.K2.PartialEq.eq in
     let refused = c.in-Err.refused in
     let came = c.in-Err.ensures.refused in

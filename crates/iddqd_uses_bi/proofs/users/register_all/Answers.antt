@@ -10,5 +10,5 @@ pub returns-in-Ok-clause-found : goal.returns-in-Ok-clause-found
 returns-in-Ok-clause-found c =
     batch-found (_ ∷ []) [] (λ (u : User). u.login) string_eq string_eq_equiv (bag c.args.users.now) (bag c.load.new.map) c.args.batch.items c.in-Ok.ensures.sound c.in-Ok.ensures.all
 
-pub returns-in-Err-clause-in_the_way : goal.returns-in-Err-clause-in_the_way
-returns-in-Err-clause-in_the_way c = (c.in-Err._reason, c.in-Err.ensures.in_the_way)
+pub returns-in-Err-clause-rejected : goal.returns-in-Err-clause-rejected
+returns-in-Err-clause-rejected c = (c.in-Err._reason, c.in-Err.ensures.rejected)

@@ -4,5 +4,5 @@ use Rattle.iddqd_bi.proofs.map.BiHashMap.enter.Goals as goal
 pub returns-clause-noted : goal.returns-clause-noted
 returns-clause-noted g c = λ xs stand.
     rw (c.push.ensures, c.reserve_for.ensures.slots)
-    (StandAt-push c.make_room.new.self.slots c.insert_at-ix.new.self.slots c.args.entered.now.slots xs c.insert_at-ix.result c.args.item c.insert_at-ix.ensures.was_free c.insert_at-ix.ensures.updates
+    (StandAt-push c.make_room.new.self.slots c.insert_at-slot.new.self.slots c.args.entered.now.slots xs c.insert_at-slot.result c.args.item c.insert_at-slot.ensures.was_free c.insert_at-slot.ensures.updates
     (rw c.make_room.ensures.slots stand))

@@ -11,30 +11,30 @@ use Rattle.iddqd_bi.proofs.map.BiHashMap.exchange_two.Goals as goal
 pub replace_two-requires-clause-gone : goal.replace_two-requires-clause-gone
 replace_two-requires-clause-gone g c =
     let slots = c.self.inside.items.slots in
-    let here = sym (get_or-set_other slots c.args.at c.args.ix None None c.requires.apart) ∙ (rw c.in-Some.ensures.taken.slots at c.replace-gone.ensures.value) in
-    paired_at c.args.by.now.0 c.args.ix c.replace-gone.result c.self.invariant.indexes.0 (rw (← c.self.view_is) at c.requires.under).first here
+    let here = sym (get_or-set_other slots c.args.other_slot c.args.slot None None c.requires.apart) ∙ (rw c.in-Some.ensures.taken.slots at c.replace-gone.ensures.value) in
+    paired_at c.args.by.now.0 c.args.slot c.replace-gone.result c.self.invariant.indexes.0 (rw (← c.self.view_is) at c.requires.under).first here
 
 pub replace_two-requires-clause-other : goal.replace_two-requires-clause-other
 replace_two-requires-clause-other g c =
-    paired_at c.args.by.now.0 c.args.at c.in-Some.other c.self.invariant.indexes.0 (rw (← c.self.view_is) at c.requires.under).first (sym c.remove.ensures.value ∙ c.in-Some.is)
+    paired_at c.args.by.now.0 c.args.other_slot c.in-Some.other c.self.invariant.indexes.0 (rw (← c.self.view_is) at c.requires.under).first (sym c.remove.ensures.value ∙ c.in-Some.is)
 
 pub replace_two-requires-2-clause-gone : goal.replace_two-requires-2-clause-gone
 replace_two-requires-2-clause-gone g c =
     let slots = c.self.inside.items.slots in
-    let here = sym (get_or-set_other slots c.args.at c.args.ix None None c.requires.apart) ∙ (rw c.in-Some.ensures.taken.slots at c.replace-gone.ensures.value) in
-    paired_at c.args.by.now.1 c.args.ix c.replace-gone.result c.self.invariant.indexes.1.0 (rw (← c.self.view_is) at c.requires.under).second here
+    let here = sym (get_or-set_other slots c.args.other_slot c.args.slot None None c.requires.apart) ∙ (rw c.in-Some.ensures.taken.slots at c.replace-gone.ensures.value) in
+    paired_at c.args.by.now.1 c.args.slot c.replace-gone.result c.self.invariant.indexes.1.0 (rw (← c.self.view_is) at c.requires.under).second here
 
 pub replace_two-requires-2-clause-other : goal.replace_two-requires-2-clause-other
 replace_two-requires-2-clause-other g c =
-    paired_at c.args.by.now.1 c.args.at c.in-Some.other c.self.invariant.indexes.1.0 (rw (← c.self.view_is) at c.requires.under).second (sym c.remove.ensures.value ∙ c.in-Some.is)
+    paired_at c.args.by.now.1 c.args.other_slot c.in-Some.other c.self.invariant.indexes.1.0 (rw (← c.self.view_is) at c.requires.under).second (sym c.remove.ensures.value ∙ c.in-Some.is)
 
 pub invariant_of-self : goal.invariant_of-self
 invariant_of-self g c =
     let slots = c.self.inside.items.slots in
     let hashes = rw (← c.self.view_is) at c.requires.hashes in
-    let here = sym (get_or-set_other slots c.args.at c.args.ix None None c.requires.apart) ∙ (rw c.in-Some.ensures.taken.slots at c.replace-gone.ensures.value) in
+    let here = sym (get_or-set_other slots c.args.other_slot c.args.slot None None c.requires.apart) ∙ (rw c.in-Some.ensures.taken.slots at c.replace-gone.ensures.value) in
     rw (c.replace-gone.ensures.slots, c.in-Some.ensures.taken.slots)
-    (IsIndexed-replaced c.replace-gone.result c.in-Some.other c.args.item c.args.ix c.args.at slots c.requires.apart here (sym c.remove.ensures.value ∙ c.in-Some.is)
+    (IsIndexed-replaced c.replace-gone.result c.in-Some.other c.args.item c.args.slot c.args.other_slot slots c.requires.apart here (sym c.remove.ensures.value ∙ c.in-Some.is)
     (AreLawful-ranks g.T.BiHashItem g.met.T.K1.Eq.laws g.met.T.K2.Eq.laws) c.self.invariant (rw (← c.self.view_is) at c.requires.free)
     ((_, hashes.first, c.replace_two.ensures.replaced), ((_, hashes.second, c.replace_two-2.ensures.replaced), tt)))
 
@@ -46,18 +46,18 @@ returns-clause-puts_at g c =
     let less = c.remove.new.self.slots in
     let taken = c.in-Some.ensures.taken in
     let value = gone.ensures.value in
-    let here = sym (get_or-set_other slots c.args.at c.args.ix None None c.requires.apart) ∙ (rw taken.slots at value) in
+    let here = sym (get_or-set_other slots c.args.other_slot c.args.slot None None c.requires.apart) ∙ (rw taken.slots at value) in
     let holds = rw (← c.self.view_is) at c.room.ensures.fits in
     let room = rw (← c.self.view_is) at c.room.ensures.value in
     let without = length_permutation _ _ (IsPermutation-map (λ m. m.1) _ _ taken.members) in
-    let out = length_permutation _ _ (left gone.result c.args.item c.args.ix less value) in
-    let items = come gone.result c.args.item c.args.ix less value in
+    let out = length_permutation _ _ (left gone.result c.args.item c.args.slot less value) in
+    let items = come gone.result c.args.item c.args.slot less value in
     let into = length_permutation _ _ items in
     let free = rw (← c.self.view_is) at c.requires.free in
     record {
-      at = rw gone.ensures.slots (stands gone.result c.args.item c.args.ix less value);
+      at = rw gone.ensures.slots (stands gone.result c.args.item c.args.slot less value);
       items = rw (← c.self.view_is, gone.ensures.slots, taken.slots) (rw taken.slots at items);
-      sound = rw (gone.ensures.slots, taken.slots) (sound_replaced gone.result c.in-Some.other c.args.item c.args.ix c.args.at slots c.requires.apart here (sym c.remove.ensures.value ∙ c.in-Some.is) by (AreLawful-ranks g.T.BiHashItem g.met.T.K1.Eq.laws g.met.T.K2.Eq.laws) c.self.invariant.sound free);
+      sound = rw (gone.ensures.slots, taken.slots) (sound_replaced gone.result c.in-Some.other c.args.item c.args.slot c.args.other_slot slots c.requires.apart here (sym c.remove.ensures.value ∙ c.in-Some.is) by (AreLawful-ranks g.T.BiHashItem g.met.T.K1.Eq.laws g.met.T.K2.Eq.laws) c.self.invariant.sound free);
       fits = rw gone.ensures.slots (omega (arith, holds, room, without, out, into, gone.ensures.capacity, c.remove.ensures.capacity, c.replace_two.ensures.limit, c.replace_two-2.ensures.limit));
       same_room = search rules;
       same_builder = search rules;

@@ -25,7 +25,7 @@ loop-item-preserved g c =
       builder = put.same_builder ∙ so_far.builder;
     }
 
--- this goal is answered here, so that a wrong body fails here, without a second search for it
+-- this goal is answered here, so that a mutant fails here, without a second search for it
 pub loop-item-init : goal.loop-item-init
 loop-item-init g c = record {
   callable = search rules;

@@ -8,30 +8,30 @@ use Rattle.iddqd_store.proofs.BagLemmas.Calling.{TakesEach-in_turn, takes_others
 use Rattle.iddqd_store.proofs.MapLemmas.Extracting.{extracts-some, rejected-on, rejected-start}
 use Rattle.iddqd_bi.proofs.map.BiHashMap.extract_from.Goals as goal
 
-pub loop-ix-init : goal.loop-ix-init
-loop-ix-init g c = record {
-  rejected = rejected-start (CalledAt g.F.FnMut) c.args.f c.args.self.now c.args.at.now;
-  callable = TakesEach-in_turn g.F.FnMut c.args.f (to_come c.args.self.now c.args.at.now) c.requires;
+pub loop-slot-init : goal.loop-slot-init
+loop-slot-init g c = record {
+  rejected = rejected-start (CalledAt g.F.FnMut) c.args.f c.args.self.now c.args.cursor.now;
+  callable = TakesEach-in_turn g.F.FnMut c.args.f (to_come c.args.self.now c.args.cursor.now) c.requires;
   same = refl;
 }
 
 pub returns-then-f-clause-extracts : goal.returns-then-f-clause-extracts
 returns-then-f-clause-extracts g c =
-    let at = c.loop-ix in
-    let next = subst (λ k. ComesNext at.self.slots k c.in-Some.ix c.item_at.result.now) c.next.ensures (c.in-Some.ensures.comes _ c.item_at.ensures) in
+    let at = c.loop-slot in
+    let next = subst (λ k. ComesNext at.self.slots k c.in-Some.slot c.item_at.result.now) c.next.ensures (c.in-Some.ensures.comes _ c.item_at.ensures) in
     let same : c.item_at.result.now ≡ c.take.result = cc (c.item_at.ensures, c.take.ensures.value) in
-    let here = extracts-some (CalledAt g.F.FnMut) c.args.f at.f c.f.new.self at.self c.take.new.self c.args.at.now at.at c.in-Some.ix c.item_at.result.now next c.take.ensures.slots (called_at g.F.FnMut c.f.ensures c.if-f.true) at.invariant.rejected in
+    let here = extracts-some (CalledAt g.F.FnMut) c.args.f at.f c.f.new.self at.self c.take.new.self c.args.cursor.now at.cursor c.in-Some.slot c.item_at.result.now next c.take.ensures.slots (called_at g.F.FnMut c.f.ensures c.if-f.true) at.invariant.rejected in
     rw c.pass.ensures
-    (subst (λ m. Extracts (CalledAt g.F.FnMut) c.args.f m c.args.at.now (Some c.take.result) c.take.new.self (c.in-Some.ix + 1)) at.invariant.same
-    (subst (λ x. Extracts (CalledAt g.F.FnMut) c.args.f at.self c.args.at.now (Some x) c.take.new.self (c.in-Some.ix + 1)) same here))
+    (subst (λ m. Extracts (CalledAt g.F.FnMut) c.args.f m c.args.cursor.now (Some c.take.result) c.take.new.self (c.in-Some.slot + 1)) at.invariant.same
+    (subst (λ x. Extracts (CalledAt g.F.FnMut) c.args.f at.self c.args.cursor.now (Some x) c.take.new.self (c.in-Some.slot + 1)) same here))
 
-pub loop-ix-preserved : goal.loop-ix-preserved
-loop-ix-preserved g c =
-    let at = c.loop-ix in
-    let next = subst (λ k. ComesNext at.self.slots k c.in-Some.ix c.item_at.result.now) c.next.ensures (c.in-Some.ensures.comes _ c.item_at.ensures) in
+pub loop-slot-preserved : goal.loop-slot-preserved
+loop-slot-preserved g c =
+    let at = c.loop-slot in
+    let next = subst (λ k. ComesNext at.self.slots k c.in-Some.slot c.item_at.result.now) c.next.ensures (c.in-Some.ensures.comes _ c.item_at.ensures) in
     let called = called_at g.F.FnMut c.f.ensures c.if-f.false in
     record {
-      rejected = rw c.pass.ensures (rejected-on (CalledAt g.F.FnMut) c.args.f at.f c.f.new.self at.self c.args.at.now at.at c.in-Some.ix c.item_at.result.now next called at.invariant.rejected);
-      callable = rw c.pass.ensures (takes_others g.F.FnMut at.f (to_come at.self at.at) c.item_at.result.now (to_come at.self (c.in-Some.ix + 1)) false c.f.new.self next.rest called at.invariant.callable);
+      rejected = rw c.pass.ensures (rejected-on (CalledAt g.F.FnMut) c.args.f at.f c.f.new.self at.self c.args.cursor.now at.cursor c.in-Some.slot c.item_at.result.now next called at.invariant.rejected);
+      callable = rw c.pass.ensures (takes_others g.F.FnMut at.f (to_come at.self at.cursor) c.item_at.result.now (to_come at.self (c.in-Some.slot + 1)) false c.f.new.self next.rest called at.invariant.callable);
       same = at.invariant.same;
     }

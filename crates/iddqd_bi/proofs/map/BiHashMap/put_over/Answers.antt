@@ -17,8 +17,8 @@ exchange-requires-clause-free g c =
     let by = ranks g.T.BiHashItem g.T.K1.PartialEq.eq g.T.K2.PartialEq.eq in
     let slots = c.args.self.now.slots in
     let none = c.in_default-pop_front.ensures in
-    let only = c.in-Some.ensures.rest ∙ ap (λ (l : List ℕ). c.in-Some.ix ∷ l) (none.rest ∙ none.end) in
-    let out = one_leaves by slots c.args.item c.in-Some.ix _ stand only in
+    let only = c.in-Some.ensures.rest ∙ ap (λ (l : List ℕ). c.in-Some.slot ∷ l) (none.rest ∙ none.end) in
+    let out = one_leaves by slots c.args.item c.in-Some.slot _ stand only in
     clash-taken by (bag c.args.self.now) _ c.args.item out
 
 pub returns-in_default-pop_front-clause-puts_at : goal.returns-in_default-pop_front-clause-puts_at
@@ -27,8 +27,8 @@ returns-in_default-pop_front-clause-puts_at g c =
     let by = ranks g.T.BiHashItem g.T.K1.PartialEq.eq g.T.K2.PartialEq.eq in
     let slots = c.args.self.now.slots in
     let none = c.in_default-pop_front.ensures in
-    let only = c.in-Some.ensures.rest ∙ ap (λ (l : List ℕ). c.in-Some.ix ∷ l) (none.rest ∙ none.end) in
-    let out = one_leaves by slots c.args.item c.in-Some.ix _ stand only in
+    let only = c.in-Some.ensures.rest ∙ ap (λ (l : List ℕ). c.in-Some.slot ∷ l) (none.rest ∙ none.end) in
+    let out = one_leaves by slots c.args.item c.in-Some.slot _ stand only in
     let put = c.exchange.ensures.puts_at in
     record {
       at = put.at;
@@ -46,8 +46,8 @@ exchange_two-gone-requires-clause-free g c =
     let slots = c.args.self.now.slots in
     let rest = c.in-Some-pop_front.ensures.rest in
     let none = none_left c.pop_front-2.new.self (let fewer = c.in-Some.ensures.fewer in let long = ap length rest in omega (arith, fewer, long)) in
-    let found = c.in-Some.ensures.rest ∙ ap (λ (l : List ℕ). c.in-Some.ix ∷ l) (rest ∙ ap (λ (l : List ℕ). c.in-Some-pop_front.at ∷ l) none) in
-    let out = two_leave by slots slots c.args.item c.in-Some.ix c.in-Some-pop_front.at [] [] _ stand found (λ k apart. refl) refl (IsPermutation-refl _) in
+    let found = c.in-Some.ensures.rest ∙ ap (λ (l : List ℕ). c.in-Some.slot ∷ l) (rest ∙ ap (λ (l : List ℕ). c.in-Some-pop_front.other_slot ∷ l) none) in
+    let out = two_leave by slots slots c.args.item c.in-Some.slot c.in-Some-pop_front.other_slot [] [] _ stand found (λ k apart. refl) refl (IsPermutation-refl _) in
     clash-taken by (bag c.args.self.now) _ c.args.item out
 
 pub returns-clause-puts_at : goal.returns-clause-puts_at
@@ -57,8 +57,8 @@ returns-clause-puts_at g c =
     let slots = c.args.self.now.slots in
     let rest = c.in-Some-pop_front.ensures.rest in
     let none = none_left c.pop_front-2.new.self (let fewer = c.in-Some.ensures.fewer in let long = ap length rest in omega (arith, fewer, long)) in
-    let found = c.in-Some.ensures.rest ∙ ap (λ (l : List ℕ). c.in-Some.ix ∷ l) (rest ∙ ap (λ (l : List ℕ). c.in-Some-pop_front.at ∷ l) none) in
-    let out = two_leave by slots slots c.args.item c.in-Some.ix c.in-Some-pop_front.at [] [] _ stand found (λ k apart. refl) refl (IsPermutation-refl _) in
+    let found = c.in-Some.ensures.rest ∙ ap (λ (l : List ℕ). c.in-Some.slot ∷ l) (rest ∙ ap (λ (l : List ℕ). c.in-Some-pop_front.other_slot ∷ l) none) in
+    let out = two_leave by slots slots c.args.item c.in-Some.slot c.in-Some-pop_front.other_slot [] [] _ stand found (λ k apart. refl) refl (IsPermutation-refl _) in
     let put = c.exchange_two-gone.ensures.puts_at in
     record {
       at = put.at;

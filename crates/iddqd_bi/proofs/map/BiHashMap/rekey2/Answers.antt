@@ -10,9 +10,9 @@ pub returns-in-Ok-clause-puts : goal.returns-in-Ok-clause-puts
 returns-in-Ok-clause-puts g c =
     let slots = c.args.self.now.slots in
     let put = c.in-Ok.ensures.puts_at in
-    let out = left c.in-Ok.old c.args.item c.in-Some.ix slots c.in-Ok.ensures.value in
+    let out = left c.in-Ok.old c.args.item c.in-Some.slot slots c.in-Ok.ensures.value in
     record {
-      items = exchanged c.in-Ok.old c.args.item (bag c.args.self.now) (bag c.rekey_at.new.self) (live_items (slice_set slots c.in-Some.ix None)) out put.items;
+      items = exchanged c.in-Ok.old c.args.item (bag c.args.self.now) (bag c.rekey_at.new.self) (live_items (slice_set slots c.in-Some.slot None)) out put.items;
       fits = put.fits;
       same_room = put.same_room;
       same_builder = put.same_builder;
@@ -21,4 +21,4 @@ returns-in-Ok-clause-puts g c =
 pub returns-in-Err-clause-reason : goal.returns-in-Err-clause-reason
 returns-in-Err-clause-reason g c =
     let by = ranks g.T.BiHashItem g.T.K1.PartialEq.eq g.T.K2.PartialEq.eq in
-    rw g.met.T.Ranked.ranks_are (other_blocks by (has2 g.T.BiHashItem g.Q.Query.stands_for c.args.query) c.args.self.now.slots c.in-Some.ix c.args.item (rw c.by_key2.ensures.slots at c.in-Some.ensures) c.in-Err.ensures.reason)
+    rw g.met.T.Ranked.ranks_are (other_blocks by (has2 g.T.BiHashItem g.Q.Query.stands_for c.args.query) c.args.self.now.slots c.in-Some.slot c.args.item (rw c.by_key2.ensures.slots at c.in-Some.ensures) c.in-Err.ensures.reason)

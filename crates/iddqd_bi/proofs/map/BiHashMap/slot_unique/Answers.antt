@@ -5,13 +5,13 @@ use Rattle.iddqd_store.specs.Map.{Map, bag}
 use Rattle.iddqd_store.proofs.BagLemmas.Unique.{all_of-none, all_of-kept, all_of-lost}
 use Rattle.iddqd_bi.proofs.map.BiHashMap.slot_unique.Goals as goal
 
-pub returns-in_err-ix-clause-found : goal.returns-in_err-ix-clause-found
-returns-in_err-ix-clause-found g c =
+pub returns-in_err-slot-clause-found : goal.returns-in_err-slot-clause-found
+returns-in_err-slot-clause-found g c =
     let slots = c.by_key1.ensures.slots in
     let test1 = λ (x : g.row.T.Denot). g.Q1.Query.stands_for c.args.query1 (g.T.BiHashItem.key1 x) in
     let test2 = λ (x : g.row.T.Denot). g.Q2.Query.stands_for c.args.query2 (g.T.BiHashItem.key2 x) in
     ap (λ o. option_to_list (option_and_then (get c.args.self.now.slots) o)) c.from_residual.ensures
-    ∙ all_of-none test1 (test2 ∷ []) (bag c.args.self.now) (rw slots at c.in_err-ix.ensures.found)
+    ∙ all_of-none test1 (test2 ∷ []) (bag c.args.self.now) (rw slots at c.in_err-slot.ensures.found)
 
 pub returns-then-has_others-clause-found : goal.returns-then-has_others-clause-found
 returns-then-has_others-clause-found g c =
@@ -19,7 +19,7 @@ returns-then-has_others-clause-found g c =
     let test1 = λ (x : g.row.T.Denot). g.Q1.Query.stands_for c.args.query1 (g.T.BiHashItem.key1 x) in
     let test2 = λ (x : g.row.T.Denot). g.Q2.Query.stands_for c.args.query2 (g.T.BiHashItem.key2 x) in
     all_of-kept test1 (test2 ∷ []) (bag c.args.self.now) _ c.in_ok-item.item.now
-    (sym (c.in_ok-item.ensures ∙ ap (λ (m : Map g.row.T.Denot g.row.S.Denot). get m.slots c.in_ok-ix.ix) c.self.view_is)) (rw slots at c.in_ok-ix.ensures.found)
+    (sym (c.in_ok-item.ensures ∙ ap (λ (m : Map g.row.T.Denot g.row.S.Denot). get m.slots c.in_ok-slot.slot) c.self.view_is)) (rw slots at c.in_ok-slot.ensures.found)
     (sym c.has_others.ensures ∙ c.if-has_others.true)
 
 pub returns-else-has_others-clause-found : goal.returns-else-has_others-clause-found
@@ -28,5 +28,5 @@ returns-else-has_others-clause-found g c =
     let test1 = λ (x : g.row.T.Denot). g.Q1.Query.stands_for c.args.query1 (g.T.BiHashItem.key1 x) in
     let test2 = λ (x : g.row.T.Denot). g.Q2.Query.stands_for c.args.query2 (g.T.BiHashItem.key2 x) in
     all_of-lost test1 (test2 ∷ []) (bag c.args.self.now) _ c.in_ok-item.item.now
-    (sym (c.in_ok-item.ensures ∙ ap (λ (m : Map g.row.T.Denot g.row.S.Denot). get m.slots c.in_ok-ix.ix) c.self.view_is)) (rw slots at c.in_ok-ix.ensures.found)
+    (sym (c.in_ok-item.ensures ∙ ap (λ (m : Map g.row.T.Denot g.row.S.Denot). get m.slots c.in_ok-slot.slot) c.self.view_is)) (rw slots at c.in_ok-slot.ensures.found)
     (sym c.has_others.ensures ∙ c.if-has_others.false)

@@ -6,13 +6,13 @@ use Rattle.iddqd_store.specs.Slots.{IsLive, get}
 use Rattle.iddqd_store.specs.Slots.Found.{items_at}
 use Rattle.iddqd_bi.proofs.map.BiHashMap.take_all.Given as goal
 
-abbrev pub invariant-loop-at : goal.invariant-loop-at
-invariant-loop-at g l = record {
-  live : All (IsLive l.self.slots) (drop l.at l.found);
-  apart : IsDistinct nat_eq (drop l.at l.found);
-  values : l.taken ++ items_at l.self.slots (drop l.at l.found) ≡ items_at l.fn.self.slots l.found;
+abbrev pub invariant-loop-index : goal.invariant-loop-index
+invariant-loop-index g l = record {
+  live : All (IsLive l.self.slots) (drop l.index l.found);
+  apart : IsDistinct nat_eq (drop l.index l.found);
+  values : l.taken ++ items_at l.self.slots (drop l.index l.found) ≡ items_at l.fn.self.slots l.found;
   loses : Loses l.fn.self l.taken l.self;
-  short : length l.taken ≤ l.at;
+  short : length l.taken ≤ l.index;
   others : (at : ℕ) → IsDistinct nat_eq (at ∷ l.found) → get l.self.slots at ≡ get l.fn.self.slots at;
   left : (at : ℕ) (x : g.row.T.Denot) → get l.self.slots at ≡ Some x → get l.fn.self.slots at ≡ Some x;
 }

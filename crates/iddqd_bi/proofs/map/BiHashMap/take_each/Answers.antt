@@ -4,18 +4,18 @@ use Rattle.iddqd_store.proofs.SlotLemmas.Chain.{live_items-items_in}
 use Rattle.iddqd_store.proofs.SlotLemmas.Next.{before_and_behind, emptied_before}
 use Rattle.iddqd_bi.proofs.map.BiHashMap.take_each.Goals as goal
 
-pub loop-ix-preserved : goal.loop-ix-preserved
-loop-ix-preserved g c =
-    let at = c.loop-ix in
+pub loop-slot-preserved : goal.loop-slot-preserved
+loop-slot-preserved g c =
+    let at = c.loop-slot in
     record {
-      empty = rw (c.number-from.ensures.value, c.take.ensures.slots) (emptied_before at.self.slots at.from c.in-Some.ix c.take.result (c.in-Some.ensures.comes _ c.take.ensures.value) ∙ at.invariant.empty);
+      empty = rw (c.number-from.ensures.value, c.take.ensures.slots) (emptied_before at.self.slots at.from c.in-Some.slot c.take.result (c.in-Some.ensures.comes _ c.take.ensures.value) ∙ at.invariant.empty);
       capacity = c.take.ensures.loses.same_room ∙ at.invariant.capacity;
       builder = c.take.ensures.loses.same_builder ∙ at.invariant.builder;
     }
 
 pub returns-clause-empty : goal.returns-clause-empty
 returns-clause-empty g c =
-    let at = c.loop-ix in
+    let at = c.loop-slot in
     live_items-items_in at.self.slots
     ∙ sym (before_and_behind at.self.slots at.from)
     ∙ ap (λ l. l ++ items_in (drop at.from at.self.slots)) at.invariant.empty

@@ -3,12 +3,12 @@ use Rattle.std.specs.Prelude.{take}
 use Rattle.iddqd_store.specs.Slots.{items_in}
 use Rattle.iddqd_bi.proofs.map.BiHashMap.take_each.Given as goal
 
-abbrev pub invariant-loop-ix : goal.invariant-loop-ix
-invariant-loop-ix g l = record {
+abbrev pub invariant-loop-slot : goal.invariant-loop-slot
+invariant-loop-slot g l = record {
   empty : items_in (take l.from l.self.slots) ≡ [];
   capacity : l.self.capacity ≡ l.fn.self.capacity;
   builder : l.self.builder ≡ l.fn.self.builder;
 }
 
-abbrev pub decreases-loop-ix : goal.decreases-loop-ix
-decreases-loop-ix g l = length (items_in (drop l.from l.self.slots))
+abbrev pub decreases-loop-slot : goal.decreases-loop-slot
+decreases-loop-slot g l = length (items_in (drop l.from l.self.slots))

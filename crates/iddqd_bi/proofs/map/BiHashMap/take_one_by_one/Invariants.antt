@@ -6,12 +6,12 @@ use Rattle.iddqd_store.specs.Slots.{IsLive}
 use Rattle.iddqd_store.specs.Slots.Found.{items_at}
 use Rattle.iddqd_bi.proofs.map.BiHashMap.take_one_by_one.Given as goal
 
-abbrev pub invariant-loop-at : goal.invariant-loop-at
-invariant-loop-at g l = record {
-  live : All (IsLive l.self.slots) (drop l.at l.slots.items);
-  apart : IsDistinct nat_eq (drop l.at l.slots.items);
-  values : l.items.items ++ items_at l.self.slots (drop l.at l.slots.items) ≡ items_at l.fn.self.slots l.slots.items;
+abbrev pub invariant-loop-index : goal.invariant-loop-index
+invariant-loop-index g l = record {
+  live : All (IsLive l.self.slots) (drop l.index l.slots.items);
+  apart : IsDistinct nat_eq (drop l.index l.slots.items);
+  values : l.items.items ++ items_at l.self.slots (drop l.index l.slots.items) ≡ items_at l.fn.self.slots l.slots.items;
   loses : Loses l.fn.self l.items.items l.self;
-  taken : length l.items.items ≡ l.at;
+  taken : length l.items.items ≡ l.index;
   room : length l.slots.items ≤ vec_capacity l.items;
 }

@@ -11,25 +11,25 @@ use Rattle.iddqd_store.proofs.MapLemmas.Updating.{all_written, written_one}
 use Rattle.iddqd_store.proofs.SlotLemmas.Chain.{live_items-items_in}
 use Rattle.iddqd_bi.proofs.map.BiHashMap.update_all.Goals as goal
 
-pub loop-ix-preserved : goal.loop-ix-preserved
-loop-ix-preserved g c =
-    let at = c.loop-ix in
+pub loop-slot-preserved : goal.loop-slot-preserved
+loop-slot-preserved g c =
+    let at = c.loop-slot in
     let stored = c.store_at.ensures.stored in
-    let next = passes at.self at.from c.in-Some.ix stored.0 (c.in-Some.ensures.comes stored.0 stored.2) in
+    let next = passes at.self at.from c.in-Some.slot stored.0 (c.in-Some.ensures.comes stored.0 stored.2) in
     record {
-      completes = rw c.number-from.ensures.value (written_one (CalledAt g.F.FnMut) g.T.BiHashItemMut.put c.args.f at.f c.store_at.new.f (items_in c.args.self.now.slots) at.self at.from (c.in-Some.ix + 1) stored.0 stored.1 (λ w. map_with at.self c.in-Some.ix w) c.store_at.new.self stored.4 next stored.3 at.invariant.completes);
+      completes = rw c.number-from.ensures.value (written_one (CalledAt g.F.FnMut) g.T.BiHashItemMut.put c.args.f at.f c.store_at.new.f (items_in c.args.self.now.slots) at.self at.from (c.in-Some.slot + 1) stored.0 stored.1 (λ w. map_with at.self c.in-Some.slot w) c.store_at.new.self stored.4 next stored.3 at.invariant.completes);
       callable = rw c.number-from.ensures.value
-          (subst (λ l. TakesEach g.F.FnMut c.store_at.new.f l) (sym (ap (λ (m : Map g.row.T.Denot g.row.S.Denot). to_come m (c.in-Some.ix + 1)) stored.4 ∙ next.behind (λ y. g.T.BiHashItemMut.put y stored.1)))
+          (subst (λ l. TakesEach g.F.FnMut c.store_at.new.f l) (sym (ap (λ (m : Map g.row.T.Denot g.row.S.Denot). to_come m (c.in-Some.slot + 1)) stored.4 ∙ next.behind (λ y. g.T.BiHashItemMut.put y stored.1)))
           (takes_others g.F.FnMut at.f _ stored.0 _ stored.1 c.store_at.new.f next.comes stored.3 at.invariant.callable));
       capacity = ap (λ m. m.capacity) stored.4 ∙ at.invariant.capacity;
       builder = ap (λ m. m.builder) stored.4 ∙ at.invariant.builder;
     }
 
 pub store_at-requires-clause-callable : goal.store_at-requires-clause-callable
-store_at-requires-clause-callable g c = λ x is. takes_first g.F.FnMut c.loop-ix.f _ x _ (c.in-Some.ensures.comes x is).rest c.loop-ix.invariant.callable
+store_at-requires-clause-callable g c = λ x is. takes_first g.F.FnMut c.loop-slot.f _ x _ (c.in-Some.ensures.comes x is).rest c.loop-slot.invariant.callable
 
-pub loop-ix-init : goal.loop-ix-init
-loop-ix-init g c =
+pub loop-slot-init : goal.loop-slot-init
+loop-slot-init g c =
     let slots = c.args.self.now.slots in
     record {
       completes = λ rest h. h;
@@ -40,5 +40,5 @@ loop-ix-init g c =
 
 pub returns-clause-stores : goal.returns-clause-stores
 returns-clause-stores g c =
-    let at = c.loop-ix in
+    let at = c.loop-slot in
     all_written (CalledAt g.F.FnMut) g.T.BiHashItemMut.put c.args.f at.f c.args.self.now at.self at.from c.in_default.ensures.none at.invariant.completes

@@ -5,18 +5,18 @@ use Rattle.iddqd_bi.proofs.map.BiHashMap.update_unique.Goals as goal
 pub store_once-requires-clause-callable : goal.store_once-requires-clause-callable
 store_once-requires-clause-callable g c = λ x here.
     (let test = has_both g.T.BiHashItem g.Q1.Query.stands_for g.Q2.Query.stands_for c.args.query1 c.args.query2 in
-    c.requires x (found_one test c.args.self.now.slots c.in-Some.ix x c.in-Some.ensures here))
+    c.requires x (found_one test c.args.self.now.slots c.in-Some.slot x c.in-Some.ensures here))
 
 pub returns-in-Some-clause-found : goal.returns-in-Some-clause-found
 returns-in-Some-clause-found g c =
     let test = has_both g.T.BiHashItem g.Q1.Query.stands_for g.Q2.Query.stands_for c.args.query1 c.args.query2 in
-    any_found test c.args.self.now.slots c.in-Some.ix c.in-Some.ensures
+    any_found test c.args.self.now.slots c.in-Some.slot c.in-Some.ensures
 
 pub returns-in-Some-clause-stores : goal.returns-in-Some-clause-stores
 returns-in-Some-clause-stores g c = λ _.
     (let test = has_both g.T.BiHashItem g.Q1.Query.stands_for g.Q2.Query.stands_for c.args.query1 c.args.query2 in
     let stored = c.store_once.ensures.stored in
-    (stored.0, stored.1, found_one test c.args.self.now.slots c.in-Some.ix stored.0 c.in-Some.ensures stored.2, stored.3, stored.5))
+    (stored.0, stored.1, found_one test c.args.self.now.slots c.in-Some.slot stored.0 c.in-Some.ensures stored.2, stored.3, stored.5))
 
 pub returns-in-None-clause-found : goal.returns-in-None-clause-found
 returns-in-None-clause-found g c =

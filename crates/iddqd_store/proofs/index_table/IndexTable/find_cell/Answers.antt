@@ -20,8 +20,8 @@ loop-pair-preserved g c =
     let i = c.loop-pair.invariant in
     let s : ℕ = c.loop-pair.meter - c.args.meter.now in
     let t : ℕ = c.cell_at.new.meter - c.args.meter.now in
-    let look : c.cell_at.new.meter ≡ c.loop-pair.meter + 1 = c.cell_at.ensures.look in
-    let more : t ≡ s + 1 = omega (arith, i.looked, look) in
+    let probe : c.cell_at.new.meter ≡ c.loop-pair.meter + 1 = c.cell_at.ensures.probe in
+    let more : t ≡ s + 1 = omega (arith, i.probed, probe) in
     let w : Walk row home c.loop-pair.at s = i.walk in
     let lh : home < length row = omega (arith, c.if-count-eq0.false, c.len-count.ensures, w.within) in
     let x : ℕ × ℕ = c.in-Some.pair in
@@ -37,7 +37,7 @@ loop-pair-preserved g c =
           let no' : g.M.Matcher.accepts c.args.matcher.now x.1 ≡ false = sym (g.met.M.Matcher.accepts_kept _ _ x.1 i.kept) ∙ (sym w'.matches.ensures.value ∙ w'.if-matches.false) in
           let a : asked w'.matches.new.self ≤ asked c.loop-pair.matcher + 1 = w'.matches.ensures.asked in
           record {
-            looked = omega arith;
+            probed = omega arith;
             walk = walk';
             refused = refused_more row hash (g.M.Matcher.accepts c.args.matcher.now) s t c.loop-pair.at x more w at_x i.refused (λ _. no');
             count = rw w'.matcher-is (omega (arith, i.count, q, a));
@@ -45,7 +45,7 @@ loop-pair-preserved g c =
           }
       | else-stored-hash-via-else-stored-hash w' ↦
           record {
-            looked = omega arith;
+            probed = omega arith;
             walk = walk';
             refused = refused_more row hash (g.M.Matcher.accepts c.args.matcher.now) s t c.loop-pair.at x more w at_x i.refused (λ e. absurd (w'.if-stored-hash.false e));
             count = rw w'.matcher-is (omega (arith, i.count, met_grows hash row home s x lh w.within placed t more));
@@ -74,7 +74,7 @@ returns-then-matches-clause-costs g c =
     let i = c.loop-pair.invariant in
     let s : ℕ = c.loop-pair.meter - c.args.meter.now in
     let t : ℕ = c.cell_at.new.meter - c.args.meter.now in
-    let look : c.cell_at.new.meter ≡ c.loop-pair.meter + 1 = c.cell_at.ensures.look in
+    let probe : c.cell_at.new.meter ≡ c.loop-pair.meter + 1 = c.cell_at.ensures.probe in
     let w : Walk row home c.loop-pair.at s = i.walk in
     let within : s < length row = w.within in
     let lh : home < length row = omega arith in
@@ -86,14 +86,14 @@ returns-then-matches-clause-costs g c =
     let q : met (under hash) row home (s + 1) ≡ met (under hash) row home s + 1 = met_under hash row home s x lh within placed c.if-stored-hash.true (s + 1) refl in
     let m : met (under hash) row home (s + 1) ≤ count_by (under hash) (pairs_in row) = met_within (under hash) row home (s + 1) in
     let a : asked c.matches.new.self ≤ asked c.loop-pair.matcher + 1 = c.matches.ensures.asked in
-    let l : t ≤ stretch (hashes (pairs_in row)) (length row) hash = walk_found row hash c.loop-pair.at s t c.self.invariant.0 w there (omega (arith, i.looked, look)) in
+    let l : t ≤ stretch (hashes (pairs_in row)) (length row) hash = walk_found row hash c.loop-pair.at s t c.self.invariant.0 w there (omega (arith, i.probed, probe)) in
     let all : CostsUnder (table_of row) hash (Some (x.1, c.loop-pair.at)) (asked c.args.matcher.now) (asked c.matches.new.self) c.args.meter.now c.cell_at.new.meter = record {
       asked = omega (arith, i.count, q, m, a);
-      looks = record {
+      probes = record {
         no_cells = λ z. absurd (omega arith);
         miss = λ _. tt;
-        hit_least = omega (arith, i.looked, look);
-        hit_most = omega (arith, i.looked, look, l);
+        hit_least = omega (arith, i.probed, probe);
+        hit_most = omega (arith, i.probed, probe, l);
       };
       within = stretch_le_pairs (pairs_in row) (length row) hash;
     } in
@@ -132,7 +132,7 @@ returns-clause-costs g c =
     let hash = c.args.hash in
     let i = c.loop-pair.invariant in
     let s : ℕ = c.loop-pair.meter - c.args.meter.now in
-    let look : c.cell_at.new.meter ≡ c.loop-pair.meter + 1 = c.cell_at.ensures.look in
+    let probe : c.cell_at.new.meter ≡ c.loop-pair.meter + 1 = c.cell_at.ensures.probe in
     let none : cell row c.loop-pair.at ≡ None = sym c.cell_at.ensures.value ∙ c.in_default.is in
     let asked = g.M.Matcher.asked in
     let m = met_within (under hash) row (hash % length row) s in
@@ -140,9 +140,9 @@ returns-clause-costs g c =
     let within : s < length row = i.walk.within in
     let all : CostsUnder {A = ℕ × ℕ} (table_of row) hash None (asked c.args.matcher.now) (asked c.loop-pair.matcher) c.args.meter.now c.cell_at.new.meter = record {
       asked = omega (arith, i.count, m);
-      looks = record {
+      probes = record {
         no_cells = λ z. absurd (omega arith);
-        miss = λ _. omega (arith, i.looked, look, e);
+        miss = λ _. omega (arith, i.probed, probe, e);
         hit_least = tt;
         hit_most = tt;
       };

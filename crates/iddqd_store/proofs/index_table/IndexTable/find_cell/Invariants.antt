@@ -13,7 +13,7 @@ invariant-loop-pair g l =
     let accepts = g.M.Matcher.accepts in
     let asked = g.M.Matcher.asked in
     record {
-      looked : l.initial.meter ≤ l.meter;
+      probed : l.initial.meter ≤ l.meter;
       walk : Walk row home l.at steps;
       refused : (k : ℕ) → k < steps → (index : ℕ) → cell row (place (length row) home k) ≡ Some (l.hash, index) → accepts l.initial.matcher index ≡ false;
       count : asked l.matcher ≤ asked l.initial.matcher + met (under l.hash) row home steps;

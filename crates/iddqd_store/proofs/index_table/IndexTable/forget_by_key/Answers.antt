@@ -6,13 +6,13 @@ use Rattle.iddqd_store.proofs.RankLemmas.Index.{hash_at, item_at}
 use Rattle.iddqd_store.proofs.index_table.IndexTable.forget_by_key.Goals as goal
 
 -- the pair that left is that of the item in its slot
-loses : {T : Type 0} {hash : T → ℕ} {slots : List (Option T)} {pairs : List (ℕ × ℕ)} (new : List (ℕ × ℕ)) (h : ℕ) (r : Option ℕ) → IsIndex hash slots pairs → IfSome r (λ ix. Contains pairs (h, ix)) → IfSome r (λ ix. IsPermutation pairs ((h, ix) ∷ new)) → IfSome r (LosesPairAt hash slots pairs new)
+loses : {T : Type 0} {hash : T → ℕ} {slots : List (Option T)} {pairs : List (ℕ × ℕ)} (new : List (ℕ × ℕ)) (h : ℕ) (r : Option ℕ) → IsIndex hash slots pairs → IfSome r (λ slot. Contains pairs (h, slot)) → IfSome r (λ slot. IsPermutation pairs ((h, slot) ∷ new)) → IfSome r (LosesPairAt hash slots pairs new)
 loses new h None index there taken = tt
-loses {pairs = pairs} new h (Some ix) index there taken = λ x here.
-    subst (λ (k : ℕ). IsPermutation pairs ((k, ix) ∷ new)) (sym (hash_at ix h x index there here)) taken
+loses {pairs = pairs} new h (Some slot) index there taken = λ x here.
+    subst (λ (k : ℕ). IsPermutation pairs ((k, slot) ∷ new)) (sym (hash_at slot h x index there here)) taken
 
 pub remove_by-requires : goal.remove_by-requires
-remove_by-requires g c = λ ix there x here. c.requires.asks x (item_at _ ix x here) (hash_at ix c.args.hash x c.requires.searchable.index there here)
+remove_by-requires g c = λ slot there x here. c.requires.asks x (item_at _ slot x here) (hash_at slot c.args.hash x c.requires.searchable.index there here)
 
 pub returns-clause-found : goal.returns-clause-found
 returns-clause-found g c =

@@ -16,8 +16,8 @@ invariant_of-self c =
     let free : IsFree (hashes (pairs_in row)) spot = subst (λ (r : Table). IsFree (hashes r.pairs) spot) (sym c.self.view_is) c.requires.vacant in
     let same : spot.cells ≡ length row = omega (arith, c.cells.ensures, c.len.ensures, c.if-cells-len.false) in
     let f : IsFirstEmpty row (spot.hash % length row) spot.at = free_first row spot c.self.invariant.0 free same (omega arith) in
-    let p = length_permutation _ _ (held_put row spot.at (spot.hash, c.args.ix) f.below f.empty) in
-    rw (c.write.ensures, c.at.ensures, c.hash-2.ensures) (table_put row spot.at spot.hash c.args.ix c.self.invariant.0 l f, omega (arith, p, c.self.invariant.1))
+    let p = length_permutation _ _ (held_put row spot.at (spot.hash, c.args.slot) f.below f.empty) in
+    rw (c.write.ensures, c.at.ensures, c.hash-2.ensures) (table_put row spot.at spot.hash c.args.slot c.self.invariant.0 l f, omega (arith, p, c.self.invariant.1))
 
 pub returns-clause-added : goal.returns-clause-added
 returns-clause-added c =
@@ -27,7 +27,7 @@ returns-clause-added c =
     let free : IsFree (hashes (pairs_in row)) spot = subst (λ (r : Table). IsFree (hashes r.pairs) spot) (sym c.self.view_is) c.requires.vacant in
     let same : spot.cells ≡ length row = omega (arith, c.cells.ensures, c.len.ensures, c.if-cells-len.false) in
     let f : IsFirstEmpty row (spot.hash % length row) spot.at = free_first row spot c.self.invariant.0 free same (omega arith) in
-    let x : ℕ × ℕ = (spot.hash, c.args.ix) in
+    let x : ℕ × ℕ = (spot.hash, c.args.slot) in
     let p : IsPermutation (x ∷ pairs_in row) (pairs_in c.write.new.self) = rw (c.write.ensures, c.at.ensures, c.hash-2.ensures) (held_put row spot.at x f.below f.empty) in
     subst (λ (r : Table). IsPermutation (x ∷ r.pairs) (pairs_in c.write.new.self)) c.self.view_is p
 

@@ -17,14 +17,14 @@ invariant_of-self c =
     let row = c.self.inside.cells in
     let f = c.first_empty-at.ensures.first in
     let l : length (pairs_in row) < length row / 8 * 7 = subst (λ (r : Table). length r.pairs < r.limit) (sym c.self.view_is) c.requires in
-    let p = length_permutation _ _ (held_put row c.first_empty-at.result (c.args.hash, c.args.ix) f.below f.empty) in
-    rw c.write.ensures (table_put row c.first_empty-at.result c.args.hash c.args.ix c.self.invariant.0 l f, omega (arith, p, c.self.invariant.1))
+    let p = length_permutation _ _ (held_put row c.first_empty-at.result (c.args.hash, c.args.slot) f.below f.empty) in
+    rw c.write.ensures (table_put row c.first_empty-at.result c.args.hash c.args.slot c.self.invariant.0 l f, omega (arith, p, c.self.invariant.1))
 
 pub returns-clause-added : goal.returns-clause-added
 returns-clause-added c =
     let row = c.self.inside.cells in
     let f = c.first_empty-at.ensures.first in
-    let x : ℕ × ℕ = (c.args.hash, c.args.ix) in
+    let x : ℕ × ℕ = (c.args.hash, c.args.slot) in
     let p : IsPermutation (x ∷ pairs_in row) (pairs_in c.write.new.self) = rw c.write.ensures (held_put row c.first_empty-at.result x f.below f.empty) in
     subst (λ (r : Table). IsPermutation (x ∷ r.pairs) (pairs_in c.write.new.self)) c.self.view_is p
 

@@ -13,4 +13,4 @@ pub returns-clause-costs : goal.returns-clause-costs
 returns-clause-costs c =
     let removed = c.remove.ensures in
     let put = c.insert_reserved.ensures in
-    omega (arith, removed.looks, removed.within, put.looks, put.within, length_permutation _ _ removed.taken)
+    omega (arith, removed.probes, removed.within, put.probes, put.within, length_permutation _ _ removed.taken)

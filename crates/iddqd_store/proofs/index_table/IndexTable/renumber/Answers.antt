@@ -20,8 +20,8 @@ returns-clause-replaced c =
     let found = c.seek-at.ensures in
     rw (← c.self.view_is, c.write.ensures) (renumbered c.self.inside.cells c.seek-at.result c.args.hash c.args.from c.args.to found.way.below found.pair)
 
-pub returns-clause-looks : goal.returns-clause-looks
-returns-clause-looks c =
+pub returns-clause-probes : goal.returns-clause-probes
+returns-clause-probes c =
     let row = c.self.inside.cells in
     let home : ℕ = c.args.hash % length row in
     let found = c.seek-at.ensures in
@@ -31,8 +31,8 @@ returns-clause-looks c =
     rw (← c.self.view_is) record {
       no_cells = λ none. absurd (omega (arith, found.way.below, none));
       miss = λ some. tt;
-      hit_least = omega (arith, found.looks);
-      hit_most = omega (arith, found.looks, most);
+      hit_least = omega (arith, found.probes);
+      hit_most = omega (arith, found.probes, most);
     }
 
 pub returns-clause-within : goal.returns-clause-within

@@ -49,7 +49,7 @@ pub returns-in-Some-clause-costs : goal.returns-in-Some-clause-costs
 returns-in-Some-clause-costs g c =
     let less = length_permutation _ _ c.forget.ensures.taken in
     let number = c.renumber.ensures in
-    rw (two_found _ c.args.by.now _ c.args.other.0 c.in-Some.ensures.under.0) (omega (arith, less, c.forget.ensures.within, number.looks.hit_most, number.within))
+    rw (two_found _ c.args.by.now _ c.args.other.0 c.in-Some.ensures.under.0) (omega (arith, less, c.forget.ensures.within, number.probes.hit_most, number.within))
 
 pub returns-in-None-clause-costs : goal.returns-in-None-clause-costs
 returns-in-None-clause-costs g c =

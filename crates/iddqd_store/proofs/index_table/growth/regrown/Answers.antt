@@ -6,7 +6,7 @@ use Rattle.iddqd_store.specs.Table.{IsFirstEmpty}
 use Rattle.iddqd_store.specs.Table.Ring.{cell, gap, pairs_in}
 use Rattle.iddqd_store.proofs.TableLemmas.Grow.{HasFront, front_none, front_full, front_empty, front_all}
 use Rattle.iddqd_store.proofs.TableLemmas.Limits.{held-empty}
-use Rattle.iddqd_store.proofs.TableLemmas.Regrow.{front_fits, gap_none, home_walk, looked_empty, looked_pair, pairs_put, spot_on, times_less, way_none, way_on, way_put}
+use Rattle.iddqd_store.proofs.TableLemmas.Regrow.{front_fits, gap_none, home_walk, probed_empty, probed_pair, pairs_put, spot_on, times_less, way_none, way_on, way_put}
 use Rattle.iddqd_store.proofs.TableLemmas.Ring.{gap_below}
 use Rattle.iddqd_store.proofs.index_table.growth.regrown.Goals as goal
 use Rattle.iddqd_store.proofs.index_table.growth.regrown.Goals.{in-Some, in-None, then-is_some, else-is_some}
@@ -20,7 +20,7 @@ loop-i-init c =
       size = length-replicate c.args.count None;
       spot = omega arith;
       way = way_none c.args.count c.requires.some;
-      looked = rw (none, pairs) (omega arith);
+      probed = rw (none, pairs) (omega arith);
     })
 
 pub loop-i-preserved : goal.loop-i-preserved
@@ -30,8 +30,8 @@ loop-i-preserved c =
     let i = c.loop-i.invariant in
     let at = c.first_empty_from-at.result in
     let f = c.first_empty_from-at.ensures.first in
-    let look = c.cell_at-pair.ensures.look in
-    let looks = c.first_empty_from-at.ensures.looks in
+    let probe = c.cell_at-pair.ensures.probe in
+    let probes = c.first_empty_from-at.ensures.probes in
     let l : c.loop-i.i < length cs = omega (arith, c.loop-i-test.true, c.len-i-end.ensures) in
     let start : c.args.count - 1 < length row = let some = c.requires.some in let size = i.size in omega arith in
     elim c.match-pair.branch [
@@ -50,7 +50,7 @@ loop-i-preserved c =
               size = length-set row at (cell cs c.loop-i.i) ∙ i.size;
               spot = i.spot;
               way = rw stored (way_put row (c.args.count - 1) c.loop-i.spot at x f.below i.way);
-              looked = rw (length-set row at (cell cs c.loop-i.i), stored, pairs_put row at x f.below f.empty) (looked_pair _ _ _ _ _ _ _ _ _ i.looked look looks (omega (arith, walk, far)) (omega (arith, fits, counted)));
+              probed = rw (length-set row at (cell cs c.loop-i.i), stored, pairs_put row at x f.below f.empty) (probed_pair _ _ _ _ _ _ _ _ _ i.probed probe probes (omega (arith, walk, far)) (omega (arith, fits, counted)));
             }
             | else-is_some v ↦ absurd (let no = v.if-is_some.ensures in let yes = ap is_some w.in-Some.is in cc (no, yes))
           ]
@@ -66,7 +66,7 @@ loop-i-preserved c =
               size = i.size;
               spot = omega (arith, f.below, i.size);
               way = way_on row (c.args.count - 1) c.loop-i.spot at start i.way free;
-              looked = rw (spot_on row (c.args.count - 1) c.loop-i.spot at start i.way free) (looked_empty _ _ _ _ _ _ _ _ i.looked look (rw far at looks));
+              probed = rw (spot_on row (c.args.count - 1) c.loop-i.spot at start i.way free) (probed_empty _ _ _ _ _ _ _ _ i.probed probe (rw far at probes));
             }
           ]
     ]
@@ -81,12 +81,12 @@ pub returns-clause-pairs : goal.returns-clause-pairs
 returns-clause-pairs c =
     front_all c.args.cells.now c.loop-i.grown c.loop-i.i (omega (arith, c.loop-i-test.false, c.len-i-end.ensures)) c.loop-i.invariant.front
 
-pub returns-clause-looks : goal.returns-clause-looks
-returns-clause-looks c =
+pub returns-clause-probes : goal.returns-clause-probes
+returns-clause-probes c =
     let i = c.loop-i.invariant in
     let row = c.loop-i.grown in
     let size = i.size in
-    let looked = i.looked in
+    let probed = i.probed in
     let some = c.requires.some in
     let all = front_all c.args.cells.now row c.loop-i.i (omega (arith, c.loop-i-test.false, c.len-i-end.ensures)) i.front in
     let count = length_permutation _ _ all in

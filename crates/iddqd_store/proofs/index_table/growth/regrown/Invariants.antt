@@ -10,5 +10,5 @@ invariant-loop-i l = record {
   size : length l.grown ≡ l.count;
   spot : l.spot < l.count;
   way : IsWayTo l.grown (l.count - 1) l.spot;
-  looked : l.meter ≤ l.initial.meter + 2 * l.i + gap (length l.grown) (l.count - 1) l.spot + length (pairs_in l.grown) * l.pairs;
+  probed : l.meter ≤ l.initial.meter + 2 * l.i + gap (length l.grown) (l.count - 1) l.spot + length (pairs_in l.grown) * l.pairs;
 }

@@ -24,7 +24,7 @@ loop-pair-init c =
     let w : Walk row home c.after-at.result (t0 + 1 + (c.args.meter.now - c.args.meter.now)) = walk_more row home c.args.emptied t0 c.requires.table lh to c.requires.pair c.after-at.result _ e (omega arith) in
     let b = beyond row home c.after-at.result _ c.requires.table lh w in
     record {
-      looked = omega arith;
+      probed = omega arith;
       walk = w;
       some = omega arith;
       apart = omega arith;
@@ -49,7 +49,7 @@ loop-pair-preserved c =
     let pair : ℕ × ℕ = c.in-Some.pair in
     let s : ℕ = gap n home c.args.emptied + 1 + (c.loop-pair.meter - c.args.meter.now) in
     let t : ℕ = gap n home c.args.emptied + 1 + (c.cell_at.new.meter - c.args.meter.now) in
-    let more : t ≡ s + 1 = omega (arith, i.looked, c.cell_at.ensures.look) in
+    let more : t ≡ s + 1 = omega (arith, i.probed, c.cell_at.ensures.probe) in
     let lh : home < n = let b = c.requires.way.below in omega arith in
     let lat : at < n = walk_below row home at s lh i.walk in
     let ga : gap n home at ≡ s = walk_gap row home at s lh i.walk in
@@ -72,7 +72,7 @@ loop-pair-preserved c =
           let k : IsPermutation (pairs_in rest) (pairs_in (set (set rest at None) hole (Some pair))) =
           held_move rest at hole pair (omega (arith, h.len, lat)) (omega (arith, h.len, h.below)) there h.empty in
           record {
-            looked = omega (arith, i.looked, c.cell_at.ensures.look);
+            probed = omega (arith, i.probed, c.cell_at.ensures.probe);
             walk = w;
             some = rw w'.far-is (omega arith);
             apart = rw (w'.far-is, w'.hole-is) (omega (arith, ga, more));
@@ -85,7 +85,7 @@ loop-pair-preserved c =
           let m : Holed (λ p. p.0 % n) n home hole t row rest =
           holed_pass (λ p. p.0 % n) n home lh (λ p. omega arith) row rest hole at s t pair h lat ga there stays more in
           record {
-            looked = omega (arith, i.looked, c.cell_at.ensures.look);
+            probed = omega (arith, i.probed, c.cell_at.ensures.probe);
             walk = w;
             some = rw w'.far-is (omega arith);
             apart = rw (w'.far-is, w'.hole-is) (omega (arith, i.apart, more));
@@ -124,8 +124,8 @@ returns-clause-table c =
     (cases_option (cell row c.args.emptied)) in
     rw c.empty.ensures table
 
-pub returns-clause-looks : goal.returns-clause-looks
-returns-clause-looks c =
+pub returns-clause-probes : goal.returns-clause-probes
+returns-clause-probes c =
     let row = c.args.cells.now in
     let n : ℕ = length row in
     let home : ℕ = c.args.hash % n in
@@ -141,4 +141,4 @@ returns-clause-looks c =
     let still : cell (set c.loop-pair.cells hole None) at ≡ cell c.loop-pair.cells at = get_or-set_other c.loop-pair.cells hole at None None away in
     let none : cell row at ≡ None = sym (h.ahead at lat (omega (arith, ga))) ∙ (still ∙ (sym c.cell_at.ensures.value ∙ c.in_default.is)) in
     let e : stretch (hashes (pairs_in row)) n c.args.hash ≡ s = walk_end row c.args.hash at s c.requires.table i.walk none in
-    omega (arith, e, i.looked, c.cell_at.ensures.look)
+    omega (arith, e, i.probed, c.cell_at.ensures.probe)

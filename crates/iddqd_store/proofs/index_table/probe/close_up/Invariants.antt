@@ -13,7 +13,7 @@ invariant-loop-pair l =
     let s = (gap n home l.emptied + 1) + (l.meter - l.initial.meter) in
     let rest = set l.cells l.hole None in
     record {
-      looked : l.initial.meter ≤ l.meter;
+      probed : l.initial.meter ≤ l.meter;
       walk : Walk row home l.at s;
       some : 0 < l.far;
       apart : l.far + gap n home l.hole ≡ s;

@@ -4,8 +4,8 @@ use Rattle.iddqd_store.specs.Table.{hashes, IsFirstEmpty}
 use Rattle.iddqd_store.proofs.TableLemmas.Search.{walk_to, walk_end}
 use Rattle.iddqd_store.proofs.index_table.probe.first_empty.Goals as goal
 
-pub returns-clause-looks : goal.returns-clause-looks
-returns-clause-looks c =
+pub returns-clause-probes : goal.returns-clause-probes
+returns-clause-probes c =
     let row = c.args.cells.now in
     let home : ℕ = c.args.hash % length row in
     let at = c.first_empty_from.result in
@@ -14,4 +14,4 @@ returns-clause-looks c =
     let s : stretch (hashes (pairs_in row)) (length row) c.args.hash ≡ gap (length row) home at =
     walk_end row c.args.hash at (gap (length row) home at) c.requires.table (walk_to row home at (omega arith) (record { below = f.below; first = f.first })) f.empty in
     let g : gap (length row) c.home_of.result at ≡ gap (length row) home at = ap (λ (h : ℕ). gap (length row) h at) e in
-    omega (arith, s, g, c.first_empty_from.ensures.looks)
+    omega (arith, s, g, c.first_empty_from.ensures.probes)

@@ -11,17 +11,17 @@ loop-at-preserved c =
     let some : cell row c.loop-at.at ≢ None = some_from_test c.cell_at.result _ c.is_some.result c.cell_at.ensures.value c.is_some.ensures c.loop-at-test.true in
     let e : c.after-at.result ≡ (if nat_lt (c.loop-at.at + 1) (length row) then c.loop-at.at + 1 else 0) = rw c.len-count.ensures at c.after-at.ensures in
     record {
-      looked = omega (arith, i.looked, c.cell_at.ensures.look);
-      walk = walk_more row c.args.from c.loop-at.at (c.loop-at.meter - c.args.meter.now) c.requires.table c.requires.from i.walk some c.after-at.result (c.cell_at.new.meter - c.args.meter.now) e (omega (arith, i.looked, c.cell_at.ensures.look));
+      probed = omega (arith, i.probed, c.cell_at.ensures.probe);
+      walk = walk_more row c.args.from c.loop-at.at (c.loop-at.meter - c.args.meter.now) c.requires.table c.requires.from i.walk some c.after-at.result (c.cell_at.new.meter - c.args.meter.now) e (omega (arith, i.probed, c.cell_at.ensures.probe));
     }
 
 pub returns-clause-first : goal.returns-clause-first
 returns-clause-first c =
     walk_first c.args.cells.now c.args.from c.loop-at.at (c.loop-at.meter - c.args.meter.now) c.requires.from c.loop-at.invariant.walk (none_from_test c.cell_at.result _ c.is_some.result c.cell_at.ensures.value c.is_some.ensures c.loop-at-test.false)
 
-pub returns-clause-looks : goal.returns-clause-looks
-returns-clause-looks c =
+pub returns-clause-probes : goal.returns-clause-probes
+returns-clause-probes c =
     let row = c.args.cells.now in
     let s : ℕ = c.loop-at.meter - c.args.meter.now in
     let e : gap (length row) c.args.from c.loop-at.at ≡ s = walk_gap row c.args.from c.loop-at.at s c.requires.from c.loop-at.invariant.walk in
-    omega (arith, e, c.loop-at.invariant.looked, c.cell_at.ensures.look)
+    omega (arith, e, c.loop-at.invariant.probed, c.cell_at.ensures.probe)

@@ -4,7 +4,7 @@ use Rattle.iddqd_store.proofs.index_table.probe.first_empty_from.Given as goal
 
 abbrev pub invariant-loop-at : goal.invariant-loop-at
 invariant-loop-at l = record {
-  looked : l.initial.meter ≤ l.meter;
+  probed : l.initial.meter ≤ l.meter;
   walk : Walk l.cells (l.from) l.at (l.meter - l.initial.meter);
 }
 

@@ -13,7 +13,7 @@ loop-pair-preserved c =
     let i = c.loop-pair.invariant in
     let s : ℕ = c.loop-pair.meter - c.args.meter.now in
     let t : ℕ = c.cell_at.new.meter - c.args.meter.now in
-    let more : t ≡ s + 1 = omega (arith, i.looked, c.cell_at.ensures.look) in
+    let more : t ≡ s + 1 = omega (arith, i.probed, c.cell_at.ensures.probe) in
     let at_x : cell row c.loop-pair.at ≡ Some c.in-Some.pair = sym c.cell_at.ensures.value ∙ c.in-Some.is in
     let some : cell row c.loop-pair.at ≢ None = λ e. cc (e, at_x) in
     let e : c.after-at.result ≡ (if nat_lt (c.loop-pair.at + 1) (length row) then c.loop-pair.at + 1 else 0) = rw c.len-count.ensures at c.after-at.ensures in
@@ -24,7 +24,7 @@ loop-pair-preserved c =
       | else-eq-via-else-eq w ↦ both_ways c.eq.result w.if-eq.false (c.eq.ensures ∙ eq-eqb c.in-Some.pair.1 c.args.index (ap (λ (p : ℕ × ℕ). p.1) same))
     ] in
     record {
-      looked = omega (arith, i.looked, c.cell_at.ensures.look);
+      probed = omega (arith, i.probed, c.cell_at.ensures.probe);
       walk = walk_more row home c.loop-pair.at s c.requires.table (omega arith) i.walk some c.after-at.result t e more;
       unmet = unmet_more row home c.loop-pair.at s t (c.args.hash, c.args.index) more i.walk i.unmet other;
     }

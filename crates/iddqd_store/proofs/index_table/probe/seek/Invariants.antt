@@ -7,7 +7,7 @@ use Rattle.iddqd_store.proofs.index_table.probe.seek.Given as goal
 
 abbrev pub invariant-loop-pair : goal.invariant-loop-pair
 invariant-loop-pair l = record {
-  looked : l.initial.meter ≤ l.meter;
+  probed : l.initial.meter ≤ l.meter;
   walk : Walk l.cells (l.hash % length l.cells) l.at (l.meter - l.initial.meter);
   unmet : (k : ℕ) → k < l.meter - l.initial.meter → cell l.cells (place (length l.cells) (l.hash % length l.cells) k) ≢ Some (l.hash, l.index);
 }

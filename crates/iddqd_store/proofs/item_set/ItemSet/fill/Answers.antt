@@ -9,38 +9,38 @@ use Rattle.iddqd_store.proofs.item_set.ItemSet.fill.Goals.{in-Some, in_default}
 pub insert_reserved-requires : goal.insert_reserved-requires
 insert_reserved-requires g c =
     let slots = c.args.self.now.slots in
-    let i = c.loop-at.invariant in
-    let within : c.loop-at.at < length slots = omega arith in
-    let found = rw c.new-ix.ensures at (sym c.get.ensures ∙ ap option_copied c.in-Some.is) in
-    let room = IsFilling-room (key_hash g.R.KeyOf.key g.R.Key.Hash.hash_input g.S.BuildHasher g.S.Hasher.Hasher c.args.hash_builder.now) slots c.loop-at.at c.in-Some.item.now c.loop-at.table.pairs within found i.filling in
+    let i = c.loop-index.invariant in
+    let within : c.loop-index.index < length slots = omega arith in
+    let found = rw c.new-slot.ensures at (sym c.get.ensures ∙ ap option_copied c.in-Some.is) in
+    let room = IsFilling-room (key_hash g.R.KeyOf.key g.R.Key.Hash.hash_input g.S.BuildHasher g.S.Hasher.Hasher c.args.hash_builder.now) slots c.loop-index.index c.in-Some.item.now c.loop-index.table.pairs within found i.filling in
     rw i.limit (omega (arith, room, c.requires.room))
 
-pub loop-at-preserved : goal.loop-at-preserved
-loop-at-preserved g c =
+pub loop-index-preserved : goal.loop-index-preserved
+loop-index-preserved g c =
     let slots = c.args.self.now.slots in
     let hash = key_hash g.R.KeyOf.key g.R.Key.Hash.hash_input g.S.BuildHasher g.S.Hasher.Hasher c.args.hash_builder.now in
     let writes = hash_of g.S.BuildHasher g.S.Hasher.Hasher c.args.hash_builder.now in
-    let at = c.loop-at.at in
-    let i = c.loop-at.invariant in
+    let at = c.loop-index.index in
+    let i = c.loop-index.invariant in
     let within : at < length slots = omega arith in
     elim c.match-get.branch [
       | in-Some w ↦
-          let found = rw c.new-ix.ensures at (sym c.get.ensures ∙ ap option_copied w.in-Some.is) in
+          let found = rw c.new-slot.ensures at (sym c.get.ensures ∙ ap option_copied w.in-Some.is) in
           record {
-            filling = rw w.table-is (IsFilling-enter hash slots at w.in-Some.item.now w.hash_one-hash.result c.loop-at.table.pairs _ within found (w.hash_one-hash.ensures ∙ ap (λ k. writes (g.R.Key.Hash.hash_input k)) w.key.ensures) (rw c.new-ix.ensures at w.insert_reserved.ensures.added) i.filling);
+            filling = rw w.table-is (IsFilling-enter hash slots at w.in-Some.item.now w.hash_one-hash.result c.loop-index.table.pairs _ within found (w.hash_one-hash.ensures ∙ ap (λ k. writes (g.R.Key.Hash.hash_input k)) w.key.ensures) (rw c.new-slot.ensures at w.insert_reserved.ensures.added) i.filling);
             cells = rw w.table-is (w.insert_reserved.ensures.cells ∙ i.cells);
             limit = rw w.table-is (w.insert_reserved.ensures.limit ∙ i.limit);
           }
       | in_default w ↦
-          let found = rw c.new-ix.ensures at (sym c.get.ensures ∙ ap option_copied w.in_default.is) in
+          let found = rw c.new-slot.ensures at (sym c.get.ensures ∙ ap option_copied w.in_default.is) in
           record {
-            filling = rw w.table-is (IsFilling-skip hash slots at c.loop-at.table.pairs within found i.filling);
+            filling = rw w.table-is (IsFilling-skip hash slots at c.loop-index.table.pairs within found i.filling);
             cells = rw w.table-is i.cells;
             limit = rw w.table-is i.limit;
           }
     ]
 
-pub loop-at-init : goal.loop-at-init
-loop-at-init g c =
+pub loop-index-init : goal.loop-index-init
+loop-index-init g c =
     let hash = key_hash g.R.KeyOf.key g.R.Key.Hash.hash_input g.S.BuildHasher g.S.Hasher.Hasher c.args.hash_builder.now in
     record { filling = rw c.requires.empty (IsFilling-start hash c.args.self.now.slots); cells = refl; limit = refl }

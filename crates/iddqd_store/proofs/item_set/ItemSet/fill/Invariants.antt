@@ -3,9 +3,9 @@ use Rattle.iddqd_store.specs.Rank.{key_hash}
 use Rattle.iddqd_store.proofs.RankLemmas.Fill.{IsFilling}
 use Rattle.iddqd_store.proofs.item_set.ItemSet.fill.Given as goal
 
-abbrev pub invariant-loop-at : goal.invariant-loop-at
-invariant-loop-at g l = record {
-  filling : IsFilling (key_hash g.R.KeyOf.key g.R.Key.Hash.hash_input g.S.BuildHasher g.S.Hasher.Hasher l.hash_builder) l.self.slots l.at l.table.pairs;
+abbrev pub invariant-loop-index : goal.invariant-loop-index
+invariant-loop-index g l = record {
+  filling : IsFilling (key_hash g.R.KeyOf.key g.R.Key.Hash.hash_input g.S.BuildHasher g.S.Hasher.Hasher l.hash_builder) l.self.slots l.index l.table.pairs;
   cells : length l.table.row ≡ length l.fn.table.row;
   limit : l.table.limit ≡ l.fn.table.limit;
 }

@@ -13,8 +13,8 @@ push_reserved-requires g c =
 pub invariant_of-self : goal.invariant_of-self
 invariant_of-self g c = rw c.push_reserved.ensures.items (IsChained-push _ _ _ c.args.item c.self.invariant (omega arith))
 
-pub returns-then-at-len-clause-members : goal.returns-then-at-len-clause-members
-returns-then-at-len-clause-members g c =
+pub returns-then-slot-len-clause-members : goal.returns-then-slot-len-clause-members
+returns-then-slot-len-clause-members g c =
     let slots = map item_of c.self.inside.slots.items in
     let at_end : c.self.inside.head ≡ length slots = omega (arith, length-map c.self.inside.slots.items item_of) in
     rw (← c.self.view_is, c.push_reserved.ensures.items, map_push, c.new.ensures, at_end) (members-push slots c.args.item)

@@ -6,14 +6,14 @@ use Rattle.iddqd_store.proofs.item_set.ItemSet.take.Goals as goal
 
 pub invariant_of-self : goal.invariant_of-self
 invariant_of-self g c =
-    let found = occupied_at c.self.inside.slots.items c.args.at (rw (← c.self.view_is) at c.requires) in
-    rw c.replace.ensures.after (IsChained-vacate _ _ _ c.args.at found.0 c.self.invariant found.1)
+    let found = occupied_at c.self.inside.slots.items c.args.slot (rw (← c.self.view_is) at c.requires) in
+    rw c.replace.ensures.after (IsChained-vacate _ _ _ c.args.slot found.0 c.self.invariant found.1)
 
 pub returns-clause-slots : goal.returns-clause-slots
 returns-clause-slots g c = rw (← c.self.view_is, c.replace.ensures.after, map-set)
 
 pub returns-clause-room : goal.returns-clause-room
 returns-clause-room g c =
-    let found = occupied_at c.self.inside.slots.items c.args.at (rw (← c.self.view_is) at c.requires) in
-    let fewer = count-set c.self.inside.slots.items c.args.at (Live found.0) (Free c.self.inside.head) found.1 in
+    let found = occupied_at c.self.inside.slots.items c.args.slot (rw (← c.self.view_is) at c.requires) in
+    let fewer = count-set c.self.inside.slots.items c.args.slot (Live found.0) (Free c.self.inside.head) found.1 in
     rw c.replace.ensures.after (omega (arith, fewer, c.self.invariant.counted, c.self.invariant.total, c.self.inside.slots.ok.1))

@@ -14,36 +14,36 @@ use Rattle.iddqd_store.proofs.item_set.ItemSet.take_entered.Goals as goal
 
 pub unreachable-requires : goal.unreachable-requires
 unreachable-requires g c =
-    let ixs = c.into_parts-slots.result.0.items in
-    let at = c.loop-at.at in
-    let ix = c.index.result.now in
-    let slots = c.loop-at.self.slots in
-    let long : c.len-at-end.result ≡ length ixs = omega (arith, c.len-at-end.ensures, c.into_parts-slots.result.0.ok) in
-    let front = drop-found ixs at ix (slice_get_read ixs c.len-at-end.result at ix long c.loop-at-test.true c.index.ensures) in
-    let live : IsLive slots ix = All-head (IsLive slots) ix (drop (at + 1) ixs) (subst (All (IsLive slots)) front c.loop-at.invariant.live) in
+    let numbers = c.into_parts-slots.result.0.items in
+    let at = c.loop-index.index in
+    let slot = c.index.result.now in
+    let slots = c.loop-index.self.slots in
+    let long : c.len-index-end.result ≡ length numbers = omega (arith, c.len-index-end.ensures, c.into_parts-slots.result.0.ok) in
+    let front = drop-found numbers at slot (slice_get_read numbers c.len-index-end.result at slot long c.loop-index-test.true c.index.ensures) in
+    let live : IsLive slots slot = All-head (IsLive slots) slot (drop (at + 1) numbers) (subst (All (IsLive slots)) front c.loop-index.invariant.live) in
     false≢true (subst (λ found. IsSome found) (sym c.remove.ensures.value ∙ c.in-None.is) live)
 
-pub loop-at-preserved : goal.loop-at-preserved
-loop-at-preserved g c =
-    let ixs = c.into_parts-slots.result.0.items in
-    let at = c.loop-at.at in
-    let ix = c.index.result.now in
-    let slots = c.loop-at.self.slots in
-    let rest = drop (at + 1) ixs in
-    let so_far = c.loop-at.invariant in
-    let taken = c.loop-at.items.items in
+pub loop-index-preserved : goal.loop-index-preserved
+loop-index-preserved g c =
+    let numbers = c.into_parts-slots.result.0.items in
+    let at = c.loop-index.index in
+    let slot = c.index.result.now in
+    let slots = c.loop-index.self.slots in
+    let rest = drop (at + 1) numbers in
+    let so_far = c.loop-index.invariant in
+    let taken = c.loop-index.items.items in
     let item = c.in-Some.item in
     let here = sym c.remove.ensures.value ∙ c.in-Some.is in
-    let long : c.len-at-end.result ≡ length ixs = omega (arith, c.len-at-end.ensures, c.into_parts-slots.result.0.ok) in
-    let front = drop-found ixs at ix (slice_get_read ixs c.len-at-end.result at ix long c.loop-at-test.true c.index.ensures) in
+    let long : c.len-index-end.result ≡ length numbers = omega (arith, c.len-index-end.ensures, c.into_parts-slots.result.0.ok) in
+    let front = drop-found numbers at slot (slice_get_read numbers c.len-index-end.result at slot long c.loop-index-test.true c.index.ensures) in
     let apart = subst (IsDistinct nat_eq) front so_far.apart in
     let live = subst (All (IsLive slots)) front so_far.live in
-    let values = subst (λ l. taken ++ items_at slots l ≡ items_at c.args.self.now.slots ixs) front so_far.values in
+    let values = subst (λ l. taken ++ items_at slots l ≡ items_at c.args.self.now.slots numbers) front so_far.values in
     record {
-      live = live-others slots _ ix rest c.remove.ensures.updates apart (All-tail (IsLive slots) ix rest live);
-      apart = IsDistinct-tail nat_eq ix rest apart;
-      values = rw c.push_reserved.ensures.items (items_at-taken slots _ ix rest item taken _ c.remove.ensures.updates here apart values);
-      left = rw c.push_reserved.ensures.items (IsPermutation-taken _ _ _ taken item so_far.left (live_items-moves slots c.remove.new.self.slots ix item c.in-Some.ensures.taken.members));
+      live = live-others slots _ slot rest c.remove.ensures.updates apart (All-tail (IsLive slots) slot rest live);
+      apart = IsDistinct-tail nat_eq slot rest apart;
+      values = rw c.push_reserved.ensures.items (items_at-taken slots _ slot rest item taken _ c.remove.ensures.updates here apart values);
+      left = rw c.push_reserved.ensures.items (IsPermutation-taken _ _ _ taken item so_far.left (live_items-moves slots c.remove.new.self.slots slot item c.in-Some.ensures.taken.members));
       capacity = c.remove.ensures.capacity ∙ so_far.capacity;
       taken = rw c.push_reserved.ensures.items (omega (arith, length_push taken item, so_far.taken));
       room = omega (arith, c.push_reserved.ensures.capacity, so_far.room);

@@ -6,10 +6,10 @@ use Rattle.iddqd_tri.proofs.map.TriHashMap.data_unique_mut.Goals as goal
 pub returns-in-Some : goal.returns-in-Some
 returns-in-Some g c =
     let test = has_all g.T.TriHashItem g.Q1.Query.stands_for g.Q2.Query.stands_for g.Q3.Query.stands_for c.args.query1 c.args.query2 c.args.query3 in (
-      (refl, (λ w. writes_found test c.args.self.now c.in-Some.ix c.in-Some.ensures g.T.TriHashItemMut.put _ w (λ x is. c.data_mut_at.ensures.swaps x w is)), refl),
+      (refl, (λ w. writes_found test c.args.self.now c.in-Some.slot c.in-Some.ensures g.T.TriHashItemMut.put _ w (λ x is. c.data_mut_at.ensures.swaps x w is)), refl),
       record {
         writes_back = tt;
         absent = tt;
-        value = data_found test c.args.self.now c.in-Some.ix c.in-Some.ensures g.T.TriHashItemMut.data_of _ c.data_mut_at.ensures.value;
+        value = data_found test c.args.self.now c.in-Some.slot c.in-Some.ensures g.T.TriHashItemMut.data_of _ c.data_mut_at.ensures.value;
       },
     )

@@ -7,19 +7,19 @@ use Rattle.iddqd_tri.proofs.MapLemmas.{AreLawful-ranks}
 use Rattle.iddqd_tri.proofs.map.TriHashMap.exchange.Goals as goal
 
 pub rehash-requires : goal.rehash-requires
-rehash-requires g c = paired_at c.args.by.now.0 c.args.ix c.replace-gone.result c.self.invariant.indexes.0 (rw (← c.self.view_is) at c.requires.under).first c.replace-gone.ensures.value
+rehash-requires g c = paired_at c.args.by.now.0 c.args.slot c.replace-gone.result c.self.invariant.indexes.0 (rw (← c.self.view_is) at c.requires.under).first c.replace-gone.ensures.value
 
 pub rehash-requires-2 : goal.rehash-requires-2
-rehash-requires-2 g c = paired_at c.args.by.now.1 c.args.ix c.replace-gone.result c.self.invariant.indexes.1.0 (rw (← c.self.view_is) at c.requires.under).second c.replace-gone.ensures.value
+rehash-requires-2 g c = paired_at c.args.by.now.1 c.args.slot c.replace-gone.result c.self.invariant.indexes.1.0 (rw (← c.self.view_is) at c.requires.under).second c.replace-gone.ensures.value
 
 pub rehash-requires-3 : goal.rehash-requires-3
-rehash-requires-3 g c = paired_at c.args.by.now.2 c.args.ix c.replace-gone.result c.self.invariant.indexes.1.1.0 (rw (← c.self.view_is) at c.requires.under).third c.replace-gone.ensures.value
+rehash-requires-3 g c = paired_at c.args.by.now.2 c.args.slot c.replace-gone.result c.self.invariant.indexes.1.1.0 (rw (← c.self.view_is) at c.requires.under).third c.replace-gone.ensures.value
 
 pub invariant_of-self : goal.invariant_of-self
 invariant_of-self g c =
     let hashes = rw (← c.self.view_is) at c.requires.hashes in
     rw c.replace-gone.ensures.slots
-    (IsIndexed-moved c.replace-gone.result c.args.item c.args.ix c.self.inside.items.slots c.replace-gone.ensures.value
+    (IsIndexed-moved c.replace-gone.result c.args.item c.args.slot c.self.inside.items.slots c.replace-gone.ensures.value
     (AreLawful-ranks g.T.TriHashItem g.met.T.K1.Eq.laws g.met.T.K2.Eq.laws g.met.T.K3.Eq.laws) c.self.invariant (rw (← c.self.view_is) at c.requires.free)
     ((_, hashes.first, c.rehash.ensures.moved), ((_, hashes.second, c.rehash-2.ensures.moved), ((_, hashes.third, c.rehash-3.ensures.moved), tt))))
 
@@ -29,14 +29,14 @@ returns-clause-puts_at g c =
     let slots = c.self.inside.items.slots in
     let holds = rw (← c.self.view_is) at c.room.ensures.fits in
     let value = rw (← c.self.view_is) at c.room.ensures.value in
-    let out = length_permutation _ _ (left gone.result c.args.item c.args.ix slots gone.ensures.value) in
-    let items = come gone.result c.args.item c.args.ix slots gone.ensures.value in
+    let out = length_permutation _ _ (left gone.result c.args.item c.args.slot slots gone.ensures.value) in
+    let items = come gone.result c.args.item c.args.slot slots gone.ensures.value in
     let into = length_permutation _ _ items in
     let free = rw (← c.self.view_is) at c.requires.free in
     record {
-      at = rw gone.ensures.slots (stands gone.result c.args.item c.args.ix slots gone.ensures.value);
+      at = rw gone.ensures.slots (stands gone.result c.args.item c.args.slot slots gone.ensures.value);
       items = rw (← c.self.view_is, gone.ensures.slots) items;
-      sound = rw gone.ensures.slots (sound_moved gone.result c.args.item c.args.ix slots gone.ensures.value (AreLawful-ranks g.T.TriHashItem g.met.T.K1.Eq.laws g.met.T.K2.Eq.laws g.met.T.K3.Eq.laws) c.self.invariant free);
+      sound = rw gone.ensures.slots (sound_moved gone.result c.args.item c.args.slot slots gone.ensures.value (AreLawful-ranks g.T.TriHashItem g.met.T.K1.Eq.laws g.met.T.K2.Eq.laws g.met.T.K3.Eq.laws) c.self.invariant free);
       fits = rw gone.ensures.slots (omega (arith, holds, value, out, into, gone.ensures.capacity, c.rehash.ensures.limit, c.rehash-2.ensures.limit, c.rehash-3.ensures.limit));
       same_room = search rules;
       same_builder = search rules;

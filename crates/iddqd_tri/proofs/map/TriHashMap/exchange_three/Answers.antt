@@ -14,8 +14,8 @@ use Rattle.iddqd_tri.proofs.map.TriHashMap.exchange_three.Goals as goal
 second_there : {T : Type 0} (slots : List (Option T)) (at end : ℕ) (x : T) → at ≢ end → get (slice_set slots end None) at ≡ Some x → get slots at ≡ Some x
 second_there slots at end x apart is = sym (get_or-set_other slots end at None None apart) ∙ is
 
-first_there : {T : Type 0} (slots : List (Option T)) (ix at end : ℕ) (x : T) → (ix ≢ at) × (ix ≢ end) × (at ≢ end) → get (slice_set (slice_set slots end None) at None) ix ≡ Some x → get slots ix ≡ Some x
-first_there slots ix at end x apart is = second_there slots ix end x apart.1 (second_there (slice_set slots end None) ix at x apart.0 is)
+first_there : {T : Type 0} (slots : List (Option T)) (slot at end : ℕ) (x : T) → (slot ≢ at) × (slot ≢ end) × (at ≢ end) → get (slice_set (slice_set slots end None) at None) slot ≡ Some x → get slots slot ≡ Some x
+first_there slots slot at end x apart is = second_there slots slot end x apart.1 (second_there (slice_set slots end None) slot at x apart.0 is)
 
 pub replace_three-requires-clause-gone : goal.replace_three-requires-clause-gone
 replace_three-requires-clause-gone g c =

@@ -5,12 +5,12 @@ use Rattle.iddqd_store.proofs.BagLemmas.Calling.{TakesEach}
 use Rattle.iddqd_store.proofs.MapLemmas.Extracting.{HasRejected}
 use Rattle.iddqd_tri.proofs.map.TriHashMap.extract_from.Given as goal
 
-abbrev pub invariant-loop-ix : goal.invariant-loop-ix
-invariant-loop-ix g l = record {
-  rejected : HasRejected (CalledAt g.F.FnMut) l.fn.f l.self l.fn.at l.f l.at;
-  callable : TakesEach g.F.FnMut l.f (to_come l.self l.at);
+abbrev pub invariant-loop-slot : goal.invariant-loop-slot
+invariant-loop-slot g l = record {
+  rejected : HasRejected (CalledAt g.F.FnMut) l.fn.f l.self l.fn.cursor l.f l.cursor;
+  callable : TakesEach g.F.FnMut l.f (to_come l.self l.cursor);
   same : l.self ≡ l.fn.self;
 }
 
-abbrev pub decreases-loop-ix : goal.decreases-loop-ix
-decreases-loop-ix g l = length (to_come l.self l.at)
+abbrev pub decreases-loop-slot : goal.decreases-loop-slot
+decreases-loop-slot g l = length (to_come l.self l.cursor)

@@ -9,8 +9,8 @@ use Rattle.iddqd_tri.specs.Keys.{ranks}
 use Rattle.iddqd_tri.proofs.MapLemmas.{AreLawful-ranks}
 use Rattle.iddqd_tri.proofs.map.TriHashMap.insert_at.Goals as goal
 
-pub insert_reserved-ix-requires : goal.insert_reserved-ix-requires
-insert_reserved-ix-requires g c =
+pub insert_reserved-slot-requires : goal.insert_reserved-slot-requires
+insert_reserved-slot-requires g c =
     let room = rw (← c.self.view_is) at c.requires.room in
     omega (arith, length-live_items c.self.inside.items.slots)
 
@@ -41,20 +41,20 @@ insert_at-requires-3-clause-vacant g c = place_in c.self.invariant.indexes.1.1.0
 pub invariant_of-self : goal.invariant_of-self
 invariant_of-self g c =
     let places = rw (← c.self.view_is) at c.requires.places in
-    IsIndexed-insert c.args.item (AreLawful-ranks g.T.TriHashItem g.met.T.K1.Eq.laws g.met.T.K2.Eq.laws g.met.T.K3.Eq.laws) c.self.invariant (rw (← c.self.view_is) at c.requires.free) c.insert_reserved-ix.ensures.members
+    IsIndexed-insert c.args.item (AreLawful-ranks g.T.TriHashItem g.met.T.K1.Eq.laws g.met.T.K2.Eq.laws g.met.T.K3.Eq.laws) c.self.invariant (rw (← c.self.view_is) at c.requires.free) c.insert_reserved-slot.ensures.members
     ((_, places.first.same, c.insert_at.ensures.added), ((_, places.second.same, c.insert_at-2.ensures.added), ((_, places.third.same, c.insert_at-3.ensures.added), tt)))
 
 pub returns-clause-puts_at : goal.returns-clause-puts_at
 returns-clause-puts_at g c =
     let room = rw (← c.self.view_is) at c.requires.room in
     let free = rw (← c.self.view_is) at c.requires.free in
-    let items = IsPermutation-map (λ m. m.1) _ _ c.insert_reserved-ix.ensures.members in
+    let items = IsPermutation-map (λ m. m.1) _ _ c.insert_reserved-slot.ensures.members in
     let more = length_permutation _ _ items in
     record {
-      at = c.insert_reserved-ix.ensures.updates.changed;
+      at = c.insert_reserved-slot.ensures.updates.changed;
       items = rw (← c.self.view_is) items;
-      sound = free_sound (ranks g.T.TriHashItem g.T.K1.PartialEq.eq g.T.K2.PartialEq.eq g.T.K3.PartialEq.eq) (AreLawful-ranks g.T.TriHashItem g.met.T.K1.Eq.laws g.met.T.K2.Eq.laws g.met.T.K3.Eq.laws) c.self.inside.items.slots c.insert_reserved-ix.new.self.slots c.insert_reserved-ix.result c.args.item c.self.invariant.sound free c.insert_reserved-ix.ensures.members;
-      fits = omega (arith, room, more, c.insert_reserved-ix.ensures.capacity, c.insert_at.ensures.limit, c.insert_at-2.ensures.limit, c.insert_at-3.ensures.limit);
+      sound = free_sound (ranks g.T.TriHashItem g.T.K1.PartialEq.eq g.T.K2.PartialEq.eq g.T.K3.PartialEq.eq) (AreLawful-ranks g.T.TriHashItem g.met.T.K1.Eq.laws g.met.T.K2.Eq.laws g.met.T.K3.Eq.laws) c.self.inside.items.slots c.insert_reserved-slot.new.self.slots c.insert_reserved-slot.result c.args.item c.self.invariant.sound free c.insert_reserved-slot.ensures.members;
+      fits = omega (arith, room, more, c.insert_reserved-slot.ensures.capacity, c.insert_at.ensures.limit, c.insert_at-2.ensures.limit, c.insert_at-3.ensures.limit);
       same_room = search rules;
       same_builder = search rules;
     }
@@ -64,4 +64,4 @@ returns-clause-costs g c =
     let into1 = c.insert_at.ensures in
     let into2 = c.insert_at-2.ensures in
     let into3 = c.insert_at-3.ensures in
-    rw (← c.self.view_is) (walks_all (_ ∷ _ ∷ _ ∷ []) _ _ c.self.invariant (c.insert_at.new.meter, once _ _ _ (insert_most _ _ _ _ _ _ into1.no_look into1.looks into1.within), (c.insert_at-2.new.meter, once _ _ _ (insert_most _ _ _ _ _ _ into2.no_look into2.looks into2.within), (c.insert_at-3.new.meter, once _ _ _ (insert_most _ _ _ _ _ _ into3.no_look into3.looks into3.within), refl))))
+    rw (← c.self.view_is) (walks_all (_ ∷ _ ∷ _ ∷ []) _ _ c.self.invariant (c.insert_at.new.meter, once _ _ _ (insert_most _ _ _ _ _ _ into1.no_probe into1.probes into1.within), (c.insert_at-2.new.meter, once _ _ _ (insert_most _ _ _ _ _ _ into2.no_probe into2.probes into2.within), (c.insert_at-3.new.meter, once _ _ _ (insert_most _ _ _ _ _ _ into3.no_probe into3.probes into3.within), refl))))

@@ -19,8 +19,8 @@ exchange-requires-clause-free g c =
     let by = ranks g.T.TriHashItem g.T.K1.PartialEq.eq g.T.K2.PartialEq.eq g.T.K3.PartialEq.eq in
     let slots = c.args.self.now.slots in
     let none = c.in_default-pop_front.ensures in
-    let only = c.in-Some.ensures.rest ∙ ap (λ (l : List ℕ). c.in-Some.ix ∷ l) (none.rest ∙ none.end) in
-    let out = one_leaves by slots c.args.item c.in-Some.ix _ stand only in
+    let only = c.in-Some.ensures.rest ∙ ap (λ (l : List ℕ). c.in-Some.slot ∷ l) (none.rest ∙ none.end) in
+    let out = one_leaves by slots c.args.item c.in-Some.slot _ stand only in
     clash-taken by (bag c.args.self.now) _ c.args.item out
 
 pub returns-in_default-pop_front-clause-puts_at : goal.returns-in_default-pop_front-clause-puts_at
@@ -29,8 +29,8 @@ returns-in_default-pop_front-clause-puts_at g c =
     let by = ranks g.T.TriHashItem g.T.K1.PartialEq.eq g.T.K2.PartialEq.eq g.T.K3.PartialEq.eq in
     let slots = c.args.self.now.slots in
     let none = c.in_default-pop_front.ensures in
-    let only = c.in-Some.ensures.rest ∙ ap (λ (l : List ℕ). c.in-Some.ix ∷ l) (none.rest ∙ none.end) in
-    let out = one_leaves by slots c.args.item c.in-Some.ix _ stand only in
+    let only = c.in-Some.ensures.rest ∙ ap (λ (l : List ℕ). c.in-Some.slot ∷ l) (none.rest ∙ none.end) in
+    let out = one_leaves by slots c.args.item c.in-Some.slot _ stand only in
     let put = c.exchange.ensures.puts_at in
     record {
       at = put.at;
@@ -49,8 +49,8 @@ exchange_three-gone-requires-clause-free g c =
     let first = c.in-Some-pop_front.ensures.rest in
     let second = c.in-Some-pop_front-2.ensures.rest in
     let none = none_left c.pop_front-3.new.self (let fewer = c.in-Some.ensures.fewer in let long = ap length first in let longer = ap length second in omega (arith, fewer, long, longer)) in
-    let found = c.in-Some.ensures.rest ∙ ap (λ (l : List ℕ). c.in-Some.ix ∷ l) (first ∙ ap (λ (l : List ℕ). c.in-Some-pop_front.at ∷ l) (second ∙ ap (λ (l : List ℕ). c.in-Some-pop_front-2.end ∷ l) none)) in
-    let out = three_leave by slots c.args.item c.in-Some.ix c.in-Some-pop_front.at c.in-Some-pop_front-2.end _ stand found in
+    let found = c.in-Some.ensures.rest ∙ ap (λ (l : List ℕ). c.in-Some.slot ∷ l) (first ∙ ap (λ (l : List ℕ). c.in-Some-pop_front.other_slot ∷ l) (second ∙ ap (λ (l : List ℕ). c.in-Some-pop_front-2.last_slot ∷ l) none)) in
+    let out = three_leave by slots c.args.item c.in-Some.slot c.in-Some-pop_front.other_slot c.in-Some-pop_front-2.last_slot _ stand found in
     clash-taken by (bag c.args.self.now) _ c.args.item out
 
 pub returns-in-Some-pop_front-2-clause-puts_at : goal.returns-in-Some-pop_front-2-clause-puts_at
@@ -61,8 +61,8 @@ returns-in-Some-pop_front-2-clause-puts_at g c =
     let first = c.in-Some-pop_front.ensures.rest in
     let second = c.in-Some-pop_front-2.ensures.rest in
     let none = none_left c.pop_front-3.new.self (let fewer = c.in-Some.ensures.fewer in let long = ap length first in let longer = ap length second in omega (arith, fewer, long, longer)) in
-    let found = c.in-Some.ensures.rest ∙ ap (λ (l : List ℕ). c.in-Some.ix ∷ l) (first ∙ ap (λ (l : List ℕ). c.in-Some-pop_front.at ∷ l) (second ∙ ap (λ (l : List ℕ). c.in-Some-pop_front-2.end ∷ l) none)) in
-    let out = three_leave by slots c.args.item c.in-Some.ix c.in-Some-pop_front.at c.in-Some-pop_front-2.end _ stand found in
+    let found = c.in-Some.ensures.rest ∙ ap (λ (l : List ℕ). c.in-Some.slot ∷ l) (first ∙ ap (λ (l : List ℕ). c.in-Some-pop_front.other_slot ∷ l) (second ∙ ap (λ (l : List ℕ). c.in-Some-pop_front-2.last_slot ∷ l) none)) in
+    let out = three_leave by slots c.args.item c.in-Some.slot c.in-Some-pop_front.other_slot c.in-Some-pop_front-2.last_slot _ stand found in
     let put = c.exchange_three-gone.ensures.puts_at in
     record {
       at = put.at;
@@ -79,8 +79,8 @@ exchange_two-gone-requires-clause-free g c =
     let by = ranks g.T.TriHashItem g.T.K1.PartialEq.eq g.T.K2.PartialEq.eq g.T.K3.PartialEq.eq in
     let slots = c.args.self.now.slots in
     let none = c.in_default-pop_front-2.ensures in
-    let found = c.in-Some.ensures.rest ∙ ap (λ (l : List ℕ). c.in-Some.ix ∷ l) (c.in-Some-pop_front.ensures.rest ∙ ap (λ (l : List ℕ). c.in-Some-pop_front.at ∷ l) (none.rest ∙ none.end)) in
-    let out = two_leave by slots slots c.args.item c.in-Some.ix c.in-Some-pop_front.at [] [] _ stand found (λ k apart. refl) refl (IsPermutation-refl _) in
+    let found = c.in-Some.ensures.rest ∙ ap (λ (l : List ℕ). c.in-Some.slot ∷ l) (c.in-Some-pop_front.ensures.rest ∙ ap (λ (l : List ℕ). c.in-Some-pop_front.other_slot ∷ l) (none.rest ∙ none.end)) in
+    let out = two_leave by slots slots c.args.item c.in-Some.slot c.in-Some-pop_front.other_slot [] [] _ stand found (λ k apart. refl) refl (IsPermutation-refl _) in
     clash-taken by (bag c.args.self.now) _ c.args.item out
 
 pub returns-clause-puts_at : goal.returns-clause-puts_at
@@ -89,8 +89,8 @@ returns-clause-puts_at g c =
     let by = ranks g.T.TriHashItem g.T.K1.PartialEq.eq g.T.K2.PartialEq.eq g.T.K3.PartialEq.eq in
     let slots = c.args.self.now.slots in
     let none = c.in_default-pop_front-2.ensures in
-    let found = c.in-Some.ensures.rest ∙ ap (λ (l : List ℕ). c.in-Some.ix ∷ l) (c.in-Some-pop_front.ensures.rest ∙ ap (λ (l : List ℕ). c.in-Some-pop_front.at ∷ l) (none.rest ∙ none.end)) in
-    let out = two_leave by slots slots c.args.item c.in-Some.ix c.in-Some-pop_front.at [] [] _ stand found (λ k apart. refl) refl (IsPermutation-refl _) in
+    let found = c.in-Some.ensures.rest ∙ ap (λ (l : List ℕ). c.in-Some.slot ∷ l) (c.in-Some-pop_front.ensures.rest ∙ ap (λ (l : List ℕ). c.in-Some-pop_front.other_slot ∷ l) (none.rest ∙ none.end)) in
+    let out = two_leave by slots slots c.args.item c.in-Some.slot c.in-Some-pop_front.other_slot [] [] _ stand found (λ k apart. refl) refl (IsPermutation-refl _) in
     let put = c.exchange_two-gone.ensures.puts_at in
     record {
       at = put.at;
@@ -108,7 +108,7 @@ returns-clause-costs g c =
     let hash1 = key_hash g.T.TriHashItem.key1 g.T.K1.Hash.hash_input g.S.BuildHasher g.S.Hasher.Hasher builder in
     let hash2 = key_hash g.T.TriHashItem.key2 g.T.K2.Hash.hash_input g.S.BuildHasher g.S.Hasher.Hasher builder in
     let hash3 = key_hash g.T.TriHashItem.key3 g.T.K3.Hash.hash_input g.S.BuildHasher g.S.Hasher.Hasher builder in
-    let at = c.in-Some-pop_front.at in
+    let at = c.in-Some-pop_front.other_slot in
     let gone = c.exchange_two-gone.result.0 in
     let listed : c.push_front-2.new.self ≡ gone ∷ c.exchange_two-gone.result.1 ∷ [] = search rules in
     let most = walks_most (length (bag c.args.self.now)) (walks_two hash1 by.0 at gone ∷ walks_two hash2 by.1 at gone ∷ walks_two hash3 by.2 at gone ∷ []) (3 ∷ 3 ∷ 3 ∷ []) (two_most hash1 by.0 gone at, (two_most hash2 by.1 gone at, (two_most hash3 by.2 gone at, tt))) in

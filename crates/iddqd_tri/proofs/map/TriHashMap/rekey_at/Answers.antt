@@ -10,7 +10,7 @@ use Rattle.iddqd_tri.proofs.map.TriHashMap.rekey_at.Goals as goal
 pub exchange-requires-clause-free : goal.exchange-requires-clause-free
 exchange-requires-clause-free g c =
     let by = ranks g.T.TriHashItem g.T.K1.PartialEq.eq g.T.K2.PartialEq.eq g.T.K3.PartialEq.eq in
-    free_slot by c.args.self.now.slots c.args.ix c.args.item c.requires c.in-Ok.ensures.free
+    free_slot by c.args.self.now.slots c.args.slot c.args.item c.requires c.in-Ok.ensures.free
 
 pub unreachable-requires : goal.unreachable-requires
 unreachable-requires g c =
@@ -25,25 +25,25 @@ returns-then-ne-clause-reason g c =
     let stand = stand_in (rw (c.slot.ensures, c.slot-2.ensures, c.slot-3.ensures) at c.each_once-found.ensures) c.in-Err.ensures.blocked.found in
     let by = ranks g.T.TriHashItem g.T.K1.PartialEq.eq g.T.K2.PartialEq.eq g.T.K3.PartialEq.eq in
     let slots = c.args.self.now.slots in
-    let apart : c.in-Some.at ≢ c.args.ix = λ same. search rules in
-    another_found by slots c.args.item c.args.ix c.each_once-found.result stand c.in-Some.at c.pop_front.new.self c.in-Some.ensures.rest apart
+    let apart : c.in-Some.other ≢ c.args.slot = λ same. search rules in
+    another_found by slots c.args.item c.args.slot c.each_once-found.result stand c.in-Some.other c.pop_front.new.self c.in-Some.ensures.rest apart
 
 pub exchange-requires-in-None-clause-free : goal.exchange-requires-in-None-clause-free
 exchange-requires-in-None-clause-free g c =
     let stand = stand_in (rw (c.slot.ensures, c.slot-2.ensures, c.slot-3.ensures) at c.each_once-found.ensures) c.in-Err.ensures.blocked.found in
     let by = ranks g.T.TriHashItem g.T.K1.PartialEq.eq g.T.K2.PartialEq.eq g.T.K3.PartialEq.eq in
     let slots = c.args.self.now.slots in
-    let same : c.in-Some.at ≡ c.args.ix = search rules in
+    let same : c.in-Some.other ≡ c.args.slot = search rules in
     let none = c.in-None.ensures in
-    let only = c.in-Some.ensures.rest ∙ ap (λ (l : List ℕ). c.in-Some.at ∷ l) (none.rest ∙ none.end) ∙ ap (λ (a : ℕ). a ∷ []) same in
-    clash-taken by (bag c.args.self.now) _ c.args.item (one_leaves by slots c.args.item c.args.ix c.each_once-found.result stand only)
+    let only = c.in-Some.ensures.rest ∙ ap (λ (l : List ℕ). c.in-Some.other ∷ l) (none.rest ∙ none.end) ∙ ap (λ (a : ℕ). a ∷ []) same in
+    clash-taken by (bag c.args.self.now) _ c.args.item (one_leaves by slots c.args.item c.args.slot c.each_once-found.result stand only)
 
 pub returns-in-Some-pop_front-clause-reason : goal.returns-in-Some-pop_front-clause-reason
 returns-in-Some-pop_front-clause-reason g c =
     let stand = stand_in (rw (c.slot.ensures, c.slot-2.ensures, c.slot-3.ensures) at c.each_once-found.ensures) c.in-Err.ensures.blocked.found in
     let by = ranks g.T.TriHashItem g.T.K1.PartialEq.eq g.T.K2.PartialEq.eq g.T.K3.PartialEq.eq in
     let slots = c.args.self.now.slots in
-    let same : c.in-Some.at ≡ c.args.ix = search rules in
+    let same : c.in-Some.other ≡ c.args.slot = search rules in
     let second = c.in-Some-pop_front in
-    let found = c.in-Some.ensures.rest ∙ ap (λ (l : List ℕ). c.in-Some.at ∷ l) second.ensures.rest ∙ ap (λ (a : ℕ). a ∷ second.field-0 ∷ c.pop_front-2.new.self) same in
-    more_found by slots c.args.item c.args.ix c.each_once-found.result stand second.field-0 c.pop_front-2.new.self found
+    let found = c.in-Some.ensures.rest ∙ ap (λ (l : List ℕ). c.in-Some.other ∷ l) second.ensures.rest ∙ ap (λ (a : ℕ). a ∷ second.field-0 ∷ c.pop_front-2.new.self) same in
+    more_found by slots c.args.item c.args.slot c.each_once-found.result stand second.field-0 c.pop_front-2.new.self found

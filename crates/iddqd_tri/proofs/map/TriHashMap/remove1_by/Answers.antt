@@ -12,17 +12,17 @@ forget_by_key-requires g c = record { searchable = first_rank c.self.invariant; 
 
 pub forget-requires-clause-paired : goal.forget-requires-clause-paired
 forget-requires-clause-paired g c =
-    pair_in c.in_ok-ix.ix c.in-Some.item _ c.self.invariant.indexes.1.0 refl (sym c.remove.ensures.value ∙ c.in-Some.is)
+    pair_in c.in_ok-slot.slot c.in-Some.item _ c.self.invariant.indexes.1.0 refl (sym c.remove.ensures.value ∙ c.in-Some.is)
 
 pub forget-requires-2-clause-paired : goal.forget-requires-2-clause-paired
 forget-requires-2-clause-paired g c =
-    pair_in c.in_ok-ix.ix c.in-Some.item _ c.self.invariant.indexes.1.1.0 refl (sym c.remove.ensures.value ∙ c.in-Some.is)
+    pair_in c.in_ok-slot.slot c.in-Some.item _ c.self.invariant.indexes.1.1.0 refl (sym c.remove.ensures.value ∙ c.in-Some.is)
 
 pub invariant_of-self-2 : goal.invariant_of-self-2
 invariant_of-self-2 g c =
     let found = sym c.remove.ensures.value ∙ c.in-Some.is in
     IsIndexed-remove {others = c.forget_by_key.new.self.pairs ∷ c.forget.new.self.pairs ∷ c.forget-2.new.self.pairs ∷ []} c.in-Some.item (AreLawful-ranks g.T.TriHashItem g.met.T.K1.Eq.laws g.met.T.K2.Eq.laws g.met.T.K3.Eq.laws) c.self.invariant c.in-Some.ensures.taken.members
-    (c.in_ok-ix.ensures.taken c.in-Some.item found, (c.forget.ensures.taken, (c.forget-2.ensures.taken, tt)))
+    (c.in_ok-slot.ensures.taken c.in-Some.item found, (c.forget.ensures.taken, (c.forget-2.ensures.taken, tt)))
 
 pub returns-clause-loses : goal.returns-clause-loses
 returns-clause-loses g c = record {

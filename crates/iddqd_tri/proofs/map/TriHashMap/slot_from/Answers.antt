@@ -4,17 +4,17 @@ use Rattle.iddqd_store.proofs.MapLemmas.Walking.{passes, first_is, live_is}
 use Rattle.iddqd_tri.proofs.map.TriHashMap.slot_from.Goals as goal
 
 pub returns-in-Some-clause-comes : goal.returns-in-Some-clause-comes
-returns-in-Some-clause-comes g c = rw (← c.self.view_is) (λ x is. comes_next c.self.inside.items.slots c.args.from c.in-Some.ix x c.in-Some.ensures.next.0 is c.in-Some.ensures.next.2)
+returns-in-Some-clause-comes g c = rw (← c.self.view_is) (λ x is. comes_next c.self.inside.items.slots c.args.from c.in-Some.slot x c.in-Some.ensures.next.0 is c.in-Some.ensures.next.2)
 
 pub returns-in-Some-clause-next : goal.returns-in-Some-clause-next
 returns-in-Some-clause-next g c =
-    let at = live_is (get c.self.inside.items.slots c.in-Some.ix) c.in-Some.ensures.next.1 in
-    rw (← c.self.view_is) (at.0, at.1, passes _ c.args.from c.in-Some.ix at.0 (comes_next c.self.inside.items.slots c.args.from c.in-Some.ix at.0 c.in-Some.ensures.next.0 at.1 c.in-Some.ensures.next.2))
+    let at = live_is (get c.self.inside.items.slots c.in-Some.slot) c.in-Some.ensures.next.1 in
+    rw (← c.self.view_is) (at.0, at.1, passes _ c.args.from c.in-Some.slot at.0 (comes_next c.self.inside.items.slots c.args.from c.in-Some.slot at.0 c.in-Some.ensures.next.0 at.1 c.in-Some.ensures.next.2))
 
 pub returns-in-Some-clause-step : goal.returns-in-Some-clause-step
 returns-in-Some-clause-step g c =
-    let at = live_is (get c.self.inside.items.slots c.in-Some.ix) c.in-Some.ensures.next.1 in
-    rw (← c.self.view_is) (first_is c.self.inside.items.slots c.args.from c.in-Some.ix at.0 c.in-Some.ensures.next.0 at.1 c.in-Some.ensures.next.2)
+    let at = live_is (get c.self.inside.items.slots c.in-Some.slot) c.in-Some.ensures.next.1 in
+    rw (← c.self.view_is) (first_is c.self.inside.items.slots c.args.from c.in-Some.slot at.0 c.in-Some.ensures.next.0 at.1 c.in-Some.ensures.next.2)
 
 pub returns-in-None-clause-none : goal.returns-in-None-clause-none
 returns-in-None-clause-none g c = rw (← c.self.view_is) (nothing_left c.self.inside.items.slots c.args.from c.in-None.ensures.next)

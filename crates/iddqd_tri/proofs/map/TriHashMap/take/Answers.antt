@@ -10,24 +10,24 @@ pub forget-requires : goal.forget-requires
 forget-requires g c =
     let found = sym c.remove.ensures.value ∙ c.in-Some.is in
     record {
-      known = hash_known c.args.ix c.in-Some.item c.args.hash1 c.self.invariant.indexes.0 (rw (← c.self.view_is) at c.requires.hash1) found;
-      paired = pair_in c.args.ix c.in-Some.item _ c.self.invariant.indexes.0 refl found;
+      known = hash_known c.args.slot c.in-Some.item c.args.hash1 c.self.invariant.indexes.0 (rw (← c.self.view_is) at c.requires.hash1) found;
+      paired = pair_in c.args.slot c.in-Some.item _ c.self.invariant.indexes.0 refl found;
     }
 
 pub forget-requires-in-Some : goal.forget-requires-in-Some
 forget-requires-in-Some g c =
     let found = sym c.remove.ensures.value ∙ c.in-Some.is in
     record {
-      known = hash_known c.args.ix c.in-Some.item c.args.hash2 c.self.invariant.indexes.1.0 (rw (← c.self.view_is) at c.requires.hash2) found;
-      paired = pair_in c.args.ix c.in-Some.item _ c.self.invariant.indexes.1.0 refl found;
+      known = hash_known c.args.slot c.in-Some.item c.args.hash2 c.self.invariant.indexes.1.0 (rw (← c.self.view_is) at c.requires.hash2) found;
+      paired = pair_in c.args.slot c.in-Some.item _ c.self.invariant.indexes.1.0 refl found;
     }
 
 pub forget-requires-in-Some-2 : goal.forget-requires-in-Some-2
 forget-requires-in-Some-2 g c =
     let found = sym c.remove.ensures.value ∙ c.in-Some.is in
     record {
-      known = hash_known c.args.ix c.in-Some.item c.args.hash3 c.self.invariant.indexes.1.1.0 (rw (← c.self.view_is) at c.requires.hash3) found;
-      paired = pair_in c.args.ix c.in-Some.item _ c.self.invariant.indexes.1.1.0 refl found;
+      known = hash_known c.args.slot c.in-Some.item c.args.hash3 c.self.invariant.indexes.1.1.0 (rw (← c.self.view_is) at c.requires.hash3) found;
+      paired = pair_in c.args.slot c.in-Some.item _ c.self.invariant.indexes.1.1.0 refl found;
     }
 
 pub invariant_of-self : goal.invariant_of-self

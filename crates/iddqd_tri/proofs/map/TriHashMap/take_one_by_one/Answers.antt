@@ -12,32 +12,32 @@ use Rattle.iddqd_tri.proofs.map.TriHashMap.take_one_by_one.Goals as goal
 
 pub take-requires-clause-live : goal.take-requires-clause-live
 take-requires-clause-live g c =
-    let ixs = c.into_parts-slots.result.0.items in
-    let at = c.loop-at.at in
-    let ix = c.index.result.now in
-    let slots = c.loop-at.self.slots in
-    let long : c.len-at-end.result ≡ length ixs = omega (arith, c.len-at-end.ensures, c.into_parts-slots.result.0.ok) in
-    let front = drop-found ixs at ix (slice_get_read ixs c.len-at-end.result at ix long c.loop-at-test.true c.index.ensures) in
-    All-head (IsLive slots) ix (drop (at + 1) ixs) (subst (All (IsLive slots)) front c.loop-at.invariant.live)
+    let numbers = c.into_parts-slots.result.0.items in
+    let at = c.loop-index.index in
+    let slot = c.index.result.now in
+    let slots = c.loop-index.self.slots in
+    let long : c.len-index-end.result ≡ length numbers = omega (arith, c.len-index-end.ensures, c.into_parts-slots.result.0.ok) in
+    let front = drop-found numbers at slot (slice_get_read numbers c.len-index-end.result at slot long c.loop-index-test.true c.index.ensures) in
+    All-head (IsLive slots) slot (drop (at + 1) numbers) (subst (All (IsLive slots)) front c.loop-index.invariant.live)
 
-pub loop-at-preserved : goal.loop-at-preserved
-loop-at-preserved g c =
-    let ixs = c.into_parts-slots.result.0.items in
-    let at = c.loop-at.at in
-    let ix = c.index.result.now in
-    let slots = c.loop-at.self.slots in
-    let rest = drop (at + 1) ixs in
-    let so_far = c.loop-at.invariant in
-    let taken = c.loop-at.items.items in
-    let long : c.len-at-end.result ≡ length ixs = omega (arith, c.len-at-end.ensures, c.into_parts-slots.result.0.ok) in
-    let front = drop-found ixs at ix (slice_get_read ixs c.len-at-end.result at ix long c.loop-at-test.true c.index.ensures) in
+pub loop-index-preserved : goal.loop-index-preserved
+loop-index-preserved g c =
+    let numbers = c.into_parts-slots.result.0.items in
+    let at = c.loop-index.index in
+    let slot = c.index.result.now in
+    let slots = c.loop-index.self.slots in
+    let rest = drop (at + 1) numbers in
+    let so_far = c.loop-index.invariant in
+    let taken = c.loop-index.items.items in
+    let long : c.len-index-end.result ≡ length numbers = omega (arith, c.len-index-end.ensures, c.into_parts-slots.result.0.ok) in
+    let front = drop-found numbers at slot (slice_get_read numbers c.len-index-end.result at slot long c.loop-index-test.true c.index.ensures) in
     let apart = subst (IsDistinct nat_eq) front so_far.apart in
     let live = subst (All (IsLive slots)) front so_far.live in
-    let values = subst (λ l. taken ++ items_at slots l ≡ items_at c.args.self.now.slots ixs) front so_far.values in
+    let values = subst (λ l. taken ++ items_at slots l ≡ items_at c.args.self.now.slots numbers) front so_far.values in
     record {
-      live = live-others slots _ ix rest c.take.ensures.updates apart (All-tail (IsLive slots) ix rest live);
-      apart = IsDistinct-tail nat_eq ix rest apart;
-      values = rw c.push_reserved.ensures.items (items_at-taken slots _ ix rest c.take.result taken _ c.take.ensures.updates c.take.ensures.value apart values);
+      live = live-others slots _ slot rest c.take.ensures.updates apart (All-tail (IsLive slots) slot rest live);
+      apart = IsDistinct-tail nat_eq slot rest apart;
+      values = rw c.push_reserved.ensures.items (items_at-taken slots _ slot rest c.take.result taken _ c.take.ensures.updates c.take.ensures.value apart values);
       loses = rw c.push_reserved.ensures.items record {
         items = IsPermutation-taken _ _ _ taken c.take.result so_far.loses.items c.take.ensures.loses.items;
         same_room = c.take.ensures.loses.same_room ∙ so_far.loses.same_room;

@@ -44,35 +44,35 @@ impl<T: TriHashItem, S: BuildHasher> TriHashMap<T, S> {
     {
         // This call gives the prover the fact that the items fit, for the clause `fits`.
         let _ = self.room();
-        let (ix, at, end) = slots;
-        let Some(last) = self.items.remove(end) else {
+        let (slot, other_slot, last_slot) = slots;
+        let Some(last) = self.items.remove(last_slot) else {
             unreachable!()
         };
-        let Some(other) = self.items.remove(at) else {
+        let Some(other) = self.items.remove(other_slot) else {
             unreachable!()
         };
-        let gone = self.items.replace(ix, item);
+        let gone = self.items.replace(slot, item);
         self.first.replace_three::<T, First, S>(
             &self.hash_builder,
-            (ix, &gone),
-            (at, &other),
-            (end, &last),
+            (slot, &gone),
+            (other_slot, &other),
+            (last_slot, &last),
             &by.0,
             meter,
         );
         self.second.replace_three::<T, Second, S>(
             &self.hash_builder,
-            (ix, &gone),
-            (at, &other),
-            (end, &last),
+            (slot, &gone),
+            (other_slot, &other),
+            (last_slot, &last),
             &by.1,
             meter,
         );
         self.third.replace_three::<T, Third, S>(
             &self.hash_builder,
-            (ix, &gone),
-            (at, &other),
-            (end, &last),
+            (slot, &gone),
+            (other_slot, &other),
+            (last_slot, &last),
             &by.2,
             meter,
         );

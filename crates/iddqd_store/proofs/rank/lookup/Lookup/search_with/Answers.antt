@@ -11,7 +11,7 @@ returns-clause-found g c =
 pub returns-clause-costs : goal.returns-clause-costs
 returns-clause-costs g c =
     let table = c.find_or_vacancy.ensures in
-    rw (← c.self.view_is) (costs _ c.self.invariant c.args.hash _ _ _ _ _ table.sized (record { asked = search (rules, lives, table.costs.asked); looks = table.costs.looks; within = table.costs.within }))
+    rw (← c.self.view_is) (costs _ c.self.invariant c.args.hash _ _ _ _ _ table.sized (record { asked = search (rules, lives, table.costs.asked); probes = table.costs.probes; within = table.costs.within }))
 
 pub returns-clause-hashed : goal.returns-clause-hashed
 returns-clause-hashed g c = rw (← c.self.view_is) (hash_found _ c.self.invariant c.args.hash c.find_or_vacancy.result c.find_or_vacancy.ensures.found)
@@ -23,6 +23,6 @@ pub returns-clause-cells : goal.returns-clause-cells
 returns-clause-cells g c = rw (← c.self.view_is) (cells_found _ c.self.invariant c.args.hash c.find_or_vacancy.result c.find_or_vacancy.ensures.sized c.find_or_vacancy.ensures.vacant)
 
 pub find_or_vacancy-requires : goal.find_or_vacancy-requires
-find_or_vacancy-requires g c = λ ix there x here.
+find_or_vacancy-requires g c = λ slot there x here.
     let asks = rw (← c.self.view_is) at c.requires.asks in
-    asks x (item_at _ ix x here) (hash_at ix c.args.hash x c.self.invariant.index there here)
+    asks x (item_at _ slot x here) (hash_at slot c.args.hash x c.self.invariant.index there here)

@@ -3,12 +3,12 @@ use Rattle.std.proofs.Common.{◌≡◌, ℕ, ◌+◌, ◌<◌, ◌≤◌, List,
 use Rattle.std.specs.List.Sorted.{IsPermutation}
 use Rattle.std.proofs.lemmas.Bool.{cases_lt}
 use Rattle.iddqd_store.specs.Table.Ring.{stretch}
-use Rattle.iddqd_store.specs.Table.{hashes, LooksUp}
+use Rattle.iddqd_store.specs.Table.{hashes, Probes}
 use Rattle.iddqd_store.proofs.TableLemmas.Stretch.{stretch_permutation}
 use Rattle.iddqd_store.proofs.TableLemmas.StretchBound.{stretch_le_length}
 
-pub looks_permutation : {A : Type 0} (xs ys : List ℕ) (n hash : ℕ) (answer : Option A) (before after : ℕ) → IsPermutation xs ys → LooksUp xs n hash answer before after → LooksUp ys n hash answer before after
-looks_permutation xs ys n hash answer before after same l =
+pub probes_permutation : {A : Type 0} (xs ys : List ℕ) (n hash : ℕ) (answer : Option A) (before after : ℕ) → IsPermutation xs ys → Probes xs n hash answer before after → Probes ys n hash answer before after
+probes_permutation xs ys n hash answer before after same l =
     let e : stretch xs n hash ≡ stretch ys n hash = stretch_permutation xs ys n hash same in
     record {
       no_cells = l.no_cells;
@@ -18,13 +18,13 @@ looks_permutation xs ys n hash answer before after same l =
     }
 
 -- a search probes at most one cell more than there are pairs
-pub looks_most : {A : Type 0} (hashes : List ℕ) (n hash : ℕ) (answer : Option A) (before after : ℕ) → LooksUp hashes n hash answer before after → after ≤ before + length hashes + 1
-looks_most hashes n hash None before after l =
+pub probes_most : {A : Type 0} (hashes : List ℕ) (n hash : ℕ) (answer : Option A) (before after : ℕ) → Probes hashes n hash answer before after → after ≤ before + length hashes + 1
+probes_most hashes n hash None before after l =
     let s : stretch hashes n hash ≤ length hashes = stretch_le_length hashes n hash in
     ⊎_elim (λ (pos : 0 < n). let m : after ≡ before + stretch hashes n hash + 1 = l.miss pos in omega arith)
     (λ (none : n ≤ 0). let m : after ≡ before = l.no_cells (omega arith) in omega arith)
     (cases_lt 0 n)
-looks_most hashes n hash (Some x) before after l =
+probes_most hashes n hash (Some x) before after l =
     let s : stretch hashes n hash ≤ length hashes = stretch_le_length hashes n hash in
     let m : after ≤ before + stretch hashes n hash = l.hit_most in
     omega arith
