@@ -16,56 +16,59 @@ use std::io;
 
 const LIMIT: usize = 3;
 
-fn main(rt: HostRuntime) -> io::Result<()> {
-    let mut cache = Cache::new(rt.alloc(), LIMIT)?;
-    for line in rt.lines(rt.alloc()) {
-        answer(&rt, &mut cache, line?.as_str())?;
-    }
-    Ok(())
+/// What a line asks for.
+enum Command {
+    Put(Page),
+    Page(u64),
+    Frame(u32),
+    Count,
 }
 
-fn answer(rt: &(impl Print + AllocGlobal), cache: &mut Cache, line: &str) -> io::Result<()> {
-    let words: Vec<&str> = line.split_whitespace().collect(rt.alloc())?;
-    match words.as_slice() {
-        ["put", number, frame, value] => match parse_page(number, frame, value) {
-            Some(page) => {
-                cache.put(page);
-                rt.println("ok")
-            }
-            None => rt.println("bad line"),
-        },
-        ["page", number] => match number.parse::<u64>() {
-            Ok(number) => show(rt, cache.page(number)),
-            Err(_) => rt.println("bad line"),
-        },
-        ["frame", frame] => match frame.parse::<u32>() {
-            Ok(frame) => show(rt, cache.in_frame(frame)),
-            Err(_) => rt.println("bad line"),
-        },
-        ["count"] => {
-            let count = cache.len();
-            println!(rt; "{count}")
-        }
-        _ => rt.println("bad line"),
-    }
-}
-
-fn parse_page(number: &str, frame: &str, value: &str) -> Option<Page> {
-    Some(Page {
-        number: number.parse::<u64>().ok()?,
-        frame: frame.parse::<u32>().ok()?,
-        value: value.parse::<u64>().ok()?,
+/// Returns what the words of a line ask for, if they ask for anything.
+fn parse(words: &[&str]) -> Option<Command> {
+    Some(match words {
+        ["put", number, frame, value] => Command::Put(Page {
+            number: number.parse().ok()?,
+            frame: frame.parse().ok()?,
+            value: value.parse().ok()?,
+        }),
+        ["page", number] => Command::Page(number.parse().ok()?),
+        ["frame", frame] => Command::Frame(frame.parse().ok()?),
+        ["count"] => Command::Count,
+        _ => return None,
     })
 }
 
+/// Prints the page that was found, if there is one.
 fn show(rt: &impl Print, found: Option<&Page>) -> io::Result<()> {
     match found {
-        Some(page) => {
-            let number = page.number;
-            let frame = page.frame;
-            let value = page.value;
-            println!(rt; "{number} {frame} {value}")
-        }
+        Some(page) => println!(rt; "{} {} {}", page.number, page.frame, page.value),
         None => rt.println("none"),
     }
+}
+
+/// Carries out a command, and prints the answer.
+fn answer(rt: &impl Print, cache: &mut Cache, command: Command) -> io::Result<()> {
+    match command {
+        Command::Put(page) => {
+            cache.put(page);
+            rt.println("ok")
+        }
+        Command::Page(number) => show(rt, cache.page(number)),
+        Command::Frame(frame) => show(rt, cache.in_frame(frame)),
+        Command::Count => println!(rt; "{}", cache.len()),
+    }
+}
+
+fn main(rt: HostRuntime) -> io::Result<()> {
+    let mut cache = Cache::new(rt.alloc(), LIMIT)?;
+    for line in rt.lines(rt.alloc()) {
+        let line = line?;
+        let words: Vec<&str> = line.split_whitespace().collect(rt.alloc())?;
+        match parse(words.as_slice()) {
+            Some(command) => answer(&rt, &mut cache, command)?,
+            None => rt.println("bad line")?,
+        }
+    }
+    Ok(())
 }

@@ -18,95 +18,91 @@ use iddqd_tri::TriHashMap;
 use std::hash::RandomState;
 use std::io;
 
-fn main(rt: HostRuntime) -> io::Result<()> {
-    let mut sessions = TriHashMap::with_hasher(rt.alloc(), RandomState::new(&rt)?);
-    for line in rt.lines(rt.alloc()) {
-        answer(&rt, &mut sessions, line?.as_str())?;
-    }
-    Ok(())
+/// What a line asks for.
+enum Command {
+    Open(Session),
+    Token(u64),
+    Peer(Peer),
+    Touch(u64, u64),
+    Expire(u64),
+    Count,
 }
 
-fn answer(rt: &(impl Print + AllocGlobal), sessions: &mut Sessions, line: &str) -> io::Result<()> {
-    let words: Vec<&str> = line.split_whitespace().collect(rt.alloc())?;
-    match words.as_slice() {
-        ["open", id, token, host, port, now] => match parse_session(id, token, host, port, now) {
-            Some(session) => answer_open(rt, sessions, session),
-            None => rt.println("bad line"),
-        },
-        ["token", token] => match token.parse::<u64>() {
-            Ok(token) => show(rt, by_token(sessions, token)),
-            Err(_) => rt.println("bad line"),
-        },
-        ["peer", host, port] => match parse_peer(host, port) {
-            Some(peer) => show(rt, with_peer(sessions, &peer)),
-            None => rt.println("bad line"),
-        },
-        ["touch", token, now] => answer_touch(rt, sessions, token, now),
-        ["expire", since] => match since.parse::<u64>() {
-            Ok(since) => {
-                expire(sessions, since);
-                rt.println("ok")
-            }
-            Err(_) => rt.println("bad line"),
-        },
-        ["count"] => {
-            let count = count(sessions);
-            println!(rt; "{count}")
+/// Returns what the words of a line ask for, if they ask for anything.
+fn parse(words: &[&str]) -> Option<Command> {
+    Some(match words {
+        ["open", id, token, host, port, now] => Command::Open(Session {
+            id: id.parse().ok()?,
+            token: token.parse().ok()?,
+            peer: parse_peer(host, port)?,
+            seen: now.parse().ok()?,
+        }),
+        ["token", token] => Command::Token(token.parse().ok()?),
+        ["peer", host, port] => Command::Peer(parse_peer(host, port)?),
+        ["touch", token, now] => Command::Touch(token.parse().ok()?, now.parse().ok()?),
+        ["expire", since] => Command::Expire(since.parse().ok()?),
+        ["count"] => Command::Count,
+        _ => return None,
+    })
+}
+
+/// Returns the peer with this address, if the words are one.
+fn parse_peer(host: &str, port: &str) -> Option<Peer> {
+    Some(Peer {
+        host: host.parse().ok()?,
+        port: port.parse().ok()?,
+    })
+}
+
+/// Prints the session that was found, if there is one.
+fn show(rt: &impl Print, found: Option<&Session>) -> io::Result<()> {
+    match found {
+        Some(session) => {
+            let Peer { host, port } = session.peer;
+            println!(rt;
+                "{} {} {host} {port} {}",
+                session.id, session.token, session.seen
+            )
         }
-        _ => rt.println("bad line"),
+        None => rt.println("none"),
     }
 }
 
-/// If there is no memory for the session, the error says so, and the program ends.
+/// Opens a session. If there is no memory for it, the error says so, and the program ends.
 fn answer_open(rt: &impl Print, sessions: &mut Sessions, session: Session) -> io::Result<()> {
     for closed in open(sessions, session)? {
-        let id = closed.id;
-        println!(rt; "closed {id}")?;
+        println!(rt; "closed {}", closed.id)?;
     }
     rt.println("ok")
 }
 
-fn answer_touch(
-    rt: &impl Print,
-    sessions: &mut Sessions,
-    token: &str,
-    now: &str,
-) -> io::Result<()> {
-    match (token.parse::<u64>(), now.parse::<u64>()) {
-        (Ok(token), Ok(now)) => {
+/// Carries out a command, and prints the answer.
+fn answer(rt: &impl Print, sessions: &mut Sessions, command: Command) -> io::Result<()> {
+    match command {
+        Command::Open(session) => answer_open(rt, sessions, session),
+        Command::Token(token) => show(rt, by_token(sessions, token)),
+        Command::Peer(peer) => show(rt, with_peer(sessions, &peer)),
+        Command::Touch(token, now) => {
             let found = touch(sessions, token, now);
             rt.println(if found { "ok" } else { "none" })
         }
-        _ => rt.println("bad line"),
-    }
-}
-
-fn parse_session(id: &str, token: &str, host: &str, port: &str, now: &str) -> Option<Session> {
-    Some(Session {
-        id: id.parse::<u32>().ok()?,
-        token: token.parse::<u64>().ok()?,
-        peer: parse_peer(host, port)?,
-        seen: now.parse::<u64>().ok()?,
-    })
-}
-
-fn parse_peer(host: &str, port: &str) -> Option<Peer> {
-    Some(Peer {
-        host: host.parse::<u32>().ok()?,
-        port: port.parse::<u16>().ok()?,
-    })
-}
-
-fn show(rt: &impl Print, found: Option<&Session>) -> io::Result<()> {
-    match found {
-        Some(session) => {
-            let id = session.id;
-            let token = session.token;
-            let host = session.peer.host;
-            let port = session.peer.port;
-            let seen = session.seen;
-            println!(rt; "{id} {token} {host} {port} {seen}")
+        Command::Expire(since) => {
+            expire(sessions, since);
+            rt.println("ok")
         }
-        None => rt.println("none"),
+        Command::Count => println!(rt; "{}", count(sessions)),
     }
+}
+
+fn main(rt: HostRuntime) -> io::Result<()> {
+    let mut sessions = TriHashMap::with_hasher(rt.alloc(), RandomState::new(&rt)?);
+    for line in rt.lines(rt.alloc()) {
+        let line = line?;
+        let words: Vec<&str> = line.split_whitespace().collect(rt.alloc())?;
+        match parse(words.as_slice()) {
+            Some(command) => answer(&rt, &mut sessions, command)?,
+            None => rt.println("bad line")?,
+        }
+    }
+    Ok(())
 }

@@ -17,46 +17,38 @@ use iddqd_bi::{BiHashMap, NotReplaced, Rejected};
 use std::alloc::AllocError;
 use std::io;
 
-fn main(rt: HostRuntime) -> io::Result<()> {
-    let mut symbols = BiHashMap::new(rt.alloc());
-    for line in rt.lines(rt.alloc()) {
-        answer(&rt, &mut symbols, line?.as_str())?;
-    }
-    Ok(())
+/// What a line asks for, with the names that are in the line.
+enum Command<'l> {
+    Define(&'l str, u64),
+    Name(&'l str),
+    At(u64),
+    Undefine(&'l str),
+    Rename(u64, &'l str),
+    Count,
 }
 
-fn answer(
-    rt: &(impl Print + AllocGlobal),
-    symbols: &mut BiHashMap<Symbol>,
-    line: &str,
-) -> io::Result<()> {
-    let words: Vec<&str> = line.split_whitespace().collect(rt.alloc())?;
-    match words.as_slice() {
-        ["def", name, address] => match address.parse::<u64>() {
-            Ok(address) => answer_define(rt, symbols, name, address),
-            Err(_) => rt.println("bad line"),
-        },
-        ["name", name] => show(rt, resolve(symbols, name)),
-        ["at", address] => match address.parse::<u64>() {
-            Ok(address) => show(rt, at_address(symbols, address)),
-            Err(_) => rt.println("bad line"),
-        },
-        ["undef", name] => {
-            let gone = undefine(symbols, name);
-            show(rt, gone.as_ref())
-        }
-        ["rename", address, name] => match address.parse::<u64>() {
-            Ok(address) => answer_rename(rt, symbols, address, name),
-            Err(_) => rt.println("bad line"),
-        },
-        ["count"] => {
-            let count = symbols.len();
-            println!(rt; "{count}")
-        }
-        _ => rt.println("bad line"),
+/// Returns what the words of a line ask for, if they ask for anything.
+fn parse<'l>(words: &[&'l str]) -> Option<Command<'l>> {
+    Some(match words {
+        ["def", name, address] => Command::Define(name, address.parse().ok()?),
+        ["name", name] => Command::Name(name),
+        ["at", address] => Command::At(address.parse().ok()?),
+        ["undef", name] => Command::Undefine(name),
+        ["rename", address, name] => Command::Rename(address.parse().ok()?, name),
+        ["count"] => Command::Count,
+        _ => return None,
+    })
+}
+
+/// Prints the symbol that was found, if there is one.
+fn show(rt: &impl Print, found: Option<&Symbol>) -> io::Result<()> {
+    match found {
+        Some(symbol) => println!(rt; "{} {}", symbol.name, symbol.address),
+        None => rt.println("none"),
     }
 }
 
+/// Defines a symbol. If there is no memory for it, the error says so, and the program ends.
 fn answer_define(
     rt: &(impl Print + AllocGlobal),
     symbols: &mut BiHashMap<Symbol>,
@@ -76,6 +68,7 @@ fn answer_define(
     }
 }
 
+/// Gives the symbol at this address another name.
 fn answer_rename(
     rt: &(impl Print + AllocGlobal),
     symbols: &mut BiHashMap<Symbol>,
@@ -90,13 +83,34 @@ fn answer_rename(
     })
 }
 
-fn show(rt: &impl Print, found: Option<&Symbol>) -> io::Result<()> {
-    match found {
-        Some(symbol) => {
-            let name = symbol.name.as_str();
-            let address = symbol.address;
-            println!(rt; "{name} {address}")
+/// Carries out a command, and prints the answer.
+fn answer(
+    rt: &(impl Print + AllocGlobal),
+    symbols: &mut BiHashMap<Symbol>,
+    command: Command,
+) -> io::Result<()> {
+    match command {
+        Command::Define(name, address) => answer_define(rt, symbols, name, address),
+        Command::Name(name) => show(rt, resolve(symbols, name)),
+        Command::At(address) => show(rt, at_address(symbols, address)),
+        Command::Undefine(name) => {
+            let gone = undefine(symbols, name);
+            show(rt, gone.as_ref())
         }
-        None => rt.println("none"),
+        Command::Rename(address, name) => answer_rename(rt, symbols, address, name),
+        Command::Count => println!(rt; "{}", symbols.len()),
     }
+}
+
+fn main(rt: HostRuntime) -> io::Result<()> {
+    let mut symbols = BiHashMap::new(rt.alloc());
+    for line in rt.lines(rt.alloc()) {
+        let line = line?;
+        let words: Vec<&str> = line.split_whitespace().collect(rt.alloc())?;
+        match parse(words.as_slice()) {
+            Some(command) => answer(&rt, &mut symbols, command)?,
+            None => rt.println("bad line")?,
+        }
+    }
+    Ok(())
 }
