@@ -24,7 +24,8 @@ RENAMED = [
     (r"\bboth(?= (?:keys|searches|name)\b)", "all"), (r"\bBoth(?= (?:keys|searches)\b)", "All"),
     (r"\bthe other key\b", "the other keys"), (r"(?<=rank < )2\b|(?<=<= )2\b|(?<=-le)2\b|(?<=KEYS: usize = )2\b", "3"),
     # What is the same at each rank: types or proofs (if no function returns them), parts of a list, and arguments of a call.
-    (r"(?<!-> )\(([\w:]+(?:\(\))?), \1\)", r"(\1, \1, \1)"), (r"\b(\w+) × \1\b", r"\1 × \1 × \1"), (r"\b(ℕ|nat_eq) \1\b", r"\1 \1 \1"), (r"\bNone ∷ None(?= ∷)", "None ∷ None ∷ None"), (r"\b_ ∷ _ ∷ \[\]", "_ ∷ _ ∷ _ ∷ []"),
+    (r"(?<!-> )\(([\w:]+(?:\(\))?), \1\)", r"(\1, \1, \1)"), (r"\b(\w+) × \1\b", r"\1 × \1 × \1"), (r"\b(ℕ|nat_eq) \1\b", r"\1 \1 \1"),
+    (r"\bNone ∷ None(?= ∷)", "None ∷ None ∷ None"), (r"\b_ ∷ _ ∷ \[\]", "_ ∷ _ ∷ _ ∷ []"),
     # The walks through each other table, and the least of all.
     (r"\(1 ∷ \[\]\)", "(1 ∷ 1 ∷ [])"), (r"\bmin ([\w.]*)first([\w.]*) \1second\2", r"min \1first\2 (min \1second\2 \1third\2)"),
     (r"(?<=, )(None|&nothing),\s+\1(?=,?\s*(?:\)|&mut Meter\b))", r"\1, \1, \1"),

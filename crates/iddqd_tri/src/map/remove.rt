@@ -216,7 +216,9 @@ impl<T: TriHashItem, S: BuildHasher> TriHashMap<T, S> {
         ensures absent { IfNone result (self.new ≡ self.old) }
     {
         let hash = self.hash_builder.hash_one(query1);
-        let slot = self.slot_unique(hash, query1, query2, query3)?;
-        Some(self.take(slot, Some(hash), None, None, &mut Meter::new()))
+        match self.slot_unique(hash, query1, query2, query3) {
+            Some(slot) => Some(self.take(slot, Some(hash), None, None, &mut Meter::new())),
+            None => None,
+        }
     }
 }

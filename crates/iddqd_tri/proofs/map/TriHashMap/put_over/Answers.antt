@@ -110,6 +110,6 @@ returns-clause-costs g c =
     let hash3 = key_hash g.T.TriHashItem.key3 g.T.K3.Hash.hash_input g.S.BuildHasher g.S.Hasher.Hasher builder in
     let at = c.in-Some-pop_front.other_slot in
     let gone = c.exchange_two-gone.result.0 in
-    let listed : c.push_front-2.new.self ≡ gone ∷ c.exchange_two-gone.result.1 ∷ [] = search rules in
+    let listed : c.push-3.new.self ≡ gone ∷ c.exchange_two-gone.result.1 ∷ [] = search rules in
     let most = walks_most (length (bag c.args.self.now)) (walks_two hash1 by.0 at gone ∷ walks_two hash2 by.1 at gone ∷ walks_two hash3 by.2 at gone ∷ []) (3 ∷ 3 ∷ 3 ∷ []) (two_most hash1 by.0 gone at, (two_most hash2 by.1 gone at, (two_most hash3 by.2 gone at, tt))) in
     rw listed (omega (arith, c.exchange_two-gone.ensures.costs, most))
