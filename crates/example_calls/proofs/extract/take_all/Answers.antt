@@ -14,4 +14,4 @@ loop-task-init c = record {
 pub returns-clause-items : goal.returns-clause-items
 returns-clause-items c =
     let at = c.loop-task in
-    (popped-end at.tasks c.pop_from.new.self at.at c.pop_from.new.at (bag c.args.tasks.now) at.all.items c.in_default.ensures.pops_from at.invariant.popped).1
+    (popped-end at.tasks c.pop_from.new.self at.at c.pop_from.new.cursor (bag c.args.tasks.now) at.all.items c.in_default.ensures.pops_from at.invariant.popped).1

@@ -12,11 +12,11 @@ granted false met held room (inl some) free fits = absurd (some free)
 granted false met held room (inr full) free fits = absurd (omega (arith, full, fits))
 
 -- the second item does not conflict with the first, and there is room for it
-pub returns-then-first-clause-granted : goal.returns-then-first-clause-granted
-returns-then-first-clause-granted g c free_a free_b room =
-    let middle = c.insert_or_drop-first.new.map in
-    let gains : Gains c.args.map.now c.args.a middle = search (rules, c.insert_or_drop-first.ensures.gains, c.if-first.true) in
+pub returns-then-has_a-clause-granted : goal.returns-then-has_a-clause-granted
+returns-then-has_a-clause-granted g c free_a free_b room =
+    let middle = c.insert_or_drop-has_a.new.map in
+    let gains : Gains c.args.map.now c.args.a middle = search (rules, c.insert_or_drop-has_a.ensures.gains, c.if-has_a.true) in
     let as_many : length (c.args.a ∷ bag c.args.map.now) ≡ length (bag middle) = length_permutation _ _ gains.items in
-    granted c.insert_or_drop-second.result _ (length (bag middle)) middle.capacity c.insert_or_drop-second.ensures.reason
+    granted c.insert_or_drop-has_b.result _ (length (bag middle)) middle.capacity c.insert_or_drop-has_b.ensures.reason
     (clash-none g.T.Ranked.ranks _ _ c.args.b (IsPermutation-sym _ _ gains.items) free_b)
-    (omega (arith, as_many, room, c.insert_or_drop-first.ensures.no_less_room))
+    (omega (arith, as_many, room, c.insert_or_drop-has_a.ensures.no_less_room))

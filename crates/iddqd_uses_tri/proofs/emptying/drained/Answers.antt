@@ -14,4 +14,4 @@ loop-item-init g c = record {
 pub returns-clause-items : goal.returns-clause-items
 returns-clause-items g c =
     let at = c.loop-item in
-    (popped-end at.map c.pop_from.new.self at.at c.pop_from.new.at (bag c.args.map.now) at.items.items c.in_default.ensures.pops_from at.invariant.popped).1
+    (popped-end at.map c.pop_from.new.self at.at c.pop_from.new.cursor (bag c.args.map.now) at.items.items c.in_default.ensures.pops_from at.invariant.popped).1
