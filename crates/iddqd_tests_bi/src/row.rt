@@ -1,4 +1,4 @@
-//! Items with two numbers as keys.
+//! Items with two keys, which are numbers.
 ghost use Rattle.std.proofs.Common.{rules};
 ghost use Rattle.iddqd_tests_bi.specs.Row.{with_value};
 

@@ -1,4 +1,4 @@
-//! Items with three numbers as keys.
+//! Items with three keys, which are numbers.
 ghost use Rattle.std.proofs.Common.{rules};
 ghost use Rattle.iddqd_tests_tri.specs.Row.{with_value};
 
