@@ -61,14 +61,6 @@ module _ {T : Type 0} where
       ∙ ap (λ l. taken ++ x ∷ l) (items_at-others old new slot None rest updates (IsDistinct-head nat_eq slot rest apart))
       ∙ (rw found at before)
 
-  -- one more item was seen in its content
-  pub items_at-seen : (slots : List (Option T)) (slot : ℕ) (rest : List ℕ) (x : T) (seen whole : List T) → get slots slot ≡ Some x → seen ++ items_at slots (slot ∷ rest) ≡ whole → (seen ++ x ∷ []) ++ items_at slots rest ≡ whole
-  items_at-seen slots slot rest x seen whole found before = append_assoc seen (x ∷ []) (items_at slots rest) ∙ (rw found at before)
-
-  -- or its content had no item
-  pub items_at-none : (slots : List (Option T)) (slot : ℕ) (rest : List ℕ) (seen whole : List T) → get slots slot ≡ None → seen ++ items_at slots (slot ∷ rest) ≡ whole → seen ++ items_at slots rest ≡ whole
-  items_at-none slots slot rest seen whole none before = rw none at before
-
   -- the other slots stay live
   pub live-unchanged : (old new : List (Option T)) (slot : ℕ) (content : Option T) (rest : List ℕ) → Updates old new slot content → AllByRecursion (λ y. nat_eq slot y ≡ false) rest → All (IsLive old) rest → All (IsLive new) rest
   live-unchanged old new slot content [] updates apart live = All-nil (IsLive new)

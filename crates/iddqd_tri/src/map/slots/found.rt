@@ -125,11 +125,9 @@ impl<T: TriHashItem, S: BuildHasher> TriHashMap<T, S> {
         ensures { map (λ item. item.now) result ≡ items_at self.now.slots found.now }
     {
         let mut items = UpToThree::new();
-        for index in 0..found.len() {
-            if let Some(slot) = found.get(index) {
-                if let Some(item) = self.items.get(*slot) {
-                    items.push(item);
-                }
+        for slot in found.iter() {
+            if let Some(item) = self.items.get(*slot) {
+                items.push(item);
             }
         }
         items

@@ -124,10 +124,8 @@ impl<T: TriHashItemMut, S: BuildHasher> TriHashMap<T, S> {
         ensures builder { self.new.builder ≡ self.old.builder }
         ensures live { (slot : ℕ) → IsLive self.old.slots slot → IsLive self.new.slots slot }
     {
-        for index in 0..found.len() {
-            if let Some(slot) = found.get(index) {
-                self.store_at(*slot, &mut f);
-            }
+        for slot in found.iter() {
+            self.store_at(*slot, &mut f);
         }
     }
 

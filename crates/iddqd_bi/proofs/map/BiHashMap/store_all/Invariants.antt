@@ -1,4 +1,4 @@
-use Rattle.std.proofs.Common.{◌≡◌, ℕ, List, drop}
+use Rattle.std.proofs.Common.{◌≡◌, ℕ, List}
 use Rattle.std.specs.Prelude.{All, nat_eq}
 use Rattle.std.specs.Fn.{CalledAt}
 use Rattle.std.specs.List.{IsDistinct}
@@ -13,15 +13,15 @@ use Rattle.iddqd_bi.specs.Keys.{ranks}
 use Rattle.iddqd_bi.proofs.map.BiHashMap.store_all.Given as goal
 
 -- what is stored at the other slots from here completes what is stored at all of them from the start
-abbrev pub invariant-loop-index : goal.invariant-loop-index
-invariant-loop-index g l =
+abbrev pub invariant-loop-slot : goal.invariant-loop-slot
+invariant-loop-slot g l =
     let by = ranks g.T.BiHashItem g.T.K1.PartialEq.eq g.T.K2.PartialEq.eq in
     let stores = Stores (CalledAt g.F.FnMut) g.T.BiHashItemMut.put by in
     record {
-      live : All (IsLive l.self.slots) (drop l.index l.found);
-      apart : IsDistinct nat_eq (drop l.index l.found);
-      callable : TakesEach g.F.FnMut l.f (items_at l.self.slots (drop l.index l.found));
-      completes : (new : List g.row.T.Denot) → stores l.f (items_at l.self.slots (drop l.index l.found)) (bag l.self) new → stores l.fn.f (items_at l.fn.self.slots l.found) (bag l.fn.self) new;
+      live : All (IsLive l.self.slots) l.slot-iterator;
+      apart : IsDistinct nat_eq l.slot-iterator;
+      callable : TakesEach g.F.FnMut l.f (items_at l.self.slots l.slot-iterator);
+      completes : (new : List g.row.T.Denot) → stores l.f (items_at l.self.slots l.slot-iterator) (bag l.self) new → stores l.fn.f (items_at l.fn.self.slots l.found) (bag l.fn.self) new;
       kept : KeepsKeys (agrees by) l.fn.self.slots l.self.slots;
       live_still : (at : ℕ) → IsLive l.fn.self.slots at → IsLive l.self.slots at;
       capacity : l.self.capacity ≡ l.fn.self.capacity;

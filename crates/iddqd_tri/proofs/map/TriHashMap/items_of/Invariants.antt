@@ -1,9 +1,9 @@
-use Rattle.std.proofs.Common.{◌≡◌, ◌≤◌, ◌++◌, length, map, drop}
+use Rattle.std.proofs.Common.{◌≡◌, ◌≤◌, ◌+◌, ◌++◌, length, map}
 use Rattle.iddqd_store.specs.Slots.Found.{items_at}
 use Rattle.iddqd_tri.proofs.map.TriHashMap.items_of.Given as goal
 
-abbrev pub invariant-loop-index : goal.invariant-loop-index
-invariant-loop-index g l = record {
-  items : map (λ item. item.now) l.items ++ items_at l.self.slots (drop l.index l.found) ≡ items_at l.self.slots l.found;
-  short : length l.items ≤ l.index;
+abbrev pub invariant-loop-slot : goal.invariant-loop-slot
+invariant-loop-slot g l = record {
+  items : map (λ item. item.now) l.items ++ items_at l.self.slots l.slot-iterator ≡ items_at l.self.slots l.found;
+  short : length l.items + length l.slot-iterator ≤ length l.found;
 }
