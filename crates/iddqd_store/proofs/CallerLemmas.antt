@@ -26,7 +26,6 @@ use Rattle.iddqd_store.proofs.BagLemmas.Steps.{agrees-conflicts}
 use Rattle.iddqd_store.proofs.BagLemmas.Theory.{conflicts-self, swap-IsPermutation}
 use Rattle.iddqd_store.proofs.RankLemmas.Index.{Contains-here, Contains-cons}
 use Rattle.iddqd_store.proofs.BagLemmas.Unique.{any_listed, some_item}
-use Rattle.iddqd_store.proofs.SlotLemmas.Chain.{live_items-items_in}
 use Rattle.iddqd_store.proofs.SlotLemmas.Next.{before_and_behind}
 
 -- a member that passes
@@ -122,7 +121,7 @@ length-overwritten_by ranks old new x went_in =
 
 -- the items before a place of an iteration and those after it are all the items
 pub passed-to_come : {T S : Type 0} (m : Map T S) (at : ℕ) → bag m ≡ passed m at ++ to_come m at
-passed-to_come m at = live_items-items_in m.slots ∙ sym (before_and_behind m.slots at)
+passed-to_come m at = sym (before_and_behind m.slots at)
 
 -- of two writes of a member, one after the other, the last one counts
 pub swap-twice : {T : Type 0} (ranks : Ranks T) → AreLawful ranks → 0 < length ranks → (old middle new : List T) (x y z : T) → agrees ranks x y ≡ true → IsPermutation middle (swap ranks old x y) → IsPermutation new (swap ranks middle y z) → IsPermutation new (swap ranks old x z)

@@ -12,12 +12,13 @@ use Rattle.std.specs.Cmp.{IsEquivalence}
 use Rattle.std.proofs.Common.{refl, sym, subst, ap, ◌∙◌, arith}
 use Rattle.std.proofs.lemmas.Map.Keys.{IsDistinct-cons, IsDistinct-tail}
 use Rattle.std.proofs.lemmas.List.Sorted.{IsPermutation-refl, IsPermutation-sym, IsPermutation-map}
-use Rattle.iddqd_store.specs.Slots.{members, live_items}
+use Rattle.iddqd_store.specs.Slots.{members, contents}
 use Rattle.iddqd_store.specs.Bag.{Ranks, AreLawful, IsSound, conflicts, clash}
 use Rattle.iddqd_store.specs.Rank.Keys.{IsKeyTest}
 use Rattle.iddqd_store.specs.Map.{Map, bag, Loses, MakesRoom}
 use Rattle.iddqd_store.proofs.BagLemmas.Sound.{IsSound-IsPermutation}
 use Rattle.iddqd_store.proofs.BagLemmas.Steps.{none_passes}
+use Rattle.iddqd_store.proofs.SlotLemmas.Contents.{contents-moves}
 
 -- keys tell items apart by an equivalence
 pub IsEquivalence-key : {T K : Type 0} (eq : K → K → Bool) (key : T → K) → IsEquivalence eq → IsEquivalence (λ (x y : T). eq (key x) (key y))
@@ -32,19 +33,16 @@ pub IsKeyTest-key : {T K : Type 0} (eq : K → K → Bool) (key : T → K) → I
 IsKeyTest-key eq key laws k = λ x y has. laws.congr (key x) k (key y) (laws.symm (key x) k ∙ has)
 
 module _ {T : Type 0} where
-  pub live_items-moves : (old new : List (Option T)) (at : ℕ) (x : T) → IsPermutation (members old) ((at, x) ∷ members new) → IsPermutation (live_items old) (x ∷ live_items new)
-  live_items-moves old new at x moved = IsPermutation-map (λ m. m.1) _ _ moved
-
   -- a sound bag with an item that nothing conflicts with is sound
-  pub free_sound : (ranks : Ranks T) → AreLawful ranks → (old new : List (Option T)) (at : ℕ) (x : T) → IsSound ranks (live_items old) → clash ranks (live_items old) x ≡ [] → IsPermutation (members new) ((at, x) ∷ members old) → IsSound ranks (live_items new)
+  pub free_sound : (ranks : Ranks T) → AreLawful ranks → (old new : List (Option T)) (at : ℕ) (x : T) → IsSound ranks (contents old) → clash ranks (contents old) x ≡ [] → IsPermutation (members new) ((at, x) ∷ members old) → IsSound ranks (contents new)
   free_sound ranks laws old new at x sound free moved =
-      IsSound-IsPermutation ranks laws _ _ (IsPermutation-sym _ _ (IsPermutation-map (λ m. m.1) _ _ moved))
-      (IsDistinct-cons (conflicts ranks) x (live_items old) (none_passes (conflicts ranks x) (live_items old) free) sound)
+      IsSound-IsPermutation ranks laws _ _ (IsPermutation-sym _ _ (contents-moves new old at x moved))
+      (IsDistinct-cons (conflicts ranks) x (contents old) (none_passes (conflicts ranks x) (contents old) free) sound)
 
   -- a sound bag without one of its items is sound
-  pub sound_without : (ranks : Ranks T) → AreLawful ranks → (old new : List (Option T)) (at : ℕ) (x : T) → IsSound ranks (live_items old) → IsPermutation (members old) ((at, x) ∷ members new) → IsSound ranks (live_items new)
+  pub sound_without : (ranks : Ranks T) → AreLawful ranks → (old new : List (Option T)) (at : ℕ) (x : T) → IsSound ranks (contents old) → IsPermutation (members old) ((at, x) ∷ members new) → IsSound ranks (contents new)
   sound_without ranks laws old new at x sound moved =
-      IsDistinct-tail (conflicts ranks) x (live_items new) (IsSound-IsPermutation ranks laws _ _ (live_items-moves old new at x moved) sound)
+      IsDistinct-tail (conflicts ranks) x (contents new) (IsSound-IsPermutation ranks laws _ _ (contents-moves old new at x moved) sound)
 
   -- a sound bag without some of its items is sound
   pub sound_left : (ranks : Ranks T) → AreLawful ranks → (old taken new : List T) → IsSound ranks old → IsPermutation old (taken ++ new) → IsSound ranks new

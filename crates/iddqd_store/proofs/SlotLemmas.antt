@@ -1,6 +1,7 @@
--- Lemmas on slots: the chain of the free ones, and what is found in them.
+-- Lemmas on slots: what they have, the chain of the free ones, and what is found in them.
 pub mod Chain
 pub mod Clone
+pub mod Contents
 pub mod Entered
 pub mod Entries
 pub mod Found

@@ -10,7 +10,7 @@ use Rattle.std.specs.declared.hash.Hasher as hasher
 use Rattle.std.specs.declared.hash.BuildHasher as builder
 use Rattle.iddqd_store.specs.Bag.{IsSound, Ranks, clash, order, over}
 use Rattle.iddqd_store.specs.Slots.Found.{StandAt}
-use Rattle.iddqd_store.specs.Slots.{get, live_items}
+use Rattle.iddqd_store.specs.Slots.{contents, get}
 use Rattle.iddqd_store.specs.Table.Limit.{most_room}
 
 -- Contracts see a map as its items by their slots, its capacity, and its hash builder. Public clauses cite the slots
@@ -30,7 +30,7 @@ map_code {T} {S} t s =
 -- `bag` lists the items of the map. Their order means nothing.
 -- Example: For the slots `Some (1, 10)`, `None`, `Some (2, 20)` it is (1, 10), (2, 20).
 abbrev pub bag : {T S : Type 0} → Map T S → List T
-bag m = live_items m.slots
+bag m = contents m.slots
 
 -- `hash_of` is the hash that `hash_one` of the builder gives for what a key writes.
 -- Example: With a builder that gives every key the same hash, it is that hash.

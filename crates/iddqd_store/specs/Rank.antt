@@ -13,7 +13,7 @@ use Rattle.iddqd_store.specs.Bag.{crowd}
 use Rattle.iddqd_store.specs.Rank.Index.{HasHash, IsIndex}
 use Rattle.iddqd_store.specs.Map.{hash_of}
 use Rattle.iddqd_store.specs.Slots.Found.{NamesOneOf}
-use Rattle.iddqd_store.specs.Slots.{live_items}
+use Rattle.iddqd_store.specs.Slots.{contents}
 use Rattle.iddqd_store.specs.Table.{IsFree, ProbesWithin, Spot}
 
 module _ {T K : Type 0} where
@@ -126,5 +126,5 @@ module _ {T : Type 0} where
 -- Example: In the slots `Some a`, `None`, `Some b` the table has the pairs of a with 0 and of b with 2.
 pub record IsSearchable {T : Type 0} (agree : T → T → Bool) (hash : T → ℕ)
     (slots : List (Option T)) (pairs : List (ℕ × ℕ)) : Type 0 where
-  pub apart : IsDistinct agree (live_items slots)
+  pub apart : IsDistinct agree (contents slots)
   pub index : IsIndex hash slots pairs

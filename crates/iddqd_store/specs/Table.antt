@@ -8,7 +8,8 @@ use Rattle.std.specs.Prelude.{ℕ, ◌+◌, ◌*◌, ◌/◌, ◌%◌, ◌^◌, 
 use Rattle.std.specs.Prelude.{◌∷◌, Option, None, Some, ◌≢◌, length, map, IfNone, OnSome}
 use Rattle.std.specs.List.Sorted.{IsPermutation}
 use Rattle.iddqd_store.specs.Table.Limit.{IsSize}
-use Rattle.iddqd_store.specs.Table.Ring.{pairs_in, cell, gap, stretch, IsReached}
+use Rattle.iddqd_store.specs.Slots.{contents}
+use Rattle.iddqd_store.specs.Table.Ring.{cell, gap, stretch, IsReached}
 
 -- `hashes` lists the hashes of the pairs.
 -- Example: For (5, 0), (6, 2) they are 5, 6.
@@ -62,7 +63,7 @@ pub record ReplacesThree (old new : List (ℕ × ℕ)) (one two three after : �
 -- Example: It holds for 8 empty cells.
 pub record IsTable (row : List (Option (ℕ × ℕ))) : Type 0 where
   pub size : IsSize (length row)
-  pub fits : length (pairs_in row) ≤ length row / 8 * 7
+  pub fits : length (contents row) ≤ length row / 8 * 7
   pub reached : IsReached (λ p. p.0 % length row) (length row) row
 
 -- The cell `at` is the first empty one, from the cell `home` on.
@@ -104,4 +105,4 @@ pub record Table : Type 0 where
   pub row : List (Option (ℕ × ℕ))
 
 abbrev pub table_of : List (Option (ℕ × ℕ)) → Table
-table_of row = record { pairs = pairs_in row; limit = length row / 8 * 7; row = row }
+table_of row = record { pairs = contents row; limit = length row / 8 * 7; row = row }

@@ -4,7 +4,8 @@ ghost use Rattle.std.specs.Prelude.{ℕ, Contains, Some, ◌≡◌, ◌≢◌, �
 ghost use Rattle.std.specs.List.Sorted.{IsPermutation};
 ghost use Rattle.std.specs.Option.{option_map};
 ghost use Rattle.std.specs.Result.{result_ok};
-ghost use Rattle.iddqd_store.specs.Table.Ring.{cell, gap, pairs_in, stretch, IsFull};
+ghost use Rattle.iddqd_store.specs.Slots.{contents};
+ghost use Rattle.iddqd_store.specs.Table.Ring.{cell, gap, stretch, IsFull};
 ghost use Rattle.iddqd_store.specs.Table.Limit.{IsLeast, IsSize, most_room};
 ghost use Rattle.iddqd_store.specs.Table.Room.{IsSized};
 ghost use Rattle.iddqd_store.specs.Table.Search.{CostsUnder, FindsUnder, IsVacantUnder};
@@ -54,7 +55,7 @@ impl Model for IndexTable {
 
     ghost view = { λ t. table_of t.cells };
 
-    ghost invariant = { λ t. IsTable t.cells × (t.count ≡ length (pairs_in t.cells)) };
+    ghost invariant = { λ t. IsTable t.cells × (t.count ≡ length (contents t.cells)) };
 }
 
 // Makes a table with this many cells, all of them empty.

@@ -2,7 +2,7 @@
 ghost use Rattle.std.specs.Prelude.{◌≡◌, ◌+◌, ◌-◌, ◌<◌, ◌≤◌, ◌^◌, [], ◌∷◌, IsSome, IfNone, IfSome, is_some, IfOk, IsOk, OnOk, OnErr, Some, IsPermutation, option_copied, drop, length, None, slice_set};
 ghost use Rattle.std.specs.Option.{option_copied_mut};
 ghost use Rattle.std.specs.Borrow.{Lends, sem};
-ghost use Rattle.iddqd_store.specs.Slots.{get, items_in, IsLive, live_count, members, Updates, Exchanges, NextLive, TakesOut};
+ghost use Rattle.iddqd_store.specs.Slots.{get, contents, IsLive, live_count, members, Updates, Exchanges, NextLive, TakesOut};
 ghost use Rattle.iddqd_store.specs.Slots.Chain.{item_of};
 
 use crate::TryReserveError;
@@ -207,7 +207,7 @@ impl<T> ItemSet<T> {
 
     /// Counts the live slots from this number on. It visits each slot from there.
     pub fn count_from(&self, from: usize) -> usize
-        ensures { result ≡ length (items_in (drop from self.now.slots)) }
+        ensures { result ≡ length (contents (drop from self.now.slots)) }
     {
         let mut count = 0;
         for number in from..self.slots.len() {

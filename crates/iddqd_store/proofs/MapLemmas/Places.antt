@@ -8,18 +8,18 @@ use Rattle.std.proofs.lemmas.Bool.Decides.{nat_tests}
 use Rattle.std.proofs.lemmas.List.{get_or-set_other}
 use Rattle.std.proofs.lemmas.List.Elements.{All-head, All-tail}
 use Rattle.std.proofs.lemmas.Map.Keys.{IsDistinct-cons, IsDistinct-head, IsDistinct-tail}
-use Rattle.std.proofs.lemmas.List.Sorted.{IsPermutation-refl, IsPermutation-sym, IsPermutation-trans, IsPermutation-map, IsPermutation-append, IsPermutation-middle}
+use Rattle.std.proofs.lemmas.List.Sorted.{IsPermutation-refl, IsPermutation-sym, IsPermutation-trans, IsPermutation-append, IsPermutation-middle}
 use Rattle.iddqd_store.specs.Bag.{Ranks, clash, like, order, over}
 use Rattle.iddqd_store.specs.Map.{Map, bag, IsBlockedAt}
-use Rattle.iddqd_store.specs.Slots.{IsLive, get, live_items}
+use Rattle.iddqd_store.specs.Slots.{IsLive, contents, get}
 use Rattle.iddqd_store.specs.Slots.Found.{AreFound, FoundAt, StandAt, each_once, items_at}
 use Rattle.iddqd_store.proofs.BagLemmas.Over.{over-taken}
 use Rattle.iddqd_store.proofs.BagLemmas.Sound.{IsPermutation-order, same_from_short}
 use Rattle.iddqd_store.proofs.BagLemmas.Unique.{any_listed, some_item}
 use Rattle.iddqd_store.proofs.MapLemmas.Storing.{live_found}
-use Rattle.iddqd_store.proofs.SlotLemmas.Chain.{members-take}
 use Rattle.iddqd_store.proofs.SlotLemmas.Entries.{IsDistinct-each_once, found_listing, held_none, held_some}
 use Rattle.iddqd_store.proofs.SlotLemmas.Found.{clash_none, clash_some}
+use Rattle.iddqd_store.proofs.SlotLemmas.Contents.{contents-take}
 
 module _ {T : Type 0} (slots : List (Option T)) where
   each_live : (tests : List (T → Bool)) (found : List (Option ℕ)) → AreFound tests slots found → AllByRecursion (λ at. IfSome at (IsLive slots)) found
@@ -53,13 +53,13 @@ module _ {T S : Type 0} {agree : T → T → Bool} (laws : IsEquivalence agree) 
   free_by none = clash_none ranks m.slots x [] (sym (held_none m.slots found none) ∙ conflicts_found.items) refl
 
 -- a search finds a slot exactly if some item passes its test
-pub is_some-at : {T : Type 0} (test : T → Bool) (slots : List (Option T)) (at : Option ℕ) → FoundAt test slots at → is_some at ≡ list_any test (live_items slots)
-is_some-at test slots None found = sym (any_listed test (live_items slots) ∙ ap some_item (sym found.only))
+pub is_some-at : {T : Type 0} (test : T → Bool) (slots : List (Option T)) (at : Option ℕ) → FoundAt test slots at → is_some at ≡ list_any test (contents slots)
+is_some-at test slots None found = sym (any_listed test (contents slots) ∙ ap some_item (sym found.only))
 is_some-at {T} test slots (Some slot) found = by_slot (get slots slot) found.live found.only
   where
-    by_slot : (o : Option T) → IsSome o → option_to_list o ≡ filter test (live_items slots) → true ≡ list_any test (live_items slots)
+    by_slot : (o : Option T) → IsSome o → option_to_list o ≡ filter test (contents slots) → true ≡ list_any test (contents slots)
     by_slot None some only = absurd (cc)
-    by_slot (Some y) some only = sym (any_listed test (live_items slots) ∙ ap some_item (sym only))
+    by_slot (Some y) some only = sym (any_listed test (contents slots) ∙ ap some_item (sym only))
 
 module _ {T : Type 0} (ranks : Ranks T) (bag : List T) (x : T) (free : clash ranks bag x ≡ []) where
   -- if nothing conflicts with an item, nothing is listed
@@ -71,34 +71,34 @@ module _ {T : Type 0} (ranks : Ranks T) (bag : List T) (x : T) (free : clash ran
   over_none new put = over-taken ranks bag bag new x (subst (λ l. IsPermutation bag (l ++ bag)) (sym order_none) (IsPermutation-refl bag)) put
 
 -- once the items of the other slots are removed and that of the first is replaced, no conflicting item is left
-pub gives_way : {T : Type 0} (ranks : Ranks T) (slots rest : List (Option T)) (x : T) (slot : ℕ) (numbers : List ℕ) (others : List T) → items_at slots (slot ∷ numbers) ≡ order ranks (live_items slots) x → IsLive slots slot → get rest slot ≡ get slots slot → others ≡ items_at slots numbers → IsPermutation (live_items slots) (others ++ live_items rest) → IsPermutation (live_items slots) (order ranks (live_items slots) x ++ live_items (slice_set rest slot None))
+pub gives_way : {T : Type 0} (ranks : Ranks T) (slots rest : List (Option T)) (x : T) (slot : ℕ) (numbers : List ℕ) (others : List T) → items_at slots (slot ∷ numbers) ≡ order ranks (contents slots) x → IsLive slots slot → get rest slot ≡ get slots slot → others ≡ items_at slots numbers → IsPermutation (contents slots) (others ++ contents rest) → IsPermutation (contents slots) (order ranks (contents slots) x ++ contents (slice_set rest slot None))
 gives_way {T} ranks slots rest x slot numbers others items live same are taken = by_slot (get slots slot) refl live
   where
-    by_slot : (o : Option T) → get slots slot ≡ o → IsSome o → IsPermutation (live_items slots) (order ranks (live_items slots) x ++ live_items (slice_set rest slot None))
+    by_slot : (o : Option T) → get slots slot ≡ o → IsSome o → IsPermutation (contents slots) (order ranks (contents slots) x ++ contents (slice_set rest slot None))
     by_slot None is some = absurd (cc)
     by_slot (Some y) is some =
-        let left : List T = live_items (slice_set rest slot None) in
+        let left : List T = contents (slice_set rest slot None) in
         let listed : items_at slots (slot ∷ numbers) ≡ y ∷ others = rw (is, are) refl in
-        let out : IsPermutation (live_items rest) (y ∷ left) = IsPermutation-map (λ m. m.1) _ _ (members-take rest slot y (same ∙ is)) in
-        let all : IsPermutation (live_items slots) (y ∷ (others ++ left)) =
+        let out : IsPermutation (contents rest) (y ∷ left) = contents-take rest slot y (same ∙ is) in
+        let all : IsPermutation (contents slots) (y ∷ (others ++ left)) =
         IsPermutation-trans _ _ _ taken (IsPermutation-trans _ _ _ (IsPermutation-append others others _ _ (IsPermutation-refl others) out) (IsPermutation-middle others y left)) in
-        subst (λ l. IsPermutation (live_items slots) (l ++ left)) (sym listed ∙ items) all
+        subst (λ l. IsPermutation (contents slots) (l ++ left)) (sym listed ∙ items) all
 
 -- the same if the item of one more slot is removed
-gives_way_two : {T : Type 0} (ranks : Ranks T) (slots rest : List (Option T)) (x : T) (slot other : ℕ) (numbers : List ℕ) (others : List T) → items_at slots (slot ∷ other ∷ numbers) ≡ order ranks (live_items slots) x → IsLive slots slot → IsLive slots other → slot ≢ other → get rest slot ≡ get slots slot → get rest other ≡ get slots other → others ≡ items_at slots numbers → IsPermutation (live_items slots) (others ++ live_items rest)
-    → IsPermutation (live_items slots) (order ranks (live_items slots) x ++ live_items (slice_set (slice_set rest other None) slot None))
+gives_way_two : {T : Type 0} (ranks : Ranks T) (slots rest : List (Option T)) (x : T) (slot other : ℕ) (numbers : List ℕ) (others : List T) → items_at slots (slot ∷ other ∷ numbers) ≡ order ranks (contents slots) x → IsLive slots slot → IsLive slots other → slot ≢ other → get rest slot ≡ get slots slot → get rest other ≡ get slots other → others ≡ items_at slots numbers → IsPermutation (contents slots) (others ++ contents rest)
+    → IsPermutation (contents slots) (order ranks (contents slots) x ++ contents (slice_set (slice_set rest other None) slot None))
 gives_way_two {T} ranks slots rest x slot other numbers others items live live_too apart same same_too are taken = by_slot (get slots other) refl live_too
   where
     less : List (Option T)
     less = slice_set rest other None
 
-    by_slot : (o : Option T) → get slots other ≡ o → IsSome o → IsPermutation (live_items slots) (order ranks (live_items slots) x ++ live_items (slice_set less slot None))
+    by_slot : (o : Option T) → get slots other ≡ o → IsSome o → IsPermutation (contents slots) (order ranks (contents slots) x ++ contents (slice_set less slot None))
     by_slot None is some = absurd (cc)
     by_slot (Some y) is some =
         let stays : get less slot ≡ get slots slot = get_or-set_other rest other slot None None apart ∙ same in
-        let out : IsPermutation (live_items rest) (y ∷ live_items less) = IsPermutation-map (λ m. m.1) _ _ (members-take rest other y (same_too ∙ is)) in
-        let all : IsPermutation (live_items slots) (y ∷ (others ++ live_items less)) =
-        IsPermutation-trans _ _ _ taken (IsPermutation-trans _ _ _ (IsPermutation-append others others _ _ (IsPermutation-refl others) out) (IsPermutation-middle others y (live_items less))) in
+        let out : IsPermutation (contents rest) (y ∷ contents less) = contents-take rest other y (same_too ∙ is) in
+        let all : IsPermutation (contents slots) (y ∷ (others ++ contents less)) =
+        IsPermutation-trans _ _ _ taken (IsPermutation-trans _ _ _ (IsPermutation-append others others _ _ (IsPermutation-refl others) out) (IsPermutation-middle others y (contents less))) in
         let listed : y ∷ others ≡ items_at slots (other ∷ numbers) = rw (is, are) refl in
         gives_way ranks slots less x slot (other ∷ numbers) (y ∷ others) items live stays listed all
 
@@ -110,14 +110,14 @@ other_number : (a b : ℕ) → nat_eq a b ≡ false → a ≢ b
 other_number a b h = grind (arith, nat_tests)
 
 -- if one slot was found, and its item is removed, no conflicting item is left
-pub one_leaves : {T : Type 0} (ranks : Ranks T) (slots : List (Option T)) (x : T) (slot : ℕ) (found : List ℕ) → StandAt slots found (order ranks (live_items slots) x) → found ≡ slot ∷ [] → IsPermutation (live_items slots) (order ranks (live_items slots) x ++ live_items (slice_set slots slot None))
+pub one_leaves : {T : Type 0} (ranks : Ranks T) (slots : List (Option T)) (x : T) (slot : ℕ) (found : List ℕ) → StandAt slots found (order ranks (contents slots) x) → found ≡ slot ∷ [] → IsPermutation (contents slots) (order ranks (contents slots) x ++ contents (slice_set slots slot None))
 one_leaves ranks slots x slot found stand is =
     let only = stand_in (sym is) stand in
     gives_way ranks slots slots x slot [] [] only.items (All-head (IsLive slots) slot [] only.live) refl refl (IsPermutation-refl _)
 
 -- the same if two slots were found, or more, of which the others were removed before
-pub two_leave : {T : Type 0} (ranks : Ranks T) (slots rest : List (Option T)) (x : T) (slot at : ℕ) (numbers : List ℕ) (others : List T) (found : List ℕ) → StandAt slots found (order ranks (live_items slots) x) → found ≡ slot ∷ at ∷ numbers → ((k : ℕ) → IsDistinct nat_eq (k ∷ numbers) → get rest k ≡ get slots k) → others ≡ items_at slots numbers → IsPermutation (live_items slots) (others ++ live_items rest)
-    → IsPermutation (live_items slots) (order ranks (live_items slots) x ++ live_items (slice_set (slice_set rest at None) slot None))
+pub two_leave : {T : Type 0} (ranks : Ranks T) (slots rest : List (Option T)) (x : T) (slot at : ℕ) (numbers : List ℕ) (others : List T) (found : List ℕ) → StandAt slots found (order ranks (contents slots) x) → found ≡ slot ∷ at ∷ numbers → ((k : ℕ) → IsDistinct nat_eq (k ∷ numbers) → get rest k ≡ get slots k) → others ≡ items_at slots numbers → IsPermutation (contents slots) (others ++ contents rest)
+    → IsPermutation (contents slots) (order ranks (contents slots) x ++ contents (slice_set (slice_set rest at None) slot None))
 two_leave ranks slots rest x slot at numbers others found stand is same are taken =
     let both = stand_in (sym is) stand in
     let behind = IsDistinct-tail nat_eq slot (at ∷ numbers) both.apart in
@@ -126,16 +126,16 @@ two_leave ranks slots rest x slot at numbers others found stand is same are take
     (other_number slot at apart.0) (same slot (IsDistinct-cons nat_eq slot numbers apart.1 (IsDistinct-tail nat_eq at numbers behind))) (same at behind) are taken
 
 -- the same if three slots were found
-pub three_leave : {T : Type 0} (ranks : Ranks T) (slots : List (Option T)) (x : T) (slot at end : ℕ) (found : List ℕ) → StandAt slots found (order ranks (live_items slots) x) → found ≡ slot ∷ at ∷ end ∷ []
-    → IsPermutation (live_items slots) (order ranks (live_items slots) x ++ live_items (slice_set (slice_set (slice_set slots end None) at None) slot None))
+pub three_leave : {T : Type 0} (ranks : Ranks T) (slots : List (Option T)) (x : T) (slot at end : ℕ) (found : List ℕ) → StandAt slots found (order ranks (contents slots) x) → found ≡ slot ∷ at ∷ end ∷ []
+    → IsPermutation (contents slots) (order ranks (contents slots) x ++ contents (slice_set (slice_set (slice_set slots end None) at None) slot None))
 three_leave {T} ranks slots x slot at end found stand is =
     let all = stand_in (sym is) stand in
     by_slot (get slots end) refl (All-head (IsLive slots) end [] (All-tail (IsLive slots) at (end ∷ []) (All-tail (IsLive slots) slot (at ∷ end ∷ []) all.live)))
   where
-    by_slot : (o : Option T) → get slots end ≡ o → IsSome o → IsPermutation (live_items slots) (order ranks (live_items slots) x ++ live_items (slice_set (slice_set (slice_set slots end None) at None) slot None))
+    by_slot : (o : Option T) → get slots end ≡ o → IsSome o → IsPermutation (contents slots) (order ranks (contents slots) x ++ contents (slice_set (slice_set (slice_set slots end None) at None) slot None))
     by_slot None is_none some = absurd (cc)
     by_slot (Some z) is_some some =
         let listed : z ∷ [] ≡ items_at slots (end ∷ []) = rw is_some refl in
         two_leave ranks slots (slice_set slots end None) x slot at (end ∷ []) (z ∷ []) found stand is
         (λ k apart. get_or-set_other slots end k None None (other_number k end (IsDistinct-head nat_eq k (end ∷ []) apart).0))
-        listed (IsPermutation-map (λ m. m.1) _ _ (members-take slots end z is_some))
+        listed (contents-take slots end z is_some)

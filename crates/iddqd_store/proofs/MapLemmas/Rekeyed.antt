@@ -4,15 +4,14 @@ use Rattle.std.proofs.Common.{refl, sym, subst, ◌∙◌, arith}
 use Rattle.std.proofs.lemmas.Bool.Decides.{nat_tests}
 use Rattle.std.proofs.lemmas.List.{get_or-set_other}
 use Rattle.std.proofs.lemmas.List.Elements.{All-head, All-tail}
-use Rattle.std.proofs.lemmas.List.Sorted.{IsPermutation-refl, IsPermutation-sym, IsPermutation-trans, IsPermutation-map, IsPermutation-append, IsPermutation-middle}
+use Rattle.std.proofs.lemmas.List.Sorted.{IsPermutation-refl, IsPermutation-sym, IsPermutation-trans, IsPermutation-append, IsPermutation-middle}
 use Rattle.std.proofs.lemmas.Map.Keys.{IsDistinct-head}
 use Rattle.iddqd_store.specs.Bag.{IsOnly, Ranks, clash, conflicts, like, order}
-use Rattle.iddqd_store.specs.Slots.{IsLive, get, live_items}
+use Rattle.iddqd_store.specs.Slots.{IsLive, contents, get}
 use Rattle.iddqd_store.specs.Slots.Found.{FoundAt, StandAt, contains}
 use Rattle.iddqd_store.proofs.BagLemmas.Exchanges.{IsPermutation-filter}
 use Rattle.iddqd_store.proofs.BagLemmas.Sound.{Contains-filter, same_from_short}
-use Rattle.iddqd_store.proofs.RankLemmas.Index.{item_at}
-use Rattle.iddqd_store.proofs.SlotLemmas.Chain.{members-take}
+use Rattle.iddqd_store.proofs.SlotLemmas.Contents.{content_at, contents-take}
 use Rattle.iddqd_store.proofs.SlotLemmas.Found.{item_listed, some_passes}
 
 itself : (a : ℕ) → nat_eq a a ≡ true
@@ -30,28 +29,28 @@ turned a b h = grind (arith, nat_tests)
 other_number : (a b : ℕ) → nat_eq a b ≡ false → a ≢ b
 other_number a b h = grind (arith, nat_tests)
 
-module _ {T : Type 0} (ranks : Ranks T) (slots : List (Option T)) (x : T) (slot : ℕ) (found : List ℕ) (stand : StandAt slots found (order ranks (live_items slots) x)) where
-  elsewhere : (at : ℕ) → contains found at ≡ true → IsLive slots at → at ≢ slot → clash ranks (live_items (slice_set slots slot None)) x ≢ []
+module _ {T : Type 0} (ranks : Ranks T) (slots : List (Option T)) (x : T) (slot : ℕ) (found : List ℕ) (stand : StandAt slots found (order ranks (contents slots) x)) where
+  elsewhere : (at : ℕ) → contains found at ≡ true → IsLive slots at → at ≢ slot → clash ranks (contents (slice_set slots slot None)) x ≢ []
   elsewhere at listed live apart none = by_slot (get slots at) refl live
     where
       by_slot : (o : Option T) → get slots at ≡ o → IsSome o → ⊥
       by_slot None is some = absurd (cc)
       by_slot (Some y) is some =
           let less : List (Option T) = slice_set slots slot None in
-          let in_order : Contains (order ranks (live_items slots) x) y = subst (λ l. Contains l y) stand.items (item_listed slots found at y listed is) in
-          let passes : conflicts ranks x y ≡ true = some_passes (like ranks x) (live_items slots) y in_order in
+          let in_order : Contains (order ranks (contents slots) x) y = subst (λ l. Contains l y) stand.items (item_listed slots found at y listed is) in
+          let passes : conflicts ranks x y ≡ true = some_passes (like ranks x) (contents slots) y in_order in
           let here : get less at ≡ Some y = get_or-set_other slots slot at None None apart ∙ is in
-          let left : Contains (clash ranks (live_items less) x) y = Contains-filter (conflicts ranks x) (live_items less) y passes (item_at less at y here) in
+          let left : Contains (clash ranks (contents less) x) y = Contains-filter (conflicts ranks x) (contents less) y passes (content_at less at y here) in
           let gone = subst (λ l. Contains l y) none left in
           absurd (omega (arith, gone.1))
 
   -- if the first slot found is another one, its item conflicts
-  pub another_found : (at : ℕ) (more : List ℕ) → found ≡ at ∷ more → at ≢ slot → clash ranks (live_items (slice_set slots slot None)) x ≢ []
+  pub another_found : (at : ℕ) (more : List ℕ) → found ≡ at ∷ more → at ≢ slot → clash ranks (contents (slice_set slots slot None)) x ≢ []
   another_found at more is apart =
       elsewhere at (subst (λ l. contains l at ≡ true) (sym is) (listed_first at more)) (All-head (IsLive slots) at more (subst (λ l. All (IsLive slots) l) is stand.live)) apart
 
   -- the same if a second slot was found
-  pub more_found : (at : ℕ) (more : List ℕ) → found ≡ slot ∷ at ∷ more → clash ranks (live_items (slice_set slots slot None)) x ≢ []
+  pub more_found : (at : ℕ) (more : List ℕ) → found ≡ slot ∷ at ∷ more → clash ranks (contents (slice_set slots slot None)) x ≢ []
   more_found at more is =
       let alive : All (IsLive slots) (slot ∷ at ∷ more) = subst (λ l. All (IsLive slots) l) is stand.live in
       let apart = IsDistinct-head nat_eq slot (at ∷ more) (rw is at stand.apart) in
@@ -72,22 +71,22 @@ module _ {T : Type 0} where
       behind (conflicts ranks y) x rest (sym (same_from_short [] _ (subst (λ l. IsPermutation l (clash ranks (x ∷ rest) y)) free (IsPermutation-filter (conflicts ranks y) old (x ∷ rest) out)) (omega arith)))
 
   -- the same for what is left if the item of a slot is removed
-  pub free_slot : (ranks : Ranks T) (slots : List (Option T)) (slot : ℕ) (y : T) → IsLive slots slot → clash ranks (live_items slots) y ≡ [] → clash ranks (live_items (slice_set slots slot None)) y ≡ []
+  pub free_slot : (ranks : Ranks T) (slots : List (Option T)) (slot : ℕ) (y : T) → IsLive slots slot → clash ranks (contents slots) y ≡ [] → clash ranks (contents (slice_set slots slot None)) y ≡ []
   free_slot ranks slots slot y live free = by_slot (get slots slot) refl live
     where
-      by_slot : (o : Option T) → get slots slot ≡ o → IsSome o → clash ranks (live_items (slice_set slots slot None)) y ≡ []
+      by_slot : (o : Option T) → get slots slot ≡ o → IsSome o → clash ranks (contents (slice_set slots slot None)) y ≡ []
       by_slot None is some = absurd (cc)
       by_slot (Some x) is some =
-          free_left ranks (live_items slots) (live_items (slice_set slots slot None)) x y (IsPermutation-map (λ m. m.1) _ _ (members-take slots slot x is)) free
+          free_left ranks (contents slots) (contents (slice_set slots slot None)) x y (contents-take slots slot x is) free
 
   -- what was searched for, what is left without it, and that something there conflicts
-  pub other_blocks : (ranks : Ranks T) (test : T → Bool) (slots : List (Option T)) (slot : ℕ) (y : T) → FoundAt test slots (Some slot) → clash ranks (live_items (slice_set slots slot None)) y ≢ [] → (x : T) × (rest : List T) × IsOnly test (live_items slots) (Some x) × IsPermutation (live_items slots) (x ∷ rest) × (clash ranks rest y ≢ [])
+  pub other_blocks : (ranks : Ranks T) (test : T → Bool) (slots : List (Option T)) (slot : ℕ) (y : T) → FoundAt test slots (Some slot) → clash ranks (contents (slice_set slots slot None)) y ≢ [] → (x : T) × (rest : List T) × IsOnly test (contents slots) (Some x) × IsPermutation (contents slots) (x ∷ rest) × (clash ranks rest y ≢ [])
   other_blocks ranks test slots slot y found blocked = by_slot (get slots slot) refl found.live found.only
     where
-      by_slot : (o : Option T) → get slots slot ≡ o → IsSome o → IsOnly test (live_items slots) o → (x : T) × (rest : List T) × IsOnly test (live_items slots) (Some x) × IsPermutation (live_items slots) (x ∷ rest) × (clash ranks rest y ≢ [])
+      by_slot : (o : Option T) → get slots slot ≡ o → IsSome o → IsOnly test (contents slots) o → (x : T) × (rest : List T) × IsOnly test (contents slots) (Some x) × IsPermutation (contents slots) (x ∷ rest) × (clash ranks rest y ≢ [])
       by_slot None is some only = absurd (cc)
       by_slot (Some x) is some only =
-          (x, live_items (slice_set slots slot None), only, IsPermutation-map (λ m. m.1) _ _ (members-take slots slot x is), blocked)
+          (x, contents (slice_set slots slot None), only, contents-take slots slot x is, blocked)
 
   -- one item has replaced the other
   pub exchanged : (x y : T) (old new rest : List T) → IsPermutation old (x ∷ rest) → IsPermutation new (y ∷ rest) → IsPermutation (x ∷ new) (y ∷ old)

@@ -11,11 +11,10 @@ use Rattle.iddqd_store.specs.Bag.Storing.{Writes, StoresInAll}
 use Rattle.iddqd_store.specs.Map.{Map, bag}
 use Rattle.iddqd_store.specs.Map.Walk.{Passes, passed, to_come}
 use Rattle.iddqd_store.specs.Map.Written.{map_with_if}
-use Rattle.iddqd_store.specs.Slots.{IsLive, get, items_in, live_items}
+use Rattle.iddqd_store.specs.Slots.{IsLive, contents, get}
 use Rattle.iddqd_store.specs.Slots.Found.{FoundAt}
 use Rattle.iddqd_store.proofs.BagLemmas.Unique.{any_listed, some_item}
 use Rattle.iddqd_store.proofs.MapLemmas.Storing.{stays_live}
-use Rattle.iddqd_store.proofs.SlotLemmas.Chain.{live_items-items_in}
 use Rattle.iddqd_store.proofs.SlotLemmas.Next.{before_and_behind}
 
 module _ {F T D S : Type 0} (step : F → T → D → F → Type 0) (put : T → D → T) where
@@ -32,15 +31,14 @@ module _ {F T D S : Type 0} (step : F → T → D → F → Type 0) (put : T →
       let whole = completes (put x d ∷ rest) (subst (λ l. Writes step put f l (put x d ∷ rest)) (sym next.comes) on) in
       subst (λ l. Writes step put start all l) (sym (ap (λ l. l ++ rest) before ∙ append_assoc (passed m from) (put x d ∷ []) rest)) whole
 
-  pub all_written : (start f : F) (old m : Map T S) (from : ℕ) → to_come m from ≡ [] → Completes start (items_in old.slots) f m from → StoresInAll step put start (bag old) (bag m)
+  pub all_written : (start f : F) (old m : Map T S) (from : ℕ) → to_come m from ≡ [] → Completes start (contents old.slots) f m from → StoresInAll step put start (bag old) (bag m)
   all_written start f old m from none completes =
       let done : Writes step put f (to_come m from) [] = rw none refl in
       record {
         listed = bag old;
         same = IsPermutation-refl (bag old);
         written = bag m;
-        writes = rw (live_items-items_in old.slots, live_items-items_in m.slots)
-            (subst (λ l. Writes step put start (items_in old.slots) l) (ap (λ l. passed m from ++ l) (sym none) ∙ before_and_behind m.slots from) (completes [] done));
+        writes = subst (λ l. Writes step put start (contents old.slots) l) (ap (λ l. passed m from ++ l) (sym none) ∙ before_and_behind m.slots from) (completes [] done);
         are = IsPermutation-refl (bag m);
       }
 
@@ -50,15 +48,15 @@ any_one test xs (Some x) only live = ap some_item only ∙ sym (any_listed test 
 
 -- a search that found a slot, or none, tells whether there is a member
 module _ {T : Type 0} (test : T → Bool) (slots : List (Option T)) where
-  pub any_found : (slot : ℕ) → FoundAt test slots (Some slot) → true ≡ list_any test (live_items slots)
-  any_found slot found = any_one test (live_items slots) (get slots slot) found.only found.live
+  pub any_found : (slot : ℕ) → FoundAt test slots (Some slot) → true ≡ list_any test (contents slots)
+  any_found slot found = any_one test (contents slots) (get slots slot) found.only found.live
 
   -- the member that it found is the only one
-  pub found_one : (slot : ℕ) (x : T) → FoundAt test slots (Some slot) → get slots slot ≡ Some x → IsOnly test (live_items slots) (Some x)
+  pub found_one : (slot : ℕ) (x : T) → FoundAt test slots (Some slot) → get slots slot ≡ Some x → IsOnly test (contents slots) (Some x)
   found_one slot x found here = ap option_to_list (sym here) ∙ found.only
 
-  pub any_absent : FoundAt test slots None → false ≡ list_any test (live_items slots)
-  any_absent found = ap some_item found.only ∙ sym (any_listed test (live_items slots))
+  pub any_absent : FoundAt test slots None → false ≡ list_any test (contents slots)
+  any_absent found = ap some_item found.only ∙ sym (any_listed test (contents slots))
 
 -- what is borrowed from the slot, if there is one, is a part of its item
 pub held_data : {T D : Type 0} (part : T → D) (slots : List (Option T)) (at : Option ℕ) (r : Option (MutBor D)) → IfSome at (IsLive slots) → is_some r ≡ is_some at →

@@ -5,11 +5,11 @@ use Rattle.std.proofs.Common.{refl, ap, ◌∙◌, arith, add-one}
 use Rattle.iddqd_store.specs.Map.{Map}
 use Rattle.iddqd_store.specs.Map.Walk.{Passes, first_from}
 use Rattle.iddqd_store.specs.Map.Written.{map_with}
-use Rattle.iddqd_store.specs.Slots.{get, items_in}
+use Rattle.iddqd_store.specs.Slots.{contents, get}
 use Rattle.iddqd_store.specs.Slots.Next.{ComesNext}
 
 module _ {T : Type 0} where
-  filled : (slots : List (Option T)) (at : ℕ) (x y : T) → get slots at ≡ Some x → (items_in (take (suc at) (slice_set slots at (Some y))) ≡ items_in (take at slots) ++ y ∷ []) × (drop (suc at) (slice_set slots at (Some y)) ≡ drop (suc at) slots)
+  filled : (slots : List (Option T)) (at : ℕ) (x y : T) → get slots at ≡ Some x → (contents (take (suc at) (slice_set slots at (Some y))) ≡ contents (take at slots) ++ y ∷ []) × (drop (suc at) (slice_set slots at (Some y)) ≡ drop (suc at) slots)
   filled [] zero x y is = absurd (cc is)
   filled [] (suc at) x y is = absurd (cc is)
   filled (o ∷ slots) zero x y is = (refl, refl)
@@ -23,7 +23,7 @@ module _ {T : Type 0} where
   passes m from at x next = record {
     comes = next.rest;
     before = λ f. rw (next.value, add-one at) ((filled m.slots at x (f x) next.value).0 ∙ ap (λ l. l ++ f x ∷ []) next.before);
-    behind = λ f. rw (next.value, add-one at) (ap items_in (filled m.slots at x (f x) next.value).1);
+    behind = λ f. rw (next.value, add-one at) (ap contents (filled m.slots at x (f x) next.value).1);
   }
 
   -- the slot of the next item

@@ -4,7 +4,7 @@ use Rattle.std.specs.Option.{option_and_then}
 use Rattle.std.specs.Prelude.{Result, Ok, Err, IfOk, IfErr}
 use Rattle.std.specs.Result.{result_ok}
 use Rattle.std.proofs.Common.{arith, sym}
-use Rattle.iddqd_store.specs.Slots.{live_items, get}
+use Rattle.iddqd_store.specs.Slots.{contents, get}
 use Rattle.std.proofs.lemmas.List.Sorted.{IsPermutation-sym}
 use Rattle.iddqd_store.specs.Rank.Index.{HasHash, IsIndex, passes_at}
 use Rattle.iddqd_store.specs.Bag.{IsOnly}
@@ -18,10 +18,10 @@ use Rattle.iddqd_store.proofs.RankLemmas.Probes.{hashes-index, probes_within, pr
 use Rattle.iddqd_store.proofs.TableLemmas.Spot.{free_permutation}
 
 module _ {T : Type 0} {agree : T → T → Bool} {hash : T → ℕ} {slots : List (Option T)} (table : Table) (rank : IsSearchable agree hash slots table.pairs) where
-  pub searches : (test : T → Bool) (h : ℕ) (r : Option ℕ) → NamesOneUnder agree hash h test (live_items slots) → FindsUnder table h (passes_at test slots) r → IsOnly test (live_items slots) (option_and_then (get slots) r)
+  pub searches : (test : T → Bool) (h : ℕ) (r : Option ℕ) → NamesOneUnder agree hash h test (contents slots) → FindsUnder table h (passes_at test slots) r → IsOnly test (contents slots) (option_and_then (get slots) r)
   searches test h r names finds = search_among agree test hash h slots table.pairs r names.one rank.apart rank.index names.hashed finds.accepted finds.none
 
-  pub costs : (h : ℕ) (r : Option ℕ) (asks asks_then before after : ℕ) → IsSized table → CostsUnder table h r asks asks_then before after → SearchCosts hash (live_items slots) table.limit h r asks asks_then before after
+  pub costs : (h : ℕ) (r : Option ℕ) (asks asks_then before after : ℕ) → IsSized table → CostsUnder table h r asks asks_then before after → SearchCosts hash (contents slots) table.limit h r asks asks_then before after
   costs h r asks asks_then before after sized own = record {
     asked = omega (arith, own.asked, crowd_is hash h slots table.pairs rank.index);
     probes = probes_within hash slots table.pairs (length table.row) table.limit h r before after rank.index sized.size sized.counted (omega (arith, sized.limit)) own.probes;
@@ -29,7 +29,7 @@ module _ {T : Type 0} {agree : T → T → Bool} {hash : T → ℕ} {slots : Lis
   }
 
   -- a removal by a search costs as much as a search that finds nothing
-  pub removal_costs : (h asks asks_then before after : ℕ) → IsSized table → RemovalCosts table h asks asks_then before after → SearchCosts {A = ℕ} hash (live_items slots) table.limit h None asks asks_then before after
+  pub removal_costs : (h asks asks_then before after : ℕ) → IsSized table → RemovalCosts table h asks asks_then before after → SearchCosts {A = ℕ} hash (contents slots) table.limit h None asks asks_then before after
   removal_costs h asks asks_then before after sized own =
       costs h None asks asks_then before after sized record {
         asked = own.asked;
@@ -42,7 +42,7 @@ module _ {T : Type 0} {agree : T → T → Bool} {hash : T → ℕ} {slots : Lis
   hash_found h (Ok at) finds = λ x stands. hash_at at h x rank.index finds.found stands
 
   -- the cell at which the table's search ended is for the members' hashes, and one of as many cells as the table has
-  pub vacant_found : (h : ℕ) (r : Result ℕ Spot) → IsSized table → IfErr r (IsVacantUnder table h) → IfErr r (IsVacantFor hash (live_items slots) h)
+  pub vacant_found : (h : ℕ) (r : Result ℕ Spot) → IsSized table → IfErr r (IsVacantUnder table h) → IfErr r (IsVacantFor hash (contents slots) h)
   vacant_found h (Ok at) sized vacant = tt
   vacant_found h (Err spot) sized vacant =
       let paired = hashes-index hash slots table.pairs rank.index in
@@ -57,7 +57,7 @@ module _ {T : Type 0} {agree : T → T → Bool} {hash : T → ℕ} {slots : Lis
   cells_found h (Err spot) sized vacant = rw vacant.cells (sym sized.limit)
 
 -- the place for a pair by the members' hashes is its place in a table that indexes them
-pub place_in : {T : Type 0} {hash : T → ℕ} {slots : List (Option T)} {pairs : List (ℕ × ℕ)} {h : ℕ} {spot : Spot} → IsIndex hash slots pairs → IsVacantFor hash (live_items slots) h spot → IsFree (hashes pairs) spot
+pub place_in : {T : Type 0} {hash : T → ℕ} {slots : List (Option T)} {pairs : List (ℕ × ℕ)} {h : ℕ} {spot : Spot} → IsIndex hash slots pairs → IsVacantFor hash (contents slots) h spot → IsFree (hashes pairs) spot
 place_in {hash = hash} {slots = slots} {pairs = pairs} {spot = spot} index vacant =
     free_permutation _ _ spot (IsPermutation-sym _ _ (hashes-index hash slots pairs index)) vacant.free
 

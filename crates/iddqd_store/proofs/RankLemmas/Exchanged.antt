@@ -5,10 +5,11 @@ use Rattle.std.proofs.Common.{subst}
 use Rattle.std.proofs.lemmas.List.Sorted.{IsPermutation-sym, IsPermutation-trans, IsPermutation-map}
 use Rattle.iddqd_store.specs.Bag.{Ranks, AreLawful, agrees, swap}
 use Rattle.iddqd_store.specs.Rank.Index.{pair_of, IsIndex, AreIndexes, IsIndexed}
-use Rattle.iddqd_store.specs.Slots.{members, live_items, get, Exchanges}
+use Rattle.iddqd_store.specs.Slots.{members, contents, get, Exchanges}
 use Rattle.iddqd_store.proofs.BagLemmas.Sound.{IsSound-IsPermutation}
 use Rattle.iddqd_store.proofs.BagLemmas.Theory.{IsSound-swap, swap-is}
 use Rattle.iddqd_store.proofs.SlotLemmas.Chain.{Exchanges-set}
+use Rattle.iddqd_store.proofs.SlotLemmas.Contents.{contents-listed}
 
 module _ {T : Type 0} where
   IsIndex-exchange : (hash : T → ℕ) (old new : List (Option T)) (pairs : List (ℕ × ℕ)) (at : ℕ) (x y : T) → hash y ≡ hash x → Exchanges old new at x y → IsIndex hash old pairs → IsIndex hash new pairs
@@ -29,14 +30,14 @@ module _ {T : Type 0} where
 
   module _ {ranks : Ranks T} {hashes : List (T → ℕ)} {old : List (Option T)} {tables : List (List (ℕ × ℕ))} (laws : AreLawful ranks) (some : 0 < length ranks) (indexed : IsIndexed ranks hashes old tables) (at : ℕ) (x y : T) where
     -- the bag is swapped
-    pub exchange_swaps : (new : List (Option T)) → Exchanges old new at x y → IsPermutation (live_items new) (swap ranks (live_items old) x y)
+    pub exchange_swaps : (new : List (Option T)) → Exchanges old new at x y → IsPermutation (contents new) (swap ranks (contents old) x y)
     exchange_swaps new ex =
-        IsPermutation-trans _ _ _ (IsPermutation-map (λ m. m.1) _ _ ex.has)
-        (IsPermutation-sym _ _ (swap-is ranks laws some _ _ x y indexed.sound (IsPermutation-map (λ m. m.1) _ _ ex.had)))
+        IsPermutation-trans _ _ _ (contents-listed new _ ex.has)
+        (IsPermutation-sym _ _ (swap-is ranks laws some _ _ x y indexed.sound (contents-listed old _ ex.had)))
 
     pub IsIndexed-exchange : (new : List (Option T)) → Exchanges old new at x y → agrees ranks x y ≡ true → AllByRecursion (λ hash. hash y ≡ hash x) hashes → IsIndexed ranks hashes new tables
     IsIndexed-exchange new ex same alike = record {
-      sound = IsSound-IsPermutation ranks laws _ _ (IsPermutation-sym _ _ (exchange_swaps new ex)) (IsSound-swap ranks laws (live_items old) x y same indexed.sound);
+      sound = IsSound-IsPermutation ranks laws _ _ (IsPermutation-sym _ _ (exchange_swaps new ex)) (IsSound-swap ranks laws (contents old) x y same indexed.sound);
       indexes = AreIndexes-exchange hashes old new tables at x y alike ex indexed.indexes;
     }
 
@@ -44,5 +45,5 @@ module _ {T : Type 0} where
     pub IsIndexed-set : get old at ≡ Some x → agrees ranks x y ≡ true → AllByRecursion (λ hash. hash y ≡ hash x) hashes → IsIndexed ranks hashes (slice_set old at (Some y)) tables
     IsIndexed-set found = IsIndexed-exchange _ (Exchanges-set old at x y found)
 
-    pub set_swaps : get old at ≡ Some x → IsPermutation (live_items (slice_set old at (Some y))) (swap ranks (live_items old) x y)
+    pub set_swaps : get old at ≡ Some x → IsPermutation (contents (slice_set old at (Some y))) (swap ranks (contents old) x y)
     set_swaps found = exchange_swaps _ (Exchanges-set old at x y found)

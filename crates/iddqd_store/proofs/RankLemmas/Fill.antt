@@ -3,10 +3,10 @@ use Rattle.std.specs.Prelude.{◌≡◌, ℕ, suc, ◌+◌, ◌<◌, ◌≤◌, 
 use Rattle.std.proofs.Common.{refl, sym, ap, subst, ◌∙◌, arith}
 use Rattle.std.proofs.lemmas.List.{drop_more, length-append, length-map}
 use Rattle.std.proofs.lemmas.List.Sorted.{IsPermutation-refl, IsPermutation-sym, IsPermutation-trans, IsPermutation-middle, IsPermutation-append_left, length_permutation}
-use Rattle.iddqd_store.specs.Slots.{get, live_count, live_items, items_in, members_from, members}
+use Rattle.iddqd_store.specs.Slots.{get, live_count, contents, members_from, members}
 use Rattle.iddqd_store.specs.Rank.Index.{pair_of}
-use Rattle.iddqd_store.proofs.RankLemmas.Index.{length-live_items, length-members_from}
-use Rattle.iddqd_store.proofs.SlotLemmas.Chain.{live_items-items_in}
+use Rattle.iddqd_store.proofs.RankLemmas.Index.{length-members_from}
+use Rattle.iddqd_store.proofs.SlotLemmas.Contents.{contents-all, length-contents}
 
 module _ {T : Type 0} (hash : T → ℕ) (slots : List (Option T)) where
   -- the pairs of the slots from a number on
@@ -50,18 +50,10 @@ module _ {T : Type 0} (hash : T → ℕ) (slots : List (Option T)) where
       omega (arith, all, some, both, count)
 
 module _ {T : Type 0} where
-  items_in-all : (xs : List T) → items_in (map Some xs) ≡ xs
-  items_in-all [] = refl
-  items_in-all (x ∷ xs) = ap (λ rest. x ∷ rest) (items_in-all xs)
-
-  -- if no slot is free, the slots have exactly the items
-  pub live_items-all : (xs : List T) → live_items (map Some xs) ≡ xs
-  live_items-all xs = live_items-items_in (map Some xs) ∙ items_in-all xs
-
   -- the same items, moved to the first slots
-  pub live_items-compact : (old new : List (Option T)) → new ≡ map Some (live_items old) → live_items new ≡ live_items old
-  live_items-compact old new is = ap live_items is ∙ live_items-all (live_items old)
+  pub contents-compact : (old new : List (Option T)) → new ≡ map Some (contents old) → contents new ≡ contents old
+  contents-compact old new is = ap contents is ∙ contents-all (contents old)
 
   -- if some of the items leave, there is room for the others if there was room for all
-  pub fewer : (old new : List (Option T)) (taken : List T) {room : ℕ} → IsPermutation (live_items old) (taken ++ live_items new) → length (live_items old) ≤ room → live_count new ≤ room
-  fewer old new taken left fits = omega (arith, fits, length_permutation _ _ left, length-append taken (live_items new), length-live_items new)
+  pub fewer : (old new : List (Option T)) (taken : List T) {room : ℕ} → IsPermutation (contents old) (taken ++ contents new) → length (contents old) ≤ room → live_count new ≤ room
+  fewer old new taken left fits = omega (arith, fits, length_permutation _ _ left, length-append taken (contents new), length-contents new)

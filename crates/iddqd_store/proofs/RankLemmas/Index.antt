@@ -5,16 +5,16 @@ use Rattle.std.specs.Option.{option_map_or, IfSome}
 use Rattle.std.proofs.Common.{refl, sym, ap, subst, ◌∙◌, arith, inl, inr, get_or, set, zero-add, add-zero}
 use Rattle.std.proofs.lemmas.Bool.{false≢true, cases_eq}
 use Rattle.std.proofs.lemmas.List.{get_or-set_other}
-use Rattle.iddqd_store.proofs.SlotLemmas.Chain.{members-take}
 use Rattle.std.proofs.lemmas.Bool.Decides.{nat_tests}
 use Rattle.std.proofs.lemmas.List.Sums.{sum_by-cons}
 use Rattle.std.proofs.lemmas.Map.Keys.{IsDistinct-head, IsDistinct-cons, IsDistinct-IsPermutation}
 use Rattle.std.proofs.lemmas.List.Sorted.{IsPermutation-refl, IsPermutation-sym, IsPermutation-cons, IsPermutation-trans, IsPermutation-map, length_permutation, Contains-permutation, sum_by-IsPermutation}
-use Rattle.iddqd_store.specs.Slots.{get, live_count, members_from, members, live_items}
+use Rattle.iddqd_store.specs.Slots.{get, members_from, members, contents}
 use Rattle.iddqd_store.specs.Rank.Index.{pair_of, IsIndex, HasHash, passes_at}
 use Rattle.iddqd_store.specs.Bag.{NamesOne}
 use Rattle.iddqd_store.proofs.BagLemmas.Sound.{each_weaker, without_named, IsDistinct-nil}
 use Rattle.iddqd_store.proofs.BagLemmas.Exchanges.{split}
+use Rattle.iddqd_store.proofs.SlotLemmas.Contents.{content_at, contents-members, contents-take, length-contents}
 
 pub Contains-cons : {X : Type 0} (head x : X) (rest : List X) → Contains rest x → Contains (head ∷ rest) x
 Contains-cons head x rest p = (suc p.0, omega (arith, p.1), p.2)
@@ -64,9 +64,6 @@ module _ {T : Type 0} where
   length-members_from first (None ∷ rest) = omega (arith, length-members_from (first + 1) rest, sum_by-cons (λ o. cond (is_some o) 1 0) None rest)
   length-members_from first (Some x ∷ rest) = omega (arith, length-members_from (first + 1) rest, sum_by-cons (λ o. cond (is_some o) 1 0) (Some x) rest)
 
-  pub length-live_items : (slots : List (Option T)) → length (live_items slots) ≡ live_count slots
-  length-live_items slots = length-map (λ m. m.1) (members slots) ∙ length-members_from 0 slots
-
   listed_from : (first : ℕ) (slots : List (Option T)) (at : ℕ) (x : T) → get_or slots at None ≡ Some x → Contains (members_from first slots) (first + at, x)
   listed_from first [] at x found = absurd (cc)
   listed_from first (slot ∷ rest) zero x found = rw (found, add-zero) (0, omega arith, refl)
@@ -98,26 +95,23 @@ module _ {T : Type 0} where
   pub at_member : (slots : List (Option T)) (at : ℕ) (x : T) → Contains (members slots) (at, x) → get slots at ≡ Some x
   at_member slots at x listed = let found = slot_from 0 slots at x listed in ap (get slots) (found.1 ∙ zero-add found.0) ∙ found.2
 
-  pub item_at : (slots : List (Option T)) (at : ℕ) (x : T) → get slots at ≡ Some x → Contains (live_items slots) x
-  item_at slots at x found = Contains-map (λ m. m.1) (members slots) (at, x) (member_at slots at x found)
-
   pub none_of_map : {X : Type 0} (f : X → T) (test : T → Bool) (xs : List X) → AllByRecursion (λ x. test (f x) ≡ false) xs → filter test (map f xs) ≡ []
   none_of_map f test [] h = refl
   none_of_map f test (x ∷ xs) h = rw h.0 (none_of_map f test xs h.1)
 
   -- if no index with the hash is accepted, no item is named
-  pub none_is : (hash : T → ℕ) (test : T → Bool) (h : ℕ) (slots : List (Option T)) (pairs : List (ℕ × ℕ)) → IsIndex hash slots pairs → ((x : T) → Contains (live_items slots) x → test x ≡ true → hash x ≡ h) → ((at : ℕ) → Contains pairs (h, at) → passes_at test slots at ≡ false) → filter test (live_items slots) ≡ []
+  pub none_is : (hash : T → ℕ) (test : T → Bool) (h : ℕ) (slots : List (Option T)) (pairs : List (ℕ × ℕ)) → IsIndex hash slots pairs → ((x : T) → Contains (contents slots) x → test x ≡ true → hash x ≡ h) → ((at : ℕ) → Contains pairs (h, at) → passes_at test slots at ≡ false) → filter test (contents slots) ≡ []
   none_is hash test h slots pairs index alike none =
-      none_of_map (λ m. m.1) test (members slots) (each_from_Contains (λ m. test m.1 ≡ false) (members slots) (λ m listed.
+      subst (λ l. filter test l ≡ []) (contents-members slots) (none_of_map (λ m. m.1) test (members slots) (each_from_Contains (λ m. test m.1 ≡ false) (members slots) (λ m listed.
       let stands = at_member slots m.0 m.1 listed in
       let paired : Contains pairs (hash m.1, m.0) = Contains-permutation _ _ _ (IsPermutation-sym _ _ index.paired) (Contains-map (pair_of hash) (members slots) m listed) in
       split (λ b. b ≡ false) (test m.1)
       (λ yes.
-      let same = alike m.1 (item_at slots m.0 m.1 stands) yes in
+      let same = alike m.1 (content_at slots m.0 m.1 stands) yes in
       let refused : passes_at test slots m.0 ≡ false = none m.0 (subst (λ k. Contains pairs (k, m.0)) same paired) in
       let is : passes_at test slots m.0 ≡ test m.1 = ap (λ o. option_map_or test o false) stands in
       sym yes ∙ sym is ∙ refused)
-      (λ _. refl)))
+      (λ _. refl))))
 
   pub IsIndex-empty : {hash : T → ℕ} → IsIndex hash [] []
   IsIndex-empty = record { paired = IsPermutation-refl [] }
@@ -182,21 +176,21 @@ module _ {T : Type 0} where
   hash_known at x (Some h) index has found = has x found
 
   -- as many pairs as items
-  pub length-index : {hash : T → ℕ} {slots : List (Option T)} {pairs : List (ℕ × ℕ)} → IsIndex hash slots pairs → length pairs ≡ length (live_items slots)
+  pub length-index : {hash : T → ℕ} {slots : List (Option T)} {pairs : List (ℕ × ℕ)} → IsIndex hash slots pairs → length pairs ≡ length (contents slots)
   length-index {hash = hash} {slots = slots} index =
-      sym (length_permutation _ _ index.paired) ∙ length-map (pair_of hash) (members slots) ∙ sym (length-map (λ m. m.1) (members slots))
+      sym (length_permutation _ _ index.paired) ∙ length-map (pair_of hash) (members slots) ∙ length-members_from 0 slots ∙ sym (length-contents slots)
 
   -- two slots whose items agree are the same slot
-  pub same_slot : (agree : T → T → Bool) (slots : List (Option T)) (a b : ℕ) (x y : T) → IsDistinct agree (live_items slots) → ((x y : T) → agree x y ≡ agree y x) → get slots a ≡ Some x → get slots b ≡ Some y → agree x y ≡ true → a ≡ b
+  pub same_slot : (agree : T → T → Bool) (slots : List (Option T)) (a b : ℕ) (x y : T) → IsDistinct agree (contents slots) → ((x y : T) → agree x y ≡ agree y x) → get slots a ≡ Some x → get slots b ≡ Some y → agree x y ≡ true → a ≡ b
   same_slot agree slots a b x y apart symm found other alike =
       elim (cases_eq a b) [
         | inl same ↦ same
         | inr differs ↦
             let rest : List (Option T) = set slots a None in
             let kept : get rest b ≡ Some y = get_or-set_other slots a b None None (λ e. differs (sym e)) ∙ other in
-            let moved : IsPermutation (live_items slots) (x ∷ live_items rest) = IsPermutation-map (λ m. m.1) _ _ (members-take slots a x found) in
-            let head = IsDistinct-head agree x (live_items rest) (IsDistinct-IsPermutation agree symm _ _ moved apart) in
-            absurd (false≢true (sym (each_at (λ z. agree x z ≡ false) (live_items rest) y head (item_at rest b y kept)) ∙ alike))
+            let moved : IsPermutation (contents slots) (x ∷ contents rest) = contents-take slots a x found in
+            let head = IsDistinct-head agree x (contents rest) (IsDistinct-IsPermutation agree symm _ _ moved apart) in
+            absurd (false≢true (sym (each_at (λ z. agree x z ≡ false) (contents rest) y head (content_at rest b y kept)) ∙ alike))
       ]
     where
       each_at : (P : T → Type 0) (xs : List T) (y : T) → AllByRecursion P xs → Contains xs y → P y
@@ -209,9 +203,9 @@ sum_by-map f h [] = refl
 sum_by-map f h (x ∷ xs) = omega (arith, sum_by-map f h xs, sum_by-cons f (h x) (map h xs), sum_by-cons (λ x. f (h x)) x xs)
 
 -- as many pairs have a hash as items
-pub crowd_is : {T : Type 0} (hash : T → ℕ) (h : ℕ) (slots : List (Option T)) (pairs : List (ℕ × ℕ)) → IsIndex hash slots pairs → count_by (λ p. p.0 == h) pairs ≡ count_by (λ x. hash x == h) (live_items slots)
+pub crowd_is : {T : Type 0} (hash : T → ℕ) (h : ℕ) (slots : List (Option T)) (pairs : List (ℕ × ℕ)) → IsIndex hash slots pairs → count_by (λ p. p.0 == h) pairs ≡ count_by (λ x. hash x == h) (contents slots)
 crowd_is hash h slots pairs index =
     let moved = sum_by-IsPermutation (λ p. cond (p.0 == h) 1 0) _ _ index.paired in
     let first = sum_by-map (λ (p : ℕ × ℕ). cond (p.0 == h) 1 0) (pair_of hash) (members slots) in
     let second = sum_by-map (λ x. cond (hash x == h) 1 0) (λ m. m.1) (members slots) in
-    sym moved ∙ first ∙ sym second
+    sym moved ∙ first ∙ sym second ∙ ap (count_by (λ x. hash x == h)) (contents-members slots)

@@ -5,7 +5,7 @@ use Rattle.std.proofs.Common.{refl}
 use Rattle.iddqd_store.specs.Bag.{Ranks, AreLawful, conflicts, clash, agrees}
 use Rattle.iddqd_store.specs.Rank.Index.{AreIndexes, IsIndexed}
 use Rattle.iddqd_store.specs.Rank.{IsSearchable}
-use Rattle.iddqd_store.specs.Slots.{IsSlotClone, members, live_items}
+use Rattle.iddqd_store.specs.Slots.{IsSlotClone, members, contents}
 use Rattle.iddqd_store.proofs.BagLemmas.Sound.{IsSound-rank, IsDistinct-nil}
 use Rattle.iddqd_store.proofs.RankLemmas.Copied.{is_copy, IsIndex-copy}
 use Rattle.iddqd_store.proofs.RankLemmas.Index.{IsIndex-empty, IsIndex-reorder, IsIndex-insert, IsIndex-remove}
@@ -52,7 +52,7 @@ module _ {T : Type 0} where
       (IsIndex-insert x all.0 entered.0.1 added entered.0.2, AreIndexes-insert x at old new added hashes tables others all.1 entered.1)
 
   -- an item that nothing conflicts with is put into a slot and into each table
-  pub IsIndexed-insert : {ranks : Ranks T} {hashes : List (T → ℕ)} {old new : List (Option T)} {tables others : List (List (ℕ × ℕ))} {at : ℕ} (x : T) → AreLawful ranks → IsIndexed ranks hashes old tables → clash ranks (live_items old) x ≡ [] → IsPermutation (members new) ((at, x) ∷ members old) → AreEntered x at hashes tables others → IsIndexed ranks hashes new others
+  pub IsIndexed-insert : {ranks : Ranks T} {hashes : List (T → ℕ)} {old new : List (Option T)} {tables others : List (List (ℕ × ℕ))} {at : ℕ} (x : T) → AreLawful ranks → IsIndexed ranks hashes old tables → clash ranks (contents old) x ≡ [] → IsPermutation (members new) ((at, x) ∷ members old) → AreEntered x at hashes tables others → IsIndexed ranks hashes new others
   IsIndexed-insert {ranks = ranks} {hashes = hashes} {old = old} {new = new} {tables = tables} {others = others} {at = at} x laws indexed free added entered = record {
     sound = free_sound ranks laws old new at x indexed.sound free added;
     indexes = AreIndexes-insert x at old new added hashes tables others indexed.indexes entered;
@@ -82,19 +82,19 @@ module _ {T : Type 0} where
   }
 
   -- the same items in other slots, and tables that index these
-  pub IsIndexed-move : {ranks : Ranks T} {hashes : List (T → ℕ)} {old new : List (Option T)} {tables others : List (List (ℕ × ℕ))} → IsIndexed ranks hashes old tables → live_items new ≡ live_items old → AreIndexes hashes new others → IsIndexed ranks hashes new others
+  pub IsIndexed-move : {ranks : Ranks T} {hashes : List (T → ℕ)} {old new : List (Option T)} {tables others : List (List (ℕ × ℕ))} → IsIndexed ranks hashes old tables → contents new ≡ contents old → AreIndexes hashes new others → IsIndexed ranks hashes new others
   IsIndexed-move indexed same indexes = record { sound = rw same indexed.sound; indexes = indexes }
 
   -- some of the items leave, and tables that index the others
-  pub IsIndexed-left : {ranks : Ranks T} {hashes : List (T → ℕ)} {old new : List (Option T)} {tables others : List (List (ℕ × ℕ))} (taken : List T) → AreLawful ranks → IsIndexed ranks hashes old tables → IsPermutation (live_items old) (taken ++ live_items new) → AreIndexes hashes new others → IsIndexed ranks hashes new others
+  pub IsIndexed-left : {ranks : Ranks T} {hashes : List (T → ℕ)} {old new : List (Option T)} {tables others : List (List (ℕ × ℕ))} (taken : List T) → AreLawful ranks → IsIndexed ranks hashes old tables → IsPermutation (contents old) (taken ++ contents new) → AreIndexes hashes new others → IsIndexed ranks hashes new others
   IsIndexed-left {ranks = ranks} {old = old} {new = new} taken laws indexed left indexes = record {
-    sound = sound_left ranks laws (live_items old) taken (live_items new) indexed.sound left;
+    sound = sound_left ranks laws (contents old) taken (contents new) indexed.sound left;
     indexes = indexes;
   }
 
   -- clones of the members hash as they do
   abbrev pub IsAlike : (T → T → Type 0) → List (Option T) → (T → ℕ) → (T → ℕ) → Type 0
-  IsAlike is_clone slots hash other = (x c : T) → Contains (live_items slots) x → is_clone x c → other c ≡ hash x
+  IsAlike is_clone slots hash other = (x c : T) → Contains (contents slots) x → is_clone x c → other c ≡ hash x
 
   module _ (is_clone : T → T → Type 0) (slots copy : List (Option T)) where
     AreIndexes-copy : (hashes others : List (T → ℕ)) (tables : List (List (ℕ × ℕ))) → AllZip (IsAlike is_clone slots) hashes others → AllZip (IsSlotClone is_clone) slots copy → AreIndexes hashes slots tables → AreIndexes others copy tables
@@ -107,17 +107,17 @@ module _ {T : Type 0} where
         (IsIndex-copy is_clone hash other slots copy pairs alike.0 all indexes.0, AreIndexes-copy hashes others tables alike.1 all indexes.1)
 
     -- clones that have the keys of the items and hash alike are indexed by the same tables
-    pub IsIndexed-copy : {ranks : Ranks T} {hashes others : List (T → ℕ)} {tables : List (List (ℕ × ℕ))} → AreLawful ranks → IsIndexed ranks hashes slots tables → ((x c : T) → Contains (live_items slots) x → is_clone x c → agrees ranks x c ≡ true) → AllZip (IsAlike is_clone slots) hashes others → AllZip (IsSlotClone is_clone) slots copy → AllZip is_clone (live_items slots) (live_items copy) → IsIndexed ranks others copy tables
+    pub IsIndexed-copy : {ranks : Ranks T} {hashes others : List (T → ℕ)} {tables : List (List (ℕ × ℕ))} → AreLawful ranks → IsIndexed ranks hashes slots tables → ((x c : T) → Contains (contents slots) x → is_clone x c → agrees ranks x c ≡ true) → AllZip (IsAlike is_clone slots) hashes others → AllZip (IsSlotClone is_clone) slots copy → AllZip is_clone (contents slots) (contents copy) → IsIndexed ranks others copy tables
     IsIndexed-copy {ranks = ranks} {hashes = hashes} {others = others} {tables = tables} laws indexed keys alike all paired = record {
-      sound = IsSound-copy is_clone ranks laws (live_items slots) (live_items copy) keys (is_copy is_clone _ _ paired) indexed.sound;
+      sound = IsSound-copy is_clone ranks laws (contents slots) (contents copy) keys (is_copy is_clone _ _ paired) indexed.sound;
       indexes = AreIndexes-copy hashes others tables alike all indexed.indexes;
     }
 
   module _ {agree : T → T → Bool} {ranks : Ranks T} {hash : T → ℕ} {hashes : List (T → ℕ)} {slots : List (Option T)} {pairs : List (ℕ × ℕ)} {tables : List (List (ℕ × ℕ))} (indexed : IsIndexed (agree ∷ ranks) (hash ∷ hashes) slots (pairs ∷ tables)) where
     -- the first rank alone
     pub first_rank : IsSearchable agree hash slots pairs
-    first_rank = record { apart = (IsSound-rank agree ranks (live_items slots) indexed.sound).0; index = indexed.indexes.0 }
+    first_rank = record { apart = (IsSound-rank agree ranks (contents slots) indexed.sound).0; index = indexed.indexes.0 }
 
     -- the others
     pub other_ranks : IsIndexed ranks hashes slots tables
-    other_ranks = record { sound = (IsSound-rank agree ranks (live_items slots) indexed.sound).1; indexes = indexed.indexes.1 }
+    other_ranks = record { sound = (IsSound-rank agree ranks (contents slots) indexed.sound).1; indexes = indexed.indexes.1 }

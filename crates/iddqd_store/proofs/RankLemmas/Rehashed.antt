@@ -2,14 +2,15 @@
 use Rattle.std.specs.Prelude.{◌≡◌, ◌<◌, ℕ, length, List, [], ◌∷◌, IsPermutation, Option, Some, None, slice_set, ⊤}
 use Rattle.std.proofs.Common.{arith, get_or, refl}
 use Rattle.std.proofs.lemmas.List.{get_or_past, get_or-set_same}
-use Rattle.std.proofs.lemmas.List.Sorted.{IsPermutation-sym, IsPermutation-map}
+use Rattle.std.proofs.lemmas.List.Sorted.{IsPermutation-sym}
 use Rattle.iddqd_store.specs.Bag.{Ranks, AreLawful, IsSound, clash}
 use Rattle.iddqd_store.specs.Rank.Index.{IsIndex, AreIndexes, IsIndexed}
-use Rattle.iddqd_store.specs.Slots.{live_items, get}
+use Rattle.iddqd_store.specs.Slots.{contents, get}
 use Rattle.iddqd_store.specs.Table.{ReplacesPair}
 use Rattle.iddqd_store.proofs.MapLemmas.{free_sound, sound_without}
 use Rattle.iddqd_store.proofs.RankLemmas.Index.{IsIndex-insert, IsIndex-remove}
 use Rattle.iddqd_store.proofs.SlotLemmas.Chain.{members-take, members-set}
+use Rattle.iddqd_store.proofs.SlotLemmas.Contents.{contents-moves, contents-take}
 
 module _ {T : Type 0} where
   -- each table has the slot with the hash of another item
@@ -41,18 +42,18 @@ module _ {T : Type 0} where
         get_or-set_same slots at (Some y) None within
 
     -- the bag is without the one item, and has the other
-    pub left : IsPermutation (live_items slots) (x ∷ live_items (slice_set slots at None))
-    left = IsPermutation-map (λ m. m.1) _ _ (members-take slots at x found)
+    pub left : IsPermutation (contents slots) (x ∷ contents (slice_set slots at None))
+    left = contents-take slots at x found
 
-    pub come : IsPermutation (live_items (slice_set slots at (Some y))) (y ∷ live_items (slice_set slots at None))
-    come = IsPermutation-map (λ m. m.1) _ _ (members-set slots at x y found)
+    pub come : IsPermutation (contents (slice_set slots at (Some y))) (y ∷ contents (slice_set slots at None))
+    come = contents-moves (slice_set slots at (Some y)) (slice_set slots at None) at y (members-set slots at x y found)
 
     -- the bag is sound if nothing else conflicts with the other
-    pub sound_moved : {ranks : Ranks T} {hashes : List (T → ℕ)} {tables : List (List (ℕ × ℕ))} → AreLawful ranks → IsIndexed ranks hashes slots tables → clash ranks (live_items (slice_set slots at None)) y ≡ [] → IsSound ranks (live_items (slice_set slots at (Some y)))
+    pub sound_moved : {ranks : Ranks T} {hashes : List (T → ℕ)} {tables : List (List (ℕ × ℕ))} → AreLawful ranks → IsIndexed ranks hashes slots tables → clash ranks (contents (slice_set slots at None)) y ≡ [] → IsSound ranks (contents (slice_set slots at (Some y)))
     sound_moved {ranks = ranks} laws indexed free =
         free_sound ranks laws (slice_set slots at None) (slice_set slots at (Some y)) at y (sound_without ranks laws slots (slice_set slots at None) at x indexed.sound (members-take slots at x found)) free (members-set slots at x y found)
 
-    pub IsIndexed-moved : {ranks : Ranks T} {hashes : List (T → ℕ)} {tables others : List (List (ℕ × ℕ))} → AreLawful ranks → IsIndexed ranks hashes slots tables → clash ranks (live_items (slice_set slots at None)) y ≡ [] → AreMoved x y at hashes tables others → IsIndexed ranks hashes (slice_set slots at (Some y)) others
+    pub IsIndexed-moved : {ranks : Ranks T} {hashes : List (T → ℕ)} {tables others : List (List (ℕ × ℕ))} → AreLawful ranks → IsIndexed ranks hashes slots tables → clash ranks (contents (slice_set slots at None)) y ≡ [] → AreMoved x y at hashes tables others → IsIndexed ranks hashes (slice_set slots at (Some y)) others
     IsIndexed-moved {hashes = hashes} {tables = tables} {others = others} laws indexed free moved = record {
       sound = sound_moved laws indexed free;
       indexes = AreIndexes-moved hashes tables others indexed.indexes moved;

@@ -6,7 +6,7 @@ use Rattle.std.proofs.lemmas.List.Sorted.{IsPermutation-refl, IsPermutation-tran
 use Rattle.iddqd_store.specs.Bag.{Ranks, AreLawful, IsSound, clash}
 use Rattle.iddqd_store.specs.Rank.{IsPaired, IsUnder, SlotUnder}
 use Rattle.iddqd_store.specs.Rank.Index.{HasHash, IsIndex, AreIndexes, IsIndexed}
-use Rattle.iddqd_store.specs.Slots.{live_items, get}
+use Rattle.iddqd_store.specs.Slots.{contents, get}
 use Rattle.iddqd_store.specs.Table.{ReplacesThree, ReplacesTwo}
 use Rattle.iddqd_store.proofs.MapLemmas.{free_sound, sound_without}
 use Rattle.iddqd_store.proofs.RankLemmas.Index.{IsIndex-remove, pair_in}
@@ -55,12 +55,12 @@ module _ {T : Type 0} where
         (IsIndex-replaced all.0 replaced.0.1 replaced.0.2, AreIndexes-replaced hashes tables others all.1 replaced.1)
 
     -- the bag is sound if nothing else conflicts with the item
-    pub sound_replaced : (ranks : Ranks T) → AreLawful ranks → IsSound ranks (live_items slots) → clash ranks (live_items (slice_set rest at None)) y ≡ [] → IsSound ranks (live_items (slice_set rest at (Some y)))
+    pub sound_replaced : (ranks : Ranks T) → AreLawful ranks → IsSound ranks (contents slots) → clash ranks (contents (slice_set rest at None)) y ≡ [] → IsSound ranks (contents (slice_set rest at (Some y)))
     sound_replaced ranks laws sound free =
         let without = sound_without ranks laws slots rest other two sound (members-take slots other two second) in
         free_sound ranks laws (slice_set rest at None) (slice_set rest at (Some y)) at y (sound_without ranks laws rest (slice_set rest at None) at one without (members-take rest at one still)) free (members-set rest at one y still)
 
-    pub IsIndexed-replaced : {ranks : Ranks T} {hashes : List (T → ℕ)} {tables others : List (List (ℕ × ℕ))} → AreLawful ranks → IsIndexed ranks hashes slots tables → clash ranks (live_items (slice_set rest at None)) y ≡ [] → AreReplaced one two y at other hashes tables others → IsIndexed ranks hashes (slice_set rest at (Some y)) others
+    pub IsIndexed-replaced : {ranks : Ranks T} {hashes : List (T → ℕ)} {tables others : List (List (ℕ × ℕ))} → AreLawful ranks → IsIndexed ranks hashes slots tables → clash ranks (contents (slice_set rest at None)) y ≡ [] → AreReplaced one two y at other hashes tables others → IsIndexed ranks hashes (slice_set rest at (Some y)) others
     IsIndexed-replaced {ranks = ranks} {hashes = hashes} {tables = tables} {others = others} laws indexed free replaced = record {
       sound = sound_replaced ranks laws indexed.sound free;
       indexes = AreIndexes-replaced hashes tables others indexed.indexes replaced;
@@ -103,11 +103,11 @@ module _ {T : Type 0} where
     AreIndexes-all_replaced (hash ∷ hashes) (pairs ∷ tables) (more ∷ others) all replaced =
         (IsIndex-all_replaced all.0 replaced.0.1 replaced.0.2, AreIndexes-all_replaced hashes tables others all.1 replaced.1)
 
-    pub sound_all_replaced : (ranks : Ranks T) → AreLawful ranks → IsSound ranks (live_items slots) → clash ranks (live_items (slice_set (slice_set less other None) at None)) y ≡ [] → IsSound ranks (live_items (slice_set (slice_set less other None) at (Some y)))
+    pub sound_all_replaced : (ranks : Ranks T) → AreLawful ranks → IsSound ranks (contents slots) → clash ranks (contents (slice_set (slice_set less other None) at None)) y ≡ [] → IsSound ranks (contents (slice_set (slice_set less other None) at (Some y)))
     sound_all_replaced ranks laws sound free =
         sound_replaced one two y at other less apart.0 still_first still_second ranks laws (sound_without ranks laws slots less end three sound (members-take slots end three third)) free
 
-    pub IsIndexed-all_replaced : {ranks : Ranks T} {hashes : List (T → ℕ)} {tables others : List (List (ℕ × ℕ))} → AreLawful ranks → IsIndexed ranks hashes slots tables → clash ranks (live_items (slice_set (slice_set less other None) at None)) y ≡ [] → AreAllReplaced one two three y at other end hashes tables others → IsIndexed ranks hashes (slice_set (slice_set less other None) at (Some y)) others
+    pub IsIndexed-all_replaced : {ranks : Ranks T} {hashes : List (T → ℕ)} {tables others : List (List (ℕ × ℕ))} → AreLawful ranks → IsIndexed ranks hashes slots tables → clash ranks (contents (slice_set (slice_set less other None) at None)) y ≡ [] → AreAllReplaced one two three y at other end hashes tables others → IsIndexed ranks hashes (slice_set (slice_set less other None) at (Some y)) others
     IsIndexed-all_replaced {ranks = ranks} {hashes = hashes} {tables = tables} {others = others} laws indexed free replaced = record {
       sound = sound_all_replaced ranks laws indexed.sound free;
       indexes = AreIndexes-all_replaced hashes tables others indexed.indexes replaced;

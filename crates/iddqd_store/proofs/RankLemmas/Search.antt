@@ -5,12 +5,13 @@ use Rattle.std.specs.Option.{option_map_or, option_to_list, option_and_then, IfS
 use Rattle.std.proofs.Common.{inl, inr, refl, sym, ap, subst, ◌∙◌, arith}
 use Rattle.std.proofs.lemmas.Bool.{false≢true}
 use Rattle.std.proofs.lemmas.Map.Keys.{IsDistinct-head, IsDistinct-tail}
-use Rattle.iddqd_store.specs.Slots.{get, live_items}
+use Rattle.iddqd_store.specs.Slots.{contents, get}
 use Rattle.iddqd_store.specs.Rank.Index.{IsIndex, passes_at}
 use Rattle.iddqd_store.specs.Slots.Found.{NamesOneOf}
 use Rattle.iddqd_store.proofs.BagLemmas.Exchanges.{split}
 use Rattle.iddqd_store.proofs.BagLemmas.Sound.{none_pass}
-use Rattle.iddqd_store.proofs.RankLemmas.Index.{Contains-cons, Contains-cons_cases, Contains-here, each_from_Contains, item_at, none_is}
+use Rattle.iddqd_store.proofs.RankLemmas.Index.{Contains-cons, Contains-cons_cases, Contains-here, each_from_Contains, none_is}
+use Rattle.iddqd_store.proofs.SlotLemmas.Contents.{content_at}
 
 module _ {T : Type 0} where
   pub each_at : (P : T → Type 0) (xs : List T) (y : T) → AllByRecursion P xs → Contains xs y → P y
@@ -49,14 +50,14 @@ module _ {T : Type 0} where
             | inr there ↦ absurd (let e : [] ≡ x ∷ [] = sym none ∙ later there in cc)
           ]
 
-  found_among : (agree : T → T → Bool) (test : T → Bool) (slots : List (Option T)) (at : ℕ) → NamesOneOf agree test (live_items slots) → IsDistinct agree (live_items slots) → passes_at test slots at ≡ true → option_to_list (get slots at) ≡ filter test (live_items slots)
+  found_among : (agree : T → T → Bool) (test : T → Bool) (slots : List (Option T)) (at : ℕ) → NamesOneOf agree test (contents slots) → IsDistinct agree (contents slots) → passes_at test slots at ≡ true → option_to_list (get slots at) ≡ filter test (contents slots)
   found_among agree test slots at names apart accepted = by_slot (get slots at) refl accepted
     where
-      by_slot : (o : Option T) → get slots at ≡ o → option_map_or test o false ≡ true → option_to_list o ≡ filter test (live_items slots)
+      by_slot : (o : Option T) → get slots at ≡ o → option_map_or test o false ≡ true → option_to_list o ≡ filter test (contents slots)
       by_slot None is h = absurd (false≢true h)
-      by_slot (Some x) is h = sym (named_among agree test (live_items slots) x names apart h (item_at slots at x is))
+      by_slot (Some x) is h = sym (named_among agree test (contents slots) x names apart h (content_at slots at x is))
 
   -- a search among the members gives the slot of the one that is named, if there is one
-  pub search_among : (agree : T → T → Bool) (test : T → Bool) (hash : T → ℕ) (h : ℕ) (slots : List (Option T)) (pairs : List (ℕ × ℕ)) (r : Option ℕ) → NamesOneOf agree test (live_items slots) → IsDistinct agree (live_items slots) → IsIndex hash slots pairs → ((x : T) → Contains (live_items slots) x → test x ≡ true → hash x ≡ h) → IfSome r (λ at. passes_at test slots at ≡ true) → IfNone r ((at : ℕ) → Contains pairs (h, at) → passes_at test slots at ≡ false) → option_to_list (option_and_then (get slots) r) ≡ filter test (live_items slots)
+  pub search_among : (agree : T → T → Bool) (test : T → Bool) (hash : T → ℕ) (h : ℕ) (slots : List (Option T)) (pairs : List (ℕ × ℕ)) (r : Option ℕ) → NamesOneOf agree test (contents slots) → IsDistinct agree (contents slots) → IsIndex hash slots pairs → ((x : T) → Contains (contents slots) x → test x ≡ true → hash x ≡ h) → IfSome r (λ at. passes_at test slots at ≡ true) → IfNone r ((at : ℕ) → Contains pairs (h, at) → passes_at test slots at ≡ false) → option_to_list (option_and_then (get slots) r) ≡ filter test (contents slots)
   search_among agree test hash h slots pairs None names apart index alike some none = sym (none_is hash test h slots pairs index alike none)
   search_among agree test hash h slots pairs (Some at) names apart index alike some none = found_among agree test slots at names apart some

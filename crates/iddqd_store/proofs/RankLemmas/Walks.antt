@@ -7,7 +7,7 @@ use Rattle.std.proofs.lemmas.Bool.Decides.{nat_tests}
 use Rattle.iddqd_store.specs.Bag.{Ranks}
 use Rattle.iddqd_store.specs.Rank.{has_found, walks_one, walks_three, walks_two, walks_within, SlotUnder}
 use Rattle.iddqd_store.specs.Rank.Index.{AreIndexes, IsIndex, IsIndexed}
-use Rattle.iddqd_store.specs.Slots.{live_items}
+use Rattle.iddqd_store.specs.Slots.{contents}
 use Rattle.iddqd_store.proofs.RankLemmas.Index.{length-index}
 
 itself : (a b : ℕ) → a ≡ b → (a == b) ≡ true
@@ -97,10 +97,10 @@ AreWalked (pairs ∷ tables) [] before after = ⊥
 AreWalked (pairs ∷ tables) (w ∷ ws) before after = (between : ℕ) × (between ≤ before + w * (length pairs + 1)) × AreWalked tables ws between after
 
 -- walks through a table that has a pair for each item
-pub walk_through : {T : Type 0} {hash : T → ℕ} {slots : List (Option T)} {pairs : List (ℕ × ℕ)} (w before after : ℕ) → IsIndex hash slots pairs → after ≤ before + w * (length pairs + 1) → after ≤ before + w * (length (live_items slots) + 1)
+pub walk_through : {T : Type 0} {hash : T → ℕ} {slots : List (Option T)} {pairs : List (ℕ × ℕ)} (w before after : ℕ) → IsIndex hash slots pairs → after ≤ before + w * (length pairs + 1) → after ≤ before + w * (length (contents slots) + 1)
 walk_through w before after index walk = subst (λ (n : ℕ). after ≤ before + w * (n + 1)) (length-index index) walk
 
-through_all : {T : Type 0} (hashes : List (T → ℕ)) (slots : List (Option T)) (tables : List (List (ℕ × ℕ))) (ws : List ℕ) (before after : ℕ) → AreIndexes hashes slots tables → AreWalked tables ws before after → after ≤ before + walks_within (length (live_items slots)) ws
+through_all : {T : Type 0} (hashes : List (T → ℕ)) (slots : List (Option T)) (tables : List (List (ℕ × ℕ))) (ws : List ℕ) (before after : ℕ) → AreIndexes hashes slots tables → AreWalked tables ws before after → after ≤ before + walks_within (length (contents slots)) ws
 through_all [] slots [] [] before after all walked = omega (arith, walked)
 through_all [] slots [] (w ∷ ws) before after all walked = absurd walked
 through_all [] slots (pairs ∷ tables) ws before after all walked = absurd all
@@ -111,7 +111,7 @@ through_all (hash ∷ hashes) slots (pairs ∷ tables) (w ∷ ws) before after a
     let rest = through_all hashes slots tables ws walked.0 after all.1 walked.2 in
     omega (arith, first, rest)
 
-pub walks_all : {T : Type 0} {ranks : Ranks T} {hashes : List (T → ℕ)} {slots : List (Option T)} {tables : List (List (ℕ × ℕ))} (ws : List ℕ) (before after : ℕ) → IsIndexed ranks hashes slots tables → AreWalked tables ws before after → after ≤ before + walks_within (length (live_items slots)) ws
+pub walks_all : {T : Type 0} {ranks : Ranks T} {hashes : List (T → ℕ)} {slots : List (Option T)} {tables : List (List (ℕ × ℕ))} (ws : List ℕ) (before after : ℕ) → IsIndexed ranks hashes slots tables → AreWalked tables ws before after → after ≤ before + walks_within (length (contents slots)) ws
 walks_all {hashes = hashes} {slots = slots} {tables = tables} ws before after indexed walked = through_all hashes slots tables ws before after indexed.indexes walked
 
 -- no fewer walks

@@ -8,7 +8,7 @@ use Rattle.std.proofs.lemmas.Option.{slice_get_within, slice_get-get_or, slice_g
 use Rattle.iddqd_store.specs.declared.item_set.Slot.{Slot}
 use Rattle.iddqd_store.specs.declared.item_set.Slot.TheVariants.{Free, Live}
 use Rattle.iddqd_store.specs.Slots.Chain.{item_of, live_slots, IsChain, IsChained}
-use Rattle.iddqd_store.specs.Slots.{live_count, Updates, Exchanges, members_from, live_items, items_in}
+use Rattle.iddqd_store.specs.Slots.{Updates, Exchanges, members_from, contents}
 
 module _ {T : Type 0} where
   -- a key starts at most one list of vacant entries
@@ -227,21 +227,6 @@ module _ {T : Type 0} where
         has = members-set slots at x y found;
       }
 
-module _ {T : Type 0} where
-  pub items_of-members_from : (first : ℕ) (slots : List (Option T)) → map (λ m. m.1) (members_from first slots) ≡ items_in slots
-  items_of-members_from first [] = refl
-  items_of-members_from first (None ∷ rest) = items_of-members_from (first + 1) rest
-  items_of-members_from first (Some x ∷ rest) = ap (λ l. x ∷ l) (items_of-members_from (first + 1) rest)
-
-  -- the live items, without their numbers
-  pub live_items-items_in : (slots : List (Option T)) → live_items slots ≡ items_in slots
-  live_items-items_in slots = items_of-members_from 0 slots
-
-  pub length-items_in : (slots : List (Option T)) → length (items_in slots) ≡ live_count slots
-  length-items_in [] = refl
-  length-items_in (None ∷ rest) = omega (arith, length-items_in rest, sum_by-cons (λ o. cond (is_some o) 1 0) None rest)
-  length-items_in (Some x ∷ rest) = omega (arith, length-items_in rest, sum_by-cons (λ o. cond (is_some o) 1 0) (Some x) rest)
-
 -- sets without free slots
 module _ {T : Type 0} where
   pub length-live_slots : (slots : List (Slot T)) → length (live_slots slots) ≡ count_by is_some (map item_of slots)
@@ -249,14 +234,11 @@ module _ {T : Type 0} where
   length-live_slots (Free next ∷ slots) = omega (arith, length-live_slots slots, sum_by-cons (λ o. cond (is_some o) 1 0) (item_of (Free next)) (map item_of slots))
   length-live_slots (Live x ∷ slots) = omega (arith, length-live_slots slots, sum_by-cons (λ o. cond (is_some o) 1 0) (Some x) (map item_of slots))
 
-  items_of-live_slots : (slots : List (Slot T)) → map item_of (live_slots slots) ≡ map Some (items_in (map item_of slots))
-  items_of-live_slots [] = refl
-  items_of-live_slots (Free next ∷ slots) = items_of-live_slots slots
-  items_of-live_slots (Live x ∷ slots) = ap (λ l. Some x ∷ l) (items_of-live_slots slots)
-
   -- the slots that are left have the items, in order
-  pub view-live_slots : (slots : List (Slot T)) → map item_of (live_slots slots) ≡ map Some (live_items (map item_of slots))
-  view-live_slots slots = items_of-live_slots slots ∙ ap (map Some) (sym (live_items-items_in (map item_of slots)))
+  pub view-live_slots : (slots : List (Slot T)) → map item_of (live_slots slots) ≡ map Some (contents (map item_of slots))
+  view-live_slots [] = refl
+  view-live_slots (Free next ∷ slots) = view-live_slots slots
+  view-live_slots (Live x ∷ slots) = ap (λ l. Some x ∷ l) (view-live_slots slots)
 
   live_slots-twice : (slots : List (Slot T)) → live_slots (live_slots slots) ≡ live_slots slots
   live_slots-twice [] = refl

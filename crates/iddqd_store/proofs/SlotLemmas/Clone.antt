@@ -2,11 +2,11 @@
 use Rattle.std.proofs.Common.{◌≡◌, ℕ, zero, suc, List, [], ◌∷◌, map, Some, slice_get, refl, ◌∙◌, sym}
 use Rattle.std.proofs.lemmas.List.Elements.{length_all_zip}
 use Rattle.std.specs.List.{AllZip}
-use Rattle.iddqd_store.specs.Slots.{IsSlotClone, items_in, live_items, live_count}
+use Rattle.iddqd_store.specs.Slots.{IsSlotClone, contents, live_count}
 use Rattle.iddqd_store.specs.declared.item_set.Slot.{Slot}
 use Rattle.iddqd_store.specs.declared.item_set.Slot.TheVariants.{Free, Live}
 use Rattle.iddqd_store.specs.Slots.Chain.{item_of, IsCloneOf, IsChain, IsChained}
-use Rattle.iddqd_store.proofs.SlotLemmas.Chain.{live_items-items_in, length-items_in}
+use Rattle.iddqd_store.proofs.SlotLemmas.Contents.{length-contents}
 
 module _ {T : Type 0} (is_clone : T → T → Type 0) where
   pub slots_are_clones : (slots copies : List (Slot T)) → AllZip (IsCloneOf is_clone) slots copies → AllZip (IsSlotClone is_clone) (map item_of slots) (map item_of copies)
@@ -16,20 +16,16 @@ module _ {T : Type 0} (is_clone : T → T → Type 0) where
   slots_are_clones (Free next ∷ slots) (c ∷ copies) all = (rw all.0 refl, slots_are_clones slots copies all.1)
   slots_are_clones (Live item ∷ slots) (c ∷ copies) all = (rw all.0.2 all.0.1, slots_are_clones slots copies all.1)
 
-  clones_in : (slots copies : List (Slot T)) → AllZip (IsCloneOf is_clone) slots copies → AllZip is_clone (items_in (map item_of slots)) (items_in (map item_of copies))
-  clones_in [] [] all = tt
-  clones_in [] (c ∷ copies) all = absurd all
-  clones_in (s ∷ slots) [] all = absurd all
-  clones_in (Free next ∷ slots) (c ∷ copies) all = rw all.0 (clones_in slots copies all.1)
-  clones_in (Live item ∷ slots) (c ∷ copies) all = rw all.0.2 (all.0.1, clones_in slots copies all.1)
-
-  pub items_are_clones : (slots copies : List (Slot T)) → AllZip (IsCloneOf is_clone) slots copies → AllZip is_clone (live_items (map item_of slots)) (live_items (map item_of copies))
-  items_are_clones slots copies all =
-      rw (live_items-items_in (map item_of slots), live_items-items_in (map item_of copies)) (clones_in slots copies all)
+  pub items_are_clones : (slots copies : List (Slot T)) → AllZip (IsCloneOf is_clone) slots copies → AllZip is_clone (contents (map item_of slots)) (contents (map item_of copies))
+  items_are_clones [] [] all = tt
+  items_are_clones [] (c ∷ copies) all = absurd all
+  items_are_clones (s ∷ slots) [] all = absurd all
+  items_are_clones (Free next ∷ slots) (c ∷ copies) all = rw all.0 (items_are_clones slots copies all.1)
+  items_are_clones (Live item ∷ slots) (c ∷ copies) all = rw all.0.2 (all.0.1, items_are_clones slots copies all.1)
 
   count_of_clones : (slots copies : List (Slot T)) → AllZip (IsCloneOf is_clone) slots copies → live_count (map item_of copies) ≡ live_count (map item_of slots)
   count_of_clones slots copies all =
-      sym (length-items_in (map item_of copies)) ∙ sym (length_all_zip is_clone _ _ (clones_in slots copies all)) ∙ length-items_in (map item_of slots)
+      sym (length-contents (map item_of copies)) ∙ sym (length_all_zip is_clone _ _ (items_are_clones slots copies all)) ∙ length-contents (map item_of slots)
 
   free_in_clones : (slots copies : List (Slot T)) (at next : ℕ) → AllZip (IsCloneOf is_clone) slots copies → slice_get slots at ≡ Some (Free next) → slice_get copies at ≡ Some (Free next)
   free_in_clones [] copies at next all found = absurd (cc)

@@ -8,13 +8,14 @@ use Rattle.std.proofs.Common.{IsSome, inl, inr, refl, sym, ap, subst, ◌∙◌,
 use Rattle.std.proofs.lemmas.Bool.{false≢true}
 use Rattle.std.proofs.lemmas.Bool.Decides.{nat_tests}
 use Rattle.iddqd_store.specs.Bag.{listing, all_of, every_of, entry, entry_of}
-use Rattle.iddqd_store.specs.Slots.{get, live_items}
+use Rattle.iddqd_store.specs.Slots.{contents, get}
 use Rattle.iddqd_store.specs.Slots.Found.{items_at, contains, with_found, each_once, is_at, found_by_all, FoundAt, AreFound, held_at, entry_at}
 use Rattle.iddqd_store.proofs.BagLemmas.Entries.{all_of-next}
 use Rattle.iddqd_store.proofs.BagLemmas.Exchanges.{split}
 use Rattle.iddqd_store.proofs.BagLemmas.Over.{IsDistinct-with_found}
 use Rattle.iddqd_store.proofs.BagLemmas.Sound.{each_passes, Contains-filter, IsDistinct-nil}
-use Rattle.iddqd_store.proofs.RankLemmas.Index.{Contains-cons_cases, item_at, same_slot}
+use Rattle.iddqd_store.proofs.RankLemmas.Index.{Contains-cons_cases, same_slot}
+use Rattle.iddqd_store.proofs.SlotLemmas.Contents.{content_at}
 use Rattle.iddqd_store.proofs.SlotLemmas.Found.{listing_found}
 
 itself : (a : ℕ) → nat_eq a a ≡ true
@@ -38,29 +39,29 @@ IsDistinct-each_once found = on [] found (IsDistinct-nil nat_eq)
     on numbers [] apart = apart
     on numbers (at ∷ found) apart = on (with_found numbers at) found (IsDistinct-with_found numbers at apart)
 
-module _ {T : Type 0} {agree : T → T → Bool} (laws : IsEquivalence agree) (slots : List (Option T)) (apart : IsDistinct agree (live_items slots)) where
+module _ {T : Type 0} {agree : T → T → Bool} (laws : IsEquivalence agree) (slots : List (Option T)) (apart : IsDistinct agree (contents slots)) where
   -- the slots found have the members that the tests list
-  pub found_listing : (tests : List (T → Bool)) (found : List (Option ℕ)) → AreFound tests slots found → held_at slots found ≡ listing tests (live_items slots)
+  pub found_listing : (tests : List (T → Bool)) (found : List (Option ℕ)) → AreFound tests slots found → held_at slots found ≡ listing tests (contents slots)
   found_listing tests found are = on [] [] tests found refl are
     where
-      on : (done : List (T → Bool)) (numbers : List ℕ) (tests : List (T → Bool)) (found : List (Option ℕ)) → items_at slots numbers ≡ listing done (live_items slots) → AreFound tests slots found → items_at slots (fold with_found numbers found) ≡ listing (done ++ tests) (live_items slots)
-      on done numbers [] [] so_far are = so_far ∙ ap (λ l. listing l (live_items slots)) (sym (append-nil done))
+      on : (done : List (T → Bool)) (numbers : List ℕ) (tests : List (T → Bool)) (found : List (Option ℕ)) → items_at slots numbers ≡ listing done (contents slots) → AreFound tests slots found → items_at slots (fold with_found numbers found) ≡ listing (done ++ tests) (contents slots)
+      on done numbers [] [] so_far are = so_far ∙ ap (λ l. listing l (contents slots)) (sym (append-nil done))
       on done numbers [] (at ∷ found) so_far are = absurd are
       on done numbers (test ∷ tests) [] so_far are = absurd are
       on done numbers (test ∷ tests) (at ∷ found) so_far are =
           let one_more = listing_found agree slots done test numbers at laws.refl laws.symm apart so_far are.0.live are.0.only in
           on (done ++ test ∷ []) (with_found numbers at) tests found one_more are.1
-          ∙ ap (λ l. listing l (live_items slots)) (append_assoc done (test ∷ []) tests)
+          ∙ ap (λ l. listing l (contents slots)) (append_assoc done (test ∷ []) tests)
 
   -- an item passes a test exactly if the search by the test found its slot
   passes_found : (test : T → Bool) (at : Option ℕ) (slot : ℕ) (x : T) → get slots slot ≡ Some x → FoundAt test slots at → test x ≡ is_at slot at
   passes_found test None slot x here found =
       split (λ b. b ≡ false) (test x)
-      (λ yes. absurd (omega (arith, (subst (λ l. Contains l x) (sym found.only) (Contains-filter test (live_items slots) x yes (item_at slots slot x here))).1)))
+      (λ yes. absurd (omega (arith, (subst (λ l. Contains l x) (sym found.only) (Contains-filter test (contents slots) x yes (content_at slots slot x here))).1)))
       (λ _. refl)
   passes_found test (Some j) slot x here found = by_slot (get slots j) refl found.only found.live
     where
-      by_slot : (o : Option T) → get slots j ≡ o → option_to_list o ≡ filter test (live_items slots) → IsSome o → test x ≡ nat_eq slot j
+      by_slot : (o : Option T) → get slots j ≡ o → option_to_list o ≡ filter test (contents slots) → IsSome o → test x ≡ nat_eq slot j
       by_slot None there only some = absurd (cc)
       by_slot (Some y) there only some =
           split (λ b. test x ≡ b) (nat_eq slot j)
@@ -68,10 +69,10 @@ module _ {T : Type 0} {agree : T → T → Bool} (laws : IsEquivalence agree) (s
           let one : slot ≡ j = grind (arith, nat_tests) in
           let is : Some x ≡ Some y = sym here ∙ ap (get slots) one ∙ there in
           let item : x ≡ y = cc is in
-          ap test item ∙ (subst (λ l. AllByRecursion (λ z. test z ≡ true) l) (sym only) (each_passes test (live_items slots))).0)
+          ap test item ∙ (subst (λ l. AllByRecursion (λ z. test z ≡ true) l) (sym only) (each_passes test (contents slots))).0)
           (λ differs. split (λ b. b ≡ false) (test x)
           (λ yes.
-          let found_x = subst (λ l. Contains l x) (sym only) (Contains-filter test (live_items slots) x yes (item_at slots slot x here)) in
+          let found_x = subst (λ l. Contains l x) (sym only) (Contains-filter test (contents slots) x yes (content_at slots slot x here)) in
           elim (Contains-cons_cases y x [] found_x) [
             | inl same ↦
                 let one : slot ≡ j = same_slot agree slots slot j x y apart laws.symm here there (ap (agree x) same ∙ laws.refl x) in
@@ -88,25 +89,25 @@ module _ {T : Type 0} {agree : T → T → Bool} (laws : IsEquivalence agree) (s
       rw (passes_found test at slot x here are.0, every_found tests found slot x here are.1) refl
 
   -- the slot found by all has the member that passes every test
-  found_whole : (test : T → Bool) (tests : List (T → Bool)) (found : List (Option ℕ)) → AreFound (test ∷ tests) slots found → option_to_list (option_and_then (get slots) (found_by_all found)) ≡ all_of (test ∷ tests) (live_items slots)
+  found_whole : (test : T → Bool) (tests : List (T → Bool)) (found : List (Option ℕ)) → AreFound (test ∷ tests) slots found → option_to_list (option_and_then (get slots) (found_by_all found)) ≡ all_of (test ∷ tests) (contents slots)
   found_whole test tests [] are = absurd are
   found_whole test tests (None ∷ found) are =
-      sym (all_of-next test tests (live_items slots) ∙ ap (all_of tests) (sym are.0.only))
+      sym (all_of-next test tests (contents slots) ∙ ap (all_of tests) (sym are.0.only))
   found_whole test tests (Some slot ∷ found) are = by_slot (get slots slot) refl are.0.only are.0.live
     where
-      by_slot : (o : Option T) → get slots slot ≡ o → option_to_list o ≡ filter test (live_items slots) → IsSome o → option_to_list (option_and_then (get slots) (found_by_all (Some slot ∷ found))) ≡ all_of (test ∷ tests) (live_items slots)
+      by_slot : (o : Option T) → get slots slot ≡ o → option_to_list o ≡ filter test (contents slots) → IsSome o → option_to_list (option_and_then (get slots) (found_by_all (Some slot ∷ found))) ≡ all_of (test ∷ tests) (contents slots)
       by_slot None there only some = absurd (cc)
       by_slot (Some x) there only some =
-          let whole : all_of (test ∷ tests) (live_items slots) ≡ cond (list_all (is_at slot) found) (x ∷ []) [] =
-          all_of-next test tests (live_items slots) ∙ ap (all_of tests) (sym only) ∙ ap (λ b. cond b (x ∷ []) []) (every_found tests found slot x there are.1) in
+          let whole : all_of (test ∷ tests) (contents slots) ≡ cond (list_all (is_at slot) found) (x ∷ []) [] =
+          all_of-next test tests (contents slots) ∙ ap (all_of tests) (sym only) ∙ ap (λ b. cond b (x ∷ []) []) (every_found tests found slot x there are.1) in
           sym (whole ∙ split (λ b. cond b (x ∷ []) [] ≡ option_to_list (option_and_then (get slots) (cond b (Some slot) None))) (list_all (is_at slot) found) (λ _. rw there refl) (λ _. refl))
 
   -- the slots hold what the tests find
-  pub found_entry : (tests : List (T → Bool)) (at : Option ℕ) (found : List (Option ℕ)) → AreFound tests slots (at ∷ found) → entry_at slots (at ∷ found) ≡ entry tests (live_items slots)
+  pub found_entry : (tests : List (T → Bool)) (at : Option ℕ) (found : List (Option ℕ)) → AreFound tests slots (at ∷ found) → entry_at slots (at ∷ found) ≡ entry tests (contents slots)
   found_entry [] at found are = absurd are
   found_entry (test ∷ tests) at found are =
       ap (λ l. entry_of l (option_to_list (option_and_then (get slots) (found_by_all (at ∷ found))))) (found_listing (test ∷ tests) (at ∷ found) are)
-      ∙ ap (entry_of (listing (test ∷ tests) (live_items slots))) (found_whole test tests (at ∷ found) are)
+      ∙ ap (entry_of (listing (test ∷ tests) (contents slots))) (found_whole test tests (at ∷ found) are)
 
 -- what the slots that searches found hold
 module _ {T : Type 0} (slots : List (Option T)) where
@@ -141,12 +142,12 @@ module _ {T : Type 0} (slots : List (Option T)) where
 
   -- what is borrowed from the slot that a search found is a part of the one member that passes
   pub found_data : {D : Type 0} (part : T → D) (test : T → Bool) (at : Option ℕ) → FoundAt test slots at → (r : Option (MutBor D)) → is_some r ≡ is_some at →
-      ((x : T) → option_and_then (get slots) at ≡ Some x → IfSome r (λ m. m.now ≡ part x)) → option_to_list (option_copied_mut r) ≡ map part (filter test (live_items slots))
+      ((x : T) → option_and_then (get slots) at ≡ Some x → IfSome r (λ m. m.now ≡ part x)) → option_to_list (option_copied_mut r) ≡ map part (filter test (contents slots))
   found_data part test None found None some value = ap (map part) found.only
   found_data part test None found (Some m) some value = absurd (false≢true (sym some))
   found_data part test (Some slot) found None some value = absurd (false≢true some)
   found_data part test (Some slot) found (Some m) some value = by_slot (get slots slot) refl found.only found.live
     where
-      by_slot : (o : Option T) → get slots slot ≡ o → option_to_list o ≡ filter test (live_items slots) → IsSome o → m.now ∷ [] ≡ map part (filter test (live_items slots))
+      by_slot : (o : Option T) → get slots slot ≡ o → option_to_list o ≡ filter test (contents slots) → IsSome o → m.now ∷ [] ≡ map part (filter test (contents slots))
       by_slot None there only some = absurd (cc)
       by_slot (Some x) there only some = ap (λ d. d ∷ []) (value x there) ∙ ap (map part) only

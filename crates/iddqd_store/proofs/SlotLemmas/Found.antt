@@ -7,14 +7,15 @@ use Rattle.std.proofs.lemmas.Bool.{false≢true}
 use Rattle.std.proofs.lemmas.Bool.Decides.{nat_tests}
 use Rattle.std.proofs.lemmas.List.Sorted.{Contains-permutation, IsPermutation-sym}
 use Rattle.iddqd_store.specs.Bag.{some_of, listing, without}
-use Rattle.iddqd_store.specs.Slots.{get, IsLive, live_items}
+use Rattle.iddqd_store.specs.Slots.{get, IsLive, contents}
 use Rattle.iddqd_store.specs.Slots.Found.{items_at, contains, with_found}
 use Rattle.iddqd_store.specs.Bag.{Ranks, order, clash}
 use Rattle.std.proofs.lemmas.List.Elements.{All-head}
 use Rattle.std.proofs.lemmas.List.Sorted.{length_permutation}
 use Rattle.iddqd_store.proofs.BagLemmas.Exchanges.{split}
 use Rattle.iddqd_store.proofs.BagLemmas.Sound.{each_passes, Contains-filter, filter_twice, filter_swap, IsPermutation-listing, IsPermutation-order, same_from_short}
-use Rattle.iddqd_store.proofs.RankLemmas.Index.{Contains-cons, Contains-cons_cases, Contains-here, item_at, same_slot}
+use Rattle.iddqd_store.proofs.RankLemmas.Index.{Contains-cons, Contains-cons_cases, Contains-here, same_slot}
+use Rattle.iddqd_store.proofs.SlotLemmas.Contents.{content_at}
 use Rattle.iddqd_store.proofs.RankLemmas.Search.{each_at}
 
 not_either : (a b : Bool) → (not a && not b) ≡ not (a || b)
@@ -106,16 +107,16 @@ module _ {T : Type 0} where
       by_test false is h rest = further (get slots a) refl (rest h)
 
   -- a search by one more test adds the slot that it found, unless it is among those found before
-  pub listing_found : (agree : T → T → Bool) (slots : List (Option T)) (tests : List (T → Bool)) (test : T → Bool) (numbers : List ℕ) (found : Option ℕ) → ((x : T) → agree x x ≡ true) → ((x y : T) → agree x y ≡ agree y x) → IsDistinct agree (live_items slots) → items_at slots numbers ≡ listing tests (live_items slots) → IfSome found (IsLive slots) → option_to_list (option_and_then (get slots) found) ≡ filter test (live_items slots) → items_at slots (with_found numbers found) ≡ listing (tests ++ test ∷ []) (live_items slots)
+  pub listing_found : (agree : T → T → Bool) (slots : List (Option T)) (tests : List (T → Bool)) (test : T → Bool) (numbers : List ℕ) (found : Option ℕ) → ((x : T) → agree x x ≡ true) → ((x y : T) → agree x y ≡ agree y x) → IsDistinct agree (contents slots) → items_at slots numbers ≡ listing tests (contents slots) → IfSome found (IsLive slots) → option_to_list (option_and_then (get slots) found) ≡ filter test (contents slots) → items_at slots (with_found numbers found) ≡ listing (tests ++ test ∷ []) (contents slots)
   listing_found agree slots tests test numbers None itself_alike symm apart before live is =
-      let none : filter test (without tests (live_items slots)) ≡ [] = filter_swap test (λ x. not (some_of tests x)) (live_items slots) ∙ ap (filter (λ x. not (some_of tests x))) (sym is) in
-      before ∙ sym (append-nil _) ∙ ap (λ l. listing tests (live_items slots) ++ l) (sym none) ∙ sym (listing-push tests test (live_items slots))
+      let none : filter test (without tests (contents slots)) ≡ [] = filter_swap test (λ x. not (some_of tests x)) (contents slots) ∙ ap (filter (λ x. not (some_of tests x))) (sym is) in
+      before ∙ sym (append-nil _) ∙ ap (λ l. listing tests (contents slots) ++ l) (sym none) ∙ sym (listing-push tests test (contents slots))
   listing_found agree slots tests test numbers (Some b) itself_alike symm apart before live is = by_slot (get slots b) refl live is
     where
-      by_slot : (o : Option T) → get slots b ≡ o → IsSome o → option_to_list o ≡ filter test (live_items slots) → items_at slots (with_found numbers (Some b)) ≡ listing (tests ++ test ∷ []) (live_items slots)
+      by_slot : (o : Option T) → get slots b ≡ o → IsSome o → option_to_list o ≡ filter test (contents slots) → items_at slots (with_found numbers (Some b)) ≡ listing (tests ++ test ∷ []) (contents slots)
       by_slot None at some named = absurd (cc)
       by_slot (Some y) at some named =
-          let bag : List T = live_items slots in
+          let bag : List T = contents slots in
           let rest : filter test (without tests bag) ≡ filter (λ x. not (some_of tests x)) (y ∷ []) = filter_swap test (λ x. not (some_of tests x)) bag ∙ ap (filter (λ x. not (some_of tests x))) (sym named) in
           let goal : listing (tests ++ test ∷ []) bag ≡ listing tests bag ++ filter (λ x. not (some_of tests x)) (y ∷ []) = listing-push tests test bag ∙ ap (λ l. listing tests bag ++ l) rest in
           split (λ t. items_at slots (cond t numbers (numbers ++ b ∷ [])) ≡ listing (tests ++ test ∷ []) bag) (contains numbers b)
@@ -125,7 +126,7 @@ module _ {T : Type 0} where
           (λ no.
           let fails : some_of tests y ≡ false = split (λ t. t ≡ false) (some_of tests y)
           (λ yes.
-          let other = slot_of slots numbers y (subst (λ l. Contains l y) (sym before) (passer_listed tests bag y yes (item_at slots b y at))) in
+          let other = slot_of slots numbers y (subst (λ l. Contains l y) (sym before) (passer_listed tests bag y yes (content_at slots b y at))) in
           let one : other.0 ≡ b = same_slot agree slots other.0 b y y apart symm other.2 at (itself_alike y) in
           absurd (false≢true (sym no ∙ ap (contains numbers) (sym one) ∙ other.1)))
           (λ _. refl) in
@@ -134,17 +135,17 @@ module _ {T : Type 0} where
 
 module _ {T : Type 0} where
   -- if no conflicting slot is found, nothing conflicts
-  pub clash_none : (ranks : Ranks T) (slots : List (Option T)) (x : T) (numbers : List ℕ) → items_at slots numbers ≡ order ranks (live_items slots) x → length numbers ≡ 0 → clash ranks (live_items slots) x ≡ []
-  clash_none ranks slots x [] is short = sym (same_from_short [] _ (subst (λ l. IsPermutation l (clash ranks (live_items slots) x)) (sym is) (IsPermutation-order ranks (live_items slots) x)) (omega arith))
+  pub clash_none : (ranks : Ranks T) (slots : List (Option T)) (x : T) (numbers : List ℕ) → items_at slots numbers ≡ order ranks (contents slots) x → length numbers ≡ 0 → clash ranks (contents slots) x ≡ []
+  clash_none ranks slots x [] is short = sym (same_from_short [] _ (subst (λ l. IsPermutation l (clash ranks (contents slots) x)) (sym is) (IsPermutation-order ranks (contents slots) x)) (omega arith))
   clash_none ranks slots x (a ∷ numbers) is short = absurd (omega arith)
 
   -- if a slot is found, something conflicts
-  pub clash_some : (ranks : Ranks T) (slots : List (Option T)) (x : T) (numbers : List ℕ) → items_at slots numbers ≡ order ranks (live_items slots) x → All (IsLive slots) numbers → length numbers ≢ 0 → clash ranks (live_items slots) x ≢ []
+  pub clash_some : (ranks : Ranks T) (slots : List (Option T)) (x : T) (numbers : List ℕ) → items_at slots numbers ≡ order ranks (contents slots) x → All (IsLive slots) numbers → length numbers ≢ 0 → clash ranks (contents slots) x ≢ []
   clash_some ranks slots x [] is live some none = some refl
   clash_some ranks slots x (a ∷ numbers) is live some none = by_slot (get slots a) refl (All-head (IsLive slots) a numbers live)
     where
       same : IsPermutation (items_at slots (a ∷ numbers)) []
-      same = subst (λ l. IsPermutation (items_at slots (a ∷ numbers)) l) none (subst (λ l. IsPermutation l (clash ranks (live_items slots) x)) (sym is) (IsPermutation-order ranks (live_items slots) x))
+      same = subst (λ l. IsPermutation (items_at slots (a ∷ numbers)) l) none (subst (λ l. IsPermutation l (clash ranks (contents slots) x)) (sym is) (IsPermutation-order ranks (contents slots) x))
 
       by_slot : (o : Option T) → get slots a ≡ o → IsSome o → ⊥
       by_slot None at some = absurd (cc)

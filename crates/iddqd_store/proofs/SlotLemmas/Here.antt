@@ -6,11 +6,11 @@ use Rattle.std.proofs.Common.{IsSome, refl, sym, ap, ◌∙◌, arith}
 use Rattle.std.proofs.lemmas.Bool.Decides.{nat_tests}
 use Rattle.iddqd_store.specs.Bag.{Ranks, IsSound, entry, entry_of, listing, unique}
 use Rattle.iddqd_store.specs.Rank.Keys.{AreKeyTests}
-use Rattle.iddqd_store.specs.Slots.{get, live_items}
+use Rattle.iddqd_store.specs.Slots.{contents, get}
 use Rattle.iddqd_store.specs.Slots.Found.{AreFound, entry_at, found_by_all, held_at, is_at, items_at, with_found}
 use Rattle.iddqd_store.proofs.BagLemmas.Entries.{entry-unique, listing-one}
 use Rattle.iddqd_store.proofs.BagLemmas.KeyTests.{each_only}
-use Rattle.iddqd_store.proofs.RankLemmas.Index.{item_at}
+use Rattle.iddqd_store.proofs.SlotLemmas.Contents.{content_at}
 
 itself : (a : ℕ) → nat_eq a a ≡ true
 itself a = grind (arith, nat_tests)
@@ -25,13 +25,13 @@ all_at slot tests = map (λ _. Some slot) tests
 -- what an entry is if all its searches found the slot of x
 pub record FindsHere {T : Type 0} (tests : List (T → Bool)) (slots : List (Option T)) (slot : ℕ) (x : T) : Type 0 where
   pub found : AreFound tests slots (all_at slot tests)
-  pub value : entry_at slots (all_at slot tests) ≡ entry tests (live_items slots)
-  pub listed : held_at slots (all_at slot tests) ≡ listing tests (live_items slots)
-  pub some : listing tests (live_items slots) ≢ []
-  pub unique_item : entry tests (live_items slots) ≡ unique x
+  pub value : entry_at slots (all_at slot tests) ≡ entry tests (contents slots)
+  pub listed : held_at slots (all_at slot tests) ≡ listing tests (contents slots)
+  pub some : listing tests (contents slots) ≢ []
+  pub unique_item : entry tests (contents slots) ≡ unique x
 
 module _ {T : Type 0} (slots : List (Option T)) (slot : ℕ) (x : T) (here : get slots slot ≡ Some x) where
-  are_found : (tests : List (T → Bool)) → AllByRecursion (λ test. filter test (live_items slots) ≡ x ∷ []) tests → AreFound tests slots (all_at slot tests)
+  are_found : (tests : List (T → Bool)) → AllByRecursion (λ test. filter test (contents slots) ≡ x ∷ []) tests → AreFound tests slots (all_at slot tests)
   are_found [] only = tt
   are_found (test ∷ tests) only = (record { only = rw here (sym only.0); live = some_is _ x here }, are_found tests only.1)
 
@@ -52,15 +52,15 @@ module _ {T : Type 0} (slots : List (Option T)) (slot : ℕ) (x : T) (here : get
   holds_whole (test ∷ tests) some = rw (all_there tests) (rw here refl)
 
 -- x is in the slot, and has the keys that the tests ask for
-module _ {T : Type 0} (ranks : Ranks T) (tests : List (T → Bool)) (some : 0 < length tests) (keys : AreKeyTests ranks tests) (slots : List (Option T)) (slot : ℕ) (x : T) (passes : AllByRecursion (λ test. test x ≡ true) tests) (sound : IsSound ranks (live_items slots)) (here : get slots slot ≡ Some x) where
-  only : AllByRecursion (λ test. filter test (live_items slots) ≡ x ∷ []) tests
-  only = each_only ranks tests (live_items slots) x keys passes sound (item_at slots slot x here)
+module _ {T : Type 0} (ranks : Ranks T) (tests : List (T → Bool)) (some : 0 < length tests) (keys : AreKeyTests ranks tests) (slots : List (Option T)) (slot : ℕ) (x : T) (passes : AllByRecursion (λ test. test x ≡ true) tests) (sound : IsSound ranks (contents slots)) (here : get slots slot ≡ Some x) where
+  only : AllByRecursion (λ test. filter test (contents slots) ≡ x ∷ []) tests
+  only = each_only ranks tests (contents slots) x keys passes sound (content_at slots slot x here)
 
-  one_listed : listing tests (live_items slots) ≡ x ∷ []
-  one_listed = listing-one tests (live_items slots) x some only
+  one_listed : listing tests (contents slots) ≡ x ∷ []
+  one_listed = listing-one tests (contents slots) x some only
 
-  is_unique_here : entry tests (live_items slots) ≡ unique x
-  is_unique_here = entry-unique tests (live_items slots) x some only
+  is_unique_here : entry tests (contents slots) ≡ unique x
+  is_unique_here = entry-unique tests (contents slots) x some only
 
   pub finds_here : FindsHere tests slots slot x
   finds_here = record {

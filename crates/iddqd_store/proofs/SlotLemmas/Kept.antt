@@ -8,15 +8,14 @@ use Rattle.std.proofs.lemmas.Bool.{false≢true}
 use Rattle.std.proofs.lemmas.List.{nil_from_length}
 use Rattle.iddqd_store.specs.Bag.{Ranks, AreLawful, IsSound, agrees, entry, listing}
 use Rattle.iddqd_store.specs.Rank.Keys.{IsKeyTest, AreKeyTests}
-use Rattle.iddqd_store.specs.Slots.{get, items_in, live_items}
+use Rattle.iddqd_store.specs.Slots.{contents, get}
 use Rattle.iddqd_store.specs.Slots.Found.{FoundAt, AreFound, entry_at, held_at}
 use Rattle.iddqd_store.specs.Slots.Kept.{KeepsKeys}
 use Rattle.iddqd_store.proofs.BagLemmas.Exchanges.{split}
 use Rattle.iddqd_store.proofs.BagLemmas.KeyTests.{only_one}
 use Rattle.iddqd_store.proofs.BagLemmas.Same.{agrees-refl, agrees-trans, and-true}
 use Rattle.iddqd_store.proofs.BagLemmas.Sound.{Contains-filter, IsSound-rank, each_passes}
-use Rattle.iddqd_store.proofs.RankLemmas.Index.{item_at}
-use Rattle.iddqd_store.proofs.SlotLemmas.Chain.{live_items-items_in}
+use Rattle.iddqd_store.proofs.SlotLemmas.Contents.{content_at}
 use Rattle.iddqd_store.proofs.SlotLemmas.Entries.{found_entry, found_listing, held_none, held_some}
 
 weaker : {T : Type 0} (p q : T → T → Bool) → ((x y : T) → p x y ≡ true → q x y ≡ true) → (old new : List (Option T)) → KeepsKeys p old new → KeepsKeys q old new
@@ -59,14 +58,14 @@ module _ {T : Type 0} {agree : T → T → Bool} (laws : IsEquivalence agree) (t
   counts false true x y xs ys is longer = absurd (false≢true is)
   counts false false x y xs ys is longer = longer
 
-  as_many : (old new : List (Option T)) → KeepsKeys agree old new → length (filter test (items_in new)) ≡ length (filter test (items_in old))
+  as_many : (old new : List (Option T)) → KeepsKeys agree old new → length (filter test (contents new)) ≡ length (filter test (contents old))
   as_many [] [] kept = refl
   as_many [] (p ∷ new) kept = absurd kept
   as_many (o ∷ old) [] kept = absurd kept
   as_many (None ∷ old) (None ∷ new) kept = as_many old new kept.1
   as_many (None ∷ old) (Some y ∷ new) kept = absurd kept.0
   as_many (Some x ∷ old) (None ∷ new) kept = absurd kept.0
-  as_many (Some x ∷ old) (Some y ∷ new) kept = counts (test x) (test y) x y (filter test (items_in old)) (filter test (items_in new)) (same_answer x y kept.0) (as_many old new kept.1)
+  as_many (Some x ∷ old) (Some y ∷ new) kept = counts (test x) (test y) x y (filter test (contents old)) (filter test (contents new)) (same_answer x y kept.0) (as_many old new kept.1)
 
   there_still : (old new : List (Option T)) (at : ℕ) (x : T) → KeepsKeys agree old new → get old at ≡ Some x → (y : T) × (get new at ≡ Some y) × (agree x y ≡ true)
   there_still [] [] at x kept here = absurd (cc here)
@@ -80,22 +79,22 @@ module _ {T : Type 0} {agree : T → T → Bool} (laws : IsEquivalence agree) (t
   there_still (o ∷ old) (p ∷ new) (suc at) x kept here = there_still old new at x kept.1 here
 
   module _ (old new : List (Option T)) (kept : KeepsKeys agree old new) where
-    passing : length (filter test (live_items new)) ≡ length (filter test (live_items old))
-    passing = rw (live_items-items_in new, live_items-items_in old) (as_many old new kept)
+    passing : length (filter test (contents new)) ≡ length (filter test (contents old))
+    passing = as_many old new kept
 
     -- a search by the test found this slot before, and would find it now
     found_still : (at : Option ℕ) → FoundAt test old at → FoundAt test new at
-    found_still None found = record { only = sym (nil_from_length (filter test (live_items new)) (passing ∙ ap length (sym found.only))); live = tt }
+    found_still None found = record { only = sym (nil_from_length (filter test (contents new)) (passing ∙ ap length (sym found.only))); live = tt }
     found_still (Some slot) found = by_slot (get old slot) refl found.only found.live
       where
-        by_slot : (o : Option T) → get old slot ≡ o → option_to_list o ≡ filter test (live_items old) → IsSome o → FoundAt test new (Some slot)
+        by_slot : (o : Option T) → get old slot ≡ o → option_to_list o ≡ filter test (contents old) → IsSome o → FoundAt test new (Some slot)
         by_slot None there only some = absurd (cc)
         by_slot (Some x) there only some =
             let now = there_still old new slot x kept there in
-            let passes : test x ≡ true = (subst (λ l. AllByRecursion (λ z. test z ≡ true) l) (sym only) (each_passes test (live_items old))).0 in
+            let passes : test x ≡ true = (subst (λ l. AllByRecursion (λ z. test z ≡ true) l) (sym only) (each_passes test (contents old))).0 in
             let passes_now : test now.0 ≡ true = sym (same_answer x now.0 now.2) ∙ passes in
-            let one : length (filter test (live_items new)) ≤ 1 = omega (arith, passing, ap length only) in
-            let listed = only_one (filter test (live_items new)) now.0 one (Contains-filter test (live_items new) now.0 passes_now (item_at new slot now.0 now.1)) in
+            let one : length (filter test (contents new)) ≤ 1 = omega (arith, passing, ap length only) in
+            let listed = only_one (filter test (contents new)) now.0 one (Contains-filter test (contents new) now.0 passes_now (content_at new slot now.0 now.1)) in
             record { only = rw now.1 (sym listed); live = rw now.1 refl }
 
 -- the same for a search by each test
@@ -113,16 +112,16 @@ found_kept (agree ∷ ranks) (test ∷ tests) laws keys old new kept (at ∷ fou
 -- what an entry is by the slots that its searches found
 pub record FindsAt {T : Type 0} (tests : List (T → Bool)) (slots : List (Option T)) (found : List (Option ℕ)) : Type 0 where
   pub found_each : AreFound tests slots found
-  pub value : entry_at slots found ≡ entry tests (live_items slots)
-  pub listed : held_at slots found ≡ listing tests (live_items slots)
-  pub some : listing tests (live_items slots) ≢ []
+  pub value : entry_at slots found ≡ entry tests (contents slots)
+  pub listed : held_at slots found ≡ listing tests (contents slots)
+  pub some : listing tests (contents slots) ≢ []
 
 -- it stays the same if the items keep their keys
-module _ {T : Type 0} (agree : T → T → Bool) (ranks : Ranks T) (laws : AreLawful (agree ∷ ranks)) (tests : List (T → Bool)) (keys : AreKeyTests (agree ∷ ranks) tests) (old new : List (Option T)) (kept : KeepsKeys (agrees (agree ∷ ranks)) old new) (sound : IsSound (agree ∷ ranks) (live_items new)) where
-  apart : IsDistinct agree (live_items new)
-  apart = (IsSound-rank agree ranks (live_items new) sound).0
+module _ {T : Type 0} (agree : T → T → Bool) (ranks : Ranks T) (laws : AreLawful (agree ∷ ranks)) (tests : List (T → Bool)) (keys : AreKeyTests (agree ∷ ranks) tests) (old new : List (Option T)) (kept : KeepsKeys (agrees (agree ∷ ranks)) old new) (sound : IsSound (agree ∷ ranks) (contents new)) where
+  apart : IsDistinct agree (contents new)
+  apart = (IsSound-rank agree ranks (contents new) sound).0
 
-  pub finds_still : (at : Option ℕ) (found : List (Option ℕ)) → AreFound tests old (at ∷ found) → held_at old (at ∷ found) ≡ listing tests (live_items old) → listing tests (live_items old) ≢ [] → FindsAt tests new (at ∷ found)
+  pub finds_still : (at : Option ℕ) (found : List (Option ℕ)) → AreFound tests old (at ∷ found) → held_at old (at ∷ found) ≡ listing tests (contents old) → listing tests (contents old) ≢ [] → FindsAt tests new (at ∷ found)
   finds_still at found are listed some =
       let still : AreFound tests new (at ∷ found) = found_kept (agree ∷ ranks) tests laws keys old new kept (at ∷ found) are in
       let one : list_any is_some (at ∷ found) ≡ true = split (λ b. b ≡ true) (list_any is_some (at ∷ found)) (λ _. refl) (λ none. absurd (some (sym listed ∙ held_none old (at ∷ found) none))) in

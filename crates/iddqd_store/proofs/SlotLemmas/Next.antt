@@ -4,13 +4,12 @@ use Rattle.std.specs.List.Retain.{IsFiltered}
 use Rattle.std.proofs.Common.{refl, sym, ap, subst, ◌∙◌, arith, set, append_assoc, add-one}
 use Rattle.std.proofs.lemmas.List.Sorted.{IsPermutation-refl}
 use Rattle.iddqd_store.specs.Bag.{Keeps}
-use Rattle.iddqd_store.specs.Slots.{get, items_in, live_items}
+use Rattle.iddqd_store.specs.Slots.{contents, get}
 use Rattle.iddqd_store.specs.Slots.Next.{ComesNext}
-use Rattle.iddqd_store.proofs.SlotLemmas.Chain.{live_items-items_in}
 
 module _ {T : Type 0} where
   -- if every slot from a number on is free, no items are left
-  pub nothing_left : (slots : List (Option T)) (from : ℕ) → ((k : ℕ) → from ≤ k → get slots k ≡ None) → items_in (drop from slots) ≡ []
+  pub nothing_left : (slots : List (Option T)) (from : ℕ) → ((k : ℕ) → from ≤ k → get slots k ≡ None) → contents (drop from slots) ≡ []
   nothing_left [] zero free = refl
   nothing_left [] (suc from) free = refl
   nothing_left (Some x ∷ slots) zero free = absurd (cc (free 0 (omega arith)))
@@ -18,7 +17,7 @@ module _ {T : Type 0} where
   nothing_left (o ∷ slots) (suc from) free = nothing_left slots from (λ k le. free (suc k) (omega arith))
 
   -- the slot is below the number of slots, and the items before it and in it
-  got : (slots : List (Option T)) (at : ℕ) (x : T) → get slots at ≡ Some x → (items_in (drop at slots) ≡ x ∷ items_in (drop (suc at) slots)) × (items_in (take (suc at) slots) ≡ items_in (take at slots) ++ x ∷ [])
+  got : (slots : List (Option T)) (at : ℕ) (x : T) → get slots at ≡ Some x → (contents (drop at slots) ≡ x ∷ contents (drop (suc at) slots)) × (contents (take (suc at) slots) ≡ contents (take at slots) ++ x ∷ [])
   got [] zero x is = absurd (cc is)
   got [] (suc at) x is = absurd (cc is)
   got (Some y ∷ slots) zero x is =
@@ -31,7 +30,7 @@ module _ {T : Type 0} where
       (below.0, ap (λ l. y ∷ l) below.1)
 
   -- free slots in between have no items
-  passed : (slots : List (Option T)) (from at : ℕ) → from ≤ at → ((k : ℕ) → from ≤ k → k < at → get slots k ≡ None) → (items_in (drop from slots) ≡ items_in (drop at slots)) × (items_in (take at slots) ≡ items_in (take from slots))
+  passed : (slots : List (Option T)) (from at : ℕ) → from ≤ at → ((k : ℕ) → from ≤ k → k < at → get slots k ≡ None) → (contents (drop from slots) ≡ contents (drop at slots)) × (contents (take at slots) ≡ contents (take from slots))
   passed [] zero zero ahead free = (refl, refl)
   passed [] zero (suc at) ahead free = (refl, refl)
   passed [] (suc from) zero ahead free = absurd (omega (arith, ahead))
@@ -51,10 +50,10 @@ module _ {T : Type 0} where
       record { ahead = ahead; value = is; rest = rw (add-one at) (over.0 ∙ (got slots at x is).0); before = over.1 }
 
   -- the items before a slot that is taken, those after a slot that is emptied, and all of them
-  pub taken_before : (slots : List (Option T)) (from at : ℕ) (x : T) → ComesNext slots from at x → items_in (take (at + 1) slots) ≡ items_in (take from slots) ++ x ∷ []
+  pub taken_before : (slots : List (Option T)) (from at : ℕ) (x : T) → ComesNext slots from at x → contents (take (at + 1) slots) ≡ contents (take from slots) ++ x ∷ []
   taken_before slots from at x next = rw (add-one at) ((got slots at x next.value).1 ∙ ap (λ l. l ++ x ∷ []) next.before)
 
-  emptied : (slots : List (Option T)) (at : ℕ) → (items_in (take (suc at) (set slots at None)) ≡ items_in (take at slots)) × (drop (suc at) (set slots at None) ≡ drop (suc at) slots)
+  emptied : (slots : List (Option T)) (at : ℕ) → (contents (take (suc at) (set slots at None)) ≡ contents (take at slots)) × (drop (suc at) (set slots at None) ≡ drop (suc at) slots)
   emptied [] zero = (refl, refl)
   emptied [] (suc at) = (refl, refl)
   emptied (o ∷ slots) zero = (refl, refl)
@@ -63,13 +62,13 @@ module _ {T : Type 0} where
       let below = emptied slots at in
       (ap (λ l. x ∷ l) below.0, below.1)
 
-  pub emptied_before : (slots : List (Option T)) (from at : ℕ) (x : T) → ComesNext slots from at x → items_in (take (at + 1) (set slots at None)) ≡ items_in (take from slots)
+  pub emptied_before : (slots : List (Option T)) (from at : ℕ) (x : T) → ComesNext slots from at x → contents (take (at + 1) (set slots at None)) ≡ contents (take from slots)
   emptied_before slots from at x next = rw (add-one at) ((emptied slots at).0 ∙ next.before)
 
-  pub same_behind : (slots : List (Option T)) (at : ℕ) → items_in (drop (at + 1) (set slots at None)) ≡ items_in (drop (at + 1) slots)
-  same_behind slots at = rw (add-one at) (ap items_in (emptied slots at).1)
+  pub same_behind : (slots : List (Option T)) (at : ℕ) → contents (drop (at + 1) (set slots at None)) ≡ contents (drop (at + 1) slots)
+  same_behind slots at = rw (add-one at) (ap contents (emptied slots at).1)
 
-  pub before_and_behind : (slots : List (Option T)) (from : ℕ) → items_in (take from slots) ++ items_in (drop from slots) ≡ items_in slots
+  pub before_and_behind : (slots : List (Option T)) (from : ℕ) → contents (take from slots) ++ contents (drop from slots) ≡ contents slots
   before_and_behind [] zero = refl
   before_and_behind [] (suc from) = refl
   before_and_behind (o ∷ slots) zero = refl
@@ -85,30 +84,29 @@ module _ {F T : Type 0} (step : F → T → Bool → F → Type 0) where
   pub filtered_none : (f : F) → IsFiltered step f [] []
   filtered_none f = ([], f, refl, refl, refl)
 
-  pub keeps_filtered : (f : F) (old new : List (Option T)) → IsFiltered step f (items_in old) (items_in new) → Keeps step f (live_items old) (live_items new)
+  pub keeps_filtered : (f : F) (old new : List (Option T)) → IsFiltered step f (contents old) (contents new) → Keeps step f (contents old) (contents new)
   keeps_filtered f old new filtered =
-      rw (live_items-items_in old, live_items-items_in new)
-      (record { listed = items_in old; same = IsPermutation-refl (items_in old); left = items_in new; filtered = filtered; are = IsPermutation-refl (items_in new) })
+      record { listed = contents old; same = IsPermutation-refl (contents old); left = contents new; filtered = filtered; are = IsPermutation-refl (contents new) }
 
   -- what a test has left so far and what it leaves of the rest make what it leaves of all, after a step past an item
   -- that stays, and after one past an item that is removed
   abbrev pub Completes : F → List T → F → List (Option T) → ℕ → Type 0
-  Completes start all f slots from = (rest : List T) → IsFiltered step f (items_in (drop from slots)) rest → IsFiltered step start all (items_in (take from slots) ++ rest)
+  Completes start all f slots from = (rest : List T) → IsFiltered step f (contents (drop from slots)) rest → IsFiltered step start all (contents (take from slots) ++ rest)
 
   pub past_kept : (start f g : F) (all : List T) (slots : List (Option T)) (from at : ℕ) (x : T) → ComesNext slots from at x → step f x true g → Completes start all f slots from → Completes start all g slots (at + 1)
   past_kept start f g all slots from at x next called completes rest h =
-      let on = filtered_on f g x true (items_in (drop (at + 1) slots)) rest called h in
+      let on = filtered_on f g x true (contents (drop (at + 1) slots)) rest called h in
       let whole = completes (x ∷ rest) (subst (λ l. IsFiltered step f l (x ∷ rest)) (sym next.rest) on) in
-      subst (λ l. IsFiltered step start all l) (sym (ap (λ l. l ++ rest) (taken_before slots from at x next) ∙ append_assoc (items_in (take from slots)) (x ∷ []) rest)) whole
+      subst (λ l. IsFiltered step start all l) (sym (ap (λ l. l ++ rest) (taken_before slots from at x next) ∙ append_assoc (contents (take from slots)) (x ∷ []) rest)) whole
 
   pub past_taken : (start f g : F) (all : List T) (slots : List (Option T)) (from at : ℕ) (x : T) → ComesNext slots from at x → step f x false g → Completes start all f slots from → Completes start all g (set slots at None) (at + 1)
   past_taken start f g all slots from at x next called completes rest h =
-      let on = filtered_on f g x false (items_in (drop (at + 1) slots)) rest called (subst (λ l. IsFiltered step g l rest) (same_behind slots at) h) in
+      let on = filtered_on f g x false (contents (drop (at + 1) slots)) rest called (subst (λ l. IsFiltered step g l rest) (same_behind slots at) h) in
       let whole = completes rest (subst (λ l. IsFiltered step f l rest) (sym next.rest) on) in
       subst (λ l. IsFiltered step start all (l ++ rest)) (sym (emptied_before slots from at x next)) whole
 
-  pub none_behind : (start f : F) (old slots : List (Option T)) (from : ℕ) → items_in (drop from slots) ≡ [] → Completes start (items_in old) f slots from → Keeps step start (live_items old) (live_items slots)
+  pub none_behind : (start f : F) (old slots : List (Option T)) (from : ℕ) → contents (drop from slots) ≡ [] → Completes start (contents old) f slots from → Keeps step start (contents old) (contents slots)
   none_behind start f old slots from none completes =
       let whole = completes [] (subst (λ l. IsFiltered step f l []) (sym none) (filtered_none f)) in
       keeps_filtered start old slots
-      (subst (λ l. IsFiltered step start (items_in old) l) (ap (λ l. items_in (take from slots) ++ l) (sym none) ∙ before_and_behind slots from) whole)
+      (subst (λ l. IsFiltered step start (contents old) l) (ap (λ l. contents (take from slots) ++ l) (sym none) ∙ before_and_behind slots from) whole)

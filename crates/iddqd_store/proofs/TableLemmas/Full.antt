@@ -5,7 +5,8 @@ use Rattle.std.specs.Prelude.{◌≢◌, ◌↔◌}
 use Rattle.std.proofs.lemmas.List.Sums.{sum_by-cons}
 use Rattle.std.proofs.lemmas.Bool.{cases_lt}
 use Rattle.std.proofs.lemmas.List.{get_or_past}
-use Rattle.iddqd_store.specs.Table.Ring.{gap, IsFull, pairs_in, cell, IsReached}
+use Rattle.iddqd_store.specs.Slots.{contents}
+use Rattle.iddqd_store.specs.Table.Ring.{gap, IsFull, cell, IsReached}
 use Rattle.iddqd_store.proofs.TableLemmas.Line.{cases_option, few, many}
 use Rattle.iddqd_store.proofs.TableLemmas.Ring.{turn, turn_below, turn_none, turn_gap, gap_below, far, near, back, length-back, back_at, count-back}
 
@@ -24,16 +25,16 @@ first_empty {X} (Some x ∷ cs) (suc e) h =
     shifted x cs m f zero l = λ e. cc e
     shifted x cs m f (suc k) l = f k (omega arith)
 
-few_at_empty : {X : Type 0} (g : X → ℕ) (j : ℕ) (cs : List (Option X)) → cell cs 0 ≡ None → ((k : ℕ) (x : X) → cell cs k ≡ Some x → k ≤ g x) → 1 ≤ j → count_by (λ x. ltb (g x) j) (pairs_in cs) < j
+few_at_empty : {X : Type 0} (g : X → ℕ) (j : ℕ) (cs : List (Option X)) → cell cs 0 ≡ None → ((k : ℕ) (x : X) → cell cs k ≡ Some x → k ≤ g x) → 1 ≤ j → count_by (λ x. ltb (g x) j) (contents cs) < j
 few_at_empty g j [] e h l = omega arith
 few_at_empty g j (None ∷ cs) e h l =
-    let f : count_by (λ x. ltb (g x) j) (pairs_in cs) ≤ j - 1 = few g j cs 1 (λ k x i. let a = h (suc k) x i in omega arith) in
+    let f : count_by (λ x. ltb (g x) j) (contents cs) ≤ j - 1 = few g j cs 1 (λ k x i. let a = h (suc k) x i in omega arith) in
     omega arith
 few_at_empty g j (Some x ∷ cs) e h l = absurd (cc e)
 
 -- how many of the pairs have their home among the j places that end with p
 abbrev near_homes : {X : Type 0} → (X → ℕ) → ℕ → List (Option X) → ℕ → ℕ → ℕ
-near_homes home n cs p j = count_by (λ x. ltb (gap n (home x) p) j) (pairs_in cs)
+near_homes home n cs p j = count_by (λ x. ltb (gap n (home x) p) j) (contents cs)
 
 pub empty_not_full : {X : Type 0} (home : X → ℕ) (n : ℕ) (cs : List (Option X)) → length cs ≡ n → ((x : X) → home x < n) → IsReached home n cs
     → (p : ℕ) → p < n → cell cs p ≡ None → (j : ℕ) → 1 ≤ j → near_homes home n cs p j < j
@@ -81,12 +82,12 @@ count-map f q (x ∷ xs) = sum_by-cons (λ y. cond (q y) 1 0) (f x) (map f xs) �
 
 -- a cell is occupied exactly if its place is full
 pub occupied_exactly_full : {X : Type 0} (key : X → ℕ) (n : ℕ) (cs : List (Option X)) → length cs ≡ n → 0 < n → IsReached (λ x. key x % n) n cs
-    → (e : ℕ) → e < n → cell cs e ≡ None → (p : ℕ) → p < n → (cell cs p ≢ None) ↔ IsFull (map key (pairs_in cs)) n p
+    → (e : ℕ) → e < n → cell cs e ≡ None → (p : ℕ) → p < n → (cell cs p ≢ None) ↔ IsFull (map key (contents cs)) n p
 occupied_exactly_full {X} key n cs len pos reached e le none p lp =
     let homes : (x : X) → key x % n < n = λ x. omega arith in (
       λ some. let f = occupied_is_full (λ x. key x % n) n cs len homes reached e le none p lp some in
-          (f.0, f.1, f.2, rw (count-map key (λ h. ltb (gap n (h % n) p) f.0) (pairs_in cs)) f.3),
+          (f.0, f.1, f.2, rw (count-map key (λ h. ltb (gap n (h % n) p) f.0) (contents cs)) f.3),
       λ full z. let g = empty_not_full (λ x. key x % n) n cs len homes reached p lp z full.0 full.1 in
-          let h : full.0 ≤ near_homes (λ x. key x % n) n cs p full.0 = rw (count-map key (λ h. ltb (gap n (h % n) p) full.0) (pairs_in cs)) at full.3 in
+          let h : full.0 ≤ near_homes (λ x. key x % n) n cs p full.0 = rw (count-map key (λ h. ltb (gap n (h % n) p) full.0) (contents cs)) at full.3 in
           omega arith,
     )

@@ -5,29 +5,31 @@ use Rattle.std.proofs.lemmas.List.{length_push, set-get_or, take_all}
 use Rattle.std.proofs.lemmas.List.Sorted.{IsPermutation-refl, IsPermutation-push_more, length_permutation}
 use Rattle.iddqd_store.specs.Table.{IsTable, IsFirstEmpty}
 use Rattle.iddqd_store.specs.Table.Limit.{IsSize}
-use Rattle.iddqd_store.specs.Table.Ring.{cell, pairs_in}
+use Rattle.iddqd_store.specs.Slots.{contents}
+use Rattle.iddqd_store.specs.Table.Ring.{cell}
 use Rattle.iddqd_store.proofs.TableLemmas.Limits.{held-empty, table_empty}
-use Rattle.iddqd_store.proofs.TableLemmas.Write.{held_front, held_more, held_no_more, held_put, table_put}
+use Rattle.iddqd_store.proofs.TableLemmas.Write.{held_front, held_more, held_no_more, table_put}
+use Rattle.iddqd_store.proofs.SlotLemmas.Contents.{contents-put}
 
 -- the pairs of the first i cells of the old row are those of the new one
 pub record HasFront (old new : List (Option (ℕ × ℕ))) (i : ℕ) : Type 0 where
   pub table : IsTable new
-  pub pairs : IsPermutation (pairs_in (take i old)) (pairs_in new)
+  pub pairs : IsPermutation (contents (take i old)) (contents new)
 
 pub front_none : (old : List (Option (ℕ × ℕ))) (count : ℕ) → IsSize count → HasFront old (replicate count None) 0
 front_none old count size = record { table = table_empty count size; pairs = rw held-empty (IsPermutation-refl _) }
 
 -- a pair is copied into the first empty cell from its home on
-pub front_full : (old new : List (Option (ℕ × ℕ))) (i at hash index : ℕ) → i < length old → cell old i ≡ Some (hash, index) → length (pairs_in old) ≤ length new / 8 * 7 → IsFirstEmpty new (hash % length new) at
+pub front_full : (old new : List (Option (ℕ × ℕ))) (i at hash index : ℕ) → i < length old → cell old i ≡ Some (hash, index) → length (contents old) ≤ length new / 8 * 7 → IsFirstEmpty new (hash % length new) at
     → HasFront old new i → HasFront old (set new at (cell old i)) (i + 1)
 front_full old new i at hash index l is fits f h =
     let x : ℕ × ℕ = (hash, index) in
-    let more : length (pairs_in (take (i + 1) old)) ≡ length (pairs_in (take i old)) + 1 = ap length (held_more old i x l is) ∙ length_push (pairs_in (take i old)) x in
+    let more : length (contents (take (i + 1) old)) ≡ length (contents (take i old)) + 1 = ap length (held_more old i x l is) ∙ length_push (contents (take i old)) x in
     let front = held_front old (i + 1) in
-    let same : length (pairs_in new) ≡ length (pairs_in (take i old)) = length_permutation _ _ h.pairs in
+    let same : length (contents new) ≡ length (contents (take i old)) = length_permutation _ _ h.pairs in
     rw is (record {
       table = table_put new at hash index h.table (omega (arith, more, front, same, fits)) f;
-      pairs = rw (held_more old i x l is) (IsPermutation-push_more _ _ _ x h.pairs (held_put new at x f.below f.empty));
+      pairs = rw (held_more old i x l is) (IsPermutation-push_more _ _ _ x h.pairs (contents-put new at x f.below f.empty));
     })
 
 -- an empty cell is copied over an empty one, and the row stays as it is
@@ -36,5 +38,5 @@ front_empty old new i at l is none h =
     let same : set new at (cell old i) ≡ new = ap (λ (o : Option (ℕ × ℕ)). set new at o) (is ∙ sym none) ∙ set-get_or new at None in
     rw same (record { table = h.table; pairs = rw (held_no_more old i l is) h.pairs })
 
-pub front_all : (old new : List (Option (ℕ × ℕ))) (i : ℕ) → length old ≤ i → HasFront old new i → IsPermutation (pairs_in old) (pairs_in new)
-front_all old new i l h = subst (λ (r : List (Option (ℕ × ℕ))). IsPermutation (pairs_in r) (pairs_in new)) (take_all i old l) h.pairs
+pub front_all : (old new : List (Option (ℕ × ℕ))) (i : ℕ) → length old ≤ i → HasFront old new i → IsPermutation (contents old) (contents new)
+front_all old new i l h = subst (λ (r : List (Option (ℕ × ℕ))). IsPermutation (contents r) (contents new)) (take_all i old l) h.pairs

@@ -8,7 +8,8 @@ use Rattle.std.proofs.Math.Nat.{add-mul-mod_self_left, mod-eq_of_lt, mod_self, m
 use Rattle.std.proofs.Math.Pow.{pow_mono}
 use Rattle.std.proofs.lemmas.Nat.{and_mask, pow-add, pow_below, pow_pos}
 use Rattle.std.proofs.lemmas.List.{length-replicate}
-use Rattle.iddqd_store.specs.Table.Ring.{gap, pairs_in, cell}
+use Rattle.iddqd_store.specs.Slots.{contents}
+use Rattle.iddqd_store.specs.Table.Ring.{gap, cell}
 use Rattle.iddqd_store.specs.Table.Limit.{IsLeast, IsSize, most_room}
 use Rattle.iddqd_store.specs.Table.{IsTable}
 
@@ -35,7 +36,7 @@ least_found m k n pos e enough before =
           is;
     }
 
-pub held-empty : {X : Type 0} (n : ℕ) → pairs_in {X = X} (replicate n None) ≡ []
+pub held-empty : {X : Type 0} (n : ℕ) → contents {T = X} (replicate n None) ≡ []
 held-empty zero = refl
 held-empty (suc n) = held-empty n
 
@@ -51,7 +52,7 @@ table_empty n size = record {
   reached = λ q x l is i li way z. let e : cell {X = ℕ × ℕ} (replicate n None) q ≡ None = cell-empty n q in cc (e, is);
 }
 
-pub length_held_empty : (n : ℕ) → 0 ≡ length (pairs_in {X = ℕ × ℕ} (replicate n None))
+pub length_held_empty : (n : ℕ) → 0 ≡ length (contents {T = ℕ × ℕ} (replicate n None))
 length_held_empty n = sym (ap length (held-empty {X = ℕ × ℕ} n))
 
 pub some_not_none : {X : Type 0} (o : Option X) → IsSome o ↔ (o ≢ None)

@@ -5,11 +5,13 @@ use Rattle.std.proofs.lemmas.Bool.{cases_eq, cases_lt}
 use Rattle.std.proofs.lemmas.Bool.Decides.{nat_tests}
 use Rattle.std.proofs.lemmas.List.{length-replicate, length-set, get_or-set_same, get_or-set_other}
 use Rattle.std.proofs.lemmas.List.Sorted.{length_permutation}
-use Rattle.iddqd_store.specs.Table.Ring.{cell, gap, pairs_in, stretch}
+use Rattle.iddqd_store.specs.Slots.{contents}
+use Rattle.iddqd_store.specs.Table.Ring.{cell, gap, stretch}
 use Rattle.iddqd_store.specs.Table.{hashes, IsFirstEmpty, IsTable, IsWayTo}
 use Rattle.iddqd_store.proofs.TableLemmas.Search.{walk_end, walk_to}
 use Rattle.iddqd_store.proofs.TableLemmas.StretchBound.{stretch_le_pairs}
-use Rattle.iddqd_store.proofs.TableLemmas.Write.{held_front, held_put}
+use Rattle.iddqd_store.proofs.TableLemmas.Write.{held_front}
+use Rattle.iddqd_store.proofs.SlotLemmas.Contents.{contents-put}
 use Rattle.iddqd_store.proofs.TableLemmas.Grow.{HasFront}
 
 pub gap_none : (n a : ℕ) → gap n a a ≡ 0
@@ -62,17 +64,17 @@ way_put row a s at x lat way =
     }
 
 -- a pair walks over no more cells than there are pairs
-pub home_walk : (row : List (Option (ℕ × ℕ))) (hash at : ℕ) → IsTable row → IsFirstEmpty row (hash % length row) at → gap (length row) (hash % length row) at ≤ length (pairs_in row)
+pub home_walk : (row : List (Option (ℕ × ℕ))) (hash at : ℕ) → IsTable row → IsFirstEmpty row (hash % length row) at → gap (length row) (hash % length row) at ≤ length (contents row)
 home_walk row hash at table free =
     let home : ℕ = hash % length row in
     let below : home < length row = let b = free.below in omega arith in
-    let s : stretch (hashes (pairs_in row)) (length row) hash ≡ gap (length row) home at =
+    let s : stretch (hashes (contents row)) (length row) hash ≡ gap (length row) home at =
     walk_end row hash at (gap (length row) home at) table (walk_to row home at below (record { below = free.below; first = free.first })) free.empty in
-    let most = stretch_le_pairs (pairs_in row) (length row) hash in
+    let most = stretch_le_pairs (contents row) (length row) hash in
     omega (arith, s, most)
 
-pub pairs_put : (row : List (Option (ℕ × ℕ))) (at : ℕ) (x : ℕ × ℕ) → at < length row → cell row at ≡ None → length (pairs_in (set row at (Some x))) ≡ length (pairs_in row) + 1
-pairs_put row at x below empty = length_permutation _ _ (held_put row at x below empty) ∙ omega arith
+pub pairs_put : (row : List (Option (ℕ × ℕ))) (at : ℕ) (x : ℕ × ℕ) → at < length row → cell row at ≡ None → length (contents (set row at (Some x))) ≡ length (contents row) + 1
+pairs_put row at x below empty = length_permutation _ _ (contents-put row at x below empty) ∙ omega arith
 
 times_more : (k pairs : ℕ) → (k + 1) * pairs ≡ k * pairs + pairs
 times_more k pairs = omega arith
@@ -98,5 +100,5 @@ way_none count some =
     }
 
 -- a prefix of the row has no more pairs than the whole row
-pub front_fits : (old new : List (Option (ℕ × ℕ))) (i : ℕ) → HasFront old new i → length (pairs_in new) ≤ length (pairs_in old)
+pub front_fits : (old new : List (Option (ℕ × ℕ))) (i : ℕ) → HasFront old new i → length (contents new) ≤ length (contents old)
 front_fits old new i front = omega (arith, length_permutation _ _ front.pairs, held_front old i)

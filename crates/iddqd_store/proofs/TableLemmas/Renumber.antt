@@ -2,24 +2,19 @@
 use Rattle.std.proofs.Common.{◌≡◌, ℕ, suc, zero, Contains, ◌<◌, ◌≤◌, ◌%◌, List, ◌∷◌, Option, None, Some, length, set, refl, sym, ap, ◌∙◌, subst, ⊎_elim, arith}
 use Rattle.std.specs.Prelude.{◌≢◌}
 use Rattle.std.specs.List.Sorted.{IsPermutation}
-use Rattle.std.proofs.lemmas.List.{length-set, get_or-set_same, get_or-set_other, set-set}
-use Rattle.std.proofs.lemmas.List.Sorted.{Contains-permutation, IsPermutation-sym, length_permutation}
+use Rattle.std.proofs.lemmas.List.{length-set, get_or-set_same, get_or-set_other}
+use Rattle.std.proofs.lemmas.List.Sorted.{Contains-permutation, length_permutation}
 use Rattle.std.proofs.lemmas.Bool.{cases_eq}
-use Rattle.iddqd_store.specs.Table.Ring.{cell, gap, pairs_in, IsReached}
+use Rattle.iddqd_store.specs.Slots.{contents}
+use Rattle.iddqd_store.specs.Table.Ring.{cell, gap, IsReached}
 use Rattle.iddqd_store.specs.Table.{IsTable, ReplacesPair}
-use Rattle.iddqd_store.proofs.TableLemmas.Write.{held_put, held_take}
+use Rattle.iddqd_store.proofs.SlotLemmas.Contents.{contents-set, contents-take}
 
--- the pairs of a row in which a cell has another pair
-held_over : {X : Type 0} (cs : List (Option X)) (k : ℕ) (x : X) → k < length cs → IsPermutation (pairs_in (set cs k (Some x))) (x ∷ pairs_in (set cs k None))
-held_over cs k x l =
-    let put : IsPermutation (x ∷ pairs_in (set cs k None)) (pairs_in (set (set cs k None) k (Some x))) = held_put (set cs k None) k x (rw length-set l) (get_or-set_same cs k None None l) in
-    IsPermutation-sym _ _ (subst (λ (r : List (Option _)). IsPermutation (x ∷ pairs_in (set cs k None)) (pairs_in r)) (set-set cs k None (Some x)) put)
-
-pub renumbered : (row : List (Option (ℕ × ℕ))) (at hash from to : ℕ) → at < length row → cell row at ≡ Some (hash, from) → ReplacesPair (pairs_in row) (pairs_in (set row at (Some (hash, to)))) (hash, from) (hash, to)
+pub renumbered : (row : List (Option (ℕ × ℕ))) (at hash from to : ℕ) → at < length row → cell row at ≡ Some (hash, from) → ReplacesPair (contents row) (contents (set row at (Some (hash, to)))) (hash, from) (hash, to)
 renumbered row at hash from to l is = record {
-  others = pairs_in (set row at None);
-  had = held_take row at (hash, from) l is;
-  has = held_over row at (hash, to) l;
+  others = contents (set row at None);
+  had = contents-take row at (hash, from) is;
+  has = contents-set row at (hash, to) l;
 }
 
 -- if the home stays, each pair is still reached
@@ -43,8 +38,8 @@ pub table_renumbered : (row : List (Option (ℕ × ℕ))) (at hash from to : ℕ
 table_renumbered row at hash from to t l is =
     let n : ℕ = length row in
     let replaced = renumbered row at hash from to l is in
-    let had : length ((hash, from) ∷ replaced.others) ≡ length (pairs_in row) = length_permutation _ _ replaced.had in
-    let has : length ((hash, to) ∷ replaced.others) ≡ length (pairs_in (set row at (Some (hash, to)))) = length_permutation _ _ replaced.has in
+    let had : length ((hash, from) ∷ replaced.others) ≡ length (contents row) = length_permutation _ _ replaced.had in
+    let has : length ((hash, to) ∷ replaced.others) ≡ length (contents (set row at (Some (hash, to)))) = length_permutation _ _ replaced.has in
     let len : length (set row at (Some (hash, to))) ≡ n = length-set row at (Some (hash, to)) in
     record {
       size = rw len t.size;

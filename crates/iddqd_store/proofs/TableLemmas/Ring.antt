@@ -8,7 +8,8 @@ use Rattle.std.proofs.lemmas.List.Sums.{sum_by-cons}
 use Rattle.std.proofs.lemmas.List.Sorted.{IsPermutation-reverse, IsPermutation-append, sum_by-IsPermutation}
 use Rattle.std.proofs.lemmas.Bool.Decides.{nat_tests}
 use Rattle.std.proofs.lemmas.Bool.{cases_lt}
-use Rattle.iddqd_store.specs.Table.Ring.{gap, pairs_in, cell}
+use Rattle.iddqd_store.specs.Slots.{contents}
+use Rattle.iddqd_store.specs.Table.Ring.{gap, cell}
 
 -- the place that lies k steps before p
 abbrev pub turn : ℕ → ℕ → ℕ → ℕ
@@ -64,15 +65,15 @@ abbrev pub weight : {X : Type 0} → (X → Bool) → Option X → ℕ
 weight q None = 0
 weight q (Some x) = cond (q x) 1 0
 
-pub count-held : {X : Type 0} (q : X → Bool) (cs : List (Option X)) → count_by q (pairs_in cs) ≡ sum_by (weight q) cs
+pub count-held : {X : Type 0} (q : X → Bool) (cs : List (Option X)) → count_by q (contents cs) ≡ sum_by (weight q) cs
 count-held q [] = refl
 count-held q (None ∷ cs) = count-held q cs ∙ sym (sum_by-cons (weight q) None cs ∙ omega arith)
-count-held q (Some x ∷ cs) = sum_by-cons (λ x. cond (q x) 1 0) x (pairs_in cs) ∙ (ap (λ (m : ℕ). cond (q x) 1 0 + m) (count-held q cs) ∙ sym (sum_by-cons (weight q) (Some x) cs))
+count-held q (Some x ∷ cs) = sum_by-cons (λ x. cond (q x) 1 0) x (contents cs) ∙ (ap (λ (m : ℕ). cond (q x) 1 0 + m) (count-held q cs) ∙ sym (sum_by-cons (weight q) (Some x) cs))
 
 IsPermutation-back : {X : Type 0} (cs : List (Option X)) (p : ℕ) → IsPermutation cs (back cs p)
 IsPermutation-back cs p =
     subst (λ (xs : List _). IsPermutation xs (back cs p)) (take-append-drop (p + 1) cs)
     (IsPermutation-append _ _ _ _ (IsPermutation-reverse (take (p + 1) cs)) (IsPermutation-reverse (drop (p + 1) cs)))
 
-pub count-back : {X : Type 0} (q : X → Bool) (cs : List (Option X)) (p : ℕ) → count_by q (pairs_in (back cs p)) ≡ count_by q (pairs_in cs)
+pub count-back : {X : Type 0} (q : X → Bool) (cs : List (Option X)) (p : ℕ) → count_by q (contents (back cs p)) ≡ count_by q (contents cs)
 count-back q cs p = count-held q (back cs p) ∙ (sum_by-IsPermutation (weight q) cs (back cs p) (IsPermutation-back cs p) ∙ sym (count-held q cs))

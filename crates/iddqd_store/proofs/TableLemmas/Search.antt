@@ -8,31 +8,26 @@ use Rattle.std.proofs.lemmas.List.Sums.{sum_by_more, sum_by-take-le}
 use Rattle.std.proofs.lemmas.List.Sorted.{IsPermutation-append_comm, sum_by-IsPermutation}
 use Rattle.std.proofs.lemmas.Bool.{cases_lt, both_ways, eq-eqb}
 use Rattle.std.proofs.lemmas.Bool.Decides.{nat_tests}
-use Rattle.iddqd_store.specs.Table.Ring.{gap, stretch, pairs_in, cell}
+use Rattle.iddqd_store.specs.Slots.{contents}
+use Rattle.iddqd_store.specs.Table.Ring.{gap, stretch, cell}
 use Rattle.iddqd_store.specs.Table.{hashes, under, IsTable, IsFirstEmpty, IsWayTo}
 use Rattle.iddqd_store.proofs.TableLemmas.Ring.{weight, count-held, gap_below}
 use Rattle.iddqd_store.proofs.TableLemmas.Stretch.{place, place_below, gap_place, place_gap, place_more, stretch_is, stretch_at_least}
+use Rattle.iddqd_store.proofs.SlotLemmas.Contents.{content_at}
 
 abbrev pub Empty : {X : Type 0} → List (Option X) → Type 0
 Empty cs = (e : ℕ) × (e < length cs) × (cell cs e ≡ None)
 
 -- if not all cells are occupied, one is empty
-pub has_empty : {X : Type 0} (cs : List (Option X)) → length (pairs_in cs) < length cs → Empty cs
+pub has_empty : {X : Type 0} (cs : List (Option X)) → length (contents cs) < length cs → Empty cs
 has_empty [] h = absurd (omega arith)
 has_empty (None ∷ cs) h = (0, omega arith, refl)
 has_empty (Some x ∷ cs) h = let f : Empty cs = has_empty cs (omega arith) in (suc f.0, omega arith, f.2)
 
-pub held_contains : {X : Type 0} (cs : List (Option X)) (k : ℕ) (x : X) → cell cs k ≡ Some x → Contains (pairs_in cs) x
-held_contains [] k x e = absurd (cc e)
-held_contains (None ∷ cs) zero x e = absurd (cc e)
-held_contains (None ∷ cs) (suc k) x e = held_contains cs k x e
-held_contains (Some y ∷ cs) zero x e = (0, omega arith, cc e)
-held_contains (Some y ∷ cs) (suc k) x e = let f : Contains (pairs_in cs) x = held_contains cs k x e in (suc f.0, omega arith, f.2)
-
 abbrev StandsIn : {X : Type 0} → List (Option X) → X → Type 0
 StandsIn cs x = (q : ℕ) × (q < length cs) × (cell cs q ≡ Some x)
 
-pub stands : {X : Type 0} (cs : List (Option X)) (x : X) → (k : ℕ) → k < length (pairs_in cs) → get_or (pairs_in cs) k x ≡ x → StandsIn cs x
+pub stands : {X : Type 0} (cs : List (Option X)) (x : X) → (k : ℕ) → k < length (contents cs) → get_or (contents cs) k x ≡ x → StandsIn cs x
 stands [] x k l e = absurd (omega arith)
 stands (None ∷ cs) x k l e = let f : StandsIn cs x = stands cs x k l e in (suc f.0, omega arith, f.2)
 stands (Some y ∷ cs) x zero l e = (0, omega arith, ap (λ z. Some z) e)
@@ -44,7 +39,7 @@ pub record Walk (row : List (Option (ℕ × ℕ))) (home at steps : ℕ) : Type 
   pub passed : (k : ℕ) → k < steps → cell row (place (length row) home k) ≢ None
 
 pub room : (row : List (Option (ℕ × ℕ))) → IsTable row → 0 < length row → Empty row
-room row t l = has_empty row (let f : length (pairs_in row) ≤ length row / 8 * 7 = t.fits in omega arith)
+room row t l = has_empty row (let f : length (contents row) ≤ length row / 8 * 7 = t.fits in omega arith)
 
 pub walk_below : (row : List (Option (ℕ × ℕ))) (home at s : ℕ) → home < length row → Walk row home at s → at < length row
 walk_below row home at s l w = rw w.at_is (place_below (length row) home s l w.within)
@@ -68,11 +63,11 @@ walk_more row home at s t l w some at' s' ea es =
     }
 
 -- the walk ends at an empty cell
-pub walk_end : (row : List (Option (ℕ × ℕ))) (hash at s : ℕ) → IsTable row → Walk row (hash % length row) at s → cell row at ≡ None → stretch (hashes (pairs_in row)) (length row) hash ≡ s
+pub walk_end : (row : List (Option (ℕ × ℕ))) (hash at s : ℕ) → IsTable row → Walk row (hash % length row) at s → cell row at ≡ None → stretch (hashes (contents row)) (length row) hash ≡ s
 walk_end row hash at s t w none = stretch_is (λ (p : ℕ × ℕ). p.0) (length row) row refl (let l = w.within in omega arith) t.reached hash s w.within w.passed (rw w.at_is at none)
 
 -- a pair with a hash is met before the first empty cell
-pub walk_meets : (row : List (Option (ℕ × ℕ))) (hash at s index : ℕ) → IsTable row → Walk row (hash % length row) at s → cell row at ≡ None → Contains (pairs_in row) (hash, index)
+pub walk_meets : (row : List (Option (ℕ × ℕ))) (hash at s index : ℕ) → IsTable row → Walk row (hash % length row) at s → cell row at ≡ None → Contains (contents row) (hash, index)
     → (k : ℕ) × (k < s) × (cell row (place (length row) (hash % length row) k) ≡ Some (hash, index))
 walk_meets row hash at s index t w none c =
     let f : StandsIn row (hash, index) = stands row (hash, index) c.0 c.1 c.2 in
@@ -130,12 +125,12 @@ met_more q cs a s x l m e t et =
     let la : length (ahead cs a) ≡ length cs = length-ahead cs a l in
     ap (met q cs a) et ∙ (sum_by_more (weight q) (ahead cs a) s None (omega arith) ∙ ap (λ (o : Option _). met q cs a s + weight q o) i)
 
-pub met_within : {X : Type 0} (q : X → Bool) (cs : List (Option X)) (a s : ℕ) → met q cs a s ≤ count_by q (pairs_in cs)
+pub met_within : {X : Type 0} (q : X → Bool) (cs : List (Option X)) (a s : ℕ) → met q cs a s ≤ count_by q (contents cs)
 met_within q cs a s =
     let p : IsPermutation (drop a cs ++ take a cs) (take a cs ++ drop a cs) = IsPermutation-append_comm (drop a cs) (take a cs) in
     let e : sum_by (weight q) (take a cs ++ drop a cs) ≡ sum_by (weight q) (ahead cs a) = sum_by-IsPermutation (weight q) _ _ p in
     let f : sum_by (weight q) cs ≡ sum_by (weight q) (ahead cs a) = subst (λ (xs : List (Option _)). sum_by (weight q) xs ≡ sum_by (weight q) (ahead cs a)) (take-append-drop a cs) e in
-    let h : count_by q (pairs_in cs) ≡ sum_by (weight q) cs = count-held q cs in
+    let h : count_by q (contents cs) ≡ sum_by (weight q) cs = count-held q cs in
     let t : met q cs a s ≤ sum_by (weight q) (ahead cs a) = sum_by-take-le (weight q) (ahead cs a) s in
     omega arith
 
@@ -150,7 +145,7 @@ pub met_grows : (hash : ℕ) (row : List (Option (ℕ × ℕ))) (a s : ℕ) (x :
 met_grows hash row a s x l m e t et = let f = met_more (under hash) row a s x l m e t et in omega arith
 
 -- the probes of a search that finds a pair
-pub walk_found : (row : List (Option (ℕ × ℕ))) (hash at s t : ℕ) → IsTable row → Walk row (hash % length row) at s → cell row at ≢ None → t ≡ s + 1 → t ≤ stretch (hashes (pairs_in row)) (length row) hash
+pub walk_found : (row : List (Option (ℕ × ℕ))) (hash at s t : ℕ) → IsTable row → Walk row (hash % length row) at s → cell row at ≢ None → t ≡ s + 1 → t ≤ stretch (hashes (contents row)) (length row) hash
 walk_found row hash at s t table w some e =
     let within : s < length row = w.within in
     let r : Empty row = room row table (omega arith) in
@@ -159,8 +154,8 @@ walk_found row hash at s t table w some e =
     (λ (h : s ≤ k). let same : s ≡ k = omega arith in subst (λ (i : ℕ). cell row (place (length row) (hash % length row) i) ≢ None) same (rw w.at_is at some))
     (cases_lt k s))
 
-pub found_there : (row : List (Option (ℕ × ℕ))) (at hash : ℕ) (x : ℕ × ℕ) → cell row at ≡ Some x → x.0 ≡ hash → Contains (pairs_in row) (hash, x.1)
-found_there row at hash x e h = held_contains row at (hash, x.1) (e ∙ ap (λ (i : ℕ). Some (i, x.1)) h)
+pub found_there : (row : List (Option (ℕ × ℕ))) (at hash : ℕ) (x : ℕ × ℕ) → cell row at ≡ Some x → x.0 ≡ hash → Contains (contents row) (hash, x.1)
+found_there row at hash x e h = content_at row at (hash, x.1) (e ∙ ap (λ (i : ℕ). Some (i, x.1)) h)
 
 pub walk_first : (row : List (Option (ℕ × ℕ))) (home at s : ℕ) → home < length row → Walk row home at s → cell row at ≡ None → IsFirstEmpty row home at
 walk_first row home at s l w none = record {
@@ -216,5 +211,5 @@ unmet_more row home at s t x e w u f k l j =
     (cases_lt k s)
 
 -- a pair that is there and was not met yet lies further on
-pub seek_on : (row : List (Option (ℕ × ℕ))) (hash at s index : ℕ) → IsTable row → Walk row (hash % length row) at s → Contains (pairs_in row) (hash, index) → Unmet row (hash % length row) (hash, index) s → cell row at ≢ None
+pub seek_on : (row : List (Option (ℕ × ℕ))) (hash at s index : ℕ) → IsTable row → Walk row (hash % length row) at s → Contains (contents row) (hash, index) → Unmet row (hash % length row) (hash, index) s → cell row at ≢ None
 seek_on row hash at s index t w c u none = let f = walk_meets row hash at s index t w none c in u f.0 f.1 f.2

@@ -3,7 +3,8 @@ use Rattle.std.proofs.Common.{◌≡◌, ℕ, suc, zero, ◌<◌, ◌≤◌, ◌
 use Rattle.std.specs.Prelude.{◌≢◌}
 use Rattle.std.specs.List.Sorted.{IsPermutation}
 use Rattle.std.proofs.lemmas.Bool.{cases_lt}
-use Rattle.iddqd_store.specs.Table.Ring.{gap, stretch, pairs_in, cell}
+use Rattle.iddqd_store.specs.Slots.{contents}
+use Rattle.iddqd_store.specs.Table.Ring.{gap, stretch, cell}
 use Rattle.iddqd_store.specs.Table.{hashes, IsTable, IsFirstEmpty, IsFree, Spot}
 use Rattle.iddqd_store.proofs.TableLemmas.Ring.{gap_below}
 use Rattle.iddqd_store.proofs.TableLemmas.Stretch.{place, place_gap, stretch_permutation}
@@ -36,7 +37,7 @@ walk_ends row home t l =
     (walk_on row home l (length row) (omega arith))
 
 -- a search that ends at an empty cell gives it
-pub walk_free : (row : List (Option (ℕ × ℕ))) (hash at s : ℕ) → IsTable row → 0 < length row → Walk row (hash % length row) at s → cell row at ≡ None → IsFree (hashes (pairs_in row)) (record { hash = hash; cells = length row; at = at })
+pub walk_free : (row : List (Option (ℕ × ℕ))) (hash at s : ℕ) → IsTable row → 0 < length row → Walk row (hash % length row) at s → cell row at ≡ None → IsFree (hashes (contents row)) (record { hash = hash; cells = length row; at = at })
 walk_free row hash at s t some w none =
     let l : hash % length row < length row = omega arith in
     record {
@@ -45,15 +46,15 @@ walk_free row hash at s t some w none =
     }
 
 -- it is the first empty one of a table with the same hashes in as many cells
-pub free_first : (row : List (Option (ℕ × ℕ))) (spot : Spot) → IsTable row → IsFree (hashes (pairs_in row)) spot → spot.cells ≡ length row → 0 < length row → IsFirstEmpty row (spot.hash % length row) spot.at
+pub free_first : (row : List (Option (ℕ × ℕ))) (spot : Spot) → IsTable row → IsFree (hashes (contents row)) spot → spot.cells ≡ length row → 0 < length row → IsFirstEmpty row (spot.hash % length row) spot.at
 free_first row spot t free same some =
     let home : ℕ = spot.hash % length row in
     let l : home < length row = omega arith in
     let below : spot.at < length row = rw same at free.below (omega arith) in
-    let away : gap (length row) home spot.at ≡ stretch (hashes (pairs_in row)) (length row) spot.hash = rw same at free.away (omega arith) in
+    let away : gap (length row) home spot.at ≡ stretch (hashes (contents row)) (length row) spot.hash = rw same at free.away (omega arith) in
     let ends : Ends row home = walk_ends row home t l in
     let w : Walk row home ends.0 ends.1 = ends.2 in
-    let e : stretch (hashes (pairs_in row)) (length row) spot.hash ≡ ends.1 = walk_end row spot.hash ends.0 ends.1 t w ends.3 in
+    let e : stretch (hashes (contents row)) (length row) spot.hash ≡ ends.1 = walk_end row spot.hash ends.0 ends.1 t w ends.3 in
     let at : ends.0 ≡ spot.at = w.at_is ∙ (ap (place (length row) home) (sym e ∙ sym away) ∙ place_gap (length row) home spot.at l below) in
     subst (IsFirstEmpty row home) at (walk_first row home ends.0 ends.1 l w ends.3)
 

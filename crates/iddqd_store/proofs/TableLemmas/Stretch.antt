@@ -1,29 +1,33 @@
 -- The full places from a home on are the occupied cells from there on.
-use Rattle.std.proofs.Common.{◌≡◌, ℕ, suc, zero, ◌+◌, ◌-◌, ◌<◌, ◌≤◌, ◌%◌, Bool, true, false, leb, ltb, List, Option, None, length, get_or, map, refl, sym, ap, cond, ◌∙◌, ⊎_elim, arith}
-use Rattle.std.specs.List.{prefix_len, range_with_len}
-use Rattle.std.specs.Prelude.{◌≢◌, ◌||◌, nat_lt, if◌then◌else◌}
+use Rattle.std.proofs.Common.{◌≡◌, ℕ, ◌+◌, ◌-◌, ◌<◌, ◌≤◌, ◌%◌, Bool, true, false, leb, ltb, List, Option, None, length, get_or, map, sym, ap, cond, ◌∙◌, ⊎_elim, arith}
+use Rattle.std.specs.List.{list_any, prefix_len, range_with_len}
+use Rattle.std.specs.Prelude.{◌≢◌, nat_lt, if◌then◌else◌}
 use Rattle.std.specs.Bool.{Decides}
 use Rattle.std.specs.List.Sorted.{IsPermutation}
 use Rattle.std.proofs.Math.Path.{fun_ext}
 use Rattle.std.proofs.lemmas.List.Sorted.{sum_by-IsPermutation}
 use Rattle.std.proofs.lemmas.List.{length-append, get_or_append_left, get_or-append_right}
 use Rattle.std.proofs.lemmas.List.FromFn.{length-range_with_len, get_or-range_with_len}
+use Rattle.std.proofs.lemmas.List.Folds.{Any-from_list_any, list_any_at}
 use Rattle.std.proofs.lemmas.List.Sums.{prefix_len_is, prefix_len_stops}
 use Rattle.std.proofs.lemmas.Bool.{cases_lt, both_ways, leb-true, le-leb, false_from_ne_true}
-use Rattle.std.proofs.lemmas.Bool.Decides.{nat_tests, Decides-below_or}
-use Rattle.iddqd_store.specs.Table.Ring.{gap, ending, IsFull, is_full, is_full_within, round, stretch, pairs_in, cell, IsReached}
+use Rattle.std.proofs.lemmas.Bool.Decides.{nat_tests}
+use Rattle.iddqd_store.specs.Slots.{contents}
+use Rattle.iddqd_store.specs.Table.Ring.{gap, ending, IsFull, is_full, round, stretch, cell, IsReached}
 use Rattle.iddqd_store.proofs.TableLemmas.Full.{occupied_exactly_full}
 
 pub is_full_decides : (hashes : List ℕ) (n p : ℕ) → Decides (is_full hashes n p) (IsFull hashes n p)
 is_full_decides hashes n p =
-    let d = Decides-below_or (λ k. leb (suc k) (ending hashes n p (suc k))) (λ k. suc k ≤ ending hashes n p (suc k)) (is_full_within hashes n p) (λ k. (λ t. leb-true _ _ t, λ l. le-leb _ _ l)) refl (λ k. refl) n in (
-      λ t. let f = d.0 t in (suc f.0, omega arith, omega arith, f.2),
-      λ f. d.1 (down f.0 f.1 f.2 f.3),
+    let enough : ℕ → Bool = λ j. leb j (ending hashes n p j) in (
+      λ t.
+          let f = Any-from_list_any enough (range_with_len 1 n) t in
+          let within : f.0 < n = omega (arith, f.2, length-range_with_len 1 n) in
+          let at : f.1 ≡ 1 + f.0 = sym f.3 ∙ get_or-range_with_len 1 n f.0 f.1 within in
+          (f.1, omega arith, omega arith, leb-true _ _ f.4),
+      λ f.
+          let at : get_or (range_with_len 1 n) (f.0 - 1) 0 ≡ f.0 = get_or-range_with_len 1 n (f.0 - 1) 0 (omega arith) ∙ omega arith in
+          list_any_at enough (range_with_len 1 n) (f.0 - 1) 0 (omega (arith, length-range_with_len 1 n)) (rw at (le-leb _ _ f.3)),
     )
-  where
-    down : (j : ℕ) → 1 ≤ j → j ≤ n → j ≤ ending hashes n p j → (k : ℕ) × (k < n) × (suc k ≤ ending hashes n p (suc k))
-    down zero a b c = absurd (omega arith)
-    down (suc k) a b c = (k, omega arith, c)
 
 -- the place k steps on from a
 abbrev pub place : ℕ → ℕ → ℕ → ℕ
@@ -55,32 +59,32 @@ get_or-round n a k l m =
     (cases_lt k (n - a))
 
 module _ {X : Type 0} (key : X → ℕ) (n : ℕ) (cs : List (Option X)) (len : length cs ≡ n) (pos : 0 < n) (reached : IsReached (λ x. key x % n) n cs) where
-  pub full_at : (e : ℕ) → e < n → cell cs e ≡ None → (p : ℕ) → p < n → cell cs p ≢ None → is_full (map key (pairs_in cs)) n p ≡ true
-  full_at e le none p lp some = (is_full_decides (map key (pairs_in cs)) n p).1 ((occupied_exactly_full key n cs len pos reached e le none p lp).0 some)
+  pub full_at : (e : ℕ) → e < n → cell cs e ≡ None → (p : ℕ) → p < n → cell cs p ≢ None → is_full (map key (contents cs)) n p ≡ true
+  full_at e le none p lp some = (is_full_decides (map key (contents cs)) n p).1 ((occupied_exactly_full key n cs len pos reached e le none p lp).0 some)
 
-  pub not_full_at : (p : ℕ) → p < n → cell cs p ≡ None → is_full (map key (pairs_in cs)) n p ≡ false
+  pub not_full_at : (p : ℕ) → p < n → cell cs p ≡ None → is_full (map key (contents cs)) n p ≡ false
   not_full_at p lp none =
-      false_from_ne_true _ (λ t. (occupied_exactly_full key n cs len pos reached p lp none p lp).1 ((is_full_decides (map key (pairs_in cs)) n p).0 t) none)
+      false_from_ne_true _ (λ t. (occupied_exactly_full key n cs len pos reached p lp none p lp).1 ((is_full_decides (map key (contents cs)) n p).0 t) none)
 
   -- the run ends at the first empty cell
-  pub stretch_is : (h s : ℕ) → s < n → ((k : ℕ) → k < s → cell cs (place n (h % n) k) ≢ None) → cell cs (place n (h % n) s) ≡ None → stretch (map key (pairs_in cs)) n h ≡ s
+  pub stretch_is : (h s : ℕ) → s < n → ((k : ℕ) → k < s → cell cs (place n (h % n) k) ≢ None) → cell cs (place n (h % n) s) ≡ None → stretch (map key (contents cs)) n h ≡ s
   stretch_is h s ls some none =
       let a : h % n < n = omega arith in
       let lr : length (round n (h % n)) ≡ n = length-round n (h % n) a in
       let pl : place n (h % n) s < n = place_below n (h % n) s a ls in
-      prefix_len_is (is_full (map key (pairs_in cs)) n) (round n (h % n)) s 0 (omega arith)
+      prefix_len_is (is_full (map key (contents cs)) n) (round n (h % n)) s 0 (omega arith)
       (λ k lk. rw (get_or-round n (h % n) k a (omega arith)) (full_at (place n (h % n) s) pl none (place n (h % n) k) (place_below n (h % n) k a (omega arith)) (some k lk)))
       (λ _. rw (get_or-round n (h % n) s a ls) (not_full_at (place n (h % n) s) pl none))
 
   -- the run is no shorter than the occupied cells that are known
-  pub stretch_at_least : (e : ℕ) → e < n → cell cs e ≡ None → (h m : ℕ) → m ≤ n → ((k : ℕ) → k < m → cell cs (place n (h % n) k) ≢ None) → m ≤ stretch (map key (pairs_in cs)) n h
+  pub stretch_at_least : (e : ℕ) → e < n → cell cs e ≡ None → (h m : ℕ) → m ≤ n → ((k : ℕ) → k < m → cell cs (place n (h % n) k) ≢ None) → m ≤ stretch (map key (contents cs)) n h
   stretch_at_least e le none h m lm some =
       let a : h % n < n = omega arith in
       let lr : length (round n (h % n)) ≡ n = length-round n (h % n) a in
-      let s : ℕ = stretch (map key (pairs_in cs)) n h in
+      let s : ℕ = stretch (map key (contents cs)) n h in
       ⊎_elim (λ (l : s < m).
-      let f : is_full (map key (pairs_in cs)) n (get_or (round n (h % n)) s 0) ≡ false = prefix_len_stops (is_full (map key (pairs_in cs)) n) (round n (h % n)) 0 (omega arith) in
-      let t : is_full (map key (pairs_in cs)) n (get_or (round n (h % n)) s 0) ≡ true =
+      let f : is_full (map key (contents cs)) n (get_or (round n (h % n)) s 0) ≡ false = prefix_len_stops (is_full (map key (contents cs)) n) (round n (h % n)) 0 (omega arith) in
+      let t : is_full (map key (contents cs)) n (get_or (round n (h % n)) s 0) ≡ true =
       rw (get_or-round n (h % n) s a (omega arith)) (full_at e le none (place n (h % n) s) (place_below n (h % n) s a (omega arith)) (some s l)) in
       absurd (both_ways _ f t))
       (λ (l : m ≤ s). l) (cases_lt s m)
@@ -89,12 +93,10 @@ module _ {X : Type 0} (key : X → ℕ) (n : ℕ) (cs : List (Option X)) (len : 
 ending_permutation : (xs ys : List ℕ) (n p j : ℕ) → IsPermutation xs ys → ending xs n p j ≡ ending ys n p j
 ending_permutation xs ys n p j same = sym (sum_by-IsPermutation (λ h. cond (ltb (gap n (h % n) p) j) 1 0) xs ys same)
 
-full_permutation : (xs ys : List ℕ) (n p j : ℕ) → IsPermutation xs ys → is_full_within xs n p j ≡ is_full_within ys n p j
-full_permutation xs ys n p zero same = refl
-full_permutation xs ys n p (suc j) same =
-    ap (λ (m : ℕ). leb (suc j) m || is_full_within xs n p j) (ending_permutation xs ys n p (suc j) same)
-    ∙ ap (λ (b : Bool). leb (suc j) (ending ys n p (suc j)) || b) (full_permutation xs ys n p j same)
+full_permutation : (xs ys : List ℕ) (n p : ℕ) → IsPermutation xs ys → is_full xs n p ≡ is_full ys n p
+full_permutation xs ys n p same =
+    ap (λ (ends : ℕ → ℕ). list_any (λ j. leb j (ends j)) (range_with_len 1 n)) (fun_ext (λ j. ending_permutation xs ys n p j same))
 
 pub stretch_permutation : (xs ys : List ℕ) (n hash : ℕ) → IsPermutation xs ys → stretch xs n hash ≡ stretch ys n hash
 stretch_permutation xs ys n hash same =
-    ap (λ (f : ℕ → Bool). prefix_len f (round n (hash % n))) (fun_ext (λ p. full_permutation xs ys n p n same))
+    ap (λ (f : ℕ → Bool). prefix_len f (round n (hash % n))) (fun_ext (λ p. full_permutation xs ys n p same))

@@ -7,9 +7,11 @@ use Rattle.std.proofs.lemmas.Bool.{cases_lt}
 use Rattle.std.proofs.lemmas.List.{length-replicate, length-set, length-map, map-id}
 use Rattle.std.proofs.lemmas.List.Sums.{prefix_len_passes, prefix_len-le-length, count_by-le-length}
 use Rattle.std.proofs.lemmas.List.Sorted.{IsPermutation-refl, IsPermutation-cons, IsPermutation-trans, length_permutation}
-use Rattle.iddqd_store.specs.Table.Ring.{gap, stretch, round, is_full, pairs_in, cell, IsReached}
+use Rattle.iddqd_store.specs.Slots.{contents}
+use Rattle.iddqd_store.specs.Table.Ring.{gap, stretch, round, is_full, cell, IsReached}
 use Rattle.iddqd_store.specs.Table.{hashes}
-use Rattle.iddqd_store.proofs.TableLemmas.Write.{held_put, reached_put}
+use Rattle.iddqd_store.proofs.TableLemmas.Write.{reached_put}
+use Rattle.iddqd_store.proofs.SlotLemmas.Contents.{contents-put}
 use Rattle.iddqd_store.proofs.TableLemmas.Line.{cases_option}
 use Rattle.iddqd_store.proofs.TableLemmas.Limits.{held-empty, cell-empty}
 use Rattle.iddqd_store.proofs.TableLemmas.Stretch.{place, place_below, place_gap, gap_place, is_full_decides, length-round, get_or-round, stretch_permutation}
@@ -28,12 +30,12 @@ all_met cs a (suc s) la ls f =
     (cases_option (cell cs (place (length cs) a s)))
 
 -- in a row of cells in which each key is found from its home on
-within_row : {X : Type 0} (key : X → ℕ) (cs : List (Option X)) (hash : ℕ) → 0 < length cs → IsReached (λ x. key x % length cs) (length cs) cs → length (pairs_in cs) < length cs → stretch (map key (pairs_in cs)) (length cs) hash ≤ length (pairs_in cs)
+within_row : {X : Type 0} (key : X → ℕ) (cs : List (Option X)) (hash : ℕ) → 0 < length cs → IsReached (λ x. key x % length cs) (length cs) cs → length (contents cs) < length cs → stretch (map key (contents cs)) (length cs) hash ≤ length (contents cs)
 within_row {X} key cs hash pos reached few =
     let n : ℕ = length cs in
     let a : ℕ = hash % n in
     let la : a < n = omega arith in
-    let hs : List ℕ = map key (pairs_in cs) in
+    let hs : List ℕ = map key (contents cs) in
     let s : ℕ = stretch hs n hash in
     let lr : length (round n a) ≡ n = length-round n a la in
     let ls : s ≤ length (round n a) = prefix_len-le-length (is_full hs n) (round n a) in
@@ -43,8 +45,8 @@ within_row {X} key cs hash pos reached few =
     let q : is_full hs n (place n a k) ≡ true = ap (is_full hs n) (sym (get_or-round n a k la (omega arith))) ∙ p in
     (occupied_exactly_full key n cs refl pos reached e.0 e.1 e.2 (place n a k) (place_below n a k la (omega arith))).1 ((is_full_decides hs n (place n a k)).0 q) in
     let m : s ≤ met (λ _. true) cs a s = all_met cs a s la (omega arith) some in
-    let w : met (λ _. true) cs a s ≤ count_by (λ _. true) (pairs_in cs) = met_within (λ _. true) cs a s in
-    let c : count_by (λ _. true) (pairs_in cs) ≤ length (pairs_in cs) = count_by-le-length (λ _. true) (pairs_in cs) in
+    let w : met (λ _. true) cs a s ≤ count_by (λ _. true) (contents cs) = met_within (λ _. true) cs a s in
+    let c : count_by (λ _. true) (contents cs) ≤ length (contents cs) = count_by-le-length (λ _. true) (contents cs) in
     omega arith
 
 -- the first empty cell from a place on
@@ -77,7 +79,7 @@ pub record Laid (n : ℕ) (hashes : List ℕ) : Type 0 where
   pub row : List (Option ℕ)
   pub len : length row ≡ n
   pub reached : IsReached (λ h. h % n) n row
-  pub pairs : IsPermutation hashes (pairs_in row)
+  pub pairs : IsPermutation hashes (contents row)
 
 laid : (n : ℕ) (hashes : List ℕ) → length hashes < n → Laid n hashes
 laid n [] l = record {
@@ -89,14 +91,14 @@ laid n [] l = record {
 laid n (h ∷ hashes) l =
     let r : Laid n hashes = laid n hashes (omega arith) in
     let rl : length r.row ≡ n = r.len in
-    let c : length (pairs_in r.row) ≡ length hashes = length_permutation _ _ r.pairs in
+    let c : length (contents r.row) ≡ length hashes = length_permutation _ _ r.pairs in
     let f : FirstFrom r.row (h % n) = first_from r.row (h % n) (omega arith) (has_empty r.row (omega arith)) in
     let below : f.at < length r.row = f.below in
     record {
       row = set r.row f.at (Some h);
       len = length-set r.row f.at (Some h) ∙ rl;
       reached = reached_put (λ x. x % n) n r.row f.at h rl (λ x. omega arith) (omega arith) f.empty (subst (λ (m : ℕ). (q : ℕ) → q < m → gap m (h % n) q < gap m (h % n) f.at → cell r.row q ≢ None) rl f.first) r.reached;
-      pairs = IsPermutation-trans _ _ _ (IsPermutation-cons h hashes (pairs_in r.row) r.pairs) (held_put r.row f.at h below f.empty);
+      pairs = IsPermutation-trans _ _ _ (IsPermutation-cons h hashes (contents r.row) r.pairs) (contents-put r.row f.at h below f.empty);
     }
 
 no_places : (hashes xs : List ℕ) → prefix_len (is_full hashes 0) xs ≡ 0
@@ -109,11 +111,11 @@ stretch_le_length hashes n hash =
     ⊎_elim (λ (few : length hashes < n).
     let r : Laid n hashes = laid n hashes few in
     let rl : length r.row ≡ n = r.len in
-    let c : length (pairs_in r.row) ≡ length hashes = length_permutation _ _ r.pairs in
-    let w : stretch (map (λ h. h) (pairs_in r.row)) (length r.row) hash ≤ length (pairs_in r.row) =
+    let c : length (contents r.row) ≡ length hashes = length_permutation _ _ r.pairs in
+    let w : stretch (map (λ h. h) (contents r.row)) (length r.row) hash ≤ length (contents r.row) =
     within_row (λ h. h) r.row hash (omega arith) (subst (λ (m : ℕ). IsReached (λ h. h % m) m r.row) (sym rl) r.reached) (omega arith) in
-    let v : stretch (pairs_in r.row) n hash ≤ length (pairs_in r.row) = rw (map-id, rl) at w in
-    let p : stretch hashes n hash ≡ stretch (pairs_in r.row) n hash = stretch_permutation hashes (pairs_in r.row) n hash r.pairs in
+    let v : stretch (contents r.row) n hash ≤ length (contents r.row) = rw (map-id, rl) at w in
+    let p : stretch hashes n hash ≡ stretch (contents r.row) n hash = stretch_permutation hashes (contents r.row) n hash r.pairs in
     omega arith)
     (λ (many : n ≤ length hashes).
     ⊎_elim (λ (pos : 0 < n).

@@ -2,18 +2,18 @@
 use Rattle.std.specs.Prelude.{◌≡◌, ℕ, zero, suc, List, [], ◌∷◌, ◌++◌, take, drop, Option, Some, None}
 use Rattle.std.specs.Option.{option_map}
 use Rattle.iddqd_store.specs.Map.{Map}
-use Rattle.iddqd_store.specs.Slots.{items_in}
+use Rattle.iddqd_store.specs.Slots.{contents}
 
 module _ {T S : Type 0} where
   -- `passed` lists the items in the slots before this place.
   -- Example: For the slots `Some a`, `None`, `Some b` and the place 2 it is a.
   abbrev pub passed : Map T S → ℕ → List T
-  passed m place = items_in (take place m.slots)
+  passed m place = contents (take place m.slots)
 
   -- `to_come` lists the items in the slots from this place on.
   -- Example: For the slots `Some a`, `None`, `Some b` and the place 1 it is b.
   abbrev pub to_come : Map T S → ℕ → List T
-  to_come m place = items_in (drop place m.slots)
+  to_come m place = contents (drop place m.slots)
 
   -- The next item after the place `from` is `x`, and once written it is the last item before the place `to`. The items
   -- after it stay.

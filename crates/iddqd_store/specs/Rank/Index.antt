@@ -2,7 +2,7 @@
 use Rattle.std.specs.Prelude.{◌≡◌, ℕ, Bool, List, [], ◌∷◌, Option, Some, map, IsPermutation, false, ⊤}
 use Rattle.std.specs.Option.{option_map_or}
 use Rattle.iddqd_store.specs.Bag.{Ranks, IsSound}
-use Rattle.iddqd_store.specs.Slots.{members, live_items, get}
+use Rattle.iddqd_store.specs.Slots.{members, contents, get}
 
 module _ {T : Type 0} where
   -- `pair_of` is the pair of a live slot: the hash of its item, and its number.
@@ -43,5 +43,5 @@ module _ {T : Type 0} where
 -- Example: A map of the bag has three pairs in each of two tables.
 pub record IsIndexed {T : Type 0} (ranks : Ranks T) (hashes : List (T → ℕ))
     (slots : List (Option T)) (tables : List (List (ℕ × ℕ))) : Type 0 where
-  pub sound : IsSound ranks (live_items slots)
+  pub sound : IsSound ranks (contents slots)
   pub indexes : AreIndexes hashes slots tables

@@ -4,7 +4,7 @@ use Rattle.std.specs.Prelude.{None, filter_map, fold, if◌then◌else◌, nat_e
 use Rattle.std.specs.List.{Contains, IsDistinct, list_any, list_all}
 use Rattle.std.specs.Option.{option_and_then, option_to_list, IfSome}
 use Rattle.iddqd_store.specs.Bag.{Entry, IsOnly, entry_of}
-use Rattle.iddqd_store.specs.Slots.{get, IsLive, live_items}
+use Rattle.iddqd_store.specs.Slots.{get, IsLive, contents}
 
 module _ {T : Type 0} where
   -- The items of the bag that pass the test have equal keys by `agree`.
@@ -56,7 +56,7 @@ module _ {T : Type 0} where
   -- A search by the test found this slot, or none if no item passes the test.
   -- Example: For the test whether an item is b, it is `Some 2` in `Some a`, `None`, `Some b`.
   pub record FoundAt (test : T → Bool) (slots : List (Option T)) (slot : Option ℕ) : Type 0 where
-    pub only : IsOnly test (live_items slots) (option_and_then (get slots) slot)
+    pub only : IsOnly test (contents slots) (option_and_then (get slots) slot)
     pub live : IfSome slot (IsLive slots)
 
   -- For each rank, a search by the test found this slot, or none (`FoundAt`).

@@ -2,7 +2,7 @@
 ghost use Rattle.std.specs.Prelude.{◌≡◌, ◌+◌, ◌*◌, ◌/◌, ◌<◌, ◌≤◌, length, IfOk};
 ghost use Rattle.std.specs.List.Sorted.{IsPermutation};
 ghost use Rattle.std.specs.Option.{unwrap_or};
-ghost use Rattle.iddqd_store.specs.Table.Ring.{pairs_in};
+ghost use Rattle.iddqd_store.specs.Slots.{contents};
 ghost use Rattle.iddqd_store.specs.Table.Limit.{IsSize};
 ghost use Rattle.iddqd_store.specs.Table.Room.{GrowsFor, ProbesAtMost, growth_within};
 
@@ -26,9 +26,9 @@ fn regrown(
 ) -> Result<IndexTable, TryReserveError>
     requires size { IsSize count }
     requires some { 0 < count }
-    requires fits { length (pairs_in cells.now) ≤ count / 8 * 7 }
-    requires counted { pairs ≡ length (pairs_in cells.now) }
-    ensures pairs { IfOk result (λ t. IsPermutation (pairs_in cells.now) t.pairs) }
+    requires fits { length (contents cells.now) ≤ count / 8 * 7 }
+    requires counted { pairs ≡ length (contents cells.now) }
+    ensures pairs { IfOk result (λ t. IsPermutation (contents cells.now) t.pairs) }
     ensures cells { IfOk result (λ t. length t.row ≡ count) }
     ensures limit { IfOk result (λ t. t.limit ≡ count / 8 * 7) }
     ensures probes { ProbesAtMost (λ _. 2 * length cells.now + count + pairs * pairs) result meter.old meter.new }

@@ -1,7 +1,8 @@
 //! Probing: the way from the home of a hash on, from cell to cell, and from the last cell to cell 0.
 ghost use Rattle.std.specs.Prelude.{◌≡◌, ◌≢◌, ℕ, ◌+◌, ◌-◌, ◌*◌, ◌/◌, ◌%◌, ◌^◌, ◌∷◌, ◌<◌, if◌then◌else◌, nat_lt, None, Some, length, IfSome, IsNone, ◌↔◌, Contains};
 ghost use Rattle.std.specs.List.Sorted.{IsPermutation};
-ghost use Rattle.iddqd_store.specs.Table.Ring.{cell, gap, pairs_in, stretch};
+ghost use Rattle.iddqd_store.specs.Slots.{contents};
+ghost use Rattle.iddqd_store.specs.Table.Ring.{cell, gap, stretch};
 ghost use Rattle.iddqd_store.specs.Table.Limit.{IsLeast, IsSize, most_room};
 ghost use Rattle.iddqd_store.specs.Table.{hashes, IsTable, IsFirstEmpty, IsWayTo};
 
@@ -67,7 +68,7 @@ pub(super) fn first_empty(cells: &Cells, hash: u64, meter: &mut Meter) -> usize
     ensures first { IsFirstEmpty cells.now (hash % length cells.now) result }
     ensures small { length cells.now < 2 ^ 64 }
     ensures probes { meter.new
-        ≡ meter.old + stretch (hashes (pairs_in cells.now)) (length cells.now) hash + 1 }
+        ≡ meter.old + stretch (hashes (contents cells.now)) (length cells.now) hash + 1 }
 {
     first_empty_from(cells, home_of(hash, cells.len()), meter)
 }
@@ -85,7 +86,7 @@ pub(super) fn steps(from: usize, to: usize, count: usize) -> usize
 // Returns the cell of a pair that the table has.
 pub(super) fn seek(cells: &Cells, hash: u64, index: ItemIndex, meter: &mut Meter) -> usize
     requires table { IsTable cells.now }
-    requires there { Contains (pairs_in cells.now) (hash, index) }
+    requires there { Contains (contents cells.now) (hash, index) }
     ensures pair { cell cells.now result ≡ Some (hash, index) }
     ensures way { IsWayTo cells.now (hash % length cells.now) result }
     ensures probes { meter.new ≡ meter.old + gap (length cells.now) (hash % length cells.now) result + 1 }
@@ -114,9 +115,9 @@ pub(super) fn close_up(cells: &mut Cells, hash: u64, emptied: usize, meter: &mut
     ensures table { IsTable cells.new }
     ensures len { length cells.new ≡ length cells.old }
     ensures taken { (pair : ℕ × ℕ) → cell cells.old emptied ≡ Some pair
-        → IsPermutation (pairs_in cells.old) (pair ∷ pairs_in cells.new) }
+        → IsPermutation (contents cells.old) (pair ∷ contents cells.new) }
     ensures probes { meter.new + gap (length cells.old) (hash % length cells.old) emptied
-        ≡ meter.old + stretch (hashes (pairs_in cells.old)) (length cells.old) hash }
+        ≡ meter.old + stretch (hashes (contents cells.old)) (length cells.old) hash }
 {
     let count = cells.len();
     let mut hole = emptied;

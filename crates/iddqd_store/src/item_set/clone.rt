@@ -1,7 +1,7 @@
 //! Clones of a set.
 ghost use Rattle.std.specs.Prelude.{IfOk};
 ghost use Rattle.std.specs.List.{AllZip};
-ghost use Rattle.iddqd_store.specs.Slots.{live_items, IsSlotClone};
+ghost use Rattle.iddqd_store.specs.Slots.{contents, IsSlotClone};
 
 use super::{ItemSet, Slot};
 use crate::TryReserveError;
@@ -25,7 +25,7 @@ impl<T: Clone> ItemSet<T> {
     /// It fails if that memory cannot be allocated, or if an item cannot be cloned.
     pub fn clone(&self) -> Result<Self, TryReserveError>
         ensures slots { IfOk result (λ copy. AllZip (IsSlotClone T.is_clone) self.now.slots copy.slots) }
-        ensures items { IfOk result (λ copy. AllZip T.is_clone (live_items self.now.slots) (live_items copy.slots)) }
+        ensures items { IfOk result (λ copy. AllZip T.is_clone (contents self.now.slots) (contents copy.slots)) }
     {
         Ok(ItemSet {
             slots: self.slots.clone()?,

@@ -1,7 +1,7 @@
 //! Sets without free slots: `compact` and `shrink_to`.
 ghost use Rattle.std.specs.Prelude.{◌≡◌, ◌<◌, ◌≤◌, [], length, map, Some, OnOk, OnErr, vec_capacity};
 ghost use Rattle.iddqd_store.specs.Map.{shrunk_to};
-ghost use Rattle.iddqd_store.specs.Slots.{live_items, live_count};
+ghost use Rattle.iddqd_store.specs.Slots.{contents, live_count};
 ghost use Rattle.iddqd_store.specs.Slots.Chain.{live_slots};
 
 use super::{ItemSet, Slot};
@@ -28,7 +28,7 @@ impl<T: Drop> ItemSet<T> {
     /// Moves the items to the first slots, in their order, so that no slot is free. The capacity stays, and nothing
     /// is allocated.
     pub fn compact(&mut self)
-        ensures slots { self.new.slots ≡ map Some (live_items self.old.slots) }
+        ensures slots { self.new.slots ≡ map Some (contents self.old.slots) }
         ensures capacity { self.new.capacity ≡ self.old.capacity }
     {
         self.slots.retain(|slot| slot.is_live());
@@ -41,7 +41,7 @@ impl<T: Drop> ItemSet<T> {
     /// It allocates memory of the new size, unless the new capacity is 0 or the old one. If the allocation fails, the
     /// set is unchanged.
     pub fn shrink_to(&mut self, least: usize) -> Result<(), TryReserveError>
-        ensures slots { OnOk result (self.new.slots ≡ map Some (live_items self.old.slots)) }
+        ensures slots { OnOk result (self.new.slots ≡ map Some (contents self.old.slots)) }
         ensures capacity { OnOk result (self.new.capacity
             ≡ shrunk_to (live_count self.old.slots) least self.old.capacity) }
         ensures unchanged { OnErr result (self.new ≡ self.old) }

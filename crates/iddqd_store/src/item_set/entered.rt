@@ -1,7 +1,7 @@
 //! A record of the items that a batch has inserted, so that they can be removed again.
 ghost use Rattle.std.specs.Prelude.{◌≡◌, ◌+◌, ◌<◌, ◌≤◌, ◌++◌, [], ◌∷◌, length, vec_capacity, OnOk, All, IsPermutation, nat_eq};
 ghost use Rattle.std.specs.List.{IsDistinct};
-ghost use Rattle.iddqd_store.specs.Slots.{IsLive, live_items};
+ghost use Rattle.iddqd_store.specs.Slots.{IsLive, contents};
 ghost use Rattle.iddqd_store.specs.Slots.Found.{items_at};
 
 use super::{ItemIndex, ItemSet};
@@ -109,7 +109,7 @@ impl<T> ItemSet<T> {
         requires live { All (IsLive self.old.slots) entered.slots }
         requires apart { IsDistinct nat_eq entered.slots }
         ensures values { result.items ≡ items_at self.old.slots entered.slots }
-        ensures left { IsPermutation (live_items self.old.slots) (result.items ++ live_items self.new.slots) }
+        ensures left { IsPermutation (contents self.old.slots) (result.items ++ contents self.new.slots) }
         ensures capacity { self.new.capacity ≡ self.old.capacity }
     {
         let (slots, mut items) = entered.into_parts();

@@ -2,7 +2,7 @@
 ghost use Rattle.std.specs.Prelude.{◌≡◌, [], ◌<◌, ◌^◌, length, Some, IfSome};
 ghost use Rattle.std.specs.Iterator.{YieldsFirst, YieldsFirstRef, UpTo, item_count};
 ghost use Rattle.std.specs.Iterator.SizeHint.{IsWithinCount};
-ghost use Rattle.iddqd_store.specs.Slots.{live_items, live_count};
+ghost use Rattle.iddqd_store.specs.Slots.{contents, live_count};
 
 use super::{ItemSet, Slot};
 use std::fmt::{self, Debug, Formatter, Write};
@@ -21,14 +21,14 @@ pub struct Iter<'a, T> {
 
 impl<'a, T> Model for Iter<'a, T> {
     ghost use Rattle.std.specs.Prelude.{List, map, ◌≡◌, length};
-    ghost use Rattle.iddqd_store.specs.Slots.{items_in};
+    ghost use Rattle.iddqd_store.specs.Slots.{contents};
     ghost use Rattle.iddqd_store.specs.Slots.Chain.{item_of};
 
     ghost Value = { List T };
 
-    ghost view = { λ it. items_in (map item_of it.slots.now) };
+    ghost view = { λ it. contents (map item_of it.slots.now) };
 
-    ghost invariant = { λ it. it.len ≡ length (items_in (map item_of it.slots.now)) };
+    ghost invariant = { λ it. it.len ≡ length (contents (map item_of it.slots.now)) };
 }
 
 impl<'a, T> Iter<'a, T> {
@@ -112,14 +112,14 @@ pub struct IntoIter<T> {
 impl<T> Model for IntoIter<T> {
     ghost use Rattle.std.specs.Prelude.{List, map, ◌≡◌, length};
     ghost use Rattle.std.specs.Vec.Iter.{into_iter_items};
-    ghost use Rattle.iddqd_store.specs.Slots.{items_in};
+    ghost use Rattle.iddqd_store.specs.Slots.{contents};
     ghost use Rattle.iddqd_store.specs.Slots.Chain.{item_of};
 
     ghost Value = { List T };
 
-    ghost view = { λ it. items_in (map item_of (into_iter_items it.slots)) };
+    ghost view = { λ it. contents (map item_of (into_iter_items it.slots)) };
 
-    ghost invariant = { λ it. it.len ≡ length (items_in (map item_of (into_iter_items it.slots))) };
+    ghost invariant = { λ it. it.len ≡ length (contents (map item_of (into_iter_items it.slots))) };
 }
 
 impl<T: Drop> Iterator for IntoIter<T> {
@@ -175,7 +175,7 @@ impl<T> Debug for IntoIter<T> {
 impl<T> ItemSet<T> {
     /// Returns an iterator over references to the items, in the order of the slots. It allocates nothing.
     pub fn values(&self) -> Iter<'_, T>
-        ensures gives { result ≡ live_items self.now.slots }
+        ensures gives { result ≡ contents self.now.slots }
         ensures len { length result ≡ live_count self.now.slots }
         ensures countable { live_count self.now.slots < 2 ^ 64 }
     {
@@ -190,7 +190,7 @@ impl<T> ItemSet<T> {
     pub fn into_values(self) -> IntoIter<T>
     where
         T: Drop,
-        ensures gives { result ≡ live_items self.slots }
+        ensures gives { result ≡ contents self.slots }
         ensures len { length result ≡ live_count self.slots }
         ensures countable { live_count self.slots < 2 ^ 64 }
     {

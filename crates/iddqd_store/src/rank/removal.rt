@@ -4,7 +4,7 @@ ghost use Rattle.std.specs.List.Sorted.{IsPermutation};
 ghost use Rattle.iddqd_store.specs.Rank.Index.{LosesPairAt, passes_at};
 ghost use Rattle.iddqd_store.specs.Rank.{agree, IsSearchable, NamesOneUnder, SearchCosts};
 ghost use Rattle.iddqd_store.specs.Slots.Found.{FoundAt};
-ghost use Rattle.iddqd_store.specs.Slots.{get, live_items};
+ghost use Rattle.iddqd_store.specs.Slots.{contents, get};
 ghost use Rattle.iddqd_store.specs.Table.Room.{IsSized};
 ghost use Rattle.iddqd_store.specs.Table.Search.{FindsUnder, RemovalCosts};
 
@@ -32,8 +32,8 @@ impl IndexTable {
         requires searchable { IsSearchable (agree R.key R.Key.eq) (⟦<R as HashedKey<T, S>>⟧.hash hash_builder.now)
             items.now.slots self.old.pairs }
         requires names { NamesOneUnder (agree R.key R.Key.eq) (⟦<R as HashedKey<T, S>>⟧.hash hash_builder.now) hash
-            (λ x. M.accepts matcher.old (R.key x)) (live_items items.now.slots) }
-        requires asks { (x : T) → Contains (live_items items.now.slots) x → ⟦<R as HashedKey<T, S>>⟧.hash hash_builder.now x ≡ hash
+            (λ x. M.accepts matcher.old (R.key x)) (contents items.now.slots) }
+        requires asks { (x : T) → Contains (contents items.now.slots) x → ⟦<R as HashedKey<T, S>>⟧.hash hash_builder.now x ≡ hash
             → M.MayAsk matcher.old (R.key x) }
         ensures found { FoundAt (λ x. M.accepts matcher.old (R.key x)) items.now.slots result }
         ensures taken { IfSome result (LosesPairAt (⟦<R as HashedKey<T, S>>⟧.hash hash_builder.now)
@@ -41,7 +41,7 @@ impl IndexTable {
         ensures absent { IfNone result (self.new ≡ self.old) }
         ensures limit { self.new.limit ≡ self.old.limit }
         ensures is_kept { M.IsKept matcher.old matcher.new }
-        ensures costs { SearchCosts {A = ℕ} (⟦<R as HashedKey<T, S>>⟧.hash hash_builder.now) (live_items items.now.slots)
+        ensures costs { SearchCosts {A = ℕ} (⟦<R as HashedKey<T, S>>⟧.hash hash_builder.now) (contents items.now.slots)
             self.old.limit hash None (M.asked matcher.old) (M.asked matcher.new) meter.old meter.new }
     {
         self.remove_by::<T, R, M>(items, hash, matcher, meter)

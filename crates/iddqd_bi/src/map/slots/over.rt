@@ -3,7 +3,7 @@ ghost use Rattle.std.specs.Prelude.{◌≡◌, ◌≢◌, ◌+◌, ◌≤◌, []
 ghost use Rattle.iddqd_store.specs.Bag.{clash, order, over};
 ghost use Rattle.iddqd_store.specs.Map.{bag, ListsConflicts, PutsAt};
 ghost use Rattle.iddqd_store.specs.Rank.{walks_one, walks_within, walks_two};
-ghost use Rattle.iddqd_store.specs.Slots.{get, live_items, IsLive};
+ghost use Rattle.iddqd_store.specs.Slots.{get, contents, IsLive};
 ghost use Rattle.iddqd_store.specs.Slots.Found.{each_once};
 ghost use Rattle.iddqd_bi.specs.Keys.{AreUnder, HaveHashes, ranks};
 
@@ -63,10 +63,10 @@ impl<T: BiHashItem, S: BuildHasher> BiHashMap<T, S> {
         requires { IsLive self.old.slots slot }
         ensures value { IfOk result (λ x. get self.old.slots slot ≡ Some x) }
         ensures puts_at { OnOk result (PutsAt ⟦<T as Ranked>⟧.ranks self.old slot item
-            (item ∷ live_items (slice_set self.old.slots slot None)) self.new) }
+            (item ∷ contents (slice_set self.old.slots slot None)) self.new) }
         ensures handed_back { IfErr result (λ x. x ≡ item) }
         ensures reason { OnErr result
-            (clash ⟦<T as Ranked>⟧.ranks (live_items (slice_set self.old.slots slot None)) item ≢ []) }
+            (clash ⟦<T as Ranked>⟧.ranks (contents (slice_set self.old.slots slot None)) item ≢ []) }
         ensures unchanged { OnErr result (self.new ≡ self.old) }
         ensures costs { meter.new ≤ meter.old + walks_within (length (bag self.old)) (map (λ _. 2) ⟦<T as Ranked>⟧.ranks) }
     {
@@ -103,7 +103,7 @@ impl<T: BiHashItem, S: BuildHasher> BiHashMap<T, S> {
         meter: &mut Meter,
     ) -> T
         requires live { IsLive self.old.slots slot }
-        requires free { clash ⟦<T as Ranked>⟧.ranks (live_items (slice_set self.old.slots slot None)) item ≡ [] }
+        requires free { clash ⟦<T as Ranked>⟧.ranks (contents (slice_set self.old.slots slot None)) item ≡ [] }
         requires hashes { HaveHashes
             (⟦<T as Hashed<S>>⟧.hash1 self.old.builder item) (⟦<T as Hashed<S>>⟧.hash2 self.old.builder item) by.now }
         requires under { AreUnder
@@ -111,7 +111,7 @@ impl<T: BiHashItem, S: BuildHasher> BiHashMap<T, S> {
             self.old.slots by.now }
         ensures value { get self.old.slots slot ≡ Some result }
         ensures puts_at { PutsAt ⟦<T as Ranked>⟧.ranks self.old slot item
-            (item ∷ live_items (slice_set self.old.slots slot None)) self.new }
+            (item ∷ contents (slice_set self.old.slots slot None)) self.new }
         ensures costs { meter.new ≤ meter.old + walks_within (length (bag self.old))
             (walks_one (⟦<T as Hashed<S>>⟧.hash1 self.old.builder) by.now.0 result
             ∷ walks_one (⟦<T as Hashed<S>>⟧.hash2 self.old.builder) by.now.1 result ∷ []) }
@@ -140,7 +140,7 @@ impl<T: BiHashItem, S: BuildHasher> BiHashMap<T, S> {
         requires live { IsLive self.old.slots slot × IsLive self.old.slots other_slot }
         requires apart { slot ≢ other_slot }
         requires free { clash ⟦<T as Ranked>⟧.ranks
-            (live_items (slice_set (slice_set self.old.slots other_slot None) slot None)) item ≡ [] }
+            (contents (slice_set (slice_set self.old.slots other_slot None) slot None)) item ≡ [] }
         requires hashes { HaveHashes
             (⟦<T as Hashed<S>>⟧.hash1 self.old.builder item) (⟦<T as Hashed<S>>⟧.hash2 self.old.builder item) by.now }
         requires under { AreUnder
@@ -148,7 +148,7 @@ impl<T: BiHashItem, S: BuildHasher> BiHashMap<T, S> {
             self.old.slots by.now }
         ensures values { (get self.old.slots slot ≡ Some result.0) × (get self.old.slots other_slot ≡ Some result.1) }
         ensures puts_at { PutsAt ⟦<T as Ranked>⟧.ranks self.old slot item
-            (item ∷ live_items (slice_set (slice_set self.old.slots other_slot None) slot None)) self.new }
+            (item ∷ contents (slice_set (slice_set self.old.slots other_slot None) slot None)) self.new }
         ensures costs { meter.new ≤ meter.old + walks_within (length (bag self.old))
             (walks_two (⟦<T as Hashed<S>>⟧.hash1 self.old.builder) by.now.0 other_slot result.0
             ∷ walks_two (⟦<T as Hashed<S>>⟧.hash2 self.old.builder) by.now.1 other_slot result.0 ∷ []) }

@@ -2,7 +2,7 @@ use Rattle.std.proofs.Common.{◌≡◌, ◌++◌, ◌∙◌, List, arith, rules
 use Rattle.std.specs.Prelude.{◌<◌, length, IsPermutation}
 use Rattle.iddqd_store.specs.Bag.{Ranks, AreLawful, IsSound, clash}
 use Rattle.iddqd_store.specs.Bag.Building.{IsReason}
-use Rattle.iddqd_store.specs.Slots.{live_items}
+use Rattle.iddqd_store.specs.Slots.{contents}
 use Rattle.std.proofs.iter.Next.{on}
 use Rattle.std.proofs.lemmas.List.Sorted.{length_permutation}
 use Rattle.iddqd_store.specs.Map.{bag}
@@ -73,7 +73,7 @@ module _ (g : given.Over) (c : goal.After-drop-item-iterator g) where
   all = c.take_entered-taken.ensures.values ∙ rw (c.in-Err.ensures.slots, c.in-Err.ensures.same_notes) c.loop-item.invariant.noted.items
 
   out : IsPermutation held (taken ++ new)
-  out = subst (λ l. IsPermutation (live_items l) (taken ++ new)) c.in-Err.ensures.slots c.take_entered-taken.ensures.loses.items
+  out = subst (λ l. IsPermutation (contents l) (taken ++ new)) c.in-Err.ensures.slots c.take_entered-taken.ensures.loses.items
 
 pub returns-in-Err-clause-same_items : goal.returns-in-Err-clause-same_items
 returns-in-Err-clause-same_items g c = left_same (by g) (some g) (laws g) (old g c) (held g c) (new g c) _ (taken g c) (sound g c) c.loop-item.invariant.added (all g c) (out g c)

@@ -1,6 +1,6 @@
 use Rattle.std.proofs.Common.{◌∙◌, sym}
-use Rattle.iddqd_store.proofs.RankLemmas.Index.{length-live_items}
+use Rattle.iddqd_store.proofs.SlotLemmas.Contents.{length-contents}
 use Rattle.iddqd_bi.proofs.map.BiHashMap.len.Goals as goal
 
 pub returns-clause-value : goal.returns-clause-value
-returns-clause-value g c = rw (← c.self.view_is) (c.len.ensures.value ∙ sym (length-live_items c.self.inside.items.slots))
+returns-clause-value g c = rw (← c.self.view_is) (c.len.ensures.value ∙ sym (length-contents c.self.inside.items.slots))

@@ -3,10 +3,9 @@ use Rattle.std.proofs.lemmas.List.Sorted.{IsPermutation-refl}
 use Rattle.std.proofs.lemmas.Fn.{called_at}
 use Rattle.std.specs.Fn.{CalledAt}
 use Rattle.iddqd_store.specs.Map.{bag}
-use Rattle.iddqd_store.specs.Slots.{items_in}
+use Rattle.iddqd_store.specs.Slots.{contents}
 use Rattle.iddqd_store.proofs.BagLemmas.Calling.{TakesEach, TakesEach-in_turn, takes_others}
 use Rattle.iddqd_store.proofs.BagLemmas.Theory.{length-keeps}
-use Rattle.iddqd_store.proofs.SlotLemmas.Chain.{live_items-items_in}
 use Rattle.iddqd_store.proofs.SlotLemmas.Next.{past_kept, past_taken, none_behind, same_behind}
 use Rattle.iddqd_bi.proofs.map.BiHashMap.retain.Goals as goal
 
@@ -35,7 +34,7 @@ loop-slot-init g c =
     let slots = c.args.self.now.slots in
     record {
       completes = λ rest h. h;
-      callable = TakesEach-in_turn g.F.FnMut c.args.f (items_in slots) (c.requires (items_in slots) (rw (live_items-items_in slots) (IsPermutation-refl (items_in slots))));
+      callable = TakesEach-in_turn g.F.FnMut c.args.f (contents slots) (c.requires (contents slots) (IsPermutation-refl (contents slots)));
       capacity = refl;
       builder = refl;
     }

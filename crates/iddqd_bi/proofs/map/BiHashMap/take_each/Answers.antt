@@ -1,6 +1,5 @@
 use Rattle.std.proofs.Common.{◌++◌, sym, ap, ◌∙◌, drop}
-use Rattle.iddqd_store.specs.Slots.{items_in}
-use Rattle.iddqd_store.proofs.SlotLemmas.Chain.{live_items-items_in}
+use Rattle.iddqd_store.specs.Slots.{contents}
 use Rattle.iddqd_store.proofs.SlotLemmas.Next.{before_and_behind, emptied_before}
 use Rattle.iddqd_bi.proofs.map.BiHashMap.take_each.Goals as goal
 
@@ -16,7 +15,6 @@ loop-slot-preserved g c =
 pub returns-clause-empty : goal.returns-clause-empty
 returns-clause-empty g c =
     let at = c.loop-slot in
-    live_items-items_in at.self.slots
-    ∙ sym (before_and_behind at.self.slots at.from)
-    ∙ ap (λ l. l ++ items_in (drop at.from at.self.slots)) at.invariant.empty
+    sym (before_and_behind at.self.slots at.from)
+    ∙ ap (λ l. l ++ contents (drop at.from at.self.slots)) at.invariant.empty
     ∙ c.in_default.ensures.none

@@ -1,18 +1,18 @@
 use Rattle.std.proofs.Common.{◌≡◌, drop, length}
 use Rattle.std.specs.Fn.{CalledAt}
 use Rattle.iddqd_store.specs.Map.Walk.{to_come}
-use Rattle.iddqd_store.specs.Slots.{items_in}
+use Rattle.iddqd_store.specs.Slots.{contents}
 use Rattle.iddqd_store.proofs.BagLemmas.Calling.{TakesEach}
 use Rattle.iddqd_store.proofs.MapLemmas.Updating.{Completes}
 use Rattle.iddqd_bi.proofs.map.BiHashMap.update_all.Given as goal
 
 abbrev pub invariant-loop-slot : goal.invariant-loop-slot
 invariant-loop-slot g l = record {
-  completes : Completes (CalledAt g.F.FnMut) g.T.BiHashItemMut.put l.fn.f (items_in l.fn.self.slots) l.f l.self l.from;
+  completes : Completes (CalledAt g.F.FnMut) g.T.BiHashItemMut.put l.fn.f (contents l.fn.self.slots) l.f l.self l.from;
   callable : TakesEach g.F.FnMut l.f (to_come l.self l.from);
   capacity : l.self.capacity ≡ l.fn.self.capacity;
   builder : l.self.builder ≡ l.fn.self.builder;
 }
 
 abbrev pub decreases-loop-slot : goal.decreases-loop-slot
-decreases-loop-slot g l = length (items_in (drop l.from l.self.slots))
+decreases-loop-slot g l = length (contents (drop l.from l.self.slots))

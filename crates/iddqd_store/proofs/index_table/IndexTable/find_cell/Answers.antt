@@ -2,7 +2,8 @@ use Rattle.std.proofs.Common.{subst, arith, ℕ, ◌≡◌, ◌+◌, ◌-◌, �
 use Rattle.std.specs.Prelude.{◌≢◌, nat_lt, if◌then◌else◌}
 use Rattle.std.specs.List.{Contains, count_by}
 use Rattle.iddqd_store.specs.Table.{Table}
-use Rattle.iddqd_store.specs.Table.Ring.{cell, pairs_in, stretch}
+use Rattle.iddqd_store.specs.Slots.{contents}
+use Rattle.iddqd_store.specs.Table.Ring.{cell, stretch}
 use Rattle.iddqd_store.specs.Table.Search.{CostsUnder, IsVacantUnder}
 use Rattle.iddqd_store.specs.Table.{hashes, table_of, under}
 use Rattle.iddqd_store.proofs.TableLemmas.Stretch.{place}
@@ -84,9 +85,9 @@ returns-then-matches-clause-costs g c =
     let there : cell row c.loop-pair.at ≢ None = λ e. cc (e, at_x) in
     let placed : cell row (place (length row) home s) ≡ Some x = sym (ap (cell row) w.at_is) ∙ at_x in
     let q : met (under hash) row home (s + 1) ≡ met (under hash) row home s + 1 = met_under hash row home s x lh within placed c.if-stored-hash.true (s + 1) refl in
-    let m : met (under hash) row home (s + 1) ≤ count_by (under hash) (pairs_in row) = met_within (under hash) row home (s + 1) in
+    let m : met (under hash) row home (s + 1) ≤ count_by (under hash) (contents row) = met_within (under hash) row home (s + 1) in
     let a : asked c.matches.new.self ≤ asked c.loop-pair.matcher + 1 = c.matches.ensures.asked in
-    let l : t ≤ stretch (hashes (pairs_in row)) (length row) hash = walk_found row hash c.loop-pair.at s t c.self.invariant.0 w there (omega (arith, i.probed, probe)) in
+    let l : t ≤ stretch (hashes (contents row)) (length row) hash = walk_found row hash c.loop-pair.at s t c.self.invariant.0 w there (omega (arith, i.probed, probe)) in
     let all : CostsUnder (table_of row) hash (Some (x.1, c.loop-pair.at)) (asked c.args.matcher.now) (asked c.matches.new.self) c.args.meter.now c.cell_at.new.meter = record {
       asked = omega (arith, i.count, q, m, a);
       probes = record {
@@ -95,7 +96,7 @@ returns-then-matches-clause-costs g c =
         hit_least = omega (arith, i.probed, probe);
         hit_most = omega (arith, i.probed, probe, l);
       };
-      within = stretch_le_pairs (pairs_in row) (length row) hash;
+      within = stretch_le_pairs (contents row) (length row) hash;
     } in
     subst (λ (r : Table). CostsUnder r hash (Some (x.1, c.loop-pair.at)) (asked c.args.matcher.now) (asked c.matches.new.self) c.args.meter.now c.cell_at.new.meter) c.self.view_is all
 
@@ -136,7 +137,7 @@ returns-clause-costs g c =
     let none : cell row c.loop-pair.at ≡ None = sym c.cell_at.ensures.value ∙ c.in_default.is in
     let asked = g.M.Matcher.asked in
     let m = met_within (under hash) row (hash % length row) s in
-    let e : stretch (hashes (pairs_in row)) (length row) hash ≡ s = walk_end row hash c.loop-pair.at s c.self.invariant.0 i.walk none in
+    let e : stretch (hashes (contents row)) (length row) hash ≡ s = walk_end row hash c.loop-pair.at s c.self.invariant.0 i.walk none in
     let within : s < length row = i.walk.within in
     let all : CostsUnder {A = ℕ × ℕ} (table_of row) hash None (asked c.args.matcher.now) (asked c.loop-pair.matcher) c.args.meter.now c.cell_at.new.meter = record {
       asked = omega (arith, i.count, m);
@@ -146,7 +147,7 @@ returns-clause-costs g c =
         hit_least = tt;
         hit_most = tt;
       };
-      within = stretch_le_pairs (pairs_in row) (length row) hash;
+      within = stretch_le_pairs (contents row) (length row) hash;
     } in
     subst (λ (r : Table). CostsUnder {A = ℕ × ℕ} r hash None (asked c.args.matcher.now) (asked c.loop-pair.matcher) c.args.meter.now c.cell_at.new.meter) c.self.view_is all
 

@@ -1,14 +1,15 @@
 use Rattle.std.proofs.Common.{arith, ℕ, List, Option, Some, length, ◌≡◌, ◌+◌, ◌∷◌}
 use Rattle.std.proofs.lemmas.List.Sorted.{length_permutation}
 use Rattle.std.specs.List.Sorted.{IsPermutation}
-use Rattle.iddqd_store.specs.Table.Ring.{cell, pairs_in}
+use Rattle.iddqd_store.specs.Slots.{contents}
+use Rattle.iddqd_store.specs.Table.Ring.{cell}
 use Rattle.iddqd_store.specs.Table.{IsCellOf}
 use Rattle.iddqd_store.proofs.index_table.IndexTable.remove_cell.Goals as goal
 
 -- one pair less
-one_less : (row after : List (Option (ℕ × ℕ))) (x : ℕ × ℕ) (at : ℕ) → IsCellOf row x at → ((pair : ℕ × ℕ) → cell row at ≡ Some pair → IsPermutation (pairs_in row) (pair ∷ pairs_in after)) → length (pairs_in row) ≡ length (pairs_in after) + 1
+one_less : (row after : List (Option (ℕ × ℕ))) (x : ℕ × ℕ) (at : ℕ) → IsCellOf row x at → ((pair : ℕ × ℕ) → cell row at ≡ Some pair → IsPermutation (contents row) (pair ∷ contents after)) → length (contents row) ≡ length (contents after) + 1
 one_less row after x at there taken =
-    let same : length (x ∷ pairs_in after) ≡ length (pairs_in row) = length_permutation _ _ (taken x there.stands) in
+    let same : length (x ∷ contents after) ≡ length (contents row) = length_permutation _ _ (taken x there.stands) in
     omega arith
 
 pub overflow_sub-self : goal.overflow_sub-self

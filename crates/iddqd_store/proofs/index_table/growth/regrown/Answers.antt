@@ -3,7 +3,8 @@ use Rattle.std.specs.Prelude.{is_some}
 use Rattle.std.proofs.lemmas.List.Sorted.{length_permutation}
 use Rattle.std.proofs.lemmas.List.{length-set, length-replicate, set-get_or}
 use Rattle.iddqd_store.specs.Table.{IsFirstEmpty}
-use Rattle.iddqd_store.specs.Table.Ring.{cell, gap, pairs_in}
+use Rattle.iddqd_store.specs.Slots.{contents}
+use Rattle.iddqd_store.specs.Table.Ring.{cell, gap}
 use Rattle.iddqd_store.proofs.TableLemmas.Grow.{HasFront, front_none, front_full, front_empty, front_all}
 use Rattle.iddqd_store.proofs.TableLemmas.Limits.{held-empty}
 use Rattle.iddqd_store.proofs.TableLemmas.Regrow.{front_fits, gap_none, home_walk, probed_empty, probed_pair, pairs_put, spot_on, times_less, way_none, way_on, way_put}
@@ -14,7 +15,7 @@ use Rattle.iddqd_store.proofs.index_table.growth.regrown.Goals.{in-Some, in-None
 pub loop-i-init : goal.loop-i-init
 loop-i-init c =
     let none = gap_none (length (replicate {A = Option (ℕ × ℕ)} c.args.count None)) (c.args.count - 1) in
-    let pairs : pairs_in (replicate {A = Option (ℕ × ℕ)} c.args.count None) ≡ [] = held-empty c.args.count in
+    let pairs : contents (replicate {A = Option (ℕ × ℕ)} c.args.count None) ≡ [] = held-empty c.args.count in
     rw c.in_ok-grown.ensures (record {
       front = front_none c.args.cells.now c.args.count c.requires.size;
       size = length-replicate c.args.count None;
@@ -90,6 +91,6 @@ returns-clause-probes c =
     let some = c.requires.some in
     let all = front_all c.args.cells.now row c.loop-i.i (omega (arith, c.loop-i-test.false, c.len-i-end.ensures)) i.front in
     let count = length_permutation _ _ all in
-    let fewer = times_less (length (pairs_in row)) c.args.pairs (let counted = c.requires.counted in omega (arith, counted, count)) in
+    let fewer = times_less (length (contents row)) c.args.pairs (let counted = c.requires.counted in omega (arith, counted, count)) in
     let near : gap (length row) (c.args.count - 1) c.loop-i.spot < length row = gap_below (length row) (c.args.count - 1) c.loop-i.spot (omega arith) i.way.below in
     record { done = omega (arith, c.loop-i-test.false, c.len-i-end.ensures); refused = tt }

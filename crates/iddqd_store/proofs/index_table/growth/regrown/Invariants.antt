@@ -1,6 +1,7 @@
 use Rattle.std.proofs.Common.{◌≡◌, ◌+◌, ◌-◌, ◌*◌, ◌<◌, ◌≤◌, length}
 use Rattle.iddqd_store.specs.Table.{IsWayTo}
-use Rattle.iddqd_store.specs.Table.Ring.{gap, pairs_in}
+use Rattle.iddqd_store.specs.Slots.{contents}
+use Rattle.iddqd_store.specs.Table.Ring.{gap}
 use Rattle.iddqd_store.proofs.TableLemmas.Grow.{HasFront}
 use Rattle.iddqd_store.proofs.index_table.growth.regrown.Given as goal
 
@@ -10,5 +11,5 @@ invariant-loop-i l = record {
   size : length l.grown ≡ l.count;
   spot : l.spot < l.count;
   way : IsWayTo l.grown (l.count - 1) l.spot;
-  probed : l.meter ≤ l.initial.meter + 2 * l.i + gap (length l.grown) (l.count - 1) l.spot + length (pairs_in l.grown) * l.pairs;
+  probed : l.meter ≤ l.initial.meter + 2 * l.i + gap (length l.grown) (l.count - 1) l.spot + length (contents l.grown) * l.pairs;
 }

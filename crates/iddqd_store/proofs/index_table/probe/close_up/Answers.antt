@@ -3,10 +3,12 @@ use Rattle.std.specs.Prelude.{◌≢◌, nat_lt, if◌then◌else◌}
 use Rattle.std.specs.List.Sorted.{IsPermutation}
 use Rattle.std.proofs.lemmas.List.{get_or-set_other, set-set}
 use Rattle.std.proofs.lemmas.List.Sorted.{IsPermutation-trans, IsPermutation-cons, length_permutation}
-use Rattle.iddqd_store.specs.Table.Ring.{cell, gap, pairs_in, stretch, IsReached}
+use Rattle.iddqd_store.specs.Slots.{contents}
+use Rattle.iddqd_store.specs.Table.Ring.{cell, gap, stretch, IsReached}
 use Rattle.iddqd_store.specs.Table.{hashes, IsTable}
 use Rattle.iddqd_store.proofs.TableLemmas.Line.{cases_option}
-use Rattle.iddqd_store.proofs.TableLemmas.Write.{held_take, held_move}
+use Rattle.iddqd_store.proofs.TableLemmas.Write.{held_move}
+use Rattle.iddqd_store.proofs.SlotLemmas.Contents.{contents-take}
 use Rattle.iddqd_store.proofs.TableLemmas.Remove.{Holed, reaches, falls_short, left_behind, holed_start, holed_pass, holed_move, holed_end}
 use Rattle.iddqd_store.proofs.TableLemmas.Search.{Walk, walk_more, walk_to, walk_below, walk_gap, walk_end, beyond}
 use Rattle.iddqd_store.proofs.index_table.probe.close_up.Goals as goal
@@ -29,7 +31,7 @@ loop-pair-init c =
       some = omega arith;
       apart = omega arith;
       holed = holed_start (λ p. p.0 % n) n home lh (λ p. omega arith) row c.args.emptied b.0 _ refl c.requires.table.reached c.requires.way.below b.1 b.2 (omega (arith, b.3)) (omega arith);
-      taken = λ pair is. held_take row c.args.emptied pair c.requires.way.below is;
+      taken = λ pair is. contents-take row c.args.emptied pair is;
     }
 
 pub after-at-requires-in-Some-clause-size : goal.after-at-requires-in-Some-clause-size
@@ -69,7 +71,7 @@ loop-pair-preserved c =
           let goes : gap n (pair.0 % n) hole ≤ gap n (pair.0 % n) at = reaches n home (pair.0 % n) hole at c.loop-pair.far lh (omega arith) h.below lat i.some far (omega (arith, way, w'.if-far-way.true)) in
           let m : Holed (λ p. p.0 % n) n home at t row (set (set rest at None) hole (Some pair)) =
           holed_move (λ p. p.0 % n) n home lh (λ p. omega arith) row rest hole at b.0 s t pair h lat ga there goes b.1 b.2 (omega (arith, b.3, more)) more in
-          let k : IsPermutation (pairs_in rest) (pairs_in (set (set rest at None) hole (Some pair))) =
+          let k : IsPermutation (contents rest) (contents (set (set rest at None) hole (Some pair))) =
           held_move rest at hole pair (omega (arith, h.len, lat)) (omega (arith, h.len, h.below)) there h.empty in
           record {
             probed = omega (arith, i.probed, c.cell_at.ensures.probe);
@@ -115,10 +117,10 @@ returns-clause-table c =
     let table : IsTable rest =
     ⊎_elim (λ (z : cell row c.args.emptied ≡ None). absurd (c.requires.pair z))
     (λ (z : (x : ℕ × ℕ) × (cell row c.args.emptied ≡ Some x)).
-    let p : length (z.0 ∷ pairs_in rest) ≡ length (pairs_in row) = length_permutation _ _ (i.taken z.0 z.1) in
+    let p : length (z.0 ∷ contents rest) ≡ length (contents row) = length_permutation _ _ (i.taken z.0 z.1) in
     record {
       size = rw h.len c.requires.table.size;
-      fits = let f : length (pairs_in row) ≤ n / 8 * 7 = c.requires.table.fits in rw h.len (omega (arith, p, f));
+      fits = let f : length (contents row) ≤ n / 8 * 7 = c.requires.table.fits in rw h.len (omega (arith, p, f));
       reached = subst (λ (m : ℕ). IsReached (λ p. p.0 % m) m rest) (sym h.len) r;
     })
     (cases_option (cell row c.args.emptied)) in
@@ -140,5 +142,5 @@ returns-clause-probes c =
     let away : at ≢ hole = λ e. let g : gap n home at ≡ gap n home hole = ap (gap n home) e in omega (arith, g, ga, h.behind) in
     let still : cell (set c.loop-pair.cells hole None) at ≡ cell c.loop-pair.cells at = get_or-set_other c.loop-pair.cells hole at None None away in
     let none : cell row at ≡ None = sym (h.ahead at lat (omega (arith, ga))) ∙ (still ∙ (sym c.cell_at.ensures.value ∙ c.in_default.is)) in
-    let e : stretch (hashes (pairs_in row)) n c.args.hash ≡ s = walk_end row c.args.hash at s c.requires.table i.walk none in
+    let e : stretch (hashes (contents row)) n c.args.hash ≡ s = walk_end row c.args.hash at s c.requires.table i.walk none in
     omega (arith, e, i.probed, c.cell_at.ensures.probe)

@@ -1,6 +1,7 @@
 use Rattle.std.proofs.Common.{◌≡◌, ℕ, ◌+◌, ◌-◌, ◌%◌, ◌<◌, ◌≤◌, ◌∷◌, length, set, None, Some}
 use Rattle.std.specs.List.Sorted.{IsPermutation}
-use Rattle.iddqd_store.specs.Table.Ring.{cell, gap, pairs_in}
+use Rattle.iddqd_store.specs.Slots.{contents}
+use Rattle.iddqd_store.specs.Table.Ring.{cell, gap}
 use Rattle.iddqd_store.proofs.TableLemmas.Search.{Walk}
 use Rattle.iddqd_store.proofs.TableLemmas.Remove.{Holed}
 use Rattle.iddqd_store.proofs.index_table.probe.close_up.Given as goal
@@ -18,7 +19,7 @@ invariant-loop-pair l =
       some : 0 < l.far;
       apart : l.far + gap n home l.hole ≡ s;
       holed : Holed (λ p. p.0 % n) n home l.hole s row rest;
-      taken : (pair : ℕ × ℕ) → cell row l.emptied ≡ Some pair → IsPermutation (pairs_in row) (pair ∷ pairs_in rest);
+      taken : (pair : ℕ × ℕ) → cell row l.emptied ≡ Some pair → IsPermutation (contents row) (pair ∷ contents rest);
     }
 
 abbrev pub decreases-loop-pair : goal.decreases-loop-pair

@@ -1,5 +1,6 @@
 use Rattle.std.proofs.Common.{arith, ℕ, ◌≡◌, ◌%◌, length, ap, subst}
-use Rattle.iddqd_store.specs.Table.Ring.{gap, pairs_in, stretch}
+use Rattle.iddqd_store.specs.Slots.{contents}
+use Rattle.iddqd_store.specs.Table.Ring.{gap, stretch}
 use Rattle.iddqd_store.specs.Table.{hashes, IsFirstEmpty}
 use Rattle.iddqd_store.proofs.TableLemmas.Search.{walk_to, walk_end}
 use Rattle.iddqd_store.proofs.index_table.probe.first_empty.Goals as goal
@@ -11,7 +12,7 @@ returns-clause-probes c =
     let at = c.first_empty_from.result in
     let e : c.home_of.result ≡ home = rw c.len.ensures at c.home_of.ensures in
     let f : IsFirstEmpty row home at = subst (λ (h : ℕ). IsFirstEmpty row h at) e c.first_empty_from.ensures.first in
-    let s : stretch (hashes (pairs_in row)) (length row) c.args.hash ≡ gap (length row) home at =
+    let s : stretch (hashes (contents row)) (length row) c.args.hash ≡ gap (length row) home at =
     walk_end row c.args.hash at (gap (length row) home at) c.requires.table (walk_to row home at (omega arith) (record { below = f.below; first = f.first })) f.empty in
     let g : gap (length row) c.home_of.result at ≡ gap (length row) home at = ap (λ (h : ℕ). gap (length row) h at) e in
     omega (arith, s, g, c.first_empty_from.ensures.probes)

@@ -9,7 +9,7 @@ use Rattle.std.proofs.lemmas.Option.{slice_get_read}
 use Rattle.iddqd_store.specs.Slots.{IsLive}
 use Rattle.iddqd_store.specs.Slots.Found.{items_at}
 use Rattle.iddqd_store.proofs.BagLemmas.Over.{drop-found, items_at-taken, live-others, IsPermutation-taken}
-use Rattle.iddqd_store.proofs.MapLemmas.{live_items-moves}
+use Rattle.iddqd_store.proofs.SlotLemmas.Contents.{contents-moves}
 use Rattle.iddqd_store.proofs.item_set.ItemSet.take_entered.Goals as goal
 
 pub unreachable-requires : goal.unreachable-requires
@@ -43,7 +43,7 @@ loop-index-preserved g c =
       live = live-others slots _ slot rest c.remove.ensures.updates apart (All-tail (IsLive slots) slot rest live);
       apart = IsDistinct-tail nat_eq slot rest apart;
       values = rw c.push_reserved.ensures.items (items_at-taken slots _ slot rest item taken _ c.remove.ensures.updates here apart values);
-      left = rw c.push_reserved.ensures.items (IsPermutation-taken _ _ _ taken item so_far.left (live_items-moves slots c.remove.new.self.slots slot item c.in-Some.ensures.taken.members));
+      left = rw c.push_reserved.ensures.items (IsPermutation-taken _ _ _ taken item so_far.left (contents-moves slots c.remove.new.self.slots slot item c.in-Some.ensures.taken.members));
       capacity = c.remove.ensures.capacity ∙ so_far.capacity;
       taken = rw c.push_reserved.ensures.items (omega (arith, length_push taken item, so_far.taken));
       room = omega (arith, c.push_reserved.ensures.capacity, so_far.room);

@@ -1,13 +1,13 @@
-use Rattle.std.proofs.Common.{sym, map, ◌∙◌}
+use Rattle.std.proofs.Common.{refl, sym, map, ◌∙◌}
 use Rattle.iddqd_store.specs.Slots.Chain.{item_of}
-use Rattle.iddqd_store.proofs.SlotLemmas.Chain.{live_items-items_in, length-items_in}
+use Rattle.iddqd_store.proofs.SlotLemmas.Contents.{length-contents}
 use Rattle.iddqd_store.proofs.item_set.ItemSet.values.Goals as goal
 
 pub invariant_of-result : goal.invariant_of-result
-invariant_of-result g c = rw c.as_slice.ensures.value (c.self.invariant.counted ∙ sym (length-items_in (map item_of c.self.inside.slots.items)))
+invariant_of-result g c = rw c.as_slice.ensures.value (c.self.invariant.counted ∙ sym (length-contents (map item_of c.self.inside.slots.items)))
 
 pub returns-clause-gives : goal.returns-clause-gives
-returns-clause-gives g c = rw (← c.self.view_is, c.as_slice.ensures.value) (sym (live_items-items_in (map item_of c.self.inside.slots.items)))
+returns-clause-gives g c = rw (← c.self.view_is, c.as_slice.ensures.value) refl
 
 pub returns-clause-len : goal.returns-clause-len
-returns-clause-len g c = rw (← c.self.view_is, c.as_slice.ensures.value) (length-items_in (map item_of c.self.inside.slots.items))
+returns-clause-len g c = rw (← c.self.view_is, c.as_slice.ensures.value) (length-contents (map item_of c.self.inside.slots.items))

@@ -1,11 +1,12 @@
 use Rattle.std.proofs.Common.{arith, rules, refl, [], ◌∷◌, sym, ◌∙◌, ◌≡◌, ℕ, List, Option, None, Some}
 use Rattle.std.specs.Prelude.{◌≢◌, slice_set}
 use Rattle.std.proofs.lemmas.List.{get_or-set_other}
-use Rattle.std.proofs.lemmas.List.Sorted.{IsPermutation-map, length_permutation}
+use Rattle.std.proofs.lemmas.List.Sorted.{length_permutation}
 use Rattle.iddqd_store.specs.Slots.{get}
 use Rattle.iddqd_store.proofs.RankLemmas.Rehashed.{come, left, stands}
 use Rattle.iddqd_store.proofs.RankLemmas.Replaced.{IsIndexed-all_replaced, paired_at, sound_all_replaced}
 use Rattle.iddqd_store.proofs.RankLemmas.Walks.{walks_all}
+use Rattle.iddqd_store.proofs.SlotLemmas.Contents.{contents-moves}
 use Rattle.iddqd_tri.specs.Keys.{ranks}
 use Rattle.iddqd_tri.proofs.MapLemmas.{AreLawful-ranks}
 use Rattle.iddqd_tri.proofs.map.TriHashMap.exchange_three.Goals as goal
@@ -89,8 +90,8 @@ returns-clause-puts_at g c =
     let value = gone.ensures.value in
     let holds = rw (← c.self.view_is) at c.room.ensures.fits in
     let room = rw (← c.self.view_is) at c.room.ensures.value in
-    let without = length_permutation _ _ (IsPermutation-map (λ m. m.1) _ _ taken.members) in
-    let without_two = length_permutation _ _ (IsPermutation-map (λ m. m.1) _ _ taken_too.members) in
+    let without = length_permutation _ _ (contents-moves slots c.remove.new.self.slots _ _ taken.members) in
+    let without_two = length_permutation _ _ (contents-moves c.remove.new.self.slots less _ _ taken_too.members) in
     let out = length_permutation _ _ (left gone.result c.args.item c.args.slots.0 less value) in
     let items = come gone.result c.args.item c.args.slots.0 less value in
     let into = length_permutation _ _ items in

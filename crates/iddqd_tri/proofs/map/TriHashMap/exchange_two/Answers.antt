@@ -1,9 +1,10 @@
 use Rattle.std.proofs.Common.{arith, rules, refl, sym, ◌∙◌, None, [], ◌∷◌}
 use Rattle.std.proofs.lemmas.List.{get_or-set_other}
-use Rattle.std.proofs.lemmas.List.Sorted.{IsPermutation-map, length_permutation}
+use Rattle.std.proofs.lemmas.List.Sorted.{length_permutation}
 use Rattle.iddqd_store.proofs.RankLemmas.Rehashed.{come, left, stands}
 use Rattle.iddqd_store.proofs.RankLemmas.Replaced.{IsIndexed-replaced, paired_at, sound_replaced}
 use Rattle.iddqd_store.proofs.RankLemmas.Walks.{walks_all}
+use Rattle.iddqd_store.proofs.SlotLemmas.Contents.{contents-moves}
 use Rattle.iddqd_tri.specs.Keys.{ranks}
 use Rattle.iddqd_tri.proofs.MapLemmas.{AreLawful-ranks}
 use Rattle.iddqd_tri.proofs.map.TriHashMap.exchange_two.Goals as goal
@@ -59,7 +60,7 @@ returns-clause-puts_at g c =
     let here = sym (get_or-set_other slots c.args.other_slot c.args.slot None None c.requires.apart) ∙ (rw taken.slots at value) in
     let holds = rw (← c.self.view_is) at c.room.ensures.fits in
     let room = rw (← c.self.view_is) at c.room.ensures.value in
-    let without = length_permutation _ _ (IsPermutation-map (λ m. m.1) _ _ taken.members) in
+    let without = length_permutation _ _ (contents-moves slots less _ _ taken.members) in
     let out = length_permutation _ _ (left gone.result c.args.item c.args.slot less value) in
     let items = come gone.result c.args.item c.args.slot less value in
     let into = length_permutation _ _ items in

@@ -1,7 +1,8 @@
 use Rattle.std.proofs.Common.{arith, rules, refl, [], ◌∷◌}
-use Rattle.std.proofs.lemmas.List.Sorted.{IsPermutation-map, length_permutation}
+use Rattle.std.proofs.lemmas.List.Sorted.{length_permutation}
 use Rattle.iddqd_store.proofs.RankLemmas.Costs.{place_in}
-use Rattle.iddqd_store.proofs.RankLemmas.Index.{length-live_items, length-index}
+use Rattle.iddqd_store.proofs.RankLemmas.Index.{length-index}
+use Rattle.iddqd_store.proofs.SlotLemmas.Contents.{contents-moves, length-contents}
 use Rattle.iddqd_store.proofs.RankLemmas.Invariant.{IsIndexed-insert}
 use Rattle.iddqd_store.proofs.RankLemmas.Walks.{insert_most, once, walks_all}
 use Rattle.iddqd_store.proofs.MapLemmas.{free_sound}
@@ -12,7 +13,7 @@ use Rattle.iddqd_tri.proofs.map.TriHashMap.insert_at.Goals as goal
 pub insert_reserved-slot-requires : goal.insert_reserved-slot-requires
 insert_reserved-slot-requires g c =
     let room = rw (← c.self.view_is) at c.requires.room in
-    omega (arith, length-live_items c.self.inside.items.slots)
+    omega (arith, length-contents c.self.inside.items.slots)
 
 pub insert_at-requires-clause-room : goal.insert_at-requires-clause-room
 insert_at-requires-clause-room g c =
@@ -48,7 +49,7 @@ pub returns-clause-puts_at : goal.returns-clause-puts_at
 returns-clause-puts_at g c =
     let room = rw (← c.self.view_is) at c.requires.room in
     let free = rw (← c.self.view_is) at c.requires.free in
-    let items = IsPermutation-map (λ m. m.1) _ _ c.insert_reserved-slot.ensures.members in
+    let items = contents-moves c.insert_reserved-slot.new.self.slots c.self.inside.items.slots _ _ c.insert_reserved-slot.ensures.members in
     let more = length_permutation _ _ items in
     record {
       at = c.insert_reserved-slot.ensures.updates.changed;

@@ -1,6 +1,6 @@
 use Rattle.std.proofs.Common.{None, slice_set}
 use Rattle.iddqd_store.specs.Map.{bag}
-use Rattle.iddqd_store.specs.Slots.{live_items}
+use Rattle.iddqd_store.specs.Slots.{contents}
 use Rattle.iddqd_store.proofs.MapLemmas.Rekeyed.{exchanged, other_blocks}
 use Rattle.iddqd_store.proofs.RankLemmas.Rehashed.{left}
 use Rattle.iddqd_tri.specs.Keys.{has3, ranks}
@@ -12,7 +12,7 @@ returns-in-Ok-clause-puts g c =
     let put = c.in-Ok.ensures.puts_at in
     let out = left c.in-Ok.old c.args.item c.in-Some.slot slots c.in-Ok.ensures.value in
     record {
-      items = exchanged c.in-Ok.old c.args.item (bag c.args.self.now) (bag c.rekey_at.new.self) (live_items (slice_set slots c.in-Some.slot None)) out put.items;
+      items = exchanged c.in-Ok.old c.args.item (bag c.args.self.now) (bag c.rekey_at.new.self) (contents (slice_set slots c.in-Some.slot None)) out put.items;
       fits = put.fits;
       same_room = put.same_room;
       same_builder = put.same_builder;

@@ -1,9 +1,9 @@
 use Rattle.std.proofs.Common.{arith, sym, refl, ◌∙◌, [], ◌∷◌}
-use Rattle.std.proofs.lemmas.List.Sorted.{IsPermutation-map}
 use Rattle.iddqd_store.proofs.RankLemmas.Costs.{SearchCosts-room}
 use Rattle.iddqd_store.proofs.RankLemmas.Index.{pair_in}
 use Rattle.iddqd_store.proofs.RankLemmas.Invariant.{IsIndexed-remove, first_rank, other_ranks}
 use Rattle.iddqd_store.proofs.RankLemmas.Walks.{once, walk_through}
+use Rattle.iddqd_store.proofs.SlotLemmas.Contents.{contents-moves}
 use Rattle.iddqd_tri.proofs.MapLemmas.{AreLawful-ranks}
 use Rattle.iddqd_tri.proofs.map.TriHashMap.remove3_by.Goals as goal
 
@@ -26,7 +26,7 @@ invariant_of-self-2 g c =
 
 pub returns-clause-loses : goal.returns-clause-loses
 returns-clause-loses g c = record {
-  items = rw (← c.self.view_is) (IsPermutation-map (λ m. m.1) _ _ c.in-Some.ensures.taken.members);
+  items = rw (← c.self.view_is) (contents-moves c.self.inside.items.slots c.remove.new.self.slots _ _ c.in-Some.ensures.taken.members);
   same_room = rw (← c.self.view_is, c.remove.ensures.capacity, c.forget_by_key.ensures.limit, c.forget.ensures.limit, c.forget-2.ensures.limit) refl;
   same_builder = rw (← c.self.view_is) refl;
 }

@@ -1,5 +1,6 @@
 use Rattle.std.proofs.Common.{arith}
-use Rattle.iddqd_store.proofs.RankLemmas.Index.{length-live_items, length-index}
+use Rattle.iddqd_store.proofs.RankLemmas.Index.{length-index}
+use Rattle.iddqd_store.proofs.SlotLemmas.Contents.{length-contents}
 use Rattle.iddqd_tri.proofs.map.TriHashMap.room.Goals as goal
 
 pub returns-clause-fits : goal.returns-clause-fits
@@ -7,5 +8,5 @@ returns-clause-fits g c =
     let one = length-index c.self.invariant.indexes.0 in
     let two = length-index c.self.invariant.indexes.1.0 in
     let three = length-index c.self.invariant.indexes.1.1.0 in
-    let all = length-live_items c.self.inside.items.slots in
+    let all = length-contents c.self.inside.items.slots in
     rw (← c.self.view_is) (omega arith)

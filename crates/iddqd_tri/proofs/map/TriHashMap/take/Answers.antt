@@ -1,8 +1,8 @@
 use Rattle.std.proofs.Common.{sym, refl, ◌∙◌, [], ◌∷◌}
-use Rattle.std.proofs.lemmas.List.Sorted.{IsPermutation-map}
 use Rattle.iddqd_store.proofs.RankLemmas.Index.{pair_in, hash_known}
 use Rattle.iddqd_store.proofs.RankLemmas.Invariant.{IsIndexed-remove}
 use Rattle.iddqd_store.proofs.RankLemmas.Walks.{once, walks_all}
+use Rattle.iddqd_store.proofs.SlotLemmas.Contents.{contents-moves}
 use Rattle.iddqd_tri.proofs.MapLemmas.{AreLawful-ranks}
 use Rattle.iddqd_tri.proofs.map.TriHashMap.take.Goals as goal
 
@@ -37,7 +37,7 @@ invariant_of-self g c =
 
 pub returns-clause-loses : goal.returns-clause-loses
 returns-clause-loses g c = record {
-  items = rw (← c.self.view_is) (IsPermutation-map (λ m. m.1) _ _ c.in-Some.ensures.taken.members);
+  items = rw (← c.self.view_is) (contents-moves c.self.inside.items.slots c.remove.new.self.slots _ _ c.in-Some.ensures.taken.members);
   same_room = rw (← c.self.view_is, c.remove.ensures.capacity, c.forget.ensures.limit, c.forget-in-Some.ensures.limit, c.forget-in-Some-2.ensures.limit) refl;
   same_builder = rw (← c.self.view_is) refl;
 }

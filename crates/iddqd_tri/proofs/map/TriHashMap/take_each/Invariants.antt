@@ -1,14 +1,14 @@
 use Rattle.std.proofs.Common.{◌≡◌, [], drop, length}
 use Rattle.std.specs.Prelude.{take}
-use Rattle.iddqd_store.specs.Slots.{items_in}
+use Rattle.iddqd_store.specs.Slots.{contents}
 use Rattle.iddqd_tri.proofs.map.TriHashMap.take_each.Given as goal
 
 abbrev pub invariant-loop-slot : goal.invariant-loop-slot
 invariant-loop-slot g l = record {
-  empty : items_in (take l.from l.self.slots) ≡ [];
+  empty : contents (take l.from l.self.slots) ≡ [];
   capacity : l.self.capacity ≡ l.fn.self.capacity;
   builder : l.self.builder ≡ l.fn.self.builder;
 }
 
 abbrev pub decreases-loop-slot : goal.decreases-loop-slot
-decreases-loop-slot g l = length (items_in (drop l.from l.self.slots))
+decreases-loop-slot g l = length (contents (drop l.from l.self.slots))

@@ -3,7 +3,7 @@ ghost use Rattle.std.specs.Prelude.{◌≡◌, ◌≢◌, ◌+◌, ◌≤◌, []
 ghost use Rattle.iddqd_store.specs.Bag.{clash};
 ghost use Rattle.iddqd_store.specs.Map.{bag, PutsAt};
 ghost use Rattle.iddqd_store.specs.Rank.{walks_three, walks_within};
-ghost use Rattle.iddqd_store.specs.Slots.{get, live_items, IsLive};
+ghost use Rattle.iddqd_store.specs.Slots.{get, contents, IsLive};
 ghost use Rattle.iddqd_tri.specs.Keys.{AreUnder, HaveHashes};
 
 use crate::item::{Hashed, Ranked, TriHashItem};
@@ -25,7 +25,7 @@ impl<T: TriHashItem, S: BuildHasher> TriHashMap<T, S> {
     ) -> (T, T, T)
         requires live { IsLive self.old.slots slots.0 × IsLive self.old.slots slots.1 × IsLive self.old.slots slots.2 }
         requires apart { (slots.0 ≢ slots.1) × (slots.0 ≢ slots.2) × (slots.1 ≢ slots.2) }
-        requires free { clash ⟦<T as Ranked>⟧.ranks (live_items
+        requires free { clash ⟦<T as Ranked>⟧.ranks (contents
             (slice_set (slice_set (slice_set self.old.slots slots.2 None) slots.1 None) slots.0 None)) item ≡ [] }
         requires hashes { HaveHashes
             (⟦<T as Hashed<S>>⟧.hash1 self.old.builder item) (⟦<T as Hashed<S>>⟧.hash2 self.old.builder item)
@@ -35,7 +35,7 @@ impl<T: TriHashItem, S: BuildHasher> TriHashMap<T, S> {
             (⟦<T as Hashed<S>>⟧.hash3 self.old.builder) self.old.slots by.now }
         ensures values { (get self.old.slots slots.0 ≡ Some result.0) × (get self.old.slots slots.1 ≡ Some result.1)
             × (get self.old.slots slots.2 ≡ Some result.2) }
-        ensures puts_at { PutsAt ⟦<T as Ranked>⟧.ranks self.old slots.0 item (item ∷ live_items
+        ensures puts_at { PutsAt ⟦<T as Ranked>⟧.ranks self.old slots.0 item (item ∷ contents
             (slice_set (slice_set (slice_set self.old.slots slots.2 None) slots.1 None) slots.0 None)) self.new }
         ensures costs { meter.new ≤ meter.old + walks_within (length (bag self.old))
             (walks_three (⟦<T as Hashed<S>>⟧.hash1 self.old.builder) by.now.0 slots.1 slots.2 result.0

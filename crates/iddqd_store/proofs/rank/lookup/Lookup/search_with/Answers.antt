@@ -1,6 +1,7 @@
 use Rattle.std.proofs.Common.{rules}
 use borrow.Author.Rules.{lives}
-use Rattle.iddqd_store.proofs.RankLemmas.Index.{hash_at, item_at}
+use Rattle.iddqd_store.proofs.RankLemmas.Index.{hash_at}
+use Rattle.iddqd_store.proofs.SlotLemmas.Contents.{content_at}
 use Rattle.iddqd_store.proofs.RankLemmas.Costs.{searches, costs, hash_found, vacant_found, cells_found}
 use Rattle.iddqd_store.proofs.rank.lookup.Lookup.search_with.Goals as goal
 
@@ -25,4 +26,4 @@ returns-clause-cells g c = rw (← c.self.view_is) (cells_found _ c.self.invaria
 pub find_or_vacancy-requires : goal.find_or_vacancy-requires
 find_or_vacancy-requires g c = λ slot there x here.
     let asks = rw (← c.self.view_is) at c.requires.asks in
-    asks x (item_at _ slot x here) (hash_at slot c.args.hash x c.self.invariant.index there here)
+    asks x (content_at _ slot x here) (hash_at slot c.args.hash x c.self.invariant.index there here)
