@@ -1,9 +1,10 @@
 //! Entries: what a lookup of two keys at once found, with a borrow of the map.
-ghost use Rattle.std.specs.Prelude.{◌≡◌, []};
+ghost use Rattle.std.specs.Prelude.{◌≡◌, [], ◌∷◌};
 ghost use Rattle.iddqd_store.specs.Bag.{listing};
 ghost use Rattle.iddqd_store.specs.Map.{bag, hash_of};
+ghost use Rattle.iddqd_store.specs.Rank.All.{AreVacantFor};
 ghost use Rattle.iddqd_store.specs.Rank.{key_hash};
-ghost use Rattle.iddqd_bi.specs.Keys.{AreVacantFor, key_tests};
+ghost use Rattle.iddqd_bi.specs.Keys.{key_tests};
 
 use crate::item::BiHashItem;
 use crate::map::{BiHashMap, DefaultHashBuilder};
@@ -49,10 +50,11 @@ pub struct VacantEntry<
     ghost absent: { listing (key_tests T.BiHashItem T.K1.eq T.K2.eq (Q.first keys) (Q.second keys))
         (bag map.now) ≡ [] },
     ghost vacant: { AreVacantFor
-        (key_hash T.key1 T.K1.hash_input S.BuildHasher S.Hasher.Hasher map.now.builder)
-        (key_hash T.key2 T.K2.hash_input S.BuildHasher S.Hasher.Hasher map.now.builder) (bag map.now)
-        (hash_of S.BuildHasher S.Hasher.Hasher map.now.builder (T.K1.hash_input (Q.first keys)))
-        (hash_of S.BuildHasher S.Hasher.Hasher map.now.builder (T.K2.hash_input (Q.second keys))) at },
+        (key_hash T.key1 T.K1.hash_input S.BuildHasher S.Hasher.Hasher map.now.builder
+        ∷ key_hash T.key2 T.K2.hash_input S.BuildHasher S.Hasher.Hasher map.now.builder ∷ []) (bag map.now)
+        (hash_of S.BuildHasher S.Hasher.Hasher map.now.builder (T.K1.hash_input (Q.first keys))
+        ∷ hash_of S.BuildHasher S.Hasher.Hasher map.now.builder (T.K2.hash_input (Q.second keys)) ∷ [])
+        (at.0 ∷ at.1 ∷ []) },
 }
 
 /// An entry with two keys of which at least one is that of an item. It keeps the slot of each item that a key found.

@@ -90,6 +90,11 @@ pub trait Hashed<S: BuildHasher>: BiHashItem {
     ghost hash1_is: { hash1 ≡ key_hash Self.key1 Self.K1.hash_input S.BuildHasher S.Hasher.Hasher };
 
     ghost hash2_is: { hash2 ≡ key_hash Self.key2 Self.K2.hash_input S.BuildHasher S.Hasher.Hasher };
+
+    // For each rank, the hash of an item's key, by a builder.
+    ghost hashes: { S → List (Self → ℕ) };
+
+    ghost hashes_are: { hashes ≡ (λ s. hash1 s ∷ hash2 s ∷ []) };
 }
 
 impl<T: BiHashItem, S: BuildHasher> Hashed<S> for T {
@@ -100,4 +105,9 @@ impl<T: BiHashItem, S: BuildHasher> Hashed<S> for T {
     ghost hash1_is = { refl };
 
     ghost hash2_is = { refl };
+
+    ghost hashes = { λ s. key_hash T.key1 T.K1.hash_input S.BuildHasher S.Hasher.Hasher s
+        ∷ key_hash T.key2 T.K2.hash_input S.BuildHasher S.Hasher.Hasher s ∷ [] };
+
+    ghost hashes_are = { refl };
 }

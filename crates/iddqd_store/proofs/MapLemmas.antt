@@ -11,11 +11,11 @@ use Rattle.std.specs.Prelude.{◌≡◌, ◌+◌, ◌<◌, ℕ, Bool, List, [], 
 use Rattle.std.specs.Cmp.{IsEquivalence}
 use Rattle.std.proofs.Common.{refl, sym, subst, ap, ◌∙◌, arith}
 use Rattle.std.proofs.lemmas.Map.Keys.{IsDistinct-cons, IsDistinct-tail}
-use Rattle.std.proofs.lemmas.List.Sorted.{IsPermutation-refl, IsPermutation-sym, IsPermutation-map}
+use Rattle.std.proofs.lemmas.List.Sorted.{IsPermutation-sym}
 use Rattle.iddqd_store.specs.Slots.{members, contents}
 use Rattle.iddqd_store.specs.Bag.{Ranks, AreLawful, IsSound, conflicts, clash}
 use Rattle.iddqd_store.specs.Rank.Keys.{IsKeyTest}
-use Rattle.iddqd_store.specs.Map.{Map, bag, Loses, MakesRoom}
+use Rattle.iddqd_store.specs.Map.{Map, bag, MakesRoom}
 use Rattle.iddqd_store.proofs.BagLemmas.Sound.{IsSound-IsPermutation}
 use Rattle.iddqd_store.proofs.BagLemmas.Steps.{none_passes}
 use Rattle.iddqd_store.proofs.SlotLemmas.Contents.{contents-moves}

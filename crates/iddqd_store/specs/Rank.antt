@@ -1,4 +1,5 @@
 -- One rank of keys: how it tells items apart, their hashes, what a search by it asks for, and what the search costs.
+pub mod All
 pub mod Asking
 pub mod Index
 pub mod Keys
@@ -51,11 +52,6 @@ pub record IsVacantFor {T : Type 0} (hash_of : T → ℕ) (bag : List T) (hash :
   pub same : spot.hash ≡ hash
   pub free : IsFree (map hash_of bag) spot
   pub fits : length bag ≤ spot.cells / 8 * 7
-
-module _ {T : Type 0} where
-  -- The pair of `x` goes into this cell (`IsVacantFor`). No public clause cites it.
-  abbrev pub IsPlaceOf : (T → ℕ) → List T → T → Spot → Type 0
-  IsPlaceOf hash_of bag x spot = IsVacantFor hash_of bag (hash_of x) spot
 
 -- Contracts see the outcome of a search by a hash as the slot that it found, if any, and the hash.
 -- Example: `Some 2` and the hash 5.

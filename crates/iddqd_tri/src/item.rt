@@ -108,6 +108,11 @@ pub trait Hashed<S: BuildHasher>: TriHashItem {
     ghost hash2_is: { hash2 ≡ key_hash Self.key2 Self.K2.hash_input S.BuildHasher S.Hasher.Hasher };
 
     ghost hash3_is: { hash3 ≡ key_hash Self.key3 Self.K3.hash_input S.BuildHasher S.Hasher.Hasher };
+
+    // For each rank, the hash of an item's key, by a builder.
+    ghost hashes: { S → List (Self → ℕ) };
+
+    ghost hashes_are: { hashes ≡ (λ s. hash1 s ∷ hash2 s ∷ hash3 s ∷ []) };
 }
 
 impl<T: TriHashItem, S: BuildHasher> Hashed<S> for T {
@@ -122,4 +127,10 @@ impl<T: TriHashItem, S: BuildHasher> Hashed<S> for T {
     ghost hash2_is = { refl };
 
     ghost hash3_is = { refl };
+
+    ghost hashes = { λ s. key_hash T.key1 T.K1.hash_input S.BuildHasher S.Hasher.Hasher s
+        ∷ key_hash T.key2 T.K2.hash_input S.BuildHasher S.Hasher.Hasher s
+        ∷ key_hash T.key3 T.K3.hash_input S.BuildHasher S.Hasher.Hasher s ∷ [] };
+
+    ghost hashes_are = { refl };
 }

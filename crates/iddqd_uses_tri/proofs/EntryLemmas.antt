@@ -2,13 +2,13 @@
 use Rattle.std.specs.Prelude.{◌≡◌, ◌≢◌, ℕ, zero, suc, Bool, true, false, ◌||◌, cond, nat_eq, is_some, List, [], ◌∷◌, ◌++◌, drop, fold, Option, Some, None, slice_set}
 use Rattle.std.specs.List.{list_all}
 use Rattle.std.specs.Option.{option_and_then, option_to_list}
-use Rattle.std.proofs.Common.{IsSome, refl, sym, ap, subst, ◌∙◌}
+use Rattle.std.proofs.Common.{refl, sym, ap, subst, ◌∙◌}
 use Rattle.std.proofs.lemmas.Bool.{eqb-false, ne_eqb}
 use Rattle.std.proofs.lemmas.List.{get_or-set_other}
 use Rattle.iddqd_store.specs.Bag.{entry_of, is_unique}
 use Rattle.iddqd_store.specs.Map.{Map}
 use Rattle.iddqd_store.specs.Map.Written.{map_with_if, of_item}
-use Rattle.iddqd_store.specs.Slots.{get, IsLive}
+use Rattle.iddqd_store.specs.Slots.{get}
 use Rattle.iddqd_store.specs.Slots.Found.{AreFound, contains, each_once, entry_at, found_by_all, held_at, is_at, items_at, with_found}
 use Rattle.iddqd_store.proofs.BagLemmas.Exchanges.{split}
 

@@ -1,5 +1,5 @@
 -- What searches by each key of an item say of the items that conflict with it.
-use Rattle.std.specs.Prelude.{◌≡◌, ◌≢◌, ℕ, nat_eq, Bool, true, false, List, [], ◌∷◌, ◌++◌, length, filter, Option, Some, None, is_some, IsSome, IsPermutation, slice_set}
+use Rattle.std.specs.Prelude.{◌≡◌, ◌≢◌, ℕ, nat_eq, Bool, true, false, List, [], ◌∷◌, ◌++◌, length, filter, Option, Some, None, is_some, IsSome, IsPermutation, Result, Ok, Err, OnOk, OnErr, slice_set}
 use Rattle.std.specs.Cmp.{IsEquivalence}
 use Rattle.std.specs.List.{AllByRecursion, IsDistinct, list_any}
 use Rattle.std.specs.Option.{IfSome, option_to_list}
@@ -51,6 +51,15 @@ module _ {T S : Type 0} {agree : T → T → Bool} (laws : IsEquivalence agree) 
   -- if no slot is found, nothing conflicts with it
   pub free_by : list_any is_some found ≡ false → clash ranks (bag m) x ≡ []
   free_by none = clash_none ranks m.slots x [] (sym (held_none m.slots found none) ∙ conflicts_found.items) refl
+
+  -- if the search says which of both it was, so do these
+  pub free_on : {A B : Type 0} (r : Result A B) → OnOk r (list_any is_some found ≡ false) → OnOk r (clash ranks (bag m) x ≡ [])
+  free_on (Ok at) none = free_by none
+  free_on (Err at) none = tt
+
+  pub blocked_on : {A B : Type 0} (r : Result A B) → OnErr r (list_any is_some found ≡ true) → OnErr r (IsBlockedAt ranks m x (each_once found))
+  blocked_on (Ok at) some = tt
+  blocked_on (Err at) some = blocked_by some
 
 -- a search finds a slot exactly if some item passes its test
 pub is_some-at : {T : Type 0} (test : T → Bool) (slots : List (Option T)) (at : Option ℕ) → FoundAt test slots at → is_some at ≡ list_any test (contents slots)

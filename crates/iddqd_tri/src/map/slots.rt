@@ -7,11 +7,12 @@ ghost use Rattle.std.specs.List.{IsDistinct, list_any};
 ghost use Rattle.iddqd_store.specs.Bag.{IsSound, clash, differ, listing};
 ghost use Rattle.iddqd_store.specs.Rank.Index.{HasHash};
 ghost use Rattle.iddqd_store.specs.Map.{bag, hash_of, Gains, Loses, PutsAt, IsFullFor, IsBlockedAt};
+ghost use Rattle.iddqd_store.specs.Rank.All.{ArePlacesOf, AreUnder, AreVacantFor, HaveHashes, HaveRoom, hashes_of, slots_found};
 ghost use Rattle.iddqd_store.specs.Rank.{agree, walks_within};
 ghost use Rattle.iddqd_store.specs.Slots.Found.{AreFound, each_once, items_at};
 ghost use Rattle.iddqd_store.specs.Slots.{get, IsLive, Updates};
 ghost use Rattle.iddqd_store.specs.Table.Limit.{most_room};
-ghost use Rattle.iddqd_tri.specs.Keys.{ArePlacesOf, AreUnder, AreVacantFor, HaveHashes, HaveRoom, ranks, slots_found};
+ghost use Rattle.iddqd_tri.specs.Keys.{by_rank};
 ghost use Rattle.iddqd_tri.specs.Mismatch.{HandsBack};
 
 mod enter;
@@ -106,25 +107,19 @@ impl<T: TriHashItem, S: BuildHasher> TriHashMap<T, S> {
     ) -> Result<(Vacancy, Vacancy, Vacancy), (SlotUnder, SlotUnder, SlotUnder)>
         // The slots that were found, and whether there are any.
         ensures found { AreFound (⟦<T as Ranked>⟧.key_tests key1.now key2.now key3.now) self.now.slots
-            (slots_found result) }
-        ensures none { OnOk result (list_any is_some (slots_found result) ≡ false) }
-        ensures some { OnErr result (list_any is_some (slots_found result) ≡ true) }
+            (slots_found (by_rank result)) }
+        ensures none { OnOk result (list_any is_some (slots_found (by_rank result)) ≡ false) }
+        ensures some { OnErr result (list_any is_some (slots_found (by_rank result)) ≡ true) }
         ensures apart { IsDistinct (agree T.key1 T.K1.eq) (bag self.now) }
         // The empty cells, or the hashes by which the slots were found.
-        ensures vacant { IfOk result (AreVacantFor
-            (⟦<T as Hashed<S>>⟧.hash1 self.now.builder) (⟦<T as Hashed<S>>⟧.hash2 self.now.builder)
-            (⟦<T as Hashed<S>>⟧.hash3 self.now.builder) (bag self.now)
-            (hash_of S.BuildHasher S.Hasher.Hasher self.now.builder (T.K1.hash_input key1.now))
-            (hash_of S.BuildHasher S.Hasher.Hasher self.now.builder (T.K2.hash_input key2.now))
-            (hash_of S.BuildHasher S.Hasher.Hasher self.now.builder (T.K3.hash_input key3.now))) }
-        ensures cells { IfOk result (HaveRoom self.now.capacity) }
-        ensures hashes { IfErr result (HaveHashes
-            (hash_of S.BuildHasher S.Hasher.Hasher self.now.builder (T.K1.hash_input key1.now))
-            (hash_of S.BuildHasher S.Hasher.Hasher self.now.builder (T.K2.hash_input key2.now))
-            (hash_of S.BuildHasher S.Hasher.Hasher self.now.builder (T.K3.hash_input key3.now))) }
-        ensures under { IfErr result (AreUnder
-            (⟦<T as Hashed<S>>⟧.hash1 self.now.builder) (⟦<T as Hashed<S>>⟧.hash2 self.now.builder)
-            (⟦<T as Hashed<S>>⟧.hash3 self.now.builder) self.now.slots) }
+        ensures vacant { IfOk (by_rank result) (AreVacantFor (⟦<T as Hashed<S>>⟧.hashes self.now.builder) (bag self.now)
+            (map (hash_of S.BuildHasher S.Hasher.Hasher self.now.builder)
+            (T.K1.hash_input key1.now ∷ T.K2.hash_input key2.now ∷ T.K3.hash_input key3.now ∷ []))) }
+        ensures cells { IfOk (by_rank result) (HaveRoom self.now.capacity) }
+        ensures hashes { IfErr (by_rank result) (HaveHashes
+            (map (hash_of S.BuildHasher S.Hasher.Hasher self.now.builder)
+            (T.K1.hash_input key1.now ∷ T.K2.hash_input key2.now ∷ T.K3.hash_input key3.now ∷ []))) }
+        ensures under { IfErr (by_rank result) (AreUnder (⟦<T as Hashed<S>>⟧.hashes self.now.builder) self.now.slots) }
     {
         let hash1 = self.hash_builder.hash_one(key1);
         let hash2 = self.hash_builder.hash_one(key2);
@@ -150,20 +145,15 @@ impl<T: TriHashItem, S: BuildHasher> TriHashMap<T, S> {
         item: &T,
     ) -> Result<(Vacancy, Vacancy, Vacancy), (SlotUnder, SlotUnder, SlotUnder)>
         ensures free { OnOk result (clash ⟦<T as Ranked>⟧.ranks (bag self.now) item.now ≡ []) }
-        ensures places { IfOk result (ArePlacesOf
-            (⟦<T as Hashed<S>>⟧.hash1 self.now.builder) (⟦<T as Hashed<S>>⟧.hash2 self.now.builder)
-            (⟦<T as Hashed<S>>⟧.hash3 self.now.builder)
-            (bag self.now) item.now) }
-        ensures blocked { IfErr result (λ found. IsBlockedAt ⟦<T as Ranked>⟧.ranks self.now item.now
-            (each_once (found.0.slot ∷ found.1.slot ∷ found.2.slot ∷ []))) }
-        ensures hashes { IfErr result (HaveHashes
-            (⟦<T as Hashed<S>>⟧.hash1 self.now.builder item.now) (⟦<T as Hashed<S>>⟧.hash2 self.now.builder item.now)
-            (⟦<T as Hashed<S>>⟧.hash3 self.now.builder item.now)) }
-        ensures under { IfErr result (AreUnder
-            (⟦<T as Hashed<S>>⟧.hash1 self.now.builder) (⟦<T as Hashed<S>>⟧.hash2 self.now.builder)
-            (⟦<T as Hashed<S>>⟧.hash3 self.now.builder) self.now.slots) }
+        ensures places { IfOk (by_rank result) (ArePlacesOf
+            (⟦<T as Hashed<S>>⟧.hashes self.now.builder) (bag self.now) item.now) }
+        ensures blocked { OnErr result (IsBlockedAt ⟦<T as Ranked>⟧.ranks self.now item.now
+            (each_once (slots_found (by_rank result)))) }
+        ensures hashes { IfErr (by_rank result) (HaveHashes
+            (hashes_of (⟦<T as Hashed<S>>⟧.hashes self.now.builder) item.now)) }
+        ensures under { IfErr (by_rank result) (AreUnder (⟦<T as Hashed<S>>⟧.hashes self.now.builder) self.now.slots) }
         ensures found { AreFound (⟦<T as Ranked>⟧.key_tests (T.key1 item.now) (T.key2 item.now) (T.key3 item.now))
-            self.now.slots (slots_found result) }
+            self.now.slots (slots_found (by_rank result)) }
     {
         self.search_all(item.key1(), item.key2(), item.key3())
     }
@@ -180,9 +170,7 @@ impl<T: TriHashItem, S: BuildHasher> TriHashMap<T, S> {
         requires room { length (bag self.old) < self.old.capacity }
         requires free { clash ⟦<T as Ranked>⟧.ranks (bag self.old) item ≡ [] }
         requires places { ArePlacesOf
-            (⟦<T as Hashed<S>>⟧.hash1 self.old.builder) (⟦<T as Hashed<S>>⟧.hash2 self.old.builder)
-            (⟦<T as Hashed<S>>⟧.hash3 self.old.builder)
-            (bag self.old) item at }
+            (⟦<T as Hashed<S>>⟧.hashes self.old.builder) (bag self.old) item (at.0 ∷ at.1 ∷ at.2 ∷ []) }
         ensures was_free { get self.old.slots result ≡ None }
         ensures updates { Updates self.old.slots self.new.slots result (Some item) }
         ensures puts_at { PutsAt ⟦<T as Ranked>⟧.ranks self.old result item (item ∷ bag self.old) self.new }
@@ -209,12 +197,10 @@ impl<T: TriHashItem, S: BuildHasher> TriHashMap<T, S> {
         at: (Vacancy, Vacancy, Vacancy),
     ) -> Result<ItemIndex, EntryError<T>>
         requires absent { listing (⟦<T as Ranked>⟧.key_tests key1.now key2.now key3.now) (bag self.old) ≡ [] }
-        requires vacant { AreVacantFor
-            (⟦<T as Hashed<S>>⟧.hash1 self.old.builder) (⟦<T as Hashed<S>>⟧.hash2 self.old.builder)
-            (⟦<T as Hashed<S>>⟧.hash3 self.old.builder) (bag self.old)
-            (hash_of S.BuildHasher S.Hasher.Hasher self.old.builder (T.K1.hash_input key1.now))
-            (hash_of S.BuildHasher S.Hasher.Hasher self.old.builder (T.K2.hash_input key2.now))
-            (hash_of S.BuildHasher S.Hasher.Hasher self.old.builder (T.K3.hash_input key3.now)) at }
+        requires vacant { AreVacantFor (⟦<T as Hashed<S>>⟧.hashes self.old.builder) (bag self.old)
+            (map (hash_of S.BuildHasher S.Hasher.Hasher self.old.builder)
+            (T.K1.hash_input key1.now ∷ T.K2.hash_input key2.now ∷ T.K3.hash_input key3.now ∷ []))
+            (at.0 ∷ at.1 ∷ at.2 ∷ []) }
         ensures gains { OnOk result (Gains self.old item self.new) }
         ensures at { IfOk result (λ slot. get self.new.slots slot ≡ Some item) }
         ensures sound { OnOk result (IsSound ⟦<T as Ranked>⟧.ranks (bag self.new)) }

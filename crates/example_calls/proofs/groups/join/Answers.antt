@@ -6,7 +6,7 @@ use Rattle.std.proofs.lemmas.List.Sorted.{IsPermutation-trans}
 use Rattle.iddqd_store.proofs.BagLemmas.Sound.{all_pass, each_weaker}
 use Rattle.iddqd_store.proofs.BagLemmas.Steps.{none_passes}
 use Rattle.iddqd_store.proofs.BagLemmas.Theory.{conflicts-self, swap-IsPermutation}
-use Rattle.iddqd_bi.specs.Bag.{Entry, Ranks, clash, conflicts, entry, entry_of, like, some_of, swap, unique, vacant}
+use Rattle.iddqd_bi.specs.Bag.{Entry, Ranks, clash, conflicts, entry, entry_of, like, some_of, swap, vacant}
 use Rattle.iddqd_bi.specs.Entries.{held_entry}
 use Rattle.iddqd_bi.specs.Keys.{key_tests, ranks}
 use Rattle.iddqd_bi.specs.Map.{bag}

@@ -2,10 +2,10 @@
 ghost use Rattle.std.specs.Prelude.{◌≡◌, ◌≢◌, ◌+◌, ◌≤◌, [], ◌∷◌, length, map, None, Some, IfOk, IfErr, OnOk, OnErr, slice_set};
 ghost use Rattle.iddqd_store.specs.Bag.{clash, order, over};
 ghost use Rattle.iddqd_store.specs.Map.{bag, ListsConflicts, PutsAt};
+ghost use Rattle.iddqd_store.specs.Rank.All.{AreUnder, HaveHashes, hashes_of};
 ghost use Rattle.iddqd_store.specs.Rank.{walks_one, walks_within, walks_two};
 ghost use Rattle.iddqd_store.specs.Slots.{get, contents, IsLive};
 ghost use Rattle.iddqd_store.specs.Slots.Found.{each_once};
-ghost use Rattle.iddqd_bi.specs.Keys.{AreUnder, HaveHashes, ranks};
 
 use super::super::BiHashMap;
 use super::found::each_once;
@@ -30,10 +30,9 @@ impl<T: BiHashItem, S: BuildHasher> BiHashMap<T, S> {
             (each_once (by.now.0.slot ∷ by.now.1.slot ∷ [])) }
         requires some { length (each_once (by.now.0.slot ∷ by.now.1.slot ∷ [])) ≢ 0 }
         requires hashes { HaveHashes
-            (⟦<T as Hashed<S>>⟧.hash1 self.old.builder item) (⟦<T as Hashed<S>>⟧.hash2 self.old.builder item) by.now }
+            (hashes_of (⟦<T as Hashed<S>>⟧.hashes self.old.builder) item) (by.now.0 ∷ by.now.1 ∷ []) }
         requires under { AreUnder
-            (⟦<T as Hashed<S>>⟧.hash1 self.old.builder) (⟦<T as Hashed<S>>⟧.hash2 self.old.builder)
-            self.old.slots by.now }
+            (⟦<T as Hashed<S>>⟧.hashes self.old.builder) self.old.slots (by.now.0 ∷ by.now.1 ∷ []) }
         ensures displaced { result.0 ≡ order ⟦<T as Ranked>⟧.ranks (bag self.old) item }
         ensures puts_at { PutsAt ⟦<T as Ranked>⟧.ranks self.old result.1 item
             (over ⟦<T as Ranked>⟧.ranks (bag self.old) item) self.new }
@@ -105,10 +104,9 @@ impl<T: BiHashItem, S: BuildHasher> BiHashMap<T, S> {
         requires live { IsLive self.old.slots slot }
         requires free { clash ⟦<T as Ranked>⟧.ranks (contents (slice_set self.old.slots slot None)) item ≡ [] }
         requires hashes { HaveHashes
-            (⟦<T as Hashed<S>>⟧.hash1 self.old.builder item) (⟦<T as Hashed<S>>⟧.hash2 self.old.builder item) by.now }
+            (hashes_of (⟦<T as Hashed<S>>⟧.hashes self.old.builder) item) (by.now.0 ∷ by.now.1 ∷ []) }
         requires under { AreUnder
-            (⟦<T as Hashed<S>>⟧.hash1 self.old.builder) (⟦<T as Hashed<S>>⟧.hash2 self.old.builder)
-            self.old.slots by.now }
+            (⟦<T as Hashed<S>>⟧.hashes self.old.builder) self.old.slots (by.now.0 ∷ by.now.1 ∷ []) }
         ensures value { get self.old.slots slot ≡ Some result }
         ensures puts_at { PutsAt ⟦<T as Ranked>⟧.ranks self.old slot item
             (item ∷ contents (slice_set self.old.slots slot None)) self.new }
@@ -142,10 +140,9 @@ impl<T: BiHashItem, S: BuildHasher> BiHashMap<T, S> {
         requires free { clash ⟦<T as Ranked>⟧.ranks
             (contents (slice_set (slice_set self.old.slots other_slot None) slot None)) item ≡ [] }
         requires hashes { HaveHashes
-            (⟦<T as Hashed<S>>⟧.hash1 self.old.builder item) (⟦<T as Hashed<S>>⟧.hash2 self.old.builder item) by.now }
+            (hashes_of (⟦<T as Hashed<S>>⟧.hashes self.old.builder) item) (by.now.0 ∷ by.now.1 ∷ []) }
         requires under { AreUnder
-            (⟦<T as Hashed<S>>⟧.hash1 self.old.builder) (⟦<T as Hashed<S>>⟧.hash2 self.old.builder)
-            self.old.slots by.now }
+            (⟦<T as Hashed<S>>⟧.hashes self.old.builder) self.old.slots (by.now.0 ∷ by.now.1 ∷ []) }
         ensures values { (get self.old.slots slot ≡ Some result.0) × (get self.old.slots other_slot ≡ Some result.1) }
         ensures puts_at { PutsAt ⟦<T as Ranked>⟧.ranks self.old slot item
             (item ∷ contents (slice_set (slice_set self.old.slots other_slot None) slot None)) self.new }

@@ -2,10 +2,10 @@
 ghost use Rattle.std.specs.Prelude.{◌≡◌, ◌≢◌, ◌+◌, ◌≤◌, [], ◌∷◌, length, map, None, Some, IfOk, IfErr, OnOk, OnErr, slice_set};
 ghost use Rattle.iddqd_store.specs.Bag.{clash, order, over};
 ghost use Rattle.iddqd_store.specs.Map.{bag, ListsConflicts, PutsAt};
+ghost use Rattle.iddqd_store.specs.Rank.All.{AreUnder, HaveHashes, hashes_of};
 ghost use Rattle.iddqd_store.specs.Rank.{walks_one, walks_within, walks_two};
 ghost use Rattle.iddqd_store.specs.Slots.{get, contents, IsLive};
 ghost use Rattle.iddqd_store.specs.Slots.Found.{each_once};
-ghost use Rattle.iddqd_tri.specs.Keys.{AreUnder, HaveHashes, ranks};
 
 mod three;
 
@@ -32,12 +32,9 @@ impl<T: TriHashItem, S: BuildHasher> TriHashMap<T, S> {
             (each_once (by.now.0.slot ∷ by.now.1.slot ∷ by.now.2.slot ∷ [])) }
         requires some { length (each_once (by.now.0.slot ∷ by.now.1.slot ∷ by.now.2.slot ∷ [])) ≢ 0 }
         requires hashes { HaveHashes
-            (⟦<T as Hashed<S>>⟧.hash1 self.old.builder item) (⟦<T as Hashed<S>>⟧.hash2 self.old.builder item)
-            (⟦<T as Hashed<S>>⟧.hash3 self.old.builder item) by.now }
+            (hashes_of (⟦<T as Hashed<S>>⟧.hashes self.old.builder) item) (by.now.0 ∷ by.now.1 ∷ by.now.2 ∷ []) }
         requires under { AreUnder
-            (⟦<T as Hashed<S>>⟧.hash1 self.old.builder) (⟦<T as Hashed<S>>⟧.hash2 self.old.builder)
-            (⟦<T as Hashed<S>>⟧.hash3 self.old.builder)
-            self.old.slots by.now }
+            (⟦<T as Hashed<S>>⟧.hashes self.old.builder) self.old.slots (by.now.0 ∷ by.now.1 ∷ by.now.2 ∷ []) }
         ensures displaced { result.0 ≡ order ⟦<T as Ranked>⟧.ranks (bag self.old) item }
         ensures puts_at { PutsAt ⟦<T as Ranked>⟧.ranks self.old result.1 item
             (over ⟦<T as Ranked>⟧.ranks (bag self.old) item) self.new }
@@ -123,12 +120,9 @@ impl<T: TriHashItem, S: BuildHasher> TriHashMap<T, S> {
         requires live { IsLive self.old.slots slot }
         requires free { clash ⟦<T as Ranked>⟧.ranks (contents (slice_set self.old.slots slot None)) item ≡ [] }
         requires hashes { HaveHashes
-            (⟦<T as Hashed<S>>⟧.hash1 self.old.builder item) (⟦<T as Hashed<S>>⟧.hash2 self.old.builder item)
-            (⟦<T as Hashed<S>>⟧.hash3 self.old.builder item) by.now }
+            (hashes_of (⟦<T as Hashed<S>>⟧.hashes self.old.builder) item) (by.now.0 ∷ by.now.1 ∷ by.now.2 ∷ []) }
         requires under { AreUnder
-            (⟦<T as Hashed<S>>⟧.hash1 self.old.builder) (⟦<T as Hashed<S>>⟧.hash2 self.old.builder)
-            (⟦<T as Hashed<S>>⟧.hash3 self.old.builder)
-            self.old.slots by.now }
+            (⟦<T as Hashed<S>>⟧.hashes self.old.builder) self.old.slots (by.now.0 ∷ by.now.1 ∷ by.now.2 ∷ []) }
         ensures value { get self.old.slots slot ≡ Some result }
         ensures puts_at { PutsAt ⟦<T as Ranked>⟧.ranks self.old slot item
             (item ∷ contents (slice_set self.old.slots slot None)) self.new }
@@ -165,12 +159,9 @@ impl<T: TriHashItem, S: BuildHasher> TriHashMap<T, S> {
         requires free { clash ⟦<T as Ranked>⟧.ranks
             (contents (slice_set (slice_set self.old.slots other_slot None) slot None)) item ≡ [] }
         requires hashes { HaveHashes
-            (⟦<T as Hashed<S>>⟧.hash1 self.old.builder item) (⟦<T as Hashed<S>>⟧.hash2 self.old.builder item)
-            (⟦<T as Hashed<S>>⟧.hash3 self.old.builder item) by.now }
+            (hashes_of (⟦<T as Hashed<S>>⟧.hashes self.old.builder) item) (by.now.0 ∷ by.now.1 ∷ by.now.2 ∷ []) }
         requires under { AreUnder
-            (⟦<T as Hashed<S>>⟧.hash1 self.old.builder) (⟦<T as Hashed<S>>⟧.hash2 self.old.builder)
-            (⟦<T as Hashed<S>>⟧.hash3 self.old.builder)
-            self.old.slots by.now }
+            (⟦<T as Hashed<S>>⟧.hashes self.old.builder) self.old.slots (by.now.0 ∷ by.now.1 ∷ by.now.2 ∷ []) }
         ensures values { (get self.old.slots slot ≡ Some result.0) × (get self.old.slots other_slot ≡ Some result.1) }
         ensures puts_at { PutsAt ⟦<T as Ranked>⟧.ranks self.old slot item
             (item ∷ contents (slice_set (slice_set self.old.slots other_slot None) slot None)) self.new }

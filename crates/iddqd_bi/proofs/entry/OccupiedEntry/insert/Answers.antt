@@ -25,10 +25,10 @@ put_over-displaced-requires-clause-under g c =
     let hash = hash_of g.S.BuildHasher g.S.Hasher.Hasher o.map.now.builder in
     let same1 : g.T.K1.PartialEq.eq o.key1.now (g.T.BiHashItem.key1 c.args.item) ≡ true = search rules in
     let same2 : g.T.K2.PartialEq.eq o.key2.now (g.T.BiHashItem.key2 c.args.item) ≡ true = search rules in
-    rw (c.new-by1.ensures, c.hash_of1.ensures, c.new-by2.ensures, c.hash_of2.ensures) record {
-      first = found_under _ _ _ o.slot1 _ c.requires.found.0 (λ x has. ap hash (sym (g.met.T.K1.Hash.respects_eq _ _ has) ∙ g.met.T.K1.Hash.respects_eq _ _ same1));
-      second = found_under _ _ _ o.slot2 _ c.requires.found.1.0 (λ x has. ap hash (sym (g.met.T.K2.Hash.respects_eq _ _ has) ∙ g.met.T.K2.Hash.respects_eq _ _ same2));
-    }
+    rw (c.new-by1.ensures, c.hash_of1.ensures, c.new-by2.ensures, c.hash_of2.ensures) (
+      found_under _ _ _ o.slot1 _ c.requires.found.0 (λ x has. ap hash (sym (g.met.T.K1.Hash.respects_eq _ _ has) ∙ g.met.T.K1.Hash.respects_eq _ _ same1)),
+      (found_under _ _ _ o.slot2 _ c.requires.found.1.0 (λ x has. ap hash (sym (g.met.T.K2.Hash.respects_eq _ _ has) ∙ g.met.T.K2.Hash.respects_eq _ _ same2)), tt),
+    )
 
 pub returns-clause-displaced : goal.returns-clause-displaced
 returns-clause-displaced g c =

@@ -21,7 +21,7 @@ insert_at-requires-clause-room g c =
     omega (arith, length-index c.self.invariant.indexes.0)
 
 pub insert_at-requires-clause-vacant : goal.insert_at-requires-clause-vacant
-insert_at-requires-clause-vacant g c = place_in c.self.invariant.indexes.0 (rw (← c.self.view_is) at c.requires.places).first
+insert_at-requires-clause-vacant g c = place_in c.self.invariant.indexes.0 (rw (← c.self.view_is) at c.requires.places).0
 
 pub insert_at-requires-2-clause-room : goal.insert_at-requires-2-clause-room
 insert_at-requires-2-clause-room g c =
@@ -29,13 +29,13 @@ insert_at-requires-2-clause-room g c =
     omega (arith, length-index c.self.invariant.indexes.1.0)
 
 pub insert_at-requires-2-clause-vacant : goal.insert_at-requires-2-clause-vacant
-insert_at-requires-2-clause-vacant g c = place_in c.self.invariant.indexes.1.0 (rw (← c.self.view_is) at c.requires.places).second
+insert_at-requires-2-clause-vacant g c = place_in c.self.invariant.indexes.1.0 (rw (← c.self.view_is) at c.requires.places).1.0
 
 pub invariant_of-self : goal.invariant_of-self
 invariant_of-self g c =
     let places = rw (← c.self.view_is) at c.requires.places in
     IsIndexed-insert c.args.item (AreLawful-ranks g.T.BiHashItem g.met.T.K1.Eq.laws g.met.T.K2.Eq.laws) c.self.invariant (rw (← c.self.view_is) at c.requires.free) c.insert_reserved-slot.ensures.members
-    ((_, places.first.same, c.insert_at.ensures.added), ((_, places.second.same, c.insert_at-2.ensures.added), tt))
+    ((_, places.0.same, c.insert_at.ensures.added), ((_, places.1.0.same, c.insert_at-2.ensures.added), tt))
 
 pub returns-clause-puts_at : goal.returns-clause-puts_at
 returns-clause-puts_at g c =

@@ -1,4 +1,4 @@
-use Rattle.std.proofs.Common.{rules, ◌≡◌, [], ◌∙◌}
+use Rattle.std.proofs.Common.{rules, ◌≡◌, []}
 use Rattle.iddqd_store.specs.Map.{bag}
 use Rattle.iddqd_bi.proofs.map.BiHashMap.pop.Goals as goal
 

@@ -7,13 +7,13 @@ use Rattle.iddqd_tri.proofs.MapLemmas.{AreLawful-ranks}
 use Rattle.iddqd_tri.proofs.map.TriHashMap.exchange.Goals as goal
 
 pub rehash-requires : goal.rehash-requires
-rehash-requires g c = paired_at c.args.by.now.0 c.args.slot c.replace-gone.result c.self.invariant.indexes.0 (rw (← c.self.view_is) at c.requires.under).first c.replace-gone.ensures.value
+rehash-requires g c = paired_at c.args.by.now.0 c.args.slot c.replace-gone.result c.self.invariant.indexes.0 (rw (← c.self.view_is) at c.requires.under).0 c.replace-gone.ensures.value
 
 pub rehash-requires-2 : goal.rehash-requires-2
-rehash-requires-2 g c = paired_at c.args.by.now.1 c.args.slot c.replace-gone.result c.self.invariant.indexes.1.0 (rw (← c.self.view_is) at c.requires.under).second c.replace-gone.ensures.value
+rehash-requires-2 g c = paired_at c.args.by.now.1 c.args.slot c.replace-gone.result c.self.invariant.indexes.1.0 (rw (← c.self.view_is) at c.requires.under).1.0 c.replace-gone.ensures.value
 
 pub rehash-requires-3 : goal.rehash-requires-3
-rehash-requires-3 g c = paired_at c.args.by.now.2 c.args.slot c.replace-gone.result c.self.invariant.indexes.1.1.0 (rw (← c.self.view_is) at c.requires.under).third c.replace-gone.ensures.value
+rehash-requires-3 g c = paired_at c.args.by.now.2 c.args.slot c.replace-gone.result c.self.invariant.indexes.1.1.0 (rw (← c.self.view_is) at c.requires.under).1.1.0 c.replace-gone.ensures.value
 
 pub invariant_of-self : goal.invariant_of-self
 invariant_of-self g c =
@@ -21,7 +21,7 @@ invariant_of-self g c =
     rw c.replace-gone.ensures.slots
     (IsIndexed-moved c.replace-gone.result c.args.item c.args.slot c.self.inside.items.slots c.replace-gone.ensures.value
     (AreLawful-ranks g.T.TriHashItem g.met.T.K1.Eq.laws g.met.T.K2.Eq.laws g.met.T.K3.Eq.laws) c.self.invariant (rw (← c.self.view_is) at c.requires.free)
-    ((_, hashes.first, c.rehash.ensures.moved), ((_, hashes.second, c.rehash-2.ensures.moved), ((_, hashes.third, c.rehash-3.ensures.moved), tt))))
+    ((_, hashes.0, c.rehash.ensures.moved), ((_, hashes.1.0, c.rehash-2.ensures.moved), ((_, hashes.1.1.0, c.rehash-3.ensures.moved), tt))))
 
 pub returns-clause-puts_at : goal.returns-clause-puts_at
 returns-clause-puts_at g c =

@@ -22,49 +22,49 @@ pub replace_three-requires-clause-gone : goal.replace_three-requires-clause-gone
 replace_three-requires-clause-gone g c =
     let slots = c.self.inside.items.slots in
     let one = first_there slots c.args.slots.0 c.args.slots.1 c.args.slots.2 c.replace-gone.result c.requires.apart (rw (c.in-Some-remove.ensures.taken.slots, c.in-Some.ensures.taken.slots) at c.replace-gone.ensures.value) in
-    paired_at c.args.by.now.0 c.args.slots.0 c.replace-gone.result c.self.invariant.indexes.0 (rw (← c.self.view_is) at c.requires.under).first one
+    paired_at c.args.by.now.0 c.args.slots.0 c.replace-gone.result c.self.invariant.indexes.0 (rw (← c.self.view_is) at c.requires.under).0 one
 
 pub replace_three-requires-clause-other : goal.replace_three-requires-clause-other
 replace_three-requires-clause-other g c =
     let slots = c.self.inside.items.slots in
     let two = second_there slots c.args.slots.1 c.args.slots.2 c.in-Some-remove.other c.requires.apart.2 (rw c.in-Some.ensures.taken.slots at (sym c.remove-2.ensures.value ∙ c.in-Some-remove.is)) in
-    paired_at c.args.by.now.0 c.args.slots.1 c.in-Some-remove.other c.self.invariant.indexes.0 (rw (← c.self.view_is) at c.requires.under).first two
+    paired_at c.args.by.now.0 c.args.slots.1 c.in-Some-remove.other c.self.invariant.indexes.0 (rw (← c.self.view_is) at c.requires.under).0 two
 
 pub replace_three-requires-clause-last : goal.replace_three-requires-clause-last
 replace_three-requires-clause-last g c =
-    paired_at c.args.by.now.0 c.args.slots.2 c.in-Some.last c.self.invariant.indexes.0 (rw (← c.self.view_is) at c.requires.under).first (sym c.remove.ensures.value ∙ c.in-Some.is)
+    paired_at c.args.by.now.0 c.args.slots.2 c.in-Some.last c.self.invariant.indexes.0 (rw (← c.self.view_is) at c.requires.under).0 (sym c.remove.ensures.value ∙ c.in-Some.is)
 
 pub replace_three-requires-2-clause-gone : goal.replace_three-requires-2-clause-gone
 replace_three-requires-2-clause-gone g c =
     let slots = c.self.inside.items.slots in
     let one = first_there slots c.args.slots.0 c.args.slots.1 c.args.slots.2 c.replace-gone.result c.requires.apart (rw (c.in-Some-remove.ensures.taken.slots, c.in-Some.ensures.taken.slots) at c.replace-gone.ensures.value) in
-    paired_at c.args.by.now.1 c.args.slots.0 c.replace-gone.result c.self.invariant.indexes.1.0 (rw (← c.self.view_is) at c.requires.under).second one
+    paired_at c.args.by.now.1 c.args.slots.0 c.replace-gone.result c.self.invariant.indexes.1.0 (rw (← c.self.view_is) at c.requires.under).1.0 one
 
 pub replace_three-requires-2-clause-other : goal.replace_three-requires-2-clause-other
 replace_three-requires-2-clause-other g c =
     let slots = c.self.inside.items.slots in
     let two = second_there slots c.args.slots.1 c.args.slots.2 c.in-Some-remove.other c.requires.apart.2 (rw c.in-Some.ensures.taken.slots at (sym c.remove-2.ensures.value ∙ c.in-Some-remove.is)) in
-    paired_at c.args.by.now.1 c.args.slots.1 c.in-Some-remove.other c.self.invariant.indexes.1.0 (rw (← c.self.view_is) at c.requires.under).second two
+    paired_at c.args.by.now.1 c.args.slots.1 c.in-Some-remove.other c.self.invariant.indexes.1.0 (rw (← c.self.view_is) at c.requires.under).1.0 two
 
 pub replace_three-requires-2-clause-last : goal.replace_three-requires-2-clause-last
 replace_three-requires-2-clause-last g c =
-    paired_at c.args.by.now.1 c.args.slots.2 c.in-Some.last c.self.invariant.indexes.1.0 (rw (← c.self.view_is) at c.requires.under).second (sym c.remove.ensures.value ∙ c.in-Some.is)
+    paired_at c.args.by.now.1 c.args.slots.2 c.in-Some.last c.self.invariant.indexes.1.0 (rw (← c.self.view_is) at c.requires.under).1.0 (sym c.remove.ensures.value ∙ c.in-Some.is)
 
 pub replace_three-requires-3-clause-gone : goal.replace_three-requires-3-clause-gone
 replace_three-requires-3-clause-gone g c =
     let slots = c.self.inside.items.slots in
     let one = first_there slots c.args.slots.0 c.args.slots.1 c.args.slots.2 c.replace-gone.result c.requires.apart (rw (c.in-Some-remove.ensures.taken.slots, c.in-Some.ensures.taken.slots) at c.replace-gone.ensures.value) in
-    paired_at c.args.by.now.2 c.args.slots.0 c.replace-gone.result c.self.invariant.indexes.1.1.0 (rw (← c.self.view_is) at c.requires.under).third one
+    paired_at c.args.by.now.2 c.args.slots.0 c.replace-gone.result c.self.invariant.indexes.1.1.0 (rw (← c.self.view_is) at c.requires.under).1.1.0 one
 
 pub replace_three-requires-3-clause-other : goal.replace_three-requires-3-clause-other
 replace_three-requires-3-clause-other g c =
     let slots = c.self.inside.items.slots in
     let two = second_there slots c.args.slots.1 c.args.slots.2 c.in-Some-remove.other c.requires.apart.2 (rw c.in-Some.ensures.taken.slots at (sym c.remove-2.ensures.value ∙ c.in-Some-remove.is)) in
-    paired_at c.args.by.now.2 c.args.slots.1 c.in-Some-remove.other c.self.invariant.indexes.1.1.0 (rw (← c.self.view_is) at c.requires.under).third two
+    paired_at c.args.by.now.2 c.args.slots.1 c.in-Some-remove.other c.self.invariant.indexes.1.1.0 (rw (← c.self.view_is) at c.requires.under).1.1.0 two
 
 pub replace_three-requires-3-clause-last : goal.replace_three-requires-3-clause-last
 replace_three-requires-3-clause-last g c =
-    paired_at c.args.by.now.2 c.args.slots.2 c.in-Some.last c.self.invariant.indexes.1.1.0 (rw (← c.self.view_is) at c.requires.under).third (sym c.remove.ensures.value ∙ c.in-Some.is)
+    paired_at c.args.by.now.2 c.args.slots.2 c.in-Some.last c.self.invariant.indexes.1.1.0 (rw (← c.self.view_is) at c.requires.under).1.1.0 (sym c.remove.ensures.value ∙ c.in-Some.is)
 
 pub invariant_of-self : goal.invariant_of-self
 invariant_of-self g c =
@@ -75,7 +75,7 @@ invariant_of-self g c =
     rw (c.replace-gone.ensures.slots, c.in-Some-remove.ensures.taken.slots, c.in-Some.ensures.taken.slots)
     (IsIndexed-all_replaced c.replace-gone.result c.in-Some-remove.other c.in-Some.last c.args.item c.args.slots.0 c.args.slots.1 c.args.slots.2 slots c.requires.apart one two (sym c.remove.ensures.value ∙ c.in-Some.is)
     (AreLawful-ranks g.T.TriHashItem g.met.T.K1.Eq.laws g.met.T.K2.Eq.laws g.met.T.K3.Eq.laws) c.self.invariant (rw (← c.self.view_is) at c.requires.free)
-    ((_, hashes.first, c.replace_three.ensures.replaced), ((_, hashes.second, c.replace_three-2.ensures.replaced), ((_, hashes.third, c.replace_three-3.ensures.replaced), tt))))
+    ((_, hashes.0, c.replace_three.ensures.replaced), ((_, hashes.1.0, c.replace_three-2.ensures.replaced), ((_, hashes.1.1.0, c.replace_three-3.ensures.replaced), tt))))
 
 pub returns-clause-puts_at : goal.returns-clause-puts_at
 returns-clause-puts_at g c =

@@ -13,31 +13,31 @@ pub replace_two-requires-clause-gone : goal.replace_two-requires-clause-gone
 replace_two-requires-clause-gone g c =
     let slots = c.self.inside.items.slots in
     let here = sym (get_or-set_other slots c.args.other_slot c.args.slot None None c.requires.apart) ∙ (rw c.in-Some.ensures.taken.slots at c.replace-gone.ensures.value) in
-    paired_at c.args.by.now.0 c.args.slot c.replace-gone.result c.self.invariant.indexes.0 (rw (← c.self.view_is) at c.requires.under).first here
+    paired_at c.args.by.now.0 c.args.slot c.replace-gone.result c.self.invariant.indexes.0 (rw (← c.self.view_is) at c.requires.under).0 here
 
 pub replace_two-requires-clause-other : goal.replace_two-requires-clause-other
 replace_two-requires-clause-other g c =
-    paired_at c.args.by.now.0 c.args.other_slot c.in-Some.other c.self.invariant.indexes.0 (rw (← c.self.view_is) at c.requires.under).first (sym c.remove.ensures.value ∙ c.in-Some.is)
+    paired_at c.args.by.now.0 c.args.other_slot c.in-Some.other c.self.invariant.indexes.0 (rw (← c.self.view_is) at c.requires.under).0 (sym c.remove.ensures.value ∙ c.in-Some.is)
 
 pub replace_two-requires-2-clause-gone : goal.replace_two-requires-2-clause-gone
 replace_two-requires-2-clause-gone g c =
     let slots = c.self.inside.items.slots in
     let here = sym (get_or-set_other slots c.args.other_slot c.args.slot None None c.requires.apart) ∙ (rw c.in-Some.ensures.taken.slots at c.replace-gone.ensures.value) in
-    paired_at c.args.by.now.1 c.args.slot c.replace-gone.result c.self.invariant.indexes.1.0 (rw (← c.self.view_is) at c.requires.under).second here
+    paired_at c.args.by.now.1 c.args.slot c.replace-gone.result c.self.invariant.indexes.1.0 (rw (← c.self.view_is) at c.requires.under).1.0 here
 
 pub replace_two-requires-2-clause-other : goal.replace_two-requires-2-clause-other
 replace_two-requires-2-clause-other g c =
-    paired_at c.args.by.now.1 c.args.other_slot c.in-Some.other c.self.invariant.indexes.1.0 (rw (← c.self.view_is) at c.requires.under).second (sym c.remove.ensures.value ∙ c.in-Some.is)
+    paired_at c.args.by.now.1 c.args.other_slot c.in-Some.other c.self.invariant.indexes.1.0 (rw (← c.self.view_is) at c.requires.under).1.0 (sym c.remove.ensures.value ∙ c.in-Some.is)
 
 pub replace_two-requires-3-clause-gone : goal.replace_two-requires-3-clause-gone
 replace_two-requires-3-clause-gone g c =
     let slots = c.self.inside.items.slots in
     let here = sym (get_or-set_other slots c.args.other_slot c.args.slot None None c.requires.apart) ∙ (rw c.in-Some.ensures.taken.slots at c.replace-gone.ensures.value) in
-    paired_at c.args.by.now.2 c.args.slot c.replace-gone.result c.self.invariant.indexes.1.1.0 (rw (← c.self.view_is) at c.requires.under).third here
+    paired_at c.args.by.now.2 c.args.slot c.replace-gone.result c.self.invariant.indexes.1.1.0 (rw (← c.self.view_is) at c.requires.under).1.1.0 here
 
 pub replace_two-requires-3-clause-other : goal.replace_two-requires-3-clause-other
 replace_two-requires-3-clause-other g c =
-    paired_at c.args.by.now.2 c.args.other_slot c.in-Some.other c.self.invariant.indexes.1.1.0 (rw (← c.self.view_is) at c.requires.under).third (sym c.remove.ensures.value ∙ c.in-Some.is)
+    paired_at c.args.by.now.2 c.args.other_slot c.in-Some.other c.self.invariant.indexes.1.1.0 (rw (← c.self.view_is) at c.requires.under).1.1.0 (sym c.remove.ensures.value ∙ c.in-Some.is)
 
 pub invariant_of-self : goal.invariant_of-self
 invariant_of-self g c =
@@ -47,7 +47,7 @@ invariant_of-self g c =
     rw (c.replace-gone.ensures.slots, c.in-Some.ensures.taken.slots)
     (IsIndexed-replaced c.replace-gone.result c.in-Some.other c.args.item c.args.slot c.args.other_slot slots c.requires.apart here (sym c.remove.ensures.value ∙ c.in-Some.is)
     (AreLawful-ranks g.T.TriHashItem g.met.T.K1.Eq.laws g.met.T.K2.Eq.laws g.met.T.K3.Eq.laws) c.self.invariant (rw (← c.self.view_is) at c.requires.free)
-    ((_, hashes.first, c.replace_two.ensures.replaced), ((_, hashes.second, c.replace_two-2.ensures.replaced), ((_, hashes.third, c.replace_two-3.ensures.replaced), tt))))
+    ((_, hashes.0, c.replace_two.ensures.replaced), ((_, hashes.1.0, c.replace_two-2.ensures.replaced), ((_, hashes.1.1.0, c.replace_two-3.ensures.replaced), tt))))
 
 pub returns-clause-puts_at : goal.returns-clause-puts_at
 returns-clause-puts_at g c =

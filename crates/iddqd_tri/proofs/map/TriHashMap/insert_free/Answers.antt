@@ -1,4 +1,4 @@
-use Rattle.std.proofs.Common.{rules, refl, ◌≡◌, true, ap, ◌∙◌}
+use Rattle.std.proofs.Common.{rules, refl, ◌≡◌, true, ap}
 use Rattle.iddqd_store.specs.Map.{hash_of}
 use Rattle.iddqd_tri.proofs.MapLemmas.{clash-all}
 use Rattle.iddqd_tri.proofs.map.TriHashMap.insert_free.Goals as goal
@@ -16,13 +16,10 @@ insert_at-requires-clause-places g c =
     let same2 : g.T.K2.PartialEq.eq c.args.key2.now (g.T.TriHashItem.key2 c.args.item) ≡ true = search rules in
     let same3 : g.T.K3.PartialEq.eq c.args.key3.now (g.T.TriHashItem.key3 c.args.item) ≡ true = search rules in
     let hash = hash_of g.S.BuildHasher g.S.Hasher.Hasher c.args.self.now.builder in
-    let vacant = c.requires.vacant in
-    rw (c.make_room.ensures.slots, c.make_room.ensures.builder)
-    (record {
-      first = record { same = vacant.first.same ∙ ap hash (g.met.T.K1.Hash.respects_eq _ _ same1); free = vacant.first.free; fits = vacant.first.fits };
-      second = record { same = vacant.second.same ∙ ap hash (g.met.T.K2.Hash.respects_eq _ _ same2); free = vacant.second.free; fits = vacant.second.fits };
-      third = record { same = vacant.third.same ∙ ap hash (g.met.T.K3.Hash.respects_eq _ _ same3); free = vacant.third.free; fits = vacant.third.fits };
-    })
+    let hash1 = ap hash (g.met.T.K1.Hash.respects_eq _ _ same1) in
+    let hash2 = ap hash (g.met.T.K2.Hash.respects_eq _ _ same2) in
+    let hash3 = ap hash (g.met.T.K3.Hash.respects_eq _ _ same3) in
+    rw (c.make_room.ensures.slots, c.make_room.ensures.builder, ← hash1, ← hash2, ← hash3) c.requires.vacant
 
 pub returns-in-Err-clause-hands_back : goal.returns-in-Err-clause-hands_back
 returns-in-Err-clause-hands_back g c =

@@ -1,4 +1,4 @@
-use Rattle.std.proofs.Common.{rules, ◌≡◌, [], ◌∙◌}
+use Rattle.std.proofs.Common.{rules, ◌≡◌, []}
 use Rattle.iddqd_store.specs.Map.{bag}
 use Rattle.iddqd_tri.proofs.map.TriHashMap.pop.Goals as goal
 

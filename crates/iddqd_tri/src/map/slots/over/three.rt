@@ -2,9 +2,9 @@
 ghost use Rattle.std.specs.Prelude.{◌≡◌, ◌≢◌, ◌+◌, ◌≤◌, [], ◌∷◌, length, None, Some, slice_set};
 ghost use Rattle.iddqd_store.specs.Bag.{clash};
 ghost use Rattle.iddqd_store.specs.Map.{bag, PutsAt};
+ghost use Rattle.iddqd_store.specs.Rank.All.{AreUnder, HaveHashes, hashes_of};
 ghost use Rattle.iddqd_store.specs.Rank.{walks_three, walks_within};
 ghost use Rattle.iddqd_store.specs.Slots.{get, contents, IsLive};
-ghost use Rattle.iddqd_tri.specs.Keys.{AreUnder, HaveHashes};
 
 use crate::item::{Hashed, Ranked, TriHashItem};
 use crate::map::TriHashMap;
@@ -28,11 +28,9 @@ impl<T: TriHashItem, S: BuildHasher> TriHashMap<T, S> {
         requires free { clash ⟦<T as Ranked>⟧.ranks (contents
             (slice_set (slice_set (slice_set self.old.slots slots.2 None) slots.1 None) slots.0 None)) item ≡ [] }
         requires hashes { HaveHashes
-            (⟦<T as Hashed<S>>⟧.hash1 self.old.builder item) (⟦<T as Hashed<S>>⟧.hash2 self.old.builder item)
-            (⟦<T as Hashed<S>>⟧.hash3 self.old.builder item) by.now }
+            (hashes_of (⟦<T as Hashed<S>>⟧.hashes self.old.builder) item) (by.now.0 ∷ by.now.1 ∷ by.now.2 ∷ []) }
         requires under { AreUnder
-            (⟦<T as Hashed<S>>⟧.hash1 self.old.builder) (⟦<T as Hashed<S>>⟧.hash2 self.old.builder)
-            (⟦<T as Hashed<S>>⟧.hash3 self.old.builder) self.old.slots by.now }
+            (⟦<T as Hashed<S>>⟧.hashes self.old.builder) self.old.slots (by.now.0 ∷ by.now.1 ∷ by.now.2 ∷ []) }
         ensures values { (get self.old.slots slots.0 ≡ Some result.0) × (get self.old.slots slots.1 ≡ Some result.1)
             × (get self.old.slots slots.2 ≡ Some result.2) }
         ensures puts_at { PutsAt ⟦<T as Ranked>⟧.ranks self.old slots.0 item (item ∷ contents
