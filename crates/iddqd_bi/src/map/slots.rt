@@ -229,8 +229,10 @@ impl<T: BiHashItem, S: BuildHasher> BiHashMap<T, S> {
         ensures left { (slot : ℕ) (x : T) → get self.new.slots slot ≡ Some x → get self.old.slots slot ≡ Some x }
     {
         let mut taken = UpToTwo::new();
-        for slot in found.iter() {
-            taken.push(self.take(*slot, None, None, &mut Meter::new()));
+        for index in 0..found.len() {
+            if let Some(slot) = found.get(index) {
+                taken.push(self.take(*slot, None, None, &mut Meter::new()));
+            }
         }
         taken
     }
