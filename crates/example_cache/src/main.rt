@@ -60,15 +60,24 @@ fn answer(rt: &impl Print, cache: &mut Cache, command: Command) -> io::Result<()
     }
 }
 
-fn main(rt: HostRuntime) -> io::Result<()> {
-    let mut cache = Cache::new(rt.alloc(), LIMIT)?;
+/// Carries out the command of a line, and prints the answer.
+fn answer_line(rt: &(impl Print + AllocGlobal), cache: &mut Cache, line: &str) -> io::Result<()> {
+    let words: Vec<&str> = line.split_whitespace().collect(rt.alloc())?;
+    match parse(words.as_slice()) {
+        Some(command) => answer(rt, cache, command),
+        None => rt.println("bad line"),
+    }
+}
+
+/// Answers each line of the input.
+fn answer_lines(rt: &(impl Print + Input + AllocGlobal), cache: &mut Cache) -> io::Result<()> {
     for line in rt.lines(rt.alloc()) {
-        let line = line?;
-        let words: Vec<&str> = line.split_whitespace().collect(rt.alloc())?;
-        match parse(words.as_slice()) {
-            Some(command) => answer(&rt, &mut cache, command)?,
-            None => rt.println("bad line")?,
-        }
+        answer_line(rt, cache, line?.as_str())?;
     }
     Ok(())
+}
+
+fn main(rt: HostRuntime) -> io::Result<()> {
+    let mut cache = Cache::new(rt.alloc(), LIMIT)?;
+    answer_lines(&rt, &mut cache)
 }

@@ -76,15 +76,31 @@ fn answer(rt: &impl Print, devices: &mut BiHashMap<Device>, command: Command) ->
     }
 }
 
-fn main(rt: HostRuntime) -> io::Result<()> {
-    let mut devices = with_limit(rt.alloc(), LIMIT)?;
+/// Carries out the command of a line, and prints the answer.
+fn answer_line(
+    rt: &(impl Print + AllocGlobal),
+    devices: &mut BiHashMap<Device>,
+    line: &str,
+) -> io::Result<()> {
+    let words: Vec<&str> = line.split_whitespace().collect(rt.alloc())?;
+    match parse(words.as_slice()) {
+        Some(command) => answer(rt, devices, command),
+        None => rt.println("bad line"),
+    }
+}
+
+/// Answers each line of the input.
+fn answer_lines(
+    rt: &(impl Print + Input + AllocGlobal),
+    devices: &mut BiHashMap<Device>,
+) -> io::Result<()> {
     for line in rt.lines(rt.alloc()) {
-        let line = line?;
-        let words: Vec<&str> = line.split_whitespace().collect(rt.alloc())?;
-        match parse(words.as_slice()) {
-            Some(command) => answer(&rt, &mut devices, command)?,
-            None => rt.println("bad line")?,
-        }
+        answer_line(rt, devices, line?.as_str())?;
     }
     Ok(())
+}
+
+fn main(rt: HostRuntime) -> io::Result<()> {
+    let mut devices = with_limit(rt.alloc(), LIMIT)?;
+    answer_lines(&rt, &mut devices)
 }

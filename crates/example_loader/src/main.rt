@@ -36,21 +36,41 @@ fn answer(
     }
 }
 
+/// Adds a line to the text of a batch. An empty line ends the batch.
+fn take_line(
+    rt: &(impl Print + AllocGlobal),
+    records: &mut BiHashMap<Record>,
+    text: &mut String,
+    line: &str,
+) -> io::Result<()> {
+    if !line.is_empty() {
+        text.push_str(line)?;
+        text.push('\n')?;
+    } else if !text.is_empty() {
+        answer(rt, records, text.as_str())?;
+        text.clear();
+    }
+    Ok(())
+}
+
+/// Answers each batch of the input.
+fn answer_lines(
+    rt: &(impl Print + Input + AllocGlobal),
+    records: &mut BiHashMap<Record>,
+    text: &mut String,
+) -> io::Result<()> {
+    for line in rt.lines(rt.alloc()) {
+        take_line(rt, records, text, line?.as_str())?;
+    }
+    if !text.is_empty() {
+        answer(rt, records, text.as_str())?;
+    }
+    Ok(())
+}
+
 fn main(rt: HostRuntime) -> io::Result<()> {
     let mut records = BiHashMap::new(rt.alloc());
     let mut text = String::new(rt.alloc());
-    for line in rt.lines(rt.alloc()) {
-        let line = line?;
-        if !line.is_empty() {
-            text.push_str(line.as_str())?;
-            text.push('\n')?;
-        } else if !text.is_empty() {
-            answer(&rt, &mut records, text.as_str())?;
-            text.clear();
-        }
-    }
-    if !text.is_empty() {
-        answer(&rt, &mut records, text.as_str())?;
-    }
+    answer_lines(&rt, &mut records, &mut text)?;
     println!(rt; "{} records", records.len())
 }

@@ -10,14 +10,13 @@ use crate::orders::{Order, add, cheapest, replace_all, swap_places};
 use crate::shared::{close, open};
 use iddqd_bi::BiHashMap;
 use std::alloc::Global;
+use std::rc::Rc;
 
-/// Makes a map of three orders.
-fn three_orders(alloc: Global) -> anyhow::Result<BiHashMap<Order>> {
-    let mut orders = BiHashMap::new(alloc);
-    add(&mut orders, Order::new(1, 10, 300))?;
-    add(&mut orders, Order::new(2, 20, 100))?;
-    add(&mut orders, Order::new(3, 30, 200))?;
-    Ok(orders)
+/// Adds three orders.
+fn add_three(orders: &mut BiHashMap<Order>) -> anyhow::Result<()> {
+    add(orders, Order::new(1, 10, 300))?;
+    add(orders, Order::new(2, 20, 100))?;
+    add(orders, Order::new(3, 30, 200))
 }
 
 /// Returns at which place the first order is.
@@ -64,34 +63,66 @@ fn show_swapped(rt: &impl Print, orders: &mut BiHashMap<Order>) -> anyhow::Resul
     Ok(())
 }
 
-fn show_books(rt: &impl Print, alloc: Global) -> anyhow::Result<()> {
-    let mut books = BiHashMap::new(alloc);
+/// Adds three orders, and shows what each recipe makes of them.
+fn show_changes(
+    rt: &impl Print,
+    alloc: Global,
+    orders: &mut BiHashMap<Order>,
+) -> anyhow::Result<()> {
+    add_three(orders)?;
+    show_refused(rt, orders)?;
+    show_cheapest(rt, alloc, orders)?;
+    show_replaced(rt, alloc, orders)?;
+    show_swapped(rt, orders)
+}
+
+/// Runs the recipes for orders on one map.
+fn show_orders(rt: &impl Print, alloc: Global) -> anyhow::Result<()> {
+    let mut orders = BiHashMap::new(alloc);
+    show_changes(rt, alloc, &mut orders)
+}
+
+/// Adds a book, and enters an order into it.
+fn show_entered(rt: &impl Print, alloc: Global, books: &mut BiHashMap<Book>) -> anyhow::Result<()> {
     books.try_insert(Book {
         name: "bonds".to_string(alloc)?,
         shelf: 1,
         orders: BiHashMap::new(alloc),
     })?;
-    let entered = enter(&mut books, "bonds", Order::new(1, 10, 300));
+    let entered = enter(books, "bonds", Order::new(1, 10, 300));
     println!(rt; "entered: {entered}")?;
     Ok(())
 }
 
-fn show_shared(rt: &impl Print, alloc: Global) -> anyhow::Result<()> {
-    let mut all = BiHashMap::new(alloc);
-    let mut opened = BiHashMap::new(alloc);
-    open(alloc, &mut all, &mut opened, Order::new(1, 10, 300))?;
-    open(alloc, &mut all, &mut opened, Order::new(2, 20, 100))?;
-    close(&mut opened, 1);
+/// Runs the recipe with maps in a map.
+fn show_books(rt: &impl Print, alloc: Global) -> anyhow::Result<()> {
+    let mut books = BiHashMap::new(alloc);
+    show_entered(rt, alloc, &mut books)
+}
+
+/// Opens two orders, and closes one of them.
+fn show_opened(
+    rt: &impl Print,
+    alloc: Global,
+    all: &mut BiHashMap<Rc<Order>>,
+    opened: &mut BiHashMap<Rc<Order>>,
+) -> anyhow::Result<()> {
+    open(alloc, all, opened, Order::new(1, 10, 300))?;
+    open(alloc, all, opened, Order::new(2, 20, 100))?;
+    close(opened, 1);
     println!(rt; "{} of {} are open", opened.len(), all.len())?;
     Ok(())
 }
 
+/// Runs the recipe with items that two maps share.
+fn show_shared(rt: &impl Print, alloc: Global) -> anyhow::Result<()> {
+    let mut all = BiHashMap::new(alloc);
+    let mut opened = BiHashMap::new(alloc);
+    show_opened(rt, alloc, &mut all, &mut opened)
+}
+
 fn main(rt: HostRuntime) -> anyhow::Result<()> {
-    let mut orders = three_orders(rt.alloc())?;
-    show_refused(&rt, &mut orders)?;
-    show_cheapest(&rt, rt.alloc(), &orders)?;
-    show_replaced(&rt, rt.alloc(), &mut orders)?;
-    show_swapped(&rt, &mut orders)?;
+    show_orders(&rt, rt.alloc())?;
     show_books(&rt, rt.alloc())?;
     show_shared(&rt, rt.alloc())
 }

@@ -94,15 +94,31 @@ fn answer(rt: &impl Print, sessions: &mut Sessions, command: Command) -> io::Res
     }
 }
 
-fn main(rt: HostRuntime) -> io::Result<()> {
-    let mut sessions = TriHashMap::with_hasher(rt.alloc(), RandomState::new(&rt)?);
+/// Carries out the command of a line, and prints the answer.
+fn answer_line(
+    rt: &(impl Print + AllocGlobal),
+    sessions: &mut Sessions,
+    line: &str,
+) -> io::Result<()> {
+    let words: Vec<&str> = line.split_whitespace().collect(rt.alloc())?;
+    match parse(words.as_slice()) {
+        Some(command) => answer(rt, sessions, command),
+        None => rt.println("bad line"),
+    }
+}
+
+/// Answers each line of the input.
+fn answer_lines(
+    rt: &(impl Print + Input + AllocGlobal),
+    sessions: &mut Sessions,
+) -> io::Result<()> {
     for line in rt.lines(rt.alloc()) {
-        let line = line?;
-        let words: Vec<&str> = line.split_whitespace().collect(rt.alloc())?;
-        match parse(words.as_slice()) {
-            Some(command) => answer(&rt, &mut sessions, command)?,
-            None => rt.println("bad line")?,
-        }
+        answer_line(rt, sessions, line?.as_str())?;
     }
     Ok(())
+}
+
+fn main(rt: HostRuntime) -> io::Result<()> {
+    let mut sessions = TriHashMap::with_hasher(rt.alloc(), RandomState::new(&rt)?);
+    answer_lines(&rt, &mut sessions)
 }

@@ -102,15 +102,31 @@ fn answer(
     }
 }
 
-fn main(rt: HostRuntime) -> io::Result<()> {
-    let mut symbols = BiHashMap::new(rt.alloc());
+/// Carries out the command of a line, and prints the answer.
+fn answer_line(
+    rt: &(impl Print + AllocGlobal),
+    symbols: &mut BiHashMap<Symbol>,
+    line: &str,
+) -> io::Result<()> {
+    let words: Vec<&str> = line.split_whitespace().collect(rt.alloc())?;
+    match parse(words.as_slice()) {
+        Some(command) => answer(rt, symbols, command),
+        None => rt.println("bad line"),
+    }
+}
+
+/// Answers each line of the input.
+fn answer_lines(
+    rt: &(impl Print + Input + AllocGlobal),
+    symbols: &mut BiHashMap<Symbol>,
+) -> io::Result<()> {
     for line in rt.lines(rt.alloc()) {
-        let line = line?;
-        let words: Vec<&str> = line.split_whitespace().collect(rt.alloc())?;
-        match parse(words.as_slice()) {
-            Some(command) => answer(&rt, &mut symbols, command)?,
-            None => rt.println("bad line")?,
-        }
+        answer_line(rt, symbols, line?.as_str())?;
     }
     Ok(())
+}
+
+fn main(rt: HostRuntime) -> io::Result<()> {
+    let mut symbols = BiHashMap::new(rt.alloc());
+    answer_lines(&rt, &mut symbols)
 }

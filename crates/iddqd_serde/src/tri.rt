@@ -1,5 +1,5 @@
 //! A `TriHashMap` as a sequence of its items. On a field write `#[serde(with = "iddqd_serde::tri")]`.
-ghost use Rattle.std.specs.Prelude.{length, IfOk, OnOk};
+ghost use Rattle.std.specs.Prelude.{◌≡◌, [], length, IfOk, OnOk};
 ghost use Rattle.iddqd_tri.specs.Map.{Gains, bag};
 ghost use Rattle.iddqd_serde.specs.Reading.{ReadsSeq};
 ghost use Rattle.serde.specs.Event.{WritesSeq};
@@ -47,13 +47,28 @@ pub fn deserialize<'de, T: Ranked + Deserialize<'de>, S: BuildHasher + Default +
     ensures builder { IfOk result (λ map. S.is_default map.builder) }
 {
     let mut map = TriHashMap::default(alloc);
+    fill(&mut map, alloc, from)?;
+    Ok(map)
+}
+
+/// Reads a sequence of items, which may borrow from the input, into an empty map.
+fn fill<'de, T: Ranked + Deserialize<'de>, S: BuildHasher + Drop, F: Format>(
+    map: &mut TriHashMap<T, S>,
+    alloc: Global,
+    from: &mut Deserializer<'de, '_, F>,
+) -> Result<(), F::Error>
+    requires empty { bag map.old ≡ [] }
+    // The map has as many items then as were read between the marks of a sequence.
+    ensures reads { OnOk result (ReadsSeq F.gives F.stays (length (bag map.new)) from.old from.new) }
+    ensures builder { OnOk result (map.new.builder ≡ map.old.builder) }
+{
     from.begin_seq()?;
     for _ in 0..u64::MAX {
         if !from.next_item()? {
-            return Ok(map);
+            return Ok(());
         }
         let item = T::deserialize(alloc, from)?;
-        put(&mut map, item, from)?;
+        put(map, item, from)?;
     }
     Err(from.no_memory())
 }
@@ -68,13 +83,28 @@ pub fn deserialize_owned<T: Ranked + DeserializeOwned, S: BuildHasher + Default 
     ensures builder { IfOk result (λ map. S.is_default map.builder) }
 {
     let mut map = TriHashMap::default(alloc);
+    fill_owned(&mut map, alloc, from)?;
+    Ok(map)
+}
+
+/// Reads a sequence of items that borrow nothing from the input into an empty map.
+fn fill_owned<T: Ranked + DeserializeOwned, S: BuildHasher + Drop, F: Format>(
+    map: &mut TriHashMap<T, S>,
+    alloc: Global,
+    from: &mut Deserializer<'_, '_, F>,
+) -> Result<(), F::Error>
+    requires empty { bag map.old ≡ [] }
+    // The map has as many items then as were read between the marks of a sequence.
+    ensures reads { OnOk result (ReadsSeq F.gives F.stays (length (bag map.new)) from.old from.new) }
+    ensures builder { OnOk result (map.new.builder ≡ map.old.builder) }
+{
     from.begin_seq()?;
     for _ in 0..u64::MAX {
         if !from.next_item()? {
-            return Ok(map);
+            return Ok(());
         }
         let item = T::deserialize_owned(alloc, from)?;
-        put(&mut map, item, from)?;
+        put(map, item, from)?;
     }
     Err(from.no_memory())
 }

@@ -4,7 +4,7 @@ use Rattle.serde.specs.Steps.{Gives, Stays}
 use Rattle.iddqd_store.proofs.CallerLemmas.{length-inserted}
 use Rattle.iddqd_tri.specs.Map.{bag}
 use Rattle.iddqd_serde.proofs.Counting.{HasRead-more}
-use Rattle.iddqd_serde.proofs.tri.deserialize_owned.Goals as goal
+use Rattle.iddqd_serde.proofs.tri.fill.Goals as goal
 
 -- the sequence ends after the items that were read
 pub returns-then-not-branch-clause-reads : goal.returns-then-not-branch-clause-reads

@@ -2,9 +2,9 @@ use Rattle.std.proofs.Common.{rules}
 use Rattle.serde.specs.Event.{seq_ends}
 use Rattle.serde.specs.Steps.{Gives, Stays}
 use Rattle.iddqd_store.proofs.CallerLemmas.{length-inserted}
-use Rattle.iddqd_bi.specs.Map.{bag}
+use Rattle.iddqd_tri.specs.Map.{bag}
 use Rattle.iddqd_serde.proofs.Counting.{HasRead-more}
-use Rattle.iddqd_serde.proofs.bi.deserialize.Goals as goal
+use Rattle.iddqd_serde.proofs.tri.fill_owned.Goals as goal
 
 -- the sequence ends after the items that were read
 pub returns-then-not-branch-clause-reads : goal.returns-then-not-branch-clause-reads

@@ -4,7 +4,7 @@ use Rattle.serde.specs.Steps.{Gives, Stays}
 use Rattle.iddqd_store.proofs.CallerLemmas.{length-inserted}
 use Rattle.iddqd_bi.specs.Map.{bag}
 use Rattle.iddqd_serde.proofs.Counting.{HasRead-more}
-use Rattle.iddqd_serde.proofs.bi.deserialize_owned.Goals as goal
+use Rattle.iddqd_serde.proofs.bi.fill_owned.Goals as goal
 
 -- the sequence ends after the items that were read
 pub returns-then-not-branch-clause-reads : goal.returns-then-not-branch-clause-reads

@@ -1,8 +1,0 @@
-use Rattle.std.specs.Prelude.{length}
-use Rattle.iddqd_bi.specs.Map.{bag}
-use Rattle.iddqd_serde.specs.Reading.{HasRead}
-use Rattle.iddqd_serde.proofs.bi.deserialize.Given as goal
-
--- as many items were read as the map has
-abbrev pub invariant-loop : goal.invariant-loop
-invariant-loop g l = HasRead g.F.Format.gives g.F.Format.stays (length (bag l.map)) l.fn.from l.from × g.S.Default.is_default l.map.builder
