@@ -1,40 +1,15 @@
-//! Callers of the map with three keys, proved from its public contracts alone.
+//! Callers of the map with three keys, proved from its public contracts alone: laws that hold for several calls
+//! together, a table of sessions, and the insert of a batch, which the table calls. The other callers are in
+//! `iddqd_uses_bi` alone, since both maps are one text at two widths.
 //!
-//! A script makes most of the three-key text from the two-key text: change the latter, and then run
-//! `tests/twins --write` with the changed files.
+//! A script makes `laws` and `loading` from the two-key text: change the latter, and then run `tests/twins --write`
+//! with the changed files.
 #![tactic(auto)]
 
-mod asking;
-mod building;
-mod emptying;
-mod entries;
-mod finding;
-mod inserting;
-mod items;
-mod keeping;
 mod laws;
-mod lent;
 mod loading;
-mod matching;
-mod refusing;
 mod sessions;
-mod updating;
-mod walking;
-mod words;
-mod writing;
-mod written;
 
-pub use asking::{by_key, by_query, entry_point, is_at, resolve, take_by_query, undefine};
-pub use building::extend_by_vec;
-pub use emptying::drained;
-pub use entries::{
-    NotEntered, insert_or_write, insert_through, modify_all, modify_and_take, modify_found,
-    or_insert_and_write, overwrite_through, remove_through,
-};
-pub use finding::{count_all, put_and_find, remove_and_find};
-pub use inserting::{count_conflicts, insert_both, insert_or_drop, overwrite_or_drop};
-pub use items::{File, Symbol, Word};
-pub use keeping::keep_and_count;
 pub use laws::{
     all_given, equal_through_a_third, equal_to_itself, equal_to_the_same_items, equal_turned_round,
     extend_after_reserve, found1_where_contained, found2_where_contained, found3_where_contained,
@@ -42,15 +17,5 @@ pub use laws::{
     overwritten_length, remove_unique_and_find_keys, remove1_and_find_keys, remove2_and_find_keys,
     remove3_and_find_keys, reserve_keeps, shrink_keeps, unique_where_all, unique_where_contained,
 };
-pub use lent::{insert_held, write_by_key1, write_data1, write_held1};
 pub use loading::load;
-pub use matching::{Same, find_same};
-pub use refusing::{
-    NotAdded, add, add_and_count, add_by_from, add_by_map_err, add_or_count, is_added,
-};
 pub use sessions::{Session, by_token, close_of_user, open, open_all};
-pub use updating::{note_all_opened, note_opened, set_all, set1};
-pub use walking::{count_by_walk, write_all, write_first, write_first_and_count};
-pub use words::{add_word, forget_word, has_word};
-pub use writing::{is_lent1, replace1, write1, write1_again, write1_and_tell, write1_twice};
-pub use written::{write_and_ask1, write_and_remove1};
