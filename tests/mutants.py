@@ -1,4 +1,4 @@
-"""Which mutants of must-fail/ have which functions as targets: the lists `mutants CRATE ..` of tests/page_tables, whose head says what they are."""
+"""Which mutants of must-fail/ have which functions as targets, by the files targets.md. tests/mutants_apply says what these hold."""
 import fnmatch
 import re
 
@@ -6,6 +6,8 @@ import sources
 import widen
 
 MAPS = ("BiHashMap", "TriHashMap")
+# The crates in which each public function is a target of a mutant or says why not. Both maps are one text.
+LISTS = [("iddqd_bi", "iddqd_tri"), ("iddqd_store",)]
 
 
 def renamed(crate, text):
@@ -119,28 +121,11 @@ class Mutants:
                 but = "and targets.md says why none does" if it.why else "and no line of targets.md says by which it goes, or why none does"
                 self.faults.append(f"{it.crate}: {'a' if it.why else 'no'} mutant has {it.full} as target, {but}")
 
-    def table(self, crates):
-        """The lines of the list of these crates: the mutants of each function, and then why some have none."""
-        lines, before, reasons = ["| File | Function | Mutants that have it as target |", "|---|---|---|"], None, {}
-        used = {other.key for it in self.functions[crates] for other in it.by + it.like}
-        for it in self.functions[crates]:
-            if it.why and it.is_listed:
-                reasons.setdefault(it.why, {})[f"`{it.key}`"] = None
-            elif it.is_listed or it.mutants or it.key in used:
-                file = f"`{it.file}`" if it.file != before else ""
-                lines.append(f"| {file} | `{it.key}` | {'; '.join(said_of(it))} |")
-                before = it.file
-        lines += ["", "| Functions without a mutant | Why |", "|---|---|"]
-        return lines + [f"| {', '.join(keys)} | {why} |" for why, keys in reasons.items()]
-
-
-def said_of(function):
-    """What the table says of a function: its mutants, each with the crates that have it, and the functions by which it goes."""
-    mutants = {}
-    for crate, mutant in function.mutants:
-        mutants.setdefault(mutant, []).append(f"[{crate.removeprefix('iddqd_')}](../crates/{crate}/must-fail/{mutant}.edit)")
-    said = [f"`{mutant}` ({', '.join(links)})" for mutant, links in mutants.items()]
-    for word, others in (("calls", function.by), ("is like", function.like)):
-        names = ", ".join(dict.fromkeys(f"`{other.key}`" for other in others))
-        said += [f"{word} {names}"] if names else []
-    return said
+    def listed(self, crates):
+        """Yields a line for each function of these crates: its mutants, each with its crate, by which functions it goes, or why it has none."""
+        used = {other for it in self.functions[crates] for other in it.by + it.like}
+        for it in (it for it in self.functions[crates] if it.is_listed or it.mutants or it in used):
+            names = lambda others: ", ".join(dict.fromkeys(other.key for other in others))
+            said = [f"{mutant} ({crate.removeprefix('iddqd_')})" for crate, mutant in it.mutants]
+            said += [f"{word} {names(others)}" for word, others in (("calls", it.by), ("is like", it.like)) if others]
+            yield f"{it.full}: {'; '.join(said) or it.why or 'no mutant'}"
