@@ -1,10 +1,11 @@
 //! A `BiHashMap` as a sequence of its items. On a field write `#[serde(with = "iddqd_serde::bi")]`.
-ghost use Rattle.std.specs.Prelude.{◌≡◌, [], length, IfOk, OnOk};
+ghost use Rattle.std.specs.Prelude.{◌≡◌, ◌+◌, [], length, IfOk, OnOk};
 ghost use Rattle.iddqd_bi.specs.Map.{Gains, bag};
 ghost use Rattle.iddqd_serde.specs.Reading.{ReadsSeq};
 ghost use Rattle.serde.specs.Event.{WritesSeq};
 
-use iddqd_bi::{BiHashItem, BiHashMap, DefaultHashBuilder, InsertReason, Ranked};
+use crate::next;
+use iddqd_bi::{BiHashItem, BiHashMap, DefaultHashBuilder, InsertReason, Meter, Ranked};
 use serde::{
     Described, Deserialize, DeserializeOwned, Deserializer, Format, Serialize, Serializer,
 };
@@ -42,29 +43,31 @@ pub fn deserialize<'de, T: Ranked + Deserialize<'de>, S: BuildHasher + Default +
     alloc: Global,
     from: &mut Deserializer<'de, '_, F>,
 ) -> Result<BiHashMap<T, S>, F::Error>
-    // The map has as many items as were read between the marks of a sequence.
+    // A sequence began, the items of the map followed, and it ended. `fill` counts them.
     ensures reads { IfOk result (λ map. ReadsSeq F.gives F.stays (length (bag map)) from.old from.new) }
     ensures builder { IfOk result (λ map. S.is_default map.builder) }
 {
     let mut map = BiHashMap::default(alloc);
-    fill(&mut map, alloc, from)?;
+    fill(&mut map, alloc, from, &mut Meter::new())?;
     Ok(map)
 }
 
-/// Reads a sequence of items, which may borrow from the input, into an empty map.
+/// Reads a sequence of items, which may borrow from the input, into an empty map, and counts the items.
 fn fill<'de, T: Ranked + Deserialize<'de>, S: BuildHasher + Drop, F: Format>(
     map: &mut BiHashMap<T, S>,
     alloc: Global,
     from: &mut Deserializer<'de, '_, F>,
+    items: &mut Meter,
 ) -> Result<(), F::Error>
     requires empty { bag map.old ≡ [] }
-    // The map has as many items then as were read between the marks of a sequence.
+    // The items were read between the marks of a sequence, and the map has each of them.
     ensures reads { OnOk result (ReadsSeq F.gives F.stays (length (bag map.new)) from.old from.new) }
+    ensures counts { OnOk result (items.new ≡ items.old + length (bag map.new)) }
     ensures builder { OnOk result (map.new.builder ≡ map.old.builder) }
 {
     from.begin_seq()?;
     for _ in 0..u64::MAX {
-        if !from.next_item()? {
+        if !next(from, items)? {
             return Ok(());
         }
         let item = T::deserialize(alloc, from)?;
@@ -78,29 +81,31 @@ pub fn deserialize_owned<T: Ranked + DeserializeOwned, S: BuildHasher + Default 
     alloc: Global,
     from: &mut Deserializer<'_, '_, F>,
 ) -> Result<BiHashMap<T, S>, F::Error>
-    // The map has as many items as were read between the marks of a sequence.
+    // A sequence began, the items of the map followed, and it ended. `fill_owned` counts them.
     ensures reads { IfOk result (λ map. ReadsSeq F.gives F.stays (length (bag map)) from.old from.new) }
     ensures builder { IfOk result (λ map. S.is_default map.builder) }
 {
     let mut map = BiHashMap::default(alloc);
-    fill_owned(&mut map, alloc, from)?;
+    fill_owned(&mut map, alloc, from, &mut Meter::new())?;
     Ok(map)
 }
 
-/// Reads a sequence of items that borrow nothing from the input into an empty map.
+/// Reads a sequence of items that borrow nothing from the input into an empty map, and counts the items.
 fn fill_owned<T: Ranked + DeserializeOwned, S: BuildHasher + Drop, F: Format>(
     map: &mut BiHashMap<T, S>,
     alloc: Global,
     from: &mut Deserializer<'_, '_, F>,
+    items: &mut Meter,
 ) -> Result<(), F::Error>
     requires empty { bag map.old ≡ [] }
-    // The map has as many items then as were read between the marks of a sequence.
+    // The items were read between the marks of a sequence, and the map has each of them.
     ensures reads { OnOk result (ReadsSeq F.gives F.stays (length (bag map.new)) from.old from.new) }
+    ensures counts { OnOk result (items.new ≡ items.old + length (bag map.new)) }
     ensures builder { OnOk result (map.new.builder ≡ map.old.builder) }
 {
     from.begin_seq()?;
     for _ in 0..u64::MAX {
-        if !from.next_item()? {
+        if !next(from, items)? {
             return Ok(());
         }
         let item = T::deserialize_owned(alloc, from)?;

@@ -8,11 +8,31 @@
 //! item. An item that has a key of an item before it is an error of the format's own kind, which a format such as
 //! `serde_json` ends with the line and the column. A lack of memory is such an error too.
 //!
-//! It is proved of reading that each item that was read is in the map (`reads`): the map has as many items as the
-//! sequence, and no two of them have an equal key of the same rank. No clause says which items these are, since the
-//! contracts of `serde` say nothing of what a derived `Deserialize` reads. So no contract says that a map that is
-//! written and read again is equal to the first.
+//! It is proved of reading that the map has as many items as followed each other in the sequence (`counts`), and no two
+//! of them have an equal key of the same rank. No clause says which items these are, since the contracts of `serde` say
+//! nothing of what a derived `Deserialize` reads. So no contract says that a map that is written and read again is equal
+//! to the first.
 #![tactic(auto)]
+
+ghost use Rattle.std.specs.Prelude.{◌≡◌, ◌+◌, IfOk, MatchBool};
+ghost use Rattle.serde.specs.Event.{seq_ends};
+ghost use Rattle.serde.specs.Steps.{Gives, Stays};
 
 pub mod bi;
 pub mod tri;
+
+use iddqd_store::Meter;
+use serde::{Deserializer, Format};
+
+/// Returns whether a further item of the sequence follows, and counts it if one does.
+fn next<F: Format>(from: &mut Deserializer<'_, '_, F>, items: &mut Meter) -> Result<bool, F::Error>
+    ensures { IfOk result (λ follows. MatchBool follows
+        (Stays F.stays from.old from.new × (items.new ≡ items.old + 1))
+        (Gives F.gives from.old seq_ends from.new × (items.new ≡ items.old))) }
+{
+    let follows = from.next_item()?;
+    if follows {
+        items.tick();
+    }
+    Ok(follows)
+}

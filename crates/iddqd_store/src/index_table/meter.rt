@@ -47,7 +47,7 @@ impl Model for Meter {
 }
 
 impl Meter {
-    /// Makes a meter at 0. The script `tests/metered_cells` lists each function that makes one, with the reason.
+    /// Makes a meter at 0. A function that takes a meter makes none (`tests/metered_cells`).
     pub fn new() -> Meter
         ensures { result ≡ 0 }
     {
