@@ -1,5 +1,5 @@
 //! An insert whose error owns the item and says which keys are taken. It is returned by `?`, or mapped.
-ghost use Rattle.std.specs.Prelude.{◌≡◌, ◌<◌, ◌∷◌, [], length, IsOk, IsPermutation, OnOk, OnErr, IfErr};
+ghost use Rattle.std.specs.Prelude.{◌≡◌, ◌<◌, ◌∷◌, [], length, IsOk, IsPermutation, OnOk, OnErr, IfErr, IfOk};
 ghost use Rattle.iddqd_bi.specs.Bag.{clash};
 ghost use Rattle.iddqd_bi.specs.Map.{bag};
 
@@ -59,6 +59,7 @@ pub fn hand_out(badges: &mut BiHashMap<Badge>, badge: Badge) -> Result<usize, No
     ensures granted { clash ⟦<Badge as Ranked>⟧.ranks (bag badges.old) badge ≡ []
         → length (bag badges.old) < badges.old.capacity → IsOk result }
     ensures unchanged { OnErr result (badges.new ≡ badges.old) }
+    ensures count { IfOk result (λ n. n ≡ length (bag badges.new)) }
 {
     badges.try_insert(badge)?;
     Ok(badges.len())

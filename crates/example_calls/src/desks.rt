@@ -1,9 +1,10 @@
 //! Replacing an item by one with other keys.
-ghost use Rattle.std.specs.Prelude.{◌≡◌, ◌∷◌, ◌==◌, Some, IsPermutation, IfOk, OnErr};
+ghost use Rattle.std.specs.Prelude.{◌≡◌, ◌∷◌, ◌==◌, Some, IsPermutation, IfOk, IfErr, OnErr};
+ghost use Rattle.iddqd_bi.specs.Rekeyed.{TellsWhyNot, left_out};
 ghost use Rattle.iddqd_bi.specs.Bag.{IsOnly};
 ghost use Rattle.iddqd_bi.specs.Map.{bag};
 
-use iddqd_bi::{BiHashItem, BiHashMap, NotReplaced};
+use iddqd_bi::{BiHashItem, BiHashMap, NotReplaced, Ranked};
 
 /// A desk, known by its number and by who sits at it.
 #[derive(Drop)]
@@ -40,6 +41,9 @@ pub fn move_to(
     ensures moved { IfOk result (λ d. IsPermutation (d ∷ bag desks.new)
         (record { number = number; person = person } ∷ bag desks.old)) }
     ensures unchanged { OnErr result (desks.new ≡ desks.old) }
+    ensures handed_back { IfErr result (λ e. left_out e ≡ record { number = number; person = person }) }
+    ensures reason { IfErr result (λ e. TellsWhyNot ⟦<Desk as Ranked>⟧.ranks (λ d. person == d.person)
+        (bag desks.old) (record { number = number; person = person }) e) }
 {
     desks.rekey2(&person, Desk { number, person })
 }

@@ -68,6 +68,8 @@ pub fn is_alike(floor: &Floor, other: &Floor) -> bool
     ensures level { IsTrue result → floor.now.level ≡ other.now.level }
     ensures badges { IsTrue result → IsTrue (is_same ⟦<DoorBadge as Ranked>⟧.ranks ⟦<DoorBadge as PartialEq>⟧.eq
         (bag floor.now.badges) (bag other.now.badges)) }
+    ensures whole { floor.now.level ≡ other.now.level → IsTrue (is_same ⟦<DoorBadge as Ranked>⟧.ranks
+        ⟦<DoorBadge as PartialEq>⟧.eq (bag floor.now.badges) (bag other.now.badges)) → IsTrue result }
 {
     floor == other
 }

@@ -19,9 +19,9 @@ fn add_three(orders: &mut BiHashMap<Order>) -> anyhow::Result<()> {
     add(orders, Order::new(3, 30, 200))
 }
 
-/// Returns at which place the first order is.
-fn first_place(orders: &BiHashMap<Order>) -> u32 {
-    match orders.get1(&1) {
+/// Returns at which place the order with this number is.
+fn place_of(orders: &BiHashMap<Order>, number: u64) -> u32 {
+    match orders.get1(&number) {
         Some(order) => order.place,
         None => 0,
     }
@@ -50,15 +50,16 @@ fn show_replaced(
     changed.push(Order::new(1, 11, 0))?;
     changed.push(Order::new(9, 20, 0))?;
     let done = replace_all(orders, changed)?;
-    println!(rt; "replaced: {done}, the first is at {}", first_place(orders))?;
+    println!(rt; "replaced: {done}, the first is at {}", place_of(orders, 1))?;
     Ok(())
 }
 
 fn show_swapped(rt: &impl Print, orders: &mut BiHashMap<Order>) -> anyhow::Result<()> {
     let swapped = swap_places(orders, 1, 3);
     println!(rt;
-        "swapped: {swapped}, the first is at {}",
-        first_place(orders)
+        "swapped: {swapped}, the first is at {}, the third at {}",
+        place_of(orders, 1),
+        place_of(orders, 3)
     )?;
     Ok(())
 }
@@ -82,7 +83,7 @@ fn show_orders(rt: &impl Print, alloc: Global) -> anyhow::Result<()> {
     show_changes(rt, alloc, &mut orders)
 }
 
-/// Adds a book, and enters an order into it.
+/// Adds a book, and enters an order into it, and then one with the same number.
 fn show_entered(rt: &impl Print, alloc: Global, books: &mut BiHashMap<Book>) -> anyhow::Result<()> {
     books.try_insert(Book {
         name: "bonds".to_string(alloc)?,
@@ -90,7 +91,8 @@ fn show_entered(rt: &impl Print, alloc: Global, books: &mut BiHashMap<Book>) -> 
         orders: BiHashMap::new(alloc),
     })?;
     let entered = enter(books, "bonds", Order::new(1, 10, 300));
-    println!(rt; "entered: {entered}")?;
+    let again = enter(books, "bonds", Order::new(1, 20, 300));
+    println!(rt; "entered: {entered}, and again: {again}")?;
     Ok(())
 }
 
@@ -109,8 +111,12 @@ fn show_opened(
 ) -> anyhow::Result<()> {
     open(alloc, all, opened, Order::new(1, 10, 300))?;
     open(alloc, all, opened, Order::new(2, 20, 100))?;
-    close(opened, 1);
-    println!(rt; "{} of {} are open", opened.len(), all.len())?;
+    let closed = close(opened, 2).is_some();
+    println!(rt;
+        "closed: {closed}, {} of {} are open",
+        opened.len(),
+        all.len()
+    )?;
     Ok(())
 }
 
