@@ -18,8 +18,9 @@ impl<T: BiHashItem, S: BuildHasher> BiHashMap<T, S> {
     /// capacity stays.
     ///
     /// Called until it returns `None`, it removes each item for which `f` returns `true` once, as `extract_if` of std
-    /// does, and `f` is called once with each item. Between two calls a caller may read the map and write items, but
-    /// not insert or remove any by another call. A loop that ends early leaves the other items in the map.
+    /// does, and `f` is called once with each item. Between two calls a caller may read the map, write items and reserve
+    /// room. After an insert, a removal by another call, or a call that shrinks the map, the loop may pass items over. A
+    /// loop that ends early leaves the other items in the map.
     ///
     /// The call hashes each key of the item that it removes once. It compares no key, and allocates no memory. The whole
     /// loop passes each slot once.

@@ -80,8 +80,8 @@ impl<T: BiHashItem, S: BuildHasher> BiHashMap<T, S> {
     }
 
     /// Returns a guard of the next item of an iteration over the map, or `None` after the last one. The cursor moves on
-    /// past that item. Between two steps a caller may write items, but not insert or remove any. The call allocates no
-    /// memory.
+    /// past that item. Between two steps a caller may read the map, write items and reserve room. After an insert, a
+    /// removal, or a call that shrinks the map, the loop may pass items over. The call allocates no memory.
     ///
     /// ```text
     /// let mut at = Cursor::new();
