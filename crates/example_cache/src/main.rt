@@ -6,13 +6,14 @@
 //!     count                     how many pages are in the cache
 //!
 //! `put` inserts a page in place of those with its number or its frame, and of one other page if there are three. Any
-//! other line is answered by `bad line`.
+//! other line is answered by `bad line`, also one that is not UTF-8.
 #![tactic(auto)]
 
 mod pages;
 
 use crate::pages::{Cache, Page};
 use std::io;
+use std::io::BufRead;
 
 const LIMIT: usize = 3;
 
@@ -61,7 +62,10 @@ fn answer(rt: &impl Print, cache: &mut Cache, command: Command) -> io::Result<()
 }
 
 /// Carries out the command of a line, and prints the answer.
-fn answer_line(rt: &(impl Print + AllocGlobal), cache: &mut Cache, line: &str) -> io::Result<()> {
+fn answer_line(rt: &(impl Print + AllocGlobal), cache: &mut Cache, line: &[u8]) -> io::Result<()> {
+    let Ok(line) = str::from_utf8(line) else {
+        return rt.println("bad line");
+    };
     let words: Vec<&str> = line.split_whitespace().collect(rt.alloc())?;
     match parse(words.as_slice()) {
         Some(command) => answer(rt, cache, command),
@@ -71,8 +75,8 @@ fn answer_line(rt: &(impl Print + AllocGlobal), cache: &mut Cache, line: &str) -
 
 /// Answers each line of the input.
 fn answer_lines(rt: &(impl Print + Input + AllocGlobal), cache: &mut Cache) -> io::Result<()> {
-    for line in rt.lines(rt.alloc()) {
-        answer_line(rt, cache, line?.as_str())?;
+    for line in rt.reader().split(rt.alloc(), b'\n') {
+        answer_line(rt, cache, line?.as_slice())?;
     }
     Ok(())
 }

@@ -7,7 +7,7 @@
 //!     move SERIAL PORT    moved from PORT | no device | port taken
 //!     count               how many are plugged in
 //!
-//! Any other line is answered by `bad line`.
+//! Any other line is answered by `bad line`, also one that is not UTF-8.
 #![tactic(auto)]
 
 mod devices;
@@ -17,6 +17,7 @@ use crate::devices::{
 };
 use iddqd_bi::BiHashMap;
 use std::io;
+use std::io::BufRead;
 
 const LIMIT: usize = 3;
 
@@ -80,8 +81,11 @@ fn answer(rt: &impl Print, devices: &mut BiHashMap<Device>, command: Command) ->
 fn answer_line(
     rt: &(impl Print + AllocGlobal),
     devices: &mut BiHashMap<Device>,
-    line: &str,
+    line: &[u8],
 ) -> io::Result<()> {
+    let Ok(line) = str::from_utf8(line) else {
+        return rt.println("bad line");
+    };
     let words: Vec<&str> = line.split_whitespace().collect(rt.alloc())?;
     match parse(words.as_slice()) {
         Some(command) => answer(rt, devices, command),
@@ -94,8 +98,8 @@ fn answer_lines(
     rt: &(impl Print + Input + AllocGlobal),
     devices: &mut BiHashMap<Device>,
 ) -> io::Result<()> {
-    for line in rt.lines(rt.alloc()) {
-        answer_line(rt, devices, line?.as_str())?;
+    for line in rt.reader().split(rt.alloc(), b'\n') {
+        answer_line(rt, devices, line?.as_slice())?;
     }
     Ok(())
 }

@@ -1,5 +1,5 @@
 //! A map in a map: books of orders, each known by its name and by its shelf.
-ghost use Rattle.std.specs.Prelude.{◌≡◌, ◌<◌, [], ◌∷◌, nat_eq, string_bytes, length, true, None, Some, IsPermutation};
+ghost use Rattle.std.specs.Prelude.{◌≡◌, ◌<◌, [], ◌∷◌, nat_eq, string_bytes, length, true, false, None, Some, IsPermutation};
 ghost use Rattle.std.specs.Cmp.Lexicographic.{pointwise};
 ghost use Rattle.std.proofs.Common.{rules};
 ghost use Rattle.iddqd_bi.specs.Bag.{IsOnly, clash, swap};
@@ -61,6 +61,9 @@ pub fn enter(books: &mut BiHashMap<Book>, name: &str, order: Order) -> bool
     ensures granted { (b : Book) → IsOnly (λ b. pointwise nat_eq name.now (string_bytes b.name)) (bag books.old) (Some b)
         → clash ⟦<Order as Ranked>⟧.ranks (bag b.orders) order ≡ []
         → length (bag b.orders) < b.orders.capacity → result ≡ true }
+    ensures refused { (b : Book) → IsOnly (λ b. pointwise nat_eq name.now (string_bytes b.name)) (bag books.old) (Some b)
+        → result ≡ false → (c : Book) × (c.name ≡ b.name) × (c.shelf ≡ b.shelf) × (c.orders ≡ b.orders)
+        × IsPermutation (bag books.new) (swap ⟦<Book as Ranked>⟧.ranks (bag books.old) b c) }
     ensures absent { IsOnly (λ b. pointwise nat_eq name.now (string_bytes b.name)) (bag books.old) None
         → books.new ≡ books.old }
 {

@@ -120,11 +120,25 @@ fn show_opened(
     Ok(())
 }
 
+/// Opens an order at the place of one that is open, and that was removed from all orders.
+fn show_not_opened(
+    rt: &impl Print,
+    alloc: Global,
+    all: &mut BiHashMap<Rc<Order>>,
+    opened: &mut BiHashMap<Rc<Order>>,
+) -> anyhow::Result<()> {
+    all.remove1(&1);
+    let done = open(alloc, all, opened, Order::new(3, 10, 50)).is_ok();
+    println!(rt; "opened: {done}, {} among all", all.len())?;
+    Ok(())
+}
+
 /// Runs the recipe with items that two maps share.
 fn show_shared(rt: &impl Print, alloc: Global) -> anyhow::Result<()> {
     let mut all = BiHashMap::new(alloc);
     let mut opened = BiHashMap::new(alloc);
-    show_opened(rt, alloc, &mut all, &mut opened)
+    show_opened(rt, alloc, &mut all, &mut opened)?;
+    show_not_opened(rt, alloc, &mut all, &mut opened)
 }
 
 fn main(rt: HostRuntime) -> anyhow::Result<()> {

@@ -2,6 +2,7 @@
 ghost use Rattle.std.specs.Prelude.{◌≡◌, ◌<◌, ◌==◌, [], ◌∷◌, true, false, List, None, Some, length, take, map as mapped, IsOk, IsPermutation, OnOk, OnErr, IfOk};
 ghost use Rattle.std.specs.Borrow.{Bor};
 ghost use Rattle.std.specs.List.Sorted.{IsNonDecreasingBy};
+ghost use Rattle.example_recipes.specs.Replaced.{ReplacesEach};
 ghost use Rattle.iddqd_bi.specs.Bag.{IsOnly, clash};
 ghost use Rattle.iddqd_bi.specs.Map.{bag};
 
@@ -77,6 +78,7 @@ pub fn replace_all(
     orders: &mut BiHashMap<Order>,
     changed: Vec<Order>,
 ) -> Result<bool, TryReserveError>
+    ensures replaced { IfOk result (λ done. done ≡ true → ReplacesEach changed.items (bag orders.old) (bag orders.new)) }
     ensures rolled_back { IfOk result (λ done. done ≡ false → IsPermutation (bag orders.new) (bag orders.old)) }
     ensures unchanged { OnErr result (orders.new ≡ orders.old) }
     ensures count { length (bag orders.new) ≡ length (bag orders.old) }
@@ -99,6 +101,9 @@ pub fn swap_places(orders: &mut BiHashMap<Order>, one: u64, other: u64) -> bool
         × IsOnly (λ o. other == o.number) (bag orders.old) (Some b)
         × IsPermutation (a ∷ b ∷ bag orders.new)
         (record a { place = b.place } ∷ record b { place = a.place } ∷ bag orders.old) }
+    ensures both { (a b : Order) → IsOnly (λ o. one == o.number) (bag orders.old) (Some a)
+        → IsOnly (λ o. other == o.number) (bag orders.old) (Some b) → result ≡ true }
+    ensures kept { result ≡ false → IsPermutation (bag orders.new) (bag orders.old) }
     ensures first_absent { IsOnly (λ o. one == o.number) (bag orders.old) None → orders.new ≡ orders.old }
     ensures second_absent { IsOnly (λ o. other == o.number) (bag orders.old) None → orders.new ≡ orders.old }
 {
@@ -108,6 +113,9 @@ pub fn swap_places(orders: &mut BiHashMap<Order>, one: u64, other: u64) -> bool
     if one == other {
         return true;
     }
+    // No two orders conflict, and all fit, as the clauses of these two calls say. So none of the inserts below fails.
+    let _ = orders.len();
+    let _ = orders.capacity();
     let Some(second) = orders.remove1(&other) else {
         return false;
     };

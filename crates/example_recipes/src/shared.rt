@@ -8,7 +8,7 @@ use iddqd_bi::BiHashMap;
 use std::alloc::Global;
 use std::rc::Rc;
 
-/// Opens an order, which goes into both maps.
+/// Opens an order, which goes into both maps or, after an error, into none.
 pub fn open(
     alloc: Global,
     all: &mut BiHashMap<Rc<Order>>,
@@ -19,11 +19,15 @@ pub fn open(
         (order ∷ mapped (λ o. o.value) (bag all.old))) }
     ensures among_opened { OnOk result (IsPermutation (mapped (λ o. o.value) (bag opened.new))
         (order ∷ mapped (λ o. o.value) (bag opened.old))) }
-    ensures unchanged { OnErr result (opened.new ≡ opened.old) }
+    ensures not_opened { OnErr result (opened.new ≡ opened.old) }
+    ensures not_among_all { OnErr result (IsPermutation (bag all.new) (bag all.old)) }
 {
     let order = Rc::new(alloc, order)?;
     all.try_insert(order.clone()?)?;
-    opened.try_insert(order)?;
+    if let Err(rejected) = opened.try_insert(order) {
+        all.remove1(&rejected.item.number);
+        return Err(rejected.into());
+    }
     Ok(())
 }
 

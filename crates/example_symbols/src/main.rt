@@ -7,7 +7,7 @@
 //!     rename ADDRESS NAME   ok | none | name taken
 //!     count                 how many symbols there are
 //!
-//! An address is a number. Any other line is answered by `bad line`.
+//! An address is a number. Any other line is answered by `bad line`, also one that is not UTF-8.
 #![tactic(auto)]
 
 mod symbols;
@@ -16,6 +16,7 @@ use crate::symbols::{Symbol, at_address, define, rename, resolve, undefine};
 use iddqd_bi::{BiHashMap, NotReplaced, Rejected};
 use std::alloc::AllocError;
 use std::io;
+use std::io::BufRead;
 
 /// What a line asks for, with the names that are in the line.
 enum Command<'l> {
@@ -106,8 +107,11 @@ fn answer(
 fn answer_line(
     rt: &(impl Print + AllocGlobal),
     symbols: &mut BiHashMap<Symbol>,
-    line: &str,
+    line: &[u8],
 ) -> io::Result<()> {
+    let Ok(line) = str::from_utf8(line) else {
+        return rt.println("bad line");
+    };
     let words: Vec<&str> = line.split_whitespace().collect(rt.alloc())?;
     match parse(words.as_slice()) {
         Some(command) => answer(rt, symbols, command),
@@ -120,8 +124,8 @@ fn answer_lines(
     rt: &(impl Print + Input + AllocGlobal),
     symbols: &mut BiHashMap<Symbol>,
 ) -> io::Result<()> {
-    for line in rt.lines(rt.alloc()) {
-        answer_line(rt, symbols, line?.as_str())?;
+    for line in rt.reader().split(rt.alloc(), b'\n') {
+        answer_line(rt, symbols, line?.as_slice())?;
     }
     Ok(())
 }
