@@ -15,12 +15,12 @@
 //!     --svg FILE      writes a picture of five operations at eight sizes
 //!     --others        times text keys, items of 128 bytes and a random seed, with two keys, and nothing else
 //!     --chosen        prints what keys with one home bucket cost under the default builder and a random seed
-#[cfg(feature = "beside")]
-mod beside;
 mod by_hand;
+mod calls;
 mod chosen;
 #[cfg(feature = "beside")]
 mod crate_maps;
+mod hasher;
 mod loops;
 mod measure;
 mod operations;
@@ -30,11 +30,9 @@ mod report;
 mod workload;
 
 #[cfg(feature = "beside")]
-use beside::{three_keys, two_keys};
+use crate_maps::{Three, Two};
 use measure::Plan;
 use operations::Operation;
-#[cfg(not(feature = "beside"))]
-use operations::{three_keys, two_keys};
 
 /// The numbers of items, at which the load of a table of std is 0.87, 0.49 and 0.76.
 const SIZES: [usize; 3] = [890, 1_000, 100_000];
@@ -45,6 +43,12 @@ const OTHER: &str = if cfg!(feature = "beside") {
 } else {
     "std"
 };
+
+/// The maps on the other side.
+#[cfg(not(feature = "beside"))]
+type Two = by_hand::ByHand<2>;
+#[cfg(not(feature = "beside"))]
+type Three = by_hand::ByHand<3>;
 
 /// What makes the operations of a map.
 type Operations<const N: usize> = fn() -> Vec<Operation<N>>;
@@ -187,7 +191,7 @@ fn main() {
     );
     for key in 0..100 {
         assert_eq!(
-            by_hand::hash(key),
+            hasher::hash(key),
             operations::hash(key),
             "the hashers differ"
         );
@@ -206,7 +210,7 @@ fn main() {
     let (two, three): (Operations<2>, Operations<3>) = if wanted.others {
         (others::operations, Vec::new)
     } else {
-        (two_keys, three_keys)
+        (operations::two_keys::<Two>, operations::three_keys::<Three>)
     };
     if wanted.table && !wanted.growth {
         wanted.print_table(two, three);

@@ -1,5 +1,6 @@
-//! The operations. Each has a name, its rows, the loop over the maps kept by hand, and the loops that the static
+//! The operations. Each has a name, its rows, the loop over a map on the other side, and the loops that the static
 //! library of `iddqd_bench` exports.
+use crate::calls::Map;
 use crate::loops;
 use crate::workload::{self, Row, Workload};
 
@@ -70,26 +71,39 @@ macro_rules! exported {
 }
 pub(crate) use exported;
 
+/// Returns the operations but those that the map on the other side lacks. It prints which these are.
+fn without_lacks<const N: usize, M: Map<N>>(all: Vec<Operation<N>>) -> Vec<Operation<N>> {
+    for name in M::LACKS {
+        let known = all.iter().any(|operation| operation.name == *name);
+        assert!(known, "there is no operation {name}");
+        eprintln!("Left out at {N} keys, the other side has none: {name}");
+    }
+    let has = |operation: &Operation<N>| !M::LACKS.contains(&operation.name);
+    all.into_iter().filter(has).collect()
+}
+
 macro_rules! operations {
     ($($goes_over_all:ident $name:literal: $load:ident, $by_hand:ident, $bi:ident, $tri:ident;)*) => {
-        pub fn two_keys() -> Vec<Operation<2>> {
-            vec![$(Operation {
+        /// Returns the operations, with this map on the other side.
+        pub fn two_keys<M: Map<2>>() -> Vec<Operation<2>> {
+            without_lacks::<2, M>(vec![$(Operation {
                 name: $name,
                 goes_over_all: $goes_over_all,
                 load: workload::$load,
-                by_hand: loops::$by_hand,
+                by_hand: loops::$by_hand::<2, M>,
                 exported: exported!($bi, 2),
-            }),*]
+            }),*])
         }
 
-        pub fn three_keys() -> Vec<Operation<3>> {
-            vec![$(Operation {
+        /// Returns the operations, with this map on the other side.
+        pub fn three_keys<M: Map<3>>() -> Vec<Operation<3>> {
+            without_lacks::<3, M>(vec![$(Operation {
                 name: $name,
                 goes_over_all: $goes_over_all,
                 load: workload::$load,
-                by_hand: loops::$by_hand,
+                by_hand: loops::$by_hand::<3, M>,
                 exported: exported!($tri, 3),
-            }),*]
+            }),*])
         }
     };
 }
@@ -98,21 +112,30 @@ operations! {
     ONE "insert without room": fresh, insert, bi_insert, tri_insert;
     ONE "insert with room": fresh, insert_with_room, bi_insert_with_room, tri_insert_with_room;
     ONE "insert, refused": taken, insert_refused, bi_insert_refused, tri_insert_refused;
+    ONE "try_insert": fresh, try_insert, bi_try_insert, tri_try_insert;
+    ONE "try_insert, refused": taken, try_insert_refused, bi_try_insert_refused, tri_try_insert_refused;
     ONE "look-up, hit": asked_again, get, bi_get, tri_get;
     ONE "look-up, miss": missed, get, bi_get, tri_get;
     ONE "look-up, waits for the last": asked_again, get_in_turn, bi_get_in_turn, tri_get_in_turn;
+    ONE "get_unique": asked_again, get_unique, bi_get_unique, tri_get_unique;
     ONE "look-up and write": asked_again, get_mut, bi_get_mut, tri_get_mut;
     ONE "removal": reordered, remove, bi_remove, tri_remove;
+    ONE "remove_unique": reordered, remove_unique, bi_remove_unique, tri_remove_unique;
     ONE "removal and insert": exchanged, remove_insert, bi_remove_insert, tri_remove_insert;
+    ONE "rekey1": exchanged, rekey, bi_rekey, tri_rekey;
     ONE "overwrite, one a key": crossed, overwrite, bi_overwrite, tri_overwrite;
     ONE "overwrite, same keys": asked_again, overwrite_same, bi_overwrite_same, tri_overwrite_same;
     ONE "or_insert, vacant": fresh, entry_vacant, bi_entry_vacant, tri_entry_vacant;
     ONE "or_insert, occupied": asked_again, entry_occupied, bi_entry_occupied, tri_entry_occupied;
     ALL "iter": repeated, iter, bi_iter, tri_iter;
-    ALL "for, lent map": repeated, iter, bi_for_lent, tri_for_lent;
+    ALL "for, lent map": repeated, for_lent, bi_for_lent, tri_for_lent;
     ALL "for, by value": copied, for_owned, bi_for_owned, tri_for_owned;
     ALL "iter_mut with len": repeated, iter_mut, bi_iter_mut, tri_iter_mut;
+    ALL "update_all": repeated, update_all, bi_update_all, tri_update_all;
     ALL "retain half": copied, retain, bi_retain, tri_retain;
+    ALL "retain, 1 in 64 goes": copied, retain_most, bi_retain_most, tri_retain_most;
+    ALL "pop_from, all": copied, pop_all, bi_pop_all, tri_pop_all;
+    ALL "extract_from, half": copied, extract_half, bi_extract_half, tri_extract_half;
     ALL "clone": repeated, clone, bi_clone, tri_clone;
     ALL "clear": copied, clear, bi_clear, tri_clear;
     ALL "equality": compared, equal, bi_equal, tri_equal;
