@@ -2,7 +2,7 @@
 //! has the loops that `iddqd_bench` exports, and the other the same loops over std hash maps kept by hand.
 use crate::calls::sum_of;
 use crate::hasher::FoldHasher;
-use crate::operations::{Exported, Operation, exported};
+use crate::operations::{Exported, Kind, Operation, exported};
 use crate::workload::{self, Row, Workload};
 use std::borrow::Borrow;
 use std::collections::HashMap;
@@ -349,7 +349,7 @@ pub fn operations() -> Vec<Operation<2>> {
     ];
     rows.map(|(name, load, by_hand, exported)| Operation {
         name,
-        goes_over_all: false,
+        kind: Kind::Each,
         load,
         by_hand,
         exported,
