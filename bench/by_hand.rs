@@ -12,7 +12,7 @@ use std::ops::DerefMut;
 type Slots = HashMap<u64, usize, BuildHasherDefault<FoldHasher>>;
 
 /// The slots that the keys of an item found, in the order of the keys.
-type Found<const N: usize> = [Option<usize>; N];
+pub type Found<const N: usize> = [Option<usize>; N];
 
 /// The error of a list if no item of it was inserted.
 struct Refused<const N: usize> {
@@ -75,13 +75,20 @@ macro_rules! insert_by {
 
 impl<const N: usize> ByHand<N> {
     /// Inserts an item if no item has one of its keys, and returns its slot. Otherwise returns what its keys found.
-    fn enter(&mut self, row: Row<N>) -> Result<usize, Found<N>> {
+    pub fn enter(&mut self, row: Row<N>) -> Result<usize, Found<N>> {
         // The compiler keeps one arm for each number of keys, which is what one would write by hand for that number.
         match &mut self.tables[..] {
             [first, second] => insert_by!(self, row, first 0, second 1),
             [first, second, third] => insert_by!(self, row, first 0, second 1, third 2),
             _ => unreachable!("two keys or three"),
         }
+    }
+
+    /// Returns the items of these slots, each once.
+    pub fn items_of(&self, found: Found<N>) -> impl Iterator<Item = &Row<N>> {
+        let slots = found.into_iter().enumerate();
+        let first = slots.filter(move |(rank, slot)| !found[..*rank].contains(slot));
+        first.filter_map(|(_, slot)| self.slab[slot?].as_ref())
     }
 
     /// Inserts a row, and removes the items that conflict with it. If one item has all of its keys, the row replaces
