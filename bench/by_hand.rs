@@ -84,7 +84,8 @@ impl<const N: usize> ByHand<N> {
         }
     }
 
-    /// Returns the items of these slots, each once.
+    /// Returns the items of these slots, each once. `text_by_hand.rs` alone calls it.
+    #[allow(dead_code)]
     pub fn items_of(&self, found: Found<N>) -> impl Iterator<Item = &Row<N>> {
         let slots = found.into_iter().enumerate();
         let first = slots.filter(move |(rank, slot)| !found[..*rank].contains(slot));
