@@ -1,81 +1,13 @@
 //! A map with several keys, as a careful user of std would write it: a slab of items, and a hash map from each key to a
 //! slot.
+use crate::calls::{Map, sum_of};
+use crate::hasher::FoldHasher;
 use crate::workload::Row;
 use std::array::from_fn;
 use std::collections::HashMap;
 use std::collections::hash_map::Entry;
-use std::hash::{BuildHasher, BuildHasherDefault, Hasher};
-
-/// `FoldHasher` of Rattle's std, rewritten in Rust.
-pub struct FoldHasher(u64);
-
-impl Default for FoldHasher {
-    fn default() -> FoldHasher {
-        FoldHasher(0x243f_6a88_85a3_08d3)
-    }
-}
-
-const MULTIPLIER: u64 = 0x9e37_79b9_7f4a_7c15;
-
-fn folded_multiply(a: u64, b: u64) -> u64 {
-    let product = a as u128 * b as u128;
-    product as u64 ^ (product >> 64) as u64
-}
-
-fn read_u32(bytes: &[u8], at: usize) -> u64 {
-    u32::from_le_bytes(bytes[at..at + 4].try_into().expect("four bytes")) as u64
-}
-
-fn read_u64(bytes: &[u8], at: usize) -> u64 {
-    u64::from_le_bytes(bytes[at..at + 8].try_into().expect("eight bytes"))
-}
-
-/// Reads up to eight bytes as one number, by reads that may overlap.
-fn read_short(bytes: &[u8]) -> u64 {
-    match bytes.len() {
-        0 => 0,
-        len @ 1..4 => {
-            bytes[0] as u64 | (bytes[len / 2] as u64) << 8 | (bytes[len - 1] as u64) << 16
-        }
-        len => read_u32(bytes, 0) | read_u32(bytes, len - 4) << 32,
-    }
-}
-
-impl Hasher for FoldHasher {
-    fn finish(&self) -> u64 {
-        self.0
-    }
-
-    fn write(&mut self, bytes: &[u8]) {
-        let len = bytes.len();
-        if len <= 8 {
-            self.0 = folded_multiply(self.0 ^ read_short(bytes), MULTIPLIER ^ (2 * len as u64));
-            return;
-        }
-        let mut state = self.0.wrapping_add(len as u64);
-        let mut at = 0;
-        while len - at > 16 {
-            state = folded_multiply(
-                read_u64(bytes, at) ^ state,
-                read_u64(bytes, at + 8) ^ MULTIPLIER,
-            );
-            at += 16;
-        }
-        self.0 = folded_multiply(
-            read_u64(bytes, len.saturating_sub(16)) ^ state,
-            read_u64(bytes, len - 8) ^ MULTIPLIER,
-        );
-    }
-
-    fn write_u64(&mut self, key: u64) {
-        // Eight bytes are read as two halves of four.
-        self.0 = folded_multiply(self.0 ^ key, MULTIPLIER ^ 16);
-    }
-}
-
-pub fn hash(key: u64) -> u64 {
-    BuildHasherDefault::<FoldHasher>::default().hash_one(key)
-}
+use std::hash::BuildHasherDefault;
+use std::ops::DerefMut;
 
 type Slots = HashMap<u64, usize, BuildHasherDefault<FoldHasher>>;
 
@@ -83,7 +15,7 @@ type Slots = HashMap<u64, usize, BuildHasherDefault<FoldHasher>>;
 pub type Found<const N: usize> = [Option<usize>; N];
 
 /// The error of a list if no item of it was inserted.
-pub struct Refused<const N: usize> {
+struct Refused<const N: usize> {
     /// The items before the one that conflicts.
     pub taken: Vec<Row<N>>,
     /// The slots of the items that conflict with it.
@@ -142,37 +74,8 @@ macro_rules! insert_by {
 }
 
 impl<const N: usize> ByHand<N> {
-    pub fn with_capacity(items: usize) -> ByHand<N> {
-        ByHand {
-            slab: Vec::with_capacity(items),
-            free: Vec::new(),
-            tables: from_fn(|_| Slots::with_capacity_and_hasher(items, Default::default())),
-        }
-    }
-
-    pub fn new() -> ByHand<N> {
-        ByHand::with_capacity(0)
-    }
-
-    pub fn filled(rows: &[Row<N>]) -> ByHand<N> {
-        let mut map = ByHand::with_capacity(rows.len());
-        map.fill(rows);
-        map
-    }
-
-    /// Inserts the rows, and counts those that are not inserted.
-    pub fn fill(&mut self, rows: &[Row<N>]) -> u64 {
-        rows.iter()
-            .map(|row| self.insert(*row).is_err() as u64)
-            .sum()
-    }
-
-    pub fn len(&self) -> usize {
-        self.tables[0].len()
-    }
-
     /// Inserts an item if no item has one of its keys, and returns its slot. Otherwise returns what its keys found.
-    pub fn insert(&mut self, row: Row<N>) -> Result<usize, Found<N>> {
+    pub fn enter(&mut self, row: Row<N>) -> Result<usize, Found<N>> {
         // The compiler keeps one arm for each number of keys, which is what one would write by hand for that number.
         match &mut self.tables[..] {
             [first, second] => insert_by!(self, row, first 0, second 1),
@@ -181,52 +84,19 @@ impl<const N: usize> ByHand<N> {
         }
     }
 
-    /// Returns the item that has all keys of the row, after inserting the row if no item has one of them.
-    pub fn entry_or_insert(&mut self, row: Row<N>) -> Option<&mut Row<N>> {
-        let slot = match self.insert(row) {
-            Ok(slot) => slot,
-            Err(found) if found.iter().all(|slot| *slot == found[0]) => found[0]?,
-            Err(_) => return None,
-        };
-        self.slab[slot].as_mut()
-    }
-
-    pub fn get(&self, key: u64) -> Option<&Row<N>> {
-        self.slab[*self.tables[0].get(&key)?].as_ref()
-    }
-
-    pub fn get_mut(&mut self, key: u64) -> Option<&mut Row<N>> {
-        self.slab[*self.tables[0].get(&key)?].as_mut()
-    }
-
-    pub fn iter(&self) -> impl Iterator<Item = &Row<N>> {
-        self.slab.iter().flatten()
-    }
-
-    /// Returns the slots, for an iteration that writes.
-    pub fn slots_mut(&mut self) -> std::slice::IterMut<'_, Option<Row<N>>> {
-        self.slab.iter_mut()
-    }
-
-    pub fn into_rows(self) -> impl Iterator<Item = Row<N>> {
-        self.slab.into_iter().flatten()
-    }
-
-    pub fn remove(&mut self, key: u64) -> Option<Row<N>> {
-        let slot = self.tables[0].remove(&key)?;
-        let row = self.slab[slot].take()?;
-        for rank in 1..N {
-            self.tables[rank].remove(&row.keys[rank]);
-        }
-        self.free.push(slot);
-        Some(row)
+    /// Returns the items of these slots, each once. `text_by_hand.rs` alone calls it.
+    #[allow(dead_code)]
+    pub fn items_of(&self, found: Found<N>) -> impl Iterator<Item = &Row<N>> {
+        let slots = found.into_iter().enumerate();
+        let first = slots.filter(move |(rank, slot)| !found[..*rank].contains(slot));
+        first.filter_map(|(_, slot)| self.slab[slot?].as_ref())
     }
 
     /// Inserts a row, and removes the items that conflict with it. If one item has all of its keys, the row replaces
     /// it in its slot.
-    pub fn overwrite(&mut self, row: Row<N>) -> [Option<Row<N>>; N] {
+    fn put(&mut self, row: Row<N>) -> [Option<Row<N>>; N] {
         let mut displaced = [None; N];
-        let Err(found) = self.insert(row) else {
+        let Err(found) = self.enter(row) else {
             return displaced;
         };
         if let Some(slot) = found[0]
@@ -238,7 +108,7 @@ impl<const N: usize> ByHand<N> {
         for (displaced, slot) in displaced.iter_mut().zip(found) {
             *displaced = slot.and_then(|slot| self.take(slot));
         }
-        let _ = self.insert(row);
+        let _ = self.enter(row);
         displaced
     }
 
@@ -252,6 +122,19 @@ impl<const N: usize> ByHand<N> {
         Some(row)
     }
 
+    /// Removes the next item from a slot on for which `f` returns `true`. A caller may end the loop early: then the map
+    /// has the other items.
+    fn take_from(&mut self, at: &mut usize, f: impl Fn(&Row<N>) -> bool) -> Option<Row<N>> {
+        while *at < self.slab.len() {
+            let slot = *at;
+            *at += 1;
+            if self.slab[slot].as_ref().is_some_and(&f) {
+                return self.take(slot);
+            }
+        }
+        None
+    }
+
     /// Removes the items of these slots.
     fn take_all(&mut self, slots: &[usize]) -> Vec<Row<N>> {
         let mut taken = Vec::with_capacity(slots.len());
@@ -259,25 +142,11 @@ impl<const N: usize> ByHand<N> {
         taken
     }
 
-    pub fn reserve(&mut self, more: usize) {
-        self.slab.reserve(more.saturating_sub(self.free.len()));
-        for table in &mut self.tables {
-            table.reserve(more);
-        }
-    }
-
-    pub fn extend(&mut self, rows: impl Iterator<Item = Row<N>>) {
-        self.reserve(rows.size_hint().0);
-        for row in rows {
-            self.overwrite(row);
-        }
-    }
-
     /// Inserts all rows or none.
-    pub fn extend_unique(&mut self, rows: impl Iterator<Item = Row<N>>) -> Result<(), Refused<N>> {
+    fn enter_rows(&mut self, rows: impl Iterator<Item = Row<N>>) -> Result<(), Refused<N>> {
         let mut entered = Vec::new();
         for row in rows {
-            match self.insert(row) {
+            match self.enter(row) {
                 Ok(slot) => entered.push(slot),
                 Err(found) => {
                     let taken = self.take_all(&entered);
@@ -287,8 +156,182 @@ impl<const N: usize> ByHand<N> {
         }
         Ok(())
     }
+}
 
-    pub fn retain(&mut self, keep: impl Fn(&Row<N>) -> bool) {
+/// An iteration over the items for writing, which knows how many are left.
+struct Held<'a, const N: usize> {
+    slots: std::slice::IterMut<'a, Option<Row<N>>>,
+    left: usize,
+}
+
+impl<'a, const N: usize> Iterator for Held<'a, N> {
+    type Item = &'a mut Row<N>;
+
+    fn next(&mut self) -> Option<&'a mut Row<N>> {
+        let row = self.slots.find_map(Option::as_mut)?;
+        self.left -= 1;
+        Some(row)
+    }
+
+    fn size_hint(&self) -> (usize, Option<usize>) {
+        (self.left, Some(self.left))
+    }
+}
+
+impl<const N: usize> ExactSizeIterator for Held<'_, N> {}
+
+impl<const N: usize> Map<N> for ByHand<N> {
+    fn with_capacity(items: usize) -> ByHand<N> {
+        ByHand {
+            slab: Vec::with_capacity(items),
+            free: Vec::new(),
+            tables: from_fn(|_| Slots::with_capacity_and_hasher(items, Default::default())),
+        }
+    }
+
+    fn from_rows(rows: impl Iterator<Item = Row<N>>) -> ByHand<N> {
+        let mut map = ByHand::with_capacity(0);
+        map.extend(rows);
+        map
+    }
+
+    fn from_unique_rows(rows: impl Iterator<Item = Row<N>>) -> Option<ByHand<N>> {
+        let mut map = ByHand::with_capacity(0);
+        map.reserve(rows.size_hint().0);
+        for row in rows {
+            map.enter(row).ok()?;
+        }
+        Some(map)
+    }
+
+    fn len(&self) -> usize {
+        self.tables[0].len()
+    }
+
+    fn insert(&mut self, row: Row<N>) -> bool {
+        self.enter(row).is_ok()
+    }
+
+    fn overwrite(&mut self, row: Row<N>) -> usize {
+        self.put(row).iter().flatten().count()
+    }
+
+    fn extend(&mut self, rows: impl Iterator<Item = Row<N>>) {
+        self.reserve(rows.size_hint().0);
+        for row in rows {
+            self.put(row);
+        }
+    }
+
+    fn enter_all(&mut self, rows: &[Row<N>]) -> usize {
+        match self.enter_rows(rows.iter().copied()) {
+            Ok(()) => 0,
+            Err(refused) => refused.taken.len() + usize::from(refused.found == [None; N]),
+        }
+    }
+
+    fn get(&self, key: u64) -> Option<&Row<N>> {
+        self.slab[*self.tables[0].get(&key)?].as_ref()
+    }
+
+    fn get_mut(&mut self, key: u64) -> Option<impl DerefMut<Target = Row<N>>> {
+        self.slab[*self.tables[0].get(&key)?].as_mut()
+    }
+
+    fn remove(&mut self, key: u64) -> Option<Row<N>> {
+        let slot = self.tables[0].remove(&key)?;
+        let row = self.slab[slot].take()?;
+        for rank in 1..N {
+            self.tables[rank].remove(&row.keys[rank]);
+        }
+        self.free.push(slot);
+        Some(row)
+    }
+
+    fn or_insert(&mut self, row: Row<N>) -> Option<u64> {
+        let slot = match self.enter(row) {
+            Ok(slot) => slot,
+            Err(found) if found.iter().all(|slot| *slot == found[0]) => found[0]?,
+            Err(_) => return None,
+        };
+        self.slab[slot].as_ref().map(|row| row.keys[1])
+    }
+
+    fn try_insert(&mut self, row: Row<N>) -> Result<(), (Row<N>, [bool; N])> {
+        match self.enter(row) {
+            Ok(_) => Ok(()),
+            Err(found) => Err((row, found.map(|slot| slot.is_some()))),
+        }
+    }
+
+    fn get_unique(&self, keys: [u64; N]) -> Option<&Row<N>> {
+        self.get(keys[0]).filter(|row| row.keys == keys)
+    }
+
+    fn remove_unique(&mut self, keys: [u64; N]) -> Option<Row<N>> {
+        let Entry::Occupied(found) = self.tables[0].entry(keys[0]) else {
+            return None;
+        };
+        let slot = *found.get();
+        let row = self.slab[slot].take_if(|row| row.keys == keys)?;
+        found.remove();
+        for rank in 1..N {
+            self.tables[rank].remove(&keys[rank]);
+        }
+        self.free.push(slot);
+        Some(row)
+    }
+
+    fn rekey(&mut self, key: u64, row: Row<N>) -> Option<Row<N>> {
+        let slot = *self.tables[0].get(&key)?;
+        let mut finds = self
+            .tables
+            .iter()
+            .zip(&row.keys)
+            .map(|(table, key)| table.get(key));
+        if finds.any(|found| found.is_some_and(|found| *found != slot)) {
+            return None;
+        }
+        let old = self.slab[slot].replace(row)?;
+        for (rank, table) in self.tables.iter_mut().enumerate() {
+            if old.keys[rank] != row.keys[rank] {
+                table.remove(&old.keys[rank]);
+                table.insert(row.keys[rank], slot);
+            }
+        }
+        Some(old)
+    }
+
+    fn extract(&mut self, f: impl Fn(&Row<N>) -> bool) -> u64 {
+        let mut sum = 0u64;
+        let mut at = 0;
+        while let Some(row) = self.take_from(&mut at, &f) {
+            sum = sum.wrapping_add(row.keys[0]);
+        }
+        sum
+    }
+
+    fn iter(&self) -> impl Iterator<Item = &Row<N>> {
+        self.slab.iter().flatten()
+    }
+
+    fn for_lent(&self) -> u64 {
+        sum_of(self.iter().map(|row| row.keys[0]))
+    }
+
+    fn iter_mut(&mut self) -> impl ExactSizeIterator<Item = impl DerefMut<Target = Row<N>>> {
+        let left = self.len();
+        Held {
+            slots: self.slab.iter_mut(),
+            left,
+        }
+    }
+
+    fn into_rows(self) -> impl Iterator<Item = Row<N>> {
+        self.slab.into_iter().flatten()
+    }
+
+    fn retain(&mut self, mut keep: impl FnMut(&Row<N>) -> bool) {
         for (slot, place) in self.slab.iter_mut().enumerate() {
             if let Some(row) = place.take_if(|row| !keep(row)) {
                 for (table, key) in self.tables.iter_mut().zip(row.keys) {
@@ -299,7 +342,7 @@ impl<const N: usize> ByHand<N> {
         }
     }
 
-    pub fn clear(&mut self) {
+    fn clear(&mut self) {
         self.slab.clear();
         self.free.clear();
         for table in &mut self.tables {
@@ -308,7 +351,7 @@ impl<const N: usize> ByHand<N> {
     }
 
     /// Moves the items to the first slots, so that they get other numbers, and makes new tables.
-    pub fn shrink(&mut self) {
+    fn shrink(&mut self) {
         self.slab.retain(|row| row.is_some());
         self.slab.shrink_to_fit();
         self.free = Vec::new();
@@ -318,6 +361,13 @@ impl<const N: usize> ByHand<N> {
             for (slot, row) in self.slab.iter().flatten().enumerate() {
                 table.insert(row.keys[rank], slot);
             }
+        }
+    }
+
+    fn reserve(&mut self, more: usize) {
+        self.slab.reserve(more.saturating_sub(self.free.len()));
+        for table in &mut self.tables {
+            table.reserve(more);
         }
     }
 }

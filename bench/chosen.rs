@@ -1,6 +1,6 @@
 //! Times the map with two keys and keys that an attacker chose to slow it down. The default builder has a fixed seed,
 //! so such keys can be found for it. A random seed makes them harmless, and costs time itself.
-use crate::by_hand;
+use crate::hasher;
 use crate::workload::{Row, rows};
 use std::time::Instant;
 
@@ -59,7 +59,7 @@ unsafe extern "C" {
 
 /// Returns the rows with other first keys, which all have the same home bucket with the default builder.
 fn of_one_home(rows: &[Row<2>]) -> Vec<Row<2>> {
-    let keys = (0..).filter(|key| by_hand::hash(*key) % CELLS == 0);
+    let keys = (0..).filter(|key| hasher::hash(*key) % CELLS == 0);
     rows.iter()
         .zip(keys)
         .map(|(row, key)| Row {

@@ -1,6 +1,12 @@
 //! The maps of the Rust crate iddqd over the bench's rows, and their calls that the loops make. The keys are returned
-//! by value, as the crate advises for small keys, and the hasher is the same as on the other side.
-use crate::by_hand::FoldHasher;
+//! by value, as the crate advises for small keys, and the hasher is the same as on the other side. `bench/beside` alone
+//! compiles this file, since it needs the crate.
+//!
+//! The crate's maps have no `extend_unique`, no `rekey1`, and none of the calls that take items out one by one. Their loops are
+//! what a caller of the crate has to write, the defaults of `Map`. The crate's map with three keys has no entries, so
+//! both rows of `or_insert` are left out there.
+use crate::calls::Map;
+use crate::hasher::FoldHasher;
 use crate::workload::Row;
 use iddqd::{BiHashItem, BiHashMap, TriHashItem, TriHashMap};
 use std::hash::BuildHasherDefault;
@@ -32,33 +38,11 @@ macro_rules! item {
 item!(BiHashItem 2: K1 key1 upcast_key1 0, K2 key2 upcast_key2 1);
 item!(TriHashItem 3: K1 key1 upcast_key1 0, K2 key2 upcast_key2 1, K3 key3 upcast_key3 2);
 
-/// The calls that both maps of the crate have.
-pub trait Map<const N: usize>: Clone + PartialEq {
-    fn with_capacity(items: usize) -> Self;
-    fn from_rows(rows: impl Iterator<Item = Row<N>>) -> Self;
-    fn from_unique_rows(rows: impl Iterator<Item = Row<N>>) -> Option<Self>;
-    fn len(&self) -> usize;
-    /// Returns whether the row was inserted.
-    fn insert(&mut self, row: Row<N>) -> bool;
-    /// Returns how many items conflicted.
-    fn overwrite(&mut self, row: Row<N>) -> usize;
-    fn extend(&mut self, rows: impl Iterator<Item = Row<N>>);
-    fn get(&self, key: u64) -> Option<&Row<N>>;
-    fn get_mut(&mut self, key: u64) -> Option<impl DerefMut<Target = Row<N>>>;
-    fn remove(&mut self, key: u64) -> Option<Row<N>>;
-    fn iter(&self) -> impl Iterator<Item = &Row<N>>;
-    fn for_lent(&self) -> u64;
-    fn iter_mut(&mut self) -> impl ExactSizeIterator<Item = impl DerefMut<Target = Row<N>>>;
-    fn into_rows(self) -> impl Iterator<Item = Row<N>>;
-    fn retain(&mut self, keep: impl Fn(&Row<N>) -> bool);
-    fn clear(&mut self);
-    fn shrink(&mut self);
-    fn reserve(&mut self, more: usize);
-}
-
 macro_rules! map {
-    ($map:ident $keys:literal) => {
+    ($map:ident $keys:literal, $($rank:literal)*, lacks $lacks:expr, $or_insert:expr) => {
         impl Map<$keys> for $map<Row<$keys>, Builder> {
+            const LACKS: &'static [&'static str] = $lacks;
+
             fn with_capacity(items: usize) -> Self {
                 $map::with_capacity_and_hasher(items, Builder::default())
             }
@@ -79,6 +63,20 @@ macro_rules! map {
                 self.insert_unique(row).is_ok()
             }
 
+            fn try_insert(&mut self, row: Row<$keys>) -> Result<(), (Row<$keys>, [bool; $keys])> {
+                self.insert_unique(row).map_err(|error| {
+                    let has = |rank: usize| {
+                        let mut found = error.duplicates().iter();
+                        found.any(|found| found.keys[rank] == row.keys[rank])
+                    };
+                    (*error.new_item(), std::array::from_fn(has))
+                })
+            }
+
+            fn or_insert(&mut self, row: Row<$keys>) -> Option<u64> {
+                $or_insert(self, row)
+            }
+
             fn overwrite(&mut self, row: Row<$keys>) -> usize {
                 self.insert_overwrite(row).len()
             }
@@ -97,6 +95,14 @@ macro_rules! map {
 
             fn remove(&mut self, key: u64) -> Option<Row<$keys>> {
                 self.remove1(key)
+            }
+
+            fn get_unique(&self, keys: [u64; $keys]) -> Option<&Row<$keys>> {
+                $map::get_unique(self, $(&keys[$rank]),*)
+            }
+
+            fn remove_unique(&mut self, keys: [u64; $keys]) -> Option<Row<$keys>> {
+                $map::remove_unique(self, $(keys[$rank]),*)
             }
 
             fn iter(&self) -> impl Iterator<Item = &Row<$keys>> {
@@ -121,7 +127,7 @@ macro_rules! map {
                 self.into_iter()
             }
 
-            fn retain(&mut self, keep: impl Fn(&Row<$keys>) -> bool) {
+            fn retain(&mut self, mut keep: impl FnMut(&Row<$keys>) -> bool) {
                 $map::retain(self, |row| keep(&row));
             }
 
@@ -140,5 +146,11 @@ macro_rules! map {
     };
 }
 
-map!(BiHashMap 2);
-map!(TriHashMap 3);
+map!(BiHashMap 2, 0 1, lacks &[], |map: &mut Two, row: Row<2>| {
+    let mut held = map.entry(row.keys[0], row.keys[1]).or_insert(row);
+    held.as_unique().map(|found| found.keys[1])
+});
+map!(
+    TriHashMap 3, 0 1 2, lacks &["or_insert, vacant", "or_insert, occupied"],
+    |_: &mut Three, _: Row<3>| unreachable!("the map has no entries")
+);

@@ -1,12 +1,9 @@
-//! The loops over the maps kept by hand: one for each loop of `iddqd_bench`, with the same name.
-use crate::by_hand::ByHand;
+//! The loops over the maps on the other side, which are those kept by hand or those of the Rust crate: one for each loop of
+//! `iddqd_bench`, with the same name.
+use crate::calls::{Map, sum_of};
 use crate::workload::{Row, Workload, copies};
 
-fn sum_of(numbers: impl Iterator<Item = u64>) -> u64 {
-    numbers.fold(0, u64::wrapping_add)
-}
-
-/// Sums what `made` returns for each part of the rows, and for the part of the rows asked for that belongs to it.
+/// Returns the sum of what is done with a map of each part of the rows, and with a part of the others if there are any.
 fn each_map<const N: usize>(
     load: &Workload<N>,
     mut made: impl FnMut(&[Row<N>], &[Row<N>]) -> u64,
@@ -18,7 +15,7 @@ fn each_map<const N: usize>(
     sum_of(parts.map(|rows| made(rows, asked.next().unwrap_or(&[]))))
 }
 
-/// Returns how often a loop repeats its operation.
+/// Returns how often a loop is repeated.
 fn times<const N: usize>(load: &Workload<N>, whole: bool) -> usize {
     if whole { load.number } else { 0 }
 }
@@ -27,64 +24,88 @@ fn asked<const N: usize>(load: &Workload<N>, whole: bool) -> &[Row<N>] {
     if whole { &load.asked } else { &[] }
 }
 
-fn take_out<const N: usize>(map: &mut ByHand<N>, rows: &[Row<N>]) -> u64 {
+/// Inserts the rows, and counts those that conflict with another.
+fn fill<const N: usize, M: Map<N>>(map: &mut M, rows: &[Row<N>]) -> u64 {
+    rows.iter().map(|row| u64::from(!map.insert(*row))).sum()
+}
+
+fn filled<const N: usize, M: Map<N>>(rows: &[Row<N>]) -> M {
+    let mut map = M::with_capacity(rows.len());
+    fill(&mut map, rows);
+    map
+}
+
+fn take_out<const N: usize, M: Map<N>>(map: &mut M, rows: &[Row<N>]) -> u64 {
     sum_of(
         rows.iter()
             .map(|row| map.remove(row.keys[0]).map_or(0, |gone| gone.keys[1])),
     )
 }
 
-fn overwritten<const N: usize>(map: &mut ByHand<N>, rows: &[Row<N>]) -> u64 {
-    sum_of(
-        rows.iter()
-            .map(|row| map.overwrite(*row).iter().flatten().count() as u64),
-    )
+fn overwritten<const N: usize, M: Map<N>>(map: &mut M, rows: &[Row<N>]) -> u64 {
+    sum_of(rows.iter().map(|row| map.overwrite(*row) as u64))
 }
 
-pub fn insert<const N: usize>(load: &Workload<N>, whole: bool) -> u64 {
+pub fn insert<const N: usize, M: Map<N>>(load: &Workload<N>, whole: bool) -> u64 {
     each_map(load, |rows, _| {
-        let mut map = ByHand::new();
+        let mut map = M::with_capacity(0);
         if whole {
-            map.fill(rows) + map.len() as u64
+            fill(&mut map, rows) + map.len() as u64
         } else {
             0
         }
     })
 }
 
-pub fn insert_with_room<const N: usize>(load: &Workload<N>, whole: bool) -> u64 {
+pub fn insert_with_room<const N: usize, M: Map<N>>(load: &Workload<N>, whole: bool) -> u64 {
     each_map(load, |rows, _| {
-        let mut map = ByHand::with_capacity(load.number);
-        let refused = if whole { map.fill(rows) } else { 0 };
+        let mut map = M::with_capacity(load.number);
+        let refused = if whole { fill(&mut map, rows) } else { 0 };
         refused + map.len() as u64
     })
 }
 
-pub fn insert_refused<const N: usize>(load: &Workload<N>, whole: bool) -> u64 {
-    ByHand::filled(&load.rows).fill(asked(load, whole))
+/// Inserts the rows, and counts the errors that say that the first key is not taken.
+fn try_fill<const N: usize, M: Map<N>>(map: &mut M, rows: &[Row<N>]) -> u64 {
+    let refused = rows.iter().filter_map(|row| map.try_insert(*row).err());
+    sum_of(refused.map(|(_, taken)| u64::from(!taken[0])))
 }
 
-pub fn entry_vacant<const N: usize>(load: &Workload<N>, whole: bool) -> u64 {
+pub fn try_insert<const N: usize, M: Map<N>>(load: &Workload<N>, whole: bool) -> u64 {
     each_map(load, |rows, _| {
-        let mut map = ByHand::with_capacity(load.number);
+        let mut map = M::with_capacity(load.number);
+        let refused = if whole { try_fill(&mut map, rows) } else { 0 };
+        refused + map.len() as u64
+    })
+}
+
+pub fn try_insert_refused<const N: usize, M: Map<N>>(load: &Workload<N>, whole: bool) -> u64 {
+    try_fill(&mut filled::<N, M>(&load.rows), asked(load, whole))
+}
+
+pub fn insert_refused<const N: usize, M: Map<N>>(load: &Workload<N>, whole: bool) -> u64 {
+    fill(&mut filled::<N, M>(&load.rows), asked(load, whole))
+}
+
+pub fn entry_vacant<const N: usize, M: Map<N>>(load: &Workload<N>, whole: bool) -> u64 {
+    each_map(load, |rows, _| {
+        let mut map = M::with_capacity(load.number);
         let rows = if whole { rows } else { &[] };
-        let refused = rows
-            .iter()
-            .filter(|row| map.entry_or_insert(**row).is_none())
-            .count();
+        let entered = rows.iter().map(|row| map.or_insert(*row));
+        let refused = entered.filter(Option::is_none).count();
         (refused + map.len()) as u64
     })
 }
 
-pub fn entry_occupied<const N: usize>(load: &Workload<N>, whole: bool) -> u64 {
-    let mut map = ByHand::filled(&load.rows);
+pub fn entry_occupied<const N: usize, M: Map<N>>(load: &Workload<N>, whole: bool) -> u64 {
+    let mut map = filled::<N, M>(&load.rows);
     let rows = asked(load, whole).iter();
-    sum_of(rows.map(|row| map.entry_or_insert(*row).map_or(0, |found| found.keys[1])))
+    sum_of(rows.map(|row| map.or_insert(*row).unwrap_or(0)))
 }
 
-pub fn overwrite<const N: usize>(load: &Workload<N>, whole: bool) -> u64 {
+pub fn overwrite<const N: usize, M: Map<N>>(load: &Workload<N>, whole: bool) -> u64 {
     each_map(load, |rows, asked| {
-        let mut map = ByHand::filled(rows);
+        let mut map = filled::<N, M>(rows);
         if whole {
             overwritten(&mut map, asked)
         } else {
@@ -93,18 +114,24 @@ pub fn overwrite<const N: usize>(load: &Workload<N>, whole: bool) -> u64 {
     })
 }
 
-pub fn overwrite_same<const N: usize>(load: &Workload<N>, whole: bool) -> u64 {
-    overwritten(&mut ByHand::filled(&load.rows), asked(load, whole))
+pub fn overwrite_same<const N: usize, M: Map<N>>(load: &Workload<N>, whole: bool) -> u64 {
+    overwritten(&mut filled::<N, M>(&load.rows), asked(load, whole))
 }
 
-pub fn get<const N: usize>(load: &Workload<N>, whole: bool) -> u64 {
-    let map = ByHand::filled(&load.rows);
+pub fn get<const N: usize, M: Map<N>>(load: &Workload<N>, whole: bool) -> u64 {
+    let map = filled::<N, M>(&load.rows);
     let rows = asked(load, whole).iter();
     sum_of(rows.map(|row| map.get(row.keys[0]).map_or(0, |found| found.keys[1])))
 }
 
-pub fn get_in_turn<const N: usize>(load: &Workload<N>, whole: bool) -> u64 {
-    let map = ByHand::filled(&load.rows);
+pub fn get_unique<const N: usize, M: Map<N>>(load: &Workload<N>, whole: bool) -> u64 {
+    let map = filled::<N, M>(&load.rows);
+    let rows = asked(load, whole).iter();
+    sum_of(rows.map(|row| map.get_unique(row.keys).map_or(0, |found| found.keys[1])))
+}
+
+pub fn get_in_turn<const N: usize, M: Map<N>>(load: &Workload<N>, whole: bool) -> u64 {
+    let map = filled::<N, M>(&load.rows);
     let (mut sum, mut last) = (0u64, 0);
     for row in asked(load, whole) {
         if let Some(found) = map.get(row.keys[0] ^ last) {
@@ -115,69 +142,114 @@ pub fn get_in_turn<const N: usize>(load: &Workload<N>, whole: bool) -> u64 {
     sum
 }
 
-pub fn get_mut<const N: usize>(load: &Workload<N>, whole: bool) -> u64 {
-    let mut map = ByHand::filled(&load.rows);
+pub fn get_mut<const N: usize, M: Map<N>>(load: &Workload<N>, whole: bool) -> u64 {
+    let mut map = filled::<N, M>(&load.rows);
     let rows = asked(load, whole).iter();
     sum_of(rows.map(|row| {
-        map.get_mut(row.keys[0]).map_or(0, |found| {
+        map.get_mut(row.keys[0]).map_or(0, |mut found| {
             found.value += 1;
             found.value
         })
     }))
 }
 
-pub fn remove<const N: usize>(load: &Workload<N>, whole: bool) -> u64 {
+pub fn remove<const N: usize, M: Map<N>>(load: &Workload<N>, whole: bool) -> u64 {
     each_map(load, |rows, asked| {
-        let mut map = ByHand::filled(rows);
+        let mut map = filled::<N, M>(rows);
         if whole { take_out(&mut map, asked) } else { 0 }
     })
 }
 
-pub fn remove_insert<const N: usize>(load: &Workload<N>, whole: bool) -> u64 {
-    let mut map = ByHand::filled(&load.rows);
+pub fn remove_unique<const N: usize, M: Map<N>>(load: &Workload<N>, whole: bool) -> u64 {
+    each_map(load, |rows, asked| {
+        let mut map = filled::<N, M>(rows);
+        let asked = if whole { asked } else { &[] };
+        let gone = asked.iter().filter_map(|row| map.remove_unique(row.keys));
+        sum_of(gone.map(|gone| gone.keys[1]))
+    })
+}
+
+pub fn rekey<const N: usize, M: Map<N>>(load: &Workload<N>, whole: bool) -> u64 {
+    let mut map = filled::<N, M>(&load.rows);
+    let pairs = asked(load, whole).chunks_exact(2);
+    sum_of(pairs.map(|two| {
+        let gone = map.rekey(two[0].keys[0], two[1]);
+        gone.map_or(1, |gone| gone.keys[1])
+    }))
+}
+
+pub fn remove_insert<const N: usize, M: Map<N>>(load: &Workload<N>, whole: bool) -> u64 {
+    let mut map = filled::<N, M>(&load.rows);
     let mut sum = 0u64;
     for two in asked(load, whole).chunks_exact(2) {
         sum = sum.wrapping_add(map.remove(two[0].keys[0]).map_or(0, |gone| gone.keys[1]));
-        sum = sum.wrapping_add(map.insert(two[1]).is_err() as u64);
+        sum = sum.wrapping_add(u64::from(!map.insert(two[1])));
     }
     sum
 }
 
-pub fn iter<const N: usize>(load: &Workload<N>, whole: bool) -> u64 {
-    let map = ByHand::filled(&load.rows);
+pub fn iter<const N: usize, M: Map<N>>(load: &Workload<N>, whole: bool) -> u64 {
+    let map = filled::<N, M>(&load.rows);
     let walks = (0..times(load, whole)).map(|_| sum_of(map.iter().map(|row| row.keys[0])));
     sum_of(walks)
 }
 
-pub fn iter_mut<const N: usize>(load: &Workload<N>, whole: bool) -> u64 {
-    let mut map = ByHand::filled(&load.rows);
+pub fn for_lent<const N: usize, M: Map<N>>(load: &Workload<N>, whole: bool) -> u64 {
+    let map = filled::<N, M>(&load.rows);
+    sum_of((0..times(load, whole)).map(|_| map.for_lent()))
+}
+
+pub fn iter_mut<const N: usize, M: Map<N>>(load: &Workload<N>, whole: bool) -> u64 {
+    let mut map = filled::<N, M>(&load.rows);
     let mut sum = 0u64;
     for _ in 0..times(load, whole) {
-        let mut left = map.len();
-        let mut walk = map.slots_mut();
-        while left > 0 {
-            if let Some(Some(row)) = walk.next() {
+        let mut walk = map.iter_mut();
+        while walk.len() > 0 {
+            if let Some(mut row) = walk.next() {
                 row.value += 1;
                 sum = sum.wrapping_add(row.value);
-                left -= 1;
             }
         }
     }
     sum
 }
 
-/// Sums what `made` returns for each clone of a map.
-fn each_copy<const N: usize>(
+pub fn update_all<const N: usize, M: Map<N>>(load: &Workload<N>, whole: bool) -> u64 {
+    let mut map = filled::<N, M>(&load.rows);
+    for _ in 0..times(load, whole) {
+        map.update_all(|row| row.value.wrapping_add(1));
+    }
+    sum_of(map.iter().map(|row| row.value))
+}
+
+/// Returns the sum of what is done with copies of a map.
+fn each_copy<const N: usize, M: Map<N>>(
     load: &Workload<N>,
-    map: &ByHand<N>,
-    mut made: impl FnMut(ByHand<N>) -> u64,
+    map: &M,
+    mut made: impl FnMut(M) -> u64,
 ) -> u64 {
     sum_of((0..copies(load.number)).map(|_| made(map.clone())))
 }
 
-pub fn for_owned<const N: usize>(load: &Workload<N>, whole: bool) -> u64 {
+/// Changes copies of a map of each part of the rows, and sums how many items each copy then has.
+fn each_changed<const N: usize, M: Map<N>>(
+    load: &Workload<N>,
+    whole: bool,
+    change: impl Fn(&mut M),
+) -> u64 {
     each_map(load, |rows, _| {
-        each_copy(load, &ByHand::filled(rows), |copy| {
+        each_copy(load, &filled::<N, M>(rows), |mut copy| {
+            if whole {
+                change(&mut copy);
+            }
+            copy.len() as u64
+        })
+    })
+}
+
+pub fn for_owned<const N: usize, M: Map<N>>(load: &Workload<N>, whole: bool) -> u64 {
+    each_map(load, |rows, _| {
+        each_copy(load, &filled::<N, M>(rows), |copy| {
             if whole {
                 sum_of(copy.into_rows().map(|row| row.keys[0]))
             } else {
@@ -187,44 +259,60 @@ pub fn for_owned<const N: usize>(load: &Workload<N>, whole: bool) -> u64 {
     })
 }
 
-pub fn equal<const N: usize>(load: &Workload<N>, whole: bool) -> u64 {
+pub fn equal<const N: usize, M: Map<N>>(load: &Workload<N>, whole: bool) -> u64 {
     each_map(load, |rows, asked| {
-        let (map, other) = (ByHand::filled(rows), ByHand::filled(asked));
+        let (map, other) = (filled::<N, M>(rows), filled::<N, M>(asked));
         let times = copies(load.number);
-        sum_of((0..times).map(|_| (whole && map == other) as u64))
+        sum_of((0..times).map(|_| u64::from(whole && map == other)))
     })
 }
 
-pub fn retain<const N: usize>(load: &Workload<N>, whole: bool) -> u64 {
+pub fn retain<const N: usize, M: Map<N>>(load: &Workload<N>, whole: bool) -> u64 {
+    each_changed(load, whole, |map: &mut M| {
+        map.retain(|row| row.keys[0] % 2 == 0);
+    })
+}
+
+pub fn retain_most<const N: usize, M: Map<N>>(load: &Workload<N>, whole: bool) -> u64 {
+    each_changed(load, whole, |map: &mut M| {
+        map.retain(|row| row.keys[0] % 64 != 0);
+    })
+}
+
+/// Takes items out of copies of a map of each part of the rows. Sums their first keys, and how many items each copy then has.
+fn each_emptied<const N: usize, M: Map<N>>(
+    load: &Workload<N>,
+    whole: bool,
+    is_taken: impl Fn(&Row<N>) -> bool,
+) -> u64 {
     each_map(load, |rows, _| {
-        each_copy(load, &ByHand::filled(rows), |mut copy| {
-            if whole {
-                copy.retain(|row| row.keys[0] % 2 == 0);
-            }
-            copy.len() as u64
+        each_copy(load, &filled::<N, M>(rows), |mut copy| {
+            let sum = if whole { copy.extract(&is_taken) } else { 0 };
+            sum.wrapping_add(copy.len() as u64)
         })
     })
 }
 
-pub fn clone<const N: usize>(load: &Workload<N>, whole: bool) -> u64 {
-    let map = ByHand::filled(&load.rows);
+pub fn pop_all<const N: usize, M: Map<N>>(load: &Workload<N>, whole: bool) -> u64 {
+    each_emptied::<N, M>(load, whole, |_| true)
+}
+
+pub fn extract_half<const N: usize, M: Map<N>>(load: &Workload<N>, whole: bool) -> u64 {
+    each_emptied::<N, M>(load, whole, |row| row.keys[0] % 2 != 0)
+}
+
+pub fn clone<const N: usize, M: Map<N>>(load: &Workload<N>, whole: bool) -> u64 {
+    let map = filled::<N, M>(&load.rows);
     sum_of((0..times(load, whole)).map(|_| map.clone().len() as u64))
 }
 
-pub fn clear<const N: usize>(load: &Workload<N>, whole: bool) -> u64 {
-    each_map(load, |rows, _| {
-        each_copy(load, &ByHand::filled(rows), |mut copy| {
-            if whole {
-                copy.clear();
-            }
-            copy.len() as u64
-        })
-    })
+pub fn clear<const N: usize, M: Map<N>>(load: &Workload<N>, whole: bool) -> u64 {
+    each_changed(load, whole, M::clear)
 }
 
-pub fn shrink<const N: usize>(load: &Workload<N>, whole: bool) -> u64 {
+pub fn shrink<const N: usize, M: Map<N>>(load: &Workload<N>, whole: bool) -> u64 {
     each_map(load, |rows, asked| {
-        let mut map = ByHand::filled(rows);
+        let mut map = filled::<N, M>(rows);
         let sum = take_out(&mut map, asked);
         let lengths = each_copy(load, &map, |mut copy| {
             if whole {
@@ -236,20 +324,13 @@ pub fn shrink<const N: usize>(load: &Workload<N>, whole: bool) -> u64 {
     })
 }
 
-pub fn reserve<const N: usize>(load: &Workload<N>, whole: bool) -> u64 {
-    each_map(load, |rows, _| {
-        each_copy(load, &ByHand::filled(rows), |mut copy| {
-            if whole {
-                copy.reserve(load.number);
-            }
-            copy.len() as u64
-        })
-    })
+pub fn reserve<const N: usize, M: Map<N>>(load: &Workload<N>, whole: bool) -> u64 {
+    each_changed(load, whole, |map: &mut M| map.reserve(load.number))
 }
 
-pub fn extend<const N: usize>(load: &Workload<N>, whole: bool) -> u64 {
+pub fn extend<const N: usize, M: Map<N>>(load: &Workload<N>, whole: bool) -> u64 {
     each_map(load, |rows, _| {
-        let mut map = ByHand::new();
+        let mut map = M::with_capacity(0);
         if whole {
             map.extend(rows.iter().copied());
         }
@@ -257,29 +338,27 @@ pub fn extend<const N: usize>(load: &Workload<N>, whole: bool) -> u64 {
     })
 }
 
-pub fn extend_unique<const N: usize>(load: &Workload<N>, whole: bool) -> u64 {
+pub fn from_iter<const N: usize, M: Map<N>>(load: &Workload<N>, whole: bool) -> u64 {
     each_map(load, |rows, _| {
-        let mut map = ByHand::new();
-        let rows = if whole { rows } else { &[] };
-        let back = match map.extend_unique(rows.iter().copied()) {
-            Ok(()) => 0,
-            Err(refused) => refused.taken.len() + usize::from(refused.found == [None; N]),
-        };
-        (back + map.len()) as u64
+        if whole {
+            M::from_rows(rows.iter().copied()).len() as u64
+        } else {
+            0
+        }
     })
 }
 
-pub fn from_iter<const N: usize>(load: &Workload<N>, whole: bool) -> u64 {
-    extend(load, whole)
+pub fn from_iter_unique<const N: usize, M: Map<N>>(load: &Workload<N>, whole: bool) -> u64 {
+    each_map(load, |rows, _| {
+        let made = whole.then(|| M::from_unique_rows(rows.iter().copied()));
+        made.flatten().map_or(0, |map| map.len() as u64)
+    })
 }
 
-pub fn from_iter_unique<const N: usize>(load: &Workload<N>, whole: bool) -> u64 {
+pub fn extend_unique<const N: usize, M: Map<N>>(load: &Workload<N>, whole: bool) -> u64 {
     each_map(load, |rows, _| {
-        let mut map = ByHand::new();
-        if whole {
-            map.reserve(rows.len());
-            map.fill(rows);
-        }
-        map.len() as u64
+        let mut map = M::with_capacity(0);
+        let rows = if whole { rows } else { &[] };
+        (map.enter_all(rows) + map.len()) as u64
     })
 }

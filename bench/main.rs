@@ -10,19 +10,22 @@
 //!     --turns N       takes the least time of N turns in a round (20; fewer above 10,000 items)
 //!     --keys N        times only the map with 2 or with 3 keys
 //!     --without WORD  leaves out the operations whose name contains WORD
-//!     --table         prints the ratios of both maps in one table for a page
+//!     --table         prints the ratios as a page has them, a table for each map
 //!     --growth        prints tables of the maps here alone, of the calls that visit all items
 //!     --svg FILE      writes a picture of five operations at eight sizes
+//!     --memory        prints the bytes an item that the maps hold after they grew, and at most while they grow
 //!     --others        times text keys, items of 128 bytes and a random seed, with two keys, and nothing else
 //!     --chosen        prints what keys with one home bucket cost under the default builder and a random seed
-#[cfg(feature = "beside")]
-mod beside;
 mod by_hand;
+mod calls;
 mod chosen;
 #[cfg(feature = "beside")]
 mod crate_maps;
+mod hasher;
 mod loops;
 mod measure;
+#[cfg(feature = "counts")]
+mod memory;
 mod operations;
 mod others;
 mod picture;
@@ -30,14 +33,12 @@ mod report;
 mod workload;
 
 #[cfg(feature = "beside")]
-use beside::{three_keys, two_keys};
-use measure::Plan;
-use operations::Operation;
-#[cfg(not(feature = "beside"))]
-use operations::{three_keys, two_keys};
+use crate_maps::{Three, Two};
+use measure::{Plan, Side, print_once};
+use operations::{Kind, Operation};
 
-/// The numbers of items, at which the load of a table of std is 0.87, 0.49 and 0.76.
-const SIZES: [usize; 3] = [890, 1_000, 100_000];
+/// The numbers of items, at which the load of a table of std is 0.59, 0.87, 0.49, 0.61, 0.61 and 0.76.
+const SIZES: [usize; 6] = [600, 890, 1_000, 10_000, 20_000, 100_000];
 
 /// The name of the other side in the heads of tables. It is the Rust crate iddqd if bench/beside builds the program.
 const OTHER: &str = if cfg!(feature = "beside") {
@@ -45,6 +46,12 @@ const OTHER: &str = if cfg!(feature = "beside") {
 } else {
     "std"
 };
+
+/// The maps on the other side.
+#[cfg(not(feature = "beside"))]
+type Two = by_hand::ByHand<2>;
+#[cfg(not(feature = "beside"))]
+type Three = by_hand::ByHand<3>;
 
 /// What makes the operations of a map.
 type Operations<const N: usize> = fn() -> Vec<Operation<N>>;
@@ -59,6 +66,7 @@ struct Wanted {
     table: bool,
     growth: bool,
     chosen: bool,
+    memory: bool,
     others: bool,
     picture: Option<String>,
 }
@@ -98,6 +106,7 @@ fn wanted(mut words: impl Iterator<Item = String>) -> Wanted {
         table: false,
         growth: false,
         chosen: false,
+        memory: false,
         others: false,
         picture: None,
     };
@@ -110,6 +119,7 @@ fn wanted(mut words: impl Iterator<Item = String>) -> Wanted {
             "--table" => wanted.table = true,
             "--growth" => wanted.growth = true,
             "--chosen" => wanted.chosen = true,
+            "--memory" => wanted.memory = true,
             "--others" => wanted.others = true,
             "--svg" => wanted.picture = Some(behind(&mut words, &word)),
             _ if word.starts_with(|c: char| c.is_ascii_digit()) => {
@@ -142,7 +152,7 @@ impl Wanted {
         }
         let all = operations().into_iter();
         all.filter(|operation| self.has(operation.name))
-            .filter(|operation| !self.growth || operation.goes_over_all)
+            .filter(|operation| !self.growth || operation.kind == Kind::All)
             .collect()
     }
 
@@ -179,15 +189,66 @@ impl Wanted {
     }
 }
 
+unsafe extern "C" {
+    safe fn mallopt(parameter: i32, value: i32) -> i32;
+}
+
+/// Lets glibc's malloc keep all memory that is freed, and ask the system for no block by itself. So no row depends on
+/// what the rows before it freed. The processes of `Kind::Anew` do not call this.
+fn keep_memory() {
+    const M_TRIM_THRESHOLD: i32 = -1;
+    const M_MMAP_MAX: i32 = -4;
+    assert!(mallopt(M_TRIM_THRESHOLD, -1) == 1 && mallopt(M_MMAP_MAX, 0) == 1);
+}
+
+/// Runs one loop once, for a process that `measure` has started.
+fn run_once(words: &mut impl Iterator<Item = String>) {
+    let side = Side::from_word(&behind(words, "--once"));
+    let keys = behind(words, "--once");
+    let items = number(&behind(words, "--once"));
+    let name = behind(words, "--once");
+    fn find<const N: usize>(all: Vec<Operation<N>>, name: &str) -> Operation<N> {
+        let found = all.into_iter().find(|operation| operation.name == name);
+        found.unwrap_or_else(|| panic!("there is no operation {name}"))
+    }
+    if keys == "2" {
+        print_once(&find(operations::two_keys::<Two>(), &name), side, items);
+    } else {
+        print_once(&find(operations::three_keys::<Three>(), &name), side, items);
+    }
+}
+
+#[cfg(feature = "counts")]
+fn print_memory(wanted: &Wanted) {
+    let sizes = wanted.sizes(&memory::SIZES);
+    if wanted.keys != Some(3) {
+        memory::print::<2, Two>(operations::exported!(bi_grow, 2), &sizes);
+    }
+    if wanted.keys != Some(2) {
+        memory::print::<3, Three>(operations::exported!(tri_grow, 3), &sizes);
+    }
+}
+
+#[cfg(not(feature = "counts"))]
+fn print_memory(_: &Wanted) {
+    panic!("--memory needs a program that counts, which bench/run and bench/beside build for it");
+}
+
 fn main() {
-    let wanted = wanted(std::env::args().skip(1));
+    let mut words = std::env::args().skip(1).peekable();
+    if words.next_if(|word| word == "--once").is_some() {
+        run_once(&mut words);
+        return;
+    }
+    keep_memory();
+    let wanted = wanted(words);
     assert!(
         OTHER == "std" || !wanted.others && !wanted.chosen && wanted.picture.is_none(),
         "--others, --chosen and --svg are options of bench/run alone"
     );
     for key in 0..100 {
         assert_eq!(
-            by_hand::hash(key),
+            hasher::hash(key),
             operations::hash(key),
             "the hashers differ"
         );
@@ -198,6 +259,10 @@ fn main() {
         std::fs::write(file, drawn).unwrap_or_else(|error| panic!("{file}: {error}"));
         return;
     }
+    if wanted.memory {
+        print_memory(&wanted);
+        return;
+    }
     println!("{}\n", report::circumstances(wanted.plan));
     if wanted.chosen {
         chosen::print();
@@ -206,7 +271,7 @@ fn main() {
     let (two, three): (Operations<2>, Operations<3>) = if wanted.others {
         (others::operations, Vec::new)
     } else {
-        (two_keys, three_keys)
+        (operations::two_keys::<Two>, operations::three_keys::<Three>)
     };
     if wanted.table && !wanted.growth {
         wanted.print_table(two, three);

@@ -1,6 +1,7 @@
 //! Measures the times of loops, in rounds.
-use crate::operations::Operation;
+use crate::operations::{Kind, Operation};
 use crate::workload::Workload;
+use std::process::Command;
 use std::time::Instant;
 
 /// How often the operations are measured.
@@ -87,10 +88,13 @@ impl Least {
     fn time(&mut self, whole: bool, run: impl FnOnce(bool) -> u64) -> u64 {
         let start = Instant::now();
         let sum = run(whole);
-        let took = start.elapsed().as_nanos() as f64;
+        self.note(whole, start.elapsed().as_nanos() as f64);
+        sum
+    }
+
+    fn note(&mut self, whole: bool, took: f64) {
         let least = &mut self.0[whole as usize];
         *least = least.min(took);
-        sum
     }
 
     fn an_operation(&self, operations: usize) -> f64 {
@@ -99,26 +103,100 @@ impl Least {
     }
 }
 
+/// A side of the comparison.
+#[derive(Clone, Copy)]
+pub enum Side {
+    Here,
+    Other,
+}
+
+impl Side {
+    fn run<const N: usize>(self, operation: &Operation<N>, load: &Workload<N>, whole: bool) -> u64 {
+        match self {
+            Side::Here => operation.here(load, whole),
+            Side::Other => (operation.by_hand)(load, whole),
+        }
+    }
+
+    fn word(self) -> &'static str {
+        match self {
+            Side::Here => "here",
+            Side::Other => "other",
+        }
+    }
+
+    pub fn from_word(word: &str) -> Side {
+        if word == "here" {
+            Side::Here
+        } else {
+            Side::Other
+        }
+    }
+}
+
+/// Runs the whole loop of a side once, and prints the nanoseconds that it took and its sum.
+pub fn print_once<const N: usize>(operation: &Operation<N>, side: Side, items: usize) {
+    let load = (operation.load)(items);
+    let mut least = Least([0.0, f64::MAX]);
+    let sum = least.time(true, |whole| side.run(operation, &load, whole));
+    println!("{} {sum}", least.0[1]);
+}
+
+/// Runs the whole loop of a side once in a process of its own. Returns the nanoseconds that it took, and its sum.
+fn time_anew<const N: usize>(operation: &Operation<N>, side: Side, items: usize) -> (f64, u64) {
+    let program = std::env::current_exe().expect("the program has a path");
+    let words = [
+        "--once",
+        side.word(),
+        &N.to_string(),
+        &items.to_string(),
+        operation.name,
+    ];
+    let said = Command::new(program).args(words).output();
+    let said = String::from_utf8(said.expect("the program runs again").stdout);
+    let said = said.expect("it prints text");
+    let (took, sum) = said
+        .trim()
+        .split_once(' ')
+        .expect("it prints a time and a sum");
+    (
+        took.parse().expect("a time"),
+        sum.parse().expect("a number"),
+    )
+}
+
 /// Measures one round of an operation. The sides take turns, and have to return the same sums.
 fn round<const N: usize>(
     operation: &Operation<N>,
-    load: &Workload<N>,
-    turns: usize,
-    compares: bool,
+    items: usize,
+    plan: Plan,
     figures: &mut Figures,
 ) {
+    let load = (operation.load)(items);
     let (mut by_hand, mut here) = (Least([f64::MAX; 2]), Least([f64::MAX; 2]));
-    for _ in 0..turns {
+    let once = |side: Side, whole: bool, least: &mut Least| {
+        if operation.kind != Kind::Anew {
+            return least.time(whole, |whole| side.run(operation, &load, whole));
+        }
+        let (took, sum) = if whole {
+            time_anew(operation, side, items)
+        } else {
+            (0.0, 0)
+        };
+        least.note(whole, took);
+        sum
+    };
+    for _ in 0..plan.turns(items) {
         for whole in [true, false] {
-            let sum = here.time(whole, |whole| operation.here(load, whole));
-            if compares {
-                let other = by_hand.time(whole, |whole| (operation.by_hand)(load, whole));
+            let sum = once(Side::Here, whole, &mut here);
+            if plan.compares {
+                let other = once(Side::Other, whole, &mut by_hand);
                 assert_eq!(sum, other, "the two sides differ: {}", operation.name);
             }
         }
     }
     figures.here.push(here.an_operation(load.operations));
-    if compares {
+    if plan.compares {
         figures.by_hand.push(by_hand.an_operation(load.operations));
     }
 }
@@ -135,9 +213,7 @@ pub fn measure<const N: usize>(
         for (at, items) in sizes.iter().copied().enumerate() {
             eprintln!("{N} keys, {items} items: round {made} of {}", plan.rounds);
             for (operation, figures) in operations.iter().zip(&mut figures) {
-                let load = (operation.load)(items);
-                let turns = plan.turns(items);
-                round(operation, &load, turns, plan.compares, &mut figures[at]);
+                round(operation, items, plan, &mut figures[at]);
             }
         }
     }

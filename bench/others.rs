@@ -1,7 +1,8 @@
 //! Other keys, items and hashers, at two keys: text keys, items of 128 bytes, and the hasher of `RandomState`. One side
 //! has the loops that `iddqd_bench` exports, and the other the same loops over std hash maps kept by hand.
-use crate::by_hand::FoldHasher;
-use crate::operations::{Exported, Operation, exported};
+use crate::calls::sum_of;
+use crate::hasher::FoldHasher;
+use crate::operations::{Exported, Kind, Operation, exported};
 use crate::workload::{self, Row, Workload};
 use std::borrow::Borrow;
 use std::collections::HashMap;
@@ -166,10 +167,6 @@ impl<T: Item, H: Hasher + Default> Keyed<T, H> {
         }
         self.slab[slot].replace(item)
     }
-}
-
-fn sum_of(numbers: impl Iterator<Item = u64>) -> u64 {
-    numbers.fold(0, u64::wrapping_add)
 }
 
 fn insert<T: Item, H: Hasher + Default>(load: &Workload<2>, whole: bool) -> u64 {
@@ -352,7 +349,7 @@ pub fn operations() -> Vec<Operation<2>> {
     ];
     rows.map(|(name, load, by_hand, exported)| Operation {
         name,
-        goes_over_all: false,
+        kind: Kind::Each,
         load,
         by_hand,
         exported,

@@ -3,6 +3,7 @@
 use crate::measure::{Figures, Plan, measure};
 use crate::operations::{self, Operation};
 use crate::report::{grouped, map_name};
+use crate::{Three, Two};
 use std::fmt::Write;
 
 /// The numbers of items. The tables have the same load at each of them, 0.78.
@@ -245,8 +246,8 @@ fn legend(out: &mut String) {
 
 /// Measures, and returns the picture as text.
 pub fn draw(sizes: &[usize], plan: Plan) -> String {
-    let mut all = panels(operations::two_keys(), sizes, plan);
-    all.extend(panels(operations::three_keys(), sizes, plan));
+    let mut all = panels(operations::two_keys::<Two>(), sizes, plan);
+    all.extend(panels(operations::three_keys::<Three>(), sizes, plan));
     let (least, most) = (sizes.iter().min(), sizes.iter().max());
     let scales = Scales {
         items: Span {

@@ -67,13 +67,13 @@ pub fn print_text<const N: usize>(operations: &[Operation<N>], sizes: &[usize], 
     }
 }
 
-fn print_row(cells: impl Iterator<Item = String>) {
+pub fn print_row(cells: impl Iterator<Item = String>) {
     let cells: Vec<String> = cells.collect();
     println!("| {} |", cells.join(" | "));
 }
 
 /// Prints the head of a table: its first cell, and those after it.
-fn print_head(first: String, others: Vec<String>) {
+pub fn print_head(first: String, others: Vec<String>) {
     let line = vec!["---".to_string(); others.len() + 1];
     print_row([first].into_iter().chain(others));
     println!("|{}|", line.join("|"));
@@ -102,22 +102,36 @@ fn marked(figures: &Figures) -> String {
 }
 
 impl Map {
-    /// Returns the cells of an operation: a ratio at each size, and the time here at the size in the middle. If the map
-    /// does not have the operation, there are dashes.
-    fn cells(&self, name: &str, sizes: &[usize]) -> String {
-        let row = self.rows.iter().find(|(other, _)| *other == name);
-        let mut cells = "  ".to_string();
-        for (at, items) in sizes.iter().enumerate() {
-            let figures = row.map(|(_, figures)| &figures[at]);
-            let ratio = figures.map_or("-".to_string(), marked);
-            cells += &format!("{ratio:>width$}", width = width(*items));
-            if at == sizes.len() / 2 {
-                let here = figures.map_or("-".to_string(), |it| nanoseconds(it.here()));
-                cells += &format!("{here:>7}");
-            }
-        }
-        cells
+    /// Returns the names of the rows that another map has, and this one has not.
+    fn lacks<'a>(&'a self, other: &'a Map) -> impl Iterator<Item = &'static str> + 'a {
+        let has = |name: &str| self.rows.iter().any(|(own, _)| *own == name);
+        let names = other.rows.iter().map(|(name, _)| *name);
+        names.filter(move |name| !has(name))
     }
+
+    /// Prints a row for each operation: its ratio at each size, and its time here at one of them.
+    fn print(&self, sizes: &[usize]) {
+        let wide = self.rows.iter().map(|(name, _)| name.len()).max();
+        let wide = wide.unwrap_or_default().max(28);
+        println!("{:<wide$}{}", format!("{} keys:", self.keys), heads(sizes));
+        for (name, figures) in &self.rows {
+            let mut cells = "  ".to_string();
+            for (at, items) in sizes.iter().enumerate() {
+                let ratio = marked(&figures[at]);
+                cells += &format!("{ratio:>width$}", width = width(*items));
+                if at == place_of_time(sizes) {
+                    cells += &format!("{:>7}", nanoseconds(figures[at].here()));
+                }
+            }
+            println!("{name:<wide$}{cells}");
+        }
+    }
+}
+
+/// Returns the place of the size at which a table has the time too: 1,000 items, or else the size in the middle.
+fn place_of_time(sizes: &[usize]) -> usize {
+    let thousand = sizes.iter().position(|items| *items == 1_000);
+    thousand.unwrap_or(sizes.len() / 2)
 }
 
 /// Returns the width of a size's column.
@@ -130,41 +144,36 @@ fn heads(sizes: &[usize]) -> String {
     let mut heads = "  ".to_string();
     for (at, items) in sizes.iter().enumerate() {
         heads += &format!("{:>width$}", grouped(*items), width = width(*items));
-        if at == sizes.len() / 2 {
+        if at == place_of_time(sizes) {
             heads += &format!("{:>7}", "ns");
         }
     }
     heads
 }
 
-/// Prints the ratios of the maps side by side, in the form of a page.
+/// Prints the ratios of the maps, in the form of a page: a table for each map.
 pub fn print_table(maps: &[Map], sizes: &[usize], plan: Plan) {
-    // Each map has all operations but those that the other side lacks.
-    let longest = maps.iter().max_by_key(|map| map.rows.len());
-    let Some(Map { rows, .. }) = longest else {
-        return;
-    };
-    let wide = rows.iter().map(|(name, _)| name.len()).max();
-    let wide = wide.unwrap_or_default().max(28);
-    let middle = grouped(sizes[sizes.len() / 2]);
+    let at = grouped(sizes[place_of_time(sizes)]);
     println!(
-        "`ns`: here, at {middle}. `~`: a round's ratio is over 1.5 times another's. `?`: lost in noise."
+        "`ns`: here, at {at}. `~`: a round's ratio is over 1.5 times another's. `?`: lost in noise."
     );
-    if maps.iter().any(|map| map.rows.len() < rows.len()) {
-        println!("`-`: the other side ({}) has no such call.", plan.other);
+    for map in maps {
+        let lacks = maps.iter().flat_map(|other| map.lacks(other));
+        let lacks: Vec<&str> = lacks.collect();
+        if !lacks.is_empty() {
+            let (keys, lacks) = (map.keys, lacks.join("; "));
+            println!(
+                "With {keys} keys the other side ({}) has none: {lacks}.",
+                plan.other
+            );
+        }
     }
     println!("\n```");
-    let columns = heads(sizes);
-    let mut keys = " ".repeat(wide);
-    for map in maps {
-        let name = format!("   {} keys:", map.keys);
-        keys += &format!("{name:<width$}", width = columns.len());
-    }
-    println!("{}", keys.trim_end());
-    println!("{:wide$}{}", "", columns.repeat(maps.len()));
-    for (name, _) in rows {
-        let cells: String = maps.iter().map(|map| map.cells(name, sizes)).collect();
-        println!("{name:<wide$}{cells}");
+    for (i, map) in maps.iter().enumerate() {
+        if i > 0 {
+            println!();
+        }
+        map.print(sizes);
     }
     println!("```\n");
 }

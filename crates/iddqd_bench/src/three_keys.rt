@@ -6,6 +6,7 @@ use std::alloc::Global;
 
 pub mod building;
 pub mod changing;
+pub mod emptying;
 pub mod inserting;
 pub mod searching;
 pub mod walking;

@@ -28,13 +28,40 @@ pub extern "C" fn tri_insert(
     sum
 }
 
+/// Fills a new map with rows, and then asks for `number` bytes, so that the bench sees what the map holds before it is
+/// dropped. Returns how many rows are not inserted, plus one if there is no memory for those bytes.
+#[unsafe(no_mangle)]
+pub extern "C" fn tri_grow(
+    alloc: Global,
+    rows: &[Row],
+    _asked: &[Row],
+    number: usize,
+    whole: bool,
+) -> u64 {
+    let mut map = TriHashMap::new(alloc);
+    let refused = if whole { fill(&mut map, rows) } else { 0 };
+    refused.wrapping_add(u64::from(Vec::<u8>::with_capacity(alloc, number).is_err()))
+}
+
 /// How rows are inserted.
 #[derive(Clone, Copy)]
 enum Way {
     /// No row is inserted.
     Nowhere,
     Unique,
+    Try,
     Entry,
+}
+
+/// Inserts the rows by calls whose error owns the row, and counts the errors that say that the first key is not taken.
+fn try_fill(map: &mut TriHashMap<Row>, rows: &[Row]) -> u64 {
+    let mut refused = 0u64;
+    for row in rows {
+        if let Err(rejected) = map.try_insert(*row) {
+            refused = refused.wrapping_add(u64::from(!rejected.taken1));
+        }
+    }
+    refused
 }
 
 /// Inserts the rows through their entries, and counts those that are not inserted.
@@ -61,6 +88,7 @@ fn filled_with_room(alloc: Global, rows: &[Row], room: usize, way: Way) -> u64 {
     let refused = match way {
         Way::Nowhere => 0,
         Way::Unique => fill(&mut map, rows),
+        Way::Try => try_fill(&mut map, rows),
         Way::Entry => enter(&mut map, rows),
     };
     refused.wrapping_add(map.len() as u64)
@@ -86,6 +114,32 @@ pub extern "C" fn tri_insert_with_room(
 ) -> u64 {
     let way = if whole { Way::Unique } else { Way::Nowhere };
     fill_parts(alloc, rows, number, way)
+}
+
+/// Fills a new map, made with capacity `number`, with each part of `number` rows, by `try_insert`.
+#[unsafe(no_mangle)]
+pub extern "C" fn tri_try_insert(
+    alloc: Global,
+    rows: &[Row],
+    _asked: &[Row],
+    number: usize,
+    whole: bool,
+) -> u64 {
+    let way = if whole { Way::Try } else { Way::Nowhere };
+    fill_parts(alloc, rows, number, way)
+}
+
+/// Fills a map, and passes to `try_insert` rows that each have the last key of an item of the map.
+#[unsafe(no_mangle)]
+pub extern "C" fn tri_try_insert_refused(
+    alloc: Global,
+    rows: &[Row],
+    asked: &[Row],
+    _number: usize,
+    whole: bool,
+) -> u64 {
+    let mut map = filled(alloc, rows);
+    if whole { try_fill(&mut map, asked) } else { 0 }
 }
 
 /// Fills a map, and tries to insert rows that each have one key of an item of the map.

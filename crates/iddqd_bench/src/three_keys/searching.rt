@@ -24,6 +24,27 @@ pub extern "C" fn tri_get(
     sum
 }
 
+/// Looks up all keys of each row.
+#[unsafe(no_mangle)]
+pub extern "C" fn tri_get_unique(
+    alloc: Global,
+    rows: &[Row],
+    asked: &[Row],
+    _number: usize,
+    whole: bool,
+) -> u64 {
+    let map = filled(alloc, rows);
+    let mut sum = 0u64;
+    if whole {
+        for row in asked {
+            if let Some(found) = map.get_unique(&row.key1, &row.key2, &row.key3) {
+                sum = sum.wrapping_add(found.key2);
+            }
+        }
+    }
+    sum
+}
+
 /// Looks up the first key of each row, changed by the value that the lookup before found. So each lookup waits for
 /// the one before. The values are 0.
 #[unsafe(no_mangle)]
@@ -91,6 +112,37 @@ pub extern "C" fn tri_remove(
     sum
 }
 
+/// Removes the items that have all keys of a row, and sums their second keys.
+fn take_out_unique(map: &mut TriHashMap<Row>, rows: &[Row]) -> u64 {
+    let mut sum = 0u64;
+    for row in rows {
+        if let Some(gone) = map.remove_unique(&row.key1, &row.key2, &row.key3) {
+            sum = sum.wrapping_add(gone.key2);
+        }
+    }
+    sum
+}
+
+/// Fills a map with each part of `number` rows, and removes as many items by all keys of the rows asked for.
+#[unsafe(no_mangle)]
+pub extern "C" fn tri_remove_unique(
+    alloc: Global,
+    rows: &[Row],
+    asked: &[Row],
+    number: usize,
+    whole: bool,
+) -> u64 {
+    let mut sum = 0u64;
+    let number = number.max(1);
+    for (rows, asked) in rows.chunks(number).zip(asked.chunks(number)) {
+        let mut map = filled(alloc, rows);
+        if whole {
+            sum = sum.wrapping_add(take_out_unique(&mut map, asked));
+        }
+    }
+    sum
+}
+
 /// Removes an item and inserts another. Returns the second key of the former, plus one if the insert fails.
 fn remove_insert(map: &mut TriHashMap<Row>, old: &Row, new: &Row) -> u64 {
     let gone = match map.remove1(&old.key1) {
@@ -115,6 +167,35 @@ pub extern "C" fn tri_remove_insert(
         for two in asked.chunks(2) {
             if let [old, new] = two {
                 sum = sum.wrapping_add(remove_insert(&mut map, old, new));
+            }
+        }
+    }
+    sum
+}
+
+/// Puts an item in the place of another. Returns the second key of the latter, or one if the call fails.
+fn rekey(map: &mut TriHashMap<Row>, old: &Row, new: &Row) -> u64 {
+    match map.rekey1(&old.key1, *new) {
+        Ok(gone) => gone.key2,
+        Err(_) => 1,
+    }
+}
+
+/// For each two rows, puts the other in the place of the item of the one.
+#[unsafe(no_mangle)]
+pub extern "C" fn tri_rekey(
+    alloc: Global,
+    rows: &[Row],
+    asked: &[Row],
+    _number: usize,
+    whole: bool,
+) -> u64 {
+    let mut map = filled(alloc, rows);
+    let mut sum = 0u64;
+    if whole {
+        for two in asked.chunks(2) {
+            if let [old, new] = two {
+                sum = sum.wrapping_add(rekey(&mut map, old, new));
             }
         }
     }

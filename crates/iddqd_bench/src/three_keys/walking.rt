@@ -69,6 +69,26 @@ pub extern "C" fn tri_iter_mut(
     sum
 }
 
+/// Writes to all items by one call, `number` times, and sums what was written.
+#[unsafe(no_mangle)]
+pub extern "C" fn tri_update_all(
+    alloc: Global,
+    rows: &[Row],
+    _asked: &[Row],
+    number: usize,
+    whole: bool,
+) -> u64 {
+    let mut map = filled(alloc, rows);
+    for _ in 0..if whole { number } else { 0 } {
+        map.update_all(|row| row.value.wrapping_add(1));
+    }
+    let mut sum = 0u64;
+    for row in map.iter() {
+        sum = sum.wrapping_add(row.value);
+    }
+    sum
+}
+
 /// Iterates over a clone by value.
 fn walk_copy(map: &TriHashMap<Row>, whole: bool) -> u64 {
     let mut sum = 0u64;

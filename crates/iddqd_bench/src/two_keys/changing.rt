@@ -10,6 +10,8 @@ enum Change {
     Nothing,
     /// Keeps about half of the items.
     Retain,
+    /// Keeps all items but about one in 64.
+    RetainMost,
     Clear,
     Shrink,
     /// Reserves spare capacity for this many more items.
@@ -22,6 +24,10 @@ fn is_refused(map: &mut BiHashMap<Row>, change: Change) -> bool {
         Change::Nothing => false,
         Change::Retain => {
             map.retain(|row| row.key1 % 2 == 0);
+            false
+        }
+        Change::RetainMost => {
+            map.retain(|row| row.key1 % 64 != 0);
             false
         }
         Change::Clear => {
@@ -72,6 +78,23 @@ pub extern "C" fn bi_retain(
 ) -> u64 {
     let change = if whole {
         Change::Retain
+    } else {
+        Change::Nothing
+    };
+    change_parts(alloc, rows, number, change)
+}
+
+/// Fills a map with each part of `number` rows, and drops about one in 64 of the items of its clones.
+#[unsafe(no_mangle)]
+pub extern "C" fn bi_retain_most(
+    alloc: Global,
+    rows: &[Row],
+    _asked: &[Row],
+    number: usize,
+    whole: bool,
+) -> u64 {
+    let change = if whole {
+        Change::RetainMost
     } else {
         Change::Nothing
     };
