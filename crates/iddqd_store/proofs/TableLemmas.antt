@@ -1,4 +1,5 @@
 -- Lemmas on cells: sizes, full places, stretches, searches, writes, removals.
+pub mod Chunk
 pub mod Full
 pub mod Grow
 pub mod Limits

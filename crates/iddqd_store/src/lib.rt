@@ -19,7 +19,7 @@ pub use error::{
 };
 pub use index_table::{IndexTable, KeyMatcher, Matcher, Meter, Vacancy};
 pub use item_set::{Cursor, Entered, IntoIter, ItemIndex, ItemSet, Iter};
-pub use load::{pairs_wanted, table_room};
+pub use load::{pairs_wanted, table_room, wanted_above};
 pub use query::Query;
 pub use rank::{ByQuery, HashedKey, KeyOf, Lookup, SlotUnder};
 pub use reply::MapReply;

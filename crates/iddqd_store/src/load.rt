@@ -47,3 +47,13 @@ pub fn pairs_wanted(len: usize, room: usize, more: usize) -> Option<usize>
     }
     Some(table_room(slots) - len)
 }
+
+/// Returns how many more a part of a map is asked for before the parts with the least room: what is wanted if it has
+/// more room than the map, and otherwise 0.
+pub fn wanted_above(room: usize, part: usize, wanted: usize) -> usize
+    ensures all { room < part → result ≡ wanted }
+    ensures none { 0 < result → room < part }
+    ensures most { result ≤ wanted }
+{
+    if room < part { wanted } else { 0 }
+}

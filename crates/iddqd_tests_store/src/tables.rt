@@ -170,8 +170,7 @@ fn entered(
     enter(&mut table, gone);
     enter(&mut table, pairs);
     take_out(&mut table, gone);
-    let larger = table.grown(more, &mut Meter::new())?;
-    table.grow_into(larger);
+    table.try_reserve(more, &mut Meter::new())?;
     Ok(table)
 }
 

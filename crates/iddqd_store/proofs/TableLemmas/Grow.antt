@@ -1,14 +1,14 @@
 -- Cells of a row that are copied one after the other into a larger row.
-use Rattle.std.proofs.Common.{arith, ℕ, ◌≡◌, ◌+◌, ◌*◌, ◌/◌, ◌%◌, ◌<◌, ◌≤◌, List, Option, None, Some, length, set, take, replicate, sym, ap, ◌∙◌, subst}
+use Rattle.std.proofs.Common.{arith, ℕ, ◌≡◌, ◌+◌, ◌*◌, ◌/◌, ◌%◌, ◌<◌, ◌≤◌, List, Option, None, Some, length, set, take, replicate, ap, ◌∙◌, subst}
 use Rattle.std.specs.List.Sorted.{IsPermutation}
-use Rattle.std.proofs.lemmas.List.{length_push, set-get_or, take_all}
+use Rattle.std.proofs.lemmas.List.{length_push, take_all}
 use Rattle.std.proofs.lemmas.List.Sorted.{IsPermutation-refl, IsPermutation-push_more, length_permutation}
 use Rattle.iddqd_store.specs.Table.{IsTable, IsFirstEmpty}
 use Rattle.iddqd_store.specs.Table.Limit.{IsSize}
 use Rattle.iddqd_store.specs.Slots.{contents}
 use Rattle.iddqd_store.specs.Table.Ring.{cell}
 use Rattle.iddqd_store.proofs.TableLemmas.Limits.{held-empty, table_empty}
-use Rattle.iddqd_store.proofs.TableLemmas.Write.{held_front, held_more, held_no_more, table_put}
+use Rattle.iddqd_store.proofs.TableLemmas.Write.{held_front, held_more, table_put}
 use Rattle.iddqd_store.proofs.SlotLemmas.Contents.{contents-put}
 
 -- the pairs of the first i cells of the old row are those of the new one
@@ -31,12 +31,6 @@ front_full old new i at hash index l is fits f h =
       table = table_put new at hash index h.table (omega (arith, more, front, same, fits)) f;
       pairs = rw (held_more old i x l is) (IsPermutation-push_more _ _ _ x h.pairs (contents-put new at x f.below f.empty));
     })
-
--- an empty cell is copied over an empty one, and the row stays as it is
-pub front_empty : (old new : List (Option (ℕ × ℕ))) (i at : ℕ) → i < length old → cell old i ≡ None → cell new at ≡ None → HasFront old new i → HasFront old (set new at (cell old i)) (i + 1)
-front_empty old new i at l is none h =
-    let same : set new at (cell old i) ≡ new = ap (λ (o : Option (ℕ × ℕ)). set new at o) (is ∙ sym none) ∙ set-get_or new at None in
-    rw same (record { table = h.table; pairs = rw (held_no_more old i l is) h.pairs })
 
 pub front_all : (old new : List (Option (ℕ × ℕ))) (i : ℕ) → length old ≤ i → HasFront old new i → IsPermutation (contents old) (contents new)
 front_all old new i l h = subst (λ (r : List (Option (ℕ × ℕ))). IsPermutation (contents r) (contents new)) (take_all i old l) h.pairs

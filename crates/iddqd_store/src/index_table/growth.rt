@@ -1,7 +1,6 @@
-//! Growth: a larger table with the pairs of another one, which stays until the larger one replaces it.
+//! Growth: a larger table with the pairs of another one, which it replaces.
 ghost use Rattle.std.specs.Prelude.{◌≡◌, ◌+◌, ◌*◌, ◌/◌, ◌<◌, ◌≤◌, length, IfOk};
 ghost use Rattle.std.specs.List.Sorted.{IsPermutation};
-ghost use Rattle.std.specs.Option.{unwrap_or};
 ghost use Rattle.iddqd_store.specs.Slots.{contents};
 ghost use Rattle.iddqd_store.specs.Table.Limit.{IsSize};
 ghost use Rattle.iddqd_store.specs.Table.Room.{GrowsFor, ProbesAtMost, growth_within};
@@ -14,9 +13,9 @@ use std::alloc::Global;
 // Makes a table with this many cells and with the pairs of other cells, which are inserted in order, by the hashes in
 // the cells.
 //
-// An old cell without a pair is copied too, over an empty cell. So no branch depends on whether an old cell has a pair,
-// which the processor cannot predict. One empty cell serves for all such copies, until a pair takes it. Then the next
-// empty cell after it serves, so all such copies together go round the new cells at most once.
+// It goes over the old cells by chunks, and lists the places of the full cells of a chunk before it inserts their pairs.
+// The place of each cell is written into the list, but it counts only if the cell has a pair. Otherwise the next place
+// is written over it. So no branch depends on whether an old cell has a pair, which the processor cannot predict.
 fn regrown(
     alloc: Global,
     cells: &Cells,
@@ -31,19 +30,27 @@ fn regrown(
     ensures pairs { IfOk result (λ t. IsPermutation (contents cells.now) t.pairs) }
     ensures cells { IfOk result (λ t. length t.row ≡ count) }
     ensures limit { IfOk result (λ t. t.limit ≡ count / 8 * 7) }
-    ensures probes { ProbesAtMost (λ _. 2 * length cells.now + count + pairs * pairs) result meter.old meter.new }
+    ensures probes { ProbesAtMost (length cells.now + 2 * pairs + pairs * pairs) result meter.old meter.new }
 {
     let mut grown = Cells::with_len(alloc, count)?;
-    let mut spot = count - 1;
-    for i in 0..cells.len() {
-        let pair = cells.cell_at(i, meter);
-        let from = match pair {
-            Some((hash, _)) => probe::home_of(hash, count),
-            None => spot,
-        };
-        let at = probe::first_empty_from(&grown, from, meter);
-        grown.copy_cell(at, cells, i);
-        spot = if pair.is_some() { spot } else { at };
+    let mut places = [0usize; 64];
+    let mut from = 0usize;
+    while from < cells.len() {
+        let to = from + (cells.len() - from).min(64);
+        let mut full = 0usize;
+        for i in from..to {
+            places[full] = i;
+            full += usize::from(cells.cell_at(i, meter).is_some());
+        }
+        for k in 0..full {
+            let i = places[k];
+            let Some((hash, _)) = cells.cell_at(i, meter) else {
+                unreachable!()
+            };
+            let at = probe::first_empty_from(&grown, probe::home_of(hash, count), meter);
+            grown.copy_cell(at, cells, i);
+        }
+        from = to;
     }
     Ok(IndexTable {
         alloc,
@@ -53,44 +60,31 @@ fn regrown(
 }
 
 impl IndexTable {
-    /// Makes a larger table with the same pairs, in which this many more fit. It returns `None` if they fit in this one.
-    /// This table stays as it is, until `grow_into` puts the larger one in its place. So all tables of a map can be made
-    /// before the map gives one up.
+    /// Makes room for this many more pairs: if they do not fit, a larger table with the same pairs replaces this one.
     ///
-    /// It fails only if the pairs do not fit and more cells cannot be allocated. All cells are allocated before the first
-    /// pair is copied. Pairs are copied by the hashes in their cells, so no matcher is asked, and no item is read.
-    pub fn grown(
-        &self,
-        more: usize,
-        meter: &mut Meter,
-    ) -> Result<Option<IndexTable>, TryReserveError>
+    /// It fails only if the pairs do not fit and more cells cannot be allocated; the table is then unchanged. All cells
+    /// are allocated before the first pair is copied. Pairs are copied by the hashes in their cells, so no matcher is
+    /// asked, and no item is read. The old cells are freed once the larger table has all pairs.
+    pub fn try_reserve(&mut self, more: usize, meter: &mut Meter) -> Result<(), TryReserveError>
         // The pairs fit in the table that there is then, or the call fails.
-        ensures room { GrowsFor self.now more result }
+        ensures room { GrowsFor self.old more result self.new }
         // That table has the pairs, and no less room.
-        ensures pairs { IfOk result (λ larger. IsPermutation self.now.pairs (unwrap_or larger self.now).pairs) }
-        ensures limit { IfOk result (λ larger. self.now.limit ≤ (unwrap_or larger self.now).limit) }
-        ensures costs { ProbesAtMost (growth_within self.now) result meter.old meter.new }
+        ensures pairs { IsPermutation self.old.pairs self.new.pairs }
+        ensures limit { self.old.limit ≤ self.new.limit }
+        ensures costs { ProbesAtMost (growth_within self.old) result meter.old meter.new }
+        ensures no_probe { length self.old.pairs + more ≤ self.old.limit → meter.new ≡ meter.old }
     {
         let limit = self.capacity();
         let Some(wanted) = self.count.checked_add(more) else {
             return Err(TryReserveError);
         };
         if wanted <= limit {
-            return Ok(None);
+            return Ok(());
         }
         let Some(count) = probe::cells_for(wanted) else {
             return Err(TryReserveError);
         };
-        let larger = regrown(self.alloc, &self.cells, count, self.count, meter)?;
-        Ok(Some(larger))
-    }
-
-    /// Puts a larger table that `grown` made in the place of this one. If there is none, this one stays.
-    pub fn grow_into(&mut self, larger: Option<IndexTable>)
-        ensures { self.new ≡ unwrap_or larger self.old }
-    {
-        if let Some(larger) = larger {
-            *self = larger;
-        }
+        *self = regrown(self.alloc, &self.cells, count, self.count, meter)?;
+        Ok(())
     }
 }

@@ -6,7 +6,7 @@ ghost use Rattle.iddqd_store.specs.Table.Limit.{most_room};
 
 use super::TriHashMap;
 use crate::item::{Ranked, TriHashItem};
-use iddqd_store::{Meter, TryReserveError, pairs_wanted};
+use iddqd_store::{Meter, TryReserveError, pairs_wanted, wanted_above};
 use std::hash::{BuildHasher, Hash};
 
 impl<T: Ranked, S: BuildHasher> TriHashMap<T, S> {
@@ -39,8 +39,8 @@ impl<T: Ranked, S: BuildHasher> TriHashMap<T, S> {
     /// key.
     ///
     /// The call fails if an allocation for more slots or for a larger table fails, or if the number of items would be
-    /// too large for memory. Then the map is as before: it grows whole or not at all. While it grows, it has the old
-    /// tables and the new ones at once.
+    /// too large for memory. Then the items, the capacity and the builder are as before. A table may have more cells
+    /// then, which serve a later call. While a table grows, it has its old cells beside the new ones.
     pub fn reserve(&mut self, more: usize) -> Result<(), TryReserveError>
         ensures items { bag self.new ≡ bag self.old }
         ensures room { MakesRoom self.old more result self.new }
@@ -102,11 +102,11 @@ impl<T: Ranked, S: BuildHasher> TriHashMap<T, S> {
 }
 
 impl<T: TriHashItem, S: BuildHasher> TriHashMap<T, S> {
-    /// Reserves capacity for this many more items. If that fails, the map is as before. The call is not inlined into an
-    /// insert, which seldom grows.
+    /// Reserves capacity for this many more items. If that fails, the map is as before, but slots and tables may have
+    /// more room. The call is not inlined into an insert, which seldom grows.
     ///
-    /// All that can fail comes first: the larger tables, then the slots. Each table stays until then, so there are the
-    /// old tables and the new ones at once.
+    /// Each larger table replaces the old one at once. The parts that have more room than the map grow first, and what
+    /// bounds the capacity grows last: so if a step fails, that part is as before, and the capacity with it.
     #[cold]
     #[inline(never)]
     pub(crate) fn grow(&mut self, more: usize) -> Result<(), TryReserveError>
@@ -118,13 +118,18 @@ impl<T: TriHashItem, S: BuildHasher> TriHashMap<T, S> {
             return Err(TryReserveError);
         };
         let mut meter = Meter::new();
-        let first = self.first.grown(wanted, &mut meter)?;
-        let second = self.second.grown(wanted, &mut meter)?;
-        let third = self.third.grown(wanted, &mut meter)?;
+        // First the parts that have more room than the map. In the second turn these have nothing to do.
+        let room = self.room();
+        let slots = wanted_above(room, self.items.capacity(), more);
+        self.items.try_reserve(slots)?;
+        let pairs2 = wanted_above(room, self.second.capacity(), wanted);
+        self.second.try_reserve(pairs2, &mut meter)?;
+        let pairs3 = wanted_above(room, self.third.capacity(), wanted);
+        self.third.try_reserve(pairs3, &mut meter)?;
+        self.first.try_reserve(wanted, &mut meter)?;
+        self.second.try_reserve(wanted, &mut meter)?;
+        self.third.try_reserve(wanted, &mut meter)?;
         self.items.try_reserve(more)?;
-        self.first.grow_into(first);
-        self.second.grow_into(second);
-        self.third.grow_into(third);
         Ok(())
     }
 }

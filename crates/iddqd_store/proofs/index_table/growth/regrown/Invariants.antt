@@ -1,15 +1,31 @@
-use Rattle.std.proofs.Common.{◌≡◌, ◌+◌, ◌-◌, ◌*◌, ◌<◌, ◌≤◌, length}
-use Rattle.iddqd_store.specs.Table.{IsWayTo}
+use Rattle.std.proofs.Common.{◌≡◌, ◌+◌, ◌-◌, ◌*◌, ◌≤◌, length}
 use Rattle.iddqd_store.specs.Slots.{contents}
-use Rattle.iddqd_store.specs.Table.Ring.{gap}
+use Rattle.iddqd_store.proofs.TableLemmas.Chunk.{IsChunk, packed}
 use Rattle.iddqd_store.proofs.TableLemmas.Grow.{HasFront}
 use Rattle.iddqd_store.proofs.index_table.growth.regrown.Given as goal
 
+abbrev pub invariant-loop-from : goal.invariant-loop-from
+invariant-loop-from l = record {
+  front : HasFront l.cells l.grown l.from;
+  within : l.from ≤ length l.cells;
+  size : length l.grown ≡ l.count;
+  room : length l.places ≡ 64;
+  probed : l.meter ≤ l.fn.meter + l.from + 2 * length (contents l.grown) + length (contents l.grown) * l.pairs;
+}
+
+abbrev pub decreases-loop-from : goal.decreases-loop-from
+decreases-loop-from l = length l.cells - l.from
+
 abbrev pub invariant-loop-i : goal.invariant-loop-i
 invariant-loop-i l = record {
-  front : HasFront l.cells l.grown l.i;
+  chunk : IsChunk l.cells l.from l.i l.places l.full;
+  room : length l.places ≡ 64;
+  probed : l.meter ≤ l.fn.meter + l.i + 2 * length (contents l.grown) + length (contents l.grown) * l.pairs;
+}
+
+abbrev pub invariant-loop-k : goal.invariant-loop-k
+invariant-loop-k l = record {
+  front : HasFront (packed l.cells l.from l.places l.full) l.grown (l.from + l.k);
   size : length l.grown ≡ l.count;
-  spot : l.spot < l.count;
-  way : IsWayTo l.grown (l.count - 1) l.spot;
-  probed : l.meter ≤ l.initial.meter + 2 * l.i + gap (length l.grown) (l.count - 1) l.spot + length (contents l.grown) * l.pairs;
+  probed : l.meter ≤ l.fn.meter + l.to + 2 * length (contents l.grown) + length (contents l.grown) * l.pairs;
 }
