@@ -75,6 +75,16 @@ impl<T> Slot<T> {
         matches!(self, Slot::Live(_))
     }
 
+    fn item(&self) -> &T
+        requires { IsSome (item_of self.now) }
+        ensures { item_of self.now ≡ Some result.now }
+    {
+        match self {
+            Slot::Live(item) => item,
+            Slot::Free(_) => unreachable!(),
+        }
+    }
+
     fn item_mut(&mut self) -> &mut T
         requires { IsSome (item_of self.old) }
         ensures value { item_of self.old ≡ Some result.now }
@@ -172,6 +182,14 @@ impl<T> ItemSet<T> {
         } else {
             None
         }
+    }
+
+    /// Returns the item of a live slot. A caller who knows that the slot is live does not ask again.
+    pub fn item(&self, slot: ItemIndex) -> &T
+        requires { IsLive self.now.slots slot }
+        ensures { get self.now.slots slot ≡ Some result.now }
+    {
+        self.slots[slot.number()].item()
     }
 
     /// Returns the item of a live slot, borrowed for writing.

@@ -25,7 +25,7 @@ impl<T: BiHashItem, S: BuildHasher> BiHashMap<T, S> {
         requires { IsLive self.now.slots slot }
         ensures { get self.now.slots slot ≡ Some result.now }
     {
-        self.items.get(slot).unwrap()
+        self.items.item(slot)
     }
 
     /// Replaces the item of a live slot by one with equal keys, and returns it.
@@ -39,6 +39,15 @@ impl<T: BiHashItem, S: BuildHasher> BiHashMap<T, S> {
     {
         self.items.replace(slot, item)
     }
+}
+
+/// Writes the data of an item.
+fn write_data<T: BiHashItemMut>(item: &mut T, d: T::Data)
+where
+    T::Data: Drop,
+    ensures { item.new ≡ T.put item.old d }
+{
+    *item.data_mut() = d;
 }
 
 impl<T: BiHashItemMut, S: BuildHasher> BiHashMap<T, S> {
@@ -89,8 +98,9 @@ impl<T: BiHashItemMut, S: BuildHasher> BiHashMap<T, S> {
             × (CalledAt F.FnMut) f.old x d f.new × (self.new ≡ map_with self.old slot (λ y. T.put y d))
             × IsPermutation (bag self.new) (swap ⟦<T as Ranked>⟧.ranks (bag self.old) x (T.put x d)) }
     {
-        let d = f(self.item_at(slot));
-        *self.data_mut_at(slot) = d;
+        let item = self.items.item_mut(slot);
+        let d = f(&*item);
+        write_data(item, d);
     }
 
     /// Calls a closure with the item of a slot, and stores what it returns as the item's data. The closure is called

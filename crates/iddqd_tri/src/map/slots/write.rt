@@ -25,7 +25,7 @@ impl<T: TriHashItem, S: BuildHasher> TriHashMap<T, S> {
         requires { IsLive self.now.slots slot }
         ensures { get self.now.slots slot ≡ Some result.now }
     {
-        self.items.get(slot).unwrap()
+        self.items.item(slot)
     }
 
     /// Replaces the item of a live slot by one with equal keys, and returns it.
@@ -40,6 +40,15 @@ impl<T: TriHashItem, S: BuildHasher> TriHashMap<T, S> {
     {
         self.items.replace(slot, item)
     }
+}
+
+/// Writes the data of an item.
+fn write_data<T: TriHashItemMut>(item: &mut T, d: T::Data)
+where
+    T::Data: Drop,
+    ensures { item.new ≡ T.put item.old d }
+{
+    *item.data_mut() = d;
 }
 
 impl<T: TriHashItemMut, S: BuildHasher> TriHashMap<T, S> {
@@ -90,8 +99,9 @@ impl<T: TriHashItemMut, S: BuildHasher> TriHashMap<T, S> {
             × (CalledAt F.FnMut) f.old x d f.new × (self.new ≡ map_with self.old slot (λ y. T.put y d))
             × IsPermutation (bag self.new) (swap ⟦<T as Ranked>⟧.ranks (bag self.old) x (T.put x d)) }
     {
-        let d = f(self.item_at(slot));
-        *self.data_mut_at(slot) = d;
+        let item = self.items.item_mut(slot);
+        let d = f(&*item);
+        write_data(item, d);
     }
 
     /// Calls a closure with the item of a slot, and stores what it returns as the item's data. The closure is called

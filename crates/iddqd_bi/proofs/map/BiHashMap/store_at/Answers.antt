@@ -1,8 +1,32 @@
-use Rattle.std.proofs.Common.{refl}
+use Rattle.std.proofs.Common.{refl, ap, ◌∙◌, arith}
 use Rattle.std.proofs.lemmas.Fn.{called_at}
+use Rattle.iddqd_store.specs.Map.{hash_of}
+use Rattle.iddqd_store.proofs.RankLemmas.Exchanged.{IsIndexed-set, set_swaps}
+use Rattle.iddqd_bi.proofs.MapLemmas.{AreLawful-ranks, agrees-keys}
 use Rattle.iddqd_bi.proofs.map.BiHashMap.store_at.Goals as goal
+
+pub invariant_of-self : goal.invariant_of-self
+invariant_of-self g c =
+    let laws1 = g.met.T.K1.Eq.laws in
+    let laws2 = g.met.T.K2.Eq.laws in
+    let hash = hash_of g.S.BuildHasher g.S.Hasher.Hasher c.self.inside.hash_builder in
+    let x = c.item_mut-item.result.now in
+    let d = c.f-d.result in
+    let same1 = g.met.T.BiHashItemMut.keeps_key1 x d in
+    let same2 = g.met.T.BiHashItemMut.keeps_key2 x d in
+    let agree = agrees-keys g.T.BiHashItem g.T.K1.PartialEq.eq g.T.K2.PartialEq.eq x (g.T.BiHashItemMut.put x d) (laws1.symm _ _ ∙ same1) (laws2.symm _ _ ∙ same2) in
+    rw c.write_data.ensures
+    (IsIndexed-set (AreLawful-ranks g.T.BiHashItem laws1 laws2) (omega arith) c.self.invariant c.args.slot x _ c.item_mut-item.ensures.value agree
+    (ap hash (g.met.T.K1.Hash.respects_eq _ _ same1), (ap hash (g.met.T.K2.Hash.respects_eq _ _ same2), tt)))
 
 pub returns : goal.returns
 returns g c = record {
-  stored = (c.item_at.result.now, c.f-d.result, c.item_at.ensures, called_at g.F.FnMut c.f-d.ensures refl, refl, c.data_mut_at.ensures.swaps _ _ c.item_at.ensures);
+  stored = (
+    c.item_mut-item.result.now,
+    c.f-d.result,
+    rw (← c.self.view_is) c.item_mut-item.ensures.value,
+    called_at g.F.FnMut c.f-d.ensures refl,
+    rw (← c.self.view_is, c.item_mut-item.ensures.value, c.write_data.ensures) refl,
+    rw (← c.self.view_is, c.write_data.ensures) (set_swaps (AreLawful-ranks g.T.BiHashItem g.met.T.K1.Eq.laws g.met.T.K2.Eq.laws) (omega arith) c.self.invariant c.args.slot _ _ c.item_mut-item.ensures.value),
+  );
 }
