@@ -63,9 +63,9 @@ impl<T: Ranked + Drop, S: BuildHasher> BiHashMap<T, S> {
     ///
     /// To insert an item, the call hashes each key of it once, and searches for it once. It allocates memory if the map
     /// is full, and for the list of the items inserted, by which an error returns them: each time for as many items as
-    /// the iterator still promises. For a list of no items it allocates none. To remove the items again, it hashes each
-    /// key of them once more, or each key of the other items if these are fewer. It compares none then, and allocates no
-    /// memory. After an error the capacity may have grown.
+    /// the iterator still promises, or for one item if there is no memory for so many. For a list of no items it
+    /// allocates none. To remove the items again, it hashes each key of them once more, or each key of the other items if
+    /// these are fewer. It compares none then, and allocates no memory. After an error the capacity may have grown.
     ///
     /// ```text
     /// if let Err(refused) = map.extend_unique(batch) {

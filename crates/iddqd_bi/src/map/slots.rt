@@ -258,7 +258,8 @@ impl<T: BiHashItem, S: BuildHasher> BiHashMap<T, S> {
         self.items.len() == self.room()
     }
 
-    /// Reserves capacity for this many more items if the map is full. If that fails, the map is as before.
+    /// Reserves capacity for this many more items if the map is full, and for one if there is no memory for so many. If
+    /// that fails too, the map is as before.
     #[inline(always)]
     pub(crate) fn make_room(&mut self, wanted: usize) -> Result<(), TryReserveError>
         requires { 0 < wanted }
@@ -271,7 +272,11 @@ impl<T: BiHashItem, S: BuildHasher> BiHashMap<T, S> {
         ensures unchanged { OnErr result (self.new ≡ self.old) }
     {
         if self.is_full() {
-            self.grow(wanted)?;
+            // For one alone the same request would be made twice.
+            if wanted > 1 && self.grow(wanted).is_ok() {
+                return Ok(());
+            }
+            self.grow(1)?;
         }
         Ok(())
     }

@@ -69,8 +69,8 @@ impl<T> Entered<T> {
 }
 
 impl<T: Drop> Entered<T> {
-    /// Reserves spare capacity for one more item. If there is none, it reserves it for as many as are `wanted`. It fails
-    /// if the memory cannot be allocated.
+    /// Reserves spare capacity for one more item. If there is none, it reserves it for as many as are `wanted`, and for
+    /// one if there is no memory for so many. It fails only if the memory for one cannot be allocated.
     #[inline(always)]
     pub fn reserve_for(&mut self, wanted: usize) -> Result<(), TryReserveError>
         requires { 0 < wanted }
@@ -84,8 +84,7 @@ impl<T: Drop> Entered<T> {
         self.grow(wanted)
     }
 
-    // Allocates more capacity for the slots or for their items. The vector of the items is made anew, since growing it
-    // would copy memory that holds nothing.
+    // Allocates more capacity for the slots or for their items: for so many, or for one.
     #[cold]
     #[inline(never)]
     fn grow(&mut self, wanted: usize) -> Result<(), TryReserveError>
@@ -93,10 +92,27 @@ impl<T: Drop> Entered<T> {
         ensures slots { self.new.slots ≡ self.old.slots }
         ensures room { OnOk result (length self.new.slots < self.new.room) }
     {
+        // For one alone the same request would be made twice.
+        if wanted > 1 && self.grow_by(wanted).is_ok() {
+            return Ok(());
+        }
+        self.grow_by(1)
+    }
+
+    // Allocates more capacity for the slots or for their items. The vector of the items is made anew, since growing it
+    // would copy memory that holds nothing. It is not made as large as that of the slots, since there may be memory for
+    // fewer items alone.
+    fn grow_by(&mut self, wanted: usize) -> Result<(), TryReserveError>
+        requires { 0 < wanted }
+        ensures slots { self.new.slots ≡ self.old.slots }
+        ensures room { OnOk result (length self.new.slots < self.new.room) }
+    {
         self.slots.reserve(wanted)?;
-        if self.items.capacity() <= self.slots.len() {
+        let noted = self.slots.len();
+        let room = self.items.capacity();
+        if room <= noted {
             let mut items = Vec::new(*self.slots.allocator());
-            items.reserve(self.slots.capacity())?;
+            items.reserve((noted + wanted).max(room.saturating_mul(2)))?;
             self.items = items;
         }
         Ok(())

@@ -293,7 +293,8 @@ impl<T: TriHashItem, S: BuildHasher> TriHashMap<T, S> {
         self.items.len() == self.room()
     }
 
-    /// Reserves capacity for this many more items if the map is full. If that fails, the map is as before.
+    /// Reserves capacity for this many more items if the map is full, and for one if there is no memory for so many. If
+    /// that fails too, the map is as before.
     #[inline(always)]
     pub(crate) fn make_room(&mut self, wanted: usize) -> Result<(), TryReserveError>
         requires { 0 < wanted }
@@ -306,7 +307,11 @@ impl<T: TriHashItem, S: BuildHasher> TriHashMap<T, S> {
         ensures unchanged { OnErr result (self.new ≡ self.old) }
     {
         if self.is_full() {
-            self.grow(wanted)?;
+            // For one alone the same request would be made twice.
+            if wanted > 1 && self.grow(wanted).is_ok() {
+                return Ok(());
+            }
+            self.grow(1)?;
         }
         Ok(())
     }

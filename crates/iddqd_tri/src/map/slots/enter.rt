@@ -15,7 +15,8 @@ use std::hash::{BuildHasher, Hash};
 
 impl<T: TriHashItem, S: BuildHasher> TriHashMap<T, S> {
     /// Inserts an item if none conflicts with it, and notes its slot. The call searches for conflicts first. Then it
-    /// reserves capacity in the map and for the note, for as many items as are `wanted`, and then it inserts the item.
+    /// reserves capacity in the map and for the note, for as many items as are `wanted`, or for one if there is no
+    /// memory for so many, and then it inserts the item.
     pub(crate) fn enter(
         &mut self,
         item: T,
