@@ -1,6 +1,6 @@
-//! A map whose builder has a random seed.
+//! A map whose builder has a random seed, and a list that promises more items than fit into any memory.
 use crate::row::{Row, row_of};
-use iddqd_tri::TriHashMap;
+use iddqd_tri::{ExtendUniqueReason, TriHashMap};
 use std::hash::{BuildHasher, RandomState};
 use std::test::*;
 
@@ -19,4 +19,26 @@ fn a_random_seed_serves_as_well(rt: HostRuntime) -> Result<(), Fail> {
     assert!(rt; holds(&mut map));
     drop(map);
     Ok(())
+}
+
+/// Returns whether a list of more items than fit into any memory ends at its fourth item, which conflicts with the
+/// first.
+fn ends_at_the_conflict(map: &mut TriHashMap<Row>) -> bool {
+    let rows = (0..1u64 << 61).map(|number| row_of(number % 3, number, number, 0));
+    match map.extend_unique(rows) {
+        Ok(()) => false,
+        Err(error) => {
+            matches!(error.reason, ExtendUniqueReason::Conflict)
+                && error.taken.len() == 3
+                && error.value == row_of(0, 3, 3, 0)
+        }
+    }
+}
+
+#[test]
+fn a_promise_beyond_any_memory_is_no_need(rt: HostRuntime) {
+    let mut map = TriHashMap::new(rt.alloc());
+    assert!(rt; ends_at_the_conflict(&mut map));
+    assert!(rt; map.is_empty());
+    drop(map);
 }
