@@ -9,5 +9,6 @@ pub mod Probes
 pub mod Rehashed
 pub mod Replaced
 pub mod Search
+pub mod Searched
 pub mod Under
 pub mod Walks

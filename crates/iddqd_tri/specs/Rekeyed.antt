@@ -1,7 +1,9 @@
 -- An item that replaces another, whatever their keys are.
-use Rattle.std.specs.Prelude.{◌≡◌, ◌≢◌, ◌≤◌, Bool, List, [], ◌∷◌, length, Some, None, IsPermutation}
+use Rattle.std.specs.Prelude.{◌≡◌, ◌≢◌, ◌≤◌, ℕ, Bool, List, [], ◌∷◌, length, Some, None, Result, Ok, Err, IsPermutation}
 use Rattle.iddqd_store.specs.Bag.{IsOnly, Ranks, clash}
 use Rattle.iddqd_store.specs.Map.{Map, bag}
+use Rattle.iddqd_store.specs.Rank.{SearchCosts}
+use Rattle.iddqd_store.specs.Rank.All.{PlacingCosts}
 use Rattle.iddqd_tri.specs.declared.error.NotReplaced.{NotReplaced}
 use Rattle.iddqd_tri.specs.declared.error.NotReplaced.TheVariants as unreplaced
 
@@ -27,3 +29,14 @@ module _ {T : Type 0} where
   TellsWhyNot ranks test old y (unreplaced.Absent e) = IsOnly test old None
   TellsWhyNot ranks test old y (unreplaced.Conflict e) =
       (x : T) × (rest : List T) × IsOnly test old (Some x) × IsPermutation old (x ∷ rest) × (clash ranks rest y ≢ [])
+
+  -- A search by one rank, for an item that another one is to replace, costs what `SearchCosts` says. If it finds one,
+  -- the call then searches at each rank for the keys of the new item, and walks this often through each table
+  -- (`PlacingCosts`). Example: With 3 items, three ranks, two walks at each and a hash of its own for each key it asks
+  -- at most three times, and probes at most 28 cells.
+  abbrev pub RekeyingCosts : (T → ℕ) → List (T → ℕ) → List T → ℕ → ℕ → List ℕ → List ℕ → Result T (NotReplaced T)
+      → ℕ → ℕ → ℕ → ℕ → Type 0
+  RekeyingCosts hash_of hashes bag room hash hs walks (Err (unreplaced.Absent e)) asks asks_then before after =
+      SearchCosts {A = ℕ} hash_of bag room hash None asks asks_then before after
+  RekeyingCosts hash_of hashes bag room hash hs walks answer asks asks_then before after =
+      PlacingCosts (hash_of ∷ hashes) bag room (hash ∷ hs) walks asks asks_then before after

@@ -3,7 +3,8 @@ ghost use Rattle.std.specs.Prelude.{◌≡◌, ◌↔◌};
 ghost use Rattle.std.specs.Bool.{IsTrue};
 ghost use Rattle.std.specs.List.{list_any};
 ghost use Rattle.iddqd_store.specs.Bag.{IsSameBag, is_same, same_item};
-ghost use Rattle.iddqd_store.specs.Map.{bag};
+ghost use Rattle.iddqd_store.specs.Map.{bag, hash_of};
+ghost use Rattle.iddqd_store.specs.Rank.All.{UniqueCosts};
 ghost use Rattle.iddqd_store.proofs.BagLemmas.SameTest.{is_same-partial, is_same-equivalence};
 ghost use Rattle.std.specs.Cmp.{on_per, on_equiv};
 ghost use Rattle.iddqd_bi.specs.Keys.{ranks};
@@ -11,7 +12,8 @@ ghost use Rattle.iddqd_store.proofs.MapLemmas.{IsEquivalence-key};
 
 use super::BiHashMap;
 use super::slots::found::has_others;
-use crate::item::BiHashItem;
+use crate::item::{BiHashItem, Hashed};
+use iddqd_store::Meter;
 use std::hash::{BuildHasher, Hash};
 
 /// Two maps are equal if and only if their items pair off, so that the items of each pair agree in both keys and are
@@ -34,7 +36,7 @@ impl<T: BiHashItem + PartialEq, S: BuildHasher> PartialEq for BiHashMap<T, S> {
             return false;
         }
         for item in self {
-            if !other.has_partner(item) {
+            if !other.has_partner(item, &mut Meter::new(), &mut Meter::new()) {
                 return false;
             }
         }
@@ -49,12 +51,16 @@ impl<T: BiHashItem + Eq, S: BuildHasher> Eq for BiHashMap<T, S> {
 }
 
 impl<T: BiHashItem + PartialEq, S: BuildHasher> BiHashMap<T, S> {
-    /// Returns whether an item of the map agrees with this one in both keys and is equal to it by `==`.
-    fn has_partner(&self, item: &T) -> bool
-        ensures { result ≡ list_any (same_item (ranks T.BiHashItem T.K1.eq T.K2.eq) T.eq item.now) (bag self.now) }
+    /// Returns whether an item of the map agrees with this one in both keys and is equal to it by `==`. One meter counts
+    /// the keys that are compared, beside those that `==` of two items compares, and the other the probed cells.
+    fn has_partner(&self, item: &T, asked: &mut Meter, probed: &mut Meter) -> bool
+        ensures value { result ≡ list_any (same_item (ranks T.BiHashItem T.K1.eq T.K2.eq) T.eq item.now) (bag self.now) }
+        ensures costs { UniqueCosts (⟦<T as Hashed<S>>⟧.hash1 self.now.builder) (bag self.now) self.now.capacity
+            (hash_of S.BuildHasher S.Hasher.Hasher self.now.builder (T.K1.hash_input (T.key1 item.now)))
+            1 asked.old asked.new probed.old probed.new }
     {
-        match self.get1(item.key1()) {
-            Some(found) => has_others(found, item.key2()) && item == found,
+        match self.get1_by(item.key1(), asked, probed) {
+            Some(found) => has_others(found, item.key2(), asked) && item == found,
             None => false,
         }
     }

@@ -7,6 +7,7 @@ ghost use Rattle.iddqd_bi.specs.Entries.{HasKeys, IsFound, entry_lender, entry_m
 use super::BiHashMap;
 use crate::entry::{Entry, KeyPair, OccupiedEntry, VacantEntry};
 use crate::item::{BiHashItem, Ranked};
+use iddqd_store::Meter;
 use std::hash::{BuildHasher, Hash};
 
 impl<T: BiHashItem, S: BuildHasher> BiHashMap<T, S> {
@@ -33,7 +34,7 @@ impl<T: BiHashItem, S: BuildHasher> BiHashMap<T, S> {
             ≡ entry (⟦<T as Ranked>⟧.key_tests key1.now key2.now) (bag self.old) }
         ensures is_found { IsFound result }
     {
-        match self.search_all(key1, key2) {
+        match self.search_all(key1, key2, &mut Meter::new(), &mut Meter::new()) {
             Ok(at) => Entry::Vacant(VacantEntry {
                 map: self,
                 keys: KeyPair { key1, key2 },

@@ -2,13 +2,14 @@
 ghost use Rattle.std.specs.Prelude.{Contains, ◌≡◌, option_copied};
 ghost use Rattle.std.specs.List.{list_any};
 ghost use Rattle.iddqd_store.specs.Bag.{IsOnly};
-ghost use Rattle.iddqd_store.specs.Map.{bag};
+ghost use Rattle.iddqd_store.specs.Map.{bag, hash_of};
 ghost use Rattle.iddqd_store.specs.Rank.{agree, NamesOneUnder, SearchCosts};
+ghost use Rattle.iddqd_store.specs.Slots.Found.{FoundAt};
 ghost use Rattle.iddqd_bi.specs.Keys.{has1, has2, has_both};
 
 use super::BiHashMap;
 use crate::item::{BiHashItem, Hashed};
-use iddqd_store::{KeyMatcher, Meter, Query};
+use iddqd_store::{ItemIndex, KeyMatcher, Meter, Query};
 use std::hash::{BuildHasher, Hash};
 
 impl<T: BiHashItem, S: BuildHasher> BiHashMap<T, S> {
@@ -26,7 +27,7 @@ impl<T: BiHashItem, S: BuildHasher> BiHashMap<T, S> {
     pub fn get1<Q: Query<T::K1>>(&self, query: Q) -> Option<&T>
         ensures { IsOnly (has1 T.BiHashItem Q.stands_for query) (bag self.now) (option_copied result) }
     {
-        self.by_key1().get(query)
+        self.get1_by(query, &mut Meter::new(), &mut Meter::new())
     }
 
     /// Returns the item with the second key that the query stands for, or `None`. A query is a `&key`, or what stands
@@ -43,7 +44,7 @@ impl<T: BiHashItem, S: BuildHasher> BiHashMap<T, S> {
     pub fn get2<Q: Query<T::K2>>(&self, query: Q) -> Option<&T>
         ensures { IsOnly (has2 T.BiHashItem Q.stands_for query) (bag self.now) (option_copied result) }
     {
-        self.by_key2().get(query)
+        self.get2_by(query, &mut Meter::new(), &mut Meter::new())
     }
 
     /// Returns the item that has both keys that the queries stand for, or `None`.
@@ -58,21 +59,23 @@ impl<T: BiHashItem, S: BuildHasher> BiHashMap<T, S> {
             (bag self.now) (option_copied result) }
     {
         let hash = self.hash_builder.hash_one(query1);
-        self.item_of(self.slot_unique(hash, query1, query2))
+        self.item_of(self.slot_unique(hash, query1, query2, &mut Meter::new(), &mut Meter::new()))
     }
 
     /// Returns whether an item has the first key that the query stands for. It costs what `get1` costs.
     pub fn contains_key1<Q: Query<T::K1>>(&self, query: Q) -> bool
         ensures { result ≡ list_any (has1 T.BiHashItem Q.stands_for query) (bag self.now) }
     {
-        self.by_key1().contains_key(query)
+        let found = self.get1_by(query, &mut Meter::new(), &mut Meter::new());
+        found.is_some()
     }
 
     /// Returns whether an item has the second key that the query stands for. It costs what `get2` costs.
     pub fn contains_key2<Q: Query<T::K2>>(&self, query: Q) -> bool
         ensures { result ≡ list_any (has2 T.BiHashItem Q.stands_for query) (bag self.now) }
     {
-        self.by_key2().contains_key(query)
+        let found = self.get2_by(query, &mut Meter::new(), &mut Meter::new());
+        found.is_some()
     }
 
     /// Returns whether an item has both keys that the queries stand for. It costs what `get_unique` costs.
@@ -131,5 +134,69 @@ impl<T: BiHashItem, S: BuildHasher> BiHashMap<T, S> {
             self.now.capacity hash result (M.asked matcher.old) (M.asked matcher.new) meter.old meter.new }
     {
         self.by_key2().find_with(hash, matcher, meter)
+    }
+
+    /// Returns what `get1` returns, which calls it. One meter counts the keys that the query is compared with, and the
+    /// other the probed cells.
+    pub(crate) fn get1_by<Q: Query<T::K1>>(
+        &self,
+        query: Q,
+        asked: &mut Meter,
+        probed: &mut Meter,
+    ) -> Option<&T>
+        ensures found { IsOnly (has1 T.BiHashItem Q.stands_for query) (bag self.now) (option_copied result) }
+        ensures costs { SearchCosts (⟦<T as Hashed<S>>⟧.hash1 self.now.builder) (bag self.now) self.now.capacity
+            (hash_of S.BuildHasher S.Hasher.Hasher self.now.builder (Q.hash_input query)) result
+            asked.old asked.new probed.old probed.new }
+    {
+        self.by_key1().get(query, asked, probed)
+    }
+
+    /// Returns the slot of the item whose first key the query stands for, or `None`. One meter counts the keys that the
+    /// query is compared with, and the other the probed cells.
+    pub(crate) fn slot1_by<Q: Query<T::K1>>(
+        &self,
+        query: Q,
+        asked: &mut Meter,
+        probed: &mut Meter,
+    ) -> Option<ItemIndex>
+        ensures found { FoundAt (has1 T.BiHashItem Q.stands_for query) self.now.slots result }
+        ensures costs { SearchCosts (⟦<T as Hashed<S>>⟧.hash1 self.now.builder) (bag self.now) self.now.capacity
+            (hash_of S.BuildHasher S.Hasher.Hasher self.now.builder (Q.hash_input query)) result
+            asked.old asked.new probed.old probed.new }
+    {
+        self.by_key1().slot_of(query, asked, probed)
+    }
+
+    /// Returns what `get2` returns, which calls it. One meter counts the keys that the query is compared with, and the
+    /// other the probed cells.
+    pub(crate) fn get2_by<Q: Query<T::K2>>(
+        &self,
+        query: Q,
+        asked: &mut Meter,
+        probed: &mut Meter,
+    ) -> Option<&T>
+        ensures found { IsOnly (has2 T.BiHashItem Q.stands_for query) (bag self.now) (option_copied result) }
+        ensures costs { SearchCosts (⟦<T as Hashed<S>>⟧.hash2 self.now.builder) (bag self.now) self.now.capacity
+            (hash_of S.BuildHasher S.Hasher.Hasher self.now.builder (Q.hash_input query)) result
+            asked.old asked.new probed.old probed.new }
+    {
+        self.by_key2().get(query, asked, probed)
+    }
+
+    /// Returns the slot of the item whose second key the query stands for, or `None`. One meter counts the keys that the
+    /// query is compared with, and the other the probed cells.
+    pub(crate) fn slot2_by<Q: Query<T::K2>>(
+        &self,
+        query: Q,
+        asked: &mut Meter,
+        probed: &mut Meter,
+    ) -> Option<ItemIndex>
+        ensures found { FoundAt (has2 T.BiHashItem Q.stands_for query) self.now.slots result }
+        ensures costs { SearchCosts (⟦<T as Hashed<S>>⟧.hash2 self.now.builder) (bag self.now) self.now.capacity
+            (hash_of S.BuildHasher S.Hasher.Hasher self.now.builder (Q.hash_input query)) result
+            asked.old asked.new probed.old probed.new }
+    {
+        self.by_key2().slot_of(query, asked, probed)
     }
 }

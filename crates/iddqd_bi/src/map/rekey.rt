@@ -1,13 +1,14 @@
 //! Replacing an item by another, whatever their keys are.
-ghost use Rattle.std.specs.Prelude.{◌≡◌, Some, IfOk, IfErr, OnErr};
+ghost use Rattle.std.specs.Prelude.{◌≡◌, map, Some, IfOk, IfErr, OnErr};
 ghost use Rattle.iddqd_store.specs.Bag.{IsOnly};
-ghost use Rattle.iddqd_store.specs.Map.{bag};
+ghost use Rattle.iddqd_store.specs.Map.{bag, hash_of};
+ghost use Rattle.iddqd_store.specs.Rank.All.{hashes_of};
 ghost use Rattle.iddqd_bi.specs.Keys.{has1, has2};
-ghost use Rattle.iddqd_bi.specs.Rekeyed.{PutsInPlace, TellsWhyNot, left_out};
+ghost use Rattle.iddqd_bi.specs.Rekeyed.{PutsInPlace, RekeyingCosts, TellsWhyNot, left_out};
 
 use super::BiHashMap;
 use crate::error::NotReplaced;
-use crate::item::Ranked;
+use crate::item::{Hashed, Ranked};
 use iddqd_store::{Meter, Query};
 use std::hash::{BuildHasher, Hash};
 
@@ -31,10 +32,37 @@ impl<T: Ranked, S: BuildHasher> BiHashMap<T, S> {
         ensures reason { IfErr result (λ e. TellsWhyNot T.ranks
             (has1 T.BiHashItem Q.stands_for query) (bag self.old) item e) }
     {
-        let Some(slot) = self.by_key1().slot_of(query) else {
+        self.rekey1_by(query, item, &mut Meter::new(), &mut Meter::new())
+    }
+
+    /// Replaces as `rekey1` does, which calls it. One meter counts the keys that are compared, and the other the probed
+    /// cells: those of a search by the query and, if it finds an item, those of `rekey_at`.
+    #[inline(always)]
+    fn rekey1_by<Q: Query<T::K1>>(
+        &mut self,
+        query: Q,
+        item: T,
+        asked: &mut Meter,
+        probed: &mut Meter,
+    ) -> Result<T, NotReplaced<T>>
+        // The item with that key is returned, and the new one is in its place.
+        ensures found { IfOk result (λ x. IsOnly (has1 T.BiHashItem Q.stands_for query) (bag self.old) (Some x)) }
+        ensures puts { IfOk result (λ x. PutsInPlace self.old x item self.new) }
+        // The error has the new item, and says which of the two cases it is. The map is as it was.
+        ensures handed_back { IfErr result (λ e. left_out e ≡ item) }
+        ensures unchanged { OnErr result (self.new ≡ self.old) }
+        ensures reason { IfErr result (λ e. TellsWhyNot T.ranks
+            (has1 T.BiHashItem Q.stands_for query) (bag self.old) item e) }
+        ensures costs { RekeyingCosts (⟦<T as Hashed<S>>⟧.hash1 self.old.builder)
+            (⟦<T as Hashed<S>>⟧.hashes self.old.builder) (bag self.old) self.old.capacity
+            (hash_of S.BuildHasher S.Hasher.Hasher self.old.builder (Q.hash_input query))
+            (hashes_of (⟦<T as Hashed<S>>⟧.hashes self.old.builder) item) (map (λ _. 2) T.ranks) result
+            asked.old asked.new probed.old probed.new }
+    {
+        let Some(slot) = self.slot1_by(query, asked, probed) else {
             return Err(NotReplaced::Absent(item));
         };
-        match self.rekey_at(slot, item, &mut Meter::new()) {
+        match self.rekey_at(slot, item, asked, probed) {
             Ok(old) => Ok(old),
             Err(new_item) => Err(NotReplaced::Conflict(new_item)),
         }
@@ -59,10 +87,37 @@ impl<T: Ranked, S: BuildHasher> BiHashMap<T, S> {
         ensures reason { IfErr result (λ e. TellsWhyNot T.ranks
             (has2 T.BiHashItem Q.stands_for query) (bag self.old) item e) }
     {
-        let Some(slot) = self.by_key2().slot_of(query) else {
+        self.rekey2_by(query, item, &mut Meter::new(), &mut Meter::new())
+    }
+
+    /// Replaces as `rekey2` does, which calls it. One meter counts the keys that are compared, and the other the probed
+    /// cells: those of a search by the query and, if it finds an item, those of `rekey_at`.
+    #[inline(always)]
+    fn rekey2_by<Q: Query<T::K2>>(
+        &mut self,
+        query: Q,
+        item: T,
+        asked: &mut Meter,
+        probed: &mut Meter,
+    ) -> Result<T, NotReplaced<T>>
+        // The item with that key is returned, and the new one is in its place.
+        ensures found { IfOk result (λ x. IsOnly (has2 T.BiHashItem Q.stands_for query) (bag self.old) (Some x)) }
+        ensures puts { IfOk result (λ x. PutsInPlace self.old x item self.new) }
+        // The error has the new item, and says which of the two cases it is. The map is as it was.
+        ensures handed_back { IfErr result (λ e. left_out e ≡ item) }
+        ensures unchanged { OnErr result (self.new ≡ self.old) }
+        ensures reason { IfErr result (λ e. TellsWhyNot T.ranks
+            (has2 T.BiHashItem Q.stands_for query) (bag self.old) item e) }
+        ensures costs { RekeyingCosts (⟦<T as Hashed<S>>⟧.hash2 self.old.builder)
+            (⟦<T as Hashed<S>>⟧.hashes self.old.builder) (bag self.old) self.old.capacity
+            (hash_of S.BuildHasher S.Hasher.Hasher self.old.builder (Q.hash_input query))
+            (hashes_of (⟦<T as Hashed<S>>⟧.hashes self.old.builder) item) (map (λ _. 2) T.ranks) result
+            asked.old asked.new probed.old probed.new }
+    {
+        let Some(slot) = self.slot2_by(query, asked, probed) else {
             return Err(NotReplaced::Absent(item));
         };
-        match self.rekey_at(slot, item, &mut Meter::new()) {
+        match self.rekey_at(slot, item, asked, probed) {
             Ok(old) => Ok(old),
             Err(new_item) => Err(NotReplaced::Conflict(new_item)),
         }

@@ -30,7 +30,11 @@ impl<T: BiHashItem, S: BuildHasher> BiHashMap<T, S> {
         ensures absent { IfNone result (self.new ≡ self.old) }
     {
         let hash = self.hash_builder.hash_one(query);
-        self.remove1_by(hash, &mut ByQuery::new(&query), &mut Meter::new())
+        self.remove1_by(
+            hash,
+            &mut ByQuery::new(&query, &mut Meter::new()),
+            &mut Meter::new(),
+        )
     }
 
     /// Removes the item whose first key the matcher accepts, and returns it, or `None` if there is none. All first keys
@@ -90,7 +94,11 @@ impl<T: BiHashItem, S: BuildHasher> BiHashMap<T, S> {
         ensures absent { IfNone result (self.new ≡ self.old) }
     {
         let hash = self.hash_builder.hash_one(query);
-        self.remove2_by(hash, &mut ByQuery::new(&query), &mut Meter::new())
+        self.remove2_by(
+            hash,
+            &mut ByQuery::new(&query, &mut Meter::new()),
+            &mut Meter::new(),
+        )
     }
 
     /// Removes the item whose second key the matcher accepts, and returns it, or `None` if there is none. All second keys
@@ -148,7 +156,7 @@ impl<T: BiHashItem, S: BuildHasher> BiHashMap<T, S> {
         ensures absent { IfNone result (self.new ≡ self.old) }
     {
         let hash = self.hash_builder.hash_one(query1);
-        let slot = self.slot_unique(hash, query1, query2)?;
+        let slot = self.slot_unique(hash, query1, query2, &mut Meter::new(), &mut Meter::new())?;
         Some(self.take(slot, Some(hash), None, &mut Meter::new()))
     }
 }

@@ -13,7 +13,7 @@ use super::BiHashMap;
 use super::slots::Refusal;
 use crate::command::{BiCommand, BiReply, BiSink};
 use crate::item::{BiHashItemMut, Ranked};
-use iddqd_store::{DuplicateItem, ItemIndex, MemoryRefused, UpToTwo};
+use iddqd_store::{DuplicateItem, ItemIndex, MemoryRefused, Meter, UpToTwo};
 use std::hash::{BuildHasher, Hash};
 
 mod replies;
@@ -88,17 +88,25 @@ where
             BiCommand::EntryRemove(key1, key2) => self.apply_entry_remove(key1, key2, sink),
             BiCommand::OrInsert(key1, key2, item) => self.apply_or_insert(key1, key2, item, sink),
             BiCommand::Replace1(key, item) => self.apply_replace(
-                self.by_key1().slot_of(&key),
+                self.slot1_by(&key, &mut Meter::new(), &mut Meter::new()),
                 item,
                 sink,
             ),
             BiCommand::Replace2(key, item) => self.apply_replace(
-                self.by_key2().slot_of(&key),
+                self.slot2_by(&key, &mut Meter::new(), &mut Meter::new()),
                 item,
                 sink,
             ),
-            BiCommand::Set1(key, data) => self.apply_set(self.by_key1().slot_of(&key), data, sink),
-            BiCommand::Set2(key, data) => self.apply_set(self.by_key2().slot_of(&key), data, sink),
+            BiCommand::Set1(key, data) => self.apply_set(
+                self.slot1_by(&key, &mut Meter::new(), &mut Meter::new()),
+                data,
+                sink,
+            ),
+            BiCommand::Set2(key, data) => self.apply_set(
+                self.slot2_by(&key, &mut Meter::new(), &mut Meter::new()),
+                data,
+                sink,
+            ),
         }
     }
 
@@ -107,7 +115,7 @@ where
             (state_of self.old) sink.old item result (state_of self.new) sink.new }
         ensures builder { self.new.builder ≡ self.old.builder }
     {
-        match self.insert_or_refuse(item) {
+        match self.insert_or_refuse(item, &mut Meter::new(), &mut Meter::new()) {
             Ok(()) => self.tell(BiReply::Done, sink),
             Err(Refusal::Duplicate(item, found)) => self.tell_duplicate(item, &found, sink),
             Err(Refusal::Memory(item)) => self.tell(BiReply::Memory(item), sink),

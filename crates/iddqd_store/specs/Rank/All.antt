@@ -1,7 +1,8 @@
 -- What holds at all ranks: lists that have one element for each rank.
-use Rattle.std.specs.Prelude.{◌≡◌, ◌≤◌, ◌*◌, ◌/◌, ℕ, List, [], ◌∷◌, Option, None, Result, Ok, Err, map, ⊤}
+use Rattle.std.specs.Prelude.{◌≡◌, ◌≤◌, ◌+◌, ◌*◌, ◌/◌, ℕ, List, [], ◌∷◌, length, Option, None, Result, Ok, Err, map, ⊤}
 use Rattle.std.specs.List.{AllByRecursion, AllZip}
-use Rattle.iddqd_store.specs.Rank.{IsUnder, IsVacantFor, SlotUnder}
+use Rattle.iddqd_store.specs.Bag.{crowd}
+use Rattle.iddqd_store.specs.Rank.{IsUnder, IsVacantFor, SearchCosts, SlotUnder, walks_within}
 use Rattle.iddqd_store.specs.Table.{Spot}
 
 module _ {T : Type 0} where
@@ -25,6 +26,48 @@ module _ {T : Type 0} where
   -- For each rank, the item in the slot that was found has the hash of the search. No public clause cites it.
   abbrev pub AreUnder : List (T → ℕ) → List (Option T) → List SlotUnder → Type 0
   AreUnder hashes slots found = AllZip (λ hash at. IsUnder hash slots at) hashes found
+
+  -- Searches by these hashes, one for each rank and one after another on the same two meters, cost what `SearchCosts`
+  -- says of each, for these answers. The first meter counts the compared keys, the second the probed cells.
+  -- Example: With 3 items and a hash of its own for each key, at two ranks, they ask at most twice, and probe at most 8
+  -- cells.
+  abbrev pub AreSearched : List (T → ℕ) → List T → ℕ → List ℕ → List (Option ℕ) → ℕ → ℕ → ℕ → ℕ → Type 0
+  AreSearched [] bag room [] [] asks asks_then before after = (asks_then ≡ asks) × (after ≡ before)
+  AreSearched (hash ∷ hashes) bag room (h ∷ hs) (answer ∷ answers) asks asks_then before after =
+      (asked : ℕ) × (between : ℕ) × SearchCosts hash bag room h answer asks asked before between
+      × AreSearched hashes bag room hs answers asked asks_then between after
+  AreSearched hashes bag room hs answers asks asks_then before after = ⊥
+
+  -- `crowds` counts for each rank how many items have this hash there, and adds up.
+  -- Example: If every item has the hash 5 at both ranks, it is 6 for 5, 5 and 3 items.
+  abbrev pub crowds : List (T → ℕ) → List T → List ℕ → ℕ
+  crowds [] bag hs = 0
+  crowds (hash ∷ hashes) bag [] = 0
+  crowds (hash ∷ hashes) bag (h ∷ hs) = crowd hash bag h + crowds hashes bag hs
+
+-- A call that searches at each rank (`AreSearched`) and then walks this often through each table asks about no more keys
+-- than items have the hashes, and probes at most one cell more than there are items in each search and each walk
+-- (`walks_within`). Growing is not counted.
+-- Example: With 3 items, two ranks, one walk at each and a hash of its own for each key it asks at most twice, and probes
+-- at most 16 cells.
+pub record PlacingCosts {T : Type 0} (hashes : List (T → ℕ)) (bag : List T) (room : ℕ) (hs walks : List ℕ)
+    (asks asks_then before after : ℕ) : Type 0 where
+  pub answers : List (Option ℕ)
+  pub between : ℕ
+  pub search : AreSearched hashes bag room hs answers asks asks_then before between
+  pub rest : after ≤ between + walks_within (length bag) walks
+  pub asked : asks_then ≤ asks + crowds hashes bag hs
+  pub at_most : after ≤ before + walks_within (length bag) (map (λ _. 1) hashes) + walks_within (length bag) walks
+
+-- A search for the item with all keys costs as much as one by the first key and, if that finds an item, compares at most
+-- this many other keys.
+-- Example: With 3 items, two ranks and a hash of its own for each key it asks at most twice, and probes at most 4 cells.
+pub record UniqueCosts {T : Type 0} (hash_of : T → ℕ) (bag : List T) (room hash others : ℕ)
+    (asks asks_then before after : ℕ) : Type 0 where
+  pub answer : Option ℕ
+  pub between : ℕ
+  pub search : SearchCosts hash_of bag room hash answer asks between before after
+  pub rest : asks_then ≤ between + others
 
 -- The searches were made by these hashes. No public clause cites it.
 abbrev pub HaveHashes : List ℕ → List SlotUnder → Type 0

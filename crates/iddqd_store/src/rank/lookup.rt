@@ -1,6 +1,5 @@
 //! Searches for an item by one rank.
 ghost use Rattle.std.specs.Prelude.{Contains, ◌≡◌, ◌*◌, ◌/◌, option_copied, IfErr, IfOk, IfSome};
-ghost use Rattle.std.specs.List.{list_any};
 ghost use Rattle.std.specs.Option.{option_and_then};
 ghost use Rattle.std.specs.Result.{result_ok};
 ghost use Rattle.iddqd_store.specs.Bag.{IsOnly};
@@ -63,27 +62,39 @@ impl<'a, T, R: KeyOf<T>, S: BuildHasher> Lookup<'a, T, R, S> {
     }
 
     /// Returns the item whose key the query stands for, or `None`. It hashes the query once, and compares it only
-    /// with keys that have the same hash.
-    pub fn get<Q: Query<R::Key>>(&self, query: Q) -> Option<&'a T>
-        ensures { IsOnly (λ x. Q.stands_for query (R.key x)) (bag self.now) (option_copied result) }
+    /// with keys that have the same hash. The meters count what they count for `slot_of`.
+    pub fn get<Q: Query<R::Key>>(
+        &self,
+        query: Q,
+        asked: &mut Meter,
+        probed: &mut Meter,
+    ) -> Option<&'a T>
+        ensures found { IsOnly (λ x. Q.stands_for query (R.key x)) (bag self.now) (option_copied result) }
+        ensures costs { SearchCosts (⟦<R as HashedKey<T, S>>⟧.hash self.now.builder) (bag self.now) self.now.capacity
+            (hash_of S.BuildHasher S.Hasher.Hasher self.now.builder (Q.hash_input query)) result
+            asked.old asked.new probed.old probed.new }
     {
-        let slot = self.slot_of(query)?;
-        self.items.get(slot)
+        match self.slot_of(query, asked, probed) {
+            Some(slot) => self.items.get(slot),
+            None => None,
+        }
     }
 
-    /// Returns the slot of the item whose key the query stands for, or `None`.
-    pub fn slot_of<Q: Query<R::Key>>(&self, query: Q) -> Option<ItemIndex>
-        ensures { FoundAt (λ x. Q.stands_for query (R.key x)) self.now.slots result }
+    /// Returns the slot of the item whose key the query stands for, or `None`. One meter counts the keys that the query
+    /// is compared with, and the other the probed cells.
+    pub fn slot_of<Q: Query<R::Key>>(
+        &self,
+        query: Q,
+        asked: &mut Meter,
+        probed: &mut Meter,
+    ) -> Option<ItemIndex>
+        ensures found { FoundAt (λ x. Q.stands_for query (R.key x)) self.now.slots result }
+        ensures costs { SearchCosts (⟦<R as HashedKey<T, S>>⟧.hash self.now.builder) (bag self.now) self.now.capacity
+            (hash_of S.BuildHasher S.Hasher.Hasher self.now.builder (Q.hash_input query)) result
+            asked.old asked.new probed.old probed.new }
     {
         let hash = self.hash_builder.hash_one(query);
-        self.slot(hash, query)
-    }
-
-    /// Returns whether there is an item whose key the query stands for.
-    pub fn contains_key<Q: Query<R::Key>>(&self, query: Q) -> bool
-        ensures { result ≡ list_any (λ x. Q.stands_for query (R.key x)) (bag self.now) }
-    {
-        self.get(query).is_some()
+        self.slot(hash, query, asked, probed)
     }
 
     /// Returns the item whose key the matcher accepts, or `None`. All keys that it accepts have to be equal, and to
@@ -110,21 +121,36 @@ impl<'a, T, R: KeyOf<T>, S: BuildHasher> Lookup<'a, T, R, S> {
     }
 
     /// Returns the slot of the item whose key the query stands for, or `None`. The hash has to be that of the query.
-    pub fn slot<Q: Query<R::Key>>(&self, hash: u64, query: Q) -> Option<ItemIndex>
+    pub fn slot<Q: Query<R::Key>>(
+        &self,
+        hash: u64,
+        query: Q,
+        asked: &mut Meter,
+        probed: &mut Meter,
+    ) -> Option<ItemIndex>
         requires { hash ≡ hash_of S.BuildHasher S.Hasher.Hasher self.now.builder (Q.hash_input query) }
         ensures found { IsOnly (λ x. Q.stands_for query (R.key x)) (bag self.now)
             (option_and_then (get self.now.slots) result) }
         ensures live { IfSome result (IsLive self.now.slots) }
         ensures hashed { IfSome result (λ slot. HasHash
             (⟦<R as HashedKey<T, S>>⟧.hash self.now.builder) self.now.slots slot hash) }
+        ensures costs { SearchCosts (⟦<R as HashedKey<T, S>>⟧.hash self.now.builder) (bag self.now)
+            self.now.capacity hash result asked.old asked.new probed.old probed.new }
     {
-        self.search(hash, query).ok()
+        self.search(hash, query, asked, probed).ok()
     }
 
     /// Returns the slot of the item whose key the query stands for. If there is none, it returns the empty cell for a
-    /// pair with this hash, or `Vacancy::unknown` if the table has no cells. The hash has to be that of the query.
+    /// pair with this hash, or `Vacancy::unknown` if the table has no cells. The hash has to be that of the query. One
+    /// meter counts the keys that the query is compared with, and the other the probed cells.
     #[inline(always)]
-    pub fn search<Q: Query<R::Key>>(&self, hash: u64, query: Q) -> Result<ItemIndex, Vacancy>
+    pub fn search<Q: Query<R::Key>>(
+        &self,
+        hash: u64,
+        query: Q,
+        asked: &mut Meter,
+        probed: &mut Meter,
+    ) -> Result<ItemIndex, Vacancy>
         requires { hash ≡ hash_of S.BuildHasher S.Hasher.Hasher self.now.builder (Q.hash_input query) }
         ensures found { FoundAt (λ x. Q.stands_for query (R.key x)) self.now.slots (result_ok result) }
         ensures hashed { IfOk result (λ slot. HasHash
@@ -132,8 +158,10 @@ impl<'a, T, R: KeyOf<T>, S: BuildHasher> Lookup<'a, T, R, S> {
         ensures vacant { IfErr result (IsVacantFor
             (⟦<R as HashedKey<T, S>>⟧.hash self.now.builder) (bag self.now) hash) }
         ensures cells { IfErr result (λ at. at.cells / 8 * 7 ≡ self.now.capacity) }
+        ensures costs { SearchCosts (⟦<R as HashedKey<T, S>>⟧.hash self.now.builder) (bag self.now)
+            self.now.capacity hash (result_ok result) asked.old asked.new probed.old probed.new }
     {
-        self.search_with(hash, &mut ByQuery::new(&query), &mut Meter::new())
+        self.search_with(hash, &mut ByQuery::new(&query, asked), probed)
     }
 
     /// Returns the slot of the item whose key the matcher accepts. If there is none, it returns the empty cell for a

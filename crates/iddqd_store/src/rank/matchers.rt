@@ -48,42 +48,41 @@ impl<'a, T, R: KeyOf<T>, M: KeyMatcher<R::Key>> Matcher for ByKey<'a, T, R, M> {
     }
 }
 
-/// Accepts the keys that a query stands for, and counts the keys that it was asked about.
+/// Accepts the keys that a query stands for, and counts the keys that it was asked about on a meter.
 #[derive(Drop)]
 pub struct ByQuery<'a, Q> {
     query: &'a Q,
-    asked: Meter,
+    asked: &'a mut Meter,
 }
 
 impl<'a, Q> ByQuery<'a, Q> {
-    /// Makes a matcher that was asked nothing so far.
-    pub fn new(query: &'a Q) -> Self
+    /// Makes a matcher that counts on this meter.
+    #[inline(always)]
+    pub fn new(query: &'a Q, asked: &'a mut Meter) -> Self
         ensures query { result.query ≡ query.entry }
-        ensures asked { result.asked ≡ 0 }
+        ensures asked { result.asked.ghost_name ≡ asked.entry.ghost_name }
+        ensures so_far { result.asked.now ≡ asked.old }
     {
-        ByQuery {
-            query,
-            asked: Meter::new(),
-        }
+        ByQuery { query, asked }
     }
 }
 
 impl<'a, K: Eq + Hash, Q: Query<K>> KeyMatcher<K> for ByQuery<'a, Q> {
     ghost accepts = { λ m key. Q.stands_for m.query.now key };
 
-    ghost asked = { λ m. m.asked };
+    ghost asked = { λ m. m.asked.now };
 
     ghost MayAsk = { λ _ _. ⊤ };
 
-    ghost IsKept = { λ m n. n.query ≡ m.query };
+    ghost IsKept = { λ m n. (n.query ≡ m.query) × (n.asked.ghost_name ≡ m.asked.ghost_name) };
 
-    ghost accepts_kept = { λ m n key e. ap (λ q. Q.stands_for q.now key) e };
+    ghost accepts_kept = { λ m n key e. ap (λ q. Q.stands_for q.now key) e.0 };
 
     ghost may_kept = { λ _ _ _ _ _. tt };
 
-    ghost kept_refl = { λ m. refl };
+    ghost kept_refl = { λ m. (refl, refl) };
 
-    ghost kept_trans = { λ m n o p q. q ∙ p };
+    ghost kept_trans = { λ m n o p q. (q.0 ∙ p.0, q.1 ∙ p.1) };
 
     fn matches(&mut self, key: &K) -> bool {
         self.asked.tick();

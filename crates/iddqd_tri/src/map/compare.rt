@@ -3,7 +3,8 @@ ghost use Rattle.std.specs.Prelude.{◌≡◌, ◌↔◌};
 ghost use Rattle.std.specs.Bool.{IsTrue};
 ghost use Rattle.std.specs.List.{list_any};
 ghost use Rattle.iddqd_store.specs.Bag.{IsSameBag, is_same, same_item};
-ghost use Rattle.iddqd_store.specs.Map.{bag};
+ghost use Rattle.iddqd_store.specs.Map.{bag, hash_of};
+ghost use Rattle.iddqd_store.specs.Rank.All.{UniqueCosts};
 ghost use Rattle.iddqd_store.proofs.BagLemmas.SameTest.{is_same-partial, is_same-equivalence};
 ghost use Rattle.std.specs.Cmp.{on_per, on_equiv};
 ghost use Rattle.iddqd_tri.specs.Keys.{ranks};
@@ -11,7 +12,8 @@ ghost use Rattle.iddqd_store.proofs.MapLemmas.{IsEquivalence-key};
 
 use super::TriHashMap;
 use super::slots::found::has_others;
-use crate::item::TriHashItem;
+use crate::item::{Hashed, TriHashItem};
+use iddqd_store::Meter;
 use std::hash::{BuildHasher, Hash};
 
 /// Two maps are equal if and only if their items pair off, so that the items of each pair agree in all keys and are
@@ -40,7 +42,7 @@ impl<T: TriHashItem + PartialEq, S: BuildHasher> PartialEq for TriHashMap<T, S> 
             return false;
         }
         for item in self {
-            if !other.has_partner(item) {
+            if !other.has_partner(item, &mut Meter::new(), &mut Meter::new()) {
                 return false;
             }
         }
@@ -60,13 +62,17 @@ impl<T: TriHashItem + Eq, S: BuildHasher> Eq for TriHashMap<T, S> {
 }
 
 impl<T: TriHashItem + PartialEq, S: BuildHasher> TriHashMap<T, S> {
-    /// Returns whether an item of the map agrees with this one in all keys and is equal to it by `==`.
-    fn has_partner(&self, item: &T) -> bool
-        ensures { result ≡ list_any (same_item (ranks T.TriHashItem T.K1.eq T.K2.eq T.K3.eq) T.eq item.now)
+    /// Returns whether an item of the map agrees with this one in all keys and is equal to it by `==`. One meter counts
+    /// the keys that are compared, beside those that `==` of two items compares, and the other the probed cells.
+    fn has_partner(&self, item: &T, asked: &mut Meter, probed: &mut Meter) -> bool
+        ensures value { result ≡ list_any (same_item (ranks T.TriHashItem T.K1.eq T.K2.eq T.K3.eq) T.eq item.now)
             (bag self.now) }
+        ensures costs { UniqueCosts (⟦<T as Hashed<S>>⟧.hash1 self.now.builder) (bag self.now) self.now.capacity
+            (hash_of S.BuildHasher S.Hasher.Hasher self.now.builder (T.K1.hash_input (T.key1 item.now)))
+            2 asked.old asked.new probed.old probed.new }
     {
-        match self.get1(item.key1()) {
-            Some(found) => has_others(found, item.key2(), item.key3()) && item == found,
+        match self.get1_by(item.key1(), asked, probed) {
+            Some(found) => has_others(found, item.key2(), item.key3(), asked) && item == found,
             None => false,
         }
     }

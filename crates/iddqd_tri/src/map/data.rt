@@ -7,7 +7,7 @@ ghost use Rattle.iddqd_tri.specs.Keys.{has1, has2, has3, has_all};
 
 use super::TriHashMap;
 use crate::item::{Ranked, TriHashItemMut};
-use iddqd_store::Query;
+use iddqd_store::{Meter, Query};
 use std::hash::{BuildHasher, Hash};
 
 impl<T: TriHashItemMut, S: BuildHasher> TriHashMap<T, S> {
@@ -30,7 +30,7 @@ impl<T: TriHashItemMut, S: BuildHasher> TriHashMap<T, S> {
             T.TriHashItem T.K1.Hash T.K2.Hash T.K3.Hash S.BuildHasher S.Hasher.Hasher T.Data.row T.put
             ⟦<T as Ranked>⟧.ranks (has1 T.TriHashItem Q.stands_for query) self.entry result) }
     {
-        match self.by_key1().slot_of(query) {
+        match self.slot1_by(query, &mut Meter::new(), &mut Meter::new()) {
             Some(slot) => Some(self.data_mut_at(slot)),
             None => None,
         }
@@ -54,7 +54,7 @@ impl<T: TriHashItemMut, S: BuildHasher> TriHashMap<T, S> {
             T.TriHashItem T.K1.Hash T.K2.Hash T.K3.Hash S.BuildHasher S.Hasher.Hasher T.Data.row T.put
             ⟦<T as Ranked>⟧.ranks (has2 T.TriHashItem Q.stands_for query) self.entry result) }
     {
-        match self.by_key2().slot_of(query) {
+        match self.slot2_by(query, &mut Meter::new(), &mut Meter::new()) {
             Some(slot) => Some(self.data_mut_at(slot)),
             None => None,
         }
@@ -78,7 +78,7 @@ impl<T: TriHashItemMut, S: BuildHasher> TriHashMap<T, S> {
             T.TriHashItem T.K1.Hash T.K2.Hash T.K3.Hash S.BuildHasher S.Hasher.Hasher T.Data.row T.put
             ⟦<T as Ranked>⟧.ranks (has3 T.TriHashItem Q.stands_for query) self.entry result) }
     {
-        match self.by_key3().slot_of(query) {
+        match self.slot3_by(query, &mut Meter::new(), &mut Meter::new()) {
             Some(slot) => Some(self.data_mut_at(slot)),
             None => None,
         }

@@ -7,6 +7,7 @@ ghost use Rattle.iddqd_tri.specs.Entries.{HasKeys, IsFound, entry_lender, entry_
 use super::TriHashMap;
 use crate::entry::{Entry, KeyTriple, OccupiedEntry, VacantEntry};
 use crate::item::{Ranked, TriHashItem};
+use iddqd_store::Meter;
 use std::hash::{BuildHasher, Hash};
 
 impl<T: TriHashItem, S: BuildHasher> TriHashMap<T, S> {
@@ -38,7 +39,7 @@ impl<T: TriHashItem, S: BuildHasher> TriHashMap<T, S> {
             ≡ entry (⟦<T as Ranked>⟧.key_tests key1.now key2.now key3.now) (bag self.old) }
         ensures is_found { IsFound result }
     {
-        match self.search_all(key1, key2, key3) {
+        match self.search_all(key1, key2, key3, &mut Meter::new(), &mut Meter::new()) {
             Ok(at) => Entry::Vacant(VacantEntry {
                 map: self,
                 keys: KeyTriple { key1, key2, key3 },

@@ -10,7 +10,7 @@ use super::TriHashMap;
 use super::slots::Refusal;
 use crate::error::FromIterError;
 use crate::item::Ranked;
-use iddqd_store::{DuplicateItem, ExtendUniqueError, MemoryRefused};
+use iddqd_store::{DuplicateItem, ExtendUniqueError, MemoryRefused, Meter};
 use std::alloc::Global;
 use std::hash::{BuildHasher, Hash};
 
@@ -160,7 +160,7 @@ impl<T: Ranked + Drop, S: BuildHasher + Default + Drop> TriHashMap<T, S> {
         // This error is ignored: the call may succeed without the capacity, since the items may share keys.
         let _ = map.grow(items.size_hint().0);
         for item in items {
-            match map.insert_or_refuse(item) {
+            match map.insert_or_refuse(item, &mut Meter::new(), &mut Meter::new()) {
                 Ok(()) => {}
                 Err(Refusal::Duplicate(item, found)) => {
                     let duplicates = map.take_all(&found);

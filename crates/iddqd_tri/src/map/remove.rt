@@ -30,7 +30,11 @@ impl<T: TriHashItem, S: BuildHasher> TriHashMap<T, S> {
         ensures absent { IfNone result (self.new ≡ self.old) }
     {
         let hash = self.hash_builder.hash_one(query);
-        self.remove1_by(hash, &mut ByQuery::new(&query), &mut Meter::new())
+        self.remove1_by(
+            hash,
+            &mut ByQuery::new(&query, &mut Meter::new()),
+            &mut Meter::new(),
+        )
     }
 
     /// Removes the item whose first key the matcher accepts, and returns it, or `None` if there is none. All first keys
@@ -92,7 +96,11 @@ impl<T: TriHashItem, S: BuildHasher> TriHashMap<T, S> {
         ensures absent { IfNone result (self.new ≡ self.old) }
     {
         let hash = self.hash_builder.hash_one(query);
-        self.remove2_by(hash, &mut ByQuery::new(&query), &mut Meter::new())
+        self.remove2_by(
+            hash,
+            &mut ByQuery::new(&query, &mut Meter::new()),
+            &mut Meter::new(),
+        )
     }
 
     /// Removes the item whose second key the matcher accepts, and returns it, or `None` if there is none. All second
@@ -154,7 +162,11 @@ impl<T: TriHashItem, S: BuildHasher> TriHashMap<T, S> {
         ensures absent { IfNone result (self.new ≡ self.old) }
     {
         let hash = self.hash_builder.hash_one(query);
-        self.remove3_by(hash, &mut ByQuery::new(&query), &mut Meter::new())
+        self.remove3_by(
+            hash,
+            &mut ByQuery::new(&query, &mut Meter::new()),
+            &mut Meter::new(),
+        )
     }
 
     /// Removes the item whose third key the matcher accepts, and returns it, or `None` if there is none. All third keys
@@ -216,7 +228,14 @@ impl<T: TriHashItem, S: BuildHasher> TriHashMap<T, S> {
         ensures absent { IfNone result (self.new ≡ self.old) }
     {
         let hash = self.hash_builder.hash_one(query1);
-        match self.slot_unique(hash, query1, query2, query3) {
+        match self.slot_unique(
+            hash,
+            query1,
+            query2,
+            query3,
+            &mut Meter::new(),
+            &mut Meter::new(),
+        ) {
             Some(slot) => Some(self.take(slot, Some(hash), None, None, &mut Meter::new())),
             None => None,
         }

@@ -13,7 +13,7 @@ use super::TriHashMap;
 use super::slots::Refusal;
 use crate::command::{TriCommand, TriReply, TriSink};
 use crate::item::{Ranked, TriHashItemMut};
-use iddqd_store::{DuplicateItem, ItemIndex, MemoryRefused, UpToThree};
+use iddqd_store::{DuplicateItem, ItemIndex, MemoryRefused, Meter, UpToThree};
 use std::hash::{BuildHasher, Hash};
 
 mod replies;
@@ -100,23 +100,35 @@ where
                 key1, key2, key3, item, sink,
             ),
             TriCommand::Replace1(key, item) => self.apply_replace(
-                self.by_key1().slot_of(&key),
+                self.slot1_by(&key, &mut Meter::new(), &mut Meter::new()),
                 item,
                 sink,
             ),
             TriCommand::Replace2(key, item) => self.apply_replace(
-                self.by_key2().slot_of(&key),
+                self.slot2_by(&key, &mut Meter::new(), &mut Meter::new()),
                 item,
                 sink,
             ),
             TriCommand::Replace3(key, item) => self.apply_replace(
-                self.by_key3().slot_of(&key),
+                self.slot3_by(&key, &mut Meter::new(), &mut Meter::new()),
                 item,
                 sink,
             ),
-            TriCommand::Set1(key, data) => self.apply_set(self.by_key1().slot_of(&key), data, sink),
-            TriCommand::Set2(key, data) => self.apply_set(self.by_key2().slot_of(&key), data, sink),
-            TriCommand::Set3(key, data) => self.apply_set(self.by_key3().slot_of(&key), data, sink),
+            TriCommand::Set1(key, data) => self.apply_set(
+                self.slot1_by(&key, &mut Meter::new(), &mut Meter::new()),
+                data,
+                sink,
+            ),
+            TriCommand::Set2(key, data) => self.apply_set(
+                self.slot2_by(&key, &mut Meter::new(), &mut Meter::new()),
+                data,
+                sink,
+            ),
+            TriCommand::Set3(key, data) => self.apply_set(
+                self.slot3_by(&key, &mut Meter::new(), &mut Meter::new()),
+                data,
+                sink,
+            ),
         }
     }
 
@@ -125,7 +137,7 @@ where
             (state_of self.old) sink.old item result (state_of self.new) sink.new }
         ensures builder { self.new.builder ≡ self.old.builder }
     {
-        match self.insert_or_refuse(item) {
+        match self.insert_or_refuse(item, &mut Meter::new(), &mut Meter::new()) {
             Ok(()) => self.tell(TriReply::Done, sink),
             Err(Refusal::Duplicate(item, found)) => self.tell_duplicate(item, &found, sink),
             Err(Refusal::Memory(item)) => self.tell(TriReply::Memory(item), sink),

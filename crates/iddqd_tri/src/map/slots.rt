@@ -7,7 +7,7 @@ ghost use Rattle.std.specs.List.{IsDistinct, list_any};
 ghost use Rattle.iddqd_store.specs.Bag.{IsSound, clash, differ, listing};
 ghost use Rattle.iddqd_store.specs.Rank.Index.{HasHash};
 ghost use Rattle.iddqd_store.specs.Map.{bag, hash_of, Gains, Loses, PutsAt, IsFullFor, IsBlockedAt};
-ghost use Rattle.iddqd_store.specs.Rank.All.{ArePlacesOf, AreUnder, AreVacantFor, HaveHashes, HaveRoom, hashes_of, slots_found};
+ghost use Rattle.iddqd_store.specs.Rank.All.{ArePlacesOf, AreSearched, AreUnder, AreVacantFor, HaveHashes, HaveRoom, PlacingCosts, hashes_of, slots_found};
 ghost use Rattle.iddqd_store.specs.Rank.{agree, walks_within};
 ghost use Rattle.iddqd_store.specs.Slots.Found.{AreFound, each_once, items_at};
 ghost use Rattle.iddqd_store.specs.Slots.{get, IsLive, Updates};
@@ -97,13 +97,16 @@ impl<T: TriHashItem, S: BuildHasher> TriHashMap<T, S> {
 
     /// Searches at each rank for its key. If no item has one of the keys, `Ok` has the empty cells at which the
     /// searches ended. Otherwise `Err` has the slot that each search found, if it found one, with the hash. The call
-    /// hashes each key once, and searches for it once.
+    /// hashes each key once, and searches for it once. One meter counts the keys that are compared, and the other the
+    /// probed cells.
     #[inline(always)]
     pub(crate) fn search_all(
         &self,
         key1: &T::K1,
         key2: &T::K2,
         key3: &T::K3,
+        asked: &mut Meter,
+        probed: &mut Meter,
     ) -> Result<(Vacancy, Vacancy, Vacancy), (SlotUnder, SlotUnder, SlotUnder)>
         // The slots that were found, and whether there are any.
         ensures found { AreFound (⟦<T as Ranked>⟧.key_tests key1.now key2.now key3.now) self.now.slots
@@ -120,13 +123,18 @@ impl<T: TriHashItem, S: BuildHasher> TriHashMap<T, S> {
             (map (hash_of S.BuildHasher S.Hasher.Hasher self.now.builder)
             (T.K1.hash_input key1.now ∷ T.K2.hash_input key2.now ∷ T.K3.hash_input key3.now ∷ []))) }
         ensures under { IfErr (by_rank result) (AreUnder (⟦<T as Hashed<S>>⟧.hashes self.now.builder) self.now.slots) }
+        ensures costs { AreSearched (⟦<T as Hashed<S>>⟧.hashes self.now.builder) (bag self.now) self.now.capacity
+            (map (hash_of S.BuildHasher S.Hasher.Hasher self.now.builder)
+            (T.K1.hash_input key1.now ∷ T.K2.hash_input key2.now ∷ T.K3.hash_input key3.now ∷ [])) (slots_found
+            (by_rank result))
+            asked.old asked.new probed.old probed.new }
     {
         let hash1 = self.hash_builder.hash_one(key1);
         let hash2 = self.hash_builder.hash_one(key2);
         let hash3 = self.hash_builder.hash_one(key3);
-        let by1 = self.by_key1().search(hash1, key1);
-        let by2 = self.by_key2().search(hash2, key2);
-        let by3 = self.by_key3().search(hash3, key3);
+        let by1 = self.by_key1().search(hash1, key1, asked, probed);
+        let by2 = self.by_key2().search(hash2, key2, asked, probed);
+        let by3 = self.by_key3().search(hash3, key3, asked, probed);
         match (by1, by2, by3) {
             (Err(at1), Err(at2), Err(at3)) => Ok((at1, at2, at3)),
             (by1, by2, by3) => Err((
@@ -138,11 +146,14 @@ impl<T: TriHashItem, S: BuildHasher> TriHashMap<T, S> {
     }
 
     /// Returns where an item is to be inserted at each rank, or, if items conflict with it, what the search at each
-    /// rank found. The call hashes each key once, and searches for it once.
+    /// rank found. The call hashes each key once, and searches for it once. One meter counts the keys that are
+    /// compared, and the other the probed cells.
     #[inline(always)]
     pub(crate) fn places(
         &self,
         item: &T,
+        asked: &mut Meter,
+        probed: &mut Meter,
     ) -> Result<(Vacancy, Vacancy, Vacancy), (SlotUnder, SlotUnder, SlotUnder)>
         ensures free { OnOk result (clash ⟦<T as Ranked>⟧.ranks (bag self.now) item.now ≡ []) }
         ensures places { IfOk (by_rank result) (ArePlacesOf
@@ -154,8 +165,11 @@ impl<T: TriHashItem, S: BuildHasher> TriHashMap<T, S> {
         ensures under { IfErr (by_rank result) (AreUnder (⟦<T as Hashed<S>>⟧.hashes self.now.builder) self.now.slots) }
         ensures found { AreFound (⟦<T as Ranked>⟧.key_tests (T.key1 item.now) (T.key2 item.now) (T.key3 item.now))
             self.now.slots (slots_found (by_rank result)) }
+        ensures costs { AreSearched (⟦<T as Hashed<S>>⟧.hashes self.now.builder) (bag self.now) self.now.capacity
+            (hashes_of (⟦<T as Hashed<S>>⟧.hashes self.now.builder) item.now) (slots_found (by_rank result))
+            asked.old asked.new probed.old probed.new }
     {
-        self.search_all(item.key1(), item.key2(), item.key3())
+        self.search_all(item.key1(), item.key2(), item.key3(), asked, probed)
     }
 
     /// Inserts an item with which nothing conflicts, at the place found for it at each rank. Only a table that grew is
@@ -317,11 +331,17 @@ impl<T: TriHashItem, S: BuildHasher> TriHashMap<T, S> {
     }
 
     /// Inserts an item if none conflicts with it. The error has the slots of those that do; or, if the map is full and
-    /// cannot grow, it is `Memory`.
+    /// cannot grow, it is `Memory`. One meter counts the keys that are compared, and the other the probed cells, but
+    /// for those that growing probes.
     ///
     /// What it calls is inlined, except for growing, so a caller's loop branches where the outcome arises.
     #[inline(always)]
-    pub(crate) fn insert_or_refuse(&mut self, item: T) -> Result<(), Refusal<T>>
+    pub(crate) fn insert_or_refuse(
+        &mut self,
+        item: T,
+        asked: &mut Meter,
+        probed: &mut Meter,
+    ) -> Result<(), Refusal<T>>
         ensures gains { OnOk result (Gains self.old item self.new) }
         ensures free { OnOk result (clash ⟦<T as Ranked>⟧.ranks (bag self.old) item ≡ []) }
         ensures handed_back { IfErr result (λ e. refusal_item e ≡ item) }
@@ -329,8 +349,11 @@ impl<T: TriHashItem, S: BuildHasher> TriHashMap<T, S> {
         ensures reason { IfErr result (λ e. MatchRefusal e
             (λ found. IsBlockedAt ⟦<T as Ranked>⟧.ranks self.old item found)
             (IsFullFor ⟦<T as Ranked>⟧.ranks self.old item)) }
+        ensures costs { PlacingCosts (⟦<T as Hashed<S>>⟧.hashes self.old.builder) (bag self.old) self.old.capacity
+            (hashes_of (⟦<T as Hashed<S>>⟧.hashes self.old.builder) item) (map (λ _. 1) ⟦<T as Ranked>⟧.ranks)
+            asked.old asked.new probed.old probed.new }
     {
-        let at = match self.places(&item) {
+        let at = match self.places(&item, asked, probed) {
             Ok(at) => at,
             Err((by1, by2, by3)) => {
                 let found = each_once(by1.slot(), by2.slot(), by3.slot());
@@ -340,7 +363,7 @@ impl<T: TriHashItem, S: BuildHasher> TriHashMap<T, S> {
         if let Err(_) = self.make_room(1) {
             return Err(Refusal::Memory(item));
         }
-        self.insert_at(item, at, &mut Meter::new());
+        self.insert_at(item, at, probed);
         Ok(())
     }
 }

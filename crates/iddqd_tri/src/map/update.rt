@@ -10,7 +10,7 @@ ghost use Rattle.iddqd_tri.specs.Keys.{has1, has2, has3, has_all};
 
 use super::TriHashMap;
 use crate::item::{Ranked, TriHashItemMut};
-use iddqd_store::Query;
+use iddqd_store::{Meter, Query};
 use std::hash::{BuildHasher, Hash};
 
 impl<T: TriHashItemMut, S: BuildHasher> TriHashMap<T, S> {
@@ -33,7 +33,7 @@ impl<T: TriHashItemMut, S: BuildHasher> TriHashMap<T, S> {
         ensures capacity { self.new.capacity ≡ self.old.capacity }
         ensures builder { self.new.builder ≡ self.old.builder }
     {
-        match self.by_key1().slot_of(query) {
+        match self.slot1_by(query, &mut Meter::new(), &mut Meter::new()) {
             Some(slot) => {
                 self.store_once(slot, f);
                 true
@@ -61,7 +61,7 @@ impl<T: TriHashItemMut, S: BuildHasher> TriHashMap<T, S> {
         ensures capacity { self.new.capacity ≡ self.old.capacity }
         ensures builder { self.new.builder ≡ self.old.builder }
     {
-        match self.by_key2().slot_of(query) {
+        match self.slot2_by(query, &mut Meter::new(), &mut Meter::new()) {
             Some(slot) => {
                 self.store_once(slot, f);
                 true
@@ -89,7 +89,7 @@ impl<T: TriHashItemMut, S: BuildHasher> TriHashMap<T, S> {
         ensures capacity { self.new.capacity ≡ self.old.capacity }
         ensures builder { self.new.builder ≡ self.old.builder }
     {
-        match self.by_key3().slot_of(query) {
+        match self.slot3_by(query, &mut Meter::new(), &mut Meter::new()) {
             Some(slot) => {
                 self.store_once(slot, f);
                 true

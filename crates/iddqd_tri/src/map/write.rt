@@ -13,7 +13,7 @@ use super::TriHashMap;
 use crate::item::TriHashItem;
 use crate::iter_mut::IterMut;
 use crate::ref_mut::RefMut;
-use iddqd_store::{Cursor, Query};
+use iddqd_store::{Cursor, Meter, Query};
 use std::hash::{BuildHasher, Hash};
 
 impl<T: TriHashItem, S: BuildHasher> TriHashMap<T, S> {
@@ -36,7 +36,7 @@ impl<T: TriHashItem, S: BuildHasher> TriHashMap<T, S> {
         ensures* rests_at_none { sem 𝓛
             (rests_if_none T.row S.row T.K1.row T.K2.row T.K3.row S.Hasher.row self.entry result) }
     {
-        let slot = self.by_key1().slot_of(query)?;
+        let slot = self.slot1_by(query, &mut Meter::new(), &mut Meter::new())?;
         Some(RefMut { map: self, slot })
     }
 
@@ -60,7 +60,7 @@ impl<T: TriHashItem, S: BuildHasher> TriHashMap<T, S> {
         ensures* rests_at_none { sem 𝓛
             (rests_if_none T.row S.row T.K1.row T.K2.row T.K3.row S.Hasher.row self.entry result) }
     {
-        let slot = self.by_key2().slot_of(query)?;
+        let slot = self.slot2_by(query, &mut Meter::new(), &mut Meter::new())?;
         Some(RefMut { map: self, slot })
     }
 
@@ -84,7 +84,7 @@ impl<T: TriHashItem, S: BuildHasher> TriHashMap<T, S> {
         ensures* rests_at_none { sem 𝓛
             (rests_if_none T.row S.row T.K1.row T.K2.row T.K3.row S.Hasher.row self.entry result) }
     {
-        let slot = self.by_key3().slot_of(query)?;
+        let slot = self.slot3_by(query, &mut Meter::new(), &mut Meter::new())?;
         Some(RefMut { map: self, slot })
     }
 

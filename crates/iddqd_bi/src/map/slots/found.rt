@@ -1,8 +1,9 @@
 //! Comparing an item's keys with others, and the slots that searches by all keys found: which they are, and their
 //! items, borrowed for reading or writing.
-ghost use Rattle.std.specs.Prelude.{◌≡◌, ◌<◌, [], ◌∷◌, map, IfSome, option_copied};
+ghost use Rattle.std.specs.Prelude.{◌≡◌, ◌<◌, ◌+◌, [], ◌∷◌, map, IfSome, option_copied};
 ghost use Rattle.std.specs.Option.{option_and_then};
 ghost use Rattle.iddqd_store.specs.Bag.{IsOnly, differ, every_of};
+ghost use Rattle.iddqd_store.specs.Rank.All.{UniqueCosts};
 ghost use Rattle.iddqd_store.specs.Rank.Index.{HasHash};
 ghost use Rattle.iddqd_store.specs.Map.{bag, hash_of};
 ghost use Rattle.iddqd_store.specs.Slots.Found.{each_once, items_at, FoundAt, found_by_all};
@@ -14,13 +15,19 @@ ghost use Rattle.iddqd_bi.specs.RefMuts.{ref_lender, ref_map, ref_item, rests_if
 use super::super::BiHashMap;
 use crate::item::{BiHashItem, Hashed, Ranked};
 use crate::ref_mut::RefMut;
-use iddqd_store::{ItemIndex, Query, UpToTwo};
+use iddqd_store::{ItemIndex, Meter, Query, UpToTwo};
 use std::hash::{BuildHasher, Hash};
 
 /// Returns whether the item has the keys asked for at all ranks after the first.
-pub(crate) fn has_others<T: BiHashItem, Q2: Query<T::K2>>(item: &T, query2: Q2) -> bool
-    ensures { result ≡ every_of (has2 T.BiHashItem Q2.stands_for query2 ∷ []) item.now }
+pub(crate) fn has_others<T: BiHashItem, Q2: Query<T::K2>>(
+    item: &T,
+    query2: Q2,
+    asked: &mut Meter,
+) -> bool
+    ensures value { result ≡ every_of (has2 T.BiHashItem Q2.stands_for query2 ∷ []) item.now }
+    ensures costs { asked.new ≡ asked.old + 1 }
 {
+    asked.tick();
     query2.stands_for(item.key2())
 }
 
@@ -66,6 +73,8 @@ impl<T: BiHashItem, S: BuildHasher> BiHashMap<T, S> {
         hash: u64,
         query1: Q1,
         query2: Q2,
+        asked: &mut Meter,
+        probed: &mut Meter,
     ) -> Option<ItemIndex>
         requires { hash ≡ hash_of S.BuildHasher S.Hasher.Hasher self.now.builder (Q1.hash_input query1) }
         ensures found { IsOnly (has_both T.BiHashItem Q1.stands_for Q2.stands_for query1 query2)
@@ -73,10 +82,12 @@ impl<T: BiHashItem, S: BuildHasher> BiHashMap<T, S> {
         ensures live { IfSome result (IsLive self.now.slots) }
         ensures hashed { IfSome result (λ slot. HasHash
             (⟦<T as Hashed<S>>⟧.hash1 self.now.builder) self.now.slots slot hash) }
+        ensures costs { UniqueCosts (⟦<T as Hashed<S>>⟧.hash1 self.now.builder) (bag self.now) self.now.capacity
+            hash 1 asked.old asked.new probed.old probed.new }
     {
-        let slot = self.by_key1().slot(hash, query1)?;
+        let slot = self.by_key1().slot(hash, query1, asked, probed)?;
         let item = self.items.get(slot)?;
-        if has_others(item, query2) {
+        if has_others(item, query2, asked) {
             Some(slot)
         } else {
             None
@@ -92,7 +103,7 @@ impl<T: BiHashItem, S: BuildHasher> BiHashMap<T, S> {
         ensures { FoundAt (has_both T.BiHashItem Q1.stands_for Q2.stands_for query1 query2) self.now.slots result }
     {
         let hash = self.hash_builder.hash_one(query1);
-        self.slot_unique(hash, query1, query2)
+        self.slot_unique(hash, query1, query2, &mut Meter::new(), &mut Meter::new())
     }
 
     /// Returns the items of these slots, borrowed for reading.

@@ -36,7 +36,7 @@ impl<T: TriHashItem, S: BuildHasher> TriHashMap<T, S> {
         ensures same_notes { OnErr result (entered.new.slots ≡ entered.old.slots) }
         ensures grows { GrowsUnless (length (bag self.old) < self.old.capacity) self.old self.new }
     {
-        let at = match self.places(&item) {
+        let at = match self.places(&item, &mut Meter::new(), &mut Meter::new()) {
             Ok(at) => at,
             Err(_) => return Err((item, ExtendUniqueReason::Conflict)),
         };

@@ -1,8 +1,9 @@
 //! Comparing an item's keys with others, and the slots that searches by all keys found: which they are, and their
 //! items, borrowed for reading or writing.
-ghost use Rattle.std.specs.Prelude.{◌≡◌, ◌<◌, [], ◌∷◌, map, IfSome, option_copied};
+ghost use Rattle.std.specs.Prelude.{◌≡◌, ◌<◌, ◌≤◌, ◌+◌, [], ◌∷◌, map, IfSome, option_copied};
 ghost use Rattle.std.specs.Option.{option_and_then};
 ghost use Rattle.iddqd_store.specs.Bag.{IsOnly, differ, every_of};
+ghost use Rattle.iddqd_store.specs.Rank.All.{UniqueCosts};
 ghost use Rattle.iddqd_store.specs.Rank.Index.{HasHash};
 ghost use Rattle.iddqd_store.specs.Map.{bag, hash_of};
 ghost use Rattle.iddqd_store.specs.Slots.Found.{each_once, items_at, FoundAt, found_by_all};
@@ -14,7 +15,7 @@ ghost use Rattle.iddqd_tri.specs.RefMuts.{ref_lender, ref_map, ref_item, rests_i
 use super::super::TriHashMap;
 use crate::item::{Hashed, Ranked, TriHashItem};
 use crate::ref_mut::RefMut;
-use iddqd_store::{ItemIndex, Query, UpToThree};
+use iddqd_store::{ItemIndex, Meter, Query, UpToThree};
 use std::hash::{BuildHasher, Hash};
 
 /// Returns whether the item has the keys asked for at all ranks after the first.
@@ -22,11 +23,18 @@ pub(crate) fn has_others<T: TriHashItem, Q2: Query<T::K2>, Q3: Query<T::K3>>(
     item: &T,
     query2: Q2,
     query3: Q3,
+    asked: &mut Meter,
 ) -> bool
-    ensures { result ≡ every_of (has2 T.TriHashItem Q2.stands_for query2 ∷ has3 T.TriHashItem Q3.stands_for query3
-        ∷ []) item.now }
+    ensures value { result ≡ every_of (has2 T.TriHashItem Q2.stands_for query2
+        ∷ has3 T.TriHashItem Q3.stands_for query3 ∷ []) item.now }
+    ensures costs { asked.new ≤ asked.old + 2 }
 {
-    query2.stands_for(item.key2()) && query3.stands_for(item.key3())
+    asked.tick();
+    if !query2.stands_for(item.key2()) {
+        return false;
+    }
+    asked.tick();
+    query3.stands_for(item.key3())
 }
 
 /// Returns the lowest rank, counted from 0, at which the item does not have these keys, or `None`. The function
@@ -89,6 +97,8 @@ impl<T: TriHashItem, S: BuildHasher> TriHashMap<T, S> {
         query1: Q1,
         query2: Q2,
         query3: Q3,
+        asked: &mut Meter,
+        probed: &mut Meter,
     ) -> Option<ItemIndex>
         requires { hash ≡ hash_of S.BuildHasher S.Hasher.Hasher self.now.builder (Q1.hash_input query1) }
         ensures found { IsOnly (has_all T.TriHashItem Q1.stands_for Q2.stands_for Q3.stands_for query1 query2 query3)
@@ -96,10 +106,12 @@ impl<T: TriHashItem, S: BuildHasher> TriHashMap<T, S> {
         ensures live { IfSome result (IsLive self.now.slots) }
         ensures hashed { IfSome result (λ slot. HasHash
             (⟦<T as Hashed<S>>⟧.hash1 self.now.builder) self.now.slots slot hash) }
+        ensures costs { UniqueCosts (⟦<T as Hashed<S>>⟧.hash1 self.now.builder) (bag self.now) self.now.capacity
+            hash 2 asked.old asked.new probed.old probed.new }
     {
-        let slot = self.by_key1().slot(hash, query1)?;
+        let slot = self.by_key1().slot(hash, query1, asked, probed)?;
         let item = self.items.get(slot)?;
-        if has_others(item, query2, query3) {
+        if has_others(item, query2, query3, asked) {
             Some(slot)
         } else {
             None
@@ -117,7 +129,14 @@ impl<T: TriHashItem, S: BuildHasher> TriHashMap<T, S> {
             (has_all T.TriHashItem Q1.stands_for Q2.stands_for Q3.stands_for query1 query2 query3) self.now.slots result }
     {
         let hash = self.hash_builder.hash_one(query1);
-        self.slot_unique(hash, query1, query2, query3)
+        self.slot_unique(
+            hash,
+            query1,
+            query2,
+            query3,
+            &mut Meter::new(),
+            &mut Meter::new(),
+        )
     }
 
     /// Returns the items of these slots, borrowed for reading.

@@ -2,7 +2,7 @@
 ghost use Rattle.std.specs.Prelude.{◌≡◌, ◌≢◌, ◌+◌, ◌≤◌, [], ◌∷◌, length, map, None, Some, IfOk, IfErr, OnOk, OnErr, slice_set};
 ghost use Rattle.iddqd_store.specs.Bag.{clash, order, over};
 ghost use Rattle.iddqd_store.specs.Map.{bag, ListsConflicts, PutsAt};
-ghost use Rattle.iddqd_store.specs.Rank.All.{AreUnder, HaveHashes, hashes_of};
+ghost use Rattle.iddqd_store.specs.Rank.All.{AreUnder, HaveHashes, PlacingCosts, hashes_of};
 ghost use Rattle.iddqd_store.specs.Rank.{walks_one, walks_within, walks_two};
 ghost use Rattle.iddqd_store.specs.Slots.{get, contents, IsLive};
 ghost use Rattle.iddqd_store.specs.Slots.Found.{each_once};
@@ -72,7 +72,13 @@ impl<T: TriHashItem, S: BuildHasher> TriHashMap<T, S> {
     /// Puts an item into the slot of another, whatever their keys are, and returns the latter. If an item in a third
     /// slot conflicts with the new one, the new one is returned, and nothing changes. The call hashes each key of the
     /// new item once, and searches for it once. Beside these searches it walks through each table at most twice.
-    pub(crate) fn rekey_at(&mut self, slot: ItemIndex, item: T, meter: &mut Meter) -> Result<T, T>
+    pub(crate) fn rekey_at(
+        &mut self,
+        slot: ItemIndex,
+        item: T,
+        asked: &mut Meter,
+        probed: &mut Meter,
+    ) -> Result<T, T>
         requires { IsLive self.old.slots slot }
         ensures value { IfOk result (λ x. get self.old.slots slot ≡ Some x) }
         ensures puts_at { OnOk result (PutsAt ⟦<T as Ranked>⟧.ranks self.old slot item
@@ -81,17 +87,18 @@ impl<T: TriHashItem, S: BuildHasher> TriHashMap<T, S> {
         ensures reason { OnErr result
             (clash ⟦<T as Ranked>⟧.ranks (contents (slice_set self.old.slots slot None)) item ≢ []) }
         ensures unchanged { OnErr result (self.new ≡ self.old) }
-        ensures costs { meter.new ≤ meter.old + walks_within (length (bag self.old)) (map
-            (λ _. 2) ⟦<T as Ranked>⟧.ranks) }
+        ensures costs { PlacingCosts (⟦<T as Hashed<S>>⟧.hashes self.old.builder) (bag self.old) self.old.capacity
+            (hashes_of (⟦<T as Hashed<S>>⟧.hashes self.old.builder) item) (map (λ _. 2) ⟦<T as Ranked>⟧.ranks)
+            asked.old asked.new probed.old probed.new }
     {
-        let by = match self.places(&item) {
+        let by = match self.places(&item, asked, probed) {
             Ok(at) => {
                 let by = (
                     SlotUnder::new(None, at.0.hash()),
                     SlotUnder::new(None, at.1.hash()),
                     SlotUnder::new(None, at.2.hash()),
                 );
-                return Ok(self.exchange(slot, item, &by, meter));
+                return Ok(self.exchange(slot, item, &by, probed));
             }
             Err(by) => by,
         };
@@ -104,7 +111,7 @@ impl<T: TriHashItem, S: BuildHasher> TriHashMap<T, S> {
         }
         match found.pop_front() {
             Some(_) => Err(item),
-            None => Ok(self.exchange(slot, item, &by, meter)),
+            None => Ok(self.exchange(slot, item, &by, probed)),
         }
     }
 

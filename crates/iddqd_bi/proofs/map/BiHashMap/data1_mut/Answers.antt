@@ -7,7 +7,7 @@ use Rattle.iddqd_bi.proofs.map.BiHashMap.data1_mut.Goals as goal
 pub returns-in-Some : goal.returns-in-Some
 returns-in-Some g c =
     let test = has1 g.T.BiHashItem g.Q.Query.stands_for c.args.query in
-    let found = subst (λ s. FoundAt test s (Some c.in-Some.slot)) c.by_key1.ensures.slots c.in-Some.ensures in (
+    let found = c.in-Some.ensures.found in (
       (refl, (λ w. writes_found test c.args.self.now c.in-Some.slot found g.T.BiHashItemMut.put _ w (λ x is. c.data_mut_at.ensures.swaps x w is)), refl),
       record {
         writes_back = tt;

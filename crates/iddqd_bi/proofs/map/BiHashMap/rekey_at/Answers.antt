@@ -1,9 +1,12 @@
-use Rattle.std.proofs.Common.{rules, ap, ◌∙◌, ◌≡◌, ◌≢◌, ◌∷◌, [], ℕ, List, length}
+use Rattle.std.proofs.Common.{rules, arith, ap, ◌∙◌, ◌≡◌, ◌≢◌, ◌≤◌, ◌+◌, ◌∷◌, [], ℕ, List, length}
+use Rattle.iddqd_store.specs.Rank.{walks_within}
 use Rattle.iddqd_store.specs.Map.{bag}
 use Rattle.iddqd_store.proofs.BagLemmas.Over.{clash-taken}
 use Rattle.iddqd_store.proofs.MapLemmas.Places.{one_leaves, stand_in}
 use Rattle.iddqd_store.proofs.MapLemmas.Rekeyed.{another_found, free_slot, more_found}
 use Rattle.iddqd_store.proofs.SlotLemmas.Found.{clash_none}
+use Rattle.iddqd_store.proofs.RankLemmas.Searched.{placing}
+use Rattle.std.proofs.lemmas.Grind.{common_steps}
 use Rattle.iddqd_bi.specs.Keys.{ranks}
 use Rattle.iddqd_bi.proofs.map.BiHashMap.rekey_at.Goals as goal
 
@@ -47,3 +50,19 @@ returns-in-Some-pop_front-clause-reason g c =
     let second = c.in-Some-pop_front in
     let found = c.in-Some.ensures.rest ∙ ap (λ (l : List ℕ). c.in-Some.other ∷ l) second.ensures.rest ∙ ap (λ (a : ℕ). a ∷ second.field-0 ∷ c.pop_front-2.new.self) same in
     more_found by slots c.args.item c.args.slot c.each_once-found.result stand second.field-0 c.pop_front-2.new.self found
+
+pub returns-in-Ok-clause-costs : goal.returns-in-Ok-clause-costs
+returns-in-Ok-clause-costs g c =
+    let rest : c.exchange.new.meter ≤ c.places.new.probed + walks_within (length (bag c.args.self.now)) (2 ∷ 2 ∷ []) = grind (arith, common_steps) in
+    placing _ _ _ _ _ _ _ _ _ _ _ c.places.ensures.costs rest
+
+pub returns-then-ne-clause-costs : goal.returns-then-ne-clause-costs
+returns-then-ne-clause-costs g c = placing _ _ _ _ _ _ _ _ _ _ _ c.places.ensures.costs (omega arith)
+
+pub returns-in-Some-pop_front-clause-costs : goal.returns-in-Some-pop_front-clause-costs
+returns-in-Some-pop_front-clause-costs g c = placing _ _ _ _ _ _ _ _ _ _ _ c.places.ensures.costs (omega arith)
+
+pub returns-in-None-clause-costs : goal.returns-in-None-clause-costs
+returns-in-None-clause-costs g c =
+    let rest : c.exchange-in-None.new.meter ≤ c.places.new.probed + walks_within (length (bag c.args.self.now)) (2 ∷ 2 ∷ []) = grind (arith, common_steps) in
+    placing _ _ _ _ _ _ _ _ _ _ _ c.places.ensures.costs rest

@@ -7,7 +7,7 @@ use Rattle.iddqd_tri.proofs.map.TriHashMap.data3_mut.Goals as goal
 pub returns-in-Some : goal.returns-in-Some
 returns-in-Some g c =
     let test = has3 g.T.TriHashItem g.Q.Query.stands_for c.args.query in
-    let found = subst (λ s. FoundAt test s (Some c.in-Some.slot)) c.by_key3.ensures.slots c.in-Some.ensures in (
+    let found = c.in-Some.ensures.found in (
       (refl, (λ w. writes_found test c.args.self.now c.in-Some.slot found g.T.TriHashItemMut.put _ w (λ x is. c.data_mut_at.ensures.swaps x w is)), refl),
       record {
         writes_back = tt;

@@ -17,4 +17,4 @@ invariant_of-self-in-Err-Memory g c =
     let same = memory_item arm.field-0 arm.item arm.field-0-is c.args.item arm.ensures.handed_back in
     let free : clash by (bag new) arm.item ≡ [] =
     subst (λ x. clash by (bag new) x ≡ []) (sym same) (subst (λ (m : Map g.row.T.Denot g.row.S.Denot). clash by (bag m) c.args.item ≡ []) (sym arm.ensures.unchanged) full.free) in
-    record { found_is = ap (items_at new.slots) c.new.ensures ∙ sym (order-empty by (bag new) arm.item free) }
+    record { found_is = ap (items_at new.slots) c.new-in-Err-Memory.ensures ∙ sym (order-empty by (bag new) arm.item free) }

@@ -1,8 +1,9 @@
-use Rattle.std.proofs.Common.{sym, ap, ◌∙◌, [], ◌∷◌}
+use Rattle.std.proofs.Common.{arith, sym, ap, ◌∙◌, [], ◌∷◌}
 use Rattle.std.specs.Option.{option_to_list, option_and_then}
 use Rattle.iddqd_store.specs.Slots.{get}
 use Rattle.iddqd_store.specs.Map.{Map, bag}
 use Rattle.iddqd_store.proofs.BagLemmas.Unique.{all_of-none, all_of-kept, all_of-lost}
+use Rattle.iddqd_store.proofs.RankLemmas.Costs.{SearchCosts-room}
 use Rattle.iddqd_tri.proofs.map.TriHashMap.slot_unique.Goals as goal
 
 pub returns-in_err-slot-clause-found : goal.returns-in_err-slot-clause-found
@@ -22,7 +23,7 @@ returns-then-has_others-clause-found g c =
     let test3 = λ (x : g.row.T.Denot). g.Q3.Query.stands_for c.args.query3 (g.T.TriHashItem.key3 x) in
     all_of-kept test1 (test2 ∷ test3 ∷ []) (bag c.args.self.now) _ c.in_ok-item.item.now
     (sym (c.in_ok-item.ensures ∙ ap (λ (m : Map g.row.T.Denot g.row.S.Denot). get m.slots c.in_ok-slot.slot) c.self.view_is)) (rw slots at c.in_ok-slot.ensures.found)
-    (sym c.has_others.ensures ∙ c.if-has_others.true)
+    (sym c.has_others.ensures.value ∙ c.if-has_others.true)
 
 pub returns-else-has_others-clause-found : goal.returns-else-has_others-clause-found
 returns-else-has_others-clause-found g c =
@@ -32,4 +33,24 @@ returns-else-has_others-clause-found g c =
     let test3 = λ (x : g.row.T.Denot). g.Q3.Query.stands_for c.args.query3 (g.T.TriHashItem.key3 x) in
     all_of-lost test1 (test2 ∷ test3 ∷ []) (bag c.args.self.now) _ c.in_ok-item.item.now
     (sym (c.in_ok-item.ensures ∙ ap (λ (m : Map g.row.T.Denot g.row.S.Denot). get m.slots c.in_ok-slot.slot) c.self.view_is)) (rw slots at c.in_ok-slot.ensures.found)
-    (sym c.has_others.ensures ∙ c.if-has_others.false)
+    (sym c.has_others.ensures.value ∙ c.if-has_others.false)
+
+pub returns-in_err-slot-clause-costs : goal.returns-in_err-slot-clause-costs
+returns-in_err-slot-clause-costs g c =
+    let first = rw (c.by_key1.ensures.slots, c.by_key1.ensures.builder) at (SearchCosts-room c.args.self.now.capacity c.by_key1.ensures.room c.slot.ensures.costs) in
+    record { answer = _; between = c.slot.new.asked; search = first; rest = omega (arith) }
+
+pub returns-in_err-item-clause-costs : goal.returns-in_err-item-clause-costs
+returns-in_err-item-clause-costs g c =
+    let first = rw (c.by_key1.ensures.slots, c.by_key1.ensures.builder) at (SearchCosts-room c.args.self.now.capacity c.by_key1.ensures.room c.slot.ensures.costs) in
+    record { answer = _; between = c.slot.new.asked; search = first; rest = omega (arith) }
+
+pub returns-then-has_others-clause-costs : goal.returns-then-has_others-clause-costs
+returns-then-has_others-clause-costs g c =
+    let first = rw (c.by_key1.ensures.slots, c.by_key1.ensures.builder) at (SearchCosts-room c.args.self.now.capacity c.by_key1.ensures.room c.slot.ensures.costs) in
+    record { answer = _; between = c.slot.new.asked; search = first; rest = omega (arith, c.has_others.ensures.costs) }
+
+pub returns-else-has_others-clause-costs : goal.returns-else-has_others-clause-costs
+returns-else-has_others-clause-costs g c =
+    let first = rw (c.by_key1.ensures.slots, c.by_key1.ensures.builder) at (SearchCosts-room c.args.self.now.capacity c.by_key1.ensures.room c.slot.ensures.costs) in
+    record { answer = _; between = c.slot.new.asked; search = first; rest = omega (arith, c.has_others.ensures.costs) }

@@ -7,20 +7,20 @@ use Rattle.iddqd_tri.proofs.map.TriHashMap.update2.Goals as goal
 pub store_once-requires-clause-callable : goal.store_once-requires-clause-callable
 store_once-requires-clause-callable g c = λ x here.
     (let test = has2 g.T.TriHashItem g.Q.Query.stands_for c.args.query in
-    c.requires x (found_one test c.args.self.now.slots c.in-Some.slot x (subst (λ s. FoundAt test s (Some c.in-Some.slot)) c.by_key2.ensures.slots c.in-Some.ensures) here))
+    c.requires x (found_one test c.args.self.now.slots c.in-Some.slot x c.in-Some.ensures.found here))
 
 pub returns-in-Some-clause-found : goal.returns-in-Some-clause-found
 returns-in-Some-clause-found g c =
     let test = has2 g.T.TriHashItem g.Q.Query.stands_for c.args.query in
-    any_found test c.args.self.now.slots c.in-Some.slot (subst (λ s. FoundAt test s (Some c.in-Some.slot)) c.by_key2.ensures.slots c.in-Some.ensures)
+    any_found test c.args.self.now.slots c.in-Some.slot c.in-Some.ensures.found
 
 pub returns-in-Some-clause-stores : goal.returns-in-Some-clause-stores
 returns-in-Some-clause-stores g c = λ _.
     (let test = has2 g.T.TriHashItem g.Q.Query.stands_for c.args.query in
     let stored = c.store_once.ensures.stored in
-    (stored.0, stored.1, found_one test c.args.self.now.slots c.in-Some.slot stored.0 (subst (λ s. FoundAt test s (Some c.in-Some.slot)) c.by_key2.ensures.slots c.in-Some.ensures) stored.2, stored.3, stored.5))
+    (stored.0, stored.1, found_one test c.args.self.now.slots c.in-Some.slot stored.0 c.in-Some.ensures.found stored.2, stored.3, stored.5))
 
 pub returns-in-None-clause-found : goal.returns-in-None-clause-found
 returns-in-None-clause-found g c =
     let test = has2 g.T.TriHashItem g.Q.Query.stands_for c.args.query in
-    any_absent test c.args.self.now.slots (subst (λ s. FoundAt test s None) c.by_key2.ensures.slots c.in-None.ensures)
+    any_absent test c.args.self.now.slots c.in-None.ensures.found

@@ -1,0 +1,39 @@
+-- What searches at all ranks cost together.
+use Rattle.std.specs.Prelude.{◌≡◌, ◌≤◌, ◌+◌, ℕ, List, [], ◌∷◌, length, map, Option}
+use Rattle.std.proofs.Common.{arith}
+use Rattle.iddqd_store.specs.Rank.{walks_within}
+use Rattle.iddqd_store.specs.Rank.All.{AreSearched, PlacingCosts, crowds}
+
+module _ {T : Type 0} (bag : List T) (room : ℕ) where
+  -- they ask no more often than items have the hashes
+  pub searched_asked : (hashes : List (T → ℕ)) (hs : List ℕ) (answers : List (Option ℕ)) (asks asks_then before after : ℕ) → AreSearched hashes bag room hs answers asks asks_then before after → asks_then ≤ asks + crowds hashes bag hs
+  searched_asked [] [] [] asks asks_then before after all = omega (arith, all.0)
+  searched_asked [] [] (r ∷ rs) asks asks_then before after all = absurd all
+  searched_asked [] (h ∷ hs) rs asks asks_then before after all = absurd all
+  searched_asked (f ∷ fs) [] rs asks asks_then before after all = absurd all
+  searched_asked (f ∷ fs) (h ∷ hs) [] asks asks_then before after all = absurd all
+  searched_asked (f ∷ fs) (h ∷ hs) (r ∷ rs) asks asks_then before after all =
+      let rest = searched_asked fs hs rs all.0 asks_then all.1 after all.3 in
+      omega (arith, all.2.asked, rest)
+
+  -- they probe at most one cell more than there are items, at each rank
+  pub searched_most : (hashes : List (T → ℕ)) (hs : List ℕ) (answers : List (Option ℕ)) (asks asks_then before after : ℕ) → AreSearched hashes bag room hs answers asks asks_then before after → after ≤ before + walks_within (length bag) (map (λ _. 1) hashes)
+  searched_most [] [] [] asks asks_then before after all = omega (arith, all.1)
+  searched_most [] [] (r ∷ rs) asks asks_then before after all = absurd all
+  searched_most [] (h ∷ hs) rs asks asks_then before after all = absurd all
+  searched_most (f ∷ fs) [] rs asks asks_then before after all = absurd all
+  searched_most (f ∷ fs) (h ∷ hs) [] asks asks_then before after all = absurd all
+  searched_most (f ∷ fs) (h ∷ hs) (r ∷ rs) asks asks_then before after all =
+      let rest = searched_most fs hs rs all.0 asks_then all.1 after all.3 in
+      omega (arith, all.2.at_most, rest)
+
+  -- searches at all ranks, and then walks
+  pub placing : (hashes : List (T → ℕ)) (hs walks : List ℕ) (answers : List (Option ℕ)) (asks asks_then before between after : ℕ) → AreSearched hashes bag room hs answers asks asks_then before between → after ≤ between + walks_within (length bag) walks → PlacingCosts hashes bag room hs walks asks asks_then before after
+  placing hashes hs walks answers asks asks_then before between after all rest = record {
+    answers = answers;
+    between = between;
+    search = all;
+    rest = rest;
+    asked = searched_asked hashes hs answers asks asks_then before between all;
+    at_most = let most = searched_most hashes hs answers asks asks_then before between all in omega (arith, most, rest);
+  }

@@ -1,0 +1,8 @@
+use Rattle.std.proofs.Common.{◌∙◌}
+use Rattle.iddqd_store.specs.Map.{bag}
+use Rattle.iddqd_store.proofs.BagLemmas.Unique.{is_some-found}
+use Rattle.iddqd_tri.specs.Keys.{has1}
+use Rattle.iddqd_tri.proofs.map.TriHashMap.contains_key1.Goals as goal
+
+pub returns : goal.returns
+returns g c = c.is_some.ensures ∙ is_some-found (has1 g.T.TriHashItem g.Q.Query.stands_for c.args.query) (bag c.args.self.now) c.get1_by-found.result c.get1_by-found.ensures.found
