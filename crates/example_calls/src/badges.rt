@@ -1,5 +1,5 @@
 //! An insert whose error owns the item and says which keys are taken. It is returned by `?`, or mapped.
-ghost use Rattle.std.specs.Prelude.{◌≡◌, ◌<◌, ◌∷◌, [], length, IsOk, IsPermutation, OnOk, OnErr, IfErr, IfOk};
+ghost use Rattle.std.specs.Prelude.{◌≡◌, ◌<◌, ◌∷◌, [], true, false, length, IsOk, IsPermutation, OnOk, OnErr, IfErr, IfOk};
 ghost use Rattle.iddqd_bi.specs.Bag.{clash};
 ghost use Rattle.iddqd_bi.specs.Map.{bag};
 
@@ -42,6 +42,12 @@ pub enum NotHandedOut {
 }
 
 impl From<Rejected<Badge>> for NotHandedOut {
+    ghost use Rattle.example_calls.specs.declared.badges.NotHandedOut.{NotHandedOut};
+
+    ghost from_gives = { λ rejected e. (rejected.taken1 ≡ true → e ≡ NotHandedOut.Number)
+        × (rejected.taken1 ≡ false → rejected.taken2 ≡ true → e ≡ NotHandedOut.Person)
+        × (rejected.taken1 ≡ false → rejected.taken2 ≡ false → e ≡ NotHandedOut.Memory) };
+
     fn from(rejected: Rejected<Badge>) -> NotHandedOut {
         if rejected.taken1 {
             NotHandedOut::Number

@@ -1,5 +1,5 @@
 //! Entries that are filled where they are vacant, and items that gather values.
-ghost use Rattle.std.specs.Prelude.{◌≡◌, ◌≢◌, [], ◌∷◌, ◌++◌, IsOk, IfErr, IsPermutation, OnOk, OnErr};
+ghost use Rattle.std.specs.Prelude.{◌≡◌, ◌≢◌, [], ◌∷◌, ◌++◌, IsOk, IfErr, IfOk, IsPermutation, OnOk, OnErr};
 ghost use Rattle.std.proofs.Common.{rules};
 ghost use Rattle.std.specs.Bool.{OnTrue};
 ghost use Rattle.iddqd_bi.specs.Bag.{clash, entry, swap, unique, vacant};
@@ -111,9 +111,15 @@ pub fn open_for(
     lab: u32,
     size: usize,
 ) -> Result<(), AllocError>
+    ensures opened { entry (⟦<Team as Ranked>⟧.key_tests id lab) (bag teams.old) ≡ vacant
+        → OnOk result ((t : Team) × (t.id ≡ id) × (t.lab ≡ lab) × (t.members.items ≡ [])
+        × IsPermutation (bag teams.new) (t ∷ bag teams.old)) }
+    ensures kept { entry (⟦<Team as Ranked>⟧.key_tests id lab) (bag teams.old) ≢ vacant → teams.new ≡ teams.old }
     ensures unchanged { OnErr result (teams.new ≡ teams.old) }
 {
-    let roomy = || {
+    let roomy = ||
+        ensures { IfOk result (λ t. (t.id ≡ id) × (t.lab ≡ lab) × (t.members.items ≡ [])) }
+    {
         let members = Vec::with_capacity(alloc, size)?;
         Ok(Team { id, lab, members })
     };

@@ -79,7 +79,8 @@ pub fn open_level(
     floors: &mut HashMap<u8, BiHashMap<DoorBadge>>,
     level: u8,
 ) -> Result<(), AllocError>
-    ensures { OnOk result (IsSome (get nat_eq floors.new level)) }
+    ensures opened { OnOk result (IsSome (get nat_eq floors.new level)) }
+    ensures kept { IsSome (get nat_eq floors.old level) → get nat_eq floors.new level ≡ get nat_eq floors.old level }
 {
     let _badges = floors.entry(level)?.or_default();
     Ok(())

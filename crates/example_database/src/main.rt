@@ -6,7 +6,8 @@
 //!     row N: duplicate SERIAL PORT   its row N, counted from 1, has a key of a row before it; nothing was inserted
 //!     row N: no memory               there was no memory for its row N, and nothing was inserted
 //!
-//! An empty line also removes the rows from the table. Any other line is answered by `bad line`.
+//! An empty line also removes the rows from the table. Any other line, also one that is not UTF-8, is answered by `bad line`, and the
+//! table keeps its rows.
 #![tactic(auto)]
 
 mod devices;
@@ -16,6 +17,7 @@ use iddqd_bi::{BiHashMap, ExtendUniqueReason};
 use sqlite::{Connection, Error, MemStore};
 use std::alloc::{AllocError, Global};
 use std::io;
+use std::io::BufRead;
 
 /// Returns the device of a line, if it is one.
 fn parse(alloc: Global, line: &str) -> Result<Option<Device>, AllocError> {
@@ -67,8 +69,11 @@ fn answer(rt: &(impl Print + AllocGlobal), conn: &mut Connection<MemStore>) -> i
 fn take_line(
     rt: &(impl Print + AllocGlobal),
     conn: &mut Connection<MemStore>,
-    line: &str,
+    line: &[u8],
 ) -> io::Result<()> {
+    let Ok(line) = str::from_utf8(line) else {
+        return rt.println("bad line");
+    };
     match parse(rt.alloc(), line)? {
         Some(device) => match store(conn, &device) {
             Ok(_) => Ok(()),
@@ -83,10 +88,11 @@ fn main(rt: HostRuntime) -> io::Result<()> {
     let Ok(mut conn) = open(alloc) else {
         return rt.println("no database");
     };
-    for line in rt.lines(alloc) {
+    for line in rt.reader().split(alloc, b'\n') {
         let line = line?;
+        let line = line.strip_suffix(b"\r").unwrap_or(line.as_slice());
         if !line.is_empty() {
-            take_line(&rt, &mut conn, line.as_str())?;
+            take_line(&rt, &mut conn, line)?;
         } else {
             answer(&rt, &mut conn)?;
             if clear(&mut conn).is_err() {

@@ -45,8 +45,8 @@ pub struct Hub {
 }
 
 /// Reads a hub. If two of its devices have an equal key, the error has the line and the column at which the second ends.
-pub fn read_hub(alloc: Global, text: &str) -> Result<Hub, Error> {
-    serde_json::from_str(alloc, text)
+pub fn read_hub(alloc: Global, text: &[u8]) -> Result<Hub, Error> {
+    serde_json::from_slice(alloc, text)
 }
 
 /// Writes a hub.
@@ -55,8 +55,8 @@ pub fn write_hub(alloc: Global, hub: &Hub) -> Result<String, Error> {
 }
 
 /// Reads devices from a list. Two devices with an equal key are an error, as for a hub.
-pub fn read_devices(alloc: Global, text: &str) -> Result<Seq<Device>, Error> {
-    serde_json::from_str(alloc, text)
+pub fn read_devices(alloc: Global, text: &[u8]) -> Result<Seq<Device>, Error> {
+    serde_json::from_slice(alloc, text)
 }
 
 /// Writes devices as a list, each once.

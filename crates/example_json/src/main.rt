@@ -4,7 +4,8 @@
 //!     [{"serial":1,"port":2,"label":"lamp"}]
 //!
 //! It answers each line by the same hub or the same devices, in the order of their map, or else by `not read: MESSAGE`, where the
-//! message has the line and the column of the text that was refused. The line is 1, since each text is one line.
+//! message has the line and the column of the text that was refused. The line is 1, since each text is one line. A line that is
+//! not UTF-8 is not read either.
 #![tactic(auto)]
 
 mod hub;
@@ -13,10 +14,11 @@ use crate::hub::{read_devices, read_hub, write_devices, write_hub};
 use serde_json::Error;
 use std::alloc::Global;
 use std::io;
+use std::io::BufRead;
 
 /// Reads a line, and writes it anew.
-fn answer(alloc: Global, line: &str) -> Result<String, Error> {
-    if line.starts_with('[') {
+fn answer(alloc: Global, line: &[u8]) -> Result<String, Error> {
+    if line.starts_with(b"[") {
         return write_devices(alloc, &read_devices(alloc, line)?);
     }
     write_hub(alloc, &read_hub(alloc, line)?)
@@ -24,8 +26,8 @@ fn answer(alloc: Global, line: &str) -> Result<String, Error> {
 
 fn main(rt: HostRuntime) -> io::Result<()> {
     let alloc = rt.alloc();
-    for line in rt.lines(alloc) {
-        match answer(alloc, line?.as_str()) {
+    for line in rt.reader().split(alloc, b'\n') {
+        match answer(alloc, line?.as_slice()) {
             Ok(text) => println!(rt; "{text}")?,
             Err(error) => println!(rt; "not read: {error}")?,
         }

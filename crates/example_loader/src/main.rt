@@ -1,11 +1,12 @@
-//! Reads batches of lines `ID,MAIL,YEAR`, each batch up to an empty line or to the end of the input, and answers each:
+//! Reads batches of records `ID,MAIL,YEAR`, each batch up to an empty line or to the end of the input, and answers each:
 //!
 //!     loaded N              all its N records were inserted
-//!     line N: bad record    its line N is no record, and nothing was inserted
-//!     line N: duplicate     a record before its line N has that id or that mail; nothing was inserted
-//!     line N: no memory     there was no memory for its line N, and nothing was inserted
+//!     line N: bad record    what begins at its line N is no record, and nothing was inserted
+//!     line N: duplicate     a record before the one at its line N has that id or that mail; nothing was inserted
+//!     line N: no memory     there was no memory for the record at its line N, and nothing was inserted
 //!
-//! At the end it prints how many records there are.
+//! A record is a line, or more than one if its mail address is in quotes and has a line end. A line that has more or fewer fields or
+//! is not UTF-8 is no record. At the end it prints how many records there are.
 #![tactic(auto)]
 
 mod loader;
@@ -15,12 +16,13 @@ use crate::loader::Record;
 use crate::text::{Problem, load_text};
 use iddqd_bi::BiHashMap;
 use std::io;
+use std::io::BufRead;
 
 /// Loads the batch of a text, and prints the outcome.
 fn answer(
     rt: &(impl Print + AllocGlobal),
     records: &mut BiHashMap<Record>,
-    text: &str,
+    text: &[u8],
 ) -> io::Result<()> {
     match load_text(rt.alloc(), records, text) {
         Ok(count) => println!(rt; "loaded {count}"),
@@ -40,14 +42,14 @@ fn answer(
 fn take_line(
     rt: &(impl Print + AllocGlobal),
     records: &mut BiHashMap<Record>,
-    text: &mut String,
-    line: &str,
+    text: &mut Vec<u8>,
+    line: &[u8],
 ) -> io::Result<()> {
     if !line.is_empty() {
-        text.push_str(line)?;
-        text.push('\n')?;
+        text.extend_from_slice(line)?;
+        text.push(b'\n')?;
     } else if !text.is_empty() {
-        answer(rt, records, text.as_str())?;
+        answer(rt, records, text.as_slice())?;
         text.clear();
     }
     Ok(())
@@ -57,20 +59,22 @@ fn take_line(
 fn answer_lines(
     rt: &(impl Print + Input + AllocGlobal),
     records: &mut BiHashMap<Record>,
-    text: &mut String,
+    text: &mut Vec<u8>,
 ) -> io::Result<()> {
-    for line in rt.lines(rt.alloc()) {
-        take_line(rt, records, text, line?.as_str())?;
+    for line in rt.reader().split(rt.alloc(), b'\n') {
+        let line = line?;
+        let line = line.strip_suffix(b"\r").unwrap_or(line.as_slice());
+        take_line(rt, records, text, line)?;
     }
     if !text.is_empty() {
-        answer(rt, records, text.as_str())?;
+        answer(rt, records, text.as_slice())?;
     }
     Ok(())
 }
 
 fn main(rt: HostRuntime) -> io::Result<()> {
     let mut records = BiHashMap::new(rt.alloc());
-    let mut text = String::new(rt.alloc());
+    let mut text = Vec::new(rt.alloc());
     answer_lines(&rt, &mut records, &mut text)?;
     println!(rt; "{} records", records.len())
 }

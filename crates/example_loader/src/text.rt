@@ -1,23 +1,26 @@
-//! Batches as texts, with one record in each line.
+//! Batches as texts of comma-separated values.
 ghost use Rattle.std.specs.Prelude.{◌≡◌, ◌++◌, List, length, IsPermutation, IfOk, OnErr};
 ghost use Rattle.iddqd_bi.specs.Map.{bag};
 
-use crate::loader::{Record, Rejected, load};
-use csv::{DeserializeErrorKind, Error, ErrorKind, ReaderBuilder};
+use crate::loader::{Record, load};
+use csv::{ByteRecord, DeserializeErrorKind, Error, ErrorKind, ReaderBuilder};
 use iddqd_bi::{BiHashMap, ExtendUniqueReason};
 use std::alloc::Global;
 
-/// Why a text was not loaded: what is wrong with which of its lines, counted from 1.
+/// A record has so many fields: its number, its mail address and its year.
+const FIELDS: usize = 3;
+
+/// Why a text was not loaded: what is wrong with the record that begins at which of its lines, counted from 1.
 #[derive(Clone, Copy)]
 pub struct Fault {
-    pub line: usize,
+    pub line: u64,
     pub problem: Problem,
 }
 
-/// What is wrong with a line.
+/// What is wrong with a record.
 #[derive(Clone, Copy)]
 pub enum Problem {
-    /// The line is no record.
+    /// It has not three fields, or one of them is not of its type, or not UTF-8.
     Bad,
     /// A record before it, in the text or loaded earlier, has its number or its mail address.
     Duplicate,
@@ -25,20 +28,7 @@ pub enum Problem {
     Memory,
 }
 
-/// Lets `?` tell the line for which a batch was rejected.
-impl From<Rejected> for Fault {
-    fn from(rejected: Rejected) -> Fault {
-        Fault {
-            line: rejected.index.saturating_add(1),
-            problem: match rejected.reason {
-                ExtendUniqueReason::Conflict => Problem::Duplicate,
-                ExtendUniqueReason::Memory => Problem::Memory,
-            },
-        }
-    }
-}
-
-/// Returns what is wrong with a line that was not read as a record.
+/// Returns what is wrong with a row that was not read as a record.
 fn problem_of(error: &Error) -> Problem {
     match error.kind() {
         ErrorKind::OutOfMemory => Problem::Memory,
@@ -50,29 +40,69 @@ fn problem_of(error: &Error) -> Problem {
     }
 }
 
+/// Returns the record of a row. `csv` alone would take a row with further fields, and leave these out.
+fn record_of(alloc: Global, row: &ByteRecord) -> Result<Record, Problem> {
+    if row.len() != FIELDS {
+        return Err(Problem::Bad);
+    }
+    row.deserialize::<Record>(alloc, None)
+        .map_err(|error| problem_of(&error))
+}
+
+/// The records of a text, and the line at which each begins. A text in quotes may go on in the next line, so the lines
+/// are not counted by the records.
+#[derive(Drop)]
+struct Batch {
+    records: Vec<Record>,
+    lines: Vec<u64>,
+}
+
 /// Returns the records of a text.
-fn batch_of(alloc: Global, text: &str) -> Result<Vec<Record>, Fault> {
-    let mut batch = Vec::new(alloc);
+fn batch_of(alloc: Global, text: &[u8]) -> Result<Batch, Fault>
+    ensures { IfOk result (λ batch. length batch.lines.items ≡ length batch.records.items) }
+{
+    let mut records = Vec::new(alloc);
+    let mut lines = Vec::new(alloc);
     let mut reader = ReaderBuilder::new()
         .has_headers(false)
-        .from_reader(alloc, text.as_bytes());
-    for record in reader.deserialize::<Record>() {
-        let line = batch.len() + 1;
+        .flexible(true)
+        .from_reader(alloc, text);
+    let mut row = ByteRecord::new(alloc);
+    for _ in 0..u64::MAX {
+        let read = reader.read_byte_record(&mut row);
+        let line = row.position().unwrap_or(reader.position()).line();
         let at = |problem: Problem| Fault { line, problem };
-        let record = record.map_err(|error| at(problem_of(&error)))?;
-        batch.push(record).map_err(|_| at(Problem::Memory))?;
+        if !read.map_err(|error| at(problem_of(&error)))? {
+            break;
+        }
+        let record = record_of(alloc, &row).map_err(at)?;
+        records.push(record).map_err(|_| at(Problem::Memory))?;
+        lines.push(line).map_err(|_| at(Problem::Memory))?;
     }
-    Ok(batch)
+    Ok(Batch { records, lines })
 }
 
 /// Loads the records of a text, and returns how many they are. If one of them cannot be inserted, none is.
-pub fn load_text(alloc: Global, records: &mut BiHashMap<Record>, text: &str) -> Result<usize, Fault>
+pub fn load_text(
+    alloc: Global,
+    records: &mut BiHashMap<Record>,
+    text: &[u8],
+) -> Result<usize, Fault>
     ensures all { IfOk result (λ count. (batch : List Record) × (length batch ≡ count)
         × IsPermutation (bag records.new) (batch ++ bag records.old)) }
     ensures none { OnErr result (IsPermutation (bag records.new) (bag records.old)) }
 {
     let batch = batch_of(alloc, text)?;
-    let count = batch.len();
-    load(records, batch)?;
-    Ok(count)
+    let lines = batch.lines;
+    let count = lines.len();
+    match load(records, batch.records) {
+        Ok(()) => Ok(count),
+        Err(rejected) => Err(Fault {
+            line: lines[rejected.index],
+            problem: match rejected.reason {
+                ExtendUniqueReason::Conflict => Problem::Duplicate,
+                ExtendUniqueReason::Memory => Problem::Memory,
+            },
+        }),
+    }
 }

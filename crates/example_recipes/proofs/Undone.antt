@@ -1,5 +1,5 @@
 -- What recipes cite of what comes and leaves again: an undo takes out what was put in, and two orders that change places fit.
-use Rattle.std.specs.Prelude.{◌≡◌, ◌⊎◌, ◌≢◌, ◌==◌, ◌<◌, ◌≤◌, ◌||◌, ℕ, Bool, true, false, not, List, [], ◌∷◌, filter, length, Contains, IsPermutation, Option, None, Some, Result, Ok, Err, IfErr, is_err}
+use Rattle.std.specs.Prelude.{◌≡◌, ◌⊎◌, ◌≤◌, ◌||◌, Bool, true, false, not, List, [], ◌∷◌, filter, length, Contains, IsPermutation, Option, None, Some, Result, Ok, Err, IfErr, is_err}
 use Rattle.std.proofs.Common.{inl, inr, refl, sym, subst, ap, arith, ◌∙◌, suc}
 use Rattle.std.proofs.lemmas.Bool.{false≢true}
 use Rattle.std.specs.List.{AllByRecursion}

@@ -8,7 +8,7 @@
 //!     count                          how many sessions are open
 //!
 //! Each word in capitals is a number. `open` closes the session with the number, the one with the token and the one
-//! with the peer, in this order. Any other line is answered by `bad line`.
+//! with the peer, in this order. Any other line is answered by `bad line`, also one that is not UTF-8.
 #![tactic(auto)]
 
 mod sessions;
@@ -17,6 +17,7 @@ use crate::sessions::{Peer, Session, Sessions, by_token, count, expire, open, to
 use iddqd_tri::TriHashMap;
 use std::hash::RandomState;
 use std::io;
+use std::io::BufRead;
 
 /// What a line asks for.
 enum Command {
@@ -98,8 +99,11 @@ fn answer(rt: &impl Print, sessions: &mut Sessions, command: Command) -> io::Res
 fn answer_line(
     rt: &(impl Print + AllocGlobal),
     sessions: &mut Sessions,
-    line: &str,
+    line: &[u8],
 ) -> io::Result<()> {
+    let Ok(line) = str::from_utf8(line) else {
+        return rt.println("bad line");
+    };
     let words: Vec<&str> = line.split_whitespace().collect(rt.alloc())?;
     match parse(words.as_slice()) {
         Some(command) => answer(rt, sessions, command),
@@ -112,8 +116,8 @@ fn answer_lines(
     rt: &(impl Print + Input + AllocGlobal),
     sessions: &mut Sessions,
 ) -> io::Result<()> {
-    for line in rt.lines(rt.alloc()) {
-        answer_line(rt, sessions, line?.as_str())?;
+    for line in rt.reader().split(rt.alloc(), b'\n') {
+        answer_line(rt, sessions, line?.as_slice())?;
     }
     Ok(())
 }

@@ -1,5 +1,5 @@
-use Rattle.std.specs.Prelude.{◌≡◌, ◌≢◌, ◌==◌, ◌<◌, ◌≤◌, ℕ, Bool, nat_eq, List, [], ◌∷◌, true, false, filter, length, is_err, is_ok, Contains, IfErr, IfOk, IsOk, IsPermutation, Result}
-use Rattle.std.proofs.Common.{arith, refl, rules, subst, sym, ◌∙◌}
+use Rattle.std.specs.Prelude.{◌≡◌, ◌≢◌, ◌==◌, ◌<◌, ◌≤◌, ℕ, Bool, nat_eq, [], ◌∷◌, true, false, filter, length, is_err, is_ok, Contains, IfErr, IfOk, IsOk, IsPermutation, Result}
+use Rattle.std.proofs.Common.{arith, rules, subst, sym, ◌∙◌}
 use Rattle.std.proofs.lemmas.Cmp.{nat_eq_equiv}
 use Rattle.std.proofs.lemmas.List.Sorted.{length_permutation}
 use Rattle.iddqd_store.proofs.CallerLemmas.{passes-listed}
@@ -13,7 +13,7 @@ use Rattle.iddqd_bi.specs.declared.error.NotReplaced.{NotReplaced}
 use Rattle.iddqd_bi.proofs.MapLemmas.{AreLawful-ranks}
 use Rattle.example_recipes.specs.contracts.orders.OrderBiHashItem.TheImpl as item
 use Rattle.example_recipes.specs.declared.orders.Order.{Order}
-use Rattle.example_recipes.proofs.OrderLemmas.{found_before, is_ok-yes, length-put, ok_both, on_ok, traded_by}
+use Rattle.example_recipes.proofs.OrderLemmas.{found_before, is_ok-yes, ok_both, on_ok, traded_by}
 use Rattle.example_recipes.proofs.Undone.{free_for_back, moved_in, still_there}
 use Rattle.example_recipes.proofs.orders.swap_places.Goals as goal
 

@@ -1,6 +1,6 @@
 use Rattle.std.proofs.Common.{rules, ◌≡◌, Global}
 use Rattle.std.proofs.lemmas.List.Sorted.{IsPermutation-map}
-use Rattle.std.proofs.Common.{◌==◌, nat_eq, List, [], ◌∷◌}
+use Rattle.std.proofs.Common.{◌==◌, nat_eq, [], ◌∷◌}
 use Rattle.std.proofs.lemmas.Cmp.{nat_eq_equiv}
 use Rattle.std.specs.declared.rc.Rc.{Rc}
 use Rattle.iddqd_store.proofs.BagLemmas.Sound.{each_weaker, or-false}
