@@ -5,16 +5,20 @@
 //!     GET /sessions/TOKEN       the session with this token: 200, or 404
 //!     DELETE /sessions/TOKEN    closes it: 204, or 404
 //!
-//! A body that is no session is answered by 400, another method at such a path by 405, and another path by 404. A request
-//! for which there is no memory ends the connection, and the sessions are as they were.
-ghost use Rattle.std.specs.Prelude.{◌≡◌, ◌≢◌, ◌==◌, ◌∷◌, codes, Some, None, IsPermutation, OnOk, OnErr};
+//! A HEAD is answered as a GET, without the body. TOKEN is a number without a sign and without zeros before it: any other path is
+//! answered by 404. A body that is no session is answered by 400, another method at such a path by 405, which lists the methods that
+//! there are. A request for which there is no memory is answered by 503, and the sessions are as they were.
+ghost use Rattle.std.specs.Prelude.{◌≡◌, ◌≢◌, ◌==◌, ◌<◌, ◌^◌, ◌∷◌, ℕ, Some, None, IfOk, IfSome, IfNone, IsTrue, IsPermutation, OnOk, OnErr};
+ghost use Rattle.example_http.specs.Answer.{IsAnswer, path_of};
 ghost use Rattle.example_http.specs.declared.sessions.Session.{Session};
+ghost use Rattle.http.specs.FieldValue.{is_visible_text};
 ghost use Rattle.http.specs.Request.{head_of};
 ghost use Rattle.iddqd_tri.specs.Bag.{IsOnly, over};
 ghost use Rattle.iddqd_tri.specs.Map.{bag};
 
 use crate::sessions::{Session, Sessions, by_token, close, open};
 use bytes::{BufMut, Bytes};
+use http::header::{ALLOW, HeaderValue};
 use http::{Method, Request, StatusCode};
 use http_server::{Response, Service};
 use iddqd_tri::Ranked;
@@ -28,51 +32,85 @@ pub struct Desk {
 }
 
 impl Service for Desk {
-    // A 201 answers a POST, and one session was opened. A 204 answers a DELETE, and one session was closed.
-    // With any other status the sessions are as they were.
+    // `IsAnswer` says what the status means for the sessions, and which of them was closed. No clause says which session a body
+    // has, since the contracts of `serde` say nothing of what a derived type reads or writes.
     ghost answers = { λ old request response new.
-        (response.status ≡ 201 → ((head_of request).method ≡ codes "POST")
-        × ((s : Session) × IsPermutation (bag new.sessions)
-        (over ⟦<Session as Ranked>⟧.ranks (bag old.sessions) s)))
-        × (response.status ≡ 204 → ((head_of request).method ≡ codes "DELETE")
-        × ((s : Session) × IsPermutation (bag old.sessions) (s ∷ bag new.sessions)))
-        × (response.status ≢ 201 → response.status ≢ 204 → new.sessions ≡ old.sessions) };
+        IsAnswer ⟦<Session as Ranked>⟧.ranks old.sessions new.sessions (head_of request) response.status };
 
     fn call(
         &mut self,
         request: &Request<Bytes>,
         response: &mut Response,
     ) -> Result<(), AllocError> {
-        let path = request.uri().path();
-        if path == "/sessions" {
-            if *request.method() == Method::POST {
-                return answer_open(self.alloc, &mut self.sessions, request.body(), response);
-            }
-            if *request.method() == Method::GET {
-                return answer_list(self.alloc, &self.sessions, response);
-            }
-            response.status = StatusCode::METHOD_NOT_ALLOWED;
-            return Ok(());
+        if answer(self.alloc, &mut self.sessions, request, response).is_err() {
+            response.clear();
+            response.status = StatusCode::SERVICE_UNAVAILABLE;
         }
-        let Some(token) = token_of(path) else {
-            response.status = StatusCode::NOT_FOUND;
-            return Ok(());
-        };
-        if *request.method() == Method::GET {
-            return answer_one(self.alloc, &self.sessions, token, response);
-        }
-        if *request.method() == Method::DELETE {
-            answer_close(&mut self.sessions, token, response);
-            return Ok(());
-        }
-        response.status = StatusCode::METHOD_NOT_ALLOWED;
         Ok(())
     }
 }
 
-/// Returns the token in the path of a session.
-fn token_of(path: &str) -> Option<u64> {
-    path.strip_prefix("/sessions/")?.parse::<u64>().ok()
+/// Answers a request. If there is no memory for it, the sessions are as they were.
+fn answer(
+    alloc: Global,
+    sessions: &mut Sessions,
+    request: &Request<Bytes>,
+    response: &mut Response,
+) -> Result<(), AllocError>
+    ensures ok { OnOk result (IsAnswer ⟦<Session as Ranked>⟧.ranks sessions.old sessions.new (head_of request.now) response.new.status) }
+    ensures err { OnErr result (sessions.new ≡ sessions.old) }
+{
+    let path = request.uri().path();
+    let method = request.method();
+    let is_read = *method == Method::GET || *method == Method::HEAD;
+    if path == "/sessions" {
+        if *method == Method::POST {
+            return answer_open(alloc, sessions, request.body(), response);
+        }
+        if is_read {
+            return answer_list(alloc, sessions, response);
+        }
+        return answer_method(response, "GET, HEAD, POST");
+    }
+    let Some(token) = token_of(alloc, path)? else {
+        response.status = StatusCode::NOT_FOUND;
+        return Ok(());
+    };
+    if is_read {
+        return answer_one(alloc, sessions, token, response);
+    }
+    if *method == Method::DELETE {
+        answer_close(sessions, token, response);
+        return Ok(());
+    }
+    answer_method(response, "GET, HEAD, DELETE")
+}
+
+/// Returns the token whose path this is.
+fn token_of(alloc: Global, path: &str) -> Result<Option<u64>, AllocError>
+    ensures its { IfOk result (λ found. IfSome found (λ token. (token < 2 ^ 64) × (path.now ≡ path_of token))) }
+    ensures none { IfOk result (λ found. IfNone found ((token : ℕ) → token < 2 ^ 64 → path.now ≢ path_of token)) }
+{
+    let Some(word) = path.strip_prefix("/sessions/") else {
+        return Ok(None);
+    };
+    let Ok(token) = word.parse::<u64>() else {
+        return Ok(None);
+    };
+    // `parse` takes `+77` and `0077` too.
+    if token.to_string(alloc)?.as_str() != word {
+        return Ok(None);
+    }
+    Ok(Some(token))
+}
+
+/// Answers a method that there is not at a path.
+fn answer_method(response: &mut Response, methods: &'static str) -> Result<(), AllocError>
+    requires { IsTrue (is_visible_text methods.now) }
+    ensures { response.new.status ≡ 405 }
+{
+    response.status = StatusCode::METHOD_NOT_ALLOWED;
+    response.add_header(ALLOW, HeaderValue::from_static(methods))
 }
 
 /// Opens the session of a body.
@@ -109,12 +147,11 @@ fn answer_open(
 
 /// Closes the session with this token.
 fn answer_close(sessions: &mut Sessions, token: u64, response: &mut Response)
-    ensures closed { response.new.status ≡ 204 → (s : Session) × IsPermutation (bag sessions.old) (s ∷ bag sessions.new) }
-    ensures it { response.new.status ≡ 204
-        → (s : Session) × IsOnly (λ t. token == t.token) (bag sessions.old) (Some s) }
+    ensures closed { response.new.status ≡ 204 → (s : Session) × IsOnly (λ t. token == t.token) (bag sessions.old) (Some s)
+        × IsPermutation (bag sessions.old) (s ∷ bag sessions.new) }
     ensures missing { response.new.status ≡ 404 → IsOnly (λ s. token == s.token) (bag sessions.old) None }
     ensures unchanged { response.new.status ≢ 204 → sessions.new ≡ sessions.old }
-    ensures no_open { response.new.status ≢ 201 }
+    ensures plain { (response.new.status ≢ 200) × (response.new.status ≢ 201) }
 {
     match close(sessions, token) {
         Some(closed) => {
@@ -132,6 +169,8 @@ fn answer_one(
     token: u64,
     response: &mut Response,
 ) -> Result<(), AllocError>
+    ensures found { OnOk result (response.new.status ≡ 200
+        → (s : Session) × IsOnly (λ t. token == t.token) (bag sessions.now) (Some s)) }
     ensures missing { OnOk result (response.new.status ≡ 404 → IsOnly (λ s. token == s.token) (bag sessions.now) None) }
     ensures plain { OnOk result ((response.new.status ≢ 201) × (response.new.status ≢ 204)) }
 {

@@ -1,4 +1,5 @@
-//! Sessions over HTTP/1.1. The program serves one connection, whose bytes are its standard input and output, and ends with it.
+//! Sessions over HTTP/1.1. The program serves one connection, whose bytes are its standard input and output, and ends with it. If
+//! the connection itself ends since there is no memory, the program fails.
 //! The module `desk` says which requests there are.
 #![tactic(auto)]
 
@@ -6,8 +7,9 @@ mod desk;
 mod sessions;
 
 use crate::desk::Desk;
-use http_server::{Config, Connection, serve};
+use http_server::{Config, Connection, State, serve};
 use iddqd_tri::TriHashMap;
+use std::alloc::AllocError;
 use std::hash::RandomState;
 use std::io;
 
@@ -23,5 +25,9 @@ fn main(rt: HostRuntime) -> io::Result<()> {
         &mut desk,
         &mut rt.stdin(),
         &mut rt.stdout(),
-    )
+    )?;
+    match connection.state() {
+        State::Aborted => Err(AllocError.into()),
+        _ => Ok(()),
+    }
 }
