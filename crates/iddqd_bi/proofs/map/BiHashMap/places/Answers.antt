@@ -15,3 +15,6 @@ returns-clause-blocked g c =
 
 pub returns-clause-found : goal.returns-clause-found
 returns-clause-found g c = rw (c.key1.ensures, c.key2.ensures) at c.search_all.ensures.found
+
+pub returns-clause-costs : goal.returns-clause-costs
+returns-clause-costs g c = rw (c.key1.ensures, c.key2.ensures) at c.search_all.ensures.costs
