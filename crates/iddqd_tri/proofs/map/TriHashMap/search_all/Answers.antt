@@ -7,9 +7,9 @@ use Rattle.iddqd_store.proofs.RankLemmas.Costs.{SearchCosts-room}
 use Rattle.iddqd_tri.proofs.map.TriHashMap.search_all.Goals as goal
 
 -- what holds of the value of a result holds of the option
-ok_some : {A E : Type 0} {P : A → Type 0} (r : Result A E) → IfOk r P → IfSome (result_ok r) P
-ok_some (Ok x) holds = holds
-ok_some (Err e) holds = tt
+ok_some : {A E : Type 0} (P : A → Type 0) (r : Result A E) → IfOk r P → IfSome (result_ok r) P
+ok_some P (Ok x) holds = holds
+ok_some P (Err e) holds = tt
 
 pub returns-in-Err-Err-Err-clause-found : goal.returns-in-Err-Err-Err-clause-found
 returns-in-Err-Err-Err-clause-found g c =
@@ -49,7 +49,7 @@ pub returns-in_default-clause-under : goal.returns-in_default-clause-under
 returns-in_default-clause-under g c =
     let is1 : c.ok.result ≡ result_ok c.search-by1.result = grind (arith, common_steps) in
     let is2 : c.ok-in_default.result ≡ result_ok c.search-by2.result = grind (arith, common_steps) in
-    let first = ok_some c.search-by1.result (rw (c.by_key1.ensures.slots, c.by_key1.ensures.builder) at c.search-by1.ensures.hashed) in
-    let second = ok_some c.search-by2.result (rw (c.by_key2.ensures.slots, c.by_key2.ensures.builder) at c.search-by2.ensures.hashed) in
-    let third = ok_some c.search-by3.result (rw (c.by_key3.ensures.slots, c.by_key3.ensures.builder) at c.search-by3.ensures.hashed) in
+    let first = ok_some _ c.search-by1.result (rw (c.by_key1.ensures.slots, c.by_key1.ensures.builder) at c.search-by1.ensures.hashed) in
+    let second = ok_some _ c.search-by2.result (rw (c.by_key2.ensures.slots, c.by_key2.ensures.builder) at c.search-by2.ensures.hashed) in
+    let third = ok_some _ c.search-by3.result (rw (c.by_key3.ensures.slots, c.by_key3.ensures.builder) at c.search-by3.ensures.hashed) in
     rw (c.new.ensures, c.new-in_default.ensures, c.new-in_default-2.ensures, is1, is2, c.ok-in_default-2.ensures.value) (first, (second, (third, tt)))
