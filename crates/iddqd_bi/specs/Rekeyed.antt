@@ -1,5 +1,5 @@
 -- An item that replaces another, whatever their keys are.
-use Rattle.std.specs.Prelude.{◌≡◌, ◌≢◌, ◌≤◌, ℕ, Bool, List, [], ◌∷◌, length, Some, None, Result, Ok, Err, IsPermutation}
+use Rattle.std.specs.Prelude.{◌≡◌, ◌≢◌, ◌≤◌, ℕ, Bool, List, [], ◌∷◌, length, Some, None, Result, Err, IsPermutation}
 use Rattle.iddqd_store.specs.Bag.{IsOnly, Ranks, clash}
 use Rattle.iddqd_store.specs.Map.{Map, bag}
 use Rattle.iddqd_store.specs.Rank.{SearchCosts}

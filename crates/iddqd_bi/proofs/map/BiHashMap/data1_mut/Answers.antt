@@ -1,5 +1,4 @@
-use Rattle.std.proofs.Common.{refl, Some, subst}
-use Rattle.iddqd_store.specs.Slots.Found.{FoundAt}
+use Rattle.std.proofs.Common.{refl}
 use Rattle.iddqd_bi.specs.Keys.{has1}
 use Rattle.iddqd_bi.proofs.Lending.{data_found, writes_found}
 use Rattle.iddqd_bi.proofs.map.BiHashMap.data1_mut.Goals as goal

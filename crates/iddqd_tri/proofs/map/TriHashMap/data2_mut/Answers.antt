@@ -1,5 +1,4 @@
-use Rattle.std.proofs.Common.{refl, Some, subst}
-use Rattle.iddqd_store.specs.Slots.Found.{FoundAt}
+use Rattle.std.proofs.Common.{refl}
 use Rattle.iddqd_tri.specs.Keys.{has2}
 use Rattle.iddqd_tri.proofs.Lending.{data_found, writes_found}
 use Rattle.iddqd_tri.proofs.map.TriHashMap.data2_mut.Goals as goal

@@ -1,5 +1,3 @@
-use Rattle.std.proofs.Common.{Some, None, subst}
-use Rattle.iddqd_store.specs.Slots.Found.{FoundAt}
 use Rattle.iddqd_tri.specs.Keys.{has3}
 use Rattle.iddqd_store.proofs.MapLemmas.Updating.{any_absent, any_found, found_one}
 use Rattle.iddqd_tri.proofs.map.TriHashMap.update3.Goals as goal
