@@ -109,6 +109,27 @@ impl Map {
         names.filter(move |name| !has(name))
     }
 
+    /// Returns the rows with a ratio above 1.2 at some size up to 20,000, each with the highest of these ratios.
+    fn above(&self, sizes: &[usize]) -> String {
+        let highest = |figures: &[Figures]| {
+            let small = sizes
+                .iter()
+                .zip(figures)
+                .filter(|(items, _)| **items <= 20_000);
+            let ratios = small.filter_map(|(_, figures)| figures.ratio());
+            ratios.map(|ratio| ratio.median).fold(0.0, f64::max)
+        };
+        let rows = self
+            .rows
+            .iter()
+            .map(|(name, figures)| (name, highest(figures)));
+        let named = rows.filter(|(_, ratio)| *ratio > 1.2);
+        let named: Vec<String> = named
+            .map(|(name, ratio)| format!("{name} ({ratio:.2})"))
+            .collect();
+        named.join("; ")
+    }
+
     /// Prints a row for each operation: its ratio at each size, and its time here at one of them.
     fn print(&self, sizes: &[usize]) {
         let wide = self.rows.iter().map(|(name, _)| name.len()).max();
@@ -176,6 +197,13 @@ pub fn print_table(maps: &[Map], sizes: &[usize], plan: Plan) {
         map.print(sizes);
     }
     println!("```\n");
+    for map in maps {
+        let (keys, above) = (map.keys, map.above(sizes));
+        println!(
+            "With {keys} keys these rows are above 1.2 at some size up to 20,000, here with their highest ratio:"
+        );
+        println!("{above}.\n");
+    }
 }
 
 /// Prints only the figures of this repository's maps at each size, as a table for a page.

@@ -1,16 +1,20 @@
-//! Reads lines of JSON, and writes what it read. A line is a hub with devices, or a list of devices:
+//! Reads lines of JSON, and writes what it read. A line is a hub with devices, a list of devices, or a rack with cables and devices:
 //!
 //!     {"name":"attic","devices":[{"serial":1,"port":2,"label":"lamp"}]}
 //!     [{"serial":1,"port":2,"label":"lamp"}]
+//!     {"cables":[{"number":1,"from":2,"to":3}],"devices":[]}
 //!
-//! It answers each line by the same hub or the same devices, in the order of their map, or else by `not read: MESSAGE`, where the
-//! message has the line and the column of the text that was refused. The line is 1, since each text is one line. A line that is
-//! not UTF-8 is not read either.
+//! It answers each line by the same hub, the same devices or the same rack, in the order of their maps, or else by `not read: MESSAGE`.
+//! The message for a hub or devices has the line and the column of the text that was refused. The line is 1, since each text is one
+//! line. A rack is read twice, and answered twice: from its text, and from a value that was read from the text. A line that is not
+//! UTF-8 is not read either.
 #![tactic(auto)]
 
 mod hub;
+mod racks;
 
 use crate::hub::{read_devices, read_hub, write_devices, write_hub};
+use crate::racks::{rewritten, rewritten_from_value};
 use serde_json::Error;
 use std::alloc::Global;
 use std::io;
@@ -24,13 +28,27 @@ fn answer(alloc: Global, line: &[u8]) -> Result<String, Error> {
     write_hub(alloc, &read_hub(alloc, line)?)
 }
 
+/// Prints what was read of a line, or why it was not read.
+fn show(rt: &impl Print, read: Result<String, Error>) -> io::Result<()> {
+    match read {
+        Ok(text) => println!(rt; "{text}"),
+        Err(error) => println!(rt; "not read: {error}"),
+    }
+}
+
+/// Answers a line.
+fn answer_line(rt: &impl Print, alloc: Global, line: &[u8]) -> io::Result<()> {
+    if !line.starts_with(b"{\"cables\"") {
+        return show(rt, answer(alloc, line));
+    }
+    show(rt, rewritten(alloc, line))?;
+    show(rt, rewritten_from_value(alloc, line))
+}
+
 fn main(rt: HostRuntime) -> io::Result<()> {
     let alloc = rt.alloc();
     for line in rt.reader().split(alloc, b'\n') {
-        match answer(alloc, line?.as_slice()) {
-            Ok(text) => println!(rt; "{text}")?,
-            Err(error) => println!(rt; "not read: {error}")?,
-        }
+        answer_line(&rt, alloc, line?.as_slice())?;
     }
     Ok(())
 }
