@@ -197,12 +197,13 @@ pub fn print_table(maps: &[Map], sizes: &[usize], plan: Plan) {
         map.print(sizes);
     }
     println!("```\n");
-    for map in maps {
-        let (keys, above) = (map.keys, map.above(sizes));
+    // Beside std the list would be half of the table.
+    for map in maps.iter().filter(|_| plan.other == "crate") {
         println!(
-            "With {keys} keys these rows are above 1.2 at some size up to 20,000, here with their highest ratio:"
+            "With {} keys these rows are above 1.2 at some size up to 20,000, here with their highest ratio:\n{}.\n",
+            map.keys,
+            map.above(sizes)
         );
-        println!("{above}.\n");
     }
 }
 
