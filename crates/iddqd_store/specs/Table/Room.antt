@@ -12,7 +12,8 @@ pub record IsSized (table : Table) : Type 0 where
   pub fits : length table.pairs ≤ table.limit
 
 -- This many more pairs fit in the table after `Ok`. A table grows only if they did not fit, and then it has the fewest
--- cells that hold them. The call fails only if they do not fit, and it always fails if no table can hold them.
+-- cells that hold them. The call fails only if they do not fit, and it always fails if no table can hold them. After an
+-- error the table is as it was.
 -- Example: With 3 pairs and the capacity 7, the capacity for 5 more is 14 after `Ok`.
 pub record GrowsFor {A E : Type 0} (old : Table) (more : ℕ) (result : Result A E) (new : Table) : Type 0 where
   pub room : OnOk result (length old.pairs + more ≤ new.limit)
