@@ -6,7 +6,7 @@ ghost use Rattle.std.specs.Prelude.{◌≡◌, ◌==◌, ℕ, ◌<◌, ◌≤◌
 ghost use Rattle.std.specs.List.{IsDistinct, list_any};
 ghost use Rattle.iddqd_store.specs.Bag.{IsSound, clash, differ, listing};
 ghost use Rattle.iddqd_store.specs.Rank.Index.{HasHash};
-ghost use Rattle.iddqd_store.specs.Map.{bag, hash_of, Gains, Loses, PutsAt, IsFullFor, IsBlockedAt};
+ghost use Rattle.iddqd_store.specs.Map.{bag, hash_of, Gains, Loses, MakesRoom, PutsAt, IsFullFor, IsBlockedAt};
 ghost use Rattle.iddqd_store.specs.Rank.All.{ArePlacesOf, AreSearched, AreUnder, AreVacantFor, HaveHashes, HaveRoom, PlacingCosts, hashes_of, slots_found};
 ghost use Rattle.iddqd_store.specs.Rank.{agree, walks_within};
 ghost use Rattle.iddqd_store.specs.Slots.Found.{AreFound, each_once, items_at};
@@ -26,7 +26,10 @@ use super::BiHashMap;
 use crate::error::EntryError;
 use crate::item::{BiHashItem, Hashed, Ranked};
 use crate::ranks::{First, Second};
-use iddqd_store::{ItemIndex, Lookup, Meter, SlotUnder, TryReserveError, UpToTwo, Vacancy};
+use iddqd_store::{
+    ItemIndex, Lookup, Meter, SlotUnder, TryReserveError, UpToTwo, Vacancy, pairs_wanted,
+    wanted_above,
+};
 use std::hash::{BuildHasher, Hash};
 
 /// An item that was not inserted, and why. It does not borrow the map.
@@ -294,6 +297,33 @@ impl<T: BiHashItem, S: BuildHasher> BiHashMap<T, S> {
             }
             self.grow(1)?;
         }
+        Ok(())
+    }
+
+    /// Reserves capacity for this many more items. If that fails, the map is as before, but slots and tables may have more
+    /// room. The call is not inlined into an insert, which seldom grows. Each larger table replaces the old one at once. The
+    /// parts that have more room than the map grow first, and what bounds the capacity grows last: so if a step fails, that
+    /// part is as before, and the capacity with it.
+    #[cold]
+    #[inline(never)]
+    pub(crate) fn grow(&mut self, more: usize) -> Result<(), TryReserveError>
+        ensures slots { self.new.slots ≡ self.old.slots }
+        ensures room { MakesRoom self.old more result self.new }
+        ensures unchanged { OnErr result (self.new ≡ self.old) }
+    {
+        let Some(wanted) = pairs_wanted(self.items.len(), self.items.capacity(), more) else {
+            return Err(TryReserveError);
+        };
+        let mut meter = Meter::new();
+        // First the parts that have more room than the map. In the second turn these have nothing to do.
+        let room = self.room();
+        let slots = wanted_above(room, self.items.capacity(), more);
+        self.items.try_reserve(slots)?;
+        let pairs2 = wanted_above(room, self.second.capacity(), wanted);
+        self.second.try_reserve(pairs2, &mut meter)?;
+        self.first.try_reserve(wanted, &mut meter)?;
+        self.second.try_reserve(wanted, &mut meter)?;
+        self.items.try_reserve(more)?;
         Ok(())
     }
 
