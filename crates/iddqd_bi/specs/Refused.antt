@@ -1,5 +1,5 @@
 -- What the error of an insert says, and what the map ends as.
-use Rattle.std.specs.Prelude.{◌≡◌, Bool, false, List, ℕ, Result, Ok, Err, OnOk, OnErr}
+use Rattle.std.specs.Prelude.{◌≡◌, Bool, false, List, [], ◌∷◌, Result, Ok, Err, OnOk, OnErr}
 use Rattle.std.specs.List.{list_any}
 use Rattle.std.specs.Borrow.{RattleType, MutBor, Fml, GName, follows_so}
 use Rattle.std.specs.HashMap.Lent.{HashMembers}
@@ -9,6 +9,7 @@ use Rattle.std.specs.declared.hash.Hasher as hasher
 use Rattle.std.specs.declared.hash.BuildHasher as builder
 use mathlib.Core.Option as maybe
 use Rattle.iddqd_store.specs.Map.{Map, bag, IsFullFor}
+use Rattle.iddqd_store.specs.Rank.{SlotUnder}
 use Rattle.iddqd_bi.specs.Keys.{has1, has2, ranks}
 use Rattle.iddqd_bi.specs.declared.item.BiHashItem as item
 use Rattle.iddqd_bi.specs.declared.map.slots.Refusal.{Refusal}
@@ -23,11 +24,11 @@ abbrev pub refusal_item : {T : Type 0} → Refusal T → T
 refusal_item (refusal.Duplicate x found) = x
 refusal_item (refusal.Memory x) = x
 
--- If items conflict, then `P` holds for the slots that were found, and if memory ran out, then `Q` holds. No public
--- clause cites it.
+-- If items conflict, then `P` holds for what the search of each rank found, and if memory ran out, then `Q` holds. No
+-- public clause cites it.
 -- Example: For `Memory x` it is `Q`.
-abbrev pub MatchRefusal : {T : Type 0} → Refusal T → (List ℕ → Type 0) → Type 0 → Type 0
-MatchRefusal (refusal.Duplicate x found) P Q = P found
+abbrev pub MatchRefusal : {T : Type 0} → Refusal T → (List SlotUnder → Type 0) → Type 0 → Type 0
+MatchRefusal (refusal.Duplicate x found) P Q = P (found.0 ∷ found.1 ∷ [])
 MatchRefusal (refusal.Memory x) P Q = Q
 
 module _ {T K1 K2 : Type 0} (of : item.Ghosts T K1 K2)

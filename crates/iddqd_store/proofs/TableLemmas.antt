@@ -4,6 +4,7 @@ pub mod Full
 pub mod Grow
 pub mod Limits
 pub mod Line
+pub mod Moved
 pub mod Probes
 pub mod Regrow
 pub mod Remove

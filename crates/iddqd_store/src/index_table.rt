@@ -169,40 +169,17 @@ impl IndexTable {
             meter.old meter.new }
         ensures sized { IsSized self.now }
     {
-        match self.find_or_vacancy(hash, matcher, meter) {
-            Ok(slot) => Some(slot),
+        match self.find_cell(hash, matcher, meter) {
+            Ok((slot, _)) => Some(slot),
             Err(_) => None,
         }
     }
 
-    /// Searches as `find` does. If there is no such index, it returns the empty cell at which the search ended, or
-    /// `Vacancy::unknown` if the table has no cells.
+    /// Searches as `find` does, and returns the cell of the index too. If there is no such index, it returns the empty
+    /// cell at which the search ended, or `Vacancy::unknown` if the table has no cells. Each search of the table is a call
+    /// of this function.
     #[inline(always)]
-    pub fn find_or_vacancy<M: Matcher>(
-        &self,
-        hash: u64,
-        matcher: &mut M,
-        meter: &mut Meter,
-    ) -> Result<ItemIndex, Vacancy>
-        requires { (slot : ℕ) → Contains self.now.pairs (hash, slot) → M.MayAsk matcher.old slot }
-        // What it returns.
-        ensures found { FindsUnder self.now hash (M.accepts matcher.old) (result_ok result) }
-        ensures vacant { IfErr result (IsVacantUnder self.now hash) }
-        // What it costs, by the size of the table.
-        ensures is_kept { M.IsKept matcher.old matcher.new }
-        ensures costs { CostsUnder self.now hash (result_ok result) (M.asked matcher.old) (M.asked matcher.new)
-            meter.old meter.new }
-        ensures sized { IsSized self.now }
-    {
-        match self.find_cell(hash, matcher, meter) {
-            Ok(found) => Ok(found.0),
-            Err(spot) => Err(spot),
-        }
-    }
-
-    // Searches as `find_or_vacancy` does, and returns the cell too. Each search of the table is a call of this function.
-    #[inline(always)]
-    fn find_cell<M: Matcher>(
+    pub(crate) fn find_cell<M: Matcher>(
         &self,
         hash: u64,
         matcher: &mut M,

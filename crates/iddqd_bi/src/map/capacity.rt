@@ -5,8 +5,8 @@ ghost use Rattle.iddqd_store.specs.Map.{bag, MakesRoom};
 ghost use Rattle.iddqd_store.specs.Table.Limit.{most_room};
 
 use super::BiHashMap;
-use crate::item::{BiHashItem, Ranked};
-use iddqd_store::{Meter, TryReserveError, pairs_wanted, wanted_above};
+use crate::item::Ranked;
+use iddqd_store::{Meter, TryReserveError};
 use std::hash::{BuildHasher, Hash};
 
 impl<T: Ranked, S: BuildHasher> BiHashMap<T, S> {
@@ -97,35 +97,5 @@ impl<T: Ranked, S: BuildHasher> BiHashMap<T, S> {
             from = slot.number() + 1;
             drop(self.take(slot, None, None, &mut Meter::new()));
         }
-    }
-}
-
-impl<T: BiHashItem, S: BuildHasher> BiHashMap<T, S> {
-    /// Reserves capacity for this many more items. If that fails, the map is as before, but slots and tables may have more
-    /// room. The call is not inlined into an insert, which seldom grows.
-    ///
-    /// Each larger table replaces the old one at once. The parts that have more room than the map grow first, and what
-    /// bounds the capacity grows last: so if a step fails, that part is as before, and the capacity with it.
-    #[cold]
-    #[inline(never)]
-    pub(crate) fn grow(&mut self, more: usize) -> Result<(), TryReserveError>
-        ensures slots { self.new.slots ≡ self.old.slots }
-        ensures room { MakesRoom self.old more result self.new }
-        ensures unchanged { OnErr result (self.new ≡ self.old) }
-    {
-        let Some(wanted) = pairs_wanted(self.items.len(), self.items.capacity(), more) else {
-            return Err(TryReserveError);
-        };
-        let mut meter = Meter::new();
-        // First the parts that have more room than the map. In the second turn these have nothing to do.
-        let room = self.room();
-        let slots = wanted_above(room, self.items.capacity(), more);
-        self.items.try_reserve(slots)?;
-        let pairs2 = wanted_above(room, self.second.capacity(), wanted);
-        self.second.try_reserve(pairs2, &mut meter)?;
-        self.first.try_reserve(wanted, &mut meter)?;
-        self.second.try_reserve(wanted, &mut meter)?;
-        self.items.try_reserve(more)?;
-        Ok(())
     }
 }

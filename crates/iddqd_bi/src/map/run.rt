@@ -11,6 +11,7 @@ ghost use Rattle.iddqd_store.specs.Runs.Values.{value_of};
 
 use super::BiHashMap;
 use super::slots::Refusal;
+use super::slots::found::each_once;
 use crate::command::{BiCommand, BiReply, BiSink};
 use crate::item::{BiHashItemMut, Ranked};
 use iddqd_store::{DuplicateItem, ItemIndex, MemoryRefused, Meter, UpToTwo};
@@ -117,7 +118,10 @@ where
     {
         match self.insert_or_refuse(item, &mut Meter::new(), &mut Meter::new()) {
             Ok(()) => self.tell(BiReply::Done, sink),
-            Err(Refusal::Duplicate(item, found)) => self.tell_duplicate(item, &found, sink),
+            Err(Refusal::Duplicate(item, by)) => {
+                let found = each_once(by.0.slot(), by.1.slot());
+                self.tell_duplicate(item, &found, sink)
+            }
             Err(Refusal::Memory(item)) => self.tell(BiReply::Memory(item), sink),
         }
     }

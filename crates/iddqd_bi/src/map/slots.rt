@@ -2,12 +2,12 @@
 //! The files below have the slots that searches by all keys found (`found`), iterating (`walk`), reading and writing
 //! (`write`), inserting in place of other items (`over`), and inserting a list that may have to be removed again
 //! (`enter`). Calls on all slots at once and removals by one key use the slots and tables themselves.
-ghost use Rattle.std.specs.Prelude.{◌≡◌, ◌==◌, ℕ, ◌<◌, ◌≤◌, ◌+◌, [], ◌∷◌, length, map, All, OnOk, OnErr, IfOk, IfErr, Some, None, IfSome, nat_eq, slice_set, is_some, true, false};
+ghost use Rattle.std.specs.Prelude.{◌≡◌, ◌==◌, ℕ, ◌<◌, ◌≤◌, ◌+◌, [], ◌∷◌, length, map, All, OnOk, OnErr, IfOk, IfErr, Some, None, IfSome, nat_eq, slice_set, is_some, is_ok, true, false, if◌then◌else◌};
 ghost use Rattle.std.specs.List.{IsDistinct, list_any};
 ghost use Rattle.iddqd_store.specs.Bag.{IsSound, clash, differ, listing};
 ghost use Rattle.iddqd_store.specs.Rank.Index.{HasHash};
-ghost use Rattle.iddqd_store.specs.Map.{bag, hash_of, Gains, Loses, PutsAt, IsFullFor, IsBlockedAt};
-ghost use Rattle.iddqd_store.specs.Rank.All.{ArePlacesOf, AreSearched, AreUnder, AreVacantFor, HaveHashes, HaveRoom, PlacingCosts, hashes_of, slots_found};
+ghost use Rattle.iddqd_store.specs.Map.{bag, hash_of, Gains, Loses, MakesRoom, PutsAt, IsFullFor, IsBlockedAt};
+ghost use Rattle.iddqd_store.specs.Rank.All.{ArePlacesOf, AreSearched, AreUnder, AreVacantFor, HaveHashes, HaveRoom, IsBlockedBy, PlacingCosts, hashes_of, slots_found};
 ghost use Rattle.iddqd_store.specs.Rank.{agree, walks_within};
 ghost use Rattle.iddqd_store.specs.Slots.Found.{AreFound, each_once, items_at};
 ghost use Rattle.iddqd_store.specs.Slots.{get, IsLive, Updates};
@@ -21,19 +21,22 @@ mod over;
 mod walk;
 mod write;
 
-use self::found::{differ, each_once};
+use self::found::differ;
 use super::BiHashMap;
 use crate::error::EntryError;
 use crate::item::{BiHashItem, Hashed, Ranked};
 use crate::ranks::{First, Second};
-use iddqd_store::{ItemIndex, Lookup, Meter, SlotUnder, TryReserveError, UpToTwo, Vacancy};
+use iddqd_store::{
+    ItemIndex, Lookup, Meter, SlotUnder, TryReserveError, UpToTwo, Vacancy, pairs_wanted,
+    wanted_above,
+};
 use std::hash::{BuildHasher, Hash};
 
 /// An item that was not inserted, and why. It does not borrow the map.
 #[derive(Drop)]
 pub(crate) enum Refusal<T> {
-    /// The items that conflict with it are in these slots, in the order of the keys.
-    Duplicate(T, UpToTwo<ItemIndex>),
+    /// Items conflict with it. This is what the search by each of its keys found.
+    Duplicate(T, (SlotUnder, SlotUnder)),
     /// There was no memory for it.
     Memory(T),
 }
@@ -297,11 +300,37 @@ impl<T: BiHashItem, S: BuildHasher> BiHashMap<T, S> {
         Ok(())
     }
 
-    /// Inserts an item if none conflicts with it. The error has the slots of those that do; or, if the map is full and
-    /// cannot grow, it is `Memory`. One meter counts the keys that are compared, and the other the probed cells, but for
-    /// those that growing probes.
-    ///
-    /// What it calls is inlined, except for growing, so a caller's loop branches where the outcome arises.
+    /// Reserves capacity for this many more items. If that fails, the map is as before, but slots and tables may have more
+    /// room. The call is not inlined into an insert, which seldom grows. Each larger table replaces the old one at once. The
+    /// parts that have more room than the map grow first, and what bounds the capacity grows last: so if a step fails, that
+    /// part is as before, and the capacity with it.
+    #[cold]
+    #[inline(never)]
+    pub(crate) fn grow(&mut self, more: usize) -> Result<(), TryReserveError>
+        ensures slots { self.new.slots ≡ self.old.slots }
+        ensures room { MakesRoom self.old more result self.new }
+        ensures unchanged { OnErr result (self.new ≡ self.old) }
+    {
+        let Some(wanted) = pairs_wanted(self.items.len(), self.items.capacity(), more) else {
+            return Err(TryReserveError);
+        };
+        let mut meter = Meter::new();
+        // First the parts that have more room than the map. In the second turn these have nothing to do.
+        let room = self.room();
+        let slots = wanted_above(room, self.items.capacity(), more);
+        self.items.try_reserve(slots)?;
+        let pairs2 = wanted_above(room, self.second.capacity(), wanted);
+        self.second.try_reserve(pairs2, &mut meter)?;
+        self.first.try_reserve(wanted, &mut meter)?;
+        self.second.try_reserve(wanted, &mut meter)?;
+        self.items.try_reserve(more)?;
+        Ok(())
+    }
+
+    /// Inserts an item if none conflicts with it. The error has what the searches by its keys found; or, if the map is full
+    /// and cannot grow, it is `Memory`. One meter counts the keys that are compared, and the other the probed cells, but for
+    /// those that growing probes. What it calls is inlined, except for growing, so a caller's loop branches where the
+    /// outcome arises.
     #[inline(always)]
     pub(crate) fn insert_or_refuse(
         &mut self,
@@ -314,18 +343,16 @@ impl<T: BiHashItem, S: BuildHasher> BiHashMap<T, S> {
         ensures handed_back { IfErr result (λ e. refusal_item e ≡ item) }
         ensures unchanged { OnErr result (self.new ≡ self.old) }
         ensures reason { IfErr result (λ e. MatchRefusal e
-            (λ found. IsBlockedAt ⟦<T as Ranked>⟧.ranks self.old item found)
+            (IsBlockedBy ⟦<T as Ranked>⟧.ranks (⟦<T as Hashed<S>>⟧.hashes self.old.builder) self.old item)
             (IsFullFor ⟦<T as Ranked>⟧.ranks self.old item)) }
         ensures costs { PlacingCosts (⟦<T as Hashed<S>>⟧.hashes self.old.builder) (bag self.old) self.old.capacity
-            (hashes_of (⟦<T as Hashed<S>>⟧.hashes self.old.builder) item) (map (λ _. 1) ⟦<T as Ranked>⟧.ranks)
+            (hashes_of (⟦<T as Hashed<S>>⟧.hashes self.old.builder) item)
+            (map (λ _. if is_ok result then 1 else 0) ⟦<T as Ranked>⟧.ranks)
             asked.old asked.new probed.old probed.new }
     {
         let at = match self.places(&item, asked, probed) {
             Ok(at) => at,
-            Err((by1, by2)) => {
-                let found = each_once(by1.slot(), by2.slot());
-                return Err(Refusal::Duplicate(item, found));
-            }
+            Err(by) => return Err(Refusal::Duplicate(item, by)),
         };
         if let Err(_) = self.make_room(1) {
             return Err(Refusal::Memory(item));

@@ -1,5 +1,5 @@
 -- What searches by each key of an item say of the items that conflict with it.
-use Rattle.std.specs.Prelude.{◌≡◌, ◌≢◌, ℕ, nat_eq, Bool, true, false, List, [], ◌∷◌, ◌++◌, length, filter, Option, Some, None, is_some, IsSome, IsPermutation, Result, Ok, Err, OnOk, OnErr, slice_set}
+use Rattle.std.specs.Prelude.{◌≡◌, ◌≢◌, ℕ, nat_eq, Bool, true, false, ◌||◌, List, [], ◌∷◌, ◌++◌, length, filter, Option, Some, None, is_some, IsSome, IsPermutation, Result, Ok, Err, OnOk, OnErr, slice_set}
 use Rattle.std.specs.Cmp.{IsEquivalence}
 use Rattle.std.specs.List.{AllByRecursion, IsDistinct, list_any}
 use Rattle.std.specs.Option.{IfSome, option_to_list}
@@ -9,7 +9,7 @@ use Rattle.std.proofs.lemmas.List.{get_or-set_other}
 use Rattle.std.proofs.lemmas.List.Elements.{All-head, All-tail}
 use Rattle.std.proofs.lemmas.Map.Keys.{IsDistinct-cons, IsDistinct-head, IsDistinct-tail}
 use Rattle.std.proofs.lemmas.List.Sorted.{IsPermutation-refl, IsPermutation-sym, IsPermutation-trans, IsPermutation-append, IsPermutation-middle}
-use Rattle.iddqd_store.specs.Bag.{Ranks, clash, like, order, over}
+use Rattle.iddqd_store.specs.Bag.{Ranks, clash, like, order, over, some_of}
 use Rattle.iddqd_store.specs.Map.{Map, bag, IsBlockedAt}
 use Rattle.iddqd_store.specs.Slots.{IsLive, contents, get}
 use Rattle.iddqd_store.specs.Slots.Found.{AreFound, FoundAt, StandAt, each_once, items_at}
@@ -69,6 +69,22 @@ is_some-at {T} test slots (Some slot) found = by_slot (get slots slot) found.liv
     by_slot : (o : Option T) → IsSome o → option_to_list o ≡ filter test (contents slots) → true ≡ list_any test (contents slots)
     by_slot None some only = absurd (cc)
     by_slot (Some y) some only = sym (any_listed test (contents slots) ∙ ap some_item (sym only))
+
+module _ {T : Type 0} where
+  -- no item passes either of two tests
+  neither : (p q : T → Bool) (xs : List T) → filter (λ x. p x || q x) xs ≡ [] → (list_any p xs ≡ false) × (filter q xs ≡ [])
+  neither p q [] none = (refl, refl)
+  neither p q (x ∷ xs) none = by (p x) (q x) refl refl (neither p q xs)
+    where
+      by : (a b : Bool) → p x ≡ a → q x ≡ b → (filter (λ y. p y || q y) xs ≡ [] → (list_any p xs ≡ false) × (filter q xs ≡ [])) → (list_any p (x ∷ xs) ≡ false) × (filter q (x ∷ xs) ≡ [])
+      by true b is_a is_b less = let some = rw is_a at none in absurd (cc some)
+      by false true is_a is_b less = let some = rw (is_a, is_b) at none in absurd (cc some)
+      by false false is_a is_b less = let rest = less (rw (is_a, is_b) at none) in (rw is_a rest.0, rw is_b rest.1)
+
+  -- if no item passes some of the tests, none passes any of them: what conflicts with nothing has no key that is taken
+  pub none_taken : (tests : List (T → Bool)) (xs : List T) → filter (λ x. some_of tests x) xs ≡ [] → AllByRecursion (λ test. list_any test xs ≡ false) tests
+  none_taken [] xs none = tt
+  none_taken (test ∷ tests) xs none = let both = neither test (λ x. some_of tests x) xs none in (both.0, none_taken tests xs both.1)
 
 module _ {T : Type 0} (ranks : Ranks T) (bag : List T) (x : T) (free : clash ranks bag x ≡ []) where
   -- if nothing conflicts with an item, nothing is listed

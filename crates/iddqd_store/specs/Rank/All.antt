@@ -1,8 +1,10 @@
 -- What holds at all ranks: lists that have one element for each rank.
 use Rattle.std.specs.Prelude.{◌≡◌, ◌≤◌, ◌+◌, ◌*◌, ◌/◌, ℕ, List, [], ◌∷◌, length, Option, None, Result, Ok, Err, map, ⊤}
 use Rattle.std.specs.List.{AllByRecursion, AllZip}
-use Rattle.iddqd_store.specs.Bag.{crowd}
+use Rattle.iddqd_store.specs.Bag.{Ranks, crowd, like}
+use Rattle.iddqd_store.specs.Map.{Map, IsBlockedAt}
 use Rattle.iddqd_store.specs.Rank.{IsUnder, IsVacantFor, SearchCosts, SlotUnder, walks_within}
+use Rattle.iddqd_store.specs.Slots.Found.{AreFound, each_once}
 use Rattle.iddqd_store.specs.Table.{Spot}
 
 module _ {T : Type 0} where
@@ -81,3 +83,13 @@ HaveRoom room spots = AllByRecursion (λ spot. room ≤ spot.cells / 8 * 7) spot
 abbrev pub slots_found : Result (List Spot) (List SlotUnder) → List (Option ℕ)
 slots_found (Ok spots) = map (λ _. None) spots
 slots_found (Err found) = map (λ at. at.slot) found
+
+-- Something conflicts with `x`, and searches by the hashes of its keys, one at each rank, found these slots, which are
+-- those of what does. No public clause cites it.
+-- Example: If `x` has the first key of the item in the slot 2, and no item has its second key, they found `Some 2`, `None`.
+pub record IsBlockedBy {T S : Type 0} (ranks : Ranks T) (hashes : List (T → ℕ)) (m : Map T S) (x : T)
+    (by : List SlotUnder) : Type 0 where
+  pub blocked : IsBlockedAt ranks m x (each_once (map (λ at. at.slot) by))
+  pub found : AreFound (like ranks x) m.slots (map (λ at. at.slot) by)
+  pub hashed : HaveHashes (hashes_of hashes x) by
+  pub under : AreUnder hashes m.slots by

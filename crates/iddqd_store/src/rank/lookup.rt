@@ -1,5 +1,5 @@
 //! Searches for an item by one rank.
-ghost use Rattle.std.specs.Prelude.{Contains, ◌≡◌, ◌*◌, ◌/◌, option_copied, IfErr, IfOk, IfSome};
+ghost use Rattle.std.specs.Prelude.{Contains, ◌≡◌, ◌*◌, ◌/◌, option_copied, IfErr, IfOk};
 ghost use Rattle.std.specs.Option.{option_and_then};
 ghost use Rattle.std.specs.Result.{result_ok};
 ghost use Rattle.iddqd_store.specs.Bag.{IsOnly};
@@ -74,9 +74,10 @@ impl<'a, T, R: KeyOf<T>, S: BuildHasher> Lookup<'a, T, R, S> {
             (hash_of S.BuildHasher S.Hasher.Hasher self.now.builder (Q.hash_input query)) result
             asked.old asked.new probed.old probed.new }
     {
-        match self.slot_of(query, asked, probed) {
-            Some(slot) => self.items.get(slot),
-            None => None,
+        let hash = self.hash_builder.hash_one(query);
+        match self.search(hash, query, asked, probed) {
+            Ok(slot) => self.items.get(slot),
+            Err(_) => None,
         }
     }
 
@@ -94,7 +95,7 @@ impl<'a, T, R: KeyOf<T>, S: BuildHasher> Lookup<'a, T, R, S> {
             asked.old asked.new probed.old probed.new }
     {
         let hash = self.hash_builder.hash_one(query);
-        self.slot(hash, query, asked, probed)
+        self.search(hash, query, asked, probed).ok()
     }
 
     /// Returns the item whose key the matcher accepts, or `None`. All keys that it accepts have to be equal, and to
@@ -120,29 +121,10 @@ impl<'a, T, R: KeyOf<T>, S: BuildHasher> Lookup<'a, T, R, S> {
         }
     }
 
-    /// Returns the slot of the item whose key the query stands for, or `None`. The hash has to be that of the query.
-    pub fn slot<Q: Query<R::Key>>(
-        &self,
-        hash: u64,
-        query: Q,
-        asked: &mut Meter,
-        probed: &mut Meter,
-    ) -> Option<ItemIndex>
-        requires { hash ≡ hash_of S.BuildHasher S.Hasher.Hasher self.now.builder (Q.hash_input query) }
-        ensures found { IsOnly (λ x. Q.stands_for query (R.key x)) (bag self.now)
-            (option_and_then (get self.now.slots) result) }
-        ensures live { IfSome result (IsLive self.now.slots) }
-        ensures hashed { IfSome result (λ slot. HasHash
-            (⟦<R as HashedKey<T, S>>⟧.hash self.now.builder) self.now.slots slot hash) }
-        ensures costs { SearchCosts (⟦<R as HashedKey<T, S>>⟧.hash self.now.builder) (bag self.now)
-            self.now.capacity hash result asked.old asked.new probed.old probed.new }
-    {
-        self.search(hash, query, asked, probed).ok()
-    }
-
     /// Returns the slot of the item whose key the query stands for. If there is none, it returns the empty cell for a
     /// pair with this hash, or `Vacancy::unknown` if the table has no cells. The hash has to be that of the query. One
-    /// meter counts the keys that the query is compared with, and the other the probed cells.
+    /// meter counts the keys that the query is compared with, and the other the probed cells. This call makes the matcher of
+    /// the query, so that clauses of its callers speak of queries alone.
     #[inline(always)]
     pub fn search<Q: Query<R::Key>>(
         &self,
@@ -195,6 +177,9 @@ impl<'a, T, R: KeyOf<T>, S: BuildHasher> Lookup<'a, T, R, S> {
             keys: matcher,
             rank: PhantomData,
         };
-        self.table.find_or_vacancy(hash, &mut keys, meter)
+        match self.table.find_cell(hash, &mut keys, meter) {
+            Ok(found) => Ok(found.0),
+            Err(at) => Err(at),
+        }
     }
 }

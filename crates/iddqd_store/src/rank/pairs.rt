@@ -6,10 +6,10 @@ ghost use Rattle.iddqd_store.specs.Rank.Index.{IsIndex};
 ghost use Rattle.iddqd_store.specs.Rank.{IsPaired, walks_one, walks_three, walks_two};
 ghost use Rattle.iddqd_store.specs.Slots.{live_count};
 ghost use Rattle.iddqd_store.specs.Table.Ring.{stretch};
-ghost use Rattle.iddqd_store.specs.Table.{hashes, ReplacesPair, ReplacesThree, ReplacesTwo};
+ghost use Rattle.iddqd_store.specs.Table.{hashes, IsFree, ReplacesPair, ReplacesThree, ReplacesTwo};
 
 use super::{HashedKey, KeyOf, SlotUnder};
-use crate::index_table::{IndexTable, Meter};
+use crate::index_table::{IndexTable, Meter, Vacancy};
 use crate::item_set::{ItemIndex, ItemSet};
 use std::hash::{BuildHasher, Hash};
 
@@ -101,6 +101,53 @@ impl IndexTable {
             return;
         }
         self.move_pair(before, hash, slot, meter);
+    }
+
+    /// Replaces the pair of the item that was in this slot by a pair of the same slot, at the empty cell at which a search
+    /// ended. It hashes the key of that item. If the hash is that of the search, it does nothing and probes no cell; only
+    /// that test is inlined into the caller. Else, if a further pair fits, the call probes the cells that a removal probes,
+    /// and otherwise those of a removal and an insert.
+    #[inline(always)]
+    pub fn rehash_at<T, R: KeyOf<T>, S: BuildHasher>(
+        &mut self,
+        hash_builder: &S,
+        gone: (ItemIndex, &T),
+        at: Vacancy,
+        meter: &mut Meter,
+    )
+        requires paired { Contains self.old.pairs (⟦<R as HashedKey<T, S>>⟧.hash hash_builder.now gone.1.now, gone.0) }
+        requires vacant { IsFree (hashes self.old.pairs) at }
+        ensures moved { ReplacesPair self.old.pairs self.new.pairs
+            (⟦<R as HashedKey<T, S>>⟧.hash hash_builder.now gone.entry.1.now, gone.entry.0) (at.hash, gone.entry.0) }
+        ensures limit { self.new.limit ≡ self.old.limit }
+        ensures stays { ⟦<R as HashedKey<T, S>>⟧.hash hash_builder.now gone.entry.1.now ≡ at.hash → self.new ≡ self.old }
+        ensures costs { meter.new ≤ meter.old + 2 * (length self.old.pairs + 1) }
+    {
+        let (slot, gone) = gone;
+        let before = hash_of_key::<T, R, S>(hash_builder, gone, None);
+        if before == at.hash() {
+            return;
+        }
+        self.move_pair_to(before, at, slot, meter);
+    }
+
+    // Replaces the pair of this slot and this hash by a pair of the same slot at the empty cell at which a search ended. The
+    // new pair comes first, since the removal of the old one may move the empty cell. If the table is full, or has another
+    // number of cells than at that search, it searches for an empty cell after the removal.
+    #[inline(never)]
+    fn move_pair_to(&mut self, before: u64, at: Vacancy, slot: ItemIndex, meter: &mut Meter)
+        requires there { Contains self.old.pairs (before, slot) }
+        requires vacant { IsFree (hashes self.old.pairs) at }
+        ensures moved { ReplacesPair self.old.pairs self.new.pairs (before, slot) (at.hash, slot) }
+        ensures limit { self.new.limit ≡ self.old.limit }
+        ensures costs { meter.new ≤ meter.old + 2 * (length self.old.pairs + 1) }
+    {
+        if at.cells() != self.cells() || self.len() == self.capacity() {
+            self.move_pair(before, at.hash(), slot, meter);
+            return;
+        }
+        self.insert_at(at, slot, meter);
+        self.remove(before, slot, meter);
     }
 
     // Replaces the pair of this slot and this hash by a pair of the same slot and another hash.

@@ -8,6 +8,7 @@ ghost use Rattle.iddqd_store.specs.Runs.Step.{ExtendsTo, state_of, empty_state};
 
 use super::TriHashMap;
 use super::slots::Refusal;
+use super::slots::found::each_once;
 use crate::error::FromIterError;
 use crate::item::Ranked;
 use iddqd_store::{DuplicateItem, ExtendUniqueError, MemoryRefused, Meter};
@@ -162,7 +163,8 @@ impl<T: Ranked + Drop, S: BuildHasher + Default + Drop> TriHashMap<T, S> {
         for item in items {
             match map.insert_or_refuse(item, &mut Meter::new(), &mut Meter::new()) {
                 Ok(()) => {}
-                Err(Refusal::Duplicate(item, found)) => {
+                Err(Refusal::Duplicate(item, by)) => {
+                    let found = each_once(by.0.slot(), by.1.slot(), by.2.slot());
                     let duplicates = map.take_all(&found);
                     return Err(FromIterError::Duplicate(DuplicateItem::new(item, duplicates)));
                 }

@@ -1,14 +1,14 @@
 //! Inserting an item that conflicts with no other.
-ghost use Rattle.std.specs.Prelude.{◌≡◌, ◌≢◌, ◌<◌, ◌⊎◌, [], length, map, IsOk, OnOk, OnErr, IfErr};
+ghost use Rattle.std.specs.Prelude.{◌≡◌, ◌≢◌, ◌<◌, ◌⊎◌, [], length, IsOk, OnOk, OnErr, IfErr};
 ghost use Rattle.std.specs.Borrow.{sem};
 ghost use Rattle.iddqd_store.specs.Bag.{clash};
 ghost use Rattle.iddqd_store.specs.Map.{bag, Gains, IsFullFor};
-ghost use Rattle.iddqd_store.specs.Rank.All.{PlacingCosts, hashes_of};
 
 use super::TriHashMap;
 use super::slots::Refusal;
+use super::slots::found::each_once;
 use crate::error::{InsertError, Rejected};
-use crate::item::{Hashed, Ranked};
+use crate::item::Ranked;
 use iddqd_store::{Meter, UpToThree};
 use std::hash::{BuildHasher, Hash};
 
@@ -47,11 +47,14 @@ impl<T: Ranked, S: BuildHasher> TriHashMap<T, S> {
     {
         match self.insert_or_refuse(item, &mut Meter::new(), &mut Meter::new()) {
             Ok(()) => Ok(()),
-            Err(Refusal::Duplicate(item, found)) => Err(InsertError {
-                map: self,
-                item,
-                found,
-            }),
+            Err(Refusal::Duplicate(item, by)) => {
+                let found = each_once(by.0.slot(), by.1.slot(), by.2.slot());
+                Err(InsertError {
+                    map: self,
+                    item,
+                    found,
+                })
+            }
             Err(Refusal::Memory(item)) => Err(InsertError {
                 map: self,
                 item,
@@ -84,54 +87,25 @@ impl<T: Ranked, S: BuildHasher> TriHashMap<T, S> {
         ensures unchanged { OnErr result (self.new ≡ self.old) }
         ensures reason { IfErr result (λ e. TellsWhy T.TriHashItem T.K1.eq T.K2.eq T.K3.eq self.old item e) }
     {
-        self.try_insert_by(item, &mut Meter::new(), &mut Meter::new())
-    }
-
-    /// Inserts as `try_insert` does, which calls it.
-    #[inline(always)]
-    fn try_insert_by(
-        &mut self,
-        item: T,
-        asked: &mut Meter,
-        probed: &mut Meter,
-    ) -> Result<(), Rejected<T>>
-        // The result is `Ok` only if nothing conflicts, and then always if there is spare capacity.
-        ensures gains { OnOk result (Gains self.old item self.new) }
-        ensures free { OnOk result (clash T.ranks (bag self.old) item ≡ []) }
-        ensures granted { clash T.ranks (bag self.old) item ≡ []
-            → length (bag self.old) < self.old.capacity → IsOk result }
-        // The error has the item and says which keys are taken. In a full map it may say that none is. The map is as it
-        // was.
-        ensures handed_back { IfErr result (λ e. e.item ≡ item) }
-        ensures unchanged { OnErr result (self.new ≡ self.old) }
-        ensures reason { IfErr result (λ e. TellsWhy T.TriHashItem T.K1.eq T.K2.eq T.K3.eq self.old item e) }
-        ensures costs { PlacingCosts (⟦<T as Hashed<S>>⟧.hashes self.old.builder) (bag self.old) self.old.capacity
-            (hashes_of (⟦<T as Hashed<S>>⟧.hashes self.old.builder) item) (map (λ _. 1) T.ranks)
-            asked.old asked.new probed.old probed.new }
-    {
-        let at = match self.places(&item, asked, probed) {
-            Ok(at) => at,
-            Err((by1, by2, by3)) => {
-                let taken1 = by1.slot().is_some();
-                let taken2 = by2.slot().is_some();
-                let taken3 = by3.slot().is_some();
-                return Err(Rejected {
+        match self.insert_or_refuse(item, &mut Meter::new(), &mut Meter::new()) {
+            Ok(()) => Ok(()),
+            Err(Refusal::Duplicate(item, by)) => {
+                let taken1 = by.0.slot().is_some();
+                let taken2 = by.1.slot().is_some();
+                let taken3 = by.2.slot().is_some();
+                Err(Rejected {
                     item,
                     taken1,
                     taken2,
                     taken3,
-                });
+                })
             }
-        };
-        if let Err(_) = self.make_room(1) {
-            return Err(Rejected {
+            Err(Refusal::Memory(item)) => Err(Rejected {
                 item,
                 taken1: false,
                 taken2: false,
                 taken3: false,
-            });
+            }),
         }
-        self.insert_at(item, at, probed);
-        Ok(())
     }
 }

@@ -5,6 +5,7 @@ ghost use Rattle.iddqd_store.specs.Map.{bag, IsFullFor, Overwrites};
 ghost use Rattle.iddqd_store.specs.Rank.All.{PlacingCosts, hashes_of};
 
 use super::TriHashMap;
+use super::slots::Refusal;
 use crate::item::{Hashed, Ranked};
 use iddqd_store::{MemoryRefused, Meter, UpToThree};
 use std::hash::{BuildHasher, Hash};
@@ -57,18 +58,13 @@ impl<T: Ranked, S: BuildHasher> TriHashMap<T, S> {
     {
         // Of the calls below, `put_over` and the growth of a full map are not inlined. The rest is inlined, so a
         // caller's loop branches on the outcome where it arises, and writes no list of removed items if there are none.
-        match self.places(&item, asked, probed) {
-            Ok(at) => {
-                if let Err(_) = self.make_room(1) {
-                    return Err(MemoryRefused { value: item });
-                }
-                self.insert_at(item, at, probed);
-                Ok(UpToThree::new())
-            }
-            Err(by) => {
+        match self.insert_or_refuse(item, asked, probed) {
+            Ok(()) => Ok(UpToThree::new()),
+            Err(Refusal::Duplicate(item, by)) => {
                 let (displaced, _) = self.put_over(item, &by, probed);
                 Ok(displaced)
             }
+            Err(Refusal::Memory(value)) => Err(MemoryRefused { value }),
         }
     }
 }

@@ -11,6 +11,7 @@ ghost use Rattle.iddqd_store.specs.Runs.Values.{value_of};
 
 use super::TriHashMap;
 use super::slots::Refusal;
+use super::slots::found::each_once;
 use crate::command::{TriCommand, TriReply, TriSink};
 use crate::item::{Ranked, TriHashItemMut};
 use iddqd_store::{DuplicateItem, ItemIndex, MemoryRefused, Meter, UpToThree};
@@ -139,7 +140,10 @@ where
     {
         match self.insert_or_refuse(item, &mut Meter::new(), &mut Meter::new()) {
             Ok(()) => self.tell(TriReply::Done, sink),
-            Err(Refusal::Duplicate(item, found)) => self.tell_duplicate(item, &found, sink),
+            Err(Refusal::Duplicate(item, by)) => {
+                let found = each_once(by.0.slot(), by.1.slot(), by.2.slot());
+                self.tell_duplicate(item, &found, sink)
+            }
             Err(Refusal::Memory(item)) => self.tell(TriReply::Memory(item), sink),
         }
     }

@@ -85,7 +85,9 @@ impl<T: BiHashItem, S: BuildHasher> BiHashMap<T, S> {
         ensures costs { UniqueCosts (⟦<T as Hashed<S>>⟧.hash1 self.now.builder) (bag self.now) self.now.capacity
             hash 1 asked.old asked.new probed.old probed.new }
     {
-        let slot = self.by_key1().slot(hash, query1, asked, probed)?;
+        let Ok(slot) = self.by_key1().search(hash, query1, asked, probed) else {
+            return None;
+        };
         let item = self.items.get(slot)?;
         if has_others(item, query2, asked) {
             Some(slot)

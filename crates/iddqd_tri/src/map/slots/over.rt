@@ -2,7 +2,7 @@
 ghost use Rattle.std.specs.Prelude.{◌≡◌, ◌≢◌, ◌+◌, ◌≤◌, [], ◌∷◌, length, map, None, Some, IfOk, IfErr, OnOk, OnErr, slice_set};
 ghost use Rattle.iddqd_store.specs.Bag.{clash, order, over};
 ghost use Rattle.iddqd_store.specs.Map.{bag, ListsConflicts, PutsAt};
-ghost use Rattle.iddqd_store.specs.Rank.All.{AreUnder, HaveHashes, PlacingCosts, hashes_of};
+ghost use Rattle.iddqd_store.specs.Rank.All.{ArePlacesOf, AreUnder, HaveHashes, PlacingCosts, hashes_of};
 ghost use Rattle.iddqd_store.specs.Rank.{walks_one, walks_within, walks_two};
 ghost use Rattle.iddqd_store.specs.Slots.{get, contents, IsLive};
 ghost use Rattle.iddqd_store.specs.Slots.Found.{each_once};
@@ -13,7 +13,7 @@ use super::super::TriHashMap;
 use super::found::each_once;
 use crate::item::{Hashed, Ranked, TriHashItem};
 use crate::ranks::{First, Second, Third};
-use iddqd_store::{ItemIndex, Meter, SlotUnder, UpToThree};
+use iddqd_store::{ItemIndex, Meter, SlotUnder, UpToThree, Vacancy};
 use std::hash::{BuildHasher, Hash};
 
 impl<T: TriHashItem, S: BuildHasher> TriHashMap<T, S> {
@@ -92,14 +92,7 @@ impl<T: TriHashItem, S: BuildHasher> TriHashMap<T, S> {
             asked.old asked.new probed.old probed.new }
     {
         let by = match self.places(&item, asked, probed) {
-            Ok(at) => {
-                let by = (
-                    SlotUnder::new(None, at.0.hash()),
-                    SlotUnder::new(None, at.1.hash()),
-                    SlotUnder::new(None, at.2.hash()),
-                );
-                return Ok(self.exchange(slot, item, &by, probed));
-            }
+            Ok(at) => return Ok(self.exchange_at(slot, item, at, probed)),
             Err(by) => by,
         };
         let mut found = each_once(by.0.slot(), by.1.slot(), by.2.slot());
@@ -113,6 +106,40 @@ impl<T: TriHashItem, S: BuildHasher> TriHashMap<T, S> {
             Some(_) => Err(item),
             None => Ok(self.exchange(slot, item, &by, probed)),
         }
+    }
+
+    /// Puts an item with which nothing conflicts into the slot of another, and returns the latter. If both have the
+    /// same hash at a rank, the pair in its table stays, and no cell of it is probed. Otherwise the new pair goes to
+    /// the place that was found for it, and the call walks through the table once, or twice if no further pair fits
+    /// into it.
+    fn exchange_at(
+        &mut self,
+        slot: ItemIndex,
+        item: T,
+        at: (Vacancy, Vacancy, Vacancy),
+        meter: &mut Meter,
+    ) -> T
+        requires live { IsLive self.old.slots slot }
+        requires free { clash ⟦<T as Ranked>⟧.ranks (contents (slice_set self.old.slots slot None)) item ≡ [] }
+        requires places { ArePlacesOf
+            (⟦<T as Hashed<S>>⟧.hashes self.old.builder) (bag self.old) item (at.0 ∷ at.1 ∷ at.2 ∷ []) }
+        ensures value { get self.old.slots slot ≡ Some result }
+        ensures puts_at { PutsAt ⟦<T as Ranked>⟧.ranks self.old slot item
+            (item ∷ contents (slice_set self.old.slots slot None)) self.new }
+        ensures costs { meter.new ≤ meter.old + walks_within (length (bag self.old)) (map
+            (λ _. 2) ⟦<T as Ranked>⟧.ranks) }
+    {
+        // This call gives the prover the fact that the items fit, for the clause `fits`.
+        let _ = self.room();
+        let (at1, at2, at3) = at;
+        let gone = self.items.replace(slot, item);
+        self.first
+            .rehash_at::<T, First, S>(&self.hash_builder, (slot, &gone), at1, meter);
+        self.second
+            .rehash_at::<T, Second, S>(&self.hash_builder, (slot, &gone), at2, meter);
+        self.third
+            .rehash_at::<T, Third, S>(&self.hash_builder, (slot, &gone), at3, meter);
+        gone
     }
 
     /// Puts an item into the slot of another, and returns the latter. If both have the same hash at a rank, the pair in

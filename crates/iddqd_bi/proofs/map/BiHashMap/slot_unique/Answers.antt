@@ -1,18 +1,16 @@
 use Rattle.std.proofs.Common.{arith, sym, ap, ◌∙◌, [], ◌∷◌}
-use Rattle.std.specs.Option.{option_to_list, option_and_then}
 use Rattle.iddqd_store.specs.Slots.{get}
 use Rattle.iddqd_store.specs.Map.{Map, bag}
 use Rattle.iddqd_store.proofs.BagLemmas.Unique.{all_of-none, all_of-kept, all_of-lost}
 use Rattle.iddqd_store.proofs.RankLemmas.Costs.{SearchCosts-room}
 use Rattle.iddqd_bi.proofs.map.BiHashMap.slot_unique.Goals as goal
 
-pub returns-in_err-slot-clause-found : goal.returns-in_err-slot-clause-found
-returns-in_err-slot-clause-found g c =
+pub returns-in_default-clause-found : goal.returns-in_default-clause-found
+returns-in_default-clause-found g c =
     let slots = c.by_key1.ensures.slots in
     let test1 = λ (x : g.row.T.Denot). g.Q1.Query.stands_for c.args.query1 (g.T.BiHashItem.key1 x) in
     let test2 = λ (x : g.row.T.Denot). g.Q2.Query.stands_for c.args.query2 (g.T.BiHashItem.key2 x) in
-    ap (λ o. option_to_list (option_and_then (get c.args.self.now.slots) o)) c.from_residual.ensures
-    ∙ all_of-none test1 (test2 ∷ []) (bag c.args.self.now) (rw slots at c.in_err-slot.ensures.found)
+    all_of-none test1 (test2 ∷ []) (bag c.args.self.now) (rw slots at c.in_default.ensures.found.only)
 
 pub returns-then-has_others-clause-found : goal.returns-then-has_others-clause-found
 returns-then-has_others-clause-found g c =
@@ -20,7 +18,7 @@ returns-then-has_others-clause-found g c =
     let test1 = λ (x : g.row.T.Denot). g.Q1.Query.stands_for c.args.query1 (g.T.BiHashItem.key1 x) in
     let test2 = λ (x : g.row.T.Denot). g.Q2.Query.stands_for c.args.query2 (g.T.BiHashItem.key2 x) in
     all_of-kept test1 (test2 ∷ []) (bag c.args.self.now) _ c.in_ok-item.item.now
-    (sym (c.in_ok-item.ensures ∙ ap (λ (m : Map g.row.T.Denot g.row.S.Denot). get m.slots c.in_ok-slot.slot) c.self.view_is)) (rw slots at c.in_ok-slot.ensures.found)
+    (sym (c.in_ok-item.ensures ∙ ap (λ (m : Map g.row.T.Denot g.row.S.Denot). get m.slots c.in-Ok.slot) c.self.view_is)) (rw slots at c.in-Ok.ensures.found.only)
     (sym c.has_others.ensures.value ∙ c.if-has_others.true)
 
 pub returns-else-has_others-clause-found : goal.returns-else-has_others-clause-found
@@ -29,25 +27,25 @@ returns-else-has_others-clause-found g c =
     let test1 = λ (x : g.row.T.Denot). g.Q1.Query.stands_for c.args.query1 (g.T.BiHashItem.key1 x) in
     let test2 = λ (x : g.row.T.Denot). g.Q2.Query.stands_for c.args.query2 (g.T.BiHashItem.key2 x) in
     all_of-lost test1 (test2 ∷ []) (bag c.args.self.now) _ c.in_ok-item.item.now
-    (sym (c.in_ok-item.ensures ∙ ap (λ (m : Map g.row.T.Denot g.row.S.Denot). get m.slots c.in_ok-slot.slot) c.self.view_is)) (rw slots at c.in_ok-slot.ensures.found)
+    (sym (c.in_ok-item.ensures ∙ ap (λ (m : Map g.row.T.Denot g.row.S.Denot). get m.slots c.in-Ok.slot) c.self.view_is)) (rw slots at c.in-Ok.ensures.found.only)
     (sym c.has_others.ensures.value ∙ c.if-has_others.false)
 
-pub returns-in_err-slot-clause-costs : goal.returns-in_err-slot-clause-costs
-returns-in_err-slot-clause-costs g c =
-    let first = rw (c.by_key1.ensures.slots, c.by_key1.ensures.builder) at (SearchCosts-room c.args.self.now.capacity c.by_key1.ensures.room c.slot.ensures.costs) in
-    record { answer = _; between = c.slot.new.asked; search = first; rest = omega (arith) }
+pub returns-in_default-clause-costs : goal.returns-in_default-clause-costs
+returns-in_default-clause-costs g c =
+    let first = rw (c.by_key1.ensures.slots, c.by_key1.ensures.builder) at (SearchCosts-room c.args.self.now.capacity c.by_key1.ensures.room c.search.ensures.costs) in
+    record { answer = _; between = c.search.new.asked; search = first; rest = omega (arith) }
 
 pub returns-in_err-item-clause-costs : goal.returns-in_err-item-clause-costs
 returns-in_err-item-clause-costs g c =
-    let first = rw (c.by_key1.ensures.slots, c.by_key1.ensures.builder) at (SearchCosts-room c.args.self.now.capacity c.by_key1.ensures.room c.slot.ensures.costs) in
-    record { answer = _; between = c.slot.new.asked; search = first; rest = omega (arith) }
+    let first = rw (c.by_key1.ensures.slots, c.by_key1.ensures.builder) at (SearchCosts-room c.args.self.now.capacity c.by_key1.ensures.room c.search.ensures.costs) in
+    record { answer = _; between = c.search.new.asked; search = first; rest = omega (arith) }
 
 pub returns-then-has_others-clause-costs : goal.returns-then-has_others-clause-costs
 returns-then-has_others-clause-costs g c =
-    let first = rw (c.by_key1.ensures.slots, c.by_key1.ensures.builder) at (SearchCosts-room c.args.self.now.capacity c.by_key1.ensures.room c.slot.ensures.costs) in
-    record { answer = _; between = c.slot.new.asked; search = first; rest = omega (arith, c.has_others.ensures.costs) }
+    let first = rw (c.by_key1.ensures.slots, c.by_key1.ensures.builder) at (SearchCosts-room c.args.self.now.capacity c.by_key1.ensures.room c.search.ensures.costs) in
+    record { answer = _; between = c.search.new.asked; search = first; rest = omega (arith, c.has_others.ensures.costs) }
 
 pub returns-else-has_others-clause-costs : goal.returns-else-has_others-clause-costs
 returns-else-has_others-clause-costs g c =
-    let first = rw (c.by_key1.ensures.slots, c.by_key1.ensures.builder) at (SearchCosts-room c.args.self.now.capacity c.by_key1.ensures.room c.slot.ensures.costs) in
-    record { answer = _; between = c.slot.new.asked; search = first; rest = omega (arith, c.has_others.ensures.costs) }
+    let first = rw (c.by_key1.ensures.slots, c.by_key1.ensures.builder) at (SearchCosts-room c.args.self.now.capacity c.by_key1.ensures.room c.search.ensures.costs) in
+    record { answer = _; between = c.search.new.asked; search = first; rest = omega (arith, c.has_others.ensures.costs) }

@@ -1,20 +1,6 @@
-use Rattle.std.proofs.Common.{ℕ, ◌≡◌, List, Contains, ◌∷◌, sym, subst}
-use Rattle.std.proofs.lemmas.List.Sorted.{IsPermutation-remove}
-use Rattle.std.specs.List.Sorted.{IsPermutation}
-use Rattle.std.specs.List.{remove}
-use Rattle.iddqd_store.specs.Table.{ReplacesPair}
 use Rattle.iddqd_store.proofs.RankLemmas.Walks.{one_moves}
+use Rattle.iddqd_store.proofs.TableLemmas.Moved.{stays}
 use Rattle.iddqd_store.proofs.index_table.IndexTable.rehash.Goals as goal
-
--- a pair that stays
-stays : (pairs : List (ℕ × ℕ)) (h k index : ℕ) → Contains pairs (h, index) → h ≡ k → ReplacesPair pairs pairs (h, index) (k, index)
-stays pairs h k index there same =
-    let out : IsPermutation pairs ((h, index) ∷ remove pairs there.0) = IsPermutation-remove pairs there.0 (h, index) there.1 (sym there.2) in
-    record {
-      others = remove pairs there.0;
-      had = out;
-      has = subst (λ (m : ℕ). IsPermutation pairs ((m, index) ∷ remove pairs there.0)) same out;
-    }
 
 pub returns-then-before-hash-clause-moved : goal.returns-then-before-hash-clause-moved
 returns-then-before-hash-clause-moved g c =

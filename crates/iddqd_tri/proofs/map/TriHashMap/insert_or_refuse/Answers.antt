@@ -2,6 +2,11 @@ use Rattle.std.proofs.Common.{arith}
 use Rattle.iddqd_store.proofs.RankLemmas.Searched.{placing}
 use Rattle.iddqd_tri.proofs.map.TriHashMap.insert_or_refuse.Goals as goal
 
+pub returns-in-Err-clause-reason : goal.returns-in-Err-clause-reason
+returns-in-Err-clause-reason g c =
+    let searched = c.in-Err.ensures in
+    record { blocked = searched.blocked; found = searched.found; hashed = searched.hashes; under = searched.under }
+
 pub returns-in-Err-clause-costs : goal.returns-in-Err-clause-costs
 returns-in-Err-clause-costs g c = placing _ _ _ _ _ _ _ _ _ _ _ c.places.ensures.costs (omega arith)
 

@@ -10,8 +10,8 @@ use Rattle.std.proofs.lemmas.Grind.{common_steps}
 use Rattle.iddqd_tri.specs.Keys.{ranks}
 use Rattle.iddqd_tri.proofs.map.TriHashMap.rekey_at.Goals as goal
 
-pub exchange-requires-clause-free : goal.exchange-requires-clause-free
-exchange-requires-clause-free g c =
+pub exchange_at-requires-clause-free : goal.exchange_at-requires-clause-free
+exchange_at-requires-clause-free g c =
     let by = ranks g.T.TriHashItem g.T.K1.PartialEq.eq g.T.K2.PartialEq.eq g.T.K3.PartialEq.eq in
     free_slot by c.args.self.now.slots c.args.slot c.args.item c.requires c.in-Ok.ensures.free
 
@@ -31,8 +31,8 @@ returns-then-ne-clause-reason g c =
     let apart : c.in-Some.other ≢ c.args.slot = λ same. search rules in
     another_found by slots c.args.item c.args.slot c.each_once-found.result stand c.in-Some.other c.pop_front.new.self c.in-Some.ensures.rest apart
 
-pub exchange-requires-in-None-clause-free : goal.exchange-requires-in-None-clause-free
-exchange-requires-in-None-clause-free g c =
+pub exchange-requires-clause-free : goal.exchange-requires-clause-free
+exchange-requires-clause-free g c =
     let stand = stand_in (rw (c.slot.ensures, c.slot-2.ensures, c.slot-3.ensures) at c.each_once-found.ensures) c.in-Err.ensures.blocked.found in
     let by = ranks g.T.TriHashItem g.T.K1.PartialEq.eq g.T.K2.PartialEq.eq g.T.K3.PartialEq.eq in
     let slots = c.args.self.now.slots in
@@ -53,7 +53,7 @@ returns-in-Some-pop_front-clause-reason g c =
 
 pub returns-in-Ok-clause-costs : goal.returns-in-Ok-clause-costs
 returns-in-Ok-clause-costs g c =
-    let rest : c.exchange.new.meter ≤ c.places.new.probed + walks_within (length (bag c.args.self.now)) (2 ∷ 2 ∷ 2 ∷ []) = grind (arith, common_steps) in
+    let rest : c.exchange_at.new.meter ≤ c.places.new.probed + walks_within (length (bag c.args.self.now)) (2 ∷ 2 ∷ 2 ∷ []) = grind (arith, common_steps) in
     placing _ _ _ _ _ _ _ _ _ _ _ c.places.ensures.costs rest
 
 pub returns-then-ne-clause-costs : goal.returns-then-ne-clause-costs
@@ -64,5 +64,5 @@ returns-in-Some-pop_front-clause-costs g c = placing _ _ _ _ _ _ _ _ _ _ _ c.pla
 
 pub returns-in-None-clause-costs : goal.returns-in-None-clause-costs
 returns-in-None-clause-costs g c =
-    let rest : c.exchange-in-None.new.meter ≤ c.places.new.probed + walks_within (length (bag c.args.self.now)) (2 ∷ 2 ∷ 2 ∷ []) = grind (arith, common_steps) in
+    let rest : c.exchange.new.meter ≤ c.places.new.probed + walks_within (length (bag c.args.self.now)) (2 ∷ 2 ∷ 2 ∷ []) = grind (arith, common_steps) in
     placing _ _ _ _ _ _ _ _ _ _ _ c.places.ensures.costs rest

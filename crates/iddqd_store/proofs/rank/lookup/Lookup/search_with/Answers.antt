@@ -1,29 +1,41 @@
 use Rattle.std.proofs.Common.{rules}
 use borrow.Author.Rules.{lives}
+use Rattle.std.specs.Prelude.{Err}
 use Rattle.iddqd_store.proofs.RankLemmas.Index.{hash_at}
 use Rattle.iddqd_store.proofs.SlotLemmas.Contents.{content_at}
-use Rattle.iddqd_store.proofs.RankLemmas.Costs.{searches, costs, hash_found, vacant_found, cells_found}
+use Rattle.iddqd_store.proofs.RankLemmas.Costs.{searches, costs, vacant_found, cells_found}
 use Rattle.iddqd_store.proofs.rank.lookup.Lookup.search_with.Goals as goal
 
-pub returns-clause-found : goal.returns-clause-found
-returns-clause-found g c =
-    rw (← c.self.view_is) (searches _ c.self.invariant _ c.args.hash _ (rw (← c.self.view_is) at c.requires.names) c.find_or_vacancy.ensures.found)
+pub returns-in-Ok-clause-found : goal.returns-in-Ok-clause-found
+returns-in-Ok-clause-found g c =
+    rw (← c.self.view_is) (searches _ c.self.invariant _ c.args.hash _ (rw (← c.self.view_is) at c.requires.names) c.in-Ok.ensures.found)
 
-pub returns-clause-costs : goal.returns-clause-costs
-returns-clause-costs g c =
-    let table = c.find_or_vacancy.ensures in
-    rw (← c.self.view_is) (costs _ c.self.invariant c.args.hash _ _ _ _ _ table.sized (record { asked = search (rules, lives, table.costs.asked); probes = table.costs.probes; within = table.costs.within }))
+pub returns-in-Err-clause-found : goal.returns-in-Err-clause-found
+returns-in-Err-clause-found g c =
+    rw (← c.self.view_is) (searches _ c.self.invariant _ c.args.hash _ (rw (← c.self.view_is) at c.requires.names) c.in-Err.ensures.found)
 
-pub returns-clause-hashed : goal.returns-clause-hashed
-returns-clause-hashed g c = rw (← c.self.view_is) (hash_found _ c.self.invariant c.args.hash c.find_or_vacancy.result c.find_or_vacancy.ensures.found)
+pub returns-in-Ok-clause-costs : goal.returns-in-Ok-clause-costs
+returns-in-Ok-clause-costs g c =
+    let table = c.in-Ok.ensures in
+    let own = table.costs.probes in
+    rw (← c.self.view_is) (costs _ c.self.invariant c.args.hash _ _ _ _ _ table.sized (record { asked = search (rules, lives, table.costs.asked); probes = record { no_cells = own.no_cells; miss = own.miss; hit_least = own.hit_least; hit_most = own.hit_most }; within = table.costs.within }))
 
-pub returns-clause-vacant : goal.returns-clause-vacant
-returns-clause-vacant g c = rw (← c.self.view_is) (vacant_found _ c.self.invariant c.args.hash c.find_or_vacancy.result c.find_or_vacancy.ensures.sized c.find_or_vacancy.ensures.vacant)
+pub returns-in-Err-clause-costs : goal.returns-in-Err-clause-costs
+returns-in-Err-clause-costs g c =
+    let table = c.in-Err.ensures in
+    let own = table.costs.probes in
+    rw (← c.self.view_is) (costs _ c.self.invariant c.args.hash _ _ _ _ _ table.sized (record { asked = search (rules, lives, table.costs.asked); probes = record { no_cells = own.no_cells; miss = own.miss; hit_least = own.hit_least; hit_most = own.hit_most }; within = table.costs.within }))
 
-pub returns-clause-cells : goal.returns-clause-cells
-returns-clause-cells g c = rw (← c.self.view_is) (cells_found _ c.self.invariant c.args.hash c.find_or_vacancy.result c.find_or_vacancy.ensures.sized c.find_or_vacancy.ensures.vacant)
+pub returns-in-Ok-clause-hashed : goal.returns-in-Ok-clause-hashed
+returns-in-Ok-clause-hashed g c = rw (← c.self.view_is) (λ x stands. hash_at c.in-Ok.found.0 c.args.hash x c.self.invariant.index c.in-Ok.ensures.found.found stands)
 
-pub find_or_vacancy-requires : goal.find_or_vacancy-requires
-find_or_vacancy-requires g c = λ slot there x here.
+pub returns-in-Err-clause-vacant : goal.returns-in-Err-clause-vacant
+returns-in-Err-clause-vacant g c = rw (← c.self.view_is) (vacant_found _ c.self.invariant c.args.hash (Err c.in-Err.at) c.in-Err.ensures.sized c.in-Err.ensures.vacant)
+
+pub returns-in-Err-clause-cells : goal.returns-in-Err-clause-cells
+returns-in-Err-clause-cells g c = rw (← c.self.view_is) (cells_found _ c.self.invariant c.args.hash (Err c.in-Err.at) c.in-Err.ensures.sized c.in-Err.ensures.vacant)
+
+pub find_cell-requires : goal.find_cell-requires
+find_cell-requires g c = λ slot there x here.
     let asks = rw (← c.self.view_is) at c.requires.asks in
     asks x (content_at _ slot x here) (hash_at slot c.args.hash x c.self.invariant.index there here)
