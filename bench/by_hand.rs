@@ -332,6 +332,10 @@ impl<const N: usize> Map<N> for ByHand<N> {
     }
 
     fn retain(&mut self, mut keep: impl FnMut(&Row<N>) -> bool) {
+        self.retain_mut(|row| keep(row));
+    }
+
+    fn retain_mut(&mut self, mut keep: impl FnMut(&mut Row<N>) -> bool) {
         for (slot, place) in self.slab.iter_mut().enumerate() {
             if let Some(row) = place.take_if(|row| !keep(row)) {
                 for (table, key) in self.tables.iter_mut().zip(row.keys) {

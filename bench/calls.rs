@@ -28,6 +28,7 @@ pub trait Map<const N: usize>: Clone + PartialEq {
     fn iter_mut(&mut self) -> impl ExactSizeIterator<Item = impl DerefMut<Target = Row<N>>>;
     fn into_rows(self) -> impl Iterator<Item = Row<N>>;
     fn retain(&mut self, keep: impl FnMut(&Row<N>) -> bool);
+    fn retain_mut(&mut self, keep: impl FnMut(&mut Row<N>) -> bool);
     fn clear(&mut self);
     fn shrink(&mut self);
     fn reserve(&mut self, more: usize);

@@ -131,6 +131,10 @@ macro_rules! map {
                 $map::retain(self, |row| keep(&row));
             }
 
+            fn retain_mut(&mut self, mut keep: impl FnMut(&mut Row<$keys>) -> bool) {
+                $map::retain(self, |mut row| keep(&mut row));
+            }
+
             fn clear(&mut self) {
                 $map::clear(self);
             }

@@ -279,6 +279,15 @@ pub fn retain_most<const N: usize, M: Map<N>>(load: &Workload<N>, whole: bool) -
     })
 }
 
+pub fn retain_mut<const N: usize, M: Map<N>>(load: &Workload<N>, whole: bool) -> u64 {
+    each_changed(load, whole, |map: &mut M| {
+        map.retain_mut(|row| {
+            row.value = row.value.wrapping_add(1);
+            row.keys[0] % 2 == 0
+        });
+    })
+}
+
 /// Takes items out of copies of a map of each part of the rows. Sums their first keys, and how many items each copy then has.
 fn each_emptied<const N: usize, M: Map<N>>(
     load: &Workload<N>,

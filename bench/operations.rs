@@ -143,6 +143,8 @@ operations! {
     All "update_all": repeated, update_all, bi_update_all, tri_update_all;
     All "retain half": copied, retain, bi_retain, tri_retain;
     All "retain, 1 in 64 goes": copied, retain_most, bi_retain_most, tri_retain_most;
+    All "retain_mut, half": copied, retain_mut, bi_retain_mut, tri_retain_mut;
+    All "pop, all": copied, pop_all, bi_pop_each, tri_pop_each;
     All "pop_from, all": copied, pop_all, bi_pop_all, tri_pop_all;
     All "extract_from, half": copied, extract_half, bi_extract_half, tri_extract_half;
     All "clone": repeated, clone, bi_clone, tri_clone;

@@ -65,3 +65,17 @@ pub fn take_all(alloc: Global, tasks: &mut BiHashMap<Task>) -> Result<Vec<Task>,
     }
     Ok(all)
 }
+
+/// Removes all tasks, and returns the latest time at which one of them was due, or 0 if there was none.
+pub fn take_latest(tasks: &mut BiHashMap<Task>) -> u64 {
+    let mut latest = 0;
+    let mut at = Cursor::new();
+    // The head of the loop names a bound, so it is plain that the loop ends.
+    for _ in 0..tasks.len() {
+        let Some(task) = tasks.pop_from(&mut at) else {
+            break;
+        };
+        latest = latest.max(task.due);
+    }
+    latest
+}

@@ -33,7 +33,7 @@ pub use builder::{Order, OwnHash, OwnHasher, no_orders};
 pub use clone::{Rate, backup};
 pub use desks::{Desk, move_to};
 pub use entry::{NotNoted, Visit, note_visit, take_visits};
-pub use extract::{Task, take_all, take_due};
+pub use extract::{Task, take_all, take_due, take_latest};
 pub use gauges::{Gauge, halve};
 pub use groups::{Team, join, open, open_for};
 pub use health::{Hall, Health, Machine, change_health, note_fault};

@@ -105,6 +105,7 @@ fn changed<S: Builder>(
 ) -> Option<Answer> {
     match call {
         "retain" => Some(retain(map)),
+        "retain_mut" => Some(retain_mut(map)),
         "update_all" => Some(update_all(map)),
         "clone" => Some(copied(map)),
         "clone.shrink_to_fit" => Some(copied_and_shrunk(map, gauge)),
@@ -190,6 +191,20 @@ fn retain<S: BuildHasher>(map: &mut BiHashMap<Item, S>) -> Answer {
     map.retain(|item| {
         asked = asked.wrapping_add(1);
         item.key1.number() % 2 == 1
+    });
+    Answer::said("asked").at(asked)
+}
+
+/// Keeps the items whose first key is odd, and adds one to their values. The answer has how often the closure was called.
+fn retain_mut<S: BuildHasher>(map: &mut BiHashMap<Item, S>) -> Answer {
+    let mut asked: usize = 0;
+    map.retain_mut(|item| {
+        asked = asked.wrapping_add(1);
+        if item.key1.number() % 2 == 1 {
+            Some(more(item))
+        } else {
+            None
+        }
     });
     Answer::said("asked").at(asked)
 }

@@ -5,6 +5,7 @@ pub mod Contents
 pub mod Entered
 pub mod Entries
 pub mod Found
+pub mod FreeBefore
 pub mod Here
 pub mod Kept
 pub mod Next

@@ -42,6 +42,8 @@ pub struct ItemSet<T> {
     live: usize,
     // The first free slot, or `slots.len()` if there is none.
     head: usize,
+    // No slot before this one is live. Only `first_live` raises it.
+    first: usize,
 }
 
 #[derive(Drop)]
@@ -59,11 +61,11 @@ impl<T> Model for ItemSet<T> {
 
     ghost coded = { slots_code T.code };
 
-    ghost use Rattle.iddqd_store.specs.Slots.Chain.{item_of, IsChained};
+    ghost use Rattle.iddqd_store.specs.Slots.Chain.{item_of, IsChained, IsFreeBefore};
 
     ghost view = { λ s. record { slots = map item_of s.slots.items; capacity = vec_capacity s.slots } };
 
-    ghost invariant = { λ s. IsChained s.slots.items s.live s.head };
+    ghost invariant = { λ s. IsChained s.slots.items s.live s.head × IsFreeBefore s.slots.items s.first };
 }
 
 impl<T> Slot<T> {
@@ -109,6 +111,7 @@ impl<T> ItemSet<T> {
             slots: Vec::new(alloc),
             live: 0,
             head: 0,
+            first: 0,
         }
     }
 
@@ -123,6 +126,7 @@ impl<T> ItemSet<T> {
             slots: Vec::with_capacity(alloc, items)?,
             live: 0,
             head: 0,
+            first: 0,
         })
     }
 
@@ -223,6 +227,22 @@ impl<T> ItemSet<T> {
         None
     }
 
+    /// Returns the first live slot, or `None` if there is none.
+    ///
+    /// It begins where the last such call ended, or at a lower slot that an insert has used since, and visits each slot
+    /// from there up to the live one. So if the items are removed one after the other, each slot is visited twice.
+    pub fn first_live(&mut self) -> Option<ItemIndex>
+        ensures next { NextLive self.old.slots 0 result }
+        ensures unchanged { self.new ≡ self.old }
+    {
+        let found = self.next_live(self.first);
+        self.first = match found {
+            Some(slot) => slot.number(),
+            None => self.slots.len(),
+        };
+        found
+    }
+
     /// Counts the live slots from this number on. It visits each slot from there.
     pub fn count_from(&self, from: usize) -> usize
         ensures { result ≡ length (contents (drop from self.now.slots)) }
@@ -278,6 +298,7 @@ impl<T> ItemSet<T> {
             Slot::Free(next) => self.head = next,
             Slot::Live(_) => unreachable!(),
         }
+        self.first = self.first.min(slot);
         ItemIndex::new(slot)
     }
 
@@ -338,5 +359,6 @@ impl<T> ItemSet<T> {
         self.slots.clear();
         self.live = 0;
         self.head = 0;
+        self.first = 0;
     }
 }

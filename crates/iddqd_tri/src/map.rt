@@ -22,6 +22,7 @@ mod pop;
 mod rekey;
 mod remove;
 mod retain;
+mod retain_mut;
 mod run;
 mod shrink;
 pub(crate) mod slots;

@@ -1,6 +1,7 @@
 //! What a caller can prove of a map after updates by closures.
-ghost use Rattle.std.specs.Prelude.{◌≡◌, ◌==◌, ◌<◌, ◌+◌, ◌^◌, true, false, map, Some, All, IsPermutation};
+ghost use Rattle.std.specs.Prelude.{◌≡◌, ◌==◌, ◌<◌, ◌+◌, ◌-◌, ◌^◌, true, false, if◌then◌else◌, map, filter_map, None, Some, All, IsPermutation};
 ghost use Rattle.std.specs.List.{list_any};
+ghost use Rattle.std.specs.Option.{option_map};
 ghost use Rattle.iddqd_bi.specs.Bag.{IsOnly, swap};
 ghost use Rattle.iddqd_bi.specs.Keys.{has1};
 ghost use Rattle.iddqd_bi.specs.Map.{bag};
@@ -28,6 +29,21 @@ pub fn note_all_opened(files: &mut BiHashMap<File>)
     ensures { IsPermutation (bag files.new) (map (λ (f : File). record f { opened = f.opened + 1 }) (bag files.old)) }
 {
     files.update_all(|f| f.opened + 1);
+}
+
+/// Takes back one opening of every file, and drops the files that were never opened.
+pub fn take_back_openings(files: &mut BiHashMap<File>)
+    ensures { IsPermutation (bag files.new) (filter_map
+        (λ (f : File). option_map (λ n. record f { opened = n }) (if f.opened == 0 then None else Some (f.opened - 1)))
+        (bag files.old)) }
+{
+    files.retain_mut(|f| {
+        if f.opened == 0 {
+            None
+        } else {
+            Some(f.opened - 1)
+        }
+    });
 }
 
 /// Stores this data in every item.

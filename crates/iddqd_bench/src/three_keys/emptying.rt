@@ -8,8 +8,23 @@ use std::alloc::Global;
 #[derive(Clone, Copy)]
 enum Taken {
     Nothing,
+    /// All items, by `pop`.
+    Each,
+    /// All items, by `pop_from`.
     All,
     Half,
+}
+
+/// Takes out all items by `pop`, and sums their first keys.
+fn take_each(map: &mut TriHashMap<Row>) -> u64 {
+    let mut sum = 0u64;
+    for _ in 0..map.len() {
+        let Some(gone) = map.pop() else {
+            break;
+        };
+        sum = sum.wrapping_add(gone.key1);
+    }
+    sum
 }
 
 /// Takes out all items, and sums their first keys.
@@ -46,6 +61,7 @@ fn take_of_copy(map: &TriHashMap<Row>, taken: Taken) -> u64 {
     };
     let sum = match taken {
         Taken::Nothing => 0,
+        Taken::Each => take_each(&mut copy),
         Taken::All => take_all(&mut copy),
         Taken::Half => take_half(&mut copy),
     };
@@ -69,6 +85,19 @@ fn take_parts(alloc: Global, rows: &[Row], number: usize, taken: Taken) -> u64 {
         sum = sum.wrapping_add(take_of_copies(alloc, rows, copies(number), taken));
     }
     sum
+}
+
+/// Fills a map with each part of `number` rows, and takes all items out of its clones by `pop`.
+#[unsafe(no_mangle)]
+pub extern "C" fn tri_pop_each(
+    alloc: Global,
+    rows: &[Row],
+    _asked: &[Row],
+    number: usize,
+    whole: bool,
+) -> u64 {
+    let taken = if whole { Taken::Each } else { Taken::Nothing };
+    take_parts(alloc, rows, number, taken)
 }
 
 /// Fills a map with each part of `number` rows, and takes all items out of its clones.

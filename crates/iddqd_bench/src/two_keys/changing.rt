@@ -12,6 +12,8 @@ enum Change {
     Retain,
     /// Keeps all items but about one in 64.
     RetainMost,
+    /// Keeps about half of the items, and writes these.
+    RetainMut,
     Clear,
     Shrink,
     /// Reserves spare capacity for this many more items.
@@ -28,6 +30,16 @@ fn is_refused(map: &mut BiHashMap<Row>, change: Change) -> bool {
         }
         Change::RetainMost => {
             map.retain(|row| row.key1 % 64 != 0);
+            false
+        }
+        Change::RetainMut => {
+            map.retain_mut(|row| {
+                if row.key1 % 2 == 0 {
+                    Some(row.value.wrapping_add(1))
+                } else {
+                    None
+                }
+            });
             false
         }
         Change::Clear => {
@@ -95,6 +107,23 @@ pub extern "C" fn bi_retain_most(
 ) -> u64 {
     let change = if whole {
         Change::RetainMost
+    } else {
+        Change::Nothing
+    };
+    change_parts(alloc, rows, number, change)
+}
+
+/// Fills a map with each part of `number` rows, and keeps and writes about half of the items of its clones.
+#[unsafe(no_mangle)]
+pub extern "C" fn bi_retain_mut(
+    alloc: Global,
+    rows: &[Row],
+    _asked: &[Row],
+    number: usize,
+    whole: bool,
+) -> u64 {
+    let change = if whole {
+        Change::RetainMut
     } else {
         Change::Nothing
     };

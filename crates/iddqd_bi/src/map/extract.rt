@@ -31,6 +31,9 @@ impl<T: BiHashItem, S: BuildHasher> BiHashMap<T, S> {
     ///     // The lease has left the map.
     /// }
     /// ```
+    ///
+    /// The checker asks for a measure of this loop: `length (to_come l.leases l.at)`, in a file that the guide shows
+    /// (`extract`). It asks for none of a loop that begins with `for _ in 0..leases.len()`.
     pub fn extract_from<F: FnMut(&T) -> bool>(&mut self, cursor: &mut Cursor, mut f: F) -> Option<T>
         requires { TakesInTurn F.FnMut f (to_come self.old cursor.old) }
         ensures extracts { Extracts (CalledAt F.FnMut) f self.old cursor.old result self.new cursor.new }

@@ -13,8 +13,9 @@ impl<T: BiHashItem, S: BuildHasher> BiHashMap<T, S> {
     /// Removes some item, and returns it, or `None` if the map has none. The capacity stays.
     ///
     /// Which item it is depends on the slots of the items, and not on their order of insertion. The call hashes each
-    /// key of the item once, compares none, and allocates no memory. It passes all free slots before the item, so to
-    /// remove all items of a large map one by one call `pop_from`.
+    /// key of the item once, compares none, and allocates no memory. It passes free slots before the item, but none that
+    /// an earlier `pop` has passed, unless an insert has used it or a lower one since. So a loop that calls `pop` until
+    /// the map is empty takes time in proportion to the number of slots.
     ///
     /// ```text
     /// let Some(item) = map.pop() else {
@@ -28,7 +29,7 @@ impl<T: BiHashItem, S: BuildHasher> BiHashMap<T, S> {
         ensures empty { IfNone result (bag self.old ≡ []) }
         ensures absent { IfNone result (self.new ≡ self.old) }
     {
-        let slot = self.slot_from(0)?;
+        let slot = self.first_slot()?;
         Some(self.take(slot, None, None, &mut Meter::new()))
     }
 
@@ -48,6 +49,9 @@ impl<T: BiHashItem, S: BuildHasher> BiHashMap<T, S> {
     ///     // The item has left the map.
     /// }
     /// ```
+    ///
+    /// The checker asks for a measure of this loop: `length (to_come l.map l.at)`, in a file that the guide shows
+    /// (`extract`). It asks for none of a loop that begins with `for _ in 0..map.len()`.
     pub fn pop_from(&mut self, cursor: &mut Cursor) -> Option<T>
         ensures pops_from { PopsFrom self.old cursor.old result self.new cursor.new }
         ensures loses { Loses self.old (option_to_list result) self.new }

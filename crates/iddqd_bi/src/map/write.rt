@@ -89,6 +89,9 @@ impl<T: BiHashItem, S: BuildHasher> BiHashMap<T, S> {
     ///     *item.data_mut() = 0;
     /// }
     /// ```
+    ///
+    /// The checker asks for a measure of this loop: `length (to_come l.map l.at)`, in a file that the guide shows
+    /// (`extract`). It asks for none of a loop that begins with `for _ in 0..map.len()`.
     pub fn next_from(&mut self, cursor: &mut Cursor) -> Option<RefMut<'_, T, S>>
         // The guard borrows the next item, and the cursor passes it; or no item is left, and the cursor stays.
         ensures next { IfSome result (λ r. IfSome (ref_item r) (λ x.

@@ -1,14 +1,16 @@
--- Worked rows of bags that are built, copied and filtered, with outcomes that these words do not allow.
-use Rattle.std.specs.Prelude.{◌≡◌, ℕ, Bool, true, false, List, [], ◌∷◌, length, Result, Ok, Err}
+-- Worked rows of bags that are built, copied, filtered and rewritten, with outcomes that these words do not allow.
+use Rattle.std.specs.Prelude.{◌≡◌, ℕ, Bool, true, false, List, [], ◌∷◌, length, ◌==◌, cond, Option, Some, None, IsPermutation, Result, Ok, Err}
 use Rattle.std.specs.List.{items_where_true}
 use Rattle.std.specs.List.Retain.{ReturnsInTurn}
 use Rattle.std.proofs.Common.{refl, ap, subst, ◌∙◌, arith, get_or}
 use Rattle.std.proofs.lemmas.List.Elements.{length_all_zip}
-use Rattle.std.proofs.lemmas.List.Sorted.{length_permutation}
+use Rattle.std.proofs.lemmas.List.Sorted.{IsPermutation-refl, length_permutation, sum_by-IsPermutation}
 use Rattle.iddqd_store.proofs.BagLemmas.Exchanges.{IsPermutation-flip}
 use Rattle.iddqd_store.proofs.BagLemmas.Rows.{Item, pairs}
 use Rattle.iddqd_store.specs.Bag.{IsCopy, Keeps, add}
 use Rattle.iddqd_store.specs.Bag.Building.{AddsTo, RefusesFor, HasPlaceFor}
+use Rattle.iddqd_store.specs.Bag.Storing.{RewritesAll}
+use Rattle.iddqd_store.proofs.CallerLemmas.Updates.{rewritten-filter_map}
 
 abbrev one : List Item
 one = (1, 10, 0) ∷ []
@@ -100,3 +102,38 @@ module _ {F : Type 0} (step : F → Item → Bool → F → Type 0) where
       let ran = keeps.filtered in
       let left = ran.4 ∙ none_left says f ran.1 ran.0 keeps.listed ran.3 in
       omega (arith, length_permutation _ _ keeps.are, ap length left)
+
+-- a closure that returns `Some 7` at the first key 1, and else `None`
+abbrev answer : Item → Option ℕ
+answer x = cond (x.0 == 1) (Some 7) None
+
+abbrev put : Item → ℕ → Item
+put x d = (x.0, x.1, d)
+
+abbrev Answers : ℕ → Item → Option ℕ → ℕ → Type 0
+Answers f x o g = (o ≡ answer x) × (g ≡ f)
+
+rewritten : RewritesAll Answers put 0 two ((1, 10, 7) ∷ [])
+rewritten = record {
+  listed = two;
+  same = IsPermutation-refl two;
+  left = (1, 10, 7) ∷ [];
+  rewrites = (Some 7, 0, [], (refl, refl), refl, (None, 0, [], (refl, refl), refl, refl));
+  are = IsPermutation-refl ((1, 10, 7) ∷ []);
+}
+
+-- nothing else is allowed
+rewritten_only : (new : List Item) → RewritesAll Answers put 0 two new → IsPermutation new ((1, 10, 7) ∷ [])
+rewritten_only new h = rewritten-filter_map Answers put (λ _ x. answer x) (λ f x o g called. (called.0, λ y. refl)) 0 two new h
+
+none_lost_where_data : RewritesAll Answers put 0 two [] → ⊥
+none_lost_where_data h = omega (arith, length_permutation _ _ (rewritten_only [] h))
+
+none_twice : RewritesAll Answers put 0 two ((1, 10, 7) ∷ (1, 10, 7) ∷ []) → ⊥
+none_twice h = omega (arith, length_permutation _ _ (rewritten_only _ h))
+
+not_as_it_was : RewritesAll Answers put 0 two one → ⊥
+not_as_it_was h = omega (arith, sum_by-IsPermutation (λ (x : Item). x.2) _ _ (rewritten_only one h))
+
+none_kept_without_data : RewritesAll Answers put 0 two ((2, 20, 7) ∷ []) → ⊥
+none_kept_without_data h = omega (arith, sum_by-IsPermutation (λ (x : Item). x.0) _ _ (rewritten_only _ h))

@@ -1,7 +1,8 @@
 -- Theorems about a bag; some of them are used for calls. They say how its words are related: writing in place (`swap`),
--- building from a list (`overs`, `adds`), keeping some items, counting by hashes.
-use Rattle.std.specs.Prelude.{◌≡◌, ◌≢◌, ℕ, ◌<◌, ◌≤◌, ◌==◌, Bool, true, false, cond, not, List, [], ◌∷◌, ◌++◌, length, filter, fold, Ok, Err, IsPermutation}
+-- building from a list (`overs`, `adds`), keeping and rewriting some items, counting by hashes.
+use Rattle.std.specs.Prelude.{◌≡◌, ◌≢◌, ℕ, ◌+◌, ◌<◌, ◌≤◌, ◌==◌, Bool, true, false, cond, not, List, [], ◌∷◌, ◌++◌, length, filter, fold, Option, Some, None, Ok, Err, IsPermutation}
 use Rattle.std.specs.List.{IsDistinct, AllByRecursion, items_where_true}
+use Rattle.std.specs.Option.{option_map, option_to_list}
 use Rattle.std.proofs.Common.{refl, sym, ap, subst, ◌∙◌, arith}
 use Rattle.std.proofs.lemmas.Map.Keys.{IsDistinct-head, IsDistinct-tail, IsDistinct-cons}
 use Rattle.std.proofs.lemmas.List.Sorted.{IsPermutation-sym, IsPermutation-cons, length_permutation, sum_by-IsPermutation}
@@ -11,6 +12,7 @@ use Rattle.iddqd_store.proofs.BagLemmas.Exchanges.{IsPermutation-filter}
 use Rattle.iddqd_store.proofs.BagLemmas.Steps.{none_passes, clash-empty, add-apart, add-refused, adds_push, agrees-conflicts}
 use Rattle.iddqd_store.proofs.BagLemmas.Sound.{length-listing, AreNames-like, each_weaker, each_passes, all_pass, not-true, IsDistinct-nil, IsDistinct-filter, IsSound-IsPermutation, order-IsPermutation}
 use Rattle.iddqd_store.specs.Bag.{Ranks, some_of, without, like, conflicts, agrees, IsSound, order, over, overs, add_next, adds, swap, Keeps, crowd, AreLawful}
+use Rattle.iddqd_store.specs.Bag.Storing.{Rewrites, RewritesAll}
 
 module _ {T : Type 0} where
   pub length-order : (ranks : Ranks T) (bag : List T) (x : T) → AreLawful ranks → IsSound ranks bag → length (order ranks bag x) ≤ length ranks
@@ -102,6 +104,19 @@ module _ {T : Type 0} where
   pub length-keeps : {F : Type 0} (step : F → T → Bool → F → Type 0) (f : F) (bag kept : List T) → Keeps step f bag kept → length kept ≤ length bag
   length-keeps step f bag kept h =
       omega (arith, length_permutation _ _ h.same, length_permutation _ _ h.are, ap length h.filtered.4, length-where_true h.filtered.0 h.listed)
+
+  module _ {F D : Type 0} (step : F → T → Option D → F → Type 0) (put : T → D → T) where
+    one_less : (x : T) (o : Option D) (rest : List T) (n : ℕ) → length rest ≤ n → length (option_to_list (option_map (put x) o) ++ rest) ≤ n + 1
+    one_less x None rest n h = omega (arith, h)
+    one_less x (Some d) rest n h = omega (arith, h)
+
+    length-rewrites : (f : F) (xs new : List T) → Rewrites step put f xs new → length new ≤ length xs
+    length-rewrites f [] new h = rw h (omega arith)
+    length-rewrites f (x ∷ xs) new h = omega (arith, ap length h.4, one_less x h.0 h.2 (length xs) (length-rewrites h.1 xs h.2 h.5))
+
+    -- no more items are left than there were
+    pub length-rewrites_all : (f : F) (bag new : List T) → RewritesAll step put f bag new → length new ≤ length bag
+    length-rewrites_all f bag new h = omega (arith, length_permutation bag h.listed h.same, length_permutation new h.left h.are, length-rewrites f h.listed h.left h.rewrites)
 
   pub crowd-IsPermutation : (hash_of : T → ℕ) (xs ys : List T) (h : ℕ) → IsPermutation xs ys → crowd hash_of xs h ≡ crowd hash_of ys h
   crowd-IsPermutation hash_of xs ys h p = sym (sum_by-IsPermutation (λ x. cond (hash_of x == h) 1 0) xs ys p)

@@ -1,5 +1,6 @@
 -- Data that a closure returns, stored in the items of a bag.
-use Rattle.std.specs.Prelude.{◌≡◌, Bool, List, [], ◌∷◌, Some, IsPermutation}
+use Rattle.std.specs.Prelude.{◌≡◌, Bool, List, [], ◌∷◌, ◌++◌, Option, Some, IsPermutation}
+use Rattle.std.specs.Option.{option_map, option_to_list}
 use Rattle.iddqd_store.specs.Bag.{IsOnly, Ranks, swap}
 
 module _ {F T D : Type 0} (step : F → T → D → F → Type 0) (put : T → D → T) (ranks : Ranks T) where
@@ -28,6 +29,27 @@ module _ {F T D : Type 0} (step : F → T → D → F → Type 0) (put : T → D
     pub written : List T
     pub writes : Writes f listed written
     pub are : IsPermutation new written
+
+module _ {F T D : Type 0} (step : F → T → Option D → F → Type 0) (put : T → D → T) where
+  -- The closure `f` was called at each item of the list in turn, and `new` lists those items for which it returned
+  -- data, each with this data.
+  -- Example: Where the closure returns `Some 7` at (1, 10), and `None` at (2, 20), `new` is (1, 10) with the data 7.
+  abbrev pub Rewrites : F → List T → List T → Type 0
+  Rewrites f [] new = new ≡ []
+  Rewrites f (x ∷ xs) new =
+      (o : Option D) × (g : F) × (rest : List T) × step f x o g
+      × (new ≡ option_to_list (option_map (put x) o) ++ rest) × Rewrites g xs rest
+
+  -- The closure `f` was called at each item of the bag once, in some order, and `new` is the bag of those items for
+  -- which it returned data, each with this data.
+  -- Example: Where the closure returns `Some 7` if the first key is odd, and else `None`, `new` is (1, 10), (3, 30),
+  -- each with the data 7.
+  pub record RewritesAll (f : F) (bag new : List T) : Type 0 where
+    pub listed : List T
+    pub same : IsPermutation bag listed
+    pub left : List T
+    pub rewrites : Rewrites f listed left
+    pub are : IsPermutation new left
 
 module _ {T D : Type 0} (answers : T → D → Type 0) (put : T → D → T) (ranks : Ranks T) where
   -- One item passes the test, and `new` is the bag with what `answers` gives at this item as its data.

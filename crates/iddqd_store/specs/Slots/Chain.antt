@@ -1,6 +1,7 @@
 -- How an `ItemSet` lays out its slots. No public clause cites this module.
-use Rattle.std.specs.Prelude.{◌≡◌, ℕ, zero, suc, ◌+◌, List, map, filter, length}
+use Rattle.std.specs.Prelude.{◌≡◌, ℕ, zero, suc, ◌+◌, ◌<◌, ◌≤◌, List, map, filter, length}
 use Rattle.std.specs.Prelude.{Option, Some, None, is_some, count_by, slice_get}
+use Rattle.iddqd_store.specs.Slots.{get}
 use Rattle.iddqd_store.specs.declared.item_set.Slot.{Slot}
 use Rattle.iddqd_store.specs.declared.item_set.Slot.TheVariants.{Live, Free}
 
@@ -26,6 +27,11 @@ module _ {T : Type 0} where
     pub free : ℕ
     pub total : live + free ≡ length slots
     pub linked : IsChain slots free head
+
+  -- No slot before this one has an item, and there are as many slots.
+  pub record IsFreeBefore (slots : List (Slot T)) (first : ℕ) : Type 0 where
+    pub within : first ≤ length slots
+    pub free : (at : ℕ) → at < first → get (map item_of slots) at ≡ None
 
   -- Both slots are free and name the same next one, or the second has a clone of the item of the first.
   abbrev pub IsCloneOf : (T → T → Type 0) → Slot T → Slot T → Type 0

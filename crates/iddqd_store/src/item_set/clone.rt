@@ -31,6 +31,7 @@ impl<T: Clone> ItemSet<T> {
             slots: self.slots.clone()?,
             live: self.live,
             head: self.head,
+            first: 0,
         })
     }
 }

@@ -33,6 +33,7 @@ impl<T: Drop> ItemSet<T> {
     {
         self.slots.retain(|slot| slot.is_live());
         self.head = self.slots.len();
+        self.first = 0;
     }
 
     /// Compacts the set, and lowers its capacity to `least`, or to the number of items if that is more. The capacity
@@ -59,6 +60,7 @@ impl<T: Drop> ItemSet<T> {
         let slots = mem::replace(&mut self.slots, Vec::new(alloc));
         self.slots = gathered(slots, fresh);
         self.head = self.slots.len();
+        self.first = 0;
         Ok(())
     }
 }

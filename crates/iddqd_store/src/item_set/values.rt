@@ -198,6 +198,7 @@ impl<T> ItemSet<T> {
             slots,
             live,
             head: _,
+            first: _,
         } = self;
         IntoIter {
             slots: slots.into_iter(),

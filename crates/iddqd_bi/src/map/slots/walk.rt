@@ -29,6 +29,17 @@ impl<T: BiHashItem, S: BuildHasher> BiHashMap<T, S> {
         }
     }
 
+    /// Returns the first slot with an item. The slots before it are not visited again, unless an insert uses one of them.
+    pub(crate) fn first_slot(&mut self) -> Option<ItemIndex>
+        ensures live { IfSome result (IsLive self.old.slots) }
+        ensures none { IfNone result (to_come self.old 0 ≡ []) }
+        ensures unchanged { self.new ≡ self.old }
+    {
+        // The `?` lets the proof treat each outcome by itself.
+        let slot = self.items.first_live()?;
+        Some(slot)
+    }
+
     /// Returns how many items are in slots whose number is this one or a higher one.
     pub(crate) fn count_from(&self, from: usize) -> usize
         ensures { result ≡ length (to_come self.now from) }

@@ -1,5 +1,5 @@
 //! Reading and writing items by their slots.
-ghost use Rattle.std.specs.Prelude.{◌≡◌, [], ◌∷◌, true, ℕ, All, nat_eq, Some, IsPermutation, IfSome, is_some};
+ghost use Rattle.std.specs.Prelude.{◌≡◌, [], ◌∷◌, true, false, ℕ, All, nat_eq, Some, None, IsPermutation, IfSome, is_some};
 ghost use Rattle.std.specs.Borrow.{sem};
 ghost use Rattle.std.specs.Fn.{CalledAt, FnOnceReturnsAt, FnOnceTakesAt, TakesAt};
 ghost use Rattle.std.specs.List.{AllByRecursion, IsDistinct};
@@ -101,6 +101,30 @@ impl<T: BiHashItemMut, S: BuildHasher> BiHashMap<T, S> {
         let item = self.items.item_mut(slot);
         let d = f(&*item);
         write_data(item, d);
+    }
+
+    /// Calls a closure with the item of a slot. If it returns data, stores it as the item's data, and returns `true`;
+    /// otherwise the item stays as it is.
+    pub(crate) fn store_some_at<F: FnMut(&T) -> Option<T::Data>>(
+        &mut self,
+        slot: ItemIndex,
+        f: &mut F,
+    ) -> bool
+    where
+        T::Data: Drop,
+        requires live { IsLive self.old.slots slot }
+        requires callable { (x : T) → get self.old.slots slot ≡ Some x → TakesAt F.FnMut f.old x }
+        ensures stored { result ≡ true → (x : T) × (d : T.Data) × (get self.old.slots slot ≡ Some x)
+            × (CalledAt F.FnMut) f.old x (Some d) f.new × (self.new ≡ map_with self.old slot (λ y. T.put y d)) }
+        ensures unchanged { result ≡ false → (x : T) × (get self.old.slots slot ≡ Some x)
+            × (CalledAt F.FnMut) f.old x None f.new × (self.new ≡ self.old) }
+    {
+        let item = self.items.item_mut(slot);
+        match f(&*item) {
+            Some(d) => write_data(item, d),
+            None => return false,
+        }
+        true
     }
 
     /// Calls a closure with the item of a slot, and stores what it returns as the item's data. The closure is called

@@ -1,5 +1,6 @@
 use Rattle.std.proofs.Common.{◌≡◌, drop, length}
 use Rattle.std.specs.Fn.{CalledAt}
+use Rattle.iddqd_store.specs.Bag.Storing.{Writes}
 use Rattle.iddqd_store.specs.Map.Walk.{to_come}
 use Rattle.iddqd_store.specs.Slots.{contents}
 use Rattle.iddqd_store.proofs.BagLemmas.Calling.{TakesEach}
@@ -8,7 +9,7 @@ use Rattle.iddqd_tri.proofs.map.TriHashMap.update_all.Given as goal
 
 abbrev pub invariant-loop-slot : goal.invariant-loop-slot
 invariant-loop-slot g l = record {
-  completes : Completes (CalledAt g.F.FnMut) g.T.TriHashItemMut.put l.fn.f (contents l.fn.self.slots) l.f l.self l.from;
+  completes : Completes (Writes (CalledAt g.F.FnMut) g.T.TriHashItemMut.put) l.fn.f (contents l.fn.self.slots) l.f l.self l.from;
   callable : TakesEach g.F.FnMut l.f (to_come l.self l.from);
   capacity : l.self.capacity ≡ l.fn.self.capacity;
   builder : l.self.builder ≡ l.fn.self.builder;
