@@ -48,23 +48,30 @@ enum Command {
     Open,
 }
 
+/// Returns the change that the words of a line ask for, if they ask for one.
+fn parse_change(words: &[&str]) -> Option<Change> {
+    Some(match words {
+        ["plug", serial, port] => Change::Plug(Device {
+            serial: serial.parse().ok()?,
+            port: port.parse().ok()?,
+        }),
+        ["unplug", serial] => Change::Unplug(serial.parse().ok()?),
+        _ => return None,
+    })
+}
+
 /// Returns what the words of a line ask for, if they ask for anything.
 fn parse(words: &[&str]) -> Option<Command> {
     Some(match words {
-        ["plug", serial, port] => Command::Change(Change::Plug(Device {
-            serial: serial.parse().ok()?,
-            port: port.parse().ok()?,
-        })),
-        ["unplug", serial] => Command::Change(Change::Unplug(serial.parse().ok()?)),
         ["list"] => Command::List,
         ["journal"] => Command::Journal,
         ["compact"] => Command::Compact,
-        ["crash", len] => Command::Crash(len.parse().ok()?),
         ["cuts"] => Command::Cuts,
-        ["room", len] => Command::Disk(Disk::Room(len.parse().ok()?)),
-        ["fail"] => Command::Disk(Disk::Failing),
         ["open"] => Command::Open,
-        _ => return None,
+        ["fail"] => Command::Disk(Disk::Failing),
+        ["room", len] => Command::Disk(Disk::Room(len.parse().ok()?)),
+        ["crash", len] => Command::Crash(len.parse().ok()?),
+        _ => Command::Change(parse_change(words)?),
     })
 }
 
