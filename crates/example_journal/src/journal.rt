@@ -1,0 +1,147 @@
+//! A journal: lines in a log, each written and synced before what it says is done.
+ghost use Rattle.std.specs.Prelude.{◌≡◌, ◌++◌, true, false, length, IfOk, IfSome, OnOk, OnErr, option_map};
+ghost use Rattle.std.specs.Option.{ForSome};
+ghost use Rattle.example_journal.specs.Changes.{InRange, line_of};
+ghost use Rattle.example_journal.specs.Text.{whole};
+
+use crate::changes::{Change, write_line};
+use crate::log::Log;
+use crate::text::whole_lines;
+use std::alloc::{AllocError, Global};
+use std::io;
+
+/// Why a change was not written.
+#[derive(Clone, Copy)]
+pub enum Unwritten {
+    /// There is no memory for its line.
+    Memory,
+    /// The log refused it, and has the lines that it had.
+    Refused(io::Error),
+    /// The journal is closed, since nobody knows what the log has.
+    Closed,
+}
+
+impl From<AllocError> for Unwritten {
+    fn from(_error: AllocError) -> Unwritten {
+        Unwritten::Memory
+    }
+}
+
+/// A log whose bytes are whole lines while it is open.
+#[derive(Drop)]
+pub struct Journal<L: Log + Drop> {
+    log: L,
+    len: usize,
+    is_open: bool,
+    alloc: Global,
+    ghost measured: { is_open ≡ true → ForSome (L.kept log) (λ lines. length lines ≡ len) },
+}
+
+impl<L: Log + Drop> Journal<L> {
+    /// Makes a journal that is not yet open.
+    pub fn new(alloc: Global, log: L) -> Journal<L>
+        ensures closed { result.is_open ≡ false }
+    {
+        Journal {
+            log,
+            len: 0,
+            is_open: false,
+            alloc,
+        }
+    }
+
+    /// Opens the journal, again if it is open: cuts off a line that was torn, and returns the whole lines and how many bytes
+    /// were cut off.
+    pub fn open(&mut self) -> io::Result<(Vec<u8>, usize)>
+        ensures opened { OnOk result (self.new.is_open ≡ true) }
+        ensures closed { OnErr result (self.new.is_open ≡ false) }
+        ensures lines { IfOk result (λ it. IfSome (L.kept self.old.log) (λ bytes. it.0.items ≡ whole bytes)) }
+        ensures kept { IfOk result (λ it. IfSome (L.kept self.new.log) (λ bytes. bytes ≡ it.0.items)) }
+    {
+        self.is_open = false;
+        let mut bytes = self.log.read(self.alloc)?;
+        let len = whole_lines(bytes.as_slice());
+        let torn = bytes.len() - len;
+        if torn > 0 {
+            self.log.cut(len)?;
+            bytes.truncate(len);
+        }
+        self.len = len;
+        self.is_open = true;
+        Ok((bytes, torn))
+    }
+
+    /// Reads the bytes of the log.
+    pub fn read(&mut self) -> io::Result<Vec<u8>>
+        ensures bytes { IfOk result (λ bytes. IfSome (L.kept self.old.log) (λ here. bytes.items ≡ here)) }
+        ensures kept { L.kept self.new.log ≡ L.kept self.old.log }
+        ensures open { self.new.is_open ≡ self.old.is_open }
+    {
+        self.log.read(self.alloc)
+    }
+
+    /// Closes the journal.
+    pub fn close(&mut self)
+        ensures closed { self.new.is_open ≡ false }
+    {
+        self.is_open = false;
+    }
+
+    /// Adds the line of a change. If the log has a part of the line, that is cut off, and otherwise the journal is closed.
+    pub fn add(&mut self, change: Change) -> Result<(), Unwritten>
+        ensures added { OnOk result (L.kept self.new.log
+            ≡ option_map (λ lines. lines ++ line_of change) (L.kept self.old.log)) }
+        ensures in_range { OnOk result (InRange change) }
+        ensures was_open { OnOk result (self.old.is_open ≡ true) }
+        ensures same { OnErr result (self.new.is_open ≡ true → L.kept self.new.log ≡ L.kept self.old.log) }
+        ensures still_open { OnErr result (self.new.is_open ≡ true → self.old.is_open ≡ true) }
+    {
+        if !self.is_open {
+            return Err(Unwritten::Closed);
+        }
+        let line = write_line(self.alloc, change)?;
+        let Some(len) = self.len.checked_add(line.len()) else {
+            return Err(Unwritten::Memory);
+        };
+        match self.log.append(line.as_bytes()) {
+            Ok(()) => {
+                self.len = len;
+                Ok(())
+            }
+            Err(error) => {
+                self.is_open = self.log.cut(self.len).is_ok();
+                Err(if self.is_open {
+                    Unwritten::Refused(error)
+                } else {
+                    Unwritten::Closed
+                })
+            }
+        }
+    }
+
+    /// Puts these lines in the place of all.
+    pub fn replace(&mut self, lines: &[u8]) -> Result<(), Unwritten>
+        ensures replaced { OnOk result (L.kept self.new.log ≡ option_map (λ _. lines.now) (L.kept self.old.log)) }
+        ensures same { OnErr result (L.kept self.new.log ≡ L.kept self.old.log) }
+        ensures open { self.new.is_open ≡ self.old.is_open }
+    {
+        if !self.is_open {
+            return Err(Unwritten::Closed);
+        }
+        match self.log.replace(lines) {
+            Ok(()) => {
+                self.len = lines.len();
+                Ok(())
+            }
+            Err(error) => Err(Unwritten::Refused(error)),
+        }
+    }
+
+    /// Closes the journal, and cuts its log to the first `len` bytes, as a crash may.
+    pub fn crash(&mut self, len: usize) -> io::Result<()>
+        ensures closed { self.new.is_open ≡ false }
+    {
+        self.is_open = false;
+        self.log.cut(len)
+    }
+}

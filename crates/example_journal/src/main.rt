@@ -1,0 +1,229 @@
+//! A registry of devices that outlives its process: each change is a line of a journal, which is written and synced before
+//! the registry changes. With an argument the journal is the file of that name, and otherwise it is kept in memory.
+//!
+//!     plug SERIAL PORT    plugged in | taken
+//!     unplug SERIAL       unplugged from PORT | none
+//!     list                each device as SERIAL PORT, in the order of the serial numbers, and `end`
+//!     journal             each line of the journal, and `end`
+//!     compact             compacted
+//!     crash N             cuts the journal to its first N bytes and opens it again: opened | opened, N torn bytes cut off
+//!     cuts                opens a copy of the journal cut at every byte, and tells from which on it has more devices
+//!     room N              from now on the disk has room for N more bytes: set
+//!     fail                from now on the disk fails, except for reads: set
+//!     open                opens the journal again, as at the start
+//!
+//! A change is answered by `not written` if its line was not written, and the registry is as before then. If the journal fails so
+//! that nobody knows what it has, a change is answered by `closed` until the journal is opened again. Any other line is answered
+//! by `bad line`.
+#![tactic(auto)]
+
+mod changes;
+mod device;
+mod file;
+mod journal;
+mod log;
+mod registry;
+mod text;
+
+use crate::changes::Change;
+use crate::device::Device;
+use crate::file::FileLog;
+use crate::journal::Unwritten;
+use crate::log::{Disk, Limited, Log, Memory};
+use crate::registry::{Refused, Registry, Unopened};
+use std::alloc::Global;
+use std::cell::Cell;
+use std::io::{BufRead, Write};
+use std::{env, io};
+
+/// What a line asks for.
+enum Command {
+    Change(Change),
+    List,
+    Journal,
+    Compact,
+    Crash(usize),
+    Cuts,
+    Disk(Disk),
+    Open,
+}
+
+/// Returns the change that the words of a line ask for, if they ask for one.
+fn parse_change(words: &[&str]) -> Option<Change> {
+    Some(match words {
+        ["plug", serial, port] => Change::Plug(Device {
+            serial: serial.parse().ok()?,
+            port: port.parse().ok()?,
+        }),
+        ["unplug", serial] => Change::Unplug(serial.parse().ok()?),
+        _ => return None,
+    })
+}
+
+/// Returns what the words of a line ask for, if they ask for anything.
+fn parse(words: &[&str]) -> Option<Command> {
+    Some(match words {
+        ["list"] => Command::List,
+        ["journal"] => Command::Journal,
+        ["compact"] => Command::Compact,
+        ["cuts"] => Command::Cuts,
+        ["open"] => Command::Open,
+        ["fail"] => Command::Disk(Disk::Failing),
+        ["room", len] => Command::Disk(Disk::Room(len.parse().ok()?)),
+        ["crash", len] => Command::Crash(len.parse().ok()?),
+        _ => Command::Change(parse_change(words)?),
+    })
+}
+
+/// Prints why a change was not made.
+fn print_refused(rt: &impl Print, refused: Refused) -> io::Result<()> {
+    match refused {
+        Refused::Taken => rt.println("taken"),
+        Refused::NoDevice => rt.println("none"),
+        Refused::Memory | Refused::Unwritten(Unwritten::Memory) => rt.println("no memory"),
+        Refused::Unwritten(Unwritten::Refused(error)) => println!(rt; "not written: {error}"),
+        Refused::Unwritten(Unwritten::Closed) => rt.println("closed"),
+    }
+}
+
+/// Opens the journal, and prints what came of it.
+fn open<L: Log + Drop>(rt: &impl Print, registry: &mut Registry<L>) -> io::Result<()> {
+    match registry.open() {
+        Ok(0) => rt.println("opened"),
+        Ok(torn) => println!(rt; "opened, {torn} torn bytes cut off"),
+        Err(Unopened::Log(error)) => println!(rt; "not opened: {error}"),
+        Err(Unopened::Line(unloaded)) => {
+            println!(rt; "not opened: line {} is damaged", unloaded.line)
+        }
+    }
+}
+
+/// Prints the devices, by their serial numbers.
+fn list<L: Log + Drop>(rt: &(impl Print + AllocGlobal), registry: &Registry<L>) -> io::Result<()> {
+    let mut devices: Vec<Device> = registry.devices().iter().copied().collect(rt.alloc())?;
+    devices.sort_by_key(|device| device.serial)?;
+    for device in &devices {
+        println!(rt; "{} {}", device.serial, device.port)?;
+    }
+    rt.println("end")
+}
+
+/// Returns how many devices a registry has whose journal has these bytes after a crash, if it can be opened.
+fn count_at(alloc: Global, bytes: Vec<u8>) -> Option<usize> {
+    let mut registry = Registry::new(alloc, Memory::new(alloc, bytes));
+    let is_open = registry.open().is_ok();
+    let count = registry.devices().len();
+    if is_open { Some(count) } else { None }
+}
+
+/// Opens a copy of the journal cut at every byte, and prints from which on it has another number of devices.
+fn print_cuts(rt: &(impl Print + AllocGlobal), bytes: &[u8]) -> io::Result<()> {
+    let mut before = None;
+    for len in 0..=bytes.len() {
+        let (left, _) = bytes.split_at(len);
+        let count = count_at(rt.alloc(), left.to_vec(rt.alloc())?);
+        if count != before {
+            match count {
+                Some(count) => println!(rt; "from byte {len}: {count}")?,
+                None => println!(rt; "from byte {len}: not opened")?,
+            }
+        }
+        before = count;
+    }
+    rt.println("end")
+}
+
+/// Makes a change, and prints the answer.
+fn change<L: Log + Drop>(
+    rt: &impl Print,
+    registry: &mut Registry<L>,
+    change: Change,
+) -> io::Result<()> {
+    match change {
+        Change::Plug(device) => match registry.plug_in(device) {
+            Ok(()) => rt.println("plugged in"),
+            Err(refused) => print_refused(rt, refused),
+        },
+        Change::Unplug(serial) => match registry.unplug(serial) {
+            Ok(device) => println!(rt; "unplugged from {}", device.port),
+            Err(refused) => print_refused(rt, refused),
+        },
+    }
+}
+
+/// Carries out a command, and prints the answer.
+fn answer<L: Log + Drop>(
+    rt: &(impl Print + AllocGlobal),
+    registry: &mut Registry<L>,
+    disk: &Cell<Disk>,
+    command: Command,
+) -> io::Result<()> {
+    match command {
+        Command::Change(it) => change(rt, registry, it),
+        Command::List => list(rt, registry),
+        Command::Journal => {
+            io::writer(rt).write_all(registry.read()?.as_slice())?;
+            rt.println("end")
+        }
+        Command::Compact => match registry.compact() {
+            Ok(()) => rt.println("compacted"),
+            Err(refused) => print_refused(rt, refused),
+        },
+        Command::Cuts => print_cuts(rt, registry.read()?.as_slice()),
+        Command::Crash(len) => {
+            registry.crash(len)?;
+            open(rt, registry)
+        }
+        Command::Disk(state) => {
+            disk.set(state);
+            rt.println("set")
+        }
+        Command::Open => open(rt, registry),
+    }
+}
+
+/// Carries out the command of a line, and prints the answer.
+fn answer_line<L: Log + Drop>(
+    rt: &(impl Print + AllocGlobal),
+    registry: &mut Registry<L>,
+    disk: &Cell<Disk>,
+    line: &[u8],
+) -> io::Result<()> {
+    let Ok(line) = str::from_utf8(line) else {
+        return rt.println("bad line");
+    };
+    let words: Vec<&str> = line.split_whitespace().collect(rt.alloc())?;
+    match parse(words.as_slice()) {
+        Some(command) => answer(rt, registry, disk, command),
+        None => rt.println("bad line"),
+    }
+}
+
+/// Opens the journal, and answers each line of the input.
+fn answer_lines<L: Log + Drop>(
+    rt: &(impl Print + Input + AllocGlobal),
+    registry: &mut Registry<L>,
+    disk: &Cell<Disk>,
+) -> io::Result<()> {
+    open(rt, registry)?;
+    for line in rt.reader().split(rt.alloc(), b'\n') {
+        answer_line(rt, registry, disk, line?.as_slice())?;
+    }
+    Ok(())
+}
+
+/// Answers the lines of the input over this log.
+fn serve<L: Log + Drop>(rt: &HostRuntime, log: L) -> io::Result<()> {
+    let disk = Cell::new(Disk::Room(usize::MAX));
+    let mut registry = Registry::new(rt.alloc(), Limited::new(log, &disk));
+    answer_lines(rt, &mut registry, &disk)
+}
+
+fn main(rt: HostRuntime) -> io::Result<()> {
+    let alloc = rt.alloc();
+    let arguments: Vec<String> = env::args(&rt)?.collect(alloc)?;
+    match arguments.as_slice() {
+        [_, path] => serve(&rt, FileLog::open(&rt, path.as_str())?),
+        _ => serve(&rt, Memory::new(alloc, Vec::new(alloc))),
+    }
+}
