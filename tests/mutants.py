@@ -16,7 +16,7 @@ def renamed(crate, text):
 
 
 def owner_of(block):
-    """The type and the trait of an impl, by its first line; the trait is empty where it has none."""
+    """The type and the trait of an impl, by its head; the trait is empty where it has none."""
     _, trait, of = sources.impl_of(block)
     of = re.sub(r"'\w+ ", "", of)
     if of[0] not in "&(":

@@ -80,7 +80,7 @@ def module_of(path):
 
 @dataclasses.dataclass(eq=False)
 class Function:
-    """A function of a text. Its block is the first line of the impl or of the public trait that it is in, or nothing; the words
+    """A function of a text. Its block is the head of the impl or of the public trait that it is in, as one line, or nothing; the words
     are those before `fn`; its comment has the lines `///` above it; its signature ends before its contract; its contract has
     its clauses, and the comments between them, where a line that continues a clause is indented; its body has the lines
     between its braces. The four places are those of its first attribute or else its head, of its head, of its body, and behind all of it."""
@@ -123,9 +123,15 @@ def functions(text):
         if found:
             yield function_at(lines, at, *found.groups(), block)
         elif line.startswith(("impl", "pub trait ")):
-            block = line
+            block = head_at(lines, at)
         elif line == "}":
             block = ""
+
+
+def head_at(lines, at):
+    """Returns the head of the impl or trait that begins in this line, as one line, up to its bounds behind `where`."""
+    end = next((it for it in range(at, len(lines)) if "{" in lines[it] or lines[it + 1] == "where"), at)
+    return re.sub(r"(?<=<) |,? (?=>)", "", " ".join(it.strip() for it in lines[at : end + 1]))
 
 
 def function_at(lines, head, indent, words, name, block):
@@ -154,7 +160,7 @@ def function_at(lines, head, indent, words, name, block):
 
 
 def impl_of(line):
-    """Returns the parameters, the trait and the type of an impl, from its first line."""
+    """Returns the parameters, the trait and the type of an impl, from its head."""
     rest, depth, own = line[len("impl"):], 0, ""
     for at, letter in enumerate(rest if rest.startswith("<") else ""):
         depth += (letter == "<") - (letter == ">" and rest[at - 1] != "-")

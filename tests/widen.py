@@ -19,7 +19,7 @@ RENAMED = [
     (r"iddqd(_calls|_tests|_uses)?_bi\b", r"iddqd\1_tri"), (r"\bbi_(?=\w)", "tri_"),
     (r"\b(iddqd_serde(?:::|/src/|/proofs/|\.proofs\.)|item[./]|kind `)bi\b", r"\1tri"),
     (r"Bi(?=Command|Hash|Item|Reply|Sink)", "Tri"), (r"\bUpToTwo\b", "UpToThree"), (r"\bup_to_two\b", "up_to_three"),
-    (r"\bKeyPair\b", "KeyTriple"), (r"\b([Tt])wo(?=[ _]keys?\b|Keys\b|[ _]ranks\b| at most\b)", r"\1hree"),
+    (r"\b([Tt])wo(?=[ _]keys?\b|Keys\b|[ _]ranks\b| at most\b)", r"\1hree"),
     (r"([_-])both\b", r"\1all"), (r"\b(has|have|with|of) both\b", r"\1 all"),
     (r"\bboth(?= (?:keys|searches|name)\b)", "all"), (r"\bBoth(?= (?:keys|searches)\b)", "All"),
     (r"\bthe other key\b", "the other keys"), (r"(?<=rank < )2\b|(?<=<= )2\b|(?<=-le)2\b|(?<=KEYS: usize = )2\b", "3"),

@@ -1,9 +1,9 @@
 -- The ranks of an item with two keys tell items apart lawfully, and its keys are tests for them.
 use Rattle.std.specs.Prelude.{◌≡◌, Bool, true, List, []}
 use Rattle.std.specs.Cmp.{IsEquivalence}
-use Rattle.std.proofs.Common.{refl}
+use Rattle.std.proofs.Common.{refl, sym}
 use Rattle.iddqd_store.specs.Bag.{AreLawful, agrees, clash, listing, order}
-use Rattle.iddqd_store.specs.Rank.Keys.{AreKeyTests}
+use Rattle.iddqd_store.specs.Rank.Keys.{AreKeyTests, IsKeyTest}
 use Rattle.iddqd_store.proofs.BagLemmas.KeyTests.{clash-keys, order-keys}
 use Rattle.iddqd_store.proofs.MapLemmas.{IsEquivalence-key, IsKeyTest-key}
 use Rattle.iddqd_bi.specs.Keys.{ranks, key_tests}
@@ -21,10 +21,19 @@ module _ {T K1 K2 : Type 0} (of : item.Ghosts T K1 K2) (eq1 : K1 → K1 → Bool
   pub AreKeyTests-keys : IsEquivalence eq1 → IsEquivalence eq2 → (k1 : K1) (k2 : K2) → AreKeyTests (ranks of eq1 eq2) (key_tests of eq1 eq2 k1 k2)
   AreKeyTests-keys laws1 laws2 k1 k2 = (IsKeyTest-key eq1 of.key1 laws1 k1, (IsKeyTest-key eq2 of.key2 laws2 k2, tt))
 
-  -- an item with both keys conflicts with what they find
-  module _ (laws1 : IsEquivalence eq1) (laws2 : IsEquivalence eq2) (x : T) (k1 : K1) (k2 : K2) (same1 : eq1 k1 (of.key1 x) ≡ true) (same2 : eq2 k2 (of.key2 x) ≡ true) (bag : List T) where
-    pub order-both : order (ranks of eq1 eq2) bag x ≡ listing (key_tests of eq1 eq2 k1 k2) bag
-    order-both = order-keys (ranks of eq1 eq2) (key_tests of eq1 eq2 k1 k2) x (AreKeyTests-keys laws1 laws2 k1 k2) (same1, (same2, tt)) bag
+-- a query is a test for one key
+IsKeyTest-query : {T K Q : Type 0} (eq : K → K → Bool) (key : T → K) (stands : Q → K → Bool) → ((q : Q) (x y : K) → stands q x ≡ true → stands q y ≡ eq x y) → (q : Q) → IsKeyTest (λ x y. eq (key x) (key y)) (λ x. stands q (key x))
+IsKeyTest-query eq key stands respects q = λ x y has. sym (respects q (key x) (key y) has)
 
-    pub clash-both : listing (key_tests of eq1 eq2 k1 k2) bag ≡ [] → clash (ranks of eq1 eq2) bag x ≡ []
-    clash-both none = clash-keys (ranks of eq1 eq2) (key_tests of eq1 eq2 k1 k2) x (AreKeyTests-keys laws1 laws2 k1 k2) (same1, (same2, tt)) bag none
+module _ {T K1 K2 Q1 Q2 : Type 0} (of : item.Ghosts T K1 K2) (eq1 : K1 → K1 → Bool) (eq2 : K2 → K2 → Bool) (stands1 : Q1 → K1 → Bool) (stands2 : Q2 → K2 → Bool) (respects1 : (q : Q1) (x y : K1) → stands1 q x ≡ true → stands1 q y ≡ eq1 x y) (respects2 : (q : Q2) (x y : K2) → stands2 q x ≡ true → stands2 q y ≡ eq2 x y) where
+  -- queries are tests
+  pub AreKeyTests-queries : (k1 : Q1) (k2 : Q2) → AreKeyTests (ranks of eq1 eq2) (key_tests of stands1 stands2 k1 k2)
+  AreKeyTests-queries k1 k2 = (IsKeyTest-query eq1 of.key1 stands1 respects1 k1, (IsKeyTest-query eq2 of.key2 stands2 respects2 k2, tt))
+
+  -- an item with both keys conflicts with what they find
+  module _ (x : T) (k1 : Q1) (k2 : Q2) (same1 : stands1 k1 (of.key1 x) ≡ true) (same2 : stands2 k2 (of.key2 x) ≡ true) (bag : List T) where
+    pub order-both : order (ranks of eq1 eq2) bag x ≡ listing (key_tests of stands1 stands2 k1 k2) bag
+    order-both = order-keys (ranks of eq1 eq2) (key_tests of stands1 stands2 k1 k2) x (AreKeyTests-queries k1 k2) (same1, (same2, tt)) bag
+
+    pub clash-both : listing (key_tests of stands1 stands2 k1 k2) bag ≡ [] → clash (ranks of eq1 eq2) bag x ≡ []
+    clash-both none = clash-keys (ranks of eq1 eq2) (key_tests of stands1 stands2 k1 k2) x (AreKeyTests-queries k1 k2) (same1, (same2, tt)) bag none

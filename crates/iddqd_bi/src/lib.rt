@@ -16,9 +16,7 @@ mod ranks;
 mod ref_mut;
 
 pub use command::{BiCommand, BiReply, BiSink};
-pub use entry::{
-    Entry, KeyPair, Keys, OccupiedEntry, OccupiedEntryMut, OccupiedEntryRef, VacantEntry,
-};
+pub use entry::{Entry, OccupiedEntry, OccupiedEntryMut, OccupiedEntryRef, VacantEntry};
 pub use error::{
     EntryError, EntryRefusal, FromIterError, InsertError, KeyMismatch, NotReplaced, Rejected,
     TryEntryError, TryEntryRefusal,

@@ -1,8 +1,9 @@
 //! What guards, entries and iterations for writing print by `Debug`. Nothing that they lend is written.
-use crate::entry::{Entry, Keys, OccupiedEntry, OccupiedEntryMut, VacantEntry};
+use crate::entry::{Entry, OccupiedEntry, OccupiedEntryMut, VacantEntry};
 use crate::item::TriHashItem;
 use crate::iter_mut::IterMut;
 use crate::ref_mut::RefMut;
+use iddqd_store::Query;
 use std::fmt::{self, Debug, Formatter, Write};
 use std::hash::{BuildHasher, Hash};
 
@@ -23,8 +24,13 @@ impl<T: TriHashItem, S: BuildHasher> Debug for IterMut<'_, T, S> {
     }
 }
 
-impl<T: TriHashItem + Debug, S: BuildHasher, Q: Keys<T::K1, T::K2, T::K3>> Debug
-    for Entry<'_, T, S, Q> {
+impl<
+    T: TriHashItem + Debug,
+    S: BuildHasher,
+    Q1: Query<T::K1>,
+    Q2: Query<T::K2>,
+    Q3: Query<T::K3>,
+> Debug for Entry<'_, T, S, Q1, Q2, Q3> {
     /// Prints the variant with its entry.
     fn fmt<W: Write>(&self, f: &mut Formatter<W>) -> fmt::Result {
         match self {
@@ -34,15 +40,21 @@ impl<T: TriHashItem + Debug, S: BuildHasher, Q: Keys<T::K1, T::K2, T::K3>> Debug
     }
 }
 
-impl<T: TriHashItem, S: BuildHasher, Q: Keys<T::K1, T::K2, T::K3>> Debug
-    for VacantEntry<'_, T, S, Q> {
+impl<T: TriHashItem, S: BuildHasher, Q1: Query<T::K1>, Q2: Query<T::K2>, Q3: Query<T::K3>> Debug
+    for VacantEntry<'_, T, S, Q1, Q2, Q3> {
     /// Prints the name of the type. It prints no key, so the keys need no `Debug`.
     fn fmt<W: Write>(&self, f: &mut Formatter<W>) -> fmt::Result {
         f.debug_struct("VacantEntry").finish_non_exhaustive()
     }
 }
 
-impl<T: TriHashItem + Debug, S: BuildHasher> Debug for OccupiedEntry<'_, T, S> {
+impl<
+    T: TriHashItem + Debug,
+    S: BuildHasher,
+    Q1: Query<T::K1>,
+    Q2: Query<T::K2>,
+    Q3: Query<T::K3>,
+> Debug for OccupiedEntry<'_, T, S, Q1, Q2, Q3> {
     /// Prints the item that each key found, or `None`.
     fn fmt<W: Write>(&self, f: &mut Formatter<W>) -> fmt::Result {
         f.debug_struct("OccupiedEntry")

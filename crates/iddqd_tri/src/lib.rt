@@ -16,9 +16,7 @@ mod ranks;
 mod ref_mut;
 
 pub use command::{TriCommand, TriReply, TriSink};
-pub use entry::{
-    Entry, KeyTriple, Keys, OccupiedEntry, OccupiedEntryMut, OccupiedEntryRef, VacantEntry,
-};
+pub use entry::{Entry, OccupiedEntry, OccupiedEntryMut, OccupiedEntryRef, VacantEntry};
 pub use error::{
     EntryError, EntryRefusal, FromIterError, InsertError, KeyMismatch, NotReplaced, Rejected,
     TryEntryError, TryEntryRefusal,

@@ -5,14 +5,22 @@ ghost use Rattle.iddqd_store.specs.Bag.{listing};
 ghost use Rattle.iddqd_store.specs.Bag.Calling.{TakesInTurn};
 ghost use Rattle.iddqd_store.specs.Bag.Storing.{Stores};
 ghost use Rattle.iddqd_store.specs.Map.{bag};
+ghost use Rattle.iddqd_bi.specs.Keys.{key_tests};
 ghost use Rattle.iddqd_bi.specs.Entries.{IsFound, KeepsEntry, KeepsFound, OnOccupied, OnVacant, PutsIn, PutsInMade, entry_lender, entry_map, entry_tests};
 
-use super::{Entry, Keys, OccupiedEntryMut};
+use super::{Entry, OccupiedEntryMut};
 use crate::error::{EntryRefusal, TryEntryRefusal};
 use crate::item::{BiHashItem, BiHashItemMut, Ranked};
+use iddqd_store::Query;
 use std::hash::{BuildHasher, Hash};
 
-impl<'a, T: BiHashItem, S: BuildHasher, Q: Keys<T::K1, T::K2>> Entry<'a, T, S, Q> {
+impl<'a, T: BiHashItem, S: BuildHasher, Q1: Query<T::K1>, Q2: Query<T::K2>> Entry<
+    'a,
+    T,
+    S,
+    Q1,
+    Q2,
+> {
     /// Inserts the item if the entry is vacant, as `VacantEntry::insert_mut` does. If the entry is occupied, the item
     /// is dropped and nothing changes, and the result has the items that are there.
     ///
@@ -24,7 +32,8 @@ impl<'a, T: BiHashItem, S: BuildHasher, Q: Keys<T::K1, T::K2>> Entry<'a, T, S, Q
         ensures same_map { IfOk result (λ m. m.map.ghost_name ≡ entry_lender self.entry) }
         ensures same_map_at_err { IfErr result (λ e. e.map.ghost_name ≡ entry_lender self.entry) }
         ensures puts_in { OnVacant self.entry (λ v. PutsIn v item result) }
-        ensures keeps_found { OnOccupied self.entry (λ o. KeepsFound T.BiHashItem T.K1.eq T.K2.eq o result) }
+        ensures keeps_found { OnOccupied self.entry
+            (λ o. KeepsFound T.BiHashItem Q1.stands_for Q2.stands_for o result) }
     {
         match self {
             Entry::Vacant(v) => v.put_in(item),
@@ -43,7 +52,8 @@ impl<'a, T: BiHashItem, S: BuildHasher, Q: Keys<T::K1, T::K2>> Entry<'a, T, S, Q
         ensures same_map { IfOk result (λ m. m.map.ghost_name ≡ entry_lender self.entry) }
         ensures same_map_at_err { IfErr result (λ e. e.map.ghost_name ≡ entry_lender self.entry) }
         ensures puts_in { OnVacant self.entry (λ v. (x : T) × F.post f x × PutsIn v x result) }
-        ensures keeps_found { OnOccupied self.entry (λ o. KeepsFound T.BiHashItem T.K1.eq T.K2.eq o result) }
+        ensures keeps_found { OnOccupied self.entry
+            (λ o. KeepsFound T.BiHashItem Q1.stands_for Q2.stands_for o result) }
     {
         match self {
             Entry::Vacant(v) => v.put_in(f()),
@@ -73,7 +83,8 @@ impl<'a, T: BiHashItem, S: BuildHasher, Q: Keys<T::K1, T::K2>> Entry<'a, T, S, Q
         ensures unchanged { IfErr result (λ e. e.map.now ≡ entry_map self.entry) }
         // What the closure returns decides what happens to a vacant entry. An occupied entry keeps its items.
         ensures puts_in { OnVacant self.entry (λ v. (made : Result T E) × F.post f made × PutsInMade v made result) }
-        ensures keeps_found { OnOccupied self.entry (λ o. KeepsFound T.BiHashItem T.K1.eq T.K2.eq o result) }
+        ensures keeps_found { OnOccupied self.entry
+            (λ o. KeepsFound T.BiHashItem Q1.stands_for Q2.stands_for o result) }
     {
         match self {
             Entry::Vacant(v) => v.put_made_in(f()),
@@ -82,23 +93,30 @@ impl<'a, T: BiHashItem, S: BuildHasher, Q: Keys<T::K1, T::K2>> Entry<'a, T, S, Q
     }
 }
 
-impl<'a, T: BiHashItemMut, S: BuildHasher, Q: Keys<T::K1, T::K2>> Entry<'a, T, S, Q> {
+impl<'a, T: BiHashItemMut, S: BuildHasher, Q1: Query<T::K1>, Q2: Query<T::K2>> Entry<
+    'a,
+    T,
+    S,
+    Q1,
+    Q2,
+> {
     /// Calls `f` with each item of an occupied entry, stores what `f` returns as the item's data, and returns the
     /// entry. It updates each item once, that of the first key first. A vacant entry stays as it is, and `f` is not
     /// called. The call allocates no memory.
     ///
     /// `map.entry(&key1, &key2).and_modify(|item| item.count + 1).or_insert(item)`
-    pub fn and_modify<F: FnMut(&T) -> T::Data>(self, f: F) -> Entry<'a, T, S, Q>
+    pub fn and_modify<F: FnMut(&T) -> T::Data>(self, f: F) -> Entry<'a, T, S, Q1, Q2>
     where
         T::Data: Drop,
         F: Drop,
         requires callable { OnOccupied self (λ o. TakesInTurn F.FnMut f
-            (listing (entry_tests ⟦<T as Ranked>⟧.key_tests o) (bag o.map.now))) }
+            (listing (entry_tests (key_tests T.BiHashItem Q1.stands_for Q2.stands_for) o) (bag o.map.now))) }
         requires is_found { IsFound self }
         // A vacant entry stays as it was. Each item that was found gets the data that the closure returns for it.
         ensures vacant { OnVacant self.entry (λ v. result ≡ self.entry) }
         ensures stores { OnOccupied self.entry (λ o. Stores (CalledAt F.FnMut) T.put ⟦<T as Ranked>⟧.ranks f
-            (listing (entry_tests ⟦<T as Ranked>⟧.key_tests o) (bag o.map.now)) (bag o.map.now)
+            (listing (entry_tests (key_tests T.BiHashItem Q1.stands_for Q2.stands_for) o) (bag o.map.now))
+            (bag o.map.now)
             (bag (entry_map result))) }
         // The entry borrows the same map, and has found the same places. Nothing else changes.
         ensures keeps_entry { KeepsEntry self.entry result }

@@ -7,13 +7,20 @@ ghost use Rattle.iddqd_bi.specs.Entries.{GainsAndFinds, GainsAndHolds, GainsAndL
 ghost use Rattle.iddqd_bi.specs.RefMuts.{ref_lender};
 ghost use Rattle.iddqd_bi.specs.Mismatch.{HandsBack};
 
-use super::{KeyPair, Keys, OccupiedEntry, OccupiedEntryMut, VacantEntry};
+use super::{OccupiedEntry, OccupiedEntryMut, VacantEntry};
 use crate::error::{EntryError, EntryRefusal, TryEntryError, TryEntryRefusal};
 use crate::item::{BiHashItem, Ranked};
 use crate::ref_mut::RefMut;
+use iddqd_store::Query;
 use std::hash::{BuildHasher, Hash};
 
-impl<'a, T: Ranked, S: BuildHasher, Q: Keys<T::K1, T::K2>> VacantEntry<'a, T, S, Q> {
+impl<'a, T: Ranked, S: BuildHasher, Q1: Query<T::K1>, Q2: Query<T::K2>> VacantEntry<
+    'a,
+    T,
+    S,
+    Q1,
+    Q2,
+> {
     /// Inserts an item that has the entry's keys, and returns a guard of it.
     ///
     /// If the item has another key, the error names the lowest rank at which its key is not the entry's. Otherwise the
@@ -35,8 +42,13 @@ impl<'a, T: Ranked, S: BuildHasher, Q: Keys<T::K1, T::K2>> VacantEntry<'a, T, S,
         ensures* unchanged_at_err { sem 𝓛 (rests_if_err T.row S.row T.K1.row T.K2.row S.Hasher.row
             T.BiHashItem T.K1.Hash T.K2.Hash S.BuildHasher S.Hasher.Hasher ref_lender self.entry.map result) }
     {
-        let VacantEntry { map, keys, at } = self;
-        let slot = map.insert_free(item, keys.first(), keys.second(), at)?;
+        let VacantEntry {
+            map,
+            query1,
+            query2,
+            at,
+        } = self;
+        let slot = map.insert_free(item, query1, query2, at)?;
         Ok(RefMut { map, slot })
     }
 
@@ -56,8 +68,13 @@ impl<'a, T: Ranked, S: BuildHasher, Q: Keys<T::K1, T::K2>> VacantEntry<'a, T, S,
             T.BiHashItem T.K1.Hash T.K2.Hash S.BuildHasher S.Hasher.Hasher
             (λ m. m.map.ghost_name) self.entry.map result) }
     {
-        let VacantEntry { map, keys, at } = self;
-        let slot = map.insert_free(item, keys.first(), keys.second(), at)?;
+        let VacantEntry {
+            map,
+            query1,
+            query2,
+            at,
+        } = self;
+        let slot = map.insert_free(item, query1, query2, at)?;
         Ok(OccupiedEntryMut {
             map,
             slot1: Some(slot),
@@ -66,12 +83,21 @@ impl<'a, T: Ranked, S: BuildHasher, Q: Keys<T::K1, T::K2>> VacantEntry<'a, T, S,
     }
 }
 
-impl<'a, T: BiHashItem, S: BuildHasher> VacantEntry<'a, T, S> {
+impl<'a, T: BiHashItem, S: BuildHasher, Q1: Query<T::K1>, Q2: Query<T::K2>> VacantEntry<
+    'a,
+    T,
+    S,
+    Q1,
+    Q2,
+> {
     /// Inserts an item as `insert` does, and returns the occupied entry with the same keys, which finds the item alone.
     /// The error borrows the map.
-    pub fn insert_entry(self, item: T) -> Result<OccupiedEntry<'a, T, S>, EntryRefusal<'a, T, S>>
+    pub fn insert_entry(
+        self,
+        item: T,
+    ) -> Result<OccupiedEntry<'a, T, S, Q1, Q2>, EntryRefusal<'a, T, S>>
         // The entry borrows this very map, with the item in it, which all its keys find.
-        ensures gains_and_finds { IfOk result (GainsAndFinds ⟦<T as Ranked>⟧.key_tests self.entry item) }
+        ensures gains_and_finds { IfOk result (GainsAndFinds self.entry item) }
         // The result is `Ok` only for an item with the entry's keys, and always for such an item if there is spare
         // capacity.
         ensures same_keys { OnOk result (differ (wanted self.entry) item ≡ None) }
@@ -82,13 +108,17 @@ impl<'a, T: BiHashItem, S: BuildHasher> VacantEntry<'a, T, S> {
         ensures hands_back { IfErr result (λ e.
             HandsBack ⟦<T as Ranked>⟧.ranks (wanted self.entry) self.entry.map.now item e.error) }
     {
-        let VacantEntry { map, keys, at } = self;
-        let KeyPair { key1, key2 } = keys;
-        match map.insert_free(item, key1, key2, at) {
+        let VacantEntry {
+            map,
+            query1,
+            query2,
+            at,
+        } = self;
+        match map.insert_free(item, query1, query2, at) {
             Ok(slot) => Ok(OccupiedEntry {
                 map,
-                key1,
-                key2,
+                query1,
+                query2,
                 slot1: Some(slot),
                 slot2: Some(slot),
             }),
@@ -97,7 +127,13 @@ impl<'a, T: BiHashItem, S: BuildHasher> VacantEntry<'a, T, S> {
     }
 }
 
-impl<'a, T: BiHashItem, S: BuildHasher, Q: Keys<T::K1, T::K2>> VacantEntry<'a, T, S, Q> {
+impl<'a, T: BiHashItem, S: BuildHasher, Q1: Query<T::K1>, Q2: Query<T::K2>> VacantEntry<
+    'a,
+    T,
+    S,
+    Q1,
+    Q2,
+> {
     /// Inserts an item as `insert_mut` does. The error borrows the map, as those of `or_insert` and `or_insert_with`
     /// do.
     pub(super) fn put_in(
@@ -108,8 +144,13 @@ impl<'a, T: BiHashItem, S: BuildHasher, Q: Keys<T::K1, T::K2>> VacantEntry<'a, T
         ensures same_map_at_err { IfErr result (λ e. e.map.ghost_name ≡ self.entry.map.ghost_name) }
         ensures puts_in { PutsIn self.entry item result }
     {
-        let VacantEntry { map, keys, at } = self;
-        match map.insert_free(item, keys.first(), keys.second(), at) {
+        let VacantEntry {
+            map,
+            query1,
+            query2,
+            at,
+        } = self;
+        match map.insert_free(item, query1, query2, at) {
             Ok(slot) => Ok(OccupiedEntryMut {
                 map,
                 slot1: Some(slot),
@@ -129,9 +170,14 @@ impl<'a, T: BiHashItem, S: BuildHasher, Q: Keys<T::K1, T::K2>> VacantEntry<'a, T
         ensures unchanged { IfErr result (λ e. e.map.now ≡ self.entry.map.now) }
         ensures puts_in { PutsInMade self.entry made result }
     {
-        let VacantEntry { map, keys, at } = self;
+        let VacantEntry {
+            map,
+            query1,
+            query2,
+            at,
+        } = self;
         match made {
-            Ok(item) => match map.insert_free(item, keys.first(), keys.second(), at) {
+            Ok(item) => match map.insert_free(item, query1, query2, at) {
                 Ok(slot) => Ok(OccupiedEntryMut {
                     map,
                     slot1: Some(slot),

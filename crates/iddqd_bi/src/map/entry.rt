@@ -2,17 +2,19 @@
 ghost use Rattle.std.specs.Prelude.{◌≡◌};
 ghost use Rattle.iddqd_store.specs.Bag.{entry};
 ghost use Rattle.iddqd_store.specs.Map.{bag};
+ghost use Rattle.iddqd_bi.specs.Keys.{key_tests};
 ghost use Rattle.iddqd_bi.specs.Entries.{HasKeys, IsFound, entry_lender, entry_map, entry_value};
 
 use super::BiHashMap;
-use crate::entry::{Entry, KeyPair, OccupiedEntry, VacantEntry};
-use crate::item::{BiHashItem, Ranked};
-use iddqd_store::Meter;
+use crate::entry::{Entry, OccupiedEntry, VacantEntry};
+use crate::item::BiHashItem;
+use iddqd_store::{Meter, Query};
 use std::hash::{BuildHasher, Hash};
 
 impl<T: BiHashItem, S: BuildHasher> BiHashMap<T, S> {
-    /// Looks up two keys at once. The result is `Vacant` if no item has one of the keys, otherwise `Occupied`, with the
-    /// items that have one. The entry keeps what the keys found, so that its calls need not search again.
+    /// Looks up two keys at once, each by a query. The result is `Vacant` if no item has one of the keys, otherwise
+    /// `Occupied`, with the items that have one. The entry keeps the queries and what they found, so that its calls need
+    /// not search again.
     ///
     /// The call hashes each key once, and searches for it once. It allocates no memory.
     ///
@@ -24,26 +26,31 @@ impl<T: BiHashItem, S: BuildHasher> BiHashMap<T, S> {
     ///     Entry::Occupied(entry) => println!(rt; "taken: {:?}", entry.get())?,
     /// }
     /// ```
-    pub fn entry<'a>(&'a mut self, key1: &'a T::K1, key2: &'a T::K2) -> Entry<'a, T, S>
-        // The entry borrows this very map, unchanged, and has these keys.
+    pub fn entry<Q1: Query<T::K1>, Q2: Query<T::K2>>(
+        &mut self,
+        query1: Q1,
+        query2: Q2,
+    ) -> Entry<'_, T, S, Q1, Q2>
+        // The entry borrows this very map, unchanged, and has these queries.
         ensures same_map { entry_lender result ≡ self.entry.ghost_name }
         ensures unchanged { entry_map result ≡ self.old }
-        ensures keys { HasKeys result key1.now key2.now }
-        // It has found the items that have the keys.
+        ensures keys { HasKeys result query1 query2 }
+        // It has found the items that have the keys that the queries stand for.
         ensures value { entry_value result
-            ≡ entry (⟦<T as Ranked>⟧.key_tests key1.now key2.now) (bag self.old) }
+            ≡ entry (key_tests T.BiHashItem Q1.stands_for Q2.stands_for query1 query2) (bag self.old) }
         ensures is_found { IsFound result }
     {
-        match self.search_all(key1, key2, &mut Meter::new(), &mut Meter::new()) {
+        match self.search_all(query1, query2, &mut Meter::new(), &mut Meter::new()) {
             Ok(at) => Entry::Vacant(VacantEntry {
                 map: self,
-                keys: KeyPair { key1, key2 },
+                query1,
+                query2,
                 at,
             }),
             Err((by1, by2)) => Entry::Occupied(OccupiedEntry {
                 map: self,
-                key1,
-                key2,
+                query1,
+                query2,
                 slot1: by1.slot(),
                 slot2: by2.slot(),
             }),

@@ -12,7 +12,7 @@ ghost use Rattle.iddqd_store.specs.Rank.{agree, walks_within};
 ghost use Rattle.iddqd_store.specs.Slots.Found.{AreFound, each_once, items_at};
 ghost use Rattle.iddqd_store.specs.Slots.{get, IsLive, Updates};
 ghost use Rattle.iddqd_store.specs.Table.Limit.{most_room};
-ghost use Rattle.iddqd_bi.specs.Keys.{by_rank};
+ghost use Rattle.iddqd_bi.specs.Keys.{by_rank, key_tests};
 ghost use Rattle.iddqd_bi.specs.Mismatch.{HandsBack};
 
 mod enter;
@@ -27,7 +27,7 @@ use crate::error::EntryError;
 use crate::item::{BiHashItem, Hashed, Ranked};
 use crate::ranks::{First, Second};
 use iddqd_store::{
-    ItemIndex, Lookup, Meter, SlotUnder, TryReserveError, UpToTwo, Vacancy, pairs_wanted,
+    ItemIndex, Lookup, Meter, Query, SlotUnder, TryReserveError, UpToTwo, Vacancy, pairs_wanted,
     wanted_above,
 };
 use std::hash::{BuildHasher, Hash};
@@ -85,15 +85,15 @@ impl<T: BiHashItem, S: BuildHasher> BiHashMap<T, S> {
     /// hashes each key once, and searches for it once. One meter counts the keys that are compared, and the other the
     /// probed cells.
     #[inline(always)]
-    pub(crate) fn search_all(
+    pub(crate) fn search_all<Q1: Query<T::K1>, Q2: Query<T::K2>>(
         &self,
-        key1: &T::K1,
-        key2: &T::K2,
+        query1: Q1,
+        query2: Q2,
         asked: &mut Meter,
         probed: &mut Meter,
     ) -> Result<(Vacancy, Vacancy), (SlotUnder, SlotUnder)>
         // The slots that were found, and whether there are any.
-        ensures found { AreFound (⟦<T as Ranked>⟧.key_tests key1.now key2.now) self.now.slots
+        ensures found { AreFound (key_tests T.BiHashItem Q1.stands_for Q2.stands_for query1 query2) self.now.slots
             (slots_found (by_rank result)) }
         ensures none { OnOk result (list_any is_some (slots_found (by_rank result)) ≡ false) }
         ensures some { OnErr result (list_any is_some (slots_found (by_rank result)) ≡ true) }
@@ -101,21 +101,21 @@ impl<T: BiHashItem, S: BuildHasher> BiHashMap<T, S> {
         // The empty cells, or the hashes by which the slots were found.
         ensures vacant { IfOk (by_rank result) (AreVacantFor (⟦<T as Hashed<S>>⟧.hashes self.now.builder) (bag self.now)
             (map (hash_of S.BuildHasher S.Hasher.Hasher self.now.builder)
-            (T.K1.hash_input key1.now ∷ T.K2.hash_input key2.now ∷ []))) }
+            (Q1.hash_input query1 ∷ Q2.hash_input query2 ∷ []))) }
         ensures cells { IfOk (by_rank result) (HaveRoom self.now.capacity) }
         ensures hashes { IfErr (by_rank result) (HaveHashes
             (map (hash_of S.BuildHasher S.Hasher.Hasher self.now.builder)
-            (T.K1.hash_input key1.now ∷ T.K2.hash_input key2.now ∷ []))) }
+            (Q1.hash_input query1 ∷ Q2.hash_input query2 ∷ []))) }
         ensures under { IfErr (by_rank result) (AreUnder (⟦<T as Hashed<S>>⟧.hashes self.now.builder) self.now.slots) }
         ensures costs { AreSearched (⟦<T as Hashed<S>>⟧.hashes self.now.builder) (bag self.now) self.now.capacity
             (map (hash_of S.BuildHasher S.Hasher.Hasher self.now.builder)
-            (T.K1.hash_input key1.now ∷ T.K2.hash_input key2.now ∷ [])) (slots_found (by_rank result))
+            (Q1.hash_input query1 ∷ Q2.hash_input query2 ∷ [])) (slots_found (by_rank result))
             asked.old asked.new probed.old probed.new }
     {
-        let hash1 = self.hash_builder.hash_one(key1);
-        let hash2 = self.hash_builder.hash_one(key2);
-        let by1 = self.by_key1().search(hash1, key1, asked, probed);
-        let by2 = self.by_key2().search(hash2, key2, asked, probed);
+        let hash1 = self.hash_builder.hash_one(query1);
+        let hash2 = self.hash_builder.hash_one(query2);
+        let by1 = self.by_key1().search(hash1, query1, asked, probed);
+        let by2 = self.by_key2().search(hash2, query2, asked, probed);
         match (by1, by2) {
             (Err(at1), Err(at2)) => Ok((at1, at2)),
             (by1, by2) => Err((
@@ -179,27 +179,28 @@ impl<T: BiHashItem, S: BuildHasher> BiHashMap<T, S> {
     /// Inserts an item that has these keys, which no item of the map has, and returns its slot. The error names the
     /// lowest rank at which the item has another key, or says that there was no memory. The call compares the item's
     /// keys with the given ones. It searches for no key, and hashes none.
-    pub(crate) fn insert_free(
+    pub(crate) fn insert_free<Q1: Query<T::K1>, Q2: Query<T::K2>>(
         &mut self,
         item: T,
-        key1: &T::K1,
-        key2: &T::K2,
+        query1: Q1,
+        query2: Q2,
         at: (Vacancy, Vacancy),
     ) -> Result<ItemIndex, EntryError<T>>
-        requires absent { listing (⟦<T as Ranked>⟧.key_tests key1.now key2.now) (bag self.old) ≡ [] }
+        requires absent { listing (key_tests T.BiHashItem Q1.stands_for Q2.stands_for query1 query2) (bag self.old) ≡ [] }
         requires vacant { AreVacantFor (⟦<T as Hashed<S>>⟧.hashes self.old.builder) (bag self.old)
             (map (hash_of S.BuildHasher S.Hasher.Hasher self.old.builder)
-            (T.K1.hash_input key1.now ∷ T.K2.hash_input key2.now ∷ []))
+            (Q1.hash_input query1 ∷ Q2.hash_input query2 ∷ []))
             (at.0 ∷ at.1 ∷ []) }
         ensures gains { OnOk result (Gains self.old item self.new) }
         ensures at { IfOk result (λ slot. get self.new.slots slot ≡ Some item) }
         ensures sound { OnOk result (IsSound ⟦<T as Ranked>⟧.ranks (bag self.new)) }
-        ensures same_keys { OnOk result (differ (⟦<T as Ranked>⟧.key_tests key1.now key2.now) item ≡ None) }
+        ensures same_keys { OnOk result
+            (differ (key_tests T.BiHashItem Q1.stands_for Q2.stands_for query1 query2) item ≡ None) }
         ensures hands_back { IfErr result (HandsBack ⟦<T as Ranked>⟧.ranks
-            (⟦<T as Ranked>⟧.key_tests key1.now key2.now) self.old item) }
+            (key_tests T.BiHashItem Q1.stands_for Q2.stands_for query1 query2) self.old item) }
         ensures unchanged { OnErr result (self.new ≡ self.old) }
     {
-        if let Some(rank) = differ(&item, key1, key2) {
+        if let Some(rank) = differ(&item, query1, query2) {
             return Err(EntryError::at(rank, item));
         }
         if let Err(_) = self.make_room(1) {

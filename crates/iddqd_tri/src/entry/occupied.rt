@@ -8,7 +8,7 @@ ghost use Rattle.iddqd_store.specs.Bag.Calling.{TakesInTurn};
 ghost use Rattle.iddqd_store.specs.Bag.Storing.{Stores};
 ghost use Rattle.iddqd_store.specs.Map.{bag, Loses};
 ghost use Rattle.iddqd_tri.specs.Entries.{FindsSame, HasFound, HoldsFound, PutsOver, entry_tests, entry_with, lends_entry_data, lends_held};
-ghost use Rattle.iddqd_tri.specs.Keys.{has1, has2, has3};
+ghost use Rattle.iddqd_tri.specs.Keys.{has1, has2, has3, key_tests};
 ghost use Rattle.iddqd_tri.specs.Mismatch.{mismatch_item, mismatch_rank};
 ghost use Rattle.iddqd_tri.specs.OccupiedRefs.{is_one, seen1, seen2, seen3};
 
@@ -17,35 +17,51 @@ use crate::error::KeyMismatch;
 use crate::item::{Ranked, TriHashItem, TriHashItemMut};
 use crate::map::TriHashMap;
 use crate::map::slots::found::{differ, each_once, one_of};
-use iddqd_store::{Meter, SlotUnder, UpToThree};
+use iddqd_store::{Meter, Query, SlotUnder, UpToThree};
 use std::hash::{BuildHasher, Hash};
 
-impl<'a, T: TriHashItem, S: BuildHasher> OccupiedEntry<'a, T, S> {
+impl<
+    'a,
+    T: TriHashItem,
+    S: BuildHasher,
+    Q1: Query<T::K1>,
+    Q2: Query<T::K2>,
+    Q3: Query<T::K3>,
+> OccupiedEntry<'a, T, S, Q1, Q2, Q3> {
     /// Returns whether one item has all keys.
     pub fn is_unique(&self) -> bool
-        requires { HasFound ⟦<T as Ranked>⟧.key_tests self.now }
-        ensures { result ≡ is_unique (entry (entry_tests ⟦<T as Ranked>⟧.key_tests self.now) (bag self.now.map.now)) }
+        requires { HasFound (key_tests T.TriHashItem Q1.stands_for Q2.stands_for Q3.stands_for) self.now }
+        ensures { result
+            ≡ is_unique (entry (entry_tests
+            (key_tests T.TriHashItem Q1.stands_for Q2.stands_for Q3.stands_for) self.now) (bag self.now.map.now)) }
     {
         one_of(self.slot1, self.slot2, self.slot3).is_some()
     }
 
     /// Returns whether no item has all keys: the keys found different items, or one of them found none.
     pub fn is_non_unique(&self) -> bool
-        requires { HasFound ⟦<T as Ranked>⟧.key_tests self.now }
+        requires { HasFound (key_tests T.TriHashItem Q1.stands_for Q2.stands_for Q3.stands_for) self.now }
         ensures { result
-            ≡ not (is_unique (entry (entry_tests ⟦<T as Ranked>⟧.key_tests self.now) (bag self.now.map.now))) }
+            ≡ not (is_unique
+            (entry (entry_tests (key_tests T.TriHashItem Q1.stands_for Q2.stands_for Q3.stands_for) self.now)
+            (bag self.now.map.now))) }
     {
         !self.is_unique()
     }
 
     /// Returns the items, borrowed for reading.
     pub fn get(&self) -> OccupiedEntryRef<'_, T>
-        requires { HasFound ⟦<T as Ranked>⟧.key_tests self.now }
+        requires { HasFound (key_tests T.TriHashItem Q1.stands_for Q2.stands_for Q3.stands_for) self.now }
         ensures is_one { is_one result
-            ≡ is_unique (entry (entry_tests ⟦<T as Ranked>⟧.key_tests self.now) (bag self.now.map.now)) }
-        ensures by_key1 { IsOnly (has1 T.TriHashItem T.K1.eq self.now.key1.now) (bag self.now.map.now) (seen1 result) }
-        ensures by_key2 { IsOnly (has2 T.TriHashItem T.K2.eq self.now.key2.now) (bag self.now.map.now) (seen2 result) }
-        ensures by_key3 { IsOnly (has3 T.TriHashItem T.K3.eq self.now.key3.now) (bag self.now.map.now) (seen3 result) }
+            ≡ is_unique
+            (entry (entry_tests (key_tests T.TriHashItem Q1.stands_for Q2.stands_for Q3.stands_for) self.now)
+            (bag self.now.map.now)) }
+        ensures by_key1 { IsOnly (has1 T.TriHashItem Q1.stands_for self.now.query1) (bag self.now.map.now)
+            (seen1 result) }
+        ensures by_key2 { IsOnly (has2 T.TriHashItem Q2.stands_for self.now.query2) (bag self.now.map.now)
+            (seen2 result) }
+        ensures by_key3 { IsOnly (has3 T.TriHashItem Q3.stands_for self.now.query3) (bag self.now.map.now)
+            (seen3 result) }
     {
         let is_unique = self.is_unique();
         let by_key1 = self.map.item_of(self.slot1);
@@ -56,22 +72,24 @@ impl<'a, T: TriHashItem, S: BuildHasher> OccupiedEntry<'a, T, S> {
 
     /// Returns the items, borrowed for reading for as long as the entry borrowed the map.
     pub fn into_ref(self) -> OccupiedEntryRef<'a, T>
-        requires { HasFound ⟦<T as Ranked>⟧.key_tests self }
+        requires { HasFound (key_tests T.TriHashItem Q1.stands_for Q2.stands_for Q3.stands_for) self }
         ensures is_one { is_one result
-            ≡ is_unique (entry (entry_tests ⟦<T as Ranked>⟧.key_tests self.entry) (bag self.entry.map.now)) }
-        ensures by_key1 { IsOnly (has1 T.TriHashItem T.K1.eq self.entry.key1.now) (bag self.entry.map.now)
+            ≡ is_unique
+            (entry (entry_tests (key_tests T.TriHashItem Q1.stands_for Q2.stands_for Q3.stands_for) self.entry)
+            (bag self.entry.map.now)) }
+        ensures by_key1 { IsOnly (has1 T.TriHashItem Q1.stands_for self.entry.query1) (bag self.entry.map.now)
             (seen1 result) }
-        ensures by_key2 { IsOnly (has2 T.TriHashItem T.K2.eq self.entry.key2.now) (bag self.entry.map.now)
+        ensures by_key2 { IsOnly (has2 T.TriHashItem Q2.stands_for self.entry.query2) (bag self.entry.map.now)
             (seen2 result) }
-        ensures by_key3 { IsOnly (has3 T.TriHashItem T.K3.eq self.entry.key3.now) (bag self.entry.map.now)
+        ensures by_key3 { IsOnly (has3 T.TriHashItem Q3.stands_for self.entry.query3) (bag self.entry.map.now)
             (seen3 result) }
     {
         let is_unique = self.is_unique();
         let OccupiedEntry {
             map,
-            key1: _,
-            key2: _,
-            key3: _,
+            query1: _,
+            query2: _,
+            query3: _,
             slot1,
             slot2,
             slot3,
@@ -87,10 +105,11 @@ impl<'a, T: TriHashItem, S: BuildHasher> OccupiedEntry<'a, T, S> {
     /// afterwards than after `into_mut`.
     pub fn get_mut(&mut self) -> OccupiedEntryMut<'_, T, S>
         ensures map { result.map.now ≡ self.old.map.now }
-        ensures holds { HasFound ⟦<T as Ranked>⟧.key_tests self.old
-            → HoldsFound T.TriHashItem T.K1.eq T.K2.eq T.K3.eq self.old result }
+        ensures holds { HasFound (key_tests T.TriHashItem Q1.stands_for Q2.stands_for Q3.stands_for) self.old
+            → HoldsFound T.TriHashItem Q1.stands_for Q2.stands_for Q3.stands_for self.old result }
         ensures* lends { sem 𝓛 (lends_held T.row S.row T.K1.row T.K2.row T.K3.row S.Hasher.row
-            T.TriHashItem T.K1.Hash T.K2.Hash T.K3.Hash S.BuildHasher S.Hasher.Hasher self.entry result) }
+            T.TriHashItem T.K1.Hash T.K2.Hash T.K3.Hash S.BuildHasher S.Hasher.Hasher Q1.row Q2.row Q3.row
+            self.entry result) }
     {
         let slot1 = self.slot1;
         let slot2 = self.slot2;
@@ -108,14 +127,14 @@ impl<'a, T: TriHashItem, S: BuildHasher> OccupiedEntry<'a, T, S> {
     pub fn into_mut(self) -> OccupiedEntryMut<'a, T, S>
         ensures same_map { result.map.ghost_name ≡ self.entry.map.ghost_name }
         ensures map { result.map.now ≡ self.entry.map.now }
-        ensures holds { HasFound ⟦<T as Ranked>⟧.key_tests self.entry
-            → HoldsFound T.TriHashItem T.K1.eq T.K2.eq T.K3.eq self.entry result }
+        ensures holds { HasFound (key_tests T.TriHashItem Q1.stands_for Q2.stands_for Q3.stands_for) self.entry
+            → HoldsFound T.TriHashItem Q1.stands_for Q2.stands_for Q3.stands_for self.entry result }
     {
         let OccupiedEntry {
             map,
-            key1: _,
-            key2: _,
-            key3: _,
+            query1: _,
+            query2: _,
+            query3: _,
             slot1,
             slot2,
             slot3,
@@ -138,22 +157,27 @@ impl<'a, T: TriHashItem, S: BuildHasher> OccupiedEntry<'a, T, S> {
     /// each of them once, and each key of a removed item by which the entry did not find it. It searches for nothing,
     /// and allocates no memory.
     pub fn insert(&mut self, item: T) -> Result<UpToThree<T>, KeyMismatch<T>>
-        requires { HasFound ⟦<T as Ranked>⟧.key_tests self.old }
+        requires { HasFound (key_tests T.TriHashItem Q1.stands_for Q2.stands_for Q3.stands_for) self.old }
         // The result is `Ok` only for an item with the entry's keys. The items that these keys found are returned, in
         // their order.
-        ensures same_keys { OnOk result (differ (entry_tests ⟦<T as Ranked>⟧.key_tests self.old) item ≡ None) }
+        ensures same_keys { OnOk result
+            (differ (entry_tests (key_tests T.TriHashItem Q1.stands_for Q2.stands_for Q3.stands_for) self.old) item
+            ≡ None) }
         ensures displaced { IfOk result (λ gone. gone
-            ≡ listing (entry_tests ⟦<T as Ranked>⟧.key_tests self.old) (bag self.old.map.now)) }
+            ≡ listing (entry_tests (key_tests T.TriHashItem Q1.stands_for Q2.stands_for Q3.stands_for) self.old)
+            (bag self.old.map.now)) }
         // The entry then finds the new item alone.
         ensures puts_over { OnOk result
-            (PutsOver ⟦<T as Ranked>⟧.ranks ⟦<T as Ranked>⟧.key_tests self.old item self.new) }
+            (PutsOver ⟦<T as Ranked>⟧.ranks
+            (key_tests T.TriHashItem Q1.stands_for Q2.stands_for Q3.stands_for) self.old item self.new) }
         // An item with another key is returned, and nothing changes.
         ensures handed_back { IfErr result (λ e. mismatch_item e ≡ item) }
         ensures rank { IfErr result (λ e.
-            differ (entry_tests ⟦<T as Ranked>⟧.key_tests self.old) item ≡ Some (mismatch_rank e)) }
+            differ (entry_tests (key_tests T.TriHashItem Q1.stands_for Q2.stands_for Q3.stands_for) self.old) item
+            ≡ Some (mismatch_rank e)) }
         ensures unchanged { OnErr result (self.new ≡ self.old) }
     {
-        if let Some(rank) = differ(&item, self.key1, self.key2, self.key3) {
+        if let Some(rank) = differ(&item, self.query1, self.query2, self.query3) {
             return Err(KeyMismatch::at(rank, item));
         }
         let by1 = SlotUnder::new(self.slot1, self.map.hash_of1(&item));
@@ -170,15 +194,17 @@ impl<'a, T: TriHashItem, S: BuildHasher> OccupiedEntry<'a, T, S> {
     ///
     /// The call hashes each key of a removed item. It compares no key, and allocates no memory.
     pub fn remove(self) -> UpToThree<T>
-        requires { HasFound ⟦<T as Ranked>⟧.key_tests self }
-        ensures taken { result ≡ listing (entry_tests ⟦<T as Ranked>⟧.key_tests self.entry) (bag self.entry.map.now) }
+        requires { HasFound (key_tests T.TriHashItem Q1.stands_for Q2.stands_for Q3.stands_for) self }
+        ensures taken { result
+            ≡ listing (entry_tests (key_tests T.TriHashItem Q1.stands_for Q2.stands_for Q3.stands_for) self.entry)
+            (bag self.entry.map.now) }
         ensures loses { Loses self.entry.map.now result self.exit.0.now }
     {
         let OccupiedEntry {
             map,
-            key1: _,
-            key2: _,
-            key3: _,
+            query1: _,
+            query2: _,
+            query3: _,
             slot1,
             slot2,
             slot3,
@@ -187,20 +213,28 @@ impl<'a, T: TriHashItem, S: BuildHasher> OccupiedEntry<'a, T, S> {
     }
 }
 
-impl<'a, T: TriHashItemMut, S: BuildHasher> OccupiedEntry<'a, T, S> {
+impl<
+    'a,
+    T: TriHashItemMut,
+    S: BuildHasher,
+    Q1: Query<T::K1>,
+    Q2: Query<T::K2>,
+    Q3: Query<T::K3>,
+> OccupiedEntry<'a, T, S, Q1, Q2, Q3> {
     /// Returns the data of the item with the first key, borrowed for writing, or `None` if no item has that key.
     pub fn data1_mut(&mut self) -> Option<&mut T::Data>
-        requires { HasFound ⟦<T as Ranked>⟧.key_tests self.old }
+        requires { HasFound (key_tests T.TriHashItem Q1.stands_for Q2.stands_for Q3.stands_for) self.old }
         ensures value { option_to_list (option_copied_mut result)
-            ≡ map T.data_of (filter (has1 T.TriHashItem T.K1.eq self.old.key1.now) (bag self.old.map.now)) }
+            ≡ map T.data_of (filter (has1 T.TriHashItem Q1.stands_for self.old.query1) (bag self.old.map.now)) }
         ensures swaps { (x : T) (d : T.Data)
-            → IsOnly (has1 T.TriHashItem T.K1.eq self.old.key1.now) (bag self.old.map.now) (Some x)
+            → IsOnly (has1 T.TriHashItem Q1.stands_for self.old.query1) (bag self.old.map.now) (Some x)
             → IsPermutation (bag (entry_with self.old self.old.slot1 (λ y. T.put y d)).map.now)
             (swap ⟦<T as Ranked>⟧.ranks (bag self.old.map.now) x (T.put x d)) }
         ensures has_found { (d : T.Data)
-            → HasFound ⟦<T as Ranked>⟧.key_tests (entry_with self.old self.old.slot1 (λ y. T.put y d)) }
+            → HasFound (key_tests T.TriHashItem Q1.stands_for Q2.stands_for Q3.stands_for)
+            (entry_with self.old self.old.slot1 (λ y. T.put y d)) }
         ensures* lends { sem 𝓛 (lends_entry_data T.row S.row T.K1.row T.K2.row T.K3.row S.Hasher.row
-            T.TriHashItem T.K1.Hash T.K2.Hash T.K3.Hash S.BuildHasher S.Hasher.Hasher T.Data.row T.put
+            T.TriHashItem T.K1.Hash T.K2.Hash T.K3.Hash S.BuildHasher S.Hasher.Hasher Q1.row Q2.row Q3.row T.Data.row T.put
             self.entry self.old.slot1 result) }
     {
         let slot1 = self.slot1;
@@ -209,17 +243,18 @@ impl<'a, T: TriHashItemMut, S: BuildHasher> OccupiedEntry<'a, T, S> {
 
     /// Returns the data of the item with the second key, borrowed for writing, or `None` if no item has that key.
     pub fn data2_mut(&mut self) -> Option<&mut T::Data>
-        requires { HasFound ⟦<T as Ranked>⟧.key_tests self.old }
+        requires { HasFound (key_tests T.TriHashItem Q1.stands_for Q2.stands_for Q3.stands_for) self.old }
         ensures value { option_to_list (option_copied_mut result)
-            ≡ map T.data_of (filter (has2 T.TriHashItem T.K2.eq self.old.key2.now) (bag self.old.map.now)) }
+            ≡ map T.data_of (filter (has2 T.TriHashItem Q2.stands_for self.old.query2) (bag self.old.map.now)) }
         ensures swaps { (x : T) (d : T.Data)
-            → IsOnly (has2 T.TriHashItem T.K2.eq self.old.key2.now) (bag self.old.map.now) (Some x)
+            → IsOnly (has2 T.TriHashItem Q2.stands_for self.old.query2) (bag self.old.map.now) (Some x)
             → IsPermutation (bag (entry_with self.old self.old.slot2 (λ y. T.put y d)).map.now)
             (swap ⟦<T as Ranked>⟧.ranks (bag self.old.map.now) x (T.put x d)) }
         ensures has_found { (d : T.Data)
-            → HasFound ⟦<T as Ranked>⟧.key_tests (entry_with self.old self.old.slot2 (λ y. T.put y d)) }
+            → HasFound (key_tests T.TriHashItem Q1.stands_for Q2.stands_for Q3.stands_for)
+            (entry_with self.old self.old.slot2 (λ y. T.put y d)) }
         ensures* lends { sem 𝓛 (lends_entry_data T.row S.row T.K1.row T.K2.row T.K3.row S.Hasher.row
-            T.TriHashItem T.K1.Hash T.K2.Hash T.K3.Hash S.BuildHasher S.Hasher.Hasher T.Data.row T.put
+            T.TriHashItem T.K1.Hash T.K2.Hash T.K3.Hash S.BuildHasher S.Hasher.Hasher Q1.row Q2.row Q3.row T.Data.row T.put
             self.entry self.old.slot2 result) }
     {
         let slot2 = self.slot2;
@@ -228,17 +263,18 @@ impl<'a, T: TriHashItemMut, S: BuildHasher> OccupiedEntry<'a, T, S> {
 
     /// Returns the data of the item with the third key, borrowed for writing, or `None` if no item has that key.
     pub fn data3_mut(&mut self) -> Option<&mut T::Data>
-        requires { HasFound ⟦<T as Ranked>⟧.key_tests self.old }
+        requires { HasFound (key_tests T.TriHashItem Q1.stands_for Q2.stands_for Q3.stands_for) self.old }
         ensures value { option_to_list (option_copied_mut result)
-            ≡ map T.data_of (filter (has3 T.TriHashItem T.K3.eq self.old.key3.now) (bag self.old.map.now)) }
+            ≡ map T.data_of (filter (has3 T.TriHashItem Q3.stands_for self.old.query3) (bag self.old.map.now)) }
         ensures swaps { (x : T) (d : T.Data)
-            → IsOnly (has3 T.TriHashItem T.K3.eq self.old.key3.now) (bag self.old.map.now) (Some x)
+            → IsOnly (has3 T.TriHashItem Q3.stands_for self.old.query3) (bag self.old.map.now) (Some x)
             → IsPermutation (bag (entry_with self.old self.old.slot3 (λ y. T.put y d)).map.now)
             (swap ⟦<T as Ranked>⟧.ranks (bag self.old.map.now) x (T.put x d)) }
         ensures has_found { (d : T.Data)
-            → HasFound ⟦<T as Ranked>⟧.key_tests (entry_with self.old self.old.slot3 (λ y. T.put y d)) }
+            → HasFound (key_tests T.TriHashItem Q1.stands_for Q2.stands_for Q3.stands_for)
+            (entry_with self.old self.old.slot3 (λ y. T.put y d)) }
         ensures* lends { sem 𝓛 (lends_entry_data T.row S.row T.K1.row T.K2.row T.K3.row S.Hasher.row
-            T.TriHashItem T.K1.Hash T.K2.Hash T.K3.Hash S.BuildHasher S.Hasher.Hasher T.Data.row T.put
+            T.TriHashItem T.K1.Hash T.K2.Hash T.K3.Hash S.BuildHasher S.Hasher.Hasher Q1.row Q2.row Q3.row T.Data.row T.put
             self.entry self.old.slot3 result) }
     {
         let slot3 = self.slot3;
@@ -250,17 +286,19 @@ impl<'a, T: TriHashItemMut, S: BuildHasher> OccupiedEntry<'a, T, S> {
     pub fn for_each<F: FnMut(&T) -> T::Data>(&mut self, f: F)
     where
         T::Data: Drop,
-        requires has_found { HasFound ⟦<T as Ranked>⟧.key_tests self.old }
+        requires has_found { HasFound (key_tests T.TriHashItem Q1.stands_for Q2.stands_for Q3.stands_for) self.old }
         requires callable { TakesInTurn F.FnMut f
-            (listing (entry_tests ⟦<T as Ranked>⟧.key_tests self.old) (bag self.old.map.now)) }
+            (listing (entry_tests (key_tests T.TriHashItem Q1.stands_for Q2.stands_for Q3.stands_for) self.old)
+            (bag self.old.map.now)) }
         ensures same_map { self.new.map.ghost_name ≡ self.old.map.ghost_name }
         ensures stores { Stores (CalledAt F.FnMut) T.put ⟦<T as Ranked>⟧.ranks f
-            (listing (entry_tests ⟦<T as Ranked>⟧.key_tests self.old) (bag self.old.map.now))
+            (listing (entry_tests (key_tests T.TriHashItem Q1.stands_for Q2.stands_for Q3.stands_for) self.old)
+            (bag self.old.map.now))
             (bag self.old.map.now) (bag self.new.map.now) }
         ensures capacity { self.new.map.now.capacity ≡ self.old.map.now.capacity }
         ensures builder { self.new.map.now.builder ≡ self.old.map.now.builder }
         ensures places { FindsSame self.old self.new }
-        ensures has_found { HasFound ⟦<T as Ranked>⟧.key_tests self.new }
+        ensures has_found { HasFound (key_tests T.TriHashItem Q1.stands_for Q2.stands_for Q3.stands_for) self.new }
     {
         let slot1 = self.slot1;
         let slot2 = self.slot2;

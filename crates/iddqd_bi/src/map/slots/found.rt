@@ -8,7 +8,7 @@ ghost use Rattle.iddqd_store.specs.Rank.Index.{HasHash};
 ghost use Rattle.iddqd_store.specs.Map.{bag, hash_of};
 ghost use Rattle.iddqd_store.specs.Slots.Found.{each_once, items_at, FoundAt, found_by_all};
 ghost use Rattle.iddqd_store.specs.Slots.{get, IsLive};
-ghost use Rattle.iddqd_bi.specs.Keys.{has2, has_both};
+ghost use Rattle.iddqd_bi.specs.Keys.{has2, has_both, key_tests};
 ghost use Rattle.std.specs.Borrow.{sem};
 ghost use Rattle.iddqd_bi.specs.RefMuts.{ref_lender, ref_map, ref_item, rests_if_none};
 
@@ -33,14 +33,18 @@ pub(crate) fn has_others<T: BiHashItem, Q2: Query<T::K2>>(
 
 /// Returns the lowest rank, counted from 0, at which the item does not have these keys, or `None`. The function
 /// compares the keys rank by rank, up to the first that differs.
-pub(crate) fn differ<T: BiHashItem>(item: &T, key1: &T::K1, key2: &T::K2) -> Option<usize>
-    ensures rank { result ≡ differ (⟦<T as Ranked>⟧.key_tests key1.now key2.now) item.now }
+pub(crate) fn differ<T: BiHashItem, Q1: Query<T::K1>, Q2: Query<T::K2>>(
+    item: &T,
+    query1: Q1,
+    query2: Q2,
+) -> Option<usize>
+    ensures rank { result ≡ differ (key_tests T.BiHashItem Q1.stands_for Q2.stands_for query1 query2) item.now }
     ensures below { IfSome result (λ rank. rank < 2) }
 {
-    if *key1 != *item.key1() {
+    if !query1.stands_for(item.key1()) {
         return Some(0);
     }
-    if *key2 != *item.key2() {
+    if !query2.stands_for(item.key2()) {
         return Some(1);
     }
     None

@@ -8,7 +8,7 @@ ghost use Rattle.iddqd_store.specs.Rank.Index.{HasHash};
 ghost use Rattle.iddqd_store.specs.Map.{bag, hash_of};
 ghost use Rattle.iddqd_store.specs.Slots.Found.{each_once, items_at, FoundAt, found_by_all};
 ghost use Rattle.iddqd_store.specs.Slots.{get, IsLive};
-ghost use Rattle.iddqd_tri.specs.Keys.{has2, has3, has_all};
+ghost use Rattle.iddqd_tri.specs.Keys.{has2, has3, has_all, key_tests};
 ghost use Rattle.std.specs.Borrow.{sem};
 ghost use Rattle.iddqd_tri.specs.RefMuts.{ref_lender, ref_map, ref_item, rests_if_none};
 
@@ -39,22 +39,23 @@ pub(crate) fn has_others<T: TriHashItem, Q2: Query<T::K2>, Q3: Query<T::K3>>(
 
 /// Returns the lowest rank, counted from 0, at which the item does not have these keys, or `None`. The function
 /// compares the keys rank by rank, up to the first that differs.
-pub(crate) fn differ<T: TriHashItem>(
+pub(crate) fn differ<T: TriHashItem, Q1: Query<T::K1>, Q2: Query<T::K2>, Q3: Query<T::K3>>(
     item: &T,
-    key1: &T::K1,
-    key2: &T::K2,
-    key3: &T::K3,
+    query1: Q1,
+    query2: Q2,
+    query3: Q3,
 ) -> Option<usize>
-    ensures rank { result ≡ differ (⟦<T as Ranked>⟧.key_tests key1.now key2.now key3.now) item.now }
+    ensures rank { result ≡ differ
+        (key_tests T.TriHashItem Q1.stands_for Q2.stands_for Q3.stands_for query1 query2 query3) item.now }
     ensures below { IfSome result (λ rank. rank < 3) }
 {
-    if *key1 != *item.key1() {
+    if !query1.stands_for(item.key1()) {
         return Some(0);
     }
-    if *key2 != *item.key2() {
+    if !query2.stands_for(item.key2()) {
         return Some(1);
     }
-    if *key3 != *item.key3() {
+    if !query3.stands_for(item.key3()) {
         return Some(2);
     }
     None

@@ -3,7 +3,7 @@ use Rattle.iddqd_store.specs.Rank.{agree}
 use Rattle.iddqd_store.proofs.MapLemmas.Written.{finds_written}
 use Rattle.iddqd_store.proofs.SlotLemmas.Entries.{found_data, found_only}
 use Rattle.iddqd_bi.specs.Keys.{key_tests}
-use Rattle.iddqd_bi.proofs.MapLemmas.{AreKeyTests-keys, AreLawful-ranks, agrees-keys}
+use Rattle.iddqd_bi.proofs.MapLemmas.{AreKeyTests-queries, AreLawful-ranks, agrees-keys}
 use Rattle.iddqd_bi.proofs.entry.OccupiedEntry.data2_mut.Goals as goal
 
 pub returns : goal.returns
@@ -15,8 +15,8 @@ returns g c =
     let laws1 = g.met.T.K1.Eq.laws in
     let laws2 = g.met.T.K2.Eq.laws in
     let put = g.T.BiHashItemMut.put in
-    let tests = key_tests of eq1 eq2 o.key1.now o.key2.now in
-    let keys = AreKeyTests-keys of eq1 eq2 laws1 laws2 o.key1.now o.key2.now in (
+    let tests = key_tests of g.Q1.Query.stands_for g.Q2.Query.stands_for o.query1 o.query2 in
+    let keys = AreKeyTests-queries of eq1 eq2 g.Q1.Query.stands_for g.Q2.Query.stands_for g.met.Q1.Query.respects_eq g.met.Q2.Query.respects_eq o.query1 o.query2 in (
       search rules,
       record {
         lends = tt;

@@ -1,4 +1,4 @@
 use Rattle.iddqd_bi.proofs.entry.VacantEntry.insert_mut.Goals as goal
 
 pub insert_free-requires-clause-absent : goal.insert_free-requires-clause-absent
-insert_free-requires-clause-absent g c = rw (c.first.ensures, c.second.ensures) c.args.self.absent
+insert_free-requires-clause-absent g c = c.args.self.absent

@@ -3,7 +3,7 @@ use Rattle.iddqd_store.specs.Rank.{agree}
 use Rattle.iddqd_store.proofs.MapLemmas.Written.{finds_written}
 use Rattle.iddqd_store.proofs.SlotLemmas.Entries.{found_data, found_only}
 use Rattle.iddqd_tri.specs.Keys.{key_tests}
-use Rattle.iddqd_tri.proofs.MapLemmas.{AreKeyTests-keys, AreLawful-ranks, agrees-keys}
+use Rattle.iddqd_tri.proofs.MapLemmas.{AreKeyTests-queries, AreLawful-ranks, agrees-keys}
 use Rattle.iddqd_tri.proofs.entry.OccupiedEntry.data3_mut.Goals as goal
 
 pub returns : goal.returns
@@ -17,8 +17,8 @@ returns g c =
     let laws2 = g.met.T.K2.Eq.laws in
     let laws3 = g.met.T.K3.Eq.laws in
     let put = g.T.TriHashItemMut.put in
-    let tests = key_tests of eq1 eq2 eq3 o.key1.now o.key2.now o.key3.now in
-    let keys = AreKeyTests-keys of eq1 eq2 eq3 laws1 laws2 laws3 o.key1.now o.key2.now o.key3.now in (
+    let tests = key_tests of g.Q1.Query.stands_for g.Q2.Query.stands_for g.Q3.Query.stands_for o.query1 o.query2 o.query3 in
+    let keys = AreKeyTests-queries of eq1 eq2 eq3 g.Q1.Query.stands_for g.Q2.Query.stands_for g.Q3.Query.stands_for g.met.Q1.Query.respects_eq g.met.Q2.Query.respects_eq g.met.Q3.Query.respects_eq o.query1 o.query2 o.query3 in (
       search rules,
       record {
         lends = tt;

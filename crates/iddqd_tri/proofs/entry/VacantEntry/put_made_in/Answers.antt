@@ -1,4 +1,4 @@
 use Rattle.iddqd_tri.proofs.entry.VacantEntry.put_made_in.Goals as goal
 
 pub insert_free-requires-clause-absent : goal.insert_free-requires-clause-absent
-insert_free-requires-clause-absent g c = rw (c.first.ensures, c.second.ensures, c.third.ensures) c.args.self.absent
+insert_free-requires-clause-absent g c = c.args.self.absent

@@ -7,7 +7,7 @@ use Rattle.iddqd_tri.proofs.map.TriHashMap.entry.Goals as goal
 
 pub invariant_of-result : goal.invariant_of-result
 invariant_of-result g c =
-    let tests = key_tests g.T.TriHashItem g.T.K1.PartialEq.eq g.T.K2.PartialEq.eq g.T.K3.PartialEq.eq c.args.key1.now c.args.key2.now c.args.key3.now in
+    let tests = key_tests g.T.TriHashItem g.Q1.Query.stands_for g.Q2.Query.stands_for g.Q3.Query.stands_for c.args.query1 c.args.query2 c.args.query3 in
     let laws = (AreLawful-ranks g.T.TriHashItem g.met.T.K1.Eq.laws g.met.T.K2.Eq.laws g.met.T.K3.Eq.laws).0 in
     let slots = c.args.self.now.slots in
     let none : List (Option ℕ) = None ∷ None ∷ None ∷ [] in
@@ -18,13 +18,13 @@ invariant_of-result g c =
 
 pub returns-in-Err-clause-value : goal.returns-in-Err-clause-value
 returns-in-Err-clause-value g c =
-    let tests = key_tests g.T.TriHashItem g.T.K1.PartialEq.eq g.T.K2.PartialEq.eq g.T.K3.PartialEq.eq c.args.key1.now c.args.key2.now c.args.key3.now in
+    let tests = key_tests g.T.TriHashItem g.Q1.Query.stands_for g.Q2.Query.stands_for g.Q3.Query.stands_for c.args.query1 c.args.query2 c.args.query3 in
     let laws = (AreLawful-ranks g.T.TriHashItem g.met.T.K1.Eq.laws g.met.T.K2.Eq.laws g.met.T.K3.Eq.laws).0 in
     rw (c.slot.ensures, c.slot-in-Err.ensures, c.slot-in-Err-2.ensures) (found_entry laws c.args.self.now.slots c.search_all.ensures.apart tests c.in-Err.by1.slot (c.in-Err.by2.slot ∷ c.in-Err.by3.slot ∷ []) c.in-Err.ensures.found)
 
 pub returns-in-Err-clause-is_found : goal.returns-in-Err-clause-is_found
 returns-in-Err-clause-is_found g c =
-    let tests = key_tests g.T.TriHashItem g.T.K1.PartialEq.eq g.T.K2.PartialEq.eq g.T.K3.PartialEq.eq c.args.key1.now c.args.key2.now c.args.key3.now in
+    let tests = key_tests g.T.TriHashItem g.Q1.Query.stands_for g.Q2.Query.stands_for g.Q3.Query.stands_for c.args.query1 c.args.query2 c.args.query3 in
     let laws = (AreLawful-ranks g.T.TriHashItem g.met.T.K1.Eq.laws g.met.T.K2.Eq.laws g.met.T.K3.Eq.laws).0 in
     let slots = c.args.self.now.slots in
     let found : List (Option ℕ) = c.in-Err.by1.slot ∷ c.in-Err.by2.slot ∷ c.in-Err.by3.slot ∷ [] in
