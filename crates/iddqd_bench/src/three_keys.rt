@@ -1,4 +1,6 @@
 //! The map with three keys: what prepares the loops over it.
+//!
+//! Made by tests/twins from crates/iddqd_bench/src/two_keys.rt: change that file.
 
 use iddqd_tests_tri::Row;
 use iddqd_tri::TriHashMap;

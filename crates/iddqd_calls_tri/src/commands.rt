@@ -1,4 +1,6 @@
 //! Commands, each applied to the map, and what their replies say.
+//!
+//! Made by tests/twins from crates/iddqd_calls_bi/src/commands.rt: change that file.
 ghost use Rattle.std.specs.Prelude.{⊤};
 
 use crate::guards::back;

@@ -1,4 +1,6 @@
 //! Calls of an entry that take no item.
+//!
+//! Made by tests/twins from crates/iddqd_calls_bi/src/entries.rt: change that file.
 ghost use Rattle.std.specs.Option.{IfSome};
 ghost use Rattle.iddqd_tri.specs.Entries.{HasFound};
 

@@ -1,4 +1,6 @@
 //! Calls that borrow an item for writing, through a guard, or its data.
+//!
+//! Made by tests/twins from crates/iddqd_calls_bi/src/guards.rt: change that file.
 use crate::held;
 use crate::item::{Item, row_of};
 use iddqd_calls_shared::answer::Answer;

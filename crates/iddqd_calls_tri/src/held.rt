@@ -1,4 +1,6 @@
 //! Calls of what an entry borrows for writing.
+//!
+//! Made by tests/twins from crates/iddqd_calls_bi/src/held.rt: change that file.
 ghost use Rattle.iddqd_tri.specs.Entries.{HasFound, Holds};
 
 use crate::guards::shown;

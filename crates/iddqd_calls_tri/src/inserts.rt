@@ -1,4 +1,6 @@
 //! Calls that take one item, most of them to insert it, and what their errors say.
+//!
+//! Made by tests/twins from crates/iddqd_calls_bi/src/inserts.rt: change that file.
 use crate::guards::back;
 use crate::item::{Item, row_of};
 use crate::lists::displaced;

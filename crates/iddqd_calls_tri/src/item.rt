@@ -1,4 +1,6 @@
 //! The items of the map with three keys: keys that count, and a value.
+//!
+//! Made by tests/twins from crates/iddqd_calls_bi/src/item.rt: change that file.
 ghost use Rattle.std.specs.Prelude.{◌≡◌, ◌==◌};
 ghost use Rattle.std.proofs.Common.{rules};
 ghost use Rattle.std.specs.Cmp.Rules.{comparing};

@@ -1,4 +1,6 @@
 //! Calls that remove items from the map one by one, at a cursor.
+//!
+//! Made by tests/twins from crates/iddqd_calls_bi/src/leaving.rt: change that file.
 use crate::guards::back;
 use crate::item::Item;
 use crate::lookups::taken;

@@ -1,4 +1,6 @@
 //! Calls that take a list of items.
+//!
+//! Made by tests/twins from crates/iddqd_calls_bi/src/lists.rt: change that file.
 use crate::guards::back;
 use crate::item::{Item, row_of};
 use iddqd_calls_shared::answer::Answer;

@@ -1,4 +1,6 @@
 //! Calls that search for an item.
+//!
+//! Made by tests/twins from crates/iddqd_calls_bi/src/lookups.rt: change that file.
 use crate::item::{Item, row_of};
 use crate::{guards, held};
 use iddqd_calls_shared::answer::Answer;

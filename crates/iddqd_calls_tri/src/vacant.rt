@@ -1,4 +1,6 @@
 //! Calls of an entry that take an item.
+//!
+//! Made by tests/twins from crates/iddqd_calls_bi/src/vacant.rt: change that file.
 ghost use Rattle.iddqd_tri.specs.Entries.{HasFound};
 
 use crate::entries::{occupied, seen};

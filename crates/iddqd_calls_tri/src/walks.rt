@@ -1,5 +1,7 @@
 //! What iterators give, how many items they say are left, and what happens if they are dropped early; and a map that is
 //! built anew from its clone.
+//!
+//! Made by tests/twins from crates/iddqd_calls_bi/src/walks.rt: change that file.
 use crate::item::{Item, row_of};
 use crate::leaving;
 use iddqd_calls_shared::answer::{Answer, Sum};

@@ -1,4 +1,6 @@
 //! Calls on the map as a whole.
+//!
+//! Made by tests/twins from crates/iddqd_calls_bi/src/wholes.rt: change that file.
 use crate::item::Item;
 use crate::lookups::{more, taken};
 use crate::{leaving, walks};

@@ -1,3 +1,5 @@
+-- Made by tests/twins from crates/iddqd_tests_bi/specs/Row.antt: change that file.
+
 -- Words on a row.
 use Rattle.std.specs.Prelude.{ℕ}
 use Rattle.iddqd_tests_tri.specs.declared.row.Row.{Row}

@@ -1,4 +1,6 @@
 //! Cloning a map with three keys whose items may fail to clone.
+//!
+//! Made by tests/twins from crates/iddqd_tests_bi/src/copies.rt: change that file.
 ghost use Rattle.std.specs.Prelude.{◌≡◌};
 
 use iddqd_tri::{TriHashItem, TriHashMap};

@@ -1,4 +1,6 @@
 //! Items with three keys, which are numbers.
+//!
+//! Made by tests/twins from crates/iddqd_tests_bi/src/row.rt: change that file.
 ghost use Rattle.std.proofs.Common.{rules};
 ghost use Rattle.iddqd_tests_tri.specs.Row.{with_value};
 

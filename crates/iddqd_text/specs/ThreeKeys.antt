@@ -1,3 +1,5 @@
+-- Made by tests/twins from crates/iddqd_text/specs/TwoKeys.antt: change that file.
+
 -- The kind `tri`: its items, what its words mean, and what a run prints.
 use Rattle.std.specs.Prelude.{ℕ, nat_eq, List, [], ◌∷◌, Option, Some, None}
 use Rattle.std.specs.Option.{option_map}

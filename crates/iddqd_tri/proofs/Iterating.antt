@@ -1,3 +1,5 @@
+-- Made by tests/twins from crates/iddqd_bi/proofs/Iterating.antt: change that file.
+
 -- What an iteration ends as, if the next item was written.
 use Rattle.std.specs.Prelude.{◌≡◌, ℕ, ◌+◌, ◌-◌, Some}
 use Rattle.std.specs.Borrow.{GName}

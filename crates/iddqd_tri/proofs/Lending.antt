@@ -1,3 +1,5 @@
+-- Made by tests/twins from crates/iddqd_bi/proofs/Lending.antt: change that file.
+
 -- What a map ends as, if the data of the item that a search found was written.
 use Rattle.std.specs.Prelude.{◌≡◌, ℕ, Bool, [], ◌∷◌, Option, None, Some, IsSome, IsPermutation}
 use Rattle.std.proofs.Common.{refl, sym, ap, ◌∙◌}

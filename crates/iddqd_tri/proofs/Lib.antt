@@ -1,3 +1,4 @@
+-- Made by tests/twins from crates/iddqd_bi/proofs/Lib.antt: change that file.
 pub mod Entering
 pub mod Iterating
 pub mod Lending

@@ -1,3 +1,5 @@
+-- Made by tests/twins from crates/iddqd_bi/proofs/MapLemmas.antt: change that file.
+
 -- The ranks of an item with three keys tell items apart lawfully, and its keys are tests for them.
 use Rattle.std.specs.Prelude.{◌≡◌, Bool, true, List, []}
 use Rattle.std.specs.Cmp.{IsEquivalence}

@@ -1,3 +1,5 @@
+-- Made by tests/twins from crates/iddqd_bi/proofs/RefLemmas.antt: change that file.
+
 -- A `RefMut` does not depend on how its item is known to be live.
 use Rattle.std.specs.Prelude.{◌≡◌, true, is_some}
 use Rattle.std.proofs.Common.{ap}

@@ -1,3 +1,5 @@
+-- Made by tests/twins from crates/iddqd_bi/proofs/Refusing.antt: change that file.
+
 -- What an error of an insert says, by its reason.
 use Rattle.std.specs.Prelude.{◌≡◌, List, [], ◌∷◌}
 use Rattle.std.proofs.Common.{sym, ap, subst, ◌∙◌}

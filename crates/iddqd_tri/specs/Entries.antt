@@ -1,3 +1,5 @@
+-- Made by tests/twins from crates/iddqd_bi/specs/Entries.antt: change that file.
+
 -- What contracts say of entries.
 use Rattle.std.specs.Prelude.{◌≡◌, ◌≢◌, ◌<◌, ℕ, length, Bool, [], ◌∷◌, List, Option, Some, None, ⊤}
 use Rattle.std.specs.Prelude.{IsPermutation, Result, Ok, Err, IsOk, IfOk, IfErr, OnOk}

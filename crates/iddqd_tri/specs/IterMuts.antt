@@ -1,3 +1,5 @@
+-- Made by tests/twins from crates/iddqd_bi/specs/IterMuts.antt: change that file.
+
 -- What contracts say of an `IterMut`.
 use Rattle.std.specs.Prelude.{◌≡◌, ◌+◌, ◌-◌, ℕ, List, [], length, Option}
 use Rattle.std.specs.Option.{option_map_or}

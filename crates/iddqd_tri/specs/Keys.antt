@@ -1,3 +1,5 @@
+-- Made by tests/twins from crates/iddqd_bi/specs/Keys.antt: change that file.
+
 -- The ranks of an item with three keys, and the slots found by them.
 use Rattle.std.specs.Prelude.{Bool, List, [], ◌∷◌, Result, Ok, Err}
 use Rattle.iddqd_store.specs.Bag.{Ranks, every_of}

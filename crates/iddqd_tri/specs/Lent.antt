@@ -1,3 +1,5 @@
+-- Made by tests/twins from crates/iddqd_bi/specs/Lent.antt: change that file.
+
 -- What a map ends as, if a `&mut` to the data of an item is returned.
 use Rattle.std.specs.Prelude.{◌≡◌, ℕ, Bool, Option, Some, IsPermutation, OnSome}
 use Rattle.std.specs.Borrow.{Lends, LendsIf, LendsSo, Fml, RattleType, MutBor}

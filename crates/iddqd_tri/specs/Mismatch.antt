@@ -1,3 +1,5 @@
+-- Made by tests/twins from crates/iddqd_bi/specs/Mismatch.antt: change that file.
+
 -- Why an item may not replace others: the item, and the rank at which its key differs, counted from 0.
 use Rattle.std.specs.Prelude.{◌≡◌, ℕ, Bool, List, Option, Some, None}
 use Rattle.iddqd_store.specs.Bag.{Ranks, differ}

@@ -1,3 +1,5 @@
+-- Made by tests/twins from crates/iddqd_bi/specs/OccupiedRefs.antt: change that file.
+
 -- What an `OccupiedEntryRef` shows.
 use Rattle.std.specs.Prelude.{Bool, true, false, Option, Some, None, option_copied}
 use Rattle.iddqd_tri.specs.declared.entry.occupied_ref.OccupiedEntryRef.{OccupiedEntryRef}

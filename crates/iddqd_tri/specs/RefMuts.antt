@@ -1,3 +1,5 @@
+-- Made by tests/twins from crates/iddqd_bi/specs/RefMuts.antt: change that file.
+
 -- What a contract says of a `RefMut`.
 use Rattle.std.specs.Prelude.{◌≡◌, [], Option, Some, None, IsPermutation}
 use Rattle.std.specs.Borrow.{Fml, GName, RattleType, MutBor, RestsIfNone, follows}

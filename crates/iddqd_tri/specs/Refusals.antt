@@ -1,3 +1,5 @@
+-- Made by tests/twins from crates/iddqd_bi/specs/Refusals.antt: change that file.
+
 -- The value of the reply to an item that a vacant entry rejected.
 use Rattle.iddqd_store.specs.Runs.Reply.{Reply, key, memory}
 use Rattle.iddqd_tri.specs.declared.error.EntryError.{EntryError}

@@ -1,3 +1,5 @@
+-- Made by tests/twins from crates/iddqd_bi/specs/Rekeyed.antt: change that file.
+
 -- An item that replaces another, whatever their keys are.
 use Rattle.std.specs.Prelude.{◌≡◌, ◌≢◌, ◌≤◌, ℕ, Bool, List, [], ◌∷◌, length, Some, None, Result, Err, IsPermutation}
 use Rattle.iddqd_store.specs.Bag.{IsOnly, Ranks, clash}

@@ -1,3 +1,5 @@
+-- Made by tests/twins from crates/iddqd_bi/specs/Step.antt: change that file.
+
 -- One step of a map with three keys: each command with what it may return.
 use Rattle.std.specs.Prelude.{Bool}
 use Rattle.iddqd_store.specs.Runs.Reply.{Reply}

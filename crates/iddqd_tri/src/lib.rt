@@ -2,6 +2,8 @@
 //!
 //! A script makes most of the three-key text from the two-key text: change the latter, and then run
 //! `tests/twins --write` with the changed files.
+//!
+//! Made by tests/twins from crates/iddqd_bi/src/lib.rt: change that file.
 #![tactic(auto)]
 
 mod command;

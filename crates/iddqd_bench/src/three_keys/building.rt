@@ -1,4 +1,6 @@
 //! Loops that insert many items into the map with three keys by one call.
+//!
+//! Made by tests/twins from crates/iddqd_bench/src/two_keys/building.rt: change that file.
 use super::Row;
 use iddqd_tri::TriHashMap;
 use std::alloc::Global;

@@ -1,4 +1,6 @@
 //! Loops that change or clone the whole map with three keys.
+//!
+//! Made by tests/twins from crates/iddqd_bench/src/two_keys/changing.rt: change that file.
 use super::{Row, filled, take_out};
 use crate::copies;
 use iddqd_tri::TriHashMap;

@@ -1,4 +1,6 @@
 //! Loops that take items out of the map with three keys, one by one.
+//!
+//! Made by tests/twins from crates/iddqd_bench/src/two_keys/emptying.rt: change that file.
 use super::{Row, filled};
 use crate::copies;
 use iddqd_tri::{Cursor, TriHashMap};

@@ -1,4 +1,6 @@
 //! Loops that insert items into the map with three keys one by one.
+//!
+//! Made by tests/twins from crates/iddqd_bench/src/two_keys/inserting.rt: change that file.
 use super::{Row, fill, filled};
 use iddqd_tri::TriHashMap;
 use std::alloc::Global;

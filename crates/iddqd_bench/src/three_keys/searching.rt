@@ -1,4 +1,6 @@
 //! Loops that look up items of the map with three keys, and write or remove them.
+//!
+//! Made by tests/twins from crates/iddqd_bench/src/two_keys/searching.rt: change that file.
 use super::{Row, filled, take_out};
 use iddqd_tri::TriHashMap;
 use std::alloc::Global;

@@ -1,4 +1,6 @@
 //! Loops that iterate over all items of the map with three keys.
+//!
+//! Made by tests/twins from crates/iddqd_bench/src/two_keys/walking.rt: change that file.
 use super::{Row, filled};
 use crate::copies;
 use iddqd_tri::TriHashMap;

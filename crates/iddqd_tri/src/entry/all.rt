@@ -1,4 +1,6 @@
 //! The calls of an entry that may be vacant or occupied.
+//!
+//! Made by tests/twins from crates/iddqd_bi/src/entry/all.rt: change that file.
 ghost use Rattle.std.specs.Prelude.{◌≡◌, Result, IfOk, IfErr};
 ghost use Rattle.std.specs.Fn.{CalledAt};
 ghost use Rattle.iddqd_store.specs.Bag.{listing};

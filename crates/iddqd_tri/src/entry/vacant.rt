@@ -1,4 +1,6 @@
 //! Inserting an item through a vacant entry.
+//!
+//! Made by tests/twins from crates/iddqd_bi/src/entry/vacant.rt: change that file.
 ghost use Rattle.std.specs.Prelude.{◌≡◌, ◌<◌, length, None, IsOk, IfOk, IfErr, OnOk};
 ghost use Rattle.std.specs.Borrow.{sem};
 ghost use Rattle.iddqd_store.specs.Bag.{differ};

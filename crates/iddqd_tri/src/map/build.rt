@@ -1,4 +1,6 @@
 //! Making empty maps.
+//!
+//! Made by tests/twins from crates/iddqd_bi/src/map/build.rt: change that file.
 ghost use Rattle.std.specs.Prelude.{◌≡◌, ◌<◌, [], IfOk, IsOk, IsErr};
 ghost use Rattle.iddqd_store.specs.Map.{bag};
 ghost use Rattle.iddqd_store.specs.Table.Limit.{most_room};

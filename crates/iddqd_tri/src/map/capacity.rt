@@ -1,4 +1,6 @@
 //! How many items there are and how many fit, and growing.
+//!
+//! Made by tests/twins from crates/iddqd_bi/src/map/capacity.rt: change that file.
 ghost use Rattle.std.specs.Prelude.{◌≡◌, ◌≤◌, [], length, ◌==◌, OnErr};
 ghost use Rattle.iddqd_store.specs.Bag.{IsSound};
 ghost use Rattle.iddqd_store.specs.Map.{bag, MakesRoom};

@@ -1,4 +1,6 @@
 //! Cloning a map.
+//!
+//! Made by tests/twins from crates/iddqd_bi/src/map/clone.rt: change that file.
 ghost use Rattle.std.specs.Prelude.{◌≡◌, ◌≤◌, length, true, Contains, IfOk};
 ghost use Rattle.std.specs.Hash.{HashWrites};
 ghost use Rattle.iddqd_store.specs.Bag.{IsCopy};

@@ -1,4 +1,6 @@
 //! Equality of maps.
+//!
+//! Made by tests/twins from crates/iddqd_bi/src/map/compare.rt: change that file.
 ghost use Rattle.std.specs.Prelude.{◌≡◌, ◌↔◌};
 ghost use Rattle.std.specs.Bool.{IsTrue};
 ghost use Rattle.std.specs.List.{list_any};

@@ -1,4 +1,6 @@
 //! Which items conflict with an item that is to be inserted.
+//!
+//! Made by tests/twins from crates/iddqd_bi/src/map/conflicts.rt: change that file.
 ghost use Rattle.std.specs.Prelude.{◌≡◌, map};
 ghost use Rattle.iddqd_store.specs.Bag.{order};
 ghost use Rattle.iddqd_store.specs.Map.{bag};

@@ -1,4 +1,6 @@
 //! Looking up three keys at once.
+//!
+//! Made by tests/twins from crates/iddqd_bi/src/map/entry.rt: change that file.
 ghost use Rattle.std.specs.Prelude.{◌≡◌};
 ghost use Rattle.iddqd_store.specs.Bag.{entry};
 ghost use Rattle.iddqd_store.specs.Map.{bag};

@@ -1,4 +1,6 @@
 //! Taking out the items for which a closure returns `true`, one by one.
+//!
+//! Made by tests/twins from crates/iddqd_bi/src/map/extract.rt: change that file.
 ghost use Rattle.std.specs.Prelude.{◌≡◌, IfNone};
 ghost use Rattle.std.specs.Fn.{CalledAt};
 ghost use Rattle.std.specs.Option.{option_to_list};

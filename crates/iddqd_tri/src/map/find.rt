@@ -1,4 +1,6 @@
 //! Lookups. Each searches the table of one rank, which leads to the item's slot.
+//!
+//! Made by tests/twins from crates/iddqd_bi/src/map/find.rt: change that file.
 ghost use Rattle.std.specs.Prelude.{Contains, ◌≡◌, option_copied};
 ghost use Rattle.std.specs.List.{list_any};
 ghost use Rattle.iddqd_store.specs.Bag.{IsOnly};

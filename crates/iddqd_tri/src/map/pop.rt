@@ -1,4 +1,6 @@
 //! Removing some item, or all items one by one.
+//!
+//! Made by tests/twins from crates/iddqd_bi/src/map/pop.rt: change that file.
 ghost use Rattle.std.specs.Prelude.{◌≡◌, [], IfNone};
 ghost use Rattle.std.specs.Option.{option_to_list};
 ghost use Rattle.iddqd_store.specs.Map.{bag, Loses};

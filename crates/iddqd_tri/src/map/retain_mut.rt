@@ -1,4 +1,6 @@
 //! Keeping only some of the items, each with the data that a closure returns for it.
+//!
+//! Made by tests/twins from crates/iddqd_bi/src/map/retain_mut.rt: change that file.
 ghost use Rattle.std.specs.Prelude.{◌≡◌, ◌≤◌, length};
 ghost use Rattle.std.specs.Fn.{CalledAt};
 ghost use Rattle.iddqd_store.specs.Bag.Calling.{TakesInAnyOrder};

@@ -1,4 +1,6 @@
 //! Carrying out commands.
+//!
+//! Made by tests/twins from crates/iddqd_bi/src/map/run.rt: change that file.
 ghost use Rattle.std.specs.Prelude.{◌≡◌, length};
 ghost use Rattle.iddqd_store.specs.Map.{bag};
 ghost use Rattle.iddqd_store.specs.Runs.Reply.{found, present, duplicate, items, size, done};

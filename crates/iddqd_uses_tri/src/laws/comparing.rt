@@ -1,4 +1,6 @@
 //! `==` of maps is an equivalence relation if `==` of the items is one, and depends on the items alone.
+//!
+//! Made by tests/twins from crates/iddqd_uses_bi/src/laws/comparing.rt: change that file.
 ghost use Rattle.std.specs.Prelude.{◌≡◌, true, IsPermutation};
 ghost use Rattle.iddqd_tri.specs.Map.{bag};
 

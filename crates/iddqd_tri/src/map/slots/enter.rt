@@ -1,4 +1,6 @@
 //! Inserting the items of a list so that they can be removed again if a later one is rejected.
+//!
+//! Made by tests/twins from crates/iddqd_bi/src/map/slots/enter.rt: change that file.
 ghost use Rattle.std.specs.Prelude.{◌≡◌, ◌<◌, ◌++◌, [], ◌∷◌, length, List, All, OnOk, OnErr, IfErr, nat_eq};
 ghost use Rattle.std.specs.List.{IsDistinct};
 ghost use Rattle.iddqd_store.specs.Bag.{clash};

@@ -1,5 +1,7 @@
 //! Comparing an item's keys with others, and the slots that searches by all keys found: which they are, and their
 //! items, borrowed for reading or writing.
+//!
+//! Made by tests/twins from crates/iddqd_bi/src/map/slots/found.rt: change that file.
 ghost use Rattle.std.specs.Prelude.{◌≡◌, ◌<◌, ◌≤◌, ◌+◌, [], ◌∷◌, map, IfSome, option_copied};
 ghost use Rattle.std.specs.Option.{option_and_then};
 ghost use Rattle.iddqd_store.specs.Bag.{IsOnly, differ, every_of};

@@ -1,3 +1,4 @@
+-- Made by tests/twins from crates/iddqd_uses_bi/proofs/loading/load/Answers.antt: change that file.
 use Rattle.iddqd_tri.specs.Map.{bag}
 use Rattle.iddqd_tri.specs.Keys.{ranks}
 use Rattle.iddqd_tri.proofs.CallerLemmas.Batches.{batch-inserted, batch-refused}

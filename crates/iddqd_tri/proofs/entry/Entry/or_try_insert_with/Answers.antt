@@ -1,3 +1,4 @@
+-- Made by tests/twins from crates/iddqd_bi/proofs/entry/Entry/or_try_insert_with/Answers.antt: change that file.
 use Rattle.iddqd_tri.proofs.entry.Entry.or_try_insert_with.Goals as goal
 
 pub returns-in-Vacant-clause-puts_in : goal.returns-in-Vacant-clause-puts_in

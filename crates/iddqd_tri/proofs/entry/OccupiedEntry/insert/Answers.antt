@@ -1,3 +1,4 @@
+-- Made by tests/twins from crates/iddqd_bi/proofs/entry/OccupiedEntry/insert/Answers.antt: change that file.
 use Rattle.std.proofs.Common.{rules, arith, refl, ◌≡◌, [], ◌∷◌, true, sym, ap, ◌∙◌}
 use Rattle.iddqd_store.specs.Map.{bag, hash_of}
 use Rattle.iddqd_store.proofs.MapLemmas.Storing.{live_found}

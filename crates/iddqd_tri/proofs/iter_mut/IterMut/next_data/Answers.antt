@@ -1,3 +1,4 @@
+-- Made by tests/twins from crates/iddqd_bi/proofs/iter_mut/IterMut/next_data/Answers.antt: change that file.
 use Rattle.std.proofs.Common.{List, ap, sym, ◌∙◌}
 use Rattle.std.specs.Prelude.{slice_get}
 use Rattle.std.specs.Option.{option_map}

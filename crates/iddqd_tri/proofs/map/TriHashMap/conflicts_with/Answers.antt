@@ -1,3 +1,4 @@
+-- Made by tests/twins from crates/iddqd_bi/proofs/map/BiHashMap/conflicts_with/Answers.antt: change that file.
 use Rattle.std.proofs.Common.{rules, ◌≡◌, [], ◌∷◌, sym, ap, ◌∙◌}
 use Rattle.iddqd_store.specs.Bag.{clash, order}
 use Rattle.iddqd_store.specs.Map.{bag}

@@ -1,3 +1,4 @@
+-- Made by tests/twins from crates/iddqd_bi/proofs/map/BiHashMap/contains_key2/Answers.antt: change that file.
 use Rattle.std.proofs.Common.{◌∙◌}
 use Rattle.iddqd_store.specs.Map.{bag}
 use Rattle.iddqd_store.proofs.BagLemmas.Unique.{is_some-found}

@@ -1,3 +1,4 @@
+-- Made by tests/twins from crates/iddqd_bi/proofs/map/BiHashMap/enter/Answers.antt: change that file.
 use Rattle.iddqd_store.proofs.SlotLemmas.Entered.{StandAt-push}
 use Rattle.iddqd_tri.proofs.map.TriHashMap.enter.Goals as goal
 

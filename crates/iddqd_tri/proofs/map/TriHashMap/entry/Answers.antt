@@ -1,3 +1,4 @@
+-- Written by hand; tests/twins.patch says why.
 use Rattle.std.proofs.Common.{refl, ℕ, List, Option, None, [], ◌∷◌, sym, ◌∙◌}
 use Rattle.iddqd_store.specs.Slots.Found.{AreFound}
 use Rattle.iddqd_store.proofs.SlotLemmas.Entries.{found_entry, found_listing, held_none, held_some}

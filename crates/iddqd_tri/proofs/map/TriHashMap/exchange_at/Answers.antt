@@ -1,3 +1,4 @@
+-- Made by tests/twins from crates/iddqd_bi/proofs/map/BiHashMap/exchange_at/Answers.antt: change that file.
 use Rattle.std.proofs.Common.{arith, rules, refl, [], ◌∷◌}
 use Rattle.std.proofs.lemmas.List.Sorted.{length_permutation}
 use Rattle.iddqd_store.proofs.RankLemmas.Costs.{place_in}

@@ -1,3 +1,4 @@
+-- Written by hand; tests/twins.patch says why.
 use Rattle.std.proofs.Common.{arith, rules, refl, [], ◌∷◌, sym, ◌∙◌, ◌≡◌, ℕ, List, Option, None, Some}
 use Rattle.std.specs.Prelude.{◌≢◌, slice_set}
 use Rattle.std.proofs.lemmas.List.{get_or-set_other}

@@ -1,3 +1,4 @@
+-- Made by tests/twins from crates/iddqd_bi/proofs/map/BiHashMap/exchange_two/Answers.antt: change that file.
 use Rattle.std.proofs.Common.{arith, rules, refl, sym, ◌∙◌, None, [], ◌∷◌}
 use Rattle.std.proofs.lemmas.List.{get_or-set_other}
 use Rattle.std.proofs.lemmas.List.Sorted.{length_permutation}

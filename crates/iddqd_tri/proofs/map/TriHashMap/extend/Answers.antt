@@ -1,3 +1,4 @@
+-- Made by tests/twins from crates/iddqd_bi/proofs/map/BiHashMap/extend/Answers.antt: change that file.
 use Rattle.std.proofs.Common.{◌≡◌, ◌∙◌, Result, Err, arith, rules, subst, sym}
 use Rattle.std.specs.Prelude.{IfErr}
 use Rattle.std.proofs.iter.Next.{on}

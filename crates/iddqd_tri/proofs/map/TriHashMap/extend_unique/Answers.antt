@@ -1,3 +1,4 @@
+-- Made by tests/twins from crates/iddqd_bi/proofs/map/BiHashMap/extend_unique/Answers.antt: change that file.
 use Rattle.std.proofs.Common.{◌≡◌, ◌++◌, ◌∙◌, List, arith, rules, subst}
 use Rattle.std.specs.Prelude.{◌<◌, length, IsPermutation}
 use Rattle.iddqd_store.specs.Bag.{Ranks, AreLawful, IsSound, clash}

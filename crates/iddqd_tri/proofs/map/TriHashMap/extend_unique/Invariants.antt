@@ -1,3 +1,4 @@
+-- Made by tests/twins from crates/iddqd_bi/proofs/map/BiHashMap/extend_unique/Invariants.antt: change that file.
 use Rattle.std.proofs.Common.{◌≡◌, ◌≤◌, ◌+◌, length}
 use Rattle.std.specs.Iterator.{size}
 use Rattle.iddqd_store.specs.Bag.Building.{AddsTo, FitsOn}

@@ -1,3 +1,4 @@
+-- Made by tests/twins from crates/iddqd_bi/proofs/map/BiHashMap/extract_from/Answers.antt: change that file.
 use Rattle.std.proofs.Common.{◌≡◌, ◌+◌, false, Some, refl, subst}
 use Rattle.std.proofs.lemmas.Fn.{called_at}
 use Rattle.std.specs.Fn.{CalledAt}

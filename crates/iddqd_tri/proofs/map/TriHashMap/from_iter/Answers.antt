@@ -1,3 +1,4 @@
+-- Made by tests/twins from crates/iddqd_bi/proofs/map/BiHashMap/from_iter/Answers.antt: change that file.
 use Rattle.std.proofs.Common.{◌≡◌, List, [], Result, Err, subst, sym, rules}
 use Rattle.std.specs.Prelude.{IsPermutation, IfErr}
 use Rattle.iddqd_store.specs.Bag.{overs}

@@ -1,3 +1,4 @@
+-- Made by tests/twins from crates/iddqd_bi/proofs/map/BiHashMap/insert_free/Answers.antt: change that file.
 use Rattle.std.proofs.Common.{rules, refl, ◌≡◌, true, ap}
 use Rattle.iddqd_store.specs.Map.{hash_of}
 use Rattle.iddqd_tri.proofs.MapLemmas.{clash-all}

@@ -1,3 +1,4 @@
+-- Made by tests/twins from crates/iddqd_bi/proofs/map/BiHashMap/insert_or_refuse/Answers.antt: change that file.
 use Rattle.std.proofs.Common.{arith}
 use Rattle.iddqd_store.proofs.RankLemmas.Searched.{placing}
 use Rattle.iddqd_tri.proofs.map.TriHashMap.insert_or_refuse.Goals as goal

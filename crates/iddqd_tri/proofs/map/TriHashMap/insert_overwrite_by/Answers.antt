@@ -1,3 +1,4 @@
+-- Made by tests/twins from crates/iddqd_bi/proofs/map/BiHashMap/insert_overwrite_by/Answers.antt: change that file.
 use Rattle.std.proofs.Common.{arith, sym, ◌∙◌, rules}
 use Rattle.iddqd_store.specs.Map.{IsFullFor, bag}
 use Rattle.iddqd_store.specs.Rank.All.{IsBlockedBy}

@@ -1,3 +1,4 @@
+-- Made by tests/twins from crates/iddqd_bi/proofs/map/BiHashMap/insert_unique/Answers.antt: change that file.
 use Rattle.std.proofs.Common.{◌≡◌, [], sym, ap, subst, ◌∙◌}
 use Rattle.iddqd_store.specs.Bag.{clash}
 use Rattle.iddqd_store.specs.Map.{Map, IsFullFor, bag}

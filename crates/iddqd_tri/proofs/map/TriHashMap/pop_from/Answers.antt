@@ -1,3 +1,4 @@
+-- Made by tests/twins from crates/iddqd_bi/proofs/map/BiHashMap/pop_from/Answers.antt: change that file.
 use Rattle.std.proofs.Common.{subst}
 use Rattle.iddqd_store.specs.Slots.Next.{ComesNext}
 use Rattle.iddqd_store.proofs.MapLemmas.Extracting.{pops-some}

@@ -1,3 +1,4 @@
+-- Written by hand; tests/twins.patch says why.
 use Rattle.std.proofs.Common.{arith, rules, ap, refl, ◌∙◌, ◌≡◌, ◌<◌, ◌∷◌, [], ℕ, List, length}
 use Rattle.std.proofs.lemmas.List.Sorted.{IsPermutation-refl}
 use Rattle.iddqd_store.specs.Map.{bag}

@@ -1,3 +1,4 @@
+-- Made by tests/twins from crates/iddqd_bi/proofs/map/BiHashMap/rekey1_by/Answers.antt: change that file.
 use Rattle.std.proofs.Common.{None, slice_set, ◌∷◌}
 use Rattle.iddqd_store.specs.Map.{bag}
 use Rattle.iddqd_store.specs.Slots.{contents}

@@ -1,3 +1,4 @@
+-- Made by tests/twins from crates/iddqd_bi/proofs/map/BiHashMap/rekey_at/Answers.antt: change that file.
 use Rattle.std.proofs.Common.{rules, arith, ap, ◌∙◌, ◌≡◌, ◌≢◌, ◌≤◌, ◌+◌, ◌∷◌, [], ℕ, List, length}
 use Rattle.iddqd_store.specs.Rank.{walks_within}
 use Rattle.iddqd_store.specs.Map.{bag}

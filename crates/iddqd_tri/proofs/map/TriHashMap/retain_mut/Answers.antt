@@ -1,3 +1,4 @@
+-- Made by tests/twins from crates/iddqd_bi/proofs/map/BiHashMap/retain_mut/Answers.antt: change that file.
 use Rattle.std.proofs.Common.{refl, ap, subst, sym, ◌∙◌, ◌+◌}
 use Rattle.std.proofs.lemmas.List.Sorted.{IsPermutation-refl}
 use Rattle.std.specs.Fn.{CalledAt}

@@ -1,3 +1,4 @@
+-- Written by hand; tests/twins.patch says why.
 use Rattle.std.proofs.Common.{◌≡◌, arith, ap, refl}
 use Rattle.std.proofs.lemmas.Grind.{common_steps}
 use Rattle.std.specs.Prelude.{Result, Ok, Err, IfOk, IfSome}

@@ -1,3 +1,4 @@
+-- Made by tests/twins from crates/iddqd_bi/proofs/map/BiHashMap/slot_unique/Answers.antt: change that file.
 use Rattle.std.proofs.Common.{arith, sym, ap, ◌∙◌, [], ◌∷◌}
 use Rattle.iddqd_store.specs.Slots.{get}
 use Rattle.iddqd_store.specs.Map.{Map, bag}

@@ -1,3 +1,4 @@
+-- Made by tests/twins from crates/iddqd_bi/proofs/map/BiHashMap/take_all/Answers.antt: change that file.
 use Rattle.std.proofs.Common.{ℕ, Some, false, get_or, ◌≡◌, ◌+◌, ◌++◌, sym, subst, ◌∙◌, arith, drop}
 use Rattle.std.specs.Prelude.{All, nat_eq, slice_get, ◌≢◌}
 use Rattle.std.specs.List.{IsDistinct}

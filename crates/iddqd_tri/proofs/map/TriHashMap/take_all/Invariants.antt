@@ -1,3 +1,4 @@
+-- Made by tests/twins from crates/iddqd_bi/proofs/map/BiHashMap/take_all/Invariants.antt: change that file.
 use Rattle.std.proofs.Common.{◌≡◌, ◌≤◌, ◌++◌, ◌∷◌, ℕ, length, drop}
 use Rattle.std.specs.Prelude.{All, nat_eq, Some}
 use Rattle.std.specs.List.{IsDistinct}

@@ -1,3 +1,4 @@
+-- Made by tests/twins from crates/iddqd_bi/proofs/map/BiHashMap/take_and_refill/Answers.antt: change that file.
 use Rattle.std.proofs.Common.{◌≤◌, length, arith}
 use Rattle.iddqd_store.proofs.RankLemmas.Fill.{fewer}
 use Rattle.iddqd_store.proofs.RankLemmas.Invariant.{IsIndexed-left}

@@ -1,3 +1,4 @@
+-- Made by tests/twins from crates/iddqd_bi/proofs/map/BiHashMap/take_each/Answers.antt: change that file.
 use Rattle.std.proofs.Common.{◌++◌, sym, ap, ◌∙◌, drop}
 use Rattle.iddqd_store.specs.Slots.{contents}
 use Rattle.iddqd_store.proofs.SlotLemmas.Next.{before_and_behind, emptied_before}

@@ -1,3 +1,4 @@
+-- Made by tests/twins from crates/iddqd_bi/proofs/map/BiHashMap/take_one_by_one/Answers.antt: change that file.
 use Rattle.std.proofs.Common.{◌≡◌, ◌+◌, ◌++◌, subst, ◌∙◌, arith, drop, length}
 use Rattle.std.specs.Prelude.{All, nat_eq}
 use Rattle.std.specs.List.{IsDistinct}

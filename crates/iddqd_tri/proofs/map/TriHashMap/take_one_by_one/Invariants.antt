@@ -1,3 +1,4 @@
+-- Made by tests/twins from crates/iddqd_bi/proofs/map/BiHashMap/take_one_by_one/Invariants.antt: change that file.
 use Rattle.std.proofs.Common.{◌≡◌, ◌≤◌, ◌++◌, length, drop}
 use Rattle.std.specs.Prelude.{All, nat_eq, vec_capacity}
 use Rattle.std.specs.List.{IsDistinct}

@@ -1,4 +1,6 @@
 //! Inserting an item in place of three others, each of which has one of its keys.
+//!
+//! Written by hand; tests/twins.patch says why.
 ghost use Rattle.std.specs.Prelude.{◌≡◌, ◌≢◌, ◌+◌, ◌≤◌, [], ◌∷◌, length, None, Some, slice_set};
 ghost use Rattle.iddqd_store.specs.Bag.{clash};
 ghost use Rattle.iddqd_store.specs.Map.{bag, PutsAt};

@@ -1,3 +1,4 @@
+-- Made by tests/twins from crates/iddqd_uses_bi/proofs/laws/comparing/equal_to_itself/Answers.antt: change that file.
 use Rattle.std.proofs.Common.{◌∙◌}
 use Rattle.iddqd_tri.specs.Keys.{ranks}
 use Rattle.iddqd_tri.specs.Map.{bag}

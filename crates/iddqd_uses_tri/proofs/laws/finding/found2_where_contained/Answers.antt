@@ -1,3 +1,4 @@
+-- Made by tests/twins from crates/iddqd_uses_bi/proofs/laws/finding/found2_where_contained/Answers.antt: change that file.
 use Rattle.std.proofs.Common.{refl, ◌∙◌}
 use Rattle.iddqd_tri.specs.Keys.{has2}
 use Rattle.iddqd_tri.specs.Map.{bag}

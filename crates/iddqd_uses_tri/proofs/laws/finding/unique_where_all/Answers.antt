@@ -1,3 +1,4 @@
+-- Written by hand; tests/twins.patch says why.
 use Rattle.std.proofs.Common.{◌≡◌, true, refl, sym, ◌∙◌}
 use Rattle.std.specs.Prelude.{false, [], ◌∷◌}
 use Rattle.iddqd_tri.specs.Keys.{has1, has2, has3}

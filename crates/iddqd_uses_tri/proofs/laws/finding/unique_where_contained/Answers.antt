@@ -1,3 +1,4 @@
+-- Made by tests/twins from crates/iddqd_uses_bi/proofs/laws/finding/unique_where_contained/Answers.antt: change that file.
 use Rattle.std.proofs.Common.{◌≡◌, refl, sym, ◌∙◌}
 use Rattle.std.specs.Prelude.{false}
 use Rattle.iddqd_tri.specs.Keys.{has_all}

@@ -1,3 +1,4 @@
+-- Written by hand; tests/twins.patch says why.
 use Rattle.std.proofs.Common.{sym, ◌∙◌}
 use Rattle.std.specs.Prelude.{[], ◌∷◌}
 use Rattle.iddqd_tri.specs.Map.{bag}

@@ -1,3 +1,4 @@
+-- Made by tests/twins from crates/iddqd_uses_bi/proofs/laws/rooming/insert_all_after_reserve/Answers.antt: change that file.
 use Rattle.std.proofs.Common.{◌≡◌, length, ap, inl, inr, arith}
 use Rattle.iddqd_tri.specs.Map.{bag}
 use Rattle.iddqd_tri.proofs.CallerLemmas.{length-inserted}
