@@ -3,7 +3,7 @@ ghost use Rattle.std.specs.Prelude.{◌≡◌, ◌++◌, Some, take, IsPermutati
 ghost use Rattle.iddqd_bi.specs.Bag.Building.{IsRefusedBehind};
 ghost use Rattle.iddqd_bi.specs.Map.{bag};
 
-use iddqd_bi::{BiHashItem, BiHashMap, ExtendUniqueReason, Ranked};
+use iddqd_bi::{BiHashItem, BiHashMap, InsertReason, Ranked};
 
 /// A record, known by its number and by its code.
 #[derive(Drop)]
@@ -36,7 +36,7 @@ impl BiHashItem for Record {
 pub struct Rejected {
     pub item: Record,
     pub index: usize,
-    pub reason: ExtendUniqueReason,
+    pub reason: InsertReason,
 }
 
 /// Loads a batch as a whole. If that fails, nothing is loaded, and the error says which record was rejected.

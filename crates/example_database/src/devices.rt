@@ -3,7 +3,7 @@ ghost use Rattle.std.specs.Prelude.{◌≡◌, ◌++◌, Some, take, slice_get, 
 ghost use Rattle.iddqd_bi.specs.Bag.Building.{IsRefusedBehind};
 ghost use Rattle.iddqd_bi.specs.Map.{bag};
 
-use iddqd_bi::{BiHashItem, BiHashMap, ExtendUniqueReason, Ranked};
+use iddqd_bi::{BiHashItem, BiHashMap, InsertReason, Ranked};
 use sqlite::{Alter, Connection, Error, Row, params};
 use std::alloc::Global;
 
@@ -39,7 +39,7 @@ impl BiHashItem for Device {
 pub struct Rejected {
     pub item: Device,
     pub index: usize,
-    pub reason: ExtendUniqueReason,
+    pub reason: InsertReason,
 }
 
 /// Why a table was not loaded.

@@ -3,7 +3,7 @@ ghost use Rattle.std.specs.Prelude.{◌≡◌, ◌++◌, Some, take, slice_get, 
 ghost use Rattle.iddqd_bi.specs.Bag.Building.{IsRefusedBehind};
 ghost use Rattle.iddqd_bi.specs.Map.{bag};
 
-use iddqd_bi::{BiHashItem, BiHashMap, ExtendUniqueReason, Ranked};
+use iddqd_bi::{BiHashItem, BiHashMap, InsertReason, Ranked};
 use serde::Deserialize;
 
 /// What is known of a person.
@@ -38,7 +38,7 @@ impl BiHashItem for Record {
 pub struct Rejected {
     pub item: Record,
     pub index: usize,
-    pub reason: ExtendUniqueReason,
+    pub reason: InsertReason,
 }
 
 /// Loads a batch as a whole. If that fails, nothing is loaded, and the error says which record was rejected.

@@ -4,7 +4,7 @@ ghost use Rattle.iddqd_bi.specs.Map.{bag};
 
 use crate::loader::{Record, load};
 use csv::{ByteRecord, DeserializeErrorKind, Error, ErrorKind, ReaderBuilder};
-use iddqd_bi::{BiHashMap, ExtendUniqueReason};
+use iddqd_bi::{BiHashMap, InsertReason};
 use std::alloc::Global;
 
 /// A record has so many fields: its number, its mail address and its year.
@@ -100,8 +100,8 @@ pub fn load_text(
         Err(rejected) => Err(Fault {
             line: lines[rejected.index],
             problem: match rejected.reason {
-                ExtendUniqueReason::Conflict => Problem::Duplicate,
-                ExtendUniqueReason::Memory => Problem::Memory,
+                InsertReason::Duplicate => Problem::Duplicate,
+                InsertReason::Memory => Problem::Memory,
             },
         }),
     }

@@ -30,7 +30,6 @@ pub use ref_mut::RefMut;
 
 // Types of `iddqd_store` that the signatures of this crate name.
 pub use iddqd_store::{
-    Cursor, DuplicateItem, Equivalent, ExtendUniqueError, ExtendUniqueReason, InsertReason,
-    IntoIter, Iter, KeyMatcher, MemoryRefused, Meter, Query, ShortIntoIter, ShortIter,
-    TryReserveError, UpToTwo,
+    Cursor, DuplicateItem, Equivalent, ExtendUniqueError, InsertReason, IntoIter, Iter, KeyMatcher,
+    MemoryRefused, Meter, Query, ShortIntoIter, ShortIter, TryReserveError, UpToTwo,
 };

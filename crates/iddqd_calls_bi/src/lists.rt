@@ -1,9 +1,7 @@
 //! Calls that take a list of items.
 use crate::guards::back;
 use crate::item::{Item, row_of};
-use iddqd_bi::{
-    BiHashMap, ExtendUniqueError, ExtendUniqueReason, FromIterError, MemoryRefused, UpToTwo,
-};
+use iddqd_bi::{BiHashMap, ExtendUniqueError, FromIterError, InsertReason, MemoryRefused, UpToTwo};
 use iddqd_calls_shared::answer::Answer;
 use iddqd_calls_shared::builder::Builder;
 use std::alloc::Global;
@@ -38,8 +36,8 @@ fn lacking(error: MemoryRefused<Item>) -> Answer {
 /// Answers the item at which a list failed, and the items before it.
 pub(crate) fn refused(error: ExtendUniqueError<Item>) -> Answer {
     let word = match error.reason {
-        ExtendUniqueReason::Conflict => "conflict",
-        ExtendUniqueReason::Memory => "memory",
+        InsertReason::Duplicate => "conflict",
+        InsertReason::Memory => "memory",
     };
     let mut answer = Answer::of(word, row_of(&error.value));
     for item in &error.taken {

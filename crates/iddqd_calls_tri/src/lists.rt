@@ -4,7 +4,7 @@ use crate::item::{Item, row_of};
 use iddqd_calls_shared::answer::Answer;
 use iddqd_calls_shared::builder::Builder;
 use iddqd_tri::{
-    ExtendUniqueError, ExtendUniqueReason, FromIterError, MemoryRefused, TriHashMap, UpToThree,
+    ExtendUniqueError, FromIterError, InsertReason, MemoryRefused, TriHashMap, UpToThree,
 };
 use std::alloc::Global;
 use std::hash::BuildHasher;
@@ -38,8 +38,8 @@ fn lacking(error: MemoryRefused<Item>) -> Answer {
 /// Answers the item at which a list failed, and the items before it.
 pub(crate) fn refused(error: ExtendUniqueError<Item>) -> Answer {
     let word = match error.reason {
-        ExtendUniqueReason::Conflict => "conflict",
-        ExtendUniqueReason::Memory => "memory",
+        InsertReason::Duplicate => "conflict",
+        InsertReason::Memory => "memory",
     };
     let mut answer = Answer::of(word, row_of(&error.value));
     for item in &error.taken {

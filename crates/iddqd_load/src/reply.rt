@@ -3,7 +3,7 @@ ghost use Rattle.std.specs.Prelude.{◌≡◌, false, ⊤};
 
 use crate::item::{Item, Rank};
 use iddqd_bi::{BiReply, BiSink};
-use iddqd_store::{ExtendUniqueError, ExtendUniqueReason, MapReply, ShortList};
+use iddqd_store::{ExtendUniqueError, InsertReason, MapReply, ShortList};
 use iddqd_tri::{TriReply, TriSink};
 use std::alloc::{AllocError, Global};
 
@@ -121,7 +121,7 @@ fn refused_reply(refused: ExtendUniqueError<Item>) -> Result<Reply, AllocError> 
         value,
         reason,
     } = refused;
-    if reason == ExtendUniqueReason::Memory {
+    if reason == InsertReason::Memory {
         return Err(AllocError);
     }
     let mut items = taken;

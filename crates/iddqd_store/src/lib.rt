@@ -14,8 +14,7 @@ mod short_list;
 
 pub use equivalent::Equivalent;
 pub use error::{
-    DuplicateItem, ExtendUniqueError, ExtendUniqueReason, FromIterError, InsertReason,
-    MemoryRefused, TryReserveError,
+    DuplicateItem, ExtendUniqueError, FromIterError, InsertReason, MemoryRefused, TryReserveError,
 };
 pub use index_table::{IndexTable, KeyMatcher, Matcher, Meter, Vacancy};
 pub use item_set::{Cursor, Entered, IntoIter, ItemIndex, ItemSet, Iter};

@@ -1,8 +1,8 @@
 //! What maps, short lists and errors print, and the conversion of errors by `?` into an `anyhow::Error`.
 use crate::row::{Row, row_of};
 use iddqd_bi::{
-    BiHashMap, DuplicateItem, Entry, EntryError, ExtendUniqueError, ExtendUniqueReason,
-    FromIterError, InsertError, KeyMismatch, MemoryRefused, NotReplaced, Rejected, TryReserveError,
+    BiHashMap, DuplicateItem, Entry, EntryError, ExtendUniqueError, FromIterError, InsertError,
+    InsertReason, KeyMismatch, MemoryRefused, NotReplaced, Rejected, TryReserveError,
 };
 use std::alloc::Global;
 use std::fmt::{Debug, Display};
@@ -135,13 +135,13 @@ fn list_prints(alloc: Global) -> bool {
     let error = ExtendUniqueError {
         taken: Vec::new(alloc),
         value: row_of(1, 10, 100),
-        reason: ExtendUniqueReason::Conflict,
+        reason: InsertReason::Duplicate,
     };
     prints(
         alloc,
         &error,
         "item 0 has a key that another one has: none was inserted",
-        "ExtendUniqueError { reason: Conflict, taken: 0, .. }",
+        "ExtendUniqueError { reason: Duplicate, taken: 0, .. }",
     )
 }
 
@@ -189,9 +189,9 @@ fn not_replaced_prints(alloc: Global) -> bool {
         "Absent { .. }",
     ) && prints(
         alloc,
-        &NotReplaced::Conflict(row),
+        &NotReplaced::Duplicate(row),
         "a third item has a key of the new one",
-        "Conflict { .. }",
+        "Duplicate { .. }",
     )
 }
 

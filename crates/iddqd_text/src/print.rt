@@ -6,7 +6,7 @@ ghost use Rattle.iddqd_text.specs.Printed.{printed, items_text, found_line, line
 ghost use Rattle.iddqd_text.specs.Sorted.{by_first_key};
 
 use crate::item::Numbers;
-use iddqd_store::{ExtendUniqueError, ExtendUniqueReason, Iter, MapReply, ShortList};
+use iddqd_store::{ExtendUniqueError, InsertReason, Iter, MapReply, ShortList};
 use std::alloc::{AllocError, Global};
 
 // A reply whose line is more than a word has a function of its own, which is never inlined. A function clears the
@@ -118,8 +118,8 @@ fn refused_list_line<T: Numbers + Drop>(
 {
     let value = refused.value;
     match refused.reason {
-        ExtendUniqueReason::Conflict => item_line(line, "conflict ", &value),
-        ExtendUniqueReason::Memory => item_line(line, "memory ", &value),
+        InsertReason::Duplicate => item_line(line, "conflict ", &value),
+        InsertReason::Memory => item_line(line, "memory ", &value),
     }
 }
 

@@ -81,7 +81,7 @@ pub enum NotReplaced<T> {
     /// No item has the key that was asked for.
     Absent(T),
     /// An item has that key, but some other item conflicts with the new item.
-    Conflict(T),
+    Duplicate(T),
 }
 
 /// The error of an insert through a vacant entry. It has the item, and names the lowest rank at which the item's key is
@@ -106,8 +106,8 @@ pub struct EntryRefusal<'a, T: TriHashItem, S: BuildHasher = DefaultHashBuilder>
     pub(crate) error: EntryError<T>,
 }
 
-/// Why `Entry::or_try_insert_with` inserted nothing. `R` is the error of the insert, an `EntryError`. (The type is a
-/// parameter, since the checker does not find an enum inside another one where the error is dropped.)
+/// Why `Entry::or_try_insert_with` inserted nothing. `R` is the error of the insert, and always an `EntryError`. It is
+/// a parameter for the proof alone: the checker does not find an enum inside another one where the error is dropped.
 #[derive(Drop)]
 pub enum TryEntryError<R, E> {
     /// The closure failed, with this error.
@@ -161,7 +161,7 @@ impl<T> NotReplaced<T> {
         ensures { result.now ≡ left_out self.now }
     {
         match self {
-            NotReplaced::Absent(item) | NotReplaced::Conflict(item) => item,
+            NotReplaced::Absent(item) | NotReplaced::Duplicate(item) => item,
         }
     }
 
@@ -170,7 +170,7 @@ impl<T> NotReplaced<T> {
         ensures { result ≡ left_out self }
     {
         match self {
-            NotReplaced::Absent(item) | NotReplaced::Conflict(item) => item,
+            NotReplaced::Absent(item) | NotReplaced::Duplicate(item) => item,
         }
     }
 }

@@ -12,7 +12,7 @@ use Rattle.iddqd_store.specs.Bag.{Ranks, IsOnly, IsSound, clash}
 use Rattle.iddqd_store.specs.Bag.Building.{AddsTo, IsReason}
 use Rattle.iddqd_store.specs.Callers.{IsRejected}
 use Rattle.iddqd_store.specs.Rank.{agree}
-use Rattle.iddqd_store.specs.declared.error.ExtendUniqueReason.{ExtendUniqueReason}
+use Rattle.iddqd_store.specs.declared.error.InsertReason.{InsertReason}
 use Rattle.iddqd_store.proofs.BagLemmas.Building.{AddsTo-IsPermutation}
 use Rattle.iddqd_store.proofs.BagLemmas.Sound.{named_is}
 use Rattle.iddqd_store.proofs.CallerLemmas.{NamesOne-query, distinct_at}
@@ -32,7 +32,7 @@ module _ {T Z : Type 0} (ranks : Ranks T) (old batch : List T) (it : IntoIter T 
       subst (λ l. batch ≡ l ++ x ∷ into_iter_items rest) same (sym is ∙ yielded_then (into_iter_steps {X = T} {Z = Z}) (λ (s : IntoIter T Z). into_iter_items s) (λ s t y step. step.0) xs it rest x came)
 
   -- that item was rejected
-  pub batch-refused : (x : T) (reason : ExtendUniqueReason) (taken xs : List T) (rest : IntoIter T Z) → YieldsThen into_iter_steps it xs (Some x) rest → xs ≡ taken → IsSound ranks (taken ++ old) → IsReason reason (clash ranks (taken ++ old) x) → IsRejected ranks old batch x reason
+  pub batch-refused : (x : T) (reason : InsertReason) (taken xs : List T) (rest : IntoIter T Z) → YieldsThen into_iter_steps it xs (Some x) rest → xs ≡ taken → IsSound ranks (taken ++ old) → IsReason reason (clash ranks (taken ++ old) x) → IsRejected ranks old batch x reason
   batch-refused x reason taken xs rest came same apart why =
       (taken, into_iter_items rest, batch-split x taken xs rest came same, apart, why)
 

@@ -4,8 +4,8 @@ use Rattle.std.proofs.Common.{sym, subst}
 use Rattle.std.proofs.lemmas.List.Sorted.{IsPermutation-sym}
 use Rattle.iddqd_store.specs.Bag.{Ranks, AreLawful, IsSound, clash}
 use Rattle.iddqd_store.specs.Bag.Building.{AddsTo, IsReason}
-use Rattle.iddqd_store.specs.declared.error.ExtendUniqueReason.{ExtendUniqueReason}
-use Rattle.iddqd_store.specs.declared.error.ExtendUniqueReason.TheVariants.{Conflict, Memory}
+use Rattle.iddqd_store.specs.declared.error.InsertReason.{InsertReason}
+use Rattle.iddqd_store.specs.declared.error.InsertReason.TheVariants.{Duplicate, Memory}
 use Rattle.iddqd_store.proofs.BagLemmas.Building.{AddsTo-IsPermutation, AddsTo-sound, clash-none}
 use Rattle.iddqd_store.proofs.BagLemmas.Cancelled.{IsPermutation-cancelled}
 use Rattle.iddqd_store.proofs.BagLemmas.Sound.{IsSound-IsPermutation}
@@ -26,6 +26,6 @@ module _ {T : Type 0} (by : Ranks T) (some : 0 < length by) (laws : AreLawful by
   left_sound = IsSound-IsPermutation by laws old new (IsPermutation-sym _ _ left_same) sound
 
   -- what conflicted with the next one conflicts with the bag and them
-  pub taken_reason : (reason : ExtendUniqueReason) (x : T) → IsReason reason (clash by held x) → IsReason reason (clash by (taken ++ old) x)
-  taken_reason Conflict x met = λ none. met (clash-none by (taken ++ old) held x (IsPermutation-sym _ _ listed) none)
+  pub taken_reason : (reason : InsertReason) (x : T) → IsReason reason (clash by held x) → IsReason reason (clash by (taken ++ old) x)
+  taken_reason Duplicate x met = λ none. met (clash-none by (taken ++ old) held x (IsPermutation-sym _ _ listed) none)
   taken_reason Memory x none = clash-none by held (taken ++ old) x listed none

@@ -1,8 +1,7 @@
 //! What the errors that do not borrow the map print. They implement `Error`, so `?` converts them into `anyhow::Error`.
 //! Printing needs no trait of the items, and `Error` needs only `Drop`.
 use super::{
-    DuplicateItem, ExtendUniqueError, ExtendUniqueReason, FromIterError, InsertReason,
-    MemoryRefused, TryReserveError,
+    DuplicateItem, ExtendUniqueError, FromIterError, InsertReason, MemoryRefused, TryReserveError,
 };
 use std::error::Error;
 use std::fmt::{self, Debug, Display, Formatter, Write};
@@ -74,14 +73,11 @@ impl<T> Display for ExtendUniqueError<T> {
     fn fmt<W: Write>(&self, f: &mut Formatter<W>) -> fmt::Result {
         let at = self.taken.len();
         match self.reason {
-            ExtendUniqueReason::Conflict => write!(
+            InsertReason::Duplicate => write!(
                 f,
                 "item {at} has a key that another one has: none was inserted"
             ),
-            ExtendUniqueReason::Memory => write!(
-                f,
-                "out of memory at item {at}: none was inserted"
-            ),
+            InsertReason::Memory => write!(f, "out of memory at item {at}: none was inserted"),
         }
     }
 }

@@ -149,7 +149,7 @@ impl<T> Debug for NotReplaced<T> {
     fn fmt<W: Write>(&self, f: &mut Formatter<W>) -> fmt::Result {
         let name = match self {
             NotReplaced::Absent(_item) => "Absent",
-            NotReplaced::Conflict(_item) => "Conflict",
+            NotReplaced::Duplicate(_item) => "Duplicate",
         };
         f.debug_struct(name).finish_non_exhaustive()
     }
@@ -159,7 +159,7 @@ impl<T> Display for NotReplaced<T> {
     fn fmt<W: Write>(&self, f: &mut Formatter<W>) -> fmt::Result {
         f.write_str(match self {
             NotReplaced::Absent(_item) => "no item has the key asked for",
-            NotReplaced::Conflict(_item) => "a third item has a key of the new one",
+            NotReplaced::Duplicate(_item) => "a third item has a key of the new one",
         })
     }
 }

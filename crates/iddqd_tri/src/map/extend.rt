@@ -59,7 +59,7 @@ impl<T: Ranked + Drop, S: BuildHasher> TriHashMap<T, S> {
     ///
     /// If an item conflicts, or if there is no memory for it, the call removes the items before it again. The error has
     /// these in order, that item, and the reason. The rest are dropped with the iterator. For an item that conflicts
-    /// the reason is `Conflict`, whether there is memory or not.
+    /// the reason is `Duplicate`, whether there is memory or not.
     ///
     /// To insert an item, the call hashes each key of it once, and searches for it once. It allocates memory if the map
     /// is full, and for the list of the items inserted, by which an error returns them: each time for as many items as

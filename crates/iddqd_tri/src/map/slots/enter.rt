@@ -10,7 +10,7 @@ ghost use Rattle.iddqd_store.specs.Slots.Found.{items_at, StandAt};
 use crate::item::{Ranked, TriHashItem};
 use crate::map::TriHashMap;
 use crate::ranks::{First, Second, Third};
-use iddqd_store::{Entered, ExtendUniqueReason, Meter};
+use iddqd_store::{Entered, InsertReason, Meter};
 use std::hash::{BuildHasher, Hash};
 
 impl<T: TriHashItem, S: BuildHasher> TriHashMap<T, S> {
@@ -22,7 +22,7 @@ impl<T: TriHashItem, S: BuildHasher> TriHashMap<T, S> {
         item: T,
         entered: &mut Entered<T>,
         wanted: usize,
-    ) -> Result<(), (T, ExtendUniqueReason)>
+    ) -> Result<(), (T, InsertReason)>
     where
         T: Drop,
         requires { 0 < wanted }
@@ -38,10 +38,10 @@ impl<T: TriHashItem, S: BuildHasher> TriHashMap<T, S> {
     {
         let at = match self.places(&item, &mut Meter::new(), &mut Meter::new()) {
             Ok(at) => at,
-            Err(_) => return Err((item, ExtendUniqueReason::Conflict)),
+            Err(_) => return Err((item, InsertReason::Duplicate)),
         };
         if self.make_room(wanted).is_err() || entered.reserve_for(wanted).is_err() {
-            return Err((item, ExtendUniqueReason::Memory));
+            return Err((item, InsertReason::Memory));
         }
         let slot = self.insert_at(item, at, &mut Meter::new());
         entered.push(slot);
