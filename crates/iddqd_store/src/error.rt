@@ -89,18 +89,6 @@ pub enum FromIterError<T, L> {
     Memory(T),
 }
 
-/// The error of `extend_unique`, after which the map has the items that it had before the call. The items of the list
-/// after `value` were dropped.
-#[derive(Drop)]
-pub struct ExtendUniqueError<T> {
-    /// The items before `value`, in the order of the list.
-    pub taken: Vec<T>,
-    /// The item at which the call failed.
-    pub value: T,
-    /// Why the call failed at `value`.
-    pub reason: InsertReason,
-}
-
 /// An item that was not inserted, and the items that conflict with it: a short list `L` of them or of references to
 /// them, in the order of the keys.
 #[derive(Drop)]

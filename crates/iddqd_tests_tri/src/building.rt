@@ -28,9 +28,12 @@ fn ends_at_the_conflict(map: &mut TriHashMap<Row>) -> bool {
     match map.extend_unique(rows) {
         Ok(()) => false,
         Err(error) => {
-            matches!(error.reason, InsertReason::Duplicate)
-                && error.taken.len() == 3
-                && error.value == row_of(0, 3, 3, 0)
+            error.taken1
+                && !error.taken2
+                && !error.taken3
+                && matches!(error.reason(), InsertReason::Duplicate)
+                && error.before.len() == 3
+                && error.item == row_of(0, 3, 3, 0)
         }
     }
 }

@@ -20,6 +20,9 @@ pub fn load<T: BiHashItem + Drop, S: BuildHasher>(
 {
     match map.extend_unique(batch) {
         Ok(()) => Ok(()),
-        Err(refused) => Err((refused.value, refused.reason)),
+        Err(refused) => {
+            let reason = refused.reason();
+            Err((refused.item, reason))
+        }
     }
 }

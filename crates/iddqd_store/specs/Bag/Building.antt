@@ -47,14 +47,6 @@ abbrev pub IsReason : {T : Type 0} → InsertReason → List T → Type 0
 IsReason Duplicate found = found ≢ []
 IsReason Memory found = found ≡ []
 
--- No items of `taken` and `old` conflict, and some item of `taken` or `old` conflicts with `x` exactly if the reason is
--- `Duplicate`.
--- Example: If `taken` is (4, 40), the item (4, 50) is rejected with the reason `Duplicate`.
-pub record IsRefusedBehind {T : Type 0} (ranks : Ranks T) (old taken : List T) (x : T)
-    (why : InsertReason) : Type 0 where
-  pub apart : IsSound ranks (taken ++ old)
-  pub reason : IsReason why (clash ranks (taken ++ old) x)
-
 -- If the error is a conflict, then `P` holds for its item and the items that conflict with it, and if memory ran out,
 -- then `Q` holds for its item.
 -- Example: For `Duplicate` with (1, 20) and (1, 10), (2, 20) it says that `P` holds for these.
