@@ -1,9 +1,10 @@
 //! Devices in a table of a database and in a map. The table is loaded as a whole, or not at all.
-ghost use Rattle.std.specs.Prelude.{◌≡◌, ◌++◌, Some, take, slice_get, List, length, IsPermutation, IfOk, OnOk, OnErr, IfErr};
-ghost use Rattle.iddqd_bi.specs.Bag.Building.{IsRefusedBehind};
+ghost use Rattle.std.specs.Prelude.{◌≡◌, ◌==◌, ◌++◌, Some, take, slice_get, List, length, IsPermutation, IfOk, OnOk, OnErr, IfErr};
+ghost use Rattle.std.specs.List.{list_any};
+ghost use Rattle.iddqd_bi.specs.Bag.{IsSound};
 ghost use Rattle.iddqd_bi.specs.Map.{bag};
 
-use iddqd_bi::{BiHashItem, BiHashMap, ExtendUniqueReason, Ranked};
+use iddqd_bi::{BiHashItem, BiHashMap, Ranked};
 use sqlite::{Alter, Connection, Error, Row, params};
 use std::alloc::Global;
 
@@ -33,13 +34,14 @@ impl BiHashItem for Device {
     }
 }
 
-/// Why a batch was not inserted: the device that was rejected, how many devices are before it in the batch, and whether
-/// it conflicts with one of these or of the map, or found no memory.
+/// Why a batch was not inserted: the device that was rejected, how many devices are before it in the batch, and which of
+/// its keys one of these or of the map has. If none is taken, there was no memory.
 #[derive(Drop)]
 pub struct Rejected {
     pub item: Device,
     pub index: usize,
-    pub reason: ExtendUniqueReason,
+    pub serial_taken: bool,
+    pub port_taken: bool,
 }
 
 /// Why a table was not loaded.
@@ -99,15 +101,19 @@ pub fn insert_all(devices: &mut BiHashMap<Device>, batch: Vec<Device>) -> Result
     ensures all { OnOk result (IsPermutation (bag devices.new) (batch.items ++ bag devices.old)) }
     ensures none { OnErr result (IsPermutation (bag devices.new) (bag devices.old)) }
     ensures which { IfErr result (λ e. slice_get batch.items e.index ≡ Some e.item) }
-    ensures why { IfErr result (λ e. IsRefusedBehind
-        ⟦<Device as Ranked>⟧.ranks (bag devices.old) (take e.index batch.items) e.item e.reason) }
+    ensures apart { IfErr result (λ e. IsSound ⟦<Device as Ranked>⟧.ranks (take e.index batch.items ++ bag devices.old)) }
+    ensures serial_taken { IfErr result (λ e. e.serial_taken
+        ≡ list_any (λ r. e.item.serial == r.serial) (take e.index batch.items ++ bag devices.old)) }
+    ensures port_taken { IfErr result (λ e. e.port_taken
+        ≡ list_any (λ r. e.item.port == r.port) (take e.index batch.items ++ bag devices.old)) }
 {
     match devices.extend_unique(batch) {
         Ok(()) => Ok(()),
         Err(refused) => Err(Rejected {
-            index: refused.taken.len(),
-            item: refused.value,
-            reason: refused.reason,
+            index: refused.before.len(),
+            item: refused.item,
+            serial_taken: refused.taken1,
+            port_taken: refused.taken2,
         }),
     }
 }

@@ -13,7 +13,7 @@
 mod devices;
 
 use crate::devices::{Device, NotLoaded, clear, load, store};
-use iddqd_bi::{BiHashMap, ExtendUniqueReason};
+use iddqd_bi::BiHashMap;
 use sqlite::{Connection, Error, MemStore};
 use std::alloc::{AllocError, Global};
 use std::io;
@@ -53,11 +53,10 @@ fn answer(rt: &(impl Print + AllocGlobal), conn: &mut Connection<MemStore>) -> i
         Err(NotLoaded::Row(rejected)) => {
             let row = rejected.index.saturating_add(1);
             let device = rejected.item;
-            match rejected.reason {
-                ExtendUniqueReason::Conflict => {
-                    println!(rt; "row {row}: duplicate {} {}", device.serial, device.port)
-                }
-                ExtendUniqueReason::Memory => println!(rt; "row {row}: no memory"),
+            if rejected.serial_taken || rejected.port_taken {
+                println!(rt; "row {row}: duplicate {} {}", device.serial, device.port)
+            } else {
+                println!(rt; "row {row}: no memory")
             }
         }
         Err(NotLoaded::Database(_)) => rt.println("the database cannot be read"),

@@ -126,6 +126,6 @@ pub fn move_to(devices: &mut BiHashMap<Device>, serial: u64, port: u16) -> Resul
     match devices.rekey1(&serial, Device { serial, port }) {
         Ok(device) => Ok(device.port),
         Err(NotReplaced::Absent(_)) => Err(MoveError::NoDevice),
-        Err(NotReplaced::Conflict(_)) => Err(MoveError::PortTaken),
+        Err(NotReplaced::Duplicate(_)) => Err(MoveError::PortTaken),
     }
 }

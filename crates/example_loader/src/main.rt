@@ -2,10 +2,12 @@
 //!
 //!     loaded N              all its N records were inserted
 //!     line N: bad record    what begins at its line N is no record, and nothing was inserted
-//!     line N: duplicate     a record before the one at its line N has that id or that mail; nothing was inserted
+//!     line N: KEY taken     a record that was loaded earlier has that key of the one at its line N; nothing was inserted
+//!     line N: KEY taken, see line M
+//!                           the record at its line M has that key, and is the first of the batch that does
 //!     line N: no memory     there was no memory for the record at its line N, and nothing was inserted
 //!
-//! A record is a line, or more than one if its mail address is in quotes and has a line end. A line that has more or fewer fields or
+//! KEY is `id`, `mail`, or `id and mail`. A record is a line, or more than one if its mail address is in quotes and has a line end. A line that has more or fewer fields or
 //! is not UTF-8 is no record. At the end it prints how many records there are.
 #![tactic(auto)]
 
@@ -13,7 +15,7 @@ mod loader;
 mod text;
 
 use crate::loader::Record;
-use crate::text::{Problem, load_text};
+use crate::text::{Duplicate, Problem, load_text};
 use iddqd_bi::BiHashMap;
 use std::io;
 use std::io::BufRead;
@@ -28,13 +30,25 @@ fn answer(
         Ok(count) => println!(rt; "loaded {count}"),
         Err(fault) => {
             let line = fault.line;
-            let problem = match fault.problem {
-                Problem::Bad => "bad record",
-                Problem::Duplicate => "duplicate",
-                Problem::Memory => "no memory",
-            };
-            println!(rt; "line {line}: {problem}")
+            match fault.problem {
+                Problem::Bad => println!(rt; "line {line}: bad record"),
+                Problem::Duplicate(duplicate) => show_duplicate(rt, line, duplicate),
+                Problem::Memory => println!(rt; "line {line}: no memory"),
+            }
         }
+    }
+}
+
+/// Prints which keys of a record are taken, and the line of the first record of the batch that has one.
+fn show_duplicate(rt: &impl Print, line: u64, duplicate: Duplicate) -> io::Result<()> {
+    let key = match (duplicate.id, duplicate.mail) {
+        (true, true) => "id and mail",
+        (true, false) => "id",
+        _ => "mail",
+    };
+    match duplicate.line {
+        Some(first) => println!(rt; "line {line}: {key} taken, see line {first}"),
+        None => println!(rt; "line {line}: {key} taken"),
     }
 }
 

@@ -2,9 +2,9 @@
 ghost use Rattle.std.specs.Prelude.{◌≡◌, ◌++◌, List, length, IsPermutation, IfOk, OnErr};
 ghost use Rattle.iddqd_bi.specs.Map.{bag};
 
-use crate::loader::{Record, load};
+use crate::loader::{Record, Rejected, load};
 use csv::{ByteRecord, DeserializeErrorKind, Error, ErrorKind, ReaderBuilder};
-use iddqd_bi::{BiHashMap, ExtendUniqueReason};
+use iddqd_bi::BiHashMap;
 use std::alloc::Global;
 
 /// A record has so many fields: its number, its mail address and its year.
@@ -23,9 +23,18 @@ pub enum Problem {
     /// It has not three fields, or one of them is not of its type, or not UTF-8.
     Bad,
     /// A record before it, in the text or loaded earlier, has its number or its mail address.
-    Duplicate,
+    Duplicate(Duplicate),
     /// There is no memory for the record.
     Memory,
+}
+
+/// Which keys of a record are taken, and the line of the first record of its text that has one of them. If there is no
+/// such line, a record that was loaded earlier has it.
+#[derive(Clone, Copy)]
+pub struct Duplicate {
+    pub id: bool,
+    pub mail: bool,
+    pub line: Option<u64>,
 }
 
 /// Returns what is wrong with a row that was not read as a record.
@@ -82,6 +91,21 @@ fn batch_of(alloc: Global, text: &[u8]) -> Result<Batch, Fault>
     Ok(Batch { records, lines })
 }
 
+/// Returns what is wrong with a record that was rejected. The lines are those of the records.
+fn problem_with(rejected: &Rejected, lines: &[u64]) -> Problem {
+    if !rejected.id_taken && !rejected.mail_taken {
+        return Problem::Memory;
+    }
+    Problem::Duplicate(Duplicate {
+        id: rejected.id_taken,
+        mail: rejected.mail_taken,
+        line: match rejected.earlier {
+            Some(at) => lines.get(at).copied(),
+            None => None,
+        },
+    })
+}
+
 /// Loads the records of a text, and returns how many they are. If one of them cannot be inserted, none is.
 pub fn load_text(
     alloc: Global,
@@ -99,10 +123,7 @@ pub fn load_text(
         Ok(()) => Ok(count),
         Err(rejected) => Err(Fault {
             line: lines[rejected.index],
-            problem: match rejected.reason {
-                ExtendUniqueReason::Conflict => Problem::Duplicate,
-                ExtendUniqueReason::Memory => Problem::Memory,
-            },
+            problem: problem_with(&rejected, lines.as_slice()),
         }),
     }
 }

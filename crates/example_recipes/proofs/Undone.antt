@@ -11,7 +11,7 @@ use Rattle.iddqd_store.specs.Bag.{AreLawful, IsSound, Ranks, clash, conflicts}
 use Rattle.iddqd_bi.specs.Map.{Loses, Map, bag}
 use Rattle.iddqd_bi.specs.Rekeyed.{TellsWhyNot}
 use Rattle.iddqd_bi.specs.declared.error.NotReplaced.{NotReplaced}
-use Rattle.iddqd_bi.specs.declared.error.NotReplaced.TheVariants.{Absent, Conflict}
+use Rattle.iddqd_bi.specs.declared.error.NotReplaced.TheVariants.{Absent, Duplicate}
 use Rattle.iddqd_store.proofs.BagLemmas.Sound.{AreNames-like, Contains-filter, IsSound-IsPermutation, IsSound-rank, all_pass, each_weaker, length-named, none_pass}
 use Rattle.iddqd_store.proofs.BagLemmas.Steps.{none_passes}
 use Rattle.iddqd_store.proofs.BagLemmas.Exchanges.{IsPermutation-filter}
@@ -110,6 +110,6 @@ module _ {T : Type 0} (by1 by2 : T → T → Bool) (laws : AreLawful (by1 ∷ by
   moved_in test old mid a b moved (Ok x) named sound left there passes same why = refl
   moved_in test old mid a b moved (Err (Absent e)) named sound left there passes same none =
       absurd (omega (arith, (subst (λ l. Contains l a) (sym none) (Contains-filter test mid a passes there)).1))
-  moved_in test old mid a b moved (Err (Conflict e)) named sound left there passes same why =
+  moved_in test old mid a b moved (Err (Duplicate e)) named sound left there passes same why =
       let own : test why.0 ≡ true = (passes-listed test mid why.0 (subst (λ l. Contains l why.0) why.2 (Contains-here why.0 []))).1 in
       absurd (why.4 (free_for_moved old mid why.1 b why.0 moved sound left why.3 (named why.0 own) same))

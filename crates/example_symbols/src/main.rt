@@ -80,7 +80,7 @@ fn answer_rename(
     rt.println(match rename(symbols, address, name) {
         Ok(_symbol) => "ok",
         Err(NotReplaced::Absent(_symbol)) => "none",
-        Err(NotReplaced::Conflict(_symbol)) => "name taken",
+        Err(NotReplaced::Duplicate(_symbol)) => "name taken",
     })
 }
 

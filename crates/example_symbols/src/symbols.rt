@@ -73,7 +73,7 @@ pub fn undefine(symbols: &mut BiHashMap<Symbol>, name: &str) -> Option<Symbol>
 }
 
 /// Gives the symbol at this address another name, and returns it as it was. No memory is allocated. The error is `Absent` if
-/// there is no such symbol, and `Conflict` if another one has the name.
+/// there is no such symbol, and `Duplicate` if another one has the name.
 pub fn rename(
     symbols: &mut BiHashMap<Symbol>,
     address: u64,

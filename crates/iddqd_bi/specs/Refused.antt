@@ -1,5 +1,5 @@
 -- What the error of an insert says, and what the map ends as.
-use Rattle.std.specs.Prelude.{◌≡◌, Bool, false, List, [], ◌∷◌, Result, Ok, Err, OnOk, OnErr}
+use Rattle.std.specs.Prelude.{◌≡◌, ◌++◌, Bool, false, List, [], ◌∷◌, ℕ, Result, Ok, Err, OnOk, OnErr}
 use Rattle.std.specs.List.{list_any}
 use Rattle.std.specs.Borrow.{RattleType, MutBor, Fml, GName, follows_so}
 use Rattle.std.specs.HashMap.Lent.{HashMembers}
@@ -8,12 +8,14 @@ use Rattle.std.specs.declared.hash.Hash as hash
 use Rattle.std.specs.declared.hash.Hasher as hasher
 use Rattle.std.specs.declared.hash.BuildHasher as builder
 use mathlib.Core.Option as maybe
+use Rattle.iddqd_store.specs.Bag.{IsSound}
 use Rattle.iddqd_store.specs.Map.{Map, bag, IsFullFor}
 use Rattle.iddqd_store.specs.Rank.{SlotUnder}
 use Rattle.iddqd_bi.specs.Keys.{has1, has2, ranks}
 use Rattle.iddqd_bi.specs.declared.item.BiHashItem as item
 use Rattle.iddqd_bi.specs.declared.map.slots.Refusal.{Refusal}
 use Rattle.iddqd_bi.specs.declared.map.slots.Refusal.TheVariants as refusal
+use Rattle.iddqd_bi.specs.declared.error.ExtendUniqueError.{ExtendUniqueError}
 use Rattle.iddqd_bi.specs.declared.error.InsertError.{InsertError}
 use Rattle.iddqd_bi.specs.declared.error.Rejected.{Rejected}
 use Rattle.iddqd_bi.specs.contracts.map.BiHashMap.{the_row}
@@ -39,6 +41,21 @@ module _ {T K1 K2 : Type 0} (of : item.Ghosts T K1 K2)
     pub taken1 : e.taken1 ≡ list_any (has1 of eq1 (of.key1 x)) (bag m)
     pub taken2 : e.taken2 ≡ list_any (has2 of eq2 (of.key2 x)) (bag m)
     pub full : e.taken1 ≡ false → e.taken2 ≡ false → IsFullFor (ranks of eq1 eq2) m x
+
+  -- The error of a list says of each key of its item whether an item before it in the list, or one of the bag `old`,
+  -- has that key. No two of those items conflict.
+  -- Example: If (4, 40) came before (1, 40), an item has the first key of (1, 40), and one has the second.
+  pub record TellsWhyBehind (old : List T) (e : ExtendUniqueError T) : Type 0 where
+    pub apart : IsSound (ranks of eq1 eq2) (e.before.items ++ old)
+    pub taken1 : e.taken1 ≡ list_any (has1 of eq1 (of.key1 e.item)) (e.before.items ++ old)
+    pub taken2 : e.taken2 ≡ list_any (has2 of eq2 (of.key2 e.item)) (e.before.items ++ old)
+
+  -- The error hands `x` back, and says of each key of `x` whether an item of the bag has it. No public clause cites it.
+  -- Example: In the bag the first key of (1, 40) is taken, and the second is not.
+  pub record TellsTaken (bag : List T) (x : T) (e : Rejected T) : Type 0 where
+    pub handed_back : e.item ≡ x
+    pub taken1 : e.taken1 ≡ list_any (has1 of eq1 (of.key1 x)) bag
+    pub taken2 : e.taken2 ≡ list_any (has2 of eq2 (of.key2 x)) bag
 
 module _ {T S K1 K2 H : Type 0} {of : item.Ghosts T K1 K2}
     {eq1 : equal.Ghosts K1} {input1 : hash.Ghosts K1}

@@ -12,7 +12,7 @@ module _ {T : Type 0} where
   -- Example: For `Absent x` it is `x`.
   abbrev pub left_out : NotReplaced T → T
   left_out (unreplaced.Absent x) = x
-  left_out (unreplaced.Conflict x) = x
+  left_out (unreplaced.Duplicate x) = x
 
   -- In the map `y` has replaced the item `x`: the new items and `x` are the old items and `y`. Nothing else changes.
   -- Example: A map of the bag in which (4, 10) is in the place of (1, 10) has (4, 10), (2, 20), (3, 30).
@@ -22,12 +22,12 @@ module _ {T : Type 0} where
     pub same_room : new.capacity ≡ old.capacity
     pub same_builder : new.builder ≡ old.builder
 
-  -- `Absent` says that no item of the bag passes the test; `Conflict` says that one does, and that something conflicts
+  -- `Absent` says that no item of the bag passes the test; `Duplicate` says that one does, and that something conflicts
   -- with `y` in the bag without that one.
   -- Example: In the bag, (1, 20) cannot replace the item with the first key 1, since (2, 20) conflicts with it.
   abbrev pub TellsWhyNot : Ranks T → (T → Bool) → List T → T → NotReplaced T → Type 0
   TellsWhyNot ranks test old y (unreplaced.Absent e) = IsOnly test old None
-  TellsWhyNot ranks test old y (unreplaced.Conflict e) =
+  TellsWhyNot ranks test old y (unreplaced.Duplicate e) =
       (x : T) × (rest : List T) × IsOnly test old (Some x) × IsPermutation old (x ∷ rest) × (clash ranks rest y ≢ [])
 
   -- A search by one rank, for an item that another one is to replace, costs what `SearchCosts` says. If it finds one, the

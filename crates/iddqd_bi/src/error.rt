@@ -1,5 +1,5 @@
 //! The errors of calls that insert or replace one item.
-ghost use Rattle.std.specs.Prelude.{◌≡◌, ◌≢◌, ◌<◌, [], Some, map};
+ghost use Rattle.std.specs.Prelude.{◌≡◌, ◌≢◌, ◌<◌, [], Some, map, false};
 ghost use Rattle.iddqd_store.specs.Map.{bag};
 ghost use Rattle.iddqd_store.specs.Bag.{clash, order};
 ghost use Rattle.iddqd_store.specs.Slots.Found.{items_at};
@@ -58,6 +58,21 @@ pub struct Rejected<T> {
     pub taken2: bool,
 }
 
+/// The error of `extend_unique`, after which the map has the items that it had before the call: the item at which the call
+/// failed, and which of its keys are taken. If none is, there was no memory for the item. The items after it in the list
+/// were dropped.
+#[derive(Drop)]
+pub struct ExtendUniqueError<T> {
+    /// The items before `item`, in the order of the list.
+    pub before: Vec<T>,
+    /// The item at which the call failed.
+    pub item: T,
+    /// Whether an item of the map, or one of `before`, has its first key.
+    pub taken1: bool,
+    /// Whether an item of the map, or one of `before`, has its second key.
+    pub taken2: bool,
+}
+
 /// The error of `RefMut::replace` and `OccupiedEntry::insert`: the new item has another key than the item that it was
 /// to replace, or than the entry. The error has the new item, and names the lowest rank at which the keys differ.
 #[derive(Drop)]
@@ -74,7 +89,7 @@ pub enum NotReplaced<T> {
     /// No item has the key that was asked for.
     Absent(T),
     /// An item has that key, but some other item conflicts with the new item.
-    Conflict(T),
+    Duplicate(T),
 }
 
 /// The error of an insert through a vacant entry. It has the item, and names the lowest rank at which the item's key is
@@ -97,8 +112,8 @@ pub struct EntryRefusal<'a, T: BiHashItem, S: BuildHasher = DefaultHashBuilder> 
     pub(crate) error: EntryError<T>,
 }
 
-/// Why `Entry::or_try_insert_with` inserted nothing. `R` is the error of the insert, an `EntryError`. (The type is a parameter,
-/// since the checker does not find an enum inside another one where the error is dropped.)
+/// Why `Entry::or_try_insert_with` inserted nothing. `R` is the error of the insert, and always an `EntryError`. It is a
+/// parameter for the proof alone: the checker does not find an enum inside another one where the error is dropped.
 #[derive(Drop)]
 pub enum TryEntryError<R, E> {
     /// The closure failed, with this error.
@@ -112,6 +127,20 @@ pub enum TryEntryError<R, E> {
 pub struct TryEntryRefusal<'a, T: BiHashItem, E, S: BuildHasher = DefaultHashBuilder> {
     pub(crate) map: &'a mut BiHashMap<T, S>,
     pub(crate) error: TryEntryError<EntryError<T>, E>,
+}
+
+impl<T> ExtendUniqueError<T> {
+    /// Returns why the call failed: `Duplicate` if a key of the item is taken, otherwise `Memory`.
+    pub fn reason(&self) -> InsertReason
+        ensures duplicate { result ≡ InsertReason.Duplicate → self.now.taken1 ≡ false → self.now.taken2 ≡ false → ⊥ }
+        ensures memory { result ≡ InsertReason.Memory → (self.now.taken1 ≡ false) × (self.now.taken2 ≡ false) }
+    {
+        if !self.taken1 && !self.taken2 {
+            InsertReason::Memory
+        } else {
+            InsertReason::Duplicate
+        }
+    }
 }
 
 impl<T> KeyMismatch<T> {
@@ -151,7 +180,7 @@ impl<T> NotReplaced<T> {
         ensures { result.now ≡ left_out self.now }
     {
         match self {
-            NotReplaced::Absent(item) | NotReplaced::Conflict(item) => item,
+            NotReplaced::Absent(item) | NotReplaced::Duplicate(item) => item,
         }
     }
 
@@ -160,7 +189,7 @@ impl<T> NotReplaced<T> {
         ensures { result ≡ left_out self }
     {
         match self {
-            NotReplaced::Absent(item) | NotReplaced::Conflict(item) => item,
+            NotReplaced::Absent(item) | NotReplaced::Duplicate(item) => item,
         }
     }
 }

@@ -54,8 +54,8 @@ pub trait BiHashItemMut: BiHashItem {
     ghost put_shows: { (x : Self) (d : Self.Data) → data_of (put x d) ≡ d };
 }
 
-/// What contracts say of all keys of an item together. Every item type implements this trait by the blanket impl below,
-/// and nobody implements it by hand.
+/// What contracts say of all keys of an item together. The trait is public for contracts alone, and has no function. Every
+/// item type implements it by the blanket impl below, and nobody implements it by hand.
 pub trait Ranked: BiHashItem {
     // For each rank, the test whether two items have equal keys.
     ghost ranks: { Ranks Self };
@@ -79,8 +79,8 @@ impl<T: BiHashItem> Ranked for T {
     ghost key_tests_are = { refl };
 }
 
-/// What contracts say of the hashes of an item's keys, for a builder of hashers. Every item type implements this trait
-/// by the blanket impl below, and nobody implements it by hand.
+/// What contracts say of the hashes of an item's keys, for a builder of hashers. The trait is public for contracts alone,
+/// and has no function. Every item type implements it by the blanket impl below, and nobody implements it by hand.
 pub trait Hashed<S: BuildHasher>: BiHashItem {
     // The hash of each key of an item, by a builder.
     ghost hash1: { S → Self → ℕ };

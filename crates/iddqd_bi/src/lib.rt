@@ -18,8 +18,8 @@ mod ref_mut;
 pub use command::{BiCommand, BiReply, BiSink};
 pub use entry::{Entry, OccupiedEntry, OccupiedEntryMut, OccupiedEntryRef, VacantEntry};
 pub use error::{
-    EntryError, EntryRefusal, FromIterError, InsertError, KeyMismatch, NotReplaced, Rejected,
-    TryEntryError, TryEntryRefusal,
+    EntryError, EntryRefusal, ExtendUniqueError, FromIterError, InsertError, KeyMismatch,
+    NotReplaced, Rejected, TryEntryError, TryEntryRefusal,
 };
 pub use item::{BiHashItem, BiHashItemMut, Hashed, Ranked};
 pub use iter_mut::IterMut;
@@ -28,7 +28,6 @@ pub use ref_mut::RefMut;
 
 // Types of `iddqd_store` that the signatures of this crate name.
 pub use iddqd_store::{
-    Cursor, DuplicateItem, Equivalent, ExtendUniqueError, ExtendUniqueReason, InsertReason,
-    IntoIter, Iter, KeyMatcher, MemoryRefused, Meter, Query, ShortIntoIter, ShortIter,
-    TryReserveError, UpToTwo,
+    Cursor, DuplicateItem, Equivalent, InsertReason, IntoIter, Iter, KeyMatcher, MemoryRefused,
+    Meter, Query, ShortIntoIter, ShortIter, TryReserveError, UpToTwo,
 };

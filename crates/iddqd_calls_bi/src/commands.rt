@@ -85,7 +85,7 @@ fn refusal_of(reply: BiReply<'_, Item>) -> Answer {
         BiReply::Key2(item) => back(Answer::said("key2"), item),
         BiReply::Absent(item) => back(Answer::said("absent"), item),
         BiReply::AbsentData(value) => Answer::said("absent").at(value as usize),
-        BiReply::ExtendRefused(error) => refused(error),
+        BiReply::ExtendRefused(before, item, reason) => refused(reason, before, item),
         reply => {
             drop(reply);
             Answer::said("another reply")

@@ -145,7 +145,7 @@ fn rekeyed(answer: Result<Item, NotReplaced<Item>>) -> Answer {
         Err(error) => {
             let word = match &error {
                 NotReplaced::Absent(_) => "absent",
-                NotReplaced::Conflict(_) => "conflict",
+                NotReplaced::Duplicate(_) => "conflict",
             };
             back(Answer::of(word, row_of(error.item())), error.into_item())
         }

@@ -2,7 +2,7 @@
 use crate::guards::back;
 use crate::item::{Item, row_of};
 use crate::lists::displaced;
-use iddqd_bi::{BiHashMap, InsertError, InsertReason, Rejected, UpToTwo};
+use iddqd_bi::{BiHashMap, InsertError, InsertReason, UpToTwo};
 use iddqd_calls_shared::answer::Answer;
 use std::hash::BuildHasher;
 
@@ -76,12 +76,12 @@ fn overwrite_and_count<S: BuildHasher>(map: &mut BiHashMap<Item, S>, item: Item)
 }
 
 /// Answers which keys are taken, as digits, or that there was no memory.
-fn rejected(error: &Rejected<Item>) -> Answer {
+pub(crate) fn taken(taken1: bool, taken2: bool) -> Answer {
     let mut digits: usize = 0;
-    if error.taken1 {
+    if taken1 {
         digits = digits.wrapping_mul(10).wrapping_add(1);
     }
-    if error.taken2 {
+    if taken2 {
         digits = digits.wrapping_mul(10).wrapping_add(2);
     }
     if digits == 0 {
@@ -94,7 +94,7 @@ fn rejected(error: &Rejected<Item>) -> Answer {
 fn try_insert<S: BuildHasher>(map: &mut BiHashMap<Item, S>, item: Item) -> Answer {
     match map.try_insert(item) {
         Ok(()) => Answer::said("ok"),
-        Err(error) => back(rejected(&error), error.item),
+        Err(error) => back(taken(error.taken1, error.taken2), error.item),
     }
 }
 

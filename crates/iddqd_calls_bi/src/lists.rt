@@ -1,9 +1,8 @@
 //! Calls that take a list of items.
 use crate::guards::back;
+use crate::inserts::taken;
 use crate::item::{Item, row_of};
-use iddqd_bi::{
-    BiHashMap, ExtendUniqueError, ExtendUniqueReason, FromIterError, MemoryRefused, UpToTwo,
-};
+use iddqd_bi::{BiHashMap, ExtendUniqueError, FromIterError, InsertReason, MemoryRefused, UpToTwo};
 use iddqd_calls_shared::answer::Answer;
 use iddqd_calls_shared::builder::Builder;
 use std::alloc::Global;
@@ -36,17 +35,29 @@ fn lacking(error: MemoryRefused<Item>) -> Answer {
 }
 
 /// Answers the item at which a list failed, and the items before it.
-pub(crate) fn refused(error: ExtendUniqueError<Item>) -> Answer {
-    let word = match error.reason {
-        ExtendUniqueReason::Conflict => "conflict",
-        ExtendUniqueReason::Memory => "memory",
+pub(crate) fn refused(reason: InsertReason, before: Vec<Item>, item: Item) -> Answer {
+    let word = match reason {
+        InsertReason::Duplicate => "conflict",
+        InsertReason::Memory => "memory",
     };
-    let mut answer = Answer::of(word, row_of(&error.value));
-    for item in &error.taken {
-        answer = answer.with(row_of(item));
+    with_all(Answer::said(word), before, item)
+}
+
+/// Adds the item at which a list failed, and those before it, to an answer.
+fn with_all(answer: Answer, before: Vec<Item>, item: Item) -> Answer {
+    let mut answer = answer.with(row_of(&item));
+    for earlier in &before {
+        answer = answer.with(row_of(earlier));
     }
-    drop(error);
+    drop(before);
+    drop(item);
     answer
+}
+
+/// Answers which keys of the item are taken, as digits, or that there was no memory, and then the same.
+fn refused_for(error: ExtendUniqueError<Item>) -> Answer {
+    let answer = taken(error.taken1, error.taken2);
+    with_all(answer, error.before, error.item)
 }
 
 /// Answers the first item that conflicts and those that it conflicts with, or the item for which there was no memory.
@@ -91,7 +102,7 @@ fn extend_hintless<S: BuildHasher>(map: &mut BiHashMap<Item, S>, items: Vec<Item
 fn extend_unique<S: BuildHasher>(map: &mut BiHashMap<Item, S>, items: Vec<Item>) -> Answer {
     match map.extend_unique(items) {
         Ok(()) => Answer::said("ok"),
-        Err(error) => refused(error),
+        Err(error) => refused_for(error),
     }
 }
 
@@ -103,7 +114,7 @@ fn extend_unique_and_count<S: BuildHasher>(
     match map.extend_unique(items) {
         Ok(()) => Answer::said("ok"),
         Err(error) => {
-            let keys = error.value.key1.alive();
+            let keys = error.item.key1.alive();
             drop(error);
             Answer::said("alive").at(keys)
         }

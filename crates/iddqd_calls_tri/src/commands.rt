@@ -88,7 +88,7 @@ fn refusal_of(reply: TriReply<'_, Item>) -> Answer {
         TriReply::Key3(item) => back(Answer::said("key3"), item),
         TriReply::Absent(item) => back(Answer::said("absent"), item),
         TriReply::AbsentData(value) => Answer::said("absent").at(value as usize),
-        TriReply::ExtendRefused(error) => refused(error),
+        TriReply::ExtendRefused(before, item, reason) => refused(reason, before, item),
         reply => {
             drop(reply);
             Answer::said("another reply")

@@ -5,7 +5,7 @@ use crate::guards::back;
 use crate::item::{Item, row_of};
 use crate::lists::displaced;
 use iddqd_calls_shared::answer::Answer;
-use iddqd_tri::{InsertError, InsertReason, Rejected, TriHashMap, UpToThree};
+use iddqd_tri::{InsertError, InsertReason, TriHashMap, UpToThree};
 use std::hash::BuildHasher;
 
 /// Answers the reason of an error, and its item.
@@ -78,15 +78,15 @@ fn overwrite_and_count<S: BuildHasher>(map: &mut TriHashMap<Item, S>, item: Item
 }
 
 /// Answers which keys are taken, as digits, or that there was no memory.
-fn rejected(error: &Rejected<Item>) -> Answer {
+pub(crate) fn taken(taken1: bool, taken2: bool, taken3: bool) -> Answer {
     let mut digits: usize = 0;
-    if error.taken1 {
+    if taken1 {
         digits = digits.wrapping_mul(10).wrapping_add(1);
     }
-    if error.taken2 {
+    if taken2 {
         digits = digits.wrapping_mul(10).wrapping_add(2);
     }
-    if error.taken3 {
+    if taken3 {
         digits = digits.wrapping_mul(10).wrapping_add(3);
     }
     if digits == 0 {
@@ -99,7 +99,7 @@ fn rejected(error: &Rejected<Item>) -> Answer {
 fn try_insert<S: BuildHasher>(map: &mut TriHashMap<Item, S>, item: Item) -> Answer {
     match map.try_insert(item) {
         Ok(()) => Answer::said("ok"),
-        Err(error) => back(rejected(&error), error.item),
+        Err(error) => back(taken(error.taken1, error.taken2, error.taken3), error.item),
     }
 }
 

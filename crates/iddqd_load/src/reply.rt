@@ -3,7 +3,7 @@ ghost use Rattle.std.specs.Prelude.{◌≡◌, false, ⊤};
 
 use crate::item::{Item, Rank};
 use iddqd_bi::{BiReply, BiSink};
-use iddqd_store::{ExtendUniqueError, ExtendUniqueReason, MapReply, ShortList};
+use iddqd_store::{InsertReason, MapReply, ShortList};
 use iddqd_tri::{TriReply, TriSink};
 use std::alloc::{AllocError, Global};
 
@@ -79,7 +79,7 @@ fn heard<'m, L: ShortList<Item = &'m Item> + Drop, G: ShortList<Item = Item> + D
             let (item, duplicates) = refused.into_parts();
             return duplicate_reply(alloc, item, duplicates);
         }
-        MapReply::ExtendRefused(refused) => return refused_reply(refused),
+        MapReply::ExtendRefused(before, item, reason) => return refused_reply(before, item, reason),
         MapReply::Memory(_) | MapReply::Refused => return Err(AllocError),
     };
     reply_of(alloc, kind, item)
@@ -115,17 +115,12 @@ fn duplicate_reply<'m, L: ShortList<Item = &'m Item> + Drop>(
 }
 
 /// Makes the reply of a list that was not inserted. It fails if that was for lack of memory.
-fn refused_reply(refused: ExtendUniqueError<Item>) -> Result<Reply, AllocError> {
-    let ExtendUniqueError {
-        taken,
-        value,
-        reason,
-    } = refused;
-    if reason == ExtendUniqueReason::Memory {
+fn refused_reply(before: Vec<Item>, item: Item, reason: InsertReason) -> Result<Reply, AllocError> {
+    if reason == InsertReason::Memory {
         return Err(AllocError);
     }
-    let mut items = taken;
-    items.push(value)?;
+    let mut items = before;
+    items.push(item)?;
     Ok(Reply {
         kind: Kind::ExtendRefused,
         items,

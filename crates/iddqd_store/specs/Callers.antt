@@ -3,7 +3,7 @@ use Rattle.std.specs.Prelude.{◌≡◌, ◌≢◌, ◌⊎◌, List, [], ◌∷�
 use Rattle.iddqd_store.specs.Bag.{Entry, vacant, unique, non_unique, IsSound, Ranks, clash, swap}
 use Rattle.iddqd_store.specs.Bag.Building.{IsReason}
 use Rattle.iddqd_store.specs.Map.{Map, bag}
-use Rattle.iddqd_store.specs.declared.error.ExtendUniqueReason.{ExtendUniqueReason}
+use Rattle.iddqd_store.specs.declared.error.InsertReason.{InsertReason}
 
 -- First `a` and then `b` was added to the bag.
 -- Example: With (4, 40) and (5, 50) the bag gets these two more items.
@@ -16,9 +16,9 @@ abbrev pub MayRefuse : {T S : Type 0} → Ranks T → Map T S → T → Type 0
 MayRefuse ranks m x = (clash ranks (bag m) x ≢ []) ⊎ (length (bag m) ≡ m.capacity)
 
 -- The batch has `x`; the items before `x` conflict neither with each other nor with those of `old`, and some item of
--- these or of `old` conflicts with `x` exactly if the reason is `Conflict`.
--- Example: In the batch (4, 40), (1, 50) the item (1, 50) is rejected with the reason `Conflict`.
-abbrev pub IsRejected : {T : Type 0} → Ranks T → List T → List T → T → ExtendUniqueReason → Type 0
+-- these or of `old` conflicts with `x` exactly if the reason is `Duplicate`.
+-- Example: In the batch (4, 40), (1, 50) the item (1, 50) is rejected with the reason `Duplicate`.
+abbrev pub IsRejected : {T : Type 0} → Ranks T → List T → List T → T → InsertReason → Type 0
 IsRejected {T} ranks old batch x reason =
     (before : List T) × (behind : List T) × (batch ≡ before ++ x ∷ behind) × IsSound ranks (before ++ old)
     × IsReason reason (clash ranks (before ++ old) x)

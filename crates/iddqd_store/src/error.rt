@@ -71,12 +71,12 @@ impl<T: Drop> From<MemoryRefused<T>> for TryReserveError {
     }
 }
 
-/// Why `insert_unique` failed.
+/// Why `insert_unique` or `extend_unique` did not insert an item.
 #[derive(Clone, Copy, Debug, PartialEq, Eq, Drop)]
 pub enum InsertReason {
-    /// Items of the map conflict with the item.
+    /// Items of the map, or items before it in the list of `extend_unique`, conflict with the item.
     Duplicate,
-    /// Nothing conflicts with the item, but the map is full, and there was no memory for it to grow.
+    /// Nothing conflicts with the item, but there was no memory for it.
     Memory,
 }
 
@@ -87,27 +87,6 @@ pub enum FromIterError<T, L> {
     Duplicate(DuplicateItem<T, L>),
     /// An item with which nothing conflicts, and for which there was no memory.
     Memory(T),
-}
-
-/// Why `extend_unique` failed at an item.
-#[derive(Clone, Copy, Debug, PartialEq, Eq, Drop)]
-pub enum ExtendUniqueReason {
-    /// The item conflicts with an item of the map, or with one before it in the list.
-    Conflict,
-    /// Nothing conflicts with the item, but there was no memory for it.
-    Memory,
-}
-
-/// The error of `extend_unique`, after which the map has the items that it had before the call. The items of the list
-/// after `value` were dropped.
-#[derive(Drop)]
-pub struct ExtendUniqueError<T> {
-    /// The items before `value`, in the order of the list.
-    pub taken: Vec<T>,
-    /// The item at which the call failed.
-    pub value: T,
-    /// Why the call failed at `value`.
-    pub reason: ExtendUniqueReason,
 }
 
 /// An item that was not inserted, and the items that conflict with it: a short list `L` of them or of references to

@@ -13,10 +13,7 @@ mod reply;
 mod short_list;
 
 pub use equivalent::Equivalent;
-pub use error::{
-    DuplicateItem, ExtendUniqueError, ExtendUniqueReason, FromIterError, InsertReason,
-    MemoryRefused, TryReserveError,
-};
+pub use error::{DuplicateItem, FromIterError, InsertReason, MemoryRefused, TryReserveError};
 pub use index_table::{IndexTable, KeyMatcher, Matcher, Meter, Vacancy};
 pub use item_set::{Cursor, Entered, IntoIter, ItemIndex, ItemSet, Iter};
 pub use load::{pairs_wanted, table_room, wanted_above};

@@ -1,5 +1,5 @@
 //! What a command on a map returns.
-use crate::error::{DuplicateItem, ExtendUniqueError};
+use crate::error::{DuplicateItem, InsertReason};
 use crate::item_set::Iter;
 
 /// What a command returns. A reply may borrow items of the map: `Lent` is a short list of references to items, and
@@ -41,6 +41,7 @@ pub enum MapReply<'m, T, D, Lent, Given> {
     Absent(T),
     /// The data comes back, because there is no item to write it to.
     AbsentData(D),
-    /// No item of a list was inserted, because one could not be.
-    ExtendRefused(ExtendUniqueError<T>),
+    /// No item of a list was inserted, because one could not be: the items before that one, in the order of the list, that
+    /// one, and why it was not inserted.
+    ExtendRefused(Vec<T>, T, InsertReason),
 }

@@ -1,6 +1,6 @@
 //! A map whose builder has a random seed, and a list that promises more items than fit into any memory.
 use crate::row::{Row, row_of};
-use iddqd_bi::{BiHashMap, ExtendUniqueReason};
+use iddqd_bi::{BiHashMap, InsertReason};
 use std::hash::{BuildHasher, RandomState};
 use std::test::*;
 
@@ -28,9 +28,11 @@ fn ends_at_the_conflict(map: &mut BiHashMap<Row>) -> bool {
     match map.extend_unique(rows) {
         Ok(()) => false,
         Err(error) => {
-            matches!(error.reason, ExtendUniqueReason::Conflict)
-                && error.taken.len() == 3
-                && error.value == row_of(0, 3, 0)
+            error.taken1
+                && !error.taken2
+                && matches!(error.reason(), InsertReason::Duplicate)
+                && error.before.len() == 3
+                && error.item == row_of(0, 3, 0)
         }
     }
 }

@@ -1,8 +1,8 @@
 //! What maps, short lists and errors print, and the conversion of errors by `?` into an `anyhow::Error`.
 use crate::row::{Row, row_of};
 use iddqd_bi::{
-    BiHashMap, DuplicateItem, Entry, EntryError, ExtendUniqueError, ExtendUniqueReason,
-    FromIterError, InsertError, KeyMismatch, MemoryRefused, NotReplaced, Rejected, TryReserveError,
+    BiHashMap, DuplicateItem, Entry, EntryError, ExtendUniqueError, FromIterError, InsertError,
+    KeyMismatch, MemoryRefused, NotReplaced, Rejected, TryReserveError,
 };
 use std::alloc::Global;
 use std::fmt::{Debug, Display};
@@ -130,18 +130,37 @@ fn keys_print(alloc: Global) -> bool {
     )
 }
 
-/// Returns whether the error of `extend_unique` prints what it should.
-fn list_prints(alloc: Global) -> bool {
+/// Returns whether the error of `extend_unique` prints what it should, with these keys taken.
+fn list_prints(alloc: Global, taken1: bool, taken2: bool, told: &str, shown: &str) -> bool {
     let error = ExtendUniqueError {
-        taken: Vec::new(alloc),
-        value: row_of(1, 10, 100),
-        reason: ExtendUniqueReason::Conflict,
+        before: Vec::new(alloc),
+        item: row_of(1, 10, 100),
+        taken1,
+        taken2,
     };
-    prints(
+    prints(alloc, &error, told, shown)
+}
+
+/// Returns whether the errors of `extend_unique` print what they should.
+fn lists_print(alloc: Global) -> bool {
+    list_prints(
         alloc,
-        &error,
-        "item 0 has a key that another one has: none was inserted",
-        "ExtendUniqueError { reason: Conflict, taken: 0, .. }",
+        true,
+        true,
+        "none was inserted, because of item 0: an item has the first key; an item has the second key",
+        "ExtendUniqueError { before: 0, taken1: true, taken2: true, .. }",
+    ) && list_prints(
+        alloc,
+        false,
+        true,
+        "none was inserted, because of item 0: an item has the second key",
+        "ExtendUniqueError { before: 0, taken1: false, taken2: true, .. }",
+    ) && list_prints(
+        alloc,
+        false,
+        false,
+        "none was inserted, because of item 0: out of memory",
+        "ExtendUniqueError { before: 0, taken1: false, taken2: false, .. }",
     )
 }
 
@@ -162,8 +181,14 @@ fn rejections_print(alloc: Global) -> bool {
         alloc,
         true,
         true,
-        "an item has the first key",
+        "an item has the first key; an item has the second key",
         "Rejected { taken1: true, taken2: true, .. }",
+    ) && rejected_prints(
+        alloc,
+        true,
+        false,
+        "an item has the first key",
+        "Rejected { taken1: true, taken2: false, .. }",
     ) && rejected_prints(
         alloc,
         false,
@@ -189,9 +214,9 @@ fn not_replaced_prints(alloc: Global) -> bool {
         "Absent { .. }",
     ) && prints(
         alloc,
-        &NotReplaced::Conflict(row),
+        &NotReplaced::Duplicate(row),
         "a third item has a key of the new one",
-        "Conflict { .. }",
+        "Duplicate { .. }",
     )
 }
 
@@ -200,7 +225,7 @@ fn errors_print_and_are_errors_of_any_kind(rt: HostRuntime) {
     let alloc = rt.alloc();
     assert!(rt; memory_prints(alloc));
     assert!(rt; keys_print(alloc));
-    assert!(rt; list_prints(alloc));
+    assert!(rt; lists_print(alloc));
     assert!(rt; rejections_print(alloc) && not_replaced_prints(alloc));
     let mut map = BiHashMap::new(alloc);
     assert!(rt; grow(&mut map, 1).is_ok() && grow(&mut map, usize::MAX).is_err());

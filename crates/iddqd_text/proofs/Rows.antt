@@ -3,7 +3,7 @@ use Rattle.std.proofs.Common.{◌≡◌, refl, ℕ, [], ◌∷◌, Some, None}
 use Rattle.std.specs.Fmt.{digits}
 use Rattle.std.specs.Prelude.{codes}
 use Rattle.iddqd_store.specs.Runs.Reply.{done, duplicate, displaced, found, taken, memory, refused, size, items, kept, key, absent, absent_data, extend_refused}
-use Rattle.iddqd_store.specs.declared.error.ExtendUniqueReason.TheVariants.{Conflict, Memory}
+use Rattle.iddqd_store.specs.declared.error.InsertReason.TheVariants.{Duplicate, Memory}
 use Rattle.iddqd_text.specs.Commands.{single, add_all, command_of_line, first_bad_line}
 use Rattle.iddqd_text.specs.Lines.{lines_of}
 use Rattle.iddqd_text.specs.Numbers.{number_of}
@@ -193,7 +193,7 @@ absent_line = refl
 absent_data_line : line_of numbers (absent_data 8) ≡ codes "none\n"
 absent_data_line = refl
 
-conflict_line : line_of numbers (extend_refused Conflict (whole 3 30 0 ∷ []) (whole 4 30 0)) ≡ codes "conflict (4 30 0)\n"
+conflict_line : line_of numbers (extend_refused Duplicate (whole 3 30 0 ∷ []) (whole 4 30 0)) ≡ codes "conflict (4 30 0)\n"
 unfolding printed digits
 conflict_line = refl
 

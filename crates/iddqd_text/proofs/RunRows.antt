@@ -8,7 +8,7 @@ use Rattle.std.proofs.lemmas.List.Sorted.{IsPermutation-refl}
 use Rattle.iddqd_store.proofs.BagLemmas.Building.{IsSound-adds}
 use Rattle.iddqd_store.proofs.BagLemmas.Steps.{IsSound-nil}
 use Rattle.iddqd_store.specs.Bag.{Ranks, IsSound, adds}
-use Rattle.iddqd_store.specs.declared.error.ExtendUniqueReason.TheVariants.{Conflict}
+use Rattle.iddqd_store.specs.declared.error.InsertReason.TheVariants.{Duplicate}
 use Rattle.iddqd_bi.specs.Keys.{ranks}
 use Rattle.iddqd_store.specs.Runs.Reply.{Reply, done, duplicate, displaced, found, taken, refused, size, items, extend_refused}
 use Rattle.iddqd_store.specs.Runs.Step.{State}
@@ -185,7 +185,7 @@ adding alloc =
     ∷ []
 
 abbrev adding_replies : List (Reply BiItem ℕ)
-adding_replies = done ∷ extend_refused Conflict (item 3 30 0 ∷ []) (item 4 30 0) ∷ size 1 ∷ done ∷ size 3 ∷ []
+adding_replies = done ∷ extend_refused Duplicate (item 3 30 0 ∷ []) (item 4 30 0) ∷ size 1 ∷ done ∷ size 3 ∷ []
 
 added : (alloc : Global) → Replies Steps (adding alloc) adding_replies
 added alloc = replies_from Steps (adding alloc) adding_replies (

@@ -4,7 +4,7 @@ use Rattle.std.specs.Fmt.{decimal}
 use Rattle.std.specs.List.{flat_map}
 use Rattle.iddqd_store.specs.Runs.Reply.{Reply, done, duplicate, found, taken, memory, displaced, present}
 use Rattle.iddqd_store.specs.Runs.Reply.{refused, size, items, kept, key, absent, absent_data, extend_refused}
-use Rattle.iddqd_store.specs.declared.error.ExtendUniqueReason.TheVariants.{Conflict, Memory}
+use Rattle.iddqd_store.specs.declared.error.InsertReason.TheVariants.{Duplicate, Memory}
 use Rattle.iddqd_text.specs.Sorted.{by_first_key}
 
 -- a space and the number, for each, and the bracket after them
@@ -42,7 +42,7 @@ module _ {T : Type 0} (numbers : T → List ℕ) where
   line_of (key r item) = codes "key" ++ decimal (r + 1) ++ codes " " ++ printed (numbers item) ++ codes "\n"
   line_of (absent item) = codes "absent " ++ printed (numbers item) ++ codes "\n"
   line_of (absent_data value) = codes "none\n"
-  line_of (extend_refused Conflict before item) = codes "conflict " ++ printed (numbers item) ++ codes "\n"
+  line_of (extend_refused Duplicate before item) = codes "conflict " ++ printed (numbers item) ++ codes "\n"
   line_of (extend_refused Memory before item) = codes "memory " ++ printed (numbers item) ++ codes "\n"
   -- no word of the program asks for these
   line_of (present true) = codes "yes\n"

@@ -1,12 +1,12 @@
 //! The lines that the program prints.
-ghost use Rattle.std.specs.Prelude.{◌≡◌, ◌++◌, [], IfOk, OnOk, codes, map, string_bytes};
+ghost use Rattle.std.specs.Prelude.{◌≡◌, ◌++◌, List, [], IfOk, OnOk, codes, map, string_bytes};
 ghost use Rattle.iddqd_store.specs.Runs.Reply.{extend_refused};
 ghost use Rattle.iddqd_store.specs.Runs.Values.{value_by};
 ghost use Rattle.iddqd_text.specs.Printed.{printed, items_text, found_line, line_of, bad_line_message};
 ghost use Rattle.iddqd_text.specs.Sorted.{by_first_key};
 
 use crate::item::Numbers;
-use iddqd_store::{ExtendUniqueError, ExtendUniqueReason, Iter, MapReply, ShortList};
+use iddqd_store::{InsertReason, Iter, MapReply, ShortList};
 use std::alloc::{AllocError, Global};
 
 // A reply whose line is more than a word has a function of its own, which is never inlined. A function clears the
@@ -47,7 +47,7 @@ pub fn line_of<
         MapReply::Key3(item) => item_line(line, "key3 ", &item),
         MapReply::Absent(item) => item_line(line, "absent ", &item),
         MapReply::AbsentData(_) => line.push_str("none\n"),
-        MapReply::ExtendRefused(refused) => refused_list_line(line, refused),
+        MapReply::ExtendRefused(_, item, reason) => refused_list_line(line, &item, reason),
     }
 }
 
@@ -108,18 +108,18 @@ fn displaced_line<T: Numbers + Drop, G: ShortList<Item = T> + Drop>(
 
 /// Appends the line of a list of which no item was inserted to an empty text: the item at which the call failed.
 #[inline(never)]
-fn refused_list_line<T: Numbers + Drop>(
+fn refused_list_line<T: Numbers>(
     line: &mut String,
-    refused: ExtendUniqueError<T>,
+    item: &T,
+    reason: InsertReason,
 ) -> Result<(), AllocError>
     requires { string_bytes line.old ≡ [] }
-    ensures { OnOk result (string_bytes line.new ≡
-        line_of T.numbers (extend_refused refused.reason refused.taken.items refused.value)) }
+    ensures { (before : List T) → OnOk result (string_bytes line.new ≡
+        line_of T.numbers (extend_refused reason before item.now)) }
 {
-    let value = refused.value;
-    match refused.reason {
-        ExtendUniqueReason::Conflict => item_line(line, "conflict ", &value),
-        ExtendUniqueReason::Memory => item_line(line, "memory ", &value),
+    match reason {
+        InsertReason::Duplicate => item_line(line, "conflict ", item),
+        InsertReason::Memory => item_line(line, "memory ", item),
     }
 }
 

@@ -20,8 +20,8 @@ mod ref_mut;
 pub use command::{TriCommand, TriReply, TriSink};
 pub use entry::{Entry, OccupiedEntry, OccupiedEntryMut, OccupiedEntryRef, VacantEntry};
 pub use error::{
-    EntryError, EntryRefusal, FromIterError, InsertError, KeyMismatch, NotReplaced, Rejected,
-    TryEntryError, TryEntryRefusal,
+    EntryError, EntryRefusal, ExtendUniqueError, FromIterError, InsertError, KeyMismatch,
+    NotReplaced, Rejected, TryEntryError, TryEntryRefusal,
 };
 pub use item::{Hashed, Ranked, TriHashItem, TriHashItemMut};
 pub use iter_mut::IterMut;
@@ -30,7 +30,6 @@ pub use ref_mut::RefMut;
 
 // Types of `iddqd_store` that the signatures of this crate name.
 pub use iddqd_store::{
-    Cursor, DuplicateItem, Equivalent, ExtendUniqueError, ExtendUniqueReason, InsertReason,
-    IntoIter, Iter, KeyMatcher, MemoryRefused, Meter, Query, ShortIntoIter, ShortIter,
-    TryReserveError, UpToThree,
+    Cursor, DuplicateItem, Equivalent, InsertReason, IntoIter, Iter, KeyMatcher, MemoryRefused,
+    Meter, Query, ShortIntoIter, ShortIter, TryReserveError, UpToThree,
 };

@@ -4,14 +4,14 @@ ghost use Rattle.iddqd_bi.specs.Bag.{IsSound};
 ghost use Rattle.iddqd_bi.specs.Callers.{IsRejected};
 ghost use Rattle.iddqd_bi.specs.Map.{bag};
 
-use iddqd_bi::{BiHashItem, BiHashMap, ExtendUniqueReason, Ranked};
+use iddqd_bi::{BiHashItem, BiHashMap, InsertReason, Ranked};
 use std::hash::{BuildHasher, Hash};
 
 /// Inserts all items of a batch, or none of them. The error has the item that was rejected, and the reason.
 pub fn load<T: BiHashItem + Drop, S: BuildHasher>(
     map: &mut BiHashMap<T, S>,
     batch: Vec<T>,
-) -> Result<(), (T, ExtendUniqueReason)>
+) -> Result<(), (T, InsertReason)>
     ensures all { OnOk result (IsPermutation (bag map.new) (batch.items ++ bag map.old)) }
     ensures none { OnErr result (IsPermutation (bag map.new) (bag map.old)) }
     ensures rejected { IfErr result (λ e.
@@ -20,6 +20,9 @@ pub fn load<T: BiHashItem + Drop, S: BuildHasher>(
 {
     match map.extend_unique(batch) {
         Ok(()) => Ok(()),
-        Err(refused) => Err((refused.value, refused.reason)),
+        Err(refused) => {
+            let reason = refused.reason();
+            Err((refused.item, reason))
+        }
     }
 }

@@ -6,7 +6,7 @@ ghost use Rattle.iddqd_bi.specs.Callers.{IsRejected};
 ghost use Rattle.iddqd_bi.specs.Map.{bag};
 
 use crate::loading::load;
-use iddqd_bi::{BiHashItem, BiHashMap, ExtendUniqueReason, Ranked};
+use iddqd_bi::{BiHashItem, BiHashMap, InsertReason, Ranked};
 
 /// A user.
 #[derive(Drop)]
@@ -54,7 +54,7 @@ pub fn register_all(users: &mut BiHashMap<User>, batch: Vec<User>) -> Result<(),
     ensures found { OnOk result (All (λ u.
         IsOnly (λ v. ⟦<String as PartialEq>⟧.eq u.login v.login) (bag users.new) (Some u)) batch.items) }
     ensures unchanged { OnErr result (IsPermutation (bag users.new) (bag users.old)) }
-    ensures rejected { IfErr result (λ u. (reason : ExtendUniqueReason)
+    ensures rejected { IfErr result (λ u. (reason : InsertReason)
         × IsRejected ⟦<User as Ranked>⟧.ranks (bag users.old) batch.items u reason) }
 {
     match load(users, batch) {

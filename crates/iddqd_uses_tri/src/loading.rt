@@ -6,14 +6,14 @@ ghost use Rattle.iddqd_tri.specs.Bag.{IsSound};
 ghost use Rattle.iddqd_tri.specs.Callers.{IsRejected};
 ghost use Rattle.iddqd_tri.specs.Map.{bag};
 
-use iddqd_tri::{ExtendUniqueReason, Ranked, TriHashItem, TriHashMap};
+use iddqd_tri::{InsertReason, Ranked, TriHashItem, TriHashMap};
 use std::hash::{BuildHasher, Hash};
 
 /// Inserts all items of a batch, or none of them. The error has the item that was rejected, and the reason.
 pub fn load<T: TriHashItem + Drop, S: BuildHasher>(
     map: &mut TriHashMap<T, S>,
     batch: Vec<T>,
-) -> Result<(), (T, ExtendUniqueReason)>
+) -> Result<(), (T, InsertReason)>
     ensures all { OnOk result (IsPermutation (bag map.new) (batch.items ++ bag map.old)) }
     ensures none { OnErr result (IsPermutation (bag map.new) (bag map.old)) }
     ensures rejected { IfErr result (λ e.
@@ -22,6 +22,9 @@ pub fn load<T: TriHashItem + Drop, S: BuildHasher>(
 {
     match map.extend_unique(batch) {
         Ok(()) => Ok(()),
-        Err(refused) => Err((refused.value, refused.reason)),
+        Err(refused) => {
+            let reason = refused.reason();
+            Err((refused.item, reason))
+        }
     }
 }

@@ -6,7 +6,7 @@ ghost use Rattle.iddqd_tri.specs.Callers.{IsRejected};
 ghost use Rattle.iddqd_tri.specs.Map.{bag, Loses};
 
 use crate::loading::load;
-use iddqd_tri::{ExtendUniqueReason, Ranked, TriHashItem, TriHashMap};
+use iddqd_tri::{InsertReason, Ranked, TriHashItem, TriHashMap};
 use std::hash::BuildHasher;
 
 /// A session.
@@ -70,7 +70,7 @@ pub fn open_all<S: BuildHasher>(
     ensures found { OnOk result (All (λ s.
         IsOnly (λ t. ⟦<String as PartialEq>⟧.eq s.token t.token) (bag sessions.new) (Some s)) batch.items) }
     ensures unchanged { OnErr result (IsPermutation (bag sessions.new) (bag sessions.old)) }
-    ensures rejected { IfErr result (λ s. (reason : ExtendUniqueReason)
+    ensures rejected { IfErr result (λ s. (reason : InsertReason)
         × IsRejected ⟦<Session as Ranked>⟧.ranks (bag sessions.old) batch.items s reason) }
 {
     match load(sessions, batch) {

@@ -2,16 +2,17 @@
 ghost use Rattle.std.specs.Prelude.{◌≡◌, ◌≤◌, [], length, IsPermutation, IfOk, IfErr, OnOk, OnErr, IsOk};
 ghost use Rattle.std.specs.Iterator.{IsFiniteIterable};
 ghost use Rattle.iddqd_store.specs.Bag.{IsSound, clash, overs};
-ghost use Rattle.iddqd_store.specs.Bag.Building.{GivesAll, GivesThen, FitsOn, AddsTo, RefusesFor, HasPlaceFor, IsRefusedBehind, MatchFromIterError};
+ghost use Rattle.iddqd_store.specs.Bag.Building.{GivesAll, GivesThen, FitsOn, AddsTo, RefusesFor, HasPlaceFor, MatchFromIterError};
 ghost use Rattle.iddqd_store.specs.Map.{bag, GrowsUnless, IsFullFor};
 ghost use Rattle.iddqd_store.specs.Runs.Step.{ExtendsTo, state_of, empty_state};
+ghost use Rattle.iddqd_bi.specs.Refused.{TellsWhyBehind};
 
 use super::BiHashMap;
 use super::slots::Refusal;
 use super::slots::found::each_once;
-use crate::error::FromIterError;
+use crate::error::{ExtendUniqueError, FromIterError};
 use crate::item::Ranked;
-use iddqd_store::{DuplicateItem, ExtendUniqueError, MemoryRefused, Meter};
+use iddqd_store::{DuplicateItem, MemoryRefused, Meter};
 use std::alloc::Global;
 use std::hash::{BuildHasher, Hash};
 
@@ -59,8 +60,8 @@ impl<T: Ranked + Drop, S: BuildHasher> BiHashMap<T, S> {
     /// Inserts all the items, or none if one of them conflicts with an item of the map or with another of them.
     ///
     /// If an item conflicts, or if there is no memory for it, the call removes the items before it again. The error has
-    /// these in order, that item, and the reason. The rest are dropped with the iterator. For an item that conflicts
-    /// the reason is `Conflict`, whether there is memory or not.
+    /// these in order, that item, and which of its keys are taken. The rest are dropped with the iterator. If no key is
+    /// taken, there was no memory; an item that conflicts is refused for that, whether there is memory or not.
     ///
     /// To insert an item, the call hashes each key of it once, and searches for it once. It allocates memory if the map
     /// is full, and for the list of the items inserted, by which an error returns them: each time for as many items as
@@ -71,7 +72,7 @@ impl<T: Ranked + Drop, S: BuildHasher> BiHashMap<T, S> {
     /// ```text
     /// if let Err(refused) = map.extend_unique(batch) {
     ///     // The map has the items that it had before, and this item was rejected.
-    ///     return Err(refused.value);
+    ///     return Err(refused.item);
     /// }
     /// ```
     pub fn extend_unique<I: IntoIterator<Item = T>>(
@@ -82,11 +83,11 @@ impl<T: Ranked + Drop, S: BuildHasher> BiHashMap<T, S> {
         // All items are inserted, or none is; then the error has those before the rejected item, and that item.
         ensures all { OnOk result (GivesAll I.into_iter_gives I.IntoIter.next_gives iter
             (AddsTo T.ranks (bag self.old) (bag self.new))) }
-        ensures refused { IfErr result (λ e. GivesThen I.into_iter_gives I.IntoIter.next_gives iter e.value
-            (λ xs. xs ≡ e.taken.items)) }
+        ensures refused { IfErr result (λ e. GivesThen I.into_iter_gives I.IntoIter.next_gives iter e.item
+            (λ xs. xs ≡ e.before.items)) }
         ensures same_items { OnErr result (IsPermutation (bag self.new) (bag self.old)) }
-        // The item was rejected for what conflicts with it in the map or among those before it, or for lack of memory.
-        ensures reason { IfErr result (λ e. IsRefusedBehind T.ranks (bag self.old) e.taken.items e.value e.reason) }
+        // The error says which keys of the item are taken, in the map or among those before it. If none is, memory ran out.
+        ensures reason { IfErr result (TellsWhyBehind T.BiHashItem T.K1.eq T.K2.eq (bag self.old)) }
         // The map stays sound, and grows only if the items might not fit.
         ensures sound { IsSound T.ranks (bag self.new) }
         ensures room { GrowsUnless
@@ -99,12 +100,13 @@ impl<T: Ranked + Drop, S: BuildHasher> BiHashMap<T, S> {
         for item in items {
             let wanted = left.max(1);
             left = wanted - 1;
-            if let Err((value, reason)) = self.enter(item, &mut entered, wanted) {
-                let taken = self.take_entered(entered);
+            if let Err(rejected) = self.enter(item, &mut entered, wanted) {
+                let before = self.take_entered(entered);
                 return Err(ExtendUniqueError {
-                    taken,
-                    value,
-                    reason,
+                    before,
+                    item: rejected.item,
+                    taken1: rejected.taken1,
+                    taken2: rejected.taken2,
                 });
             }
         }

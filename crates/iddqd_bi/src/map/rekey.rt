@@ -15,7 +15,7 @@ use std::hash::{BuildHasher, Hash};
 impl<T: Ranked, S: BuildHasher> BiHashMap<T, S> {
     /// Puts an item in the place of the one with the first key that the query stands for, and returns the latter. The new
     /// item may have other keys. The error has the new item, and the map is as it was: `Absent` if no item has the key
-    /// asked for, and `Conflict` if some other item conflicts with the new one.
+    /// asked for, and `Duplicate` if some other item conflicts with the new one.
     ///
     /// The call hashes the query and searches for it once, and hashes each key of the new item and searches for it once.
     /// It also hashes those keys of the old item that the new one does not have. It allocates no memory, and the
@@ -64,13 +64,13 @@ impl<T: Ranked, S: BuildHasher> BiHashMap<T, S> {
         };
         match self.rekey_at(slot, item, asked, probed) {
             Ok(old) => Ok(old),
-            Err(new_item) => Err(NotReplaced::Conflict(new_item)),
+            Err(new_item) => Err(NotReplaced::Duplicate(new_item)),
         }
     }
 
     /// Puts an item in the place of the one with the second key that the query stands for, and returns the latter. The new
     /// item may have other keys. The error has the new item, and the map is as it was: `Absent` if no item has the key
-    /// asked for, and `Conflict` if some other item conflicts with the new one.
+    /// asked for, and `Duplicate` if some other item conflicts with the new one.
     ///
     /// The call hashes the query and searches for it once, and hashes each key of the new item and searches for it once.
     /// It also hashes those keys of the old item that the new one does not have. It allocates no memory, and the
@@ -119,7 +119,7 @@ impl<T: Ranked, S: BuildHasher> BiHashMap<T, S> {
         };
         match self.rekey_at(slot, item, asked, probed) {
             Ok(old) => Ok(old),
-            Err(new_item) => Err(NotReplaced::Conflict(new_item)),
+            Err(new_item) => Err(NotReplaced::Duplicate(new_item)),
         }
     }
 }

@@ -163,7 +163,13 @@ where
     {
         match self.extend_unique(items) {
             Ok(()) => self.tell(BiReply::Done, sink),
-            Err(refused) => self.tell(BiReply::ExtendRefused(refused), sink),
+            Err(refused) => {
+                let reason = refused.reason();
+                self.tell(
+                    BiReply::ExtendRefused(refused.before, refused.item, reason),
+                    sink,
+                )
+            }
         }
     }
 

@@ -1,5 +1,5 @@
 -- What a caller knows that asked first, that keeps some of the items, or that overwrites.
-use Rattle.std.specs.Prelude.{◌≡◌, ◌≤◌, ◌+◌, Bool, true, false, ◌||◌, List, [], ◌∷◌, ◌++◌, length, filter, IsPermutation, Result, Ok, Err, OnOk, OnErr}
+use Rattle.std.specs.Prelude.{◌≡◌, ◌≤◌, ◌+◌, Bool, true, false, ◌||◌, cond, List, [], ◌∷◌, ◌++◌, length, filter, IsPermutation, Result, Ok, Err, OnOk, OnErr}
 use Rattle.std.specs.Cmp.{IsEquivalence}
 use Rattle.std.specs.List.{AllByRecursion, IsDistinct, list_any}
 use Rattle.std.proofs.Common.{refl, sym, ap, subst, ◌∙◌, arith}
@@ -7,12 +7,16 @@ use Rattle.std.proofs.lemmas.Fn.{filter_same}
 use Rattle.std.proofs.lemmas.Map.Keys.{IsDistinct-head}
 use Rattle.std.proofs.lemmas.List.Sorted.{IsPermutation-sym, IsPermutation-trans, list_any-IsPermutation}
 use Rattle.iddqd_store.specs.Bag.{Keeps, Ranks, AreLawful, IsSound, agrees, clash, like, some_of}
+use Rattle.iddqd_store.specs.Bag.Building.{IsReason}
 use Rattle.iddqd_store.specs.Map.{Map, Overwrites, bag}
+use Rattle.iddqd_store.specs.declared.error.InsertReason.{InsertReason}
+use Rattle.iddqd_store.specs.declared.error.InsertReason.TheVariants.{Duplicate, Memory}
 use Rattle.iddqd_store.proofs.BagLemmas.Exchanges.{IsPermutation-filter}
 use Rattle.iddqd_store.proofs.BagLemmas.Same.{and-true}
 use Rattle.iddqd_store.proofs.BagLemmas.Sound.{IsSound-IsPermutation, IsSound-rank, each_weaker, none_pass}
 use Rattle.iddqd_store.proofs.BagLemmas.Unique.{any_listed, some_item}
 use Rattle.iddqd_store.proofs.CallerLemmas.{length-overwritten_by}
+use Rattle.iddqd_store.proofs.MapLemmas.Rekeyed.{free_left}
 
 or_none : (a b : Bool) → (a || b) ≡ false → (a ≡ false) × (b ≡ false)
 or_none true b h = absurd (cc h)
@@ -40,10 +44,38 @@ module _ {T : Type 0} where
   pub none-clash : (ranks : Ranks T) (bag : List T) (x : T) → PassNone (like ranks x) bag → clash ranks bag x ≡ []
   none-clash ranks bag x none = none_left (like ranks x) bag none
 
+  none_conflicting : (tests : List (T → Bool)) (x : T) (xs : List T) → some_of tests x ≡ false → PassNone tests xs → PassNone tests (x ∷ xs)
+  none_conflicting [] x xs none others = tt
+  none_conflicting (test ∷ tests) x xs none others =
+      let both = or_none (test x) (some_of tests x) none in
+      (rw both.0 others.0, none_conflicting tests x xs both.1 others.1)
+
+  none_of_none : (tests : List (T → Bool)) → PassNone tests []
+  none_of_none [] = tt
+  none_of_none (test ∷ tests) = (refl, none_of_none tests)
+
+  none_if : (tests : List (T → Bool)) (x : T) (xs : List T) (b : Bool) → some_of tests x ≡ b → cond b (x ∷ filter (λ y. some_of tests y) xs) (filter (λ y. some_of tests y) xs) ≡ [] → (filter (λ y. some_of tests y) xs ≡ [] → PassNone tests xs) → PassNone tests (x ∷ xs)
+  none_if tests x xs true is none rest = absurd (cc none)
+  none_if tests x xs false is none rest = none_conflicting tests x xs is (rest none)
+
+  none_pass_any : (tests : List (T → Bool)) (bag : List T) → filter (λ x. some_of tests x) bag ≡ [] → PassNone tests bag
+  none_pass_any tests [] none = none_of_none tests
+  none_pass_any tests (x ∷ xs) none =
+      none_if tests x xs (some_of tests x) refl none (λ rest. none_pass_any tests xs rest)
+
+  -- the reason for which an item is not inserted, if it says whether some member has a key of the item
+  pub taken-reason : (ranks : Ranks T) (bag : List T) (x : T) (reason : InsertReason) → (reason ≡ Duplicate → PassNone (like ranks x) bag → ⊥) → (reason ≡ Memory → PassNone (like ranks x) bag) → IsReason reason (clash ranks bag x)
+  taken-reason ranks bag x Duplicate met free = λ none. met refl (none_pass_any (like ranks x) bag none)
+  taken-reason ranks bag x Memory met free = none-clash ranks bag x (free refl)
+
   -- no item that is left after a removal conflicts with it either
   pub none-left : (test : T → Bool) (old bag : List T) (x : T) → IsPermutation old (x ∷ bag) → list_any test old ≡ false → list_any test bag ≡ false
   none-left test old bag x taken none =
       (or_none (test x) (list_any test bag) (sym (list_any-IsPermutation test old (x ∷ bag) taken) ∙ none)).1
+
+  -- an item that conflicts with nothing does not conflict with what is left after a removal
+  pub clash-left : (ranks : Ranks T) (old rest : List T) (x y : T) → clash ranks old y ≡ [] → IsPermutation old (x ∷ rest) → clash ranks rest y ≡ []
+  clash-left ranks old rest x y free taken = free_left ranks old rest x y taken free
 
   none_at : (agree : T → T → Bool) → IsEquivalence agree → (bag : List T) (x y : T) → IsDistinct agree (x ∷ bag) → agree x y ≡ true → list_any (agree y) bag ≡ false
   none_at agree laws bag x y apart same =

@@ -1,12 +1,11 @@
 -- A bag to which a list was added, and from which it was removed again.
-use Rattle.std.specs.Prelude.{◌≡◌, ◌<◌, List, ◌++◌, length, IsPermutation}
+use Rattle.std.specs.List.{list_any}
+use Rattle.std.specs.Prelude.{◌≡◌, ◌<◌, Bool, List, ◌++◌, length, IsPermutation}
 use Rattle.std.proofs.Common.{sym, subst}
-use Rattle.std.proofs.lemmas.List.Sorted.{IsPermutation-sym}
+use Rattle.std.proofs.lemmas.List.Sorted.{IsPermutation-sym, list_any-IsPermutation}
 use Rattle.iddqd_store.specs.Bag.{Ranks, AreLawful, IsSound, clash}
-use Rattle.iddqd_store.specs.Bag.Building.{AddsTo, IsReason}
-use Rattle.iddqd_store.specs.declared.error.ExtendUniqueReason.{ExtendUniqueReason}
-use Rattle.iddqd_store.specs.declared.error.ExtendUniqueReason.TheVariants.{Conflict, Memory}
-use Rattle.iddqd_store.proofs.BagLemmas.Building.{AddsTo-IsPermutation, AddsTo-sound, clash-none}
+use Rattle.iddqd_store.specs.Bag.Building.{AddsTo}
+use Rattle.iddqd_store.proofs.BagLemmas.Building.{AddsTo-IsPermutation, AddsTo-sound}
 use Rattle.iddqd_store.proofs.BagLemmas.Cancelled.{IsPermutation-cancelled}
 use Rattle.iddqd_store.proofs.BagLemmas.Sound.{IsSound-IsPermutation}
 
@@ -25,7 +24,6 @@ module _ {T : Type 0} (by : Ranks T) (some : 0 < length by) (laws : AreLawful by
   pub left_sound : IsSound by new
   left_sound = IsSound-IsPermutation by laws old new (IsPermutation-sym _ _ left_same) sound
 
-  -- what conflicted with the next one conflicts with the bag and them
-  pub taken_reason : (reason : ExtendUniqueReason) (x : T) → IsReason reason (clash by held x) → IsReason reason (clash by (taken ++ old) x)
-  taken_reason Conflict x met = λ none. met (clash-none by (taken ++ old) held x (IsPermutation-sym _ _ listed) none)
-  taken_reason Memory x none = clash-none by held (taken ++ old) x listed none
+  -- a key that one of these items had, one of the bag and of the list has
+  pub taken_key : (test : T → Bool) → list_any test held ≡ list_any test (taken ++ old)
+  taken_key test = list_any-IsPermutation test held (taken ++ old) listed

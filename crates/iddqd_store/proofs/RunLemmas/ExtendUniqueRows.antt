@@ -9,7 +9,7 @@ use Rattle.iddqd_store.proofs.RunLemmas.StepRows.{state}
 use Rattle.iddqd_store.specs.Bag.{IsSound, adds}
 use Rattle.iddqd_store.specs.Runs.Reply.{done, extend_refused}
 use Rattle.iddqd_store.specs.Runs.Step.{State, ExtendsUnique}
-use Rattle.iddqd_store.specs.declared.error.ExtendUniqueReason.TheVariants.{Conflict, Memory}
+use Rattle.iddqd_store.specs.declared.error.InsertReason.TheVariants.{Duplicate, Memory}
 
 -- the first and the second of these conflict with each other
 abbrev alike : List Item
@@ -61,34 +61,34 @@ not_where_two_are_alike : (new : State Item) → ExtendsUnique {D = ℕ} pairs (
 not_where_two_are_alike new step = omega (arith, ap granted step.0.1)
 
 -- refused
-alike_come_back : ExtendsUnique {D = ℕ} pairs (state m2 7) alike (extend_refused Conflict ((3, 30, 0) ∷ []) (4, 30, 0)) (state m2 7)
+alike_come_back : ExtendsUnique {D = ℕ} pairs (state m2 7) alike (extend_refused Duplicate ((3, 30, 0) ∷ []) (4, 30, 0)) (state m2 7)
 alike_come_back =
     ((5, 50, 0) ∷ [], refl, IsPermutation-refl m2, sound_with_third, (λ none. omega (arith, ap length none)), (omega arith, λ room. refl))
 
-first_conflicts : ExtendsUnique {D = ℕ} pairs (state m2 2) ((1, 60, 0) ∷ (5, 50, 0) ∷ []) (extend_refused Conflict [] (1, 60, 0)) (state m2 2)
+first_conflicts : ExtendsUnique {D = ℕ} pairs (state m2 2) ((1, 60, 0) ∷ (5, 50, 0) ∷ []) (extend_refused Duplicate [] (1, 60, 0)) (state m2 2)
 first_conflicts =
     ((5, 50, 0) ∷ [], refl, IsPermutation-refl m2, sound_m2, (λ none. omega (arith, ap length none)), (omega arith, λ room. refl))
 
 comes_back_for_memory : ExtendsUnique {D = ℕ} pairs (state m2 2) apart (extend_refused Memory [] (10, 1, 0)) (state m2 7)
 comes_back_for_memory = ((20, 2, 0) ∷ [], refl, IsPermutation-refl m2, sound_m2, refl, (omega arith, λ room. omega (arith, room)))
 
-none_left_in : ExtendsUnique {D = ℕ} pairs (state m2 7) alike (extend_refused Conflict ((3, 30, 0) ∷ []) (4, 30, 0)) (state ((3, 30, 0) ∷ m2) 7) → ⊥
+none_left_in : ExtendsUnique {D = ℕ} pairs (state m2 7) alike (extend_refused Duplicate ((3, 30, 0) ∷ []) (4, 30, 0)) (state ((3, 30, 0) ∷ m2) 7) → ⊥
 none_left_in step = omega (arith, length_permutation _ _ step.2)
 
-none_taken_out_that_was_there : ExtendsUnique {D = ℕ} pairs (state m2 7) alike (extend_refused Conflict ((3, 30, 0) ∷ []) (4, 30, 0)) (state ((1, 10, 100) ∷ []) 7) → ⊥
+none_taken_out_that_was_there : ExtendsUnique {D = ℕ} pairs (state m2 7) alike (extend_refused Duplicate ((3, 30, 0) ∷ []) (4, 30, 0)) (state ((1, 10, 100) ∷ []) 7) → ⊥
 none_taken_out_that_was_there step = omega (arith, length_permutation _ _ step.2)
 
 no_want_of_memory_at_a_conflict : (new : State Item) → ExtendsUnique {D = ℕ} pairs (state m2 2) alike (extend_refused Memory ((3, 30, 0) ∷ []) (4, 30, 0)) new → ⊥
 no_want_of_memory_at_a_conflict new step = omega (arith, ap length step.4)
 
-no_conflict_where_there_is_none : (new : State Item) → ExtendsUnique {D = ℕ} pairs (state m2 2) apart (extend_refused Conflict [] (10, 1, 0)) new → ⊥
+no_conflict_where_there_is_none : (new : State Item) → ExtendsUnique {D = ℕ} pairs (state m2 2) apart (extend_refused Duplicate [] (10, 1, 0)) new → ⊥
 no_conflict_where_there_is_none new step = step.4 refl
 
-not_in_another_order : (new : State Item) → ExtendsUnique {D = ℕ} pairs (state m2 7) late (extend_refused Conflict ((6, 60, 0) ∷ (3, 30, 0) ∷ []) (4, 30, 0)) new → ⊥
+not_in_another_order : (new : State Item) → ExtendsUnique {D = ℕ} pairs (state m2 7) late (extend_refused Duplicate ((6, 60, 0) ∷ (3, 30, 0) ∷ []) (4, 30, 0)) new → ⊥
 not_in_another_order new step = omega (arith, ap (λ (l : List Item). (get_or l 0 (0, 0, 0)).0) step.1)
 
-none_passed_over : (new : State Item) → ExtendsUnique {D = ℕ} pairs (state m2 7) late (extend_refused Conflict ((3, 30, 0) ∷ []) (4, 30, 0)) new → ⊥
+none_passed_over : (new : State Item) → ExtendsUnique {D = ℕ} pairs (state m2 7) late (extend_refused Duplicate ((3, 30, 0) ∷ []) (4, 30, 0)) new → ⊥
 none_passed_over new step = omega (arith, ap (λ (l : List Item). (get_or l 1 (0, 0, 0)).0) step.1)
 
-no_room_lost : ExtendsUnique {D = ℕ} pairs (state m2 7) alike (extend_refused Conflict ((3, 30, 0) ∷ []) (4, 30, 0)) (state m2 2) → ⊥
+no_room_lost : ExtendsUnique {D = ℕ} pairs (state m2 7) alike (extend_refused Duplicate ((3, 30, 0) ∷ []) (4, 30, 0)) (state m2 2) → ⊥
 no_room_lost step = omega (arith, step.5.0)

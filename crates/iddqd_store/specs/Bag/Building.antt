@@ -4,8 +4,8 @@ use Rattle.std.specs.Iterator.{Count, Drains, YieldsThen, size}
 use Rattle.iddqd_store.specs.Bag.{Ranks, IsSound, add, adds, clash}
 use Rattle.iddqd_store.specs.declared.error.FromIterError.{FromIterError}
 use Rattle.iddqd_store.specs.declared.error.FromIterError.TheVariants as from_iter
-use Rattle.iddqd_store.specs.declared.error.ExtendUniqueReason.{ExtendUniqueReason}
-use Rattle.iddqd_store.specs.declared.error.ExtendUniqueReason.TheVariants.{Conflict, Memory}
+use Rattle.iddqd_store.specs.declared.error.InsertReason.{InsertReason}
+use Rattle.iddqd_store.specs.declared.error.InsertReason.TheVariants.{Duplicate, Memory}
 
 module _ {U S T : Type 0} (becomes : U → S → Type 0) (steps : S → Option T → S → Type 0) where
   -- The iterator gave a whole list, for which `P` holds.
@@ -41,19 +41,11 @@ module _ {T : Type 0} (ranks : Ranks T) where
   abbrev pub HasPlaceFor : T → List T → Type 0
   HasPlaceFor x xs = (made : List T) × (adds ranks [] xs ≡ Ok made) × (add ranks made x ≡ Ok (x ∷ made))
 
--- There is a conflicting item if the reason is `Conflict`, and there is none if it is `Memory`.
--- Example: It holds for `Conflict` and (1, 10), and for `Memory` and no item.
-abbrev pub IsReason : {T : Type 0} → ExtendUniqueReason → List T → Type 0
-IsReason Conflict found = found ≢ []
+-- There is a conflicting item if the reason is `Duplicate`, and there is none if it is `Memory`.
+-- Example: It holds for `Duplicate` and (1, 10), and for `Memory` and no item.
+abbrev pub IsReason : {T : Type 0} → InsertReason → List T → Type 0
+IsReason Duplicate found = found ≢ []
 IsReason Memory found = found ≡ []
-
--- No items of `taken` and `old` conflict, and some item of `taken` or `old` conflicts with `x` exactly if the reason is
--- `Conflict`.
--- Example: If `taken` is (4, 40), the item (4, 50) is rejected with the reason `Conflict`.
-pub record IsRefusedBehind {T : Type 0} (ranks : Ranks T) (old taken : List T) (x : T)
-    (why : ExtendUniqueReason) : Type 0 where
-  pub apart : IsSound ranks (taken ++ old)
-  pub reason : IsReason why (clash ranks (taken ++ old) x)
 
 -- If the error is a conflict, then `P` holds for its item and the items that conflict with it, and if memory ran out,
 -- then `Q` holds for its item.

@@ -156,7 +156,7 @@ module _ {T D : Type 0} where
 
   -- All items of the list are inserted, or none is, because one is rejected for a conflict or for lack of memory. Then
   -- the reply has that item, and those before it in order. The capacity grows only if they do not all fit.
-  -- Example: For (4, 40), (1, 50) the reply is `extend_refused` with `Conflict`, (4, 40), and (1, 50).
+  -- Example: For (4, 40), (1, 50) the reply is `extend_refused` with `Duplicate`, (4, 40), and (1, 50).
   abbrev pub ExtendsUnique : Ranks T → State T → List T → Reply T D → State T → Type 0
   ExtendsUnique ranks old xs done new =
       AddsTo ranks old.items new.items xs × IsSound ranks new.items × GrowsFor xs old new

@@ -27,7 +27,7 @@ value_by lent given (Key2 x) = key 1 x
 value_by lent given (Key3 x) = key 2 x
 value_by lent given (Absent x) = absent x
 value_by lent given (AbsentData d) = absent_data d
-value_by lent given (ExtendRefused e) = extend_refused e.reason e.taken.items e.value
+value_by lent given (ExtendRefused before x reason) = extend_refused reason before.items x
 
 -- `value_of` is the value of a reply that has lists of items.
 -- Example: For `Length 3` it is `size 3`.

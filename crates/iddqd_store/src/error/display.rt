@@ -1,9 +1,6 @@
 //! What the errors that do not borrow the map print. They implement `Error`, so `?` converts them into `anyhow::Error`.
 //! Printing needs no trait of the items, and `Error` needs only `Drop`.
-use super::{
-    DuplicateItem, ExtendUniqueError, ExtendUniqueReason, FromIterError, InsertReason,
-    MemoryRefused, TryReserveError,
-};
+use super::{DuplicateItem, FromIterError, InsertReason, MemoryRefused, TryReserveError};
 use std::error::Error;
 use std::fmt::{self, Debug, Display, Formatter, Write};
 
@@ -60,33 +57,6 @@ impl<T, L> Display for FromIterError<T, L> {
 }
 
 impl<T: Drop, L: Drop> Error for FromIterError<T, L> {}
-
-impl<T> Debug for ExtendUniqueError<T> {
-    fn fmt<W: Write>(&self, f: &mut Formatter<W>) -> fmt::Result {
-        f.debug_struct("ExtendUniqueError")
-            .field("reason", &self.reason)
-            .field("taken", &self.taken.len())
-            .finish_non_exhaustive()
-    }
-}
-
-impl<T> Display for ExtendUniqueError<T> {
-    fn fmt<W: Write>(&self, f: &mut Formatter<W>) -> fmt::Result {
-        let at = self.taken.len();
-        match self.reason {
-            ExtendUniqueReason::Conflict => write!(
-                f,
-                "item {at} has a key that another one has: none was inserted"
-            ),
-            ExtendUniqueReason::Memory => write!(
-                f,
-                "out of memory at item {at}: none was inserted"
-            ),
-        }
-    }
-}
-
-impl<T: Drop> Error for ExtendUniqueError<T> {}
 
 impl<T, L> Debug for DuplicateItem<T, L> {
     fn fmt<W: Write>(&self, f: &mut Formatter<W>) -> fmt::Result {

@@ -1,5 +1,5 @@
 //! A record of the items that a batch has inserted, so that they can be removed again.
-ghost use Rattle.std.specs.Prelude.{◌≡◌, ◌+◌, ◌<◌, ◌≤◌, ◌++◌, [], ◌∷◌, length, vec_capacity, OnOk, All, IsPermutation, nat_eq};
+ghost use Rattle.std.specs.Prelude.{◌≡◌, ◌+◌, ◌<◌, ◌≤◌, ◌++◌, [], ◌∷◌, length, vec_capacity, IsOk, OnOk, All, IsPermutation, nat_eq};
 ghost use Rattle.std.specs.List.{IsDistinct};
 ghost use Rattle.iddqd_store.specs.Slots.{IsLive, contents};
 ghost use Rattle.iddqd_store.specs.Slots.Found.{items_at};
@@ -70,12 +70,14 @@ impl<T> Entered<T> {
 
 impl<T: Drop> Entered<T> {
     /// Reserves spare capacity for one more item. If there is none, it reserves it for as many as are `wanted`, and for
-    /// one if there is no memory for so many. It fails only if the memory for one cannot be allocated.
+    /// one if there is no memory for so many. It fails only if there is no spare capacity and the memory for one cannot be
+    /// allocated.
     #[inline(always)]
     pub fn reserve_for(&mut self, wanted: usize) -> Result<(), TryReserveError>
         requires { 0 < wanted }
         ensures slots { self.new.slots ≡ self.old.slots }
         ensures room { OnOk result (length self.new.slots < self.new.room) }
+        ensures granted { length self.old.slots < self.old.room → IsOk result }
     {
         let noted = self.slots.len();
         if noted < self.slots.capacity() && noted < self.items.capacity() {

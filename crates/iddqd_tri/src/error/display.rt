@@ -2,10 +2,11 @@
 //!
 //! Made by tests/twins from crates/iddqd_bi/src/error/display.rt: change that file.
 use super::{
-    EntryError, EntryRefusal, InsertError, KeyMismatch, NotReplaced, Rejected, TryEntryError,
-    TryEntryRefusal,
+    EntryError, EntryRefusal, ExtendUniqueError, InsertError, KeyMismatch, NotReplaced, Rejected,
+    TryEntryError, TryEntryRefusal,
 };
 use crate::item::{Ranked, TriHashItem};
+use iddqd_store::InsertReason;
 use std::error::Error;
 use std::fmt::{self, Debug, Display, Formatter, Write};
 use std::hash::{BuildHasher, Hash};
@@ -132,26 +133,61 @@ impl<T> Debug for Rejected<T> {
 
 impl<T> Display for Rejected<T> {
     fn fmt<W: Write>(&self, f: &mut Formatter<W>) -> fmt::Result {
-        if self.taken1 {
-            return f.write_str("an item has the first key");
+        if !self.taken1 && !self.taken2 && !self.taken3 {
+            return f.write_str("out of memory: the item was not inserted");
         }
-        if self.taken2 {
-            return f.write_str("an item has the second key");
-        }
-        if self.taken3 {
-            return f.write_str("an item has the third key");
-        }
-        f.write_str("out of memory: the item was not inserted")
+        tell_taken(f, self.taken1, self.taken2, self.taken3)
     }
 }
 
 impl<T: Drop> Error for Rejected<T> {}
 
+/// Prints which keys are taken, one phrase for each.
+fn tell_taken<W: Write>(
+    f: &mut Formatter<W>,
+    taken1: bool,
+    taken2: bool,
+    taken3: bool,
+) -> fmt::Result {
+    let mut parted = "";
+    for (taken, key) in [(taken1, "first"), (taken2, "second"), (taken3, "third")] {
+        if taken {
+            write!(f, "{parted}an item has the {key} key")?;
+            parted = "; ";
+        }
+    }
+    Ok(())
+}
+
+impl<T> Debug for ExtendUniqueError<T> {
+    fn fmt<W: Write>(&self, f: &mut Formatter<W>) -> fmt::Result {
+        f.debug_struct("ExtendUniqueError")
+            .field("before", &self.before.len())
+            .field("taken1", &self.taken1)
+            .field("taken2", &self.taken2)
+            .field("taken3", &self.taken3)
+            .finish_non_exhaustive()
+    }
+}
+
+impl<T> Display for ExtendUniqueError<T> {
+    fn fmt<W: Write>(&self, f: &mut Formatter<W>) -> fmt::Result {
+        let at = self.before.len();
+        write!(f, "none was inserted, because of item {at}: ")?;
+        match self.reason() {
+            InsertReason::Duplicate => tell_taken(f, self.taken1, self.taken2, self.taken3),
+            InsertReason::Memory => f.write_str("out of memory"),
+        }
+    }
+}
+
+impl<T: Drop> Error for ExtendUniqueError<T> {}
+
 impl<T> Debug for NotReplaced<T> {
     fn fmt<W: Write>(&self, f: &mut Formatter<W>) -> fmt::Result {
         let name = match self {
             NotReplaced::Absent(_item) => "Absent",
-            NotReplaced::Conflict(_item) => "Conflict",
+            NotReplaced::Duplicate(_item) => "Duplicate",
         };
         f.debug_struct(name).finish_non_exhaustive()
     }
@@ -161,7 +197,7 @@ impl<T> Display for NotReplaced<T> {
     fn fmt<W: Write>(&self, f: &mut Formatter<W>) -> fmt::Result {
         f.write_str(match self {
             NotReplaced::Absent(_item) => "no item has the key asked for",
-            NotReplaced::Conflict(_item) => "a third item has a key of the new one",
+            NotReplaced::Duplicate(_item) => "a third item has a key of the new one",
         })
     }
 }

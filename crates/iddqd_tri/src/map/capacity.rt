@@ -51,7 +51,8 @@ impl<T: Ranked, S: BuildHasher> TriHashMap<T, S> {
         self.grow(more)
     }
 
-    /// Reserves capacity as `reserve` does. If the call fails, the map is as before.
+    /// Reserves capacity as `reserve` does. If the call fails, the map is as before. Both calls are the same: the two
+    /// names are the Rust crate's, where `reserve` aborts if memory runs out.
     pub fn try_reserve(&mut self, more: usize) -> Result<(), TryReserveError>
         ensures items { bag self.new ≡ bag self.old }
         ensures room { MakesRoom self.old more result self.new }

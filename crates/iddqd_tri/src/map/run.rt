@@ -187,7 +187,13 @@ where
     {
         match self.extend_unique(items) {
             Ok(()) => self.tell(TriReply::Done, sink),
-            Err(refused) => self.tell(TriReply::ExtendRefused(refused), sink),
+            Err(refused) => {
+                let reason = refused.reason();
+                self.tell(
+                    TriReply::ExtendRefused(refused.before, refused.item, reason),
+                    sink,
+                )
+            }
         }
     }
 

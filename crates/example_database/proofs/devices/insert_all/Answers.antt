@@ -1,38 +1,30 @@
-use Rattle.std.specs.Prelude.{◌≡◌, [], ◌∷◌, length, take}
-use Rattle.std.specs.Vec.Iter.{into_iter_items}
-use Rattle.std.proofs.Common.{ap, int_eq, rules, ◌∙◌}
-use Rattle.std.proofs.Math.Seq.{take-append_seam}
+use Rattle.std.proofs.Common.{◌≡◌, rules}
+use Rattle.std.proofs.Common.{int_eq}
+use Rattle.std.specs.Prelude.{[], ◌∷◌, take}
 use Rattle.iddqd_bi.specs.Bag.{Ranks}
-use Rattle.iddqd_bi.specs.Map.{bag}
 use Rattle.iddqd_bi.specs.Rank.{agree}
-use Rattle.iddqd_bi.proofs.CallerLemmas.Batches.{batch-index, batch-inserted, batch-split}
+use Rattle.iddqd_bi.proofs.CallerLemmas.Batches.{loaded, rejected-at, rejected-behind}
 use Rattle.example_database.specs.declared.devices.Device.{Device}
 use Rattle.example_database.proofs.devices.insert_all.Goals as goal
 
 abbrev by : Ranks Device
 by = agree (λ (d : Device). d.serial) int_eq ∷ agree (λ (d : Device). d.port) int_eq ∷ []
 
--- the items that the vector handed over are those of the batch
 pub returns-in-Ok-clause-all : goal.returns-in-Ok-clause-all
-returns-in-Ok-clause-all c =
-    let all = c.in-Ok.ensures.all in
-    batch-inserted by (bag c.args.devices.now) c.args.batch.items all.0 all.2.0 (bag c.extend_unique.new.self) all.1 all.3 all.4
+returns-in-Ok-clause-all c = loaded _ (λ it is. is.0) by _ _ c.in-Ok.ensures.all
 
--- the rejected item comes after as many of the batch as were taken
 pub returns-in-Err-clause-which : goal.returns-in-Err-clause-which
-returns-in-Err-clause-which c =
-    let refused = c.in-Err.refused in
-    let came = c.in-Err.ensures.refused in
-    let split = batch-split by (bag c.args.devices.now) c.args.batch.items came.0 came.3.0 refused.value refused.taken.items came.1 came.2 came.4 came.5 in
-    let same : c.len.result ≡ length refused.taken.items = search rules in
-    rw same (batch-index c.args.batch.items refused.taken.items (into_iter_items came.2) refused.value split)
+returns-in-Err-clause-which c = rejected-at _ (λ it is. is.0) _ _ c.in-Err.ensures.refused _ (search rules)
 
--- as many are before it, which can all be inserted, and something conflicts with it exactly if that is the reason
-pub returns-in-Err-clause-why : goal.returns-in-Err-clause-why
-returns-in-Err-clause-why c =
-    let refused = c.in-Err.refused in
-    let came = c.in-Err.ensures.refused in
-    let split = batch-split by (bag c.args.devices.now) c.args.batch.items came.0 came.3.0 refused.value refused.taken.items came.1 came.2 came.4 came.5 in
-    let same : c.len.result ≡ length refused.taken.items = search rules in
-    let front : take (length refused.taken.items) c.args.batch.items ≡ refused.taken.items = ap (λ l. take (length refused.taken.items) l) split ∙ take-append_seam refused.taken.items (refused.value ∷ into_iter_items came.2) in
-    rw (same, front) c.in-Err.ensures.reason
+-- the items before the rejected one are the first of the batch
+behind : (c : goal.After-drop-refused) → take c.len.result c.args.batch.items ≡ c.in-Err.refused.before.items
+behind c = rejected-behind _ (λ it is. is.0) _ _ c.in-Err.ensures.refused _ (search rules)
+
+pub returns-in-Err-clause-apart : goal.returns-in-Err-clause-apart
+returns-in-Err-clause-apart c = rw (behind c) c.in-Err.ensures.reason.apart
+
+pub returns-in-Err-clause-serial_taken : goal.returns-in-Err-clause-serial_taken
+returns-in-Err-clause-serial_taken c = rw (behind c) c.in-Err.ensures.reason.taken1
+
+pub returns-in-Err-clause-port_taken : goal.returns-in-Err-clause-port_taken
+returns-in-Err-clause-port_taken c = rw (behind c) c.in-Err.ensures.reason.taken2

@@ -51,9 +51,9 @@ returns-in-Err-Absent-clause-no_device c = λ _.
     let test = λ (d : Device). nat_eq c.args.serial d.serial in
     none-listed test old (subst (λ e. TellsWhyNot by test old (record { serial = c.args.serial; port = c.args.port }) e) c.in-Err-Absent.field-0-is c.in-Err-Absent.ensures.reason)
 
-pub returns-in-Err-Conflict-clause-port_taken : goal.returns-in-Err-Conflict-clause-port_taken
-returns-in-Err-Conflict-clause-port_taken c = λ _.
+pub returns-in-Err-Duplicate-clause-port_taken : goal.returns-in-Err-Duplicate-clause-port_taken
+returns-in-Err-Duplicate-clause-port_taken c = λ _.
     let old = bag c.args.devices.now in
     let test = λ (d : Device). nat_eq c.args.serial d.serial in
-    let why = subst (λ e. TellsWhyNot by test old (record { serial = c.args.serial; port = c.args.port }) e) c.in-Err-Conflict.field-0-is c.in-Err-Conflict.ensures.reason in
+    let why = subst (λ e. TellsWhyNot by test old (record { serial = c.args.serial; port = c.args.port }) e) c.in-Err-Duplicate.field-0-is c.in-Err-Duplicate.ensures.reason in
     (why.0, why.1, same c.args.serial old why.0 why.2, why.3, at_port why.1 (record { serial = c.args.serial; port = c.args.port }) _ refl (alone test old why.1 why.0 why.2 why.3) why.4)

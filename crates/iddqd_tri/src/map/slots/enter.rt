@@ -1,30 +1,32 @@
 //! Inserting the items of a list so that they can be removed again if a later one is rejected.
 //!
 //! Made by tests/twins from crates/iddqd_bi/src/map/slots/enter.rt: change that file.
-ghost use Rattle.std.specs.Prelude.{◌≡◌, ◌<◌, ◌++◌, [], ◌∷◌, length, List, All, OnOk, OnErr, IfErr, nat_eq};
+ghost use Rattle.std.specs.Prelude.{◌≡◌, ◌<◌, ◌++◌, [], ◌∷◌, length, List, All, IsOk, OnOk, OnErr, IfErr, nat_eq};
 ghost use Rattle.std.specs.List.{IsDistinct};
 ghost use Rattle.iddqd_store.specs.Bag.{clash};
-ghost use Rattle.iddqd_store.specs.Bag.Building.{IsReason};
 ghost use Rattle.iddqd_store.specs.Map.{bag, Gains, GrowsUnless, Loses};
 ghost use Rattle.iddqd_store.specs.Slots.{IsLive};
 ghost use Rattle.iddqd_store.specs.Slots.Found.{items_at, StandAt};
+ghost use Rattle.iddqd_tri.specs.Refused.{TellsTaken};
 
+use crate::error::Rejected;
 use crate::item::{Ranked, TriHashItem};
 use crate::map::TriHashMap;
 use crate::ranks::{First, Second, Third};
-use iddqd_store::{Entered, ExtendUniqueReason, Meter};
+use iddqd_store::{Entered, Meter};
 use std::hash::{BuildHasher, Hash};
 
 impl<T: TriHashItem, S: BuildHasher> TriHashMap<T, S> {
     /// Inserts an item if none conflicts with it, and notes its slot. The call searches for conflicts first. Then it
     /// reserves capacity in the map and for the note, for as many items as are `wanted`, or for one if there is no
-    /// memory for so many, and then it inserts the item.
+    /// memory for so many, and then it inserts the item. There is always memory for it if the map is not full, and the
+    /// slot can be noted without an allocation.
     pub(crate) fn enter(
         &mut self,
         item: T,
         entered: &mut Entered<T>,
         wanted: usize,
-    ) -> Result<(), (T, ExtendUniqueReason)>
+    ) -> Result<(), Rejected<T>>
     where
         T: Drop,
         requires { 0 < wanted }
@@ -32,18 +34,35 @@ impl<T: TriHashItem, S: BuildHasher> TriHashMap<T, S> {
         ensures free { OnOk result (clash ⟦<T as Ranked>⟧.ranks (bag self.old) item ≡ []) }
         ensures noted { OnOk result ((xs : List T) → StandAt self.old.slots entered.old.slots xs
             → StandAt self.new.slots entered.new.slots (xs ++ item ∷ [])) }
-        ensures handed_back { IfErr result (λ e. e.0 ≡ item) }
-        ensures reason { IfErr result (λ e. IsReason e.1 (clash ⟦<T as Ranked>⟧.ranks (bag self.old) item)) }
+        ensures granted { clash ⟦<T as Ranked>⟧.ranks (bag self.old) item ≡ [] → length
+            (bag self.old) < self.old.capacity
+            → length entered.old.slots < entered.old.room → IsOk result }
+        ensures reason { IfErr result (TellsTaken T.TriHashItem T.K1.eq T.K2.eq T.K3.eq (bag self.old) item) }
         ensures slots { OnErr result (self.new.slots ≡ self.old.slots) }
         ensures same_notes { OnErr result (entered.new.slots ≡ entered.old.slots) }
         ensures grows { GrowsUnless (length (bag self.old) < self.old.capacity) self.old self.new }
     {
         let at = match self.places(&item, &mut Meter::new(), &mut Meter::new()) {
             Ok(at) => at,
-            Err(_) => return Err((item, ExtendUniqueReason::Conflict)),
+            Err((by1, by2, by3)) => {
+                let taken1 = by1.slot().is_some();
+                let taken2 = by2.slot().is_some();
+                let taken3 = by3.slot().is_some();
+                return Err(Rejected {
+                    item,
+                    taken1,
+                    taken2,
+                    taken3,
+                });
+            }
         };
         if self.make_room(wanted).is_err() || entered.reserve_for(wanted).is_err() {
-            return Err((item, ExtendUniqueReason::Memory));
+            return Err(Rejected {
+                item,
+                taken1: false,
+                taken2: false,
+                taken3: false,
+            });
         }
         let slot = self.insert_at(item, at, &mut Meter::new());
         entered.push(slot);

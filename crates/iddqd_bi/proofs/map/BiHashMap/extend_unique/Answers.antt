@@ -1,14 +1,15 @@
 use Rattle.std.proofs.Common.{◌≡◌, ◌++◌, ◌∙◌, List, arith, rules, subst}
-use Rattle.std.specs.Prelude.{◌<◌, length, IsPermutation}
-use Rattle.iddqd_store.specs.Bag.{Ranks, AreLawful, IsSound, clash}
-use Rattle.iddqd_store.specs.Bag.Building.{IsReason}
+use Rattle.std.specs.Prelude.{◌<◌, Bool, length, IsPermutation}
+use Rattle.std.specs.List.{list_any}
+use Rattle.iddqd_store.specs.Bag.{Ranks, AreLawful, IsSound}
 use Rattle.iddqd_store.specs.Slots.{contents}
 use Rattle.std.proofs.iter.Next.{on}
 use Rattle.std.proofs.lemmas.List.Sorted.{length_permutation}
 use Rattle.iddqd_store.specs.Map.{bag}
 use Rattle.iddqd_store.proofs.BagLemmas.Building.{AddsTo-nil, AddsTo-push, AddsTo-sound}
-use Rattle.iddqd_store.proofs.MapLemmas.Entered.{taken_sound, left_same, left_sound, taken_reason}
+use Rattle.iddqd_store.proofs.MapLemmas.Entered.{taken_sound, left_same, left_sound, taken_key}
 use Rattle.iddqd_store.proofs.SlotLemmas.Entered.{StandAt-nil}
+use Rattle.iddqd_bi.specs.Keys.{has1, has2}
 use Rattle.iddqd_bi.proofs.MapLemmas.{AreLawful-ranks}
 use Rattle.iddqd_bi.proofs.map.BiHashMap.extend_unique.Given as given
 use Rattle.iddqd_bi.proofs.map.BiHashMap.extend_unique.Goals as goal
@@ -61,30 +62,34 @@ module _ (g : given.Over) (c : goal.After-drop-item-iterator g) where
   held = bag c.loop-item.self
 
   abbrev new : List g.row.T.Denot
-  new = bag c.take_entered-taken.new.self
+  new = bag c.take_entered-before.new.self
 
   abbrev taken : List g.row.T.Denot
-  taken = c.take_entered-taken.result.items
+  taken = c.take_entered-before.result.items
 
   sound : IsSound (by g) old
   sound = rw (g.met.T.Ranked.ranks_are, ← c.self.view_is) c.self.invariant.sound
 
   all : taken ≡ c.loop-item.yielded
-  all = c.take_entered-taken.ensures.values ∙ rw (c.in-Err.ensures.slots, c.in-Err.ensures.same_notes) c.loop-item.invariant.noted.items
+  all = c.take_entered-before.ensures.values ∙ rw (c.in-Err.ensures.slots, c.in-Err.ensures.same_notes) c.loop-item.invariant.noted.items
 
   out : IsPermutation held (taken ++ new)
-  out = subst (λ l. IsPermutation (contents l) (taken ++ new)) c.in-Err.ensures.slots c.take_entered-taken.ensures.loses.items
+  out = subst (λ l. IsPermutation (contents l) (taken ++ new)) c.in-Err.ensures.slots c.take_entered-before.ensures.loses.items
+
+  -- an item that had a key when the call failed is among them
+  has_key : (test : g.row.T.Denot → Bool) → list_any test held ≡ list_any test (taken ++ old)
+  has_key = taken_key (by g) (some g) (laws g) old held new _ taken sound c.loop-item.invariant.added all out
 
 pub returns-in-Err-clause-same_items : goal.returns-in-Err-clause-same_items
 returns-in-Err-clause-same_items g c = left_same (by g) (some g) (laws g) (old g c) (held g c) (new g c) _ (taken g c) (sound g c) c.loop-item.invariant.added (all g c) (out g c)
 
 pub returns-in-Err-clause-reason : goal.returns-in-Err-clause-reason
 returns-in-Err-clause-reason g c =
-    let item : c.in-Err.value ≡ c.in-Some.item = rw c.in-Err.value-is at c.in-Err.ensures.handed_back in
-    let reason : IsReason c.in-Err.reason (clash (by g) (held g c) c.in-Some.item) = rw g.met.T.Ranked.ranks_are (rw c.in-Err.reason-is at c.in-Err.ensures.reason) in
+    let why = c.in-Err.ensures.reason in
     record {
-      apart = taken_sound (by g) (some g) (laws g) (old g c) (held g c) (new g c) _ (taken g c) (sound g c) c.loop-item.invariant.added (all g c) (out g c);
-      reason = rw item (taken_reason (by g) (some g) (laws g) (old g c) (held g c) (new g c) _ (taken g c) (sound g c) c.loop-item.invariant.added (all g c) (out g c) c.in-Err.reason c.in-Some.item reason);
+      apart = rw (← g.met.T.Ranked.ranks_are) (taken_sound (by g) (some g) (laws g) (old g c) (held g c) (new g c) _ (taken g c) (sound g c) c.loop-item.invariant.added (all g c) (out g c));
+      taken1 = rw why.handed_back (why.taken1 ∙ has_key g c (has1 g.T.BiHashItem g.T.K1.PartialEq.eq (g.T.BiHashItem.key1 c.in-Some.item)));
+      taken2 = rw why.handed_back (why.taken2 ∙ has_key g c (has2 g.T.BiHashItem g.T.K2.PartialEq.eq (g.T.BiHashItem.key2 c.in-Some.item)));
     }
 
 pub returns-in-Err-clause-sound : goal.returns-in-Err-clause-sound

@@ -1,5 +1,9 @@
 -- Made by tests/twins from crates/iddqd_bi/proofs/map/BiHashMap/enter/Answers.antt: change that file.
+use Rattle.std.proofs.Common.{rules, ◌≡◌, ◌∙◌, None}
+use Rattle.std.specs.Prelude.{is_some}
 use Rattle.iddqd_store.proofs.SlotLemmas.Entered.{StandAt-push}
+use Rattle.iddqd_store.proofs.MapLemmas.Places.{is_some-at}
+use Rattle.iddqd_tri.specs.Keys.{has1, has2, has3}
 use Rattle.iddqd_tri.proofs.map.TriHashMap.enter.Goals as goal
 
 pub returns-clause-noted : goal.returns-clause-noted
@@ -7,3 +11,29 @@ returns-clause-noted g c = λ xs stand.
     rw (c.push.ensures, c.reserve_for.ensures.slots)
     (StandAt-push c.make_room.new.self.slots c.insert_at-slot.new.self.slots c.args.entered.now.slots xs c.insert_at-slot.result c.args.item c.insert_at-slot.ensures.was_free c.insert_at-slot.ensures.updates
     (rw c.make_room.ensures.slots stand))
+
+-- a key is taken if the search for it found a slot
+pub returns-in-Err-clause-reason : goal.returns-in-Err-clause-reason
+returns-in-Err-clause-reason g c =
+    let slots = c.args.self.now.slots in
+    let found = c.in-Err.ensures.found in
+    let seen1 : c.is_some-taken1.result ≡ is_some c.in-Err.by1.slot = search rules in
+    let seen2 : c.is_some-taken2.result ≡ is_some c.in-Err.by2.slot = search rules in
+    let seen3 : c.is_some-taken3.result ≡ is_some c.in-Err.by3.slot = search rules in
+    record {
+      handed_back = search rules;
+      taken1 = seen1 ∙ is_some-at (has1 g.T.TriHashItem g.T.K1.PartialEq.eq (g.T.TriHashItem.key1 c.args.item)) slots c.in-Err.by1.slot found.0;
+      taken2 = seen2 ∙ is_some-at (has2 g.T.TriHashItem g.T.K2.PartialEq.eq (g.T.TriHashItem.key2 c.args.item)) slots c.in-Err.by2.slot found.1.0;
+      taken3 = seen3 ∙ is_some-at (has3 g.T.TriHashItem g.T.K3.PartialEq.eq (g.T.TriHashItem.key3 c.args.item)) slots c.in-Err.by3.slot found.1.1.0;
+    }
+
+pub returns-then-is_err-clause-reason : goal.returns-then-is_err-clause-reason
+returns-then-is_err-clause-reason g c =
+    let slots = c.args.self.now.slots in
+    let found = c.in-Ok.ensures.found in
+    record {
+      handed_back = search rules;
+      taken1 = is_some-at (has1 g.T.TriHashItem g.T.K1.PartialEq.eq (g.T.TriHashItem.key1 c.args.item)) slots None found.0;
+      taken2 = is_some-at (has2 g.T.TriHashItem g.T.K2.PartialEq.eq (g.T.TriHashItem.key2 c.args.item)) slots None found.1.0;
+      taken3 = is_some-at (has3 g.T.TriHashItem g.T.K3.PartialEq.eq (g.T.TriHashItem.key3 c.args.item)) slots None found.1.1.0;
+    }
