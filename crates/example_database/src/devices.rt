@@ -1,5 +1,5 @@
 //! Devices in a table of a database and in a map. The table is loaded as a whole, or not at all.
-ghost use Rattle.std.specs.Prelude.{◌≡◌, ◌==◌, ◌++◌, Some, take, slice_get, List, length, IsPermutation, IfOk, OnOk, OnErr, IfErr};
+ghost use Rattle.std.specs.Prelude.{◌≡◌, ◌++◌, Some, take, slice_get, List, length, IsPermutation, IfOk, OnOk, OnErr, IfErr};
 ghost use Rattle.std.specs.List.{list_any};
 ghost use Rattle.iddqd_bi.specs.Bag.{IsSound};
 ghost use Rattle.iddqd_bi.specs.Map.{bag};
@@ -103,9 +103,9 @@ pub fn insert_all(devices: &mut BiHashMap<Device>, batch: Vec<Device>) -> Result
     ensures which { IfErr result (λ e. slice_get batch.items e.index ≡ Some e.item) }
     ensures apart { IfErr result (λ e. IsSound ⟦<Device as Ranked>⟧.ranks (take e.index batch.items ++ bag devices.old)) }
     ensures serial_taken { IfErr result (λ e. e.serial_taken
-        ≡ list_any (λ r. e.item.serial == r.serial) (take e.index batch.items ++ bag devices.old)) }
+        ≡ list_any (λ d. ⟦<i64 as PartialEq>⟧.eq e.item.serial d.serial) (take e.index batch.items ++ bag devices.old)) }
     ensures port_taken { IfErr result (λ e. e.port_taken
-        ≡ list_any (λ r. e.item.port == r.port) (take e.index batch.items ++ bag devices.old)) }
+        ≡ list_any (λ d. ⟦<i64 as PartialEq>⟧.eq e.item.port d.port) (take e.index batch.items ++ bag devices.old)) }
 {
     match devices.extend_unique(batch) {
         Ok(()) => Ok(()),
