@@ -8,6 +8,7 @@ use crate::lists::displaced;
 use crate::lookups::{found, more};
 use iddqd_bi::{BiHashMap, Entry, OccupiedEntry, OccupiedEntryRef, Ranked};
 use iddqd_calls_shared::answer::Answer;
+use iddqd_calls_shared::counting::Number;
 use std::hash::{BuildHasher, Hash};
 
 /// Returns the entry of these keys if it is occupied.
@@ -15,7 +16,7 @@ pub(crate) fn occupied<'a, S: BuildHasher>(
     map: &'a mut BiHashMap<Item, S>,
     keys: &'a Item,
 ) -> Option<OccupiedEntry<'a, Item, S>>
-    ensures { IfSome result (HasFound ⟦<Item as Ranked>⟧.key_tests) }
+    ensures { IfSome result (HasFound (λ k1 k2. ⟦<Item as Ranked>⟧.key_tests k1.now k2.now)) }
 {
     match map.entry(&keys.key1, &keys.key2) {
         Entry::Vacant(_) => None,
@@ -54,10 +55,21 @@ pub(crate) fn answered<S: BuildHasher>(
     match call {
         "kind" => Some(kind(&map.entry(&keys.key1, &keys.key2))),
         "and_modify" => Some(and_modify(map, keys)),
+        "get.by_numbers" => Some(get_by_numbers(map, keys)),
         _ => match call.strip_prefix("into_mut.") {
             Some(call) => held::lent_for_good(map, call, keys),
             None => if_occupied(map, call, keys),
         },
+    }
+}
+
+/// Answers what the entry shows that numbers ask for, which are no keys.
+fn get_by_numbers<S: BuildHasher>(map: &mut BiHashMap<Item, S>, keys: &Item) -> Answer {
+    let number1 = Number::of(&keys.key1);
+    let number2 = Number::of(&keys.key2);
+    match map.entry(&number1, &number2) {
+        Entry::Vacant(_) => Answer::said("vacant"),
+        Entry::Occupied(entry) => seen(entry.get()),
     }
 }
 
@@ -85,8 +97,8 @@ fn if_occupied<S: BuildHasher>(
 
 /// Updates the items of an occupied entry by one closure, and answers which items the closure saw.
 fn for_each<S: BuildHasher>(entry: &mut OccupiedEntry<'_, Item, S>) -> Answer
-    requires { HasFound ⟦<Item as Ranked>⟧.key_tests entry.old }
-    ensures { HasFound ⟦<Item as Ranked>⟧.key_tests entry.new }
+    requires { HasFound (λ k1 k2. ⟦<Item as Ranked>⟧.key_tests k1.now k2.now) entry.old }
+    ensures { HasFound (λ k1 k2. ⟦<Item as Ranked>⟧.key_tests k1.now k2.now) entry.new }
 {
     let mut answer = Answer::said("saw");
     entry.for_each(|item| {
@@ -97,7 +109,7 @@ fn for_each<S: BuildHasher>(entry: &mut OccupiedEntry<'_, Item, S>) -> Answer
 }
 
 fn of_occupied<S: BuildHasher>(mut entry: OccupiedEntry<'_, Item, S>, call: &str) -> Option<Answer>
-    requires { HasFound ⟦<Item as Ranked>⟧.key_tests entry }
+    requires { HasFound (λ k1 k2. ⟦<Item as Ranked>⟧.key_tests k1.now k2.now) entry }
 {
     match call {
         "is_unique" => Some(Answer::is_so(entry.is_unique())),

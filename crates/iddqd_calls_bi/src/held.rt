@@ -25,7 +25,7 @@ pub(crate) fn answered<S: BuildHasher>(
     mut entry: OccupiedEntry<'_, Item, S>,
     call: &str,
 ) -> Option<Answer>
-    requires { HasFound ⟦<Item as Ranked>⟧.key_tests entry }
+    requires { HasFound (λ k1 k2. ⟦<Item as Ranked>⟧.key_tests k1.now k2.now) entry }
 {
     match call {
         "data1_mut" => Some(written(entry.data1_mut())),

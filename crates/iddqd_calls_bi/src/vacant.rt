@@ -11,6 +11,7 @@ use iddqd_bi::{
     TryEntryRefusal,
 };
 use iddqd_calls_shared::answer::Answer;
+use iddqd_calls_shared::counting::Number;
 use std::hash::{BuildHasher, Hash};
 
 /// Answers why an item came back, and the item: as the error shows it, and as it was returned.
@@ -60,6 +61,7 @@ pub(crate) fn answered<S: BuildHasher>(
         "entry.or_insert" => Some(or_insert(map, keys, item)),
         "entry.or_insert.into_item" => Some(or_insert_or_back(map, keys, item)),
         "entry.or_insert.drop" => Some(or_insert_or_drop(map, keys, item)),
+        "entry.or_insert.by_numbers" => Some(or_insert_by_numbers(map, keys, item)),
         "entry.or_insert_with" => Some(or_insert_with(map, keys, item)),
         "entry.or_try_insert_with" => Some(or_try_insert_with(map, keys, item)),
         "entry.or_try_insert_with.fails" => Some(or_fail(map, keys, item)),
@@ -88,6 +90,20 @@ fn of_vacant<S: BuildHasher>(
 
 fn or_insert<S: BuildHasher>(map: &mut BiHashMap<Item, S>, keys: &Item, item: Item) -> Answer {
     match map.entry(&keys.key1, &keys.key2).or_insert(item) {
+        Ok(mut held) => lent(&mut held),
+        Err(error) => refused_by(error),
+    }
+}
+
+/// Numbers ask for the entry, which are no keys.
+fn or_insert_by_numbers<S: BuildHasher>(
+    map: &mut BiHashMap<Item, S>,
+    keys: &Item,
+    item: Item,
+) -> Answer {
+    let number1 = Number::of(&keys.key1);
+    let number2 = Number::of(&keys.key2);
+    match map.entry(&number1, &number2).or_insert(item) {
         Ok(mut held) => lent(&mut held),
         Err(error) => refused_by(error),
     }
@@ -206,8 +222,8 @@ fn put_and_see<S: BuildHasher>(map: &mut BiHashMap<Item, S>, keys: &Item, item: 
 
 /// Inserts an item into an occupied entry, and answers the items that it replaced.
 fn replace<S: BuildHasher>(entry: &mut OccupiedEntry<'_, Item, S>, item: Item) -> Answer
-    requires { HasFound ⟦<Item as Ranked>⟧.key_tests entry.old }
-    ensures { HasFound ⟦<Item as Ranked>⟧.key_tests entry.new }
+    requires { HasFound (λ k1 k2. ⟦<Item as Ranked>⟧.key_tests k1.now k2.now) entry.old }
+    ensures { HasFound (λ k1 k2. ⟦<Item as Ranked>⟧.key_tests k1.now k2.now) entry.new }
 {
     match entry.insert(item) {
         Ok(items) => displaced(items),

@@ -4,6 +4,7 @@ ghost use Rattle.std.proofs.Common.{rules};
 ghost use Rattle.std.specs.Hash as fed;
 ghost use Rattle.std.specs.Cmp.Rules.{comparing, hashing};
 
+use iddqd_store::Equivalent;
 use std::alloc::AllocError;
 use std::cell::Cell;
 use std::hash::{Hash, Hasher};
@@ -121,5 +122,32 @@ impl Hash for Key {
     fn hash<H: Hasher>(&self, state: &mut H) {
         self.counts.hash();
         self.number.hash(state);
+    }
+}
+
+/// A number, as a query that stands for the keys that have it. The counts of a key count its comparisons, and nothing counts
+/// its hashes.
+#[derive(PartialEq, Eq, Hash, Drop)]
+pub struct Number {
+    number: u64,
+}
+
+impl Number {
+    /// Returns the number of a key.
+    pub fn of(key: &Key) -> Self {
+        Number { number: key.number }
+    }
+}
+
+impl Equivalent<Key> for Number {
+    ghost equivalent = { λ q k. q.number == k.number };
+
+    ghost respects_hash = { Prim.search (hashing, rules) };
+
+    ghost respects_eq = { Prim.search (comparing, rules) };
+
+    fn equivalent(&self, key: &Key) -> bool {
+        key.counts.compare();
+        self.number == key.number
     }
 }

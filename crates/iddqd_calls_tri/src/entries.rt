@@ -9,6 +9,7 @@ use crate::item::{Item, row_of};
 use crate::lists::displaced;
 use crate::lookups::{found, more};
 use iddqd_calls_shared::answer::Answer;
+use iddqd_calls_shared::counting::Number;
 use iddqd_tri::{Entry, OccupiedEntry, OccupiedEntryRef, Ranked, TriHashMap};
 use std::hash::{BuildHasher, Hash};
 
@@ -17,7 +18,7 @@ pub(crate) fn occupied<'a, S: BuildHasher>(
     map: &'a mut TriHashMap<Item, S>,
     keys: &'a Item,
 ) -> Option<OccupiedEntry<'a, Item, S>>
-    ensures { IfSome result (HasFound ⟦<Item as Ranked>⟧.key_tests) }
+    ensures { IfSome result (HasFound (λ k1 k2 k3. ⟦<Item as Ranked>⟧.key_tests k1.now k2.now k3.now)) }
 {
     match map.entry(&keys.key1, &keys.key2, &keys.key3) {
         Entry::Vacant(_) => None,
@@ -57,10 +58,22 @@ pub(crate) fn answered<S: BuildHasher>(
     match call {
         "kind" => Some(kind(&map.entry(&keys.key1, &keys.key2, &keys.key3))),
         "and_modify" => Some(and_modify(map, keys)),
+        "get.by_numbers" => Some(get_by_numbers(map, keys)),
         _ => match call.strip_prefix("into_mut.") {
             Some(call) => held::lent_for_good(map, call, keys),
             None => if_occupied(map, call, keys),
         },
+    }
+}
+
+/// Answers what the entry shows that numbers ask for, which are no keys.
+fn get_by_numbers<S: BuildHasher>(map: &mut TriHashMap<Item, S>, keys: &Item) -> Answer {
+    let number1 = Number::of(&keys.key1);
+    let number2 = Number::of(&keys.key2);
+    let number3 = Number::of(&keys.key3);
+    match map.entry(&number1, &number2, &number3) {
+        Entry::Vacant(_) => Answer::said("vacant"),
+        Entry::Occupied(entry) => seen(entry.get()),
     }
 }
 
@@ -90,8 +103,8 @@ fn if_occupied<S: BuildHasher>(
 
 /// Updates the items of an occupied entry by one closure, and answers which items the closure saw.
 fn for_each<S: BuildHasher>(entry: &mut OccupiedEntry<'_, Item, S>) -> Answer
-    requires { HasFound ⟦<Item as Ranked>⟧.key_tests entry.old }
-    ensures { HasFound ⟦<Item as Ranked>⟧.key_tests entry.new }
+    requires { HasFound (λ k1 k2 k3. ⟦<Item as Ranked>⟧.key_tests k1.now k2.now k3.now) entry.old }
+    ensures { HasFound (λ k1 k2 k3. ⟦<Item as Ranked>⟧.key_tests k1.now k2.now k3.now) entry.new }
 {
     let mut answer = Answer::said("saw");
     entry.for_each(|item| {
@@ -102,7 +115,7 @@ fn for_each<S: BuildHasher>(entry: &mut OccupiedEntry<'_, Item, S>) -> Answer
 }
 
 fn of_occupied<S: BuildHasher>(mut entry: OccupiedEntry<'_, Item, S>, call: &str) -> Option<Answer>
-    requires { HasFound ⟦<Item as Ranked>⟧.key_tests entry }
+    requires { HasFound (λ k1 k2 k3. ⟦<Item as Ranked>⟧.key_tests k1.now k2.now k3.now) entry }
 {
     match call {
         "is_unique" => Some(Answer::is_so(entry.is_unique())),

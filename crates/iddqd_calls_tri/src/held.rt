@@ -27,7 +27,7 @@ pub(crate) fn answered<S: BuildHasher>(
     mut entry: OccupiedEntry<'_, Item, S>,
     call: &str,
 ) -> Option<Answer>
-    requires { HasFound ⟦<Item as Ranked>⟧.key_tests entry }
+    requires { HasFound (λ k1 k2 k3. ⟦<Item as Ranked>⟧.key_tests k1.now k2.now k3.now) entry }
 {
     match call {
         "data1_mut" => Some(written(entry.data1_mut())),

@@ -9,6 +9,7 @@ use crate::held::lent;
 use crate::item::{Item, row_of};
 use crate::lists::displaced;
 use iddqd_calls_shared::answer::Answer;
+use iddqd_calls_shared::counting::Number;
 use iddqd_tri::{
     Entry, EntryError, EntryRefusal, OccupiedEntry, Ranked, TriHashMap, TryEntryError,
     TryEntryRefusal,
@@ -63,6 +64,7 @@ pub(crate) fn answered<S: BuildHasher>(
         "entry.or_insert" => Some(or_insert(map, keys, item)),
         "entry.or_insert.into_item" => Some(or_insert_or_back(map, keys, item)),
         "entry.or_insert.drop" => Some(or_insert_or_drop(map, keys, item)),
+        "entry.or_insert.by_numbers" => Some(or_insert_by_numbers(map, keys, item)),
         "entry.or_insert_with" => Some(or_insert_with(map, keys, item)),
         "entry.or_try_insert_with" => Some(or_try_insert_with(map, keys, item)),
         "entry.or_try_insert_with.fails" => Some(or_fail(map, keys, item)),
@@ -94,6 +96,21 @@ fn or_insert<S: BuildHasher>(map: &mut TriHashMap<Item, S>, keys: &Item, item: I
         .entry(&keys.key1, &keys.key2, &keys.key3)
         .or_insert(item)
     {
+        Ok(mut held) => lent(&mut held),
+        Err(error) => refused_by(error),
+    }
+}
+
+/// Numbers ask for the entry, which are no keys.
+fn or_insert_by_numbers<S: BuildHasher>(
+    map: &mut TriHashMap<Item, S>,
+    keys: &Item,
+    item: Item,
+) -> Answer {
+    let number1 = Number::of(&keys.key1);
+    let number2 = Number::of(&keys.key2);
+    let number3 = Number::of(&keys.key3);
+    match map.entry(&number1, &number2, &number3).or_insert(item) {
         Ok(mut held) => lent(&mut held),
         Err(error) => refused_by(error),
     }
@@ -231,8 +248,8 @@ fn put_and_see<S: BuildHasher>(map: &mut TriHashMap<Item, S>, keys: &Item, item:
 
 /// Inserts an item into an occupied entry, and answers the items that it replaced.
 fn replace<S: BuildHasher>(entry: &mut OccupiedEntry<'_, Item, S>, item: Item) -> Answer
-    requires { HasFound ⟦<Item as Ranked>⟧.key_tests entry.old }
-    ensures { HasFound ⟦<Item as Ranked>⟧.key_tests entry.new }
+    requires { HasFound (λ k1 k2 k3. ⟦<Item as Ranked>⟧.key_tests k1.now k2.now k3.now) entry.old }
+    ensures { HasFound (λ k1 k2 k3. ⟦<Item as Ranked>⟧.key_tests k1.now k2.now k3.now) entry.new }
 {
     match entry.insert(item) {
         Ok(items) => displaced(items),

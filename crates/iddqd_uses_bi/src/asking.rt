@@ -1,12 +1,13 @@
-//! Lookups and removals by borrowed keys, and by any query.
+//! Lookups, entries and removals by borrowed keys, and by any query.
 ghost use Rattle.std.specs.Prelude.{◌≡◌, ◌&&◌, ◌∷◌, [], nat_eq, string_bytes, IsPermutation, IfSome, IfNone, option_copied};
+ghost use Rattle.std.specs.Bool.{OnTrue, OnFalse};
 ghost use Rattle.std.specs.Cmp.Lexicographic.{pointwise};
 ghost use Rattle.std.specs.List.{list_any};
 ghost use Rattle.iddqd_bi.specs.Bag.{IsOnly};
 ghost use Rattle.iddqd_bi.specs.Map.{bag};
 
 use crate::items::Symbol;
-use iddqd_bi::{BiHashItem, BiHashMap, Query};
+use iddqd_bi::{BiHashItem, BiHashMap, Entry, Query};
 use std::hash::{BuildHasher, Hash};
 
 /// Returns the symbol with this name, which is given as a `&str`.
@@ -38,6 +39,27 @@ pub fn undefine(symbols: &mut BiHashMap<Symbol>, name: &str) -> Option<Symbol>
     ensures absent { IfNone result (symbols.new ≡ symbols.old) }
 {
     symbols.remove1(name)
+}
+
+/// Inserts a symbol through an entry that is asked for by borrowed texts. Returns whether it did: it does not if a symbol has
+/// this name or lies at this place, if the new one has another name or place, or if there is no memory.
+pub fn define_at(
+    symbols: &mut BiHashMap<Symbol>,
+    name: &str,
+    section: &str,
+    offset: u32,
+    symbol: Symbol,
+) -> bool
+    ensures went_in { OnTrue result (IsPermutation (bag symbols.new) (symbol ∷ bag symbols.old)) }
+    ensures unchanged { OnFalse result (symbols.new ≡ symbols.old) }
+{
+    match symbols.entry(name, (section, &offset)) {
+        Entry::Vacant(free) => match free.insert(symbol) {
+            Ok(_lent) => return true,
+            Err(_e) => return false,
+        },
+        Entry::Occupied(_found) => return false,
+    }
 }
 
 /// Returns the item with this first key.

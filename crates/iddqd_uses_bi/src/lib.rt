@@ -25,7 +25,9 @@ mod words;
 mod writing;
 mod written;
 
-pub use asking::{by_key, by_query, entry_point, is_at, resolve, take_by_query, undefine};
+pub use asking::{
+    by_key, by_query, define_at, entry_point, is_at, resolve, take_by_query, undefine,
+};
 pub use building::extend_by_vec;
 pub use emptying::drained;
 pub use entries::{
@@ -50,7 +52,7 @@ pub use refusing::{
     NotAdded, add, add_and_count, add_by_from, add_by_map_err, add_or_count, is_added,
 };
 pub use updating::{note_all_opened, note_opened, set_all, set1};
-pub use users::{User, by_login, register, register_all};
+pub use users::{User, by_login, register, register_all, register_as, unregister};
 pub use walking::{count_by_walk, write_all, write_first, write_first_and_count};
 pub use words::{add_word, forget_word, has_word};
 pub use writing::{is_lent1, replace1, write1, write1_again, write1_and_tell, write1_twice};

@@ -1,12 +1,14 @@
 //! A registry of users, who are known by a number and by a login.
-ghost use Rattle.std.specs.Prelude.{◌≡◌, ◌<◌, [], ◌∷◌, ◌++◌, length, All, IsOk, IsPermutation, OnOk, OnErr, IfErr, Some, filter, option_copied};
+ghost use Rattle.std.specs.Prelude.{◌≡◌, ◌<◌, [], ◌∷◌, ◌++◌, nat_eq, string_bytes, length, All, IsOk, IsPermutation, OnOk, OnErr, IfErr, Some, filter, option_copied};
+ghost use Rattle.std.specs.Bool.{OnTrue, OnFalse};
+ghost use Rattle.std.specs.Cmp.Lexicographic.{pointwise};
 ghost use Rattle.std.specs.Option.{option_to_list};
-ghost use Rattle.iddqd_bi.specs.Bag.{IsOnly, clash};
+ghost use Rattle.iddqd_bi.specs.Bag.{IsOnly, clash, listing};
 ghost use Rattle.iddqd_bi.specs.Callers.{IsRejected};
 ghost use Rattle.iddqd_bi.specs.Map.{bag};
 
 use crate::loading::load;
-use iddqd_bi::{BiHashItem, BiHashMap, InsertReason, Ranked};
+use iddqd_bi::{BiHashItem, BiHashMap, Entry, InsertReason, Ranked};
 
 /// A user.
 #[derive(Drop)]
@@ -69,4 +71,37 @@ pub fn by_login<'u>(users: &'u BiHashMap<User>, login: &String) -> Option<&'u Us
         ≡ filter (λ u. ⟦<String as PartialEq>⟧.eq login.now u.login) (bag users.now) }
 {
     users.get2(login)
+}
+
+/// Removes the user with this number and the user with this login, who may be the same. Returns whether there was one.
+pub fn unregister(users: &mut BiHashMap<User>, id: u64, login: &str) -> bool
+    ensures gone { OnTrue result (IsPermutation (bag users.old) (listing
+        ((λ u. nat_eq id u.id) ∷ (λ u. pointwise nat_eq login.now (string_bytes u.login)) ∷ [])
+        (bag users.old) ++ bag users.new)) }
+    ensures absent { OnFalse result (listing
+        ((λ u. nat_eq id u.id) ∷ (λ u. pointwise nat_eq login.now (string_bytes u.login)) ∷ [])
+        (bag users.old) ≡ []) }
+    ensures unchanged { OnFalse result (users.new ≡ users.old) }
+{
+    match users.entry(&id, login) {
+        Entry::Vacant(_free) => return false,
+        Entry::Occupied(found) => {
+            let _gone = found.remove();
+            return true;
+        }
+    }
+}
+
+/// Registers a user whose number and login are these, unless one of them is taken. Returns whether the user was registered.
+pub fn register_as(users: &mut BiHashMap<User>, id: u64, login: &str, user: User) -> bool
+    ensures registered { OnTrue result (IsPermutation (bag users.new) (user ∷ bag users.old)) }
+    ensures unchanged { OnFalse result (users.new ≡ users.old) }
+{
+    match users.entry(&id, login) {
+        Entry::Vacant(free) => match free.insert(user) {
+            Ok(_lent) => return true,
+            Err(_e) => return false,
+        },
+        Entry::Occupied(_found) => return false,
+    }
 }

@@ -1,5 +1,5 @@
-//! Items with a key that is a reference. For such items no caller of `insert_unique` or of `entry` has a proof on this
-//! toolchain. The callers below have one.
+//! Items with a key that is a reference. For such items no caller of `insert_unique` has a proof on this toolchain, and no
+//! caller of `entry` knows the map afterwards. The callers below have a proof, and know the map.
 ghost use Rattle.std.specs.Prelude.{◌≡◌, ◌∷◌, ◌<◌, [], nat_eq, length, IsOk, IsPermutation, OnOk, OnErr, IfErr, IfSome, IfNone};
 ghost use Rattle.std.specs.Cmp.Lexicographic.{pointwise};
 ghost use Rattle.std.specs.List.{list_any};

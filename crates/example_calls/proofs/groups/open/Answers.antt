@@ -4,13 +4,13 @@ use Rattle.std.specs.declared.cmp.PartialEq as equal
 use Rattle.std.specs.declared.hash.BuildHasher as builder
 use Rattle.std.specs.declared.hash.Hash as hash
 use Rattle.std.specs.declared.hash.Hasher as hasher
+use Rattle.iddqd_store.specs.declared.query.Query as query
 use Rattle.iddqd_bi.specs.Bag.{differ}
 use Rattle.iddqd_bi.specs.Entries.{KeepsFound, OnOccupied, OnVacant, PutsIn, entry_key1, entry_key2, entry_map}
 use Rattle.iddqd_bi.specs.Keys.{key_tests, ranks}
 use Rattle.iddqd_bi.specs.Map.{IsFullFor, Map, bag}
 use Rattle.iddqd_bi.specs.declared.entry.Entry.{Entry}
 use Rattle.iddqd_bi.specs.declared.entry.Entry.TheVariants.{Vacant, Occupied}
-use Rattle.iddqd_bi.specs.declared.entry.keys.Keys as pair
 use Rattle.iddqd_bi.specs.declared.error.EntryRefusal.{EntryRefusal}
 use Rattle.iddqd_bi.specs.declared.item.BiHashItem as team
 use Rattle.iddqd_bi.proofs.Entering.{clash-empty, order-empty, stayed, went_in}
@@ -18,10 +18,10 @@ use Rattle.example_calls.specs.contracts.groups.TeamBiHashItem.TheImpl as item
 use Rattle.example_calls.proofs.groups.open.Goals as goal
 
 -- what `or_insert` says if it fails: the entry is vacant, and if it has the keys of the item, then the map is full
-module _ {T S Q K1 K2 H : Type 0} {of : team.Ghosts T K1 K2} {eq1 : equal.Ghosts K1} {input1 : hash.Ghosts K1} {eq2 : equal.Ghosts K2} {input2 : hash.Ghosts K2} {build : builder.Ghosts S H} {hashes : hasher.Ghosts H} {q : pair.Ghosts Q K1 K2} where
-  refused_full : (e : Entry T S Q K1 K2 H of eq1 input1 eq2 input2 build hashes q) (r : EntryRefusal T S K1 K2 H) (x : T) (k1 : K1) (k2 : K2) (old : Map T S) →
-      OnVacant e (λ v. PutsIn v x (Err r)) → OnOccupied e (λ o. KeepsFound of eq1.eq eq2.eq o (Err r)) → entry_key1 e ≡ k1 → entry_key2 e ≡ k2 → entry_map e ≡ old →
-      differ (key_tests of eq1.eq eq2.eq k1 k2) x ≡ None → IsFullFor (ranks of eq1.eq eq2.eq) old x
+module _ {T S Q1 Q2 K1 K2 H : Type 0} {of : team.Ghosts T K1 K2} {eq1 : equal.Ghosts K1} {input1 : hash.Ghosts K1} {eq2 : equal.Ghosts K2} {input2 : hash.Ghosts K2} {build : builder.Ghosts S H} {hashes : hasher.Ghosts H} {q1 : query.Ghosts Q1 K1} {w1 : hash.Ghosts Q1} {e1 : equal.Ghosts Q1} {q2 : query.Ghosts Q2 K2} {w2 : hash.Ghosts Q2} {e2 : equal.Ghosts Q2} where
+  refused_full : (e : Entry T S Q1 Q2 K1 K2 H of eq1 input1 eq2 input2 build hashes q1 w1 e1 q2 w2 e2) (r : EntryRefusal T S K1 K2 H) (x : T) (k1 : Q1) (k2 : Q2) (old : Map T S) →
+      OnVacant e (λ v. PutsIn v x (Err r)) → OnOccupied e (λ o. KeepsFound of q1.stands_for q2.stands_for o (Err r)) → entry_key1 e ≡ k1 → entry_key2 e ≡ k2 → entry_map e ≡ old →
+      differ (key_tests of q1.stands_for q2.stands_for k1 k2) x ≡ None → IsFullFor (ranks of eq1.eq eq2.eq) old x
   refused_full (Vacant v) r x k1 k2 old put kept is1 is2 is same =
       rw (← is) (put.hands_back.memory (sym put.hands_back.rank ∙ rw (← is1, ← is2) at same))
   refused_full (Occupied o) r x k1 k2 old put kept is1 is2 is same = absurd (cc kept.granted)

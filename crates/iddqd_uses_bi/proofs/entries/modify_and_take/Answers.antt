@@ -15,4 +15,4 @@ pub returns-in-Occupied-clause-taken : goal.returns-in-Occupied-clause-taken
 returns-in-Occupied-clause-taken g c =
     let asked = c.in-Occupied.ensures in
     let stored = c.for_each.ensures in
-    (bag c.for_each.new.self.map.now, rw (← asked.unchanged, ← asked.keys.key1, ← asked.keys.key2) stored.stores, rw (← asked.keys.key1, ← asked.keys.key2, ← stored.places.key1, ← stored.places.key2) (search rules), search rules)
+    (bag c.for_each.new.self.map.now, rw (← asked.unchanged, ← asked.keys.key1, ← asked.keys.key2) stored.stores, rw (← asked.keys.key1, ← asked.keys.key2, ← stored.places.query1, ← stored.places.query2) (search rules), search rules)
