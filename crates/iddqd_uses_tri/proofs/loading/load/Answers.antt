@@ -8,7 +8,9 @@ use Rattle.iddqd_tri.proofs.CallerLemmas.Batches.{batch-refused, loaded}
 use Rattle.iddqd_uses_tri.proofs.loading.load.Goals as goal
 
 pub returns-in-Ok-clause-all : goal.returns-in-Ok-clause-all
-returns-in-Ok-clause-all g c = loaded _ (λ it is. is.0) _ _ _ c.in-Ok.ensures.all
+returns-in-Ok-clause-all g c =
+    let by = ranks g.T.TriHashItem g.T.K1.PartialEq.eq g.T.K2.PartialEq.eq g.T.K3.PartialEq.eq in
+    loaded _ (λ it is. is.0) by _ _ c.in-Ok.ensures.all
 
 pub returns-in-Err-clause-rejected : goal.returns-in-Err-clause-rejected
 returns-in-Err-clause-rejected g c =
