@@ -1,5 +1,5 @@
 //! The loops over the maps on the other side, which are those kept by hand or those of the Rust crate: one for each loop of
-//! `iddqd_bench`, with the same name.
+//! `bench_loops`, with the same name.
 use crate::calls::{Map, sum_of};
 use crate::workload::{Row, Workload, copies};
 

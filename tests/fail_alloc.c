@@ -3,7 +3,7 @@
 // reports that there too. The library is not part of a crate: tests/failing_allocations and tests/cases build it, and load it into
 // programs and tests that are proved.
 //
-// For iddqd_calls it counts the allocations of each call. A request for BEGINS + N bytes says that a call begins, and that
+// For test_calls it counts the allocations of each call. A request for BEGINS + N bytes says that a call begins, and that
 // its Nth allocation is to fail, or none if N is 0. Of the requests for MADE + N bytes that follow, only the one in which N
 // is the number of allocations of the call succeeds. So the program learns that number.
 #define _GNU_SOURCE
@@ -42,7 +42,7 @@ __attribute__((destructor)) static void end(void) {
     say("%ld blocks of memory were never freed\n", held);
 }
 
-// Returns whether a request fails because iddqd_calls counts the allocations of a call, or lets one of them fail.
+// Returns whether a request fails because test_calls counts the allocations of a call, or lets one of them fail.
 static int is_refused_in_call(size_t size) {
   if (size >= BEGINS && size < BEGINS + MOST) {
     made = 0;

@@ -1,0 +1,19 @@
+use Rattle.std.proofs.Common.{refl, ◌∙◌}
+use Rattle.iddqd_bi.specs.Keys.{has2}
+use Rattle.iddqd_bi.specs.Map.{bag}
+use Rattle.iddqd_bi.proofs.CallerLemmas.Laws.{given-has, given-listed, none-listed}
+use Rattle.caller_bi.proofs.laws.finding.found2_where_contained.Goals as goal
+
+-- an item that is given has the key
+pub returns-then-contains_key2 : goal.returns-then-contains_key2
+returns-then-contains_key2 g c =
+    c.stands_for.ensures ∙ rw c.key2.ensures (given-has (has2 g.T.BiHashItem g.Q.Query.stands_for c.args.query) (bag c.args.map.now) c.in-Some.item.now c.in-Some.ensures)
+
+pub returns-else-contains_key2 : goal.returns-else-contains_key2
+returns-else-contains_key2 g c =
+    c.contains_key2.ensures ∙ given-listed (has2 g.T.BiHashItem g.Q.Query.stands_for c.args.query) (bag c.args.map.now) c.in-Some.item.now c.in-Some.ensures
+
+-- if none is given, no item has the key
+pub returns-in-None : goal.returns-in-None
+returns-in-None g c =
+    rw (c.contains_key2-in-None.ensures ∙ none-listed (has2 g.T.BiHashItem g.Q.Query.stands_for c.args.query) (bag c.args.map.now) c.in-None.ensures) refl

@@ -1,0 +1,24 @@
+//! Tests of the map with two keys on items of other types than that of `test_calls`, and of what maps and errors
+//! print.
+#![tactic(auto)]
+
+mod row;
+
+pub use row::{Row, row_of};
+
+#[cfg(test)]
+mod building;
+#[cfg(test)]
+mod copies;
+#[cfg(test)]
+mod debug;
+#[cfg(test)]
+mod pointers;
+#[cfg(test)]
+mod printed;
+#[cfg(test)]
+mod queries;
+#[cfg(test)]
+mod std_traits;
+#[cfg(test)]
+mod texts;
