@@ -32,7 +32,7 @@ pub extern "C" fn tri_extend(
 fn come_back(map: &mut TriHashMap<Row>, rows: &[Row]) -> u64 {
     match map.extend_unique(rows.iter().copied()) {
         Ok(()) => 0,
-        Err(refused) => refused.taken.len() as u64,
+        Err(refused) => refused.before.len() as u64,
     }
 }
 

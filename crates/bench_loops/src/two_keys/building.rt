@@ -30,7 +30,7 @@ pub extern "C" fn bi_extend(
 fn come_back(map: &mut BiHashMap<Row>, rows: &[Row]) -> u64 {
     match map.extend_unique(rows.iter().copied()) {
         Ok(()) => 0,
-        Err(refused) => refused.taken.len() as u64,
+        Err(refused) => refused.before.len() as u64,
     }
 }
 
