@@ -1,11 +1,13 @@
 //! Keeps the pages of standard input in a cache of at most three, and answers each line.
 //!
 //!     put NUMBER FRAME VALUE    ok
+//!     admit NUMBER FRAME VALUE  ok | ok, without NUMBER FRAME VALUE | taken
 //!     page NUMBER               NUMBER FRAME VALUE | none
 //!     frame FRAME               NUMBER FRAME VALUE | none
 //!     count                     how many pages are in the cache
 //!
-//! `put` inserts a page in place of those with its number or its frame, and of one other page if there are three. Any
+//! `put` inserts a page in place of those with its number or its frame, and of one other page if there are three. `admit`
+//! inserts a page if none has its number or its frame, and in place of the one with the lowest value if there are three. Any
 //! other line is answered by `bad line`, also one that is not UTF-8.
 #![tactic(auto)]
 
@@ -20,6 +22,7 @@ const LIMIT: usize = 3;
 /// What a line asks for.
 enum Command {
     Put(Page),
+    Admit(Page),
     Page(u64),
     Frame(u32),
     Count,
@@ -29,6 +32,11 @@ enum Command {
 fn parse(words: &[&str]) -> Option<Command> {
     Some(match words {
         ["put", number, frame, value] => Command::Put(Page {
+            number: number.parse().ok()?,
+            frame: frame.parse().ok()?,
+            value: value.parse().ok()?,
+        }),
+        ["admit", number, frame, value] => Command::Admit(Page {
             number: number.parse().ok()?,
             frame: frame.parse().ok()?,
             value: value.parse().ok()?,
@@ -48,6 +56,15 @@ fn show(rt: &impl Print, found: Option<&Page>) -> io::Result<()> {
     }
 }
 
+/// Inserts a page if none has its number or its frame, and prints which one left for it.
+fn show_admitted(rt: &impl Print, cache: &mut Cache, page: Page) -> io::Result<()> {
+    match cache.admit(page) {
+        Ok(None) => rt.println("ok"),
+        Ok(Some(gone)) => println!(rt; "ok, without {} {} {}", gone.number, gone.frame, gone.value),
+        Err(_) => rt.println("taken"),
+    }
+}
+
 /// Carries out a command, and prints the answer.
 fn answer(rt: &impl Print, cache: &mut Cache, command: Command) -> io::Result<()> {
     match command {
@@ -55,6 +72,7 @@ fn answer(rt: &impl Print, cache: &mut Cache, command: Command) -> io::Result<()
             cache.put(page);
             rt.println("ok")
         }
+        Command::Admit(page) => show_admitted(rt, cache, page),
         Command::Page(number) => show(rt, cache.page(number)),
         Command::Frame(frame) => show(rt, cache.in_frame(frame)),
         Command::Count => println!(rt; "{}", cache.len()),

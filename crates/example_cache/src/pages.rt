@@ -1,7 +1,7 @@
 //! A cache of at most a fixed number of pages, each known by its number and by the frame that it is in.
-ghost use Rattle.std.specs.Prelude.{◌≡◌, ◌≤◌, ◌<◌, ◌++◌, ◌==◌, [], List, Option, length, IfOk, Contains, IsPermutation, option_copied};
+ghost use Rattle.std.specs.Prelude.{◌≡◌, ◌≤◌, ◌<◌, ◌++◌, ◌∷◌, ◌==◌, [], List, Option, length, All, IfOk, IfErr, IfSome, IfNone, IsOk, OnOk, Contains, IsPermutation, option_copied};
 ghost use Rattle.std.specs.Option.{option_to_list};
-ghost use Rattle.iddqd_bi.specs.Bag.{IsOnly, over};
+ghost use Rattle.iddqd_bi.specs.Bag.{IsOnly, clash, over};
 ghost use Rattle.iddqd_bi.specs.Map.{bag};
 
 use iddqd_bi::{BiHashItem, BiHashMap, Ranked, TryReserveError};
@@ -77,6 +77,31 @@ impl Cache {
         }
     }
 
+    /// Inserts a page if no page has its number or its frame. If the cache is full, the page with the lowest value leaves
+    /// first, and is returned. If a page has the number or the frame, the new one comes back, and nothing changes. No
+    /// memory is allocated.
+    pub fn admit(&mut self, page: Page) -> Result<Option<Page>, Page>
+        ensures went_in { IfOk result (λ gone. IsPermutation (option_to_list gone ++ bag self.new.pages)
+            (page ∷ bag self.old.pages)) }
+        ensures evicted { IfOk result (λ gone. IfSome gone (λ g. (length (bag self.old.pages) ≡ self.old.limit)
+            × All (λ p. g.value ≤ p.value) (bag self.old.pages))) }
+        ensures refused { IfErr result (λ p. (p ≡ page) × (self.new ≡ self.old)) }
+        ensures free { OnOk result (clash ⟦<Page as Ranked>⟧.ranks (bag self.old.pages) page ≡ []) }
+        ensures granted { clash ⟦<Page as Ranked>⟧.ranks (bag self.old.pages) page ≡ [] → IsOk result }
+        ensures limit { self.new.limit ≡ self.old.limit }
+        ensures same_memory { self.new.pages.capacity ≡ self.old.pages.capacity }
+    {
+        if !self.pages.conflicts_with(&page).is_empty() {
+            return Err(page);
+        }
+        let gone = evict(&mut self.pages, self.limit);
+        match self.pages.try_insert(page) {
+            Ok(()) => Ok(gone),
+            // Nothing conflicts with the page, also after another one left, and there is room.
+            Err(_) => unreachable!(),
+        }
+    }
+
     /// Returns the page with this number, if it is in the cache.
     pub fn page(&self, number: u64) -> Option<&Page>
         ensures { IsOnly (λ p. number == p.number) (bag self.now.pages) (option_copied result) }
@@ -98,6 +123,35 @@ impl Cache {
     {
         self.pages.len()
     }
+}
+
+/// Returns the page with the lowest value, if there is one.
+fn lowest(pages: &BiHashMap<Page>) -> Option<Page>
+    ensures none { IfNone result (bag pages.now ≡ []) }
+    ensures member { IfSome result (λ l. Contains (bag pages.now) l) }
+    ensures lowest { IfSome result (λ l. All (λ p. l.value ≤ p.value) (bag pages.now)) }
+{
+    pages.iter().min_by_key(|page| page.value).copied()
+}
+
+/// Removes the page with the lowest value if there are as many as the limit allows. What conflicts with none of the pages
+/// conflicts with none of those that are left.
+fn evict(pages: &mut BiHashMap<Page>, limit: usize) -> Option<Page>
+    requires some { 0 < limit }
+    requires bounded { length (bag pages.old) ≤ limit }
+    ensures place { length (bag pages.new) < limit }
+    ensures gone { IsPermutation (bag pages.old) (option_to_list result ++ bag pages.new) }
+    ensures lowest { IfSome result (λ g. (length (bag pages.old) ≡ limit)
+        × All (λ p. g.value ≤ p.value) (bag pages.old)) }
+    ensures free { (page : Page) → clash ⟦<Page as Ranked>⟧.ranks (bag pages.old) page ≡ []
+        → clash ⟦<Page as Ranked>⟧.ranks (bag pages.new) page ≡ [] }
+    ensures same_room { pages.new.capacity ≡ pages.old.capacity }
+{
+    if pages.len() < limit {
+        return None;
+    }
+    let page = lowest(pages)?;
+    pages.remove1(&page.number)
 }
 
 /// Removes one page if there are as many as the limit allows.

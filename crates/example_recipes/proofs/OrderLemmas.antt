@@ -31,7 +31,7 @@ is_ok-yes (Ok x) done = refl
 is_ok-yes (Err e) done = absurd (cc done)
 
 module _ {T : Type 0} where
-  only_member : (x y : T) → Contains (y ∷ []) x → x ≡ y
+  pub only_member : (x y : T) → Contains (y ∷ []) x → x ≡ y
   only_member x y there = All-contains (λ z. z ≡ y) (y ∷ []) x (All-cons (λ z. z ≡ y) y [] refl (All-nil (λ z. z ≡ y))) there
 
   -- what a test finds after another item left is what it found before

@@ -1,10 +1,12 @@
 //! Runs each recipe once, and prints what it gives.
 #![tactic(auto)]
 
+mod accounts;
 mod books;
 mod orders;
 mod shared;
 
+use crate::accounts::{Account, transfer};
 use crate::books::{Book, enter};
 use crate::orders::{Order, add, cheapest, replace_all, swap_places};
 use crate::shared::{close, open};
@@ -141,8 +143,48 @@ fn show_shared(rt: &impl Print, alloc: Global) -> anyhow::Result<()> {
     show_not_opened(rt, alloc, &mut all, &mut opened)
 }
 
+/// Adds two accounts.
+fn add_accounts(accounts: &mut BiHashMap<Account>) -> anyhow::Result<()> {
+    for (number, holder, balance) in [(1, 10, 500), (2, 20, 100)] {
+        accounts.try_insert(Account {
+            number,
+            holder,
+            balance,
+        })?;
+    }
+    Ok(())
+}
+
+/// Returns the balance of the account with this number.
+fn balance_of(accounts: &BiHashMap<Account>, number: u64) -> u64 {
+    match accounts.get1(&number) {
+        Some(account) => account.balance,
+        None => 0,
+    }
+}
+
+/// Moves an amount between two accounts, and then one that the first has not.
+fn show_moved(rt: &impl Print, accounts: &mut BiHashMap<Account>) -> anyhow::Result<()> {
+    add_accounts(accounts)?;
+    let moved = transfer(accounts, 1, 2, 300);
+    let again = transfer(accounts, 1, 2, 300);
+    println!(rt;
+        "moved: {moved}, and again: {again}, the balances are {} and {}",
+        balance_of(accounts, 1),
+        balance_of(accounts, 2)
+    )?;
+    Ok(())
+}
+
+/// Runs the recipe with accounts.
+fn show_accounts(rt: &impl Print, alloc: Global) -> anyhow::Result<()> {
+    let mut accounts = BiHashMap::new(alloc);
+    show_moved(rt, &mut accounts)
+}
+
 fn main(rt: HostRuntime) -> anyhow::Result<()> {
     show_orders(&rt, rt.alloc())?;
+    show_accounts(&rt, rt.alloc())?;
     show_books(&rt, rt.alloc())?;
     show_shared(&rt, rt.alloc())
 }
