@@ -198,3 +198,9 @@ def changes(crate, mutant):
             pairs.append((old, text))
             old = None
     return found
+
+
+def breaks(crate, mutant):
+    """Returns the labels of the clauses that a mutant breaks, by the line `breaks: LABEL ..` of its file, or None if there is no such line."""
+    found = re.search(r"^breaks: (.*)", read(f"crates/{crate}/must-fail/{mutant}.edit"), re.M)
+    return found and found[1].split()
