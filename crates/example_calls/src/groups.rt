@@ -1,11 +1,11 @@
 //! Entries that are filled where they are vacant, and items that gather values.
-ghost use Rattle.std.specs.Prelude.{◌≡◌, ◌≢◌, [], ◌∷◌, ◌++◌, IsOk, IfErr, IfOk, IsPermutation, OnOk, OnErr};
+ghost use Rattle.std.specs.Prelude.{◌≡◌, ◌≢◌, [], ◌∷◌, ◌++◌, if◌then◌else◌, false, List, IsOk, IfErr, IfOk, IsPermutation, OnOk, OnErr};
 ghost use Rattle.std.proofs.Common.{rules};
-ghost use Rattle.std.specs.Bool.{OnTrue};
-ghost use Rattle.iddqd_bi.specs.Bag.{clash, entry, swap, unique, vacant};
+ghost use Rattle.std.specs.Bool.{OnTrue, OnFalse};
+ghost use Rattle.iddqd_bi.specs.Bag.{clash, entry, non_unique, swap, unique, vacant};
 ghost use Rattle.iddqd_bi.specs.Map.{IsFullFor, bag};
 
-use iddqd_bi::{BiHashItem, BiHashItemMut, BiHashMap, Ranked, TryEntryError};
+use iddqd_bi::{BiHashItem, BiHashItemMut, BiHashMap, Entry, Ranked, TryEntryError};
 use std::alloc::{AllocError, Global};
 
 /// A team, known by its number and by its laboratory, with the numbers of its members.
@@ -17,17 +17,13 @@ pub struct Team {
 }
 
 impl Team {
-    /// Makes a team without members. It needs no memory.
-    pub fn new(alloc: Global, id: u64, lab: u32) -> Team
-        ensures id { result.id ≡ id }
-        ensures lab { result.lab ≡ lab }
-        ensures members { result.members.items ≡ [] }
+    /// Makes a team of one member.
+    pub fn of(alloc: Global, id: u64, lab: u32, member: u64) -> Result<Team, AllocError>
+        ensures { IfOk result (λ t. (t.id ≡ id) × (t.lab ≡ lab) × (t.members.items ≡ member ∷ [])) }
     {
-        Team {
-            id,
-            lab,
-            members: Vec::new(alloc),
-        }
+        let mut members = Vec::new(alloc);
+        members.push(member)?;
+        Ok(Team { id, lab, members })
     }
 }
 
@@ -86,21 +82,38 @@ pub fn open(teams: &mut BiHashMap<Team>, team: Team) -> Result<(), Team>
 }
 
 /// Adds a member to the team with both keys, which is opened if no team has one of them. Returns whether the member was
-/// added: it is not if a team has one of the keys and another key of its own, or if there is no memory.
+/// added: it is not if a team has one of the keys and another key of its own, or if there is no memory. Then each team has
+/// the members that it had.
 pub fn join(alloc: Global, teams: &mut BiHashMap<Team>, id: u64, lab: u32, member: u64) -> bool
     ensures joined { (t : Team) → entry (⟦<Team as Ranked>⟧.key_tests id lab) (bag teams.old) ≡ unique t
-        → OnTrue result ((u : Team) × (u.id ≡ t.id) × (u.lab ≡ t.lab) × (u.members.items ≡ t.members.items ++ member ∷ [])
-        × IsPermutation (bag teams.new) (swap ⟦<Team as Ranked>⟧.ranks (bag teams.old) t u)) }
+        → (u : Team) × (u.id ≡ t.id) × (u.lab ≡ t.lab)
+        × (u.members.items ≡ (if result then t.members.items ++ member ∷ [] else t.members.items))
+        × IsPermutation (bag teams.new) (swap ⟦<Team as Ranked>⟧.ranks (bag teams.old) t u) }
     ensures opened { entry (⟦<Team as Ranked>⟧.key_tests id lab) (bag teams.old) ≡ vacant
         → OnTrue result ((u : Team) × (u.id ≡ id) × (u.lab ≡ lab) × (u.members.items ≡ member ∷ [])
         × IsPermutation (bag teams.new) (u ∷ bag teams.old)) }
+    ensures not_opened { entry (⟦<Team as Ranked>⟧.key_tests id lab) (bag teams.old) ≡ vacant
+        → OnFalse result (teams.new ≡ teams.old) }
+    ensures refused { (found : List Team)
+        → entry (⟦<Team as Ranked>⟧.key_tests id lab) (bag teams.old) ≡ non_unique found
+        → (result ≡ false) × (teams.new ≡ teams.old) }
 {
-    if let Ok(mut held) = teams.entry(&id, &lab).or_insert(Team::new(alloc, id, lab)) {
-        if let Some(members) = held.data_unique_mut() {
-            return members.push(member).is_ok();
+    match teams.entry(&id, &lab) {
+        Entry::Vacant(free) => match Team::of(alloc, id, lab, member) {
+            Ok(team) => match free.insert(team) {
+                Ok(_lent) => return true,
+                Err(_refused) => return false,
+            },
+            Err(_no_memory) => return false,
+        },
+        Entry::Occupied(found) => {
+            let mut held = found.into_mut();
+            match held.data_unique_mut() {
+                Some(members) => return members.push(member).is_ok(),
+                None => return false,
+            }
         }
     }
-    false
 }
 
 /// Opens a team with memory for this many members if no team has one of the keys. Only then is the memory requested.

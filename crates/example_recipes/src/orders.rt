@@ -113,9 +113,8 @@ pub fn swap_places(orders: &mut BiHashMap<Order>, one: u64, other: u64) -> bool
     if one == other {
         return true;
     }
-    // No two orders conflict, and all fit, as the clauses of these two calls say. So none of the inserts below fails.
-    let _ = orders.len();
-    let _ = orders.capacity();
+    // By clauses of these calls no two orders conflict, and all fit. So none of the inserts below fails.
+    prove!(orders.len() <= orders.capacity());
     let Some(second) = orders.remove1(&other) else {
         return false;
     };
