@@ -55,7 +55,10 @@ module _ {T : Type 0} (hashes : List (T → ℕ)) where
   -- the item was inserted
   pub batch_push : (held new xs : List T) (x : T) (room : ℕ) (ws walks : List ℕ) (asks mid asks_then before between after : ℕ) → IsPermutation new (x ∷ held) → AreAtMost ws walks → BatchCosts hashes held xs walks asks mid before between → PlacingCosts hashes held room (hashes_of hashes x) ws mid asks_then between after → BatchCosts hashes new (xs ++ x ∷ []) walks asks asks_then before after
   batch_push held new xs x room ws walks asks mid asks_then before between after put most so_far one =
-      let within : IsWithin held new = λ f h. omega (arith, crowd-IsPermutation f new (x ∷ held) h put, sum_by-cons (λ y. cond (f y == h) 1 0) x held) in
+      let within : IsWithin held new = λ f h.
+      let e : crowd f new h ≡ crowd f (x ∷ held) h = crowd-IsPermutation f new (x ∷ held) h put in
+      let m : crowd f (x ∷ held) h ≡ cond (f x == h) 1 0 + crowd f held h = sum_by-cons (λ y. cond (f y == h) 1 0) x held in
+      omega (arith, e, m) in
       let long = length_permutation _ _ put in
       step held new xs x room ws walks asks mid asks_then before between after within (omega (arith, long)) most so_far one
 

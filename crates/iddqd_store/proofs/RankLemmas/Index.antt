@@ -145,7 +145,7 @@ module _ {T : Type 0} where
       (distinct_pairs hash (first + 1) rest)
 
   pub own_slots : {hash : T → ℕ} {slots : List (Option T)} {pairs : List (ℕ × ℕ)} → IsIndex hash slots pairs → HaveOwnSlots pairs
-  own_slots {hash = hash} {slots = slots} index = IsDistinct-IsPermutation (λ p q. p.1 == q.1) same_slot_symm _ _ (IsPermutation-sym _ _ index.paired) (distinct_pairs hash 0 slots)
+  own_slots {hash = hash} {slots = slots} index = IsDistinct-IsPermutation (λ (p q : ℕ × ℕ). p.1 == q.1) same_slot_symm _ _ (IsPermutation-sym _ _ index.paired) (distinct_pairs hash 0 slots)
 
   -- a pair and its slot leave together
   pub IsIndex-remove : {hash : T → ℕ} {old new : List (Option T)} {pairs fewer : List (ℕ × ℕ)} {at h : ℕ} (x : T) → IsIndex hash old pairs → h ≡ hash x → IsPermutation (members old) ((at, x) ∷ members new) → IsPermutation pairs ((h, at) ∷ fewer) → IsIndex hash new fewer

@@ -16,7 +16,7 @@ StillToAsk row hash MayAsk s = (k : ℕ) → s ≤ k → k < length row → (slo
 other_slot : (row : List (Option (ℕ × ℕ))) (home s k : ℕ) (x y : ℕ × ℕ) → HaveOwnSlots (contents row) → home < length row → s < k → k < length row → cell row (place (length row) home s) ≡ Some x → cell row (place (length row) home k) ≡ Some y → y.1 ≢ x.1
 other_slot row home s k x y own l later below here there e =
     let n = length row in
-    let same : place n home s ≡ place n home k = same_slot (λ p q. p.1 == q.1) row _ _ x y own same_slot_symm here there (eq-eqb x.1 y.1 (sym e)) in
+    let same : place n home s ≡ place n home k = same_slot (λ (p q : ℕ × ℕ). p.1 == q.1) row _ _ x y own same_slot_symm here there (eq-eqb x.1 y.1 (sym e)) in
     let back : gap n home (place n home s) ≡ gap n home (place n home k) = ap (gap n home) same in
     let first : gap n home (place n home s) ≡ s = gap_place n home s l (omega arith) in
     let second : gap n home (place n home k) ≡ k = gap_place n home k l below in

@@ -82,6 +82,16 @@ pub record UniqueCosts {T : Type 0} (hash_of : T → ℕ) (bag : List T) (room h
   pub search : SearchCosts hash_of bag room hash answer asks between before after
   pub rest : asks_then ≤ between + others
 
+-- The searches for the partners of these items, one after another (`UniqueCosts`), compare no more keys than items of the
+-- bag have the hash of each, and beside them so many `others` for each, and probe at most one cell more than it has items
+-- for each.
+-- Example: In a bag of 3 items with a hash of its own for each, at two ranks, they compare at most 4 keys for 2 items, and
+-- probe at most 8 cells.
+pub record ComparingCosts {T : Type 0} (hash_of : T → ℕ) (items bag : List T) (others : ℕ)
+    (asks asks_then before after : ℕ) : Type 0 where
+  pub asked : asks_then ≤ asks + sum_by (λ x. crowd hash_of bag (hash_of x) + others) items
+  pub at_most : after ≤ before + length items * (length bag + 1)
+
 -- The searches were made by these hashes. No public clause cites it.
 abbrev pub HaveHashes : List ℕ → List SlotUnder → Type 0
 HaveHashes hs found = AllZip (λ h at. at.hash ≡ h) hs found

@@ -1,4 +1,4 @@
-use Rattle.std.proofs.Common.{subst, arith, ℕ, ◌≡◌, ◌+◌, ◌-◌, ◌%◌, ◌<◌, ◌≤◌, length, sym, ap, ◌∙◌, refl, false, Some, None}
+use Rattle.std.proofs.Common.{subst, arith, rules, ℕ, ◌≡◌, ◌+◌, ◌-◌, ◌%◌, ◌<◌, ◌≤◌, length, sym, ap, ◌∙◌, refl, false, Some, None}
 use Rattle.std.specs.Prelude.{◌≢◌, nat_lt, if◌then◌else◌}
 use Rattle.std.specs.List.{Contains, count_by}
 use Rattle.iddqd_store.specs.Table.{Table}
@@ -6,6 +6,7 @@ use Rattle.iddqd_store.specs.Slots.{contents}
 use Rattle.iddqd_store.specs.Table.Ring.{cell, stretch}
 use Rattle.iddqd_store.specs.Table.Search.{CostsUnder, IsVacantUnder}
 use Rattle.iddqd_store.specs.Table.{HaveOwnSlots, hashes, table_of, under}
+use Rattle.iddqd_store.proofs.SlotLemmas.Contents.{content_at}
 use Rattle.iddqd_store.proofs.TableLemmas.Once.{still_to_ask}
 use Rattle.iddqd_store.proofs.TableLemmas.Stretch.{place, place_below}
 use Rattle.iddqd_store.proofs.TableLemmas.StretchBound.{stretch_le_pairs}
@@ -15,7 +16,16 @@ use Rattle.iddqd_store.proofs.index_table.IndexTable.find_cell.Goals as goal
 use Rattle.iddqd_store.proofs.index_table.IndexTable.find_cell.Goals.{else-stored-hash-via-then-stored-hash+else-matches, else-stored-hash-via-else-stored-hash}
 
 pub loop-pair-init : goal.loop-pair-init
-loop-pair-init g c = ?init
+loop-pair-init g c =
+    let row = c.self.inside.cells in
+    record {
+      probed = search rules;
+      walk = search rules;
+      refused = search rules;
+      count = search rules;
+      kept = g.met.M.Matcher.kept_refl _;
+      to_ask = λ k far below slot there. c.requires.asks slot (subst (λ (r : Table). Contains r.pairs (c.args.hash, slot)) c.self.view_is (content_at row _ (c.args.hash, slot) there));
+    }
 
 pub loop-pair-preserved : goal.loop-pair-preserved
 loop-pair-preserved g c =
