@@ -24,7 +24,7 @@ loop-pair-init g c =
       refused = search rules;
       count = search rules;
       kept = g.met.M.Matcher.kept_refl _;
-      to_ask = λ k far below slot there. c.requires.asks slot (subst (λ (r : Table). Contains r.pairs (c.args.hash, slot)) c.self.view_is (content_at row _ (c.args.hash, slot) there));
+      to_ask = λ k far below slot there. c.requires.asks slot (subst (λ (r : Table). Contains r.pairs (c.args.hash, slot)) c.self.view_is (content_at row (place (length row) (c.args.hash % length row) k) (c.args.hash, slot) there));
     }
 
 pub loop-pair-preserved : goal.loop-pair-preserved
