@@ -1,5 +1,5 @@
 use Rattle.std.proofs.Common.{◌≡◌, ◌++◌, ◌∙◌, List, arith, rules, subst, sym}
-use Rattle.std.specs.Prelude.{◌<◌, ◌∷◌, Bool, length, IsPermutation}
+use Rattle.std.specs.Prelude.{◌<◌, Bool, length, IsPermutation}
 use Rattle.std.specs.List.{list_any}
 use Rattle.iddqd_store.specs.Bag.{Ranks, AreLawful, IsSound}
 use Rattle.iddqd_store.specs.Slots.{contents}
@@ -11,13 +11,16 @@ use Rattle.iddqd_store.proofs.BagLemmas.Building.{AddsTo-nil, AddsTo-push, AddsT
 use Rattle.iddqd_store.proofs.MapLemmas.Entered.{taken_sound, left_same, left_sound, taken_key}
 use Rattle.iddqd_store.proofs.RankLemmas.Batches.{batch_ends, batch_none, batch_push}
 use Rattle.iddqd_store.proofs.SlotLemmas.Entered.{StandAt-nil}
-use Rattle.iddqd_bi.specs.Keys.{has1, has2}
+use Rattle.iddqd_bi.specs.Keys.{has1, has2, ranks}
 use Rattle.iddqd_bi.proofs.MapLemmas.{AreLawful-ranks}
 use Rattle.iddqd_bi.proofs.map.BiHashMap.extend_unique_by.Given as given
 use Rattle.iddqd_bi.proofs.map.BiHashMap.extend_unique_by.Goals as goal
 
 abbrev by : (g : given.Over) → Ranks g.row.T.Denot
 by g = g.T.Ranked.ranks
+
+abbrev listed : (g : given.Over) → Ranks g.row.T.Denot
+listed g = ranks g.T.BiHashItem g.T.K1.PartialEq.eq g.T.K2.PartialEq.eq
 
 some : (g : given.Over) → 0 < length (by g)
 some g = rw g.met.T.Ranked.ranks_are (omega arith)
@@ -55,7 +58,7 @@ loop-item-preserved g c =
           (omega (arith, before.0, nearer, same, length_permutation _ _ put.gains.items), same ∙ before.1);
       builder = put.grows.same_builder ∙ so_far.builder;
       costs = rw g.met.T.Ranked.ranks_are
-          (batch_push _ (bag c.loop-item.self) (bag c.enter.new.self) c.loop-item.yielded item _ _ _ _ _ _ _ _ _ put.gains.items (omega arith, (omega arith, tt)) (rw g.met.T.Ranked.ranks_are at so_far.costs) (rw so_far.builder at put.costs));
+          (batch_push _ (bag c.loop-item.self) (bag c.enter.new.self) c.loop-item.yielded item _ _ _ (listed g) _ _ _ _ _ _ put.gains.items (omega arith) (rw g.met.T.Ranked.ranks_are at so_far.costs) (rw so_far.builder at put.costs));
     }
 
 -- the items that were removed again are those that came
@@ -110,4 +113,4 @@ returns-in-Err-clause-costs_at_err g c =
     let whole = IsPermutation-trans _ _ _ (out g c) (IsPermutation-append_right (taken g c) _ _ same) in
     let so_far = subst (λ l. BatchCosts _ (held g c) l _ _ _ _ _) (sym (all g c)) (rw g.met.T.Ranked.ranks_are at c.loop-item.invariant.costs) in
     rw g.met.T.Ranked.ranks_are
-    (batch_ends _ (held g c) (taken g c ++ old g c) (taken g c) c.in-Some.item _ _ _ _ _ _ _ _ _ whole (omega arith, (omega arith, tt)) so_far (rw c.loop-item.invariant.builder at c.in-Err.ensures.costs))
+    (batch_ends _ (held g c) (taken g c ++ old g c) (taken g c) c.in-Some.item _ _ _ (listed g) _ _ _ _ _ _ whole (omega arith) so_far (rw c.loop-item.invariant.builder at c.in-Err.ensures.costs))

@@ -8,7 +8,7 @@ use Rattle.iddqd_store.specs.Table.Search.{CostsUnder, IsVacantUnder}
 use Rattle.iddqd_store.specs.Table.{HaveOwnSlots, hashes, table_of, under}
 use Rattle.iddqd_store.proofs.SlotLemmas.Contents.{content_at}
 use Rattle.iddqd_store.proofs.TableLemmas.Once.{still_to_ask}
-use Rattle.iddqd_store.proofs.TableLemmas.Stretch.{place, place_below}
+use Rattle.iddqd_store.proofs.TableLemmas.Stretch.{place}
 use Rattle.iddqd_store.proofs.TableLemmas.StretchBound.{stretch_le_pairs}
 use Rattle.iddqd_store.proofs.TableLemmas.Spot.{walk_free}
 use Rattle.iddqd_store.proofs.TableLemmas.Search.{Walk, met, walk_more, walk_end, walk_meets, refused_more, met_under, met_grows, met_within, found_there, walk_found}

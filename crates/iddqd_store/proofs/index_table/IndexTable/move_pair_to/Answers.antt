@@ -1,4 +1,4 @@
-use Rattle.std.proofs.Common.{arith, suc, ◌≡◌, ◌+◌, ◌∷◌, length}
+use Rattle.std.proofs.Common.{arith, suc, ◌≡◌, ◌+◌, length}
 use Rattle.std.proofs.lemmas.List.Sorted.{Contains-permutation, IsPermutation-map, length_permutation}
 use Rattle.iddqd_store.specs.Table.Ring.{stretch}
 use Rattle.iddqd_store.specs.Table.{hashes}
