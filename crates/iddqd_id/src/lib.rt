@@ -1,0 +1,33 @@
+//! `IdHashMap`, a hash map of items with one key, with its guards, entries, iterations, errors and commands.
+//!
+//! A script makes most of the three-key text from the two-key text: change the latter, and then run
+//! `tests/twins --write` with the changed files.
+//!
+//! Made by tests/twins from crates/iddqd_bi/src/lib.rt: change that file.
+#![tactic(auto)]
+
+mod debug;
+mod entry;
+mod error;
+mod item;
+mod iter_mut;
+mod map;
+mod pointers;
+mod ranks;
+mod ref_mut;
+
+pub use entry::{Entry, OccupiedEntry, OccupiedEntryMut, OccupiedEntryRef, VacantEntry};
+pub use error::{
+    EntryError, EntryRefusal, ExtendUniqueError, FromIterError, InsertError, KeyMismatch,
+    NotReplaced, Rejected, TryEntryError, TryEntryRefusal,
+};
+pub use item::{Hashed, IdHashItem, IdHashItemMut, Ranked};
+pub use iter_mut::IterMut;
+pub use map::{ClonesHashes, ClonesKeys, DefaultHashBuilder, IdHashMap};
+pub use ref_mut::RefMut;
+
+// Types of `iddqd_store` that the signatures of this crate name.
+pub use iddqd_store::{
+    Cursor, DuplicateItem, Equivalent, InsertReason, IntoIter, Iter, KeyMatcher, MemoryRefused,
+    Meter, Query, ShortIntoIter, ShortIter, TryReserveError, UpToTwo,
+};

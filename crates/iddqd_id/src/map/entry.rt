@@ -1,0 +1,54 @@
+//! Looking up one key at once.
+//!
+//! Made by tests/twins from crates/iddqd_bi/src/map/entry.rt: change that file.
+ghost use Rattle.std.specs.Prelude.{◌≡◌};
+ghost use Rattle.iddqd_store.specs.Bag.{entry};
+ghost use Rattle.iddqd_store.specs.Map.{bag};
+ghost use Rattle.iddqd_id.specs.Keys.{key_tests};
+ghost use Rattle.iddqd_id.specs.Entries.{HasKeys, IsFound, entry_lender, entry_map, entry_value};
+
+use super::IdHashMap;
+use crate::entry::{Entry, OccupiedEntry, VacantEntry};
+use crate::item::IdHashItem;
+use iddqd_store::{Meter, Query};
+use std::hash::{BuildHasher, Hash};
+
+impl<T: IdHashItem, S: BuildHasher> IdHashMap<T, S> {
+    /// Looks up one key at once, each by a query. The result is `Vacant` if no item has one of the keys, otherwise
+    /// `Occupied`, with the items that have one. The entry keeps the queries and what they found, so that its calls
+    /// need not search again.
+    ///
+    /// The call hashes each key once, and searches for it once. It allocates no memory.
+    ///
+    /// ```text
+    /// match map.entry(&key) {
+    ///     Entry::Vacant(entry) => {
+    ///         entry.insert(item)?;
+    ///     }
+    ///     Entry::Occupied(entry) => println!(rt; "taken: {:?}", entry.get())?,
+    /// }
+    /// ```
+    pub fn entry<Q: Query<T::Key>>(&mut self, query: Q) -> Entry<'_, T, S, Q>
+        // The entry borrows this very map, unchanged, and has these queries.
+        ensures same_map { entry_lender result ≡ self.entry.ghost_name }
+        ensures unchanged { entry_map result ≡ self.old }
+        ensures keys { HasKeys result query }
+        // It has found the items that have the keys that the queries stand for.
+        ensures value { entry_value result
+            ≡ entry (key_tests T.IdHashItem Q.stands_for query) (bag self.old) }
+        ensures is_found { IsFound result }
+    {
+        match self.search_all(query, &mut Meter::new(), &mut Meter::new()) {
+            Ok(at) => Entry::Vacant(VacantEntry {
+                map: self,
+                query,
+                at,
+            }),
+            Err(by) => Entry::Occupied(OccupiedEntry {
+                map: self,
+                query,
+                slot: by.slot(),
+            }),
+        }
+    }
+}

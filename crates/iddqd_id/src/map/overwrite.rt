@@ -1,0 +1,72 @@
+//! Inserting an item in place of those that conflict with it.
+//!
+//! Made by tests/twins from crates/iddqd_bi/src/map/overwrite.rt: change that file.
+ghost use Rattle.std.specs.Prelude.{◌≡◌, ◌<◌, ◌+◌, length, map, IsOk, IfOk, IfErr, OnOk, OnErr};
+ghost use Rattle.iddqd_store.specs.Bag.{order};
+ghost use Rattle.iddqd_store.specs.Map.{bag, IsFullFor, Overwrites};
+ghost use Rattle.iddqd_store.specs.Rank.All.{PlacingCosts, hashes_of};
+
+use super::IdHashMap;
+use super::slots::Refusal;
+use crate::item::{Hashed, Ranked};
+use iddqd_store::{MemoryRefused, Meter, UpToTwo};
+use std::hash::{BuildHasher, Hash};
+
+impl<T: Ranked, S: BuildHasher> IdHashMap<T, S> {
+    /// Inserts an item, removes those that conflict with it, and returns these, in the order of the keys and each once.
+    ///
+    /// The call hashes each key of the item once, and searches for it once. It also hashes each key of a removed item
+    /// by which it did not find that item. If items conflict, it allocates no memory and the capacity stays. Otherwise
+    /// it fails only if the map is full and there is no memory to grow. The error then has the item, and the map is as
+    /// it was.
+    #[inline(always)]
+    pub fn insert_overwrite(&mut self, item: T) -> Result<UpToTwo<T>, MemoryRefused<T>>
+        // The conflicting items are returned, in the order of the item's keys, and the item is in their place.
+        ensures displaced { IfOk result (λ gone. gone ≡ order T.ranks (bag self.old) item) }
+        ensures overwrites { OnOk result (Overwrites T.ranks self.old item self.new) }
+        // With spare capacity the call never fails.
+        ensures granted { length (bag self.old) < self.old.capacity → IsOk result }
+        // The error has the item, and the map is as it was. This happens only in a full map, without a conflict.
+        ensures handed_back { IfErr result (λ e. e.value ≡ item) }
+        ensures unchanged { OnErr result (self.new ≡ self.old) }
+        ensures reason { OnErr result (IsFullFor T.ranks self.old item) }
+    {
+        self.insert_overwrite_by(item, &mut Meter::new(), &mut Meter::new())
+    }
+
+    /// Inserts as `insert_overwrite` does, which calls it. One meter counts the keys that are compared, and the other
+    /// the probed cells, but for those that growing probes. Beside the searches, the number of its walks through each
+    /// table is at most one more than the number of items that it displaces.
+    #[inline(always)]
+    fn insert_overwrite_by(
+        &mut self,
+        item: T,
+        asked: &mut Meter,
+        probed: &mut Meter,
+    ) -> Result<UpToTwo<T>, MemoryRefused<T>>
+        // The conflicting items are returned, in the order of the item's keys, and the item is in their place.
+        ensures displaced { IfOk result (λ gone. gone ≡ order T.ranks (bag self.old) item) }
+        ensures overwrites { OnOk result (Overwrites T.ranks self.old item self.new) }
+        // With spare capacity the call never fails.
+        ensures granted { length (bag self.old) < self.old.capacity → IsOk result }
+        // The error has the item, and the map is as it was. This happens only in a full map, without a conflict.
+        ensures handed_back { IfErr result (λ e. e.value ≡ item) }
+        ensures unchanged { OnErr result (self.new ≡ self.old) }
+        ensures reason { OnErr result (IsFullFor T.ranks self.old item) }
+        ensures costs { PlacingCosts (⟦<T as Hashed<S>>⟧.hashes self.old.builder) (bag self.old) self.old.capacity
+            (hashes_of (⟦<T as Hashed<S>>⟧.hashes self.old.builder) item)
+            (map (λ _. length (order T.ranks (bag self.old) item) + 1) T.ranks)
+            asked.old asked.new probed.old probed.new }
+    {
+        // Of the calls below, `put_over` and the growth of a full map are not inlined. The rest is inlined, so a
+        // caller's loop branches on the outcome where it arises, and writes no list of removed items if there are none.
+        match self.insert_or_refuse(item, asked, probed) {
+            Ok(()) => Ok(UpToTwo::new()),
+            Err(Refusal::Duplicate(item, by)) => {
+                let (displaced, _) = self.put_over(item, &by, probed);
+                Ok(displaced)
+            }
+            Err(Refusal::Memory(value)) => Err(MemoryRefused { value }),
+        }
+    }
+}
