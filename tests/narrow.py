@@ -128,7 +128,9 @@ def narrowed(words):
 
 
 def without_functions(text):
-    """Returns code without the functions that are nothing, and without the impls that have no others."""
+    """Returns code without the functions and types that are nothing, and without the impls that are of these or have no other functions."""
+    block = r"(?ms)^(?:///[^\n]*\n|#\[[^\n]*\n)*((?:pub )?(?:struct|enum|impl)\b[^{;]*)\{.*?^\}\n\n?"
+    text = re.sub(block, lambda it: "" if any(map(NOTHING.match, re.findall(r"\w+", it[1]))) else it[0], text)
     lines = text.split("\n")
     for it in reversed([it for it in sources.functions(text) if NOTHING.match(it.name)]):
         del lines[it.first - len(it.comment):it.end + (lines[it.end:it.end + 1] == [""])]
@@ -145,7 +147,7 @@ def without_definitions(text):
 
 def imported(text):
     """Returns the text without the modules that are nothing, and without what is nothing where it imports it from its own crate."""
-    own = r"(?m)^((?:ghost |pub )*use (?:crate|super|self|Rattle\.iddqd_bi)\b([^{;\n]*))(?:\{([^}]*)\})?(;?\n)"
+    own = r"(?m)^((?:ghost |pub )*use (?!std|iddqd_store|Rattle\.(?!iddqd_bi))\w+\b([^{;\n]*))(?:\{([^}]*)\})?(;?\n)"
 
     def kept(found):
         names = re.split(r",\s*", found[3].strip(", \n")) if found[3] else []

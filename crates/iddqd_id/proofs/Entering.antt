@@ -13,7 +13,7 @@ use Rattle.iddqd_store.specs.Bag as bags
 use Rattle.iddqd_store.specs.Bag.Storing.{Stores}
 use Rattle.iddqd_store.specs.Map.{Map, bag}
 use Rattle.iddqd_id.specs.Keys.{key_tests}
-use Rattle.iddqd_id.specs.Entries.{HasFound, HoldsFound, IsFound, KeepsFound, OnVacant, OnOccupied, PutsIn, entry_key, entry_map, held_entry, entry_tests}
+use Rattle.iddqd_id.specs.Entries.{HasFound, HoldsFound, IsFound, KeepsFound, OnVacant, OnOccupied, PutsIn, entry_key, entry_map, entry_tests}
 use Rattle.iddqd_id.specs.declared.item.IdHashItem as item
 use Rattle.iddqd_store.specs.declared.query.Query as query
 use Rattle.iddqd_id.specs.declared.entry.Entry.{Entry}
@@ -30,7 +30,7 @@ use Rattle.iddqd_store.proofs.CallerLemmas.Entering.{Entered, occupied_as, one_n
 
 module _ {T S Q Key H : Type 0} (of : item.Ghosts T Key) (stands : Q → Key → Bool) where
   -- the same where `into_mut` holds what an occupied entry found
-  pub writes_occupied : (by : Ranks T) (write : T → T) (o : OccupiedEntry T S Q Key H) (m : OccupiedEntryMut T S Key H) (x : T) (k : Q) (old : Map T S) (new : List T) (found : Option T) →
+  pub writes_occupied : (by : Ranks T) (write : T → T) (o : OccupiedEntry T S Q Key H) (m : RefMut T S Key H of eq input build hashes) (x : T) (k : Q) (old : Map T S) (new : List T) (found : Option T) →
       HasFound (key_tests of stands) o → HoldsFound of stands o m → m.map.now ≡ o.map.now → o.query ≡ k → o.map.now ≡ old →
       found ≡ held_unique m → is_some found ≡ true → IfSome found (λ y. IsPermutation new (swap by (bag m.map.now) y (write y))) →
       InsertsOrWrites by write (bag old) x (bags.entry (key_tests of stands k) (bag old)) new
@@ -48,24 +48,24 @@ module _ {T S Q Key H : Type 0} {of : item.Ghosts T Key} {eq : equal.Ghosts Key}
   stores_named step put by f (Occupied o) r k m stays stored is is = rw (← is, ← is) stored
 
   -- what `or_insert` leaves if it succeeds
-  pub entered : (e : Entry T S Q Key H of eq input build hashes q w e) (m : OccupiedEntryMut T S Key H) (x : T) (k : Q) (old : Map T S) →
+  pub entered : (e : Entry T S Q Key H of eq input build hashes q w e) (m : RefMut T S Key H of eq input build hashes) (x : T) (k : Q) (old : Map T S) →
       OnVacant e (λ v. PutsIn v x (Ok m)) → OnOccupied e (λ o. KeepsFound of q.stands_for o {E = EntryRefusal T S Key H} (Ok m)) → IsFound e →
       entry_key e ≡ k → entry_map e ≡ old →
       Entered (bag old) x (bags.entry (key_tests of q.stands_for k) (bag old)) (bag m.map.now) (held_entry m)
   entered (Vacant v) m x k old put kept found is is =
-      rw (← is, ← is, v.absent) (put.gains_and_holds.gains.items, put.gains_and_holds.unique)
+      rw (← is, ← is, v.absent) (put.gains_and_lends.gains.items, put.gains_and_lends.unique)
   entered (Occupied o) m x k old put kept found is is =
       rw (← is, ← is) (occupied_as (bag o.map.now) x (listing (entry_tests (key_tests of q.stands_for) o) (bag o.map.now)) _ (bag m.map.now) (held_entry m) found.some (ap (λ (n : Map T S). bag n) kept.unchanged) (kept.holds found).value)
 
   -- an item that `or_insert` inserted is in the map if its keys found nothing
-  pub went_in : (e : Entry T S Q Key H of eq input build hashes q w e) (m : OccupiedEntryMut T S Key H) (x : T) (k : Q) (old : Map T S) →
+  pub went_in : (e : Entry T S Q Key H of eq input build hashes q w e) (m : RefMut T S Key H of eq input build hashes) (x : T) (k : Q) (old : Map T S) →
       OnVacant e (λ v. PutsIn v x (Ok m)) → IsFound e → entry_key e ≡ k → entry_map e ≡ old →
       listing (key_tests of q.stands_for k) (bag old) ≡ [] → IsPermutation (bag m.map.now) (x ∷ bag old)
-  went_in (Vacant v) m x k old put found is is none = rw (← is) put.gains_and_holds.gains.items
+  went_in (Vacant v) m x k old put found is is none = rw (← is) put.gains_and_lends.gains.items
   went_in (Occupied o) m x k old put found is is none = absurd (found.some (rw (is, is) none))
 
   -- if its keys found something, the map is as it was
-  pub stayed : (e : Entry T S Q Key H of eq input build hashes q w e) (m : OccupiedEntryMut T S Key H) (k : Q) (old : Map T S) →
+  pub stayed : (e : Entry T S Q Key H of eq input build hashes q w e) (m : RefMut T S Key H of eq input build hashes) (k : Q) (old : Map T S) →
       OnOccupied e (λ o. KeepsFound of q.stands_for o {E = EntryRefusal T S Key H} (Ok m)) → entry_key e ≡ k → entry_map e ≡ old →
       listing (key_tests of q.stands_for k) (bag old) ≢ [] → m.map.now ≡ old
   stayed (Vacant v) m k old kept is is some = absurd (some (rw (← is, ← is) v.absent))

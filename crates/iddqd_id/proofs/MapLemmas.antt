@@ -31,3 +31,11 @@ module _ {T Key Q : Type 0} (of : item.Ghosts T Key) (eq : Key → Key → Bool)
   -- queries are tests
   pub AreKeyTests-queries : (k : Q) → AreKeyTests (ranks of eq) (key_tests of stands k)
   AreKeyTests-queries k = (IsKeyTest-query eq of.key stands respects k, tt)
+
+  -- an item with the key conflicts with what they find
+  module _ (x : T) (k : Q) (same : stands k (of.key x) ≡ true) (bag : List T) where
+    pub order-key : order (ranks of eq) bag x ≡ listing (key_tests of stands k) bag
+    order-key = order-keys (ranks of eq) (key_tests of stands k) x (AreKeyTests-queries k) (same, tt) bag
+
+    pub clash-key : listing (key_tests of stands k) bag ≡ [] → clash (ranks of eq) bag x ≡ []
+    clash-key none = clash-keys (ranks of eq) (key_tests of stands k) x (AreKeyTests-queries k) (same, tt) bag none

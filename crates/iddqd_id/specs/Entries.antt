@@ -1,26 +1,19 @@
--- Made by tests/twins from crates/iddqd_bi/specs/Entries.antt: change that file.
-
 -- What contracts say of entries.
-use Rattle.std.specs.Prelude.{◌≡◌, ◌≢◌, ◌<◌, ℕ, length, Bool, [], ◌∷◌, List, Option, Some, None, ⊤}
+use Rattle.std.specs.Prelude.{◌≡◌, ◌<◌, length, Bool, true, List, Option, Some, None, ⊤}
 use Rattle.std.specs.Prelude.{IsPermutation, Result, Ok, Err, IsOk, IfOk, IfErr, OnOk}
-use Rattle.std.specs.Option.{option_and_then, IfSome}
-use Rattle.std.specs.Borrow.{Fml, GName, RattleType, MutBor, LendsIf, RestsIfErr, follows}
+use Rattle.std.specs.Borrow.{Fml, GName, Lends, RattleType, MutBor, RestsIfErr}
 use Rattle.std.specs.HashMap.Lent.{HashMembers}
 use Rattle.std.specs.declared.cmp.PartialEq as equal
 use Rattle.std.specs.declared.hash.Hash as hash
 use Rattle.std.specs.declared.hash.Hasher as hasher
 use Rattle.std.specs.declared.hash.BuildHasher as builder
 use mir.Syntax.{named}
-use Rattle.iddqd_store.specs.Bag.{IsOnly, Ranks, differ, entry, listing, over, unique, vacant}
-use Rattle.iddqd_store.specs.Bag as bags
+use Rattle.iddqd_store.specs.Bag.{IsOnly, Ranks, differ, over}
 use Rattle.iddqd_store.specs.Map.{Map, bag, Gains}
-use Rattle.iddqd_store.specs.Map.Written.{map_with_if}
-use Rattle.iddqd_store.specs.Slots.{get, IsLive}
-use Rattle.iddqd_store.specs.Slots.Found.{AreFound, entry_at, found_by_all, held_at}
 use Rattle.iddqd_id.specs.Keys.{has, key_tests, ranks}
 use Rattle.iddqd_id.specs.Mismatch.{HandsBack, IsInsert}
 use Rattle.iddqd_id.specs.Refused.{map_row}
-use Rattle.iddqd_id.specs.RefMuts.{ref_item, ref_lender, ref_map}
+use Rattle.iddqd_id.specs.RefMuts.{ref_item, ref_lender, ref_map, ref_with}
 use Rattle.iddqd_id.specs.declared.item.IdHashItem as item
 use Rattle.iddqd_store.specs.declared.query.Query as query
 use Rattle.iddqd_id.specs.declared.entry.Entry.{Entry}
@@ -31,8 +24,8 @@ use Rattle.iddqd_id.specs.declared.error.EntryRefusal.{EntryRefusal}
 use Rattle.iddqd_id.specs.declared.error.TryEntryError.TheVariants.{Closure}
 use Rattle.iddqd_id.specs.declared.error.TryEntryRefusal.{TryEntryRefusal}
 use Rattle.iddqd_id.specs.declared.ref_mut.RefMut.{RefMut}
-use Rattle.iddqd_id.specs.contracts.entry.OccupiedEntry.{the_row, as, occupied_row}
-use Rattle.iddqd_id.specs.contracts.entry.OccupiedEntryMut.{the_row, as, occupied_mut_row}
+use Rattle.iddqd_id.specs.contracts.entry.OccupiedEntry.{the_row as occupied_row}
+use Rattle.iddqd_id.specs.contracts.ref_mut.RefMut.{the_row as ref_row}
 
 module _ {T S : Type 0} where
   -- The second reference is to the same map as the first, and the map is as it was.
@@ -41,285 +34,189 @@ module _ {T S : Type 0} where
     pub same_map : after.ghost_name ≡ before.ghost_name
     pub unchanged : after.now ≡ before.now
 
-module _ {T S Q Key H : Type 0} where
-  -- `entry_tests` has for each rank the test whether an item has the key of the occupied entry.
-  -- Example: An item that has every key of the entry passes every test.
-  abbrev pub entry_tests : (Q → List (T → Bool)) → OccupiedEntry T S Q Key H → List (T → Bool)
-  entry_tests tests o = tests o.query
+-- The call failed because the closure failed, and returns the closure's error.
+-- Example: If the closure returned `Err e`, the error is `Closure e`.
+abbrev pub FailsAsClosure : {T S Key H E M : Type 0} → E → Result M (TryEntryRefusal T E S Key H) → Type 0
+FailsAsClosure error (Ok m) = ⊥
+FailsAsClosure error (Err refusal) = refusal.error ≡ Closure error
 
-  abbrev entry_slots : OccupiedEntry T S Q Key H → List (Option ℕ)
-  entry_slots o = o.slot ∷ []
-
-  -- The occupied entry has found what its keys name, which is at least one item. The call `entry` of a map ensures
-  -- it.
-  -- Example: If its keys name a and b, it has found a and b.
-  pub record HasFound (tests : Q → List (T → Bool)) (o : OccupiedEntry T S Q Key H) : Type 0 where
-    pub found : AreFound (entry_tests tests o) o.map.now.slots (entry_slots o)
-    pub value : entry_at o.map.now.slots (entry_slots o) ≡ entry (entry_tests tests o) (bag o.map.now)
-    pub listed : held_at o.map.now.slots (entry_slots o) ≡ listing (entry_tests tests o) (bag o.map.now)
-    pub some : listing (entry_tests tests o) (bag o.map.now) ≢ []
-
-  -- The occupied entries have the same keys, and the same slots of the map.
-  pub record FindsSame (o p : OccupiedEntry T S Q Key H) : Type 0 where
-    pub query : p.query ≡ o.query
-    pub same : p.slot ≡ o.slot
-
-  -- The item is in the same map in the place of those that conflict with it, and the entry, with the same keys, finds
-  -- it alone. Nothing else changes.
-  -- Example: In a map of a, b, c, where `item` conflicts with a and b, the map becomes `item`, c, and the entry has
-  -- found `unique item`.
-  pub record PutsOver (ranks : Ranks T) (tests : Q → List (T → Bool))
-      (before : OccupiedEntry T S Q Key H) (item : T) (after : OccupiedEntry T S Q Key H) : Type 0 where
-    pub same_map : after.map.ghost_name ≡ before.map.ghost_name
-    pub items : IsPermutation (bag after.map.now) (over ranks (bag before.map.now) item)
-    pub has_found : HasFound tests after
-    pub unique : entry (entry_tests tests after) (bag after.map.now) ≡ unique item
-    pub keys : (after.query ≡ before.query)
-    pub capacity : after.map.now.capacity ≡ before.map.now.capacity
-    pub builder : after.map.now.builder ≡ before.map.now.builder
-
-module _ {T S Key H : Type 0} where
-  -- The items that are held for writing are in the map. The call `into_mut` of an occupied entry ensures it.
-  -- Example: If a and b are held, the map has a and b.
-  pub record Holds (m : OccupiedEntryMut T S Key H) : Type 0 where
-    pub live : IfSome m.slot (IsLive m.map.now.slots)
-
-  -- The items of the same slots are held.
-  pub record HoldsSame (m n : OccupiedEntryMut T S Key H) : Type 0 where
-    pub same : n.slot ≡ m.slot
-
-  -- The call failed because the closure failed, and returns the closure's error.
-  -- Example: If the closure returned `Err e`, the error is `Closure e`.
-  abbrev pub FailsAsClosure : {E M : Type 0} → E → Result M (TryEntryRefusal T E S Key H) → Type 0
-  FailsAsClosure error (Ok m) = ⊥
-  FailsAsClosure error (Err refusal) = refusal.error ≡ Closure error
-
-  abbrev held_slots : OccupiedEntryMut T S Key H → List (Option ℕ)
-  held_slots m = m.slot ∷ []
-
-  -- `held` lists the items that are held for writing, each once.
-  -- Example: If every key names a, it is a.
-  abbrev pub held : OccupiedEntryMut T S Key H → List T
-  held m = held_at m.map.now.slots (held_slots m)
-
-  -- `held_entry` is what is held for writing, as an `Entry`.
-  -- Example: If every key names a, it is `unique a`.
-  abbrev pub held_entry : OccupiedEntryMut T S Key H → bags.Entry T
-  held_entry m = entry_at m.map.now.slots (held_slots m)
-
-  -- `held` is the item that is held for the key, if there is one.
-  -- Example: If every key names a, it is `Some a`.
-  abbrev pub held : OccupiedEntryMut T S Key H → Option T
-  held m = option_and_then (get m.map.now.slots) m.slot
-
-  -- `held_with` is what is held, where `f` of the item of this slot, if there is one, has replaced it in the map.
-  -- Example: If that item is a, the map has `f a` in its place.
-  abbrev pub held_with : OccupiedEntryMut T S Key H → Option ℕ → (T → T) → OccupiedEntryMut T S Key H
-  held_with m slot f = record m { map = record m.map { now = map_with_if m.map.now slot f } }
-
-module _ {T S Q Key H : Type 0} where
-  module _ (of : item.Ghosts T Key) (stands : Q → Key → Bool)
-      (o : OccupiedEntry T S Q Key H) where
-    -- What is held for writing is what the entry found.
-    -- Example: If the entry has found a and b, then a and b are held.
-    pub record HoldsFound (m : OccupiedEntryMut T S Key H) : Type 0 where
-      pub holds : Holds m
-      pub listed : held m ≡ listing (entry_tests (key_tests of stands) o) (bag o.map.now)
-      pub value : held_entry m ≡ entry (entry_tests (key_tests of stands) o) (bag o.map.now)
-      pub by_key : IsOnly (has of stands o.query) (bag o.map.now) (held m)
-
-    -- The call succeeds and changes nothing, and if the entry has found what its keys name, then that is held for
-    -- writing.
-    -- Example: If the entry has found a and b, then a and b are held.
-    pub record KeepsFound {E : Type 0} (result : Result (OccupiedEntryMut T S Key H) E) : Type 0 where
-      pub granted : IsOk result
-      pub unchanged : IfOk result (λ m. m.map.now ≡ o.map.now)
-      pub holds : HasFound (key_tests of stands) o → IfOk result HoldsFound
-
-  -- `entry_with` is the entry, where `f` of the item of this slot, if there is one, has replaced it in the map.
-  -- Example: If that item is a, the map has `f a` in its place.
-  abbrev pub entry_with : OccupiedEntry T S Q Key H → Option ℕ → (T → T) → OccupiedEntry T S Q Key H
-  entry_with o slot f = record o { map = record o.map { now = map_with_if o.map.now slot f } }
-
-module _ {T S Key H : Type 0} {of : item.Ghosts T Key}
+module _ {T S Q Key H : Type 0} {of : item.Ghosts T Key}
     {eq : equal.Ghosts Key} {input : hash.Ghosts Key}
-    {build : builder.Ghosts S H} {hashes : hasher.Ghosts H} where
-  module _ {Q : Type 0} {q : query.Ghosts Q Key} {e : equal.Ghosts Q} {w : hash.Ghosts Q} where
-    -- `entry_lender` is the name of the entry's reference to the map.
-    abbrev pub entry_lender : Entry T S Q Key H of eq input build hashes q w e → GName
-    entry_lender (Vacant e) = e.map.ghost_name
-    entry_lender (Occupied e) = e.map.ghost_name
+    {build : builder.Ghosts S H} {hashes : hasher.Ghosts H}
+    {q : query.Ghosts Q Key} {e : equal.Ghosts Q} {w : hash.Ghosts Q} where
+  -- The occupied entry's item is the only one that has its key. The call `entry` of a map ensures it.
+  -- Example: If its key names a, its guard is one of a.
+  abbrev pub HasFound : OccupiedEntry T S Q Key H of eq input build hashes q w e → Type 0
+  HasFound o = IsOnly (has of q.stands_for o.query) (bag (ref_map o.guard)) (ref_item o.guard)
 
-    -- `entry_map` is the map of the entry.
-    abbrev pub entry_map : Entry T S Q Key H of eq input build hashes q w e → Map T S
-    entry_map (Vacant e) = e.map.now
-    entry_map (Occupied e) = e.map.now
+  -- The item is in the same map in the place of the entry's, and the entry, with the same key, has found it. Nothing else
+  -- changes.
+  -- Example: In a map of a, b, where the entry has found a, the map becomes `item`, b, and the entry has found `item`.
+  pub record PutsOver (ranks : Ranks T)
+      (before : OccupiedEntry T S Q Key H of eq input build hashes q w e) (item : T)
+      (after : OccupiedEntry T S Q Key H of eq input build hashes q w e) : Type 0 where
+    pub same_map : ref_lender after.guard ≡ ref_lender before.guard
+    pub items : IsPermutation (bag (ref_map after.guard)) (over ranks (bag (ref_map before.guard)) item)
+    pub item : ref_item after.guard ≡ Some item
+    pub has_found : HasFound after
+    pub key : after.query ≡ before.query
+    pub capacity : (ref_map after.guard).capacity ≡ (ref_map before.guard).capacity
+    pub builder : (ref_map after.guard).builder ≡ (ref_map before.guard).builder
 
-    -- `entry_key` is the entry's query for the key.
-    abbrev pub entry_key : Entry T S Q Key H of eq input build hashes q w e → Q
-    entry_key (Vacant e) = e.query
-    entry_key (Occupied e) = e.query
+  -- The call succeeds and changes nothing, and the guard that it returns is that of the entry's item.
+  -- Example: If the entry has found a, the guard is one of a.
+  pub record KeepsFound (o : OccupiedEntry T S Q Key H of eq input build hashes q w e) {E : Type 0}
+      (result : Result (RefMut T S Key H of eq input build hashes) E) : Type 0 where
+    pub granted : IsOk result
+    pub unchanged : IfOk result (λ r. ref_map r ≡ ref_map o.guard)
+    pub item : IfOk result (λ r. ref_item r ≡ ref_item o.guard)
 
-    -- The entry has these queries for its keys.
-    pub record HasKeys (e : Entry T S Q Key H of eq input build hashes q w e)
-        (k : Q) : Type 0 where
-      pub key : entry_key e ≡ k
+  -- `entry_with` is the entry, where `f` of its item has replaced the item in the map.
+  -- Example: If that item is a, the map has `f a` in its place.
+  abbrev pub entry_with : OccupiedEntry T S Q Key H of eq input build hashes q w e → (T → T)
+      → OccupiedEntry T S Q Key H of eq input build hashes q w e
+  entry_with o f = record o { guard = ref_with o.guard f }
 
-    -- `entry_value` is what the entry has found.
-    -- Example: It is `vacant` for a vacant entry, and `unique a` for an occupied one all of whose keys name a.
-    abbrev pub entry_value : Entry T S Q Key H of eq input build hashes q w e → bags.Entry T
-    entry_value (Vacant e) = vacant
-    entry_value (Occupied e) = entry_at e.map.now.slots (entry_slots e)
+  -- `entry_lender` is the name of the entry's reference to the map.
+  abbrev pub entry_lender : Entry T S Q Key H of eq input build hashes q w e → GName
+  entry_lender (Vacant v) = v.map.ghost_name
+  entry_lender (Occupied o) = ref_lender o.guard
 
-    -- If the entry is vacant, then `P` holds for it.
-    -- Example: The word holds for any occupied entry.
-    abbrev pub OnVacant : Entry T S Q Key H of eq input build hashes q w e
-        → (VacantEntry T S Q Key H of eq input build hashes q w e → Type 0) → Type 0
-    OnVacant (Vacant e) P = P e
-    OnVacant (Occupied e) P = ⊤
+  -- `entry_map` is the map of the entry.
+  abbrev pub entry_map : Entry T S Q Key H of eq input build hashes q w e → Map T S
+  entry_map (Vacant v) = v.map.now
+  entry_map (Occupied o) = ref_map o.guard
 
-    -- If the entry is occupied, then `P` holds for it.
-    -- Example: The word holds for any vacant entry.
-    abbrev pub OnOccupied : Entry T S Q Key H of eq input build hashes q w e
-        → (OccupiedEntry T S Q Key H → Type 0) → Type 0
-    OnOccupied (Vacant e) P = ⊤
-    OnOccupied (Occupied e) P = P e
+  -- `entry_key` is the entry's query for the key.
+  abbrev pub entry_key : Entry T S Q Key H of eq input build hashes q w e → Q
+  entry_key (Vacant v) = v.query
+  entry_key (Occupied o) = o.query
 
-    module _ (e : VacantEntry T S Q Key H of eq input build hashes q w e) where
-      -- `wanted` has for each rank the test whether an item has the key of the vacant entry.
-      -- Example: No item of the map passes one of them.
-      abbrev pub wanted : List (T → Bool)
-      wanted = key_tests of q.stands_for e.query
+  -- `entry_item` is the item that the entry has found, if there is one.
+  -- Example: It is `None` for a vacant entry, and `Some a` for an occupied one whose key names a.
+  abbrev pub entry_item : Entry T S Q Key H of eq input build hashes q w e → Option T
+  entry_item (Vacant v) = None
+  entry_item (Occupied o) = ref_item o.guard
 
-      -- The item `x` was inserted into this very map (`Gains`), and the guard `r` borrows it.
-      -- Example: A map of a, b becomes `x`, a, b, and `ref_item r` is `Some x`.
-      pub record GainsAndLends (x : T)
-          (r : RefMut T S Key H of eq input build hashes) : Type 0 where
-        pub same_map : ref_lender r ≡ e.map.ghost_name
-        pub item : ref_item r ≡ Some x
-        pub gains : Gains e.map.now x (ref_map r)
+  -- If the entry is vacant, then `P` holds for it.
+  -- Example: The word holds for any occupied entry.
+  abbrev pub OnVacant : Entry T S Q Key H of eq input build hashes q w e
+      → (VacantEntry T S Q Key H of eq input build hashes q w e → Type 0) → Type 0
+  OnVacant (Vacant v) P = P v
+  OnVacant (Occupied o) P = ⊤
 
-      -- The item `x` was inserted into this very map (`Gains`), and is held for writing, by each of its keys.
-      -- Example: A map of a, b becomes `x`, a, b, and `held` is `x`.
-      pub record GainsAndHolds (x : T) (m : OccupiedEntryMut T S Key H) : Type 0 where
-        pub same_map : m.map.ghost_name ≡ e.map.ghost_name
-        pub gains : Gains e.map.now x m.map.now
-        pub holds : Holds m
-        pub held : held m ≡ x ∷ []
-        pub unique : held_entry m ≡ unique x
-        pub unique_held : held_unique m ≡ Some x
-        pub by_key : held m ≡ Some x
+  -- If the entry is occupied, then `P` holds for it.
+  -- Example: The word holds for any vacant entry.
+  abbrev pub OnOccupied : Entry T S Q Key H of eq input build hashes q w e
+      → (OccupiedEntry T S Q Key H of eq input build hashes q w e → Type 0) → Type 0
+  OnOccupied (Vacant v) P = ⊤
+  OnOccupied (Occupied o) P = P o
 
-      -- The item `x` was inserted into the map of the vacant entry and is held for writing (`GainsAndHolds`), or the
-      -- error returns it (`HandsBack`) and the map is as it was. The call succeeds if `x` has the keys of the entry and
-      -- the map is not full.
-      -- Example: If `x` has another key than the entry, the error is `Key x`.
-      pub record PutsIn (x : T)
-          (result : Result (OccupiedEntryMut T S Key H) (EntryRefusal T S Key H)) : Type 0 where
-        pub gains_and_holds : IfOk result (GainsAndHolds x)
-        pub same_keys : OnOk result (differ wanted x ≡ None)
-        pub granted : differ wanted x ≡ None → length (bag e.map.now) < e.map.now.capacity → IsOk result
-        pub unchanged : IfErr result (λ refusal. refusal.map.now ≡ e.map.now)
-        pub hands_back : IfErr result (λ refusal.
-            HandsBack (ranks of eq.eq) wanted e.map.now x refusal.error)
+  module _ (v : VacantEntry T S Q Key H of eq input build hashes q w e) where
+    -- `wanted` has the test whether an item has the key of the vacant entry.
+    -- Example: No item of the map passes it.
+    abbrev pub wanted : List (T → Bool)
+    wanted = key_tests of q.stands_for v.query
 
-      -- The item `x`, which a closure made, was inserted into the map of the vacant entry and is held for writing
-      -- (`GainsAndHolds`), or the error is that of the entry and returns it (`HandsBack`). The call succeeds if `x` has
-      -- the keys of the entry and the map is not full.
-      -- Example: If `x` has another key than the entry, the error is `Insert (Key x)`.
-      pub record PutsMadeIn {E : Type 0} (x : T)
-          (result : Result (OccupiedEntryMut T S Key H) (TryEntryRefusal T E S Key H)) : Type 0 where
-        pub gains_and_holds : IfOk result (GainsAndHolds x)
-        pub same_keys : OnOk result (differ wanted x ≡ None)
-        pub granted : differ wanted x ≡ None → length (bag e.map.now) < e.map.now.capacity → IsOk result
-        pub hands_back : IfErr result (λ refusal.
-            IsInsert refusal.error (HandsBack (ranks of eq.eq) wanted e.map.now x))
+    -- The item `x` was inserted into this very map (`Gains`), and the guard `r` borrows it.
+    -- Example: A map of a, b becomes `x`, a, b, and `ref_item r` is `Some x`.
+    pub record GainsAndLends (x : T) (r : RefMut T S Key H of eq input build hashes) : Type 0 where
+      pub same_map : ref_lender r ≡ v.map.ghost_name
+      pub item : ref_item r ≡ Some x
+      pub gains : Gains v.map.now x (ref_map r)
 
-      -- The item that the closure made is inserted (`PutsMadeIn`), or the closure's error is returned
-      -- (`FailsAsClosure`).
-      -- Example: If it returned `Ok x`, and `x` has the keys of the entry, then `x` is in the map unless that was full.
-      abbrev pub PutsInMade : {E : Type 0} → Result T E
-          → Result (OccupiedEntryMut T S Key H) (TryEntryRefusal T E S Key H) → Type 0
-      PutsInMade (Ok x) result = PutsMadeIn x result
-      PutsInMade (Err error) result = FailsAsClosure error result
+    -- The item `x` was inserted into this very map (`Gains`), and the occupied entry, with the key of the vacant one, has
+    -- found it.
+    -- Example: A map of a, b becomes `x`, a, b, and the guard of the entry is one of `x`.
+    pub record GainsAndFinds (x : T) (o : OccupiedEntry T S Q Key H of eq input build hashes q w e) : Type 0 where
+      pub same_map : ref_lender o.guard ≡ v.map.ghost_name
+      pub gains : Gains v.map.now x (ref_map o.guard)
+      pub key : o.query ≡ v.query
+      pub item : ref_item o.guard ≡ Some x
+      pub has_found : HasFound o
 
-    -- The entries are vacant, or they are occupied with the same keys and slots.
-    abbrev pub IsSameEntry : Entry T S Q Key H of eq input build hashes q w e
-        → Entry T S Q Key H of eq input build hashes q w e → Type 0
-    IsSameEntry (Vacant e) (Vacant f) = ⊤
-    IsSameEntry (Vacant e) (Occupied p) = ⊥
-    IsSameEntry (Occupied o) (Vacant f) = ⊥
-    IsSameEntry (Occupied o) (Occupied p) = FindsSame o p
+    -- The item `x` was inserted into the map of the vacant entry and is lent (`GainsAndLends`), or the error returns it
+    -- (`HandsBack`) and the map is as it was. The call succeeds if `x` has the key of the entry and the map is not full.
+    -- Example: If `x` has another key than the entry, the error is `Key x`.
+    pub record PutsIn (x : T)
+        (result : Result (RefMut T S Key H of eq input build hashes) (EntryRefusal T S Key H)) : Type 0 where
+      pub gains_and_lends : IfOk result (GainsAndLends x)
+      pub same_keys : OnOk result (differ wanted x ≡ None)
+      pub granted : differ wanted x ≡ None → length (bag v.map.now) < v.map.now.capacity → IsOk result
+      pub unchanged : IfErr result (λ refusal. refusal.map.now ≡ v.map.now)
+      pub hands_back : IfErr result (λ refusal. HandsBack (ranks of eq.eq) wanted v.map.now x refusal.error)
 
-    -- The entries have the same map, kind, keys and slots. The capacity and the builder stay.
-    -- Example: An entry that has found a still finds its slot once a is written.
-    pub record KeepsEntry
-        (before after : Entry T S Q Key H of eq input build hashes q w e) : Type 0 where
-      pub same_map : entry_lender after ≡ entry_lender before
-      pub capacity : (entry_map after).capacity ≡ (entry_map before).capacity
-      pub builder : (entry_map after).builder ≡ (entry_map before).builder
-      pub places : IsSameEntry before after
+    -- The item `x`, which a closure made, was inserted into the map of the vacant entry and is lent (`GainsAndLends`), or
+    -- the error is that of the entry and returns it (`HandsBack`). The call succeeds if `x` has the key of the entry and
+    -- the map is not full.
+    -- Example: If `x` has another key than the entry, the error is `Insert (Key x)`.
+    pub record PutsMadeIn {E : Type 0} (x : T)
+        (result : Result (RefMut T S Key H of eq input build hashes) (TryEntryRefusal T E S Key H)) : Type 0 where
+      pub gains_and_lends : IfOk result (GainsAndLends x)
+      pub same_keys : OnOk result (differ wanted x ≡ None)
+      pub granted : differ wanted x ≡ None → length (bag v.map.now) < v.map.now.capacity → IsOk result
+      pub hands_back : IfErr result (λ refusal.
+          IsInsert refusal.error (HandsBack (ranks of eq.eq) wanted v.map.now x))
 
-    -- If the entry is occupied, it has found what its keys name (`HasFound`).
-    -- Example: It holds for any vacant entry.
-    abbrev pub IsFound : Entry T S Q Key H of eq input build hashes q w e → Type 0
-    IsFound (Vacant e) = ⊤
-    IsFound (Occupied e) = HasFound (key_tests of q.stands_for) e
+    -- The item that the closure made is inserted (`PutsMadeIn`), or the closure's error is returned
+    -- (`FailsAsClosure`).
+    -- Example: If it returned `Ok x`, and `x` has the key of the entry, then `x` is in the map unless that was full.
+    abbrev pub PutsInMade : {E : Type 0} → Result T E
+        → Result (RefMut T S Key H of eq input build hashes) (TryEntryRefusal T E S Key H) → Type 0
+    PutsInMade (Ok x) result = PutsMadeIn x result
+    PutsInMade (Err error) result = FailsAsClosure error result
 
-    -- The item `x` was inserted into this very map (`Gains`), and the occupied entry, with the keys of the vacant one,
-    -- finds it alone.
-    -- Example: A map of a, b becomes `x`, a, b, and the entry has found `unique x`.
-    pub record GainsAndFinds
-        (e : VacantEntry T S Q Key H of eq input build hashes q w e)
-        (x : T) (o : OccupiedEntry T S Q Key H) : Type 0 where
-      pub same_map : o.map.ghost_name ≡ e.map.ghost_name
-      pub gains : Gains e.map.now x o.map.now
-      pub keys : (o.query ≡ e.query)
-      pub has_found : HasFound (key_tests of q.stands_for) o
-      pub unique : entry (wanted e) (bag o.map.now) ≡ unique x
+  -- The entries are vacant, or they are occupied with the same key.
+  abbrev pub IsSameEntry : Entry T S Q Key H of eq input build hashes q w e
+      → Entry T S Q Key H of eq input build hashes q w e → Type 0
+  IsSameEntry (Vacant v) (Vacant u) = ⊤
+  IsSameEntry (Vacant v) (Occupied p) = ⊥
+  IsSameEntry (Occupied o) (Vacant u) = ⊥
+  IsSameEntry (Occupied o) (Occupied p) = p.query ≡ o.query
 
-module _ (T S Key H : RattleType) (of : item.Ghosts T.Denot Key.Denot)
-    (keys : HashMembers Key.Denot)
-    (build : builder.Ghosts S.Denot H.Denot) (hashes : hasher.Ghosts H.Denot) where
-  abbrev Held : Type 0
-  Held = OccupiedEntryMut T.Denot S.Denot Key.Denot H.Denot
+  -- The entries have the same map, kind and key. The capacity and the builder stay.
+  -- Example: An entry that has found a has the same key once a is written.
+  pub record KeepsEntry (before after : Entry T S Q Key H of eq input build hashes q w e) : Type 0 where
+    pub same_map : entry_lender after ≡ entry_lender before
+    pub capacity : (entry_map after).capacity ≡ (entry_map before).capacity
+    pub builder : (entry_map after).builder ≡ (entry_map before).builder
+    pub places : IsSameEntry before after
 
-  abbrev whole_row : RattleType
-  whole_row = map_row T S Key H of keys build hashes
+  -- If the entry is occupied, it has found what its key names (`HasFound`).
+  -- Example: It holds for any vacant entry.
+  abbrev pub IsFound : Entry T S Q Key H of eq input build hashes q w e → Type 0
+  IsFound (Vacant v) = ⊤
+  IsFound (Occupied o) = HasFound o
 
-  -- If the call failed, the map ends as it was. Otherwise it ends as the result leaves it, whose reference to the map
-  -- has the name `lender`.
-  -- Example: After an error a map of a, b ends as a, b.
-  abbrev pub rests_if_err : {A E : Type 0} → (A → GName) → MutBor (Map T.Denot S.Denot) → Result A E → Fml
-  rests_if_err lender m r = RestsIfErr whole_row m lender r (λ n. n ≡ m.now)
+module _ (T S Key H : RattleType) where
+  module _ (of : item.Ghosts T.Denot Key.Denot) (keys : HashMembers Key.Denot)
+      (build : builder.Ghosts S.Denot H.Denot) (hashes : hasher.Ghosts H.Denot) where
+    -- If the call failed, the map ends as it was. Otherwise it ends as the result leaves it, whose reference to the map
+    -- has the name `lender`.
+    -- Example: After an error a map of a, b ends as a, b.
+    abbrev pub rests_if_err : {A E : Type 0} → (A → GName) → MutBor (Map T.Denot S.Denot) → Result A E → Fml
+    rests_if_err lender m r = RestsIfErr (map_row T S Key H of keys build hashes) m lender r (λ n. n ≡ m.now)
 
-  abbrev held_row : RattleType
-  held_row = occupied_mut_row (record { mir = named 1; lft = [] }) T S Key H of
-      (record { eq = keys.eq }) (record { hash_input = keys.hash_input }) build hashes
-
-  module _ (D : RattleType) (put : T.Denot → D.Denot → T.Denot) where
-    -- What is written through `r` is the data of the item of this slot. If there is no `r`, what is held stays.
-    -- Example: If d is written, and that item is a, the map has `put a d` in its place.
-    abbrev pub lends_held_data : MutBor Held → Option ℕ → Option (MutBor D.Denot) → Fml
-    lends_held_data m slot r = LendsIf held_row D m r (λ d. held_with m.now slot (λ x. put x d)) m.now
-
-  module _ (Q : RattleType) where
+  module _ {of : item.Ghosts T.Denot Key.Denot}
+      {eq : equal.Ghosts Key.Denot} {input : hash.Ghosts Key.Denot}
+      {build : builder.Ghosts S.Denot H.Denot} {hashes : hasher.Ghosts H.Denot}
+      (Q : RattleType) {q : query.Ghosts Q.Denot Key.Denot} {e : equal.Ghosts Q.Denot} {w : hash.Ghosts Q.Denot} where
     abbrev Found : Type 0
-    Found = OccupiedEntry T.Denot S.Denot Q.Denot Key.Denot H.Denot
+    Found = OccupiedEntry T.Denot S.Denot Q.Denot Key.Denot H.Denot of eq input build hashes q w e
 
-    -- `entry_row` is the type of an occupied entry in the logic. No public clause cites it.
-    abbrev pub entry_row : RattleType
-    entry_row = occupied_row (record { mir = named 1; lft = [] }) T S Q Key H of
-        (record { eq = keys.eq }) (record { hash_input = keys.hash_input }) build hashes
+    abbrev entry_row : RattleType
+    entry_row = occupied_row (record { mir = named 1; lft = [] }) T S Q Key H of eq input build hashes q w e
 
-    -- The entry ends with the map as the borrow of its items leaves it.
+    -- The entry ends with the guard as the borrow of it leaves it.
     -- Example: If a becomes `put a d` in that borrow, the map of the entry has `put a d`.
-    abbrev pub lends_held : MutBor Found → Held → Fml
-    lends_held m r = follows entry_row whole_row m.ghost_name r.map.ghost_name
-        (λ n. record m.now { map = record m.now.map { now = n } })
+    abbrev pub lends_guard : MutBor Found
+        → MutBor (RefMut T.Denot S.Denot Key.Denot H.Denot of eq input build hashes) → Fml
+    lends_guard m r = Lends entry_row
+        (ref_row (record { mir = named 1; lft = [] }) T S Key H of eq input build hashes)
+        m r (λ g. record m.now { guard = g })
 
     module _ (D : RattleType) (put : T.Denot → D.Denot → T.Denot) where
-      -- What is written through `r` is the data of the item of this slot. If there is no `r`, the entry stays.
+      -- What is written through `r` is the data of the entry's item.
       -- Example: If d is written, and that item is a, the map has `put a d` in its place.
-      abbrev pub lends_entry_data : MutBor Found → Option ℕ → Option (MutBor D.Denot) → Fml
-      lends_entry_data m slot r = LendsIf entry_row D m r (λ d. entry_with m.now slot (λ x. put x d)) m.now
+      abbrev pub lends_entry_data : MutBor Found → MutBor D.Denot → Fml
+      lends_entry_data m r = Lends entry_row D m r (λ d. entry_with m.now (λ x. put x d))

@@ -1,27 +1,15 @@
 -- Made by tests/twins from crates/iddqd_bi/specs/Mismatch.antt: change that file.
 
--- Why an item may not replace others: the item, and the rank at which its key differs, counted from 0.
+-- Why an entry inserts no item: the item, and whether its key is another one.
 use Rattle.std.specs.Prelude.{◌≡◌, ℕ, Bool, List, Option, Some, None}
 use Rattle.iddqd_store.specs.Bag.{Ranks, differ}
 use Rattle.iddqd_store.specs.Map.{Map, IsFullFor}
-use Rattle.iddqd_id.specs.declared.error.KeyMismatch.{KeyMismatch}
-use Rattle.iddqd_id.specs.declared.error.KeyMismatch.TheVariants as mismatch
 use Rattle.iddqd_id.specs.declared.error.EntryError.{EntryError}
 use Rattle.iddqd_id.specs.declared.error.EntryError.TheVariants.{Key, Memory}
 use Rattle.iddqd_id.specs.declared.error.TryEntryError.{TryEntryError}
 use Rattle.iddqd_id.specs.declared.error.TryEntryError.TheVariants.{Closure, Insert}
 
 module _ {T : Type 0} where
-  -- `mismatch_item` is the item that is returned because a key of it differs.
-  -- Example: For `Key x` it is `x`.
-  abbrev pub mismatch_item : KeyMismatch T → T
-  mismatch_item (mismatch.Key x) = x
-
-  -- `mismatch_rank` is the rank of the key that differs, counted from 0.
-  -- Example: For `Key x` it is 0.
-  abbrev pub mismatch_rank : KeyMismatch T → ℕ
-  mismatch_rank (mismatch.Key x) = 0
-
   -- `error_item` is the item that the error of an entry returns.
   -- Example: For `Memory x` it is `x`.
   abbrev pub error_item : EntryError T → T

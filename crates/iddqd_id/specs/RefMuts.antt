@@ -14,8 +14,8 @@ use Rattle.iddqd_store.specs.Slots.{get}
 use Rattle.iddqd_id.specs.declared.item.IdHashItem as item
 use Rattle.iddqd_store.specs.Map.Written.{map_with, still_live}
 use Rattle.iddqd_id.specs.declared.ref_mut.RefMut.{RefMut}
-use Rattle.iddqd_id.specs.contracts.map.IdHashMap.{the_row, as, map_row}
-use Rattle.iddqd_id.specs.contracts.ref_mut.RefMut.{the_row, as, ref_row}
+use Rattle.iddqd_id.specs.contracts.map.IdHashMap.{the_row as map_row}
+use Rattle.iddqd_id.specs.contracts.ref_mut.RefMut.{the_row as ref_row}
 
 module _ {T S Key H : Type 0} {of : item.Ghosts T Key}
     {eq : equal.Ghosts Key} {input : hash.Ghosts Key}

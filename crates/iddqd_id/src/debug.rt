@@ -44,19 +44,8 @@ impl<T: IdHashItem, S: BuildHasher, Q: Query<T::Key>> Debug for VacantEntry<'_, 
 }
 
 impl<T: IdHashItem + Debug, S: BuildHasher, Q: Query<T::Key>> Debug for OccupiedEntry<'_, T, S, Q> {
-    /// Prints the item that each key found, or `None`.
+    /// Prints the item.
     fn fmt<W: Write>(&self, f: &mut Formatter<W>) -> fmt::Result {
-        f.debug_struct("OccupiedEntry")
-            .field("by_key", &self.map.item_of(self.slot))
-            .finish()
-    }
-}
-
-impl<T: IdHashItem + Debug, S: BuildHasher> Debug for OccupiedEntryMut<'_, T, S> {
-    /// Prints the item that each key found, or `None`.
-    fn fmt<W: Write>(&self, f: &mut Formatter<W>) -> fmt::Result {
-        f.debug_struct("OccupiedEntryMut")
-            .field("by_key", &self.map.item_of(self.slot))
-            .finish()
+        f.debug_tuple("OccupiedEntry").field(&self.guard).finish()
     }
 }

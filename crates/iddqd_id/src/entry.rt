@@ -1,4 +1,4 @@
-//! Entries: what a lookup of one key at once found, with a borrow of the map.
+//! Entries: what a lookup of one key found, with a borrow of the map.
 //!
 //! Made by tests/twins from crates/iddqd_bi/src/entry.rt: change that file.
 ghost use Rattle.std.specs.Prelude.{◌≡◌, [], ◌∷◌};
@@ -10,7 +10,8 @@ ghost use Rattle.iddqd_id.specs.Keys.{key_tests};
 
 use crate::item::IdHashItem;
 use crate::map::{DefaultHashBuilder, IdHashMap};
-use iddqd_store::{ItemIndex, Query, Vacancy};
+use crate::ref_mut::RefMut;
+use iddqd_store::{Query, Vacancy};
 use std::hash::{BuildHasher, Hash};
 
 mod all;
@@ -25,14 +26,14 @@ pub enum Entry<
     S: BuildHasher = DefaultHashBuilder,
     Q: Query<T::Key> = &'a <T as IdHashItem>::Key,
 > {
-    /// No item has one of the keys.
+    /// No item has the key.
     Vacant(VacantEntry<'a, T, S, Q>),
-    /// At least one item has one of the keys. One item may have both keys.
+    /// An item has the key.
     Occupied(OccupiedEntry<'a, T, S, Q>),
 }
 
-/// An entry with one key of which no item of the map has one. It keeps the empty cells at which the searches for them
-/// ended, so that an insert need not search again.
+/// An entry with a key that no item of the map has. It keeps the empty cell at which the search for it ended, so that an
+/// insert need not search again.
 #[derive(Drop)]
 pub struct VacantEntry<
     'a,
@@ -53,7 +54,7 @@ pub struct VacantEntry<
         (at ∷ []) },
 }
 
-/// An entry with one key of which at least one is that of an item. It keeps the slot of each item that a key found.
+/// An entry with a key that an item of the map has. It keeps a guard of that item.
 #[derive(Drop)]
 pub struct OccupiedEntry<
     'a,
@@ -61,14 +62,6 @@ pub struct OccupiedEntry<
     S: BuildHasher = DefaultHashBuilder,
     Q: Query<T::Key> = &'a <T as IdHashItem>::Key,
 > {
-    pub(crate) map: &'a mut IdHashMap<T, S>,
+    pub(crate) guard: RefMut<'a, T, S>,
     pub(crate) query: Q,
-    pub(crate) slot: Option<ItemIndex>,
-}
-
-/// The items that one key found, borrowed for writing, one at a time.
-#[derive(Drop)]
-pub struct OccupiedEntryMut<'a, T: IdHashItem, S: BuildHasher = DefaultHashBuilder> {
-    pub(crate) map: &'a mut IdHashMap<T, S>,
-    pub(crate) slot: Option<ItemIndex>,
 }

@@ -1,23 +1,24 @@
 //! The errors of calls that insert or replace one item.
 //!
 //! Made by tests/twins from crates/iddqd_bi/src/error.rt: change that file.
-ghost use Rattle.std.specs.Prelude.{◌≡◌, ◌≢◌, ◌<◌, [], Some, map, false};
+ghost use Rattle.std.specs.Prelude.{◌≡◌, ◌≢◌, [], false, option_copied};
+ghost use Rattle.std.specs.Option.{option_and_then, option_to_list};
 ghost use Rattle.iddqd_store.specs.Map.{bag};
 ghost use Rattle.iddqd_store.specs.Bag.{clash, order};
-ghost use Rattle.iddqd_store.specs.Slots.Found.{items_at};
+ghost use Rattle.iddqd_store.specs.Slots.{get};
 ghost use Rattle.iddqd_id.specs.Keys.{ranks};
 ghost use Rattle.iddqd_id.specs.Rekeyed.{left_out};
-ghost use Rattle.iddqd_id.specs.Mismatch.{error_item, error_rank, mismatch_item, mismatch_rank};
+ghost use Rattle.iddqd_id.specs.Mismatch.{error_item};
 
 use crate::item::{IdHashItem, Ranked};
 use crate::map::{DefaultHashBuilder, IdHashMap};
-use iddqd_store::{InsertReason, ItemIndex, UpToTwo};
+use iddqd_store::{InsertReason, ItemIndex};
 use std::hash::{BuildHasher, Hash};
 
 mod display;
 
-/// The error of `insert_unique`: the item that was not inserted, with the items of the map that conflict with it, or
-/// with none if there was no memory. The error borrows the map, which is as it was before the call. By that borrow
+/// The error of `insert_unique`: the item that was not inserted, with the item of the map that has its key, or with
+/// none if there was no memory. The error borrows the map, which is as it was before the call. By that borrow
 /// contracts tell the caller exactly what the map is.
 ///
 /// ```text
@@ -32,13 +33,13 @@ mod display;
 pub struct InsertError<'a, T: IdHashItem, S: BuildHasher = DefaultHashBuilder> {
     pub(crate) map: &'a mut IdHashMap<T, S>,
     pub(crate) item: T,
-    pub(crate) found: UpToTwo<ItemIndex>,
-    ghost found_is: { items_at map.now.slots found
+    pub(crate) found: Option<ItemIndex>,
+    ghost found_is: { option_to_list (option_and_then (get map.now.slots) found)
         ≡ order (ranks T.IdHashItem T.Key.eq) (bag map.now) item },
 }
 
-/// The error of `try_insert`: the item that was not inserted, and which of its keys items of the map have. If none is
-/// taken, the map was full, and there was no memory to grow. The error does not borrow the map.
+/// The error of `try_insert`: the item that was not inserted, and whether an item of the map has its key. If none has,
+/// the map was full, and there was no memory to grow. The error does not borrow the map.
 ///
 /// ```text
 /// let Err(e) = devices.try_insert(device) else { return Ok(()) };
@@ -56,7 +57,7 @@ pub struct Rejected<T> {
 }
 
 /// The error of `extend_unique`, after which the map has the items that it had before the call: the item at which the
-/// call failed, and which of its keys are taken. If none is, there was no memory for the item. The items after it in
+/// call failed, and whether its key is taken. If it is not, there was no memory for the item. The items after it in
 /// the list were dropped.
 #[derive(Drop)]
 pub struct ExtendUniqueError<T> {
@@ -69,11 +70,11 @@ pub struct ExtendUniqueError<T> {
 }
 
 /// The error of `RefMut::replace` and `OccupiedEntry::insert`: the new item has another key than the item that it was
-/// to replace, or than the entry. The error has the new item, and names the lowest rank at which the keys differ.
+/// to replace, or than the entry.
 #[derive(Drop)]
-pub enum KeyMismatch<T> {
-    /// The rank is the lowest at which the keys differ.
-    Key(T),
+pub struct KeyMismatch<T> {
+    /// The item that was not inserted.
+    pub item: T,
 }
 
 /// The error of `rekey`: the new item, which did not replace another.
@@ -85,13 +86,13 @@ pub enum NotReplaced<T> {
     Duplicate(T),
 }
 
-/// The error of an insert through a vacant entry. It has the item, and names the lowest rank at which the item's key is
-/// not the entry's, or says that there was no memory.
+/// The error of an insert through a vacant entry. It has the item, and says whether the item's key is not the
+/// entry's, or whether there was no memory.
 #[derive(Drop)]
 pub enum EntryError<T> {
-    /// The rank is the lowest at which the keys differ.
+    /// The key is not the entry's.
     Key(T),
-    /// Both keys are the entry's, but the map was full, and there was no memory to grow.
+    /// The key is the entry's, but the map was full, and there was no memory to grow.
     Memory(T),
 }
 
@@ -121,15 +122,15 @@ pub struct TryEntryRefusal<'a, T: IdHashItem, E, S: BuildHasher = DefaultHashBui
 }
 
 impl<T> ExtendUniqueError<T> {
-    /// Returns why the call failed: `Duplicate` if a key of the item is taken, otherwise `Memory`.
+    /// Returns why the call failed: `Duplicate` if the key of the item is taken, otherwise `Memory`.
     pub fn reason(&self) -> InsertReason
         ensures duplicate { result ≡ InsertReason.Duplicate → self.now.taken ≡ false → ⊥ }
-        ensures memory { result ≡ InsertReason.Memory → (self.now.taken ≡ false) }
+        ensures memory { result ≡ InsertReason.Memory → self.now.taken ≡ false }
     {
-        if !self.taken {
-            InsertReason::Memory
-        } else {
+        if self.taken {
             InsertReason::Duplicate
+        } else {
+            InsertReason::Memory
         }
     }
 }
@@ -137,20 +138,16 @@ impl<T> ExtendUniqueError<T> {
 impl<T> KeyMismatch<T> {
     /// Returns the item that was not inserted.
     pub fn item(&self) -> &T
-        ensures { result.now ≡ mismatch_item self.now }
+        ensures { result.now ≡ self.now.item }
     {
-        match self {
-            KeyMismatch::Key(item) => item,
-        }
+        &self.item
     }
 
     /// Returns the item that was not inserted, by value.
     pub fn into_item(self) -> T
-        ensures { result ≡ mismatch_item self }
+        ensures { result ≡ self.item }
     {
-        match self {
-            KeyMismatch::Key(item) => item,
-        }
+        self.item
     }
 }
 
@@ -246,9 +243,9 @@ impl<T: IdHashItem, E, S: BuildHasher> TryEntryRefusal<'_, T, E, S> {
     }
 }
 
-/// The error of `from_iter_unique`: `Duplicate` owns an item and those before it that it conflicts with, and `Memory`
+/// The error of `from_iter_unique`: `Duplicate` owns an item and the one before it that has its key, and `Memory`
 /// owns the item for which there was no memory.
-pub type FromIterError<T> = iddqd_store::FromIterError<T, UpToTwo<T>>;
+pub type FromIterError<T> = iddqd_store::FromIterError<T, T>;
 
 impl<T: Ranked, S: BuildHasher> InsertError<'_, T, S> {
     /// Returns the item that was not inserted.
@@ -264,20 +261,19 @@ impl<T: Ranked, S: BuildHasher> InsertError<'_, T, S> {
         ensures duplicate { result ≡ InsertReason.Duplicate → clash T.ranks (bag self.now.map.now) self.now.item ≢ [] }
         ensures memory { result ≡ InsertReason.Memory → clash T.ranks (bag self.now.map.now) self.now.item ≡ [] }
     {
-        if self.duplicates().is_empty() {
-            InsertReason::Memory
-        } else {
+        if self.duplicate().is_some() {
             InsertReason::Duplicate
+        } else {
+            InsertReason::Memory
         }
     }
 
-    /// Returns the items of the map that conflict with the item, each once, in the order of the keys. The call searches
-    /// for nothing again.
-    pub fn duplicates(&self) -> UpToTwo<&T>
-        ensures { map (λ item. item.now) result ≡ order T.ranks (bag self.now.map.now) self.now.item }
+    /// Returns the item of the map that conflicts with the item, if there is one. The call searches for nothing again.
+    pub fn duplicate(&self) -> Option<&T>
+        ensures { option_to_list (option_copied result) ≡ order T.ranks (bag self.now.map.now) self.now.item }
     {
         let map = &*self.map;
-        map.items_of(&self.found)
+        map.item_of(self.found)
     }
 }
 
@@ -295,19 +291,19 @@ impl<'a, T: Ranked, S: BuildHasher> InsertError<'a, T, S> {
         item
     }
 
-    /// Returns the item that was not inserted, by value, with the items of the map that conflict with it, as
-    /// `duplicates` does. They stay borrowed for as long as the error borrowed the map.
+    /// Returns the item that was not inserted, by value, with the item of the map that conflicts with it, as
+    /// `duplicate` does. That one stays borrowed for as long as the error borrowed the map.
     ///
-    /// Contracts do not say what the map is afterwards. A caller who has to prove that calls `duplicates` and then
+    /// Contracts do not say what the map is afterwards. A caller who has to prove that calls `duplicate` and then
     /// `into_item`.
-    pub fn into_parts(self) -> (T, UpToTwo<&'a T>)
+    pub fn into_parts(self) -> (T, Option<&'a T>)
         ensures item { result.0 ≡ self.entry.item }
-        ensures duplicates { map (λ item. item.now) result.1
+        ensures duplicate { option_to_list (option_copied result.1)
             ≡ order T.ranks (bag self.entry.map.now) self.entry.item }
     {
         let InsertError { map, item, found } = self;
         let map: &'a IdHashMap<T, S> = map;
-        (item, map.items_of(&found))
+        (item, map.item_of(found))
     }
 }
 

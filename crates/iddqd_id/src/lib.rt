@@ -1,6 +1,14 @@
-//! `IdHashMap`, a hash map of items with one key, with its guards, entries, iterations, errors and commands.
+//! `IdHashMap`, a hash map of items with one key, with its guards, entries, iterations and errors.
 //!
-//! A script makes most of the three-key text from the two-key text: change the latter, and then run
+//! ```text
+//! let mut users = IdHashMap::<User>::new(rt.alloc());
+//! users.insert_unique(User::new("ada"))?;
+//! if let Some(user) = users.get("ada") {
+//!     println!(rt; "{user:?}")?;
+//! }
+//! ```
+//!
+//! A script makes most of this text from that of the map with two keys: change the latter, and then run
 //! `tests/twins --write` with the changed files.
 //!
 //! Made by tests/twins from crates/iddqd_bi/src/lib.rt: change that file.
@@ -16,7 +24,7 @@ mod pointers;
 mod ranks;
 mod ref_mut;
 
-pub use entry::{Entry, OccupiedEntry, OccupiedEntryMut, OccupiedEntryRef, VacantEntry};
+pub use entry::{Entry, OccupiedEntry, VacantEntry};
 pub use error::{
     EntryError, EntryRefusal, ExtendUniqueError, FromIterError, InsertError, KeyMismatch,
     NotReplaced, Rejected, TryEntryError, TryEntryRefusal,
@@ -29,5 +37,5 @@ pub use ref_mut::RefMut;
 // Types of `iddqd_store` that the signatures of this crate name.
 pub use iddqd_store::{
     Cursor, DuplicateItem, Equivalent, InsertReason, IntoIter, Iter, KeyMatcher, MemoryRefused,
-    Meter, Query, ShortIntoIter, ShortIter, TryReserveError, UpToTwo,
+    Meter, Query, TryReserveError,
 };

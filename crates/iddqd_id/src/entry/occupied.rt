@@ -1,186 +1,120 @@
-//! The calls of an occupied entry: reading, writing, replacing and removing the items that one key found.
-//!
-//! Made by tests/twins from crates/iddqd_bi/src/entry/occupied.rt: change that file.
-ghost use Rattle.std.specs.Prelude.{◌≡◌, None, Some, not, filter, map, IfOk, IfErr, OnOk, OnErr, IsPermutation};
-ghost use Rattle.std.specs.Option.{option_copied_mut, option_to_list};
+//! The calls of an occupied entry: reading, writing, replacing and removing the item that its key found.
+ghost use Rattle.std.specs.Prelude.{◌≡◌, [], ◌∷◌, true, false, Some, IfOk, IfErr, OnOk, OnErr, IfSome, IsPermutation};
 ghost use Rattle.std.specs.Borrow.{sem};
-ghost use Rattle.std.specs.Fn.{CalledAt};
-ghost use Rattle.iddqd_store.specs.Bag.{IsOnly, differ, entry, is_unique, listing, swap};
-ghost use Rattle.iddqd_store.specs.Bag.Calling.{TakesInTurn};
-ghost use Rattle.iddqd_store.specs.Bag.Storing.{Stores};
+ghost use Rattle.std.specs.Fn.{FnOnceReturnsAt, FnOnceTakesAt};
+ghost use Rattle.iddqd_store.specs.Bag.{IsOnly, swap};
+ghost use Rattle.iddqd_store.specs.Bag.Storing.{StoresOne};
 ghost use Rattle.iddqd_store.specs.Map.{bag, Loses};
-ghost use Rattle.iddqd_id.specs.Entries.{FindsSame, HasFound, HoldsFound, PutsOver, entry_tests, entry_with, lends_entry_data, lends_held};
-ghost use Rattle.iddqd_id.specs.Keys.{has, key_tests};
-ghost use Rattle.iddqd_id.specs.Mismatch.{mismatch_item, mismatch_rank};
-ghost use Rattle.iddqd_id.specs.OccupiedRefs.{is_one, seen};
+ghost use Rattle.iddqd_id.specs.Entries.{HasFound, PutsOver, entry_with, lends_entry_data, lends_guard};
+ghost use Rattle.iddqd_id.specs.Keys.{has};
+ghost use Rattle.iddqd_id.specs.RefMuts.{ref_item, ref_lender, ref_map};
 
 use super::OccupiedEntry;
 use crate::error::KeyMismatch;
 use crate::item::{IdHashItem, IdHashItemMut, Ranked};
-use crate::map::IdHashMap;
-use iddqd_store::{Meter, Query, SlotUnder, UpToTwo};
+use crate::ref_mut::RefMut;
+use iddqd_store::Query;
 use std::hash::{BuildHasher, Hash};
 
 impl<'a, T: IdHashItem, S: BuildHasher, Q: Query<T::Key>> OccupiedEntry<'a, T, S, Q> {
-    /// Returns the items, borrowed for reading.
-    pub fn get(&self) -> OccupiedEntryRef<'_, T>
-        requires { HasFound (key_tests T.IdHashItem Q.stands_for) self.now }
-        ensures is_one { is_one result
-            ≡ is_unique
-            (entry (entry_tests (key_tests T.IdHashItem Q.stands_for) self.now) (bag self.now.map.now)) }
-        ensures by_key { IsOnly (has T.IdHashItem Q.stands_for self.now.query) (bag self.now.map.now)
-            (seen result) }
+    /// Returns the item, borrowed for reading.
+    pub fn get(&self) -> &T
+        ensures { ref_item self.now.guard ≡ Some result.now }
     {
-        let is_unique = self.is_unique();
-        let by_key = self.map.item_of(self.slot);
-        OccupiedEntryRef::of(is_unique, by_key)
+        &self.guard
     }
 
-    /// Returns the items, borrowed for reading for as long as the entry borrowed the map.
-    pub fn into_ref(self) -> OccupiedEntryRef<'a, T>
-        requires { HasFound (key_tests T.IdHashItem Q.stands_for) self }
-        ensures is_one { is_one result
-            ≡ is_unique
-            (entry (entry_tests (key_tests T.IdHashItem Q.stands_for) self.entry) (bag self.entry.map.now)) }
-        ensures by_key { IsOnly (has T.IdHashItem Q.stands_for self.entry.query) (bag self.entry.map.now)
-            (seen result) }
+    /// Returns the item, borrowed for reading for as long as the entry borrowed the map.
+    pub fn into_ref(self) -> &'a T
+        ensures { ref_item self.entry.guard ≡ Some result.now }
     {
-        let is_unique = self.is_unique();
-        let OccupiedEntry {
-            map,
-            query: _,
-            slot,
-        } = self;
-        let map: &'a IdHashMap<T, S> = map;
-        let by_key = map.item_of(slot);
-        OccupiedEntryRef::of(is_unique, by_key)
+        let OccupiedEntry { guard, query: _ } = self;
+        guard.into_ref()
     }
 
-    /// Returns the items, held for writing for as long as the entry is borrowed. Contracts say less of the map
-    /// afterwards than after `into_mut`.
-    pub fn get_mut(&mut self) -> OccupiedEntryMut<'_, T, S>
-        ensures map { result.map.now ≡ self.old.map.now }
-        ensures holds { HasFound (key_tests T.IdHashItem Q.stands_for) self.old
-            → HoldsFound T.IdHashItem Q.stands_for self.old result }
-        ensures* lends { sem 𝓛 (lends_held T.row S.row T.Key.row S.Hasher.row
-            T.IdHashItem T.Key.Hash S.BuildHasher S.Hasher.Hasher Q.row
-            self.entry result) }
+    /// Returns the entry's guard of the item, borrowed for as long as the entry is.
+    pub fn get_mut(&mut self) -> &mut RefMut<'a, T, S>
+        ensures guard { result.now ≡ self.old.guard }
+        ensures* lends { sem 𝓛 (lends_guard T.row S.row T.Key.row S.Hasher.row Q.row self.entry result) }
     {
-        let slot = self.slot;
-        let map = &mut *self.map;
-        OccupiedEntryMut { map, slot }
+        &mut self.guard
     }
 
-    /// Returns the items, held for writing for as long as the entry borrowed the map.
-    pub fn into_mut(self) -> OccupiedEntryMut<'a, T, S>
-        ensures same_map { result.map.ghost_name ≡ self.entry.map.ghost_name }
-        ensures map { result.map.now ≡ self.entry.map.now }
-        ensures holds { HasFound (key_tests T.IdHashItem Q.stands_for) self.entry
-            → HoldsFound T.IdHashItem Q.stands_for self.entry result }
+    /// Returns a guard of the item, for as long as the entry borrowed the map.
+    pub fn into_mut(self) -> RefMut<'a, T, S>
+        ensures same_map { ref_lender result ≡ ref_lender self.entry.guard }
+        ensures map { ref_map result ≡ ref_map self.entry.guard }
+        ensures item { ref_item result ≡ ref_item self.entry.guard }
     {
-        let OccupiedEntry {
-            map,
-            query: _,
-            slot,
-        } = self;
-        OccupiedEntryMut { map, slot }
+        let OccupiedEntry { guard, query: _ } = self;
+        guard
     }
 
-    /// Inserts an item that has the entry's keys in place of the items that the entry found, and returns those, in the
-    /// order of the keys. From then on the entry finds the new item alone.
+    /// Inserts an item that has the entry's key in place of the item that the entry found, and returns the latter. From
+    /// then on the entry finds the new item.
     ///
-    /// If the item has another key, the error has the item and names the lowest rank at which its key is not the
-    /// entry's, whether an item of the map has that key or not. Nothing changes then.
+    /// If the item has another key, the error has the item, whether an item of the map has that key or not. Nothing
+    /// changes then.
     ///
-    /// The call compares the item's keys with the entry's, rank by rank up to the first that differs. Then it hashes
-    /// each of them once, and each key of a removed item by which the entry did not find it. It searches for nothing,
-    /// and allocates no memory.
-    pub fn insert(&mut self, item: T) -> Result<UpToTwo<T>, KeyMismatch<T>>
-        requires { HasFound (key_tests T.IdHashItem Q.stands_for) self.old }
-        // The result is `Ok` only for an item with the entry's keys. The items that these keys found are returned, in
-        // their order.
-        ensures same_keys { OnOk result
-            (differ (entry_tests (key_tests T.IdHashItem Q.stands_for) self.old) item ≡ None) }
-        ensures displaced { IfOk result (λ gone. gone
-            ≡ listing (entry_tests (key_tests T.IdHashItem Q.stands_for) self.old)
-            (bag self.old.map.now)) }
-        // The entry then finds the new item alone.
-        ensures puts_over { OnOk result
-            (PutsOver ⟦<T as Ranked>⟧.ranks
-            (key_tests T.IdHashItem Q.stands_for) self.old item self.new) }
+    /// The call compares the item's key with that of the entry's item. It hashes none, searches for nothing, and
+    /// allocates no memory.
+    pub fn insert(&mut self, item: T) -> Result<T, KeyMismatch<T>>
+        requires { HasFound self.old }
+        // The result is `Ok` exactly for an item with the entry's key. The item that this key found is returned.
+        ensures same_key { OnOk result (has T.IdHashItem Q.stands_for self.old.query item ≡ true) }
+        ensures displaced { IfOk result (λ gone. ref_item self.old.guard ≡ Some gone) }
+        // The entry then finds the new item.
+        ensures puts_over { OnOk result (PutsOver ⟦<T as Ranked>⟧.ranks self.old item self.new) }
         // An item with another key is returned, and nothing changes.
-        ensures handed_back { IfErr result (λ e. mismatch_item e ≡ item) }
-        ensures rank { IfErr result (λ e.
-            differ (entry_tests (key_tests T.IdHashItem Q.stands_for) self.old) item
-            ≡ Some (mismatch_rank e)) }
+        ensures handed_back { IfErr result (λ e. e.item ≡ item) }
+        ensures other_key { OnErr result (has T.IdHashItem Q.stands_for self.old.query item ≡ false) }
         ensures unchanged { OnErr result (self.new ≡ self.old) }
     {
-        if let Some(rank) = differ(&item, self.query) {
-            return Err(KeyMismatch::at(rank, item));
-        }
-        let by = SlotUnder::new(self.slot, self.map.hash_of_key(&item));
-        let (displaced, slot) = self.map.put_over(item, &by, &mut Meter::new());
-        self.slot = Some(slot);
-        Ok(displaced)
+        self.guard.replace(item)
     }
 
-    /// Removes the items, and returns them in the order of the keys. The capacity stays.
+    /// Removes the item, and returns it. The capacity stays.
     ///
-    /// The call hashes each key of a removed item. It compares no key, and allocates no memory.
-    pub fn remove(self) -> UpToTwo<T>
-        requires { HasFound (key_tests T.IdHashItem Q.stands_for) self }
-        ensures taken { result
-            ≡ listing (entry_tests (key_tests T.IdHashItem Q.stands_for) self.entry) (bag self.entry.map.now) }
-        ensures loses { Loses self.entry.map.now result self.exit.0.now }
+    /// The call hashes the item's key. It compares no key, and allocates no memory.
+    pub fn remove(self) -> T
+        ensures taken { ref_item self.entry.guard ≡ Some result }
+        ensures loses { Loses (ref_map self.entry.guard) (result ∷ []) self.exit.0.now }
     {
-        let OccupiedEntry {
-            map,
-            query: _,
-            slot,
-        } = self;
-        map.take_all(&each_once(slot))
+        let guard = self.into_mut();
+        guard.take()
     }
 }
 
 impl<'a, T: IdHashItemMut, S: BuildHasher, Q: Query<T::Key>> OccupiedEntry<'a, T, S, Q> {
-    /// Returns the data of the item with the key, borrowed for writing, or `None` if no item has that key.
-    pub fn data_mut(&mut self) -> Option<&mut T::Data>
-        requires { HasFound (key_tests T.IdHashItem Q.stands_for) self.old }
-        ensures value { option_to_list (option_copied_mut result)
-            ≡ map T.data_of (filter (has T.IdHashItem Q.stands_for self.old.query) (bag self.old.map.now)) }
-        ensures swaps { (x : T) (d : T.Data)
-            → IsOnly (has T.IdHashItem Q.stands_for self.old.query) (bag self.old.map.now) (Some x)
-            → IsPermutation (bag (entry_with self.old self.old.slot (λ y. T.put y d)).map.now)
-            (swap ⟦<T as Ranked>⟧.ranks (bag self.old.map.now) x (T.put x d)) }
-        ensures has_found { (d : T.Data)
-            → HasFound (key_tests T.IdHashItem Q.stands_for) (entry_with self.old self.old.slot (λ y. T.put y d)) }
-        ensures* lends { sem 𝓛 (lends_entry_data T.row S.row T.Key.row S.Hasher.row
-            T.IdHashItem T.Key.Hash S.BuildHasher S.Hasher.Hasher Q.row T.Data.row T.put
-            self.entry self.old.slot result) }
+    /// Returns the data of the item, borrowed for writing.
+    pub fn data_mut(&mut self) -> &mut T::Data
+        ensures value { IfSome (ref_item self.old.guard) (λ x. result.now ≡ T.data_of x) }
+        ensures swaps { (x : T) (d : T.Data) → ref_item self.old.guard ≡ Some x
+            → IsPermutation (bag (ref_map (entry_with self.old (λ y. T.put y d)).guard))
+            (swap ⟦<T as Ranked>⟧.ranks (bag (ref_map self.old.guard)) x (T.put x d)) }
+        ensures has_found { (d : T.Data) → HasFound self.old → HasFound (entry_with self.old (λ y. T.put y d)) }
+        ensures* lends { sem 𝓛 (lends_entry_data T.row S.row T.Key.row S.Hasher.row Q.row T.Data.row T.put
+            self.entry result) }
     {
-        let slot = self.slot;
-        self.map.data_mut_of(slot)
+        self.guard.data_mut()
     }
 
-    /// Calls `f` with each item, and stores what `f` returns as the item's data. The call updates each item once, that
-    /// of the key first, and the entry still finds it. It compares no key, and allocates no memory.
-    pub fn for_each<F: FnMut(&T) -> T::Data>(&mut self, f: F)
+    /// Calls `f` with the item, and stores what `f` returns as the item's data. The entry still finds the item. The call
+    /// compares no key, and allocates no memory.
+    pub fn update<F: FnOnce(&T) -> T::Data>(&mut self, f: F)
     where
         T::Data: Drop,
-        requires has_found { HasFound (key_tests T.IdHashItem Q.stands_for) self.old }
-        requires callable { TakesInTurn F.FnMut f
-            (listing (entry_tests (key_tests T.IdHashItem Q.stands_for) self.old)
-            (bag self.old.map.now)) }
-        ensures same_map { self.new.map.ghost_name ≡ self.old.map.ghost_name }
-        ensures stores { Stores (CalledAt F.FnMut) T.put ⟦<T as Ranked>⟧.ranks f
-            (listing (entry_tests (key_tests T.IdHashItem Q.stands_for) self.old) (bag self.old.map.now))
-            (bag self.old.map.now) (bag self.new.map.now) }
-        ensures capacity { self.new.map.now.capacity ≡ self.old.map.now.capacity }
-        ensures builder { self.new.map.now.builder ≡ self.old.map.now.builder }
-        ensures places { FindsSame self.old self.new }
-        ensures has_found { HasFound (key_tests T.IdHashItem Q.stands_for) self.new }
+        requires has_found { HasFound self.old }
+        requires callable { IfSome (ref_item self.old.guard) (FnOnceTakesAt F.FnOnce f) }
+        ensures same_map { ref_lender self.new.guard ≡ ref_lender self.old.guard }
+        ensures stores { StoresOne (FnOnceReturnsAt F.FnOnce f) T.put ⟦<T as Ranked>⟧.ranks
+            (has T.IdHashItem Q.stands_for self.old.query) (bag (ref_map self.old.guard)) (bag (ref_map self.new.guard)) }
+        ensures capacity { (ref_map self.new.guard).capacity ≡ (ref_map self.old.guard).capacity }
+        ensures builder { (ref_map self.new.guard).builder ≡ (ref_map self.old.guard).builder }
+        ensures key { self.new.query ≡ self.old.query }
+        ensures has_found { HasFound self.new }
     {
-        let slot = self.slot;
-        self.map.store_found(slot, f);
+        let d = f(self.get());
+        *self.data_mut() = d;
     }
 }

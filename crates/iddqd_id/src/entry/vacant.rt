@@ -5,7 +5,7 @@ ghost use Rattle.std.specs.Prelude.{◌≡◌, ◌<◌, length, None, IsOk, IfOk
 ghost use Rattle.std.specs.Borrow.{sem};
 ghost use Rattle.iddqd_store.specs.Bag.{differ};
 ghost use Rattle.iddqd_store.specs.Map.{bag};
-ghost use Rattle.iddqd_id.specs.Entries.{GainsAndFinds, GainsAndHolds, GainsAndLends, IsSameMap, PutsIn, PutsInMade, wanted, rests_if_err};
+ghost use Rattle.iddqd_id.specs.Entries.{GainsAndFinds, GainsAndLends, IsSameMap, PutsIn, PutsInMade, wanted, rests_if_err};
 ghost use Rattle.iddqd_id.specs.RefMuts.{ref_lender};
 ghost use Rattle.iddqd_id.specs.Mismatch.{HandsBack};
 
@@ -63,9 +63,8 @@ impl<'a, T: IdHashItem, S: BuildHasher, Q: Query<T::Key>> VacantEntry<'a, T, S, 
         let VacantEntry { map, query, at } = self;
         match map.insert_free(item, query, at) {
             Ok(slot) => Ok(OccupiedEntry {
-                map,
+                guard: RefMut { map, slot },
                 query,
-                slot: Some(slot),
             }),
             Err(error) => Err(EntryRefusal { map, error }),
         }
@@ -73,22 +72,16 @@ impl<'a, T: IdHashItem, S: BuildHasher, Q: Query<T::Key>> VacantEntry<'a, T, S, 
 }
 
 impl<'a, T: IdHashItem, S: BuildHasher, Q: Query<T::Key>> VacantEntry<'a, T, S, Q> {
-    /// Inserts an item as `insert_mut` does. The error borrows the map, as those of `or_insert` and `or_insert_with`
+    /// Inserts an item as `insert` does. The error borrows the map, as those of `or_insert` and `or_insert_with`
     /// do.
-    pub(super) fn put_in(
-        self,
-        item: T,
-    ) -> Result<OccupiedEntryMut<'a, T, S>, EntryRefusal<'a, T, S>>
+    pub(super) fn put_in(self, item: T) -> Result<RefMut<'a, T, S>, EntryRefusal<'a, T, S>>
         ensures same_map { IfOk result (λ m. m.map.ghost_name ≡ self.entry.map.ghost_name) }
         ensures same_map_at_err { IfErr result (λ e. e.map.ghost_name ≡ self.entry.map.ghost_name) }
         ensures puts_in { PutsIn self.entry item result }
     {
         let VacantEntry { map, query, at } = self;
         match map.insert_free(item, query, at) {
-            Ok(slot) => Ok(OccupiedEntryMut {
-                map,
-                slot: Some(slot),
-            }),
+            Ok(slot) => Ok(RefMut { map, slot }),
             Err(error) => Err(EntryRefusal { map, error }),
         }
     }
@@ -97,7 +90,7 @@ impl<'a, T: IdHashItem, S: BuildHasher, Q: Query<T::Key>> VacantEntry<'a, T, S, 
     pub(super) fn put_made_in<E>(
         self,
         made: Result<T, E>,
-    ) -> Result<OccupiedEntryMut<'a, T, S>, TryEntryRefusal<'a, T, E, S>>
+    ) -> Result<RefMut<'a, T, S>, TryEntryRefusal<'a, T, E, S>>
         ensures same_map { IfOk result (λ m. m.map.ghost_name ≡ self.entry.map.ghost_name) }
         ensures same_map_at_err { IfErr result (λ e. e.map.ghost_name ≡ self.entry.map.ghost_name) }
         ensures unchanged { IfErr result (λ e. e.map.now ≡ self.entry.map.now) }
@@ -106,10 +99,7 @@ impl<'a, T: IdHashItem, S: BuildHasher, Q: Query<T::Key>> VacantEntry<'a, T, S, 
         let VacantEntry { map, query, at } = self;
         match made {
             Ok(item) => match map.insert_free(item, query, at) {
-                Ok(slot) => Ok(OccupiedEntryMut {
-                    map,
-                    slot: Some(slot),
-                }),
+                Ok(slot) => Ok(RefMut { map, slot }),
                 Err(error) => Err(TryEntryRefusal {
                     map,
                     error: TryEntryError::Insert(error),

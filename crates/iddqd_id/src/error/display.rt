@@ -13,18 +13,13 @@ use std::hash::{BuildHasher, Hash};
 
 impl<T> Debug for KeyMismatch<T> {
     fn fmt<W: Write>(&self, f: &mut Formatter<W>) -> fmt::Result {
-        let name = match self {
-            KeyMismatch::Key(_item) => "Key",
-        };
-        f.debug_struct(name).finish_non_exhaustive()
+        f.debug_struct("KeyMismatch").finish_non_exhaustive()
     }
 }
 
 impl<T> Display for KeyMismatch<T> {
     fn fmt<W: Write>(&self, f: &mut Formatter<W>) -> fmt::Result {
-        f.write_str(match self {
-            KeyMismatch::Key(_item) => "the first key is another one",
-        })
+        f.write_str("the key is another one")
     }
 }
 
@@ -43,7 +38,7 @@ impl<T> Debug for EntryError<T> {
 impl<T> Display for EntryError<T> {
     fn fmt<W: Write>(&self, f: &mut Formatter<W>) -> fmt::Result {
         f.write_str(match self {
-            EntryError::Key(_item) => "the first key is not the entry's",
+            EntryError::Key(_item) => "the key is not the entry's",
             EntryError::Memory(_item) => "out of memory: the item was not inserted",
         })
     }
@@ -123,26 +118,15 @@ impl<T> Debug for Rejected<T> {
 
 impl<T> Display for Rejected<T> {
     fn fmt<W: Write>(&self, f: &mut Formatter<W>) -> fmt::Result {
-        if !self.taken {
-            return f.write_str("out of memory: the item was not inserted");
-        }
-        tell_taken(f, self.taken)
+        f.write_str(if self.taken {
+            "an item has the key"
+        } else {
+            "out of memory: the item was not inserted"
+        })
     }
 }
 
 impl<T: Drop> Error for Rejected<T> {}
-
-/// Prints which keys are taken, one phrase for each.
-fn tell_taken<W: Write>(f: &mut Formatter<W>, taken: bool) -> fmt::Result {
-    let mut parted = "";
-    for (taken, key) in [(taken, "first")] {
-        if taken {
-            write!(f, "{parted}an item has the {key} key")?;
-            parted = "; ";
-        }
-    }
-    Ok(())
-}
 
 impl<T> Debug for ExtendUniqueError<T> {
     fn fmt<W: Write>(&self, f: &mut Formatter<W>) -> fmt::Result {
@@ -157,10 +141,10 @@ impl<T> Display for ExtendUniqueError<T> {
     fn fmt<W: Write>(&self, f: &mut Formatter<W>) -> fmt::Result {
         let at = self.before.len();
         write!(f, "none was inserted, because of item {at}: ")?;
-        match self.reason() {
-            InsertReason::Duplicate => tell_taken(f, self.taken),
-            InsertReason::Memory => f.write_str("out of memory"),
-        }
+        f.write_str(match self.reason() {
+            InsertReason::Duplicate => "an item has the key",
+            InsertReason::Memory => "out of memory",
+        })
     }
 }
 

@@ -58,10 +58,10 @@ impl<T: IdHashItem + PartialEq, S: BuildHasher> IdHashMap<T, S> {
         ensures value { result ≡ list_any (same_item (ranks T.IdHashItem T.Key.eq) T.eq item.now) (bag self.now) }
         ensures costs { UniqueCosts (⟦<T as Hashed<S>>⟧.hash self.now.builder) (bag self.now) self.now.capacity
             (hash_of S.BuildHasher S.Hasher.Hasher self.now.builder (T.Key.hash_input (T.key item.now)))
-            1 asked.old asked.new probed.old probed.new }
+            0 asked.old asked.new probed.old probed.new }
     {
         match self.get_by(item.key(), asked, probed) {
-            Some(found) => has_others(found, item.key2(), asked) && item == found,
+            Some(found) => item == found,
             None => false,
         }
     }

@@ -1,15 +1,16 @@
-//! Looking up one key at once.
+//! Looking up a key for an entry.
 //!
 //! Made by tests/twins from crates/iddqd_bi/src/map/entry.rt: change that file.
 ghost use Rattle.std.specs.Prelude.{◌≡◌};
-ghost use Rattle.iddqd_store.specs.Bag.{entry};
+ghost use Rattle.iddqd_store.specs.Bag.{IsOnly};
 ghost use Rattle.iddqd_store.specs.Map.{bag};
-ghost use Rattle.iddqd_id.specs.Keys.{key_tests};
-ghost use Rattle.iddqd_id.specs.Entries.{HasKeys, IsFound, entry_lender, entry_map, entry_value};
+ghost use Rattle.iddqd_id.specs.Keys.{has};
+ghost use Rattle.iddqd_id.specs.Entries.{IsFound, entry_item, entry_key, entry_lender, entry_map};
 
 use super::IdHashMap;
 use crate::entry::{Entry, OccupiedEntry, VacantEntry};
 use crate::item::IdHashItem;
+use crate::ref_mut::RefMut;
 use iddqd_store::{Meter, Query};
 use std::hash::{BuildHasher, Hash};
 
@@ -32,10 +33,9 @@ impl<T: IdHashItem, S: BuildHasher> IdHashMap<T, S> {
         // The entry borrows this very map, unchanged, and has these queries.
         ensures same_map { entry_lender result ≡ self.entry.ghost_name }
         ensures unchanged { entry_map result ≡ self.old }
-        ensures keys { HasKeys result query }
-        // It has found the items that have the keys that the queries stand for.
-        ensures value { entry_value result
-            ≡ entry (key_tests T.IdHashItem Q.stands_for query) (bag self.old) }
+        ensures keys { entry_key result ≡ query }
+        // It has found the item that has the key that the query stands for, if there is one.
+        ensures value { IsOnly (has T.IdHashItem Q.stands_for query) (bag self.old) (entry_item result) }
         ensures is_found { IsFound result }
     {
         match self.search_all(query, &mut Meter::new(), &mut Meter::new()) {
@@ -44,11 +44,13 @@ impl<T: IdHashItem, S: BuildHasher> IdHashMap<T, S> {
                 query,
                 at,
             }),
-            Err(by) => Entry::Occupied(OccupiedEntry {
-                map: self,
-                query,
-                slot: by.slot(),
-            }),
+            Err(by) => match by.slot() {
+                Some(slot) => Entry::Occupied(OccupiedEntry {
+                    guard: RefMut { map: self, slot },
+                    query,
+                }),
+                None => unreachable!(),
+            },
         }
     }
 }

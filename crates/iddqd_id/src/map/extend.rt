@@ -1,7 +1,7 @@
 //! Inserting many items at once.
 //!
 //! Made by tests/twins from crates/iddqd_bi/src/map/extend.rt: change that file.
-ghost use Rattle.std.specs.Prelude.{◌≡◌, ◌≤◌, [], length, IsPermutation, IfOk, IfErr, OnOk, OnErr, IsOk};
+ghost use Rattle.std.specs.Prelude.{◌≡◌, ◌≤◌, [], ◌∷◌, length, IsPermutation, IfOk, IfErr, OnOk, OnErr, IsOk};
 ghost use Rattle.std.specs.Iterator.{IsFiniteIterable};
 ghost use Rattle.iddqd_store.specs.Bag.{IsSound, clash, overs};
 ghost use Rattle.iddqd_store.specs.Bag.Building.{GivesAll, GivesThen, FitsOn, AddsTo, RefusesFor, HasPlaceFor, MatchFromIterError};
@@ -153,8 +153,8 @@ impl<T: Ranked + Drop, S: BuildHasher + Default + Drop> IdHashMap<T, S> {
         ensures fits { IfOk result (λ map. length (bag map) ≤ map.capacity) }
         // The error has the first item that could not be inserted, and why.
         ensures refused { IfErr result (λ e. MatchFromIterError e
-            (λ x duplicates. GivesThen I.into_iter_gives I.IntoIter.next_gives iter x
-            (RefusesFor T.ranks x duplicates))
+            (λ x duplicate. GivesThen I.into_iter_gives I.IntoIter.next_gives iter x
+            (RefusesFor T.ranks x (duplicate ∷ [])))
             (λ x. GivesThen I.into_iter_gives I.IntoIter.next_gives iter x
             (HasPlaceFor T.ranks x))) }
         ensures builder { IfOk result (λ map. S.is_default map.builder) }
@@ -167,9 +167,11 @@ impl<T: Ranked + Drop, S: BuildHasher + Default + Drop> IdHashMap<T, S> {
             match map.insert_or_refuse(item, &mut Meter::new(), &mut Meter::new()) {
                 Ok(()) => {}
                 Err(Refusal::Duplicate(item, by)) => {
-                    let found = each_once(by.slot());
-                    let duplicates = map.take_all(&found);
-                    return Err(FromIterError::Duplicate(DuplicateItem::new(item, duplicates)));
+                    let Some(slot) = by.slot() else {
+                        unreachable!()
+                    };
+                    let duplicate = map.take(slot, None, &mut Meter::new());
+                    return Err(FromIterError::Duplicate(DuplicateItem::new(item, duplicate)));
                 }
                 Err(Refusal::Memory(item)) => return Err(FromIterError::Memory(item)),
             }

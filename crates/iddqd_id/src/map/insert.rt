@@ -10,7 +10,7 @@ use super::IdHashMap;
 use super::slots::Refusal;
 use crate::error::{InsertError, Rejected};
 use crate::item::Ranked;
-use iddqd_store::{Meter, UpToTwo};
+use iddqd_store::Meter;
 use std::hash::{BuildHasher, Hash};
 
 impl<T: Ranked, S: BuildHasher> IdHashMap<T, S> {
@@ -49,7 +49,7 @@ impl<T: Ranked, S: BuildHasher> IdHashMap<T, S> {
         match self.insert_or_refuse(item, &mut Meter::new(), &mut Meter::new()) {
             Ok(()) => Ok(()),
             Err(Refusal::Duplicate(item, by)) => {
-                let found = each_once(by.slot());
+                let found = by.slot();
                 Err(InsertError {
                     map: self,
                     item,
@@ -59,7 +59,7 @@ impl<T: Ranked, S: BuildHasher> IdHashMap<T, S> {
             Err(Refusal::Memory(item)) => Err(InsertError {
                 map: self,
                 item,
-                found: UpToTwo::new(),
+                found: None,
             }),
         }
     }

@@ -2,6 +2,7 @@
 //!
 //! Made by tests/twins from crates/iddqd_bi/src/map/overwrite.rt: change that file.
 ghost use Rattle.std.specs.Prelude.{◌≡◌, ◌<◌, ◌+◌, length, map, IsOk, IfOk, IfErr, OnOk, OnErr};
+ghost use Rattle.std.specs.Option.{option_to_list};
 ghost use Rattle.iddqd_store.specs.Bag.{order};
 ghost use Rattle.iddqd_store.specs.Map.{bag, IsFullFor, Overwrites};
 ghost use Rattle.iddqd_store.specs.Rank.All.{PlacingCosts, hashes_of};
@@ -9,7 +10,7 @@ ghost use Rattle.iddqd_store.specs.Rank.All.{PlacingCosts, hashes_of};
 use super::IdHashMap;
 use super::slots::Refusal;
 use crate::item::{Hashed, Ranked};
-use iddqd_store::{MemoryRefused, Meter, UpToTwo};
+use iddqd_store::{MemoryRefused, Meter};
 use std::hash::{BuildHasher, Hash};
 
 impl<T: Ranked, S: BuildHasher> IdHashMap<T, S> {
@@ -20,9 +21,9 @@ impl<T: Ranked, S: BuildHasher> IdHashMap<T, S> {
     /// it fails only if the map is full and there is no memory to grow. The error then has the item, and the map is as
     /// it was.
     #[inline(always)]
-    pub fn insert_overwrite(&mut self, item: T) -> Result<UpToTwo<T>, MemoryRefused<T>>
+    pub fn insert_overwrite(&mut self, item: T) -> Result<Option<T>, MemoryRefused<T>>
         // The conflicting items are returned, in the order of the item's keys, and the item is in their place.
-        ensures displaced { IfOk result (λ gone. gone ≡ order T.ranks (bag self.old) item) }
+        ensures displaced { IfOk result (λ gone. option_to_list gone ≡ order T.ranks (bag self.old) item) }
         ensures overwrites { OnOk result (Overwrites T.ranks self.old item self.new) }
         // With spare capacity the call never fails.
         ensures granted { length (bag self.old) < self.old.capacity → IsOk result }
@@ -43,9 +44,9 @@ impl<T: Ranked, S: BuildHasher> IdHashMap<T, S> {
         item: T,
         asked: &mut Meter,
         probed: &mut Meter,
-    ) -> Result<UpToTwo<T>, MemoryRefused<T>>
+    ) -> Result<Option<T>, MemoryRefused<T>>
         // The conflicting items are returned, in the order of the item's keys, and the item is in their place.
-        ensures displaced { IfOk result (λ gone. gone ≡ order T.ranks (bag self.old) item) }
+        ensures displaced { IfOk result (λ gone. option_to_list gone ≡ order T.ranks (bag self.old) item) }
         ensures overwrites { OnOk result (Overwrites T.ranks self.old item self.new) }
         // With spare capacity the call never fails.
         ensures granted { length (bag self.old) < self.old.capacity → IsOk result }
@@ -61,10 +62,10 @@ impl<T: Ranked, S: BuildHasher> IdHashMap<T, S> {
         // Of the calls below, `put_over` and the growth of a full map are not inlined. The rest is inlined, so a
         // caller's loop branches on the outcome where it arises, and writes no list of removed items if there are none.
         match self.insert_or_refuse(item, asked, probed) {
-            Ok(()) => Ok(UpToTwo::new()),
+            Ok(()) => Ok(None),
             Err(Refusal::Duplicate(item, by)) => {
                 let (displaced, _) = self.put_over(item, &by, probed);
-                Ok(displaced)
+                Ok(Some(displaced))
             }
             Err(Refusal::Memory(value)) => Err(MemoryRefused { value }),
         }

@@ -27,7 +27,7 @@ use super::IdHashMap;
 use crate::error::EntryError;
 use crate::item::{Hashed, IdHashItem, Ranked};
 use crate::ranks::First;
-use iddqd_store::{ItemIndex, Lookup, Meter, Query, SlotUnder, UpToTwo, Vacancy};
+use iddqd_store::{ItemIndex, Lookup, Meter, Query, SlotUnder, Vacancy};
 use std::hash::{BuildHasher, Hash};
 
 /// An item that was not inserted, and why. It does not borrow the map.
@@ -92,10 +92,9 @@ impl<T: IdHashItem, S: BuildHasher> IdHashMap<T, S> {
             asked.old asked.new probed.old probed.new }
     {
         let hash = self.hash_builder.hash_one(query);
-        let by = self.by_key().search(hash, query, asked, probed);
-        match by {
+        match self.by_key().search(hash, query, asked, probed) {
+            Ok(slot) => Err(SlotUnder::new(Some(slot), hash)),
             Err(at) => Ok(at),
-            by => Err(SlotUnder::new(by.ok(), hash)),
         }
     }
 
@@ -145,9 +144,9 @@ impl<T: IdHashItem, S: BuildHasher> IdHashMap<T, S> {
         slot
     }
 
-    /// Inserts an item that has these keys, which no item of the map has, and returns its slot. The error names the
-    /// lowest rank at which the item has another key, or says that there was no memory. The call compares the item's
-    /// keys with the given ones. It searches for no key, and hashes none.
+    /// Inserts an item that has these keys, which no item of the map has, and returns its slot. The error says
+    /// whether the item has another key, or whether there was no memory. The call compares the item's key with the given
+    /// one. It searches for no key, and hashes none.
     pub(crate) fn insert_free<Q: Query<T::Key>>(
         &mut self,
         item: T,
@@ -168,8 +167,8 @@ impl<T: IdHashItem, S: BuildHasher> IdHashMap<T, S> {
             (key_tests T.IdHashItem Q.stands_for query) self.old item) }
         ensures unchanged { OnErr result (self.new ≡ self.old) }
     {
-        if let Some(rank) = differ(&item, query) {
-            return Err(EntryError::at(rank, item));
+        if !query.stands_for(item.key()) {
+            return Err(EntryError::Key(item));
         }
         if let Err(_) = self.make_room(1) {
             return Err(EntryError::Memory(item));

@@ -1,17 +1,17 @@
 //! The calls of a guard.
 //!
 //! Made by tests/twins from crates/iddqd_bi/src/ref_mut/methods.rt: change that file.
-ghost use Rattle.std.specs.Prelude.{◌≡◌, Some, IfSome, IfOk, IfErr, OnErr, IsPermutation};
+ghost use Rattle.std.specs.Prelude.{◌≡◌, [], ◌∷◌, Some, IfSome, IfOk, IfErr, OnErr, IsPermutation};
 ghost use Rattle.std.specs.Borrow.{sem};
 ghost use Rattle.iddqd_store.specs.Bag.{differ, like, swap};
-ghost use Rattle.iddqd_store.specs.Map.{bag};
-ghost use Rattle.iddqd_id.specs.Mismatch.{mismatch_item, mismatch_rank};
+ghost use Rattle.iddqd_store.specs.Map.{bag, Loses};
 ghost use Rattle.iddqd_id.specs.RefMuts.{Replaces, ref_map, ref_item, ref_with, lends_map_data, lends_ref_data};
 
 use super::RefMut;
 use crate::error::KeyMismatch;
 use crate::item::{IdHashItem, IdHashItemMut, Ranked};
 use crate::map::IdHashMap;
+use iddqd_store::{Meter, Query};
 use std::hash::{BuildHasher, Hash};
 use std::ops::Deref;
 
@@ -64,20 +64,19 @@ impl<'a, T: IdHashItemMut, S: BuildHasher> RefMut<'a, T, S> {
 
 impl<T: Ranked, S: BuildHasher> RefMut<'_, T, S> {
     /// Replaces the item by one with equal keys, and returns it. If the new item has another key, the error has the new
-    /// item and names the lowest rank at which the keys differ. Nothing changes then.
+    /// item, and nothing changes.
     ///
-    /// The call compares the keys rank by rank, up to the first that differs. It hashes none, and allocates no memory.
+    /// The call compares the keys. It hashes none, and allocates no memory.
     pub fn replace(&mut self, item: T) -> Result<T, KeyMismatch<T>>
         // The item that was borrowed is returned, and the new one, with equal keys, is in its place.
         ensures replaces { IfOk result (λ x. Replaces T.ranks self.old item x self.new) }
         // An item with another key is returned, and nothing changes.
-        ensures handed_back { IfErr result (λ e. mismatch_item e ≡ item) }
-        ensures rank { IfErr result (λ e. IfSome (ref_item self.old) (λ x.
-            differ (like T.ranks x) item ≡ Some (mismatch_rank e))) }
+        ensures handed_back { IfErr result (λ e. e.item ≡ item) }
+        ensures rank { OnErr result (IfSome (ref_item self.old) (λ x. differ (like T.ranks x) item ≡ Some 0)) }
         ensures unchanged { OnErr result (self.new ≡ self.old) }
     {
-        if let Some(rank) = differ(&item, self.key()) {
-            return Err(KeyMismatch::at(rank, item));
+        if !self.key().stands_for(item.key()) {
+            return Err(KeyMismatch { item });
         }
         let slot = self.slot;
         Ok(self.map.replace_at(slot, item))
@@ -100,5 +99,13 @@ impl<'a, T: IdHashItem, S: BuildHasher> RefMut<'a, T, S> {
         let RefMut { map, slot } = self;
         let map: &'a IdHashMap<T, S> = map;
         map.item_at(slot)
+    }
+    /// Removes the item from the map, and returns it.
+    pub(crate) fn take(self) -> T
+        ensures taken { ref_item self.entry ≡ Some result }
+        ensures loses { Loses (ref_map self.entry) (result ∷ []) self.exit.0.now }
+    {
+        let RefMut { map, slot } = self;
+        map.take(slot, None, &mut Meter::new())
     }
 }

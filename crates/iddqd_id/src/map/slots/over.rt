@@ -5,28 +5,21 @@ ghost use Rattle.std.specs.Prelude.{◌≡◌, ◌≢◌, ◌+◌, ◌≤◌, []
 ghost use Rattle.iddqd_store.specs.Bag.{clash, order, over};
 ghost use Rattle.iddqd_store.specs.Map.{bag, ListsConflicts, PutsAt};
 ghost use Rattle.iddqd_store.specs.Rank.All.{ArePlacesOf, AreUnder, HaveHashes, PlacingCosts, hashes_of};
-ghost use Rattle.iddqd_store.specs.Rank.{walks_one, walks_within, walks_two};
+ghost use Rattle.iddqd_store.specs.Rank.{walks_one, walks_within};
 ghost use Rattle.iddqd_store.specs.Slots.{get, contents, IsLive};
 ghost use Rattle.iddqd_store.specs.Slots.Found.{each_once};
 
 use super::super::IdHashMap;
 use crate::item::{Hashed, IdHashItem, Ranked};
 use crate::ranks::First;
-use iddqd_store::{ItemIndex, Meter, SlotUnder, UpToTwo, Vacancy};
+use iddqd_store::{ItemIndex, Meter, SlotUnder, Vacancy};
 use std::hash::{BuildHasher, Hash};
 
 impl<T: IdHashItem, S: BuildHasher> IdHashMap<T, S> {
-    /// Inserts an item in place of those that conflict with it, whose slots the searches by its keys found, and returns
-    /// these items, with the slot of the new one. There is at least one, whose slot the new item takes. The call does
-    /// not hash a key by which a search found its item. The number of its walks through each table is at most one more
-    /// than the number of items that it displaces.
+    /// Inserts an item in place of the one that conflicts with it, whose slot the search by its key found, and returns that
+    /// one, with its slot, which the new item takes. The call hashes no key.
     #[inline(never)]
-    pub(crate) fn put_over(
-        &mut self,
-        item: T,
-        by: &SlotUnder,
-        meter: &mut Meter,
-    ) -> (UpToTwo<T>, ItemIndex)
+    pub(crate) fn put_over(&mut self, item: T, by: &SlotUnder, meter: &mut Meter) -> (T, ItemIndex)
         requires conflicts { ListsConflicts ⟦<T as Ranked>⟧.ranks self.old item
             (each_once (by.now.slot ∷ [])) }
         requires some { length (each_once (by.now.slot ∷ [])) ≢ 0 }
@@ -34,26 +27,16 @@ impl<T: IdHashItem, S: BuildHasher> IdHashMap<T, S> {
             (hashes_of (⟦<T as Hashed<S>>⟧.hashes self.old.builder) item) (by.now ∷ []) }
         requires under { AreUnder
             (⟦<T as Hashed<S>>⟧.hashes self.old.builder) self.old.slots (by.now ∷ []) }
-        ensures displaced { result.0 ≡ order ⟦<T as Ranked>⟧.ranks (bag self.old) item }
+        ensures displaced { result.0 ∷ [] ≡ order ⟦<T as Ranked>⟧.ranks (bag self.old) item }
         ensures puts_at { PutsAt ⟦<T as Ranked>⟧.ranks self.old result.1 item
             (over ⟦<T as Ranked>⟧.ranks (bag self.old) item) self.new }
         ensures costs { meter.new ≤ meter.old + walks_within (length (bag self.old))
-            (map (λ _. length result.0 + 1) ⟦<T as Ranked>⟧.ranks) }
+            (map (λ _. 2) ⟦<T as Ranked>⟧.ranks) }
     {
-        let mut found = each_once(by.slot());
-        let Some(slot) = found.pop_front() else {
+        let Some(slot) = by.slot() else {
             unreachable!()
         };
-        let Some(other_slot) = found.pop_front() else {
-            let mut displaced = UpToTwo::new();
-            displaced.push(self.exchange(slot, item, by, meter));
-            return (displaced, slot);
-        };
-        let mut displaced = UpToTwo::new();
-        let (gone, other) = self.exchange_two(slot, other_slot, item, by, meter);
-        displaced.push(gone);
-        displaced.push(other);
-        (displaced, slot)
+        (self.exchange(slot, item, by, meter), slot)
     }
 
     /// Puts an item into the slot of another, whatever their keys are, and returns the latter. If an item in a third
@@ -82,17 +65,13 @@ impl<T: IdHashItem, S: BuildHasher> IdHashMap<T, S> {
             Ok(at) => return Ok(self.exchange_at(slot, item, at, probed)),
             Err(by) => by,
         };
-        let mut found = each_once(by.slot());
-        let Some(other) = found.pop_front() else {
+        let Some(other) = by.slot() else {
             unreachable!()
         };
         if other != slot {
             return Err(item);
         }
-        match found.pop_front() {
-            Some(_) => Err(item),
-            None => Ok(self.exchange(slot, item, &by, probed)),
-        }
+        Ok(self.exchange(slot, item, &by, probed))
     }
 
     /// Puts an item with which nothing conflicts into the slot of another, and returns the latter. If both have the
@@ -138,7 +117,7 @@ impl<T: IdHashItem, S: BuildHasher> IdHashMap<T, S> {
         let _ = self.room();
         let gone = self.items.replace(slot, item);
         self.first
-            .rehash::<T, First, S>(&self.hash_builder, (slot, &gone), &by, meter);
+            .rehash::<T, First, S>(&self.hash_builder, (slot, &gone), by, meter);
         gone
     }
 }

@@ -67,12 +67,10 @@ impl<T: IdHashItem, S: BuildHasher> IdHashMap<T, S> {
             return Err(TryReserveError);
         };
         let mut meter = Meter::new();
-        // First the parts that have more room than the map. In the second turn these have nothing to do.
+        // First the slots, if they have more room than the map. In the second turn they have nothing to do then.
         let room = self.room();
         let slots = wanted_above(room, self.items.capacity(), more);
         self.items.try_reserve(slots)?;
-        let pairs2 = wanted_above(room, self.second.capacity(), wanted);
-        self.second.try_reserve(pairs2, &mut meter)?;
         self.first.try_reserve(wanted, &mut meter)?;
         self.items.try_reserve(more)?;
         Ok(())

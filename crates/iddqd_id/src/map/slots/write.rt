@@ -17,7 +17,7 @@ ghost use Rattle.iddqd_store.specs.Slots.Kept.{KeepsKeys};
 
 use super::super::IdHashMap;
 use crate::item::{IdHashItem, IdHashItemMut, Ranked};
-use iddqd_store::{ItemIndex, UpToTwo};
+use iddqd_store::ItemIndex;
 use std::hash::{BuildHasher, Hash};
 
 impl<T: IdHashItem, S: BuildHasher> IdHashMap<T, S> {
@@ -67,26 +67,6 @@ impl<T: IdHashItemMut, S: BuildHasher> IdHashMap<T, S> {
             T.Data.row T.put self.entry slot result) }
     {
         self.items.item_mut(slot).data_mut()
-    }
-
-    /// Returns the data of the item of a live slot, borrowed for writing, or `None` if there is no slot.
-    pub(crate) fn data_mut_of(&mut self, slot: Option<ItemIndex>) -> Option<&mut T::Data>
-        requires { IfSome slot (IsLive self.old.slots) }
-        ensures some { is_some result ≡ is_some slot }
-        ensures sound { IfSome slot (λ slot. IsSound ⟦<T as Ranked>⟧.ranks (bag self.old)) }
-        ensures value { (x : T) → option_and_then (get self.old.slots) slot ≡ Some x
-            → IfSome result (λ r. r.now ≡ T.data_of x) }
-        ensures swaps { (x : T) (d : T.Data) → option_and_then (get self.old.slots) slot ≡ Some x
-            → IsPermutation (bag (map_with_if self.old slot (λ y. T.put y d)))
-            (swap ⟦<T as Ranked>⟧.ranks (bag self.old) x (T.put x d)) }
-        ensures* writes_back { sem 𝓛 (lends_data_if T.row S.row T.Key.row S.Hasher.row
-            T.IdHashItem T.Key.Hash S.BuildHasher S.Hasher.Hasher
-            T.Data.row T.put self.entry slot result) }
-    {
-        match slot {
-            Some(slot) => Some(self.data_mut_at(slot)),
-            None => None,
-        }
     }
 
     /// Calls a closure with the item of a slot, and stores what it returns as the item's data.

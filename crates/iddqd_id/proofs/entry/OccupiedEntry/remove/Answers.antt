@@ -1,7 +1,0 @@
--- Made by tests/twins from crates/iddqd_bi/proofs/entry/OccupiedEntry/remove/Answers.antt: change that file.
-use Rattle.std.proofs.Common.{[], ◌∷◌}
-use Rattle.iddqd_store.proofs.SlotLemmas.Entries.{IsDistinct-each_once}
-use Rattle.iddqd_id.proofs.entry.OccupiedEntry.remove.Goals as goal
-
-pub take_all-requires-clause-apart : goal.take_all-requires-clause-apart
-take_all-requires-clause-apart g c = rw c.each_once.ensures (IsDistinct-each_once (c.args.self.slot ∷ []))
