@@ -42,7 +42,7 @@ NOTHING = re.compile(r"""(?x)^(
     | occupied_mut | OccupiedEntryMut | occupied_ref | OccupiedEntryRef | OccupiedRefs | insert_mut | lend | data_mut_of
     | [Hh]eld\w* | Holds(Same)? | GainsAndHolds
     # The rank at which a key differs, and lists of what several searches found.
-    | differ | at | each_once | items_of | take_all | store_all | store_found | conflicts | conflicts_with
+    | differ | at | each_once | items_of | take_all | store_all | store_found | for_each | conflicts | conflicts_with
     # Commands as values, and what carries them out.
     | command | run | Step | Refusals | Runs | apply_\w+ | map/\w+/(or_insert|entry_insert|set)
     )$""")

@@ -46,6 +46,6 @@ impl<T: IdHashItem, S: BuildHasher, Q: Query<T::Key>> Debug for VacantEntry<'_, 
 impl<T: IdHashItem + Debug, S: BuildHasher, Q: Query<T::Key>> Debug for OccupiedEntry<'_, T, S, Q> {
     /// Prints the item.
     fn fmt<W: Write>(&self, f: &mut Formatter<W>) -> fmt::Result {
-        f.debug_tuple("OccupiedEntry").field(&self.guard).finish()
+        f.debug_tuple("OccupiedEntry").field(self.get()).finish()
     }
 }

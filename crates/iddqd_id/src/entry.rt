@@ -10,8 +10,7 @@ ghost use Rattle.iddqd_id.specs.Keys.{key_tests};
 
 use crate::item::IdHashItem;
 use crate::map::{DefaultHashBuilder, IdHashMap};
-use crate::ref_mut::RefMut;
-use iddqd_store::{Query, Vacancy};
+use iddqd_store::{ItemIndex, Query, Vacancy};
 use std::hash::{BuildHasher, Hash};
 
 mod all;
@@ -54,7 +53,7 @@ pub struct VacantEntry<
         (at ∷ []) },
 }
 
-/// An entry with a key that an item of the map has. It keeps a guard of that item.
+/// An entry with a key that an item of the map has. It keeps the slot of that item.
 #[derive(Drop)]
 pub struct OccupiedEntry<
     'a,
@@ -62,6 +61,7 @@ pub struct OccupiedEntry<
     S: BuildHasher = DefaultHashBuilder,
     Q: Query<T::Key> = &'a <T as IdHashItem>::Key,
 > {
-    pub(crate) guard: RefMut<'a, T, S>,
+    pub(crate) map: &'a mut IdHashMap<T, S>,
     pub(crate) query: Q,
+    pub(crate) slot: ItemIndex,
 }

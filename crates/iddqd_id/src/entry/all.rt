@@ -1,12 +1,12 @@
 //! The calls of an entry that may be vacant or occupied.
 //!
 //! Made by tests/twins from crates/iddqd_bi/src/entry/all.rt: change that file.
-ghost use Rattle.std.specs.Prelude.{◌≡◌, Result, IfOk, IfErr, IfSome};
+ghost use Rattle.std.specs.Prelude.{◌≡◌, Result, IfOk, IfErr, Some};
 ghost use Rattle.std.specs.Fn.{FnOnceReturnsAt, FnOnceTakesAt};
+ghost use Rattle.iddqd_store.specs.Bag.{IsOnly};
 ghost use Rattle.iddqd_store.specs.Bag.Storing.{StoresOne};
 ghost use Rattle.iddqd_store.specs.Map.{bag};
 ghost use Rattle.iddqd_id.specs.Keys.{has};
-ghost use Rattle.iddqd_id.specs.RefMuts.{ref_item, ref_map};
 ghost use Rattle.iddqd_id.specs.Entries.{IsFound, KeepsEntry, KeepsFound, OnOccupied, OnVacant, PutsIn, PutsInMade, entry_lender, entry_map};
 
 use super::Entry;
@@ -25,6 +25,7 @@ impl<'a, T: IdHashItem, S: BuildHasher, Q: Query<T::Key>> Entry<'a, T, S, Q> {
     pub fn or_insert(self, item: T) -> Result<RefMut<'a, T, S>, EntryRefusal<'a, T, S>>
     where
         T: Drop,
+        requires { IsFound self }
         ensures same_map { IfOk result (λ m. m.map.ghost_name ≡ entry_lender self.entry) }
         ensures same_map_at_err { IfErr result (λ e. e.map.ghost_name ≡ entry_lender self.entry) }
         ensures puts_in { OnVacant self.entry (λ v. PutsIn v item result) }
@@ -44,7 +45,8 @@ impl<'a, T: IdHashItem, S: BuildHasher, Q: Query<T::Key>> Entry<'a, T, S, Q> {
     ) -> Result<RefMut<'a, T, S>, EntryRefusal<'a, T, S>>
     where
         F: Drop,
-        requires { OnVacant self (λ v. F.pre f) }
+        requires callable { OnVacant self (λ v. F.pre f) }
+        requires is_found { IsFound self }
         ensures same_map { IfOk result (λ m. m.map.ghost_name ≡ entry_lender self.entry) }
         ensures same_map_at_err { IfErr result (λ e. e.map.ghost_name ≡ entry_lender self.entry) }
         ensures puts_in { OnVacant self.entry (λ v. (x : T) × F.post f x × PutsIn v x result) }
@@ -72,7 +74,8 @@ impl<'a, T: IdHashItem, S: BuildHasher, Q: Query<T::Key>> Entry<'a, T, S, Q> {
     ) -> Result<RefMut<'a, T, S>, TryEntryRefusal<'a, T, E, S>>
     where
         F: Drop,
-        requires { OnVacant self (λ v. F.pre f) }
+        requires callable { OnVacant self (λ v. F.pre f) }
+        requires is_found { IsFound self }
         // What is returned borrows this very map, which is as it was if the call fails.
         ensures same_map { IfOk result (λ m. m.map.ghost_name ≡ entry_lender self.entry) }
         ensures same_map_at_err { IfErr result (λ e. e.map.ghost_name ≡ entry_lender self.entry) }
@@ -98,12 +101,13 @@ impl<'a, T: IdHashItemMut, S: BuildHasher, Q: Query<T::Key>> Entry<'a, T, S, Q> 
     where
         T::Data: Drop,
         F: Drop,
-        requires callable { OnOccupied self (λ o. IfSome (ref_item o.guard) (FnOnceTakesAt F.FnOnce f)) }
+        requires callable { OnOccupied self (λ o. (x : T)
+            → IsOnly (has T.IdHashItem Q.stands_for o.query) (bag o.map.now) (Some x) → FnOnceTakesAt F.FnOnce f x) }
         requires is_found { IsFound self }
         // A vacant entry stays as it was. The item that was found gets the data that the closure returns for it.
         ensures vacant { OnVacant self.entry (λ v. result ≡ self.entry) }
         ensures stores { OnOccupied self.entry (λ o. StoresOne (FnOnceReturnsAt F.FnOnce f) T.put ⟦<T as Ranked>⟧.ranks
-            (has T.IdHashItem Q.stands_for o.query) (bag (ref_map o.guard)) (bag (entry_map result))) }
+            (has T.IdHashItem Q.stands_for o.query) (bag o.map.now) (bag (entry_map result))) }
         // The entry borrows the same map, and has the same key, which finds the item. Nothing else changes.
         ensures keeps_entry { KeepsEntry self.entry result }
         ensures is_found { IsFound result }

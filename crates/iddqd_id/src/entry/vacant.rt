@@ -62,10 +62,7 @@ impl<'a, T: IdHashItem, S: BuildHasher, Q: Query<T::Key>> VacantEntry<'a, T, S, 
     {
         let VacantEntry { map, query, at } = self;
         match map.insert_free(item, query, at) {
-            Ok(slot) => Ok(OccupiedEntry {
-                guard: RefMut { map, slot },
-                query,
-            }),
+            Ok(slot) => Ok(OccupiedEntry { map, query, slot }),
             Err(error) => Err(EntryRefusal { map, error }),
         }
     }

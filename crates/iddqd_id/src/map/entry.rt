@@ -10,7 +10,6 @@ ghost use Rattle.iddqd_id.specs.Entries.{IsFound, entry_item, entry_key, entry_l
 use super::IdHashMap;
 use crate::entry::{Entry, OccupiedEntry, VacantEntry};
 use crate::item::IdHashItem;
-use crate::ref_mut::RefMut;
 use iddqd_store::{Meter, Query};
 use std::hash::{BuildHasher, Hash};
 
@@ -46,8 +45,9 @@ impl<T: IdHashItem, S: BuildHasher> IdHashMap<T, S> {
             }),
             Err(by) => match by.slot() {
                 Some(slot) => Entry::Occupied(OccupiedEntry {
-                    guard: RefMut { map: self, slot },
+                    map: self,
                     query,
+                    slot,
                 }),
                 None => unreachable!(),
             },

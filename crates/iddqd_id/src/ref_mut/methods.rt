@@ -1,17 +1,17 @@
 //! The calls of a guard.
 //!
 //! Made by tests/twins from crates/iddqd_bi/src/ref_mut/methods.rt: change that file.
-ghost use Rattle.std.specs.Prelude.{◌≡◌, [], ◌∷◌, Some, IfSome, IfOk, IfErr, OnErr, IsPermutation};
+ghost use Rattle.std.specs.Prelude.{◌≡◌, Some, IfSome, IfOk, IfErr, OnErr, IsPermutation};
 ghost use Rattle.std.specs.Borrow.{sem};
 ghost use Rattle.iddqd_store.specs.Bag.{differ, like, swap};
-ghost use Rattle.iddqd_store.specs.Map.{bag, Loses};
+ghost use Rattle.iddqd_store.specs.Map.{bag};
 ghost use Rattle.iddqd_id.specs.RefMuts.{Replaces, ref_map, ref_item, ref_with, lends_map_data, lends_ref_data};
 
 use super::RefMut;
 use crate::error::KeyMismatch;
 use crate::item::{IdHashItem, IdHashItemMut, Ranked};
 use crate::map::IdHashMap;
-use iddqd_store::{Meter, Query};
+use iddqd_store::Query;
 use std::hash::{BuildHasher, Hash};
 use std::ops::Deref;
 
@@ -99,13 +99,5 @@ impl<'a, T: IdHashItem, S: BuildHasher> RefMut<'a, T, S> {
         let RefMut { map, slot } = self;
         let map: &'a IdHashMap<T, S> = map;
         map.item_at(slot)
-    }
-    /// Removes the item from the map, and returns it.
-    pub(crate) fn take(self) -> T
-        ensures taken { ref_item self.entry ≡ Some result }
-        ensures loses { Loses (ref_map self.entry) (result ∷ []) self.exit.0.now }
-    {
-        let RefMut { map, slot } = self;
-        map.take(slot, None, &mut Meter::new())
     }
 }
