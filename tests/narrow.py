@@ -26,11 +26,11 @@ RENAMED = [
     (r"\bslot1: Some\(slot\),\s+slot2: Some\(slot\)", "slot"), (r"\bGainsAndHolds\b", "GainsAndLends"),
     (r"\bgains_and_holds\b", "gains_and_lends"), (r"\binsert_mut\b", "insert"),
     # What is the same at each rank: types or proofs, parts of a list, and arguments of a call.
-    (r"(?<!-> )(?<![\w>])\(([\w:]+(?:\(\))?), \1\)", r"\1"), (r"\b(\w+) × \1\b", r"\1"), (r"\b(ℕ|nat_eq) \1\b", r"\1"),
+    (r"(?<!-> )(?<![\w>])\(([\w:]+(?:\(\))?), \1\)", r"\1"), (r"\((\w+) × \1\)", r"\1"), (r"\b(\w+) × \1\b", r"\1"), (r"\b(ℕ|nat_eq) \1\b", r"\1"),
     (r"\bNone ∷ None(?= ∷)", "None"), (r"\b_ ∷ _ ∷ \[\]", "_ ∷ []"),
     (r"(?<=, )(None|&nothing),\s+\1(?=,?\s*(?:\)|&mut Meter\b))", r"\1"),
     # The walks through each other table, and the least of all.
-    (r"\(1 ∷ \[\]\)", "[]"), (r"\bmin ([\w.]*)first([\w.]*) \1second\2", r"\1first\2"),
+    (r"\(1 ∷ \[\]\)", "[]"), (r"\(min ([\w.]*)first([\w.]*) \1second\2\)", r"\1first\2"),
     # What code takes at one rank alone.
     (r"\bSome\((\w+)\), None(?=,?\s*(?:[)}]|&mut Meter\b))", r"Some(\1)"), (r"\b(\w+)1,(\s+)\1 2: _", r"\1"),
     (r" *// At each other rank:\n *[^;]*;\n", ""),
@@ -47,7 +47,10 @@ NOTHING = re.compile(r"""(?x)^(
     | command | run | Step | Refusals | Runs | apply_\w+ | map/\w+/(or_insert|entry_insert|set)
     )$""")
 # Names without the number of a rank, if the rule is not that the number goes, and phrases of comments.
-NAMED = [(r"\bK1\b", "Key"), (r"\bhash_of1\b", "hash_of_key"), (r"(?<=[A-Za-z])1(?=\b|_)", ""), (r"\n *let (\w+) = \1;", "")]
+NAMED = [
+    (r"\bK1\b", "Key"), (r"\bhash_of1\b", "hash_of_key"), (r"(?<=[A-Za-z])1(?=\b|_)", ""), (r"\n *let (\w+) = \1;", ""),
+    (r"\(\[\]\)", "[]"), (r"\n *∷ \[\]", " ∷ []"),
+]
 PHRASED = [
     (r"\b([Aa]|[Tt]he|[Ii]ts|of the|an item's|item's|equal|[Aa]ll|another) first (keys?|rank)\b", r"\1 \2"), (r"\bfirst (keys)\b", r"\1"),
 ]
@@ -95,7 +98,7 @@ class Pieces(widen.Pieces):
         if made and at and self.words[at - 1][1] == "(" == made[-1][1] and matches(self.words, end, ")"):
             before = made[-2][1][-1] if len(made) > 1 else " "
             is_tuple = made[-1][0] or not (before.isalnum() or before in "_>!")
-            if is_tuple and not has_comma(kept):
+            if is_tuple and not is_parted(kept):
                 return end + 1, [(made.pop()[0], kept[0][1]), *kept[1:]]
         return after, kept
 
@@ -117,9 +120,9 @@ def one_part(one, two):
     return [it for it, like in zip(one, two) if (it[1], like[1]) != (".0", ".1")]
 
 
-def has_comma(words):
-    """Returns whether words have a comma outside of brackets."""
-    return any(word == "," and is_balanced(words[:at]) for at, (_, word) in enumerate(words))
+def is_parted(words):
+    """Returns whether words have a comma or a space outside of brackets, so that they are no single thing."""
+    return any((word == "," or space and at) and is_balanced(words[:at]) for at, (space, word) in enumerate(words))
 
 
 def narrowed(words):

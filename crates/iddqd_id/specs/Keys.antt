@@ -25,6 +25,6 @@ module _ {T Key : Type 0} (of : item.Ghosts T Key) where
 
 -- `by_rank` lists what the search of each rank returned. No public clause cites it.
 -- Example: If no search found a slot, it is `Ok` of the cells at which they ended.
-abbrev pub by_rank : {A B : Type 0} → Result (A) (B) → Result (List A) (List B)
+abbrev pub by_rank : {A B : Type 0} → Result A B → Result (List A) (List B)
 by_rank (Ok at) = Ok (at ∷ [])
 by_rank (Err found) = Err (found ∷ [])

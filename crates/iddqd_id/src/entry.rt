@@ -46,10 +46,8 @@ pub struct VacantEntry<
     ghost absent: { listing (key_tests T.IdHashItem Q.stands_for query)
         (bag map.now) ≡ [] },
     ghost vacant: { AreVacantFor
-        (key_hash T.key T.Key.hash_input S.BuildHasher S.Hasher.Hasher map.now.builder
-        ∷ []) (bag map.now)
-        (hash_of S.BuildHasher S.Hasher.Hasher map.now.builder (Q.hash_input query)
-        ∷ [])
+        (key_hash T.key T.Key.hash_input S.BuildHasher S.Hasher.Hasher map.now.builder ∷ []) (bag map.now)
+        (hash_of S.BuildHasher S.Hasher.Hasher map.now.builder (Q.hash_input query) ∷ [])
         (at ∷ []) },
 }
 

@@ -90,8 +90,7 @@ impl<T: IdHashItem, S: BuildHasher> Hashed<S> for T {
 
     ghost hash_is = { refl };
 
-    ghost hashes = { λ s. key_hash T.key T.Key.hash_input S.BuildHasher S.Hasher.Hasher s
-        ∷ [] };
+    ghost hashes = { λ s. key_hash T.key T.Key.hash_input S.BuildHasher S.Hasher.Hasher s ∷ [] };
 
     ghost hashes_are = { refl };
 }

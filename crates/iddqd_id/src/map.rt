@@ -59,12 +59,11 @@ impl<T: IdHashItem, S: BuildHasher> Model for IdHashMap<T, S> {
 
     ghost view = { λ m. record {
       slots = m.items.slots;
-      capacity = min m.items.capacity (m.first.limit);
+      capacity = min m.items.capacity m.first.limit;
       builder = m.hash_builder;
     } };
 
     ghost invariant = { λ m. IsIndexed (ranks T.IdHashItem T.Key.eq)
-        (key_hash T.key T.Key.hash_input S.BuildHasher S.Hasher.Hasher m.hash_builder
-        ∷ [])
+        (key_hash T.key T.Key.hash_input S.BuildHasher S.Hasher.Hasher m.hash_builder ∷ [])
         m.items.slots (m.first.pairs ∷ []) };
 }

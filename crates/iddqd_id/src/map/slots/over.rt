@@ -110,8 +110,7 @@ impl<T: IdHashItem, S: BuildHasher> IdHashMap<T, S> {
         ensures puts_at { PutsAt ⟦<T as Ranked>⟧.ranks self.old slot item
             (item ∷ contents (slice_set self.old.slots slot None)) self.new }
         ensures costs { meter.new ≤ meter.old + walks_within (length (bag self.old))
-            (walks_one (⟦<T as Hashed<S>>⟧.hash self.old.builder) by.now result
-            ∷ []) }
+            (walks_one (⟦<T as Hashed<S>>⟧.hash self.old.builder) by.now result ∷ []) }
     {
         // This call gives the prover the fact that the items fit, for the clause `fits`.
         let _ = self.room();

@@ -13,7 +13,7 @@ invariant_of-copy g c =
     let hashes = rw (← c.self.view_is) at c.requires.same_hashes in
     rw c.in_ok-clone-2.ensures
     (IsIndexed-copy g.T.Clone.is_clone _ _ (AreLawful-ranks g.T.IdHashItem g.met.T.Key.Eq.laws) c.self.invariant
-    (λ x k found is. rw same x k found is refl) (
+    (λ x k found is. rw (same x k found is) refl) (
       (λ x k found is. hashes c.in_ok-hash_builder.hash_builder (g.T.Key.Hash.hash_input (g.T.IdHashItem.key k)) c.in_ok-hash_builder.ensures.cases ∙ ap hash (sym (g.met.T.Key.Hash.respects_eq _ _ (same x k found is)))),
       tt,
     )

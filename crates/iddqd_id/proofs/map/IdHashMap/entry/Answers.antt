@@ -21,7 +21,7 @@ pub returns-in-Err-clause-value : goal.returns-in-Err-clause-value
 returns-in-Err-clause-value g c =
     let tests = key_tests g.T.IdHashItem g.Q.Query.stands_for c.args.query in
     let laws = (AreLawful-ranks g.T.IdHashItem g.met.T.Key.Eq.laws).0 in
-    rw (c.slot.ensures, c.slot-in-Err.ensures) (found_entry laws c.args.self.now.slots c.search_all.ensures.apart tests c.in-Err.by.slot ([]) c.in-Err.ensures.found)
+    rw (c.slot.ensures, c.slot-in-Err.ensures) (found_entry laws c.args.self.now.slots c.search_all.ensures.apart tests c.in-Err.by.slot [] c.in-Err.ensures.found)
 
 pub returns-in-Err-clause-is_found : goal.returns-in-Err-clause-is_found
 returns-in-Err-clause-is_found g c =
@@ -33,7 +33,7 @@ returns-in-Err-clause-is_found g c =
     let listed = found_listing laws slots c.search_all.ensures.apart tests found are in
     rw (c.slot.ensures, c.slot-in-Err.ensures) record {
       found = are;
-      value = found_entry laws slots c.search_all.ensures.apart tests c.in-Err.by.slot ([]) are;
+      value = found_entry laws slots c.search_all.ensures.apart tests c.in-Err.by.slot [] are;
       listed = listed;
       some = λ none. held_some slots tests found are c.in-Err.ensures.some (listed ∙ none);
     }

@@ -49,7 +49,7 @@ invariant_of-self-in_err-try_reserve-4 g c =
 
 same-second : (g : _) (c : goal.After-from_residual-in_err-try_reserve-4 g) →
     min c.try_reserve.new.self.capacity (min c.try_reserve-3.new.self.limit c.try_reserve-4.new.self.limit)
-    ≡ min c.self.inside.items.capacity (c.self.inside.first.limit)
+    ≡ min c.self.inside.items.capacity c.self.inside.first.limit
 same-second g c =
     let room = ap (λ (m : Map _ _). m.capacity) c.self.view_is in
     grind (arith, room, c.in_err-try_reserve-4.ensures.room.reason, length_permutation _ _ c.try_reserve-2.ensures.pairs, length-index c.self.invariant.indexes.1.0, length-contents c.self.inside.items.slots, c.len.ensures.value)
@@ -77,7 +77,7 @@ returns-in_err-try_reserve-5-clause-room g c =
     let live = ap live_count c.try_reserve.ensures.slots in
     let all = length-contents c.self.inside.items.slots in
     let same : min c.try_reserve-5.new.self.capacity (min c.try_reserve-3.new.self.limit c.try_reserve-4.new.self.limit)
-    ≡ min c.self.inside.items.capacity (c.self.inside.first.limit) =
+    ≡ min c.self.inside.items.capacity c.self.inside.first.limit =
     grind (arith, room, c.in_err-try_reserve-5.ensures.reason, live, all, c.len.ensures.value) in
     MakesRoom-err _ _ (search rules)
     (rw (← c.self.view_is) (omega (arith, c.in_err-try_reserve-5.ensures.reason, live, all)))

@@ -20,7 +20,7 @@ pub returns-then-has_others-clause-value : goal.returns-then-has_others-clause-v
 returns-then-has_others-clause-value g c =
     let agree = λ (x y : g.row.T.Denot). g.T.Key.PartialEq.eq (g.T.IdHashItem.key x) (g.T.IdHashItem.key y) in
     let named = rw c.key.ensures at c.get_by.ensures.found in
-    let partner = partner_some agree ([]) g.T.PartialEq.eq (bag c.args.self.now) c.args.item.now _ c.in-Some.found.now named (ap option_copied c.in-Some.is) in
+    let partner = partner_some agree [] g.T.PartialEq.eq (bag c.args.self.now) c.args.item.now _ c.in-Some.found.now named (ap option_copied c.in-Some.is) in
     let equal = rw (c.key2.ensures) at c.has_others.ensures.value in
     c.eq.ensures ∙ sym (partner ∙ rw (sym equal ∙ c.if-has_others.true) refl)
 
@@ -28,7 +28,7 @@ pub returns-else-has_others-clause-value : goal.returns-else-has_others-clause-v
 returns-else-has_others-clause-value g c =
     let agree = λ (x y : g.row.T.Denot). g.T.Key.PartialEq.eq (g.T.IdHashItem.key x) (g.T.IdHashItem.key y) in
     let named = rw c.key.ensures at c.get_by.ensures.found in
-    let partner = partner_some agree ([]) g.T.PartialEq.eq (bag c.args.self.now) c.args.item.now _ c.in-Some.found.now named (ap option_copied c.in-Some.is) in
+    let partner = partner_some agree [] g.T.PartialEq.eq (bag c.args.self.now) c.args.item.now _ c.in-Some.found.now named (ap option_copied c.in-Some.is) in
     let differs = rw (c.key2.ensures) at c.has_others.ensures.value in
     c.if-has_others.false ∙ sym (partner ∙ rw (sym differs ∙ c.if-has_others.false) refl)
 
@@ -36,7 +36,7 @@ pub returns-in-None-clause-value : goal.returns-in-None-clause-value
 returns-in-None-clause-value g c =
     let agree = λ (x y : g.row.T.Denot). g.T.Key.PartialEq.eq (g.T.IdHashItem.key x) (g.T.IdHashItem.key y) in
     let named = rw c.key.ensures at c.get_by.ensures.found in
-    sym (partner_none agree ([]) g.T.PartialEq.eq (bag c.args.self.now) c.args.item.now _ named (ap option_copied c.in-None.is))
+    sym (partner_none agree [] g.T.PartialEq.eq (bag c.args.self.now) c.args.item.now _ named (ap option_copied c.in-None.is))
 
 pub returns-then-has_others-clause-costs : goal.returns-then-has_others-clause-costs
 returns-then-has_others-clause-costs g c = record { answer = _; between = c.get_by.new.asked; search = same_costs c.get_by.result (rw c.key.ensures at c.get_by.ensures.costs); rest = omega (arith, c.has_others.ensures.costs) }
