@@ -66,6 +66,8 @@ PHRASED = [
     ("the item's keys are equal to the old ones", "the item's key is equal to the old one"), ("its keys are tests", "its key is a test"),
     ("(its|the item's|the entry's|an item's|the same) keys", r"\1 key"),
     ("(slots and) each table", r"\1 the table"), ("each table", "the table"), ("smaller slots and tables", "smaller slots and a smaller table"),
+    ("[Tt]he two ranks of an item, as types", "The rank of an item's key, as a type"), ("these types say which key is meant", "this type says which key"),
+    ("all keys of an item together", "the key of an item, as a list of one rank"),
     ("slots and tables", "slots and the table"), ("Slots and tables", "Slots and table"), ("the table of one rank", "the table"),
 ]
 COMMENT = re.compile(r"^ *(?://[/!]?|--) .*(?:\n *[\ue000-\ue003].*)*", re.M)
