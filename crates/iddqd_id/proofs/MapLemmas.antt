@@ -1,0 +1,41 @@
+-- Made by tests/twins from crates/iddqd_bi/proofs/MapLemmas.antt: change that file.
+
+-- The ranks of an item with one key tell items apart lawfully, and its key is a test for them.
+use Rattle.std.specs.Prelude.{◌≡◌, Bool, true, List, []}
+use Rattle.std.specs.Cmp.{IsEquivalence}
+use Rattle.std.proofs.Common.{refl, sym}
+use Rattle.iddqd_store.specs.Bag.{AreLawful, agrees, clash, listing, order}
+use Rattle.iddqd_store.specs.Rank.Keys.{AreKeyTests, IsKeyTest}
+use Rattle.iddqd_store.proofs.BagLemmas.KeyTests.{clash-keys, order-keys}
+use Rattle.iddqd_store.proofs.MapLemmas.{IsEquivalence-key, IsKeyTest-key}
+use Rattle.iddqd_id.specs.Keys.{ranks, key_tests}
+use Rattle.iddqd_id.specs.declared.item.IdHashItem as item
+
+pub AreLawful-ranks : {T Key : Type 0} (of : item.Ghosts T Key) {eq : Key → Key → Bool} → IsEquivalence eq → AreLawful (ranks of eq)
+AreLawful-ranks of laws = (IsEquivalence-key _ of.key laws, tt)
+
+module _ {T Key : Type 0} (of : item.Ghosts T Key) (eq : Key → Key → Bool) where
+  -- items with equal keys agree
+  pub agrees-keys : (x y : T) → eq (of.key x) (of.key y) ≡ true → agrees (ranks of eq) x y ≡ true
+  agrees-keys x y same = rw same refl
+
+  -- keys are tests
+  pub AreKeyTests-keys : IsEquivalence eq → (k : Key) → AreKeyTests (ranks of eq) (key_tests of eq k)
+  AreKeyTests-keys laws k = (IsKeyTest-key eq of.key laws k, tt)
+
+-- a query is a test for one key
+IsKeyTest-query : {T K Q : Type 0} (eq : K → K → Bool) (key : T → K) (stands : Q → K → Bool) → ((q : Q) (x y : K) → stands q x ≡ true → stands q y ≡ eq x y) → (q : Q) → IsKeyTest (λ x y. eq (key x) (key y)) (λ x. stands q (key x))
+IsKeyTest-query eq key stands respects q = λ x y has. sym (respects q (key x) (key y) has)
+
+module _ {T Key Q : Type 0} (of : item.Ghosts T Key) (eq : Key → Key → Bool) (stands : Q → Key → Bool) (respects : (q : Q) (x y : Key) → stands q x ≡ true → stands q y ≡ eq x y) where
+  -- queries are tests
+  pub AreKeyTests-queries : (k : Q) → AreKeyTests (ranks of eq) (key_tests of stands k)
+  AreKeyTests-queries k = (IsKeyTest-query eq of.key stands respects k, tt)
+
+  -- an item with the key conflicts with what they find
+  module _ (x : T) (k : Q) (same : stands k (of.key x) ≡ true) (bag : List T) where
+    pub order-key : order (ranks of eq) bag x ≡ listing (key_tests of stands k) bag
+    order-key = order-keys (ranks of eq) (key_tests of stands k) x (AreKeyTests-queries k) (same, tt) bag
+
+    pub clash-key : listing (key_tests of stands k) bag ≡ [] → clash (ranks of eq) bag x ≡ []
+    clash-key none = clash-keys (ranks of eq) (key_tests of stands k) x (AreKeyTests-queries k) (same, tt) bag none

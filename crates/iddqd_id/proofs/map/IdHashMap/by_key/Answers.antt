@@ -1,0 +1,9 @@
+-- Made by tests/twins from crates/iddqd_bi/proofs/map/BiHashMap/by_key1/Answers.antt: change that file.
+use Rattle.iddqd_store.proofs.RankLemmas.Invariant.{first_rank}
+use Rattle.iddqd_id.proofs.map.IdHashMap.by_key.Goals as goal
+
+pub new-requires : goal.new-requires
+new-requires g c = first_rank c.self.invariant
+
+pub returns-clause-apart : goal.returns-clause-apart
+returns-clause-apart g c = rw (← c.self.view_is) (first_rank c.self.invariant).apart

@@ -1,0 +1,19 @@
+-- Made by tests/twins from crates/iddqd_bi/proofs/map/BiHashMap/from_iter/Answers.antt: change that file.
+use Rattle.std.proofs.Common.{◌≡◌, List, [], Result, Err, subst, sym, rules}
+use Rattle.std.specs.Prelude.{IsPermutation, IfErr}
+use Rattle.iddqd_store.specs.Bag.{overs}
+use Rattle.iddqd_store.specs.Map.{bag}
+use Rattle.iddqd_store.proofs.BagLemmas.Building.{GivesThen-weaker, clash-none}
+use Rattle.iddqd_id.proofs.map.IdHashMap.from_iter.Goals as goal
+
+at_err : {A E : Type 0} (r : Result A E) (e : E) (P : E → Type 0) → r ≡ Err e → P e → IfErr r P
+at_err {A} {E} r e P is p = subst (λ (r : Result A E). IfErr r P) (sym is) p
+
+pub returns-in_err-extend-clause-refused : goal.returns-in_err-extend-clause-refused
+returns-in_err-extend-clause-refused g c =
+    let by = g.T.Ranked.ranks in
+    let x = c.in_err-extend.field-0.0.value in
+    at_err c.from_residual.result c.in_err-extend.field-0.0 _ (search rules)
+    (GivesThen-weaker g.I.IntoIterator.into_iter_gives g.I.IntoIter.Iterator.next_gives c.args.iter x _ _
+    (λ xs made. clash-none by (bag c.extend.new.self) (overs by [] xs) x (subst (λ (l : List g.row.T.Denot). IsPermutation (bag c.extend.new.self) (overs by l xs)) c.default-map.ensures.empty made.0) c.in_err-extend.ensures.full.free)
+    c.in_err-extend.ensures.refused)

@@ -1,0 +1,21 @@
+-- Made by tests/twins from crates/iddqd_bi/proofs/map/BiHashMap/places/Answers.antt: change that file.
+use Rattle.iddqd_store.proofs.MapLemmas.Places.{blocked_on, free_on}
+use Rattle.iddqd_id.specs.Keys.{ranks}
+use Rattle.iddqd_id.proofs.MapLemmas.{AreLawful-ranks}
+use Rattle.iddqd_id.proofs.map.IdHashMap.places.Goals as goal
+
+pub returns-clause-free : goal.returns-clause-free
+returns-clause-free g c =
+    free_on (AreLawful-ranks g.T.IdHashItem g.met.T.Key.Eq.laws).0 c.args.self.now c.search_all.ensures.apart (ranks g.T.IdHashItem g.T.Key.PartialEq.eq) c.args.item.now _
+    (rw c.key.ensures at c.search_all.ensures.found) c.search_all.result c.search_all.ensures.none
+
+pub returns-clause-blocked : goal.returns-clause-blocked
+returns-clause-blocked g c =
+    blocked_on (AreLawful-ranks g.T.IdHashItem g.met.T.Key.Eq.laws).0 c.args.self.now c.search_all.ensures.apart (ranks g.T.IdHashItem g.T.Key.PartialEq.eq) c.args.item.now _
+    (rw c.key.ensures at c.search_all.ensures.found) c.search_all.result c.search_all.ensures.some
+
+pub returns-clause-found : goal.returns-clause-found
+returns-clause-found g c = rw c.key.ensures at c.search_all.ensures.found
+
+pub returns-clause-costs : goal.returns-clause-costs
+returns-clause-costs g c = rw c.key.ensures at c.search_all.ensures.costs

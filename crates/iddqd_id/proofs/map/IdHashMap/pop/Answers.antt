@@ -1,0 +1,9 @@
+-- Made by tests/twins from crates/iddqd_bi/proofs/map/BiHashMap/pop/Answers.antt: change that file.
+use Rattle.std.proofs.Common.{rules, ◌≡◌, []}
+use Rattle.iddqd_store.specs.Map.{bag}
+use Rattle.iddqd_id.proofs.map.IdHashMap.pop.Goals as goal
+
+pub returns-in_err-slot-clause-empty : goal.returns-in_err-slot-clause-empty
+returns-in_err-slot-clause-empty g c =
+    let none : bag c.args.self.now ≡ [] = c.in_err-slot.ensures.none in
+    search rules

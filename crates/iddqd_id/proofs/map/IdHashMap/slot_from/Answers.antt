@@ -1,0 +1,21 @@
+-- Made by tests/twins from crates/iddqd_bi/proofs/map/BiHashMap/slot_from/Answers.antt: change that file.
+use Rattle.iddqd_store.specs.Slots.{get}
+use Rattle.iddqd_store.proofs.SlotLemmas.Next.{comes_next, nothing_left}
+use Rattle.iddqd_store.proofs.MapLemmas.Walking.{passes, first_is, live_is}
+use Rattle.iddqd_id.proofs.map.IdHashMap.slot_from.Goals as goal
+
+pub returns-in-Some-clause-comes : goal.returns-in-Some-clause-comes
+returns-in-Some-clause-comes g c = rw (← c.self.view_is) (λ x is. comes_next c.self.inside.items.slots c.args.from c.in-Some.slot x c.in-Some.ensures.next.0 is c.in-Some.ensures.next.2)
+
+pub returns-in-Some-clause-next : goal.returns-in-Some-clause-next
+returns-in-Some-clause-next g c =
+    let at = live_is (get c.self.inside.items.slots c.in-Some.slot) c.in-Some.ensures.next.1 in
+    rw (← c.self.view_is) (at.0, at.1, passes _ c.args.from c.in-Some.slot at.0 (comes_next c.self.inside.items.slots c.args.from c.in-Some.slot at.0 c.in-Some.ensures.next.0 at.1 c.in-Some.ensures.next.2))
+
+pub returns-in-Some-clause-step : goal.returns-in-Some-clause-step
+returns-in-Some-clause-step g c =
+    let at = live_is (get c.self.inside.items.slots c.in-Some.slot) c.in-Some.ensures.next.1 in
+    rw (← c.self.view_is) (first_is c.self.inside.items.slots c.args.from c.in-Some.slot at.0 c.in-Some.ensures.next.0 at.1 c.in-Some.ensures.next.2)
+
+pub returns-in-None-clause-none : goal.returns-in-None-clause-none
+returns-in-None-clause-none g c = rw (← c.self.view_is) (nothing_left c.self.inside.items.slots c.args.from c.in-None.ensures.next)

@@ -1,0 +1,33 @@
+-- Made by tests/twins from crates/iddqd_bi/proofs/map/BiHashMap/try_insert/Answers.antt: change that file.
+use Rattle.std.proofs.Common.{rules, ◌≡◌, sym, ◌∙◌}
+use Rattle.std.specs.Prelude.{is_some}
+use Rattle.iddqd_store.specs.Bag.{like}
+use Rattle.iddqd_store.specs.Map.{IsFullFor, bag}
+use Rattle.iddqd_store.specs.Rank.All.{IsBlockedBy}
+use Rattle.iddqd_store.proofs.CallerLemmas.Asking.{none-clash}
+use Rattle.iddqd_store.proofs.MapLemmas.Places.{is_some-at, none_taken}
+use Rattle.iddqd_id.specs.Keys.{has, ranks}
+use Rattle.iddqd_id.proofs.Refusing.{duplicate_reason, memory_reason}
+use Rattle.iddqd_id.proofs.map.IdHashMap.try_insert.Goals as goal
+
+pub returns-in-Err-Duplicate-clause-reason : goal.returns-in-Err-Duplicate-clause-reason
+returns-in-Err-Duplicate-clause-reason g c =
+    let by = ranks g.T.IdHashItem g.T.Key.PartialEq.eq in
+    let old = c.args.self.now in
+    let arm = c.in-Err-Duplicate in
+    let why = duplicate_reason arm.field-0 arm.item arm.by arm.field-0-is (IsBlockedBy by _ old c.args.item) (IsFullFor by old c.args.item) arm.ensures.reason in
+    let seen : c.is_some-taken.result ≡ is_some arm.by.slot = search rules in
+    let taken = seen ∙ is_some-at (has g.T.IdHashItem g.T.Key.PartialEq.eq (g.T.IdHashItem.key c.args.item)) old.slots arm.by.slot why.found.0 in
+    record {
+      taken = taken;
+      full = λ free. absurd (why.blocked.some (none-clash by (bag old) c.args.item (sym taken ∙ free, tt)));
+    }
+
+pub returns-in-Err-Memory-clause-reason : goal.returns-in-Err-Memory-clause-reason
+returns-in-Err-Memory-clause-reason g c =
+    let by = ranks g.T.IdHashItem g.T.Key.PartialEq.eq in
+    let old = c.args.self.now in
+    let arm = c.in-Err-Memory in
+    let full = memory_reason arm.field-0 arm.item arm.field-0-is (IsBlockedBy by _ old c.args.item) (IsFullFor by old c.args.item) arm.ensures.reason in
+    let free = none_taken (like by c.args.item) (bag old) full.free in
+    record { taken = sym free.0; full = λ free. full }

@@ -1,0 +1,6 @@
+-- Made by tests/twins from crates/iddqd_bi/proofs/map/BiHashMap/with_capacity_and_hasher/Answers.antt: change that file.
+use Rattle.iddqd_store.proofs.RankLemmas.Invariant.{IsIndexed-empty}
+use Rattle.iddqd_id.proofs.map.IdHashMap.with_capacity_and_hasher.Goals as goal
+
+pub invariant_of-result : goal.invariant_of-result
+invariant_of-result g c = rw (c.in_ok-with_capacity.ensures.slots, c.in_ok-first.ensures.empty) (IsIndexed-empty _ _)

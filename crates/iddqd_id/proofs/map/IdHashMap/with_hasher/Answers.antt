@@ -1,0 +1,6 @@
+-- Made by tests/twins from crates/iddqd_bi/proofs/map/BiHashMap/with_hasher/Answers.antt: change that file.
+use Rattle.iddqd_store.proofs.RankLemmas.Invariant.{IsIndexed-empty}
+use Rattle.iddqd_id.proofs.map.IdHashMap.with_hasher.Goals as goal
+
+pub invariant_of-result : goal.invariant_of-result
+invariant_of-result g c = rw (c.new.ensures.slots, c.new-2.ensures.pairs) (IsIndexed-empty _ _)

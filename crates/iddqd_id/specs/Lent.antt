@@ -1,0 +1,43 @@
+-- Made by tests/twins from crates/iddqd_bi/specs/Lent.antt: change that file.
+
+-- What a map ends as, if a `&mut` to the data of an item is returned.
+use Rattle.std.specs.Prelude.{◌≡◌, ℕ, Bool, Option, Some, IsPermutation, OnSome}
+use Rattle.std.specs.Borrow.{Lends, LendsIf, LendsSo, Fml, RattleType, MutBor}
+use Rattle.std.specs.HashMap.Lent.{HashMembers}
+use Rattle.std.specs.declared.hash.Hasher as hasher
+use Rattle.std.specs.declared.hash.BuildHasher as builder
+use Rattle.iddqd_store.specs.Bag.{IsOnly, Ranks, swap}
+use Rattle.iddqd_store.specs.Map.{Map, bag}
+use Rattle.iddqd_id.specs.declared.item.IdHashItem as item
+use Rattle.iddqd_id.specs.Refused.{map_row}
+use Rattle.iddqd_store.specs.Map.Written.{map_with, map_with_if}
+
+module _ {T S D : Type 0} (put : T → D → T) (ranks : Ranks T) (test : T → Bool) where
+  -- The data `d` was written to the only item that passes the test, and nothing else changes.
+  -- Example: For the test whether the key is 2, a map of the bag becomes one of (2, 20) with the data `d`,
+  -- (1, 10) and (3, 30).
+  pub record WritesTo (old : Map T S) (d : D) (new : Map T S) : Type 0 where
+    pub items : (x : T) → IsOnly test (bag old) (Some x) → IsPermutation (bag new) (swap ranks (bag old) x (put x d))
+    pub same_room : new.capacity ≡ old.capacity
+    pub same_builder : new.builder ≡ old.builder
+
+module _ (T S Key H : RattleType) (of : item.Ghosts T.Denot Key.Denot)
+    (keys : HashMembers Key.Denot)
+    (build : builder.Ghosts S.Denot H.Denot) (hashes : hasher.Ghosts H.Denot) where
+  abbrev whole_row : RattleType
+  whole_row = map_row T S Key H of keys build hashes
+
+  module _ (D : RattleType) (put : T.Denot → D.Denot → T.Denot) where
+    abbrev pub lends_data : MutBor (Map T.Denot S.Denot) → ℕ → MutBor D.Denot → Fml
+    lends_data m slot r = Lends whole_row D m r (λ d. map_with m.now slot (λ x. put x d))
+
+    abbrev pub lends_data_if : MutBor (Map T.Denot S.Denot) → Option ℕ → Option (MutBor D.Denot) → Fml
+    lends_data_if m slot r = LendsIf whole_row D m r (λ d. map_with_if m.now slot (λ x. put x d)) m.now
+
+    -- What is written through `r` is the data of the only item that passes the test, and nothing else changes. If
+    -- there is no `r`, the map ends as it was.
+    -- Example: If d is written, and that item is a, the map has `put a d` in its place.
+    abbrev pub lends_data_to : Ranks T.Denot → (T.Denot → Bool) → MutBor (Map T.Denot S.Denot)
+        → Option (MutBor D.Denot) → Fml
+    lends_data_to ranks test m r =
+        LendsSo whole_row D m r (λ n d. OnSome r (WritesTo put ranks test m.now d n)) (λ n. n ≡ m.now)

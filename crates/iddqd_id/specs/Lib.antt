@@ -1,0 +1,27 @@
+-- Made by tests/twins from crates/iddqd_bi/specs/Lib.antt: change that file.
+pub mod Entries
+pub mod IterMuts
+pub mod Keys
+pub mod Lent
+pub mod Mismatch
+pub mod RefMuts
+pub mod Refused
+pub mod Rekeyed
+-- The clauses of the map cite these words of the store.
+pub use Rattle.iddqd_store.specs.Bag
+pub use Rattle.iddqd_store.specs.Bag.Building
+pub use Rattle.iddqd_store.specs.Bag.Calling
+pub use Rattle.iddqd_store.specs.Bag.Storing
+pub use Rattle.iddqd_store.specs.Callers
+pub use Rattle.iddqd_store.specs.Map
+pub use Rattle.iddqd_store.specs.Map.Extracting
+pub use Rattle.iddqd_store.specs.Map.Walk
+pub use Rattle.iddqd_store.specs.Map.Written
+pub use Rattle.iddqd_store.specs.Rank
+pub use Rattle.iddqd_store.specs.Rank.All
+pub use Rattle.iddqd_store.specs.Runs.Reply
+pub use Rattle.iddqd_store.specs.Runs.Run
+pub use Rattle.iddqd_store.specs.Slots.Found
+pub use Rattle.iddqd_store.specs.Runs.Step as Steps
+pub use Rattle.iddqd_store.specs.Table
+pub use Rattle.iddqd_store.specs.Runs.Values

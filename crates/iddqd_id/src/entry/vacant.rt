@@ -1,0 +1,111 @@
+//! Inserting an item through a vacant entry.
+//!
+//! Made by tests/twins from crates/iddqd_bi/src/entry/vacant.rt: change that file.
+ghost use Rattle.std.specs.Prelude.{◌≡◌, ◌<◌, length, None, IsOk, IfOk, IfErr, OnOk};
+ghost use Rattle.std.specs.Borrow.{sem};
+ghost use Rattle.iddqd_store.specs.Bag.{differ};
+ghost use Rattle.iddqd_store.specs.Map.{bag};
+ghost use Rattle.iddqd_id.specs.Entries.{GainsAndFinds, GainsAndLends, IsSameMap, PutsIn, PutsInMade, wanted, rests_if_err};
+ghost use Rattle.iddqd_id.specs.RefMuts.{ref_lender};
+ghost use Rattle.iddqd_id.specs.Mismatch.{HandsBack};
+
+use super::{OccupiedEntry, VacantEntry};
+use crate::error::{EntryError, EntryRefusal, TryEntryError, TryEntryRefusal};
+use crate::item::{IdHashItem, Ranked};
+use crate::ref_mut::RefMut;
+use iddqd_store::Query;
+use std::hash::{BuildHasher, Hash};
+
+impl<'a, T: Ranked, S: BuildHasher, Q: Query<T::Key>> VacantEntry<'a, T, S, Q> {
+    /// Inserts an item that has the entry's key, and returns a guard of it.
+    ///
+    /// If the item has another key, the error says that its key is not the entry's. Otherwise the
+    /// call fails only if the map is full and there is no memory to grow. Each error has the item, and the map is as it
+    /// was.
+    ///
+    /// The call compares the item's key with the entry's. It hashes no key
+    /// and searches for none. It allocates memory only if the map is full.
+    pub fn insert(self, item: T) -> Result<RefMut<'a, T, S>, EntryError<T>>
+        // The guard borrows the item, in this very map.
+        ensures gains_and_lends { IfOk result (GainsAndLends self.entry item) }
+        // The result is `Ok` only for an item with the entry's key, and always for such an item if there is spare
+        // capacity.
+        ensures same_keys { OnOk result (differ (wanted self.entry) item ≡ None) }
+        ensures granted { differ (wanted self.entry) item ≡ None
+            → length (bag self.entry.map.now) < self.entry.map.now.capacity → IsOk result }
+        // After an error the item is returned, with the reason, and the map ends as it was.
+        ensures hands_back { IfErr result (HandsBack T.ranks (wanted self.entry) self.entry.map.now item) }
+        ensures* unchanged_at_err { sem 𝓛 (rests_if_err T.row S.row T.Key.row S.Hasher.row
+            T.IdHashItem T.Key.Hash S.BuildHasher S.Hasher.Hasher ref_lender self.entry.map result) }
+    {
+        let VacantEntry { map, query, at } = self;
+        let slot = map.insert_free(item, query, at)?;
+        Ok(RefMut { map, slot })
+    }
+}
+
+impl<'a, T: IdHashItem, S: BuildHasher, Q: Query<T::Key>> VacantEntry<'a, T, S, Q> {
+    /// Inserts an item as `insert` does, and returns the occupied entry with the same key, which finds the item.
+    /// The error borrows the map.
+    pub fn insert_entry(self, item: T) -> Result<OccupiedEntry<'a, T, S, Q>, EntryRefusal<'a, T, S>>
+        // The entry borrows this very map, with the item in it, which its key finds.
+        ensures gains_and_finds { IfOk result (GainsAndFinds self.entry item) }
+        // The result is `Ok` only for an item with the entry's key, and always for such an item if there is spare
+        // capacity.
+        ensures same_keys { OnOk result (differ (wanted self.entry) item ≡ None) }
+        ensures granted { differ (wanted self.entry) item ≡ None
+            → length (bag self.entry.map.now) < self.entry.map.now.capacity → IsOk result }
+        // The error borrows the map as it was, and has the item, with the reason.
+        ensures is_same_map { IfErr result (λ e. IsSameMap self.entry.map e.map) }
+        ensures hands_back { IfErr result (λ e.
+            HandsBack ⟦<T as Ranked>⟧.ranks (wanted self.entry) self.entry.map.now item e.error) }
+    {
+        let VacantEntry { map, query, at } = self;
+        match map.insert_free(item, query, at) {
+            Ok(slot) => Ok(OccupiedEntry { map, query, slot }),
+            Err(error) => Err(EntryRefusal { map, error }),
+        }
+    }
+}
+
+impl<'a, T: IdHashItem, S: BuildHasher, Q: Query<T::Key>> VacantEntry<'a, T, S, Q> {
+    /// Inserts an item as `insert` does. The error borrows the map, as those of `or_insert` and `or_insert_with`
+    /// do.
+    pub(super) fn put_in(self, item: T) -> Result<RefMut<'a, T, S>, EntryRefusal<'a, T, S>>
+        ensures same_map { IfOk result (λ m. m.map.ghost_name ≡ self.entry.map.ghost_name) }
+        ensures same_map_at_err { IfErr result (λ e. e.map.ghost_name ≡ self.entry.map.ghost_name) }
+        ensures puts_in { PutsIn self.entry item result }
+    {
+        let VacantEntry { map, query, at } = self;
+        match map.insert_free(item, query, at) {
+            Ok(slot) => Ok(RefMut { map, slot }),
+            Err(error) => Err(EntryRefusal { map, error }),
+        }
+    }
+
+    /// Inserts the item that a closure made, as `put_in` does, or returns the error with which the closure failed.
+    pub(super) fn put_made_in<E>(
+        self,
+        made: Result<T, E>,
+    ) -> Result<RefMut<'a, T, S>, TryEntryRefusal<'a, T, E, S>>
+        ensures same_map { IfOk result (λ m. m.map.ghost_name ≡ self.entry.map.ghost_name) }
+        ensures same_map_at_err { IfErr result (λ e. e.map.ghost_name ≡ self.entry.map.ghost_name) }
+        ensures unchanged { IfErr result (λ e. e.map.now ≡ self.entry.map.now) }
+        ensures puts_in { PutsInMade self.entry made result }
+    {
+        let VacantEntry { map, query, at } = self;
+        match made {
+            Ok(item) => match map.insert_free(item, query, at) {
+                Ok(slot) => Ok(RefMut { map, slot }),
+                Err(error) => Err(TryEntryRefusal {
+                    map,
+                    error: TryEntryError::Insert(error),
+                }),
+            },
+            Err(e) => Err(TryEntryRefusal {
+                map,
+                error: TryEntryError::Closure(e),
+            }),
+        }
+    }
+}

@@ -1,0 +1,339 @@
+//! The errors of calls that insert or replace one item.
+//!
+//! Made by tests/twins from crates/iddqd_bi/src/error.rt: change that file.
+ghost use Rattle.std.specs.Prelude.{◌≡◌, ◌≢◌, [], false, option_copied};
+ghost use Rattle.std.specs.Option.{option_and_then, option_to_list};
+ghost use Rattle.iddqd_store.specs.Map.{bag};
+ghost use Rattle.iddqd_store.specs.Bag.{clash, order};
+ghost use Rattle.iddqd_store.specs.Slots.{get};
+ghost use Rattle.iddqd_id.specs.Keys.{ranks};
+ghost use Rattle.iddqd_id.specs.Rekeyed.{left_out};
+ghost use Rattle.iddqd_id.specs.Mismatch.{error_item};
+
+use crate::item::{IdHashItem, Ranked};
+use crate::map::{DefaultHashBuilder, IdHashMap};
+use iddqd_store::{InsertReason, ItemIndex};
+use std::hash::{BuildHasher, Hash};
+
+mod display;
+
+/// The error of `insert_unique`: the item that was not inserted, with the item of the map that has its key, or with
+/// none if there was no memory. The error borrows the map, which is as it was before the call. By that borrow
+/// contracts tell the caller exactly what the map is.
+///
+/// ```text
+/// match devices.insert_unique(device) {
+///     Ok(()) => Ok(()),
+///     Err(e) => match e.reason() {
+///         InsertReason::Duplicate => Err(Refused::Taken(e.into_item())),
+///         InsertReason::Memory => Err(Refused::Full(e.into_item())),
+///     },
+/// }
+/// ```
+pub struct InsertError<'a, T: IdHashItem, S: BuildHasher = DefaultHashBuilder> {
+    pub(crate) map: &'a mut IdHashMap<T, S>,
+    pub(crate) item: T,
+    pub(crate) found: Option<ItemIndex>,
+    ghost found_is: { option_to_list (option_and_then (get map.now.slots) found)
+        ≡ order (ranks T.IdHashItem T.Key.eq) (bag map.now) item },
+}
+
+/// The error of `try_insert`: the item that was not inserted, and whether an item of the map has its key. If none has,
+/// the map was full, and there was no memory to grow. The error does not borrow the map.
+///
+/// ```text
+/// let Err(e) = devices.try_insert(device) else { return Ok(()) };
+/// if e.taken {
+///     return Err(Refused::Key(e.item));
+/// }
+/// Err(Refused::Memory(e.item))
+/// ```
+#[derive(Drop)]
+pub struct Rejected<T> {
+    /// The item that was not inserted.
+    pub item: T,
+    /// Whether an item of the map has its key.
+    pub taken: bool,
+}
+
+/// The error of `extend_unique`, after which the map has the items that it had before the call: the item at which the
+/// call failed, and whether its key is taken. If it is not, there was no memory for the item. The items after it in
+/// the list were dropped.
+#[derive(Drop)]
+pub struct ExtendUniqueError<T> {
+    /// The items before `item`, in the order of the list.
+    pub before: Vec<T>,
+    /// The item at which the call failed.
+    pub item: T,
+    /// Whether an item of the map, or one of `before`, has its key.
+    pub taken: bool,
+}
+
+/// The error of `RefMut::replace` and `OccupiedEntry::insert`: the new item has another key than the item that it was
+/// to replace, or than the entry.
+#[derive(Drop)]
+pub struct KeyMismatch<T> {
+    /// The item that was not inserted.
+    pub item: T,
+}
+
+/// The error of `rekey`: the new item, which did not replace another.
+#[derive(Drop)]
+pub enum NotReplaced<T> {
+    /// No item has the key that was asked for.
+    Absent(T),
+    /// An item has that key, but some other item conflicts with the new item.
+    Duplicate(T),
+}
+
+/// The error of an insert through a vacant entry. It has the item, and says whether the item's key is not the
+/// entry's, or whether there was no memory.
+#[derive(Drop)]
+pub enum EntryError<T> {
+    /// The key is not the entry's.
+    Key(T),
+    /// The key is the entry's, but the map was full, and there was no memory to grow.
+    Memory(T),
+}
+
+/// The error of `VacantEntry::insert_entry`, `Entry::or_insert` and `Entry::or_insert_with`: an `EntryError`, with a
+/// borrow of the map, which is as it was before the call. By that borrow contracts tell the caller exactly what the map
+/// is.
+pub struct EntryRefusal<'a, T: IdHashItem, S: BuildHasher = DefaultHashBuilder> {
+    pub(crate) map: &'a mut IdHashMap<T, S>,
+    pub(crate) error: EntryError<T>,
+}
+
+/// Why `Entry::or_try_insert_with` inserted nothing. `R` is the error of the insert, and always an `EntryError`. It is
+/// a parameter for the proof alone: the checker does not find an enum inside another one where the error is dropped.
+#[derive(Drop)]
+pub enum TryEntryError<R, E> {
+    /// The closure failed, with this error.
+    Closure(E),
+    /// The closure returned an item, and the entry rejected it.
+    Insert(R),
+}
+
+/// The error of `Entry::or_try_insert_with`: a `TryEntryError`, with a borrow of the map, which is as it was before the
+/// call. By that borrow contracts tell the caller exactly what the map is.
+pub struct TryEntryRefusal<'a, T: IdHashItem, E, S: BuildHasher = DefaultHashBuilder> {
+    pub(crate) map: &'a mut IdHashMap<T, S>,
+    pub(crate) error: TryEntryError<EntryError<T>, E>,
+}
+
+impl<T> ExtendUniqueError<T> {
+    /// Returns why the call failed: `Duplicate` if the key of the item is taken, otherwise `Memory`.
+    pub fn reason(&self) -> InsertReason
+        ensures duplicate { result ≡ InsertReason.Duplicate → self.now.taken ≡ false → ⊥ }
+        ensures memory { result ≡ InsertReason.Memory → self.now.taken ≡ false }
+    {
+        if self.taken {
+            InsertReason::Duplicate
+        } else {
+            InsertReason::Memory
+        }
+    }
+}
+
+impl<T> KeyMismatch<T> {
+    /// Returns the item that was not inserted.
+    pub fn item(&self) -> &T
+        ensures { result.now ≡ self.now.item }
+    {
+        &self.item
+    }
+
+    /// Returns the item that was not inserted, by value.
+    pub fn into_item(self) -> T
+        ensures { result ≡ self.item }
+    {
+        self.item
+    }
+}
+
+impl<T> NotReplaced<T> {
+    /// Returns the item that was not inserted.
+    pub fn item(&self) -> &T
+        ensures { result.now ≡ left_out self.now }
+    {
+        match self {
+            NotReplaced::Absent(item) | NotReplaced::Duplicate(item) => item,
+        }
+    }
+
+    /// Returns the item that was not inserted, by value.
+    pub fn into_item(self) -> T
+        ensures { result ≡ left_out self }
+    {
+        match self {
+            NotReplaced::Absent(item) | NotReplaced::Duplicate(item) => item,
+        }
+    }
+}
+
+impl<T> EntryError<T> {
+    /// Returns the item that was not inserted.
+    pub fn item(&self) -> &T
+        ensures { result.now ≡ error_item self.now }
+    {
+        match self {
+            EntryError::Key(item) | EntryError::Memory(item) => item,
+        }
+    }
+
+    /// Returns the item that was not inserted, by value.
+    pub fn into_item(self) -> T
+        ensures { result ≡ error_item self }
+    {
+        match self {
+            EntryError::Key(item) | EntryError::Memory(item) => item,
+        }
+    }
+}
+
+impl<T: IdHashItem, S: BuildHasher> EntryRefusal<'_, T, S> {
+    /// Returns why the item was not inserted, with the item.
+    pub fn error(&self) -> &EntryError<T>
+        ensures { result.now ≡ self.now.error }
+    {
+        &self.error
+    }
+
+    /// Returns the item that was not inserted.
+    pub fn item(&self) -> &T
+        ensures { result.now ≡ error_item self.now.error }
+    {
+        self.error.item()
+    }
+
+    /// Returns the item that was not inserted, by value.
+    pub fn into_item(self) -> T
+        ensures item { result ≡ error_item self.entry.error }
+        ensures map { self.exit.0.now ≡ self.entry.map.now }
+    {
+        let EntryRefusal { map: _, error } = self;
+        error.into_item()
+    }
+
+    /// Returns why the item was not inserted, with the item, by value.
+    pub fn into_error(self) -> EntryError<T>
+        ensures error { result ≡ self.entry.error }
+        ensures map { self.exit.0.now ≡ self.entry.map.now }
+    {
+        let EntryRefusal { map: _, error } = self;
+        error
+    }
+}
+
+impl<T: IdHashItem, E, S: BuildHasher> TryEntryRefusal<'_, T, E, S> {
+    /// Returns why no item was inserted.
+    pub fn error(&self) -> &TryEntryError<EntryError<T>, E>
+        ensures { result.now ≡ self.now.error }
+    {
+        &self.error
+    }
+
+    /// Returns why no item was inserted, by value.
+    pub fn into_error(self) -> TryEntryError<EntryError<T>, E>
+        ensures error { result ≡ self.entry.error }
+        ensures map { self.exit.0.now ≡ self.entry.map.now }
+    {
+        let TryEntryRefusal { map: _, error } = self;
+        error
+    }
+}
+
+/// The error of `from_iter_unique`: `Duplicate` owns an item and the one before it that has its key, and `Memory`
+/// owns the item for which there was no memory.
+pub type FromIterError<T> = iddqd_store::FromIterError<T, T>;
+
+impl<T: Ranked, S: BuildHasher> InsertError<'_, T, S> {
+    /// Returns the item that was not inserted.
+    pub fn item(&self) -> &T
+        ensures { result.now ≡ self.now.item }
+    {
+        &self.item
+    }
+
+    /// Returns why the item was not inserted: `Duplicate` if an item of the map conflicts with it, otherwise `Memory`.
+    /// The call compares no key.
+    pub fn reason(&self) -> InsertReason
+        ensures duplicate { result ≡ InsertReason.Duplicate → clash T.ranks (bag self.now.map.now) self.now.item ≢ [] }
+        ensures memory { result ≡ InsertReason.Memory → clash T.ranks (bag self.now.map.now) self.now.item ≡ [] }
+    {
+        if self.duplicate().is_some() {
+            InsertReason::Duplicate
+        } else {
+            InsertReason::Memory
+        }
+    }
+
+    /// Returns the item of the map that conflicts with the item, if there is one. The call searches for nothing again.
+    pub fn duplicate(&self) -> Option<&T>
+        ensures { option_to_list (option_copied result) ≡ order T.ranks (bag self.now.map.now) self.now.item }
+    {
+        let map = &*self.map;
+        map.item_of(self.found)
+    }
+}
+
+impl<'a, T: Ranked, S: BuildHasher> InsertError<'a, T, S> {
+    /// Returns the item that was not inserted, by value.
+    pub fn into_item(self) -> T
+        ensures item { result ≡ self.entry.item }
+        ensures map { self.exit.0.now ≡ self.entry.map.now }
+    {
+        let InsertError {
+            map: _,
+            item,
+            found: _,
+        } = self;
+        item
+    }
+
+    /// Returns the item that was not inserted, by value, with the item of the map that conflicts with it, as
+    /// `duplicate` does. That one stays borrowed for as long as the error borrowed the map.
+    ///
+    /// Contracts do not say what the map is afterwards. A caller who has to prove that calls `duplicate` and then
+    /// `into_item`.
+    pub fn into_parts(self) -> (T, Option<&'a T>)
+        ensures item { result.0 ≡ self.entry.item }
+        ensures duplicate { option_to_list (option_copied result.1)
+            ≡ order T.ranks (bag self.entry.map.now) self.entry.item }
+    {
+        let InsertError { map, item, found } = self;
+        let map: &'a IdHashMap<T, S> = map;
+        (item, map.item_of(found))
+    }
+}
+
+impl<T: IdHashItem + Drop, S: BuildHasher> Drop for InsertError<'_, T, S> {
+    fn drop(self)
+        ensures { self.exit.0.now ≡ self.entry.map.now }
+    {
+        let InsertError {
+            map: _,
+            item,
+            found: _,
+        } = self;
+        drop(item);
+    }
+}
+
+impl<T: IdHashItem + Drop, S: BuildHasher> Drop for EntryRefusal<'_, T, S> {
+    fn drop(self)
+        ensures { self.exit.0.now ≡ self.entry.map.now }
+    {
+        let EntryRefusal { map: _, error } = self;
+        drop(error);
+    }
+}
+
+impl<T: IdHashItem + Drop, E: Drop, S: BuildHasher> Drop for TryEntryRefusal<'_, T, E, S> {
+    fn drop(self)
+        ensures { self.exit.0.now ≡ self.entry.map.now }
+    {
+        let error = self.into_error();
+        drop(error);
+    }
+}

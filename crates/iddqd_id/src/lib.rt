@@ -1,0 +1,41 @@
+//! `IdHashMap`, a hash map of items with one key, with its guards, entries, iterations and errors.
+//!
+//! ```text
+//! let mut users = IdHashMap::<User>::new(rt.alloc());
+//! users.insert_unique(User::new("ada"))?;
+//! if let Some(user) = users.get("ada") {
+//!     println!(rt; "{user:?}")?;
+//! }
+//! ```
+//!
+//! A script makes most of this text from that of the map with two keys: change the latter, and then run
+//! `tests/twins --write` with the changed files.
+//!
+//! Made by tests/twins from crates/iddqd_bi/src/lib.rt: change that file.
+#![tactic(auto)]
+
+mod debug;
+mod entry;
+mod error;
+mod item;
+mod iter_mut;
+mod map;
+mod pointers;
+mod ranks;
+mod ref_mut;
+
+pub use entry::{Entry, OccupiedEntry, VacantEntry};
+pub use error::{
+    EntryError, EntryRefusal, ExtendUniqueError, FromIterError, InsertError, KeyMismatch,
+    NotReplaced, Rejected, TryEntryError, TryEntryRefusal,
+};
+pub use item::{Hashed, IdHashItem, IdHashItemMut, Ranked};
+pub use iter_mut::IterMut;
+pub use map::{ClonesHashes, ClonesKeys, DefaultHashBuilder, IdHashMap};
+pub use ref_mut::RefMut;
+
+// Types of `iddqd_store` that the signatures of this crate name.
+pub use iddqd_store::{
+    Cursor, DuplicateItem, Equivalent, InsertReason, IntoIter, Iter, KeyMatcher, MemoryRefused,
+    Meter, Query, TryReserveError,
+};

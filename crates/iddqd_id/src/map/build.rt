@@ -1,0 +1,101 @@
+//! Making empty maps.
+//!
+//! Made by tests/twins from crates/iddqd_bi/src/map/build.rt: change that file.
+ghost use Rattle.std.specs.Prelude.{◌≡◌, ◌<◌, [], IfOk, IsOk, IsErr};
+ghost use Rattle.iddqd_store.specs.Map.{bag};
+ghost use Rattle.iddqd_store.specs.Table.Limit.{most_room};
+
+use super::{DefaultHashBuilder, IdHashMap};
+use crate::item::IdHashItem;
+use iddqd_store::{IndexTable, ItemSet, TryReserveError, table_room};
+use std::alloc::Global;
+use std::hash::{BuildHasher, Hash};
+
+impl<T: IdHashItem> IdHashMap<T, DefaultHashBuilder> {
+    /// Makes an empty map of capacity 0 with the default builder. The call allocates no memory.
+    pub fn new(alloc: Global) -> Self
+        ensures empty { bag result ≡ [] }
+        ensures capacity { result.capacity ≡ 0 }
+        ensures builder { ⟦<DefaultHashBuilder as Default>⟧.is_default result.builder }
+    {
+        IdHashMap::with_hasher(alloc, DefaultHashBuilder::default())
+    }
+
+    /// Makes an empty map with the default builder, in which exactly `items` items fit.
+    ///
+    /// The call allocates the slots and the table. It fails if an allocation fails, or if the number of items is too
+    /// large for memory. For 0 items it allocates nothing, and succeeds. A table has 16 bytes for each of its cells,
+    /// whose number is a power of two: up to 4,096 items the least that is three times as many, up to 16,384 the least
+    /// that is twice as many, and above that the least of which the items fill seven eighths.
+    pub fn with_capacity(alloc: Global, items: usize) -> Result<Self, TryReserveError>
+        ensures empty { IfOk result (λ map. bag map ≡ []) }
+        ensures capacity { IfOk result (λ map. map.capacity ≡ items) }
+        ensures builder { IfOk result (λ map. ⟦<DefaultHashBuilder as Default>⟧.is_default map.builder) }
+        ensures never_refused { items ≡ 0 → IsOk result }
+        ensures past { most_room < items → IsErr result }
+    {
+        IdHashMap::with_capacity_and_hasher(alloc, items, DefaultHashBuilder::default())
+    }
+}
+
+impl<T: IdHashItem, S: BuildHasher> IdHashMap<T, S> {
+    /// Makes an empty map of capacity 0 with this builder. The call allocates no memory.
+    pub fn with_hasher(alloc: Global, hash_builder: S) -> Self
+        ensures empty { bag result ≡ [] }
+        ensures capacity { result.capacity ≡ 0 }
+        ensures builder { result.builder ≡ hash_builder }
+    {
+        IdHashMap {
+            items: ItemSet::new(alloc),
+            first: IndexTable::new(alloc),
+            hash_builder,
+        }
+    }
+
+    /// Makes an empty map of capacity 0 with the default value of the builder's type. The call allocates no memory.
+    pub fn default(alloc: Global) -> Self
+    where
+        S: Default,
+        ensures empty { bag result ≡ [] }
+        ensures capacity { result.capacity ≡ 0 }
+        ensures builder { S.is_default result.builder }
+    {
+        IdHashMap::with_hasher(alloc, S::default())
+    }
+
+    /// Returns the builder that makes the hashes of the map's keys.
+    pub fn hasher(&self) -> &S
+        ensures { result.now ≡ self.now.builder }
+    {
+        &self.hash_builder
+    }
+
+    /// Makes an empty map with this builder, in which exactly `items` items fit.
+    ///
+    /// The call allocates the slots and the table. It fails if an allocation fails, or if the number of items is too
+    /// large for memory. For 0 items it allocates nothing, and succeeds. A table has 16 bytes for each of its cells,
+    /// whose number is a power of two: up to 4,096 items the least that is three times as many, up to 16,384 the least
+    /// that is twice as many, and above that the least of which the items fill seven eighths.
+    pub fn with_capacity_and_hasher(
+        alloc: Global,
+        items: usize,
+        hash_builder: S,
+    ) -> Result<Self, TryReserveError>
+    where
+        S: Drop,
+        // A new map is empty, and has exactly the capacity asked for.
+        ensures empty { IfOk result (λ map. bag map ≡ []) }
+        ensures capacity { IfOk result (λ map. map.capacity ≡ items) }
+        ensures builder { IfOk result (λ map. map.builder ≡ hash_builder) }
+        // The call never fails for capacity 0, and always fails for more than the largest table holds.
+        ensures never_refused { items ≡ 0 → IsOk result }
+        ensures past { most_room < items → IsErr result }
+    {
+        let first = IndexTable::with_capacity(alloc, table_room(items))?;
+        Ok(IdHashMap {
+            items: ItemSet::with_capacity(alloc, items)?,
+            first,
+            hash_builder,
+        })
+    }
+}

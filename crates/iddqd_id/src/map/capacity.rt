@@ -1,0 +1,103 @@
+//! How many items there are and how many fit, and growing.
+//!
+//! Made by tests/twins from crates/iddqd_bi/src/map/capacity.rt: change that file.
+ghost use Rattle.std.specs.Prelude.{◌≡◌, ◌≤◌, [], length, ◌==◌, OnErr};
+ghost use Rattle.iddqd_store.specs.Bag.{IsSound};
+ghost use Rattle.iddqd_store.specs.Map.{bag, MakesRoom};
+ghost use Rattle.iddqd_store.specs.Table.Limit.{most_room};
+
+use super::IdHashMap;
+use crate::item::Ranked;
+use iddqd_store::{Meter, TryReserveError};
+use std::hash::{BuildHasher, Hash};
+
+impl<T: Ranked, S: BuildHasher> IdHashMap<T, S> {
+    /// Returns the number of items.
+    pub fn len(&self) -> usize
+        ensures value { result ≡ length (bag self.now) }
+        ensures sound { IsSound T.ranks (bag self.now) }
+    {
+        self.items.len()
+    }
+
+    /// Returns whether there are no items.
+    pub fn is_empty(&self) -> bool
+        ensures { result ≡ (length (bag self.now) == 0) }
+    {
+        self.len() == 0
+    }
+
+    /// Returns how many items fit without growing: the least of what the slots and the table hold. It is at most
+    /// `most_room`, 7 * 2^60, the number of items that the largest table holds.
+    pub fn capacity(&self) -> usize
+        ensures value { result ≡ self.now.capacity }
+        ensures fits { length (bag self.now) ≤ result }
+        ensures most { result ≤ most_room }
+    {
+        self.room()
+    }
+
+    /// Reserves capacity for this many more items. If they fit already, the call allocates no memory. It compares no
+    /// key.
+    ///
+    /// The call fails if an allocation for more slots or for a larger table fails, or if the number of items would be
+    /// too large for memory. Then the items, the capacity and the builder are as before. Slots and table may have more
+    /// room then, which serves a later call. While a table grows, it has its old cells beside the new ones.
+    pub fn reserve(&mut self, more: usize) -> Result<(), TryReserveError>
+        ensures items { bag self.new ≡ bag self.old }
+        ensures room { MakesRoom self.old more result self.new }
+        ensures unchanged { OnErr result (self.new ≡ self.old) }
+    {
+        self.grow(more)
+    }
+
+    /// Reserves capacity as `reserve` does. If the call fails, the map is as before. Both calls are the same: the two
+    /// names are the Rust crate's, where `reserve` aborts if memory runs out.
+    pub fn try_reserve(&mut self, more: usize) -> Result<(), TryReserveError>
+        ensures items { bag self.new ≡ bag self.old }
+        ensures room { MakesRoom self.old more result self.new }
+        ensures unchanged { OnErr result (self.new ≡ self.old) }
+    {
+        self.reserve(more)
+    }
+
+    /// Drops all items. The builder and the capacity stay. The call allocates no memory, and compares no key.
+    ///
+    /// It empties each cell of the tables that have any pair. If the items are fewer than a 64th of the cells of a
+    /// table, it removes them one by one instead, and hashes the key of each of them once.
+    pub fn clear(&mut self)
+    where
+        T: Drop,
+        ensures empty { bag self.new ≡ [] }
+        ensures capacity { self.new.capacity ≡ self.old.capacity }
+        ensures builder { self.new.builder ≡ self.old.builder }
+    {
+        if self.is_sparse() {
+            self.take_each();
+        }
+        self.items.clear();
+        self.first.clear();
+    }
+
+    /// Returns whether there are items, but so few in comparison with the cells of a table that removing them one by
+    /// one takes less time than emptying each cell.
+    fn is_sparse(&self) -> bool {
+        let items = self.len();
+        0 < items && items < self.first.cells() / 64
+    }
+
+    /// Removes the items one by one, and drops them. It hashes the key of each of them once.
+    fn take_each(&mut self)
+    where
+        T: Drop,
+        ensures empty { bag self.new ≡ [] }
+        ensures capacity { self.new.capacity ≡ self.old.capacity }
+        ensures builder { self.new.builder ≡ self.old.builder }
+    {
+        let mut from = 0;
+        while let Some(slot) = self.slot_from(from) {
+            from = slot.number() + 1;
+            drop(self.take(slot, None, &mut Meter::new()));
+        }
+    }
+}

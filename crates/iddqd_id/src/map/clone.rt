@@ -1,0 +1,42 @@
+//! Cloning a map.
+//!
+//! Made by tests/twins from crates/iddqd_bi/src/map/clone.rt: change that file.
+ghost use Rattle.std.specs.Prelude.{◌≡◌, ◌≤◌, length, true, Contains, IfOk};
+ghost use Rattle.std.specs.Hash.{HashWrites};
+ghost use Rattle.iddqd_store.specs.Bag.{IsCopy};
+ghost use Rattle.iddqd_store.specs.Map.{bag, hash_of};
+ghost use Rattle.iddqd_store.specs.Rank.{agree};
+
+use super::IdHashMap;
+use crate::item::IdHashItem;
+use iddqd_store::TryReserveError;
+use std::hash::{BuildHasher, Hash};
+
+impl<T: IdHashItem + Clone, S: BuildHasher + Clone> IdHashMap<T, S> {
+    /// Returns a map with a clone of each item and of the builder. The call fails if an allocation fails, or if a clone
+    /// does.
+    ///
+    /// A clone of an item must have equal keys, and the clone of the builder must make the same hashes. The call
+    /// compares and hashes no key.
+    pub fn clone(&self) -> Result<Self, TryReserveError>
+        // A clone of an item has equal keys, and the clone of the builder makes the same hashes.
+        requires same_key { (x c : T) → Contains (bag self.now) x → T.is_clone x c → agree T.key T.Key.eq x c ≡ true }
+        requires same_hashes { (s : S) (writes : HashWrites) → S.is_clone self.now.builder s
+            → hash_of S.BuildHasher S.Hasher.Hasher s writes
+            ≡ hash_of S.BuildHasher S.Hasher.Hasher self.now.builder writes }
+        // The copy has a clone of each item, and they fit.
+        ensures items { IfOk result (λ copy. IsCopy T.is_clone (bag self.now) (bag copy)) }
+        ensures fits { IfOk result (λ copy. length (bag copy) ≤ copy.capacity) }
+        ensures builder { IfOk result (λ copy. S.is_clone self.now.builder copy.builder) }
+    {
+        let hash_builder = self.hash_builder.clone()?;
+        let copy = IdHashMap {
+            items: self.items.clone()?,
+            first: self.first.clone()?,
+            hash_builder,
+        };
+        // This call gives the prover the fact that the items fit, for the clause `fits`.
+        let _ = copy.capacity();
+        Ok(copy)
+    }
+}

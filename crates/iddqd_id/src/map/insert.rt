@@ -1,0 +1,98 @@
+//! Inserting an item that conflicts with no other.
+//!
+//! Made by tests/twins from crates/iddqd_bi/src/map/insert.rt: change that file.
+ghost use Rattle.std.specs.Prelude.{◌≡◌, ◌≢◌, ◌<◌, ◌⊎◌, [], length, IsOk, OnOk, OnErr, IfErr};
+ghost use Rattle.std.specs.Borrow.{sem};
+ghost use Rattle.iddqd_store.specs.Bag.{clash};
+ghost use Rattle.iddqd_store.specs.Map.{bag, Gains, IsFullFor};
+
+use super::IdHashMap;
+use super::slots::Refusal;
+use crate::error::{InsertError, Rejected};
+use crate::item::Ranked;
+use iddqd_store::Meter;
+use std::hash::{BuildHasher, Hash};
+
+impl<T: Ranked, S: BuildHasher> IdHashMap<T, S> {
+    ghost use Rattle.iddqd_id.specs.Refused.{HandsBackAndHolds, TellsWhy, ends_as};
+
+    /// Inserts an item if no item of the map conflicts with it. Two items conflict if they have an equal key.
+    ///
+    /// If an item conflicts with it, the call fails, whatever memory there is, and the error has that item. Otherwise the
+    /// call fails only if the map is full and there is no memory to grow. Each error has the item, and borrows the map,
+    /// which is as it was.
+    ///
+    /// The call hashes the key of the item once, and searches for it once. It allocates memory only if the map is
+    /// full.
+    ///
+    /// ```text
+    /// match devices.insert_unique(device) {
+    ///     Ok(()) => {}
+    ///     Err(refused) => println!(rt; "{refused}: {:?}", refused.duplicate())?,
+    /// }
+    /// ```
+    #[inline(always)]
+    pub fn insert_unique(&mut self, item: T) -> Result<(), InsertError<'_, T, S>>
+        // The result is `Ok` only if nothing conflicts, and then always if there is spare capacity.
+        ensures free { OnOk result (clash T.ranks (bag self.old) item ≡ []) }
+        ensures granted { clash T.ranks (bag self.old) item ≡ []
+            → length (bag self.old) < self.old.capacity → IsOk result }
+        // The error has the item and borrows the map as it was. It occurs only for a conflict or in a full map.
+        ensures handed_back { IfErr result (λ e. HandsBackAndHolds self.entry item e) }
+        ensures reason { OnErr result ((clash T.ranks (bag self.old) item ≢ []) ⊎ IsFullFor T.ranks self.old item) }
+        // Once the error is gone, the map has the item after `Ok`, and otherwise it is as it was.
+        ensures* ends { sem 𝓛 (ends_as T.row S.row T.Key.row S.Hasher.row
+            T.IdHashItem T.Key.Hash S.BuildHasher S.Hasher.Hasher
+            self.entry result (λ new. Gains self.old item new)) }
+    {
+        match self.insert_or_refuse(item, &mut Meter::new(), &mut Meter::new()) {
+            Ok(()) => Ok(()),
+            Err(Refusal::Duplicate(item, by)) => {
+                let found = by.slot();
+                Err(InsertError {
+                    map: self,
+                    item,
+                    found,
+                })
+            }
+            Err(Refusal::Memory(item)) => Err(InsertError {
+                map: self,
+                item,
+                found: None,
+            }),
+        }
+    }
+
+    /// Inserts an item as `insert_unique` does, with an error that owns the item, says whether the key is taken, and
+    /// does not borrow the map, which is as it was. So `map.try_insert(item)?` works through a `From<Rejected<T>>` of
+    /// your own, and `.map_err(|rejected| rejected.item)` hands the item back.
+    ///
+    /// If an item conflicts with it, the call fails, whatever memory there is, and the error says that the key is taken.
+    /// Otherwise the call fails only if the map is full and there is no memory to grow.
+    ///
+    /// The call hashes the key of the item once, and searches for it once. It allocates memory only if the map is
+    /// full.
+    ///
+    /// `match map.try_insert(item) { Ok(()) => {}, Err(e) => report(e.taken, e.item) }`
+    pub fn try_insert(&mut self, item: T) -> Result<(), Rejected<T>>
+        // The result is `Ok` only if nothing conflicts, and then always if there is spare capacity.
+        ensures gains { OnOk result (Gains self.old item self.new) }
+        ensures free { OnOk result (clash T.ranks (bag self.old) item ≡ []) }
+        ensures granted { clash T.ranks (bag self.old) item ≡ []
+            → length (bag self.old) < self.old.capacity → IsOk result }
+        // The error has the item and says whether the key is taken. In a full map it may say that none is. The map is
+        // as it was.
+        ensures handed_back { IfErr result (λ e. e.item ≡ item) }
+        ensures unchanged { OnErr result (self.new ≡ self.old) }
+        ensures reason { IfErr result (λ e. TellsWhy T.IdHashItem T.Key.eq self.old item e) }
+    {
+        match self.insert_or_refuse(item, &mut Meter::new(), &mut Meter::new()) {
+            Ok(()) => Ok(()),
+            Err(Refusal::Duplicate(item, by)) => {
+                let taken = by.slot().is_some();
+                Err(Rejected { item, taken })
+            }
+            Err(Refusal::Memory(item)) => Err(Rejected { item, taken: false }),
+        }
+    }
+}

@@ -1,0 +1,72 @@
+//! Inserting an item in place of those that conflict with it.
+//!
+//! Made by tests/twins from crates/iddqd_bi/src/map/overwrite.rt: change that file.
+ghost use Rattle.std.specs.Prelude.{◌≡◌, ◌<◌, ◌+◌, length, map, IsOk, IfOk, IfErr, OnOk, OnErr};
+ghost use Rattle.std.specs.Option.{option_to_list};
+ghost use Rattle.iddqd_store.specs.Bag.{order};
+ghost use Rattle.iddqd_store.specs.Map.{bag, IsFullFor, Overwrites};
+ghost use Rattle.iddqd_store.specs.Rank.All.{PlacingCosts, hashes_of};
+
+use super::IdHashMap;
+use super::slots::Refusal;
+use crate::item::{Hashed, Ranked};
+use iddqd_store::{MemoryRefused, Meter};
+use std::hash::{BuildHasher, Hash};
+
+impl<T: Ranked, S: BuildHasher> IdHashMap<T, S> {
+    /// Inserts an item, and removes the one that conflicts with it, which the call returns.
+    ///
+    /// The call hashes the key of the item once, and searches for it once. If an item conflicts, the call allocates no
+    /// memory and the capacity stays. Otherwise it fails only if the map is full and there is no memory to grow. The
+    /// error then has the item, and the map is as it was.
+    #[inline(always)]
+    pub fn insert_overwrite(&mut self, item: T) -> Result<Option<T>, MemoryRefused<T>>
+        // The conflicting item is returned, and the item is in its place.
+        ensures displaced { IfOk result (λ gone. option_to_list gone ≡ order T.ranks (bag self.old) item) }
+        ensures overwrites { OnOk result (Overwrites T.ranks self.old item self.new) }
+        // With spare capacity the call never fails.
+        ensures granted { length (bag self.old) < self.old.capacity → IsOk result }
+        // The error has the item, and the map is as it was. This happens only in a full map, without a conflict.
+        ensures handed_back { IfErr result (λ e. e.value ≡ item) }
+        ensures unchanged { OnErr result (self.new ≡ self.old) }
+        ensures reason { OnErr result (IsFullFor T.ranks self.old item) }
+    {
+        self.insert_overwrite_by(item, &mut Meter::new(), &mut Meter::new())
+    }
+
+    /// Inserts as `insert_overwrite` does, which calls it. One meter counts the keys that are compared, and the other
+    /// the probed cells, but for those that growing probes. Beside the search, it walks through the table at most
+    /// twice.
+    #[inline(always)]
+    fn insert_overwrite_by(
+        &mut self,
+        item: T,
+        asked: &mut Meter,
+        probed: &mut Meter,
+    ) -> Result<Option<T>, MemoryRefused<T>>
+        // The conflicting item is returned, and the item is in its place.
+        ensures displaced { IfOk result (λ gone. option_to_list gone ≡ order T.ranks (bag self.old) item) }
+        ensures overwrites { OnOk result (Overwrites T.ranks self.old item self.new) }
+        // With spare capacity the call never fails.
+        ensures granted { length (bag self.old) < self.old.capacity → IsOk result }
+        // The error has the item, and the map is as it was. This happens only in a full map, without a conflict.
+        ensures handed_back { IfErr result (λ e. e.value ≡ item) }
+        ensures unchanged { OnErr result (self.new ≡ self.old) }
+        ensures reason { OnErr result (IsFullFor T.ranks self.old item) }
+        ensures costs { PlacingCosts (⟦<T as Hashed<S>>⟧.hashes self.old.builder) (bag self.old) self.old.capacity
+            (hashes_of (⟦<T as Hashed<S>>⟧.hashes self.old.builder) item)
+            (map (λ _. 2) T.ranks)
+            asked.old asked.new probed.old probed.new }
+    {
+        // Of the calls below, `put_over` and the growth of a full map are not inlined. The rest is inlined, so a
+        // caller's loop branches on the outcome where it arises, and writes no list of removed items if there are none.
+        match self.insert_or_refuse(item, asked, probed) {
+            Ok(()) => Ok(None),
+            Err(Refusal::Duplicate(item, by)) => {
+                let (displaced, _) = self.put_over(item, &by, probed);
+                Ok(Some(displaced))
+            }
+            Err(Refusal::Memory(value)) => Err(MemoryRefused { value }),
+        }
+    }
+}

@@ -1,0 +1,233 @@
+//! Single items and their slots: where an item is to be inserted, inserting it and removing it. The files below have
+//! the capacity (`room`), the slots that a search found (`found`), iterating (`walk`), reading and writing (`write`),
+//! inserting in place of other items (`over`), and inserting a list that may have to be removed again (`enter`). Calls
+//! on all slots at once and removals by one key use the slots and the table themselves.
+//!
+//! Made by tests/twins from crates/iddqd_bi/src/map/slots.rt: change that file.
+ghost use Rattle.std.specs.Prelude.{◌≡◌, ℕ, ◌<◌, ◌≤◌, ◌+◌, [], ◌∷◌, length, map, All, OnOk, OnErr, IfOk, IfErr, Some, None, IfSome, nat_eq, slice_set, is_some, is_ok, true, false, if◌then◌else◌};
+ghost use Rattle.std.specs.List.{IsDistinct, list_any};
+ghost use Rattle.iddqd_store.specs.Bag.{IsSound, clash, differ, listing};
+ghost use Rattle.iddqd_store.specs.Rank.Index.{HasHash};
+ghost use Rattle.iddqd_store.specs.Map.{bag, hash_of, Gains, Loses, PutsAt, IsFullFor, IsBlockedAt};
+ghost use Rattle.iddqd_store.specs.Rank.All.{ArePlacesOf, AreSearched, AreUnder, AreVacantFor, HaveHashes, HaveRoom, IsBlockedBy, PlacingCosts, hashes_of, slots_found};
+ghost use Rattle.iddqd_store.specs.Rank.{agree, walks_within};
+ghost use Rattle.iddqd_store.specs.Slots.Found.{AreFound, each_once, items_at};
+ghost use Rattle.iddqd_store.specs.Slots.{get, IsLive, Updates};
+ghost use Rattle.iddqd_id.specs.Keys.{by_rank, key_tests};
+ghost use Rattle.iddqd_id.specs.Mismatch.{HandsBack};
+
+mod enter;
+pub(crate) mod found;
+mod over;
+mod room;
+mod walk;
+mod write;
+
+use super::IdHashMap;
+use crate::error::EntryError;
+use crate::item::{Hashed, IdHashItem, Ranked};
+use crate::ranks::First;
+use iddqd_store::{ItemIndex, Lookup, Meter, Query, SlotUnder, Vacancy};
+use std::hash::{BuildHasher, Hash};
+
+/// An item that was not inserted, and why. It does not borrow the map.
+#[derive(Drop)]
+pub(crate) enum Refusal<T> {
+    /// Items conflict with it. This is what the search by its key found.
+    Duplicate(T, SlotUnder),
+    /// There was no memory for it.
+    Memory(T),
+}
+
+impl<T: IdHashItem, S: BuildHasher> IdHashMap<T, S> {
+    ghost use Rattle.iddqd_id.specs.Refused.{MatchRefusal, refusal_item};
+
+    /// Returns what a search by the key reads.
+    pub(crate) fn by_key(&self) -> Lookup<'_, T, First, S>
+        ensures apart { IsDistinct (agree T.key T.Key.eq) (bag self.now) }
+        ensures slots { result.slots ≡ self.now.slots }
+        ensures builder { result.builder ≡ self.now.builder }
+        ensures room { self.now.capacity ≤ result.capacity }
+    {
+        Lookup::new(&self.items, &self.first, &self.hash_builder)
+    }
+
+    /// Returns the hash of an item's key.
+    #[inline(always)]
+    pub(crate) fn hash_of_key(&self, item: &T) -> u64
+        ensures { result ≡ ⟦<T as Hashed<S>>⟧.hash self.now.builder item.now }
+    {
+        self.hash_builder.hash_one(item.key())
+    }
+
+    /// Searches at each rank for its key. If no item has one of the keys, `Ok` has the empty cells at which the
+    /// searches ended. Otherwise `Err` has the slot that each search found, if it found one, with the hash. The call
+    /// hashes each key once, and searches for it once. One meter counts the keys that are compared, and the other the
+    /// probed cells.
+    #[inline(always)]
+    pub(crate) fn search_all<Q: Query<T::Key>>(
+        &self,
+        query: Q,
+        asked: &mut Meter,
+        probed: &mut Meter,
+    ) -> Result<Vacancy, SlotUnder>
+        // The slots that were found, and whether there are any.
+        ensures found { AreFound (key_tests T.IdHashItem Q.stands_for query) self.now.slots
+            (slots_found (by_rank result)) }
+        ensures none { OnOk result (list_any is_some (slots_found (by_rank result)) ≡ false) }
+        ensures some { OnErr result (list_any is_some (slots_found (by_rank result)) ≡ true) }
+        ensures apart { IsDistinct (agree T.key T.Key.eq) (bag self.now) }
+        // The empty cells, or the hashes by which the slots were found.
+        ensures vacant { IfOk (by_rank result) (AreVacantFor (⟦<T as Hashed<S>>⟧.hashes self.now.builder) (bag self.now)
+            (map (hash_of S.BuildHasher S.Hasher.Hasher self.now.builder)
+            (Q.hash_input query ∷ []))) }
+        ensures cells { IfOk (by_rank result) (HaveRoom self.now.capacity) }
+        ensures hashes { IfErr (by_rank result) (HaveHashes
+            (map (hash_of S.BuildHasher S.Hasher.Hasher self.now.builder)
+            (Q.hash_input query ∷ []))) }
+        ensures under { IfErr (by_rank result) (AreUnder (⟦<T as Hashed<S>>⟧.hashes self.now.builder) self.now.slots) }
+        ensures costs { AreSearched (⟦<T as Hashed<S>>⟧.hashes self.now.builder) (bag self.now) self.now.capacity
+            (map (hash_of S.BuildHasher S.Hasher.Hasher self.now.builder)
+            (Q.hash_input query ∷ [])) (slots_found (by_rank result))
+            asked.old asked.new probed.old probed.new }
+    {
+        let hash = self.hash_builder.hash_one(query);
+        match self.by_key().search(hash, query, asked, probed) {
+            Ok(slot) => Err(SlotUnder::new(Some(slot), hash)),
+            Err(at) => Ok(at),
+        }
+    }
+
+    /// Returns where an item is to be inserted at each rank, or, if items conflict with it, what the search at each
+    /// rank found. The call hashes each key once, and searches for it once. One meter counts the keys that are
+    /// compared, and the other the probed cells.
+    #[inline(always)]
+    pub(crate) fn places(
+        &self,
+        item: &T,
+        asked: &mut Meter,
+        probed: &mut Meter,
+    ) -> Result<Vacancy, SlotUnder>
+        ensures free { OnOk result (clash ⟦<T as Ranked>⟧.ranks (bag self.now) item.now ≡ []) }
+        ensures places { IfOk (by_rank result) (ArePlacesOf
+            (⟦<T as Hashed<S>>⟧.hashes self.now.builder) (bag self.now) item.now) }
+        ensures blocked { OnErr result (IsBlockedAt ⟦<T as Ranked>⟧.ranks self.now item.now
+            (each_once (slots_found (by_rank result)))) }
+        ensures hashes { IfErr (by_rank result) (HaveHashes
+            (hashes_of (⟦<T as Hashed<S>>⟧.hashes self.now.builder) item.now)) }
+        ensures under { IfErr (by_rank result) (AreUnder (⟦<T as Hashed<S>>⟧.hashes self.now.builder) self.now.slots) }
+        ensures found { AreFound (⟦<T as Ranked>⟧.key_tests (T.key item.now))
+            self.now.slots (slots_found (by_rank result)) }
+        ensures costs { AreSearched (⟦<T as Hashed<S>>⟧.hashes self.now.builder) (bag self.now) self.now.capacity
+            (hashes_of (⟦<T as Hashed<S>>⟧.hashes self.now.builder) item.now) (slots_found (by_rank result))
+            asked.old asked.new probed.old probed.new }
+    {
+        self.search_all(item.key(), asked, probed)
+    }
+
+    /// Inserts an item with which nothing conflicts, at the place found for it at each rank. Only a table that grew is
+    /// probed.
+    #[inline(always)]
+    pub(crate) fn insert_at(&mut self, item: T, at: Vacancy, meter: &mut Meter) -> ItemIndex
+        requires room { length (bag self.old) < self.old.capacity }
+        requires free { clash ⟦<T as Ranked>⟧.ranks (bag self.old) item ≡ [] }
+        requires places { ArePlacesOf
+            (⟦<T as Hashed<S>>⟧.hashes self.old.builder) (bag self.old) item (at ∷ []) }
+        ensures was_free { get self.old.slots result ≡ None }
+        ensures updates { Updates self.old.slots self.new.slots result (Some item) }
+        ensures puts_at { PutsAt ⟦<T as Ranked>⟧.ranks self.old result item (item ∷ bag self.old) self.new }
+        ensures costs { meter.new ≤ meter.old + walks_within (length (bag self.old)) (map
+            (λ _. 1) ⟦<T as Ranked>⟧.ranks) }
+    {
+        let slot = self.items.insert_reserved(item);
+        self.first.insert_at(at, slot, meter);
+        slot
+    }
+
+    /// Inserts an item that has these keys, which no item of the map has, and returns its slot. The error says
+    /// whether the item has another key, or whether there was no memory. The call compares the item's key with the given
+    /// one. It searches for no key, and hashes none.
+    pub(crate) fn insert_free<Q: Query<T::Key>>(
+        &mut self,
+        item: T,
+        query: Q,
+        at: Vacancy,
+    ) -> Result<ItemIndex, EntryError<T>>
+        requires absent { listing (key_tests T.IdHashItem Q.stands_for query) (bag self.old) ≡ [] }
+        requires vacant { AreVacantFor (⟦<T as Hashed<S>>⟧.hashes self.old.builder) (bag self.old)
+            (map (hash_of S.BuildHasher S.Hasher.Hasher self.old.builder)
+            (Q.hash_input query ∷ []))
+            (at ∷ []) }
+        ensures gains { OnOk result (Gains self.old item self.new) }
+        ensures at { IfOk result (λ slot. get self.new.slots slot ≡ Some item) }
+        ensures sound { OnOk result (IsSound ⟦<T as Ranked>⟧.ranks (bag self.new)) }
+        ensures same_keys { OnOk result
+            (differ (key_tests T.IdHashItem Q.stands_for query) item ≡ None) }
+        ensures hands_back { IfErr result (HandsBack ⟦<T as Ranked>⟧.ranks
+            (key_tests T.IdHashItem Q.stands_for query) self.old item) }
+        ensures unchanged { OnErr result (self.new ≡ self.old) }
+    {
+        if !query.stands_for(item.key()) {
+            return Err(EntryError::Key(item));
+        }
+        if let Err(_) = self.make_room(1) {
+            return Err(EntryError::Memory(item));
+        }
+        Ok(self.insert_at(item, at, &mut Meter::new()))
+    }
+
+    /// Removes the item of a slot, by one walk through the table. It hashes a key of it only if its hash is not given.
+    pub(crate) fn take(&mut self, slot: ItemIndex, hash: Option<u64>, meter: &mut Meter) -> T
+        requires live { IsLive self.old.slots slot }
+        requires hash { IfSome hash (HasHash (⟦<T as Hashed<S>>⟧.hash self.old.builder) self.old.slots slot) }
+        ensures value { get self.old.slots slot ≡ Some result }
+        ensures slots { self.new.slots ≡ slice_set self.old.slots slot None }
+        ensures loses { Loses self.old (result ∷ []) self.new }
+        ensures updates { Updates self.old.slots self.new.slots slot None }
+        ensures costs { meter.new ≤ meter.old + walks_within (length (bag self.old)) (map
+            (λ _. 1) ⟦<T as Ranked>⟧.ranks) }
+    {
+        match self.items.remove(slot) {
+            Some(item) => {
+                self.first
+                    .forget::<T, First, S>(&self.hash_builder, &item, slot, hash, meter);
+                item
+            }
+            None => unreachable!(),
+        }
+    }
+
+    /// Inserts an item if none conflicts with it. The error has what the search by its key found; or, if the map is
+    /// full and cannot grow, it is `Memory`. One meter counts the keys that are compared, and the other the probed
+    /// cells, but for those that growing probes. What it calls is inlined, except for growing, so a caller's loop
+    /// branches where the outcome arises.
+    #[inline(always)]
+    pub(crate) fn insert_or_refuse(
+        &mut self,
+        item: T,
+        asked: &mut Meter,
+        probed: &mut Meter,
+    ) -> Result<(), Refusal<T>>
+        ensures gains { OnOk result (Gains self.old item self.new) }
+        ensures free { OnOk result (clash ⟦<T as Ranked>⟧.ranks (bag self.old) item ≡ []) }
+        ensures handed_back { IfErr result (λ e. refusal_item e ≡ item) }
+        ensures unchanged { OnErr result (self.new ≡ self.old) }
+        ensures reason { IfErr result (λ e. MatchRefusal e
+            (IsBlockedBy ⟦<T as Ranked>⟧.ranks (⟦<T as Hashed<S>>⟧.hashes self.old.builder) self.old item)
+            (IsFullFor ⟦<T as Ranked>⟧.ranks self.old item)) }
+        ensures costs { PlacingCosts (⟦<T as Hashed<S>>⟧.hashes self.old.builder) (bag self.old) self.old.capacity
+            (hashes_of (⟦<T as Hashed<S>>⟧.hashes self.old.builder) item)
+            (map (λ _. if is_ok result then 1 else 0) ⟦<T as Ranked>⟧.ranks)
+            asked.old asked.new probed.old probed.new }
+    {
+        let at = match self.places(&item, asked, probed) {
+            Ok(at) => at,
+            Err(by) => return Err(Refusal::Duplicate(item, by)),
+        };
+        if let Err(_) = self.make_room(1) {
+            return Err(Refusal::Memory(item));
+        }
+        self.insert_at(item, at, probed);
+        Ok(())
+    }
+}

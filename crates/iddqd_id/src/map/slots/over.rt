@@ -1,0 +1,122 @@
+//! Inserting an item in place of others.
+//!
+//! Made by tests/twins from crates/iddqd_bi/src/map/slots/over.rt: change that file.
+ghost use Rattle.std.specs.Prelude.{◌≡◌, ◌≢◌, ◌+◌, ◌≤◌, [], ◌∷◌, length, map, None, Some, IfOk, IfErr, OnOk, OnErr, slice_set};
+ghost use Rattle.iddqd_store.specs.Bag.{clash, order, over};
+ghost use Rattle.iddqd_store.specs.Map.{bag, ListsConflicts, PutsAt};
+ghost use Rattle.iddqd_store.specs.Rank.All.{ArePlacesOf, AreUnder, HaveHashes, PlacingCosts, hashes_of};
+ghost use Rattle.iddqd_store.specs.Rank.{walks_one, walks_within};
+ghost use Rattle.iddqd_store.specs.Slots.{get, contents, IsLive};
+ghost use Rattle.iddqd_store.specs.Slots.Found.{each_once};
+
+use super::super::IdHashMap;
+use crate::item::{Hashed, IdHashItem, Ranked};
+use crate::ranks::First;
+use iddqd_store::{ItemIndex, Meter, SlotUnder, Vacancy};
+use std::hash::{BuildHasher, Hash};
+
+impl<T: IdHashItem, S: BuildHasher> IdHashMap<T, S> {
+    /// Inserts an item in place of the one that conflicts with it, whose slot the search by its key found, and returns that
+    /// one, with its slot, which the new item takes. The call hashes no key.
+    #[inline(never)]
+    pub(crate) fn put_over(&mut self, item: T, by: &SlotUnder, meter: &mut Meter) -> (T, ItemIndex)
+        requires conflicts { ListsConflicts ⟦<T as Ranked>⟧.ranks self.old item
+            (each_once (by.now.slot ∷ [])) }
+        requires some { length (each_once (by.now.slot ∷ [])) ≢ 0 }
+        requires hashes { HaveHashes
+            (hashes_of (⟦<T as Hashed<S>>⟧.hashes self.old.builder) item) (by.now ∷ []) }
+        requires under { AreUnder
+            (⟦<T as Hashed<S>>⟧.hashes self.old.builder) self.old.slots (by.now ∷ []) }
+        ensures displaced { result.0 ∷ [] ≡ order ⟦<T as Ranked>⟧.ranks (bag self.old) item }
+        ensures puts_at { PutsAt ⟦<T as Ranked>⟧.ranks self.old result.1 item
+            (over ⟦<T as Ranked>⟧.ranks (bag self.old) item) self.new }
+        ensures costs { meter.new ≤ meter.old + walks_within (length (bag self.old))
+            (map (λ _. 2) ⟦<T as Ranked>⟧.ranks) }
+    {
+        let Some(slot) = by.slot() else {
+            unreachable!()
+        };
+        (self.exchange(slot, item, by, meter), slot)
+    }
+
+    /// Puts an item into the slot of another, whatever their keys are, and returns the latter. If an item in a third
+    /// slot conflicts with the new one, the new one is returned, and nothing changes. The call hashes the key of the
+    /// new item once, and searches for it once. Beside these searches it walks through the table at most twice.
+    pub(crate) fn rekey_at(
+        &mut self,
+        slot: ItemIndex,
+        item: T,
+        asked: &mut Meter,
+        probed: &mut Meter,
+    ) -> Result<T, T>
+        requires { IsLive self.old.slots slot }
+        ensures value { IfOk result (λ x. get self.old.slots slot ≡ Some x) }
+        ensures puts_at { OnOk result (PutsAt ⟦<T as Ranked>⟧.ranks self.old slot item
+            (item ∷ contents (slice_set self.old.slots slot None)) self.new) }
+        ensures handed_back { IfErr result (λ x. x ≡ item) }
+        ensures reason { OnErr result
+            (clash ⟦<T as Ranked>⟧.ranks (contents (slice_set self.old.slots slot None)) item ≢ []) }
+        ensures unchanged { OnErr result (self.new ≡ self.old) }
+        ensures costs { PlacingCosts (⟦<T as Hashed<S>>⟧.hashes self.old.builder) (bag self.old) self.old.capacity
+            (hashes_of (⟦<T as Hashed<S>>⟧.hashes self.old.builder) item) (map (λ _. 2) ⟦<T as Ranked>⟧.ranks)
+            asked.old asked.new probed.old probed.new }
+    {
+        let by = match self.places(&item, asked, probed) {
+            Ok(at) => return Ok(self.exchange_at(slot, item, at, probed)),
+            Err(by) => by,
+        };
+        let Some(other) = by.slot() else {
+            unreachable!()
+        };
+        if other != slot {
+            return Err(item);
+        }
+        Ok(self.exchange(slot, item, &by, probed))
+    }
+
+    /// Puts an item with which nothing conflicts into the slot of another, and returns the latter. If both have the
+    /// same hash at a rank, the pair in its table stays, and no cell of it is probed. Otherwise the new pair goes to
+    /// the place that was found for it, and the call walks through the table once, or twice if no further pair fits
+    /// into it.
+    fn exchange_at(&mut self, slot: ItemIndex, item: T, at: Vacancy, meter: &mut Meter) -> T
+        requires live { IsLive self.old.slots slot }
+        requires free { clash ⟦<T as Ranked>⟧.ranks (contents (slice_set self.old.slots slot None)) item ≡ [] }
+        requires places { ArePlacesOf
+            (⟦<T as Hashed<S>>⟧.hashes self.old.builder) (bag self.old) item (at ∷ []) }
+        ensures value { get self.old.slots slot ≡ Some result }
+        ensures puts_at { PutsAt ⟦<T as Ranked>⟧.ranks self.old slot item
+            (item ∷ contents (slice_set self.old.slots slot None)) self.new }
+        ensures costs { meter.new ≤ meter.old + walks_within (length (bag self.old)) (map
+            (λ _. 2) ⟦<T as Ranked>⟧.ranks) }
+    {
+        // This call gives the prover the fact that the items fit, for the clause `fits`.
+        let _ = self.room();
+        let gone = self.items.replace(slot, item);
+        self.first
+            .rehash_at::<T, First, S>(&self.hash_builder, (slot, &gone), at, meter);
+        gone
+    }
+
+    /// Puts an item into the slot of another, and returns the latter. If both have the same hash at a rank, the pair in
+    /// its table stays, and no cell of it is probed. Otherwise the call walks through the table twice.
+    fn exchange(&mut self, slot: ItemIndex, item: T, by: &SlotUnder, meter: &mut Meter) -> T
+        requires live { IsLive self.old.slots slot }
+        requires free { clash ⟦<T as Ranked>⟧.ranks (contents (slice_set self.old.slots slot None)) item ≡ [] }
+        requires hashes { HaveHashes
+            (hashes_of (⟦<T as Hashed<S>>⟧.hashes self.old.builder) item) (by.now ∷ []) }
+        requires under { AreUnder
+            (⟦<T as Hashed<S>>⟧.hashes self.old.builder) self.old.slots (by.now ∷ []) }
+        ensures value { get self.old.slots slot ≡ Some result }
+        ensures puts_at { PutsAt ⟦<T as Ranked>⟧.ranks self.old slot item
+            (item ∷ contents (slice_set self.old.slots slot None)) self.new }
+        ensures costs { meter.new ≤ meter.old + walks_within (length (bag self.old))
+            (walks_one (⟦<T as Hashed<S>>⟧.hash self.old.builder) by.now result ∷ []) }
+    {
+        // This call gives the prover the fact that the items fit, for the clause `fits`.
+        let _ = self.room();
+        let gone = self.items.replace(slot, item);
+        self.first
+            .rehash::<T, First, S>(&self.hash_builder, (slot, &gone), by, meter);
+        gone
+    }
+}

@@ -1,0 +1,78 @@
+//! How many items fit, and room for more. The capacity of a map is the least of those of its slots and the table.
+//!
+//! Made by tests/twins from crates/iddqd_bi/src/map/slots/room.rt: change that file.
+ghost use Rattle.std.specs.Prelude.{◌≡◌, ◌==◌, ◌<◌, ◌≤◌, length, OnOk, OnErr};
+ghost use Rattle.iddqd_store.specs.Map.{bag, MakesRoom};
+ghost use Rattle.iddqd_store.specs.Table.Limit.{most_room};
+
+use crate::item::IdHashItem;
+use crate::map::IdHashMap;
+use iddqd_store::{Meter, TryReserveError, pairs_wanted, wanted_above};
+use std::hash::{BuildHasher, Hash};
+
+impl<T: IdHashItem, S: BuildHasher> IdHashMap<T, S> {
+    /// Returns how many items fit: the least of what the slots and the table hold.
+    pub(crate) fn room(&self) -> usize
+        ensures value { result ≡ self.now.capacity }
+        ensures fits { length (bag self.now) ≤ result }
+        ensures most { result ≤ most_room }
+    {
+        self.items.capacity().min(self.first.capacity())
+    }
+
+    /// Returns whether no further item fits.
+    #[inline(always)]
+    fn is_full(&self) -> bool
+        ensures value { result ≡ (length (bag self.now) == self.now.capacity) }
+        ensures fits { length (bag self.now) ≤ self.now.capacity }
+    {
+        self.items.len() == self.room()
+    }
+
+    /// Reserves capacity for this many more items if the map is full, and for one if there is no memory for so many. If
+    /// that fails too, the map is as before.
+    #[inline(always)]
+    pub(crate) fn make_room(&mut self, wanted: usize) -> Result<(), TryReserveError>
+        requires { 0 < wanted }
+        ensures slots { self.new.slots ≡ self.old.slots }
+        ensures builder { self.new.builder ≡ self.old.builder }
+        ensures no_less_room { self.old.capacity ≤ self.new.capacity }
+        ensures same_room { length (bag self.old) < self.old.capacity → self.new ≡ self.old }
+        ensures room { OnOk result (length (bag self.old) < self.new.capacity) }
+        ensures reason { OnErr result (length (bag self.old) ≡ self.old.capacity) }
+        ensures unchanged { OnErr result (self.new ≡ self.old) }
+    {
+        if self.is_full() {
+            // For one alone the same request would be made twice.
+            if wanted > 1 && self.grow(wanted).is_ok() {
+                return Ok(());
+            }
+            self.grow(1)?;
+        }
+        Ok(())
+    }
+
+    /// Reserves capacity for this many more items. If that fails, the map is as before, but slots and the table may
+    /// have more room. The call is not inlined into an insert, which seldom grows. Each larger table replaces the old
+    /// one at once. The parts that have more room than the map grow first, and what bounds the capacity grows last: so
+    /// if a step fails, that part is as before, and the capacity with it.
+    #[cold]
+    #[inline(never)]
+    pub(crate) fn grow(&mut self, more: usize) -> Result<(), TryReserveError>
+        ensures slots { self.new.slots ≡ self.old.slots }
+        ensures room { MakesRoom self.old more result self.new }
+        ensures unchanged { OnErr result (self.new ≡ self.old) }
+    {
+        let Some(wanted) = pairs_wanted(self.items.len(), self.items.capacity(), more) else {
+            return Err(TryReserveError);
+        };
+        let mut meter = Meter::new();
+        // First the slots, if they have more room than the map. In the second turn they have nothing to do then.
+        let room = self.room();
+        let slots = wanted_above(room, self.items.capacity(), more);
+        self.items.try_reserve(slots)?;
+        self.first.try_reserve(wanted, &mut meter)?;
+        self.items.try_reserve(more)?;
+        Ok(())
+    }
+}

@@ -1,0 +1,52 @@
+//! Iterating over the items by the numbers of their slots.
+//!
+//! Made by tests/twins from crates/iddqd_bi/src/map/slots/walk.rt: change that file.
+ghost use Rattle.std.specs.Prelude.{◌≡◌, ◌+◌, ◌^◌, ◌<◌, [], length, Some, IfSome, IfNone};
+ghost use Rattle.iddqd_store.specs.Slots.{get, IsLive};
+ghost use Rattle.iddqd_store.specs.Slots.Next.{ComesNext};
+ghost use Rattle.iddqd_store.specs.Map.Walk.{Passes, first_from, to_come};
+ghost use Rattle.iddqd_store.specs.Map.Written.{map_with};
+
+use super::super::IdHashMap;
+use crate::item::IdHashItem;
+use iddqd_store::ItemIndex;
+use std::hash::{BuildHasher, Hash};
+
+impl<T: IdHashItem, S: BuildHasher> IdHashMap<T, S> {
+    /// Returns the first slot with an item whose number is this one or a higher one.
+    pub(crate) fn slot_from(&self, from: usize) -> Option<ItemIndex>
+        ensures comes { IfSome result (λ slot. (x : T) → get self.now.slots slot ≡ Some x
+            → ComesNext self.now.slots from slot x) }
+        ensures next { IfSome result (λ slot. (x : T) × (get self.now.slots slot ≡ Some x)
+            × Passes self.now from x (map_with self.now slot) (slot + 1)) }
+        ensures step { IfSome result (λ slot. first_from self.now.slots from ≡ Some slot) }
+        ensures live { IfSome result (IsLive self.now.slots) }
+        ensures countable { IfSome result (λ slot. slot + 1 < 2 ^ 64) }
+        ensures none { IfNone result (to_come self.now from ≡ []) }
+    {
+        // The match lets the proof treat each outcome by itself.
+        match self.items.next_live(from) {
+            Some(slot) => Some(slot),
+            None => None,
+        }
+    }
+
+    /// Returns the first slot with an item. The slots before it are not visited again, unless an insert uses one of
+    /// them.
+    pub(crate) fn first_slot(&mut self) -> Option<ItemIndex>
+        ensures live { IfSome result (IsLive self.old.slots) }
+        ensures none { IfNone result (to_come self.old 0 ≡ []) }
+        ensures unchanged { self.new ≡ self.old }
+    {
+        // The `?` lets the proof treat each outcome by itself.
+        let slot = self.items.first_live()?;
+        Some(slot)
+    }
+
+    /// Returns how many items are in slots whose number is this one or a higher one.
+    pub(crate) fn count_from(&self, from: usize) -> usize
+        ensures { result ≡ length (to_come self.now from) }
+    {
+        self.items.count_from(from)
+    }
+}

@@ -1,0 +1,66 @@
+//! Updating items by a closure, which is called with an item and returns its new data.
+//!
+//! Made by tests/twins from crates/iddqd_bi/src/map/update.rt: change that file.
+ghost use Rattle.std.specs.Prelude.{◌≡◌, Some, true, false};
+ghost use Rattle.std.specs.Fn.{CalledAt, FnOnceReturnsAt, FnOnceTakesAt};
+ghost use Rattle.std.specs.List.{list_any};
+ghost use Rattle.iddqd_store.specs.Bag.{IsOnly};
+ghost use Rattle.iddqd_store.specs.Bag.Calling.{TakesInAnyOrder};
+ghost use Rattle.iddqd_store.specs.Bag.Storing.{StoresInAll, StoresOne};
+ghost use Rattle.iddqd_store.specs.Map.{bag};
+ghost use Rattle.iddqd_id.specs.Keys.{has};
+
+use super::IdHashMap;
+use crate::item::{IdHashItemMut, Ranked};
+use iddqd_store::{Meter, Query};
+use std::hash::{BuildHasher, Hash};
+
+impl<T: IdHashItemMut, S: BuildHasher> IdHashMap<T, S> {
+    /// Calls `f` with the item with the key that the query stands for, and stores what it returns as the item's
+    /// data. Returns whether there is such an item. If not, `f` is not called, and nothing changes.
+    ///
+    /// The call allocates no memory, and costs what `get` costs.
+    ///
+    /// `map.update(&key, |item| item.count + 1)`
+    pub fn update<Q: Query<T::Key>, F: FnOnce(&T) -> T::Data>(&mut self, query: Q, f: F) -> bool
+    where
+        T::Data: Drop,
+        F: Drop,
+        requires { (x : T) → IsOnly (has T.IdHashItem Q.stands_for query) (bag self.old) (Some x)
+            → FnOnceTakesAt F.FnOnce f x }
+        ensures found { result ≡ list_any (has T.IdHashItem Q.stands_for query) (bag self.old) }
+        ensures stores { result ≡ true → StoresOne (FnOnceReturnsAt F.FnOnce f) T.put ⟦<T as Ranked>⟧.ranks
+            (has T.IdHashItem Q.stands_for query) (bag self.old) (bag self.new) }
+        ensures absent { result ≡ false → self.new ≡ self.old }
+        ensures capacity { self.new.capacity ≡ self.old.capacity }
+        ensures builder { self.new.builder ≡ self.old.builder }
+    {
+        match self.slot_by(query, &mut Meter::new(), &mut Meter::new()) {
+            Some(slot) => {
+                self.store_once(slot, f);
+                true
+            }
+            None => false,
+        }
+    }
+
+    /// Calls `f` once with each item, in unspecified order, and stores what it returns as the item's data.
+    ///
+    /// The call allocates no memory, and compares and hashes no key.
+    ///
+    /// `map.update_all(|session| session.seen.wrapping_add(1))`
+    pub fn update_all<F: FnMut(&T) -> T::Data>(&mut self, mut f: F)
+    where
+        T::Data: Drop,
+        requires { TakesInAnyOrder F.FnMut f (bag self.old) }
+        ensures stores { StoresInAll (CalledAt F.FnMut) T.put f (bag self.old) (bag self.new) }
+        ensures capacity { self.new.capacity ≡ self.old.capacity }
+        ensures builder { self.new.builder ≡ self.old.builder }
+    {
+        let mut from = 0;
+        while let Some(slot) = self.slot_from(from) {
+            from = slot.number() + 1;
+            self.store_at(slot, &mut f);
+        }
+    }
+}
