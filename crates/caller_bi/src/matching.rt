@@ -39,8 +39,6 @@ impl<'k, K: Eq> KeyMatcher<K> for Same<'k, K> {
 
     ghost accepts_kept = { λ m n key e. ap (λ k. K.eq k.now key) e };
 
-    ghost may_kept = { λ _ _ _ _ _. tt };
-
     ghost kept_refl = { λ m. refl };
 
     ghost kept_trans = { λ m n o p q. q ∙ p };

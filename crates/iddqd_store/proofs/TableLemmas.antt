@@ -5,6 +5,7 @@ pub mod Grow
 pub mod Limits
 pub mod Line
 pub mod Moved
+pub mod Once
 pub mod Probes
 pub mod Regrow
 pub mod Remove

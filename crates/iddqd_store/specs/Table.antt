@@ -6,6 +6,7 @@ pub mod Room
 pub mod Search
 use Rattle.std.specs.Prelude.{ℕ, ◌+◌, ◌*◌, ◌/◌, ◌%◌, ◌^◌, ◌≡◌, ◌<◌, ◌≤◌, ◌==◌, Bool, List}
 use Rattle.std.specs.Prelude.{◌∷◌, Option, None, Some, ◌≢◌, length, map, IfNone, OnSome}
+use Rattle.std.specs.List.{IsDistinct}
 use Rattle.std.specs.List.Sorted.{IsPermutation}
 use Rattle.iddqd_store.specs.Table.Limit.{IsSize}
 use Rattle.iddqd_store.specs.Slots.{contents}
@@ -20,6 +21,11 @@ hashes pairs = map (λ p. p.0) pairs
 -- Example: (5, 0) has the hash 5.
 abbrev pub under : ℕ → ℕ × ℕ → Bool
 under hash p = p.0 == hash
+
+-- No two pairs have the same slot.
+-- Example: It holds for (5, 0), (6, 2), and not for (5, 0), (6, 0).
+abbrev pub HaveOwnSlots : List (ℕ × ℕ) → Type 0
+HaveOwnSlots pairs = IsDistinct (λ p q. p.1 == q.1) pairs
 
 -- A search for a hash probes no cell if there is none. If it finds nothing, it probes one more than the stretch of
 -- the hash, and if it finds something, from 1 up to the stretch.

@@ -9,7 +9,7 @@ ghost use Rattle.iddqd_store.specs.Table.Ring.{cell, gap, stretch, IsFull};
 ghost use Rattle.iddqd_store.specs.Table.Limit.{IsLeast, IsSize, most_room};
 ghost use Rattle.iddqd_store.specs.Table.Room.{IsSized};
 ghost use Rattle.iddqd_store.specs.Table.Search.{CostsUnder, FindsUnder, IsVacantUnder};
-ghost use Rattle.iddqd_store.specs.Table.{hashes, IsCellOf, IsFree, IsTable, Probes, ReplacesPair, Table, table_of};
+ghost use Rattle.iddqd_store.specs.Table.{hashes, HaveOwnSlots, IsCellOf, IsFree, IsTable, Probes, ReplacesPair, Table, table_of};
 
 use crate::TryReserveError;
 use crate::item_set::ItemIndex;
@@ -155,14 +155,16 @@ impl IndexTable {
     ///
     /// It allocates nothing. It probes the cells from the home of the hash on, up to the one with the result or to
     /// the first empty one. These are at most one more than there are pairs, and none if there are no cells. The
-    /// matcher is asked only about indexes under this very hash.
+    /// matcher is asked only about indexes under this very hash, and about each at most once. No index may stand in two
+    /// pairs.
     pub fn find<M: Matcher>(
         &self,
         hash: u64,
         matcher: &mut M,
         meter: &mut Meter,
     ) -> Option<ItemIndex>
-        requires { (slot : ℕ) → Contains self.now.pairs (hash, slot) → M.MayAsk matcher.old slot }
+        requires own { HaveOwnSlots self.now.pairs }
+        requires asks { (slot : ℕ) → Contains self.now.pairs (hash, slot) → M.MayAsk matcher.old slot }
         ensures found { FindsUnder self.now hash (M.accepts matcher.old) result }
         ensures is_kept { M.IsKept matcher.old matcher.new }
         ensures costs { CostsUnder self.now hash result (M.asked matcher.old) (M.asked matcher.new)
@@ -185,7 +187,8 @@ impl IndexTable {
         matcher: &mut M,
         meter: &mut Meter,
     ) -> Result<(ItemIndex, usize), Vacancy>
-        requires { (slot : ℕ) → Contains self.now.pairs (hash, slot) → M.MayAsk matcher.old slot }
+        requires own { HaveOwnSlots self.now.pairs }
+        requires asks { (slot : ℕ) → Contains self.now.pairs (hash, slot) → M.MayAsk matcher.old slot }
         ensures found { FindsUnder self.now hash (M.accepts matcher.old) (option_map (λ f. f.0) (result_ok result)) }
         ensures cell { IfOk result (λ f. IsCellOf self.now.row (hash, f.0) f.1) }
         ensures probes { IfOk result (λ f. meter.new

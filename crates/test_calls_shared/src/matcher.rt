@@ -41,8 +41,6 @@ impl KeyMatcher<Key> for Only {
 
     ghost accepts_kept = { λ m n key e. ap (λ k. key.number == k) e };
 
-    ghost may_kept = { λ _ _ _ _ _. tt };
-
     ghost kept_refl = { λ m. refl };
 
     ghost kept_trans = { λ m n o p q. q ∙ p };

@@ -26,8 +26,6 @@ impl Matcher for Only {
 
     ghost accepts_kept = { λ m n slot k. ap₂ (λ y i. y && (slot == i)) (sym k.1) (sym k.0) };
 
-    ghost may_kept = { λ _ _ _ _ _. tt };
-
     ghost kept_refl = { λ _. (refl, refl) };
 
     ghost kept_trans = { λ _ _ _ k l. (k.0 ∙ l.0, k.1 ∙ l.1) };

@@ -12,6 +12,7 @@ use Rattle.std.proofs.lemmas.List.Sorted.{IsPermutation-refl, IsPermutation-sym,
 use Rattle.iddqd_store.specs.Slots.{get, members_from, members, contents}
 use Rattle.iddqd_store.specs.Rank.Index.{pair_of, IsIndex, HasHash, passes_at}
 use Rattle.iddqd_store.specs.Bag.{NamesOne}
+use Rattle.iddqd_store.specs.Table.{HaveOwnSlots}
 use Rattle.iddqd_store.proofs.BagLemmas.Sound.{each_weaker, without_named, IsDistinct-nil}
 use Rattle.iddqd_store.proofs.BagLemmas.Exchanges.{split}
 use Rattle.iddqd_store.proofs.SlotLemmas.Contents.{content_at, contents-members, contents-take, length-contents}
@@ -49,7 +50,7 @@ each_from_Contains P (x ∷ xs) f = (f x (Contains-here x xs), each_from_Contain
 differs : (a b : ℕ) → a < b → (a == b) ≡ false
 differs a b h = grind (arith, nat_tests)
 
-same_slot_symm : (p q : ℕ × ℕ) → (p.1 == q.1) ≡ (q.1 == p.1)
+pub same_slot_symm : (p q : ℕ × ℕ) → (p.1 == q.1) ≡ (q.1 == p.1)
 same_slot_symm p q = grind (arith, nat_tests)
 
 names_slot : (at : ℕ) → NamesOne (λ p q. p.1 == q.1) (λ (p : ℕ × ℕ). at == p.1)
@@ -143,6 +144,9 @@ module _ {T : Type 0} where
       (each_weaker (λ p. first + 1 ≤ p.1) (λ p. (first == p.1) ≡ false) (λ p h. differs first p.1 (omega arith)) _ (low_pairs hash (first + 1) rest))
       (distinct_pairs hash (first + 1) rest)
 
+  pub own_slots : {hash : T → ℕ} {slots : List (Option T)} {pairs : List (ℕ × ℕ)} → IsIndex hash slots pairs → HaveOwnSlots pairs
+  own_slots {hash = hash} {slots = slots} index = IsDistinct-IsPermutation (λ (p q : ℕ × ℕ). p.1 == q.1) same_slot_symm _ _ (IsPermutation-sym _ _ index.paired) (distinct_pairs hash 0 slots)
+
   -- a pair and its slot leave together
   pub IsIndex-remove : {hash : T → ℕ} {old new : List (Option T)} {pairs fewer : List (ℕ × ℕ)} {at h : ℕ} (x : T) → IsIndex hash old pairs → h ≡ hash x → IsPermutation (members old) ((at, x) ∷ members new) → IsPermutation pairs ((h, at) ∷ fewer) → IsIndex hash new fewer
   IsIndex-remove {hash = hash} {old = old} {new = new} {pairs = pairs} {fewer = fewer} {at = at} x index is taken leaves =
@@ -150,7 +154,7 @@ module _ {T : Type 0} where
       let slot : ℕ × ℕ → ℕ × ℕ → Bool = λ p q. p.1 == q.1 in
       let left : List (ℕ × ℕ) = map (pair_of hash) (members new) in
       let other : IsPermutation pairs ((hash x, at) ∷ left) = IsPermutation-trans _ _ _ index.paired (IsPermutation-map (pair_of hash) _ _ taken) in
-      let apart : IsDistinct slot pairs = IsDistinct-IsPermutation slot same_slot_symm _ _ (IsPermutation-sym _ _ index.paired) (distinct_pairs hash 0 old) in
+      let apart : IsDistinct slot pairs = own_slots index in
       let first = without_named slot (λ p. at == p.1) (names_slot at) pairs fewer (hash x, at) (IsDistinct-IsPermutation slot same_slot_symm _ _ paired apart) (itself at) paired in
       let second = without_named slot (λ p. at == p.1) (names_slot at) pairs left (hash x, at) (IsDistinct-IsPermutation slot same_slot_symm _ _ other apart) (itself at) other in
       record { paired = IsPermutation-trans _ _ _ (IsPermutation-sym _ _ first) second }

@@ -1,11 +1,12 @@
 //! What a search by hash asks: of a slot, and of a key.
-ghost use Rattle.std.specs.Prelude.{◌≡◌, ◌+◌, ◌≤◌, ℕ, Bool};
+ghost use Rattle.std.specs.Prelude.{◌≡◌, ◌≢◌, ◌+◌, ◌≤◌, ℕ, Bool};
 
 use crate::item_set::ItemIndex;
 
 /// What a search by hash asks of each slot under this hash: whether the slot has the item that is sought.
 ///
-/// The answer for a slot is fixed, whatever was asked before.
+/// The answer for a slot is fixed, whatever was asked before. A question about a slot promises only that the other slots may
+/// still be asked about. So a search asks about each slot at most once, whatever matcher it is given.
 pub trait Matcher {
     // The result of `matches`.
     ghost accepts: { Self → ℕ → Bool };
@@ -13,7 +14,7 @@ pub trait Matcher {
     // How many questions about a slot were passed on as questions about a key.
     ghost asked: { Self → ℕ };
 
-    // Which slots it may be asked about.
+    // Which slots it may still be asked about.
     ghost MayAsk: { Self → ℕ → Type 0 };
 
     // Relates a matcher before a call to the same one after it. Related matchers accept the same slots.
@@ -24,11 +25,10 @@ pub trait Matcher {
         requires { MayAsk self.old slot }
         ensures value { result ≡ accepts self.old slot }
         ensures is_kept { IsKept self.old self.new }
+        ensures others { (other : ℕ) → other ≢ slot → MayAsk self.old other → MayAsk self.new other }
         ensures asked { asked self.new ≤ asked self.old + 1 };
 
     ghost accepts_kept: { (m n : Self) (slot : ℕ) → IsKept m n → accepts n slot ≡ accepts m slot };
-
-    ghost may_kept: { (m n : Self) (slot : ℕ) → IsKept m n → MayAsk m slot → MayAsk n slot };
 
     // A matcher that was not called is related to itself, and a relation over one call goes on over the next.
     ghost kept_refl: { (m : Self) → IsKept m m };
@@ -37,7 +37,8 @@ pub trait Matcher {
 }
 
 /// What a search by hash asks of each key with this hash: whether it is the one that is sought. `find1_with`,
-/// `find2_with` and `find3_with` take a matcher, and call it for no other keys.
+/// `find2_with` and `find3_with` take a matcher, and call it for no other keys. A question about a key promises only that
+/// the other keys may still be asked about. So a search asks about each key at most once.
 pub trait KeyMatcher<K> {
     // The result of `matches`.
     ghost accepts: { Self → K → Bool };
@@ -45,7 +46,7 @@ pub trait KeyMatcher<K> {
     // How many keys were asked about.
     ghost asked: { Self → ℕ };
 
-    // Which keys it may be asked about.
+    // Which keys it may still be asked about.
     ghost MayAsk: { Self → K → Type 0 };
 
     // Relates a matcher before a call to the same one after it. Related matchers accept the same keys.
@@ -56,11 +57,10 @@ pub trait KeyMatcher<K> {
         requires { MayAsk self.old key.now }
         ensures value { result ≡ accepts self.old key.now }
         ensures is_kept { IsKept self.old self.new }
+        ensures others { (other : K) → other ≢ key.now → MayAsk self.old other → MayAsk self.new other }
         ensures asked { asked self.new ≡ asked self.old + 1 };
 
     ghost accepts_kept: { (m n : Self) (key : K) → IsKept m n → accepts n key ≡ accepts m key };
-
-    ghost may_kept: { (m n : Self) (key : K) → IsKept m n → MayAsk m key → MayAsk n key };
 
     // A matcher that was not called is related to itself, and a relation over one call goes on over the next.
     ghost kept_refl: { (m : Self) → IsKept m m };

@@ -4,7 +4,7 @@ ghost use Rattle.std.specs.List.Sorted.{IsPermutation};
 ghost use Rattle.iddqd_store.specs.Table.Ring.{gap, stretch};
 ghost use Rattle.iddqd_store.specs.Table.Search.{FindsUnder, RemovalCosts};
 ghost use Rattle.iddqd_store.specs.Table.Room.{IsSized};
-ghost use Rattle.iddqd_store.specs.Table.{hashes, IsCellOf};
+ghost use Rattle.iddqd_store.specs.Table.{hashes, HaveOwnSlots, IsCellOf};
 
 use super::{IndexTable, Matcher, Meter, probe};
 use crate::item_set::ItemIndex;
@@ -39,7 +39,8 @@ impl IndexTable {
         matcher: &mut M,
         meter: &mut Meter,
     ) -> Option<ItemIndex>
-        requires { (slot : ℕ) → Contains self.old.pairs (hash, slot) → M.MayAsk matcher.old slot }
+        requires own { HaveOwnSlots self.old.pairs }
+        requires asks { (slot : ℕ) → Contains self.old.pairs (hash, slot) → M.MayAsk matcher.old slot }
         // What it returns, and which pairs are left.
         ensures found { FindsUnder self.old hash (M.accepts matcher.old) result }
         ensures taken { IfSome result (λ slot. IsPermutation self.old.pairs ((hash, slot) ∷ self.new.pairs)) }

@@ -1,7 +1,9 @@
 //! What a search by a key asks: the table asks about a slot, and `ByKey` asks about the key of the item there.
 ghost use Rattle.std.specs.Prelude.{◌≡◌, refl, false, Some, ⊤};
+ghost use Rattle.std.specs.List.{IsDistinct};
 ghost use Rattle.std.proofs.Common.{ap, sym, ◌∙◌};
-ghost use Rattle.iddqd_store.specs.Slots.{get};
+ghost use Rattle.iddqd_store.specs.Slots.{contents, get};
+ghost use Rattle.iddqd_store.specs.Rank.{agree};
 ghost use Rattle.iddqd_store.specs.Rank.Asking.{passes_kept};
 ghost use Rattle.iddqd_store.specs.Rank.Index.{passes_at};
 
@@ -12,7 +14,8 @@ use crate::query::Query;
 use std::hash::Hash;
 use std::marker::PhantomData;
 
-/// Turns a question about a slot into one about the key of the item there. A slot without an item is not accepted.
+/// Turns a question about a slot into one about the key of the item there. A slot without an item is not accepted. No two
+/// items may have equal keys, so that questions about two slots are about two keys.
 #[derive(Drop)]
 pub(crate) struct ByKey<'a, T, R: KeyOf<T>, M: KeyMatcher<R::Key>> {
     pub(crate) items: &'a ItemSet<T>,
@@ -25,16 +28,14 @@ impl<'a, T, R: KeyOf<T>, M: KeyMatcher<R::Key>> Matcher for ByKey<'a, T, R, M> {
 
     ghost asked = { λ m. M.asked m.keys.now };
 
-    ghost MayAsk = { λ m slot. (x : T) → get m.items.now.slots slot ≡ Some x → M.MayAsk m.keys.now (R.key x) };
+    ghost MayAsk = { λ m slot. IsDistinct (agree R.key R.Key.eq) (contents m.items.now.slots)
+        × ((x : T) → get m.items.now.slots slot ≡ Some x → M.MayAsk m.keys.now (R.key x)) };
 
     ghost IsKept = { λ m n. (n.items ≡ m.items) × (n.keys.ghost_name ≡ m.keys.ghost_name)
         × M.IsKept m.keys.now n.keys.now };
 
     ghost accepts_kept = { λ m n slot k. passes_kept _ _
         (λ x. M.accepts_kept m.keys.now n.keys.now (R.key x) k.2) _ _ slot (ap (λ i. i.now.slots) k.0) };
-
-    ghost may_kept = { λ m n slot k may x here. M.may_kept m.keys.now n.keys.now (R.key x) k.2
-        (may x (ap (λ i. get i.now.slots slot) (sym k.0) ∙ here)) };
 
     ghost kept_refl = { λ m. (refl, refl, M.kept_refl m.keys.now) };
 
@@ -77,8 +78,6 @@ impl<'a, K: Eq + Hash, Q: Query<K>> KeyMatcher<K> for ByQuery<'a, Q> {
     ghost IsKept = { λ m n. (n.query ≡ m.query) × (n.asked.ghost_name ≡ m.asked.ghost_name) };
 
     ghost accepts_kept = { λ m n key e. ap (λ q. Q.stands_for q.now key) e.0 };
-
-    ghost may_kept = { λ _ _ _ _ _. tt };
 
     ghost kept_refl = { λ m. (refl, refl) };
 

@@ -1,6 +1,6 @@
 //! The pairs in the table of a rank: those of all items, that of an item that leaves, and that of an item that
 //! another one replaces. A pair has the hash of its item's key. If a search found the item, that hash is known.
-ghost use Rattle.std.specs.Prelude.{◌≡◌, ◌≢◌, ◌+◌, ◌*◌, ◌<◌, ◌≤◌, [], ◌∷◌, length, Contains, IfSome};
+ghost use Rattle.std.specs.Prelude.{◌≡◌, ◌≢◌, ◌+◌, ◌*◌, ◌<◌, ◌≤◌, [], ◌∷◌, length, None, Contains, IfSome};
 ghost use Rattle.std.specs.List.Sorted.{IsPermutation};
 ghost use Rattle.iddqd_store.specs.Rank.Index.{IsIndex};
 ghost use Rattle.iddqd_store.specs.Rank.{IsPaired, walks_one, walks_three, walks_two};
@@ -105,8 +105,9 @@ impl IndexTable {
 
     /// Replaces the pair of the item that was in this slot by a pair of the same slot, at the empty cell at which a search
     /// ended. It hashes the key of that item. If the hash is that of the search, it does nothing and probes no cell; only
-    /// that test is inlined into the caller. Else, if a further pair fits, the call probes the cells that a removal probes,
-    /// and otherwise those of a removal and an insert.
+    /// that test is inlined into the caller. Else, if a further pair fits and the table has as many cells as at that search,
+    /// the call probes the cells that a removal probes once the table has the new pair too. Otherwise it probes those of a
+    /// removal and an insert.
     #[inline(always)]
     pub fn rehash_at<T, R: KeyOf<T>, S: BuildHasher>(
         &mut self,
@@ -121,7 +122,12 @@ impl IndexTable {
             (⟦<R as HashedKey<T, S>>⟧.hash hash_builder.now gone.entry.1.now, gone.entry.0) (at.hash, gone.entry.0) }
         ensures limit { self.new.limit ≡ self.old.limit }
         ensures stays { ⟦<R as HashedKey<T, S>>⟧.hash hash_builder.now gone.entry.1.now ≡ at.hash → self.new ≡ self.old }
-        ensures costs { meter.new ≤ meter.old + 2 * (length self.old.pairs + 1) }
+        ensures one_walk { at.cells ≡ length self.old.row → length self.old.pairs < self.old.limit
+            → meter.new ≤ meter.old + stretch (at.hash ∷ hashes self.old.pairs) (length self.old.row)
+            (⟦<R as HashedKey<T, S>>⟧.hash hash_builder.now gone.entry.1.now) + 1 }
+        ensures costs { meter.new ≤ meter.old
+            + walks_one (⟦<R as HashedKey<T, S>>⟧.hash hash_builder.now) (record { slot = None; hash = at.hash })
+            gone.entry.1.now * (length self.old.pairs + 1) }
     {
         let (slot, gone) = gone;
         let before = hash_of_key::<T, R, S>(hash_builder, gone, None);
@@ -140,6 +146,8 @@ impl IndexTable {
         requires vacant { IsFree (hashes self.old.pairs) at }
         ensures moved { ReplacesPair self.old.pairs self.new.pairs (before, slot) (at.hash, slot) }
         ensures limit { self.new.limit ≡ self.old.limit }
+        ensures one_walk { at.cells ≡ length self.old.row → length self.old.pairs < self.old.limit
+            → meter.new ≡ meter.old + stretch (at.hash ∷ hashes self.old.pairs) (length self.old.row) before + 1 }
         ensures costs { meter.new ≤ meter.old + 2 * (length self.old.pairs + 1) }
     {
         if at.cells() != self.cells() || self.len() == self.capacity() {

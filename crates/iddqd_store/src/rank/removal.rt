@@ -1,10 +1,12 @@
 //! Removal of an item's pair from the table of a rank, by the item's key.
 ghost use Rattle.std.specs.Prelude.{ℕ, Contains, None, Some, ◌≡◌, ◌∷◌, IfSome, IfNone};
+ghost use Rattle.std.specs.List.{IsDistinct};
 ghost use Rattle.std.specs.List.Sorted.{IsPermutation};
 ghost use Rattle.iddqd_store.specs.Rank.Index.{LosesPairAt, passes_at};
 ghost use Rattle.iddqd_store.specs.Rank.{agree, IsSearchable, NamesOneUnder, SearchCosts};
 ghost use Rattle.iddqd_store.specs.Slots.Found.{FoundAt};
 ghost use Rattle.iddqd_store.specs.Slots.{contents, get};
+ghost use Rattle.iddqd_store.specs.Table.{HaveOwnSlots};
 ghost use Rattle.iddqd_store.specs.Table.Room.{IsSized};
 ghost use Rattle.iddqd_store.specs.Table.Search.{FindsUnder, RemovalCosts};
 
@@ -56,7 +58,9 @@ impl IndexTable {
         matcher: &mut M,
         meter: &mut Meter,
     ) -> Option<ItemIndex>
-        requires { (slot : ℕ) → Contains self.old.pairs (hash, slot) → (x : T) → get items.now.slots slot ≡ Some x
+        requires apart { IsDistinct (agree R.key R.Key.eq) (contents items.now.slots) }
+        requires own { HaveOwnSlots self.old.pairs }
+        requires asks { (slot : ℕ) → Contains self.old.pairs (hash, slot) → (x : T) → get items.now.slots slot ≡ Some x
             → M.MayAsk matcher.old (R.key x) }
         ensures found { FindsUnder self.old hash
             (passes_at (λ x. M.accepts matcher.old (R.key x)) items.now.slots) result }

@@ -1,17 +1,31 @@
-use Rattle.std.proofs.Common.{subst, arith, ℕ, ◌≡◌, ◌+◌, ◌-◌, ◌%◌, ◌<◌, ◌≤◌, length, sym, ap, ◌∙◌, refl, false, Some, None}
+use Rattle.std.proofs.Common.{subst, arith, rules, ℕ, ◌≡◌, ◌+◌, ◌-◌, ◌%◌, ◌<◌, ◌≤◌, length, sym, ap, ◌∙◌, refl, false, Some, None}
 use Rattle.std.specs.Prelude.{◌≢◌, nat_lt, if◌then◌else◌}
 use Rattle.std.specs.List.{Contains, count_by}
 use Rattle.iddqd_store.specs.Table.{Table}
 use Rattle.iddqd_store.specs.Slots.{contents}
 use Rattle.iddqd_store.specs.Table.Ring.{cell, stretch}
 use Rattle.iddqd_store.specs.Table.Search.{CostsUnder, IsVacantUnder}
-use Rattle.iddqd_store.specs.Table.{hashes, table_of, under}
+use Rattle.iddqd_store.specs.Table.{HaveOwnSlots, hashes, table_of, under}
+use Rattle.iddqd_store.proofs.SlotLemmas.Contents.{content_at}
+use Rattle.iddqd_store.proofs.TableLemmas.Once.{still_to_ask}
 use Rattle.iddqd_store.proofs.TableLemmas.Stretch.{place}
 use Rattle.iddqd_store.proofs.TableLemmas.StretchBound.{stretch_le_pairs}
 use Rattle.iddqd_store.proofs.TableLemmas.Spot.{walk_free}
 use Rattle.iddqd_store.proofs.TableLemmas.Search.{Walk, met, walk_more, walk_end, walk_meets, refused_more, met_under, met_grows, met_within, found_there, walk_found}
 use Rattle.iddqd_store.proofs.index_table.IndexTable.find_cell.Goals as goal
 use Rattle.iddqd_store.proofs.index_table.IndexTable.find_cell.Goals.{else-stored-hash-via-then-stored-hash+else-matches, else-stored-hash-via-else-stored-hash}
+
+pub loop-pair-init : goal.loop-pair-init
+loop-pair-init g c =
+    let row = c.self.inside.cells in
+    record {
+      probed = search rules;
+      walk = search rules;
+      refused = search rules;
+      count = search rules;
+      kept = g.met.M.Matcher.kept_refl _;
+      to_ask = λ k far below slot there. c.requires.asks slot (subst (λ (r : Table). Contains r.pairs (c.args.hash, slot)) c.self.view_is (content_at row (place (length row) (c.args.hash % length row) k) (c.args.hash, slot) there));
+    }
 
 pub loop-pair-preserved : goal.loop-pair-preserved
 loop-pair-preserved g c =
@@ -29,7 +43,9 @@ loop-pair-preserved g c =
     let at_x : cell row c.loop-pair.at ≡ Some x = sym c.cell_at.ensures.value ∙ c.in-Some.is in
     let there : cell row c.loop-pair.at ≢ None = λ e. cc (e, at_x) in
     let placed : cell row (place (length row) home s) ≡ Some x = sym (ap (cell row) w.at_is) ∙ at_x in
+    let own : HaveOwnSlots (contents row) = subst (λ (r : Table). HaveOwnSlots r.pairs) (sym c.self.view_is) c.requires.own in
     let asked = g.M.Matcher.asked in
+    let may = g.M.Matcher.MayAsk in
     let e' : c.after-at.result ≡ (if nat_lt (c.loop-pair.at + 1) (length row) then c.loop-pair.at + 1 else 0) = rw c.len-count.ensures at c.after-at.ensures in
     let walk' : Walk row home c.after-at.result t = walk_more row home c.loop-pair.at s c.self.invariant.0 lh w there c.after-at.result t e' more in
     elim c.else-stored-hash.branch [
@@ -43,6 +59,7 @@ loop-pair-preserved g c =
             refused = refused_more row hash (g.M.Matcher.accepts c.args.matcher.now) s t c.loop-pair.at x more w at_x i.refused (λ _. no');
             count = rw w'.matcher-is (omega (arith, i.count, q, a));
             kept = rw w'.matcher-is (g.met.M.Matcher.kept_trans _ _ _ i.kept w'.matches.ensures.is_kept);
+            to_ask = rw w'.matcher-is (still_to_ask row hash s t x (may c.loop-pair.matcher) (may w'.matches.new.self) own lh more placed w'.matches.ensures.others i.to_ask);
           }
       | else-stored-hash-via-else-stored-hash w' ↦
           record {
@@ -51,6 +68,7 @@ loop-pair-preserved g c =
             refused = refused_more row hash (g.M.Matcher.accepts c.args.matcher.now) s t c.loop-pair.at x more w at_x i.refused (λ e. absurd (w'.if-stored-hash.false e));
             count = rw w'.matcher-is (omega (arith, i.count, met_grows hash row home s x lh w.within placed t more));
             kept = rw w'.matcher-is i.kept;
+            to_ask = rw w'.matcher-is (still_to_ask row hash s t x (may c.loop-pair.matcher) (may c.loop-pair.matcher) own lh more placed (λ other differs asks. asks) i.to_ask);
           }
     ]
 
@@ -154,6 +172,6 @@ returns-clause-costs g c =
 pub matches-requires : goal.matches-requires
 matches-requires g c =
     let row = c.self.inside.cells in
+    let w : Walk row (c.args.hash % length row) c.loop-pair.at (c.loop-pair.meter - c.args.meter.now) = c.loop-pair.invariant.walk in
     let at_x : cell row c.loop-pair.at ≡ Some c.in-Some.pair = sym c.cell_at.ensures.value ∙ c.in-Some.is in
-    g.met.M.Matcher.may_kept _ _ c.in-Some.pair.1 c.loop-pair.invariant.kept
-    (c.requires c.in-Some.pair.1 (subst (λ (r : Table). Contains r.pairs (c.args.hash, c.in-Some.pair.1)) c.self.view_is (found_there row c.loop-pair.at c.args.hash c.in-Some.pair at_x c.if-stored-hash.true)))
+    c.loop-pair.invariant.to_ask _ (omega arith) w.within c.in-Some.pair.1 (sym (ap (cell row) w.at_is) ∙ at_x ∙ ap (λ (h : ℕ). Some (h, c.in-Some.pair.1)) c.if-stored-hash.true)

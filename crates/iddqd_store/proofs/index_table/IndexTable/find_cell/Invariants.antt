@@ -2,6 +2,7 @@ use Rattle.std.proofs.Common.{◌≡◌, ℕ, ◌+◌, ◌-◌, ◌%◌, ◌<◌
 use Rattle.iddqd_store.specs.Table.Ring.{cell}
 use Rattle.iddqd_store.specs.Table.{under}
 use Rattle.iddqd_store.proofs.TableLemmas.Stretch.{place}
+use Rattle.iddqd_store.proofs.TableLemmas.Once.{StillToAsk}
 use Rattle.iddqd_store.proofs.TableLemmas.Search.{Walk, met}
 use Rattle.iddqd_store.proofs.index_table.IndexTable.find_cell.Given as goal
 
@@ -18,6 +19,7 @@ invariant-loop-pair g l =
       refused : (k : ℕ) → k < steps → (index : ℕ) → cell row (place (length row) home k) ≡ Some (l.hash, index) → accepts l.initial.matcher index ≡ false;
       count : asked l.matcher ≤ asked l.initial.matcher + met (under l.hash) row home steps;
       kept : g.M.Matcher.IsKept l.initial.matcher l.matcher;
+      to_ask : StillToAsk row l.hash (g.M.Matcher.MayAsk l.matcher) steps;
     }
 
 abbrev pub decreases-loop-pair : goal.decreases-loop-pair

@@ -2,7 +2,7 @@ use Rattle.std.proofs.Common.{rules, ℕ, Bool, List, ◌∷◌, Option, None, S
 use Rattle.std.specs.List.Sorted.{IsPermutation}
 use Rattle.iddqd_store.specs.Rank.Index.{IsIndex, LosesPairAt}
 use Rattle.iddqd_store.proofs.RankLemmas.Costs.{removal_costs, searches}
-use Rattle.iddqd_store.proofs.RankLemmas.Index.{hash_at}
+use Rattle.iddqd_store.proofs.RankLemmas.Index.{hash_at, own_slots}
 use Rattle.iddqd_store.proofs.SlotLemmas.Contents.{content_at}
 use Rattle.iddqd_store.proofs.index_table.IndexTable.forget_by_key.Goals as goal
 
@@ -12,8 +12,11 @@ loses new h None index there taken = tt
 loses {pairs = pairs} new h (Some slot) index there taken = λ x here.
     subst (λ (k : ℕ). IsPermutation pairs ((k, slot) ∷ new)) (sym (hash_at slot h x index there here)) taken
 
-pub remove_by-requires : goal.remove_by-requires
-remove_by-requires g c = λ slot there x here. c.requires.asks x (content_at _ slot x here) (hash_at slot c.args.hash x c.requires.searchable.index there here)
+pub remove_by-requires-clause-own : goal.remove_by-requires-clause-own
+remove_by-requires-clause-own g c = own_slots c.requires.searchable.index
+
+pub remove_by-requires-clause-asks : goal.remove_by-requires-clause-asks
+remove_by-requires-clause-asks g c = λ slot there x here. c.requires.asks x (content_at _ slot x here) (hash_at slot c.args.hash x c.requires.searchable.index there here)
 
 pub returns-clause-found : goal.returns-clause-found
 returns-clause-found g c =

@@ -1,6 +1,9 @@
-use Rattle.std.proofs.Common.{arith, suc}
-use Rattle.std.proofs.lemmas.List.Sorted.{Contains-permutation, length_permutation}
+use Rattle.std.proofs.Common.{arith, suc, ◌≡◌, ◌+◌, length}
+use Rattle.std.proofs.lemmas.List.Sorted.{Contains-permutation, IsPermutation-map, length_permutation}
+use Rattle.iddqd_store.specs.Table.Ring.{stretch}
+use Rattle.iddqd_store.specs.Table.{hashes}
 use Rattle.iddqd_store.proofs.TableLemmas.Moved.{put_and_taken}
+use Rattle.iddqd_store.proofs.TableLemmas.Stretch.{stretch_permutation}
 use Rattle.iddqd_store.proofs.index_table.IndexTable.move_pair_to.Goals as goal
 
 pub remove-requires : goal.remove-requires
@@ -15,3 +18,11 @@ returns-clause-costs c =
     let still = c.insert_at.ensures.no_probe (omega (arith, c.cells.ensures, c.cells-2.ensures.value, c.if-cells.false)) in
     let long = length_permutation _ _ c.insert_at.ensures.added in
     omega (arith, still, long, c.remove.ensures.probes, c.remove.ensures.within)
+
+pub returns-clause-one_walk : goal.returns-clause-one_walk
+returns-clause-one_walk c = λ same room.
+    let still = c.insert_at.ensures.no_probe same in
+    let n = length c.args.self.now.row in
+    let more = stretch_permutation _ _ n c.args.before (IsPermutation-map (λ p. p.0) _ _ c.insert_at.ensures.added) in
+    let walk : c.remove.new.meter ≡ c.insert_at.new.meter + stretch (hashes c.insert_at.new.self.pairs) n c.args.before + 1 = rw c.insert_at.ensures.cells at c.remove.ensures.probes in
+    omega (arith, still, more, walk)

@@ -1,7 +1,7 @@
 use Rattle.std.proofs.Common.{rules}
 use borrow.Author.Rules.{lives}
 use Rattle.std.specs.Prelude.{Err}
-use Rattle.iddqd_store.proofs.RankLemmas.Index.{hash_at}
+use Rattle.iddqd_store.proofs.RankLemmas.Index.{hash_at, own_slots}
 use Rattle.iddqd_store.proofs.SlotLemmas.Contents.{content_at}
 use Rattle.iddqd_store.proofs.RankLemmas.Costs.{searches, costs, vacant_found, cells_found}
 use Rattle.iddqd_store.proofs.rank.lookup.Lookup.search_with.Goals as goal
@@ -35,7 +35,13 @@ returns-in-Err-clause-vacant g c = rw (← c.self.view_is) (vacant_found _ c.sel
 pub returns-in-Err-clause-cells : goal.returns-in-Err-clause-cells
 returns-in-Err-clause-cells g c = rw (← c.self.view_is) (cells_found _ c.self.invariant c.args.hash (Err c.in-Err.at) c.in-Err.ensures.sized c.in-Err.ensures.vacant)
 
-pub find_cell-requires : goal.find_cell-requires
-find_cell-requires g c = λ slot there x here.
-    let asks = rw (← c.self.view_is) at c.requires.asks in
-    asks x (content_at _ slot x here) (hash_at slot c.args.hash x c.self.invariant.index there here)
+pub find_cell-requires-clause-own : goal.find_cell-requires-clause-own
+find_cell-requires-clause-own g c = own_slots c.self.invariant.index
+
+pub find_cell-requires-clause-asks : goal.find_cell-requires-clause-asks
+find_cell-requires-clause-asks g c = λ slot there. (
+  c.self.invariant.apart,
+  λ x here.
+      let asks = rw (← c.self.view_is) at c.requires.asks in
+      asks x (content_at _ slot x here) (hash_at slot c.args.hash x c.self.invariant.index there here),
+)
