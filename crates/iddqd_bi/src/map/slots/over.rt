@@ -111,7 +111,9 @@ impl<T: BiHashItem, S: BuildHasher> BiHashMap<T, S> {
         ensures value { get self.old.slots slot ≡ Some result }
         ensures puts_at { PutsAt ⟦<T as Ranked>⟧.ranks self.old slot item
             (item ∷ contents (slice_set self.old.slots slot None)) self.new }
-        ensures costs { meter.new ≤ meter.old + walks_within (length (bag self.old)) (map (λ _. 2) ⟦<T as Ranked>⟧.ranks) }
+        ensures costs { meter.new ≤ meter.old + walks_within (length (bag self.old))
+            (walks_one (⟦<T as Hashed<S>>⟧.hash1 self.old.builder) (record { slot = None; hash = at.0.hash }) result
+            ∷ walks_one (⟦<T as Hashed<S>>⟧.hash2 self.old.builder) (record { slot = None; hash = at.1.hash }) result ∷ []) }
     {
         // This call gives the prover the fact that the items fit, for the clause `fits`.
         let _ = self.room();
