@@ -1,7 +1,7 @@
 -- Written by hand; tests/one_key.patch says why.
 
 -- What an entry's calls do to the map that it was asked of. The proofs of callers cite these lemmas.
-use Rattle.std.specs.Prelude.{◌≡◌, Bool, List, ◌∷◌, Option, Some, None, IsSome, Ok, IsPermutation}
+use Rattle.std.specs.Prelude.{◌≡◌, Bool, ◌∷◌, Option, Some, None, IsSome, Ok, IsPermutation}
 use Rattle.std.specs.Option.{option_to_list}
 use Rattle.std.proofs.Common.{refl, ap, ◌∙◌}
 use Rattle.std.specs.declared.cmp.PartialEq as equal

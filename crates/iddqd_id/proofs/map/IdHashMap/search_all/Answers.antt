@@ -1,5 +1,5 @@
 -- Written by hand; tests/one_key.patch says why.
-use Rattle.std.proofs.Common.{◌≡◌, ap, refl}
+use Rattle.std.proofs.Common.{ap, refl}
 use Rattle.iddqd_store.specs.Map.{Map}
 use Rattle.iddqd_store.proofs.RankLemmas.Costs.{SearchCosts-room}
 use Rattle.iddqd_id.proofs.map.IdHashMap.search_all.Goals as goal
