@@ -39,8 +39,7 @@ RENAMED = [
 NOTHING = re.compile(r"""(?x)^(
     # Searches by all keys, with the guards and entries of the items that they found.
     \w*(?<!insert)(?<!extend)(?<!from_iter)_unique(_mut)? | unique_\w+ | \w+_both | one_of | has_others | exchange_two
-    | occupied_mut | OccupiedEntryMut | occupied_ref | OccupiedEntryRef | OccupiedRefs | insert_mut | lend | data_mut_of
-    | [Hh]eld\w* | Holds(Same)? | GainsAndHolds
+    | occupied_mut | OccupiedEntryMut | occupied_ref | OccupiedEntryRef | OccupiedRefs | insert_mut | lend | data_mut_of | GainsAndHolds
     # The rank at which a key differs, and lists of what several searches found.
     | differ | at | each_once | items_of | take_all | store_all | store_found | for_each | conflicts | conflicts_with
     # Commands as values, and what carries them out.

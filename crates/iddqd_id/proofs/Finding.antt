@@ -9,7 +9,7 @@ use Rattle.std.specs.Option.{option_and_then, option_copied, option_to_list}
 use Rattle.std.proofs.Common.{refl, sym, ap, subst, ◌∙◌, arith}
 use Rattle.std.proofs.lemmas.List.Sorted.{IsPermutation-sym}
 use Rattle.iddqd_store.specs.Bag.{IsOnly, IsSound, Ranks, agrees, clash, order, swap}
-use Rattle.iddqd_store.specs.Map.{Map, bag}
+use Rattle.iddqd_store.specs.Map.{bag}
 use Rattle.iddqd_store.specs.Slots.{get}
 use Rattle.iddqd_store.specs.Slots.Found.{each_once, items_at}
 use Rattle.iddqd_store.proofs.BagLemmas.Sound.{IsSound-IsPermutation, each_passes}

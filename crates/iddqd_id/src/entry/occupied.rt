@@ -1,7 +1,7 @@
 //! The calls of an occupied entry: reading, writing, replacing and removing the item that its key found.
 //!
 //! Written by hand; tests/one_key.patch says why.
-ghost use Rattle.std.specs.Prelude.{◌≡◌, [], ◌∷◌, true, false, Some, IfOk, IfErr, OnOk, OnErr, IfSome, IsPermutation};
+ghost use Rattle.std.specs.Prelude.{◌≡◌, [], ◌∷◌, true, false, Some, IfOk, IfErr, OnOk, OnErr, IsPermutation};
 ghost use Rattle.std.specs.Borrow.{sem};
 ghost use Rattle.std.specs.Fn.{FnOnceReturnsAt, FnOnceTakesAt};
 ghost use Rattle.iddqd_store.specs.Bag.{IsOnly, swap};

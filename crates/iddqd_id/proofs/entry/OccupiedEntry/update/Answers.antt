@@ -1,5 +1,5 @@
 -- Written by hand; tests/one_key.patch says why.
-use Rattle.std.proofs.Common.{◌≡◌, ◌∙◌, subst}
+use Rattle.std.proofs.Common.{◌∙◌, subst}
 use Rattle.std.specs.Prelude.{IsPermutation}
 use Rattle.iddqd_store.specs.Bag.{swap}
 use Rattle.iddqd_store.specs.Map.{Map, bag}

@@ -1,5 +1,5 @@
 -- Written by hand; tests/one_key.patch says why.
-use Rattle.std.proofs.Common.{refl, ap, ℕ, List, Option, None, [], ◌∷◌, sym, ◌∙◌}
+use Rattle.std.proofs.Common.{refl, ℕ, List, Option, None, [], ◌∷◌, sym, ◌∙◌}
 use Rattle.iddqd_store.proofs.SlotLemmas.Entries.{found_listing, held_none}
 use Rattle.iddqd_id.specs.Keys.{key_tests}
 use Rattle.iddqd_id.proofs.MapLemmas.{AreLawful-ranks}

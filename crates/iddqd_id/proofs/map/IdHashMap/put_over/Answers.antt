@@ -1,5 +1,5 @@
 -- Written by hand; tests/one_key.patch says why.
-use Rattle.std.proofs.Common.{ap, subst, sym, ◌≡◌, ◌∷◌, [], ℕ, List, Option, length}
+use Rattle.std.proofs.Common.{ap, subst, sym, ◌∷◌, [], ℕ, List, Option, length}
 use Rattle.std.specs.Prelude.{All}
 use Rattle.std.proofs.lemmas.List.Elements.{All-head}
 use Rattle.iddqd_store.specs.Map.{bag}
