@@ -46,11 +46,13 @@ pub struct ItemSet<T> {
     first: usize,
 }
 
+// The free ones come first, so that they have the number 0. The compiler expects that a number which is compared with 0 is
+// another one, so the way on from a live slot is the straight one.
 #[derive(Drop)]
 enum Slot<T> {
-    Live(T),
     // The next free slot, or the number of slots if there is none.
     Free(usize),
+    Live(T),
 }
 
 impl<T> Model for ItemSet<T> {
