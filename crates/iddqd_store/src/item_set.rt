@@ -140,8 +140,8 @@ impl<T> ItemSet<T> {
         self.live
     }
 
-    /// Returns the number of slots, live or free.
-    pub(crate) fn slot_count(&self) -> usize
+    /// Returns the number of slots, live or free, in one step.
+    pub fn slot_count(&self) -> usize
         ensures { result ≡ length self.now.slots }
     {
         self.slots.len()
