@@ -46,11 +46,13 @@ pub struct ItemSet<T> {
     first: usize,
 }
 
+// The free ones come first, so that they have the number 0. The compiler expects that a number which is compared with 0 is
+// another one, so the way on from a live slot is the straight one.
 #[derive(Drop)]
 enum Slot<T> {
-    Live(T),
     // The next free slot, or the number of slots if there is none.
     Free(usize),
+    Live(T),
 }
 
 impl<T> Model for ItemSet<T> {
@@ -138,8 +140,8 @@ impl<T> ItemSet<T> {
         self.live
     }
 
-    /// Returns the number of slots, live or free.
-    pub(crate) fn slot_count(&self) -> usize
+    /// Returns the number of slots, live or free, in one step.
+    pub fn slot_count(&self) -> usize
         ensures { result ≡ length self.now.slots }
     {
         self.slots.len()

@@ -49,6 +49,11 @@ module _ {T : Type 0} where
       let over = passed slots from at ahead free in
       record { ahead = ahead; value = is; rest = rw (add-one at) (over.0 ∙ (got slots at x is).0); before = over.1 }
 
+  -- a free slot has no item
+  pub over_free : (slots : List (Option T)) (at : ℕ) → get slots at ≡ None → (contents (drop at slots) ≡ contents (drop (at + 1) slots)) × (contents (take (at + 1) slots) ≡ contents (take at slots))
+  over_free slots at is =
+      passed slots at (at + 1) (omega arith) (λ k le lt. let here : k ≡ at = omega (arith, le, lt) in rw here is)
+
   -- the items before a slot that is taken, those after a slot that is emptied, and all of them
   pub taken_before : (slots : List (Option T)) (from at : ℕ) (x : T) → ComesNext slots from at x → contents (take (at + 1) slots) ≡ contents (take from slots) ++ x ∷ []
   taken_before slots from at x next = rw (add-one at) ((got slots at x next.value).1 ∙ ap (λ l. l ++ x ∷ []) next.before)
