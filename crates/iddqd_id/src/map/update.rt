@@ -57,10 +57,11 @@ impl<T: IdHashItemMut, S: BuildHasher> IdHashMap<T, S> {
         ensures capacity { self.new.capacity ≡ self.old.capacity }
         ensures builder { self.new.builder ≡ self.old.builder }
     {
-        let mut from = 0;
-        while let Some(slot) = self.slot_from(from) {
-            from = slot.number() + 1;
-            self.store_at(slot, &mut f);
+        // A loop over all numbers of slots takes less time than one from each live slot to the next.
+        for number in 0..self.slot_count() {
+            if let Some(slot) = self.slot_at(number) {
+                self.store_at(slot, &mut f);
+            }
         }
     }
 }

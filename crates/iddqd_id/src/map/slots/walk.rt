@@ -4,7 +4,7 @@
 ghost use Rattle.std.specs.Prelude.{◌≡◌, ◌+◌, ◌^◌, ◌<◌, [], length, Some, IfSome, IfNone};
 ghost use Rattle.iddqd_store.specs.Slots.{get, IsLive};
 ghost use Rattle.iddqd_store.specs.Slots.Next.{ComesNext};
-ghost use Rattle.iddqd_store.specs.Map.Walk.{Passes, first_from, to_come};
+ghost use Rattle.iddqd_store.specs.Map.Walk.{Passes, first_from, passed, to_come};
 ghost use Rattle.iddqd_store.specs.Map.Written.{map_with};
 
 use super::super::IdHashMap;
@@ -28,6 +28,30 @@ impl<T: IdHashItem, S: BuildHasher> IdHashMap<T, S> {
         match self.items.next_live(from) {
             Some(slot) => Some(slot),
             None => None,
+        }
+    }
+
+    /// Returns the number of slots, with an item or free.
+    pub(crate) fn slot_count(&self) -> usize
+        ensures { result ≡ length self.now.slots }
+    {
+        self.items.slot_count()
+    }
+
+    /// Returns the slot with this number, if it has an item.
+    pub(crate) fn slot_at(&self, number: usize) -> Option<ItemIndex>
+        requires { number + 1 < 2 ^ 64 }
+        ensures here { IfSome result (λ slot. slot ≡ number) }
+        ensures live { IfSome result (IsLive self.now.slots) }
+        ensures comes { (x : T) → get self.now.slots number ≡ Some x → ComesNext self.now.slots number number x }
+        ensures none { IfNone result (to_come self.now number ≡ to_come self.now (number + 1)) }
+        ensures passed { IfNone result (passed self.now (number + 1) ≡ passed self.now number) }
+    {
+        let slot = ItemIndex::new(number);
+        if self.items.get(slot).is_some() {
+            Some(slot)
+        } else {
+            None
         }
     }
 

@@ -1,5 +1,5 @@
 -- Made by tests/twins from crates/iddqd_bi/proofs/map/BiHashMap/update_all/Invariants.antt: change that file.
-use Rattle.std.proofs.Common.{◌≡◌, drop, length}
+use Rattle.std.proofs.Common.{◌≡◌, length}
 use Rattle.std.specs.Fn.{CalledAt}
 use Rattle.iddqd_store.specs.Bag.Storing.{Writes}
 use Rattle.iddqd_store.specs.Map.Walk.{to_come}
@@ -8,13 +8,11 @@ use Rattle.iddqd_store.proofs.BagLemmas.Calling.{TakesEach}
 use Rattle.iddqd_store.proofs.MapLemmas.Updating.{Completes}
 use Rattle.iddqd_id.proofs.map.IdHashMap.update_all.Given as goal
 
-abbrev pub invariant-loop-slot : goal.invariant-loop-slot
-invariant-loop-slot g l = record {
-  completes : Completes (Writes (CalledAt g.F.FnMut) g.T.IdHashItemMut.put) l.fn.f (contents l.fn.self.slots) l.f l.self l.from;
-  callable : TakesEach g.F.FnMut l.f (to_come l.self l.from);
+abbrev pub invariant-loop-number : goal.invariant-loop-number
+invariant-loop-number g l = record {
+  completes : Completes (Writes (CalledAt g.F.FnMut) g.T.IdHashItemMut.put) l.fn.f (contents l.fn.self.slots) l.f l.self l.number;
+  callable : TakesEach g.F.FnMut l.f (to_come l.self l.number);
+  slots : length l.self.slots ≡ length l.fn.self.slots;
   capacity : l.self.capacity ≡ l.fn.self.capacity;
   builder : l.self.builder ≡ l.fn.self.builder;
 }
-
-abbrev pub decreases-loop-slot : goal.decreases-loop-slot
-decreases-loop-slot g l = length (contents (drop l.from l.self.slots))
