@@ -81,27 +81,31 @@ pub fn cut_anywhere()
 {}
 
 /// Returns the change whose words these are, if they are those of one.
-fn parse(line: &str) -> Option<Change> {
-    let (word, rest) = line.split_once(' ')?;
-    match word {
-        "plug" => {
-            let (serial, port) = rest.split_once(' ')?;
-            Some(Change::Plug(Device {
-                serial: serial.parse().ok()?,
-                port: port.parse().ok()?,
-            }))
-        }
-        "unplug" => Some(Change::Unplug(rest.parse().ok()?)),
-        _ => None,
-    }
+pub fn parse(words: &[&str]) -> Option<Change> {
+    Some(match words {
+        ["plug", serial, port] => Change::Plug(Device {
+            serial: serial.parse().ok()?,
+            port: port.parse().ok()?,
+        }),
+        ["unplug", serial] => Change::Unplug(serial.parse().ok()?),
+        _ => return None,
+    })
+}
+
+/// Returns the change whose words are on a line, if they are those of one.
+fn change_of(alloc: Global, line: &[u8]) -> Result<Option<Change>, AllocError> {
+    let Ok(line) = str::from_utf8(line) else {
+        return Ok(None);
+    };
+    let words: Vec<&str> = line.split_whitespace().collect(alloc)?;
+    Ok(parse(words.as_slice()))
 }
 
 /// Returns the change that a line says, or `None` if it is not letter by letter the line of a change.
 fn read_line(alloc: Global, line: &[u8]) -> Result<Option<Change>, AllocError>
     ensures { IfOk result (λ read. IfSome read (λ change. (line.now ≡ line_of change) × InRange change)) }
 {
-    let words = line.strip_suffix(b"\n").unwrap_or(line);
-    let Some(change) = str::from_utf8(words).ok().and_then(parse) else {
+    let Some(change) = change_of(alloc, line)? else {
         return Ok(None);
     };
     if write_line(alloc, change)?.as_bytes() == line {

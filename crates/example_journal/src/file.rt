@@ -37,6 +37,13 @@ fn sync_folder(rt: &HostRuntime, path: &str) -> io::Result<()> {
     File::open(rt, folder)?.sync_all()
 }
 
+/// Puts these bytes in the place of those of a file, and syncs it.
+fn fill(file: &mut File, bytes: &[u8]) -> io::Result<()> {
+    file.set_len(0)?;
+    file.write_all(bytes)?;
+    file.sync_all()
+}
+
 impl<'a> FileLog<'a> {
     /// Opens the log of this name, and makes it if there is none.
     pub fn open(rt: &'a HostRuntime, path: &'a str) -> io::Result<FileLog<'a>> {
@@ -55,9 +62,7 @@ impl<'a> FileLog<'a> {
     /// Writes these bytes to a file of this name, and puts that in the place of the log's once they are on the disk.
     fn write_over(&self, path: &str, bytes: &[u8]) -> io::Result<File> {
         let mut file = open_file(self.rt, path)?;
-        file.set_len(0)?;
-        file.write_all(bytes)?;
-        file.sync_all()?;
+        fill(&mut file, bytes)?;
         fs::rename(self.rt, path, self.path)?;
         Ok(file)
     }

@@ -100,10 +100,19 @@ impl<L: Log + Drop> Journal<L> {
             return Err(Unwritten::Closed);
         }
         let line = write_line(self.alloc, change)?;
+        self.append(line.as_bytes())
+    }
+
+    /// Adds these bytes to the log of an open journal, or closes the journal.
+    fn append(&mut self, line: &[u8]) -> Result<(), Unwritten>
+        requires { self.old.is_open ≡ true }
+        ensures added { OnOk result (L.kept self.new.log ≡ option_map (λ lines. lines ++ line.now) (L.kept self.old.log)) }
+        ensures same { OnErr result (self.new.is_open ≡ true → L.kept self.new.log ≡ L.kept self.old.log) }
+    {
         let Some(len) = self.len.checked_add(line.len()) else {
             return Err(Unwritten::Memory);
         };
-        match self.log.append(line.as_bytes()) {
+        match self.log.append(line) {
             Ok(()) => {
                 self.len = len;
                 Ok(())

@@ -31,7 +31,8 @@ use crate::file::FileLog;
 use crate::journal::Unwritten;
 use crate::log::{Disk, Limited, Log, Memory};
 use crate::registry::{Refused, Registry, Unopened};
-use std::alloc::Global;
+use iddqd_bi::BiHashMap;
+use std::alloc::{AllocError, Global};
 use std::cell::Cell;
 use std::io::{BufRead, Write};
 use std::{env, io};
@@ -48,18 +49,6 @@ enum Command {
     Open,
 }
 
-/// Returns the change that the words of a line ask for, if they ask for one.
-fn parse_change(words: &[&str]) -> Option<Change> {
-    Some(match words {
-        ["plug", serial, port] => Change::Plug(Device {
-            serial: serial.parse().ok()?,
-            port: port.parse().ok()?,
-        }),
-        ["unplug", serial] => Change::Unplug(serial.parse().ok()?),
-        _ => return None,
-    })
-}
-
 /// Returns what the words of a line ask for, if they ask for anything.
 fn parse(words: &[&str]) -> Option<Command> {
     Some(match words {
@@ -71,7 +60,7 @@ fn parse(words: &[&str]) -> Option<Command> {
         ["fail"] => Command::Disk(Disk::Failing),
         ["room", len] => Command::Disk(Disk::Room(len.parse().ok()?)),
         ["crash", len] => Command::Crash(len.parse().ok()?),
-        _ => Command::Change(parse_change(words)?),
+        _ => Command::Change(changes::parse(words)?),
     })
 }
 
@@ -98,11 +87,16 @@ fn open<L: Log + Drop>(rt: &impl Print, registry: &mut Registry<L>) -> io::Resul
     }
 }
 
-/// Prints the devices, by their serial numbers.
-fn list<L: Log + Drop>(rt: &(impl Print + AllocGlobal), registry: &Registry<L>) -> io::Result<()> {
-    let mut devices: Vec<Device> = registry.devices().iter().copied().collect(rt.alloc())?;
-    devices.sort_by_key(|device| device.serial)?;
-    for device in &devices {
+/// Returns the devices, by their serial numbers.
+fn sorted(alloc: Global, devices: &BiHashMap<Device>) -> Result<Vec<Device>, AllocError> {
+    let mut sorted: Vec<Device> = devices.iter().copied().collect(alloc)?;
+    sorted.sort_by_key(|device| device.serial)?;
+    Ok(sorted)
+}
+
+/// Prints devices.
+fn list(rt: &impl Print, devices: &[Device]) -> io::Result<()> {
+    for device in devices {
         println!(rt; "{} {}", device.serial, device.port)?;
     }
     rt.println("end")
@@ -160,7 +154,7 @@ fn answer<L: Log + Drop>(
 ) -> io::Result<()> {
     match command {
         Command::Change(it) => change(rt, registry, it),
-        Command::List => list(rt, registry),
+        Command::List => list(rt, sorted(rt.alloc(), registry.devices())?.as_slice()),
         Command::Journal => {
             io::writer(rt).write_all(registry.read()?.as_slice())?;
             rt.println("end")

@@ -69,7 +69,7 @@ fn take_line(
     Ok(())
 }
 
-/// Answers each batch of the input.
+/// Answers each batch of the input, and prints how many records there are at its end.
 fn answer_lines(
     rt: &(impl Print + Input + AllocGlobal),
     records: &mut BiHashMap<Record>,
@@ -83,12 +83,11 @@ fn answer_lines(
     if !text.is_empty() {
         answer(rt, records, text.as_slice())?;
     }
-    Ok(())
+    println!(rt; "{} records", records.len())
 }
 
 fn main(rt: HostRuntime) -> io::Result<()> {
     let mut records = BiHashMap::new(rt.alloc());
     let mut text = Vec::new(rt.alloc());
-    answer_lines(&rt, &mut records, &mut text)?;
-    println!(rt; "{} records", records.len())
+    answer_lines(&rt, &mut records, &mut text)
 }

@@ -135,12 +135,22 @@ fn show_not_opened(
     Ok(())
 }
 
+/// Opens orders, and shows which of the two maps have them.
+fn show_both(
+    rt: &impl Print,
+    alloc: Global,
+    all: &mut BiHashMap<Rc<Order>>,
+    opened: &mut BiHashMap<Rc<Order>>,
+) -> anyhow::Result<()> {
+    show_opened(rt, alloc, all, opened)?;
+    show_not_opened(rt, alloc, all, opened)
+}
+
 /// Runs the recipe with items that two maps share.
 fn show_shared(rt: &impl Print, alloc: Global) -> anyhow::Result<()> {
     let mut all = BiHashMap::new(alloc);
     let mut opened = BiHashMap::new(alloc);
-    show_opened(rt, alloc, &mut all, &mut opened)?;
-    show_not_opened(rt, alloc, &mut all, &mut opened)
+    show_both(rt, alloc, &mut all, &mut opened)
 }
 
 /// Adds two accounts.

@@ -1,4 +1,4 @@
-use Rattle.std.proofs.Common.{refl, rules}
+use Rattle.std.proofs.Common.{refl}
 use Rattle.std.specs.Prelude.{nat_eq}
 use Rattle.iddqd_tri.specs.Keys.{ranks}
 use Rattle.iddqd_tri.proofs.CallerLemmas.Batches.{loaded, rejected-at, rejected-behind}
