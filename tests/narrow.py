@@ -43,7 +43,7 @@ NOTHING = re.compile(r"""(?x)^(
     # The rank at which a key differs, and lists of what several searches found.
     | differ | at | each_once | items_of | take_all | store_all | store_found | for_each | conflicts | conflicts_with
     # Commands as values, and what carries them out.
-    | command | run | Step | Refusals | Runs | apply_\w+
+    | commands? | run | Step | Refusals | Runs | apply_\w+
     )$""")
 # The functions that carry out commands, and have names that other functions have too.
 REPLIES = re.compile(r"/map/BiHashMap/(or_insert|entry_insert|set)/")
@@ -51,6 +51,8 @@ REPLIES = re.compile(r"/map/BiHashMap/(or_insert|entry_insert|set)/")
 NAMED = [
     (r"\bK1\b", "Key"), (r"\bhash_of1\b", "hash_of_key"), (r"(?<=[A-Za-z])1(?=\b|_)", ""), (r"\n *let (\w+) = \1;", ""),
     (r"\(\[\]\)", "[]"), (r"\n *∷ \[\]", " ∷ []"),
+    # Several keys are given as an item that has them, and one as a key.
+    (r"&keys\.key\b", "key"), (r"\bkeys: &('a )?Item\b", r"key: &\1Key"), (r"\b(map|call), keys\b", r"\1, key"),
 ]
 # What comments say of several keys, ranks and tables, each with what they say of one. A space may be the end of a line.
 PHRASED = [
