@@ -42,6 +42,9 @@ NOTHING = re.compile(r"""(?x)^(
     | occupied_mut | OccupiedEntryMut | occupied_ref | OccupiedEntryRef | OccupiedRefs | insert_mut | lend | data_mut_of | GainsAndHolds
     # The rank at which a key differs, and lists of what several searches found.
     | differ | at | each_once | items_of | take_all | store_all | store_found | for_each | conflicts | conflicts_with
+    | UpToTwo
+    # Calls that take several keys.
+    | by_keys | keys_and_item | answered_by_all
     # Commands as values, and what carries them out.
     | commands? | run | Step | Refusals | Runs | apply_\w+
     )$""")
@@ -150,9 +153,11 @@ def narrowed(words):
 
 
 def without_functions(text):
-    """Returns code without the functions and types that are nothing, and without the impls that are of these or have no other functions."""
+    """Returns code without the functions and types that are nothing, the impls that are of these or have no other functions, and the arms
+    that only call these."""
     block = r"(?ms)^(?:///[^\n]*\n|#\[[^\n]*\n)*((?:pub )?(?:struct|enum|impl)\b[^{;]*)\{.*?^\}\n\n?"
     text = re.sub(block, lambda it: "" if any(map(NOTHING.match, re.findall(r"\w+", it[1]))) else it[0], text)
+    text = re.sub(r'(?m)^ *"[\w.]+" => Some\((\w+)\(.*\)\),\n', lambda it: "" if NOTHING.match(it[1]) else it[0], text)
     lines = text.split("\n")
     for it in reversed([it for it in sources.functions(text) if NOTHING.match(it.name)]):
         del lines[it.first - len(it.comment):it.end + (lines[it.end:it.end + 1] == [""])]
