@@ -42,8 +42,11 @@ NOTHING = re.compile(r"""(?x)^(
     | occupied_mut | OccupiedEntryMut | occupied_ref | OccupiedEntryRef | OccupiedRefs | insert_mut | lend | data_mut_of | GainsAndHolds
     # The rank at which a key differs, and lists of what several searches found.
     | differ | at | each_once | items_of | take_all | store_all | store_found | for_each | conflicts | conflicts_with
+    | UpToTwo
+    # Calls that take several keys.
+    | by_keys | keys_and_item | answered_by_all
     # Commands as values, and what carries them out.
-    | command | run | Step | Refusals | Runs | apply_\w+
+    | commands? | run | Step | Refusals | Runs | apply_\w+
     )$""")
 # The functions that carry out commands, and have names that other functions have too.
 REPLIES = re.compile(r"/map/BiHashMap/(or_insert|entry_insert|set)/")
@@ -51,6 +54,8 @@ REPLIES = re.compile(r"/map/BiHashMap/(or_insert|entry_insert|set)/")
 NAMED = [
     (r"\bK1\b", "Key"), (r"\bhash_of1\b", "hash_of_key"), (r"(?<=[A-Za-z])1(?=\b|_)", ""), (r"\n *let (\w+) = \1;", ""),
     (r"\(\[\]\)", "[]"), (r"\n *∷ \[\]", " ∷ []"),
+    # Several keys are given as an item that has them, and one as a key.
+    (r"&keys\.key\b", "key"), (r"\bkeys: &('a )?Item\b", r"key: &\1Key"), (r"\b(map|call), keys\b", r"\1, key"),
 ]
 # What comments say of several keys, ranks and tables, each with what they say of one. A space may be the end of a line.
 PHRASED = [
@@ -148,9 +153,11 @@ def narrowed(words):
 
 
 def without_functions(text):
-    """Returns code without the functions and types that are nothing, and without the impls that are of these or have no other functions."""
+    """Returns code without the functions and types that are nothing, the impls that are of these or have no other functions, and the arms
+    that only call these."""
     block = r"(?ms)^(?:///[^\n]*\n|#\[[^\n]*\n)*((?:pub )?(?:struct|enum|impl)\b[^{;]*)\{.*?^\}\n\n?"
     text = re.sub(block, lambda it: "" if any(map(NOTHING.match, re.findall(r"\w+", it[1]))) else it[0], text)
+    text = re.sub(r'(?m)^ *"[\w.]+" => Some\((\w+)\(.*\)\),\n', lambda it: "" if NOTHING.match(it[1]) else it[0], text)
     lines = text.split("\n")
     for it in reversed([it for it in sources.functions(text) if NOTHING.match(it.name)]):
         del lines[it.first - len(it.comment):it.end + (lines[it.end:it.end + 1] == [""])]

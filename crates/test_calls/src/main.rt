@@ -1,17 +1,17 @@
 //! Carries out calls of the maps, one for each line of standard input, and prints what each returns and what it
 //! costs.
 //!
-//!     test_calls bi|tri own|zero|max|default answers|costs
+//!     test_calls id|bi|tri own|zero|max|default answers|costs
 //!
 //! The second argument names the builder of the map: `own` hashes a key to itself, `zero` hashes each key to 0, `max`
 //! hashes each key to the largest number, and `default` is the default builder. A line is
 //!
 //!     [ITEMS[/ROOM]] [!REQUEST] CALL NUMBER..
 //!
-//! With ITEMS the line begins a new map with that many items, (1, 10, 100), (2, 20, 200) and so on with two keys,
-//! where the last number is the value. With ROOM the map is made with that capacity. Without ITEMS the line goes on
-//! with the map of the line before. CALL names the functions to call, one on the result of another, for example
-//! `entry.or_insert`. The NUMBERs are keys, items, or a number of items.
+//! With ITEMS the line begins a new map with that many items, (1, 10), (2, 20) and so on with one key, and (1, 10, 100),
+//! (2, 20, 200) and so on with two, where the last number is the value. With ROOM the map is made with that capacity.
+//! Without ITEMS the line goes on with the map of the line before. CALL names the functions to call, one on the result of
+//! another, for example `entry.or_insert`. The NUMBERs are keys, items, or a number of items.
 //!
 //! The answer to a line is the line itself, a colon, and what the call returned. If the third argument is `costs`, the
 //! answer goes on with how many keys were compared, hashed and dropped, and how many allocations were requested. At its
@@ -47,7 +47,7 @@ fn main(rt: HostRuntime) -> io::Result<ExitCode> {
     if is_run {
         return Ok(ExitCode::SUCCESS);
     }
-    eprintln!(rt; "usage: test_calls bi|tri own|zero|max|default answers|costs")?;
+    eprintln!(rt; "usage: test_calls id|bi|tri own|zero|max|default answers|costs")?;
     Ok(ExitCode::from(2))
 }
 
@@ -64,6 +64,7 @@ fn chosen(rt: &HostRuntime, kind: &str, builder: &str, tells: bool) -> io::Resul
 
 fn of_kind<S: Builder>(rt: &HostRuntime, kind: &str, tells: bool) -> io::Result<bool> {
     match kind {
+        "id" => run::<test_calls_id::Called<S>>(rt, tells)?,
         "bi" => run::<test_calls_bi::Called<S>>(rt, tells)?,
         "tri" => run::<test_calls_tri::Called<S>>(rt, tells)?,
         _ => return Ok(false),

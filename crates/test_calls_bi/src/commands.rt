@@ -6,7 +6,7 @@ use crate::inserts::with_lent;
 use crate::item::{Item, nth, row_of};
 use crate::lists::{displaced, refused};
 use crate::lookups::{found, taken};
-use crate::{Given, items_of};
+use crate::{Given, items_from};
 use iddqd_bi::{BiCommand, BiHashMap, BiReply, BiSink};
 use std::alloc::AllocError;
 use std::hash::BuildHasher;
@@ -147,11 +147,11 @@ fn list_of(
         "run" => Ok(Some(list(gauge)?)),
         "run.nothing" => Ok(Some(Vec::new(gauge.alloc()))),
         "run.extend" => {
-            let items = items_of(gauge, items)?;
+            let items = items_from(gauge, items)?;
             Ok(Some(extending(gauge, BiCommand::Extend(items))?))
         }
         "run.extend_unique" => {
-            let items = items_of(gauge, items)?;
+            let items = items_from(gauge, items)?;
             Ok(Some(extending(gauge, BiCommand::ExtendUnique(items))?))
         }
         _ => Ok(None),

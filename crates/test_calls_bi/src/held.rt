@@ -1,24 +1,12 @@
 //! Calls of what an entry borrows for writing.
 ghost use Rattle.iddqd_bi.specs.Entries.{HasFound, Holds};
 
-use crate::guards::shown;
+use crate::guards::{set_data, shown};
 use crate::item::{Item, row_of};
 use crate::lookups::more;
 use iddqd_bi::{BiHashMap, Entry, OccupiedEntry, OccupiedEntryMut, Ranked};
 use std::hash::{BuildHasher, Hash};
 use test_calls_shared::answer::Answer;
-
-/// Sets the data to 7, and answers what it was.
-pub(crate) fn written(data: Option<&mut u64>) -> Answer {
-    match data {
-        Some(data) => {
-            let old = *data;
-            *data = 7;
-            Answer::said("was").at(old as usize)
-        }
-        None => Answer::said("none"),
-    }
-}
 
 /// Carries out the call of this name on an occupied entry. Returns `None` if there is no such call.
 pub(crate) fn answered<S: BuildHasher>(
@@ -28,8 +16,8 @@ pub(crate) fn answered<S: BuildHasher>(
     requires { HasFound (λ k1 k2. ⟦<Item as Ranked>⟧.key_tests k1.now k2.now) entry }
 {
     match call {
-        "data1_mut" => Some(written(entry.data1_mut())),
-        "data2_mut" => Some(written(entry.data2_mut())),
+        "data1_mut" => Some(set_data(entry.data1_mut())),
+        "data2_mut" => Some(set_data(entry.data2_mut())),
         _ => of_held(&mut entry.get_mut(), call.strip_prefix("get_mut.")?),
     }
 }
@@ -41,9 +29,9 @@ fn of_held<S: BuildHasher>(held: &mut OccupiedEntryMut<'_, Item, S>, call: &str)
     match call {
         "is_unique" => Some(Answer::is_so(held.is_unique())),
         "is_non_unique" => Some(Answer::is_so(held.is_non_unique())),
-        "data1_mut" => Some(written(held.data1_mut())),
-        "data2_mut" => Some(written(held.data2_mut())),
-        "data_unique_mut" => Some(written(held.data_unique_mut())),
+        "data1_mut" => Some(set_data(held.data1_mut())),
+        "data2_mut" => Some(set_data(held.data2_mut())),
+        "data_unique_mut" => Some(set_data(held.data_unique_mut())),
         "for_each" => Some(for_each(held)),
         _ => of_lent(held, call),
     }

@@ -1,6 +1,6 @@
 //! The calls of a line on the map with two keys, by what they are given.
 //!
-//! A script makes most of the three-key text from the two-key text: change the latter, and then run
+//! A script makes most of the one-key and of the three-key text from the two-key text: change that one, and then run
 //! `tests/twins --write` with the changed files.
 #![tactic(auto)]
 
@@ -108,7 +108,7 @@ fn given_of(gauge: &Gauge, line: &Line<'_>) -> Result<Given, AllocError> {
     let counts = &gauge.counts;
     let numbers = line.numbers.as_slice();
     if lists::takes(line.call) {
-        return Ok(Given::Items(items_of(gauge, numbers)?));
+        return Ok(Given::Items(items_from(gauge, numbers)?));
     }
     Ok(match numbers {
         [] => Given::Nothing,
@@ -143,7 +143,7 @@ fn item_from(counts: &Rc<Counts>, numbers: &[u64]) -> Result<Item, AllocError> {
 }
 
 /// Makes the items of these numbers.
-pub(crate) fn items_of(gauge: &Gauge, numbers: &[u64]) -> Result<Vec<Item>, AllocError> {
+pub(crate) fn items_from(gauge: &Gauge, numbers: &[u64]) -> Result<Vec<Item>, AllocError> {
     let mut items = Vec::new(gauge.alloc());
     for numbers in numbers.chunks(NUMBERS) {
         items.push(item_from(&gauge.counts, numbers)?)?;

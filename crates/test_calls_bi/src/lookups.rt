@@ -1,6 +1,6 @@
 //! Calls that search for an item.
+use crate::guards;
 use crate::item::{Item, row_of};
-use crate::{guards, held};
 use iddqd_bi::BiHashMap;
 use iddqd_store::Meter;
 use std::hash::BuildHasher;
@@ -90,7 +90,7 @@ pub(crate) fn answered_by_all<S: BuildHasher>(
         "remove_unique" => Some(taken(map.remove_unique(&keys.key1, &keys.key2))),
         "update_unique" => Some(Answer::is_so(map.update_unique(&keys.key1, &keys.key2, more))),
         "get_mut_unique" => Some(guards::lend_unique(map, keys)),
-        "data_unique_mut" => Some(held::written(map.data_unique_mut(&keys.key1, &keys.key2))),
+        "data_unique_mut" => Some(guards::set_data(map.data_unique_mut(&keys.key1, &keys.key2))),
         "retain.of" => Some(retain_of(map, keys)),
         _ => None,
     }

@@ -136,10 +136,10 @@ impl Sum {
 /// Returns the text of an item with `width` numbers.
 pub fn row_shown(alloc: Global, row: &Row, width: usize) -> Result<String, AllocError> {
     let [first, second, third, fourth] = *row;
-    if width == 3 {
-        format!(in alloc; "({first} {second} {third})")
-    } else {
-        format!(in alloc; "({first} {second} {third} {fourth})")
+    match width {
+        2 => format!(in alloc; "({first} {second})"),
+        3 => format!(in alloc; "({first} {second} {third})"),
+        _ => format!(in alloc; "({first} {second} {third} {fourth})"),
     }
 }
 

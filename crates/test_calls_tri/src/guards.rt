@@ -1,7 +1,6 @@
 //! Calls that borrow an item for writing, through a guard, or its data.
 //!
 //! Made by tests/twins from crates/test_calls_bi/src/guards.rt: change that file.
-use crate::held;
 use crate::item::{Item, row_of};
 use iddqd_tri::{KeyMismatch, NotReplaced, TriHashMap};
 use std::hash::BuildHasher;
@@ -34,6 +33,18 @@ macro_rules! written {
     };
 }
 
+/// Sets the data to 7, and answers what it was.
+pub(crate) fn set_data(data: Option<&mut u64>) -> Answer {
+    match data {
+        Some(data) => {
+            let old = *data;
+            *data = 7;
+            Answer::said("was").at(old as usize)
+        }
+        None => Answer::said("none"),
+    }
+}
+
 /// Carries out the call of this name with a key. Returns `None` if there is no such call.
 pub(crate) fn answered<S: BuildHasher>(
     map: &mut TriHashMap<Item, S>,
@@ -50,9 +61,9 @@ pub(crate) fn answered<S: BuildHasher>(
         "get1_mut.reborrow" => Some(write_again(map, key)),
         "get1_mut.into_ref" => Some(lend_for_good(map, key)),
         "get1_mut.into_data" => Some(write_for_good(map, key)),
-        "data1_mut" => Some(held::written(map.data1_mut(key))),
-        "data2_mut" => Some(held::written(map.data2_mut(key))),
-        "data3_mut" => Some(held::written(map.data3_mut(key))),
+        "data1_mut" => Some(set_data(map.data1_mut(key))),
+        "data2_mut" => Some(set_data(map.data2_mut(key))),
+        "data3_mut" => Some(set_data(map.data3_mut(key))),
         _ => None,
     }
 }
@@ -108,7 +119,7 @@ fn lend_for_good<S: BuildHasher>(map: &mut TriHashMap<Item, S>, key: &Key) -> An
 /// Writes the data that the guard lends for as long as the map is borrowed.
 fn write_for_good<S: BuildHasher>(map: &mut TriHashMap<Item, S>, key: &Key) -> Answer {
     match map.get1_mut(key) {
-        Some(item) => held::written(Some(item.into_data())),
+        Some(item) => set_data(Some(item.into_data())),
         None => Answer::said("none"),
     }
 }

@@ -1,8 +1,8 @@
 //! Calls that search for an item.
 //!
 //! Made by tests/twins from crates/test_calls_bi/src/lookups.rt: change that file.
+use crate::guards;
 use crate::item::{Item, row_of};
-use crate::{guards, held};
 use iddqd_store::Meter;
 use iddqd_tri::TriHashMap;
 use std::hash::BuildHasher;
@@ -108,7 +108,7 @@ pub(crate) fn answered_by_all<S: BuildHasher>(
             &keys.key1, &keys.key2, &keys.key3, more,
         ))),
         "get_mut_unique" => Some(guards::lend_unique(map, keys)),
-        "data_unique_mut" => Some(held::written(map.data_unique_mut(
+        "data_unique_mut" => Some(guards::set_data(map.data_unique_mut(
             &keys.key1, &keys.key2, &keys.key3,
         ))),
         "retain.of" => Some(retain_of(map, keys)),

@@ -1,0 +1,183 @@
+//! The calls of a line on the map with one key, by what they are given.
+//!
+//! A script makes most of the one-key and of the three-key text from the two-key text: change that one, and then run
+//! `tests/twins --write` with the changed files.
+//!
+//! Made by tests/twins from crates/test_calls_bi/src/lib.rt: change that file.
+#![tactic(auto)]
+
+mod entries;
+mod guards;
+mod inserts;
+mod item;
+mod leaving;
+mod lists;
+mod lookups;
+mod vacant;
+mod walks;
+mod wholes;
+
+use crate::item::{Item, NUMBERS, item_of, nth, row_of};
+use iddqd_id::IdHashMap;
+use std::alloc::{AllocError, Global};
+use std::rc::Rc;
+use test_calls_shared::answer::{Answer, push, row_shown};
+use test_calls_shared::builder::Builder;
+use test_calls_shared::counting::{Counts, Key};
+use test_calls_shared::gauge::Gauge;
+use test_calls_shared::line::Line;
+use test_calls_shared::table::Table;
+
+/// The map that the lines call.
+#[derive(Drop)]
+pub struct Called<S: Builder> {
+    map: IdHashMap<Item, S>,
+}
+
+impl<S: Builder> Table for Called<S> {
+    const WIDTH: usize = NUMBERS;
+
+    fn made(alloc: Global, room: Option<usize>) -> Result<Self, AllocError> {
+        let map = match room {
+            None => IdHashMap::with_hasher(alloc, S::default()),
+            Some(room) => IdHashMap::with_capacity_and_hasher(alloc, room, S::default()).map_err(
+                |_| AllocError,
+            )?,
+        };
+        Ok(Called { map })
+    }
+
+    fn put(&mut self, counts: &Rc<Counts>, number: u64) -> Result<(), AllocError> {
+        self.map
+            .try_insert(nth(counts, number)?)
+            .map_err(|_| AllocError)
+    }
+
+    fn carry_out(
+        &mut self,
+        gauge: &mut Gauge,
+        line: &Line<'_>,
+    ) -> Result<Option<Answer>, AllocError> {
+        let given = given_of(gauge, line)?;
+        gauge.begin();
+        let answer = answered(&mut self.map, gauge, line.call, given);
+        gauge.end();
+        Ok(answer)
+    }
+
+    fn state(&self) -> [usize; 2] {
+        [self.map.len(), self.map.capacity()]
+    }
+
+    fn listed(&self, alloc: Global) -> Result<String, AllocError> {
+        let mut rows = Vec::new(alloc);
+        for item in &self.map {
+            rows.push(row_of(item))?;
+        }
+        rows.sort()?;
+        let mut text = String::new(alloc);
+        for row in &rows {
+            let shown = row_shown(alloc, row, NUMBERS)?;
+            push(&mut text, shown.as_str())?;
+        }
+        Ok(text)
+    }
+}
+
+/// What a call is given.
+#[derive(Drop)]
+enum Given {
+    Nothing,
+    /// A key, or a number of items.
+    Key(Key),
+    Item(Item),
+    KeyAndItem(Key, Item),
+    Items(Vec<Item>),
+}
+
+/// Reads what the numbers of a line give.
+fn given_of(gauge: &Gauge, line: &Line<'_>) -> Result<Given, AllocError> {
+    let counts = &gauge.counts;
+    let numbers = line.numbers.as_slice();
+    if lists::takes(line.call) {
+        return Ok(Given::Items(items_from(gauge, numbers)?));
+    }
+    Ok(match numbers {
+        [] => Given::Nothing,
+        [key] => Given::Key(Key::new(counts, *key)?),
+        [key, value] => Given::Item(item_of(counts, [*key, *value])?),
+        [key, rest @ ..] if rest.len() == NUMBERS => {
+            Given::KeyAndItem(Key::new(counts, *key)?, item_from(counts, rest)?)
+        }
+        _ => Given::Nothing,
+    })
+}
+
+/// Makes the item of these numbers, or of zeros if there are too few numbers.
+fn item_from(counts: &Rc<Counts>, numbers: &[u64]) -> Result<Item, AllocError> {
+    match numbers {
+        [key, value, ..] => item_of(counts, [*key, *value]),
+        _ => item_of(counts, [0; NUMBERS]),
+    }
+}
+
+/// Makes the items of these numbers.
+pub(crate) fn items_from(gauge: &Gauge, numbers: &[u64]) -> Result<Vec<Item>, AllocError> {
+    let mut items = Vec::new(gauge.alloc());
+    for numbers in numbers.chunks(NUMBERS) {
+        items.push(item_from(&gauge.counts, numbers)?)?;
+    }
+    Ok(items)
+}
+
+/// Carries out the call of this name. Returns `None` if there is no such call that is given this.
+fn answered<S: Builder>(
+    map: &mut IdHashMap<Item, S>,
+    gauge: &mut Gauge,
+    call: &str,
+    given: Given,
+) -> Option<Answer> {
+    match given {
+        Given::Nothing => wholes::answered(map, gauge, call),
+        Given::Key(key) => {
+            let answer = by_key(map, gauge, call, &key);
+            drop(key);
+            answer
+        }
+        Given::Item(item) => inserts::answered(map, call, item),
+        Given::KeyAndItem(key, item) => {
+            let answer = with_key(map, call, &key, item);
+            drop(key);
+            answer
+        }
+        Given::Items(items) => lists::answered(map, gauge.alloc(), call, items),
+    }
+}
+
+fn by_key<S: Builder>(
+    map: &mut IdHashMap<Item, S>,
+    gauge: &mut Gauge,
+    call: &str,
+    key: &Key,
+) -> Option<Answer> {
+    if let Some(call) = call.strip_prefix("entry.") {
+        return entries::answered(map, call, key);
+    }
+    match wholes::answered_for(map, gauge, call, key) {
+        None => lookups::answered(map, call, key),
+        answer => answer,
+    }
+}
+
+fn with_key<S: Builder>(
+    map: &mut IdHashMap<Item, S>,
+    call: &str,
+    key: &Key,
+    item: Item,
+) -> Option<Answer> {
+    if call.starts_with("entry.") {
+        vacant::answered(map, call, key, item)
+    } else {
+        guards::replaced(map, call, key, item)
+    }
+}

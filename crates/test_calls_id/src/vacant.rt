@@ -1,0 +1,235 @@
+//! Calls of an entry that take an item.
+//!
+//! Made by tests/twins from crates/test_calls_bi/src/vacant.rt: change that file.
+ghost use Rattle.iddqd_id.specs.Entries.{HasFound};
+
+use crate::entries::{occupied, seen};
+use crate::guards::{back, lent, mismatch};
+use crate::item::{Item, row_of};
+use iddqd_id::{
+    Entry, EntryError, EntryRefusal, IdHashItem, IdHashMap, OccupiedEntry, TryEntryError,
+    TryEntryRefusal,
+};
+use std::hash::{BuildHasher, Hash};
+use test_calls_shared::answer::Answer;
+use test_calls_shared::counting::{Key, Number};
+
+/// Answers why an item came back, and the item: as the error shows it, and as it was returned.
+fn refused(error: EntryError<Item>) -> Answer {
+    let word = match &error {
+        EntryError::Key(_) => "key",
+        EntryError::Memory(_) => "memory",
+    };
+    back(Answer::of(word, row_of(error.item())), error.into_item())
+}
+
+/// Answers why an item came back, and the item, for an error that borrows the map. The answer has the item once more.
+fn refused_by<S: BuildHasher>(error: EntryRefusal<'_, Item, S>) -> Answer {
+    let shown = row_of(error.error().item());
+    refused(error.into_error()).with(shown)
+}
+
+/// Answers why an item came back, and the item, for the error of a call whose closure may fail. The closure then
+/// returns the item that it was to make.
+fn not_tried<S: BuildHasher>(error: TryEntryRefusal<'_, Item, Item, S>) -> Answer {
+    let shown = match error.error() {
+        TryEntryError::Closure(item) => row_of(item),
+        TryEntryError::Insert(error) => row_of(error.item()),
+    };
+    let answer = match error.into_error() {
+        TryEntryError::Closure(item) => back(Answer::of("closure", row_of(&item)), item),
+        TryEntryError::Insert(error) => refused(error),
+    };
+    answer.with(shown)
+}
+
+/// Answers the item that came back, as the error shows it and as it was returned.
+fn handed_back<S: BuildHasher>(error: EntryRefusal<'_, Item, S>) -> Answer {
+    back(Answer::of("back", row_of(error.item())), error.into_item())
+}
+
+/// Carries out the call of this name on the entry of these keys, with an item. Returns `None` if there is no such
+/// call.
+pub(crate) fn answered<S: BuildHasher>(
+    map: &mut IdHashMap<Item, S>,
+    call: &str,
+    key: &Key,
+    item: Item,
+) -> Option<Answer> {
+    match call {
+        "entry.or_insert" => Some(or_insert(map, key, item)),
+        "entry.or_insert.into_item" => Some(or_insert_or_back(map, key, item)),
+        "entry.or_insert.drop" => Some(or_insert_or_drop(map, key, item)),
+        "entry.or_insert.by_numbers" => Some(or_insert_by_numbers(map, key, item)),
+        "entry.or_insert_with" => Some(or_insert_with(map, key, item)),
+        "entry.or_try_insert_with" => Some(or_try_insert_with(map, key, item)),
+        "entry.or_try_insert_with.fails" => Some(or_fail(map, key, item)),
+        "entry.or_try_insert_with.fails.drop" => Some(or_fail_and_drop(map, key, item)),
+        _ => of_vacant(map, call, key, item),
+    }
+}
+
+fn of_vacant<S: BuildHasher>(
+    map: &mut IdHashMap<Item, S>,
+    call: &str,
+    key: &Key,
+    item: Item,
+) -> Option<Answer> {
+    match call {
+        "entry.insert" => Some(put(map, key, item)),
+        "entry.insert.into_ref" => Some(put_and_see(map, key, item)),
+        "entry.insert_entry" => Some(insert_entry(map, key, item)),
+        _ => {
+            drop(item);
+            None
+        }
+    }
+}
+
+fn or_insert<S: BuildHasher>(map: &mut IdHashMap<Item, S>, key: &Key, item: Item) -> Answer {
+    match map.entry(key).or_insert(item) {
+        Ok(mut held) => lent(&mut held),
+        Err(error) => refused_by(error),
+    }
+}
+
+/// Numbers ask for the entry, which are no keys.
+fn or_insert_by_numbers<S: BuildHasher>(
+    map: &mut IdHashMap<Item, S>,
+    key: &Key,
+    item: Item,
+) -> Answer {
+    let number = Number::of(key);
+    match map.entry(&number).or_insert(item) {
+        Ok(mut held) => lent(&mut held),
+        Err(error) => refused_by(error),
+    }
+}
+
+fn or_insert_or_back<S: BuildHasher>(
+    map: &mut IdHashMap<Item, S>,
+    key: &Key,
+    item: Item,
+) -> Answer {
+    match map.entry(key).or_insert(item) {
+        Ok(mut held) => lent(&mut held),
+        Err(error) => handed_back(error),
+    }
+}
+
+fn or_insert_or_drop<S: BuildHasher>(
+    map: &mut IdHashMap<Item, S>,
+    key: &Key,
+    item: Item,
+) -> Answer {
+    match map.entry(key).or_insert(item) {
+        Ok(mut held) => lent(&mut held),
+        Err(error) => {
+            drop(error);
+            Answer::said("dropped")
+        }
+    }
+}
+
+/// The answer has how often the closure was called.
+fn or_insert_with<S: BuildHasher>(map: &mut IdHashMap<Item, S>, key: &Key, item: Item) -> Answer {
+    let mut calls: usize = 0;
+    let answer = || {
+        calls = calls.wrapping_add(1);
+        item
+    };
+    let answer = match map.entry(key).or_insert_with(answer) {
+        Ok(mut held) => lent(&mut held),
+        Err(error) => refused_by(error),
+    };
+    answer.at(calls)
+}
+
+/// The answer has how often the closure was called.
+fn or_try_insert_with<S: BuildHasher>(
+    map: &mut IdHashMap<Item, S>,
+    key: &Key,
+    item: Item,
+) -> Answer {
+    let mut calls: usize = 0;
+    let made = || {
+        calls = calls.wrapping_add(1);
+        Ok(item)
+    };
+    let answer = match map.entry(key).or_try_insert_with(made) {
+        Ok(mut held) => lent(&mut held),
+        Err(error) => not_tried(error),
+    };
+    answer.at(calls)
+}
+
+/// The closure fails, with the item as its error. The answer has how often it was called.
+fn or_fail<S: BuildHasher>(map: &mut IdHashMap<Item, S>, key: &Key, item: Item) -> Answer {
+    let mut calls: usize = 0;
+    let made = || {
+        calls = calls.wrapping_add(1);
+        Err(item)
+    };
+    let answer = match map.entry(key).or_try_insert_with(made) {
+        Ok(mut held) => lent(&mut held),
+        Err(error) => not_tried(error),
+    };
+    answer.at(calls)
+}
+
+/// The closure fails, and the error is dropped.
+fn or_fail_and_drop<S: BuildHasher>(map: &mut IdHashMap<Item, S>, key: &Key, item: Item) -> Answer {
+    match map.entry(key).or_try_insert_with(|| Err(item)) {
+        Ok(mut held) => lent(&mut held),
+        Err(error) => {
+            drop(error);
+            Answer::said("dropped")
+        }
+    }
+}
+
+/// Inserts an item into its entry, vacant or occupied.
+fn put<S: BuildHasher>(map: &mut IdHashMap<Item, S>, key: &Key, item: Item) -> Answer {
+    match map.entry(key) {
+        Entry::Vacant(entry) => match entry.insert(item) {
+            Ok(lent) => Answer::of("item", row_of(&*lent)),
+            Err(error) => refused(error),
+        },
+        Entry::Occupied(mut entry) => replace(&mut entry, item),
+    }
+}
+
+/// Inserts an item into its entry, if that is occupied, and answers what the entry shows then.
+fn put_and_see<S: BuildHasher>(map: &mut IdHashMap<Item, S>, key: &Key, item: Item) -> Answer {
+    match occupied(map, key) {
+        Some(mut entry) => {
+            let _ = replace(&mut entry, item);
+            seen(entry.into_ref())
+        }
+        None => back(Answer::said("vacant"), item),
+    }
+}
+
+/// Inserts an item into an occupied entry, and answers the item that it replaced.
+fn replace<S: BuildHasher>(entry: &mut OccupiedEntry<'_, Item, S>, item: Item) -> Answer
+    requires { HasFound ⟦<Item as IdHashItem>⟧ (λ k. ⟦<Key as PartialEq>⟧.eq k.now) entry.old }
+    ensures { HasFound ⟦<Item as IdHashItem>⟧ (λ k. ⟦<Key as PartialEq>⟧.eq k.now) entry.new }
+{
+    match entry.insert(item) {
+        Ok(old) => back(Answer::said("out"), old),
+        Err(error) => mismatch(error),
+    }
+}
+
+fn insert_entry<S: BuildHasher>(map: &mut IdHashMap<Item, S>, key: &Key, item: Item) -> Answer {
+    match map.entry(key) {
+        Entry::Vacant(entry) => match entry.insert_entry(item) {
+            Ok(entry) => seen(entry.into_ref()),
+            Err(error) => refused_by(error),
+        },
+        Entry::Occupied(_) => {
+            drop(item);
+            Answer::said("occupied")
+        }
+    }
+}
