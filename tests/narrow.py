@@ -51,10 +51,24 @@ NAMED = [
     (r"\bK1\b", "Key"), (r"\bhash_of1\b", "hash_of_key"), (r"(?<=[A-Za-z])1(?=\b|_)", ""), (r"\n *let (\w+) = \1;", ""),
     (r"\(\[\]\)", "[]"), (r"\n *∷ \[\]", " ∷ []"),
 ]
+# What comments say of several keys, ranks and tables, each with what they say of one. A space may be the end of a line.
 PHRASED = [
-    (r"\b([Aa]|[Tt]he|[Ii]ts|of the|an item's|item's|equal|[Aa]ll|another) first (keys?|rank)\b", r"\1 \2"), (r"\bfirst (keys)\b", r"\1"),
+    ("([Aa]|[Tt]he|[Ii]ts|whose|item's|[Aa]ll|another|equal|by) first (keys?|rank)", r"\1 \2"), ("(hash|table) (?:at|of) the rank", r"\1"),
+    ("(an equal key) of the same rank", r"\1"), ("for each rank a table", "a table"), ("in both keys", "in the key"),
+    ("(\w),? rank by rank,? up to the first that differs", r"\1"), ("each key of (the \\w+ item|the item|an item|a removed item)", r"the key of \1"),
+    ("each key of (them|those|these)", r"the key of each of \1"), ("each key of it", "its key"), ("says of each key whether", "says whether"),
+    ("the query and the other key of the item,", "the query,"), ("which (?:of its keys|keys of the item|keys) are taken", "whether the key is taken"),
+    ("the searches by its keys", "the search by its key"), ("by each of its keys", "by its key"), ("searches by all keys", "a search"),
+    ("names the lowest rank at which its key is not", "says that its key is not"),
+    # Of a key that is one the verb is another.
+    ("([Ii]ts) keys (depend|stay)", r"\1 key \2s"), ("(?:all )?(its|the item's) keys (find|name)", r"\1 key \2s"),
+    ("those keys of the old item that the new one does not have", "the key of the old item, if the new one has another"),
+    ("the item's keys are equal to the old ones", "the item's key is equal to the old one"), ("its keys are tests", "its key is a test"),
+    ("(its|the item's|the entry's|an item's|the same) keys", r"\1 key"),
+    ("(slots and) each table", r"\1 the table"), ("each table", "the table"), ("smaller slots and tables", "smaller slots and a smaller table"),
+    ("slots and tables", "slots and the table"), ("Slots and tables", "Slots and table"), ("the table of one rank", "the table"),
 ]
-COMMENT = re.compile(r" *(//[/!]?|--)( |$)")
+COMMENT = re.compile(r"^ *(?://[/!]?|--) .*(?:\n *[\ue000-\ue003].*)*", re.M)
 
 
 class Pieces(widen.Pieces):
@@ -170,6 +184,12 @@ def renamed(text, rules=RENAMED):
     return text
 
 
+def phrased(text):
+    """Returns the text with comments that speak of one key."""
+    rules = [(rf"(?<!\w)(?:{old})(?!\w)".replace(" ", f"{widen.SPACE}+"), new) for old, new in PHRASED]
+    return widen.unfolded(COMMENT.sub(lambda it: renamed(it[0], rules), widen.folded(text)))
+
+
 def one_key(text, is_code):
     """Returns the one-key text of a two-key text, which is code or specifications and proofs."""
     text = imported(without_functions(text) if is_code else without_definitions(text))
@@ -179,8 +199,7 @@ def one_key(text, is_code):
     text = text_of(narrowed(words_of(text)))
     names = {spelling: name for name, spelling in spellings.items()}
     text = NAME.sub(lambda it: names.get(it[0], it[0]), text) if names else text
-    text = renamed(text, NAMED)
-    return "\n".join(renamed(it, PHRASED) if COMMENT.match(it) else it for it in text.split("\n"))
+    return phrased(renamed(text, NAMED))
 
 
 def path_of(path):

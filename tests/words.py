@@ -6,7 +6,7 @@ from sources import files, functions, read
 import widen
 
 SPECS = "specs/**/*.antt"
-CRATES = ("iddqd_store", "iddqd_bi", "iddqd_tri")
+CRATES = ("iddqd_store", "iddqd_bi", "iddqd_tri", "iddqd_id")
 HEAD = re.compile(r"^( *)(abbrev pub|pub record|pub data) (\w+)(.*)$")
 USE = re.compile(r"ghost use Rattle\.iddqd_\w+\.specs\.([\w.]*)\.\{([^}]*)\}")
 LABEL = re.compile(r"(?:requires|ensures)\*? (\w+) \{")
@@ -129,8 +129,8 @@ def words_of(file):
 
 
 def files_of_specs():
-    """The files of specs/ of the store and of the two-key map, as a list names them."""
-    for crate in CRATES[:2]:
+    """The files of specs/ of the store, of the two-key map, and of the one-key map, as a list names them."""
+    for crate in ("iddqd_store", "iddqd_bi", "iddqd_id"):
         begin = len(f"crates/{crate}/specs/")
         yield from (f"{crate}/{it[begin:-5]}" for it in files(crate, SPECS))
 
@@ -159,8 +159,8 @@ class Words:
 
 
 def is_at_other_rank(name, names):
-    """Whether one of these names is this one at the first rank."""
-    return re.sub(r"\d", "1", name) in names
+    """Whether one of these names is this one at the first rank, or without the number of a rank."""
+    return re.sub(r"\d", "1", name) in names or name in {re.sub(r"1(?=_|$)", "", it) for it in names}
 
 
 def faults_of(word, cited):
@@ -202,7 +202,7 @@ def faults_of_labels(clauses, words):
     labels = {crate: {it[1] for it in map(LABEL.match, (line for line, _ in clauses[crate])) if it} for crate in CRATES}
     specs = map(read, files("iddqd_*", SPECS))
     fields = {it for text in specs for it in re.findall(r"^ +pub (\w+) :", text, re.M)}
-    for name in sorted(labels["iddqd_bi"] | labels["iddqd_tri"]):
+    for name in sorted(set().union(*(labels[crate] for crate in CRATES[1:]))):
         if name not in spelled and not is_at_other_rank(name, spelled):
             yield f"docs/DEFINITIONS.md does not say what the label {name} means"
     for name in sorted(told - fields.union(*labels.values())):

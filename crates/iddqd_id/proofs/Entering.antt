@@ -21,7 +21,7 @@ use Rattle.iddqd_id.specs.declared.entry.Entry.TheVariants.{Vacant, Occupied}
 use Rattle.iddqd_id.specs.declared.entry.OccupiedEntry.{OccupiedEntry}
 use Rattle.iddqd_id.specs.declared.error.EntryRefusal.{EntryRefusal}
 use Rattle.iddqd_store.specs.Callers.{InsertsOrWrites}
--- nothing conflicts with an item exactly if its keys find nothing
+-- nothing conflicts with an item exactly if its key finds nothing
 pub use Rattle.iddqd_store.proofs.BagLemmas.Steps.{clash-empty, order-empty}
 use Rattle.iddqd_store.proofs.CallerLemmas.Entering.{Entered, occupied_as, one_not, one_unique, writes_found}
 
@@ -38,7 +38,7 @@ module _ {T S Q Key H : Type 0} (of : item.Ghosts T Key) (stands : Q → Key →
       rw (← is, ← is) (writes_found (bag o.map.now) x by write (listing (entry_tests (key_tests of stands) o) (bag o.map.now)) _ (bag m.map.now) new (held_entry m) found (held_unique m) has.some (ap (λ (n : Map T S). bag n) same) holds.value (unique_held m) (none_held m) item some swaps)
 
 module _ {T S Q Key H : Type 0} {of : item.Ghosts T Key} {eq : equal.Ghosts Key} {input : hash.Ghosts Key} {build : builder.Ghosts S H} {hashes : hasher.Ghosts H} {q : query.Ghosts Q Key} {w : hash.Ghosts Q} {e : equal.Ghosts Q} where
-  -- what is stored in an entry's items is stored in those that its keys name
+  -- what is stored in an entry's items is stored in those that its key names
   pub stores_named : {F D : Type 0} (step : F → T → D → F → Type 0) (put : T → D → T) (by : Ranks T) (f : F) (e r : Entry T S Q Key H of eq input build hashes q w e) (k : Q) (m : Map T S) →
       OnVacant e (λ v. r ≡ e) → OnOccupied e (λ o. Stores step put by f (listing (entry_tests (key_tests of q.stands_for) o) (bag o.map.now)) (bag o.map.now) (bag (entry_map r))) →
       entry_key e ≡ k → entry_map e ≡ m →
@@ -57,14 +57,14 @@ module _ {T S Q Key H : Type 0} {of : item.Ghosts T Key} {eq : equal.Ghosts Key}
   entered (Occupied o) m x k old put kept found is is =
       rw (← is, ← is) (occupied_as (bag o.map.now) x (listing (entry_tests (key_tests of q.stands_for) o) (bag o.map.now)) _ (bag m.map.now) (held_entry m) found.some (ap (λ (n : Map T S). bag n) kept.unchanged) (kept.holds found).value)
 
-  -- an item that `or_insert` inserted is in the map if its keys found nothing
+  -- an item that `or_insert` inserted is in the map if its key found nothing
   pub went_in : (e : Entry T S Q Key H of eq input build hashes q w e) (m : RefMut T S Key H of eq input build hashes) (x : T) (k : Q) (old : Map T S) →
       OnVacant e (λ v. PutsIn v x (Ok m)) → IsFound e → entry_key e ≡ k → entry_map e ≡ old →
       listing (key_tests of q.stands_for k) (bag old) ≡ [] → IsPermutation (bag m.map.now) (x ∷ bag old)
   went_in (Vacant v) m x k old put found is is none = rw (← is) put.gains_and_lends.gains.items
   went_in (Occupied o) m x k old put found is is none = absurd (found.some (rw (is, is) none))
 
-  -- if its keys found something, the map is as it was
+  -- if its key found something, the map is as it was
   pub stayed : (e : Entry T S Q Key H of eq input build hashes q w e) (m : RefMut T S Key H of eq input build hashes) (k : Q) (old : Map T S) →
       OnOccupied e (λ o. KeepsFound of q.stands_for o {E = EntryRefusal T S Key H} (Ok m)) → entry_key e ≡ k → entry_map e ≡ old →
       listing (key_tests of q.stands_for k) (bag old) ≢ [] → m.map.now ≡ old

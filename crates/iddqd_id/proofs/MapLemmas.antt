@@ -1,6 +1,6 @@
 -- Made by tests/twins from crates/iddqd_bi/proofs/MapLemmas.antt: change that file.
 
--- The ranks of an item with one key tell items apart lawfully, and its keys are tests for them.
+-- The ranks of an item with one key tell items apart lawfully, and its key is a test for them.
 use Rattle.std.specs.Prelude.{◌≡◌, Bool, true, List, []}
 use Rattle.std.specs.Cmp.{IsEquivalence}
 use Rattle.std.proofs.Common.{refl, sym}

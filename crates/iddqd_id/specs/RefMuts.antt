@@ -44,7 +44,7 @@ module _ {T S Key H : Type 0} {of : item.Ghosts T Key}
       live = still_live f r.map.now.slots r.slot r.slot r.live;
     }
 
-  -- The item `x` of the guard is returned, and `item`, which has the same keys, is in its place. The guard has the
+  -- The item `x` of the guard is returned, and `item`, which has the same key, is in its place. The guard has the
   -- same map, and nothing else changes.
   -- Example: In a map of a, b, a guard of a becomes one of `item` in a map of `item`, b, and `x` is a.
   pub record Replaces (ranks : Ranks T)

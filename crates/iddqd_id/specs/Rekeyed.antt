@@ -33,7 +33,7 @@ module _ {T : Type 0} where
       (x : T) × (rest : List T) × IsOnly test old (Some x) × IsPermutation old (x ∷ rest) × (clash ranks rest y ≢ [])
 
   -- A search by one rank, for an item that another one is to replace, costs what `SearchCosts` says. If it finds one,
-  -- the call then searches at each rank for the keys of the new item, and walks this often through each table
+  -- the call then searches at each rank for the keys of the new item, and walks this often through the table
   -- (`PlacingCosts`). Example: With 3 items, two ranks, two walks at each and a hash of its own for each key it asks at
   -- most three times, and probes at most 28 cells.
   abbrev pub RekeyingCosts : (T → ℕ) → List (T → ℕ) → List T → ℕ → ℕ → List ℕ → List ℕ → Result T (NotReplaced T)

@@ -8,7 +8,7 @@ ghost use Rattle.iddqd_store.specs.Rank.{agree, key_hash};
 
 use std::hash::{BuildHasher, Hash};
 
-/// An item with one key. Its keys depend on its value alone.
+/// An item with one key. Its key depends on its value alone.
 pub trait IdHashItem {
     /// The type of the key.
     type Key: Eq + Hash;
@@ -21,7 +21,7 @@ pub trait IdHashItem {
         ensures { result.now ≡ key self.now };
 }
 
-/// An item with data beside its keys. A caller may write the data while the item is in a map, since its keys stay
+/// An item with data beside its key. A caller may write the data while the item is in a map, since its key stays
 /// equal.
 pub trait IdHashItemMut: IdHashItem {
     /// The type of the data that can be written.
@@ -38,7 +38,7 @@ pub trait IdHashItemMut: IdHashItem {
         ensures value { result.now ≡ data_of self.old }
         ensures* writes_back { sem 𝓛 (Lends Self.row Self.Data.row self.entry result (put self.old)) };
 
-    // Laws that an implementation has to prove: with other data put in, the item's keys are equal to the old ones, and
+    // Laws that an implementation has to prove: with other data put in, the item's key is equal to the old one, and
     // its data is what was put in.
     ghost keeps_key: { (x : Self) (d : Self.Data) → Self.Key.eq (Self.key (put x d)) (Self.key x) ≡ true };
 
@@ -70,11 +70,11 @@ impl<T: IdHashItem> Ranked for T {
     ghost key_tests_are = { refl };
 }
 
-/// What contracts say of the hashes of an item's keys, for a builder of hashers. The trait is public for contracts
+/// What contracts say of the hashes of an item's key, for a builder of hashers. The trait is public for contracts
 /// alone, and has no function. Every item type implements it by the blanket impl below, and nobody implements it by
 /// hand.
 pub trait Hashed<S: BuildHasher>: IdHashItem {
-    // The hash of each key of an item, by a builder.
+    // The hash of the key of an item, by a builder.
     ghost hash: { S → Self → ℕ };
 
     ghost hash_is: { hash ≡ key_hash Self.key Self.Key.hash_input S.BuildHasher S.Hasher.Hasher };

@@ -35,9 +35,9 @@ pub use collect::{ClonesHashes, ClonesKeys};
 /// keys with equal hashes. For such keys make the map by `with_hasher(alloc, RandomState::new(&rt)?)`.
 pub type DefaultHashBuilder = BuildHasherDefault<FoldHasher>;
 
-/// A hash map of items with one key. No two items of a map have an equal key of the same rank.
+/// A hash map of items with one key. No two items of a map have an equal key.
 ///
-/// The items are in numbered slots, and for each rank a table leads from the hash of a key to the slot of its item. A
+/// The items are in numbered slots, and a table leads from the hash of a key to the slot of its item. A
 /// lookup by one key hashes it once, and compares at most as many keys as items have that hash.
 #[derive(Drop)]
 pub struct IdHashMap<T: IdHashItem, S: BuildHasher = DefaultHashBuilder> {

@@ -82,14 +82,14 @@ impl<'a, T: IdHashItem, S: BuildHasher, Q: Query<T::Key>> OccupiedEntry<'a, T, S
     pub fn insert(&mut self, item: T) -> Result<T, KeyMismatch<T>>
         requires { HasFound T.IdHashItem Q.stands_for self.old }
         // The result is `Ok` exactly for an item with the entry's key. The item that this key found is returned.
-        ensures same_key { OnOk result (has T.IdHashItem Q.stands_for self.old.query item ≡ true) }
+        ensures same_keys { OnOk result (has T.IdHashItem Q.stands_for self.old.query item ≡ true) }
         ensures displaced { IfOk result (λ gone.
             IsOnly (has T.IdHashItem Q.stands_for self.old.query) (bag self.old.map.now) (Some gone)) }
         // The entry then finds the new item.
         ensures puts_over { OnOk result (PutsOver T.IdHashItem Q.stands_for ⟦<T as Ranked>⟧.ranks self.old item self.new) }
         // An item with another key is returned, and nothing changes.
         ensures handed_back { IfErr result (λ e. e.item ≡ item) }
-        ensures other_key { OnErr result (has T.IdHashItem Q.stands_for self.old.query item ≡ false) }
+        ensures rank { OnErr result (has T.IdHashItem Q.stands_for self.old.query item ≡ false) }
         ensures unchanged { OnErr result (self.new ≡ self.old) }
     {
         if !self.query.stands_for(item.key()) {

@@ -17,18 +17,18 @@ use iddqd_store::Query;
 use std::hash::{BuildHasher, Hash};
 
 impl<'a, T: Ranked, S: BuildHasher, Q: Query<T::Key>> VacantEntry<'a, T, S, Q> {
-    /// Inserts an item that has the entry's keys, and returns a guard of it.
+    /// Inserts an item that has the entry's key, and returns a guard of it.
     ///
-    /// If the item has another key, the error names the lowest rank at which its key is not the entry's. Otherwise the
+    /// If the item has another key, the error says that its key is not the entry's. Otherwise the
     /// call fails only if the map is full and there is no memory to grow. Each error has the item, and the map is as it
     /// was.
     ///
-    /// The call compares the item's keys with the entry's, rank by rank up to the first that differs. It hashes no key
+    /// The call compares the item's key with the entry's. It hashes no key
     /// and searches for none. It allocates memory only if the map is full.
     pub fn insert(self, item: T) -> Result<RefMut<'a, T, S>, EntryError<T>>
         // The guard borrows the item, in this very map.
         ensures gains_and_lends { IfOk result (GainsAndLends self.entry item) }
-        // The result is `Ok` only for an item with the entry's keys, and always for such an item if there is spare
+        // The result is `Ok` only for an item with the entry's key, and always for such an item if there is spare
         // capacity.
         ensures same_keys { OnOk result (differ (wanted self.entry) item ≡ None) }
         ensures granted { differ (wanted self.entry) item ≡ None
@@ -45,12 +45,12 @@ impl<'a, T: Ranked, S: BuildHasher, Q: Query<T::Key>> VacantEntry<'a, T, S, Q> {
 }
 
 impl<'a, T: IdHashItem, S: BuildHasher, Q: Query<T::Key>> VacantEntry<'a, T, S, Q> {
-    /// Inserts an item as `insert` does, and returns the occupied entry with the same keys, which finds the item alone.
+    /// Inserts an item as `insert` does, and returns the occupied entry with the same key, which finds the item alone.
     /// The error borrows the map.
     pub fn insert_entry(self, item: T) -> Result<OccupiedEntry<'a, T, S, Q>, EntryRefusal<'a, T, S>>
-        // The entry borrows this very map, with the item in it, which all its keys find.
+        // The entry borrows this very map, with the item in it, which its key finds.
         ensures gains_and_finds { IfOk result (GainsAndFinds self.entry item) }
-        // The result is `Ok` only for an item with the entry's keys, and always for such an item if there is spare
+        // The result is `Ok` only for an item with the entry's key, and always for such an item if there is spare
         // capacity.
         ensures same_keys { OnOk result (differ (wanted self.entry) item ≡ None) }
         ensures granted { differ (wanted self.entry) item ≡ None

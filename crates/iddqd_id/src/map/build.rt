@@ -23,7 +23,7 @@ impl<T: IdHashItem> IdHashMap<T, DefaultHashBuilder> {
 
     /// Makes an empty map with the default builder, in which exactly `items` items fit.
     ///
-    /// The call allocates the slots and each table. It fails if an allocation fails, or if the number of items is too
+    /// The call allocates the slots and the table. It fails if an allocation fails, or if the number of items is too
     /// large for memory. For 0 items it allocates nothing, and succeeds. A table has 16 bytes for each of its cells,
     /// whose number is a power of two: up to 4,096 items the least that is three times as many, up to 16,384 the least
     /// that is twice as many, and above that the least of which the items fill seven eighths.
@@ -72,7 +72,7 @@ impl<T: IdHashItem, S: BuildHasher> IdHashMap<T, S> {
 
     /// Makes an empty map with this builder, in which exactly `items` items fit.
     ///
-    /// The call allocates the slots and each table. It fails if an allocation fails, or if the number of items is too
+    /// The call allocates the slots and the table. It fails if an allocation fails, or if the number of items is too
     /// large for memory. For 0 items it allocates nothing, and succeeds. A table has 16 bytes for each of its cells,
     /// whose number is a power of two: up to 4,096 items the least that is three times as many, up to 16,384 the least
     /// that is twice as many, and above that the least of which the items fill seven eighths.

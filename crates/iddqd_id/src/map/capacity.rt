@@ -27,7 +27,7 @@ impl<T: Ranked, S: BuildHasher> IdHashMap<T, S> {
         self.len() == 0
     }
 
-    /// Returns how many items fit without growing: the least of what the slots and each table hold. It is at most
+    /// Returns how many items fit without growing: the least of what the slots and the table hold. It is at most
     /// `most_room`, 7 * 2^60, the number of items that the largest table holds.
     pub fn capacity(&self) -> usize
         ensures value { result ≡ self.now.capacity }
@@ -41,7 +41,7 @@ impl<T: Ranked, S: BuildHasher> IdHashMap<T, S> {
     /// key.
     ///
     /// The call fails if an allocation for more slots or for a larger table fails, or if the number of items would be
-    /// too large for memory. Then the items, the capacity and the builder are as before. Slots and tables may have more
+    /// too large for memory. Then the items, the capacity and the builder are as before. Slots and table may have more
     /// room then, which serves a later call. While a table grows, it has its old cells beside the new ones.
     pub fn reserve(&mut self, more: usize) -> Result<(), TryReserveError>
         ensures items { bag self.new ≡ bag self.old }
@@ -64,7 +64,7 @@ impl<T: Ranked, S: BuildHasher> IdHashMap<T, S> {
     /// Drops all items. The builder and the capacity stay. The call allocates no memory, and compares no key.
     ///
     /// It empties each cell of the tables that have any pair. If the items are fewer than a 64th of the cells of a
-    /// table, it removes them one by one instead, and hashes each key of them once.
+    /// table, it removes them one by one instead, and hashes the key of each of them once.
     pub fn clear(&mut self)
     where
         T: Drop,
@@ -86,7 +86,7 @@ impl<T: Ranked, S: BuildHasher> IdHashMap<T, S> {
         0 < items && items < self.first.cells() / 64
     }
 
-    /// Removes the items one by one, and drops them. It hashes each key of them once.
+    /// Removes the items one by one, and drops them. It hashes the key of each of them once.
     fn take_each(&mut self)
     where
         T: Drop,

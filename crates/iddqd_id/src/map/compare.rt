@@ -17,7 +17,7 @@ use crate::item::{Hashed, IdHashItem};
 use iddqd_store::Meter;
 use std::hash::{BuildHasher, Hash};
 
-/// Two maps are equal if and only if their items pair off, so that the items of each pair agree in both keys and are
+/// Two maps are equal if and only if their items pair off, so that the items of each pair agree in the key and are
 /// equal by `==`. It does not matter how the maps were made, what their capacity is, or what state their builders are
 /// in.
 ///
@@ -52,8 +52,8 @@ impl<T: IdHashItem + Eq, S: BuildHasher> Eq for IdHashMap<T, S> {
 }
 
 impl<T: IdHashItem + PartialEq, S: BuildHasher> IdHashMap<T, S> {
-    /// Returns whether an item of the map agrees with this one in both keys and is equal to it by `==`. One meter
-    /// counts the keys that are compared, beside those that `==` of two items compares, and the other the probed cells.
+    /// Returns whether an item of the map agrees with this one in the key and is equal to it by `==`. One meter counts
+    /// the keys that are compared, beside those that `==` of two items compares, and the other the probed cells.
     fn has_partner(&self, item: &T, asked: &mut Meter, probed: &mut Meter) -> bool
         ensures value { result ≡ list_any (same_item (ranks T.IdHashItem T.Key.eq) T.eq item.now) (bag self.now) }
         ensures costs { UniqueCosts (⟦<T as Hashed<S>>⟧.hash self.now.builder) (bag self.now) self.now.capacity

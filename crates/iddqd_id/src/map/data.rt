@@ -18,7 +18,7 @@ impl<T: IdHashItemMut, S: BuildHasher> IdHashMap<T, S> {
     /// Returns the data of the item with the key that the query stands for, borrowed for writing, or `None` if
     /// no item has that key. What is written through the reference is the item's data, and nothing else changes.
     ///
-    /// The call compares at most as many keys as items have the query's hash at the rank. It allocates no memory.
+    /// The call compares at most as many keys as items have the query's hash. It allocates no memory.
     ///
     /// `*map.data_mut(&key)? = data;`
     pub fn data_mut<Q: Query<T::Key>>(&mut self, query: Q) -> Option<&mut T::Data>

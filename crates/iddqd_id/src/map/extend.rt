@@ -21,7 +21,7 @@ impl<T: Ranked + Drop, S: BuildHasher> IdHashMap<T, S> {
     /// Inserts the items one by one, as `insert_overwrite` does, and drops the items that this removes.
     ///
     /// First the call reserves capacity for as many items as the iterator promises, or for half as many if the map has
-    /// items, since these may have the same keys. If that fails, the call goes on, and the map grows as it fills. If
+    /// items, since these may have the same key. If that fails, the call goes on, and the map grows as it fills. If
     /// there is no memory for an item, the error has that item. Those before it stay in the map, and the rest are
     /// dropped with the iterator.
     pub fn extend<I: IntoIterator<Item = T>>(&mut self, iter: I) -> Result<(), MemoryRefused<T>>
@@ -61,14 +61,15 @@ impl<T: Ranked + Drop, S: BuildHasher> IdHashMap<T, S> {
     /// Inserts all the items, or none if one of them conflicts with an item of the map or with another of them.
     ///
     /// If an item conflicts, or if there is no memory for it, the call removes the items before it again. The error has
-    /// these in order, that item, and which of its keys are taken. The rest are dropped with the iterator. If no key is
+    /// these in order, that item, and whether the key is taken. The rest are dropped with the iterator. If no key is
     /// taken, there was no memory; an item that conflicts is refused for that, whether there is memory or not.
     ///
-    /// To insert an item, the call hashes each key of it once, and searches for it once. It allocates memory if the map
+    /// To insert an item, the call hashes its key once, and searches for it once. It allocates memory if the map
     /// is full, and for the list of the items inserted, by which an error returns them: each time for as many items as
     /// the iterator still promises, or for one item if there is no memory for so many. For a list of no items it
-    /// allocates none. To remove the items again, it hashes each key of them once more, or each key of the other items
-    /// if these are fewer. It compares none then, and allocates no memory. After an error the capacity may have grown.
+    /// allocates none. To remove the items again, it hashes the key of each of them once more, or each key of the other
+    /// items if these are fewer. It compares none then, and allocates no memory. After an error the capacity may have
+    /// grown.
     ///
     /// ```text
     /// if let Err(refused) = map.extend_unique(batch) {
@@ -87,8 +88,7 @@ impl<T: Ranked + Drop, S: BuildHasher> IdHashMap<T, S> {
         ensures refused { IfErr result (λ e. GivesThen I.into_iter_gives I.IntoIter.next_gives iter e.item
             (λ xs. xs ≡ e.before.items)) }
         ensures same_items { OnErr result (IsPermutation (bag self.new) (bag self.old)) }
-        // The error says which keys of the item are taken, in the map or among those before it. If none is, memory ran
-        // out.
+        // The error says whether the key is taken, in the map or among those before it. If none is, memory ran out.
         ensures reason { IfErr result (TellsWhyBehind T.IdHashItem T.Key.eq (bag self.old)) }
         // The map stays sound, and grows only if the items might not fit.
         ensures sound { IsSound T.ranks (bag self.new) }

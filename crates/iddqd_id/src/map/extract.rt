@@ -24,8 +24,8 @@ impl<T: IdHashItem, S: BuildHasher> IdHashMap<T, S> {
     /// reserve room. After an insert, a removal by another call, or a call that shrinks the map, the loop may pass
     /// items over. A loop that ends early leaves the other items in the map.
     ///
-    /// The call hashes each key of the item that it removes once. It compares no key, and allocates no memory. The
-    /// whole loop passes each slot once.
+    /// The call hashes the key of the item that it removes once. It compares no key, and allocates no memory. The whole
+    /// loop passes each slot once.
     ///
     /// ```text
     /// let mut at = Cursor::new();

@@ -1,4 +1,4 @@
-//! Lookups. Each searches the table of one rank, which leads to the item's slot.
+//! Lookups. Each searches the table, which leads to the item's slot.
 //!
 //! Made by tests/twins from crates/iddqd_bi/src/map/find.rt: change that file.
 ghost use Rattle.std.specs.Prelude.{Contains, ◌≡◌, option_copied};
@@ -18,7 +18,7 @@ impl<T: IdHashItem, S: BuildHasher> IdHashMap<T, S> {
     /// Returns the item with the key that the query stands for, or `None`. A query is a `&key`, or what stands
     /// for a key, such as a `&str` for a `String`: `map.get(&key)`, `map.get("main")`.
     ///
-    /// The call compares at most as many keys as items have the query's hash at the rank.
+    /// The call compares at most as many keys as items have the query's hash.
     ///
     /// ```text
     /// match map.get(&key) {
@@ -40,10 +40,10 @@ impl<T: IdHashItem, S: BuildHasher> IdHashMap<T, S> {
         found.is_some()
     }
 
-    /// Returns the item whose first key the matcher accepts, or `None`. Every lookup by keys is this search.
+    /// Returns the item whose key the matcher accepts, or `None`. Every lookup by keys is this search.
     ///
     /// All keys of items that the matcher accepts must be equal to each other and have this hash. The matcher is
-    /// asked at most as often as items have the hash at the rank. The meter counts the cells that the search
+    /// asked at most as often as items have the hash. The meter counts the cells that the search
     /// probes, at most one more than there are items.
     pub fn find_with<M: KeyMatcher<T::Key>>(
         &self,
@@ -79,7 +79,7 @@ impl<T: IdHashItem, S: BuildHasher> IdHashMap<T, S> {
         self.by_key().get(query, asked, probed)
     }
 
-    /// Returns the slot of the item whose first key the query stands for, or `None`. One meter counts the keys that the
+    /// Returns the slot of the item whose key the query stands for, or `None`. One meter counts the keys that the
     /// query is compared with, and the other the probed cells.
     pub(crate) fn slot_by<Q: Query<T::Key>>(
         &self,

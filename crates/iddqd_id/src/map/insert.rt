@@ -16,14 +16,13 @@ use std::hash::{BuildHasher, Hash};
 impl<T: Ranked, S: BuildHasher> IdHashMap<T, S> {
     ghost use Rattle.iddqd_id.specs.Refused.{HandsBackAndHolds, TellsWhy, ends_as};
 
-    /// Inserts an item if no item of the map conflicts with it. Two items conflict if they have an equal key of the
-    /// same rank.
+    /// Inserts an item if no item of the map conflicts with it. Two items conflict if they have an equal key.
     ///
     /// If items conflict with it, the call fails, whatever memory there is, and the error has these items, in the order
     /// of the keys. Otherwise the call fails only if the map is full and there is no memory to grow. Each error has the
     /// item, and borrows the map, which is as it was.
     ///
-    /// The call hashes each key of the item once, and searches for it once. It allocates memory only if the map is
+    /// The call hashes the key of the item once, and searches for it once. It allocates memory only if the map is
     /// full.
     ///
     /// ```text
@@ -64,15 +63,15 @@ impl<T: Ranked, S: BuildHasher> IdHashMap<T, S> {
         }
     }
 
-    /// Inserts an item as `insert_unique` does, with an error that owns the item, says which of its keys are taken, and
+    /// Inserts an item as `insert_unique` does, with an error that owns the item, says whether the key is taken, and
     /// does not borrow the map, which is as it was. So `map.try_insert(item)?` works through a `From<Rejected<T>>` of
     /// your own, and `.map_err(|rejected| rejected.item)` hands the item back.
     ///
-    /// If items conflict with it, the call fails, whatever memory there is, and the error says of each key whether an
+    /// If items conflict with it, the call fails, whatever memory there is, and the error says whether an
     /// item has it. Otherwise the call fails only if the map is full and there is no memory to grow. No key is taken
     /// then.
     ///
-    /// The call hashes each key of the item once, and searches for it once. It allocates memory only if the map is
+    /// The call hashes the key of the item once, and searches for it once. It allocates memory only if the map is
     /// full.
     ///
     /// `match map.try_insert(item) { Ok(()) => {}, Err(e) => report(e.taken, e.item) }`
@@ -82,8 +81,8 @@ impl<T: Ranked, S: BuildHasher> IdHashMap<T, S> {
         ensures free { OnOk result (clash T.ranks (bag self.old) item ≡ []) }
         ensures granted { clash T.ranks (bag self.old) item ≡ []
             → length (bag self.old) < self.old.capacity → IsOk result }
-        // The error has the item and says which keys are taken. In a full map it may say that none is. The map is as it
-        // was.
+        // The error has the item and says whether the key is taken. In a full map it may say that none is. The map is
+        // as it was.
         ensures handed_back { IfErr result (λ e. e.item ≡ item) }
         ensures unchanged { OnErr result (self.new ≡ self.old) }
         ensures reason { IfErr result (λ e. TellsWhy T.IdHashItem T.Key.eq self.old item e) }

@@ -16,7 +16,7 @@ use std::hash::{BuildHasher, Hash};
 impl<T: Ranked, S: BuildHasher> IdHashMap<T, S> {
     /// Inserts an item, removes those that conflict with it, and returns these, in the order of the keys and each once.
     ///
-    /// The call hashes each key of the item once, and searches for it once. It also hashes each key of a removed item
+    /// The call hashes the key of the item once, and searches for it once. It also hashes the key of a removed item
     /// by which it did not find that item. If items conflict, it allocates no memory and the capacity stays. Otherwise
     /// it fails only if the map is full and there is no memory to grow. The error then has the item, and the map is as
     /// it was.
@@ -36,7 +36,7 @@ impl<T: Ranked, S: BuildHasher> IdHashMap<T, S> {
     }
 
     /// Inserts as `insert_overwrite` does, which calls it. One meter counts the keys that are compared, and the other
-    /// the probed cells, but for those that growing probes. Beside the searches, the number of its walks through each
+    /// the probed cells, but for those that growing probes. Beside the searches, the number of its walks through the
     /// table is at most one more than the number of items that it displaces.
     #[inline(always)]
     fn insert_overwrite_by(

@@ -14,10 +14,10 @@ use std::hash::{BuildHasher, Hash};
 impl<T: IdHashItem, S: BuildHasher> IdHashMap<T, S> {
     /// Removes some item, and returns it, or `None` if the map has none. The capacity stays.
     ///
-    /// Which item it is depends on the slots of the items, and not on their order of insertion. The call hashes each
-    /// key of the item once, compares none, and allocates no memory. It passes free slots before the item, but none
-    /// that an earlier `pop` has passed, unless an insert has used it or a lower one since. So a loop that calls `pop`
-    /// until the map is empty takes time in proportion to the number of slots.
+    /// Which item it is depends on the slots of the items, and not on their order of insertion. The call hashes the key
+    /// of the item once, compares none, and allocates no memory. It passes free slots before the item, but none that an
+    /// earlier `pop` has passed, unless an insert has used it or a lower one since. So a loop that calls `pop` until
+    /// the map is empty takes time in proportion to the number of slots.
     ///
     /// ```text
     /// let Some(item) = map.pop() else {
@@ -43,7 +43,7 @@ impl<T: IdHashItem, S: BuildHasher> IdHashMap<T, S> {
     /// are still in the map. Between two calls a caller may read the map, write items and reserve room. After an
     /// insert, a removal by another call, or a call that shrinks the map, the loop may pass items over.
     ///
-    /// The call hashes each key of the item once. It compares no key, and allocates no memory.
+    /// The call hashes the key of the item once. It compares no key, and allocates no memory.
     ///
     /// ```text
     /// let mut at = Cursor::new();

@@ -19,8 +19,8 @@ impl<T: Ranked, S: BuildHasher> IdHashMap<T, S> {
     /// item may have other keys. The error has the new item, and the map is as it was: `Absent` if no item has the key
     /// asked for, and `Duplicate` if some other item conflicts with the new one.
     ///
-    /// The call hashes the query and searches for it once, and hashes each key of the new item and searches for it
-    /// once. It also hashes those keys of the old item that the new one does not have. It allocates no memory, and the
+    /// The call hashes the query and searches for it once, and hashes the key of the new item and searches for it once.
+    /// It also hashes the key of the old item, if the new one has another. It allocates no memory, and the
     /// capacity stays.
     ///
     /// `match map.rekey(&key, item) { Ok(old) => drop(old), Err(e) => keep_for_later(e.into_item()) }`

@@ -18,8 +18,8 @@ impl<T: IdHashItem, S: BuildHasher> IdHashMap<T, S> {
     /// Removes the item with the key that the query stands for, and returns it, or `None` if there is none. The
     /// capacity stays.
     ///
-    /// The call compares at most as many keys as items have the query's hash at the rank. It hashes the query and
-    /// the other key of the item, and allocates no memory.
+    /// The call compares at most as many keys as items have the query's hash. It hashes the query, and allocates no
+    /// memory.
     ///
     /// ```text
     /// if let Some(item) = map.remove(&key) {
@@ -39,10 +39,10 @@ impl<T: IdHashItem, S: BuildHasher> IdHashMap<T, S> {
         )
     }
 
-    /// Removes the item whose first key the matcher accepts, and returns it, or `None` if there is none. All keys
+    /// Removes the item whose key the matcher accepts, and returns it, or `None` if there is none. All keys
     /// of items that the matcher accepts must be equal to each other and have this hash.
     ///
-    /// In the table of the rank the call costs as much as a call of `find_with` that finds nothing. If it
+    /// In the table the call costs as much as a call of `find_with` that finds nothing. If it
     /// removes an item, it then walks once through each other table.
     fn remove_by<M: KeyMatcher<T::Key>>(
         &mut self,

@@ -13,10 +13,10 @@ use std::hash::{BuildHasher, Hash};
 impl<T: IdHashItem + Drop, S: BuildHasher> IdHashMap<T, S> {
     /// Shrinks the capacity to `least`, but not below the number of items. It never grows the capacity.
     ///
-    /// The call allocates smaller slots and tables, and hashes each key anew. It compares none. If an allocation fails,
-    /// the map is as before. For a map that gets capacity 0 the call allocates nothing.
+    /// The call allocates smaller slots and a smaller table, and hashes each key anew. It compares none. If an
+    /// allocation fails, the map is as before. For a map that gets capacity 0 the call allocates nothing.
     ///
-    /// If the slots and tables are those of a map made with the new capacity, the call allocates and hashes nothing.
+    /// If the slots and the table are those of a map made with the new capacity, the call allocates and hashes nothing.
     /// They may be larger although the capacity stays, for example the slots of a large map that has grown. Then the
     /// call makes them smaller if there is memory for that, and succeeds in any case: a call that does not change the
     /// capacity never fails.
@@ -59,7 +59,7 @@ impl<T: IdHashItem + Drop, S: BuildHasher> IdHashMap<T, S> {
         self.shrink_to(0)
     }
 
-    /// Makes slots and tables anew, for this many items. After an error the map is as before.
+    /// Makes slots and the table anew, for this many items. After an error the map is as before.
     fn rebuild(&mut self, wanted: usize) -> Result<(), TryReserveError>
         requires enough { length (bag self.old) ≤ wanted }
         requires within { wanted ≤ self.old.capacity }

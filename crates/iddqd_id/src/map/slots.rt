@@ -1,7 +1,7 @@
 //! Single items and their slots: where an item is to be inserted, inserting it and removing it. The files below have
-//! the capacity (`room`), the slots that searches by all keys found (`found`), iterating (`walk`), reading and writing
-//! (`write`), inserting in place of other items (`over`), and inserting a list that may have to be removed again
-//! (`enter`). Calls on all slots at once and removals by one key use the slots and tables themselves.
+//! the capacity (`room`), the slots that a search found (`found`), iterating (`walk`), reading and writing (`write`),
+//! inserting in place of other items (`over`), and inserting a list that may have to be removed again (`enter`). Calls
+//! on all slots at once and removals by one key use the slots and the table themselves.
 //!
 //! Made by tests/twins from crates/iddqd_bi/src/map/slots.rt: change that file.
 ghost use Rattle.std.specs.Prelude.{◌≡◌, ℕ, ◌<◌, ◌≤◌, ◌+◌, [], ◌∷◌, length, map, All, OnOk, OnErr, IfOk, IfErr, Some, None, IfSome, nat_eq, slice_set, is_some, is_ok, true, false, if◌then◌else◌};
@@ -33,7 +33,7 @@ use std::hash::{BuildHasher, Hash};
 /// An item that was not inserted, and why. It does not borrow the map.
 #[derive(Drop)]
 pub(crate) enum Refusal<T> {
-    /// Items conflict with it. This is what the search by each of its keys found.
+    /// Items conflict with it. This is what the search by its key found.
     Duplicate(T, SlotUnder),
     /// There was no memory for it.
     Memory(T),
@@ -176,7 +176,7 @@ impl<T: IdHashItem, S: BuildHasher> IdHashMap<T, S> {
         Ok(self.insert_at(item, at, &mut Meter::new()))
     }
 
-    /// Removes the item of a slot, by one walk through each table. It hashes a key of it only if its hash is not given.
+    /// Removes the item of a slot, by one walk through the table. It hashes a key of it only if its hash is not given.
     pub(crate) fn take(&mut self, slot: ItemIndex, hash: Option<u64>, meter: &mut Meter) -> T
         requires live { IsLive self.old.slots slot }
         requires hash { IfSome hash (HasHash (⟦<T as Hashed<S>>⟧.hash self.old.builder) self.old.slots slot) }
@@ -197,7 +197,7 @@ impl<T: IdHashItem, S: BuildHasher> IdHashMap<T, S> {
         }
     }
 
-    /// Inserts an item if none conflicts with it. The error has what the searches by its keys found; or, if the map is
+    /// Inserts an item if none conflicts with it. The error has what the search by its key found; or, if the map is
     /// full and cannot grow, it is `Memory`. One meter counts the keys that are compared, and the other the probed
     /// cells, but for those that growing probes. What it calls is inlined, except for growing, so a caller's loop
     /// branches where the outcome arises.

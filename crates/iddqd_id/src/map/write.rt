@@ -23,7 +23,7 @@ impl<T: IdHashItem, S: BuildHasher> IdHashMap<T, S> {
     /// item's data can be written, for example by `*guard.data_mut() = data`, and the item can be replaced by one with
     /// equal keys.
     ///
-    /// The call compares at most as many keys as items have the query's hash at the rank. It allocates no memory.
+    /// The call compares at most as many keys as items have the query's hash. It allocates no memory.
     ///
     /// ```text
     /// if let Some(mut item) = map.get_mut(&key) {

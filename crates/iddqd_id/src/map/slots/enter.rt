@@ -72,7 +72,7 @@ impl<T: IdHashItem, S: BuildHasher> IdHashMap<T, S> {
         }
     }
 
-    /// Removes these items. It hashes each key of them once.
+    /// Removes these items. It hashes the key of each of them once.
     fn take_one_by_one(&mut self, entered: Entered<T>) -> Vec<T>
         requires live { All (IsLive self.old.slots) entered.slots }
         requires apart { IsDistinct nat_eq entered.slots }
@@ -86,8 +86,8 @@ impl<T: IdHashItem, S: BuildHasher> IdHashMap<T, S> {
         items
     }
 
-    /// Removes these items from their slots, and enters those that are left into emptied tables. It hashes each key of
-    /// those once. So no table is searched, and where most items leave, fewer keys are hashed.
+    /// Removes these items from their slots, and enters those that are left into emptied tables. It hashes the key of
+    /// each of those once. So no table is searched, and where most items leave, fewer keys are hashed.
     fn take_and_refill(&mut self, entered: Entered<T>) -> Vec<T>
         requires live { All (IsLive self.old.slots) entered.slots }
         requires apart { IsDistinct nat_eq entered.slots }

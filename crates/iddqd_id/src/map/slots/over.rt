@@ -40,8 +40,8 @@ impl<T: IdHashItem, S: BuildHasher> IdHashMap<T, S> {
     }
 
     /// Puts an item into the slot of another, whatever their keys are, and returns the latter. If an item in a third
-    /// slot conflicts with the new one, the new one is returned, and nothing changes. The call hashes each key of the
-    /// new item once, and searches for it once. Beside these searches it walks through each table at most twice.
+    /// slot conflicts with the new one, the new one is returned, and nothing changes. The call hashes the key of the
+    /// new item once, and searches for it once. Beside these searches it walks through the table at most twice.
     pub(crate) fn rekey_at(
         &mut self,
         slot: ItemIndex,

@@ -1,4 +1,4 @@
-//! How many items fit, and room for more. The capacity of a map is the least of those of its slots and tables.
+//! How many items fit, and room for more. The capacity of a map is the least of those of its slots and the table.
 //!
 //! Made by tests/twins from crates/iddqd_bi/src/map/slots/room.rt: change that file.
 ghost use Rattle.std.specs.Prelude.{◌≡◌, ◌==◌, ◌<◌, ◌≤◌, length, OnOk, OnErr};
@@ -11,7 +11,7 @@ use iddqd_store::{Meter, TryReserveError, pairs_wanted, wanted_above};
 use std::hash::{BuildHasher, Hash};
 
 impl<T: IdHashItem, S: BuildHasher> IdHashMap<T, S> {
-    /// Returns how many items fit: the least of what the slots and each table hold.
+    /// Returns how many items fit: the least of what the slots and the table hold.
     pub(crate) fn room(&self) -> usize
         ensures value { result ≡ self.now.capacity }
         ensures fits { length (bag self.now) ≤ result }
@@ -52,10 +52,10 @@ impl<T: IdHashItem, S: BuildHasher> IdHashMap<T, S> {
         Ok(())
     }
 
-    /// Reserves capacity for this many more items. If that fails, the map is as before, but slots and tables may have
-    /// more room. The call is not inlined into an insert, which seldom grows. Each larger table replaces the old one at
-    /// once. The parts that have more room than the map grow first, and what bounds the capacity grows last: so if a
-    /// step fails, that part is as before, and the capacity with it.
+    /// Reserves capacity for this many more items. If that fails, the map is as before, but slots and the table may
+    /// have more room. The call is not inlined into an insert, which seldom grows. Each larger table replaces the old
+    /// one at once. The parts that have more room than the map grow first, and what bounds the capacity grows last: so
+    /// if a step fails, that part is as before, and the capacity with it.
     #[cold]
     #[inline(never)]
     pub(crate) fn grow(&mut self, more: usize) -> Result<(), TryReserveError>
