@@ -10,7 +10,7 @@ use Rattle.std.specs.declared.hash.Hash as hash
 use Rattle.std.specs.declared.hash.Hasher as hasher
 use Rattle.std.specs.declared.hash.BuildHasher as builder
 use mir.Syntax.{named}
-use Rattle.iddqd_store.specs.Bag.{IsOnly, Ranks, differ, over}
+use Rattle.iddqd_store.specs.Bag.{IsOnly, Ranks, differ, swap}
 use Rattle.iddqd_store.specs.Map.{Map, bag, Gains}
 use Rattle.iddqd_store.specs.Map.Written.{map_with}
 use Rattle.iddqd_store.specs.Slots.{get, IsLive}
@@ -61,13 +61,13 @@ module _ {T S Q Key H : Type 0} where
       pub only : IsOnly (has of stands o.query) (bag o.map.now) (found_item o)
       pub live : IsLive o.map.now.slots o.slot
 
-    -- The item `x` is in the same map in the place of the entry's, and the entry, with the same key, has found it. Nothing
-    -- else changes.
+    -- The item `x` is in the same map in the place of the entry's item `gone`, and the entry, with the same key, has found
+    -- it. Nothing else changes.
     -- Example: In a map of a, b, where the entry has found a, the map becomes `x`, b, and the entry has found `x`.
-    pub record PutsOver (ranks : Ranks T) (before : OccupiedEntry T S Q Key H) (x : T)
+    pub record PutsOver (ranks : Ranks T) (before : OccupiedEntry T S Q Key H) (gone x : T)
         (after : OccupiedEntry T S Q Key H) : Type 0 where
       pub same_map : after.map.ghost_name ≡ before.map.ghost_name
-      pub items : IsPermutation (bag after.map.now) (over ranks (bag before.map.now) x)
+      pub items : IsPermutation (bag after.map.now) (swap ranks (bag before.map.now) gone x)
       pub has_found : HasFound after
       pub item : found_item after ≡ Some x
       pub key : after.query ≡ before.query

@@ -86,7 +86,8 @@ impl<'a, T: IdHashItem, S: BuildHasher, Q: Query<T::Key>> OccupiedEntry<'a, T, S
         ensures displaced { IfOk result (λ gone.
             IsOnly (has T.IdHashItem Q.stands_for self.old.query) (bag self.old.map.now) (Some gone)) }
         // The entry then finds the new item.
-        ensures puts_over { OnOk result (PutsOver T.IdHashItem Q.stands_for ⟦<T as Ranked>⟧.ranks self.old item self.new) }
+        ensures puts_over { IfOk result (λ gone.
+            PutsOver T.IdHashItem Q.stands_for ⟦<T as Ranked>⟧.ranks self.old gone item self.new) }
         // An item with another key is returned, and nothing changes.
         ensures handed_back { IfErr result (λ e. e.item ≡ item) }
         ensures rank { OnErr result (has T.IdHashItem Q.stands_for self.old.query item ≡ false) }
@@ -96,7 +97,10 @@ impl<'a, T: IdHashItem, S: BuildHasher, Q: Query<T::Key>> OccupiedEntry<'a, T, S
             return Err(KeyMismatch { item });
         }
         let slot = self.slot;
-        Ok(self.map.replace_at(slot, item))
+        let gone = self.map.replace_at(slot, item);
+        // This call gives the prover the fact that no two items have the same key.
+        let _ = self.map.len();
+        Ok(gone)
     }
 
     /// Removes the item, and returns it. The capacity stays.
@@ -151,6 +155,7 @@ impl<'a, T: IdHashItemMut, S: BuildHasher, Q: Query<T::Key>> OccupiedEntry<'a, T
         ensures has_found { HasFound T.IdHashItem Q.stands_for self.new }
     {
         let slot = self.slot;
-        self.map.store_once(slot, f);
+        let d = f(self.map.item_at(slot));
+        *self.map.data_mut_at(slot) = d;
     }
 }

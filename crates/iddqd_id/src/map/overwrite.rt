@@ -56,7 +56,7 @@ impl<T: Ranked, S: BuildHasher> IdHashMap<T, S> {
         ensures reason { OnErr result (IsFullFor T.ranks self.old item) }
         ensures costs { PlacingCosts (⟦<T as Hashed<S>>⟧.hashes self.old.builder) (bag self.old) self.old.capacity
             (hashes_of (⟦<T as Hashed<S>>⟧.hashes self.old.builder) item)
-            (map (λ _. length (order T.ranks (bag self.old) item) + 1) T.ranks)
+            (map (λ _. 2) T.ranks)
             asked.old asked.new probed.old probed.new }
     {
         // Of the calls below, `put_over` and the growth of a full map are not inlined. The rest is inlined, so a

@@ -16,7 +16,7 @@ returns-in-Ok-clause-gains_and_finds g c =
     record {
       same_map = refl;
       gains = put.gains;
-      keys = refl;
-      has_found = record { found = here.found; value = here.value; listed = here.listed; some = here.some };
-      unique = here.unique_item;
+      key = refl;
+      item = put.at;
+      has_found = record { only = here.found.0.only; live = here.found.0.live };
     }

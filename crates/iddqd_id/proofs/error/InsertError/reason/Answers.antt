@@ -1,15 +1,15 @@
--- Made by tests/twins from crates/iddqd_bi/proofs/error/InsertError/reason/Answers.antt: change that file.
+-- Written by hand; tests/one_key.patch says why.
 use Rattle.std.proofs.Common.{sym, ◌∙◌}
 use Rattle.iddqd_store.specs.Map.{bag}
-use Rattle.iddqd_store.proofs.BagLemmas.Steps.{clash-listed, clash-unlisted}
+use Rattle.iddqd_id.proofs.Finding.{clash_found, clash_not_found}
 use Rattle.iddqd_id.proofs.error.InsertError.reason.Goals as goal
 
-pub returns-then-is_empty-clause-memory : goal.returns-then-is_empty-clause-memory
-returns-then-is_empty-clause-memory g c = λ memory.
+pub returns-then-is_some-clause-duplicate : goal.returns-then-is_some-clause-duplicate
+returns-then-is_some-clause-duplicate g c = λ duplicate.
     (let e = c.args.self.now in
-    clash-unlisted (λ item. item.now) c.duplicates.result g.T.Ranked.ranks (bag e.map.now) e.item c.duplicates.ensures (sym c.is_empty.ensures ∙ c.if-is_empty.true))
+    clash_found g.T.Ranked.ranks (bag e.map.now) e.item c.duplicate.result c.duplicate.ensures (sym c.is_some.ensures ∙ c.if-is_some.true))
 
-pub returns-else-is_empty-clause-duplicate : goal.returns-else-is_empty-clause-duplicate
-returns-else-is_empty-clause-duplicate g c = λ duplicate.
+pub returns-else-is_some-clause-memory : goal.returns-else-is_some-clause-memory
+returns-else-is_some-clause-memory g c = λ memory.
     (let e = c.args.self.now in
-    clash-listed (λ item. item.now) c.duplicates.result g.T.Ranked.ranks (bag e.map.now) e.item c.duplicates.ensures (sym c.is_empty.ensures ∙ c.if-is_empty.false))
+    clash_not_found g.T.Ranked.ranks (bag e.map.now) e.item c.duplicate.result c.duplicate.ensures (sym c.is_some.ensures ∙ c.if-is_some.false))

@@ -1,5 +1,7 @@
 -- Made by tests/twins from crates/iddqd_bi/proofs/map/BiHashMap/from_iter_unique/Answers.antt: change that file.
-use Rattle.std.proofs.Common.{◌≡◌, ◌∙◌, [], ◌∷◌, refl, subst, rules}
+use Rattle.std.proofs.Common.{◌≡◌, [], ◌∷◌, ℕ, List, Option, ap, length, refl, subst, sym, rules}
+use Rattle.std.specs.Prelude.{All}
+use Rattle.std.proofs.lemmas.List.Elements.{All-head}
 use Rattle.std.proofs.lemmas.List.Sorted.{IsPermutation-refl}
 use Rattle.std.specs.Iterator.{Yields}
 use Rattle.iddqd_store.specs.Bag.{order}
@@ -7,7 +9,9 @@ use Rattle.iddqd_store.specs.Map.{bag, IsBlockedAt, IsFullFor}
 use Rattle.iddqd_store.specs.Rank.All.{IsBlockedBy}
 use Rattle.iddqd_store.specs.Slots.Found.{each_once}
 use Rattle.iddqd_store.proofs.BagLemmas.Building.{AddsTo-push, HasPlaceFor-free, RefusesFor-found}
-use Rattle.iddqd_store.proofs.MapLemmas.Places.{stand_in}
+use Rattle.iddqd_store.proofs.SlotLemmas.Found.{clash_none}
+use Rattle.iddqd_store.specs.Slots.{IsLive}
+use Rattle.iddqd_id.proofs.Finding.{one_slot}
 use Rattle.iddqd_id.specs.Keys.{ranks}
 use Rattle.iddqd_id.proofs.MapLemmas.{AreLawful-ranks}
 use Rattle.iddqd_id.proofs.Refusing.{duplicate_reason}
@@ -42,21 +46,21 @@ returns-in-Err-Memory-clause-refused g c =
     let place = HasPlaceFor-free by (bag c.loop-item.map) c.loop-item.yielded c.in-Some.item c.loop-item.invariant.added full.free in
     rw item (c.into_iter-items.result, c.loop-item.yielded, c.next.new.self, c.into_iter-items.ensures.into_iter_gives, (c.loop-item.item-iterator, gave, c.in-Some.ensures.steps), place)
 
-pub take_all-duplicates-requires-clause-live : goal.take_all-duplicates-requires-clause-live
-take_all-duplicates-requires-clause-live g c =
+pub unreachable-requires : goal.unreachable-requires
+unreachable-requires g c =
     let by = ranks g.T.IdHashItem g.T.Key.PartialEq.eq in
     let arm = c.in-Err-Duplicate in
     let why = duplicate_reason arm.field-0 arm.item arm.by arm.field-0-is (IsBlockedBy by _ c.loop-item.map c.in-Some.item) (IsFullFor by c.loop-item.map c.in-Some.item) arm.ensures.reason in
-    let stand = stand_in (rw (c.slot.ensures, c.slot-in-Err-Duplicate.ensures) at c.each_once-found.ensures) why.blocked.found in
-    rw c.in-Err-Duplicate.ensures.unchanged stand.live
+    let short = ap (λ (s : Option ℕ). length (each_once (s ∷ []))) (sym c.in_default.ensures) in
+    why.blocked.some (clash_none by c.loop-item.map.slots c.in-Some.item _ why.blocked.found.items short)
 
-pub take_all-duplicates-requires-clause-apart : goal.take_all-duplicates-requires-clause-apart
-take_all-duplicates-requires-clause-apart g c =
+pub take-duplicate-requires-clause-live : goal.take-duplicate-requires-clause-live
+take-duplicate-requires-clause-live g c =
     let by = ranks g.T.IdHashItem g.T.Key.PartialEq.eq in
     let arm = c.in-Err-Duplicate in
     let why = duplicate_reason arm.field-0 arm.item arm.by arm.field-0-is (IsBlockedBy by _ c.loop-item.map c.in-Some.item) (IsFullFor by c.loop-item.map c.in-Some.item) arm.ensures.reason in
-    let stand = stand_in (rw (c.slot.ensures, c.slot-in-Err-Duplicate.ensures) at c.each_once-found.ensures) why.blocked.found in
-    stand.apart
+    let slots = c.loop-item.map.slots in
+    rw arm.ensures.unchanged (All-head (IsLive slots) c.in-Some-slot.slot [] (subst (λ (l : List ℕ). All (IsLive slots) l) (one_slot (sym c.in-Some-slot.ensures)) why.blocked.found.live))
 
 pub returns-in-Err-Duplicate-clause-refused : goal.returns-in-Err-Duplicate-clause-refused
 returns-in-Err-Duplicate-clause-refused g c =
@@ -68,8 +72,8 @@ returns-in-Err-Duplicate-clause-refused g c =
     let arm = c.in-Err-Duplicate in
     let why = duplicate_reason arm.field-0 arm.item arm.by arm.field-0-is (IsBlockedBy plain _ held item) (IsFullFor plain held item) arm.ensures.reason in
     let blocked : IsBlockedAt by held item (each_once (arm.by.slot ∷ [])) = rw g.met.T.Ranked.ranks_are why.blocked in
-    let stand = stand_in (rw (c.slot.ensures, c.slot-in-Err-Duplicate.ensures) at c.each_once-found.ensures) blocked.found in
-    let listed : c.take_all-duplicates.result ≡ order by (bag held) item = c.take_all-duplicates.ensures.values ∙ (rw c.in-Err-Duplicate.ensures.unchanged stand.items) in
+    let here = rw arm.ensures.unchanged at c.take-duplicate.ensures.value in
+    let listed : c.take-duplicate.result ∷ [] ≡ order by (bag held) item = rw here at (rw (one_slot (sym c.in-Some-slot.ensures)) at blocked.found.items) in
     let gave = subst (λ s. Yields g.I.IntoIter.Iterator.next_gives s c.loop-item.yielded c.loop-item.item-iterator) c.into_iter-item-iterator.ensures.into_iter_gives c.loop-item.yielded_by in
     let stopped = RefusesFor-found by (bag held) c.loop-item.yielded item c.loop-item.invariant.added (rw g.met.T.Ranked.ranks_are (AreLawful-ranks g.T.IdHashItem g.met.T.Key.Eq.laws)) blocked.some in
     rw (c.new-in-Err-Duplicate.ensures, listed, same) (c.into_iter-items.result, c.loop-item.yielded, c.next.new.self, c.into_iter-items.ensures.into_iter_gives, (c.loop-item.item-iterator, gave, c.in-Some.ensures.steps), stopped)

@@ -16,21 +16,12 @@ same_costs None k =
     let p = k.probes in
     record { asked = k.asked; probes = (p.0, p.1, p.2, p.3, record { no_cells = p.4.no_cells; miss = p.4.miss; hit_least = p.4.hit_least; hit_most = p.4.hit_most }); at_most = k.at_most }
 
-pub returns-then-has_others-clause-value : goal.returns-then-has_others-clause-value
-returns-then-has_others-clause-value g c =
+pub returns-in-Some-clause-value : goal.returns-in-Some-clause-value
+returns-in-Some-clause-value g c =
     let agree = λ (x y : g.row.T.Denot). g.T.Key.PartialEq.eq (g.T.IdHashItem.key x) (g.T.IdHashItem.key y) in
     let named = rw c.key.ensures at c.get_by.ensures.found in
     let partner = partner_some agree [] g.T.PartialEq.eq (bag c.args.self.now) c.args.item.now _ c.in-Some.found.now named (ap option_copied c.in-Some.is) in
-    let equal = rw (c.key2.ensures) at c.has_others.ensures.value in
-    c.eq.ensures ∙ sym (partner ∙ rw (sym equal ∙ c.if-has_others.true) refl)
-
-pub returns-else-has_others-clause-value : goal.returns-else-has_others-clause-value
-returns-else-has_others-clause-value g c =
-    let agree = λ (x y : g.row.T.Denot). g.T.Key.PartialEq.eq (g.T.IdHashItem.key x) (g.T.IdHashItem.key y) in
-    let named = rw c.key.ensures at c.get_by.ensures.found in
-    let partner = partner_some agree [] g.T.PartialEq.eq (bag c.args.self.now) c.args.item.now _ c.in-Some.found.now named (ap option_copied c.in-Some.is) in
-    let differs = rw (c.key2.ensures) at c.has_others.ensures.value in
-    c.if-has_others.false ∙ sym (partner ∙ rw (sym differs ∙ c.if-has_others.false) refl)
+    c.eq.ensures ∙ sym partner
 
 pub returns-in-None-clause-value : goal.returns-in-None-clause-value
 returns-in-None-clause-value g c =
@@ -38,11 +29,8 @@ returns-in-None-clause-value g c =
     let named = rw c.key.ensures at c.get_by.ensures.found in
     sym (partner_none agree [] g.T.PartialEq.eq (bag c.args.self.now) c.args.item.now _ named (ap option_copied c.in-None.is))
 
-pub returns-then-has_others-clause-costs : goal.returns-then-has_others-clause-costs
-returns-then-has_others-clause-costs g c = record { answer = _; between = c.get_by.new.asked; search = same_costs c.get_by.result (rw c.key.ensures at c.get_by.ensures.costs); rest = omega (arith, c.has_others.ensures.costs) }
-
-pub returns-else-has_others-clause-costs : goal.returns-else-has_others-clause-costs
-returns-else-has_others-clause-costs g c = record { answer = _; between = c.get_by.new.asked; search = same_costs c.get_by.result (rw c.key.ensures at c.get_by.ensures.costs); rest = omega (arith, c.has_others.ensures.costs) }
+pub returns-in-Some-clause-costs : goal.returns-in-Some-clause-costs
+returns-in-Some-clause-costs g c = record { answer = _; between = c.get_by.new.asked; search = same_costs c.get_by.result (rw c.key.ensures at c.get_by.ensures.costs); rest = omega arith }
 
 pub returns-in-None-clause-costs : goal.returns-in-None-clause-costs
 returns-in-None-clause-costs g c = record { answer = _; between = c.get_by.new.asked; search = same_costs c.get_by.result (rw c.key.ensures at c.get_by.ensures.costs); rest = omega arith }

@@ -40,7 +40,7 @@ put_over-displaced-requires-clause-under g c =
 pub returns-in-Ok-clause-displaced : goal.returns-in-Ok-clause-displaced
 returns-in-Ok-clause-displaced g c =
     let by = ranks g.T.IdHashItem g.T.Key.PartialEq.eq in
-    rw g.met.T.Ranked.ranks_are (c.new.ensures ∙ sym (order_none by (bag c.args.self.now) c.args.item c.in-Ok.ensures.free))
+    rw g.met.T.Ranked.ranks_are (sym (order_none by (bag c.args.self.now) c.args.item c.in-Ok.ensures.free))
 
 pub returns-in-Ok-clause-overwrites : goal.returns-in-Ok-clause-overwrites
 returns-in-Ok-clause-overwrites g c =
@@ -57,9 +57,8 @@ returns-in-Ok-clause-overwrites g c =
 
 pub returns-in-Ok-clause-costs : goal.returns-in-Ok-clause-costs
 returns-in-Ok-clause-costs g c =
-    let by = ranks g.T.IdHashItem g.T.Key.PartialEq.eq in
-    let none = order_none by (bag c.args.self.now) c.args.item c.in-Ok.ensures.free in
-    rw g.met.T.Ranked.ranks_are (rw none c.in-Ok.ensures.costs)
+    let own = c.in-Ok.ensures.costs in
+    rw g.met.T.Ranked.ranks_are (placing _ _ _ _ _ _ _ _ _ _ _ own.search (omega (arith, own.rest)))
 
 pub returns-in-Err-Duplicate-clause-displaced : goal.returns-in-Err-Duplicate-clause-displaced
 returns-in-Err-Duplicate-clause-displaced g c =
@@ -72,10 +71,10 @@ returns-in-Err-Duplicate-clause-costs g c =
     let arm = c.in-Err-Duplicate in
     let same = duplicate_item arm.field-0 arm.item arm.by arm.field-0-is c.args.item arm.ensures.handed_back in
     let own = arm.ensures.costs in
-    let walked = rw (same, arm.ensures.unchanged) at (rw c.put_over-displaced.ensures.displaced at c.put_over-displaced.ensures.costs) in
+    let walked = rw (same, arm.ensures.unchanged) at c.put_over-displaced.ensures.costs in
     rw g.met.T.Ranked.ranks_are (placing _ _ _ _ _ _ _ _ _ _ _ own.search (omega (arith, own.rest, walked)))
 
 pub returns-in-Err-Memory-clause-costs : goal.returns-in-Err-Memory-clause-costs
 returns-in-Err-Memory-clause-costs g c =
     let own = c.in-Err-Memory.ensures.costs in
-    placing _ _ _ _ _ _ _ _ _ _ _ own.search (omega (arith, own.rest))
+    rw g.met.T.Ranked.ranks_are (placing _ _ _ _ _ _ _ _ _ _ _ own.search (omega (arith, own.rest)))

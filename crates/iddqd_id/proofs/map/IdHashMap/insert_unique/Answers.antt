@@ -1,12 +1,11 @@
 -- Made by tests/twins from crates/iddqd_bi/proofs/map/BiHashMap/insert_unique/Answers.antt: change that file.
-use Rattle.std.proofs.Common.{◌≡◌, [], sym, ap, subst, ◌∙◌}
+use Rattle.std.proofs.Common.{◌≡◌, [], sym, subst, ◌∙◌}
 use Rattle.iddqd_store.specs.Bag.{clash}
 use Rattle.iddqd_store.specs.Map.{Map, IsFullFor, bag}
 use Rattle.iddqd_store.specs.Rank.All.{IsBlockedBy}
-use Rattle.iddqd_store.specs.Slots.Found.{items_at}
 use Rattle.iddqd_store.proofs.BagLemmas.Steps.{order-empty}
 use Rattle.iddqd_id.specs.Keys.{ranks}
-use Rattle.iddqd_store.proofs.MapLemmas.Places.{stand_in}
+use Rattle.iddqd_id.proofs.Finding.{one_item}
 use Rattle.iddqd_id.proofs.Refusing.{duplicate_item, duplicate_reason, memory_item, memory_reason}
 use Rattle.iddqd_id.proofs.map.IdHashMap.insert_unique.Goals as goal
 
@@ -17,8 +16,7 @@ invariant_of-self g c =
     let old = c.args.self.now in
     let why = duplicate_reason arm.field-0 arm.item arm.by arm.field-0-is (IsBlockedBy by _ old c.args.item) (IsFullFor by old c.args.item) arm.ensures.reason in
     let same = duplicate_item arm.field-0 arm.item arm.by arm.field-0-is c.args.item arm.ensures.handed_back in
-    let stand = stand_in (rw (c.slot.ensures, c.slot-in-Err-Duplicate.ensures) at c.each_once-found.ensures) why.blocked.found in
-    record { found_is = rw (same, arm.ensures.unchanged) stand.items }
+    record { found_is = rw (c.slot-found.ensures, same, arm.ensures.unchanged) (one_item old.slots arm.by.slot ∙ why.blocked.found.items) }
 
 pub invariant_of-self-in-Err-Memory : goal.invariant_of-self-in-Err-Memory
 invariant_of-self-in-Err-Memory g c =
@@ -30,4 +28,4 @@ invariant_of-self-in-Err-Memory g c =
     let same = memory_item arm.field-0 arm.item arm.field-0-is c.args.item arm.ensures.handed_back in
     let free : clash by (bag new) arm.item ≡ [] =
     subst (λ x. clash by (bag new) x ≡ []) (sym same) (subst (λ (m : Map g.row.T.Denot g.row.S.Denot). clash by (bag m) c.args.item ≡ []) (sym arm.ensures.unchanged) full.free) in
-    record { found_is = ap (items_at new.slots) c.new-in-Err-Memory.ensures ∙ sym (order-empty by (bag new) arm.item free) }
+    record { found_is = sym (order-empty by (bag new) arm.item free) }
