@@ -5,9 +5,11 @@ import re
 import sources
 import widen
 
-MAPS = ("BiHashMap", "TriHashMap")
-# The crates in which each public function is a target of a mutant or says why not. Both maps are one text.
-LISTS = [("iddqd_bi", "iddqd_tri"), ("iddqd_store",)]
+MAPS = ("IdHashMap", "BiHashMap", "TriHashMap")
+# The crates in which each public function is a target of a mutant or says why not. The maps are one text, so that the one-key map
+# lists only the functions of files that are not made whole.
+LISTS = [("iddqd_bi", "iddqd_tri"), ("iddqd_id",), ("iddqd_store",)]
+NOT_MADE_WHOLE = re.compile(r"^(?:alone: |\+\+\+ b/)(crates/iddqd_id/.*\.rt)$", re.M)
 
 
 def renamed(crate, text):
@@ -37,6 +39,7 @@ def checked_name(of, trait):
 def functions(crate):
     """Yields the functions of a crate: those of its types, its impls of traits, and those that belong to no type. What a trait
     only asks for has no body, and is left out. Each has what targets.md says of it, from no line on."""
+    listed = NOT_MADE_WHOLE.findall(sources.read("tests/one_key.patch")) if crate == "iddqd_id" else sources.files(crate)
     for path in sources.files(crate):
         module, text = sources.module_of(path), renamed(crate, sources.read(path))
         lines = text.split("\n")
@@ -46,7 +49,7 @@ def functions(crate):
             it.key = it.name if (of or module) in MAPS else f"{of or module}::{it.name}"
             it.full = f"{module}::{it.key}" if of else it.key
             it.owner = f"{module}::{checked_name(of, trait)}" if trait and trait != "Drop" else of or module
-            it.is_listed = it.is_public or bool(trait)
+            it.is_listed = path in listed and (it.is_public or bool(trait))
             it.calls = {*re.findall(r"\b(\w+)(?:::<[^()]*>)?\(", "\n".join(lines[it.head + 1:it.end]))}
             it.mutants, it.by, it.like, it.why = [], [], [], None
             yield it

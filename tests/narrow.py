@@ -19,8 +19,7 @@ from widen import NAME, is_balanced, matches, numbers, text_of, words_of  # noqa
 
 RENAMED = [
     (r"\b(iddqd|caller|test|test_calls)_bi\b", r"\1_id"), (r"\b(iddqd_serde(?:::|/src/|/proofs/|\.proofs\.))bi\b", r"\1id"),
-    (r"\bbi_(?=\w)", "id_"), (r"Bi(?=Hash|Item)", "Id"),
-    (r"\btwo(?=[ _]keys?\b)", "one"), (r"\bTwo(?=[ _]keys?\b)", "One"), (r"\b([Oo]ne[ _]key)s\b", r"\1"),
+    (r"\bbi_(?=\w)", "id_"), (r"Bi(?=Hash|Item)", "Id"), (r"\btwo(?=[ _]keys?\b)", "one"), (r"\bTwo(?=[ _]keys?\b)", "One"), (r"\b([Oo]ne[ _]key)s\b", r"\1"),
     (r"\bA (?=`Id)", "An "), (r"(?<=rank < )2\b", "1"), (r"\b(order|clash)-both\b", r"\1-key"), (r"\bwith both keys\b", "with the key"),
     # The items that several keys found, held for writing, are one item, held by its guard.
     (r"\bOccupiedEntryMut T S K1 K2 H\b", "RefMut T S K1 K2 H of eq1 input1 eq2 input2 build hashes"), (r"\bOccupiedEntryMut\b", "RefMut"),
@@ -33,7 +32,7 @@ RENAMED = [
     # The walks through each other table, and the least of all.
     (r"\(1 ∷ \[\]\)", "[]"), (r"\(min ([\w.]*)first([\w.]*) \1second\2\)", r"\1first\2"),
     # What code takes at one rank alone.
-    (r"\bSome\((\w+)\), None(?=,?\s*(?:[)}]|&mut Meter\b))", r"Some(\1)"), (r"\b(\w+)1,(\s+)\1 2: _", r"\1"),
+    (r"\bSome\((\w+)\), None(?=,?\s*(?:[)}]|&mut Meter\b))", r"Some(\1)"),
     (r" *// At each other rank:\n *[^;]*;\n", ""),
 ]
 # The words that are nothing at one key.
@@ -45,8 +44,10 @@ NOTHING = re.compile(r"""(?x)^(
     # The rank at which a key differs, and lists of what several searches found.
     | differ | at | each_once | items_of | take_all | store_all | store_found | for_each | conflicts | conflicts_with
     # Commands as values, and what carries them out.
-    | command | run | Step | Refusals | Runs | apply_\w+ | map/\w+/(or_insert|entry_insert|set)
+    | command | run | Step | Refusals | Runs | apply_\w+
     )$""")
+# The functions that carry out commands, and have names that other functions have too.
+REPLIES = re.compile(r"/map/BiHashMap/(or_insert|entry_insert|set)/")
 # Names without the number of a rank, if the rule is not that the number goes, and phrases of comments.
 NAMED = [
     (r"\bK1\b", "Key"), (r"\bhash_of1\b", "hash_of_key"), (r"(?<=[A-Za-z])1(?=\b|_)", ""), (r"\n *let (\w+) = \1;", ""),
@@ -56,7 +57,7 @@ NAMED = [
 PHRASED = [
     ("([Aa]|[Tt]he|[Tt]his|[Ii]ts|whose|item's|[Aa]ll|another|equal|by) first (keys?|rank)", r"\1 \2"), ("(hash|table) (?:at|of) the rank", r"\1"),
     ("(an equal key) of the same rank", r"\1"), ("for each rank a table", "a table"), ("in both keys", "in the key"),
-    ("(\w),? rank by rank,? up to the first that differs", r"\1"), ("each key of (the \\w+ item|the item|an item|a removed item)", r"the key of \1"),
+    (r"(\w),? rank by rank,? up to the first that differs", r"\1"), (r"each key of (the \w+ item|the item|an item|a removed item)", r"the key of \1"),
     ("each key of (them|those|these)", r"the key of each of \1"), ("each key of it", "its key"), ("says of each key whether", "says whether"),
     ("the query and the other key of the item,", "the query,"), ("which (?:of its keys|keys of the item|keys) are taken", "whether the key is taken"),
     ("the searches by its keys", "the search by its key"), ("by each of its keys", "by its key"), ("searches by all keys", "a search"),
@@ -67,6 +68,8 @@ PHRASED = [
     ("the item's keys are equal to the old ones", "the item's key is equal to the old one"), ("its keys are tests", "its key is a test"),
     ("(its|the item's|the entry's|an item's|the same) keys", r"\1 key"),
     ("(slots and) each table", r"\1 the table"), ("each table", "the table"), ("smaller slots and tables", "smaller slots and a smaller table"),
+    ("[Tt]he two ranks of an item, as types", "The rank of an item's key, as a type"), ("these types say which key is meant", "this type says which key"),
+    ("all keys of an item together", "the key of an item, as a list of one rank"),
     ("slots and tables", "slots and the table"), ("Slots and tables", "Slots and table"), ("the table of one rank", "the table"),
 ]
 COMMENT = re.compile(r"^ *(?://[/!]?|--) .*(?:\n *[\ue000-\ue003].*)*", re.M)
@@ -206,8 +209,7 @@ def one_key(text, is_code):
 def path_of(path):
     """Returns the path of the one-key file of a two-key file, or None if there is none: it is of the second rank, or nothing."""
     first = path.replace("2", "1")
-    parts = re.split(r"[/.]", path)
-    if first != path and os.path.isfile(first) or any(map(NOTHING.match, parts)) or re.search(r"/map/BiHashMap/(or_insert|entry_insert|set)/", path):
+    if first != path and os.path.isfile(first) or any(map(NOTHING.match, re.split(r"[/.]", path))) or REPLIES.search(path):
         return None
     return renamed(renamed(path, RENAMED[:7]), NAMED[:3])
 

@@ -45,8 +45,8 @@ pub trait IdHashItemMut: IdHashItem {
     ghost put_shows: { (x : Self) (d : Self.Data) → data_of (put x d) ≡ d };
 }
 
-/// What contracts say of all keys of an item together. The trait is public for contracts alone, and has no function.
-/// Every item type implements it by the blanket impl below, and nobody implements it by hand.
+/// What contracts say of the key of an item, as a list of one rank. The trait is public for contracts alone, and has no
+/// function. Every item type implements it by the blanket impl below, and nobody implements it by hand.
 pub trait Ranked: IdHashItem {
     // For each rank, the test whether two items have equal keys.
     ghost ranks: { Ranks Self };

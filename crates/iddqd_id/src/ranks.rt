@@ -1,5 +1,5 @@
-//! The two ranks of an item, as types. The searches of `iddqd_store` are generic over the rank, and these types say
-//! which key is meant.
+//! The rank of an item's key, as a type. The searches of `iddqd_store` are generic over the rank, and this type says
+//! which key.
 //!
 //! Made by tests/twins from crates/iddqd_bi/src/ranks.rt: change that file.
 use crate::item::IdHashItem;

@@ -45,7 +45,7 @@ impl<'a, T: Ranked, S: BuildHasher, Q: Query<T::Key>> VacantEntry<'a, T, S, Q> {
 }
 
 impl<'a, T: IdHashItem, S: BuildHasher, Q: Query<T::Key>> VacantEntry<'a, T, S, Q> {
-    /// Inserts an item as `insert` does, and returns the occupied entry with the same key, which finds the item alone.
+    /// Inserts an item as `insert` does, and returns the occupied entry with the same key, which finds the item.
     /// The error borrows the map.
     pub fn insert_entry(self, item: T) -> Result<OccupiedEntry<'a, T, S, Q>, EntryRefusal<'a, T, S>>
         // The entry borrows this very map, with the item in it, which its key finds.

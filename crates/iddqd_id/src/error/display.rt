@@ -164,7 +164,7 @@ impl<T> Display for NotReplaced<T> {
     fn fmt<W: Write>(&self, f: &mut Formatter<W>) -> fmt::Result {
         f.write_str(match self {
             NotReplaced::Absent(_item) => "no item has the key asked for",
-            NotReplaced::Duplicate(_item) => "a third item has a key of the new one",
+            NotReplaced::Duplicate(_item) => "another item has the key of the new one",
         })
     }
 }

@@ -14,11 +14,10 @@ use iddqd_store::{Meter, Query};
 use std::hash::{BuildHasher, Hash};
 
 impl<T: IdHashItem, S: BuildHasher> IdHashMap<T, S> {
-    /// Looks up one key at once, each by a query. The result is `Vacant` if no item has one of the keys, otherwise
-    /// `Occupied`, with the items that have one. The entry keeps the queries and what they found, so that its calls
-    /// need not search again.
+    /// Looks up a key by a query. The result is `Vacant` if no item has the key, otherwise `Occupied`, with the item that
+    /// has it. The entry keeps the query and what it found, so that its calls need not search again.
     ///
-    /// The call hashes each key once, and searches for it once. It allocates no memory.
+    /// The call hashes the key once, and searches for it once. It allocates no memory.
     ///
     /// ```text
     /// match map.entry(&key) {
@@ -29,7 +28,7 @@ impl<T: IdHashItem, S: BuildHasher> IdHashMap<T, S> {
     /// }
     /// ```
     pub fn entry<Q: Query<T::Key>>(&mut self, query: Q) -> Entry<'_, T, S, Q>
-        // The entry borrows this very map, unchanged, and has these queries.
+        // The entry borrows this very map, unchanged, and has this query.
         ensures same_map { entry_lender result ≡ self.entry.ghost_name }
         ensures unchanged { entry_map result ≡ self.old }
         ensures keys { entry_key result ≡ query }

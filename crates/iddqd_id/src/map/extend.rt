@@ -61,8 +61,8 @@ impl<T: Ranked + Drop, S: BuildHasher> IdHashMap<T, S> {
     /// Inserts all the items, or none if one of them conflicts with an item of the map or with another of them.
     ///
     /// If an item conflicts, or if there is no memory for it, the call removes the items before it again. The error has
-    /// these in order, that item, and whether the key is taken. The rest are dropped with the iterator. If no key is
-    /// taken, there was no memory; an item that conflicts is refused for that, whether there is memory or not.
+    /// these in order, that item, and whether its key is taken. The rest are dropped with the iterator. If it is
+    /// not, there was no memory; an item that conflicts is refused for that, whether there is memory or not.
     ///
     /// To insert an item, the call hashes its key once, and searches for it once. It allocates memory if the map
     /// is full, and for the list of the items inserted, by which an error returns them: each time for as many items as
@@ -139,7 +139,7 @@ impl<T: Ranked + Drop, S: BuildHasher + Default + Drop> IdHashMap<T, S> {
     /// Makes a map of the items if no two of them conflict.
     ///
     /// First the call reserves capacity for as many items as the iterator promises, and goes on if that fails. At the
-    /// first item that conflicts with some before it, the error has that item and those, in the order of the keys. If
+    /// first item that conflicts with one before it, the error has that item and the one before it. If
     /// there is no memory for an item, the error has that item. All other items are dropped, with the iterator, and
     /// there is no map.
     pub fn from_iter_unique<I: IntoIterator<Item = T>>(

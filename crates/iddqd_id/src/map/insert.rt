@@ -18,9 +18,9 @@ impl<T: Ranked, S: BuildHasher> IdHashMap<T, S> {
 
     /// Inserts an item if no item of the map conflicts with it. Two items conflict if they have an equal key.
     ///
-    /// If items conflict with it, the call fails, whatever memory there is, and the error has these items, in the order
-    /// of the keys. Otherwise the call fails only if the map is full and there is no memory to grow. Each error has the
-    /// item, and borrows the map, which is as it was.
+    /// If an item conflicts with it, the call fails, whatever memory there is, and the error has that item. Otherwise the
+    /// call fails only if the map is full and there is no memory to grow. Each error has the item, and borrows the map,
+    /// which is as it was.
     ///
     /// The call hashes the key of the item once, and searches for it once. It allocates memory only if the map is
     /// full.
@@ -28,7 +28,7 @@ impl<T: Ranked, S: BuildHasher> IdHashMap<T, S> {
     /// ```text
     /// match devices.insert_unique(device) {
     ///     Ok(()) => {}
-    ///     Err(refused) => println!(rt; "{refused}: {:?}", refused.duplicates())?,
+    ///     Err(refused) => println!(rt; "{refused}: {:?}", refused.duplicate())?,
     /// }
     /// ```
     #[inline(always)]
@@ -67,9 +67,8 @@ impl<T: Ranked, S: BuildHasher> IdHashMap<T, S> {
     /// does not borrow the map, which is as it was. So `map.try_insert(item)?` works through a `From<Rejected<T>>` of
     /// your own, and `.map_err(|rejected| rejected.item)` hands the item back.
     ///
-    /// If items conflict with it, the call fails, whatever memory there is, and the error says whether an
-    /// item has it. Otherwise the call fails only if the map is full and there is no memory to grow. No key is taken
-    /// then.
+    /// If an item conflicts with it, the call fails, whatever memory there is, and the error says that the key is taken.
+    /// Otherwise the call fails only if the map is full and there is no memory to grow.
     ///
     /// The call hashes the key of the item once, and searches for it once. It allocates memory only if the map is
     /// full.

@@ -14,15 +14,14 @@ use iddqd_store::{MemoryRefused, Meter};
 use std::hash::{BuildHasher, Hash};
 
 impl<T: Ranked, S: BuildHasher> IdHashMap<T, S> {
-    /// Inserts an item, removes those that conflict with it, and returns these, in the order of the keys and each once.
+    /// Inserts an item, and removes the one that conflicts with it, which the call returns.
     ///
-    /// The call hashes the key of the item once, and searches for it once. It also hashes the key of a removed item
-    /// by which it did not find that item. If items conflict, it allocates no memory and the capacity stays. Otherwise
-    /// it fails only if the map is full and there is no memory to grow. The error then has the item, and the map is as
-    /// it was.
+    /// The call hashes the key of the item once, and searches for it once. If an item conflicts, the call allocates no
+    /// memory and the capacity stays. Otherwise it fails only if the map is full and there is no memory to grow. The
+    /// error then has the item, and the map is as it was.
     #[inline(always)]
     pub fn insert_overwrite(&mut self, item: T) -> Result<Option<T>, MemoryRefused<T>>
-        // The conflicting items are returned, in the order of the item's keys, and the item is in their place.
+        // The conflicting item is returned, and the item is in its place.
         ensures displaced { IfOk result (λ gone. option_to_list gone ≡ order T.ranks (bag self.old) item) }
         ensures overwrites { OnOk result (Overwrites T.ranks self.old item self.new) }
         // With spare capacity the call never fails.
@@ -36,8 +35,8 @@ impl<T: Ranked, S: BuildHasher> IdHashMap<T, S> {
     }
 
     /// Inserts as `insert_overwrite` does, which calls it. One meter counts the keys that are compared, and the other
-    /// the probed cells, but for those that growing probes. Beside the searches, the number of its walks through the
-    /// table is at most one more than the number of items that it displaces.
+    /// the probed cells, but for those that growing probes. Beside the search, it walks through the table at most
+    /// twice.
     #[inline(always)]
     fn insert_overwrite_by(
         &mut self,
@@ -45,7 +44,7 @@ impl<T: Ranked, S: BuildHasher> IdHashMap<T, S> {
         asked: &mut Meter,
         probed: &mut Meter,
     ) -> Result<Option<T>, MemoryRefused<T>>
-        // The conflicting items are returned, in the order of the item's keys, and the item is in their place.
+        // The conflicting item is returned, and the item is in its place.
         ensures displaced { IfOk result (λ gone. option_to_list gone ≡ order T.ranks (bag self.old) item) }
         ensures overwrites { OnOk result (Overwrites T.ranks self.old item self.new) }
         // With spare capacity the call never fails.
