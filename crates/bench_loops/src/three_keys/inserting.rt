@@ -175,7 +175,7 @@ fn told_by_entry(map: &mut TriHashMap<Row>, row: &Row) -> u64 {
     if let Ok(held) = map.entry(&row.key1, &row.key2, &row.key3).or_insert(*row)
         && let Some(found) = held.into_unique()
     {
-        told(found)
+        told(&found)
     } else {
         0
     }

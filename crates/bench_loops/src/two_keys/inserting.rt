@@ -169,7 +169,7 @@ fn told_by_entry(map: &mut BiHashMap<Row>, row: &Row) -> u64 {
     if let Ok(held) = map.entry(&row.key1, &row.key2).or_insert(*row)
         && let Some(found) = held.into_unique()
     {
-        told(found)
+        told(&found)
     } else {
         0
     }
