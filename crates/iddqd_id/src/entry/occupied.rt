@@ -7,7 +7,7 @@ ghost use Rattle.std.specs.Fn.{FnOnceReturnsAt, FnOnceTakesAt};
 ghost use Rattle.iddqd_store.specs.Bag.{IsOnly, swap};
 ghost use Rattle.iddqd_store.specs.Bag.Storing.{StoresOne};
 ghost use Rattle.iddqd_store.specs.Map.{bag, Loses};
-ghost use Rattle.iddqd_id.specs.Entries.{HasFound, PutsOver, entry_with, found_item, lends_entry_data};
+ghost use Rattle.iddqd_id.specs.Entries.{HasFound, PutsOver, entry_with, found_item, lends_entry_data, lends_guard};
 ghost use Rattle.iddqd_id.specs.Keys.{has};
 ghost use Rattle.iddqd_id.specs.RefMuts.{ref_item, ref_lender, ref_map};
 
@@ -154,8 +154,9 @@ impl<'a, T: IdHashItemMut, S: BuildHasher, Q: Query<T::Key>> OccupiedEntry<'a, T
         ensures places { self.new.query ≡ self.old.query }
         ensures has_found { HasFound T.IdHashItem Q.stands_for self.new }
     {
+        // This call gives the prover the fact that no two items have the same key.
+        let _ = self.map.len();
         let slot = self.slot;
-        let d = f(self.map.item_at(slot));
-        *self.map.data_mut_at(slot) = d;
+        self.map.store_once(slot, f);
     }
 }
