@@ -39,8 +39,7 @@ RENAMED = [
 NOTHING = re.compile(r"""(?x)^(
     # Searches by all keys, with the guards and entries of the items that they found.
     \w*(?<!insert)(?<!extend)(?<!extended)(?<!from_iter)(?<!made)_unique(_mut)? | (remove_)?unique_\w+ | \w+_both | one_of | has_others | exchange_two
-    | occupied_mut | OccupiedEntryMut | occupied_ref | OccupiedEntryRef | OccupiedRefs | insert_mut | lend | data_mut_of
-    | [Hh]eld\w* | Holds(Same)? | GainsAndHolds
+    | occupied_mut | OccupiedEntryMut | occupied_ref | OccupiedEntryRef | OccupiedRefs | insert_mut | lend | data_mut_of | GainsAndHolds
     # The rank at which a key differs, and lists of what several searches found.
     | differ | at | each_once | items_of | take_all | store_all | store_found | for_each | conflicts | conflicts_with
     # Commands as values, and what carries them out.
@@ -181,6 +180,23 @@ def imported(text):
     return re.sub(own, kept, text)
 
 
+def used(text, before):
+    """Returns specifications, proofs or contracts without the imports of names that the text had before, and has no more."""
+    use = re.compile(r"(?m)^ *(?:ghost |pub )*use Rattle\.[^{;\n]*\{([^}\n]*)\};?\n")
+    rests = [use.sub("", it) for it in (text, before)]
+
+    def is_left(name):
+        has = [all(re.search(rf"(?<![\w-]){re.escape(part)}(?![\w-])", it) for part in name.split("◌") if part) for it in rests]
+        return has[0] or not has[1]
+
+    def kept(found):
+        names = found[1].split(", ")
+        left = [it for it in names if is_left(it.split()[-1])]
+        return found[0] if left == names else found[0].replace("{" + found[1] + "}", "{" + ", ".join(left) + "}") if left else ""
+
+    return use.sub(kept, text)
+
+
 def renamed(text, rules=RENAMED):
     """Returns a text, or a path, with the names of the one-key text."""
     for old, new in rules:
@@ -196,14 +212,14 @@ def phrased(text):
 
 def one_key(text, is_code):
     """Returns the one-key text of a two-key text, which is code or specifications and proofs."""
-    text = imported(without_functions(text) if is_code else without_definitions(text))
+    before, text = text, imported(without_functions(text) if is_code else without_definitions(text))
     text = renamed(text)
     spellings = numbers(text)
     text = NAME.sub(lambda it: spellings.get(it[0], it[0]), text) if spellings else text
     text = text_of(narrowed(words_of(text)))
     names = {spelling: name for name, spelling in spellings.items()}
     text = NAME.sub(lambda it: names.get(it[0], it[0]), text) if names else text
-    return phrased(renamed(text, NAMED))
+    return phrased(used(renamed(text, NAMED), before))
 
 
 def path_of(path):

@@ -43,5 +43,5 @@ module _ {T S Q Key H : Type 0} {of : item.Ghosts T Key} {eq : equal.Ghosts Key}
   pub stayed : (n : Entry T S Q Key H of eq input build hashes q w e) (r : RefMut T S Key H of eq input build hashes) (k : Q) (old : Map T S) (y : T) →
       OnOccupied n (λ o. KeepsFound o {E = EntryRefusal T S Key H} (Ok r)) → entry_key n ≡ k → entry_map n ≡ old →
       IsOnly (has of q.stands_for k) (bag old) (Some y) → (OnVacant n (λ v. IsOnly (has of q.stands_for v.query) (bag v.map.now) None)) → ref_map r ≡ old
-  stayed (Vacant v) r k old y kept is_key is_map some none = absurd (let without = rw (is_key, is_map) none in cc (some, without))
+  stayed (Vacant v) r k old y kept is_key is_map some none = absurd (let without = rw (is_key, is_map) at none in cc (some, without))
   stayed (Occupied o) r k old y kept is_key is_map some none = kept.unchanged ∙ is_map

@@ -2,7 +2,7 @@
 
 -- The ranks of an item with one key, and the slots found by them.
 use Rattle.std.specs.Prelude.{Bool, List, [], ◌∷◌, Result, Ok, Err}
-use Rattle.iddqd_store.specs.Bag.{Ranks, every_of}
+use Rattle.iddqd_store.specs.Bag.{Ranks}
 use Rattle.iddqd_store.specs.Rank.{agree}
 use Rattle.iddqd_id.specs.declared.item.IdHashItem as item
 

@@ -44,8 +44,10 @@ impl<T: IdHashItem, S: BuildHasher, Q: Query<T::Key>> Debug for VacantEntry<'_, 
 }
 
 impl<T: IdHashItem + Debug, S: BuildHasher, Q: Query<T::Key>> Debug for OccupiedEntry<'_, T, S, Q> {
-    /// Prints the item.
+    /// Prints the item that the key found.
     fn fmt<W: Write>(&self, f: &mut Formatter<W>) -> fmt::Result {
-        f.debug_tuple("OccupiedEntry").field(self.get()).finish()
+        f.debug_struct("OccupiedEntry")
+            .field("item", &self.map.item_of(Some(self.slot)))
+            .finish()
     }
 }

@@ -4,14 +4,14 @@
 //! on all slots at once and removals by one key use the slots and the table themselves.
 //!
 //! Made by tests/twins from crates/iddqd_bi/src/map/slots.rt: change that file.
-ghost use Rattle.std.specs.Prelude.{◌≡◌, ℕ, ◌<◌, ◌≤◌, ◌+◌, [], ◌∷◌, length, map, All, OnOk, OnErr, IfOk, IfErr, Some, None, IfSome, nat_eq, slice_set, is_some, is_ok, true, false, if◌then◌else◌};
+ghost use Rattle.std.specs.Prelude.{◌≡◌, ◌<◌, ◌≤◌, ◌+◌, [], ◌∷◌, length, map, OnOk, OnErr, IfOk, IfErr, Some, None, IfSome, slice_set, is_some, is_ok, true, false, if◌then◌else◌};
 ghost use Rattle.std.specs.List.{IsDistinct, list_any};
 ghost use Rattle.iddqd_store.specs.Bag.{IsSound, clash, differ, listing};
 ghost use Rattle.iddqd_store.specs.Rank.Index.{HasHash};
 ghost use Rattle.iddqd_store.specs.Map.{bag, hash_of, Gains, Loses, PutsAt, IsFullFor, IsBlockedAt};
 ghost use Rattle.iddqd_store.specs.Rank.All.{ArePlacesOf, AreSearched, AreUnder, AreVacantFor, HaveHashes, HaveRoom, IsBlockedBy, PlacingCosts, hashes_of, slots_found};
 ghost use Rattle.iddqd_store.specs.Rank.{agree, walks_within};
-ghost use Rattle.iddqd_store.specs.Slots.Found.{AreFound, each_once, items_at};
+ghost use Rattle.iddqd_store.specs.Slots.Found.{AreFound, each_once};
 ghost use Rattle.iddqd_store.specs.Slots.{get, IsLive, Updates};
 ghost use Rattle.iddqd_id.specs.Keys.{by_rank, key_tests};
 ghost use Rattle.iddqd_id.specs.Mismatch.{HandsBack};

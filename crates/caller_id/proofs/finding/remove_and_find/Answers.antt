@@ -1,6 +1,6 @@
 -- Made by tests/twins from crates/caller_bi/proofs/finding/remove_and_find/Answers.antt: change that file.
 use Rattle.std.proofs.Common.{◌∙◌}
-use Rattle.std.specs.Prelude.{[], ◌∷◌}
+use Rattle.std.specs.Prelude.{[]}
 use Rattle.iddqd_id.specs.Map.{bag}
 use Rattle.iddqd_id.specs.Rank.{agree}
 use Rattle.iddqd_id.proofs.CallerLemmas.{NamesOne-query, contains-removed}

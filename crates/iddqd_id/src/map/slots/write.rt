@@ -1,19 +1,13 @@
 //! Reading and writing items by their slots.
 //!
 //! Made by tests/twins from crates/iddqd_bi/src/map/slots/write.rt: change that file.
-ghost use Rattle.std.specs.Prelude.{◌≡◌, [], ◌∷◌, true, false, ℕ, All, nat_eq, Some, None, IsPermutation, IfSome, is_some};
+ghost use Rattle.std.specs.Prelude.{◌≡◌, true, false, Some, None, IsPermutation};
 ghost use Rattle.std.specs.Borrow.{sem};
 ghost use Rattle.std.specs.Fn.{CalledAt, FnOnceReturnsAt, FnOnceTakesAt, TakesAt};
-ghost use Rattle.std.specs.List.{AllByRecursion, IsDistinct};
-ghost use Rattle.std.specs.Option.{option_and_then};
-ghost use Rattle.iddqd_store.specs.Bag.{IsSound, agrees, swap};
-ghost use Rattle.iddqd_store.specs.Bag.Calling.{TakesInTurn};
-ghost use Rattle.iddqd_store.specs.Bag.Storing.{Stores};
+ghost use Rattle.iddqd_store.specs.Bag.{IsSound, swap};
 ghost use Rattle.iddqd_store.specs.Map.{bag};
-ghost use Rattle.iddqd_store.specs.Map.Written.{map_with, map_with_if};
+ghost use Rattle.iddqd_store.specs.Map.Written.{map_with};
 ghost use Rattle.iddqd_store.specs.Slots.{get, IsLive};
-ghost use Rattle.iddqd_store.specs.Slots.Found.{held_at, items_at};
-ghost use Rattle.iddqd_store.specs.Slots.Kept.{KeepsKeys};
 
 use super::super::IdHashMap;
 use crate::item::{IdHashItem, IdHashItemMut, Ranked};
@@ -52,7 +46,7 @@ where
 }
 
 impl<T: IdHashItemMut, S: BuildHasher> IdHashMap<T, S> {
-    ghost use Rattle.iddqd_id.specs.Lent.{lends_data, lends_data_if};
+    ghost use Rattle.iddqd_id.specs.Lent.{lends_data};
 
     /// Returns the data of the item of a live slot, borrowed for writing.
     pub(crate) fn data_mut_at(&mut self, slot: ItemIndex) -> &mut T::Data

@@ -59,6 +59,9 @@ module _ (g : given.Over) (c : goal.After-drop-item-iterator g) where
   abbrev old : List g.row.T.Denot
   old = bag c.args.self.now
 
+  abbrev held : List g.row.T.Denot
+  held = bag c.loop-item.self
+
   abbrev new : List g.row.T.Denot
   new = bag c.take_entered-before.new.self
 

@@ -76,4 +76,4 @@ returns-in-Err-Duplicate-clause-refused g c =
     let listed : c.take-duplicate.result ∷ [] ≡ order by (bag held) item = rw here at (rw (one_slot (sym c.in-Some-slot.ensures)) at blocked.found.items) in
     let gave = subst (λ s. Yields g.I.IntoIter.Iterator.next_gives s c.loop-item.yielded c.loop-item.item-iterator) c.into_iter-item-iterator.ensures.into_iter_gives c.loop-item.yielded_by in
     let stopped = RefusesFor-found by (bag held) c.loop-item.yielded item c.loop-item.invariant.added (rw g.met.T.Ranked.ranks_are (AreLawful-ranks g.T.IdHashItem g.met.T.Key.Eq.laws)) blocked.some in
-    rw (c.new-in-Err-Duplicate.ensures, listed, same) (c.into_iter-items.result, c.loop-item.yielded, c.next.new.self, c.into_iter-items.ensures.into_iter_gives, (c.loop-item.item-iterator, gave, c.in-Some.ensures.steps), stopped)
+    rw (c.new-in-Err-Duplicate-2.ensures, listed, same) (c.into_iter-items.result, c.loop-item.yielded, c.next.new.self, c.into_iter-items.ensures.into_iter_gives, (c.loop-item.item-iterator, gave, c.in-Some.ensures.steps), stopped)

@@ -1,5 +1,5 @@
 -- Made by tests/twins from crates/iddqd_bi/proofs/map/BiHashMap/has_partner/Answers.antt: change that file.
-use Rattle.std.proofs.Common.{arith, ◌∷◌, [], sym, ◌∙◌, ap, refl, ℕ, List, Some, None}
+use Rattle.std.proofs.Common.{arith, [], sym, ◌∙◌, ap, refl, ℕ, List, Some, None}
 use Rattle.std.specs.Prelude.{Option}
 use Rattle.std.specs.Option.{option_copied, option_map}
 use Rattle.iddqd_store.specs.Rank.{SearchCosts}

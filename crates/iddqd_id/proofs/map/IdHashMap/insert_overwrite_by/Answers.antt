@@ -71,7 +71,7 @@ returns-in-Err-Duplicate-clause-costs g c =
     let arm = c.in-Err-Duplicate in
     let same = duplicate_item arm.field-0 arm.item arm.by arm.field-0-is c.args.item arm.ensures.handed_back in
     let own = arm.ensures.costs in
-    let walked = rw (same, arm.ensures.unchanged) at c.put_over-displaced.ensures.costs in
+    let walked = rw arm.ensures.unchanged at c.put_over-displaced.ensures.costs in
     rw g.met.T.Ranked.ranks_are (placing _ _ _ _ _ _ _ _ _ _ _ own.search (omega (arith, own.rest, walked)))
 
 pub returns-in-Err-Memory-clause-costs : goal.returns-in-Err-Memory-clause-costs

@@ -13,7 +13,7 @@ something : (slots : ℕ) {count len wanted : ℕ} → len ≡ count → len ≤
 something slots all enough is = omega arith
 
 exact : {count len slots room wanted new first : ℕ} → len ≡ count → len ≤ wanted → wanted ≤ room → room ≤ slots → new ≡ max count (min wanted slots) → wanted ≤ first → min new first ≡ wanted
-exact all enough below within made enough = omega arith
+exact all least below within made enough = omega arith
 
 pub returns-in_err-shrink_to-clause-reason : goal.returns-in_err-shrink_to-clause-reason
 returns-in_err-shrink_to-clause-reason g c =
