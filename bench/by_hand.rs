@@ -1,6 +1,6 @@
 //! A map with several keys, as a careful user of std would write it: a slab of items, and a hash map from each key to a
 //! slot.
-use crate::calls::{Map, sum_of};
+use crate::calls::{Map, sum_of, told};
 use crate::hasher::FoldHasher;
 use crate::workload::Row;
 use std::array::from_fn;
@@ -9,7 +9,9 @@ use std::collections::hash_map::Entry;
 use std::hash::BuildHasherDefault;
 use std::ops::DerefMut;
 
-type Slots = HashMap<u64, usize, BuildHasherDefault<FoldHasher>>;
+pub type Builder = BuildHasherDefault<FoldHasher>;
+
+type Slots = HashMap<u64, usize, Builder>;
 
 /// The slots that the keys of an item found, in the order of the keys.
 pub type Found<const N: usize> = [Option<usize>; N];
@@ -254,7 +256,7 @@ impl<const N: usize> Map<N> for ByHand<N> {
             Err(found) if found.iter().all(|slot| *slot == found[0]) => found[0]?,
             Err(_) => return None,
         };
-        self.slab[slot].as_ref().map(|row| row.keys[1])
+        self.slab[slot].as_ref().map(told)
     }
 
     fn try_insert(&mut self, row: Row<N>) -> Result<(), (Row<N>, [bool; N])> {
@@ -262,10 +264,6 @@ impl<const N: usize> Map<N> for ByHand<N> {
             Ok(_) => Ok(()),
             Err(found) => Err((row, found.map(|slot| slot.is_some()))),
         }
-    }
-
-    fn get_unique(&self, keys: [u64; N]) -> Option<&Row<N>> {
-        self.get(keys[0]).filter(|row| row.keys == keys)
     }
 
     fn remove_unique(&mut self, keys: [u64; N]) -> Option<Row<N>> {

@@ -6,6 +6,15 @@ pub fn sum_of(numbers: impl Iterator<Item = u64>) -> u64 {
     numbers.fold(0, u64::wrapping_add)
 }
 
+/// Returns what the loops sum of an item that they meet: its second key, or, if it has one key, this and its value.
+pub fn told<const N: usize>(row: &Row<N>) -> u64 {
+    if N == 1 {
+        row.keys[0].wrapping_add(row.value)
+    } else {
+        row.keys[1]
+    }
+}
+
 /// A map with N keys.
 pub trait Map<const N: usize>: Clone + PartialEq {
     /// The names of operations that the map has no call for, and that a caller cannot write either.
@@ -33,11 +42,18 @@ pub trait Map<const N: usize>: Clone + PartialEq {
     fn shrink(&mut self);
     fn reserve(&mut self, more: usize);
 
-    /// Inserts the row through the entry of its keys if no item has one of them. Returns the second key of the item that
-    /// has all of them then, or `None` if there is no such item.
+    /// Inserts the row through the entry of its keys if no item has one of them. Returns what `told` says of the item
+    /// that has all of them then, or `None` if there is no such item.
     fn or_insert(&mut self, row: Row<N>) -> Option<u64>;
-    fn get_unique(&self, keys: [u64; N]) -> Option<&Row<N>>;
-    fn remove_unique(&mut self, keys: [u64; N]) -> Option<Row<N>>;
+
+    fn get_unique(&self, keys: [u64; N]) -> Option<&Row<N>> {
+        self.get(keys[0]).filter(|row| row.keys == keys)
+    }
+
+    fn remove_unique(&mut self, keys: [u64; N]) -> Option<Row<N>> {
+        self.get_unique(keys)?;
+        self.remove(keys[0])
+    }
 
     /// Inserts the row. The error has the row, and says of each key whether an item has it.
     fn try_insert(&mut self, row: Row<N>) -> Result<(), (Row<N>, [bool; N])>;

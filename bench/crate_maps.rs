@@ -5,14 +5,15 @@
 //! The crate's maps have no `extend_unique`, no `rekey1`, and none of the calls that take items out one by one. Their loops are
 //! what a caller of the crate has to write, the defaults of `Map`. The crate's map with three keys has no entries, so
 //! both rows of `or_insert` are left out there.
-use crate::calls::Map;
+use crate::calls::{Map, told};
 use crate::hasher::FoldHasher;
 use crate::workload::Row;
-use iddqd::{BiHashItem, BiHashMap, TriHashItem, TriHashMap};
+use iddqd::{BiHashItem, BiHashMap, IdHashItem, IdHashMap, TriHashItem, TriHashMap};
 use std::hash::BuildHasherDefault;
 use std::ops::DerefMut;
 
 pub type Builder = BuildHasherDefault<FoldHasher>;
+pub type One = IdHashMap<Row<1>, Builder>;
 pub type Two = BiHashMap<Row<2>, Builder>;
 pub type Three = TriHashMap<Row<3>, Builder>;
 
@@ -35,11 +36,12 @@ macro_rules! item {
     };
 }
 
+item!(IdHashItem 1: Key key upcast 0);
 item!(BiHashItem 2: K1 key1 upcast_key1 0, K2 key2 upcast_key2 1);
 item!(TriHashItem 3: K1 key1 upcast_key1 0, K2 key2 upcast_key2 1, K3 key3 upcast_key3 2);
 
 macro_rules! map {
-    ($map:ident $keys:literal, $($rank:literal)*, lacks $lacks:expr, $or_insert:expr) => {
+    ($map:ident $keys:literal, $get:ident $get_mut:ident $remove:ident, lacks $lacks:expr, $or_insert:expr, $($more:tt)*) => {
         impl Map<$keys> for $map<Row<$keys>, Builder> {
             const LACKS: &'static [&'static str] = $lacks;
 
@@ -78,7 +80,7 @@ macro_rules! map {
             }
 
             fn overwrite(&mut self, row: Row<$keys>) -> usize {
-                self.insert_overwrite(row).len()
+                self.insert_overwrite(row).into_iter().count()
             }
 
             fn extend(&mut self, rows: impl Iterator<Item = Row<$keys>>) {
@@ -86,23 +88,15 @@ macro_rules! map {
             }
 
             fn get(&self, key: u64) -> Option<&Row<$keys>> {
-                self.get1(&key)
+                self.$get(&key)
             }
 
             fn get_mut(&mut self, key: u64) -> Option<impl DerefMut<Target = Row<$keys>>> {
-                self.get1_mut(key)
+                self.$get_mut(key)
             }
 
             fn remove(&mut self, key: u64) -> Option<Row<$keys>> {
-                self.remove1(key)
-            }
-
-            fn get_unique(&self, keys: [u64; $keys]) -> Option<&Row<$keys>> {
-                $map::get_unique(self, $(&keys[$rank]),*)
-            }
-
-            fn remove_unique(&mut self, keys: [u64; $keys]) -> Option<Row<$keys>> {
-                $map::remove_unique(self, $(keys[$rank]),*)
+                self.$remove(key)
             }
 
             fn iter(&self) -> impl Iterator<Item = &Row<$keys>> {
@@ -146,15 +140,40 @@ macro_rules! map {
             fn reserve(&mut self, more: usize) {
                 $map::reserve(self, more);
             }
+
+            $($more)*
         }
     };
 }
 
-map!(BiHashMap 2, 0 1, lacks &[], |map: &mut Two, row: Row<2>| {
-    let mut held = map.entry(row.keys[0], row.keys[1]).or_insert(row);
-    held.as_unique().map(|found| found.keys[1])
-});
 map!(
-    TriHashMap 3, 0 1 2, lacks &["or_insert, vacant", "or_insert, occupied"],
-    |_: &mut Three, _: Row<3>| unreachable!("the map has no entries")
+    IdHashMap 1, get get_mut remove, lacks &[],
+    |map: &mut One, row: Row<1>| Some(told(&map.entry(row.keys[0]).or_insert(row))),
+);
+
+map!(
+    BiHashMap 2, get1 get1_mut remove1, lacks &[],
+    |map: &mut Two, row: Row<2>| {
+        let held = map.entry(row.keys[0], row.keys[1]).or_insert(row);
+        held.as_unique().map(told)
+    },
+    fn get_unique(&self, [key1, key2]: [u64; 2]) -> Option<&Row<2>> {
+        BiHashMap::get_unique(self, &key1, &key2)
+    }
+
+    fn remove_unique(&mut self, [key1, key2]: [u64; 2]) -> Option<Row<2>> {
+        BiHashMap::remove_unique(self, key1, key2)
+    }
+);
+
+map!(
+    TriHashMap 3, get1 get1_mut remove1, lacks &["or_insert, vacant", "or_insert, occupied"],
+    |_: &mut Three, _: Row<3>| unreachable!("the map has no entries"),
+    fn get_unique(&self, [key1, key2, key3]: [u64; 3]) -> Option<&Row<3>> {
+        TriHashMap::get_unique(self, &key1, &key2, &key3)
+    }
+
+    fn remove_unique(&mut self, [key1, key2, key3]: [u64; 3]) -> Option<Row<3>> {
+        TriHashMap::remove_unique(self, key1, key2, key3)
+    }
 );

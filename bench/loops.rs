@@ -1,6 +1,6 @@
 //! The loops over the maps on the other side, which are those kept by hand or those of the Rust crate: one for each loop of
 //! `bench_loops`, with the same name.
-use crate::calls::{Map, sum_of};
+use crate::calls::{Map, sum_of, told};
 use crate::workload::{Row, Workload, copies};
 
 /// Returns the sum of what is done with a map of each part of the rows, and with a part of the others if there are any.
@@ -38,7 +38,7 @@ fn filled<const N: usize, M: Map<N>>(rows: &[Row<N>]) -> M {
 fn take_out<const N: usize, M: Map<N>>(map: &mut M, rows: &[Row<N>]) -> u64 {
     sum_of(
         rows.iter()
-            .map(|row| map.remove(row.keys[0]).map_or(0, |gone| gone.keys[1])),
+            .map(|row| map.remove(row.keys[0]).map_or(0, |gone| told(&gone))),
     )
 }
 
@@ -121,13 +121,13 @@ pub fn overwrite_same<const N: usize, M: Map<N>>(load: &Workload<N>, whole: bool
 pub fn get<const N: usize, M: Map<N>>(load: &Workload<N>, whole: bool) -> u64 {
     let map = filled::<N, M>(&load.rows);
     let rows = asked(load, whole).iter();
-    sum_of(rows.map(|row| map.get(row.keys[0]).map_or(0, |found| found.keys[1])))
+    sum_of(rows.map(|row| map.get(row.keys[0]).map_or(0, told)))
 }
 
 pub fn get_unique<const N: usize, M: Map<N>>(load: &Workload<N>, whole: bool) -> u64 {
     let map = filled::<N, M>(&load.rows);
     let rows = asked(load, whole).iter();
-    sum_of(rows.map(|row| map.get_unique(row.keys).map_or(0, |found| found.keys[1])))
+    sum_of(rows.map(|row| map.get_unique(row.keys).map_or(0, told)))
 }
 
 pub fn get_in_turn<const N: usize, M: Map<N>>(load: &Workload<N>, whole: bool) -> u64 {
@@ -135,7 +135,7 @@ pub fn get_in_turn<const N: usize, M: Map<N>>(load: &Workload<N>, whole: bool) -
     let (mut sum, mut last) = (0u64, 0);
     for row in asked(load, whole) {
         if let Some(found) = map.get(row.keys[0] ^ last) {
-            sum = sum.wrapping_add(found.keys[1]);
+            sum = sum.wrapping_add(told(found));
             last = found.value;
         }
     }
@@ -165,7 +165,7 @@ pub fn remove_unique<const N: usize, M: Map<N>>(load: &Workload<N>, whole: bool)
         let mut map = filled::<N, M>(rows);
         let asked = if whole { asked } else { &[] };
         let gone = asked.iter().filter_map(|row| map.remove_unique(row.keys));
-        sum_of(gone.map(|gone| gone.keys[1]))
+        sum_of(gone.map(|gone| told(&gone)))
     })
 }
 
@@ -174,7 +174,7 @@ pub fn rekey<const N: usize, M: Map<N>>(load: &Workload<N>, whole: bool) -> u64 
     let pairs = asked(load, whole).chunks_exact(2);
     sum_of(pairs.map(|two| {
         let gone = map.rekey(two[0].keys[0], two[1]);
-        gone.map_or(1, |gone| gone.keys[1])
+        gone.map_or(1, |gone| told(&gone))
     }))
 }
 
@@ -182,7 +182,7 @@ pub fn remove_insert<const N: usize, M: Map<N>>(load: &Workload<N>, whole: bool)
     let mut map = filled::<N, M>(&load.rows);
     let mut sum = 0u64;
     for two in asked(load, whole).chunks_exact(2) {
-        sum = sum.wrapping_add(map.remove(two[0].keys[0]).map_or(0, |gone| gone.keys[1]));
+        sum = sum.wrapping_add(map.remove(two[0].keys[0]).map_or(0, |gone| told(&gone)));
         sum = sum.wrapping_add(u64::from(!map.insert(two[1])));
     }
     sum

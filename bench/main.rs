@@ -8,7 +8,7 @@
 //!
 //!     --rounds N      repeats the whole measurement N times (5)
 //!     --turns N       takes the least time of N turns in a round (20; fewer above 10,000 items)
-//!     --keys N        times only the map with 2 or with 3 keys
+//!     --keys N        times only the map with N keys, which are 1, 2 or 3
 //!     --without WORD  leaves out the operations whose name contains WORD
 //!     --table         prints the ratios as a page has them, a table for each map
 //!     --growth        prints tables of the maps here alone, of the calls that visit all items
@@ -26,6 +26,7 @@ mod loops;
 mod measure;
 #[cfg(feature = "counts")]
 mod memory;
+mod one_by_hand;
 mod operations;
 mod others;
 mod picture;
@@ -33,7 +34,7 @@ mod report;
 mod workload;
 
 #[cfg(feature = "beside")]
-use crate_maps::{Three, Two};
+use crate_maps::{One, Three, Two};
 use measure::{Plan, Side, print_once};
 use operations::{Kind, Operation};
 
@@ -48,6 +49,8 @@ const OTHER: &str = if cfg!(feature = "beside") {
 };
 
 /// The maps on the other side.
+#[cfg(not(feature = "beside"))]
+type One = one_by_hand::OneByHand;
 #[cfg(not(feature = "beside"))]
 type Two = by_hand::ByHand<2>;
 #[cfg(not(feature = "beside"))]
@@ -174,11 +177,14 @@ impl Wanted {
         }
     }
 
-    /// Measures both maps, and prints their figures side by side.
-    fn print_table(&self, two: Operations<2>, three: Operations<3>) {
-        let (two, three) = (self.picked(two), self.picked(three));
+    /// Measures the maps, and prints their figures.
+    fn print_table(&self, one: Operations<1>, two: Operations<2>, three: Operations<3>) {
+        let (one, two, three) = (self.picked(one), self.picked(two), self.picked(three));
         let sizes = self.sizes(&SIZES);
         let mut maps = Vec::new();
+        if !one.is_empty() {
+            maps.push(report::measured(&one, &sizes, self.plan));
+        }
         if !two.is_empty() {
             maps.push(report::measured(&two, &sizes, self.plan));
         }
@@ -211,20 +217,24 @@ fn run_once(words: &mut impl Iterator<Item = String>) {
         let found = all.into_iter().find(|operation| operation.name == name);
         found.unwrap_or_else(|| panic!("there is no operation {name}"))
     }
-    if keys == "2" {
-        print_once(&find(operations::two_keys::<Two>(), &name), side, items);
-    } else {
-        print_once(&find(operations::three_keys::<Three>(), &name), side, items);
+    match &keys[..] {
+        "1" => print_once(&find(operations::one_key::<One>(), &name), side, items),
+        "2" => print_once(&find(operations::two_keys::<Two>(), &name), side, items),
+        _ => print_once(&find(operations::three_keys::<Three>(), &name), side, items),
     }
 }
 
 #[cfg(feature = "counts")]
 fn print_memory(wanted: &Wanted) {
     let sizes = wanted.sizes(&memory::SIZES);
-    if wanted.keys != Some(3) {
+    let has = |keys: usize| wanted.keys.is_none_or(|wanted| wanted == keys);
+    if has(1) {
+        memory::print::<1, One>(operations::exported!(id_grow, 1), &sizes);
+    }
+    if has(2) {
         memory::print::<2, Two>(operations::exported!(bi_grow, 2), &sizes);
     }
-    if wanted.keys != Some(2) {
+    if has(3) {
         memory::print::<3, Three>(operations::exported!(tri_grow, 3), &sizes);
     }
 }
@@ -268,15 +278,20 @@ fn main() {
         chosen::print();
         return;
     }
-    let (two, three): (Operations<2>, Operations<3>) = if wanted.others {
-        (others::operations, Vec::new)
+    let (one, two, three): (Operations<1>, Operations<2>, Operations<3>) = if wanted.others {
+        (Vec::new, others::operations, Vec::new)
     } else {
-        (operations::two_keys::<Two>, operations::three_keys::<Three>)
+        (
+            operations::one_key::<One>,
+            operations::two_keys::<Two>,
+            operations::three_keys::<Three>,
+        )
     };
     if wanted.table && !wanted.growth {
-        wanted.print_table(two, three);
+        wanted.print_table(one, two, three);
         return;
     }
+    wanted.print(one);
     wanted.print(two);
     wanted.print(three);
 }

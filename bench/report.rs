@@ -40,7 +40,11 @@ fn ratio_of(figures: &Figures) -> [String; 2] {
 
 /// Returns the name of the map with this many keys.
 pub fn map_name(keys: usize) -> &'static str {
-    if keys == 2 { "BiHashMap" } else { "TriHashMap" }
+    match keys {
+        1 => "IdHashMap",
+        2 => "BiHashMap",
+        _ => "TriHashMap",
+    }
 }
 
 /// Prints both sides at each size, for a terminal.
@@ -178,7 +182,8 @@ pub fn print_table(maps: &[Map], sizes: &[usize], plan: Plan) {
     println!(
         "`ns`: here, at {at}. `~`: a round's ratio is over 1.5 times another's. `?`: lost in noise."
     );
-    for map in maps {
+    // At one key no map has a call for all keys.
+    for map in maps.iter().filter(|map| map.keys > 1) {
         let lacks = maps.iter().flat_map(|other| map.lacks(other));
         let lacks: Vec<&str> = lacks.collect();
         if !lacks.is_empty() {

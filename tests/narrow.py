@@ -20,7 +20,7 @@ from widen import NAME, is_balanced, matches, numbers, text_of, words_of  # noqa
 RENAMED = [
     (r"\b(iddqd|caller|test|test_calls)_bi\b", r"\1_id"), (r"\b(iddqd_serde(?:::|/src/|/proofs/|\.proofs\.))bi\b", r"\1id"),
     (r"\bbi_(?=\w)", "id_"), (r"Bi(?=Hash|Item)", "Id"), (r"\btwo(?=[ _]keys?\b)", "one"), (r"\bTwo(?=[ _]keys?\b)", "One"), (r"\b([Oo]ne[ _]key)s\b", r"\1"),
-    (r"(?<=rank < )2\b", "1"), (r"\b(order|clash)-both\b", r"\1-key"), (r"\bwith both keys\b", "with the key"),
+    (r"\bA (?=`Id)", "An "), (r"(?<=rank < )2\b", "1"), (r"\b(order|clash)-both\b", r"\1-key"), (r"\bwith both keys\b", "with the key"),
     # The items that several keys found, held for writing, are one item, held by its guard.
     (r"\bOccupiedEntryMut T S K1 K2 H\b", "RefMut T S K1 K2 H of eq1 input1 eq2 input2 build hashes"), (r"\bOccupiedEntryMut\b", "RefMut"),
     (r"\bslot1: Some\(slot\),\s+slot2: Some\(slot\)", "slot"), (r"\bGainsAndHolds\b", "GainsAndLends"),
@@ -38,7 +38,7 @@ RENAMED = [
 # The words that are nothing at one key.
 NOTHING = re.compile(r"""(?x)^(
     # Searches by all keys, with the guards and entries of the items that they found.
-    \w*(?<!insert)(?<!extend)(?<!from_iter)_unique(_mut)? | unique_\w+ | \w+_both | one_of | has_others | exchange_two
+    \w*(?<!insert)(?<!extend)(?<!extended)(?<!from_iter)(?<!made)_unique(_mut)? | (remove_)?unique_\w+ | \w+_both | one_of | has_others | exchange_two
     | occupied_mut | OccupiedEntryMut | occupied_ref | OccupiedEntryRef | OccupiedRefs | insert_mut | lend | data_mut_of | GainsAndHolds
     # The rank at which a key differs, and lists of what several searches found.
     | differ | at | each_once | items_of | take_all | store_all | store_found | for_each | conflicts | conflicts_with
@@ -59,7 +59,7 @@ NAMED = [
 ]
 # What comments say of several keys, ranks and tables, each with what they say of one. A space may be the end of a line.
 PHRASED = [
-    ("([Aa]|[Tt]he|[Ii]ts|whose|item's|[Aa]ll|another|equal|by) first (keys?|rank)", r"\1 \2"), ("(hash|table) (?:at|of) the rank", r"\1"),
+    ("([Aa]|[Tt]he|[Tt]his|[Ii]ts|whose|item's|[Aa]ll|another|equal|by) first (keys?|rank)", r"\1 \2"), ("(hash|table) (?:at|of) the rank", r"\1"),
     ("(an equal key) of the same rank", r"\1"), ("for each rank a table", "a table"), ("in both keys", "in the key"),
     (r"(\w),? rank by rank,? up to the first that differs", r"\1"), (r"each key of (the \w+ item|the item|an item|a removed item)", r"the key of \1"),
     ("each key of (them|those|these)", r"the key of each of \1"), ("each key of it", "its key"), ("says of each key whether", "says whether"),
@@ -234,7 +234,7 @@ def path_of(path):
     first = path.replace("2", "1")
     if first != path and os.path.isfile(first) or any(map(NOTHING.match, re.split(r"[/.]", path))) or REPLIES.search(path):
         return None
-    return renamed(renamed(path, RENAMED[:6]), NAMED[:3])
+    return renamed(renamed(path, RENAMED[:7]), NAMED[:3])
 
 
 if __name__ == "__main__":

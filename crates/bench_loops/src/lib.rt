@@ -1,4 +1,4 @@
-//! Loops over both maps, exported to the Rust program in bench/, which times them.
+//! Loops over the maps, exported to the Rust program in bench/, which times them.
 //!
 //! The contracts of the maps say what the calls do; a loop promises only what its type says. Each loop takes `rows`,
 //! which fill a map; rows that are `asked` for or inserted later; a `number` of items or of repetitions; and `whole`.
@@ -8,6 +8,8 @@
 
 // Other keys, items and hashers are timed in the two-key map alone.
 pub mod large;
+pub mod one_key;
+pub mod row;
 pub mod seeded;
 pub mod texts;
 pub mod three_keys;

@@ -13,6 +13,11 @@ pub mod inserting;
 pub mod searching;
 pub mod walking;
 
+/// Returns what the loops sum of an item that they meet.
+fn told(row: &Row) -> u64 {
+    row.key2
+}
+
 /// Inserts the rows, and counts those that are not inserted.
 fn fill(map: &mut TriHashMap<Row>, rows: &[Row]) -> u64 {
     let mut refused = 0u64;
@@ -33,12 +38,12 @@ fn filled(alloc: Global, rows: &[Row]) -> TriHashMap<Row> {
     map
 }
 
-/// Removes the items with the first keys of the rows, and sums their second keys.
+/// Removes the items with the first keys of the rows, and sums what `told` says of them.
 fn take_out(map: &mut TriHashMap<Row>, rows: &[Row]) -> u64 {
     let mut sum = 0u64;
     for row in rows {
         if let Some(gone) = map.remove1(&row.key1) {
-            sum = sum.wrapping_add(gone.key2);
+            sum = sum.wrapping_add(told(&gone));
         }
     }
     sum

@@ -1,20 +1,24 @@
-//! Reads lines of JSON, and writes what it read. A line is a hub with devices, a list of devices, or a rack with cables and devices:
+//! Reads lines of JSON, and writes what it read. A line is a hub with devices, a list of devices, a rack with cables and devices, or
+//! a team of users:
 //!
 //!     {"name":"attic","devices":[{"serial":1,"port":2,"label":"lamp"}]}
 //!     [{"serial":1,"port":2,"label":"lamp"}]
 //!     {"cables":[{"number":1,"from":2,"to":3}],"devices":[]}
+//!     {"users":[{"name":"ada","seen":1}]}
 //!
-//! It answers each line by the same hub, the same devices or the same rack, in the order of their maps, or else by `not read: MESSAGE`.
-//! The message for a hub or devices has the line and the column of the text that was refused. The line is 1, since each text is one
-//! line. A rack is read twice, and answered twice: from its text, and from a value that was read from the text. A line that is not
+//! It answers each line by the same hub, devices, rack or team, in the order of their maps, or else by `not read: MESSAGE`. The message
+//! has the line and the column of the text that was refused, but for a rack that is read from a value. The line is 1, since each text
+//! is one line. A rack is read twice, and answered twice: from its text, and from a value that was read from the text. A line that is not
 //! UTF-8 is not read either.
 #![tactic(auto)]
 
 mod hub;
 mod racks;
+mod team;
 
 use crate::hub::{read_devices, read_hub, write_devices, write_hub};
 use crate::racks::{rewritten, rewritten_from_value};
+use crate::team::{read_team, write_team};
 use serde_json::Error;
 use std::alloc::Global;
 use std::io;
@@ -24,6 +28,9 @@ use std::io::BufRead;
 fn answer(alloc: Global, line: &[u8]) -> Result<String, Error> {
     if line.starts_with(b"[") {
         return write_devices(alloc, &read_devices(alloc, line)?);
+    }
+    if line.starts_with(b"{\"users\"") {
+        return write_team(alloc, &read_team(alloc, line)?);
     }
     write_hub(alloc, &read_hub(alloc, line)?)
 }

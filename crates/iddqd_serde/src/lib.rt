@@ -1,6 +1,6 @@
-//! Maps of `iddqd_bi` and `iddqd_tri` as sequences of their items, in any format of `serde`.
+//! Maps of `iddqd_id`, `iddqd_bi` and `iddqd_tri` as sequences of their items, in any format of `serde`.
 //!
-//! The module `bi` is for a `BiHashMap`, and `tri` for a `TriHashMap`. On a field of a derived type write
+//! The module `id` is for an `IdHashMap`, `bi` for a `BiHashMap`, and `tri` for a `TriHashMap`. On a field of a derived type write
 //! `#[serde(with = "iddqd_serde::bi")]`. A map by itself goes into `bi::Seq`, which implements `Serialize`, `Deserialize`
 //! and `DeserializeOwned`.
 //!
@@ -19,6 +19,7 @@ ghost use Rattle.serde.specs.Event.{seq_ends};
 ghost use Rattle.serde.specs.Steps.{Gives, Stays};
 
 pub mod bi;
+pub mod id;
 pub mod tri;
 
 use iddqd_store::Meter;

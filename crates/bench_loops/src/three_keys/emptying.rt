@@ -30,7 +30,7 @@ fn take_each(map: &mut TriHashMap<Row>) -> u64 {
 }
 
 /// Takes out all items, and sums their first keys.
-fn take_all(map: &mut TriHashMap<Row>) -> u64 {
+fn take_every(map: &mut TriHashMap<Row>) -> u64 {
     let mut sum = 0u64;
     let mut at = Cursor::new();
     // A `for` loop, since no proof by hand is needed to show that it ends.
@@ -64,7 +64,7 @@ fn take_of_copy(map: &TriHashMap<Row>, taken: Taken) -> u64 {
     let sum = match taken {
         Taken::Nothing => 0,
         Taken::Each => take_each(&mut copy),
-        Taken::All => take_all(&mut copy),
+        Taken::All => take_every(&mut copy),
         Taken::Half => take_half(&mut copy),
     };
     sum.wrapping_add(copy.len() as u64)

@@ -1,7 +1,7 @@
 //! Loops that insert items into the map with three keys one by one.
 //!
 //! Made by tests/twins from crates/bench_loops/src/two_keys/inserting.rt: change that file.
-use super::{Row, fill, filled};
+use super::{Row, fill, filled, told};
 use iddqd_tri::TriHashMap;
 use std::alloc::Global;
 
@@ -170,12 +170,12 @@ pub extern "C" fn tri_entry_vacant(
     fill_parts(alloc, rows, number, way)
 }
 
-/// Returns the second key of the item that the entry of the row's keys finds.
-fn held_key2(map: &mut TriHashMap<Row>, row: &Row) -> u64 {
+/// Returns what `told` says of the item that the entry of the row's keys finds.
+fn told_by_entry(map: &mut TriHashMap<Row>, row: &Row) -> u64 {
     if let Ok(held) = map.entry(&row.key1, &row.key2, &row.key3).or_insert(*row)
         && let Some(found) = held.into_unique()
     {
-        found.key2
+        told(&found)
     } else {
         0
     }
@@ -194,7 +194,7 @@ pub extern "C" fn tri_entry_occupied(
     let mut sum = 0u64;
     if whole {
         for row in asked {
-            sum = sum.wrapping_add(held_key2(&mut map, row));
+            sum = sum.wrapping_add(told_by_entry(&mut map, row));
         }
     }
     sum

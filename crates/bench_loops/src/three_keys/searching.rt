@@ -1,7 +1,7 @@
 //! Loops that look up items of the map with three keys, and write or remove them.
 //!
 //! Made by tests/twins from crates/bench_loops/src/two_keys/searching.rt: change that file.
-use super::{Row, filled, take_out};
+use super::{Row, filled, take_out, told};
 use iddqd_tri::TriHashMap;
 use std::alloc::Global;
 
@@ -19,7 +19,7 @@ pub extern "C" fn tri_get(
     if whole {
         for row in asked {
             if let Some(found) = map.get1(&row.key1) {
-                sum = sum.wrapping_add(found.key2);
+                sum = sum.wrapping_add(told(found));
             }
         }
     }
@@ -40,7 +40,7 @@ pub extern "C" fn tri_get_unique(
     if whole {
         for row in asked {
             if let Some(found) = map.get_unique(&row.key1, &row.key2, &row.key3) {
-                sum = sum.wrapping_add(found.key2);
+                sum = sum.wrapping_add(told(found));
             }
         }
     }
@@ -63,7 +63,7 @@ pub extern "C" fn tri_get_in_turn(
     if whole {
         for row in asked {
             if let Some(found) = map.get1(&(row.key1 ^ last)) {
-                sum = sum.wrapping_add(found.key2);
+                sum = sum.wrapping_add(told(found));
                 last = found.value;
             }
         }
@@ -114,12 +114,12 @@ pub extern "C" fn tri_remove(
     sum
 }
 
-/// Removes the items that have all keys of a row, and sums their second keys.
+/// Removes the items that have all keys of a row, and sums what `told` says of them.
 fn take_out_unique(map: &mut TriHashMap<Row>, rows: &[Row]) -> u64 {
     let mut sum = 0u64;
     for row in rows {
         if let Some(gone) = map.remove_unique(&row.key1, &row.key2, &row.key3) {
-            sum = sum.wrapping_add(gone.key2);
+            sum = sum.wrapping_add(told(&gone));
         }
     }
     sum
@@ -145,10 +145,10 @@ pub extern "C" fn tri_remove_unique(
     sum
 }
 
-/// Removes an item and inserts another. Returns the second key of the former, plus one if the insert fails.
+/// Removes an item and inserts another. Returns what `told` says of the former, plus one if the insert fails.
 fn remove_insert(map: &mut TriHashMap<Row>, old: &Row, new: &Row) -> u64 {
     let gone = match map.remove1(&old.key1) {
-        Some(gone) => gone.key2,
+        Some(gone) => told(&gone),
         None => 0,
     };
     gone.wrapping_add(u64::from(map.insert_unique(*new).is_err()))
@@ -175,10 +175,10 @@ pub extern "C" fn tri_remove_insert(
     sum
 }
 
-/// Puts an item in the place of another. Returns the second key of the latter, or one if the call fails.
+/// Puts an item in the place of another. Returns what `told` says of the latter, or one if the call fails.
 fn rekey(map: &mut TriHashMap<Row>, old: &Row, new: &Row) -> u64 {
     match map.rekey1(&old.key1, *new) {
-        Ok(gone) => gone.key2,
+        Ok(gone) => told(&gone),
         Err(_) => 1,
     }
 }

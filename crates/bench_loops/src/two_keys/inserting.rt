@@ -1,5 +1,5 @@
 //! Loops that insert items into the map with two keys one by one.
-use super::{Row, fill, filled};
+use super::{Row, fill, filled, told};
 use iddqd_bi::BiHashMap;
 use std::alloc::Global;
 
@@ -164,12 +164,12 @@ pub extern "C" fn bi_entry_vacant(
     fill_parts(alloc, rows, number, way)
 }
 
-/// Returns the second key of the item that the entry of the row's keys finds.
-fn held_key2(map: &mut BiHashMap<Row>, row: &Row) -> u64 {
+/// Returns what `told` says of the item that the entry of the row's keys finds.
+fn told_by_entry(map: &mut BiHashMap<Row>, row: &Row) -> u64 {
     if let Ok(held) = map.entry(&row.key1, &row.key2).or_insert(*row)
         && let Some(found) = held.into_unique()
     {
-        found.key2
+        told(&found)
     } else {
         0
     }
@@ -188,7 +188,7 @@ pub extern "C" fn bi_entry_occupied(
     let mut sum = 0u64;
     if whole {
         for row in asked {
-            sum = sum.wrapping_add(held_key2(&mut map, row));
+            sum = sum.wrapping_add(told_by_entry(&mut map, row));
         }
     }
     sum

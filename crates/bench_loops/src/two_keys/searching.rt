@@ -1,5 +1,5 @@
 //! Loops that look up items of the map with two keys, and write or remove them.
-use super::{Row, filled, take_out};
+use super::{Row, filled, take_out, told};
 use iddqd_bi::BiHashMap;
 use std::alloc::Global;
 
@@ -17,7 +17,7 @@ pub extern "C" fn bi_get(
     if whole {
         for row in asked {
             if let Some(found) = map.get1(&row.key1) {
-                sum = sum.wrapping_add(found.key2);
+                sum = sum.wrapping_add(told(found));
             }
         }
     }
@@ -38,7 +38,7 @@ pub extern "C" fn bi_get_unique(
     if whole {
         for row in asked {
             if let Some(found) = map.get_unique(&row.key1, &row.key2) {
-                sum = sum.wrapping_add(found.key2);
+                sum = sum.wrapping_add(told(found));
             }
         }
     }
@@ -61,7 +61,7 @@ pub extern "C" fn bi_get_in_turn(
     if whole {
         for row in asked {
             if let Some(found) = map.get1(&(row.key1 ^ last)) {
-                sum = sum.wrapping_add(found.key2);
+                sum = sum.wrapping_add(told(found));
                 last = found.value;
             }
         }
@@ -112,12 +112,12 @@ pub extern "C" fn bi_remove(
     sum
 }
 
-/// Removes the items that have all keys of a row, and sums their second keys.
+/// Removes the items that have all keys of a row, and sums what `told` says of them.
 fn take_out_unique(map: &mut BiHashMap<Row>, rows: &[Row]) -> u64 {
     let mut sum = 0u64;
     for row in rows {
         if let Some(gone) = map.remove_unique(&row.key1, &row.key2) {
-            sum = sum.wrapping_add(gone.key2);
+            sum = sum.wrapping_add(told(&gone));
         }
     }
     sum
@@ -143,10 +143,10 @@ pub extern "C" fn bi_remove_unique(
     sum
 }
 
-/// Removes an item and inserts another. Returns the second key of the former, plus one if the insert fails.
+/// Removes an item and inserts another. Returns what `told` says of the former, plus one if the insert fails.
 fn remove_insert(map: &mut BiHashMap<Row>, old: &Row, new: &Row) -> u64 {
     let gone = match map.remove1(&old.key1) {
-        Some(gone) => gone.key2,
+        Some(gone) => told(&gone),
         None => 0,
     };
     gone.wrapping_add(u64::from(map.insert_unique(*new).is_err()))
@@ -173,10 +173,10 @@ pub extern "C" fn bi_remove_insert(
     sum
 }
 
-/// Puts an item in the place of another. Returns the second key of the latter, or one if the call fails.
+/// Puts an item in the place of another. Returns what `told` says of the latter, or one if the call fails.
 fn rekey(map: &mut BiHashMap<Row>, old: &Row, new: &Row) -> u64 {
     match map.rekey1(&old.key1, *new) {
-        Ok(gone) => gone.key2,
+        Ok(gone) => told(&gone),
         Err(_) => 1,
     }
 }

@@ -1,0 +1,160 @@
+//! Loops that iterate over all items of the map with one key.
+//!
+//! Made by tests/twins from crates/bench_loops/src/two_keys/walking.rt: change that file.
+use super::{Row, filled};
+use crate::copies;
+use iddqd_id::IdHashMap;
+use std::alloc::Global;
+
+/// Iterates over all items, `number` times.
+#[unsafe(no_mangle)]
+pub extern "C" fn id_iter(
+    alloc: Global,
+    rows: &[Row],
+    _asked: &[Row],
+    number: usize,
+    whole: bool,
+) -> u64 {
+    let map = filled(alloc, rows);
+    let mut sum = 0u64;
+    for _ in 0..if whole { number } else { 0 } {
+        for row in map.iter() {
+            sum = sum.wrapping_add(row.key);
+        }
+    }
+    sum
+}
+
+/// Iterates over the borrowed map, `number` times.
+#[unsafe(no_mangle)]
+pub extern "C" fn id_for_lent(
+    alloc: Global,
+    rows: &[Row],
+    _asked: &[Row],
+    number: usize,
+    whole: bool,
+) -> u64 {
+    let map = filled(alloc, rows);
+    let mut sum = 0u64;
+    for _ in 0..if whole { number } else { 0 } {
+        for row in &map {
+            sum = sum.wrapping_add(row.key);
+        }
+    }
+    sum
+}
+
+/// Iterates over all items for writing, `number` times, and asks before each step how many are left.
+#[unsafe(no_mangle)]
+pub extern "C" fn id_iter_mut(
+    alloc: Global,
+    rows: &[Row],
+    _asked: &[Row],
+    number: usize,
+    whole: bool,
+) -> u64 {
+    let mut map = filled(alloc, rows);
+    let mut sum = 0u64;
+    for _ in 0..if whole { number } else { 0 } {
+        let mut walk = map.iter_mut();
+        // A `for` loop, since no proof by hand is needed to show that it ends.
+        for _ in 0..rows.len() {
+            if walk.len() == 0 {
+                break;
+            }
+            if let Some(value) = walk.next_data() {
+                *value = value.wrapping_add(1);
+                sum = sum.wrapping_add(*value);
+            }
+        }
+    }
+    sum
+}
+
+/// Writes to all items by one call, `number` times, and sums what was written.
+#[unsafe(no_mangle)]
+pub extern "C" fn id_update_all(
+    alloc: Global,
+    rows: &[Row],
+    _asked: &[Row],
+    number: usize,
+    whole: bool,
+) -> u64 {
+    let mut map = filled(alloc, rows);
+    for _ in 0..if whole { number } else { 0 } {
+        map.update_all(|row| row.value.wrapping_add(1));
+    }
+    let mut sum = 0u64;
+    for row in map.iter() {
+        sum = sum.wrapping_add(row.value);
+    }
+    sum
+}
+
+/// Iterates over a clone by value.
+fn walk_copy(map: &IdHashMap<Row>, whole: bool) -> u64 {
+    let mut sum = 0u64;
+    if let Ok(copy) = map.clone() {
+        if whole {
+            for row in copy {
+                sum = sum.wrapping_add(row.key);
+            }
+        }
+    }
+    sum
+}
+
+/// Fills a map with rows, and iterates over this many clones by value.
+fn walk_copies(alloc: Global, rows: &[Row], times: usize, whole: bool) -> u64 {
+    let map = filled(alloc, rows);
+    let mut sum = 0u64;
+    for _ in 0..times {
+        sum = sum.wrapping_add(walk_copy(&map, whole));
+    }
+    sum
+}
+
+/// Fills a map with each part of `number` rows, and iterates over its clones by value.
+#[unsafe(no_mangle)]
+pub extern "C" fn id_for_owned(
+    alloc: Global,
+    rows: &[Row],
+    _asked: &[Row],
+    number: usize,
+    whole: bool,
+) -> u64 {
+    let mut sum = 0u64;
+    for rows in rows.chunks(number.max(1)) {
+        sum = sum.wrapping_add(walk_copies(alloc, rows, copies(number), whole));
+    }
+    sum
+}
+
+/// Fills two maps with the same rows in two orders, compares them `times` times, and counts how often they are equal.
+fn count_equal(alloc: Global, rows: &[Row], asked: &[Row], times: usize) -> u64 {
+    let map = filled(alloc, rows);
+    let other = filled(alloc, asked);
+    let mut sum = 0u64;
+    for _ in 0..times {
+        sum = sum.wrapping_add(u64::from(map == other));
+    }
+    sum
+}
+
+/// Fills two maps with each part of `number` rows, in two orders, and compares them.
+#[unsafe(no_mangle)]
+pub extern "C" fn id_equal(
+    alloc: Global,
+    rows: &[Row],
+    asked: &[Row],
+    number: usize,
+    whole: bool,
+) -> u64 {
+    let mut sum = 0u64;
+    let times = if whole { copies(number) } else { 0 };
+    let number = number.max(1);
+    for (rows, asked) in rows.chunks(number).zip(asked.chunks(number)) {
+        sum = sum.wrapping_add(count_equal(alloc, rows, asked, times));
+    }
+    sum
+}
