@@ -1,5 +1,4 @@
 -- A table as the index of a rank: what it finds, how it is filled, kept and copied.
-pub mod Batches
 pub mod Copied
 pub mod Costs
 pub mod Exchanged

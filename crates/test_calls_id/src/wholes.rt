@@ -276,8 +276,8 @@ fn compared<S: Builder>(map: &IdHashMap<Item, S>, gauge: &mut Gauge) -> Answer {
     }
 }
 
-/// Answers whether the map still equals its clone after a value changed in the clone, that of the item with this
-/// first key. If there is no such item, the answer is yes too.
+/// Answers whether the map still equals its clone after a value changed in the clone, that of the item with this key.
+/// If there is no such item, the answer is yes too.
 fn compared_changed<S: Builder>(map: &IdHashMap<Item, S>, gauge: &mut Gauge, key: &Key) -> Answer {
     match map.clone() {
         Ok(mut copy) => {

@@ -44,6 +44,20 @@ pub extern "C" fn id_for_lent(
     sum
 }
 
+/// Writes to all items, and asks before each step how many are left. Sums what was written.
+fn write_by_len(map: &mut IdHashMap<Row>) -> u64 {
+    let mut walk = map.iter_mut();
+    let mut sum = 0u64;
+    while walk.len() > 0 {
+        let Some(value) = walk.next_data() else {
+            break;
+        };
+        *value = value.wrapping_add(1);
+        sum = sum.wrapping_add(*value);
+    }
+    sum
+}
+
 /// Iterates over all items for writing, `number` times, and asks before each step how many are left.
 #[unsafe(no_mangle)]
 pub extern "C" fn id_iter_mut(
@@ -56,17 +70,7 @@ pub extern "C" fn id_iter_mut(
     let mut map = filled(alloc, rows);
     let mut sum = 0u64;
     for _ in 0..if whole { number } else { 0 } {
-        let mut walk = map.iter_mut();
-        // A `for` loop, since no proof by hand is needed to show that it ends.
-        for _ in 0..rows.len() {
-            if walk.len() == 0 {
-                break;
-            }
-            if let Some(value) = walk.next_data() {
-                *value = value.wrapping_add(1);
-                sum = sum.wrapping_add(*value);
-            }
-        }
+        sum = sum.wrapping_add(write_by_len(&mut map));
     }
     sum
 }

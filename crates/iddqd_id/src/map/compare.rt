@@ -6,7 +6,7 @@ ghost use Rattle.std.specs.Bool.{IsTrue};
 ghost use Rattle.std.specs.List.{list_any};
 ghost use Rattle.iddqd_store.specs.Bag.{IsSameBag, is_same, same_item};
 ghost use Rattle.iddqd_store.specs.Map.{bag, hash_of};
-ghost use Rattle.iddqd_store.specs.Rank.All.{ComparingCosts, UniqueCosts};
+ghost use Rattle.iddqd_store.specs.Rank.All.{UniqueCosts};
 ghost use Rattle.iddqd_store.proofs.BagLemmas.SameTest.{is_same-partial, is_same-equivalence};
 ghost use Rattle.std.specs.Cmp.{on_per, on_equiv};
 ghost use Rattle.iddqd_id.specs.Keys.{ranks};
@@ -33,7 +33,15 @@ impl<T: IdHashItem + PartialEq, S: BuildHasher> PartialEq for IdHashMap<T, S> {
         ensures same { IsTrue result
             ↔ IsSameBag (ranks T.IdHashItem T.Key.eq) T.eq (bag self.now) (bag other.now) }
     {
-        self.is_same_by(other, &mut Meter::new(), &mut Meter::new())
+        if self.len() != other.len() {
+            return false;
+        }
+        for item in self {
+            if !other.has_partner(item, &mut Meter::new(), &mut Meter::new()) {
+                return false;
+            }
+        }
+        true
     }
 }
 
@@ -44,25 +52,6 @@ impl<T: IdHashItem + Eq, S: BuildHasher> Eq for IdHashMap<T, S> {
 }
 
 impl<T: IdHashItem + PartialEq, S: BuildHasher> IdHashMap<T, S> {
-    /// Returns what `==` returns, which calls it. One meter counts the keys that are compared, beside those that `==`
-    /// of two items compares, and the other the probed cells.
-    #[inline(always)]
-    fn is_same_by(&self, other: &Self, asked: &mut Meter, probed: &mut Meter) -> bool
-        ensures value { result ≡ is_same (ranks T.IdHashItem T.Key.eq) T.eq (bag self.now) (bag other.now) }
-        ensures costs { ComparingCosts (⟦<T as Hashed<S>>⟧.hash other.now.builder) (bag self.now) (bag other.now)
-            1 asked.old asked.new probed.old probed.new }
-    {
-        if self.len() != other.len() {
-            return false;
-        }
-        for item in self {
-            if !other.has_partner(item, asked, probed) {
-                return false;
-            }
-        }
-        true
-    }
-
     /// Returns whether an item of the map agrees with this one in the key and is equal to it by `==`. One meter counts
     /// the keys that are compared, beside those that `==` of two items compares, and the other the probed cells.
     fn has_partner(&self, item: &T, asked: &mut Meter, probed: &mut Meter) -> bool

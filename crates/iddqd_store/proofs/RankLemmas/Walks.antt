@@ -114,10 +114,6 @@ through_all (hash ∷ hashes) slots (pairs ∷ tables) (w ∷ ws) before after a
 pub walks_all : {T : Type 0} {ranks : Ranks T} {hashes : List (T → ℕ)} {slots : List (Option T)} {tables : List (List (ℕ × ℕ))} (ws : List ℕ) (before after : ℕ) → IsIndexed ranks hashes slots tables → AreWalked tables ws before after → after ≤ before + walks_within (length (contents slots)) ws
 walks_all {hashes = hashes} {slots = slots} {tables = tables} ws before after indexed walked = through_all hashes slots tables ws before after indexed.indexes walked
 
-pub walks_wider : (m n : ℕ) (ws : List ℕ) → m ≤ n → walks_within m ws ≤ walks_within n ws
-walks_wider m n [] less = omega arith
-walks_wider m n (w ∷ ws) less = let first = walks_less w m n less in let rest = walks_wider m n ws less in omega (arith, first, rest)
-
 -- no fewer walks
 abbrev pub AreAtMost : List ℕ → List ℕ → Type 0
 AreAtMost [] [] = ⊤

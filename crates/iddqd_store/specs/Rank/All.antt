@@ -1,6 +1,6 @@
 -- What holds at all ranks: lists that have one element for each rank.
 use Rattle.std.specs.Prelude.{◌≡◌, ◌≤◌, ◌+◌, ◌*◌, ◌/◌, ℕ, List, [], ◌∷◌, length, Option, None, Result, Ok, Err, map, ⊤}
-use Rattle.std.specs.List.{AllByRecursion, AllZip, sum_by}
+use Rattle.std.specs.List.{AllByRecursion, AllZip}
 use Rattle.iddqd_store.specs.Bag.{Ranks, crowd, like}
 use Rattle.iddqd_store.specs.Map.{Map, IsBlockedAt}
 use Rattle.iddqd_store.specs.Rank.{IsUnder, IsVacantFor, SearchCosts, SlotUnder, walks_within}
@@ -61,17 +61,6 @@ pub record PlacingCosts {T : Type 0} (hashes : List (T → ℕ)) (bag : List T) 
   pub asked : asks_then ≤ asks + crowds hashes bag hs
   pub at_most : after ≤ before + walks_within (length bag) (map (λ _. 1) hashes) + walks_within (length bag) walks
 
--- The inserts of a batch, one after another, ask about no more keys than items of `bag` have the hashes of each item, and
--- probe at most one cell more than it has items in each search and each walk, with one search and so many walks at each
--- rank for each item. The bag is that after the last of them. Growing is not counted.
--- Example: With 5 items after a batch of 2, two ranks, one walk at each and a hash of its own for each key they ask at most
--- 4 times, and probe at most 48 cells.
-pub record BatchCosts {T : Type 0} (hashes : List (T → ℕ)) (bag batch : List T) (walks : List ℕ)
-    (asks asks_then before after : ℕ) : Type 0 where
-  pub asked : asks_then ≤ asks + sum_by (λ x. crowds hashes bag (hashes_of hashes x)) batch
-  pub at_most : after ≤ before
-      + length batch * (walks_within (length bag) (map (λ _. 1) hashes) + walks_within (length bag) walks)
-
 -- A search for the item with all keys costs as much as one by the first key and, if that finds an item, compares at most
 -- this many other keys.
 -- Example: With 3 items, two ranks and a hash of its own for each key it asks at most twice, and probes at most 4 cells.
@@ -81,16 +70,6 @@ pub record UniqueCosts {T : Type 0} (hash_of : T → ℕ) (bag : List T) (room h
   pub between : ℕ
   pub search : SearchCosts hash_of bag room hash answer asks between before after
   pub rest : asks_then ≤ between + others
-
--- The searches for the partners of these items, one after another (`UniqueCosts`), compare no more keys than items of the
--- bag have the hash of each, and beside them so many `others` for each, and probe at most one cell more than it has items
--- for each.
--- Example: In a bag of 3 items with a hash of its own for each, at two ranks, they compare at most 4 keys for 2 items, and
--- probe at most 8 cells.
-pub record ComparingCosts {T : Type 0} (hash_of : T → ℕ) (items bag : List T) (others : ℕ)
-    (asks asks_then before after : ℕ) : Type 0 where
-  pub asked : asks_then ≤ asks + sum_by (λ x. crowd hash_of bag (hash_of x) + others) items
-  pub at_most : after ≤ before + length items * (length bag + 1)
 
 -- The searches were made by these hashes. No public clause cites it.
 abbrev pub HaveHashes : List ℕ → List SlotUnder → Type 0

@@ -1,12 +1,11 @@
 //! Inserting many items at once.
 //!
 //! Made by tests/twins from crates/iddqd_bi/src/map/extend.rt: change that file.
-ghost use Rattle.std.specs.Prelude.{◌≡◌, ◌≤◌, ◌++◌, [], ◌∷◌, length, map, IsPermutation, IfOk, IfErr, OnOk, OnErr, IsOk};
+ghost use Rattle.std.specs.Prelude.{◌≡◌, ◌≤◌, [], length, IsPermutation, IfOk, IfErr, OnOk, OnErr, IsOk};
 ghost use Rattle.std.specs.Iterator.{IsFiniteIterable};
 ghost use Rattle.iddqd_store.specs.Bag.{IsSound, clash, overs};
 ghost use Rattle.iddqd_store.specs.Bag.Building.{GivesAll, GivesThen, FitsOn, AddsTo, RefusesFor, HasPlaceFor, MatchFromIterError};
 ghost use Rattle.iddqd_store.specs.Map.{bag, GrowsUnless, IsFullFor};
-ghost use Rattle.iddqd_store.specs.Rank.All.{BatchCosts};
 ghost use Rattle.iddqd_store.specs.Runs.Step.{ExtendsTo, state_of, empty_state};
 ghost use Rattle.iddqd_tri.specs.Refused.{TellsWhyBehind};
 
@@ -14,7 +13,7 @@ use super::TriHashMap;
 use super::slots::Refusal;
 use super::slots::found::each_once;
 use crate::error::{ExtendUniqueError, FromIterError};
-use crate::item::{Hashed, Ranked};
+use crate::item::Ranked;
 use iddqd_store::{DuplicateItem, MemoryRefused, Meter};
 use std::alloc::Global;
 use std::hash::{BuildHasher, Hash};
@@ -98,48 +97,13 @@ impl<T: Ranked + Drop, S: BuildHasher> TriHashMap<T, S> {
             (FitsOn I.into_iter_gives I.IntoIter.remaining iter (length (bag self.old)) self.old.capacity)
             self.old self.new }
     {
-        self.extend_unique_by(iter, &mut Meter::new(), &mut Meter::new())
-    }
-
-    /// Inserts as `extend_unique` does, which calls it. One meter counts the keys that are compared, and the other the
-    /// probed cells, but for those that growing probes, and those from which the pairs of items leave after an error.
-    #[inline(always)]
-    fn extend_unique_by<I: IntoIterator<Item = T>>(
-        &mut self,
-        iter: I,
-        asked: &mut Meter,
-        probed: &mut Meter,
-    ) -> Result<(), ExtendUniqueError<T>>
-        requires finite { IsFiniteIterable I.into_iter_gives I.IntoIter.can_next I.IntoIter.remaining iter }
-        // All items are inserted, or none is; then the error has those before the rejected item, and that item.
-        ensures all { OnOk result (GivesAll I.into_iter_gives I.IntoIter.next_gives iter
-            (AddsTo T.ranks (bag self.old) (bag self.new))) }
-        ensures refused { IfErr result (λ e. GivesThen I.into_iter_gives I.IntoIter.next_gives iter e.item
-            (λ xs. xs ≡ e.before.items)) }
-        ensures same_items { OnErr result (IsPermutation (bag self.new) (bag self.old)) }
-        // The error says which keys of the item are taken, in the map or among those before it. If none is, memory ran
-        // out.
-        ensures reason { IfErr result (TellsWhyBehind T.TriHashItem T.K1.eq T.K2.eq T.K3.eq (bag self.old)) }
-        // The map stays sound, and grows only if the items might not fit.
-        ensures sound { IsSound T.ranks (bag self.new) }
-        ensures room { GrowsUnless
-            (FitsOn I.into_iter_gives I.IntoIter.remaining iter (length (bag self.old)) self.old.capacity)
-            self.old self.new }
-        // What the searches and the inserts of all items cost together, or those up to the rejected item.
-        ensures costs { OnOk result (GivesAll I.into_iter_gives I.IntoIter.next_gives iter (λ xs.
-            BatchCosts (⟦<T as Hashed<S>>⟧.hashes self.old.builder) (bag self.new) xs (map (λ _. 1) T.ranks)
-            asked.old asked.new probed.old probed.new)) }
-        ensures costs_at_err { IfErr result (λ e.
-            BatchCosts (⟦<T as Hashed<S>>⟧.hashes self.old.builder) (e.before.items ++ bag self.old)
-            (e.before.items ++ e.item ∷ []) (map (λ _. 1) T.ranks) asked.old asked.new probed.old probed.new) }
-    {
         let mut entered = self.items.entered();
         let items = iter.into_iter();
         let mut left = items.size_hint().0;
         for item in items {
             let wanted = left.max(1);
             left = wanted - 1;
-            if let Err(rejected) = self.enter(item, &mut entered, wanted, asked, probed) {
+            if let Err(rejected) = self.enter(item, &mut entered, wanted) {
                 let before = self.take_entered(entered);
                 return Err(ExtendUniqueError {
                     before,

@@ -1,15 +1,14 @@
 //! Inserting the items of a list so that they can be removed again if a later one is rejected.
-ghost use Rattle.std.specs.Prelude.{◌≡◌, ◌<◌, ◌++◌, [], ◌∷◌, length, map, List, All, IsOk, OnOk, OnErr, IfErr, if◌then◌else◌, is_ok, nat_eq};
+ghost use Rattle.std.specs.Prelude.{◌≡◌, ◌<◌, ◌++◌, [], ◌∷◌, length, List, All, IsOk, OnOk, OnErr, IfErr, nat_eq};
 ghost use Rattle.std.specs.List.{IsDistinct};
 ghost use Rattle.iddqd_store.specs.Bag.{clash};
 ghost use Rattle.iddqd_store.specs.Map.{bag, Gains, GrowsUnless, Loses};
-ghost use Rattle.iddqd_store.specs.Rank.All.{PlacingCosts, hashes_of};
 ghost use Rattle.iddqd_store.specs.Slots.{IsLive};
 ghost use Rattle.iddqd_store.specs.Slots.Found.{items_at, StandAt};
 ghost use Rattle.iddqd_bi.specs.Refused.{TellsTaken};
 
 use crate::error::Rejected;
-use crate::item::{BiHashItem, Hashed, Ranked};
+use crate::item::{BiHashItem, Ranked};
 use crate::map::BiHashMap;
 use crate::ranks::{First, Second};
 use iddqd_store::{Entered, Meter};
@@ -19,15 +18,12 @@ impl<T: BiHashItem, S: BuildHasher> BiHashMap<T, S> {
     /// Inserts an item if none conflicts with it, and notes its slot. The call searches for conflicts first. Then it
     /// reserves capacity in the map and for the note, for as many items as are `wanted`, or for one if there is no memory
     /// for so many, and then it inserts the item. There is always memory for it if the map is not full, and the slot can be
-    /// noted without an allocation. One meter counts the keys that are compared, and the other the probed cells, but for
-    /// those that growing probes.
+    /// noted without an allocation.
     pub(crate) fn enter(
         &mut self,
         item: T,
         entered: &mut Entered<T>,
         wanted: usize,
-        asked: &mut Meter,
-        probed: &mut Meter,
     ) -> Result<(), Rejected<T>>
     where
         T: Drop,
@@ -42,12 +38,8 @@ impl<T: BiHashItem, S: BuildHasher> BiHashMap<T, S> {
         ensures slots { OnErr result (self.new.slots ≡ self.old.slots) }
         ensures same_notes { OnErr result (entered.new.slots ≡ entered.old.slots) }
         ensures grows { GrowsUnless (length (bag self.old) < self.old.capacity) self.old self.new }
-        ensures costs { PlacingCosts (⟦<T as Hashed<S>>⟧.hashes self.old.builder) (bag self.old) self.old.capacity
-            (hashes_of (⟦<T as Hashed<S>>⟧.hashes self.old.builder) item)
-            (map (λ _. if is_ok result then 1 else 0) ⟦<T as Ranked>⟧.ranks)
-            asked.old asked.new probed.old probed.new }
     {
-        let at = match self.places(&item, asked, probed) {
+        let at = match self.places(&item, &mut Meter::new(), &mut Meter::new()) {
             Ok(at) => at,
             Err((by1, by2)) => {
                 let taken1 = by1.slot().is_some();
@@ -66,7 +58,7 @@ impl<T: BiHashItem, S: BuildHasher> BiHashMap<T, S> {
                 taken2: false,
             });
         }
-        let slot = self.insert_at(item, at, probed);
+        let slot = self.insert_at(item, at, &mut Meter::new());
         entered.push(slot);
         Ok(())
     }

@@ -1,17 +1,16 @@
 //! Inserting the items of a list so that they can be removed again if a later one is rejected.
 //!
 //! Made by tests/twins from crates/iddqd_bi/src/map/slots/enter.rt: change that file.
-ghost use Rattle.std.specs.Prelude.{◌≡◌, ◌<◌, ◌++◌, [], ◌∷◌, length, map, List, All, IsOk, OnOk, OnErr, IfErr, if◌then◌else◌, is_ok, nat_eq};
+ghost use Rattle.std.specs.Prelude.{◌≡◌, ◌<◌, ◌++◌, [], ◌∷◌, length, List, All, IsOk, OnOk, OnErr, IfErr, nat_eq};
 ghost use Rattle.std.specs.List.{IsDistinct};
 ghost use Rattle.iddqd_store.specs.Bag.{clash};
 ghost use Rattle.iddqd_store.specs.Map.{bag, Gains, GrowsUnless, Loses};
-ghost use Rattle.iddqd_store.specs.Rank.All.{PlacingCosts, hashes_of};
 ghost use Rattle.iddqd_store.specs.Slots.{IsLive};
 ghost use Rattle.iddqd_store.specs.Slots.Found.{items_at, StandAt};
 ghost use Rattle.iddqd_id.specs.Refused.{TellsTaken};
 
 use crate::error::Rejected;
-use crate::item::{Hashed, IdHashItem, Ranked};
+use crate::item::{IdHashItem, Ranked};
 use crate::map::IdHashMap;
 use crate::ranks::First;
 use iddqd_store::{Entered, Meter};
@@ -21,15 +20,12 @@ impl<T: IdHashItem, S: BuildHasher> IdHashMap<T, S> {
     /// Inserts an item if none conflicts with it, and notes its slot. The call searches for conflicts first. Then it
     /// reserves capacity in the map and for the note, for as many items as are `wanted`, or for one if there is no
     /// memory for so many, and then it inserts the item. There is always memory for it if the map is not full, and the
-    /// slot can be noted without an allocation. One meter counts the keys that are compared, and the other the probed
-    /// cells, but for those that growing probes.
+    /// slot can be noted without an allocation.
     pub(crate) fn enter(
         &mut self,
         item: T,
         entered: &mut Entered<T>,
         wanted: usize,
-        asked: &mut Meter,
-        probed: &mut Meter,
     ) -> Result<(), Rejected<T>>
     where
         T: Drop,
@@ -45,12 +41,8 @@ impl<T: IdHashItem, S: BuildHasher> IdHashMap<T, S> {
         ensures slots { OnErr result (self.new.slots ≡ self.old.slots) }
         ensures same_notes { OnErr result (entered.new.slots ≡ entered.old.slots) }
         ensures grows { GrowsUnless (length (bag self.old) < self.old.capacity) self.old self.new }
-        ensures costs { PlacingCosts (⟦<T as Hashed<S>>⟧.hashes self.old.builder) (bag self.old) self.old.capacity
-            (hashes_of (⟦<T as Hashed<S>>⟧.hashes self.old.builder) item)
-            (map (λ _. if is_ok result then 1 else 0) ⟦<T as Ranked>⟧.ranks)
-            asked.old asked.new probed.old probed.new }
     {
-        let at = match self.places(&item, asked, probed) {
+        let at = match self.places(&item, &mut Meter::new(), &mut Meter::new()) {
             Ok(at) => at,
             Err(by) => {
                 let taken = by.slot().is_some();
@@ -60,7 +52,7 @@ impl<T: IdHashItem, S: BuildHasher> IdHashMap<T, S> {
         if self.make_room(wanted).is_err() || entered.reserve_for(wanted).is_err() {
             return Err(Rejected { item, taken: false });
         }
-        let slot = self.insert_at(item, at, probed);
+        let slot = self.insert_at(item, at, &mut Meter::new());
         entered.push(slot);
         Ok(())
     }

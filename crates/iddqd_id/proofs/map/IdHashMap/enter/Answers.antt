@@ -1,9 +1,8 @@
 -- Made by tests/twins from crates/iddqd_bi/proofs/map/BiHashMap/enter/Answers.antt: change that file.
-use Rattle.std.proofs.Common.{arith, rules, ◌≡◌, ◌∙◌, None}
+use Rattle.std.proofs.Common.{rules, ◌≡◌, ◌∙◌, None}
 use Rattle.std.specs.Prelude.{is_some}
 use Rattle.iddqd_store.proofs.SlotLemmas.Entered.{StandAt-push}
 use Rattle.iddqd_store.proofs.MapLemmas.Places.{is_some-at}
-use Rattle.iddqd_store.proofs.RankLemmas.Searched.{placing}
 use Rattle.iddqd_id.specs.Keys.{has}
 use Rattle.iddqd_id.proofs.map.IdHashMap.enter.Goals as goal
 
@@ -32,12 +31,3 @@ returns-then-is_err-clause-reason g c =
       handed_back = search rules;
       taken = is_some-at (has g.T.IdHashItem g.T.Key.PartialEq.eq (g.T.IdHashItem.key c.args.item)) slots None found.0;
     }
-
-pub returns-in-Err-clause-costs : goal.returns-in-Err-clause-costs
-returns-in-Err-clause-costs g c = placing _ _ _ _ _ _ _ _ _ _ _ c.places.ensures.costs (omega arith)
-
-pub returns-then-is_err-clause-costs : goal.returns-then-is_err-clause-costs
-returns-then-is_err-clause-costs g c = placing _ _ _ _ _ _ _ _ _ _ _ c.places.ensures.costs (omega arith)
-
-pub returns-clause-costs : goal.returns-clause-costs
-returns-clause-costs g c = placing _ _ _ _ _ _ _ _ _ _ _ c.places.ensures.costs (rw c.make_room.ensures.slots at c.insert_at-slot.ensures.costs)

@@ -1,9 +1,8 @@
 -- Made by tests/twins from crates/iddqd_bi/proofs/map/BiHashMap/enter/Answers.antt: change that file.
-use Rattle.std.proofs.Common.{arith, rules, ◌≡◌, ◌∙◌, None}
+use Rattle.std.proofs.Common.{rules, ◌≡◌, ◌∙◌, None}
 use Rattle.std.specs.Prelude.{is_some}
 use Rattle.iddqd_store.proofs.SlotLemmas.Entered.{StandAt-push}
 use Rattle.iddqd_store.proofs.MapLemmas.Places.{is_some-at}
-use Rattle.iddqd_store.proofs.RankLemmas.Searched.{placing}
 use Rattle.iddqd_tri.specs.Keys.{has1, has2, has3}
 use Rattle.iddqd_tri.proofs.map.TriHashMap.enter.Goals as goal
 
@@ -38,12 +37,3 @@ returns-then-is_err-clause-reason g c =
       taken2 = is_some-at (has2 g.T.TriHashItem g.T.K2.PartialEq.eq (g.T.TriHashItem.key2 c.args.item)) slots None found.1.0;
       taken3 = is_some-at (has3 g.T.TriHashItem g.T.K3.PartialEq.eq (g.T.TriHashItem.key3 c.args.item)) slots None found.1.1.0;
     }
-
-pub returns-in-Err-clause-costs : goal.returns-in-Err-clause-costs
-returns-in-Err-clause-costs g c = placing _ _ _ _ _ _ _ _ _ _ _ c.places.ensures.costs (omega arith)
-
-pub returns-then-is_err-clause-costs : goal.returns-then-is_err-clause-costs
-returns-then-is_err-clause-costs g c = placing _ _ _ _ _ _ _ _ _ _ _ c.places.ensures.costs (omega arith)
-
-pub returns-clause-costs : goal.returns-clause-costs
-returns-clause-costs g c = placing _ _ _ _ _ _ _ _ _ _ _ c.places.ensures.costs (rw c.make_room.ensures.slots at c.insert_at-slot.ensures.costs)

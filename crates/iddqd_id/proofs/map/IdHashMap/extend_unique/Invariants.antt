@@ -1,12 +1,10 @@
--- Made by tests/twins from crates/iddqd_bi/proofs/map/BiHashMap/extend_unique_by/Invariants.antt: change that file.
-use Rattle.std.proofs.Common.{◌≡◌, ◌≤◌, ◌+◌, ◌∷◌, [], length, map}
+-- Made by tests/twins from crates/iddqd_bi/proofs/map/BiHashMap/extend_unique/Invariants.antt: change that file.
+use Rattle.std.proofs.Common.{◌≡◌, ◌≤◌, ◌+◌, length}
 use Rattle.std.specs.Iterator.{size}
 use Rattle.iddqd_store.specs.Bag.Building.{AddsTo, FitsOn}
 use Rattle.iddqd_store.specs.Map.{bag}
-use Rattle.iddqd_store.specs.Rank.{key_hash}
-use Rattle.iddqd_store.specs.Rank.All.{BatchCosts}
 use Rattle.iddqd_store.specs.Slots.Found.{StandAt}
-use Rattle.iddqd_id.proofs.map.IdHashMap.extend_unique_by.Given as goal
+use Rattle.iddqd_id.proofs.map.IdHashMap.extend_unique.Given as goal
 
 -- the items that came so far were added, and their slots are noted
 abbrev pub invariant-loop-item : goal.invariant-loop-item
@@ -18,5 +16,4 @@ invariant-loop-item g l = record {
   no_less_room : l.fn.self.capacity ≤ l.self.capacity;
   fits : FitsOn g.I.IntoIterator.into_iter_gives g.I.IntoIter.Iterator.remaining l.fn.iter (length (bag l.fn.self)) l.fn.self.capacity → (length (bag l.self) + size (g.I.IntoIter.Iterator.remaining l.item-iterator) ≤ l.self.capacity) × (l.self.capacity ≡ l.fn.self.capacity);
   builder : l.self.builder ≡ l.fn.self.builder;
-  costs : BatchCosts (key_hash g.T.IdHashItem.key g.T.Key.Hash.hash_input g.S.BuildHasher g.S.Hasher.Hasher l.fn.self.builder ∷ []) (bag l.self) l.yielded (map (λ _. 1) g.T.Ranked.ranks) l.fn.asked l.asked l.fn.probed l.probed;
 }

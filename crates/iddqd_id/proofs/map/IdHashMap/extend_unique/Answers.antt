@@ -1,32 +1,28 @@
-use Rattle.std.proofs.Common.{◌≡◌, ◌++◌, ◌∙◌, List, arith, rules, subst, sym}
+-- Made by tests/twins from crates/iddqd_bi/proofs/map/BiHashMap/extend_unique/Answers.antt: change that file.
+use Rattle.std.proofs.Common.{◌≡◌, ◌++◌, ◌∙◌, List, arith, rules, subst}
 use Rattle.std.specs.Prelude.{◌<◌, Bool, length, IsPermutation}
 use Rattle.std.specs.List.{list_any}
 use Rattle.iddqd_store.specs.Bag.{Ranks, AreLawful, IsSound}
 use Rattle.iddqd_store.specs.Slots.{contents}
 use Rattle.std.proofs.iter.Next.{on}
-use Rattle.std.proofs.lemmas.List.Sorted.{IsPermutation-append_right, IsPermutation-trans, length_permutation}
+use Rattle.std.proofs.lemmas.List.Sorted.{length_permutation}
 use Rattle.iddqd_store.specs.Map.{bag}
-use Rattle.iddqd_store.specs.Rank.All.{BatchCosts}
 use Rattle.iddqd_store.proofs.BagLemmas.Building.{AddsTo-nil, AddsTo-push, AddsTo-sound}
 use Rattle.iddqd_store.proofs.MapLemmas.Entered.{taken_sound, left_same, left_sound, taken_key}
-use Rattle.iddqd_store.proofs.RankLemmas.Batches.{batch_ends, batch_none, batch_push}
 use Rattle.iddqd_store.proofs.SlotLemmas.Entered.{StandAt-nil}
-use Rattle.iddqd_bi.specs.Keys.{has1, has2, ranks}
-use Rattle.iddqd_bi.proofs.MapLemmas.{AreLawful-ranks}
-use Rattle.iddqd_bi.proofs.map.BiHashMap.extend_unique_by.Given as given
-use Rattle.iddqd_bi.proofs.map.BiHashMap.extend_unique_by.Goals as goal
+use Rattle.iddqd_id.specs.Keys.{has}
+use Rattle.iddqd_id.proofs.MapLemmas.{AreLawful-ranks}
+use Rattle.iddqd_id.proofs.map.IdHashMap.extend_unique.Given as given
+use Rattle.iddqd_id.proofs.map.IdHashMap.extend_unique.Goals as goal
 
 abbrev by : (g : given.Over) → Ranks g.row.T.Denot
 by g = g.T.Ranked.ranks
-
-abbrev listed : (g : given.Over) → Ranks g.row.T.Denot
-listed g = ranks g.T.BiHashItem g.T.K1.PartialEq.eq g.T.K2.PartialEq.eq
 
 some : (g : given.Over) → 0 < length (by g)
 some g = rw g.met.T.Ranked.ranks_are (omega arith)
 
 laws : (g : given.Over) → AreLawful (by g)
-laws g = rw g.met.T.Ranked.ranks_are (AreLawful-ranks g.T.BiHashItem g.met.T.K1.Eq.laws g.met.T.K2.Eq.laws)
+laws g = rw g.met.T.Ranked.ranks_are (AreLawful-ranks g.T.IdHashItem g.met.T.Key.Eq.laws)
 
 pub loop-item-init : goal.loop-item-init
 loop-item-init g c = record {
@@ -37,7 +33,6 @@ loop-item-init g c = record {
   no_less_room = search rules;
   fits = search rules;
   builder = search rules;
-  costs = batch_none _ _ _ _ _;
 }
 
 pub loop-item-preserved : goal.loop-item-preserved
@@ -57,8 +52,6 @@ loop-item-preserved g c =
           let same = put.grows.same_room (omega (arith, before.0, nearer)) in
           (omega (arith, before.0, nearer, same, length_permutation _ _ put.gains.items), same ∙ before.1);
       builder = put.grows.same_builder ∙ so_far.builder;
-      costs = rw g.met.T.Ranked.ranks_are
-          (batch_push _ (bag c.loop-item.self) (bag c.enter.new.self) c.loop-item.yielded item _ _ _ (listed g) _ _ _ _ _ _ put.gains.items (omega arith) (rw g.met.T.Ranked.ranks_are at so_far.costs) (rw so_far.builder at put.costs));
     }
 
 -- the items that were removed again are those that came
@@ -96,8 +89,7 @@ returns-in-Err-clause-reason g c =
     let why = c.in-Err.ensures.reason in
     record {
       apart = rw (← g.met.T.Ranked.ranks_are) (taken_sound (by g) (some g) (laws g) (old g c) (held g c) (new g c) _ (taken g c) (sound g c) c.loop-item.invariant.added (all g c) (out g c));
-      taken1 = rw why.handed_back (why.taken1 ∙ has_key g c (has1 g.T.BiHashItem g.T.K1.PartialEq.eq (g.T.BiHashItem.key1 c.in-Some.item)));
-      taken2 = rw why.handed_back (why.taken2 ∙ has_key g c (has2 g.T.BiHashItem g.T.K2.PartialEq.eq (g.T.BiHashItem.key2 c.in-Some.item)));
+      taken = rw why.handed_back (why.taken ∙ has_key g c (has g.T.IdHashItem g.T.Key.PartialEq.eq (g.T.IdHashItem.key c.in-Some.item)));
     }
 
 pub returns-in-Err-clause-sound : goal.returns-in-Err-clause-sound
@@ -106,11 +98,3 @@ returns-in-Err-clause-sound g c = left_sound (by g) (some g) (laws g) (old g c) 
 pub returns-clause-sound : goal.returns-clause-sound
 returns-clause-sound g c =
     AddsTo-sound (by g) (bag c.args.self.now) (bag c.loop-item.self) c.loop-item.yielded c.loop-item.invariant.added (laws g) (rw (g.met.T.Ranked.ranks_are, ← c.self.view_is) c.self.invariant.sound)
-
-pub returns-in-Err-clause-costs_at_err : goal.returns-in-Err-clause-costs_at_err
-returns-in-Err-clause-costs_at_err g c =
-    let same = left_same (by g) (some g) (laws g) (old g c) (held g c) (new g c) _ (taken g c) (sound g c) c.loop-item.invariant.added (all g c) (out g c) in
-    let whole = IsPermutation-trans _ _ _ (out g c) (IsPermutation-append_right (taken g c) _ _ same) in
-    let so_far = subst (λ l. BatchCosts _ (held g c) l _ _ _ _ _) (sym (all g c)) (rw g.met.T.Ranked.ranks_are at c.loop-item.invariant.costs) in
-    rw g.met.T.Ranked.ranks_are
-    (batch_ends _ (held g c) (taken g c ++ old g c) (taken g c) c.in-Some.item _ _ _ (listed g) _ _ _ _ _ _ whole (omega arith) so_far (rw c.loop-item.invariant.builder at c.in-Err.ensures.costs))
