@@ -2,10 +2,10 @@
 ghost use Rattle.std.specs.Option.{IfSome};
 ghost use Rattle.iddqd_bi.specs.Entries.{HasFound};
 
-use crate::held;
 use crate::item::{Item, row_of};
 use crate::lists::displaced;
 use crate::lookups::{found, more};
+use crate::occupied_mut;
 use iddqd_bi::{BiHashMap, Entry, OccupiedEntry, OccupiedEntryRef, Ranked};
 use std::hash::{BuildHasher, Hash};
 use test_calls_shared::answer::Answer;
@@ -57,7 +57,7 @@ pub(crate) fn answered<S: BuildHasher>(
         "and_modify" => Some(and_modify(map, keys)),
         "get.by_numbers" => Some(get_by_numbers(map, keys)),
         _ => match call.strip_prefix("into_mut.") {
-            Some(call) => held::lent_for_good(map, call, keys),
+            Some(call) => occupied_mut::lent_for_good(map, call, keys),
             None => if_occupied(map, call, keys),
         },
     }
@@ -121,6 +121,6 @@ fn of_occupied<S: BuildHasher>(mut entry: OccupiedEntry<'_, Item, S>, call: &str
             let answer = for_each(&mut entry);
             Some(answer.behind(seen(entry.get())))
         }
-        _ => held::answered(entry, call),
+        _ => occupied_mut::answered(entry, call),
     }
 }

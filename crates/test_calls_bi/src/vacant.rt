@@ -3,9 +3,9 @@ ghost use Rattle.iddqd_bi.specs.Entries.{HasFound};
 
 use crate::entries::{occupied, seen};
 use crate::guards::{back, mismatch};
-use crate::held::lent;
 use crate::item::{Item, row_of};
 use crate::lists::displaced;
+use crate::occupied_mut::lent;
 use iddqd_bi::{
     BiHashMap, Entry, EntryError, EntryRefusal, OccupiedEntry, Ranked, TryEntryError,
     TryEntryRefusal,

@@ -9,12 +9,12 @@
 mod commands;
 mod entries;
 mod guards;
-mod held;
 mod inserts;
 mod item;
 mod leaving;
 mod lists;
 mod lookups;
+mod occupied_mut;
 mod vacant;
 mod walks;
 mod wholes;

@@ -5,9 +5,9 @@ ghost use Rattle.iddqd_tri.specs.Entries.{HasFound};
 
 use crate::entries::{occupied, seen};
 use crate::guards::{back, mismatch};
-use crate::held::lent;
 use crate::item::{Item, row_of};
 use crate::lists::displaced;
+use crate::occupied_mut::lent;
 use iddqd_tri::{
     Entry, EntryError, EntryRefusal, OccupiedEntry, Ranked, TriHashMap, TryEntryError,
     TryEntryRefusal,

@@ -1,6 +1,6 @@
 //! Calls of what an entry borrows for writing.
 //!
-//! Made by tests/twins from crates/test_calls_bi/src/held.rt: change that file.
+//! Made by tests/twins from crates/test_calls_bi/src/occupied_mut.rt: change that file.
 ghost use Rattle.iddqd_tri.specs.Entries.{HasFound, Holds};
 
 use crate::guards::{set_data, shown};
