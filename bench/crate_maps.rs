@@ -36,7 +36,7 @@ macro_rules! item {
     };
 }
 
-item!(IdHashItem 1: Key key upcast 0);
+item!(IdHashItem 1: Key key upcast_key 0);
 item!(BiHashItem 2: K1 key1 upcast_key1 0, K2 key2 upcast_key2 1);
 item!(TriHashItem 3: K1 key1 upcast_key1 0, K2 key2 upcast_key2 1, K3 key3 upcast_key3 2);
 
@@ -154,8 +154,8 @@ map!(
 map!(
     BiHashMap 2, get1 get1_mut remove1, lacks &[],
     |map: &mut Two, row: Row<2>| {
-        let held = map.entry(row.keys[0], row.keys[1]).or_insert(row);
-        held.as_unique().map(told)
+        let mut held = map.entry(row.keys[0], row.keys[1]).or_insert(row);
+        held.as_unique().map(|held| told(&held))
     },
     fn get_unique(&self, [key1, key2]: [u64; 2]) -> Option<&Row<2>> {
         BiHashMap::get_unique(self, &key1, &key2)

@@ -26,6 +26,7 @@ mod loops;
 mod measure;
 #[cfg(feature = "counts")]
 mod memory;
+#[cfg(not(feature = "beside"))]
 mod one_by_hand;
 mod operations;
 mod others;
