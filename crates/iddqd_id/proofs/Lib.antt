@@ -1,6 +1,7 @@
 -- Made by tests/twins from crates/iddqd_bi/proofs/Lib.antt: change that file.
 pub mod Entering
 pub mod Finding
+pub mod Growing
 pub mod Iterating
 pub mod Lending
 pub mod MapLemmas

@@ -1,5 +1,6 @@
 -- Made by tests/twins from crates/iddqd_bi/proofs/Lib.antt: change that file.
 pub mod Entering
+pub mod Growing
 pub mod Iterating
 pub mod Lending
 pub mod MapLemmas
