@@ -1,19 +1,31 @@
 -- Made by tests/twins from crates/iddqd_bi/proofs/entry/OccupiedEntryMut/data_unique_mut/Answers.antt: change that file.
-use Rattle.std.proofs.Common.{rules, ◌≡◌, map, subst, sym}
+use Rattle.std.proofs.Common.{refl, ◌≡◌, map, subst, sym, ℕ, Bool, true, false, List, [], ◌∷◌, Option, None, Some, if◌then◌else◌}
+use Rattle.std.specs.List.{AllByRecursion, list_all}
 use Rattle.std.specs.Option.{IfSome, option_and_then, option_copied_mut, option_to_list}
 use Rattle.iddqd_store.specs.Slots.{IsLive, get}
+use Rattle.iddqd_store.specs.Slots.Found.{found_by_all, is_at}
 use Rattle.iddqd_store.proofs.MapLemmas.Updating.{held_data, held_live}
 use Rattle.iddqd_tri.specs.Entries.{unique_slot}
 use Rattle.iddqd_tri.proofs.entry.OccupiedEntryMut.data_unique_mut.Goals as goal
+
+-- the slot that every search found is one of those that they found
+by_all_live : {T : Type 0} (slots : List (Option T)) (found : List (Option ℕ)) → AllByRecursion (λ at. IfSome at (IsLive slots)) found → IfSome (found_by_all found) (IsLive slots)
+by_all_live slots [] live = tt
+by_all_live slots (None ∷ found) live = tt
+by_all_live slots (Some slot ∷ found) live = by (list_all (is_at slot) found)
+  where
+    by : (b : Bool) → IfSome (if b then Some slot else None) (IsLive slots)
+    by true = live.0
+    by false = tt
 
 pub returns : goal.returns
 returns g c =
     let m = c.args.self.now.map.now in
     let slot = unique_slot c.args.self.now in
     let same = c.one_of-slot.ensures in
-    let live : IfSome slot (IsLive m.slots) = search rules in
+    let live = by_all_live m.slots (c.args.self.now.slot1 ∷ c.args.self.now.slot2 ∷ c.args.self.now.slot3 ∷ []) (c.requires.live1, (c.requires.live2, (c.requires.live3, tt))) in
     let part = g.T.TriHashItemMut.data_of in (
-      search rules,
+      rw same refl,
       record {
         lends = tt;
         value = subst (λ s. option_to_list (option_copied_mut c.data_mut_of.result) ≡ map part (option_to_list (option_and_then (get m.slots) s))) same (held_data part m.slots c.one_of-slot.result c.data_mut_of.result (subst (λ s. IfSome s (IsLive m.slots)) (sym same) live) c.data_mut_of.ensures.some c.data_mut_of.ensures.value);
