@@ -1,9 +1,10 @@
 -- The ranks of an item with two keys tell items apart lawfully, and its keys are tests for them.
-use Rattle.std.specs.Prelude.{◌≡◌, Bool, true, List, []}
+use Rattle.std.specs.Prelude.{◌≡◌, Bool, true, List, [], None}
 use Rattle.std.specs.Cmp.{IsEquivalence}
 use Rattle.std.proofs.Common.{refl, sym}
-use Rattle.iddqd_store.specs.Bag.{AreLawful, agrees, clash, listing, order}
+use Rattle.iddqd_store.specs.Bag.{AreLawful, agrees, clash, differ, listing, order}
 use Rattle.iddqd_store.specs.Rank.Keys.{AreKeyTests, IsKeyTest}
+use Rattle.iddqd_store.proofs.BagLemmas.Differ.{differ-none}
 use Rattle.iddqd_store.proofs.BagLemmas.KeyTests.{clash-keys, order-keys}
 use Rattle.iddqd_store.proofs.MapLemmas.{IsEquivalence-key, IsKeyTest-key}
 use Rattle.iddqd_bi.specs.Keys.{ranks, key_tests}
@@ -31,9 +32,9 @@ module _ {T K1 K2 Q1 Q2 : Type 0} (of : item.Ghosts T K1 K2) (eq1 : K1 → K1 �
   AreKeyTests-queries k1 k2 = (IsKeyTest-query eq1 of.key1 stands1 respects1 k1, (IsKeyTest-query eq2 of.key2 stands2 respects2 k2, tt))
 
   -- an item with both keys conflicts with what they find
-  module _ (x : T) (k1 : Q1) (k2 : Q2) (same1 : stands1 k1 (of.key1 x) ≡ true) (same2 : stands2 k2 (of.key2 x) ≡ true) (bag : List T) where
+  module _ (x : T) (k1 : Q1) (k2 : Q2) (same : differ (key_tests of stands1 stands2 k1 k2) x ≡ None) (bag : List T) where
     pub order-both : order (ranks of eq1 eq2) bag x ≡ listing (key_tests of stands1 stands2 k1 k2) bag
-    order-both = order-keys (ranks of eq1 eq2) (key_tests of stands1 stands2 k1 k2) x (AreKeyTests-queries k1 k2) (same1, (same2, tt)) bag
+    order-both = order-keys (ranks of eq1 eq2) (key_tests of stands1 stands2 k1 k2) x (AreKeyTests-queries k1 k2) (differ-none (key_tests of stands1 stands2 k1 k2) x same) bag
 
     pub clash-both : listing (key_tests of stands1 stands2 k1 k2) bag ≡ [] → clash (ranks of eq1 eq2) bag x ≡ []
-    clash-both none = clash-keys (ranks of eq1 eq2) (key_tests of stands1 stands2 k1 k2) x (AreKeyTests-queries k1 k2) (same1, (same2, tt)) bag none
+    clash-both none = clash-keys (ranks of eq1 eq2) (key_tests of stands1 stands2 k1 k2) x (AreKeyTests-queries k1 k2) (differ-none (key_tests of stands1 stands2 k1 k2) x same) bag none

@@ -1,11 +1,12 @@
 -- Made by tests/twins from crates/iddqd_bi/proofs/MapLemmas.antt: change that file.
 
 -- The ranks of an item with one key tell items apart lawfully, and its key is a test for them.
-use Rattle.std.specs.Prelude.{◌≡◌, Bool, true, List, []}
+use Rattle.std.specs.Prelude.{◌≡◌, Bool, true, List, [], None}
 use Rattle.std.specs.Cmp.{IsEquivalence}
 use Rattle.std.proofs.Common.{refl, sym}
-use Rattle.iddqd_store.specs.Bag.{AreLawful, agrees, clash, listing, order}
+use Rattle.iddqd_store.specs.Bag.{AreLawful, agrees, clash, differ, listing, order}
 use Rattle.iddqd_store.specs.Rank.Keys.{AreKeyTests, IsKeyTest}
+use Rattle.iddqd_store.proofs.BagLemmas.Differ.{differ-none}
 use Rattle.iddqd_store.proofs.BagLemmas.KeyTests.{clash-keys, order-keys}
 use Rattle.iddqd_store.proofs.MapLemmas.{IsEquivalence-key, IsKeyTest-key}
 use Rattle.iddqd_id.specs.Keys.{ranks, key_tests}
@@ -33,9 +34,9 @@ module _ {T Key Q : Type 0} (of : item.Ghosts T Key) (eq : Key → Key → Bool)
   AreKeyTests-queries k = (IsKeyTest-query eq of.key stands respects k, tt)
 
   -- an item with the key conflicts with what they find
-  module _ (x : T) (k : Q) (same : stands k (of.key x) ≡ true) (bag : List T) where
+  module _ (x : T) (k : Q) (same : differ (key_tests of stands k) x ≡ None) (bag : List T) where
     pub order-key : order (ranks of eq) bag x ≡ listing (key_tests of stands k) bag
-    order-key = order-keys (ranks of eq) (key_tests of stands k) x (AreKeyTests-queries k) (same, tt) bag
+    order-key = order-keys (ranks of eq) (key_tests of stands k) x (AreKeyTests-queries k) (differ-none (key_tests of stands k) x same) bag
 
     pub clash-key : listing (key_tests of stands k) bag ≡ [] → clash (ranks of eq) bag x ≡ []
-    clash-key none = clash-keys (ranks of eq) (key_tests of stands k) x (AreKeyTests-queries k) (same, tt) bag none
+    clash-key none = clash-keys (ranks of eq) (key_tests of stands k) x (AreKeyTests-queries k) (differ-none (key_tests of stands k) x same) bag none

@@ -1,11 +1,12 @@
 -- Made by tests/twins from crates/iddqd_bi/proofs/MapLemmas.antt: change that file.
 
 -- The ranks of an item with three keys tell items apart lawfully, and its keys are tests for them.
-use Rattle.std.specs.Prelude.{◌≡◌, Bool, true, List, []}
+use Rattle.std.specs.Prelude.{◌≡◌, Bool, true, List, [], None}
 use Rattle.std.specs.Cmp.{IsEquivalence}
 use Rattle.std.proofs.Common.{refl, sym}
-use Rattle.iddqd_store.specs.Bag.{AreLawful, agrees, clash, listing, order}
+use Rattle.iddqd_store.specs.Bag.{AreLawful, agrees, clash, differ, listing, order}
 use Rattle.iddqd_store.specs.Rank.Keys.{AreKeyTests, IsKeyTest}
+use Rattle.iddqd_store.proofs.BagLemmas.Differ.{differ-none}
 use Rattle.iddqd_store.proofs.BagLemmas.KeyTests.{clash-keys, order-keys}
 use Rattle.iddqd_store.proofs.MapLemmas.{IsEquivalence-key, IsKeyTest-key}
 use Rattle.iddqd_tri.specs.Keys.{ranks, key_tests}
@@ -33,9 +34,9 @@ module _ {T K1 K2 K3 Q1 Q2 Q3 : Type 0} (of : item.Ghosts T K1 K2 K3) (eq1 : K1 
   AreKeyTests-queries k1 k2 k3 = (IsKeyTest-query eq1 of.key1 stands1 respects1 k1, (IsKeyTest-query eq2 of.key2 stands2 respects2 k2, (IsKeyTest-query eq3 of.key3 stands3 respects3 k3, tt)))
 
   -- an item with all keys conflicts with what they find
-  module _ (x : T) (k1 : Q1) (k2 : Q2) (k3 : Q3) (same1 : stands1 k1 (of.key1 x) ≡ true) (same2 : stands2 k2 (of.key2 x) ≡ true) (same3 : stands3 k3 (of.key3 x) ≡ true) (bag : List T) where
+  module _ (x : T) (k1 : Q1) (k2 : Q2) (k3 : Q3) (same : differ (key_tests of stands1 stands2 stands3 k1 k2 k3) x ≡ None) (bag : List T) where
     pub order-all : order (ranks of eq1 eq2 eq3) bag x ≡ listing (key_tests of stands1 stands2 stands3 k1 k2 k3) bag
-    order-all = order-keys (ranks of eq1 eq2 eq3) (key_tests of stands1 stands2 stands3 k1 k2 k3) x (AreKeyTests-queries k1 k2 k3) (same1, (same2, (same3, tt))) bag
+    order-all = order-keys (ranks of eq1 eq2 eq3) (key_tests of stands1 stands2 stands3 k1 k2 k3) x (AreKeyTests-queries k1 k2 k3) (differ-none (key_tests of stands1 stands2 stands3 k1 k2 k3) x same) bag
 
     pub clash-all : listing (key_tests of stands1 stands2 stands3 k1 k2 k3) bag ≡ [] → clash (ranks of eq1 eq2 eq3) bag x ≡ []
-    clash-all none = clash-keys (ranks of eq1 eq2 eq3) (key_tests of stands1 stands2 stands3 k1 k2 k3) x (AreKeyTests-queries k1 k2 k3) (same1, (same2, (same3, tt))) bag none
+    clash-all none = clash-keys (ranks of eq1 eq2 eq3) (key_tests of stands1 stands2 stands3 k1 k2 k3) x (AreKeyTests-queries k1 k2 k3) (differ-none (key_tests of stands1 stands2 stands3 k1 k2 k3) x same) bag none

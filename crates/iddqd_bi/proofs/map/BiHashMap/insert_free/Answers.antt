@@ -1,29 +1,25 @@
-use Rattle.std.proofs.Common.{rules, refl, ◌≡◌, true, ap}
+use Rattle.std.proofs.Common.{refl, sym, ap}
 use Rattle.iddqd_store.specs.Map.{hash_of}
+use Rattle.iddqd_store.proofs.BagLemmas.Differ.{differ-none}
+use Rattle.iddqd_bi.specs.Keys.{key_tests}
 use Rattle.iddqd_bi.proofs.MapLemmas.{clash-both}
 use Rattle.iddqd_bi.proofs.map.BiHashMap.insert_free.Goals as goal
 
 pub insert_at-requires-clause-free : goal.insert_at-requires-clause-free
 insert_at-requires-clause-free g c =
-    let same1 : g.Q1.Query.stands_for c.args.query1 (g.T.BiHashItem.key1 c.args.item) ≡ true = search rules in
-    let same2 : g.Q2.Query.stands_for c.args.query2 (g.T.BiHashItem.key2 c.args.item) ≡ true = search rules in
-    rw c.make_room.ensures.slots (clash-both g.T.BiHashItem g.T.K1.PartialEq.eq g.T.K2.PartialEq.eq g.Q1.Query.stands_for g.Q2.Query.stands_for g.met.Q1.Query.respects_eq g.met.Q2.Query.respects_eq c.args.item c.args.query1 c.args.query2 same1 same2 _ c.requires.absent)
+    rw c.make_room.ensures.slots (clash-both g.T.BiHashItem g.T.K1.PartialEq.eq g.T.K2.PartialEq.eq g.Q1.Query.stands_for g.Q2.Query.stands_for g.met.Q1.Query.respects_eq g.met.Q2.Query.respects_eq c.args.item c.args.query1 c.args.query2 (sym c.in_default.ensures.rank) _ c.requires.absent)
 
 pub insert_at-requires-clause-places : goal.insert_at-requires-clause-places
 insert_at-requires-clause-places g c =
-    let same1 : g.Q1.Query.stands_for c.args.query1 (g.T.BiHashItem.key1 c.args.item) ≡ true = search rules in
-    let same2 : g.Q2.Query.stands_for c.args.query2 (g.T.BiHashItem.key2 c.args.item) ≡ true = search rules in
+    let same = differ-none (key_tests g.T.BiHashItem g.Q1.Query.stands_for g.Q2.Query.stands_for c.args.query1 c.args.query2) c.args.item (sym c.in_default.ensures.rank) in
     let hash = hash_of g.S.BuildHasher g.S.Hasher.Hasher c.args.self.now.builder in
-    let hash1 = ap hash (g.met.Q1.Query.respects_hash _ _ same1) in
-    let hash2 = ap hash (g.met.Q2.Query.respects_hash _ _ same2) in
+    let hash1 = ap hash (g.met.Q1.Query.respects_hash _ _ same.0) in
+    let hash2 = ap hash (g.met.Q2.Query.respects_hash _ _ same.1.0) in
     rw (c.make_room.ensures.slots, c.make_room.ensures.builder, ← hash1, ← hash2) c.requires.vacant
 
 pub returns-in-Err-clause-hands_back : goal.returns-in-Err-clause-hands_back
-returns-in-Err-clause-hands_back g c =
-    let same1 : g.Q1.Query.stands_for c.args.query1 (g.T.BiHashItem.key1 c.args.item) ≡ true = search rules in
-    let same2 : g.Q2.Query.stands_for c.args.query2 (g.T.BiHashItem.key2 c.args.item) ≡ true = search rules in
-    record {
-      handed_back = refl;
-      rank = search rules;
-      memory = λ _. record { free = clash-both g.T.BiHashItem g.T.K1.PartialEq.eq g.T.K2.PartialEq.eq g.Q1.Query.stands_for g.Q2.Query.stands_for g.met.Q1.Query.respects_eq g.met.Q2.Query.respects_eq c.args.item c.args.query1 c.args.query2 same1 same2 _ c.requires.absent; full = c.in-Err.ensures.reason };
-    }
+returns-in-Err-clause-hands_back g c = record {
+  handed_back = refl;
+  rank = sym c.in_default.ensures.rank;
+  memory = λ _. record { free = clash-both g.T.BiHashItem g.T.K1.PartialEq.eq g.T.K2.PartialEq.eq g.Q1.Query.stands_for g.Q2.Query.stands_for g.met.Q1.Query.respects_eq g.met.Q2.Query.respects_eq c.args.item c.args.query1 c.args.query2 (sym c.in_default.ensures.rank) _ c.requires.absent; full = c.in-Err.ensures.reason };
+}

@@ -1,4 +1,4 @@
--- Made by tests/twins from crates/iddqd_bi/proofs/map/BiHashMap/insert_free/Answers.antt: change that file.
+-- Written by hand; tests/one_key.patch says why.
 use Rattle.std.proofs.Common.{rules, refl, ◌≡◌, true, ap}
 use Rattle.iddqd_store.specs.Map.{hash_of}
 use Rattle.iddqd_id.proofs.MapLemmas.{clash-key}
@@ -6,21 +6,21 @@ use Rattle.iddqd_id.proofs.map.IdHashMap.insert_free.Goals as goal
 
 pub insert_at-requires-clause-free : goal.insert_at-requires-clause-free
 insert_at-requires-clause-free g c =
-    let same : g.Q.Query.stands_for c.args.query (g.T.IdHashItem.key c.args.item) ≡ true = search rules in
-    rw c.make_room.ensures.slots (clash-key g.T.IdHashItem g.T.Key.PartialEq.eq g.Q.Query.stands_for g.met.Q.Query.respects_eq c.args.item c.args.query same _ c.requires.absent)
+    let has : g.Q.Query.stands_for c.args.query (g.T.IdHashItem.key c.args.item) ≡ true = search rules in
+    rw c.make_room.ensures.slots (clash-key g.T.IdHashItem g.T.Key.PartialEq.eq g.Q.Query.stands_for g.met.Q.Query.respects_eq c.args.item c.args.query (rw has refl) _ c.requires.absent)
 
 pub insert_at-requires-clause-places : goal.insert_at-requires-clause-places
 insert_at-requires-clause-places g c =
-    let same : g.Q.Query.stands_for c.args.query (g.T.IdHashItem.key c.args.item) ≡ true = search rules in
+    let has : g.Q.Query.stands_for c.args.query (g.T.IdHashItem.key c.args.item) ≡ true = search rules in
     let hash = hash_of g.S.BuildHasher g.S.Hasher.Hasher c.args.self.now.builder in
-    let hash = ap hash (g.met.Q.Query.respects_hash _ _ same) in
+    let hash = ap hash (g.met.Q.Query.respects_hash _ _ has) in
     rw (c.make_room.ensures.slots, c.make_room.ensures.builder, ← hash) c.requires.vacant
 
 pub returns-in-Err-clause-hands_back : goal.returns-in-Err-clause-hands_back
 returns-in-Err-clause-hands_back g c =
-    let same : g.Q.Query.stands_for c.args.query (g.T.IdHashItem.key c.args.item) ≡ true = search rules in
+    let has : g.Q.Query.stands_for c.args.query (g.T.IdHashItem.key c.args.item) ≡ true = search rules in
     record {
       handed_back = refl;
-      rank = search rules;
-      memory = λ _. record { free = clash-key g.T.IdHashItem g.T.Key.PartialEq.eq g.Q.Query.stands_for g.met.Q.Query.respects_eq c.args.item c.args.query same _ c.requires.absent; full = c.in-Err.ensures.reason };
+      rank = rw has refl;
+      memory = λ _. record { free = clash-key g.T.IdHashItem g.T.Key.PartialEq.eq g.Q.Query.stands_for g.met.Q.Query.respects_eq c.args.item c.args.query (rw has refl) _ c.requires.absent; full = c.in-Err.ensures.reason };
     }

@@ -1,34 +1,27 @@
 -- Made by tests/twins from crates/iddqd_bi/proofs/map/BiHashMap/insert_free/Answers.antt: change that file.
-use Rattle.std.proofs.Common.{rules, refl, ◌≡◌, true, ap}
+use Rattle.std.proofs.Common.{refl, sym, ap}
 use Rattle.iddqd_store.specs.Map.{hash_of}
+use Rattle.iddqd_store.proofs.BagLemmas.Differ.{differ-none}
+use Rattle.iddqd_tri.specs.Keys.{key_tests}
 use Rattle.iddqd_tri.proofs.MapLemmas.{clash-all}
 use Rattle.iddqd_tri.proofs.map.TriHashMap.insert_free.Goals as goal
 
 pub insert_at-requires-clause-free : goal.insert_at-requires-clause-free
 insert_at-requires-clause-free g c =
-    let same1 : g.Q1.Query.stands_for c.args.query1 (g.T.TriHashItem.key1 c.args.item) ≡ true = search rules in
-    let same2 : g.Q2.Query.stands_for c.args.query2 (g.T.TriHashItem.key2 c.args.item) ≡ true = search rules in
-    let same3 : g.Q3.Query.stands_for c.args.query3 (g.T.TriHashItem.key3 c.args.item) ≡ true = search rules in
-    rw c.make_room.ensures.slots (clash-all g.T.TriHashItem g.T.K1.PartialEq.eq g.T.K2.PartialEq.eq g.T.K3.PartialEq.eq g.Q1.Query.stands_for g.Q2.Query.stands_for g.Q3.Query.stands_for g.met.Q1.Query.respects_eq g.met.Q2.Query.respects_eq g.met.Q3.Query.respects_eq c.args.item c.args.query1 c.args.query2 c.args.query3 same1 same2 same3 _ c.requires.absent)
+    rw c.make_room.ensures.slots (clash-all g.T.TriHashItem g.T.K1.PartialEq.eq g.T.K2.PartialEq.eq g.T.K3.PartialEq.eq g.Q1.Query.stands_for g.Q2.Query.stands_for g.Q3.Query.stands_for g.met.Q1.Query.respects_eq g.met.Q2.Query.respects_eq g.met.Q3.Query.respects_eq c.args.item c.args.query1 c.args.query2 c.args.query3 (sym c.in_default.ensures.rank) _ c.requires.absent)
 
 pub insert_at-requires-clause-places : goal.insert_at-requires-clause-places
 insert_at-requires-clause-places g c =
-    let same1 : g.Q1.Query.stands_for c.args.query1 (g.T.TriHashItem.key1 c.args.item) ≡ true = search rules in
-    let same2 : g.Q2.Query.stands_for c.args.query2 (g.T.TriHashItem.key2 c.args.item) ≡ true = search rules in
-    let same3 : g.Q3.Query.stands_for c.args.query3 (g.T.TriHashItem.key3 c.args.item) ≡ true = search rules in
+    let same = differ-none (key_tests g.T.TriHashItem g.Q1.Query.stands_for g.Q2.Query.stands_for g.Q3.Query.stands_for c.args.query1 c.args.query2 c.args.query3) c.args.item (sym c.in_default.ensures.rank) in
     let hash = hash_of g.S.BuildHasher g.S.Hasher.Hasher c.args.self.now.builder in
-    let hash1 = ap hash (g.met.Q1.Query.respects_hash _ _ same1) in
-    let hash2 = ap hash (g.met.Q2.Query.respects_hash _ _ same2) in
-    let hash3 = ap hash (g.met.Q3.Query.respects_hash _ _ same3) in
+    let hash1 = ap hash (g.met.Q1.Query.respects_hash _ _ same.0) in
+    let hash2 = ap hash (g.met.Q2.Query.respects_hash _ _ same.1.0) in
+    let hash3 = ap hash (g.met.Q3.Query.respects_hash _ _ same.1.1.0) in
     rw (c.make_room.ensures.slots, c.make_room.ensures.builder, ← hash1, ← hash2, ← hash3) c.requires.vacant
 
 pub returns-in-Err-clause-hands_back : goal.returns-in-Err-clause-hands_back
-returns-in-Err-clause-hands_back g c =
-    let same1 : g.Q1.Query.stands_for c.args.query1 (g.T.TriHashItem.key1 c.args.item) ≡ true = search rules in
-    let same2 : g.Q2.Query.stands_for c.args.query2 (g.T.TriHashItem.key2 c.args.item) ≡ true = search rules in
-    let same3 : g.Q3.Query.stands_for c.args.query3 (g.T.TriHashItem.key3 c.args.item) ≡ true = search rules in
-    record {
-      handed_back = refl;
-      rank = search rules;
-      memory = λ _. record { free = clash-all g.T.TriHashItem g.T.K1.PartialEq.eq g.T.K2.PartialEq.eq g.T.K3.PartialEq.eq g.Q1.Query.stands_for g.Q2.Query.stands_for g.Q3.Query.stands_for g.met.Q1.Query.respects_eq g.met.Q2.Query.respects_eq g.met.Q3.Query.respects_eq c.args.item c.args.query1 c.args.query2 c.args.query3 same1 same2 same3 _ c.requires.absent; full = c.in-Err.ensures.reason };
-    }
+returns-in-Err-clause-hands_back g c = record {
+  handed_back = refl;
+  rank = sym c.in_default.ensures.rank;
+  memory = λ _. record { free = clash-all g.T.TriHashItem g.T.K1.PartialEq.eq g.T.K2.PartialEq.eq g.T.K3.PartialEq.eq g.Q1.Query.stands_for g.Q2.Query.stands_for g.Q3.Query.stands_for g.met.Q1.Query.respects_eq g.met.Q2.Query.respects_eq g.met.Q3.Query.respects_eq c.args.item c.args.query1 c.args.query2 c.args.query3 (sym c.in_default.ensures.rank) _ c.requires.absent; full = c.in-Err.ensures.reason };
+}

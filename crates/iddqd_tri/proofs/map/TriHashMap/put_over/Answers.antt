@@ -3,10 +3,10 @@ use Rattle.std.proofs.Common.{arith, ap, refl, sym, ◌∙◌, ◌≡◌, ◌<�
 use Rattle.std.proofs.lemmas.List.Sorted.{IsPermutation-refl}
 use Rattle.iddqd_store.specs.Bag.{Ranks, order, over}
 use Rattle.iddqd_store.specs.Map.{Map, PutsAt, bag}
-use Rattle.iddqd_store.specs.Rank.{key_hash, walks_one, walks_two, walks_within}
+use Rattle.iddqd_store.specs.Rank.{key_hash, walks_one, walks_three, walks_two, walks_within}
 use Rattle.iddqd_store.proofs.BagLemmas.Over.{clash-taken, over-taken}
 use Rattle.iddqd_store.proofs.MapLemmas.Places.{one_leaves, three_leave, two_leave, stand_in}
-use Rattle.iddqd_store.proofs.RankLemmas.Walks.{AreAtMost, one_most, two_most, walks_most}
+use Rattle.iddqd_store.proofs.RankLemmas.Walks.{AreAtMost, one_most, three_most, two_most, walks_most}
 use Rattle.iddqd_tri.specs.Keys.{ranks}
 use Rattle.iddqd_tri.proofs.map.TriHashMap.put_over.Goals as goal
 
@@ -83,6 +83,17 @@ exchange_three-gone-requires-clause-free g c =
     let out = three_leave by slots c.args.item c.in-Some.slot c.in-Some-pop_front.other_slot c.in-Some-pop_front-2.last_slot _ stand found in
     clash-taken by (bag c.args.self.now) _ c.args.item out
 
+pub returns-in-Some-pop_front-2-clause-displaced : goal.returns-in-Some-pop_front-2-clause-displaced
+returns-in-Some-pop_front-2-clause-displaced g c =
+    let stand = stand_in (rw (c.slot.ensures, c.slot-2.ensures, c.slot-3.ensures) at c.each_once-found.ensures) c.requires.conflicts in
+    let first = c.in-Some-pop_front.ensures.rest in
+    let second = c.in-Some-pop_front-2.ensures.rest in
+    let none = none_left _ _ _ _ _ c.in-Some.ensures.fewer first second in
+    let found = c.in-Some.ensures.rest ∙ ap (λ (l : List ℕ). c.in-Some.slot ∷ l) (first ∙ ap (λ (l : List ℕ). c.in-Some-pop_front.other_slot ∷ l) (second ∙ ap (λ (l : List ℕ). c.in-Some-pop_front-2.last_slot ∷ l) none)) in
+    let values = c.exchange_three-gone.ensures.values in
+    let listed = rw (values.0, values.1, values.2) at (stand_in (sym found) stand).items in
+    (rw (c.push-in-Some-pop_front-2-2.ensures, c.push-in-Some-pop_front-2.ensures, c.new-displaced-2.ensures) at c.push-in-Some-pop_front-2-3.ensures) ∙ listed
+
 pub returns-in-Some-pop_front-2-clause-puts_at : goal.returns-in-Some-pop_front-2-clause-puts_at
 returns-in-Some-pop_front-2-clause-puts_at g c =
     let stand = stand_in (rw (c.slot.ensures, c.slot-2.ensures, c.slot-3.ensures) at c.each_once-found.ensures) c.requires.conflicts in
@@ -94,6 +105,18 @@ returns-in-Some-pop_front-2-clause-puts_at g c =
     let found = c.in-Some.ensures.rest ∙ ap (λ (l : List ℕ). c.in-Some.slot ∷ l) (first ∙ ap (λ (l : List ℕ). c.in-Some-pop_front.other_slot ∷ l) (second ∙ ap (λ (l : List ℕ). c.in-Some-pop_front-2.last_slot ∷ l) none)) in
     let out = three_leave by slots c.args.item c.in-Some.slot c.in-Some-pop_front.other_slot c.in-Some-pop_front-2.last_slot _ stand found in
     puts_over by c.args.self.now c.exchange_three-gone.new.self c.in-Some.slot c.args.item _ out c.exchange_three-gone.ensures.puts_at
+
+pub returns-in-Some-pop_front-2-clause-costs : goal.returns-in-Some-pop_front-2-clause-costs
+returns-in-Some-pop_front-2-clause-costs g c =
+    let by = c.args.by.now in
+    let builder = c.args.self.now.builder in
+    let hash1 = key_hash g.T.TriHashItem.key1 g.T.K1.Hash.hash_input g.S.BuildHasher g.S.Hasher.Hasher builder in
+    let hash2 = key_hash g.T.TriHashItem.key2 g.T.K2.Hash.hash_input g.S.BuildHasher g.S.Hasher.Hasher builder in
+    let hash3 = key_hash g.T.TriHashItem.key3 g.T.K3.Hash.hash_input g.S.BuildHasher g.S.Hasher.Hasher builder in
+    let at = c.in-Some-pop_front.other_slot in
+    let end = c.in-Some-pop_front-2.last_slot in
+    let gone = c.exchange_three-gone.result.0 in
+    rw (rw (c.push-in-Some-pop_front-2-2.ensures, c.push-in-Some-pop_front-2.ensures, c.new-displaced-2.ensures) at c.push-in-Some-pop_front-2-3.ensures) (within_most (length (bag c.args.self.now)) _ _ (walks_three hash1 by.0 at end gone ∷ walks_three hash2 by.1 at end gone ∷ walks_three hash3 by.2 at end gone ∷ []) (4 ∷ 4 ∷ 4 ∷ []) (three_most hash1 by.0 gone at end, (three_most hash2 by.1 gone at end, (three_most hash3 by.2 gone at end, tt))) c.exchange_three-gone.ensures.costs)
 
 pub exchange_two-gone-requires-clause-free : goal.exchange_two-gone-requires-clause-free
 exchange_two-gone-requires-clause-free g c =
