@@ -1,5 +1,6 @@
-use Rattle.std.proofs.Common.{◌≡◌, ◌++◌, ◌∙◌, List, arith, rules, subst}
+use Rattle.std.proofs.Common.{◌≡◌, ◌≤◌, ◌+◌, ℕ, suc, ◌∷◌, ◌++◌, ◌∙◌, List, arith, rules, subst, sym}
 use Rattle.std.specs.Prelude.{◌<◌, Bool, length, IsPermutation}
+use Rattle.std.specs.Iterator.{Yields}
 use Rattle.std.specs.List.{list_any}
 use Rattle.iddqd_store.specs.Bag.{Ranks, AreLawful, IsSound}
 use Rattle.iddqd_store.specs.Slots.{contents}
@@ -23,6 +24,23 @@ some g = rw g.met.T.Ranked.ranks_are (omega arith)
 laws : (g : given.Over) → AreLawful (by g)
 laws g = rw g.met.T.Ranked.ranks_are (AreLawful-ranks g.T.BiHashItem g.met.T.K1.Eq.laws g.met.T.K2.Eq.laws)
 
+-- all that is left fits, and one of it came: it finds room, and the rest fits behind it
+module _ (held left next room : ℕ) (fit : held + left ≤ room) (nearer : next < left) where
+  spare : held < room
+  spare = omega arith
+
+  fits_on : (now grown : ℕ) → now ≡ suc held → grown ≡ room → now + next ≤ grown
+  fits_on now grown more same = omega arith
+
+one_more : {T : Type 0} (new held : List T) (x : T) → IsPermutation new (x ∷ held) → length new ≡ suc (length held)
+one_more new held x put = omega (arith, length_permutation new (x ∷ held) put)
+
+higher : (a b c : ℕ) → a ≤ b → b ≤ c → a ≤ c
+higher a b c below above = omega arith
+
+kept : (a b c : ℕ) → a ≤ b → c ≡ b → a ≤ c
+kept a b c below same = omega arith
+
 pub loop-item-init : goal.loop-item-init
 loop-item-init g c = record {
   callable = search rules;
@@ -39,19 +57,26 @@ loop-item-preserved g c =
     let so_far = c.loop-item.invariant in
     let put = c.in_default.ensures in
     let item = c.in-Some.item in
-    let nearer = (on item c.in-Some.is c.next.ensures.goes so_far.ending).2 in
+    let next = on item c.in-Some.is c.next.ensures.goes so_far.ending in
     record {
-      callable = search rules;
-      ending = search rules;
+      callable = next.0;
+      ending = next.1;
       added = AddsTo-push (by g) (bag c.args.self.now) (bag c.loop-item.self) (bag c.enter.new.self) c.loop-item.yielded item so_far.added (rw g.met.T.Ranked.ranks_are put.free) put.gains.items;
       noted = put.noted c.loop-item.yielded so_far.noted;
-      no_less_room = omega (arith, so_far.no_less_room, put.grows.no_less_room);
+      no_less_room = higher _ _ _ so_far.no_less_room put.grows.no_less_room;
       fits = λ fit.
           let before = so_far.fits fit in
-          let same = put.grows.same_room (omega (arith, before.0, nearer)) in
-          (omega (arith, before.0, nearer, same, length_permutation _ _ put.gains.items), same ∙ before.1);
+          let same = put.grows.same_room (spare _ _ _ _ before.0 next.2) in
+          (fits_on _ _ _ _ before.0 next.2 _ _ (one_more (bag c.enter.new.self) (bag c.loop-item.self) item put.gains.items) same, same ∙ before.1);
       builder = put.grows.same_builder ∙ so_far.builder;
     }
+
+-- the slots that were noted are those of the items that came
+pub take_entered-before-requires-clause-live : goal.take_entered-before-requires-clause-live
+take_entered-before-requires-clause-live g c = rw (c.in-Err.ensures.slots, c.in-Err.ensures.same_notes) c.loop-item.invariant.noted.live
+
+pub take_entered-before-requires-clause-apart : goal.take_entered-before-requires-clause-apart
+take_entered-before-requires-clause-apart g c = rw c.in-Err.ensures.same_notes c.loop-item.invariant.noted.apart
 
 -- the items that were removed again are those that came
 module _ (g : given.Over) (c : goal.After-drop-item-iterator g) where
@@ -98,3 +123,25 @@ returns-in-Err-clause-sound g c = left_sound (by g) (some g) (laws g) (old g c) 
 pub returns-clause-sound : goal.returns-clause-sound
 returns-clause-sound g c =
     AddsTo-sound (by g) (bag c.args.self.now) (bag c.loop-item.self) c.loop-item.yielded c.loop-item.invariant.added (laws g) (rw (g.met.T.Ranked.ranks_are, ← c.self.view_is) c.self.invariant.sound)
+
+pub returns-in-Err-clause-refused : goal.returns-in-Err-clause-refused
+returns-in-Err-clause-refused g c =
+    let gave = subst (λ s. Yields g.I.IntoIter.Iterator.next_gives s c.loop-item.yielded c.loop-item.item-iterator) c.into_iter-item-iterator.ensures.into_iter_gives c.loop-item.yielded_by in
+    rw c.in-Err.ensures.reason.handed_back (c.into_iter-items.result, c.loop-item.yielded, c.next.new.self, c.into_iter-items.ensures.into_iter_gives, (c.loop-item.item-iterator, gave, c.in-Some.ensures.steps), sym (all g c))
+
+pub returns-in-Err-clause-room : goal.returns-in-Err-clause-room
+returns-in-Err-clause-room g c =
+    let so_far = c.loop-item.invariant in
+    let grows = c.in-Err.ensures.grows in
+    let loses = c.take_entered-before.ensures.loses in
+    let nearer = (on c.in-Some.item c.in-Some.is c.next.ensures.goes so_far.ending).2 in
+    record {
+      no_less_room = kept _ _ _ (higher _ _ _ so_far.no_less_room grows.no_less_room) loses.same_room;
+      same_room = λ fit. let before = so_far.fits fit in loses.same_room ∙ grows.same_room (spare _ _ _ _ before.0 nearer) ∙ before.1;
+      same_builder = loses.same_builder ∙ grows.same_builder ∙ so_far.builder;
+    }
+
+pub returns-clause-room : goal.returns-clause-room
+returns-clause-room g c =
+    let so_far = c.loop-item.invariant in
+    record { no_less_room = so_far.no_less_room; same_room = λ fit. (so_far.fits fit).1; same_builder = so_far.builder }

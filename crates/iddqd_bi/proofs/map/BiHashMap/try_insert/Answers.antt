@@ -1,4 +1,4 @@
-use Rattle.std.proofs.Common.{rules, ◌≡◌, sym, ◌∙◌}
+use Rattle.std.proofs.Common.{rules, arith, ◌≡◌, ◌<◌, ℕ, sym, ◌∙◌}
 use Rattle.std.specs.Prelude.{is_some}
 use Rattle.iddqd_store.specs.Bag.{like}
 use Rattle.iddqd_store.specs.Map.{IsFullFor, bag}
@@ -6,8 +6,24 @@ use Rattle.iddqd_store.specs.Rank.All.{IsBlockedBy}
 use Rattle.iddqd_store.proofs.CallerLemmas.Asking.{none-clash}
 use Rattle.iddqd_store.proofs.MapLemmas.Places.{is_some-at, none_taken}
 use Rattle.iddqd_bi.specs.Keys.{has1, has2, ranks}
-use Rattle.iddqd_bi.proofs.Refusing.{duplicate_reason, memory_reason}
+use Rattle.iddqd_bi.proofs.Refusing.{duplicate_item, duplicate_reason, memory_item, memory_reason}
 use Rattle.iddqd_bi.proofs.map.BiHashMap.try_insert.Goals as goal
+
+not_full : (held room : ℕ) → held ≡ room → held < room → ⊥
+not_full held room full spare = omega (arith, full, spare)
+
+pub returns-in-Err-Duplicate-clause-handed_back : goal.returns-in-Err-Duplicate-clause-handed_back
+returns-in-Err-Duplicate-clause-handed_back g c =
+    let arm = c.in-Err-Duplicate in
+    duplicate_item arm.field-0 arm.item arm.by arm.field-0-is c.args.item arm.ensures.handed_back
+
+pub returns-in-Err-Duplicate-clause-granted : goal.returns-in-Err-Duplicate-clause-granted
+returns-in-Err-Duplicate-clause-granted g c =
+    let by = ranks g.T.BiHashItem g.T.K1.PartialEq.eq g.T.K2.PartialEq.eq in
+    let old = c.args.self.now in
+    let arm = c.in-Err-Duplicate in
+    let why = duplicate_reason arm.field-0 arm.item arm.by arm.field-0-is (IsBlockedBy by _ old c.args.item) (IsFullFor by old c.args.item) arm.ensures.reason in
+    rw g.met.T.Ranked.ranks_are (λ free spare. absurd (why.blocked.some free))
 
 pub returns-in-Err-Duplicate-clause-reason : goal.returns-in-Err-Duplicate-clause-reason
 returns-in-Err-Duplicate-clause-reason g c =
@@ -33,3 +49,16 @@ returns-in-Err-Memory-clause-reason g c =
     let full = memory_reason arm.field-0 arm.item arm.field-0-is (IsBlockedBy by _ old c.args.item) (IsFullFor by old c.args.item) arm.ensures.reason in
     let free = none_taken (like by c.args.item) (bag old) full.free in
     record { taken1 = sym free.0; taken2 = sym free.1.0; full = λ free1 free2. full }
+
+pub returns-in-Err-Memory-clause-handed_back : goal.returns-in-Err-Memory-clause-handed_back
+returns-in-Err-Memory-clause-handed_back g c =
+    let arm = c.in-Err-Memory in
+    memory_item arm.field-0 arm.item arm.field-0-is c.args.item arm.ensures.handed_back
+
+pub returns-in-Err-Memory-clause-granted : goal.returns-in-Err-Memory-clause-granted
+returns-in-Err-Memory-clause-granted g c =
+    let by = ranks g.T.BiHashItem g.T.K1.PartialEq.eq g.T.K2.PartialEq.eq in
+    let old = c.args.self.now in
+    let arm = c.in-Err-Memory in
+    let full = memory_reason arm.field-0 arm.item arm.field-0-is (IsBlockedBy by _ old c.args.item) (IsFullFor by old c.args.item) arm.ensures.reason in
+    λ free spare. absurd (not_full _ _ full.full spare)
