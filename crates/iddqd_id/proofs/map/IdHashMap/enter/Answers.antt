@@ -1,5 +1,5 @@
 -- Made by tests/twins from crates/iddqd_bi/proofs/map/BiHashMap/enter/Answers.antt: change that file.
-use Rattle.std.proofs.Common.{◌≡◌, ◌<◌, ◌≤◌, ◌∷◌, ◌∙◌, ℕ, None, length, refl, ap, subst, arith, rules}
+use Rattle.std.proofs.Common.{◌≡◌, ◌<◌, ◌≤◌, ◌∷◌, ◌∙◌, ℕ, None, length, ap, subst, arith, rules}
 use Rattle.std.specs.Prelude.{is_some, IsPermutation}
 use Rattle.iddqd_store.specs.Bag.{Ranks}
 use Rattle.iddqd_store.specs.Map.{Map, Gains, GrowsUnless, PutsAt, bag}

@@ -2,7 +2,7 @@
 use Rattle.std.proofs.Common.{◌≡◌, ◌<◌, ◌≤◌, ◌+◌, ℕ, suc, ◌∙◌, Result, Err, arith, rules, subst, sym}
 use Rattle.std.specs.Prelude.{IfErr}
 use Rattle.std.proofs.iter.Next.{on}
-use Rattle.iddqd_store.specs.Map.{bag, Overwrites}
+use Rattle.iddqd_store.specs.Map.{bag}
 use Rattle.iddqd_store.specs.Runs.Step.{state_of}
 use Rattle.iddqd_store.proofs.RunLemmas.Extending.{ExtendsTo-push}
 use Rattle.iddqd_store.proofs.BagLemmas.Building.{length-overwritten}
