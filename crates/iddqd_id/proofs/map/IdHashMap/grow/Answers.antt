@@ -36,7 +36,7 @@ pub returns-in_err-try_reserve-2 : goal.returns-in_err-try_reserve-2
 returns-in_err-try_reserve-2 g c =
     let room = room_seen c.room-room.ensures.value c.self.view_is in
     let slots = slots_turn _ c.capacity-2.ensures.value c.wanted_above-slots.ensures.none c.capacity-2.ensures.fits c.try_reserve.ensures.same_room c.try_reserve.ensures.no_less_room in
-    let same = same_map c.self.inside.hash_builder c.try_reserve.ensures.slots (kept room slots (table_keeps _ c.in_err-try_reserve-2.ensures.room.unchanged) ) ∙ c.self.view_is in
+    let same = same_map c.self.inside.hash_builder c.try_reserve.ensures.slots (kept room slots (table_keeps _ c.in_err-try_reserve-2.ensures.room.unchanged)) ∙ c.self.view_is in
     record {
       slots = same_slots same;
       room = refuses _ c.from_residual-in_err-try_reserve-2.ensures.0 c.self.view_is same (table_short _ c.len.ensures.value c.capacity.ensures.value (length-contents c.self.inside.items.slots) (length-index c.self.invariant.indexes.0) (le_refl _) c.in-Some.ensures.short c.in_err-try_reserve-2.ensures.room.reason (min-le_left _ _) (min-le_right _ _));
