@@ -1,7 +1,7 @@
 -- Made by tests/twins from crates/iddqd_bi/specs/Refused.antt: change that file.
 
 -- What the error of an insert says, and what the map ends as.
-use Rattle.std.specs.Prelude.{◌≡◌, ◌++◌, Bool, false, List, [], ◌∷◌, ℕ, Result, Ok, Err, OnOk, OnErr}
+use Rattle.std.specs.Prelude.{◌≡◌, ◌++◌, Bool, false, List, [], ◌∷◌, Result, Ok, Err, OnOk, OnErr}
 use Rattle.std.specs.List.{list_any}
 use Rattle.std.specs.Borrow.{RattleType, MutBor, Fml, GName, follows_so}
 use Rattle.std.specs.HashMap.Lent.{HashMembers}

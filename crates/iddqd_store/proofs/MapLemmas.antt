@@ -1,13 +1,15 @@
 -- Lemmas for the invariants of the maps, with any number of ranks.
 pub mod Entered
 pub mod Extracting
+pub mod Growing
+pub mod Overwriting
 pub mod Places
 pub mod Rekeyed
 pub mod Storing
 pub mod Updating
 pub mod Walking
 pub mod Written
-use Rattle.std.specs.Prelude.{◌≡◌, ◌+◌, ◌<◌, ℕ, Bool, List, [], ◌∷◌, ◌++◌, length, IsPermutation, Option, Result, Ok, Err, OnErr}
+use Rattle.std.specs.Prelude.{◌≡◌, ◌+◌, ◌<◌, ℕ, Bool, List, [], ◌∷◌, ◌++◌, length, IsPermutation, Option, Result, Ok, Err, IfErr, OnErr}
 use Rattle.std.specs.Cmp.{IsEquivalence}
 use Rattle.std.proofs.Common.{refl, sym, subst, ap, ◌∙◌, arith}
 use Rattle.std.proofs.lemmas.Map.Keys.{IsDistinct-cons, IsDistinct-tail}
@@ -55,6 +57,9 @@ module _ {T : Type 0} where
 pub on_err : {A E P : Type 0} (r : Result A E) → P → OnErr r P
 on_err (Ok _) p = tt
 on_err (Err _) p = p
+
+pub at_err : {A E : Type 0} (r : Result A E) (e : E) (P : E → Type 0) → r ≡ Err e → P e → IfErr r P
+at_err {A} {E} r e P is p = subst (λ (r : Result A E). IfErr r P) (sym is) p
 
 module _ {T S : Type 0} where
   -- a request for room fails if that many items don't fit, and nothing changes then

@@ -5,6 +5,7 @@ pub mod Exchanged
 pub mod Fill
 pub mod Index
 pub mod Invariant
+pub mod Lookups
 pub mod Probes
 pub mod Rehashed
 pub mod Replaced

@@ -1,6 +1,7 @@
 -- What searches at all ranks cost together.
 use Rattle.std.specs.Prelude.{◌≡◌, ◌≤◌, ◌+◌, ℕ, List, [], ◌∷◌, length, map, Option}
-use Rattle.std.proofs.Common.{arith}
+use Rattle.std.proofs.Common.{arith, refl}
+use Rattle.iddqd_store.specs.Bag.{Ranks}
 use Rattle.iddqd_store.specs.Rank.{walks_within}
 use Rattle.iddqd_store.specs.Rank.All.{AreSearched, PlacingCosts, crowds}
 
@@ -37,3 +38,12 @@ module _ {T : Type 0} (bag : List T) (room : ℕ) where
     asked = searched_asked hashes hs answers asks asks_then before between all;
     at_most = let most = searched_most hashes hs answers asks asks_then before between all in omega (arith, most, rest);
   }
+
+no_walks : {T : Type 0} (by : Ranks T) (n : ℕ) → walks_within n (map (λ _. 0) by) ≡ 0
+no_walks [] n = refl
+no_walks (rank ∷ by) n = omega (arith, no_walks by n)
+
+-- a call that only searched, and the walks after it
+pub walked_after : {T : Type 0} (by : Ranks T) (hashes : List (T → ℕ)) (bag : List T) (room : ℕ) (hs walks : List ℕ) (asks asks_then before between after : ℕ) → PlacingCosts hashes bag room hs (map (λ _. 0) by) asks asks_then before between → after ≤ between + walks_within (length bag) walks → PlacingCosts hashes bag room hs walks asks asks_then before after
+walked_after by hashes bag room hs walks asks asks_then before between after own walked =
+    placing bag room hashes hs walks own.answers asks asks_then before own.between after own.search (omega (arith, own.rest, no_walks by (length bag), walked))

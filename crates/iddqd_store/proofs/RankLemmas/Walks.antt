@@ -131,3 +131,7 @@ walks_most n [] [] most = omega arith
 walks_most n [] (v ∷ vs) most = absurd most
 walks_most n (w ∷ ws) [] most = absurd most
 walks_most n (w ∷ ws) (v ∷ vs) most = let first = times w v n most.0 in let rest = walks_most n ws vs most.1 in omega (arith, first, rest)
+
+-- a cost is within one that allows as many walks
+pub within_most : (n before after : ℕ) (walks most : List ℕ) → AreAtMost walks most → after ≤ before + walks_within n walks → after ≤ before + walks_within n most
+within_most n before after walks most few cost = let more = walks_most n walks most few in omega (arith, cost, more)

@@ -8,7 +8,7 @@ use Rattle.std.proofs.Common.{IsSome, inl, inr, refl, sym, ap, subst, ◌∙◌,
 use Rattle.std.proofs.lemmas.Bool.{false≢true}
 use Rattle.std.proofs.lemmas.Bool.Decides.{nat_tests}
 use Rattle.iddqd_store.specs.Bag.{listing, all_of, every_of, entry, entry_of}
-use Rattle.iddqd_store.specs.Slots.{contents, get}
+use Rattle.iddqd_store.specs.Slots.{IsLive, contents, get}
 use Rattle.iddqd_store.specs.Slots.Found.{items_at, contains, with_found, each_once, is_at, found_by_all, FoundAt, AreFound, held_at, entry_at}
 use Rattle.iddqd_store.proofs.BagLemmas.Entries.{all_of-next}
 use Rattle.iddqd_store.proofs.BagLemmas.Exchanges.{split}
@@ -151,3 +151,13 @@ module _ {T : Type 0} (slots : List (Option T)) where
       by_slot : (o : Option T) → get slots slot ≡ o → option_to_list o ≡ filter test (contents slots) → IsSome o → m.now ∷ [] ≡ map part (filter test (contents slots))
       by_slot None there only some = absurd (cc)
       by_slot (Some x) there only some = ap (λ d. d ∷ []) (value x there) ∙ ap (map part) only
+
+-- the slot that every search found is one of those that they found
+pub by_all_live : {T : Type 0} (slots : List (Option T)) (found : List (Option ℕ)) → AllByRecursion (λ at. IfSome at (IsLive slots)) found → IfSome (found_by_all found) (IsLive slots)
+by_all_live slots [] live = tt
+by_all_live slots (None ∷ found) live = tt
+by_all_live slots (Some slot ∷ found) live = by (list_all (is_at slot) found)
+  where
+    by : (b : Bool) → IfSome (if b then Some slot else None) (IsLive slots)
+    by true = live.0
+    by false = tt

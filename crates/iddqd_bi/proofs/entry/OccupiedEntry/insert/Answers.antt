@@ -1,4 +1,5 @@
-use Rattle.std.proofs.Common.{arith, refl, ◌≡◌, ◌<◌, List, [], ◌∷◌, length, sym, ap, ◌∙◌}
+use Rattle.std.proofs.Common.{refl, [], ◌∷◌, sym, ap, ◌∙◌}
+use Rattle.std.proofs.Math.Nat.{zero-lt-suc}
 use Rattle.iddqd_store.specs.Map.{bag, hash_of}
 use Rattle.iddqd_store.proofs.BagLemmas.Differ.{differ-none}
 use Rattle.iddqd_store.proofs.MapLemmas.Storing.{live_found}
@@ -8,10 +9,6 @@ use Rattle.iddqd_store.proofs.SlotLemmas.Here.{finds_here}
 use Rattle.iddqd_bi.specs.Keys.{key_tests, ranks}
 use Rattle.iddqd_bi.proofs.MapLemmas.{AreKeyTests-queries, order-both}
 use Rattle.iddqd_bi.proofs.entry.OccupiedEntry.insert.Goals as goal
-
--- there is a rank
-some_rank : {A : Type 0} (tests rest : List A) (test : A) → tests ≡ test ∷ rest → 0 < length tests
-some_rank tests rest test is = omega (arith, ap length is)
 
 pub put_over-displaced-requires-clause-conflicts : goal.put_over-displaced-requires-clause-conflicts
 put_over-displaced-requires-clause-conflicts g c =
@@ -43,7 +40,7 @@ returns-clause-puts_over g c =
     let put = c.put_over-displaced in
     let tests = key_tests g.T.BiHashItem g.Q1.Query.stands_for g.Q2.Query.stands_for o.query1 o.query2 in
     let keys = AreKeyTests-queries g.T.BiHashItem g.T.K1.PartialEq.eq g.T.K2.PartialEq.eq g.Q1.Query.stands_for g.Q2.Query.stands_for g.met.Q1.Query.respects_eq g.met.Q2.Query.respects_eq o.query1 o.query2 in
-    let here = finds_here (ranks g.T.BiHashItem g.T.K1.PartialEq.eq g.T.K2.PartialEq.eq) tests (some_rank tests _ _ refl) keys put.new.self.slots put.result.1 c.args.item (differ-none tests c.args.item (sym c.in_default.ensures.rank)) put.ensures.puts_at.sound put.ensures.puts_at.at in
+    let here = finds_here (ranks g.T.BiHashItem g.T.K1.PartialEq.eq g.T.K2.PartialEq.eq) tests (zero-lt-suc _) keys put.new.self.slots put.result.1 c.args.item (differ-none tests c.args.item (sym c.in_default.ensures.rank)) put.ensures.puts_at.sound put.ensures.puts_at.at in
     record {
       same_map = refl;
       items = put.ensures.puts_at.items;

@@ -1,21 +1,10 @@
-use Rattle.std.proofs.Common.{refl, ◌≡◌, map, subst, sym, ℕ, Bool, true, false, List, [], ◌∷◌, Option, None, Some, if◌then◌else◌}
-use Rattle.std.specs.List.{AllByRecursion, list_all}
+use Rattle.std.proofs.Common.{refl, ◌≡◌, map, subst, sym, [], ◌∷◌}
 use Rattle.std.specs.Option.{IfSome, option_and_then, option_copied_mut, option_to_list}
 use Rattle.iddqd_store.specs.Slots.{IsLive, get}
-use Rattle.iddqd_store.specs.Slots.Found.{found_by_all, is_at}
 use Rattle.iddqd_store.proofs.MapLemmas.Updating.{held_data, held_live}
+use Rattle.iddqd_store.proofs.SlotLemmas.Entries.{by_all_live}
 use Rattle.iddqd_bi.specs.Entries.{unique_slot}
 use Rattle.iddqd_bi.proofs.entry.OccupiedEntryMut.data_unique_mut.Goals as goal
-
--- the slot that every search found is one of those that they found
-by_all_live : {T : Type 0} (slots : List (Option T)) (found : List (Option ℕ)) → AllByRecursion (λ at. IfSome at (IsLive slots)) found → IfSome (found_by_all found) (IsLive slots)
-by_all_live slots [] live = tt
-by_all_live slots (None ∷ found) live = tt
-by_all_live slots (Some slot ∷ found) live = by (list_all (is_at slot) found)
-  where
-    by : (b : Bool) → IfSome (if b then Some slot else None) (IsLive slots)
-    by true = live.0
-    by false = tt
 
 pub returns : goal.returns
 returns g c =

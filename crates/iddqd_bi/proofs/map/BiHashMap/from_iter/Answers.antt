@@ -1,12 +1,10 @@
-use Rattle.std.proofs.Common.{◌≡◌, List, [], Result, Err, subst, sym, rules}
-use Rattle.std.specs.Prelude.{IsPermutation, IfErr}
+use Rattle.std.proofs.Common.{List, [], subst, rules}
+use Rattle.std.specs.Prelude.{IsPermutation}
 use Rattle.iddqd_store.specs.Bag.{overs}
 use Rattle.iddqd_store.specs.Map.{bag}
 use Rattle.iddqd_store.proofs.BagLemmas.Building.{GivesThen-weaker, clash-none}
+use Rattle.iddqd_store.proofs.MapLemmas.{at_err}
 use Rattle.iddqd_bi.proofs.map.BiHashMap.from_iter.Goals as goal
-
-at_err : {A E : Type 0} (r : Result A E) (e : E) (P : E → Type 0) → r ≡ Err e → P e → IfErr r P
-at_err {A} {E} r e P is p = subst (λ (r : Result A E). IfErr r P) (sym is) p
 
 pub returns-in_err-extend-clause-refused : goal.returns-in_err-extend-clause-refused
 returns-in_err-extend-clause-refused g c =

@@ -6,7 +6,8 @@ use Rattle.iddqd_store.proofs.MapLemmas.{on_err}
 use Rattle.iddqd_store.proofs.RankLemmas.Index.{length-index}
 use Rattle.iddqd_store.proofs.RankLemmas.Invariant.{IsIndexed-reorder}
 use Rattle.iddqd_store.proofs.SlotLemmas.Contents.{length-contents}
-use Rattle.iddqd_bi.proofs.Growing.{bounded, kept, no_less_grown, past_short, refuses, room_grown, room_seen, same_grown, same_map, same_slots, slots_bound, slots_grow, slots_keep, slots_short, slots_turn, still, table_bound, table_grows, table_grows_twice, table_keeps, table_short, table_turn, wider}
+use Rattle.iddqd_store.proofs.MapLemmas.Growing.{past_short, refuses, room_seen, same_map, same_slots, slots_bound, slots_grow, slots_keep, slots_short, slots_turn, still, table_bound, table_grows, table_grows_twice, table_keeps, table_short, table_turn, wider}
+use Rattle.iddqd_bi.proofs.Growing.{bounded, kept, no_less_grown, room_grown, same_grown}
 use Rattle.iddqd_bi.proofs.map.BiHashMap.grow.Goals as goal
 
 pub returns-in_default : goal.returns-in_default

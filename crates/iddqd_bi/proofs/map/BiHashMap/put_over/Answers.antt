@@ -2,12 +2,12 @@ use Rattle.std.proofs.Common.{arith, ap, refl, sym, subst, ◌∙◌, ◌≡◌,
 use Rattle.std.specs.Prelude.{All}
 use Rattle.std.proofs.lemmas.List.Elements.{All-head, All-tail}
 use Rattle.std.proofs.lemmas.List.Sorted.{IsPermutation-refl}
-use Rattle.iddqd_store.specs.Bag.{Ranks, order, over}
-use Rattle.iddqd_store.specs.Map.{Map, PutsAt, bag}
-use Rattle.iddqd_store.specs.Rank.{key_hash, walks_one, walks_two, walks_within}
-use Rattle.iddqd_store.proofs.BagLemmas.Over.{clash-taken, over-taken}
+use Rattle.iddqd_store.specs.Map.{bag}
+use Rattle.iddqd_store.specs.Rank.{key_hash, walks_one, walks_two}
+use Rattle.iddqd_store.proofs.BagLemmas.Over.{clash-taken}
+use Rattle.iddqd_store.proofs.MapLemmas.Overwriting.{PutsAt-over}
 use Rattle.iddqd_store.proofs.MapLemmas.Places.{one_leaves, two_leave, stand_in}
-use Rattle.iddqd_store.proofs.RankLemmas.Walks.{AreAtMost, one_most, two_most, walks_most}
+use Rattle.iddqd_store.proofs.RankLemmas.Walks.{one_most, two_most, within_most}
 use Rattle.iddqd_bi.specs.Keys.{ranks}
 use Rattle.iddqd_bi.proofs.map.BiHashMap.put_over.Goals as goal
 
@@ -15,21 +15,6 @@ use Rattle.iddqd_bi.proofs.map.BiHashMap.put_over.Goals as goal
 none_left : (found rest : List ℕ) (slot : ℕ) → length found < 2 → found ≡ slot ∷ rest → rest ≡ []
 none_left found [] slot fewer is = refl
 none_left found (other ∷ rest) slot fewer is = let long = ap length is in absurd (omega (arith, fewer, long))
-
--- an item that is put in the place of those that conflict with it is put over the bag
-puts_over : {T S : Type 0} (ranks : Ranks T) (old new : Map T S) (slot : ℕ) (x : T) (rest : List T) → IsPermutation (bag old) (order ranks (bag old) x ++ rest) → PutsAt ranks old slot x (x ∷ rest) new → PutsAt ranks old slot x (over ranks (bag old) x) new
-puts_over ranks old new slot x rest out put = record {
-  at = put.at;
-  items = over-taken ranks (bag old) rest (bag new) x out put.items;
-  sound = put.sound;
-  fits = put.fits;
-  same_room = put.same_room;
-  same_builder = put.same_builder;
-}
-
--- a cost is within one that allows as many walks
-within_most : (n before after : ℕ) (walks most : List ℕ) → AreAtMost walks most → after ≤ before + walks_within n walks → after ≤ before + walks_within n most
-within_most n before after walks most few cost = let more = walks_most n walks most few in omega (arith, cost, more)
 
 pub exchange-requires-clause-free : goal.exchange-requires-clause-free
 exchange-requires-clause-free g c =
@@ -57,7 +42,7 @@ returns-in_default-pop_front-clause-puts_at g c =
     let none = c.in_default-pop_front.ensures in
     let only = c.in-Some.ensures.rest ∙ ap (λ (l : List ℕ). c.in-Some.slot ∷ l) (none.rest ∙ none.end) in
     let out = one_leaves by slots c.args.item c.in-Some.slot _ stand only in
-    puts_over by c.args.self.now c.exchange.new.self c.in-Some.slot c.args.item _ out c.exchange.ensures.puts_at
+    PutsAt-over by c.args.self.now c.exchange.new.self c.args.item c.in-Some.slot _ out c.exchange.ensures.puts_at
 
 pub returns-in_default-pop_front-clause-costs : goal.returns-in_default-pop_front-clause-costs
 returns-in_default-pop_front-clause-costs g c =
@@ -97,7 +82,7 @@ returns-clause-puts_at g c =
     let none = none_left _ _ _ c.in-Some.ensures.fewer rest in
     let found = c.in-Some.ensures.rest ∙ ap (λ (l : List ℕ). c.in-Some.slot ∷ l) (rest ∙ ap (λ (l : List ℕ). c.in-Some-pop_front.other_slot ∷ l) none) in
     let out = two_leave by slots slots c.args.item c.in-Some.slot c.in-Some-pop_front.other_slot [] [] _ stand found (λ k apart. refl) refl (IsPermutation-refl _) in
-    puts_over by c.args.self.now c.exchange_two-gone.new.self c.in-Some.slot c.args.item _ out c.exchange_two-gone.ensures.puts_at
+    PutsAt-over by c.args.self.now c.exchange_two-gone.new.self c.args.item c.in-Some.slot _ out c.exchange_two-gone.ensures.puts_at
 
 pub returns-clause-costs : goal.returns-clause-costs
 returns-clause-costs g c =

@@ -1,26 +1,13 @@
 -- Made by tests/twins from crates/iddqd_bi/proofs/map/BiHashMap/extend/Answers.antt: change that file.
-use Rattle.std.proofs.Common.{◌≡◌, ◌<◌, ◌≤◌, ◌+◌, ℕ, suc, ◌∙◌, Result, Err, arith, rules, subst, sym}
-use Rattle.std.specs.Prelude.{IfErr}
+use Rattle.std.proofs.Common.{le_trans, rules, ◌∙◌}
 use Rattle.std.proofs.iter.Next.{on}
 use Rattle.iddqd_store.specs.Map.{bag}
 use Rattle.iddqd_store.specs.Runs.Step.{state_of}
 use Rattle.iddqd_store.proofs.RunLemmas.Extending.{ExtendsTo-push}
 use Rattle.iddqd_store.proofs.BagLemmas.Building.{length-overwritten}
+use Rattle.iddqd_store.proofs.MapLemmas.{at_err}
+use Rattle.iddqd_store.proofs.MapLemmas.Growing.{fits_on, full_before, spare}
 use Rattle.iddqd_id.proofs.map.IdHashMap.extend.Goals as goal
-
--- all that is left fits, and one of it came: it finds room, and the rest fits behind it
-module _ (held left next room : ℕ) (fit : held + left ≤ room) (nearer : next < left) where
-  spare : held < room
-  spare = omega arith
-
-  fits_on : (now grown : ℕ) → now ≤ suc held → grown ≡ room → now + next ≤ grown
-  fits_on now grown more same = omega arith
-
-  not_full : held ≡ room → ⊥
-  not_full full = omega arith
-
-higher : (a b c : ℕ) → a ≤ b → b ≤ c → a ≤ c
-higher a b c below above = omega arith
 
 pub loop-item-preserved : goal.loop-item-preserved
 loop-item-preserved g c =
@@ -32,7 +19,7 @@ loop-item-preserved g c =
       callable = next.0;
       ending = next.1;
       extends = ExtendsTo-push by (state_of c.args.self.now) (state_of c.loop-item.self) (state_of c.insert_overwrite.new.self) c.loop-item.yielded c.in-Some.item so_far.extends put.items put.fits put.no_less_room;
-      no_less_room = higher _ _ _ so_far.no_less_room put.no_less_room;
+      no_less_room = le_trans so_far.no_less_room put.no_less_room;
       fits = λ fit.
           let before = so_far.fits fit in
           let same = put.same_room (spare _ _ _ _ before.0 next.2) in
@@ -51,9 +38,6 @@ loop-item-init g c = record {
   builder = search rules;
 }
 
-at_err : {A E : Type 0} (r : Result A E) (e : E) (P : E → Type 0) → r ≡ Err e → P e → IfErr r P
-at_err {A} {E} r e P is p = subst (λ (r : Result A E). IfErr r P) (sym is) p
-
 -- an insert that failed left the map as it was
 pub returns-in_err-insert_overwrite-clause-refused : goal.returns-in_err-insert_overwrite-clause-refused
 returns-in_err-insert_overwrite-clause-refused g c =
@@ -70,7 +54,7 @@ pub returns-in_err-insert_overwrite-clause-granted : goal.returns-in_err-insert_
 returns-in_err-insert_overwrite-clause-granted g c = λ fit.
     let so_far = c.loop-item.invariant in
     let nearer = (on c.in-Some.item c.in-Some.is c.next.ensures.goes so_far.ending).2 in
-    absurd (not_full _ _ _ _ (so_far.fits fit).0 nearer c.in_err-insert_overwrite.ensures.reason.full)
+    absurd (full_before _ _ _ _ (so_far.fits fit).0 nearer c.in_err-insert_overwrite.ensures.reason.full)
 
 pub returns-in_err-insert_overwrite-clause-room : goal.returns-in_err-insert_overwrite-clause-room
 returns-in_err-insert_overwrite-clause-room g c =

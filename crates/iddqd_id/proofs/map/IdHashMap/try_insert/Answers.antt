@@ -1,17 +1,15 @@
 -- Made by tests/twins from crates/iddqd_bi/proofs/map/BiHashMap/try_insert/Answers.antt: change that file.
-use Rattle.std.proofs.Common.{rules, arith, ◌≡◌, ◌<◌, ℕ, sym, ◌∙◌}
+use Rattle.std.proofs.Common.{rules, ◌≡◌, sym, ◌∙◌}
 use Rattle.std.specs.Prelude.{is_some}
 use Rattle.iddqd_store.specs.Bag.{like}
 use Rattle.iddqd_store.specs.Map.{IsFullFor, bag}
 use Rattle.iddqd_store.specs.Rank.All.{IsBlockedBy}
 use Rattle.iddqd_store.proofs.CallerLemmas.Asking.{none-clash}
+use Rattle.iddqd_store.proofs.MapLemmas.Growing.{not_full}
 use Rattle.iddqd_store.proofs.MapLemmas.Places.{is_some-at, none_taken}
 use Rattle.iddqd_id.specs.Keys.{has, ranks}
 use Rattle.iddqd_id.proofs.Refusing.{duplicate_item, duplicate_reason, memory_item, memory_reason}
 use Rattle.iddqd_id.proofs.map.IdHashMap.try_insert.Goals as goal
-
-not_full : (held room : ℕ) → held ≡ room → held < room → ⊥
-not_full held room full spare = omega (arith, full, spare)
 
 pub returns-in-Err-Duplicate-clause-handed_back : goal.returns-in-Err-Duplicate-clause-handed_back
 returns-in-Err-Duplicate-clause-handed_back g c =

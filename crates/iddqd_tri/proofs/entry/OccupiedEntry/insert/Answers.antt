@@ -1,5 +1,6 @@
 -- Made by tests/twins from crates/iddqd_bi/proofs/entry/OccupiedEntry/insert/Answers.antt: change that file.
-use Rattle.std.proofs.Common.{arith, refl, ◌≡◌, ◌<◌, List, [], ◌∷◌, length, sym, ap, ◌∙◌}
+use Rattle.std.proofs.Common.{refl, [], ◌∷◌, sym, ap, ◌∙◌}
+use Rattle.std.proofs.Math.Nat.{zero-lt-suc}
 use Rattle.iddqd_store.specs.Map.{bag, hash_of}
 use Rattle.iddqd_store.proofs.BagLemmas.Differ.{differ-none}
 use Rattle.iddqd_store.proofs.MapLemmas.Storing.{live_found}
@@ -9,10 +10,6 @@ use Rattle.iddqd_store.proofs.SlotLemmas.Here.{finds_here}
 use Rattle.iddqd_tri.specs.Keys.{key_tests, ranks}
 use Rattle.iddqd_tri.proofs.MapLemmas.{AreKeyTests-queries, order-all}
 use Rattle.iddqd_tri.proofs.entry.OccupiedEntry.insert.Goals as goal
-
--- there is a rank
-some_rank : {A : Type 0} (tests rest : List A) (test : A) → tests ≡ test ∷ rest → 0 < length tests
-some_rank tests rest test is = omega (arith, ap length is)
 
 pub put_over-displaced-requires-clause-conflicts : goal.put_over-displaced-requires-clause-conflicts
 put_over-displaced-requires-clause-conflicts g c =
@@ -47,7 +44,7 @@ returns-clause-puts_over g c =
     let put = c.put_over-displaced in
     let tests = key_tests g.T.TriHashItem g.Q1.Query.stands_for g.Q2.Query.stands_for g.Q3.Query.stands_for o.query1 o.query2 o.query3 in
     let keys = AreKeyTests-queries g.T.TriHashItem g.T.K1.PartialEq.eq g.T.K2.PartialEq.eq g.T.K3.PartialEq.eq g.Q1.Query.stands_for g.Q2.Query.stands_for g.Q3.Query.stands_for g.met.Q1.Query.respects_eq g.met.Q2.Query.respects_eq g.met.Q3.Query.respects_eq o.query1 o.query2 o.query3 in
-    let here = finds_here (ranks g.T.TriHashItem g.T.K1.PartialEq.eq g.T.K2.PartialEq.eq g.T.K3.PartialEq.eq) tests (some_rank tests _ _ refl) keys put.new.self.slots put.result.1 c.args.item (differ-none tests c.args.item (sym c.in_default.ensures.rank)) put.ensures.puts_at.sound put.ensures.puts_at.at in
+    let here = finds_here (ranks g.T.TriHashItem g.T.K1.PartialEq.eq g.T.K2.PartialEq.eq g.T.K3.PartialEq.eq) tests (zero-lt-suc _) keys put.new.self.slots put.result.1 c.args.item (differ-none tests c.args.item (sym c.in_default.ensures.rank)) put.ensures.puts_at.sound put.ensures.puts_at.at in
     record {
       same_map = refl;
       items = put.ensures.puts_at.items;

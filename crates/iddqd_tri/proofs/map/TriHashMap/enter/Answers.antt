@@ -1,45 +1,21 @@
 -- Made by tests/twins from crates/iddqd_bi/proofs/map/BiHashMap/enter/Answers.antt: change that file.
-use Rattle.std.proofs.Common.{◌≡◌, ◌<◌, ◌≤◌, ◌∷◌, ◌∙◌, ℕ, None, length, ap, subst, arith, rules}
-use Rattle.std.specs.Prelude.{is_some, IsPermutation}
-use Rattle.iddqd_store.specs.Bag.{Ranks}
-use Rattle.iddqd_store.specs.Map.{Map, Gains, GrowsUnless, PutsAt, bag}
-use Rattle.iddqd_store.specs.Slots.{contents}
+use Rattle.std.proofs.Common.{◌≡◌, ◌∙◌, None, ap, rules}
+use Rattle.std.specs.Prelude.{is_some}
+use Rattle.iddqd_store.proofs.MapLemmas.Growing.{Gains-put, GrowsUnless-put}
 use Rattle.iddqd_store.proofs.SlotLemmas.Entered.{StandAt-push}
 use Rattle.iddqd_store.proofs.MapLemmas.Places.{is_some-at}
 use Rattle.iddqd_tri.specs.Keys.{has1, has2, has3}
 use Rattle.iddqd_tri.proofs.map.TriHashMap.enter.Goals as goal
 
--- the map has room for the item, and then has the item
-module _ {T S : Type 0} (by : Ranks T) (old roomy : Map T S) (slots : roomy.slots ≡ old.slots) (no_less_room : old.capacity ≤ roomy.capacity) (same : length (bag old) < old.capacity → roomy ≡ old) (builder : roomy.builder ≡ old.builder) where
-  has_grown : GrowsUnless (length (bag old) < old.capacity) old roomy
-  has_grown = record { no_less_room = no_less_room; same_room = λ spare. ap (λ (m : Map T S). m.capacity) (same spare); same_builder = builder }
-
-  module _ (new : Map T S) (slot : ℕ) (x : T) (puts : PutsAt by roomy slot x (x ∷ bag roomy) new) where
-    grows : GrowsUnless (length (bag old) < old.capacity) old new
-    grows = record {
-      no_less_room = omega (arith, no_less_room, puts.same_room);
-      same_room = λ spare. puts.same_room ∙ has_grown.same_room spare;
-      same_builder = puts.same_builder ∙ builder;
-    }
-
-    gains : Gains old x new
-    gains = record {
-      items = subst (λ l. IsPermutation (bag new) (x ∷ contents l)) slots puts.items;
-      no_less_room = grows.no_less_room;
-      same_room = grows.same_room;
-      fits = puts.fits;
-      same_builder = grows.same_builder;
-    }
-
 pub returns-clause-gains : goal.returns-clause-gains
 returns-clause-gains g c =
     let made = c.make_room.ensures in
-    gains _ _ _ made.slots made.no_less_room made.same_room made.builder _ _ _ c.insert_at-slot.ensures.puts_at
+    Gains-put _ _ _ made.slots made.no_less_room made.same_room made.builder _ _ _ c.insert_at-slot.ensures.puts_at
 
 pub returns-clause-grows : goal.returns-clause-grows
 returns-clause-grows g c =
     let made = c.make_room.ensures in
-    grows _ _ _ made.slots made.no_less_room made.same_room made.builder _ _ _ c.insert_at-slot.ensures.puts_at
+    GrowsUnless-put _ _ _ made.slots made.no_less_room made.same_room made.builder _ _ _ c.insert_at-slot.ensures.puts_at
 
 pub returns-then-is_err-clause-grows : goal.returns-then-is_err-clause-grows
 returns-then-is_err-clause-grows g c =

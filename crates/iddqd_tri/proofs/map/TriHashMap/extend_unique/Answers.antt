@@ -1,5 +1,5 @@
 -- Made by tests/twins from crates/iddqd_bi/proofs/map/BiHashMap/extend_unique/Answers.antt: change that file.
-use Rattle.std.proofs.Common.{◌≡◌, ◌≤◌, ◌+◌, ℕ, suc, ◌∷◌, ◌++◌, ◌∙◌, List, arith, rules, subst, sym}
+use Rattle.std.proofs.Common.{◌≡◌, ◌∷◌, ◌++◌, ◌∙◌, List, arith, le_of_eq, le_trans, rules, subst, sym}
 use Rattle.std.specs.Prelude.{◌<◌, Bool, length, IsPermutation}
 use Rattle.std.specs.Iterator.{Yields}
 use Rattle.std.specs.List.{list_any}
@@ -10,6 +10,7 @@ use Rattle.std.proofs.lemmas.List.Sorted.{length_permutation}
 use Rattle.iddqd_store.specs.Map.{bag}
 use Rattle.iddqd_store.proofs.BagLemmas.Building.{AddsTo-nil, AddsTo-push, AddsTo-sound}
 use Rattle.iddqd_store.proofs.MapLemmas.Entered.{taken_sound, left_same, left_sound, taken_key}
+use Rattle.iddqd_store.proofs.MapLemmas.Growing.{fits_on, spare}
 use Rattle.iddqd_store.proofs.SlotLemmas.Entered.{StandAt-nil}
 use Rattle.iddqd_tri.specs.Keys.{has1, has2, has3}
 use Rattle.iddqd_tri.proofs.MapLemmas.{AreLawful-ranks}
@@ -24,23 +25,6 @@ some g = rw g.met.T.Ranked.ranks_are (omega arith)
 
 laws : (g : given.Over) → AreLawful (by g)
 laws g = rw g.met.T.Ranked.ranks_are (AreLawful-ranks g.T.TriHashItem g.met.T.K1.Eq.laws g.met.T.K2.Eq.laws g.met.T.K3.Eq.laws)
-
--- all that is left fits, and one of it came: it finds room, and the rest fits behind it
-module _ (held left next room : ℕ) (fit : held + left ≤ room) (nearer : next < left) where
-  spare : held < room
-  spare = omega arith
-
-  fits_on : (now grown : ℕ) → now ≡ suc held → grown ≡ room → now + next ≤ grown
-  fits_on now grown more same = omega arith
-
-one_more : {T : Type 0} (new held : List T) (x : T) → IsPermutation new (x ∷ held) → length new ≡ suc (length held)
-one_more new held x put = omega (arith, length_permutation new (x ∷ held) put)
-
-higher : (a b c : ℕ) → a ≤ b → b ≤ c → a ≤ c
-higher a b c below above = omega arith
-
-kept : (a b c : ℕ) → a ≤ b → c ≡ b → a ≤ c
-kept a b c below same = omega arith
 
 pub loop-item-init : goal.loop-item-init
 loop-item-init g c = record {
@@ -64,11 +48,11 @@ loop-item-preserved g c =
       ending = next.1;
       added = AddsTo-push (by g) (bag c.args.self.now) (bag c.loop-item.self) (bag c.enter.new.self) c.loop-item.yielded item so_far.added (rw g.met.T.Ranked.ranks_are put.free) put.gains.items;
       noted = put.noted c.loop-item.yielded so_far.noted;
-      no_less_room = higher _ _ _ so_far.no_less_room put.grows.no_less_room;
+      no_less_room = le_trans so_far.no_less_room put.grows.no_less_room;
       fits = λ fit.
           let before = so_far.fits fit in
           let same = put.grows.same_room (spare _ _ _ _ before.0 next.2) in
-          (fits_on _ _ _ _ before.0 next.2 _ _ (one_more (bag c.enter.new.self) (bag c.loop-item.self) item put.gains.items) same, same ∙ before.1);
+          (fits_on _ _ _ _ before.0 next.2 _ _ (le_of_eq (sym (length_permutation (bag c.enter.new.self) (item ∷ bag c.loop-item.self) put.gains.items))) same, same ∙ before.1);
       builder = put.grows.same_builder ∙ so_far.builder;
     }
 
@@ -138,7 +122,7 @@ returns-in-Err-clause-room g c =
     let loses = c.take_entered-before.ensures.loses in
     let nearer = (on c.in-Some.item c.in-Some.is c.next.ensures.goes so_far.ending).2 in
     record {
-      no_less_room = kept _ _ _ (higher _ _ _ so_far.no_less_room grows.no_less_room) loses.same_room;
+      no_less_room = le_trans (le_trans so_far.no_less_room grows.no_less_room) (le_of_eq (sym loses.same_room));
       same_room = λ fit. let before = so_far.fits fit in loses.same_room ∙ grows.same_room (spare _ _ _ _ before.0 nearer) ∙ before.1;
       same_builder = loses.same_builder ∙ grows.same_builder ∙ so_far.builder;
     }

@@ -1,12 +1,12 @@
 -- Written by hand; tests/twins.patch says why.
 use Rattle.std.proofs.Common.{arith, ap, refl, sym, ◌∙◌, ◌≡◌, ◌<◌, ◌≤◌, ◌+◌, ◌++◌, ◌∷◌, [], ℕ, List, IsPermutation, length}
 use Rattle.std.proofs.lemmas.List.Sorted.{IsPermutation-refl}
-use Rattle.iddqd_store.specs.Bag.{Ranks, order, over}
-use Rattle.iddqd_store.specs.Map.{Map, PutsAt, bag}
-use Rattle.iddqd_store.specs.Rank.{key_hash, walks_one, walks_three, walks_two, walks_within}
-use Rattle.iddqd_store.proofs.BagLemmas.Over.{clash-taken, over-taken}
+use Rattle.iddqd_store.specs.Map.{bag}
+use Rattle.iddqd_store.specs.Rank.{key_hash, walks_one, walks_three, walks_two}
+use Rattle.iddqd_store.proofs.BagLemmas.Over.{clash-taken}
+use Rattle.iddqd_store.proofs.MapLemmas.Overwriting.{PutsAt-over}
 use Rattle.iddqd_store.proofs.MapLemmas.Places.{one_leaves, three_leave, two_leave, stand_in}
-use Rattle.iddqd_store.proofs.RankLemmas.Walks.{AreAtMost, one_most, three_most, two_most, walks_most}
+use Rattle.iddqd_store.proofs.RankLemmas.Walks.{one_most, three_most, two_most, within_most}
 use Rattle.iddqd_tri.specs.Keys.{ranks}
 use Rattle.iddqd_tri.proofs.map.TriHashMap.put_over.Goals as goal
 
@@ -17,21 +17,6 @@ none_left found others (last ∷ rest) slot other fewer is and_is =
     let long = ap length is in
     let longer = ap length and_is in
     absurd (omega (arith, fewer, long, longer))
-
--- an item that is put in the place of those that conflict with it is put over the bag
-puts_over : {T S : Type 0} (ranks : Ranks T) (old new : Map T S) (slot : ℕ) (x : T) (rest : List T) → IsPermutation (bag old) (order ranks (bag old) x ++ rest) → PutsAt ranks old slot x (x ∷ rest) new → PutsAt ranks old slot x (over ranks (bag old) x) new
-puts_over ranks old new slot x rest out put = record {
-  at = put.at;
-  items = over-taken ranks (bag old) rest (bag new) x out put.items;
-  sound = put.sound;
-  fits = put.fits;
-  same_room = put.same_room;
-  same_builder = put.same_builder;
-}
-
--- a cost is within one that allows as many walks
-within_most : (n before after : ℕ) (walks most : List ℕ) → AreAtMost walks most → after ≤ before + walks_within n walks → after ≤ before + walks_within n most
-within_most n before after walks most few cost = let more = walks_most n walks most few in omega (arith, cost, more)
 
 pub exchange-requires-clause-free : goal.exchange-requires-clause-free
 exchange-requires-clause-free g c =
@@ -59,7 +44,7 @@ returns-in_default-pop_front-clause-puts_at g c =
     let none = c.in_default-pop_front.ensures in
     let only = c.in-Some.ensures.rest ∙ ap (λ (l : List ℕ). c.in-Some.slot ∷ l) (none.rest ∙ none.end) in
     let out = one_leaves by slots c.args.item c.in-Some.slot _ stand only in
-    puts_over by c.args.self.now c.exchange.new.self c.in-Some.slot c.args.item _ out c.exchange.ensures.puts_at
+    PutsAt-over by c.args.self.now c.exchange.new.self c.args.item c.in-Some.slot _ out c.exchange.ensures.puts_at
 
 pub returns-in_default-pop_front-clause-costs : goal.returns-in_default-pop_front-clause-costs
 returns-in_default-pop_front-clause-costs g c =
@@ -104,7 +89,7 @@ returns-in-Some-pop_front-2-clause-puts_at g c =
     let none = none_left _ _ _ _ _ c.in-Some.ensures.fewer first second in
     let found = c.in-Some.ensures.rest ∙ ap (λ (l : List ℕ). c.in-Some.slot ∷ l) (first ∙ ap (λ (l : List ℕ). c.in-Some-pop_front.other_slot ∷ l) (second ∙ ap (λ (l : List ℕ). c.in-Some-pop_front-2.last_slot ∷ l) none)) in
     let out = three_leave by slots c.args.item c.in-Some.slot c.in-Some-pop_front.other_slot c.in-Some-pop_front-2.last_slot _ stand found in
-    puts_over by c.args.self.now c.exchange_three-gone.new.self c.in-Some.slot c.args.item _ out c.exchange_three-gone.ensures.puts_at
+    PutsAt-over by c.args.self.now c.exchange_three-gone.new.self c.args.item c.in-Some.slot _ out c.exchange_three-gone.ensures.puts_at
 
 pub returns-in-Some-pop_front-2-clause-costs : goal.returns-in-Some-pop_front-2-clause-costs
 returns-in-Some-pop_front-2-clause-costs g c =
@@ -144,7 +129,7 @@ returns-clause-puts_at g c =
     let none = c.in_default-pop_front-2.ensures in
     let found = c.in-Some.ensures.rest ∙ ap (λ (l : List ℕ). c.in-Some.slot ∷ l) (c.in-Some-pop_front.ensures.rest ∙ ap (λ (l : List ℕ). c.in-Some-pop_front.other_slot ∷ l) (none.rest ∙ none.end)) in
     let out = two_leave by slots slots c.args.item c.in-Some.slot c.in-Some-pop_front.other_slot [] [] _ stand found (λ k apart. refl) refl (IsPermutation-refl _) in
-    puts_over by c.args.self.now c.exchange_two-gone.new.self c.in-Some.slot c.args.item _ out c.exchange_two-gone.ensures.puts_at
+    PutsAt-over by c.args.self.now c.exchange_two-gone.new.self c.args.item c.in-Some.slot _ out c.exchange_two-gone.ensures.puts_at
 
 pub returns-clause-costs : goal.returns-clause-costs
 returns-clause-costs g c =
