@@ -8,7 +8,7 @@
 //!
 //!     --rounds N      repeats the whole measurement N times (5)
 //!     --turns N       takes the least time of N turns in a round (20; fewer above 10,000 items)
-//!     --keys N        times only the map with N keys, which are 1, 2 or 3
+//!     --keys N[,N]    times only the maps with N keys, which are 1, 2 or 3
 //!     --without WORD  leaves out the operations whose name contains WORD
 //!     --table         prints the ratios as a page has them, a table for each map
 //!     --growth        prints tables of the maps here alone, of the calls that visit all items
@@ -64,7 +64,7 @@ type Operations<const N: usize> = fn() -> Vec<Operation<N>>;
 struct Wanted {
     plan: Plan,
     sizes: Option<Vec<usize>>,
-    keys: Option<usize>,
+    keys: Option<Vec<usize>>,
     word: String,
     without: Option<String>,
     table: bool,
@@ -118,7 +118,10 @@ fn wanted(mut words: impl Iterator<Item = String>) -> Wanted {
         match &word[..] {
             "--rounds" => wanted.plan.rounds = number(&behind(&mut words, &word)).max(1),
             "--turns" => wanted.plan.turns = number(&behind(&mut words, &word)).max(1),
-            "--keys" => wanted.keys = Some(number(&behind(&mut words, &word))),
+            "--keys" => {
+                let keys = behind(&mut words, &word);
+                wanted.keys = Some(keys.split(',').map(number).collect());
+            }
             "--without" => wanted.without = Some(behind(&mut words, &word)),
             "--table" => wanted.table = true,
             "--growth" => wanted.growth = true,
@@ -145,13 +148,17 @@ impl Wanted {
         name.contains(&self.word) && !left_out
     }
 
+    fn has_map(&self, keys: usize) -> bool {
+        self.keys.as_ref().is_none_or(|wanted| wanted.contains(&keys))
+    }
+
     fn sizes(&self, default: &[usize]) -> Vec<usize> {
         self.sizes.clone().unwrap_or(default.to_vec())
     }
 
     /// Returns the operations of the map with N keys that the arguments ask for.
     fn picked<const N: usize>(&self, operations: Operations<N>) -> Vec<Operation<N>> {
-        if self.keys.is_some_and(|keys| keys != N) {
+        if !self.has_map(N) {
             return Vec::new();
         }
         let all = operations().into_iter();
@@ -228,14 +235,13 @@ fn run_once(words: &mut impl Iterator<Item = String>) {
 #[cfg(feature = "counts")]
 fn print_memory(wanted: &Wanted) {
     let sizes = wanted.sizes(&memory::SIZES);
-    let has = |keys: usize| wanted.keys.is_none_or(|wanted| wanted == keys);
-    if has(1) {
+    if wanted.has_map(1) {
         memory::print::<1, One>(operations::exported!(id_grow, 1), &sizes);
     }
-    if has(2) {
+    if wanted.has_map(2) {
         memory::print::<2, Two>(operations::exported!(bi_grow, 2), &sizes);
     }
-    if has(3) {
+    if wanted.has_map(3) {
         memory::print::<3, Three>(operations::exported!(tri_grow, 3), &sizes);
     }
 }

@@ -47,6 +47,11 @@ pub fn map_name(keys: usize) -> &'static str {
     }
 }
 
+/// Returns how many keys a map has, in words.
+fn keys(number: usize) -> String {
+    format!("{number} key{}", if number == 1 { "" } else { "s" })
+}
+
 /// Prints both sides at each size, for a terminal.
 pub fn print_text<const N: usize>(operations: &[Operation<N>], sizes: &[usize], plan: Plan) {
     let figures = measure(operations, sizes, plan);
@@ -138,7 +143,7 @@ impl Map {
     fn print(&self, sizes: &[usize]) {
         let wide = self.rows.iter().map(|(name, _)| name.len()).max();
         let wide = wide.unwrap_or_default().max(28);
-        println!("{:<wide$}{}", format!("{} keys:", self.keys), heads(sizes));
+        println!("{:<wide$}{}", format!("{}:", keys(self.keys)), heads(sizes));
         for (name, figures) in &self.rows {
             let mut cells = "  ".to_string();
             for (at, items) in sizes.iter().enumerate() {
@@ -205,8 +210,8 @@ pub fn print_table(maps: &[Map], sizes: &[usize], plan: Plan) {
     // Beside std the list would be half of the table.
     for map in maps.iter().filter(|_| plan.other == "crate") {
         println!(
-            "With {} keys these rows are above 1.2 at some size up to 20,000, here with their highest ratio:\n{}.\n",
-            map.keys,
+            "With {} these rows are above 1.2 at some size up to 20,000, here with their highest ratio:\n{}.\n",
+            keys(map.keys),
             map.above(sizes)
         );
     }

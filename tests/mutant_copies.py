@@ -15,7 +15,7 @@ import sources
 from sources import read
 
 # How many mutants a copy has at most. Each check reads the libraries and proves the lemmas anew. One of 92 mutants took 2 GB of memory.
-MOST = 50
+MOST = 32
 # The clause of a contract that a goal is of.
 OF_CLAUSE = re.compile(r"returns.*-clause-(\w+?)(?:-\d+)?$")
 # Where a function is: its file there, the begin and the end of its body, its indent, the begin and the end of all of it, and what sources says of it.

@@ -89,12 +89,34 @@ pub(crate) fn lent_for_good<S: BuildHasher>(
     let Entry::Occupied(entry) = map.entry(&keys.key1, &keys.key2, &keys.key3) else {
         return Some(Answer::said("vacant"));
     };
-    let held = entry.into_mut();
+    of_held_for_good(entry.into_mut(), call)
+}
+
+fn of_held_for_good<S: BuildHasher>(
+    held: OccupiedEntryMut<'_, Item, S>,
+    call: &str,
+) -> Option<Answer> {
     match call {
-        "into_by_key1" => Some(shown!(held.into_by_key1())),
-        "into_by_key2" => Some(shown!(held.into_by_key2())),
-        "into_by_key3" => Some(shown!(held.into_by_key3())),
-        "into_unique" => Some(shown!(held.into_unique())),
+        "into_by_key1" => Some(by_key1_for_good(held)),
+        "into_by_key2" => Some(by_key2_for_good(held)),
+        "into_by_key3" => Some(by_key3_for_good(held)),
+        "into_unique" => Some(unique_for_good(held)),
         _ => None,
     }
+}
+
+fn by_key1_for_good<S: BuildHasher>(held: OccupiedEntryMut<'_, Item, S>) -> Answer {
+    shown!(held.into_by_key1())
+}
+
+fn by_key2_for_good<S: BuildHasher>(held: OccupiedEntryMut<'_, Item, S>) -> Answer {
+    shown!(held.into_by_key2())
+}
+
+fn by_key3_for_good<S: BuildHasher>(held: OccupiedEntryMut<'_, Item, S>) -> Answer {
+    shown!(held.into_by_key3())
+}
+
+fn unique_for_good<S: BuildHasher>(held: OccupiedEntryMut<'_, Item, S>) -> Answer {
+    shown!(held.into_unique())
 }
