@@ -277,12 +277,15 @@ pub fn circumstances(plan: Plan) -> String {
     let name = name.map_or("an unknown processor", |name| {
         name.trim_matches(['\t', ' ', ':'])
     });
+    let rounds = match plan.rounds {
+        1 => "one round, in which".to_string(),
+        rounds => format!("the medians of {rounds} rounds, in each of which"),
+    };
     format!(
-        "On {}, {name} ({processors} to run on), load {} when it began: the medians of {} rounds, in \
-         each of which the least of {} turns was taken (fewer above 10,000 items).",
+        "On {}, {name} ({processors} to run on), load {} when it began: {rounds} the least of {} turns \
+         was taken (fewer above 10,000 items).",
         date((seconds / 86_400) as i64),
         load(),
-        plan.rounds,
         plan.turns,
     )
 }
