@@ -1,4 +1,4 @@
--- The room of a map is the least of those of its slots and of both tables.
+-- Lemmas for the room of a map, the least of those of its slots and tables.
 use Rattle.std.specs.Prelude.{◌≡◌, ◌+◌, ◌≤◌, ℕ, min}
 use Rattle.std.proofs.Common.{arith, refl}
 use Rattle.iddqd_store.proofs.MapLemmas.Growing.{Grows, Keeps}

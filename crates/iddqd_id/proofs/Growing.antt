@@ -1,6 +1,6 @@
 -- Made by tests/twins from crates/iddqd_bi/proofs/Growing.antt: change that file.
 
--- The room of a map is the least of those of its slots and of both tables.
+-- Lemmas for the room of a map, the least of those of its slots and the table.
 use Rattle.std.specs.Prelude.{◌≡◌, ◌+◌, ◌≤◌, ℕ, min}
 use Rattle.std.proofs.Common.{arith, refl}
 use Rattle.iddqd_store.proofs.MapLemmas.Growing.{Grows, Keeps}
