@@ -31,6 +31,7 @@ mod one_by_hand;
 mod operations;
 mod others;
 mod picture;
+mod processors;
 mod report;
 mod workload;
 
@@ -280,11 +281,11 @@ fn main() {
         print_memory(&wanted);
         return;
     }
-    println!("{}\n", report::circumstances(wanted.plan));
     if wanted.chosen {
         chosen::print();
         return;
     }
+    println!("{}\n", report::circumstances(wanted.plan));
     let (one, two, three): (Operations<1>, Operations<2>, Operations<3>) = if wanted.others {
         (Vec::new, others::operations, Vec::new)
     } else {

@@ -1,5 +1,6 @@
 //! Measures the times of loops, in rounds.
 use crate::operations::{Kind, Operation};
+use crate::processors::Processors;
 use crate::workload::Workload;
 use std::process::Command;
 use std::time::Instant;
@@ -165,11 +166,15 @@ fn time_anew<const N: usize>(operation: &Operation<N>, side: Side, items: usize)
     )
 }
 
+/// How many turns a round makes before it looks for the fastest processor again.
+const TURNS_IN_PLACE: usize = 5;
+
 /// Measures one round of an operation. The sides take turns, and have to return the same sums.
 fn round<const N: usize>(
     operation: &Operation<N>,
     items: usize,
     plan: Plan,
+    processors: &Processors,
     figures: &mut Figures,
 ) {
     let load = (operation.load)(items);
@@ -186,7 +191,10 @@ fn round<const N: usize>(
         least.note(whole, took);
         sum
     };
-    for _ in 0..plan.turns(items) {
+    for turn in 0..plan.turns(items) {
+        if turn % TURNS_IN_PLACE == 0 {
+            processors.take_fastest();
+        }
         for whole in [true, false] {
             let sum = once(Side::Here, whole, &mut here);
             if plan.compares {
@@ -209,11 +217,12 @@ pub fn measure<const N: usize>(
 ) -> Vec<Vec<Figures>> {
     let none = || sizes.iter().map(|_| Figures::default()).collect();
     let mut figures: Vec<Vec<Figures>> = operations.iter().map(|_| none()).collect();
+    let processors = Processors::allowed();
     for made in 1..=plan.rounds {
         for (at, items) in sizes.iter().copied().enumerate() {
             eprintln!("{N} keys, {items} items: round {made} of {}", plan.rounds);
             for (operation, figures) in operations.iter().zip(&mut figures) {
-                round(operation, items, plan, &mut figures[at]);
+                round(operation, items, plan, &processors, &mut figures[at]);
             }
         }
     }

@@ -265,7 +265,7 @@ fn load() -> String {
 }
 
 /// Returns when and on what machine the figures were measured.
-pub fn circumstances(plan: Plan) -> String {
+pub fn machine() -> String {
     let seconds = SystemTime::now()
         .duration_since(UNIX_EPOCH)
         .map_or(0, |t| t.as_secs());
@@ -277,15 +277,22 @@ pub fn circumstances(plan: Plan) -> String {
     let name = name.map_or("an unknown processor", |name| {
         name.trim_matches(['\t', ' ', ':'])
     });
+    format!(
+        "On {}, {name} ({processors} to run on), load {} when it began",
+        date((seconds / 86_400) as i64),
+        load(),
+    )
+}
+
+/// Returns when, on what machine and how the figures were measured.
+pub fn circumstances(plan: Plan) -> String {
     let rounds = match plan.rounds {
         1 => "one round, in which".to_string(),
         rounds => format!("the medians of {rounds} rounds, in each of which"),
     };
     format!(
-        "On {}, {name} ({processors} to run on), load {} when it began: {rounds} the least of {} turns \
-         was taken (fewer above 10,000 items).",
-        date((seconds / 86_400) as i64),
-        load(),
+        "{}: {rounds} the least of {} turns was taken (fewer above 10,000 items).",
+        machine(),
         plan.turns,
     )
 }

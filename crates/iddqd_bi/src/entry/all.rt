@@ -26,6 +26,7 @@ impl<'a, T: BiHashItem, S: BuildHasher, Q1: Query<T::K1>, Q2: Query<T::K2>> Entr
     ///
     /// The errors are those of `VacantEntry::insert`, in an `EntryRefusal`, which borrows the map. The map is as it was
     /// then.
+    #[inline(always)]
     pub fn or_insert(self, item: T) -> Result<OccupiedEntryMut<'a, T, S>, EntryRefusal<'a, T, S>>
     where
         T: Drop,
@@ -42,6 +43,7 @@ impl<'a, T: BiHashItem, S: BuildHasher, Q1: Query<T::K1>, Q2: Query<T::K2>> Entr
     }
 
     /// Inserts what `f` returns, as `or_insert` does. `f` is called once if the entry is vacant, otherwise not at all.
+    #[inline(always)]
     pub fn or_insert_with<F: FnOnce() -> T>(
         self,
         f: F,
@@ -70,6 +72,7 @@ impl<'a, T: BiHashItem, S: BuildHasher, Q1: Query<T::K1>, Q2: Query<T::K2>> Entr
     /// The call itself allocates memory only if `f` returns an item and the map is full.
     ///
     /// `map.entry(&key1, &key2).or_try_insert_with(|| Device::read(file))`
+    #[inline(always)]
     pub fn or_try_insert_with<E, F: FnOnce() -> Result<T, E>>(
         self,
         f: F,
@@ -105,6 +108,7 @@ impl<'a, T: BiHashItemMut, S: BuildHasher, Q1: Query<T::K1>, Q2: Query<T::K2>> E
     /// called. The call allocates no memory.
     ///
     /// `map.entry(&key1, &key2).and_modify(|item| item.count + 1).or_insert(item)`
+    #[inline(always)]
     pub fn and_modify<F: FnMut(&T) -> T::Data>(self, f: F) -> Entry<'a, T, S, Q1, Q2>
     where
         T::Data: Drop,

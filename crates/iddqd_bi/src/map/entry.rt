@@ -26,6 +26,7 @@ impl<T: BiHashItem, S: BuildHasher> BiHashMap<T, S> {
     ///     Entry::Occupied(entry) => println!(rt; "taken: {:?}", entry.get())?,
     /// }
     /// ```
+    #[inline(always)]
     pub fn entry<Q1: Query<T::K1>, Q2: Query<T::K2>>(
         &mut self,
         query1: Q1,

@@ -56,8 +56,8 @@ impl<T: Ranked, S: BuildHasher> BiHashMap<T, S> {
             (map (λ _. length (order T.ranks (bag self.old) item) + 1) T.ranks)
             asked.old asked.new probed.old probed.new }
     {
-        // Of the calls below, `put_over` and the growth of a full map are not inlined. The rest is inlined, so a
-        // caller's loop branches on the outcome where it arises, and writes no list of removed items if there are none.
+        // What an insert needs, or an overwrite of one item, is inlined, so a caller's loop branches on the outcome where
+        // it arises, and no item is copied from call to call. Growth is not inlined.
         match self.insert_or_refuse(item, asked, probed) {
             Ok(()) => Ok(UpToTwo::new()),
             Err(Refusal::Duplicate(item, by)) => {

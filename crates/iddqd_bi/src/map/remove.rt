@@ -24,6 +24,7 @@ impl<T: BiHashItem, S: BuildHasher> BiHashMap<T, S> {
     ///     println!(rt; "removed: {item:?}")?;
     /// }
     /// ```
+    #[inline(always)]
     pub fn remove1<Q: Query<T::K1>>(&mut self, query: Q) -> Option<T>
         ensures taken { IsOnly (has1 T.BiHashItem Q.stands_for query) (bag self.old) result }
         ensures loses { Loses self.old (option_to_list result) self.new }
@@ -42,6 +43,7 @@ impl<T: BiHashItem, S: BuildHasher> BiHashMap<T, S> {
     ///
     /// In the table of the first rank the call costs as much as a call of `find1_with` that finds nothing. If it
     /// removes an item, it then walks once through each other table.
+    #[inline(always)]
     fn remove1_by<M: KeyMatcher<T::K1>>(
         &mut self,
         hash: u64,
@@ -88,6 +90,7 @@ impl<T: BiHashItem, S: BuildHasher> BiHashMap<T, S> {
     ///     println!(rt; "removed: {item:?}")?;
     /// }
     /// ```
+    #[inline(always)]
     pub fn remove2<Q: Query<T::K2>>(&mut self, query: Q) -> Option<T>
         ensures taken { IsOnly (has2 T.BiHashItem Q.stands_for query) (bag self.old) result }
         ensures loses { Loses self.old (option_to_list result) self.new }
@@ -106,6 +109,7 @@ impl<T: BiHashItem, S: BuildHasher> BiHashMap<T, S> {
     ///
     /// In the table of the second rank the call costs as much as a call of `find2_with` that finds nothing. If it
     /// removes an item, it then walks once through each other table.
+    #[inline(always)]
     fn remove2_by<M: KeyMatcher<T::K2>>(
         &mut self,
         hash: u64,

@@ -22,6 +22,7 @@ impl<'a, T: IdHashItem, S: BuildHasher, Q: Query<T::Key>> Entry<'a, T, S, Q> {
     ///
     /// The errors are those of `VacantEntry::insert`, in an `EntryRefusal`, which borrows the map. The map is as it was
     /// then.
+    #[inline(always)]
     pub fn or_insert(self, item: T) -> Result<RefMut<'a, T, S>, EntryRefusal<'a, T, S>>
     where
         T: Drop,
@@ -39,6 +40,7 @@ impl<'a, T: IdHashItem, S: BuildHasher, Q: Query<T::Key>> Entry<'a, T, S, Q> {
     }
 
     /// Inserts what `f` returns, as `or_insert` does. `f` is called once if the entry is vacant, otherwise not at all.
+    #[inline(always)]
     pub fn or_insert_with<F: FnOnce() -> T>(
         self,
         f: F,
@@ -68,6 +70,7 @@ impl<'a, T: IdHashItem, S: BuildHasher, Q: Query<T::Key>> Entry<'a, T, S, Q> {
     /// The call itself allocates memory only if `f` returns an item and the map is full.
     ///
     /// `map.entry(&key).or_try_insert_with(|| Device::read(file))`
+    #[inline(always)]
     pub fn or_try_insert_with<E, F: FnOnce() -> Result<T, E>>(
         self,
         f: F,
@@ -97,6 +100,7 @@ impl<'a, T: IdHashItemMut, S: BuildHasher, Q: Query<T::Key>> Entry<'a, T, S, Q> 
     /// vacant entry stays as it is, and `f` is not called. The call allocates no memory.
     ///
     /// `map.entry(&key).and_modify(|item| item.count + 1).or_insert(item)`
+    #[inline(always)]
     pub fn and_modify<F: FnOnce(&T) -> T::Data>(self, f: F) -> Entry<'a, T, S, Q>
     where
         T::Data: Drop,

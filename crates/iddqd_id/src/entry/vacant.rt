@@ -25,6 +25,7 @@ impl<'a, T: Ranked, S: BuildHasher, Q: Query<T::Key>> VacantEntry<'a, T, S, Q> {
     ///
     /// The call compares the item's key with the entry's. It hashes no key
     /// and searches for none. It allocates memory only if the map is full.
+    #[inline(always)]
     pub fn insert(self, item: T) -> Result<RefMut<'a, T, S>, EntryError<T>>
         // The guard borrows the item, in this very map.
         ensures gains_and_lends { IfOk result (GainsAndLends self.entry item) }
@@ -47,6 +48,7 @@ impl<'a, T: Ranked, S: BuildHasher, Q: Query<T::Key>> VacantEntry<'a, T, S, Q> {
 impl<'a, T: IdHashItem, S: BuildHasher, Q: Query<T::Key>> VacantEntry<'a, T, S, Q> {
     /// Inserts an item as `insert` does, and returns the occupied entry with the same key, which finds the item.
     /// The error borrows the map.
+    #[inline(always)]
     pub fn insert_entry(self, item: T) -> Result<OccupiedEntry<'a, T, S, Q>, EntryRefusal<'a, T, S>>
         // The entry borrows this very map, with the item in it, which its key finds.
         ensures gains_and_finds { IfOk result (GainsAndFinds self.entry item) }
@@ -71,6 +73,7 @@ impl<'a, T: IdHashItem, S: BuildHasher, Q: Query<T::Key>> VacantEntry<'a, T, S, 
 impl<'a, T: IdHashItem, S: BuildHasher, Q: Query<T::Key>> VacantEntry<'a, T, S, Q> {
     /// Inserts an item as `insert` does. The error borrows the map, as those of `or_insert` and `or_insert_with`
     /// do.
+    #[inline(always)]
     pub(super) fn put_in(self, item: T) -> Result<RefMut<'a, T, S>, EntryRefusal<'a, T, S>>
         ensures same_map { IfOk result (λ m. m.map.ghost_name ≡ self.entry.map.ghost_name) }
         ensures same_map_at_err { IfErr result (λ e. e.map.ghost_name ≡ self.entry.map.ghost_name) }
@@ -84,6 +87,7 @@ impl<'a, T: IdHashItem, S: BuildHasher, Q: Query<T::Key>> VacantEntry<'a, T, S, 
     }
 
     /// Inserts the item that a closure made, as `put_in` does, or returns the error with which the closure failed.
+    #[inline(always)]
     pub(super) fn put_made_in<E>(
         self,
         made: Result<T, E>,

@@ -27,6 +27,7 @@ impl<T: IdHashItem, S: BuildHasher> IdHashMap<T, S> {
     ///     Entry::Occupied(entry) => println!(rt; "taken: {:?}", entry.get())?,
     /// }
     /// ```
+    #[inline(always)]
     pub fn entry<Q: Query<T::Key>>(&mut self, query: Q) -> Entry<'_, T, S, Q>
         // The entry borrows this very map, unchanged, and has this query.
         ensures same_map { entry_lender result ≡ self.entry.ghost_name }

@@ -26,6 +26,7 @@ impl<T: IdHashItem, S: BuildHasher> IdHashMap<T, S> {
     ///     println!(rt; "removed: {item:?}")?;
     /// }
     /// ```
+    #[inline(always)]
     pub fn remove<Q: Query<T::Key>>(&mut self, query: Q) -> Option<T>
         ensures taken { IsOnly (has T.IdHashItem Q.stands_for query) (bag self.old) result }
         ensures loses { Loses self.old (option_to_list result) self.new }
@@ -44,6 +45,7 @@ impl<T: IdHashItem, S: BuildHasher> IdHashMap<T, S> {
     ///
     /// In the table the call costs as much as a call of `find_with` that finds nothing. If it
     /// removes an item, it then walks once through each other table.
+    #[inline(always)]
     fn remove_by<M: KeyMatcher<T::Key>>(
         &mut self,
         hash: u64,

@@ -147,6 +147,7 @@ impl<T: IdHashItem, S: BuildHasher> IdHashMap<T, S> {
     /// Inserts an item that has these keys, which no item of the map has, and returns its slot. The error says
     /// whether the item has another key, or whether there was no memory. The call compares the item's key with the given
     /// one. It searches for no key, and hashes none.
+    #[inline(always)]
     pub(crate) fn insert_free<Q: Query<T::Key>>(
         &mut self,
         item: T,
@@ -177,6 +178,7 @@ impl<T: IdHashItem, S: BuildHasher> IdHashMap<T, S> {
     }
 
     /// Removes the item of a slot, by one walk through the table. It hashes a key of it only if its hash is not given.
+    #[inline(always)]
     pub(crate) fn take(&mut self, slot: ItemIndex, hash: Option<u64>, meter: &mut Meter) -> T
         requires live { IsLive self.old.slots slot }
         requires hash { IfSome hash (HasHash (⟦<T as Hashed<S>>⟧.hash self.old.builder) self.old.slots slot) }

@@ -29,6 +29,7 @@ impl<
     ///
     /// The errors are those of `VacantEntry::insert`, in an `EntryRefusal`, which borrows the map. The map is as it was
     /// then.
+    #[inline(always)]
     pub fn or_insert(self, item: T) -> Result<OccupiedEntryMut<'a, T, S>, EntryRefusal<'a, T, S>>
     where
         T: Drop,
@@ -45,6 +46,7 @@ impl<
     }
 
     /// Inserts what `f` returns, as `or_insert` does. `f` is called once if the entry is vacant, otherwise not at all.
+    #[inline(always)]
     pub fn or_insert_with<F: FnOnce() -> T>(
         self,
         f: F,
@@ -73,6 +75,7 @@ impl<
     /// The call itself allocates memory only if `f` returns an item and the map is full.
     ///
     /// `map.entry(&key1, &key2, &key3).or_try_insert_with(|| Device::read(file))`
+    #[inline(always)]
     pub fn or_try_insert_with<E, F: FnOnce() -> Result<T, E>>(
         self,
         f: F,
@@ -109,6 +112,7 @@ impl<
     /// called. The call allocates no memory.
     ///
     /// `map.entry(&key1, &key2, &key3).and_modify(|item| item.count + 1).or_insert(item)`
+    #[inline(always)]
     pub fn and_modify<F: FnMut(&T) -> T::Data>(self, f: F) -> Entry<'a, T, S, Q1, Q2, Q3>
     where
         T::Data: Drop,

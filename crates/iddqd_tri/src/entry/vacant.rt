@@ -32,6 +32,7 @@ impl<
     ///
     /// The call compares the item's keys with the entry's, rank by rank up to the first that differs. It hashes no key
     /// and searches for none. It allocates memory only if the map is full.
+    #[inline(always)]
     pub fn insert(self, item: T) -> Result<RefMut<'a, T, S>, EntryError<T>>
         // The guard borrows the item, in this very map.
         ensures gains_and_lends { IfOk result (GainsAndLends self.entry item) }
@@ -58,6 +59,7 @@ impl<
 
     /// Inserts an item as `insert` does, and returns it as `into_mut` of an occupied entry would: held for writing,
     /// found by each key.
+    #[inline(always)]
     pub fn insert_mut(self, item: T) -> Result<OccupiedEntryMut<'a, T, S>, EntryError<T>>
         // The result borrows this very map, with the item in it, which each key finds.
         ensures gains_and_holds { IfOk result (GainsAndHolds self.entry item) }
@@ -99,6 +101,7 @@ impl<
 > VacantEntry<'a, T, S, Q1, Q2, Q3> {
     /// Inserts an item as `insert` does, and returns the occupied entry with the same keys, which finds the item alone.
     /// The error borrows the map.
+    #[inline(always)]
     pub fn insert_entry(
         self,
         item: T,
@@ -147,6 +150,7 @@ impl<
 > VacantEntry<'a, T, S, Q1, Q2, Q3> {
     /// Inserts an item as `insert_mut` does. The error borrows the map, as those of `or_insert` and `or_insert_with`
     /// do.
+    #[inline(always)]
     pub(super) fn put_in(
         self,
         item: T,
@@ -174,6 +178,7 @@ impl<
     }
 
     /// Inserts the item that a closure made, as `put_in` does, or returns the error with which the closure failed.
+    #[inline(always)]
     pub(super) fn put_made_in<E>(
         self,
         made: Result<T, E>,

@@ -28,6 +28,7 @@ impl<T: TriHashItem, S: BuildHasher> TriHashMap<T, S> {
     ///     Entry::Occupied(entry) => println!(rt; "taken: {:?}", entry.get())?,
     /// }
     /// ```
+    #[inline(always)]
     pub fn entry<Q1: Query<T::K1>, Q2: Query<T::K2>, Q3: Query<T::K3>>(
         &mut self,
         query1: Q1,

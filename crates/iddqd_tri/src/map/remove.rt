@@ -26,6 +26,7 @@ impl<T: TriHashItem, S: BuildHasher> TriHashMap<T, S> {
     ///     println!(rt; "removed: {item:?}")?;
     /// }
     /// ```
+    #[inline(always)]
     pub fn remove1<Q: Query<T::K1>>(&mut self, query: Q) -> Option<T>
         ensures taken { IsOnly (has1 T.TriHashItem Q.stands_for query) (bag self.old) result }
         ensures loses { Loses self.old (option_to_list result) self.new }
@@ -44,6 +45,7 @@ impl<T: TriHashItem, S: BuildHasher> TriHashMap<T, S> {
     ///
     /// In the table of the first rank the call costs as much as a call of `find1_with` that finds nothing. If it
     /// removes an item, it then walks once through each other table.
+    #[inline(always)]
     fn remove1_by<M: KeyMatcher<T::K1>>(
         &mut self,
         hash: u64,
@@ -92,6 +94,7 @@ impl<T: TriHashItem, S: BuildHasher> TriHashMap<T, S> {
     ///     println!(rt; "removed: {item:?}")?;
     /// }
     /// ```
+    #[inline(always)]
     pub fn remove2<Q: Query<T::K2>>(&mut self, query: Q) -> Option<T>
         ensures taken { IsOnly (has2 T.TriHashItem Q.stands_for query) (bag self.old) result }
         ensures loses { Loses self.old (option_to_list result) self.new }
@@ -110,6 +113,7 @@ impl<T: TriHashItem, S: BuildHasher> TriHashMap<T, S> {
     ///
     /// In the table of the second rank the call costs as much as a call of `find2_with` that finds nothing. If it
     /// removes an item, it then walks once through each other table.
+    #[inline(always)]
     fn remove2_by<M: KeyMatcher<T::K2>>(
         &mut self,
         hash: u64,
@@ -158,6 +162,7 @@ impl<T: TriHashItem, S: BuildHasher> TriHashMap<T, S> {
     ///     println!(rt; "removed: {item:?}")?;
     /// }
     /// ```
+    #[inline(always)]
     pub fn remove3<Q: Query<T::K3>>(&mut self, query: Q) -> Option<T>
         ensures taken { IsOnly (has3 T.TriHashItem Q.stands_for query) (bag self.old) result }
         ensures loses { Loses self.old (option_to_list result) self.new }
@@ -176,6 +181,7 @@ impl<T: TriHashItem, S: BuildHasher> TriHashMap<T, S> {
     ///
     /// In the table of the third rank the call costs as much as a call of `find3_with` that finds nothing. If it
     /// removes an item, it then walks once through each other table.
+    #[inline(always)]
     fn remove3_by<M: KeyMatcher<T::K3>>(
         &mut self,
         hash: u64,

@@ -204,6 +204,7 @@ impl<T: TriHashItem, S: BuildHasher> TriHashMap<T, S> {
     /// Inserts an item that has these keys, which no item of the map has, and returns its slot. The error names the
     /// lowest rank at which the item has another key, or says that there was no memory. The call compares the item's
     /// keys with the given ones. It searches for no key, and hashes none.
+    #[inline(always)]
     pub(crate) fn insert_free<Q1: Query<T::K1>, Q2: Query<T::K2>, Q3: Query<T::K3>>(
         &mut self,
         item: T,
@@ -239,6 +240,7 @@ impl<T: TriHashItem, S: BuildHasher> TriHashMap<T, S> {
     }
 
     /// Removes the item of a slot, by one walk through each table. It hashes a key of it only if its hash is not given.
+    #[inline(always)]
     pub(crate) fn take(
         &mut self,
         slot: ItemIndex,

@@ -18,7 +18,7 @@ use std::hash::{BuildHasher, Hash};
 impl<T: IdHashItem, S: BuildHasher> IdHashMap<T, S> {
     /// Inserts an item in place of the one that conflicts with it, whose slot the search by its key found, and returns that
     /// one, with its slot, which the new item takes. The call hashes no key.
-    #[inline(never)]
+    #[inline(always)]
     pub(crate) fn put_over(&mut self, item: T, by: &SlotUnder, meter: &mut Meter) -> (T, ItemIndex)
         requires conflicts { ListsConflicts ⟦<T as Ranked>⟧.ranks self.old item
             (each_once (by.now.slot ∷ [])) }

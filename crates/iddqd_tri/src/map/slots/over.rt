@@ -23,7 +23,7 @@ impl<T: TriHashItem, S: BuildHasher> TriHashMap<T, S> {
     /// these items, with the slot of the new one. There is at least one, whose slot the new item takes. The call does
     /// not hash a key by which a search found its item. The number of its walks through each table is at most one more
     /// than the number of items that it displaces.
-    #[inline(never)]
+    #[inline(always)]
     pub(crate) fn put_over(
         &mut self,
         item: T,
@@ -185,6 +185,7 @@ impl<T: TriHashItem, S: BuildHasher> TriHashMap<T, S> {
     /// Puts an item into the slot `slot` of one that conflicts with it, and returns that one and another, which leaves
     /// the slot `other_slot`. At a rank at which the search found the other item, its pair gets the number `slot`.
     /// `walks_two` says how often the call walks through each table.
+    #[inline(never)]
     fn exchange_two(
         &mut self,
         slot: ItemIndex,
