@@ -1,7 +1,7 @@
 //! Times the map with two keys and keys that an attacker chose to slow it down. The default builder has a fixed seed,
 //! so such keys can be found for it. A random seed makes them harmless, and costs time itself.
 use crate::hasher;
-use crate::processors::Processors;
+use crate::processors::take_fastest;
 use crate::report;
 use crate::workload::{Row, rows};
 use std::time::Instant;
@@ -80,7 +80,7 @@ fn seconds(exported: Exported, rows: &[Row<2>], whole: bool) -> f64 {
 }
 
 fn least(exported: Exported, rows: &[Row<2>], whole: bool) -> f64 {
-    Processors::allowed().take_fastest();
+    take_fastest();
     let all = (0..TURNS).map(|_| seconds(exported, rows, whole));
     all.fold(f64::INFINITY, f64::min)
 }

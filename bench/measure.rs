@@ -1,6 +1,6 @@
 //! Measures the times of loops, in rounds.
 use crate::operations::{Kind, Operation};
-use crate::processors::Processors;
+use crate::processors::take_fastest;
 use crate::workload::Workload;
 use std::process::Command;
 use std::time::Instant;
@@ -174,7 +174,6 @@ fn round<const N: usize>(
     operation: &Operation<N>,
     items: usize,
     plan: Plan,
-    processors: &Processors,
     figures: &mut Figures,
 ) {
     let load = (operation.load)(items);
@@ -193,7 +192,7 @@ fn round<const N: usize>(
     };
     for turn in 0..plan.turns(items) {
         if turn % TURNS_IN_PLACE == 0 {
-            processors.take_fastest();
+            take_fastest();
         }
         for whole in [true, false] {
             let sum = once(Side::Here, whole, &mut here);
@@ -217,12 +216,11 @@ pub fn measure<const N: usize>(
 ) -> Vec<Vec<Figures>> {
     let none = || sizes.iter().map(|_| Figures::default()).collect();
     let mut figures: Vec<Vec<Figures>> = operations.iter().map(|_| none()).collect();
-    let processors = Processors::allowed();
     for made in 1..=plan.rounds {
         for (at, items) in sizes.iter().copied().enumerate() {
             eprintln!("{N} keys, {items} items: round {made} of {}", plan.rounds);
             for (operation, figures) in operations.iter().zip(&mut figures) {
-                round(operation, items, plan, &processors, &mut figures[at]);
+                round(operation, items, plan, &mut figures[at]);
             }
         }
     }
