@@ -12,8 +12,8 @@ const ITEMS: usize = 20_000;
 /// The least number of cells that holds this many items. The home bucket of a hash is given by its lowest bits.
 const CELLS: u64 = 32_768;
 
-/// How often each loop is timed. The least time counts.
-const TURNS: usize = 5;
+/// How often each loop is timed, in turn with what prepares it. The least times count.
+const TURNS: usize = 20;
 
 type Exported = unsafe extern "C" fn(
     rows: *const Row<2>,
@@ -79,21 +79,26 @@ fn seconds(exported: Exported, rows: &[Row<2>], whole: bool) -> f64 {
     began.elapsed().as_secs_f64()
 }
 
-fn least(exported: Exported, rows: &[Row<2>], whole: bool) -> f64 {
-    take_fastest();
-    let all = (0..TURNS).map(|_| seconds(exported, rows, whole));
-    all.fold(f64::INFINITY, f64::min)
-}
-
 /// Returns nanoseconds for each item, without what prepares the loop.
 fn time(exported: Exported, rows: &[Row<2>]) -> f64 {
-    let spent = least(exported, rows, true) - least(exported, rows, false);
-    spent.max(0.0) * 1e9 / ITEMS as f64
+    take_fastest();
+    let mut least = [f64::INFINITY; 2];
+    for _ in 0..TURNS {
+        for whole in [false, true] {
+            let of_kind = &mut least[whole as usize];
+            *of_kind = of_kind.min(seconds(exported, rows, whole));
+        }
+    }
+    let [prepared, all] = least;
+    (all - prepared).max(0.0) * 1e9 / ITEMS as f64
 }
 
 /// Prints a table of the times for each item.
 pub fn print() {
-    println!("{}: the least of {TURNS} turns was taken.\n", report::machine());
+    println!(
+        "{}: the least of {TURNS} turns was taken.\n",
+        report::machine()
+    );
     let spread = rows::<2>(0, ITEMS);
     let together = of_one_home(&spread);
     let items = report::grouped(ITEMS);
@@ -104,7 +109,10 @@ pub fn print() {
         ("look-up, hit", bi_get, bi_get_seeded),
     ];
     for (name, default, seeded) in loops {
-        for (keys, rows) in [("spread keys", &spread), ("keys of one home bucket", &together)] {
+        for (keys, rows) in [
+            ("spread keys", &spread),
+            ("keys of one home bucket", &together),
+        ] {
             let (here, there) = (time(default, rows), time(seeded, rows));
             println!("| {name}, {keys} | {here:.0} | {there:.0} |");
         }

@@ -222,13 +222,13 @@ pub fn update_all<const N: usize, M: Map<N>>(load: &Workload<N>, whole: bool) ->
     sum_of(map.iter().map(|row| row.value))
 }
 
-/// Returns the sum of what is done with copies of a map.
+/// Returns the sum of what is done with this many copies of a map.
 fn each_copy<const N: usize, M: Map<N>>(
-    load: &Workload<N>,
+    times: usize,
     map: &M,
     mut made: impl FnMut(M) -> u64,
 ) -> u64 {
-    sum_of((0..copies(load.number)).map(|_| made(map.clone())))
+    sum_of((0..times).map(|_| made(map.clone())))
 }
 
 /// Changes copies of a map of each part of the rows, and sums how many items each copy then has.
@@ -238,7 +238,7 @@ fn each_changed<const N: usize, M: Map<N>>(
     change: impl Fn(&mut M),
 ) -> u64 {
     each_map(load, |rows, _| {
-        each_copy(load, &filled::<N, M>(rows), |mut copy| {
+        each_copy(copies(load.number), &filled::<N, M>(rows), |mut copy| {
             if whole {
                 change(&mut copy);
             }
@@ -248,14 +248,13 @@ fn each_changed<const N: usize, M: Map<N>>(
 }
 
 pub fn for_owned<const N: usize, M: Map<N>>(load: &Workload<N>, whole: bool) -> u64 {
-    each_map(load, |rows, _| {
-        each_copy(load, &filled::<N, M>(rows), |copy| {
-            if whole {
-                sum_of(copy.into_rows().map(|row| row.keys[0]))
-            } else {
-                0
-            }
-        })
+    let map = filled::<N, M>(&load.rows);
+    each_copy(load.number, &map, |copy| {
+        if whole {
+            sum_of(copy.into_rows().map(|row| row.keys[0]))
+        } else {
+            0
+        }
     })
 }
 
@@ -295,7 +294,7 @@ fn each_emptied<const N: usize, M: Map<N>>(
     is_taken: impl Fn(&Row<N>) -> bool,
 ) -> u64 {
     each_map(load, |rows, _| {
-        each_copy(load, &filled::<N, M>(rows), |mut copy| {
+        each_copy(copies(load.number), &filled::<N, M>(rows), |mut copy| {
             let sum = if whole { copy.extract(&is_taken) } else { 0 };
             sum.wrapping_add(copy.len() as u64)
         })
@@ -323,7 +322,7 @@ pub fn shrink<const N: usize, M: Map<N>>(load: &Workload<N>, whole: bool) -> u64
     each_map(load, |rows, asked| {
         let mut map = filled::<N, M>(rows);
         let sum = take_out(&mut map, asked);
-        let lengths = each_copy(load, &map, |mut copy| {
+        let lengths = each_copy(copies(load.number), &map, |mut copy| {
             if whole {
                 copy.shrink();
             }

@@ -150,7 +150,9 @@ impl Wanted {
     }
 
     fn has_map(&self, keys: usize) -> bool {
-        self.keys.as_ref().is_none_or(|wanted| wanted.contains(&keys))
+        self.keys
+            .as_ref()
+            .is_none_or(|wanted| wanted.contains(&keys))
     }
 
     fn sizes(&self, default: &[usize]) -> Vec<usize> {

@@ -147,7 +147,7 @@ operations! {
     Each "or_insert, occupied": asked_again, entry_occupied, bi_entry_occupied, tri_entry_occupied, id_entry_occupied;
     All "iter": repeated, iter, bi_iter, tri_iter, id_iter;
     All "for, lent map": repeated, for_lent, bi_for_lent, tri_for_lent, id_for_lent;
-    All "for, by value": copied, for_owned, bi_for_owned, tri_for_owned, id_for_owned;
+    All "for, by value": repeated, for_owned, bi_for_owned, tri_for_owned, id_for_owned;
     All "iter_mut with len": repeated, iter_mut, bi_iter_mut, tri_iter_mut, id_iter_mut;
     All "update_all": repeated, update_all, bi_update_all, tri_update_all, id_update_all;
     All "retain half": copied, retain, bi_retain, tri_retain, id_retain;

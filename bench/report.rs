@@ -189,8 +189,12 @@ pub fn print_table(maps: &[Map], sizes: &[usize], plan: Plan) {
     );
     // At one key no map has a call for all keys.
     for map in maps.iter().filter(|map| map.keys > 1) {
-        let lacks = maps.iter().flat_map(|other| map.lacks(other));
-        let lacks: Vec<&str> = lacks.collect();
+        let mut lacks: Vec<&str> = Vec::new();
+        for name in maps.iter().flat_map(|other| map.lacks(other)) {
+            if !lacks.contains(&name) {
+                lacks.push(name);
+            }
+        }
         if !lacks.is_empty() {
             let (keys, lacks) = (map.keys, lacks.join("; "));
             println!(

@@ -1,5 +1,5 @@
 -- What contracts say of an `IterMut`.
-use Rattle.std.specs.Prelude.{◌≡◌, ◌+◌, ◌-◌, ℕ, List, [], length, Option}
+use Rattle.std.specs.Prelude.{◌≡◌, ◌+◌, ℕ, List, [], length, Option}
 use Rattle.std.specs.Option.{option_map_or}
 use Rattle.std.specs.Borrow.{LendsIf, Fml, RattleType, MutBor}
 use Rattle.std.specs.HashMap.Lent.{HashMembers}
@@ -8,7 +8,7 @@ use Rattle.std.specs.declared.hash.BuildHasher as builder
 use mir.Syntax.{named}
 use Rattle.iddqd_store.specs.Map.{Map}
 use Rattle.iddqd_bi.specs.declared.item.BiHashItem as item
-use Rattle.iddqd_store.specs.Map.Walk.{first_from, passed, to_come, Passes}
+use Rattle.iddqd_store.specs.Map.Walk.{first_from, one_fewer, passed, to_come, Passes}
 use Rattle.iddqd_store.specs.Map.Written.{map_with_if}
 use Rattle.iddqd_bi.specs.declared.iter_mut.IterMut.{IterMut}
 use Rattle.iddqd_bi.specs.contracts.iter_mut.IterMut.{the_row}
@@ -40,7 +40,7 @@ module _ {T S K1 K2 H : Type 0} where
   stepped it f = record {
     map = record it.map { now = next_written it f };
     next = after_next it;
-    left = it.left - 1;
+    left = one_fewer it.left;
   }
 
   -- The count that the iteration keeps is the number of items that are left.

@@ -1,7 +1,7 @@
 -- Made by tests/twins from crates/iddqd_bi/specs/IterMuts.antt: change that file.
 
 -- What contracts say of an `IterMut`.
-use Rattle.std.specs.Prelude.{◌≡◌, ◌+◌, ◌-◌, ℕ, List, [], length, Option}
+use Rattle.std.specs.Prelude.{◌≡◌, ◌+◌, ℕ, List, [], length, Option}
 use Rattle.std.specs.Option.{option_map_or}
 use Rattle.std.specs.Borrow.{LendsIf, Fml, RattleType, MutBor}
 use Rattle.std.specs.HashMap.Lent.{HashMembers}
@@ -10,7 +10,7 @@ use Rattle.std.specs.declared.hash.BuildHasher as builder
 use mir.Syntax.{named}
 use Rattle.iddqd_store.specs.Map.{Map}
 use Rattle.iddqd_id.specs.declared.item.IdHashItem as item
-use Rattle.iddqd_store.specs.Map.Walk.{first_from, passed, to_come, Passes}
+use Rattle.iddqd_store.specs.Map.Walk.{first_from, one_fewer, passed, to_come, Passes}
 use Rattle.iddqd_store.specs.Map.Written.{map_with_if}
 use Rattle.iddqd_id.specs.declared.iter_mut.IterMut.{IterMut}
 use Rattle.iddqd_id.specs.contracts.iter_mut.IterMut.{the_row}
@@ -42,7 +42,7 @@ module _ {T S Key H : Type 0} where
   stepped it f = record {
     map = record it.map { now = next_written it f };
     next = after_next it;
-    left = it.left - 1;
+    left = one_fewer it.left;
   }
 
   -- The count that the iteration keeps is the number of items that are left.

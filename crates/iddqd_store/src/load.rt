@@ -2,6 +2,7 @@
 //! empty, so the tables of a small map have room for more pairs than its slots have room for items. The capacity of the
 //! map is then that of its slots.
 ghost use Rattle.std.specs.Prelude.{◌≡◌, ℕ, ◌+◌, ◌*◌, ◌/◌, ◌^◌, ◌<◌, ◌≤◌, IfNone, IfSome, min, max};
+ghost use Rattle.iddqd_store.specs.Table.Limit.{IsSparse};
 
 /// In a map with room for more items a table has no more cells than its pairs need.
 const LARGE: usize = 16384;
@@ -14,8 +15,7 @@ pub fn table_room(items: usize) -> usize
     ensures none { items ≡ 0 → result ≡ 0 }
     ensures most { result ≤ 3 * items }
     // A table with room for so many pairs has so many cells that at most a third, or a half, have one in a full map.
-    ensures third { items ≤ 4096 → (cells : ℕ) → result ≤ cells / 8 * 7 → 3 * items ≤ cells }
-    ensures half { items ≤ 16384 → (cells : ℕ) → result ≤ cells / 8 * 7 → 2 * items ≤ cells }
+    ensures sparse { (cells : ℕ) → result ≤ cells / 8 * 7 → IsSparse items cells }
 {
     if items <= 4096 {
         (items * 21).div_ceil(8)
@@ -36,6 +36,9 @@ pub fn pairs_wanted(len: usize, room: usize, more: usize) -> Option<usize>
     ensures enough { IfSome result (λ wanted. more ≤ wanted) }
     ensures same { IfSome result (λ wanted. len + more ≤ room → wanted ≡ more) }
     ensures most { IfSome result (λ wanted. len + wanted ≤ 3 * max (len + more) (max (2 * room) 4)) }
+    // Where the slots grow, the cells that the pairs need are enough for all items that the slots then have room for.
+    ensures sparse { IfSome result (λ wanted. room < len + more → (cells : ℕ) → len + wanted ≤ cells / 8 * 7
+        → IsSparse (max (len + more) (2 * room)) cells) }
     // Where a table is too small for the pairs, the items do not fit either.
     ensures short { IfSome result (λ wanted. (limit : ℕ) → limit < len + wanted → min room limit < len + more) }
     ensures past { IfNone result (2 ^ 64 ≤ len + more) }

@@ -59,7 +59,7 @@ impl<T: TriHashItem, S: BuildHasher> IterMut<'_, T, S> {
     {
         let slot = self.map.slot_from(self.next)?;
         self.next = slot.number() + 1;
-        self.left = self.left.saturating_sub(1);
+        self.left = self.left.wrapping_sub(1);
         Some(RefMut {
             map: self.map,
             slot,
@@ -82,7 +82,7 @@ impl<T: TriHashItemMut, S: BuildHasher> IterMut<'_, T, S> {
         // The step is that of `next_mut`. As a function it would have to state all that both contracts need.
         let live = self.map.slot_from(self.next)?;
         self.next = live.number() + 1;
-        self.left = self.left.saturating_sub(1);
+        self.left = self.left.wrapping_sub(1);
         Some(self.map.data_mut_at(live))
     }
 }

@@ -116,7 +116,7 @@ fn walk_copies(alloc: Global, rows: &[Row], times: usize, whole: bool) -> u64 {
     sum
 }
 
-/// Fills a map with each part of `number` rows, and iterates over its clones by value.
+/// Iterates over `number` clones of a map by value.
 #[unsafe(no_mangle)]
 pub extern "C" fn bi_for_owned(
     alloc: Global,
@@ -125,11 +125,7 @@ pub extern "C" fn bi_for_owned(
     number: usize,
     whole: bool,
 ) -> u64 {
-    let mut sum = 0u64;
-    for rows in rows.chunks(number.max(1)) {
-        sum = sum.wrapping_add(walk_copies(alloc, rows, copies(number), whole));
-    }
-    sum
+    walk_copies(alloc, rows, number, whole)
 }
 
 /// Fills two maps with the same rows in two orders, compares them `times` times, and counts how often they are equal.

@@ -3,7 +3,7 @@ use Rattle.std.specs.List.{list_any}
 use Rattle.std.specs.Prelude.{◌≡◌, ◌<◌, Bool, List, ◌++◌, length, IsPermutation}
 use Rattle.std.proofs.Common.{sym, subst}
 use Rattle.std.proofs.lemmas.List.Sorted.{IsPermutation-sym, list_any-IsPermutation}
-use Rattle.iddqd_store.specs.Bag.{Ranks, AreLawful, IsSound, clash}
+use Rattle.iddqd_store.specs.Bag.{Ranks, AreLawful, IsSound}
 use Rattle.iddqd_store.specs.Bag.Building.{AddsTo}
 use Rattle.iddqd_store.proofs.BagLemmas.Building.{AddsTo-IsPermutation, AddsTo-sound}
 use Rattle.iddqd_store.proofs.BagLemmas.Cancelled.{IsPermutation-cancelled}

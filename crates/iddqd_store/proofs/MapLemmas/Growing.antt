@@ -94,9 +94,6 @@ module _ (held left next room : ℕ) (fit : held + left ≤ room) (nearer : next
   pub fits_on : (now grown : ℕ) → now ≤ suc held → grown ≡ room → now + next ≤ grown
   fits_on now grown more same = omega arith
 
-  pub full_before : held ≡ room → ⊥
-  full_before full = omega arith
-
 pub not_full : (held room : ℕ) → held ≡ room → held < room → ⊥
 not_full held room full spare = omega (arith, full, spare)
 

@@ -1,7 +1,7 @@
 -- What is built from the items that an iterator gives.
-use Rattle.std.specs.Prelude.{◌≡◌, ◌≢◌, ◌+◌, ◌≤◌, ℕ, List, [], ◌∷◌, ◌++◌, Option, Some, Ok, Err, IsPermutation}
+use Rattle.std.specs.Prelude.{◌≡◌, ◌≢◌, ◌+◌, ◌≤◌, ℕ, List, [], ◌∷◌, Option, Some, Ok, Err, IsPermutation}
 use Rattle.std.specs.Iterator.{Count, Drains, YieldsThen, size}
-use Rattle.iddqd_store.specs.Bag.{Ranks, IsSound, add, adds, clash}
+use Rattle.iddqd_store.specs.Bag.{Ranks, add, adds}
 use Rattle.iddqd_store.specs.declared.error.FromIterError.{FromIterError}
 use Rattle.iddqd_store.specs.declared.error.FromIterError.TheVariants as from_iter
 use Rattle.iddqd_store.specs.declared.error.InsertReason.{InsertReason}

@@ -1,5 +1,5 @@
 -- An iteration over a map's items, in which each may be written.
-use Rattle.std.specs.Prelude.{◌≡◌, ℕ, zero, suc, List, [], ◌∷◌, ◌++◌, take, drop, Option, Some, None}
+use Rattle.std.specs.Prelude.{◌≡◌, ℕ, zero, suc, ◌+◌, ◌-◌, ◌^◌, ◌%◌, List, [], ◌∷◌, ◌++◌, take, drop, Option, Some, None}
 use Rattle.std.specs.Option.{option_map}
 use Rattle.iddqd_store.specs.Map.{Map}
 use Rattle.iddqd_store.specs.Slots.{contents}
@@ -31,3 +31,8 @@ module _ {T : Type 0} where
   first_from (None ∷ rest) zero = option_map suc (first_from rest zero)
   first_from (Some x ∷ rest) zero = Some 0
   first_from (o ∷ rest) (suc from) = option_map suc (first_from rest from)
+
+-- `one_fewer` is the count less one, as a `usize` computes it: 0 wraps round to the largest number.
+-- Example: For 3 it is 2.
+abbrev pub one_fewer : ℕ → ℕ
+one_fewer n = (n + (2 ^ 64 - 1)) % 2 ^ 64

@@ -140,7 +140,7 @@ impl IndexTable {
     // Replaces the pair of this slot and this hash by a pair of the same slot at the empty cell at which a search ended. The
     // new pair comes first, since the removal of the old one may move the empty cell. If the table is full, or has another
     // number of cells than at that search, it searches for an empty cell after the removal.
-    #[inline(never)]
+    #[inline(always)]
     fn move_pair_to(&mut self, before: u64, at: Vacancy, slot: ItemIndex, meter: &mut Meter)
         requires there { Contains self.old.pairs (before, slot) }
         requires vacant { IsFree (hashes self.old.pairs) at }

@@ -6,7 +6,7 @@ use Rattle.iddqd_store.specs.Runs.Step.{state_of}
 use Rattle.iddqd_store.proofs.RunLemmas.Extending.{ExtendsTo-push}
 use Rattle.iddqd_store.proofs.BagLemmas.Building.{length-overwritten}
 use Rattle.iddqd_store.proofs.MapLemmas.{at_err}
-use Rattle.iddqd_store.proofs.MapLemmas.Growing.{fits_on, full_before, spare}
+use Rattle.iddqd_store.proofs.MapLemmas.Growing.{fits_on, not_full, spare}
 use Rattle.iddqd_id.proofs.map.IdHashMap.extend.Goals as goal
 
 pub loop-item-preserved : goal.loop-item-preserved
@@ -54,7 +54,7 @@ pub returns-in_err-insert_overwrite-clause-granted : goal.returns-in_err-insert_
 returns-in_err-insert_overwrite-clause-granted g c = λ fit.
     let so_far = c.loop-item.invariant in
     let nearer = (on c.in-Some.item c.in-Some.is c.next.ensures.goes so_far.ending).2 in
-    absurd (full_before _ _ _ _ (so_far.fits fit).0 nearer c.in_err-insert_overwrite.ensures.reason.full)
+    absurd (not_full _ _ c.in_err-insert_overwrite.ensures.reason.full (spare _ _ _ _ (so_far.fits fit).0 nearer))
 
 pub returns-in_err-insert_overwrite-clause-room : goal.returns-in_err-insert_overwrite-clause-room
 returns-in_err-insert_overwrite-clause-room g c =
