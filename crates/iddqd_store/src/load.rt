@@ -36,7 +36,7 @@ pub fn pairs_wanted(len: usize, room: usize, more: usize) -> Option<usize>
     ensures enough { IfSome result (λ wanted. more ≤ wanted) }
     ensures same { IfSome result (λ wanted. len + more ≤ room → wanted ≡ more) }
     ensures most { IfSome result (λ wanted. len + wanted ≤ 3 * max (len + more) (max (2 * room) 4)) }
-    // Where the slots grow, the cells that the pairs need are enough for all items that the slots then have room for.
+    // Where the slots grow, a table in which the pairs fit is sparse even with all items that the slots then have room for.
     ensures sparse { IfSome result (λ wanted. room < len + more → (cells : ℕ) → len + wanted ≤ cells / 8 * 7
         → IsSparse (max (len + more) (2 * room)) cells) }
     // Where a table is too small for the pairs, the items do not fit either.
