@@ -35,7 +35,9 @@ pub fn pairs_wanted(len: usize, room: usize, more: usize) -> Option<usize>
     // The pairs of so many more items fit, and no others are asked for where the slots do not grow.
     ensures enough { IfSome result (λ wanted. more ≤ wanted) }
     ensures same { IfSome result (λ wanted. len + more ≤ room → wanted ≡ more) }
-    ensures most { IfSome result (λ wanted. len + wanted ≤ 3 * max (len + more) (max (2 * room) 4)) }
+    // More is asked for only where the slots grow to at most 16,384, and then at most three times what they have room for.
+    ensures most { IfSome result (λ wanted. more < wanted → (max (len + more) (2 * room) ≤ 16384)
+        × (len + wanted ≤ 3 * max (len + more) (max (2 * room) 4))) }
     // Where the slots grow, a table in which the pairs fit is sparse even with all items that the slots then have room for.
     ensures sparse { IfSome result (λ wanted. room < len + more → (cells : ℕ) → len + wanted ≤ cells / 8 * 7
         → IsSparse (max (len + more) (2 * room)) cells) }
