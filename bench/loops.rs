@@ -1,5 +1,5 @@
 //! The loops over the maps on the other side, which are those kept by hand or those of the Rust crate: one for each loop of
-//! `bench_loops`, with the same name.
+//! `bench/loops`, with the same name.
 use crate::calls::{Map, sum_of, told};
 use crate::workload::{Row, Workload, copies};
 

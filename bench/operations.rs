@@ -1,5 +1,5 @@
 //! The operations. Each has a name, its rows, the loop over a map on the other side, and the loops that the static
-//! library of `bench_loops` exports.
+//! library of `bench/loops` exports.
 use crate::calls::Map;
 use crate::loops;
 use crate::workload::{self, Row, Workload};

@@ -1,5 +1,5 @@
 //! Other keys, items and hashers, at two keys: text keys, items of 128 bytes, and the hasher of `RandomState`. One side
-//! has the loops that `bench_loops` exports, and the other the same loops over std hash maps kept by hand.
+//! has the loops that `bench/loops` exports, and the other the same loops over std hash maps kept by hand.
 use crate::calls::sum_of;
 use crate::hasher::FoldHasher;
 use crate::operations::{Exported, Kind, Operation, exported};

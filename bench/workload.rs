@@ -1,6 +1,6 @@
 //! The rows that the loops take: with mixed keys, and in orders that no branch predictor has seen.
 
-/// An item with N keys and a value, laid out as in `bench_loops`.
+/// An item with N keys and a value, laid out as in `bench/loops`.
 #[repr(C)]
 #[derive(Clone, Copy, PartialEq)]
 pub struct Row<const N: usize> {
@@ -133,7 +133,7 @@ pub fn fresh<const N: usize>(items: usize) -> Workload<N> {
     }
 }
 
-/// Returns how many copies of a map with this many items a loop changes, as in `bench_loops`.
+/// Returns how many copies of a map with this many items a loop changes, as in `bench/loops`.
 pub fn copies(items: usize) -> usize {
     (items / 10_000).clamp(1, 8)
 }

@@ -1,7 +1,7 @@
 // A library for LD_PRELOAD that makes one allocation of a program fail: the one whose number the variable REFUSED has,
 // counted from 1. It reports that on standard error. If the program ends by itself with memory that was never freed, it
 // reports that there too. The library is not part of a crate: tests/failing_allocations and tests/cases build it, and load it into
-// programs and tests that are proved.
+// programs and tests that were built without the address sanitizer.
 //
 // For test_calls it counts the allocations of each call. A request for BEGINS + N bytes says that a call begins, and that
 // its Nth allocation is to fail, or none if N is 0. Of the requests for MADE + N bytes that follow, only the one in which N

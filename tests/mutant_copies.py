@@ -31,13 +31,14 @@ class Mutant:
     """A wrong body: the functions that are its targets, what it breaks, and its changes (file, begin, end, new text) to the crate's files.
     Checks name its targets as `checked` says."""
 
-    def __init__(self, crate, name, targets, breaks):
-        self.name, self.targets, self.breaks, self.spans, self.changes = f"{crate}/{name}", targets, breaks, [], sources.changes(crate, name)
+    def __init__(self, crate, said, is_whole):
+        self.name, self.targets, self.breaks = f"{crate}/{said.name}", said.targets, None if is_whole else said.breaks or None
+        self.spans, self.changes = [], said.changes
         for path, pairs in self.changes.items():
             for old, new in ((old, new) for old, new in pairs if old):
                 at = read(path).index(old)
                 self.spans.append((path[len(f"crates/{crate}/") :], at, at + len(old), new))
-        self.checked, self.twin_of = {it: it for it in targets}, None
+        self.checked, self.twin_of = {it: it for it in said.targets}, None
 
     def be_twin(self, found, number):
         """Becomes a twin, if it changes nothing but its target, and no trait asks for that."""
@@ -60,10 +61,8 @@ class Mutant:
 
 
 def mutants_of(crate, found, are_whole=False):
-    """Returns the crate's mutants, each with its targets by must-fail/targets.md, and with what it breaks, unless they have whole contracts."""
-    targets = dict(sources.targets(crate)[0])
-    breaks = lambda it: None if are_whole else sources.breaks(crate, it)
-    mutants = [Mutant(crate, it, targets.get(it, []), breaks(it)) for it in sources.mutants_of(crate)]
+    """Returns the crate's mutants, each with what it breaks, unless they have whole contracts."""
+    mutants = [Mutant(crate, it, are_whole) for it in sources.mutants(crate)[0]]
     for number, it in enumerate(mutants):
         it.be_twin(found, number)
     return mutants

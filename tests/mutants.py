@@ -1,4 +1,4 @@
-"""Which mutants of must-fail/ have which functions as targets, by the files targets.md. tests/mutants_apply says what these hold."""
+"""Which mutants of tests/mutants have which functions as targets. tests/mutants_apply says what the files there hold."""
 import fnmatch
 import re
 
@@ -38,7 +38,7 @@ def checked_name(of, trait):
 
 def functions(crate):
     """Yields the functions of a crate: those of its types, its impls of traits, and those that belong to no type. What a trait
-    only asks for has no body, and is left out. Each has what targets.md says of it, from no line on."""
+    only asks for has no body, and is left out. Each has what tests/mutants says of it, from no line on."""
     listed = NOT_MADE_WHOLE.findall(sources.read("tests/one_key.patch")) if crate == "iddqd_id" else sources.files(crate)
     for path in sources.files(crate):
         module, text = sources.module_of(path), renamed(crate, sources.read(path))
@@ -56,14 +56,14 @@ def functions(crate):
 
 
 def is_named(function, path):
-    """Whether a path of targets.md names this function, as a check names it."""
+    """Whether a path of tests/mutants names this function, as a check names it."""
     owner, _, name = path.rpartition("::")
     owner = re.sub(r"\+.*", "", owner)
     return name == function.name and (owner == function.owner or owner.endswith(f"::{function.owner}"))
 
 
 class Mutants:
-    """The functions of all crates that have a list, with what targets.md says of each."""
+    """The functions of all crates that have a list, with what tests/mutants says of each."""
 
     def __init__(self, lists):
         self.faults, self.functions = [], {}
@@ -81,13 +81,13 @@ class Mutants:
             self.look(crates)
 
     def take_mutants(self, crates, crate):
-        for mutant, paths in sources.targets(crate)[0]:
-            for path in paths:
+        for mutant in sources.mutants(crate)[0]:
+            for path in mutant.targets:
                 targets = [it for it in self.functions[crates] if is_named(it, renamed(crate, path))]
                 for it in targets:
-                    it.mutants.append((crate, mutant))
+                    it.mutants.append((crate, mutant.name))
                 if not targets:
-                    self.faults.append(f"crates/{crate}/must-fail/targets.md: {mutant} has the target {path}, which is not there")
+                    self.faults.append(f"tests/mutants/{crate}: {mutant.name} has the target {path}, which is not there")
 
     def named(self, crates, crate, words):
         """The functions that these words of a line name, each by its name or by a pattern."""
@@ -97,13 +97,13 @@ class Mutants:
             name = renamed(crate, name)
             found = [it for it in self.functions[of] if fnmatch.fnmatchcase(it.key, name) or fnmatch.fnmatchcase(it.full, name)]
             if not found:
-                self.faults.append(f"crates/{crate}/must-fail/targets.md: there is no function {word}")
+                self.faults.append(f"tests/mutants/{crate}: there is no function {word}")
             yield from found
 
     def take_lines(self, crates, crate):
         """Takes the lines that say by which functions others go, or why none can be a target."""
-        where = f"crates/{crate}/must-fail/targets.md"
-        for kind, text in sources.targets(crate)[1]:
+        where = f"tests/mutants/{crate}"
+        for kind, text in sources.mutants(crate)[1]:
             words, _, rest = text.partition(": " if kind == "no mutant" else " -> ")
             others = [] if kind == "no mutant" else list(self.named(crates, crate, rest))
             for it in self.named(crates, crate, words):
@@ -121,7 +121,7 @@ class Mutants:
     def look(self, crates):
         for it in (it for it in self.functions[crates] if it.is_listed):
             if self.has_mutant(it) == bool(it.why):
-                but = "and targets.md says why none does" if it.why else "and no line of targets.md says by which it goes, or why none does"
+                but = "and a line says why none does" if it.why else "and no line says by which it goes, or why none does"
                 self.faults.append(f"{it.crate}: {'a' if it.why else 'no'} mutant has {it.full} as target, {but}")
 
     def listed(self, crates):

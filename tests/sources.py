@@ -15,7 +15,7 @@ import sys
 FROM = os.getcwd()
 os.chdir(os.path.join(os.path.dirname(os.path.abspath(__file__)), ".."))
 HEAD = re.compile(r'( *)((?:(?:[a-z]+(?:\([^)]*\))?|"C") )*)fn (\w+)')
-# The lines of targets.md on functions that are no targets, or whose work other functions do.
+# The lines of tests/mutants/CRATE on functions that are no targets, or whose work other functions do.
 SAYS = re.compile(r"(goes by|like|no mutant): (.*)")
 
 
@@ -171,36 +171,33 @@ def impl_of(line):
     return own, trait.strip(), of
 
 
-def targets(crate):
-    """Returns the lines `MUTANT: PATH ..` of a crate's targets.md, each as the mutant and its targets, and its other lines,
-    each as its kind and its text."""
-    path = f"crates/{crate}/must-fail/targets.md"
-    lines = read(path).splitlines() if os.path.isfile(path) else []
-    mutants = [(name, paths.split()) for name, _, paths in (it.partition(": ") for it in lines if not SAYS.match(it))]
-    return mutants, [it.groups() for it in map(SAYS.match, lines) if it]
+@dataclasses.dataclass
+class Mutant:
+    """A mutant: its targets, the labels of the clauses that it breaks, if it names them, and the files that it changes, each with its pairs of
+    an old and a new text."""
+
+    name: str
+    targets: list
+    breaks: list = dataclasses.field(default_factory=list)
+    changes: dict = dataclasses.field(default_factory=dict)
 
 
-def mutants_of(crate):
-    """Returns the names of a crate's mutants, in order."""
-    return [os.path.basename(it)[: -len(".edit")] for it in files(crate, "must-fail/*.edit")]
-
-
-def changes(crate, mutant):
-    """Returns the files that a mutant changes, each with its pairs of an old and a new text."""
-    found, old, pairs = {}, None, None
-    for line in read(f"crates/{crate}/must-fail/{mutant}.edit").split("\n"):
-        word, _, text = line.partition(": ")
-        if word == "file":
-            pairs = found.setdefault(f"crates/{crate}/{text}", [])
-        elif word == "old":
+def mutants(crate):
+    """Returns the mutants of tests/mutants/CRATE, in order, and the other lines of that file, each as its kind and its text."""
+    path, found, says, pairs, old = f"tests/mutants/{crate}", [], [], [], None
+    for line in read(path).split("\n") if os.path.isfile(path) else []:
+        word, _, text = line.partition(":")
+        text = text.removeprefix(" ")
+        if SAYS.match(line):
+            says.append(SAYS.match(line).groups())
+        elif re.match(r"\w+:", line):
+            found.append(Mutant(word, text.split()))
+        elif word == "    breaks":
+            found[-1].breaks += text.split()
+        elif word == "    file":
+            pairs = found[-1].changes.setdefault(f"crates/{crate}/{text}", [])
+        elif word == "    old":
             old = text
-        elif line.startswith("new:") and pairs is not None:
+        elif word == "    new":
             pairs.append((old, text))
-            old = None
-    return found
-
-
-def breaks(crate, mutant):
-    """Returns the labels of the clauses that a mutant breaks, by the line `breaks: LABEL ..` of its file, or None if there is no such line."""
-    found = re.search(r"^breaks: (.*)", read(f"crates/{crate}/must-fail/{mutant}.edit"), re.M)
-    return found and found[1].split()
+    return found, says

@@ -6,6 +6,7 @@ ghost use Rattle.iddqd_bi.specs.Bag.{IsOnly, clash};
 ghost use Rattle.iddqd_bi.specs.Map.{bag};
 
 use iddqd_bi::{BiHashItem, BiHashMap, Ranked, Rejected};
+use std::alloc::Global;
 
 /// A setting, known by its name, a constant text, and by its number.
 #[derive(Drop)]
@@ -30,6 +31,14 @@ impl BiHashItem for Setting {
     fn key2(&self) -> &u32 {
         &self.number
     }
+}
+
+/// Makes a map of settings, and returns how many it has: none. A function may own such a map, and drop it.
+pub fn count_none(alloc: Global) -> usize
+    ensures { result ≡ 0 }
+{
+    let settings: BiHashMap<Setting> = BiHashMap::new(alloc);
+    settings.len()
 }
 
 /// Adds a setting. The error has it, and says which of its keys are taken.

@@ -2,7 +2,7 @@
 use crate::item::BiHashItem;
 use iddqd_store::{IndexTable, ItemSet};
 use std::hash::{BuildHasher, BuildHasherDefault, FoldHasher, Hash};
-use std::marker::Model;
+use std::marker::{Model, PhantomData};
 
 mod build;
 mod capacity;
@@ -45,6 +45,8 @@ pub struct BiHashMap<T: BiHashItem, S: BuildHasher = DefaultHashBuilder> {
     first: IndexTable,
     second: IndexTable,
     hash_builder: S,
+    // It names the types of the keys. Without it no function that owns a map whose keys are references has a proof.
+    keys: PhantomData<(T::K1, T::K2)>,
 }
 
 impl<T: BiHashItem, S: BuildHasher> Model for BiHashMap<T, S> {

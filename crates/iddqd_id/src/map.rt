@@ -4,7 +4,7 @@
 use crate::item::IdHashItem;
 use iddqd_store::{IndexTable, ItemSet};
 use std::hash::{BuildHasher, BuildHasherDefault, FoldHasher, Hash};
-use std::marker::Model;
+use std::marker::{Model, PhantomData};
 
 mod build;
 mod capacity;
@@ -44,6 +44,8 @@ pub struct IdHashMap<T: IdHashItem, S: BuildHasher = DefaultHashBuilder> {
     items: ItemSet<T>,
     first: IndexTable,
     hash_builder: S,
+    // It names the types of the keys. Without it no function that owns a map whose keys are references has a proof.
+    keys: PhantomData<T::Key>,
 }
 
 impl<T: IdHashItem, S: BuildHasher> Model for IdHashMap<T, S> {

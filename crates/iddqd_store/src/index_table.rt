@@ -1,6 +1,6 @@
 //! A hash table of pairs of a hash and a slot's index: open addressing with linear probing, and backward-shift
 //! deletion, so there are no tombstones.
-ghost use Rattle.std.specs.Prelude.{ℕ, Contains, Some, ◌≡◌, ◌≢◌, ◌+◌, ◌*◌, ◌/◌, ◌%◌, ◌∷◌, ◌<◌, ◌≤◌, ◌&&◌, [], true, length, IsSome, IsOk, IsErr, ◌↔◌, IfOk, IfErr};
+ghost use Rattle.std.specs.Prelude.{ℕ, Contains, Some, ◌≡◌, ◌≢◌, ◌+◌, ◌*◌, ◌/◌, ◌%◌, ◌∷◌, ◌<◌, ◌≤◌, ◌&&◌, [], true, length, IsSome, IsOk, IsErr, ◌↔◌, ◌⊎◌, IfOk, IfErr};
 ghost use Rattle.std.specs.List.Sorted.{IsPermutation};
 ghost use Rattle.std.specs.Option.{option_map};
 ghost use Rattle.std.specs.Result.{result_ok};
@@ -155,15 +155,15 @@ impl IndexTable {
     ///
     /// It allocates nothing. It probes the cells from the home of the hash on, up to the one with the result or to
     /// the first empty one. These are at most one more than there are pairs, and none if there are no cells. The
-    /// matcher is asked only about indexes under this very hash, and about each at most once. No index may stand in two
-    /// pairs.
+    /// matcher is asked only about indexes under this very hash, and about each pair at most once. No index may stand in two
+    /// pairs, unless the matcher may always be asked.
     pub fn find<M: Matcher>(
         &self,
         hash: u64,
         matcher: &mut M,
         meter: &mut Meter,
     ) -> Option<ItemIndex>
-        requires own { HaveOwnSlots self.now.pairs }
+        requires own { HaveOwnSlots self.now.pairs ⊎ ((m : M) (slot : ℕ) → M.MayAsk m slot) }
         requires asks { (slot : ℕ) → Contains self.now.pairs (hash, slot) → M.MayAsk matcher.old slot }
         ensures found { FindsUnder self.now hash (M.accepts matcher.old) result }
         ensures is_kept { M.IsKept matcher.old matcher.new }
@@ -187,7 +187,7 @@ impl IndexTable {
         matcher: &mut M,
         meter: &mut Meter,
     ) -> Result<(ItemIndex, usize), Vacancy>
-        requires own { HaveOwnSlots self.now.pairs }
+        requires own { HaveOwnSlots self.now.pairs ⊎ ((m : M) (slot : ℕ) → M.MayAsk m slot) }
         requires asks { (slot : ℕ) → Contains self.now.pairs (hash, slot) → M.MayAsk matcher.old slot }
         ensures found { FindsUnder self.now hash (M.accepts matcher.old) (option_map (λ f. f.0) (result_ok result)) }
         ensures cell { IfOk result (λ f. IsCellOf self.now.row (hash, f.0) f.1) }

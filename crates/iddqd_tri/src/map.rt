@@ -4,7 +4,7 @@
 use crate::item::TriHashItem;
 use iddqd_store::{IndexTable, ItemSet};
 use std::hash::{BuildHasher, BuildHasherDefault, FoldHasher, Hash};
-use std::marker::Model;
+use std::marker::{Model, PhantomData};
 
 mod build;
 mod capacity;
@@ -48,6 +48,8 @@ pub struct TriHashMap<T: TriHashItem, S: BuildHasher = DefaultHashBuilder> {
     second: IndexTable,
     third: IndexTable,
     hash_builder: S,
+    // It names the types of the keys. Without it no function that owns a map whose keys are references has a proof.
+    keys: PhantomData<(T::K1, T::K2, T::K3)>,
 }
 
 impl<T: TriHashItem, S: BuildHasher> Model for TriHashMap<T, S> {

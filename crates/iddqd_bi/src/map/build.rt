@@ -8,6 +8,7 @@ use crate::item::BiHashItem;
 use iddqd_store::{IndexTable, ItemSet, TryReserveError, table_room};
 use std::alloc::Global;
 use std::hash::{BuildHasher, Hash};
+use std::marker::PhantomData;
 
 impl<T: BiHashItem> BiHashMap<T, DefaultHashBuilder> {
     /// Makes an empty map of capacity 0 with the default builder. The call allocates no memory.
@@ -48,6 +49,7 @@ impl<T: BiHashItem, S: BuildHasher> BiHashMap<T, S> {
             first: IndexTable::new(alloc),
             second: IndexTable::new(alloc),
             hash_builder,
+            keys: PhantomData,
         }
     }
 
@@ -97,6 +99,7 @@ impl<T: BiHashItem, S: BuildHasher> BiHashMap<T, S> {
             first,
             second,
             hash_builder,
+            keys: PhantomData,
         })
     }
 }

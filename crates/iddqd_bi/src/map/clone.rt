@@ -9,6 +9,7 @@ use super::BiHashMap;
 use crate::item::BiHashItem;
 use iddqd_store::TryReserveError;
 use std::hash::{BuildHasher, Hash};
+use std::marker::PhantomData;
 
 impl<T: BiHashItem + Clone, S: BuildHasher + Clone> BiHashMap<T, S> {
     /// Returns a map with a clone of each item and of the builder. The call fails if an allocation fails, or if a clone
@@ -34,6 +35,7 @@ impl<T: BiHashItem + Clone, S: BuildHasher + Clone> BiHashMap<T, S> {
             first: self.first.clone()?,
             second: self.second.clone()?,
             hash_builder,
+            keys: PhantomData,
         };
         // This call gives the prover the fact that the items fit, for the clause `fits`.
         let _ = copy.capacity();

@@ -45,6 +45,7 @@ impl<T: BiHashItem + Drop, S: BuildHasher + Drop> IntoIterator for BiHashMap<T, 
             first: _,
             second: _,
             hash_builder: _,
+            keys: _,
         } = self;
         items.into_values()
     }

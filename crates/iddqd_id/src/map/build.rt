@@ -10,6 +10,7 @@ use crate::item::IdHashItem;
 use iddqd_store::{IndexTable, ItemSet, TryReserveError, table_room};
 use std::alloc::Global;
 use std::hash::{BuildHasher, Hash};
+use std::marker::PhantomData;
 
 impl<T: IdHashItem> IdHashMap<T, DefaultHashBuilder> {
     /// Makes an empty map of capacity 0 with the default builder. The call allocates no memory.
@@ -49,6 +50,7 @@ impl<T: IdHashItem, S: BuildHasher> IdHashMap<T, S> {
             items: ItemSet::new(alloc),
             first: IndexTable::new(alloc),
             hash_builder,
+            keys: PhantomData,
         }
     }
 
@@ -96,6 +98,7 @@ impl<T: IdHashItem, S: BuildHasher> IdHashMap<T, S> {
             items: ItemSet::with_capacity(alloc, items)?,
             first,
             hash_builder,
+            keys: PhantomData,
         })
     }
 }

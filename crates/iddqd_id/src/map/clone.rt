@@ -11,6 +11,7 @@ use super::IdHashMap;
 use crate::item::IdHashItem;
 use iddqd_store::TryReserveError;
 use std::hash::{BuildHasher, Hash};
+use std::marker::PhantomData;
 
 impl<T: IdHashItem + Clone, S: BuildHasher + Clone> IdHashMap<T, S> {
     /// Returns a map with a clone of each item and of the builder. The call fails if an allocation fails, or if a clone
@@ -34,6 +35,7 @@ impl<T: IdHashItem + Clone, S: BuildHasher + Clone> IdHashMap<T, S> {
             items: self.items.clone()?,
             first: self.first.clone()?,
             hash_builder,
+            keys: PhantomData,
         };
         // This call gives the prover the fact that the items fit, for the clause `fits`.
         let _ = copy.capacity();

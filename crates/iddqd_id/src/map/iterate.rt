@@ -46,6 +46,7 @@ impl<T: IdHashItem + Drop, S: BuildHasher + Drop> IntoIterator for IdHashMap<T, 
             items,
             first: _,
             hash_builder: _,
+            keys: _,
         } = self;
         items.into_values()
     }

@@ -1,6 +1,6 @@
 -- What a search may still ask about, where no two pairs have the same slot.
-use Rattle.std.proofs.Common.{◌≡◌, ℕ, ◌+◌, ◌%◌, ◌<◌, ◌≤◌, List, Option, Some, length, sym, ap, arith}
-use Rattle.std.specs.Prelude.{◌≢◌, ◌==◌}
+use Rattle.std.proofs.Common.{◌≡◌, ℕ, ◌+◌, ◌%◌, ◌<◌, ◌≤◌, List, Option, Some, length, sym, ap, arith, inl, inr}
+use Rattle.std.specs.Prelude.{◌≢◌, ◌==◌, ◌⊎◌}
 use Rattle.std.proofs.lemmas.Bool.{eq-eqb}
 use Rattle.iddqd_store.specs.Slots.{contents}
 use Rattle.iddqd_store.specs.Table.{HaveOwnSlots}
@@ -22,7 +22,13 @@ other_slot row home s k x y own l later below here there e =
     let second : gap n home (place n home k) ≡ k = gap_place n home k l below in
     absurd (omega (arith, back, first, second))
 
+-- what is true of each matcher is true of this one
+pub or_may_always : {M : Type 0} (row : List (Option (ℕ × ℕ))) (MayAsk : M → ℕ → Type 0) (m : M) → HaveOwnSlots (contents row) ⊎ ((n : M) (slot : ℕ) → MayAsk n slot) → HaveOwnSlots (contents row) ⊎ ((slot : ℕ) → MayAsk m slot)
+or_may_always row MayAsk m (inl own) = inl own
+or_may_always row MayAsk m (inr always) = inr (always m)
+
 -- after a question about the slot of one cell, the slots behind it may still be asked about
-pub still_to_ask : (row : List (Option (ℕ × ℕ))) (hash s t : ℕ) (x : ℕ × ℕ) (Before After : ℕ → Type 0) → HaveOwnSlots (contents row) → hash % length row < length row → t ≡ s + 1 → cell row (place (length row) (hash % length row) s) ≡ Some x → ((other : ℕ) → other ≢ x.1 → Before other → After other) → StillToAsk row hash Before s → StillToAsk row hash After t
-still_to_ask row hash s t x Before After own l next here others may k far below slot there =
+pub still_to_ask : (row : List (Option (ℕ × ℕ))) (hash s t : ℕ) (x : ℕ × ℕ) (Before After : ℕ → Type 0) → HaveOwnSlots (contents row) ⊎ ((slot : ℕ) → After slot) → hash % length row < length row → t ≡ s + 1 → cell row (place (length row) (hash % length row) s) ≡ Some x → ((other : ℕ) → other ≢ x.1 → Before other → After other) → StillToAsk row hash Before s → StillToAsk row hash After t
+still_to_ask row hash s t x Before After (inr always) l next here others may k far below slot there = always slot
+still_to_ask row hash s t x Before After (inl own) l next here others may k far below slot there =
     others slot (other_slot row (hash % length row) s k x (hash, slot) own l (omega arith) below here there) (may k (omega arith) below slot there)

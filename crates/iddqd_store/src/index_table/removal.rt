@@ -1,5 +1,5 @@
 //! Removal of a pair from a table: of one that is known, or of the one that a search finds.
-ghost use Rattle.std.specs.Prelude.{ℕ, ◌≡◌, ◌+◌, ◌%◌, ◌∷◌, ◌<◌, ◌≤◌, length, IfSome, IfNone, Contains};
+ghost use Rattle.std.specs.Prelude.{ℕ, ◌≡◌, ◌+◌, ◌%◌, ◌∷◌, ◌<◌, ◌≤◌, ◌⊎◌, length, IfSome, IfNone, Contains};
 ghost use Rattle.std.specs.List.Sorted.{IsPermutation};
 ghost use Rattle.iddqd_store.specs.Table.Ring.{gap, stretch};
 ghost use Rattle.iddqd_store.specs.Table.Search.{FindsUnder, RemovalCosts};
@@ -39,7 +39,7 @@ impl IndexTable {
         matcher: &mut M,
         meter: &mut Meter,
     ) -> Option<ItemIndex>
-        requires own { HaveOwnSlots self.old.pairs }
+        requires own { HaveOwnSlots self.old.pairs ⊎ ((m : M) (slot : ℕ) → M.MayAsk m slot) }
         requires asks { (slot : ℕ) → Contains self.old.pairs (hash, slot) → M.MayAsk matcher.old slot }
         // What it returns, and which pairs are left.
         ensures found { FindsUnder self.old hash (M.accepts matcher.old) result }

@@ -10,6 +10,7 @@ use crate::item::TriHashItem;
 use iddqd_store::{IndexTable, ItemSet, TryReserveError, table_room};
 use std::alloc::Global;
 use std::hash::{BuildHasher, Hash};
+use std::marker::PhantomData;
 
 impl<T: TriHashItem> TriHashMap<T, DefaultHashBuilder> {
     /// Makes an empty map of capacity 0 with the default builder. The call allocates no memory.
@@ -51,6 +52,7 @@ impl<T: TriHashItem, S: BuildHasher> TriHashMap<T, S> {
             second: IndexTable::new(alloc),
             third: IndexTable::new(alloc),
             hash_builder,
+            keys: PhantomData,
         }
     }
 
@@ -102,6 +104,7 @@ impl<T: TriHashItem, S: BuildHasher> TriHashMap<T, S> {
             second,
             third,
             hash_builder,
+            keys: PhantomData,
         })
     }
 }

@@ -11,6 +11,7 @@ use super::TriHashMap;
 use crate::item::TriHashItem;
 use iddqd_store::TryReserveError;
 use std::hash::{BuildHasher, Hash};
+use std::marker::PhantomData;
 
 impl<T: TriHashItem + Clone, S: BuildHasher + Clone> TriHashMap<T, S> {
     /// Returns a map with a clone of each item and of the builder. The call fails if an allocation fails, or if a clone
@@ -38,6 +39,7 @@ impl<T: TriHashItem + Clone, S: BuildHasher + Clone> TriHashMap<T, S> {
             second: self.second.clone()?,
             third: self.third.clone()?,
             hash_builder,
+            keys: PhantomData,
         };
         // This call gives the prover the fact that the items fit, for the clause `fits`.
         let _ = copy.capacity();

@@ -48,6 +48,7 @@ impl<T: TriHashItem + Drop, S: BuildHasher + Drop> IntoIterator for TriHashMap<T
             second: _,
             third: _,
             hash_builder: _,
+            keys: _,
         } = self;
         items.into_values()
     }

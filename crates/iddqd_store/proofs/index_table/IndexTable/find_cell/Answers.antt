@@ -1,5 +1,5 @@
 use Rattle.std.proofs.Common.{subst, arith, rules, ℕ, ◌≡◌, ◌+◌, ◌-◌, ◌%◌, ◌<◌, ◌≤◌, length, sym, ap, ◌∙◌, refl, false, Some, None}
-use Rattle.std.specs.Prelude.{◌≢◌, nat_lt, if◌then◌else◌}
+use Rattle.std.specs.Prelude.{◌≢◌, ◌⊎◌, nat_lt, if◌then◌else◌}
 use Rattle.std.specs.List.{Contains, count_by}
 use Rattle.iddqd_store.specs.Table.{Table}
 use Rattle.iddqd_store.specs.Slots.{contents}
@@ -7,7 +7,7 @@ use Rattle.iddqd_store.specs.Table.Ring.{cell, stretch}
 use Rattle.iddqd_store.specs.Table.Search.{CostsUnder, IsVacantUnder}
 use Rattle.iddqd_store.specs.Table.{HaveOwnSlots, hashes, table_of, under}
 use Rattle.iddqd_store.proofs.SlotLemmas.Contents.{content_at}
-use Rattle.iddqd_store.proofs.TableLemmas.Once.{still_to_ask}
+use Rattle.iddqd_store.proofs.TableLemmas.Once.{or_may_always, still_to_ask}
 use Rattle.iddqd_store.proofs.TableLemmas.Stretch.{place}
 use Rattle.iddqd_store.proofs.TableLemmas.StretchBound.{stretch_le_pairs}
 use Rattle.iddqd_store.proofs.TableLemmas.Spot.{walk_free}
@@ -43,7 +43,8 @@ loop-pair-preserved g c =
     let at_x : cell row c.loop-pair.at ≡ Some x = sym c.cell_at.ensures.value ∙ c.in-Some.is in
     let there : cell row c.loop-pair.at ≢ None = λ e. cc (e, at_x) in
     let placed : cell row (place (length row) home s) ≡ Some x = sym (ap (cell row) w.at_is) ∙ at_x in
-    let own : HaveOwnSlots (contents row) = subst (λ (r : Table). HaveOwnSlots r.pairs) (sym c.self.view_is) c.requires.own in
+    let own : HaveOwnSlots (contents row) ⊎ ((m : g.row.M.Denot) (slot : ℕ) → g.M.Matcher.MayAsk m slot) =
+    subst (λ (r : Table). HaveOwnSlots r.pairs ⊎ ((m : g.row.M.Denot) (slot : ℕ) → g.M.Matcher.MayAsk m slot)) (sym c.self.view_is) c.requires.own in
     let asked = g.M.Matcher.asked in
     let may = g.M.Matcher.MayAsk in
     let e' : c.after-at.result ≡ (if nat_lt (c.loop-pair.at + 1) (length row) then c.loop-pair.at + 1 else 0) = rw c.len-count.ensures at c.after-at.ensures in
@@ -59,7 +60,7 @@ loop-pair-preserved g c =
             refused = refused_more row hash (g.M.Matcher.accepts c.args.matcher.now) s t c.loop-pair.at x more w at_x i.refused (λ _. no');
             count = rw w'.matcher-is (omega (arith, i.count, q, a));
             kept = rw w'.matcher-is (g.met.M.Matcher.kept_trans _ _ _ i.kept w'.matches.ensures.is_kept);
-            to_ask = rw w'.matcher-is (still_to_ask row hash s t x (may c.loop-pair.matcher) (may w'.matches.new.self) own lh more placed w'.matches.ensures.others i.to_ask);
+            to_ask = rw w'.matcher-is (still_to_ask row hash s t x (may c.loop-pair.matcher) (may w'.matches.new.self) (or_may_always row may w'.matches.new.self own) lh more placed w'.matches.ensures.others i.to_ask);
           }
       | else-stored-hash-via-else-stored-hash w' ↦
           record {
@@ -68,7 +69,7 @@ loop-pair-preserved g c =
             refused = refused_more row hash (g.M.Matcher.accepts c.args.matcher.now) s t c.loop-pair.at x more w at_x i.refused (λ e. absurd (w'.if-stored-hash.false e));
             count = rw w'.matcher-is (omega (arith, i.count, met_grows hash row home s x lh w.within placed t more));
             kept = rw w'.matcher-is i.kept;
-            to_ask = rw w'.matcher-is (still_to_ask row hash s t x (may c.loop-pair.matcher) (may c.loop-pair.matcher) own lh more placed (λ other differs asks. asks) i.to_ask);
+            to_ask = rw w'.matcher-is (still_to_ask row hash s t x (may c.loop-pair.matcher) (may c.loop-pair.matcher) (or_may_always row may c.loop-pair.matcher own) lh more placed (λ other differs asks. asks) i.to_ask);
           }
     ]
 

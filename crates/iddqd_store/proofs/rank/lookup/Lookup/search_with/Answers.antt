@@ -1,4 +1,4 @@
-use Rattle.std.proofs.Common.{rules}
+use Rattle.std.proofs.Common.{inl, rules}
 use borrow.Author.Rules.{lives}
 use Rattle.std.specs.Prelude.{Err}
 use Rattle.iddqd_store.proofs.RankLemmas.Index.{hash_at, own_slots}
@@ -36,7 +36,7 @@ pub returns-in-Err-clause-cells : goal.returns-in-Err-clause-cells
 returns-in-Err-clause-cells g c = rw (← c.self.view_is) (cells_found _ c.self.invariant c.args.hash (Err c.in-Err.at) c.in-Err.ensures.sized c.in-Err.ensures.vacant)
 
 pub find_cell-requires-clause-own : goal.find_cell-requires-clause-own
-find_cell-requires-clause-own g c = own_slots c.self.invariant.index
+find_cell-requires-clause-own g c = inl (own_slots c.self.invariant.index)
 
 pub find_cell-requires-clause-asks : goal.find_cell-requires-clause-asks
 find_cell-requires-clause-asks g c = λ slot there. (
