@@ -2,7 +2,7 @@
 //!
 //! ```text
 //! let mut users = IdHashMap::<User>::new(rt.alloc());
-//! users.insert_unique(User::new("ada"))?;
+//! users.try_insert(User::new("ada"))?;
 //! if let Some(user) = users.get("ada") {
 //!     println!(rt; "{user:?}")?;
 //! }

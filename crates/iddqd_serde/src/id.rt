@@ -127,7 +127,9 @@ fn put<T: Ranked + Drop, S: BuildHasher + Drop, F: Format>(
     match map.insert_unique(item) {
         Ok(()) => Ok(()),
         Err(refused) => match refused.reason() {
-            InsertReason::Duplicate => Err(from.custom("an item has the key of another")),
+            InsertReason::Duplicate => Err(from.custom(
+                "an item with an equal key is there already",
+            )),
             InsertReason::Memory => Err(from.no_memory()),
         },
     }

@@ -8,10 +8,12 @@
 //! item. An item that has a key of an item before it is an error of the format's own kind, which a format such as
 //! `serde_json` ends with the line and the column. A lack of memory is such an error too.
 //!
-//! It is proved of reading that the map has as many items as followed each other in the sequence (`counts`), and no two
-//! of them have an equal key of the same rank. No clause says which items these are, since the contracts of `serde` say
-//! nothing of what a derived `Deserialize` reads. So no contract says that a map that is written and read again is equal
-//! to the first.
+//! It is proved of reading that what was read is a sequence from its beginning to its end, in which items follow each
+//! other unless the map is empty (`reads`), and that no two items of the map have an equal key of the same rank. The private
+//! function that fills the map counts the items that it reads, and its clause `counts` says that the map has as many. No
+//! clause of a public function says how many items the sequence had, or which, since the contracts of `serde` say nothing
+//! of what a derived `Deserialize` reads. So no contract says that a map that is written and read again is equal to the
+//! first.
 #![tactic(auto)]
 
 ghost use Rattle.std.specs.Prelude.{◌≡◌, ◌+◌, IfOk, MatchBool};

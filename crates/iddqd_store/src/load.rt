@@ -14,6 +14,7 @@ pub fn table_room(items: usize) -> usize
     ensures enough { items ≤ result }
     ensures none { items ≡ 0 → result ≡ 0 }
     ensures most { result ≤ 3 * items }
+    ensures large { 16384 < items → result ≡ items }
     // A table with room for so many pairs has so many cells that at most a third, or a half, have one in a full map.
     ensures sparse { (cells : ℕ) → result ≤ cells / 8 * 7 → IsSparse items cells }
 {

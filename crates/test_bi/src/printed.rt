@@ -91,27 +91,25 @@ fn memory_prints(alloc: Global) -> bool {
     let refused = MemoryRefused { value: row };
     let entry = EntryError::Memory(row);
     let built: FromIterError<Row> = FromIterError::Memory(row);
-    prints(
-        alloc,
-        &TryReserveError,
-        "out of memory: the map did not grow",
-        "TryReserveError",
-    ) && prints(
-        alloc,
-        &refused,
-        "out of memory: the item was not inserted",
-        "MemoryRefused { .. }",
-    ) && prints(
-        alloc,
-        &entry,
-        "out of memory: the item was not inserted",
-        "Memory { .. }",
-    ) && prints(
-        alloc,
-        &built,
-        "out of memory: the map was not built",
-        "Memory { .. }",
-    )
+    prints(alloc, &TryReserveError, "out of memory", "TryReserveError")
+        && prints(
+            alloc,
+            &refused,
+            "out of memory: the item was not inserted",
+            "MemoryRefused { .. }",
+        )
+        && prints(
+            alloc,
+            &entry,
+            "out of memory: the item was not inserted",
+            "Memory { .. }",
+        )
+        && prints(
+            alloc,
+            &built,
+            "out of memory: the map was not built",
+            "Memory { .. }",
+        )
 }
 
 /// Returns whether the errors about keys print what they should.
@@ -125,7 +123,7 @@ fn keys_print(alloc: Global) -> bool {
     ) && prints(
         alloc,
         &DuplicateItem::new(row, row),
-        "an item has a key that another one has",
+        TAKEN,
         "DuplicateItem { .. }",
     )
 }
@@ -147,13 +145,13 @@ fn lists_print(alloc: Global) -> bool {
         alloc,
         true,
         true,
-        "none was inserted, because of item 0: an item has the first key; an item has the second key",
+        "none was inserted, because of item 0: an item with an equal first key is there already; an item with an equal second key is there already",
         "ExtendUniqueError { before: 0, taken1: true, taken2: true, .. }",
     ) && list_prints(
         alloc,
         false,
         true,
-        "none was inserted, because of item 0: an item has the second key",
+        "none was inserted, because of item 0: an item with an equal second key is there already",
         "ExtendUniqueError { before: 0, taken1: false, taken2: true, .. }",
     ) && list_prints(
         alloc,
@@ -181,19 +179,19 @@ fn rejections_print(alloc: Global) -> bool {
         alloc,
         true,
         true,
-        "an item has the first key; an item has the second key",
+        "an item with an equal first key is there already; an item with an equal second key is there already",
         "Rejected { taken1: true, taken2: true, .. }",
     ) && rejected_prints(
         alloc,
         true,
         false,
-        "an item has the first key",
+        "an item with an equal first key is there already",
         "Rejected { taken1: true, taken2: false, .. }",
     ) && rejected_prints(
         alloc,
         false,
         true,
-        "an item has the second key",
+        "an item with an equal second key is there already",
         "Rejected { taken1: false, taken2: true, .. }",
     ) && rejected_prints(
         alloc,

@@ -140,7 +140,10 @@ fn tell_taken<W: Write>(f: &mut Formatter<W>, taken1: bool, taken2: bool) -> fmt
     let mut parted = "";
     for (taken, key) in [(taken1, "first"), (taken2, "second")] {
         if taken {
-            write!(f, "{parted}an item has the {key} key")?;
+            write!(
+                f,
+                "{parted}an item with an equal {key} key is there already"
+            )?;
             parted = "; ";
         }
     }

@@ -15,6 +15,9 @@ impl<T: BiHashItem + Clone, S: BuildHasher + Clone> BiHashMap<T, S> {
     /// Returns a map with a clone of each item and of the builder. The call fails if an allocation fails, or if a clone
     /// does.
     ///
+    /// The clone's tables have as many cells as this map's. After a growth that failed they may be larger than the
+    /// capacity says (`reserve`), so the clone of an empty map of capacity 0 may need memory too.
+    ///
     /// A clone of an item must have equal keys, and the clone of the builder must make the same hashes. The call
     /// compares and hashes no key.
     pub fn clone(&self) -> Result<Self, TryReserveError>

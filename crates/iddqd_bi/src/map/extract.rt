@@ -23,7 +23,7 @@ impl<T: BiHashItem, S: BuildHasher> BiHashMap<T, S> {
     /// loop that ends early leaves the other items in the map.
     ///
     /// The call hashes each key of the item that it removes once. It compares no key, and allocates no memory. The whole
-    /// loop passes each slot once.
+    /// loop passes each slot once; with a new cursor for each call it would pass the slots before the next item each time.
     ///
     /// ```text
     /// let mut at = Cursor::new();

@@ -39,7 +39,9 @@ impl<T: BiHashItem, S: BuildHasher> BiHashMap<T, S> {
     /// Called with a new cursor until it returns `None`, it removes each item once, and leaves the map empty with its
     /// capacity, as `drain` of std does. The whole loop passes each slot once. If the loop ends early, the other items
     /// are still in the map. Between two calls a caller may read the map, write items and reserve room. After an insert, a
-    /// removal by another call, or a call that shrinks the map, the loop may pass items over.
+    /// removal by another call, or a call that shrinks the map, the loop may pass items over. A loop that makes a new
+    /// cursor for each call passes the free slots before the next item each time, so its time grows with the square of
+    /// the number of slots; `pop` remembers its place.
     ///
     /// The call hashes each key of the item once. It compares no key, and allocates no memory.
     ///

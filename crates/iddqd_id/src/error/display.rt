@@ -119,7 +119,7 @@ impl<T> Debug for Rejected<T> {
 impl<T> Display for Rejected<T> {
     fn fmt<W: Write>(&self, f: &mut Formatter<W>) -> fmt::Result {
         f.write_str(if self.taken {
-            "an item has the key"
+            "an item with an equal key is there already"
         } else {
             "out of memory: the item was not inserted"
         })
@@ -142,7 +142,7 @@ impl<T> Display for ExtendUniqueError<T> {
         let at = self.before.len();
         write!(f, "none was inserted, because of item {at}: ")?;
         f.write_str(match self.reason() {
-            InsertReason::Duplicate => "an item has the key",
+            InsertReason::Duplicate => "an item with an equal key is there already",
             InsertReason::Memory => "out of memory",
         })
     }

@@ -6,7 +6,7 @@ use std::fmt::{self, Debug, Display, Formatter, Write};
 
 impl Display for TryReserveError {
     fn fmt<W: Write>(&self, f: &mut Formatter<W>) -> fmt::Result {
-        f.write_str("out of memory: the map did not grow")
+        f.write_str("out of memory")
     }
 }
 
@@ -66,7 +66,7 @@ impl<T, L> Debug for DuplicateItem<T, L> {
 
 impl<T, L> Display for DuplicateItem<T, L> {
     fn fmt<W: Write>(&self, f: &mut Formatter<W>) -> fmt::Result {
-        f.write_str("an item has a key that another one has")
+        f.write_str("an item with an equal key is there already")
     }
 }
 

@@ -152,7 +152,10 @@ fn tell_taken<W: Write>(
     let mut parted = "";
     for (taken, key) in [(taken1, "first"), (taken2, "second"), (taken3, "third")] {
         if taken {
-            write!(f, "{parted}an item has the {key} key")?;
+            write!(
+                f,
+                "{parted}an item with an equal {key} key is there already"
+            )?;
             parted = "; ";
         }
     }

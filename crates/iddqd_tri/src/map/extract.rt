@@ -25,7 +25,8 @@ impl<T: TriHashItem, S: BuildHasher> TriHashMap<T, S> {
     /// items over. A loop that ends early leaves the other items in the map.
     ///
     /// The call hashes each key of the item that it removes once. It compares no key, and allocates no memory. The
-    /// whole loop passes each slot once.
+    /// whole loop passes each slot once; with a new cursor for each call it would pass the slots before the next item
+    /// each time.
     ///
     /// ```text
     /// let mut at = Cursor::new();

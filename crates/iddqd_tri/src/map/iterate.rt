@@ -13,6 +13,10 @@ use std::hash::{BuildHasher, Hash};
 
 impl<T: TriHashItem, S: BuildHasher> TriHashMap<T, S> {
     /// Iterates over the items by reference: each item once, in unspecified order. The call allocates no memory.
+    ///
+    /// An iteration passes every slot, also those that removals left free. Only `clear` and the calls that shrink the
+    /// map make the slots fewer, so a map that was once large is iterated over faster after `shrink_to_fit`. The same
+    /// holds for `retain`, `update_all` and the other calls that go over all items.
     pub fn iter(&self) -> Iter<'_, T>
         ensures gives { result ≡ bag self.now }
         ensures runs { ShowsInOrder (deref {X = T}) }
