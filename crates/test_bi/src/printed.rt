@@ -2,7 +2,7 @@
 use crate::row::{Row, row_of};
 use iddqd_bi::{
     BiHashMap, DuplicateItem, Entry, EntryError, ExtendUniqueError, FromIterError, InsertError,
-    KeyMismatch, MemoryRefused, NotReplaced, Rejected, TryReserveError,
+    KeyMismatch, MemoryRefused, NotReplaced, Rejected, TryEntryError, TryReserveError,
 };
 use std::alloc::Global;
 use std::fmt::{Debug, Display};
@@ -202,6 +202,22 @@ fn rejections_print(alloc: Global) -> bool {
     )
 }
 
+/// Why an entry inserted nothing where a closure makes the item and may run out of memory.
+type Tried = TryEntryError<EntryError<Row>, TryReserveError>;
+
+/// Returns whether the errors of `or_try_insert_with` print what the error of the closure prints, or that of the entry.
+fn tried_prints(alloc: Global) -> bool {
+    let failed: Tried = TryEntryError::Closure(TryReserveError);
+    let refused: Tried = TryEntryError::Insert(EntryError::Key1(row_of(1, 10, 100)));
+    prints(alloc, &failed, "out of memory", "Closure(TryReserveError)")
+        && prints(
+            alloc,
+            &refused,
+            "the first key is not the entry's",
+            "Insert(Key1 { .. })",
+        )
+}
+
 /// Returns whether the errors of `rekey1` print what they should.
 fn not_replaced_prints(alloc: Global) -> bool {
     let row = row_of(1, 10, 100);
@@ -225,6 +241,7 @@ fn errors_print_and_are_errors_of_any_kind(rt: HostRuntime) {
     assert!(rt; keys_print(alloc));
     assert!(rt; lists_print(alloc));
     assert!(rt; rejections_print(alloc) && not_replaced_prints(alloc));
+    assert!(rt; tried_prints(alloc));
     let mut map = BiHashMap::new(alloc);
     assert!(rt; grow(&mut map, 1).is_ok() && grow(&mut map, usize::MAX).is_err());
 }
