@@ -1,0 +1,72 @@
+"""Makes the crates that are built and run without a proof: the programs of tests/programs, and the loops of bench/loops.
+
+tests/programs/crates.txt names these crates with their libraries. A text NAME.rattle of such a crate becomes src/NAME.rt, and any other file of
+its folder stays as it is. From the texts of WIDTHS, which are for the map with two keys, tests/widen.py and tests/narrow.py make the texts for
+three keys and for one key, and a patch in the same folder says what these have of their own.
+"""
+import glob
+import os
+import re
+import subprocess
+import sys
+
+sys.dont_write_bytecode = True
+import narrow  # noqa: E402
+import sources  # noqa: E402
+import widen  # noqa: E402
+from sources import read  # noqa: E402
+
+LIBRARIES = sources.libraries("tests/programs/crates.txt")
+# The libraries among them, of which others make programs.
+USED = {it for of in LIBRARIES.values() for it in of if it in LIBRARIES}
+# The folder of each crate that has texts; the others are made from these.
+FOLDERS = {it: folder for it in LIBRARIES if os.path.isdir(folder := "bench/loops" if it == "bench_loops" else f"tests/programs/{it}")}
+# The paths of the texts that are written anew at three keys, and at one.
+WIDTHS = {"three": ("test_calls_bi/", "bench_loops/src/two_keys", "test_load/src/two_keys"), "one": ("test_calls_bi/", "bench_loops/src/two_keys")}
+
+
+def texts_of(crate):
+    """Returns the files of a crate's folder by their paths below crates/, each with its text."""
+    files = [it for it in glob.glob(f"{FOLDERS[crate]}/**", recursive=True) if os.path.isfile(it) and not it.endswith(".patch")]
+    path_of = lambda it: f"src/{it.removesuffix('.rattle')}.rt" if it.endswith(".rattle") else it
+    return {f"{crate}/{path_of(os.path.relpath(it, FOLDERS[crate]))}": read(it) for it in sorted(files)}
+
+
+def other_widths(texts):
+    """Returns the texts at three keys and at one by their paths, from those at two."""
+    made = {widen.renamed(path): widen.three_keys(text) for path, text in texts.items() if path.startswith(WIDTHS["three"])}
+    one = {narrow.path_of(path): text for path, text in texts.items() if path.startswith(WIDTHS["one"])}
+    return {**made, **{path: narrow.one_key(text, True) for path, text in one.items() if path}}
+
+
+def make(top, crates=FOLDERS):
+    """Writes these crates below a folder, with those that they use and those that are made from them."""
+    for crate in FOLDERS.keys() & {it for of in crates for it in {of} | sources.below(of, LIBRARIES)}:
+        texts = texts_of(crate)
+        made = other_widths(texts)
+        for path, text in {**texts, **made}.items():
+            sources.write(f"{top}/crates/{path}", text)
+        if made:
+            # The patch is for the layout of rt fmt.
+            done([f"{sources.kit()}/bin/rattle", "fmt", "--write", *(f"{top}/crates/{it}" for it in made)])
+        for patch in glob.glob(f"{FOLDERS[crate]}/*.patch"):
+            apply(patch, f"{top}/crates")
+
+
+def apply(patch, top):
+    """Changes files below a folder by a patch. What a hunk changes, with the lines around it, has to be there exactly once."""
+    for path, hunks in re.findall(r"^\+\+\+ b/(.*)\n((?:[@ +-].*\n)*)", read(patch), re.M):
+        text = read(f"{top}/{path}")
+        for hunk in re.split(r"^@@.*\n", hunks, flags=re.M)[1:]:
+            old, new = ("".join(it[1:] for it in hunk.splitlines(keepends=True) if it[0] in f" {sign}") for sign in "-+")
+            if text.count(old) != 1:
+                sys.exit(f"{patch}: this is not exactly once in what is made as {path}:\n{old}")
+            text = text.replace(old, new)
+        sources.write(f"{top}/{path}", text)
+
+
+def done(words):
+    """Runs these words, and ends the script if that fails."""
+    ran = subprocess.run(words, stdout=subprocess.PIPE, stderr=subprocess.STDOUT, text=True, check=False)
+    if ran.returncode:
+        sys.exit(f"{ran.stdout}tests/programs.py: this failed: {' '.join(words)}")
