@@ -2,12 +2,10 @@
 
 tests/programs/crates.txt names these crates with their libraries. A text NAME.rattle of such a crate becomes src/NAME.rt, and any other file of
 its folder stays as it is. From the texts of WIDTHS, which are for the map with two keys, tests/widen.py and tests/narrow.py make the texts for
-three keys and for one key, and a patch in the same folder says what these have of their own.
+three keys and for one key. A text by hand goes before one that is made: `width.rattle` has what is otherwise at one key.
 """
 import glob
 import os
-import re
-import subprocess
 import sys
 
 sys.dont_write_bytecode = True
@@ -39,34 +37,15 @@ def other_widths(texts):
     return {**made, **{path: narrow.one_key(text, True) for path, text in one.items() if path}}
 
 
-def make(top, crates=FOLDERS):
-    """Writes these crates below a folder, with those that they use and those that are made from them."""
-    for crate in FOLDERS.keys() & {it for of in crates for it in {of} | sources.below(of, LIBRARIES)}:
-        texts = texts_of(crate)
-        made = other_widths(texts)
-        for path, text in {**texts, **made}.items():
-            sources.write(f"{top}/crates/{path}", text)
-        if made:
-            # The patch is for the layout of rt fmt.
-            done([f"{sources.kit()}/bin/rattle", "fmt", "--write", *(f"{top}/crates/{it}" for it in made)])
-        for patch in glob.glob(f"{FOLDERS[crate]}/*.patch"):
-            apply(patch, f"{top}/crates")
+def texts(crates=LIBRARIES):
+    """Returns the files of these crates, and of those that they use or that are made from them, by their paths below crates/."""
+    by_hand = {}
+    for crate in sorted(FOLDERS.keys() & {it for of in crates for it in {of} | sources.below(of, LIBRARIES)}):
+        by_hand.update(texts_of(crate))
+    return {**other_widths(by_hand), **by_hand}
 
 
-def apply(patch, top):
-    """Changes files below a folder by a patch. What a hunk changes, with the lines around it, has to be there exactly once."""
-    for path, hunks in re.findall(r"^\+\+\+ b/(.*)\n((?:[@ +-].*\n)*)", read(patch), re.M):
-        text = read(f"{top}/{path}")
-        for hunk in re.split(r"^@@.*\n", hunks, flags=re.M)[1:]:
-            old, new = ("".join(it[1:] for it in hunk.splitlines(keepends=True) if it[0] in f" {sign}") for sign in "-+")
-            if text.count(old) != 1:
-                sys.exit(f"{patch}: this is not exactly once in what is made as {path}:\n{old}")
-            text = text.replace(old, new)
-        sources.write(f"{top}/{path}", text)
-
-
-def done(words):
-    """Runs these words, and ends the script if that fails."""
-    ran = subprocess.run(words, stdout=subprocess.PIPE, stderr=subprocess.STDOUT, text=True, check=False)
-    if ran.returncode:
-        sys.exit(f"{ran.stdout}tests/programs.py: this failed: {' '.join(words)}")
+def make(top, crates=LIBRARIES):
+    """Writes these crates below a folder."""
+    for path, text in texts(crates).items():
+        sources.write(f"{top}/crates/{path}", text)
