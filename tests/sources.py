@@ -1,5 +1,5 @@
-"""What scripts read of this repository: the functions of the .rt sources with their contracts, the mutants with their targets, and
-crates.txt. A script that imports this module works at the top of the repository from then on.
+"""What scripts read of this repository: the functions of the .rt sources with their contracts, crates.txt and tests/counts. A script that
+imports this module works at the top of the repository from then on.
 
 Functions are found by the layout that rt fmt writes. Each place in a text is the number of a line, from 0 on.
 """
@@ -15,8 +15,6 @@ import sys
 FROM = os.getcwd()
 os.chdir(os.path.join(os.path.dirname(os.path.abspath(__file__)), ".."))
 HEAD = re.compile(r'( *)((?:(?:[a-z]+(?:\([^)]*\))?|"C") )*)fn (\w+)')
-# The lines of tests/mutants/CRATE on functions that are no targets, or whose work other functions do.
-SAYS = re.compile(r"(goes by|like|no mutant): (.*)")
 
 
 def read(path):
@@ -34,9 +32,16 @@ def write(path, text):
 
 def finish(faults, *well):
     """Prints what is wrong, or else what is well, after the script's name, and ends the script with status 1 or 0."""
+    name = os.path.relpath(os.path.join(FROM, sys.argv[0]))
     for it in faults or well:
-        print(f"tests/{os.path.basename(sys.argv[0])}: {it}")
+        print(f"{name}: {it}")
     sys.exit(bool(faults))
+
+
+def counts(kind):
+    """Returns how many there are of a kind, by name: tests/counts has a line `KIND NAME NUMBER` for each. A check of the kind compares it."""
+    lines = (it.split() for it in read("tests/counts").split("\n") if it.startswith(f"{kind} "))
+    return {name: int(number) for _, name, number in lines}
 
 
 def kit():
@@ -76,12 +81,6 @@ def files(crate="*", part="src/**/*.rt"):
 def tests(text):
     """Returns how many `#[test]`s a text has."""
     return len(re.findall(r"^ *#\[test\]", text, re.M))
-
-
-def counts(kind):
-    """Returns the numbers of a kind that tests/counts has, by their names."""
-    lines = (it.split() for it in read("tests/counts").split("\n") if it and not it.startswith("#"))
-    return {name: int(number) for of, name, number in lines if of == kind}
 
 
 def module_of(path):
@@ -180,35 +179,3 @@ def impl_of(line):
             break
     trait, _, of = rest.strip(" {").rpartition(" for ")
     return own, trait.strip(), of
-
-
-@dataclasses.dataclass
-class Mutant:
-    """A mutant: its targets, the labels of the clauses that it breaks, if it names them, and the files that it changes, each with its pairs of
-    an old and a new text."""
-
-    name: str
-    targets: list
-    breaks: list = dataclasses.field(default_factory=list)
-    changes: dict = dataclasses.field(default_factory=dict)
-
-
-def mutants(crate):
-    """Returns the mutants of tests/mutants/CRATE, in order, and the other lines of that file, each as its kind and its text."""
-    path, found, says, pairs, old = f"tests/mutants/{crate}", [], [], [], None
-    for line in read(path).split("\n") if os.path.isfile(path) else []:
-        word, _, text = line.partition(":")
-        text = text.removeprefix(" ")
-        if SAYS.match(line):
-            says.append(SAYS.match(line).groups())
-        elif re.match(r"\w+:", line):
-            found.append(Mutant(word, text.split()))
-        elif word == "    breaks":
-            found[-1].breaks += text.split()
-        elif word == "    file":
-            pairs = found[-1].changes.setdefault(f"crates/{crate}/{text}", [])
-        elif word == "    old":
-            old = text
-        elif word == "    new":
-            pairs.append((old, text))
-    return found, says
