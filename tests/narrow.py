@@ -20,7 +20,7 @@ from widen import NAME, is_balanced, matches, numbers, text_of, words_of  # noqa
 RENAMED = [
     (r"\b(iddqd|caller|test|test_calls)_bi\b", r"\1_id"), (r"\b(iddqd_serde(?:::|/src/|/proofs/|\.proofs\.))bi\b", r"\1id"),
     (r"\bbi_(?=\w)", "id_"), (r"Bi(?=Hash|Item)", "Id"), (r"\btwo(?=[ _]keys?\b)", "one"), (r"\bTwo(?=[ _]keys?\b)", "One"), (r"\b([Oo]ne[ _]key)s\b", r"\1"),
-    (r"\bA (?=`Id)", "An "), (r"(?<=rank < )2\b", "1"), (r"\b(order|clash)-both\b", r"\1-key"), (r"\bwith both keys\b", "with the key"),
+    (r"\bA (?=`Id)", "An "), (r"(?<=rank < )2\b|(?<=KEYS: usize = )2\b", "1"), (r"\b(order|clash)-both\b", r"\1-key"), (r"\bwith both keys\b", "with the key"),
     # The items that several keys found, held for writing, are one item, held by its guard.
     (r"\bOccupiedEntryMut T S K1 K2 H\b", "RefMut T S K1 K2 H of eq1 input1 eq2 input2 build hashes"), (r"\bOccupiedEntryMut\b", "RefMut"),
     (r"\bslot1: Some\(slot\),\s+slot2: Some\(slot\)", "slot"), (r"\bGainsAndHolds\b", "GainsAndLends"),

@@ -44,9 +44,9 @@ def kit():
     return os.path.dirname(os.path.dirname(os.path.realpath(shutil.which("rt"))))
 
 
-def libraries():
-    """Returns each crate with the libraries that crates.txt names for it."""
-    lines = (it for it in read("crates.txt").split("\n") if it and not it.startswith("#"))
+def libraries(path="crates.txt"):
+    """Returns each crate with the libraries that crates.txt, or a file of its form, names for it."""
+    lines = (it for it in read(path).split("\n") if it and not it.startswith("#"))
     return {it.partition(":")[0].split()[0]: it.partition(":")[2].split() for it in lines}
 
 
@@ -71,6 +71,17 @@ def check_words(crate, folder, built):
 def files(crate="*", part="src/**/*.rt"):
     """Returns the source files of a crate, or other files of it, in order. The name of the crate may have `*`."""
     return sorted(glob.glob(f"crates/{crate}/{part}", recursive=True))
+
+
+def tests(paths):
+    """Returns how many `#[test]`s these files have."""
+    return len(re.findall(r"^ *#\[test\]", "\n".join(map(read, paths)), re.M))
+
+
+def counts(kind):
+    """Returns the numbers of a kind that tests/counts has, by their names."""
+    lines = (it.split() for it in read("tests/counts").split("\n") if it and not it.startswith("#"))
+    return {name: int(number) for of, name, number in lines if of == kind}
 
 
 def module_of(path):
