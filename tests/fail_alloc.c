@@ -6,13 +6,19 @@
 // For test_calls it counts the allocations of each call. A request for BEGINS + N bytes says that a call begins, and that
 // its Nth allocation is to fail, or none if N is 0. Of the requests for MADE + N bytes that follow, only the one in which N
 // is the number of allocations of the call succeeds. So the program learns that number.
-#define _GNU_SOURCE
-#include <dlfcn.h>
-#include <errno.h>
-#include <stdio.h>
-#include <stdlib.h>
-#include <string.h>
-#include <unistd.h>
+//
+// It names what it takes from the C library itself, so that the toolchain's clang builds it without that library's headers.
+typedef unsigned long size_t;
+enum { ENOMEM = 12 };
+extern char *getenv(const char *);
+extern int *__errno_location(void);
+extern int snprintf(char *, size_t, const char *, ...);
+extern long atol(const char *), write(int, const void *, size_t);
+extern void *dlsym(void *, const char *);
+
+#define errno (*__errno_location())
+#define NULL ((void *)0)
+#define RTLD_NEXT ((void *)-1)
 
 static void *(*asks)(size_t);
 static void *(*asks_again)(void *, size_t);

@@ -44,7 +44,7 @@ NOTHING = re.compile(r"""(?x)^(
     | differ | at | each_once | items_of | take_all | store_all | store_found | for_each | conflicts | conflicts_with
     | UpToTwo
     # Calls that take several keys.
-    | by_keys | keys_and_item | answered_by_all
+    | answered_by_all
     # Commands as values, and what carries them out.
     | commands? | run | Step | Refusals | Runs | apply_\w+
     )$""")
