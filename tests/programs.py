@@ -6,6 +6,7 @@ three keys and for one key. A text by hand goes before one that is made: `width.
 """
 import glob
 import os
+import re
 import sys
 
 sys.dont_write_bytecode = True
@@ -25,9 +26,9 @@ WIDTHS = {"three": ("test_calls_bi/", "bench_loops/src/two_keys", "test_load/src
 
 def texts_of(crate):
     """Returns the files of a crate's folder by their paths below crates/, each with its text."""
-    files = [it for it in glob.glob(f"{FOLDERS[crate]}/**", recursive=True) if os.path.isfile(it) and not it.endswith(".patch")]
-    path_of = lambda it: f"src/{it.removesuffix('.rattle')}.rt" if it.endswith(".rattle") else it
-    return {f"{crate}/{path_of(os.path.relpath(it, FOLDERS[crate]))}": read(it) for it in sorted(files)}
+    files = [it for it in glob.glob(f"{FOLDERS[crate]}/**", recursive=True) if os.path.isfile(it)]
+    paths = {it: re.sub(r"(.*)\.rattle$", r"src/\1.rt", os.path.relpath(it, FOLDERS[crate])) for it in sorted(files)}
+    return {f"{crate}/{path}": read(it) for it, path in paths.items()}
 
 
 def other_widths(texts):
