@@ -42,7 +42,6 @@ NOTHING = re.compile(r"""(?x)^(
     | occupied_mut | OccupiedEntryMut | occupied_ref | OccupiedEntryRef | OccupiedRefs | insert_mut | lend | data_mut_of | GainsAndHolds
     # The rank at which a key differs, and lists of what several searches found.
     | differ | at | each_once | items_of | take_all | store_all | store_found | for_each | conflicts | conflicts_with
-    | UpToTwo
     # Calls that take several keys.
     | answered_by_all
     # Commands as values, and what carries them out.

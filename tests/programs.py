@@ -1,8 +1,8 @@
 """Makes the crates that are built and run without a proof: the programs of tests/programs, and the loops of bench/loops.
 
 tests/programs/crates.txt names these crates with their libraries. A text NAME.rattle of such a crate becomes src/NAME.rt, and any other file of
-its folder stays as it is. From the texts of WIDTHS, which are for the map with two keys, tests/widen.py and tests/narrow.py make the texts for
-three keys and for one key. A text by hand goes before one that is made: `width.rattle` has what is otherwise at one key.
+its folder stays as it is. From the texts of THREE and ONE, which are for the map with two keys, tests/widen.py and tests/narrow.py make the
+texts for three keys and for one key. A text by hand goes before one that is made: `width.rattle` has what is otherwise at one key.
 """
 import glob
 import os
@@ -20,8 +20,9 @@ LIBRARIES = sources.libraries("tests/programs/crates.txt")
 USED = {it for of in LIBRARIES.values() for it in of if it in LIBRARIES}
 # The folder of each crate that has texts; the others are made from these.
 FOLDERS = {it: folder for it in LIBRARIES if os.path.isdir(folder := "bench/loops" if it == "bench_loops" else f"tests/programs/{it}")}
-# The paths of the texts that are written anew at three keys, and at one.
-WIDTHS = {"three": ("test_calls_bi/", "bench_loops/src/two_keys", "test_load/src/two_keys"), "one": ("test_calls_bi/", "bench_loops/src/two_keys")}
+# How the paths of the texts begin that are written anew at one key, and at three.
+ONE = ("test_calls_bi/", "bench_loops/src/two_keys")
+THREE = (*ONE, "test_load/src/two_keys")
 
 
 def texts_of(crate):
@@ -33,8 +34,8 @@ def texts_of(crate):
 
 def other_widths(texts):
     """Returns the texts at three keys and at one by their paths, from those at two."""
-    made = {widen.renamed(path): widen.three_keys(text) for path, text in texts.items() if path.startswith(WIDTHS["three"])}
-    one = {narrow.path_of(path): text for path, text in texts.items() if path.startswith(WIDTHS["one"])}
+    made = {widen.renamed(path): widen.three_keys(text) for path, text in texts.items() if path.startswith(THREE)}
+    one = {narrow.path_of(path): text for path, text in texts.items() if path.startswith(ONE)}
     return {**made, **{path: narrow.one_key(text, True) for path, text in one.items() if path}}
 
 
