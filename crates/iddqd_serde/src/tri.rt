@@ -127,9 +127,7 @@ fn put<T: Ranked + Drop, S: BuildHasher + Drop, F: Format>(
     match map.insert_unique(item) {
         Ok(()) => Ok(()),
         Err(refused) => match refused.reason() {
-            InsertReason::Duplicate => Err(from.custom(
-                "an item with an equal key is there already",
-            )),
+            InsertReason::Duplicate => Err(from.custom("an item with an equal key")),
             InsertReason::Memory => Err(from.no_memory()),
         },
     }
