@@ -87,7 +87,8 @@ def target_of(mutant, found):
 
 
 def changed(mutant, function):
-    """Returns the text of a function with the mutant's body, or None if an old text is not exactly once in it, before any change and in its turn."""
+    """Returns the text of a function with the mutant's body, or None if an old text is not exactly once in it, before any change and in
+    its turn."""
     text = was = read(function.file)[slice(*function.span)]
     for pair in mutant.pairs:
         if len(pair) < 2 or {text.count(pair[0]), was.count(pair[0])} != {1}:
