@@ -1,4 +1,4 @@
--- A text of lines, each ended by a byte 10, and what a crash leaves of it.
+-- A text of lines, each ended by a byte 10, and its whole lines.
 use Rattle.std.specs.Prelude.{ℕ, Bool, List, [], ◌∷◌, ◌++◌, ◌==◌, cond}
 use Rattle.std.specs.List.{list_any}
 

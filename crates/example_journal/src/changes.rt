@@ -72,7 +72,8 @@ pub fn write_line(alloc: Global, change: Change) -> Result<String, AllocError>
 }
 
 /// Wherever a crash cuts the lines of changes, the whole lines that are left are those of the first changes, of none in part,
-/// and the devices that they tell of are those that these changes leave.
+/// and the devices that they tell of are those that these changes leave. That a crash leaves the first bytes, and no zeros
+/// among them, is taken for granted: see `Log`.
 pub fn cut_anywhere()
     ensures { (changes : List Change) (at : ℕ) (devices : List Device) → AllByRecursion InRange changes
         → Tells (whole (take at (lines_of changes))) devices
@@ -141,6 +142,11 @@ fn load_line(alloc: Global, devices: &mut BiHashMap<Device>, line: &[u8]) -> Res
         Some(change) => make(devices, change),
         None => Err(Fault::Damaged),
     }
+}
+
+/// Whether a journal may begin with these bytes of a torn line: its first change plugs a device in.
+pub fn may_begin(torn: &[u8]) -> bool {
+    torn.starts_with(b"plug ") || b"plug ".starts_with(torn)
 }
 
 /// Loads the devices that these lines leave, in the place of those that there are. After an error there may be any.

@@ -2,11 +2,9 @@
 ghost use Rattle.std.specs.Prelude.{◌≡◌, ◌++◌, true, false, length, IfOk, IfSome, OnOk, OnErr, option_map};
 ghost use Rattle.std.specs.Option.{ForSome};
 ghost use Rattle.example_journal.specs.Changes.{InRange, line_of};
-ghost use Rattle.example_journal.specs.Text.{whole};
 
 use crate::changes::{Change, write_line};
 use crate::log::Log;
-use crate::text::whole_lines;
 use std::alloc::{AllocError, Global};
 use std::io;
 
@@ -50,25 +48,20 @@ impl<L: Log + Drop> Journal<L> {
         }
     }
 
-    /// Opens the journal, again if it is open: cuts off a line that was torn, and returns the whole lines and how many bytes
-    /// were cut off.
-    pub fn open(&mut self) -> io::Result<(Vec<u8>, usize)>
+    /// Opens the journal, whose log has these lines and these bytes of a torn one behind them, and cuts the torn one off.
+    pub fn open(&mut self, lines: &[u8], torn: &[u8]) -> io::Result<()>
+        requires closed { self.old.is_open ≡ false }
+        requires read { ForSome (L.kept self.old.log) (λ bytes. bytes ≡ lines.now ++ torn.now) }
         ensures opened { OnOk result (self.new.is_open ≡ true) }
         ensures closed { OnErr result (self.new.is_open ≡ false) }
-        ensures lines { IfOk result (λ it. IfSome (L.kept self.old.log) (λ bytes. it.0.items ≡ whole bytes)) }
-        ensures kept { IfOk result (λ it. IfSome (L.kept self.new.log) (λ bytes. bytes ≡ it.0.items)) }
+        ensures kept { OnOk result (L.kept self.new.log ≡ option_map (λ _. lines.now) (L.kept self.old.log)) }
     {
-        self.is_open = false;
-        let mut bytes = self.log.read(self.alloc)?;
-        let len = whole_lines(bytes.as_slice());
-        let torn = bytes.len() - len;
-        if torn > 0 {
-            self.log.cut(len)?;
-            bytes.truncate(len);
+        if !torn.is_empty() {
+            self.log.cut(lines.len())?;
         }
-        self.len = len;
+        self.len = lines.len();
         self.is_open = true;
-        Ok((bytes, torn))
+        Ok(())
     }
 
     /// Reads the bytes of the log.
@@ -83,6 +76,7 @@ impl<L: Log + Drop> Journal<L> {
     /// Closes the journal.
     pub fn close(&mut self)
         ensures closed { self.new.is_open ≡ false }
+        ensures kept { L.kept self.new.log ≡ L.kept self.old.log }
     {
         self.is_open = false;
     }
@@ -146,11 +140,12 @@ impl<L: Log + Drop> Journal<L> {
         }
     }
 
-    /// Closes the journal, and cuts its log to the first `len` bytes, as a crash may.
-    pub fn crash(&mut self, len: usize) -> io::Result<()>
+    /// Closes the journal, cuts its log to the first `len` bytes, and adds these, as a crash or another program may.
+    pub fn crash(&mut self, len: usize, bytes: &[u8]) -> io::Result<()>
         ensures closed { self.new.is_open ≡ false }
     {
         self.is_open = false;
-        self.log.cut(len)
+        self.log.cut(len)?;
+        self.log.append(bytes)
     }
 }

@@ -5,7 +5,9 @@ use std::alloc::Global;
 use std::cell::Cell;
 use std::io;
 
-/// Bytes that outlive the process. What a call has kept when it returns `Ok`, it keeps through a crash too.
+/// Bytes that outlive the process. What a call has kept when it returns `Ok`, it keeps through a crash too. Of the bytes that
+/// `append` was adding, a crash is taken to leave the first ones, as many as it may be: a file system that writes the blocks of
+/// a file in any order does not promise that.
 pub trait Log {
     // The bytes that it has. `None` claims nothing, for a type whose values do not say it, such as a file.
     ghost kept: { Self → Option (List ℕ) };

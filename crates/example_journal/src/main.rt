@@ -6,11 +6,13 @@
 //!     list                each device as SERIAL PORT, in the order of the serial numbers, and `end`
 //!     journal             each line of the journal, and `end`
 //!     compact             compacted
-//!     crash N             cuts the journal to its first N bytes and opens it again: opened | opened, N torn bytes cut off
+//!     crash N [TEXT]      cuts the journal to its first N bytes, adds TEXT, and opens it again: as `open`, or failed
 //!     cuts                opens a copy of the journal cut at every byte, and tells from which on it has more devices
 //!     room N              from now on the disk has room for N more bytes: set
 //!     fail                from now on the disk fails, except for reads: set
-//!     open                opens the journal again, as at the start
+//!     open                opens the journal again, as at the start: opened | opened, N torn bytes cut off | not opened
+//!
+//! In TEXT, which is one word, `_` is a space, `/` the end of a line, and `?` a byte 0.
 //!
 //! A change is answered by `not written` if its line was not written, and the registry is as before then. If the journal fails so
 //! that nobody knows what it has, a change is answered by `closed` until the journal is opened again. Any other line is answered
@@ -25,7 +27,7 @@ mod log;
 mod registry;
 mod text;
 
-use crate::changes::Change;
+use crate::changes::{Change, Fault};
 use crate::device::Device;
 use crate::file::FileLog;
 use crate::journal::Unwritten;
@@ -38,19 +40,19 @@ use std::io::{BufRead, Write};
 use std::{env, io};
 
 /// What a line asks for.
-enum Command {
+enum Command<'a> {
     Change(Change),
     List,
     Journal,
     Compact,
-    Crash(usize),
+    Crash(usize, &'a str),
     Cuts,
     Disk(Disk),
     Open,
 }
 
 /// Returns what the words of a line ask for, if they ask for anything.
-fn parse(words: &[&str]) -> Option<Command> {
+fn parse<'a>(words: &[&'a str]) -> Option<Command<'a>> {
     Some(match words {
         ["list"] => Command::List,
         ["journal"] => Command::Journal,
@@ -59,7 +61,8 @@ fn parse(words: &[&str]) -> Option<Command> {
         ["open"] => Command::Open,
         ["fail"] => Command::Disk(Disk::Failing),
         ["room", len] => Command::Disk(Disk::Room(len.parse().ok()?)),
-        ["crash", len] => Command::Crash(len.parse().ok()?),
+        ["crash", len] => Command::Crash(len.parse().ok()?, ""),
+        ["crash", len, text] => Command::Crash(len.parse().ok()?, text),
         _ => Command::Change(changes::parse(words)?),
     })
 }
@@ -81,10 +84,23 @@ fn open<L: Log + Drop>(rt: &impl Print, registry: &mut Registry<L>) -> io::Resul
         Ok(0) => rt.println("opened"),
         Ok(torn) => println!(rt; "opened, {torn} torn bytes cut off"),
         Err(Unopened::Log(error)) => println!(rt; "not opened: {error}"),
-        Err(Unopened::Line(unloaded)) => {
-            println!(rt; "not opened: line {} is damaged", unloaded.line)
-        }
+        Err(Unopened::Line(unloaded)) => match unloaded.fault {
+            Fault::Damaged => println!(rt; "not opened: line {} is damaged", unloaded.line),
+            Fault::Memory => rt.println("not opened: no memory"),
+        },
     }
+}
+
+/// Returns the bytes that a TEXT stands for.
+fn bytes_of(alloc: Global, text: &str) -> Result<Vec<u8>, AllocError> {
+    text.bytes()
+        .map(|byte| match byte {
+            b'_' => b' ',
+            b'/' => b'\n',
+            b'?' => 0,
+            _ => byte,
+        })
+        .collect(alloc)
 }
 
 /// Returns the devices, by their serial numbers.
@@ -164,9 +180,11 @@ fn answer<L: Log + Drop>(
             Err(refused) => print_refused(rt, refused),
         },
         Command::Cuts => print_cuts(rt, registry.read()?.as_slice()),
-        Command::Crash(len) => {
-            registry.crash(len)?;
-            open(rt, registry)
+        Command::Crash(len, text) => {
+            match registry.crash(len, bytes_of(rt.alloc(), text)?.as_slice()) {
+                Ok(()) => open(rt, registry),
+                Err(error) => println!(rt; "failed: {error}"),
+            }
         }
         Command::Disk(state) => {
             disk.set(state);

@@ -6,12 +6,15 @@ ghost use Rattle.std.specs.Option.{ForSome};
 ghost use Rattle.iddqd_bi.specs.Bag.{IsOnly, clash};
 ghost use Rattle.iddqd_bi.specs.Map.{bag};
 ghost use Rattle.example_journal.specs.Changes.{Tells, line_of};
+ghost use Rattle.example_journal.specs.Text.{whole};
+ghost use Rattle.example_journal.specs.declared.changes.Unloaded.{Unloaded};
 ghost use Rattle.example_journal.specs.declared.changes.Change.TheVariants.{Plug, Unplug};
 
-use crate::changes::{Change, Unloaded, load, write_all};
+use crate::changes::{Change, Fault, Unloaded, load, may_begin, write_all};
 use crate::device::Device;
 use crate::journal::{Journal, Unwritten};
 use crate::log::Log;
+use crate::text::whole_lines;
 use iddqd_bi::{BiHashMap, Ranked};
 use std::alloc::Global;
 use std::io;
@@ -34,14 +37,8 @@ pub enum Refused {
 pub enum Unopened {
     /// The log could not be read, or its torn line not be cut off.
     Log(io::Error),
-    /// One of its lines does not load.
+    /// One of its lines does not load. The log is as it was.
     Line(Unloaded),
-}
-
-impl From<io::Error> for Unopened {
-    fn from(error: io::Error) -> Unopened {
-        Unopened::Log(error)
-    }
 }
 
 /// The devices and their journal.
@@ -63,20 +60,35 @@ impl<L: Log + Drop> Registry<L> {
         }
     }
 
-    /// Opens the journal, and loads the devices that its lines leave. Returns how many bytes of a torn line were cut off.
+    /// Opens the journal, and loads the devices that its lines leave. A torn line behind them is cut off once they are loaded, so
+    /// a file that is no journal stays as it is. Returns how many bytes were cut off.
     pub fn open(&mut self) -> Result<usize, Unopened>
-        ensures { OnOk result (self.new.journal.is_open ≡ true) }
+        ensures opened { OnOk result (self.new.journal.is_open ≡ true) }
+        ensures kept { OnOk result (L.kept self.new.journal.log ≡ option_map whole (L.kept self.old.journal.log)) }
+        ensures closed { OnErr result (self.new.journal.is_open ≡ false) }
+        ensures none { OnErr result (bag self.new.devices ≡ []) }
+        ensures untouched { (unloaded : Unloaded) → IsErrOf result (Unopened.Line unloaded)
+            → L.kept self.new.journal.log ≡ L.kept self.old.journal.log }
     {
         self.devices.clear();
-        let (lines, torn) = self.journal.open()?;
-        match load(self.alloc, &mut self.devices, lines.as_slice()) {
-            Ok(()) => Ok(torn),
-            Err(unloaded) => {
-                self.journal.close();
-                self.devices.clear();
-                Err(Unopened::Line(unloaded))
-            }
+        self.journal.close();
+        let bytes = self.journal.read().map_err(Unopened::Log)?;
+        let (lines, torn) = bytes.as_slice().split_at(whole_lines(bytes.as_slice()));
+        if lines.is_empty() && !may_begin(torn) {
+            return Err(Unopened::Line(Unloaded {
+                line: 1,
+                fault: Fault::Damaged,
+            }));
         }
+        if let Err(unloaded) = load(self.alloc, &mut self.devices, lines) {
+            self.devices.clear();
+            return Err(Unopened::Line(unloaded));
+        }
+        if let Err(error) = self.journal.open(lines, torn) {
+            self.devices.clear();
+            return Err(Unopened::Log(error));
+        }
+        Ok(torn.len())
     }
 
     /// Plugs a device in, if its serial number and its port are free. What can fail comes before its line: whoever finds the
@@ -159,8 +171,8 @@ impl<L: Log + Drop> Registry<L> {
         &self.devices
     }
 
-    /// Closes the journal, and cuts it to its first `len` bytes, as a crash may.
-    pub fn crash(&mut self, len: usize) -> io::Result<()> {
-        self.journal.crash(len)
+    /// Closes the journal, cuts it to its first `len` bytes, and adds these, as a crash or another program may.
+    pub fn crash(&mut self, len: usize, bytes: &[u8]) -> io::Result<()> {
+        self.journal.crash(len, bytes)
     }
 }

@@ -1,4 +1,4 @@
-//! A text of lines, of which a crash may leave any front.
+//! A text of lines, of which a crash is taken to leave the first bytes, as many as it may be: see `Log`.
 ghost use Rattle.std.specs.Prelude.{◌≡◌, ◌≤◌, take, length};
 ghost use Rattle.example_journal.specs.Text.{whole};
 
