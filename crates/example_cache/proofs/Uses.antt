@@ -190,3 +190,7 @@ alone_there (Some g) old new x limit some none full came = absurd (omega (arith,
 pub if_some : {X : Type 0} (P Q : X → Type 0) (o : Option X) → ((x : X) → P x → Q x) → IfSome o P → IfSome o Q
 if_some P Q None f h = h
 if_some P Q (Some x) f h = f x h
+
+pub if_none : {X P Q : Type 0} (o : Option X) → (P → Q) → IfNone o P → IfNone o Q
+if_none None f h = f h
+if_none (Some x) f h = h

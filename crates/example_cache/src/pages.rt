@@ -234,7 +234,10 @@ impl Cache {
         ensures limit { self.new.limit ≡ self.old.limit }
         ensures same_memory { self.new.pages.capacity ≡ self.old.pages.capacity }
     {
-        if self.is_taken(page) || self.pages.len() < self.limit {
+        if self.is_taken(page) {
+            return None;
+        }
+        if self.pages.len() < self.limit {
             return None;
         }
         match remove_oldest(&mut self.pages, self.oldest, self.clock) {

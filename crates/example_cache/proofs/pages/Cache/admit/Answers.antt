@@ -1,4 +1,4 @@
-use Rattle.std.specs.Prelude.{◌≡◌, ◌×◌, ◌≤◌, ◌∷◌, ◌++◌, All, IsPermutation, false, length}
+use Rattle.std.specs.Prelude.{◌≡◌, ◌≤◌, ◌∷◌, ◌++◌, All, IsPermutation, false, length}
 use Rattle.std.specs.Option.{option_to_list}
 use Rattle.std.proofs.Common.{rules, subst}
 use Rattle.iddqd_tri.specs.Map.{bag}

@@ -1,27 +1,29 @@
-use Rattle.std.specs.Prelude.{◌≡◌, ◌<◌, ◌×◌, false, true, length, All, ◌≤◌}
-use Rattle.std.proofs.Common.{arith, ap, sym, subst, refl}
+use Rattle.std.specs.Prelude.{ℕ, ◌≡◌, false}
+use Rattle.std.proofs.Common.{arith, ap, sym}
 use Rattle.std.proofs.lemmas.List.Sorted.{Contains-permutation, IsPermutation-sym}
 use Rattle.iddqd_store.proofs.RankLemmas.Index.{Contains-here}
 use Rattle.iddqd_tri.specs.Map.{bag}
-use Rattle.example_cache.specs.Uses.{Before, is_taken, others}
+use Rattle.example_cache.specs.Uses.{is_taken}
+use Rattle.example_cache.specs.declared.pages.Cache.{Cache}
 use Rattle.example_cache.specs.declared.pages.Page.{Page}
-use Rattle.example_cache.proofs.Uses.{before_put, exchanged, if_some, not_before_put, within}
+use Rattle.example_cache.proofs.Uses.{before_put, exchanged, if_none, if_some, not_before_put, within}
 use Rattle.example_cache.proofs.pages.Cache.enter.Goals as goal
 
 -- the page as it goes in
 abbrev stamped : Page → ℕ → Page
-stamped page use = record page { used = use }
+stamped page time = record page { used = time }
 
-pub insert-requires-place : goal.insert-requires-place
-insert-requires-place c = λ free. omega (arith, c.make_place-gone.ensures.place free, c.make_place-gone.new.self.room)
+pub insert-requires-clause-place : goal.insert-requires-clause-place
+insert-requires-clause-place c = λ free. omega (arith, c.make_place-gone.ensures.place free, c.make_place-gone.new.self.room)
 
-pub insert-requires-before : goal.insert-requires-before
-insert-requires-before c = rw c.make_place-gone.ensures.clock at c.make_place-gone.new.self.before
+pub insert-requires-clause-before : goal.insert-requires-clause-before
+insert-requires-clause-before c = rw c.make_place-gone.ensures.clock at c.make_place-gone.new.self.before
 
 pub returns-clause-entered : goal.returns-clause-entered
 returns-clause-entered c =
     let free = if_some _ (λ (g : Page). is_taken (bag c.args.self.now.pages) (stamped c.args.page c.args.self.now.clock) ≡ false) _ (λ g h. h.1) c.make_place-gone.ensures.evicted in
-    exchanged c.make_place-gone.result (bag c.args.self.now.pages) (bag c.make_place-gone.new.self.pages) (bag c.insert.new.pages) (stamped c.args.page c.args.self.now.clock) c.make_place-gone.ensures.gone free ? c.insert.ensures.came
+    let stayed = if_none c.make_place-gone.result (λ same. ap (λ (s : Cache). bag s.pages) same) c.make_place-gone.ensures.stays in
+    exchanged c.make_place-gone.result (bag c.args.self.now.pages) (bag c.make_place-gone.new.self.pages) (bag c.insert.new.pages) (stamped c.args.page c.args.self.now.clock) c.make_place-gone.ensures.gone free stayed c.insert.ensures.came
 
 pub returns-clause-newest : goal.returns-clause-newest
 returns-clause-newest c =

@@ -1,4 +1,4 @@
-use Rattle.std.specs.Prelude.{◌≡◌, ◌×◌, ◌≤◌, ◌-◌, All, Contains, false, length}
+use Rattle.std.specs.Prelude.{◌≡◌, ◌≤◌, ◌-◌, All, Contains, false, length}
 use Rattle.std.proofs.Common.{arith, subst}
 use Rattle.iddqd_tri.specs.Map.{bag}
 use Rattle.example_cache.specs.Uses.{is_taken}
