@@ -7,7 +7,7 @@ use Rattle.std.proofs.lemmas.Bool.Decides.{nat_tests}
 use Rattle.std.proofs.lemmas.Cmp.{nat_eq_equiv}
 use Rattle.std.proofs.lemmas.Grind.{common_steps}
 use Rattle.std.proofs.lemmas.List.Elements.{All-cons, All-head, All-nil, All-tail}
-use Rattle.std.proofs.lemmas.List.Sorted.{All-permutation, Contains-permutation, IsPermutation-cons, IsPermutation-filter_both, IsPermutation-middle, IsPermutation-sym, IsPermutation-trans, length_permutation, list_any-IsPermutation}
+use Rattle.std.proofs.lemmas.List.Sorted.{All-permutation, IsPermutation-cons, IsPermutation-filter_both, IsPermutation-middle, IsPermutation-sym, IsPermutation-trans, length_permutation, list_any-IsPermutation}
 use Rattle.iddqd_store.specs.Bag.{IsSound, Ranks, clash, like, over, without}
 use Rattle.iddqd_store.specs.Rank.{agree}
 use Rattle.iddqd_store.proofs.BagLemmas.Sound.{named_is}

@@ -1,6 +1,6 @@
 use Rattle.std.proofs.Common.{◌≡◌, ◌∙◌, true, sym, subst, arith}
 use Rattle.iddqd_tri.specs.Map.{bag}
-use Rattle.example_cache.specs.Uses.{NotBefore, Before}
+use Rattle.example_cache.specs.Uses.{NotBefore}
 use Rattle.example_cache.proofs.Uses.{later, empty, used_then}
 use Rattle.example_cache.proofs.pages.remove_oldest.Goals as goal
 

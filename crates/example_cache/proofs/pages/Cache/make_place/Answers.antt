@@ -1,4 +1,4 @@
-use Rattle.std.specs.Prelude.{◌≡◌, false, nat_le, nat_lt}
+use Rattle.std.specs.Prelude.{nat_le, nat_lt}
 use Rattle.std.proofs.Common.{◌∙◌, arith, sym}
 use Rattle.std.proofs.lemmas.List.Sorted.{length_permutation}
 use Rattle.iddqd_tri.specs.Map.{bag}
