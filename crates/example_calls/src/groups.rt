@@ -1,5 +1,5 @@
 //! Entries that are filled where they are vacant, and items that gather values.
-ghost use Rattle.std.specs.Prelude.{◌≡◌, ◌≢◌, [], ◌∷◌, ◌++◌, if◌then◌else◌, false, List, IsOk, IfErr, IfOk, IsPermutation, OnOk, OnErr};
+ghost use Rattle.std.specs.Prelude.{◌≡◌, ◌≢◌, ◌<◌, [], ◌∷◌, ◌++◌, if◌then◌else◌, true, false, length, vec_capacity, List, IsOk, IfErr, IfOk, IsPermutation, OnOk, OnErr};
 ghost use Rattle.std.proofs.Common.{rules};
 ghost use Rattle.std.specs.Bool.{OnTrue, OnFalse};
 ghost use Rattle.iddqd_bi.specs.Bag.{clash, entry, non_unique, swap, unique, vacant};
@@ -89,6 +89,8 @@ pub fn join(alloc: Global, teams: &mut BiHashMap<Team>, id: u64, lab: u32, membe
         → (u : Team) × (u.id ≡ t.id) × (u.lab ≡ t.lab)
         × (u.members.items ≡ (if result then t.members.items ++ member ∷ [] else t.members.items))
         × IsPermutation (bag teams.new) (swap ⟦<Team as Ranked>⟧.ranks (bag teams.old) t u) }
+    ensures granted { (t : Team) → entry (⟦<Team as Ranked>⟧.key_tests id lab) (bag teams.old) ≡ unique t
+        → length t.members.items < vec_capacity t.members → result ≡ true }
     ensures opened { entry (⟦<Team as Ranked>⟧.key_tests id lab) (bag teams.old) ≡ vacant
         → OnTrue result ((u : Team) × (u.id ≡ id) × (u.lab ≡ lab) × (u.members.items ≡ member ∷ [])
         × IsPermutation (bag teams.new) (u ∷ bag teams.old)) }
@@ -127,7 +129,8 @@ pub fn open_for(
     ensures opened { entry (⟦<Team as Ranked>⟧.key_tests id lab) (bag teams.old) ≡ vacant
         → OnOk result ((t : Team) × (t.id ≡ id) × (t.lab ≡ lab) × (t.members.items ≡ [])
         × IsPermutation (bag teams.new) (t ∷ bag teams.old)) }
-    ensures kept { entry (⟦<Team as Ranked>⟧.key_tests id lab) (bag teams.old) ≢ vacant → teams.new ≡ teams.old }
+    ensures kept { entry (⟦<Team as Ranked>⟧.key_tests id lab) (bag teams.old) ≢ vacant
+        → IsOk result × (teams.new ≡ teams.old) }
     ensures unchanged { OnErr result (teams.new ≡ teams.old) }
 {
     let roomy = ||

@@ -21,11 +21,11 @@ fn add_three(orders: &mut BiHashMap<Order>) -> anyhow::Result<()> {
     add(orders, Order::new(3, 30, 200))
 }
 
-/// Returns at which place the order with this number is.
-fn place_of(orders: &BiHashMap<Order>, number: u64) -> u32 {
+/// Returns the order with this number, or one with zeros.
+fn order_of(orders: &BiHashMap<Order>, number: u64) -> Order {
     match orders.get1(&number) {
-        Some(order) => order.place,
-        None => 0,
+        Some(order) => *order,
+        None => Order::new(0, 0, 0),
     }
 }
 
@@ -43,16 +43,31 @@ fn show_cheapest(rt: &impl Print, alloc: Global, orders: &BiHashMap<Order>) -> a
     Ok(())
 }
 
+/// Replaces two orders. Returns whether that was done, and whether the map is equal to what it was before.
+fn replace_two(
+    alloc: Global,
+    orders: &mut BiHashMap<Order>,
+    changed: [Order; 2],
+) -> anyhow::Result<(bool, bool)> {
+    let changed = Vec::from_array(alloc, changed)?;
+    let before = orders.clone()?;
+    let done = replace_all(orders, changed)?;
+    Ok((done, *orders == before))
+}
+
+/// Replaces two orders, and shows what becomes of the first of them.
 fn show_replaced(
     rt: &impl Print,
     alloc: Global,
     orders: &mut BiHashMap<Order>,
+    changed: [Order; 2],
 ) -> anyhow::Result<()> {
-    let mut changed = Vec::new(alloc);
-    changed.push(Order::new(1, 11, 0))?;
-    changed.push(Order::new(9, 20, 0))?;
-    let done = replace_all(orders, changed)?;
-    println!(rt; "replaced: {done}, the first is at {}", place_of(orders, 1))?;
+    let (done, same) = replace_two(alloc, orders, changed)?;
+    let first = order_of(orders, 1);
+    println!(rt;
+        "replaced: {done}, the first is at {} for {}, the map is equal: {same}",
+        first.place, first.price
+    )?;
     Ok(())
 }
 
@@ -60,8 +75,8 @@ fn show_swapped(rt: &impl Print, orders: &mut BiHashMap<Order>) -> anyhow::Resul
     let swapped = swap_places(orders, 1, 3);
     println!(rt;
         "swapped: {swapped}, the first is at {}, the third at {}",
-        place_of(orders, 1),
-        place_of(orders, 3)
+        order_of(orders, 1).place,
+        order_of(orders, 3).place
     )?;
     Ok(())
 }
@@ -75,7 +90,18 @@ fn show_changes(
     add_three(orders)?;
     show_refused(rt, orders)?;
     show_cheapest(rt, alloc, orders)?;
-    show_replaced(rt, alloc, orders)?;
+    show_replaced(
+        rt,
+        alloc,
+        orders,
+        [Order::new(1, 11, 0), Order::new(9, 20, 0)],
+    )?;
+    show_replaced(
+        rt,
+        alloc,
+        orders,
+        [Order::new(1, 10, 250), Order::new(3, 30, 150)],
+    )?;
     show_swapped(rt, orders)
 }
 

@@ -10,7 +10,7 @@ use iddqd_bi::{BiHashItem, BiHashMap, Ranked, TryReserveError};
 use std::alloc::{AllocError, Global};
 
 /// An order, known by its number and by its place in a queue.
-#[derive(Clone, Copy)]
+#[derive(Clone, Copy, PartialEq)]
 pub struct Order {
     pub number: u64,
     pub place: u32,
@@ -37,7 +37,9 @@ impl BiHashItem for Order {
 
 impl Order {
     /// Makes an order.
-    pub fn new(number: u64, place: u32, price: u64) -> Self {
+    pub fn new(number: u64, place: u32, price: u64) -> Self
+        ensures { (result.number ≡ number) × (result.place ≡ place) × (result.price ≡ price) }
+    {
         Order {
             number,
             place,

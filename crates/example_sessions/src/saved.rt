@@ -47,6 +47,9 @@ fn first_like(sessions: &[Session], session: &Session) -> Option<usize>
     ensures found { IfSome result (λ at. IsSomeAnd (slice_get sessions.now at) (λ s.
         ((session.now.id == s.id) || ((session.now.token == s.token)
         || ⟦<Peer as PartialEq>⟧.eq session.now.peer s.peer)) ≡ true)) }
+    ensures first { IfSome result (λ at. (before : ℕ) → before < at → IfSome (slice_get sessions.now before) (λ s.
+        ((session.now.id == s.id) || ((session.now.token == s.token)
+        || ⟦<Peer as PartialEq>⟧.eq session.now.peer s.peer)) ≡ false)) }
     ensures none { IfNone result ((at : ℕ) → IfSome (slice_get sessions.now at) (λ s.
         ((session.now.id == s.id) || ((session.now.token == s.token)
         || ⟦<Peer as PartialEq>⟧.eq session.now.peer s.peer)) ≡ false)) }
@@ -70,7 +73,9 @@ pub struct Fault {
 /// Returns what is wrong with a session that was rejected. The lines are those of the saved sessions.
 fn fault_of(rejected: &Rejected, lines: &[u64]) -> Fault
     requires { length rejected.now.before.items < length lines.now }
-    ensures { slice_get lines.now (length rejected.now.before.items) ≡ Some result.line }
+    ensures line { slice_get lines.now (length rejected.now.before.items) ≡ Some result.line }
+    ensures keys { (result.id ≡ rejected.now.id_taken) × (result.token ≡ rejected.now.token_taken)
+        × (result.peer ≡ rejected.now.peer_taken) }
 {
     Fault {
         line: lines[rejected.before.len()],
@@ -105,6 +110,7 @@ impl Saved {
     pub fn add(&mut self, line: u64, session: Session) -> Result<(), AllocError>
         ensures added { OnOk result (self.new.sessions.items ≡ self.old.sessions.items ++ session ∷ []) }
         ensures same { OnErr result (self.new.sessions.items ≡ self.old.sessions.items) }
+        ensures lines { OnOk result (self.new.lines.items ≡ self.old.lines.items ++ line ∷ []) }
     {
         self.lines.push(line)?;
         if self.sessions.push(session).is_err() {

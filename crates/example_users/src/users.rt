@@ -6,7 +6,7 @@ ghost use Rattle.std.specs.String.{string_eq};
 ghost use Rattle.std.proofs.Common.{rules};
 ghost use Rattle.iddqd_id.specs.Bag.{IsOnly, clash, swap};
 ghost use Rattle.iddqd_id.specs.Map.{IsFullFor, bag};
-ghost use Rattle.iddqd_id.specs.Rekeyed.{TellsWhyNot};
+ghost use Rattle.iddqd_id.specs.Rekeyed.{TellsWhyNot, left_out};
 
 use iddqd_id::{IdHashItem, IdHashItemMut, IdHashMap, NotReplaced, Ranked};
 
@@ -85,6 +85,10 @@ pub fn rename(
     ensures renamed { IfOk result (λ u. IsPermutation (u ∷ bag users.new)
         (record { name = new; seen = u.seen } ∷ bag users.old)) }
     ensures unchanged { OnErr result (users.new ≡ users.old) }
+    ensures name { IfErr result (λ e. (left_out e).name ≡ new) }
+    // Which error it is depends on the new name, and not on the time.
+    ensures reason { IfErr result (λ e. TellsWhyNot ⟦<User as Ranked>⟧.ranks
+        (λ u. pointwise nat_eq name.now (string_bytes u.name)) (bag users.old) (record { name = new; seen = 0 }) e) }
 {
     let seen = users.get(name).map_or(0, |user| user.seen);
     users.rekey(name, User { name: new, seen })
