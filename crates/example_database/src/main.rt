@@ -48,7 +48,13 @@ fn open(alloc: Global) -> Result<Connection<MemStore>, Error> {
 /// Loads the table, and prints the outcome.
 fn answer(rt: &(impl Print + AllocGlobal), conn: &mut Connection<MemStore>) -> io::Result<()> {
     let mut devices = BiHashMap::new(rt.alloc());
-    match load(rt.alloc(), conn, &mut devices) {
+    let loaded = load(rt.alloc(), conn, &mut devices);
+    tell(rt, loaded)
+}
+
+/// Prints the outcome of a load.
+fn tell(rt: &impl Print, loaded: Result<usize, NotLoaded>) -> io::Result<()> {
+    match loaded {
         Ok(count) => println!(rt; "loaded {count}"),
         Err(NotLoaded::Row(rejected)) => {
             let row = rejected.index.saturating_add(1);
