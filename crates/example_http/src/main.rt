@@ -15,17 +15,19 @@ use std::io;
 
 fn main(rt: HostRuntime) -> io::Result<()> {
     let alloc = rt.alloc();
+    let of_sessions = RandomState::new(&rt)?;
+    let of_headers = RandomState::new(&rt)?;
     let mut desk = Desk {
-        sessions: TriHashMap::with_hasher(alloc, RandomState::new(&rt)?),
+        sessions: TriHashMap::with_hasher(alloc, of_sessions),
         alloc,
     };
-    let mut connection = Connection::new(alloc, RandomState::new(&rt)?, Config::default());
-    serve(
-        &mut connection,
-        &mut desk,
-        &mut rt.stdin(),
-        &mut rt.stdout(),
-    )?;
+    let mut connection = Connection::new(alloc, of_headers, Config::default());
+    serve_all(&rt, &mut connection, &mut desk)
+}
+
+/// Serves the connection until it ends.
+fn serve_all(rt: &HostRuntime, connection: &mut Connection, desk: &mut Desk) -> io::Result<()> {
+    serve(connection, desk, &mut rt.stdin(), &mut rt.stdout())?;
     match connection.state() {
         State::Aborted => Err(AllocError.into()),
         _ => Ok(()),
