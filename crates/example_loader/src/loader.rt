@@ -1,5 +1,5 @@
 //! Records of persons, each known by a number and by a mail address. A batch is loaded as a whole, or not at all.
-ghost use Rattle.std.specs.Prelude.{◌≡◌, ◌==◌, ◌||◌, ◌++◌, ℕ, true, false, Some, take, slice_get, IsPermutation, OnOk, OnErr, IfErr, IfSome, IfNone, IsSomeAnd};
+ghost use Rattle.std.specs.Prelude.{◌≡◌, ◌<◌, ◌==◌, ◌||◌, ◌++◌, ℕ, true, false, Some, take, slice_get, IsPermutation, OnOk, OnErr, IfErr, IfSome, IfNone, IsSomeAnd};
 ghost use Rattle.std.specs.List.{list_any};
 ghost use Rattle.iddqd_bi.specs.Bag.{IsSound};
 ghost use Rattle.iddqd_bi.specs.Map.{bag};
@@ -49,6 +49,8 @@ pub struct Rejected {
 fn first_like(records: &[Record], item: &Record) -> Option<usize>
     ensures found { IfSome result (λ at. IsSomeAnd (slice_get records.now at) (λ r.
         ((item.now.id == r.id) || ⟦<String as PartialEq>⟧.eq item.now.mail r.mail) ≡ true)) }
+    ensures first { IfSome result (λ at. (before : ℕ) → before < at → IfSome (slice_get records.now before) (λ r.
+        ((item.now.id == r.id) || ⟦<String as PartialEq>⟧.eq item.now.mail r.mail) ≡ false)) }
     ensures none { IfNone result ((at : ℕ) → IfSome (slice_get records.now at) (λ r.
         ((item.now.id == r.id) || ⟦<String as PartialEq>⟧.eq item.now.mail r.mail) ≡ false)) }
 {
