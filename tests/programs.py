@@ -1,6 +1,6 @@
 """Makes the crates that are built and run without a proof: the programs of tests/programs, and the loops of bench/loops.
 
-tests/programs/crates.txt names these crates with their libraries. A text NAME.rattle of such a crate becomes src/NAME.rt, and any other file of
+tests/programs/libraries.txt names these crates with their libraries. A text NAME.rattle of such a crate becomes src/NAME.rt, and any other file of
 its folder stays as it is. From the texts of THREE and ONE, which are for the map with two keys, tests/widen.py and tests/narrow.py make the
 texts for three keys and for one key. A text by hand goes before one that is made: `width.rattle` has what is otherwise at one key.
 """
@@ -15,7 +15,7 @@ import sources  # noqa: E402
 import widen  # noqa: E402
 from sources import read  # noqa: E402
 
-LIBRARIES = sources.libraries("tests/programs/crates.txt")
+LIBRARIES = sources.libraries("tests/programs/libraries.txt")
 # The libraries among them, of which others make programs.
 USED = {it for of in LIBRARIES.values() for it in of if it in LIBRARIES}
 # The folder of each crate that has texts; the others are made from these.

@@ -3,7 +3,8 @@
 //! prints one of
 //!
 //!     loaded N                       all its N rows were inserted
-//!     row N: duplicate SERIAL PORT   its row N, counted from 1, has a key of a row before it; nothing was inserted
+//!     row N: duplicate SERIAL PORT LABEL
+//!                                    its row N, counted from 1, has a key of a row before it; nothing was inserted
 //!     row N: no memory               there was no memory for its row N, and nothing was inserted
 //!
 //! An empty line also removes the rows from the table. Any other line, also one that is not UTF-8, is answered by `bad line`, and the
@@ -60,7 +61,10 @@ fn tell(rt: &impl Print, loaded: Result<usize, NotLoaded>) -> io::Result<()> {
             let row = rejected.index.saturating_add(1);
             let device = rejected.item;
             if rejected.serial_taken || rejected.port_taken {
-                println!(rt; "row {row}: duplicate {} {}", device.serial, device.port)
+                println!(rt;
+                    "row {row}: duplicate {} {} {}",
+                    device.serial, device.port, device.label
+                )
             } else {
                 println!(rt; "row {row}: no memory")
             }

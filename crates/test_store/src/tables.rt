@@ -3,7 +3,7 @@
 ghost use Rattle.std.specs.Prelude.{◌≡◌, ◌&&◌, ◌==◌, refl, ⊤};
 ghost use Rattle.std.proofs.Common.{◌∙◌, true, sym, ap₂};
 
-use iddqd_store::{IndexTable, ItemIndex, Matcher, Meter, TryReserveError};
+use iddqd_store::{IndexTable, ItemIndex, Matcher, Meter, TryReserveError, table_room};
 use std::alloc::{AllocError, Global};
 use std::test::Fail;
 
@@ -227,4 +227,13 @@ fn searches_ask_under_their_hash_alone(rt: HostRuntime) -> Result<(), Fail> {
         assert!(rt; search(&table, pair, yes) == (wanted, asked));
     }
     Ok(())
+}
+
+// Seven eighths of the cells have a pair in a full table. So a third of them do in a full map if the table has room for 21 eighths
+// of the items, and half of them if it has room for seven quarters, both rounded up.
+#[test]
+fn tables_have_no_more_room_than_their_load_asks_for(rt: HostRuntime) {
+    assert!(rt; table_room(1) == 3 && table_room(8) == 21 && table_room(4_096) == 10_752);
+    assert!(rt; table_room(4_097) == 7_170 && table_room(16_384) == 28_672);
+    assert!(rt; table_room(16_385) == 16_385);
 }
