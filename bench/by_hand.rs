@@ -1,5 +1,8 @@
-//! A map with several keys, as a careful user of std would write it: a slab of items, and a hash map from each key to a
-//! slot.
+//! A map as a careful user of std would write it: a slab of items, and a hash map from each key to a slot.
+//!
+//! With one key it stands for the Rust crate's map, which has slots and a table from hashes to these. std offers no
+//! such table. A hash map from the key to the slot has entries of the same size, found by the same hash, but it compares
+//! the key in the entry, where the crate compares that of the item, and it hashes the keys again as it grows.
 use crate::calls::{Map, sum_of, told};
 use crate::hasher::FoldHasher;
 use crate::workload::Row;
@@ -80,9 +83,10 @@ impl<const N: usize> ByHand<N> {
     pub fn enter(&mut self, row: Row<N>) -> Result<usize, Found<N>> {
         // The compiler keeps one arm for each number of keys, which is what one would write by hand for that number.
         match &mut self.tables[..] {
+            [first] => insert_by!(self, row, first 0),
             [first, second] => insert_by!(self, row, first 0, second 1),
             [first, second, third] => insert_by!(self, row, first 0, second 1, third 2),
-            _ => unreachable!("two keys or three"),
+            _ => unreachable!("at most three keys"),
         }
     }
 
@@ -183,6 +187,8 @@ impl<'a, const N: usize> Iterator for Held<'a, N> {
 impl<const N: usize> ExactSizeIterator for Held<'_, N> {}
 
 impl<const N: usize> Map<N> for ByHand<N> {
+    const NAME: &'static str = if N == 1 { "slots" } else { "std" };
+
     fn with_capacity(items: usize) -> ByHand<N> {
         ByHand {
             slab: Vec::with_capacity(items),

@@ -17,6 +17,9 @@ pub fn told<const N: usize>(row: &Row<N>) -> u64 {
 
 /// A map with N keys.
 pub trait Map<const N: usize>: Clone + PartialEq {
+    /// What the side of this map is called.
+    const NAME: &'static str;
+
     /// The names of operations that the map has no call for, and that a caller cannot write either.
     const LACKS: &'static [&'static str] = &[];
 

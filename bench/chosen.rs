@@ -1,63 +1,21 @@
 //! Times the map with two keys and keys that an attacker chose to slow it down. The default builder has a fixed seed,
 //! so such keys can be found for it. A random seed makes them harmless, and costs time itself.
 use crate::hasher;
+use crate::operations::{Exported, exported};
 use crate::processors::take_fastest;
 use crate::report;
-use crate::workload::{Row, rows};
+use crate::workload::{Row, Workload, rows};
+use std::hint::black_box;
 use std::time::Instant;
 
 /// The number of items in a map.
 const ITEMS: usize = 20_000;
 
-/// The least number of cells that holds this many items. The home bucket of a hash is given by its lowest bits.
-const CELLS: u64 = 32_768;
+/// The number of cells of a table that is made for so many items. The lowest bits of a hash give its home bucket.
+const CELLS: u64 = 65_536;
 
 /// How often each loop is timed, in turn with what prepares it. The least times count.
 const TURNS: usize = 20;
-
-type Exported = unsafe extern "C" fn(
-    rows: *const Row<2>,
-    len: usize,
-    asked: *const Row<2>,
-    count: usize,
-    number: usize,
-    whole: bool,
-) -> u64;
-
-unsafe extern "C" {
-    fn bi_insert_with_room(
-        rows: *const Row<2>,
-        len: usize,
-        asked: *const Row<2>,
-        count: usize,
-        number: usize,
-        whole: bool,
-    ) -> u64;
-    fn bi_insert_seeded(
-        rows: *const Row<2>,
-        len: usize,
-        asked: *const Row<2>,
-        count: usize,
-        number: usize,
-        whole: bool,
-    ) -> u64;
-    fn bi_get(
-        rows: *const Row<2>,
-        len: usize,
-        asked: *const Row<2>,
-        count: usize,
-        number: usize,
-        whole: bool,
-    ) -> u64;
-    fn bi_get_seeded(
-        rows: *const Row<2>,
-        len: usize,
-        asked: *const Row<2>,
-        count: usize,
-        number: usize,
-        whole: bool,
-    ) -> u64;
-}
 
 /// Returns the rows with other first keys, which all have the same home bucket with the default builder.
 fn of_one_home(rows: &[Row<2>]) -> Vec<Row<2>> {
@@ -71,22 +29,17 @@ fn of_one_home(rows: &[Row<2>]) -> Vec<Row<2>> {
         .collect()
 }
 
-/// Returns how many seconds the loop takes, with what prepares it, or only its preparation if `whole` is false.
-fn seconds(exported: Exported, rows: &[Row<2>], whole: bool) -> f64 {
-    let began = Instant::now();
-    let (at, len) = (rows.as_ptr(), rows.len());
-    std::hint::black_box(unsafe { exported(at, len, at, len, ITEMS, whole) });
-    began.elapsed().as_secs_f64()
-}
-
 /// Returns nanoseconds for each item, without what prepares the loop.
-fn time(exported: Exported, rows: &[Row<2>]) -> f64 {
+fn time(exported: Exported<2>, rows: &[Row<2>]) -> f64 {
+    let load = Workload::new(rows.to_vec(), rows.to_vec(), ITEMS, ITEMS).reserved(ITEMS);
     take_fastest();
     let mut least = [f64::INFINITY; 2];
     for _ in 0..TURNS {
         for whole in [false, true] {
+            let began = Instant::now();
+            black_box(load.run(exported, whole));
             let of_kind = &mut least[whole as usize];
-            *of_kind = of_kind.min(seconds(exported, rows, whole));
+            *of_kind = of_kind.min(began.elapsed().as_secs_f64());
         }
     }
     let [prepared, all] = least;
@@ -104,9 +57,17 @@ pub fn print() {
     let items = report::grouped(ITEMS);
     println!("| {items} items, nanoseconds an item | default builder | random seed |");
     println!("|---|---|---|");
-    let loops: [(&str, Exported, Exported); 2] = [
-        ("insert with room", bi_insert_with_room, bi_insert_seeded),
-        ("look-up, hit", bi_get, bi_get_seeded),
+    let loops: [(&str, Exported<2>, Exported<2>); 2] = [
+        (
+            "insert with room",
+            exported!("bi", insert, 2),
+            exported!("bi", insert_seeded, 2),
+        ),
+        (
+            "look-up, hit",
+            exported!("bi", get, 2),
+            exported!("bi", get_seeded, 2),
+        ),
     ];
     for (name, default, seeded) in loops {
         for (keys, rows) in [

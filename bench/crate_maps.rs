@@ -43,6 +43,7 @@ item!(TriHashItem 3: K1 key1 upcast_key1 0, K2 key2 upcast_key2 1, K3 key3 upcas
 macro_rules! map {
     ($map:ident $keys:literal, $get:ident $get_mut:ident $remove:ident, lacks $lacks:expr, $or_insert:expr, $($more:tt)*) => {
         impl Map<$keys> for $map<Row<$keys>, Builder> {
+            const NAME: &'static str = "crate";
             const LACKS: &'static [&'static str] = $lacks;
 
             fn with_capacity(items: usize) -> Self {

@@ -1,10 +1,10 @@
-//! The loops over the maps on the other side, which are those kept by hand or those of the Rust crate: one for each loop of
-//! `bench/loops`, with the same name.
+//! The loops over the maps on the other sides, which are those kept by hand or those of the Rust crate: one for each
+//! loop of `bench/loops`, with the same name.
 use crate::calls::{Map, sum_of, told};
 use crate::workload::{Row, Workload, copies};
 
 /// Returns the sum of what is done with a map of each part of the rows, and with a part of the others if there are any.
-fn each_map<const N: usize>(
+pub fn each_map<const N: usize>(
     load: &Workload<N>,
     mut made: impl FnMut(&[Row<N>], &[Row<N>]) -> u64,
 ) -> u64 {
@@ -20,7 +20,7 @@ fn times<const N: usize>(load: &Workload<N>, whole: bool) -> usize {
     if whole { load.number } else { 0 }
 }
 
-fn asked<const N: usize>(load: &Workload<N>, whole: bool) -> &[Row<N>] {
+pub fn asked<const N: usize>(load: &Workload<N>, whole: bool) -> &[Row<N>] {
     if whole { &load.asked } else { &[] }
 }
 
@@ -29,10 +29,35 @@ fn fill<const N: usize, M: Map<N>>(map: &mut M, rows: &[Row<N>]) -> u64 {
     rows.iter().map(|row| u64::from(!map.insert(*row))).sum()
 }
 
-fn filled<const N: usize, M: Map<N>>(rows: &[Row<N>]) -> M {
-    let mut map = M::with_capacity(rows.len());
+fn filled<const N: usize, M: Map<N>>(load: &Workload<N>, rows: &[Row<N>]) -> M {
+    let mut map = M::with_capacity(load.room);
     fill(&mut map, rows);
     map
+}
+
+/// Changes new maps by parts of the rows. Sums what `made` returns, and how many items each map then has.
+fn each_new<const N: usize, M: Map<N>>(
+    load: &Workload<N>,
+    whole: bool,
+    made: impl Fn(&mut M, &[Row<N>]) -> u64,
+) -> u64 {
+    each_map(load, |rows, _| {
+        let mut map = M::with_capacity(load.room);
+        let sum = if whole { made(&mut map, rows) } else { 0 };
+        sum + map.len() as u64
+    })
+}
+
+/// Sums what `made` returns for a map of each part of the rows, and a part of those that are asked for.
+fn each_filled<const N: usize, M: Map<N>>(
+    load: &Workload<N>,
+    whole: bool,
+    made: impl Fn(&mut M, &[Row<N>]) -> u64,
+) -> u64 {
+    each_map(load, |rows, asked| {
+        let mut map = filled::<N, M>(load, rows);
+        if whole { made(&mut map, asked) } else { 0 }
+    })
 }
 
 fn take_out<const N: usize, M: Map<N>>(map: &mut M, rows: &[Row<N>]) -> u64 {
@@ -47,22 +72,13 @@ fn overwritten<const N: usize, M: Map<N>>(map: &mut M, rows: &[Row<N>]) -> u64 {
 }
 
 pub fn insert<const N: usize, M: Map<N>>(load: &Workload<N>, whole: bool) -> u64 {
-    each_map(load, |rows, _| {
-        let mut map = M::with_capacity(0);
-        if whole {
-            fill(&mut map, rows) + map.len() as u64
-        } else {
-            0
-        }
-    })
+    each_new(load, whole, fill::<N, M>)
 }
 
-pub fn insert_with_room<const N: usize, M: Map<N>>(load: &Workload<N>, whole: bool) -> u64 {
-    each_map(load, |rows, _| {
-        let mut map = M::with_capacity(load.number);
-        let refused = if whole { fill(&mut map, rows) } else { 0 };
-        refused + map.len() as u64
-    })
+pub fn grow<const N: usize, M: Map<N>>(load: &Workload<N>, _: bool) -> u64 {
+    let mut map = M::with_capacity(0);
+    let refused = fill(&mut map, &load.rows);
+    refused + u64::from(Vec::<u8>::new().try_reserve_exact(load.number).is_err())
 }
 
 /// Inserts the rows, and counts the errors that say that the first key is not taken.
@@ -72,66 +88,52 @@ fn try_fill<const N: usize, M: Map<N>>(map: &mut M, rows: &[Row<N>]) -> u64 {
 }
 
 pub fn try_insert<const N: usize, M: Map<N>>(load: &Workload<N>, whole: bool) -> u64 {
-    each_map(load, |rows, _| {
-        let mut map = M::with_capacity(load.number);
-        let refused = if whole { try_fill(&mut map, rows) } else { 0 };
-        refused + map.len() as u64
-    })
+    each_new(load, whole, try_fill::<N, M>)
 }
 
 pub fn try_insert_refused<const N: usize, M: Map<N>>(load: &Workload<N>, whole: bool) -> u64 {
-    try_fill(&mut filled::<N, M>(&load.rows), asked(load, whole))
+    try_fill(&mut filled::<N, M>(load, &load.rows), asked(load, whole))
 }
 
 pub fn insert_refused<const N: usize, M: Map<N>>(load: &Workload<N>, whole: bool) -> u64 {
-    fill(&mut filled::<N, M>(&load.rows), asked(load, whole))
+    fill(&mut filled::<N, M>(load, &load.rows), asked(load, whole))
 }
 
 pub fn entry_vacant<const N: usize, M: Map<N>>(load: &Workload<N>, whole: bool) -> u64 {
-    each_map(load, |rows, _| {
-        let mut map = M::with_capacity(load.number);
-        let rows = if whole { rows } else { &[] };
+    each_new(load, whole, |map: &mut M, rows| {
         let entered = rows.iter().map(|row| map.or_insert(*row));
-        let refused = entered.filter(Option::is_none).count();
-        (refused + map.len()) as u64
+        entered.filter(Option::is_none).count() as u64
     })
 }
 
 pub fn entry_occupied<const N: usize, M: Map<N>>(load: &Workload<N>, whole: bool) -> u64 {
-    let mut map = filled::<N, M>(&load.rows);
+    let mut map = filled::<N, M>(load, &load.rows);
     let rows = asked(load, whole).iter();
     sum_of(rows.map(|row| map.or_insert(*row).unwrap_or(0)))
 }
 
 pub fn overwrite<const N: usize, M: Map<N>>(load: &Workload<N>, whole: bool) -> u64 {
-    each_map(load, |rows, asked| {
-        let mut map = filled::<N, M>(rows);
-        if whole {
-            overwritten(&mut map, asked)
-        } else {
-            0
-        }
-    })
+    each_filled(load, whole, overwritten::<N, M>)
 }
 
 pub fn overwrite_same<const N: usize, M: Map<N>>(load: &Workload<N>, whole: bool) -> u64 {
-    overwritten(&mut filled::<N, M>(&load.rows), asked(load, whole))
+    overwritten(&mut filled::<N, M>(load, &load.rows), asked(load, whole))
 }
 
 pub fn get<const N: usize, M: Map<N>>(load: &Workload<N>, whole: bool) -> u64 {
-    let map = filled::<N, M>(&load.rows);
+    let map = filled::<N, M>(load, &load.rows);
     let rows = asked(load, whole).iter();
     sum_of(rows.map(|row| map.get(row.keys[0]).map_or(0, told)))
 }
 
 pub fn get_unique<const N: usize, M: Map<N>>(load: &Workload<N>, whole: bool) -> u64 {
-    let map = filled::<N, M>(&load.rows);
+    let map = filled::<N, M>(load, &load.rows);
     let rows = asked(load, whole).iter();
     sum_of(rows.map(|row| map.get_unique(row.keys).map_or(0, told)))
 }
 
 pub fn get_in_turn<const N: usize, M: Map<N>>(load: &Workload<N>, whole: bool) -> u64 {
-    let map = filled::<N, M>(&load.rows);
+    let map = filled::<N, M>(load, &load.rows);
     let (mut sum, mut last) = (0u64, 0);
     for row in asked(load, whole) {
         if let Some(found) = map.get(row.keys[0] ^ last) {
@@ -143,7 +145,7 @@ pub fn get_in_turn<const N: usize, M: Map<N>>(load: &Workload<N>, whole: bool) -
 }
 
 pub fn get_mut<const N: usize, M: Map<N>>(load: &Workload<N>, whole: bool) -> u64 {
-    let mut map = filled::<N, M>(&load.rows);
+    let mut map = filled::<N, M>(load, &load.rows);
     let rows = asked(load, whole).iter();
     sum_of(rows.map(|row| {
         map.get_mut(row.keys[0]).map_or(0, |mut found| {
@@ -154,23 +156,18 @@ pub fn get_mut<const N: usize, M: Map<N>>(load: &Workload<N>, whole: bool) -> u6
 }
 
 pub fn remove<const N: usize, M: Map<N>>(load: &Workload<N>, whole: bool) -> u64 {
-    each_map(load, |rows, asked| {
-        let mut map = filled::<N, M>(rows);
-        if whole { take_out(&mut map, asked) } else { 0 }
-    })
+    each_filled(load, whole, take_out::<N, M>)
 }
 
 pub fn remove_unique<const N: usize, M: Map<N>>(load: &Workload<N>, whole: bool) -> u64 {
-    each_map(load, |rows, asked| {
-        let mut map = filled::<N, M>(rows);
-        let asked = if whole { asked } else { &[] };
-        let gone = asked.iter().filter_map(|row| map.remove_unique(row.keys));
+    each_filled(load, whole, |map: &mut M, rows| {
+        let gone = rows.iter().filter_map(|row| map.remove_unique(row.keys));
         sum_of(gone.map(|gone| told(&gone)))
     })
 }
 
 pub fn rekey<const N: usize, M: Map<N>>(load: &Workload<N>, whole: bool) -> u64 {
-    let mut map = filled::<N, M>(&load.rows);
+    let mut map = filled::<N, M>(load, &load.rows);
     let pairs = asked(load, whole).chunks_exact(2);
     sum_of(pairs.map(|two| {
         let gone = map.rekey(two[0].keys[0], two[1]);
@@ -179,7 +176,7 @@ pub fn rekey<const N: usize, M: Map<N>>(load: &Workload<N>, whole: bool) -> u64 
 }
 
 pub fn remove_insert<const N: usize, M: Map<N>>(load: &Workload<N>, whole: bool) -> u64 {
-    let mut map = filled::<N, M>(&load.rows);
+    let mut map = filled::<N, M>(load, &load.rows);
     let mut sum = 0u64;
     for two in asked(load, whole).chunks_exact(2) {
         sum = sum.wrapping_add(map.remove(two[0].keys[0]).map_or(0, |gone| told(&gone)));
@@ -189,18 +186,18 @@ pub fn remove_insert<const N: usize, M: Map<N>>(load: &Workload<N>, whole: bool)
 }
 
 pub fn iter<const N: usize, M: Map<N>>(load: &Workload<N>, whole: bool) -> u64 {
-    let map = filled::<N, M>(&load.rows);
+    let map = filled::<N, M>(load, &load.rows);
     let walks = (0..times(load, whole)).map(|_| sum_of(map.iter().map(|row| row.keys[0])));
     sum_of(walks)
 }
 
 pub fn for_lent<const N: usize, M: Map<N>>(load: &Workload<N>, whole: bool) -> u64 {
-    let map = filled::<N, M>(&load.rows);
+    let map = filled::<N, M>(load, &load.rows);
     sum_of((0..times(load, whole)).map(|_| map.for_lent()))
 }
 
 pub fn iter_mut<const N: usize, M: Map<N>>(load: &Workload<N>, whole: bool) -> u64 {
-    let mut map = filled::<N, M>(&load.rows);
+    let mut map = filled::<N, M>(load, &load.rows);
     let mut sum = 0u64;
     for _ in 0..times(load, whole) {
         let mut walk = map.iter_mut();
@@ -215,7 +212,7 @@ pub fn iter_mut<const N: usize, M: Map<N>>(load: &Workload<N>, whole: bool) -> u
 }
 
 pub fn update_all<const N: usize, M: Map<N>>(load: &Workload<N>, whole: bool) -> u64 {
-    let mut map = filled::<N, M>(&load.rows);
+    let mut map = filled::<N, M>(load, &load.rows);
     for _ in 0..times(load, whole) {
         map.update_all(|row| row.value.wrapping_add(1));
     }
@@ -238,17 +235,21 @@ fn each_changed<const N: usize, M: Map<N>>(
     change: impl Fn(&mut M),
 ) -> u64 {
     each_map(load, |rows, _| {
-        each_copy(copies(load.number), &filled::<N, M>(rows), |mut copy| {
-            if whole {
-                change(&mut copy);
-            }
-            copy.len() as u64
-        })
+        each_copy(
+            copies(load.number),
+            &filled::<N, M>(load, rows),
+            |mut copy| {
+                if whole {
+                    change(&mut copy);
+                }
+                copy.len() as u64
+            },
+        )
     })
 }
 
 pub fn for_owned<const N: usize, M: Map<N>>(load: &Workload<N>, whole: bool) -> u64 {
-    let map = filled::<N, M>(&load.rows);
+    let map = filled::<N, M>(load, &load.rows);
     each_copy(load.number, &map, |copy| {
         if whole {
             sum_of(copy.into_rows().map(|row| row.keys[0]))
@@ -260,7 +261,7 @@ pub fn for_owned<const N: usize, M: Map<N>>(load: &Workload<N>, whole: bool) -> 
 
 pub fn equal<const N: usize, M: Map<N>>(load: &Workload<N>, whole: bool) -> u64 {
     each_map(load, |rows, asked| {
-        let (map, other) = (filled::<N, M>(rows), filled::<N, M>(asked));
+        let (map, other) = (filled::<N, M>(load, rows), filled::<N, M>(load, asked));
         let times = copies(load.number);
         sum_of((0..times).map(|_| u64::from(whole && map == other)))
     })
@@ -287,19 +288,26 @@ pub fn retain_mut<const N: usize, M: Map<N>>(load: &Workload<N>, whole: bool) ->
     })
 }
 
-/// Takes items out of copies of a map of each part of the rows. Sums their first keys, and how many items each copy then has.
+/// Takes items out of copies of a map of each part of the rows. Sums their first keys, and how many items each copy
+/// then has.
 fn each_emptied<const N: usize, M: Map<N>>(
     load: &Workload<N>,
     whole: bool,
     is_taken: impl Fn(&Row<N>) -> bool,
 ) -> u64 {
     each_map(load, |rows, _| {
-        each_copy(copies(load.number), &filled::<N, M>(rows), |mut copy| {
-            let sum = if whole { copy.extract(&is_taken) } else { 0 };
-            sum.wrapping_add(copy.len() as u64)
-        })
+        each_copy(
+            copies(load.number),
+            &filled::<N, M>(load, rows),
+            |mut copy| {
+                let sum = if whole { copy.extract(&is_taken) } else { 0 };
+                sum.wrapping_add(copy.len() as u64)
+            },
+        )
     })
 }
+
+pub use self::pop_all as pop_each;
 
 pub fn pop_all<const N: usize, M: Map<N>>(load: &Workload<N>, whole: bool) -> u64 {
     each_emptied::<N, M>(load, whole, |_| true)
@@ -310,7 +318,7 @@ pub fn extract_half<const N: usize, M: Map<N>>(load: &Workload<N>, whole: bool) 
 }
 
 pub fn clone<const N: usize, M: Map<N>>(load: &Workload<N>, whole: bool) -> u64 {
-    let map = filled::<N, M>(&load.rows);
+    let map = filled::<N, M>(load, &load.rows);
     sum_of((0..times(load, whole)).map(|_| map.clone().len() as u64))
 }
 
@@ -320,7 +328,7 @@ pub fn clear<const N: usize, M: Map<N>>(load: &Workload<N>, whole: bool) -> u64 
 
 pub fn shrink<const N: usize, M: Map<N>>(load: &Workload<N>, whole: bool) -> u64 {
     each_map(load, |rows, asked| {
-        let mut map = filled::<N, M>(rows);
+        let mut map = filled::<N, M>(load, rows);
         let sum = take_out(&mut map, asked);
         let lengths = each_copy(copies(load.number), &map, |mut copy| {
             if whole {
@@ -337,12 +345,9 @@ pub fn reserve<const N: usize, M: Map<N>>(load: &Workload<N>, whole: bool) -> u6
 }
 
 pub fn extend<const N: usize, M: Map<N>>(load: &Workload<N>, whole: bool) -> u64 {
-    each_map(load, |rows, _| {
-        let mut map = M::with_capacity(0);
-        if whole {
-            map.extend(rows.iter().copied());
-        }
-        map.len() as u64
+    each_new(load, whole, |map: &mut M, rows| {
+        map.extend(rows.iter().copied());
+        0
     })
 }
 
@@ -364,9 +369,5 @@ pub fn from_iter_unique<const N: usize, M: Map<N>>(load: &Workload<N>, whole: bo
 }
 
 pub fn extend_unique<const N: usize, M: Map<N>>(load: &Workload<N>, whole: bool) -> u64 {
-    each_map(load, |rows, _| {
-        let mut map = M::with_capacity(0);
-        let rows = if whole { rows } else { &[] };
-        (map.enter_all(rows) + map.len()) as u64
-    })
+    each_new(load, whole, |map: &mut M, rows| map.enter_all(rows) as u64)
 }

@@ -1,16 +1,18 @@
-//! Times loops over the maps of this repository beside the same loops over std hash maps kept by hand, in turn, in
-//! one process, with the same hasher. Built by bench/beside, it has the maps of the Rust crate iddqd on the other side.
+//! Times loops over the maps of this repository beside the same loops over std hash maps kept by hand, in turn, in one
+//! process, with the same hasher. Built by bench/beside, it has the maps of the Rust crate iddqd beside these too.
 //!
 //!     bench [OPTION..] [ITEMS[,ITEMS..]] [WORD]
 //!
-//! It prints nanoseconds an operation for both, and their ratio. With WORD it times only the operations whose name
-//! contains it. Options:
+//! It prints nanoseconds an operation for all sides, and the ratio of the time here to that of each other side. With
+//! WORD it times only the operations whose name contains it. Options:
 //!
-//!     --rounds N      repeats the whole measurement N times (5)
+//!     --rounds N      repeats the whole measurement N times (3)
 //!     --turns N       takes the least time of N turns in a round (20; fewer above 10,000 items)
 //!     --keys N[,N]    times only the maps with N keys, which are 1, 2 or 3
+//!     --beside S[,S]  times only these other sides: `std`; `slots`, at one key; and `crate`
 //!     --without WORD  leaves out the operations whose name contains WORD
-//!     --table         prints the ratios as a page has them, a table for each map
+//!     --table         prints the ratios as tables, one for each map and each other side
+//!     --page          times the rows and the sizes of docs/SPEED.md alone, and prints a table for each map
 //!     --growth        prints tables of the maps here alone, of the calls that visit all items
 //!     --svg FILE      writes a picture of five operations at eight sizes
 //!     --memory        prints the bytes an item that the maps hold after they grew, and at most while they grow
@@ -26,7 +28,6 @@ mod loops;
 mod measure;
 #[cfg(feature = "counts")]
 mod memory;
-#[cfg(not(feature = "beside"))]
 mod one_by_hand;
 mod operations;
 mod others;
@@ -35,40 +36,66 @@ mod processors;
 mod report;
 mod workload;
 
-#[cfg(feature = "beside")]
-use crate_maps::{One, Three, Two};
-use measure::{Plan, Side, print_once};
+use measure::{Plan, print_once};
 use operations::{Kind, Operation};
+use report::Map;
 
-/// The numbers of items, at which the load of a table of std is 0.59, 0.87, 0.49, 0.61, 0.61 and 0.76.
-const SIZES: [usize; 6] = [600, 890, 1_000, 10_000, 20_000, 100_000];
+/// The numbers of items. The load of a table of std is then 0.59, 0.87, 0.49, 0.85, 0.61, 0.61, 0.85, 0.87 and 0.76.
+const SIZES: [usize; 9] = [
+    600, 890, 1_000, 3_500, 10_000, 20_000, 28_000, 57_000, 100_000,
+];
 
-/// The name of the other side in the heads of tables. It is the Rust crate iddqd if bench/beside builds the program.
-const OTHER: &str = if cfg!(feature = "beside") {
-    "crate"
-} else {
-    "std"
-};
+/// The sizes that docs/SPEED.md shows.
+const ON_PAGE: [usize; 6] = [600, 1_000, 3_500, 20_000, 57_000, 100_000];
 
-/// The maps on the other side.
-#[cfg(not(feature = "beside"))]
-type One = one_by_hand::OneByHand;
-#[cfg(not(feature = "beside"))]
-type Two = by_hand::ByHand<2>;
-#[cfg(not(feature = "beside"))]
-type Three = by_hand::ByHand<3>;
-
-/// What makes the operations of a map.
-type Operations<const N: usize> = fn() -> Vec<Operation<N>>;
+/// The rows that docs/SPEED.md shows for each map, and those that it shows for the map with two keys too.
+const OF_EACH: [&str; 10] = [
+    "insert without room",
+    "insert with room",
+    "look-up, hit",
+    "look-up, miss",
+    "removal",
+    "removal and insert",
+    "iter",
+    "retain half",
+    "clone",
+    "reserve, as many again, new process",
+];
+const OF_TWO: [&str; 22] = [
+    "insert without room, new process",
+    "insert, refused",
+    "look-up, hit, reserved",
+    "look-up, miss, reserved",
+    "look-up, waits for the last",
+    "get_unique",
+    "look-up and write",
+    "rekey1",
+    "overwrite, one a key",
+    "overwrite, same keys",
+    "or_insert, vacant",
+    "or_insert, occupied",
+    "for, by value",
+    "update_all",
+    "retain, 1 in 64 goes",
+    "pop_from, all",
+    "extract_from, half",
+    "clear",
+    "equality",
+    "shrink_to_fit, half went",
+    "reserve, as many again",
+    "extend_unique",
+];
 
 /// What the arguments ask for.
 struct Wanted {
     plan: Plan,
     sizes: Option<Vec<usize>>,
     keys: Option<Vec<usize>>,
+    beside: Option<Vec<String>>,
     word: String,
     without: Option<String>,
     table: bool,
+    page: bool,
     growth: bool,
     chosen: bool,
     memory: bool,
@@ -97,18 +124,18 @@ fn size(word: &str) -> usize {
 
 fn wanted(mut words: impl Iterator<Item = String>) -> Wanted {
     let plan = Plan {
-        rounds: 5,
+        rounds: 3,
         turns: 20,
-        compares: true,
-        other: OTHER,
     };
     let mut wanted = Wanted {
         plan,
         sizes: None,
         keys: None,
+        beside: None,
         word: String::new(),
         without: None,
         table: false,
+        page: false,
         growth: false,
         chosen: false,
         memory: false,
@@ -123,8 +150,13 @@ fn wanted(mut words: impl Iterator<Item = String>) -> Wanted {
                 let keys = behind(&mut words, &word);
                 wanted.keys = Some(keys.split(',').map(number).collect());
             }
+            "--beside" => {
+                let sides = behind(&mut words, &word);
+                wanted.beside = Some(sides.split(',').map(str::to_string).collect());
+            }
             "--without" => wanted.without = Some(behind(&mut words, &word)),
             "--table" => wanted.table = true,
+            "--page" => wanted.page = true,
             "--growth" => wanted.growth = true,
             "--chosen" => wanted.chosen = true,
             "--memory" => wanted.memory = true,
@@ -159,50 +191,67 @@ impl Wanted {
         self.sizes.clone().unwrap_or(default.to_vec())
     }
 
-    /// Returns the operations of the map with N keys that the arguments ask for.
-    fn picked<const N: usize>(&self, operations: Operations<N>) -> Vec<Operation<N>> {
-        if !self.has_map(N) {
-            return Vec::new();
-        }
-        let all = operations().into_iter();
-        all.filter(|operation| self.has(operation.name))
-            .filter(|operation| !self.growth || operation.kind == Kind::All)
-            .collect()
+    /// Returns whether the page shows a row of the map with so many keys, or the arguments do not ask for the page.
+    fn shows(&self, name: &str, keys: usize) -> bool {
+        !self.page || OF_EACH.contains(&name) || keys == 2 && OF_TWO.contains(&name)
     }
 
-    /// Measures one map, and prints its figures.
-    fn print<const N: usize>(&self, operations: Operations<N>) {
-        let picked = self.picked(operations);
-        if picked.is_empty() {
-            return;
-        }
-        if self.growth {
-            let sizes = self.sizes(&[1_000, 10_000, 100_000, 1_000_000]);
-            let plan = Plan {
-                compares: false,
-                ..self.plan
+    /// Returns the operations of the map with N keys that the arguments ask for.
+    fn picked<const N: usize>(&self, operations: Vec<Operation<N>>) -> Vec<Operation<N>> {
+        let mut picked = operations;
+        picked.retain(|it| {
+            let is_kind = match it.kind {
+                Kind::Held => false,
+                Kind::All => true,
+                Kind::Each | Kind::Anew => !self.growth,
             };
-            report::print_growth(&picked, &sizes, plan);
-        } else {
-            report::print_text(&picked, &self.sizes(&SIZES), self.plan);
+            is_kind
+                && self.has_map(N)
+                && self.has(it.name)
+                && (self.others || self.shows(it.name, N))
+        });
+        for operation in &mut picked {
+            operation.others.retain(|(name, _)| {
+                let asked = self
+                    .beside
+                    .as_ref()
+                    .is_none_or(|asked| asked.iter().any(|it| it == name));
+                asked && !self.growth
+            });
         }
+        picked
+    }
+
+    /// Measures a map, if there is something to measure.
+    fn measured<const N: usize>(&self, all: Vec<Operation<N>>, sizes: &[usize]) -> Option<Map> {
+        let picked = self.picked(all);
+        (!picked.is_empty()).then(|| report::measured(&picked, sizes, self.plan))
     }
 
     /// Measures the maps, and prints their figures.
-    fn print_table(&self, one: Operations<1>, two: Operations<2>, three: Operations<3>) {
-        let (one, two, three) = (self.picked(one), self.picked(two), self.picked(three));
-        let sizes = self.sizes(&SIZES);
-        let mut maps = Vec::new();
-        if !one.is_empty() {
-            maps.push(report::measured(&one, &sizes, self.plan));
+    fn print(&self) {
+        let sizes = self.sizes(match () {
+            () if self.growth => &[1_000, 10_000, 100_000, 1_000_000],
+            () if self.page => &ON_PAGE,
+            () => &SIZES,
+        });
+        let maps: Vec<Map> = if self.others {
+            self.measured(others::operations(), &sizes)
+                .into_iter()
+                .collect()
+        } else {
+            let one = self.measured(operations::one(), &sizes);
+            let two = self.measured(operations::two(), &sizes);
+            let three = self.measured(operations::three(), &sizes);
+            [one, two, three].into_iter().flatten().collect()
+        };
+        if self.growth {
+            maps.iter().for_each(|map| map.print_times(&sizes));
+        } else if self.table || self.page {
+            report::print_table(&maps, &sizes, self.page);
+        } else {
+            maps.iter().for_each(|map| map.print_text(&sizes));
         }
-        if !two.is_empty() {
-            maps.push(report::measured(&two, &sizes, self.plan));
-        }
-        if !three.is_empty() {
-            maps.push(report::measured(&three, &sizes, self.plan));
-        }
-        report::print_table(&maps, &sizes, self.plan);
     }
 }
 
@@ -220,33 +269,35 @@ fn keep_memory() {
 
 /// Runs one loop once, for a process that `measure` has started.
 fn run_once(words: &mut impl Iterator<Item = String>) {
-    let side = Side::from_word(&behind(words, "--once"));
-    let keys = behind(words, "--once");
-    let items = number(&behind(words, "--once"));
-    let name = behind(words, "--once");
-    fn find<const N: usize>(all: Vec<Operation<N>>, name: &str) -> Operation<N> {
-        let found = all.into_iter().find(|operation| operation.name == name);
-        found.unwrap_or_else(|| panic!("there is no operation {name}"))
+    fn once<const N: usize>(all: Vec<Operation<N>>, words: [String; 4]) {
+        let [name, items, side, whole] = words;
+        let found = all.iter().find(|operation| operation.name == name);
+        let found = found.unwrap_or_else(|| panic!("there is no operation {name}"));
+        print_once(found, number(&items), &side, whole == "true");
     }
+    let keys = behind(words, "--once");
+    let words = std::array::from_fn(|_| behind(words, "--once"));
     match &keys[..] {
-        "1" => print_once(&find(operations::one_key::<One>(), &name), side, items),
-        "2" => print_once(&find(operations::two_keys::<Two>(), &name), side, items),
-        _ => print_once(&find(operations::three_keys::<Three>(), &name), side, items),
+        "1" => once(operations::one(), words),
+        "2" => once(operations::two(), words),
+        _ => once(operations::three(), words),
     }
 }
 
 #[cfg(feature = "counts")]
 fn print_memory(wanted: &Wanted) {
     let sizes = wanted.sizes(&memory::SIZES);
+    let mut columns = Vec::new();
     if wanted.has_map(1) {
-        memory::print::<1, One>(operations::exported!(id_grow, 1), &sizes);
+        columns.extend(memory::columns(&operations::one(), &sizes));
     }
     if wanted.has_map(2) {
-        memory::print::<2, Two>(operations::exported!(bi_grow, 2), &sizes);
+        columns.extend(memory::columns(&operations::two(), &sizes));
     }
     if wanted.has_map(3) {
-        memory::print::<3, Three>(operations::exported!(tri_grow, 3), &sizes);
+        columns.extend(memory::columns(&operations::three(), &sizes));
     }
+    memory::print(&columns, &sizes);
 }
 
 #[cfg(not(feature = "counts"))]
@@ -262,10 +313,6 @@ fn main() {
     }
     keep_memory();
     let wanted = wanted(words);
-    assert!(
-        OTHER == "std" || !wanted.others && !wanted.chosen && wanted.picture.is_none(),
-        "--others, --chosen and --svg are options of bench/run alone"
-    );
     for key in 0..100 {
         assert_eq!(
             hasher::hash(key),
@@ -288,20 +335,5 @@ fn main() {
         return;
     }
     println!("{}\n", report::circumstances(wanted.plan));
-    let (one, two, three): (Operations<1>, Operations<2>, Operations<3>) = if wanted.others {
-        (Vec::new, others::operations, Vec::new)
-    } else {
-        (
-            operations::one_key::<One>,
-            operations::two_keys::<Two>,
-            operations::three_keys::<Three>,
-        )
-    };
-    if wanted.table && !wanted.growth {
-        wanted.print_table(one, two, three);
-        return;
-    }
-    wanted.print(one);
-    wanted.print(two);
-    wanted.print(three);
+    wanted.print();
 }

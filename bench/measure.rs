@@ -12,154 +12,113 @@ pub struct Plan {
     pub rounds: usize,
     /// The number of turns in a round, of which the least time counts, for up to 10,000 items.
     pub turns: usize,
-    /// Whether the maps of the other side are timed too.
-    pub compares: bool,
-    /// What the other side is called.
-    pub other: &'static str,
 }
 
 impl Plan {
     fn turns(&self, items: usize) -> usize {
         let part = match items {
             0..=10_000 => 1,
-            10_001..=110_000 => 2,
+            10_001..=30_000 => 2,
+            30_001..=110_000 => 4,
             _ => 20,
         };
         (self.turns / part).max(1)
     }
 }
 
-/// Nanoseconds an operation, one figure for each round.
-#[derive(Default)]
-pub struct Figures {
-    by_hand: Vec<f64>,
-    here: Vec<f64>,
-}
-
-/// Returns the median.
-fn median(figures: &[f64]) -> f64 {
-    let mut sorted = figures.to_vec();
-    sorted.sort_by(f64::total_cmp);
-    let middle = sorted.len() / 2;
-    if sorted.is_empty() {
-        f64::NAN
-    } else if sorted.len() % 2 == 1 {
-        sorted[middle]
-    } else {
-        (sorted[middle - 1] + sorted[middle]) / 2.0
-    }
-}
-
-/// The median, the lowest and the highest ratio of the rounds.
-pub struct Ratio {
+/// The median, the lowest and the highest of the rounds.
+pub struct Spread {
     pub median: f64,
     pub lowest: f64,
     pub highest: f64,
 }
 
+/// Returns `None` if there are no figures.
+fn spread(mut figures: Vec<f64>) -> Option<Spread> {
+    figures.sort_by(f64::total_cmp);
+    let (lowest, highest) = (*figures.first()?, *figures.last()?);
+    let middle = figures.len() / 2;
+    let below = (figures.len() - 1) / 2;
+    Some(Spread {
+        median: (figures[below] + figures[middle]) / 2.0,
+        lowest,
+        highest,
+    })
+}
+
+/// Nanoseconds an operation, one figure for each round: first here, and then of each other side that has the operation.
+pub struct Figures(Vec<Option<Vec<f64>>>);
+
 impl Figures {
-    pub fn by_hand(&self) -> f64 {
-        median(&self.by_hand)
+    fn new<const N: usize>(operation: &Operation<N>) -> Figures {
+        let others = operation.others.iter();
+        let others = others.map(|(_, run)| run.map(|_| Vec::new()));
+        Figures([Some(Vec::new())].into_iter().chain(others).collect())
     }
 
-    pub fn here(&self) -> f64 {
-        median(&self.here)
+    fn of(&self, side: usize) -> &[f64] {
+        self.0[side].as_deref().unwrap_or(&[])
     }
 
-    /// Returns `None` if noise was larger than the figures of each round.
-    pub fn ratio(&self) -> Option<Ratio> {
-        let rounds = self.by_hand.iter().zip(&self.here);
-        let sound = rounds.filter(|(by_hand, here)| **by_hand > 0.0 && **here > 0.0);
-        let ratios: Vec<f64> = sound.map(|(by_hand, here)| here / by_hand).collect();
-        if ratios.is_empty() {
-            return None;
-        }
-        Some(Ratio {
-            median: median(&ratios),
-            lowest: ratios.iter().copied().fold(f64::MAX, f64::min),
-            highest: ratios.iter().copied().fold(0.0, f64::max),
-        })
-    }
-}
-
-/// The least times of one side's loop: of what prepares it, and of the whole loop.
-struct Least([f64; 2]);
-
-impl Least {
-    fn time(&mut self, whole: bool, run: impl FnOnce(bool) -> u64) -> u64 {
-        let start = Instant::now();
-        let sum = run(whole);
-        self.note(whole, start.elapsed().as_nanos() as f64);
-        sum
+    /// Returns the median of a side, which is 0 for the maps here, or NaN if the side has none.
+    pub fn time(&self, side: usize) -> f64 {
+        spread(self.of(side).to_vec()).map_or(f64::NAN, |times| times.median)
     }
 
-    fn note(&mut self, whole: bool, took: f64) {
-        let least = &mut self.0[whole as usize];
-        *least = least.min(took);
+    /// Returns the ratios of the times here to those of another side, or `None` if noise was larger than the figures of
+    /// each round.
+    pub fn ratio(&self, side: usize) -> Option<Spread> {
+        let rounds = self.of(0).iter().zip(self.of(side));
+        let sound = rounds.filter(|(here, other)| **here > 0.0 && **other > 0.0);
+        spread(sound.map(|(here, other)| here / other).collect())
     }
 
-    fn an_operation(&self, operations: usize) -> f64 {
-        let [prepared, whole] = self.0;
-        (whole - prepared) / operations as f64
+    /// Returns whether a side has the operation.
+    pub fn has(&self, side: usize) -> bool {
+        self.0[side].is_some()
     }
 }
 
-/// A side of the comparison.
-#[derive(Clone, Copy)]
-pub enum Side {
-    Here,
-    Other,
+/// The name of the maps here, beside those of the other sides.
+const HERE: &str = "here";
+
+/// Runs the loop of a side, and returns the nanoseconds that it took, and its sum.
+fn time<const N: usize>(
+    operation: &Operation<N>,
+    load: &Workload<N>,
+    side: &str,
+    whole: bool,
+) -> (f64, u64) {
+    let mut others = operation.others.iter();
+    let start = Instant::now();
+    let sum = match others.find(|(name, _)| *name == side) {
+        Some((_, run)) => run.expect("the side has the operation")(load, whole),
+        None => load.run(operation.exported, whole),
+    };
+    (start.elapsed().as_nanos() as f64, sum)
 }
 
-impl Side {
-    fn run<const N: usize>(self, operation: &Operation<N>, load: &Workload<N>, whole: bool) -> u64 {
-        match self {
-            Side::Here => operation.here(load, whole),
-            Side::Other => (operation.by_hand)(load, whole),
-        }
-    }
-
-    fn word(self) -> &'static str {
-        match self {
-            Side::Here => "here",
-            Side::Other => "other",
-        }
-    }
-
-    pub fn from_word(word: &str) -> Side {
-        if word == "here" {
-            Side::Here
-        } else {
-            Side::Other
-        }
-    }
+/// Times the loop of a side, and prints what `time` returns.
+pub fn print_once<const N: usize>(operation: &Operation<N>, items: usize, side: &str, whole: bool) {
+    let (took, sum) = time(operation, &(operation.load)(items), side, whole);
+    println!("{took} {sum}");
 }
 
-/// Runs the whole loop of a side once, and prints the nanoseconds that it took and its sum.
-pub fn print_once<const N: usize>(operation: &Operation<N>, side: Side, items: usize) {
-    let load = (operation.load)(items);
-    let mut least = Least([0.0, f64::MAX]);
-    let sum = least.time(true, |whole| side.run(operation, &load, whole));
-    println!("{} {sum}", least.0[1]);
-}
-
-/// Runs the whole loop of a side once in a process of its own. Returns the nanoseconds that it took, and its sum.
-fn time_anew<const N: usize>(operation: &Operation<N>, side: Side, items: usize) -> (f64, u64) {
+/// Returns what `time` returns in a process of its own.
+fn time_anew<const N: usize>(
+    operation: &Operation<N>,
+    items: usize,
+    side: &str,
+    whole: bool,
+) -> (f64, u64) {
     let program = std::env::current_exe().expect("the program has a path");
-    let words = [
-        "--once",
-        side.word(),
-        &N.to_string(),
-        &items.to_string(),
-        operation.name,
-    ];
+    let (keys, items, whole) = (N.to_string(), items.to_string(), whole.to_string());
+    let words = ["--once", &keys, operation.name, &items, side, &whole];
     let said = Command::new(program).args(words).output();
     let said = String::from_utf8(said.expect("the program runs again").stdout);
     let said = said.expect("it prints text");
-    let (took, sum) = said
-        .trim()
-        .split_once(' ')
-        .expect("it prints a time and a sum");
+    let figures = said.trim().split_once(' ');
+    let (took, sum) = figures.expect("it prints a time and a sum");
     (
         took.parse().expect("a time"),
         sum.parse().expect("a number"),
@@ -177,34 +136,31 @@ fn round<const N: usize>(
     figures: &mut Figures,
 ) {
     let load = (operation.load)(items);
-    let (mut by_hand, mut here) = (Least([f64::MAX; 2]), Least([f64::MAX; 2]));
-    let once = |side: Side, whole: bool, least: &mut Least| {
-        if operation.kind != Kind::Anew {
-            return least.time(whole, |whole| side.run(operation, &load, whole));
-        }
-        let (took, sum) = if whole {
-            time_anew(operation, side, items)
-        } else {
-            (0.0, 0)
-        };
-        least.note(whole, took);
-        sum
-    };
+    let others = operation.others.iter();
+    let others = others.filter_map(|(name, run)| run.map(|_| *name));
+    let sides: Vec<&str> = [HERE].into_iter().chain(others).collect();
+    // The least times of each side: of what prepares the loop, and of the whole loop.
+    let mut least = vec![[f64::MAX; 2]; sides.len()];
     for turn in 0..plan.turns(items) {
         if turn % TURNS_IN_PLACE == 0 {
             take_fastest();
         }
         for whole in [true, false] {
-            let sum = once(Side::Here, whole, &mut here);
-            if plan.compares {
-                let other = once(Side::Other, whole, &mut by_hand);
-                assert_eq!(sum, other, "the two sides differ: {}", operation.name);
+            let mut sums = Vec::new();
+            for (side, least) in sides.iter().zip(&mut least) {
+                let (took, sum) = match operation.kind {
+                    Kind::Anew => time_anew(operation, items, side, whole),
+                    _ => time(operation, &load, side, whole),
+                };
+                least[usize::from(whole)] = took.min(least[usize::from(whole)]);
+                sums.push(sum);
             }
+            let equal = sums.iter().all(|sum| *sum == sums[0]);
+            assert!(equal, "the sides differ: {}: {sums:?}", operation.name);
         }
     }
-    figures.here.push(here.an_operation(load.operations));
-    if plan.compares {
-        figures.by_hand.push(by_hand.an_operation(load.operations));
+    for (figures, [prepared, whole]) in figures.0.iter_mut().flatten().zip(least) {
+        figures.push((whole - prepared) / load.operations as f64);
     }
 }
 
@@ -214,8 +170,8 @@ pub fn measure<const N: usize>(
     sizes: &[usize],
     plan: Plan,
 ) -> Vec<Vec<Figures>> {
-    let none = || sizes.iter().map(|_| Figures::default()).collect();
-    let mut figures: Vec<Vec<Figures>> = operations.iter().map(|_| none()).collect();
+    let none = |operation| sizes.iter().map(|_| Figures::new(operation)).collect();
+    let mut figures: Vec<Vec<Figures>> = operations.iter().map(none).collect();
     for made in 1..=plan.rounds {
         for (at, items) in sizes.iter().copied().enumerate() {
             eprintln!("{N} keys, {items} items: round {made} of {}", plan.rounds);

@@ -1,23 +1,18 @@
-//! Counts the bytes of the heap that a map holds after it grew, one item after the other, and the most that it had while it
-//! grew.
+//! Counts the bytes of the heap that a map holds after it grew, one item after the other, and the most that it had while
+//! it grew.
 //!
-//! The program has its own malloc here, which both sides call, and which passes each request on to glibc. A block
+//! The program has its own malloc here, which all sides call, and which passes each request on to glibc. A block
 //! counts with the bytes that glibc says it can use. A block that grows counts with its old and its new bytes for that
 //! moment, as if it moved, whether it does or not.
-use crate::OTHER;
-use crate::calls::Map;
-use crate::operations::Exported;
+use crate::operations::{Kind, Operation};
 use crate::report::{grouped, map_name, print_head, print_row};
-use crate::workload::{Row, rows};
+use crate::workload::MARK;
 use std::ffi::c_void;
 use std::ptr::null_mut;
 use std::sync::atomic::{AtomicUsize, Ordering::Relaxed};
 
 /// The numbers of items.
-pub const SIZES: [usize; 7] = [600, 890, 1_000, 3_500, 10_000, 20_000, 100_000];
-
-/// The loop of the library asks for so many bytes while its map has all items. The request fails.
-const MARK: usize = 1_000_003;
+pub const SIZES: [usize; 8] = [600, 890, 1_000, 3_500, 10_000, 20_000, 57_000, 100_000];
 
 static HELD: AtomicUsize = AtomicUsize::new(0);
 static PEAK: AtomicUsize = AtomicUsize::new(0);
@@ -73,65 +68,48 @@ unsafe extern "C" fn free(block: *mut c_void) {
     unsafe { __libc_free(block) }
 }
 
-/// The bytes that a map holds, and the most that it held while it grew.
-struct Bytes {
-    held: usize,
-    peak: usize,
-}
-
-/// Begins to count, and returns what is held now.
-fn begin() -> usize {
+/// Returns the bytes that a map holds at the mark of a loop that grows it, and the most that it held until then.
+fn bytes(grow: impl FnOnce() -> u64) -> [f64; 2] {
     let before = HELD.load(Relaxed);
     PEAK.store(before, Relaxed);
-    before
+    assert_eq!(grow(), 1, "an insert failed, or the mark did not");
+    [&MARKED, &PEAK].map(|bytes| (bytes.load(Relaxed) - before) as f64)
 }
 
-fn grown_here<const N: usize>(grow: Exported<N>, rows: &[Row<N>]) -> Bytes {
-    let before = begin();
-    let (at, len) = (rows.as_ptr(), rows.len());
-    let sum = unsafe { grow(at, len, at, 0, MARK, true) };
-    assert_eq!(sum, 1, "an insert failed, or the mark did not");
-    Bytes {
-        held: MARKED.load(Relaxed) - before,
-        peak: PEAK.load(Relaxed) - before,
-    }
+/// Returns two numbers divided by two others.
+fn divided(bytes: [f64; 2], by: [f64; 2], digits: usize) -> String {
+    let [held, peak] = [bytes[0] / by[0], bytes[1] / by[1]];
+    format!("{held:.digits$} ({peak:.digits$})")
 }
 
-fn grown_there<const N: usize, M: Map<N>>(rows: &[Row<N>]) -> Bytes {
-    let before = begin();
-    let mut map = M::with_capacity(0);
-    let inserted = rows.iter().filter(|row| map.insert(**row)).count();
-    let bytes = Bytes {
-        held: HELD.load(Relaxed) - before,
-        peak: PEAK.load(Relaxed) - before,
-    };
-    assert_eq!(inserted, rows.len(), "an insert failed");
-    bytes
-}
+/// A column of a table: its head, and its cells.
+pub type Column = (String, Vec<String>);
 
-/// Prints the bytes an item of both sides.
-pub fn print<const N: usize, M: Map<N>>(grow: Exported<N>, sizes: &[usize]) {
-    let other = format!("{OTHER}: held");
-    let heads = ["here: held", "peak", &other, "peak", "ratio: held", "peak"];
-    let heads = heads.map(str::to_string).to_vec();
-    print_head(format!("`{}`, bytes an item", map_name(N)), heads);
+/// Returns the columns of a map: its bytes an item, and their ratio to those of each other side.
+pub fn columns<const N: usize>(operations: &[Operation<N>], sizes: &[usize]) -> Vec<Column> {
+    let mut found = operations.iter().filter(|it| it.kind == Kind::Held);
+    let grow = found.next().expect("an operation that grows a map");
+    let others = grow.others.iter().map(|(name, _)| format!("to {name}"));
+    let heads = [format!("`{}`", map_name(N))].into_iter().chain(others);
+    let mut columns: Vec<Column> = heads.map(|head| (head, Vec::new())).collect();
     for items in sizes {
-        let rows = rows::<N>(0, *items);
-        let (here, there) = (grown_here(grow, &rows), grown_there::<N, M>(&rows));
-        let of_item = |bytes: usize| format!("{:.0}", bytes as f64 / *items as f64);
-        let ratio = |here: usize, there: usize| format!("{:.2}", here as f64 / there as f64);
-        print_row(
-            [
-                grouped(*items),
-                of_item(here.held),
-                of_item(here.peak),
-                of_item(there.held),
-                of_item(there.peak),
-                ratio(here.held, there.held),
-                ratio(here.peak, there.peak),
-            ]
-            .into_iter(),
-        );
+        let load = (grow.load)(*items);
+        let here = bytes(|| load.run(grow.exported, true));
+        columns[0].1.push(divided(here, [*items as f64; 2], 0));
+        for ((_, run), (_, cells)) in grow.others.iter().zip(&mut columns[1..]) {
+            let there = run.map(|run| bytes(|| run(&load, true)));
+            cells.push(there.map_or("-".to_string(), |there| divided(here, there, 2)));
+        }
+    }
+    columns
+}
+
+pub fn print(columns: &[Column], sizes: &[usize]) {
+    let heads = columns.iter().map(|(head, _)| head.clone()).collect();
+    print_head("bytes an item, held (at most)".to_string(), heads);
+    for (at, items) in sizes.iter().enumerate() {
+        let cells = columns.iter().map(|(_, cells)| cells[at].clone());
+        print_row([grouped(*items)].into_iter().chain(cells));
     }
     println!();
 }

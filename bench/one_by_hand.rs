@@ -16,6 +16,8 @@ fn pair(row: Row<1>) -> (u64, Row<1>) {
 }
 
 impl Map<1> for OneByHand {
+    const NAME: &'static str = "std";
+
     fn with_capacity(items: usize) -> OneByHand {
         OneByHand(HashMap::with_capacity_and_hasher(items, Builder::default()))
     }

@@ -2,8 +2,9 @@
 //! has the loops that `bench/loops` exports, and the other the same loops over std hash maps kept by hand.
 use crate::calls::sum_of;
 use crate::hasher::FoldHasher;
-use crate::operations::{Exported, Kind, Operation, exported};
-use crate::workload::{self, Row, Workload};
+use crate::loops::{asked, each_map};
+use crate::operations::{Kind, Operation, exported};
+use crate::workload::{Row, Workload, asked_again, fresh, reordered};
 use std::borrow::Borrow;
 use std::collections::HashMap;
 use std::collections::hash_map::{DefaultHasher, Entry};
@@ -15,6 +16,10 @@ trait Item {
 
     fn first(&self) -> &Self::First;
     fn second(&self) -> u64;
+    /// Returns what a look-up sums of the item that it finds.
+    fn told(&self) -> u64 {
+        self.second()
+    }
     fn from_row(row: &Row<2>) -> Self;
 }
 
@@ -61,6 +66,10 @@ impl Item for Large {
 
     fn second(&self) -> u64 {
         self.keys[1]
+    }
+
+    fn told(&self) -> u64 {
+        self.data[13]
     }
 
     fn from_row(row: &Row<2>) -> Large {
@@ -112,8 +121,8 @@ impl<T: Item, H: Hasher + Default> Keyed<T, H> {
         items.map(|item| u64::from(!self.insert(item))).sum()
     }
 
-    fn filled(rows: &[Row<2>]) -> Self {
-        let mut map = Keyed::with_capacity(rows.len());
+    fn filled(load: &Workload<2>, rows: &[Row<2>]) -> Self {
+        let mut map = Keyed::with_capacity(load.room);
         map.fill(rows.iter().map(T::from_row));
         map
     }
@@ -170,8 +179,8 @@ impl<T: Item, H: Hasher + Default> Keyed<T, H> {
 }
 
 fn insert<T: Item, H: Hasher + Default>(load: &Workload<2>, whole: bool) -> u64 {
-    sum_of(load.rows.chunks(load.number).map(|rows| {
-        let mut map = Keyed::<T, H>::with_capacity(load.number);
+    each_map(load, |rows, _| {
+        let mut map = Keyed::<T, H>::with_capacity(load.room);
         let items: Vec<T> = rows.iter().map(T::from_row).collect();
         let refused = if whole {
             map.fill(items.into_iter())
@@ -179,180 +188,69 @@ fn insert<T: Item, H: Hasher + Default>(load: &Workload<2>, whole: bool) -> u64 
             0
         };
         refused.wrapping_add(map.first.len() as u64)
-    }))
+    })
 }
 
-fn get<T: Item<First = u64>, H: Hasher + Default>(
-    load: &Workload<2>,
-    whole: bool,
-    told: fn(&T) -> u64,
-) -> u64 {
-    let map = Keyed::<T, H>::filled(&load.rows);
-    let asked = if whole { &load.asked[..] } else { &[] };
-    sum_of(
-        asked
-            .iter()
-            .map(|row| map.get(&row.keys[0]).map_or(0, told)),
-    )
+fn get<T: Item<First = u64>, H: Hasher + Default>(load: &Workload<2>, whole: bool) -> u64 {
+    let map = Keyed::<T, H>::filled(load, &load.rows);
+    let rows = asked(load, whole).iter();
+    sum_of(rows.map(|row| map.get(&row.keys[0]).map_or(0, T::told)))
 }
 
 fn remove<T: Item<First = u64>, H: Hasher + Default>(load: &Workload<2>, whole: bool) -> u64 {
-    let parts = load.rows.chunks(load.number);
-    sum_of(
-        parts
-            .zip(load.asked.chunks(load.number))
-            .map(|(rows, asked)| {
-                let mut map = Keyed::<T, H>::filled(rows);
-                let asked = if whole { asked } else { &[] };
-                sum_of(
-                    asked
-                        .iter()
-                        .map(|row| map.remove(&row.keys[0]).map_or(0, |gone| gone.second())),
-                )
-            }),
-    )
-}
-
-fn insert_texts(load: &Workload<2>, whole: bool) -> u64 {
-    insert::<Named, FoldHasher>(load, whole)
+    each_map(load, |rows, asked| {
+        let mut map = Keyed::<T, H>::filled(load, rows);
+        let rows = if whole { asked } else { &[] }.iter();
+        sum_of(rows.map(|row| map.remove(&row.keys[0]).map_or(0, |gone| gone.second())))
+    })
 }
 
 fn get_texts(load: &Workload<2>, whole: bool) -> u64 {
-    let map = Keyed::<Named, FoldHasher>::filled(&load.rows);
+    let map = Keyed::<Named, FoldHasher>::filled(load, &load.rows);
     let names: Vec<String> = load.asked.iter().map(name_of).collect();
-    let names = if whole { &names[..] } else { &[] };
-    sum_of(
-        names
-            .iter()
-            .map(|name| map.get(name.as_str()).map_or(0, |found| found.number)),
-    )
+    let names = if whole { &names[..] } else { &[] }.iter();
+    sum_of(names.map(|name| map.get(name.as_str()).map_or(0, Named::told)))
 }
 
 fn remove_texts(load: &Workload<2>, whole: bool) -> u64 {
-    let parts = load.rows.chunks(load.number);
-    sum_of(
-        parts
-            .zip(load.asked.chunks(load.number))
-            .map(|(rows, asked)| {
-                let mut map = Keyed::<Named, FoldHasher>::filled(rows);
-                let names: Vec<String> = asked.iter().map(name_of).collect();
-                let names = if whole { &names[..] } else { &[] };
-                sum_of(
-                    names
-                        .iter()
-                        .map(|name| map.remove(name.as_str()).map_or(0, |gone| gone.number)),
-                )
-            }),
-    )
-}
-
-fn insert_large(load: &Workload<2>, whole: bool) -> u64 {
-    insert::<Large, FoldHasher>(load, whole)
-}
-
-fn get_large(load: &Workload<2>, whole: bool) -> u64 {
-    get::<Large, FoldHasher>(load, whole, |found| found.data[13])
-}
-
-fn remove_large(load: &Workload<2>, whole: bool) -> u64 {
-    remove::<Large, FoldHasher>(load, whole)
-}
-
-fn overwrite_same_large(load: &Workload<2>, whole: bool) -> u64 {
-    let mut map = Keyed::<Large, FoldHasher>::filled(&load.rows);
-    let asked = if whole { &load.asked[..] } else { &[] };
-    sum_of(
-        asked
-            .iter()
-            .map(|row| u64::from(map.replace(Large::from_row(row)).is_some())),
-    )
-}
-
-fn insert_seeded(load: &Workload<2>, whole: bool) -> u64 {
-    insert::<Row<2>, DefaultHasher>(load, whole)
-}
-
-fn get_seeded(load: &Workload<2>, whole: bool) -> u64 {
-    get::<Row<2>, DefaultHasher>(load, whole, |found| found.keys[1])
-}
-
-fn remove_seeded(load: &Workload<2>, whole: bool) -> u64 {
-    remove::<Row<2>, DefaultHasher>(load, whole)
-}
-
-type Load = fn(usize) -> Workload<2>;
-type Loop = fn(&Workload<2>, bool) -> u64;
-
-/// All of them.
-pub fn operations() -> Vec<Operation<2>> {
-    let rows: [(&str, Load, Loop, Exported<2>); 10] = [
-        (
-            "text keys: insert with room",
-            workload::fresh,
-            insert_texts,
-            exported!(bi_insert_texts, 2),
-        ),
-        (
-            "text keys: look-up that hits",
-            workload::asked_again,
-            get_texts,
-            exported!(bi_get_texts, 2),
-        ),
-        (
-            "text keys: removal",
-            workload::reordered,
-            remove_texts,
-            exported!(bi_remove_texts, 2),
-        ),
-        (
-            "128 bytes: insert with room",
-            workload::fresh,
-            insert_large,
-            exported!(bi_insert_large, 2),
-        ),
-        (
-            "128 bytes: look-up that hits",
-            workload::asked_again,
-            get_large,
-            exported!(bi_get_large, 2),
-        ),
-        (
-            "128 bytes: removal",
-            workload::reordered,
-            remove_large,
-            exported!(bi_remove_large, 2),
-        ),
-        (
-            "128 bytes: overwrite, the same keys",
-            workload::asked_again,
-            overwrite_same_large,
-            exported!(bi_overwrite_same_large, 2),
-        ),
-        (
-            "random seed: insert with room",
-            workload::fresh,
-            insert_seeded,
-            exported!(bi_insert_seeded, 2),
-        ),
-        (
-            "random seed: look-up that hits",
-            workload::asked_again,
-            get_seeded,
-            exported!(bi_get_seeded, 2),
-        ),
-        (
-            "random seed: removal",
-            workload::reordered,
-            remove_seeded,
-            exported!(bi_remove_seeded, 2),
-        ),
-    ];
-    rows.map(|(name, load, by_hand, exported)| Operation {
-        name,
-        kind: Kind::Each,
-        load,
-        by_hand,
-        exported,
+    each_map(load, |rows, asked| {
+        let mut map = Keyed::<Named, FoldHasher>::filled(load, rows);
+        let names: Vec<String> = asked.iter().map(name_of).collect();
+        let names = if whole { &names[..] } else { &[] }.iter();
+        sum_of(names.map(|name| map.remove(name.as_str()).map_or(0, |gone| gone.number)))
     })
-    .into()
+}
+
+fn overwrite_same(load: &Workload<2>, whole: bool) -> u64 {
+    let mut map = Keyed::<Large, FoldHasher>::filled(load, &load.rows);
+    let rows = asked(load, whole).iter();
+    sum_of(rows.map(|row| u64::from(map.replace(Large::from_row(row)).is_some())))
+}
+
+macro_rules! operations {
+    ($($name:literal: $load:expr, $other:expr, $exported:ident;)*) => {
+        /// All of them.
+        pub fn operations() -> Vec<Operation<2>> {
+            vec![$(Operation {
+                name: $name,
+                kind: Kind::Each,
+                load: $load,
+                exported: exported!("bi", $exported, 2),
+                others: vec![("std", Some($other))],
+            }),*]
+        }
+    };
+}
+
+operations! {
+    "text keys: insert with room": |items| fresh(items).reserved(items), insert::<Named, FoldHasher>, insert_texts;
+    "text keys: look-up, hit": asked_again, get_texts, get_texts;
+    "text keys: removal": reordered, remove_texts, remove_texts;
+    "128 bytes: insert with room": |items| fresh(items).reserved(items), insert::<Large, FoldHasher>, insert_large;
+    "128 bytes: look-up, hit": asked_again, get::<Large, FoldHasher>, get_large;
+    "128 bytes: removal": reordered, remove::<Large, FoldHasher>, remove_large;
+    "128 bytes: overwrite, same keys": asked_again, overwrite_same, overwrite_same_large;
+    "random seed: insert with room": |items| fresh(items).reserved(items), insert::<Row<2>, DefaultHasher>, insert_seeded;
+    "random seed: look-up, hit": asked_again, get::<Row<2>, DefaultHasher>, get_seeded;
+    "random seed: removal": reordered, remove::<Row<2>, DefaultHasher>, remove_seeded;
 }

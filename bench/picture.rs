@@ -3,10 +3,9 @@
 use crate::measure::{Figures, Plan, measure};
 use crate::operations::{self, Operation};
 use crate::report::{grouped, map_name};
-use crate::{Three, Two};
 use std::fmt::Write;
 
-/// The numbers of items. The tables have the same load at each of them, 0.78.
+/// The numbers of items. The tables of std have the same load at each of them, 0.78.
 pub const SIZES: [usize; 8] = [100, 400, 1_600, 6_400, 25_600, 102_400, 409_600, 819_200];
 
 /// The operations of the panels, and the title of each panel.
@@ -73,8 +72,8 @@ fn panels<const N: usize>(all: Vec<Operation<N>>, sizes: &[usize], plan: Plan) -
     let panel = |(operation, figures): (&Operation<N>, &Vec<Figures>)| Panel {
         keys: N,
         title: shown(operation.name).map_or("", |(_, title)| title),
-        here: figures.iter().map(Figures::here).collect(),
-        by_hand: figures.iter().map(Figures::by_hand).collect(),
+        here: figures.iter().map(|figures| figures.time(0)).collect(),
+        by_hand: figures.iter().map(|figures| figures.time(1)).collect(),
     };
     picked.iter().zip(&figures).map(panel).collect()
 }
@@ -246,8 +245,8 @@ fn legend(out: &mut String) {
 
 /// Measures, and returns the picture as text.
 pub fn draw(sizes: &[usize], plan: Plan) -> String {
-    let mut all = panels(operations::two_keys::<Two>(), sizes, plan);
-    all.extend(panels(operations::three_keys::<Three>(), sizes, plan));
+    let mut all = panels(operations::two(), sizes, plan);
+    all.extend(panels(operations::three(), sizes, plan));
     let (least, most) = (sizes.iter().min(), sizes.iter().max());
     let scales = Scales {
         items: Span {

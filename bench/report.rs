@@ -27,17 +27,6 @@ fn nanoseconds(time: f64) -> String {
     }
 }
 
-fn ratio_of(figures: &Figures) -> [String; 2] {
-    figures
-        .ratio()
-        .map_or(["?".to_string(), String::new()], |r| {
-            [
-                format!("{:.2}", r.median),
-                format!("{:.2}..{:.2}", r.lowest, r.highest),
-            ]
-        })
-}
-
 /// Returns the name of the map with this many keys.
 pub fn map_name(keys: usize) -> &'static str {
     match keys {
@@ -52,27 +41,120 @@ fn keys(number: usize) -> String {
     format!("{number} key{}", if number == 1 { "" } else { "s" })
 }
 
-/// Prints both sides at each size, for a terminal.
-pub fn print_text<const N: usize>(operations: &[Operation<N>], sizes: &[usize], plan: Plan) {
-    let figures = measure(operations, sizes, plan);
-    for (at, items) in sizes.iter().enumerate() {
-        let title = format!("{}, {} items", map_name(N), grouped(*items));
-        println!(
-            "{title:<36}{:>9}{:>9}{:>8}  spread",
-            format!("{} ns", plan.other),
-            "here ns",
-            "ratio"
-        );
-        for (operation, figures) in operations.iter().zip(&figures) {
-            let figures = &figures[at];
-            let [by_hand, here] = [figures.by_hand(), figures.here()].map(nanoseconds);
-            let [ratio, spread] = ratio_of(figures);
-            println!(
-                "{:<36}{by_hand:>9}{here:>9}{ratio:>8}  {spread}",
-                operation.name
-            );
+/// The figures of one map, for each operation at each size.
+pub struct Map {
+    keys: usize,
+    /// The names of the other sides, from the side 1 on.
+    others: Vec<&'static str>,
+    rows: Vec<(&'static str, Vec<Figures>)>,
+}
+
+/// Measures a map. There is at least one operation, and all have the same other sides.
+pub fn measured<const N: usize>(operations: &[Operation<N>], sizes: &[usize], plan: Plan) -> Map {
+    let names = operations.iter().map(|operation| operation.name);
+    let others = operations[0].others.iter();
+    Map {
+        keys: N,
+        others: others.map(|(name, _)| *name).collect(),
+        rows: names.zip(measure(operations, sizes, plan)).collect(),
+    }
+}
+
+/// Returns the ratio for a table, with a mark if the rounds differ much.
+fn marked(figures: &Figures, side: usize) -> String {
+    if !figures.has(side) {
+        return "-".to_string();
+    }
+    figures.ratio(side).map_or("?".to_string(), |ratio| {
+        let differs = ratio.highest > 1.5 * ratio.lowest;
+        format!("{}{:.2}", if differs { "~" } else { "" }, ratio.median)
+    })
+}
+
+/// Returns the place of the size at which a table has the time too: 1,000 items, or else the size in the middle.
+fn place_of_time(sizes: &[usize]) -> usize {
+    let thousand = sizes.iter().position(|items| *items == 1_000);
+    thousand.unwrap_or(sizes.len() / 2)
+}
+
+impl Map {
+    /// Prints the times of all sides and their ratios at each size, for a terminal.
+    pub fn print_text(&self, sizes: &[usize]) {
+        for (at, items) in sizes.iter().enumerate() {
+            let title = format!("{}, {} items", map_name(self.keys), grouped(*items));
+            print!("{title:<36}{:>9}", "here ns");
+            for name in &self.others {
+                print!(
+                    "{:>9}{:>8}  {:<12}",
+                    format!("{name} ns"),
+                    "ratio",
+                    "spread"
+                );
+            }
+            println!();
+            for (name, figures) in &self.rows {
+                let figures = &figures[at];
+                print!("{name:<36}{:>9}", nanoseconds(figures.time(0)));
+                for side in 1..=self.others.len() {
+                    let (time, ratio) = (nanoseconds(figures.time(side)), marked(figures, side));
+                    let spread = figures.ratio(side).map_or(String::new(), |ratio| {
+                        format!("{:.2}..{:.2}", ratio.lowest, ratio.highest)
+                    });
+                    print!("{time:>9}{ratio:>8}  {spread:<12}");
+                }
+                println!();
+            }
+            println!();
+        }
+    }
+
+    /// Prints a row for each operation: its time here at one size, and for each of these sides its ratio at each size.
+    fn print(&self, sizes: &[usize], sides: &[usize]) {
+        const COLUMN: usize = 8;
+        let wide = self.rows.iter().map(|(name, _)| name.len()).max();
+        let wide = wide.unwrap_or_default().max(28);
+        let line = |first: &str, time: &str, cell: &dyn Fn(usize, usize) -> String| {
+            print!("{first:<wide$}{time:>7}");
+            for side in sides {
+                for at in 0..sizes.len() {
+                    print!("{:>COLUMN$}", cell(*side, at));
+                }
+            }
+            println!();
+        };
+        print!("{:<wide$}{:>7}", format!("{}:", keys(self.keys)), "");
+        for side in sides {
+            let head = format!("beside {}", self.others[side - 1]);
+            print!("{head:>width$}", width = COLUMN * sizes.len());
         }
         println!();
+        line("", "ns", &|_, at| grouped(sizes[at]));
+        for (name, figures) in &self.rows {
+            let time = nanoseconds(figures[place_of_time(sizes)].time(0));
+            line(name, &time, &|side, at| marked(&figures[at], side));
+        }
+    }
+
+    /// Prints the times here at each size, as a table for a page.
+    pub fn print_times(&self, sizes: &[usize]) {
+        let heads = sizes.iter().map(|items| grouped(*items)).collect();
+        print_head(format!("`{}`, ns an item", map_name(self.keys)), heads);
+        for (name, figures) in &self.rows {
+            let cells = figures.iter().map(|figures| nanoseconds(figures.time(0)));
+            print_row([name.to_string()].into_iter().chain(cells));
+        }
+        println!();
+    }
+
+    /// Returns the rows with a ratio above 1.2 at some size, each with the highest of these ratios and its size.
+    fn above(&self, sizes: &[usize], side: usize) -> String {
+        let named = self.rows.iter().filter_map(|(name, figures)| {
+            let ratios = figures.iter().zip(sizes);
+            let ratios = ratios.filter_map(|(it, items)| Some((it.ratio(side)?.median, items)));
+            let (highest, items) = ratios.max_by(|a, b| a.0.total_cmp(&b.0))?;
+            (highest > 1.2).then(|| format!("{name} ({highest:.2} at {})", grouped(*items)))
+        });
+        named.collect::<Vec<String>>().join("; ")
     }
 }
 
@@ -88,149 +170,36 @@ pub fn print_head(first: String, others: Vec<String>) {
     println!("|{}|", line.join("|"));
 }
 
-/// The figures of one map, for each operation at each size.
-pub struct Map {
-    keys: usize,
-    rows: Vec<(&'static str, Vec<Figures>)>,
-}
-
-pub fn measured<const N: usize>(operations: &[Operation<N>], sizes: &[usize], plan: Plan) -> Map {
-    let names = operations.iter().map(|operation| operation.name);
-    Map {
-        keys: N,
-        rows: names.zip(measure(operations, sizes, plan)).collect(),
-    }
-}
-
-/// Returns the ratio for a table, with a mark if the rounds differ much.
-fn marked(figures: &Figures) -> String {
-    figures.ratio().map_or("?".to_string(), |ratio| {
-        let differs = ratio.highest > 1.5 * ratio.lowest;
-        format!("{}{:.2}", if differs { "~" } else { "" }, ratio.median)
-    })
-}
-
-impl Map {
-    /// Returns the names of the rows that another map has, and this one has not.
-    fn lacks<'a>(&'a self, other: &'a Map) -> impl Iterator<Item = &'static str> + 'a {
-        let has = |name: &str| self.rows.iter().any(|(own, _)| *own == name);
-        let names = other.rows.iter().map(|(name, _)| *name);
-        names.filter(move |name| !has(name))
-    }
-
-    /// Returns the rows with a ratio above 1.2 at some size up to 20,000, each with the highest of these ratios.
-    fn above(&self, sizes: &[usize]) -> String {
-        let highest = |figures: &[Figures]| {
-            let small = sizes
-                .iter()
-                .zip(figures)
-                .filter(|(items, _)| **items <= 20_000);
-            let ratios = small.filter_map(|(_, figures)| figures.ratio());
-            ratios.map(|ratio| ratio.median).fold(0.0, f64::max)
-        };
-        let rows = self
-            .rows
-            .iter()
-            .map(|(name, figures)| (name, highest(figures)));
-        let named = rows.filter(|(_, ratio)| *ratio > 1.2);
-        let named: Vec<String> = named
-            .map(|(name, ratio)| format!("{name} ({ratio:.2})"))
-            .collect();
-        named.join("; ")
-    }
-
-    /// Prints a row for each operation: its ratio at each size, and its time here at one of them.
-    fn print(&self, sizes: &[usize]) {
-        let wide = self.rows.iter().map(|(name, _)| name.len()).max();
-        let wide = wide.unwrap_or_default().max(28);
-        println!("{:<wide$}{}", format!("{}:", keys(self.keys)), heads(sizes));
-        for (name, figures) in &self.rows {
-            let mut cells = "  ".to_string();
-            for (at, items) in sizes.iter().enumerate() {
-                let ratio = marked(&figures[at]);
-                cells += &format!("{ratio:>width$}", width = width(*items));
-                if at == place_of_time(sizes) {
-                    cells += &format!("{:>7}", nanoseconds(figures[at].here()));
-                }
-            }
-            println!("{name:<wide$}{cells}");
-        }
-    }
-}
-
-/// Returns the place of the size at which a table has the time too: 1,000 items, or else the size in the middle.
-fn place_of_time(sizes: &[usize]) -> usize {
-    let thousand = sizes.iter().position(|items| *items == 1_000);
-    thousand.unwrap_or(sizes.len() / 2)
-}
-
-/// Returns the width of a size's column.
-fn width(items: usize) -> usize {
-    (grouped(items).len() + 2).max(8)
-}
-
-/// Returns the head of a map's columns.
-fn heads(sizes: &[usize]) -> String {
-    let mut heads = "  ".to_string();
-    for (at, items) in sizes.iter().enumerate() {
-        heads += &format!("{:>width$}", grouped(*items), width = width(*items));
-        if at == place_of_time(sizes) {
-            heads += &format!("{:>7}", "ns");
-        }
-    }
-    heads
-}
-
-/// Prints the ratios of the maps, in the form of a page: a table for each map.
-pub fn print_table(maps: &[Map], sizes: &[usize], plan: Plan) {
+/// Prints the ratios of the maps in the form of a page: a table for each map and each other side, or, if these are
+/// to be together, one for each map with its first two.
+pub fn print_table(maps: &[Map], sizes: &[usize], together: bool) {
     let at = grouped(sizes[place_of_time(sizes)]);
-    println!(
-        "`ns`: here, at {at}. `~`: a round's ratio is over 1.5 times another's. `?`: lost in noise."
-    );
-    // At one key no map has a call for all keys.
-    for map in maps.iter().filter(|map| map.keys > 1) {
-        let mut lacks: Vec<&str> = Vec::new();
-        for name in maps.iter().flat_map(|other| map.lacks(other)) {
-            if !lacks.contains(&name) {
-                lacks.push(name);
-            }
-        }
-        if !lacks.is_empty() {
-            let (keys, lacks) = (map.keys, lacks.join("; "));
-            println!(
-                "With {keys} keys the other side ({}) has none: {lacks}.",
-                plan.other
-            );
-        }
-    }
-    println!("\n```");
+    println!("`ns`: here, at {at}. `~`: a round's ratio is over 1.5 times another's.");
+    println!("`?`: lost in noise. `-`: no such call.\n\n```");
     for (i, map) in maps.iter().enumerate() {
-        if i > 0 {
-            println!();
+        let sides: Vec<usize> = (1..=map.others.len()).collect();
+        let parts: Vec<&[usize]> = if together {
+            vec![&sides[..sides.len().min(2)]]
+        } else {
+            sides.chunks(1).collect()
+        };
+        for (j, part) in parts.into_iter().enumerate() {
+            if i + j > 0 {
+                println!();
+            }
+            map.print(sizes, part);
         }
-        map.print(sizes);
     }
     println!("```\n");
-    // Beside std the list would be half of the table.
-    for map in maps.iter().filter(|_| plan.other == "crate") {
-        println!(
-            "With {} these rows are above 1.2 at some size up to 20,000, here with their highest ratio:\n{}.\n",
-            keys(map.keys),
-            map.above(sizes)
-        );
+    for map in maps.iter().filter(|_| !together) {
+        if let Some(at) = map.others.iter().position(|name| *name == "crate") {
+            let (keys, above) = (keys(map.keys), map.above(sizes, at + 1));
+            println!(
+                "With {keys} these rows are above 1.2 of the crate's at some size, here with their highest ratio:"
+            );
+            println!("{above}.\n");
+        }
     }
-}
-
-/// Prints only the figures of this repository's maps at each size, as a table for a page.
-pub fn print_growth<const N: usize>(operations: &[Operation<N>], sizes: &[usize], plan: Plan) {
-    let figures = measure(operations, sizes, plan);
-    let heads = sizes.iter().map(|items| grouped(*items)).collect();
-    print_head(format!("`{}`, ns an item", map_name(N)), heads);
-    for (operation, figures) in operations.iter().zip(&figures) {
-        let cells = figures.iter().map(|figures| nanoseconds(figures.here()));
-        print_row([operation.name.to_string()].into_iter().chain(cells));
-    }
-    println!();
 }
 
 /// Returns the date, from the number of days since 1 January 1970.

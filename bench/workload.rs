@@ -16,8 +16,30 @@ pub struct Workload<const N: usize> {
     pub asked: Vec<Row<N>>,
     /// The number of items in a map, or how often something is repeated.
     pub number: usize,
+    /// How many items a map has spare capacity for before it is filled. With 0 it grows as it is filled.
+    pub room: usize,
     /// The number of operations that are timed in all.
     pub operations: usize,
+}
+
+impl<const N: usize> Workload<N> {
+    pub fn new(rows: Vec<Row<N>>, asked: Vec<Row<N>>, number: usize, operations: usize) -> Self {
+        Workload {
+            rows,
+            asked,
+            number,
+            room: 0,
+            operations,
+        }
+    }
+
+    /// Returns the same rows for maps with spare capacity for so many items.
+    pub fn reserved(self, items: usize) -> Self {
+        Workload {
+            room: items,
+            ..self
+        }
+    }
 }
 
 fn mix(x: u64) -> u64 {
@@ -62,23 +84,15 @@ pub fn asked_again<const N: usize>(items: usize) -> Workload<N> {
     let rows = rows(0, items);
     let orders = (0..orders(items)).flat_map(|round| shuffled(&rows, round));
     let asked: Vec<Row<N>> = orders.collect();
-    Workload {
-        operations: asked.len(),
-        rows,
-        asked,
-        number: 0,
-    }
+    let operations = asked.len();
+    Workload::new(rows, asked, 0, operations)
 }
 
 /// One map, and rows with keys that it does not have.
 pub fn missed<const N: usize>(items: usize) -> Workload<N> {
     let operations = items * orders(items);
-    Workload {
-        rows: rows(0, items),
-        asked: rows(items, items + operations),
-        number: 0,
-        operations,
-    }
+    let asked = rows(items, items + operations);
+    Workload::new(rows(0, items), asked, 0, operations)
 }
 
 /// One map, and rows of which it has the last key.
@@ -102,40 +116,25 @@ pub fn exchanged<const N: usize>(items: usize) -> Workload<N> {
         }
         there = new.to_vec();
     }
-    Workload {
-        rows: rows(0, items),
-        asked,
-        number: 0,
-        operations: new.len(),
-    }
+    Workload::new(rows(0, items), asked, 0, new.len())
 }
 
 /// One map, and an operation on all of its items that is repeated.
 pub fn repeated<const N: usize>(items: usize) -> Workload<N> {
     // An iteration is short in comparison with the inserts that prepare it, so it is repeated often.
-    let number = (8_000_000 / items).clamp(20, 80);
-    Workload {
-        rows: rows(0, items),
-        asked: Vec::new(),
-        number,
-        operations: items * number,
-    }
+    let number = (4_000_000 / items).clamp(20, 80);
+    Workload::new(rows(0, items), Vec::new(), number, items * number)
 }
 
 /// Several maps, with this many items each.
 pub fn fresh<const N: usize>(items: usize) -> Workload<N> {
     let operations = items * rounds(items);
-    Workload {
-        rows: rows(0, operations),
-        asked: Vec::new(),
-        number: items,
-        operations,
-    }
+    Workload::new(rows(0, operations), Vec::new(), items, operations)
 }
 
 /// Returns how many copies of a map with this many items a loop changes, as in `bench/loops`.
 pub fn copies(items: usize) -> usize {
-    (items / 10_000).clamp(1, 8)
+    (items / 10_000).clamp(1, 4)
 }
 
 /// Several maps, of which clones are changed.
@@ -194,4 +193,13 @@ pub fn spoiled<const N: usize>(items: usize) -> Workload<N> {
         rows[items - 1].keys[N - 1] = first;
     }
     load
+}
+
+/// A loop that grows a map asks for so many bytes while the map has all items. Where bytes are counted, the request
+/// fails.
+pub const MARK: usize = 1_000_003;
+
+/// One map.
+pub fn grown<const N: usize>(items: usize) -> Workload<N> {
+    Workload::new(rows(0, items), Vec::new(), MARK, items)
 }

@@ -1,5 +1,5 @@
 #!/usr/bin/env python3
-"""Makes the one-key text from the two-key text. `tests/narrow.py FILE` prints it, and tests/twins compares it with the one-key
+"""Makes the one-key text from the two-key text. `tests/narrow.py FILE` prints it, and tests/widths compares it with the one-key
 file.
 
 It is the inverse of tests/widen.py, and finds the same pieces: of a piece and its counterpart at the next rank it keeps the piece. A
@@ -76,6 +76,8 @@ PHRASED = [
     ("slots and tables", "slots and the table"), ("Slots and tables", "Slots and table"), ("the table of one rank", "the table"),
 ]
 COMMENT = re.compile(r"^ *(?://[/!]?|--) .*(?:\n *[\ue000-\ue003].*)*", re.M)
+# An import: what is before the name or the names that it imports, and what is behind.
+USE = re.compile(r"(?m)^(?P<head> *(?:ghost |pub )*use [\w.:]*\w)(?P<by>\.|::| as )(?:\{(?P<names>[^}]*)\}|(?P<name>\w+))(?P<end>;?\n)")
 
 
 class Pieces(widen.Pieces):
@@ -171,36 +173,35 @@ def without_definitions(text):
     return "\n".join(it for it in parts if not (found := name.search(re.sub(r"(?m)^ *--.*\n", "", it))) or not NOTHING.match(found[1]))
 
 
+def without_imports(text, goes):
+    """Returns a text without the imports of those names for which this returns true, given what is before the names and a name."""
+    def kept(found):
+        names = re.split(r",\s*", found["names"].strip(", \n")) if found["names"] else [found["name"]]
+        left = [it for it in names if not goes(found["head"], it.split()[-1])]
+        if left == names:
+            return found[0]
+        parts = left[0] if len(left) == 1 and found["by"] == "::" else "{" + ", ".join(left) + "}"
+        return f"{found['head']}{found['by']}{parts}{found['end']}" if left else ""
+
+    return USE.sub(kept, text)
+
+
 def imported(text):
     """Returns the text without the modules that are nothing, and without what is nothing where it imports it from its own crate."""
-    own = r"(?m)^((?:ghost |pub )*use (?!std|iddqd_store|Rattle\.(?!iddqd_bi))\w+\b([^{;\n]*))(?:\{([^}]*)\})?(;?\n)"
-
-    def kept(found):
-        names = re.split(r",\s*", found[3].strip(", \n")) if found[3] else []
-        left = [it for it in names if not NOTHING.match(it.split()[-1])]
-        if any(map(NOTHING.match, re.findall(r"[\w-]+", found[2]))) or names and not left:
-            return ""
-        return found[0] if left == names else found[1] + "{" + ", ".join(left) + "}" + found[4]
-
+    is_own = re.compile(r"(?:ghost |pub )*use (?!std|iddqd_store|Rattle\.(?!iddqd_bi))").match
     text = re.sub(r"(?m)^(?:pub )?(?:pub\(\w+\) )?(?:mod|use) (\w+)(?:::[^;]*)?;?\n", lambda it: "" if NOTHING.match(it[1]) else it[0], text)
-    return re.sub(own, kept, text)
+    return without_imports(text, lambda head, name: is_own(head) and any(map(NOTHING.match, [*re.findall(r"[\w-]+", head), name])))
 
 
 def used(text, before):
-    """Returns specifications, proofs or contracts without the imports of names that the text had before, and has no more."""
-    use = re.compile(r"(?m)^ *(?:ghost |pub )*use Rattle\.[^{;\n]*\{([^}\n]*)\};?\n")
-    rests = [use.sub("", it) for it in (text, before)]
+    """Returns a text without the imports of names that the text had before, and has no more. What code makes public is for other files."""
+    rests = [USE.sub("", it) for it in (text, before)]
 
-    def is_left(name):
+    def goes(head, name):
         has = [all(re.search(rf"(?<![\w-]){re.escape(part)}(?![\w-])", it) for part in name.split("◌") if part) for it in rests]
-        return has[0] or not has[1]
+        return has[1] and not has[0] and not (head.startswith("pub use") and "use Rattle" not in head)
 
-    def kept(found):
-        names = found[1].split(", ")
-        left = [it for it in names if is_left(it.split()[-1])]
-        return found[0] if left == names else found[0].replace("{" + found[1] + "}", "{" + ", ".join(left) + "}") if left else ""
-
-    return use.sub(kept, text)
+    return without_imports(text, goes)
 
 
 def renamed(text, rules=RENAMED):

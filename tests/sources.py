@@ -9,6 +9,7 @@ import itertools
 import os
 import re
 import shutil
+import subprocess
 import sys
 
 # The folder in which the script was begun.
@@ -76,6 +77,28 @@ def check_words(crate, folder, built):
 def files(crate="*", part="src/**/*.rt"):
     """Returns the source files of a crate, or other files of it, in order. The name of the crate may have `*`."""
     return sorted(glob.glob(f"crates/{crate}/{part}", recursive=True))
+
+
+def in_maps(places, maps=("id", "bi", "tri")):
+    """Returns these places, and in place of one with a `*` those of the maps."""
+    return {place.replace("*", of): it for place, it in places.items() for of in maps}
+
+
+def linked(folder, of, own=()):
+    """Makes a folder of links to what another one has, and of these programs with their texts in place of those of their names."""
+    for name, text in dict(own).items():
+        write(f"{folder}/{name}", text)
+        os.chmod(f"{folder}/{name}", 0o755)
+    os.makedirs(folder, exist_ok=True)
+    for name in set(os.listdir(of)) - set(os.listdir(folder)):
+        os.symlink(f"{of}/{name}", f"{folder}/{name}")
+
+
+def refusing(room):
+    """Builds tests/fail_alloc.c in a folder, and returns the words that load it into the program behind them."""
+    library, clang = f"{room}/fail_alloc.so", f"{kit()}/toolchain/bin/clang"
+    subprocess.run([clang, "-O1", "-shared", "-fPIC", "-nostdlib", "-fuse-ld=lld", "-o", library, "tests/fail_alloc.c"], check=True)
+    return ["env", f"LD_PRELOAD={library}"]
 
 
 def tests(text):

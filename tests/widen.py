@@ -1,5 +1,5 @@
 #!/usr/bin/env python3
-"""Makes the three-key text from the two-key text. `tests/widen.py FILE` prints it, and tests/twins compares it with the
+"""Makes the three-key text from the two-key text. `tests/widen.py FILE` prints it, and tests/widths compares it with the
 three-key file.
 
 It knows the name of no function. First it renames the words that say how many keys there are (RENAMED). Then it searches

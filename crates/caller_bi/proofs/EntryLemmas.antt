@@ -31,7 +31,8 @@ module _ {T : Type 0} where
   unique_of (x ∷ listed) None some = refl
   unique_of (x ∷ listed) (Some y) some = refl
 
-  whole_still : (tests : List (T → Bool)) (old new : List (Option T)) (found : List (Option ℕ)) → AreFound tests old found → AreFound tests new found → is_some (option_and_then (get new) (found_by_all found)) ≡ is_some (option_and_then (get old) (found_by_all found))
+  whole_still : (tests : List (T → Bool)) (old new : List (Option T)) (found : List (Option ℕ)) → AreFound tests old found → AreFound tests new found
+      → is_some (option_and_then (get new) (found_by_all found)) ≡ is_some (option_and_then (get old) (found_by_all found))
   whole_still tests old new [] was is = refl
   whole_still tests old new (None ∷ found) was is = refl
   whole_still [] old new (Some slot ∷ found) was is = absurd was
@@ -40,9 +41,11 @@ module _ {T : Type 0} where
       (λ _. is.0.live ∙ sym was.0.live) (λ _. refl)
 
   -- an entry still tells whether one item has all keys
-  pub still_unique : (tests : List (T → Bool)) (old new : List (Option T)) (found : List (Option ℕ)) → AreFound tests old found → AreFound tests new found → held_at old found ≢ [] → held_at new found ≢ [] → is_unique (entry_at new found) ≡ is_unique (entry_at old found)
+  pub still_unique : (tests : List (T → Bool)) (old new : List (Option T)) (found : List (Option ℕ)) → AreFound tests old found
+      → AreFound tests new found → held_at old found ≢ [] → held_at new found ≢ [] → is_unique (entry_at new found) ≡ is_unique (entry_at old found)
   still_unique tests old new found was is some_old some_new =
-      unique_of (held_at new found) (option_and_then (get new) (found_by_all found)) some_new ∙ whole_still tests old new found was is ∙ sym (unique_of (held_at old found) (option_and_then (get old) (found_by_all found)) some_old)
+      unique_of (held_at new found) (option_and_then (get new) (found_by_all found)) some_new ∙ whole_still tests old new found was is
+      ∙ sym (unique_of (held_at old found) (option_and_then (get old) (found_by_all found)) some_old)
 
   get-set_other : (slots : List (Option T)) (at k : ℕ) (o : Option T) → nat_eq at k ≡ false → get (slice_set slots at o) k ≡ get slots k
   get-set_other slots at k o apart = get_or-set_other slots at k o None (λ e. eqb-false at k apart (sym e))
@@ -67,7 +70,8 @@ module _ {T : Type 0} where
       rw (there, get-set_same slots slot x y there, others_at slots slot (Some y) ys none) refl
   first_written slots slot x y there ys (None ∷ found) none = first_written slots slot x y there ys found none
   first_written slots slot x y there ys (Some j ∷ found) none =
-      split (λ b. items_at (slice_set slots slot (Some y)) (fold with_found (cond b (slot ∷ ys) (slot ∷ ys ++ j ∷ [])) found) ≡ y ∷ drop 1 (items_at slots (fold with_found (cond b (slot ∷ ys) (slot ∷ ys ++ j ∷ [])) found))) (contains (slot ∷ ys) j)
+      split (λ b. items_at (slice_set slots slot (Some y)) (fold with_found (cond b (slot ∷ ys) (slot ∷ ys ++ j ∷ [])) found) ≡ y ∷ drop 1
+      (items_at slots (fold with_found (cond b (slot ∷ ys) (slot ∷ ys ++ j ∷ [])) found))) (contains (slot ∷ ys) j)
       (λ _. first_written slots slot x y there ys found none)
       (λ apart. first_written slots slot x y there (ys ++ j ∷ []) found (contains-push ys j slot none (nat_eq-flip j slot (neither (nat_eq j slot) (contains ys j) apart).0)))
 
@@ -82,4 +86,5 @@ module _ {T : Type 0} where
       by_slot (Some y) there is =
           let same : y ≡ x = cc (is, only) in
           let written : of_item f (get m.slots slot) ≡ Some (f x) = ap (of_item f) (there ∙ ap Some same) in
-          subst (λ o. items_at (slice_set m.slots slot o) (each_once (Some slot ∷ found)) ≡ f x ∷ drop 1 (held_at m.slots (Some slot ∷ found))) (sym written) (first_written m.slots slot x (f x) (there ∙ ap Some same) [] found refl)
+          subst (λ o. items_at (slice_set m.slots slot o) (each_once (Some slot ∷ found)) ≡ f x ∷ drop 1 (held_at m.slots (Some slot ∷ found)))
+          (sym written) (first_written m.slots slot x (f x) (there ∙ ap Some same) [] found refl)

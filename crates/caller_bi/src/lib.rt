@@ -1,8 +1,8 @@
 //! Callers of the map with two keys, proved from its public contracts alone.
 //!
 //! A script makes `laws` and `loading` of the three-key callers, in `caller_tri`, from the text here: change this one,
-//! and then run `tests/twins --write` with the changed files. The other callers here have no three-key text, since both
-//! maps are one text at two widths.
+//! and then run `tests/widths --write` with the changed files. The other callers here have no three-key text, since
+//! both maps are one text at two widths.
 #![tactic(auto)]
 
 mod asking;

@@ -1,6 +1,6 @@
 //! What a caller can prove of lookups after an insert or a removal.
 //!
-//! Made by tests/twins from crates/caller_bi/src/finding.rt: change that file.
+//! Made by tests/widths from crates/caller_bi/src/finding.rt: change that file.
 ghost use Rattle.std.specs.Prelude.{◌≡◌, true, false, length};
 ghost use Rattle.iddqd_id.specs.Map.{bag};
 

@@ -1,7 +1,7 @@
 //! Callers of the map with one key, proved from its public contracts alone: laws that hold for several calls together.
 //! The other callers are in `caller_bi` alone, since the maps are one text at three widths.
 //!
-//! A script makes these modules from the two-key text: change the latter, and then run `tests/twins --write` with the
+//! A script makes these modules from the two-key text: change the latter, and then run `tests/widths --write` with the
 //! changed files.
 #![tactic(auto)]
 

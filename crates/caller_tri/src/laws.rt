@@ -1,7 +1,7 @@
 //! Laws that hold for several calls of the map together, for every item type and builder. Each function tests its law,
 //! and its contract says that the law holds.
 //!
-//! Made by tests/twins from crates/caller_bi/src/laws.rt: change that file.
+//! Made by tests/widths from crates/caller_bi/src/laws.rt: change that file.
 mod comparing;
 mod finding;
 mod leaving;

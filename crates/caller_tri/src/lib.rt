@@ -2,7 +2,7 @@
 //! together, a table of sessions, and the insert of a batch, which the table calls. The other callers are in
 //! `caller_bi` alone, since both maps are one text at two widths.
 //!
-//! A script makes `laws` and `loading` from the two-key text: change the latter, and then run `tests/twins --write`
+//! A script makes `laws` and `loading` from the two-key text: change the latter, and then run `tests/widths --write`
 //! with the changed files.
 #![tactic(auto)]
 

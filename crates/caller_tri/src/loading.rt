@@ -1,6 +1,6 @@
 //! What a caller can prove of a map into which a batch of items is inserted as a whole, or not at all.
 //!
-//! Made by tests/twins from crates/caller_bi/src/loading.rt: change that file.
+//! Made by tests/widths from crates/caller_bi/src/loading.rt: change that file.
 ghost use Rattle.std.specs.Prelude.{◌++◌, IsPermutation, OnOk, OnErr, IfErr};
 ghost use Rattle.iddqd_tri.specs.Bag.{IsSound};
 ghost use Rattle.iddqd_tri.specs.Callers.{IsRejected};

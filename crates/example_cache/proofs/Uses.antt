@@ -1,5 +1,6 @@
 -- What is known of pages by their last use, and of those that a new page replaces.
-use Rattle.std.specs.Prelude.{ℕ, Bool, List, Option, Some, None, [], ◌∷◌, ◌++◌, ◌≡◌, ◌≢◌, ◌≤◌, ◌<◌, ◌+◌, ◌==◌, ◌||◌, not, true, false, length, filter, All, Contains, IfSome, IfNone, IsPermutation, nat_eq, nat_le, nat_lt}
+use Rattle.std.specs.Prelude.{ℕ, Bool, List, Option, Some, None, [], ◌∷◌, ◌++◌, ◌≡◌, ◌≢◌, ◌≤◌, ◌<◌, ◌+◌, ◌==◌, ◌||◌, not, true, false, length, filter, All, Contains, IfSome}
+use Rattle.std.specs.Prelude.{IfNone, IsPermutation, nat_eq, nat_le, nat_lt}
 use Rattle.std.specs.List.{list_all, list_any}
 use Rattle.std.specs.Option.{option_to_list}
 use Rattle.std.proofs.Common.{refl, sym, ap, subst, ◌∙◌, arith}
@@ -7,7 +8,8 @@ use Rattle.std.proofs.lemmas.Bool.Decides.{nat_tests}
 use Rattle.std.proofs.lemmas.Cmp.{nat_eq_equiv}
 use Rattle.std.proofs.lemmas.Grind.{common_steps}
 use Rattle.std.proofs.lemmas.List.Elements.{All-cons, All-head, All-nil, All-tail}
-use Rattle.std.proofs.lemmas.List.Sorted.{All-permutation, IsPermutation-cons, IsPermutation-filter_both, IsPermutation-middle, IsPermutation-sym, IsPermutation-trans, length_permutation, list_any-IsPermutation}
+use Rattle.std.proofs.lemmas.List.Sorted.{All-permutation, IsPermutation-cons, IsPermutation-filter_both, IsPermutation-middle, IsPermutation-sym, IsPermutation-trans}
+use Rattle.std.proofs.lemmas.List.Sorted.{length_permutation, list_any-IsPermutation}
 use Rattle.iddqd_store.specs.Bag.{IsSound, Ranks, clash, like, over, without}
 use Rattle.iddqd_store.specs.Rank.{agree}
 use Rattle.iddqd_store.proofs.BagLemmas.Sound.{named_is}
@@ -115,12 +117,16 @@ module _ {T : Type 0} (p q : T → Bool) where
 alone : (xs : List Page) (x : Page) → IsSound by xs → Contains xs x → filter (rivals x) xs ≡ x ∷ []
 alone xs x sound there =
     let law = λ (k l m : ℕ) (same : nat_eq k l ≡ true). nat_eq_equiv.congr k l m same in
-    let number = named_is by_number (λ (p : Page). x.number == p.number) (NamesOne-query nat_eq nat_eq (λ (p : Page). p.number) law x.number) xs x (distinct_at [] (by_frame ∷ by_use ∷ []) by_number xs sound) (nat_eq_equiv.refl x.number) there in
-    let frame = named_is by_frame (λ (p : Page). x.frame == p.frame) (NamesOne-query nat_eq nat_eq (λ (p : Page). p.frame) law x.frame) xs x (distinct_at (by_number ∷ []) (by_use ∷ []) by_frame xs sound) (nat_eq_equiv.refl x.frame) there in
+    let number = named_is by_number (λ (p : Page). x.number == p.number) (NamesOne-query nat_eq nat_eq (λ (p : Page). p.number) law x.number) xs x
+    (distinct_at [] (by_frame ∷ by_use ∷ []) by_number xs sound) (nat_eq_equiv.refl x.number) there in
+    let frame = named_is by_frame (λ (p : Page). x.frame == p.frame) (NamesOne-query nat_eq nat_eq (λ (p : Page). p.frame) law x.frame) xs x
+    (distinct_at (by_number ∷ []) (by_use ∷ []) by_frame xs sound) (nat_eq_equiv.refl x.frame) there in
     both (λ (p : Page). x.number == p.number) (λ (p : Page). x.frame == p.frame) xs x (nat_eq_equiv.refl x.number) (nat_eq_equiv.refl x.frame) number frame
 
 -- one page left, if any, and then one came in place of those with its number or its frame
-pub exchanged : (gone : Option Page) (old mid new : List Page) (x : Page) → IsPermutation old (option_to_list gone ++ mid) → IfSome gone (λ g. is_taken old x ≡ false) → IfNone gone (mid ≡ old) → IsPermutation new (x ∷ others mid x) → IsPermutation (option_to_list gone ++ new) (x ∷ others old x)
+pub exchanged : (gone : Option Page) (old mid new : List Page) (x : Page) → IsPermutation old (option_to_list gone ++ mid)
+    → IfSome gone (λ g. is_taken old x ≡ false) → IfNone gone (mid ≡ old) → IsPermutation new (x ∷ others mid x)
+    → IsPermutation (option_to_list gone ++ new) (x ∷ others old x)
 exchanged None old mid new x left free same came = subst (λ l. IsPermutation new (x ∷ others l x)) same came
 exchanged (Some g) old mid new x left free same came =
     let kept : is_taken (g ∷ mid) x ≡ false = sym (list_any-IsPermutation (rivals x) old (g ∷ mid) left) ∙ free in
@@ -131,7 +137,8 @@ exchanged (Some g) old mid new x left free same came =
     subst (λ l. IsPermutation (g ∷ new) (x ∷ l)) (sym (all-others old x free)) two
 
 -- a page that is put again replaces itself alone
-pub used_last : (gone : Option Page) (old new : List Page) (x y : Page) → IsSound by old → Contains old x → IfSome gone (λ g. is_taken old x ≡ false) → IsPermutation (option_to_list gone ++ new) (y ∷ others old x) → IsPermutation (x ∷ new) (y ∷ old)
+pub used_last : (gone : Option Page) (old new : List Page) (x y : Page) → IsSound by old → Contains old x → IfSome gone (λ g. is_taken old x ≡ false)
+    → IsPermutation (option_to_list gone ++ new) (y ∷ others old x) → IsPermutation (x ∷ new) (y ∷ old)
 used_last None old new x y sound there free came =
     let one = alone old x sound there in
     let rest : IsPermutation old (x ∷ others old x) = subst (λ l. IsPermutation old (l ++ others old x)) one (IsPermutation-filter_both (rivals x) (λ p. not (rivals x p)) (λ p. refl) old) in
@@ -183,7 +190,8 @@ pub came_in : (mid new : List Page) (x : Page) → Before x.used mid ≡ true �
 came_in mid new x all came = subst (λ l. IsPermutation new (x ∷ l)) (over-others mid x all) came
 
 -- nothing left an empty cache, so the one page that came is all
-pub alone_there : (gone : Option Page) (old new : List Page) (x : Page) (limit : ℕ) → 0 < limit → old ≡ [] → IfSome gone (λ g. length old ≡ limit) → IsPermutation (option_to_list gone ++ new) (x ∷ others old x) → IsPermutation new (x ∷ [])
+pub alone_there : (gone : Option Page) (old new : List Page) (x : Page) (limit : ℕ) → 0 < limit → old ≡ [] → IfSome gone (λ g. length old ≡ limit)
+    → IsPermutation (option_to_list gone ++ new) (x ∷ others old x) → IsPermutation new (x ∷ [])
 alone_there None old new x limit some none full came = rw none at came
 alone_there (Some g) old new x limit some none full came = absurd (omega (arith, full, ap (λ (l : List Page). length l) none))
 

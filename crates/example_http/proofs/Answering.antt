@@ -33,7 +33,9 @@ on_ok (Ok x) p = p
 on_ok (Err e) p = tt
 
 -- the session with the token is shown, or there is none
-pub shows : {S E : Type 0} (ranks : Ranks Session) (old : Map Session S) (head : Parts) (status token : ℕ) (r : Result Unit E) → token < 2 ^ 64 → uri_path head.uri ≡ path_of token → OnOk r (status ≡ 200 → Named token (bag old)) → OnOk r (status ≡ 404 → Unnamed token (bag old)) → OnOk r ((status ≢ 201) × (status ≢ 204)) → OnOk r (IsAnswer ranks old old head status)
+pub shows : {S E : Type 0} (ranks : Ranks Session) (old : Map Session S) (head : Parts) (status token : ℕ) (r : Result Unit E) → token < 2 ^ 64
+    → uri_path head.uri ≡ path_of token → OnOk r (status ≡ 200 → Named token (bag old)) → OnOk r (status ≡ 404 → Unnamed token (bag old))
+    → OnOk r ((status ≢ 201) × (status ≢ 204)) → OnOk r (IsAnswer ranks old old head status)
 shows ranks old head status token (Ok done) small path found missing plain = record {
   opened = λ e. absurd (plain.0 e);
   closed = λ e. absurd (plain.1 e);
@@ -45,7 +47,8 @@ shows ranks old head status token (Err error) small path found missing plain = t
 
 -- the session with the token is closed, or there is none
 pub closes : {S : Type 0} (ranks : Ranks Session) (old new : Map Session S) (head : Parts) (status token : ℕ) → head.method ≡ codes "DELETE" → token < 2 ^ 64 → uri_path head.uri ≡ path_of token →
-    (status ≡ 204 → (s : Session) × IsOnly (λ (t : Session). token == t.token) (bag old) (Some s) × IsPermutation (bag old) (s ∷ bag new)) → (status ≡ 404 → Unnamed token (bag old)) → (status ≢ 204 → new ≡ old) → (status ≢ 200) × (status ≢ 201) → IsAnswer ranks old new head status
+    (status ≡ 204 → (s : Session) × IsOnly (λ (t : Session). token == t.token) (bag old) (Some s) × IsPermutation (bag old) (s ∷ bag new))
+    → (status ≡ 404 → Unnamed token (bag old)) → (status ≢ 204 → new ≡ old) → (status ≢ 200) × (status ≢ 201) → IsAnswer ranks old new head status
 closes ranks old new head status token method small path closed missing kept plain = record {
   opened = λ e. absurd (plain.1 e);
   closed = λ e.

@@ -15,7 +15,8 @@ pub record IsAnswer {S : Type 0} (ranks : Ranks Session) (old new : Map Session 
   -- one session was opened, and took the place of those that conflict with it; no clause says that it is the one of the body
   pub opened : status ≡ 201 → (head.method ≡ codes "POST") × ((s : Session) × IsPermutation (bag new) (over ranks (bag old) s))
   -- the session whose path this is was closed, and no other
-  pub closed : status ≡ 204 → (head.method ≡ codes "DELETE") × ((s : Session) × (uri_path head.uri ≡ path_of s.token) × IsOnly (λ t. s.token == t.token) (bag old) (Some s) × IsPermutation (bag old) (s ∷ bag new))
+  pub closed : status ≡ 204 → (head.method ≡ codes "DELETE") × ((s : Session) × (uri_path head.uri ≡ path_of s.token)
+      × IsOnly (λ t. s.token == t.token) (bag old) (Some s) × IsPermutation (bag old) (s ∷ bag new))
   -- there is a session whose path this is, if it is that of a token; no clause says that it is the one that is shown
   pub found : status ≡ 200 → (token : ℕ) → token < 2 ^ 64 → uri_path head.uri ≡ path_of token → (s : Session) × IsOnly (λ t. token == t.token) (bag old) (Some s)
   pub missing : status ≡ 404 → (token : ℕ) → token < 2 ^ 64 → uri_path head.uri ≡ path_of token → IsOnly (λ t. token == t.token) (bag old) None

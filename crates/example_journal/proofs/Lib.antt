@@ -1,3 +1,2 @@
-mod Cut
 mod Lines
 mod Replay

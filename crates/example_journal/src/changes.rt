@@ -1,63 +1,45 @@
-//! Changes of the registry, and their lines in the journal.
-ghost use Rattle.std.specs.Prelude.{◌≡◌, ◌<◌, ◌^◌, ℕ, List, take, IfOk, IfSome, OnOk, IsPermutation, string_bytes};
+//! Devices, the changes of a registry of them, and the lines of these changes in a journal.
+ghost use Rattle.std.specs.Prelude.{◌≡◌, ◌<◌, ◌^◌, ◌++◌, ℕ, false, List, take, flat_map, IfOk, IfSome, OnOk, IsPermutation, string_bytes};
 ghost use Rattle.std.specs.List.{AllByRecursion};
 ghost use Rattle.iddqd_bi.specs.Map.{bag};
-ghost use Rattle.example_journal.specs.Text.{whole};
-ghost use Rattle.example_journal.specs.Changes.{InRange, Tells, after, line_of, lines_of, replay};
-ghost use Rattle.example_journal.specs.declared.device.Device.{Device};
+ghost use Rattle.example_journal.specs.Changes.{InRange, Tells, after, has_end, line_of, replay};
+ghost use Rattle.example_journal.specs.declared.changes.Device.{Device};
 ghost use Rattle.example_journal.specs.declared.changes.Change.{Change};
-ghost use Rattle.example_journal.specs.declared.changes.Change.TheVariants.{Plug, Unplug};
 
-use crate::device::Device;
-use iddqd_bi::BiHashMap;
+use crate::registry::Failure;
+use iddqd_bi::{BiHashItem, BiHashMap};
 use std::alloc::{AllocError, Global};
 
-/// A change of the registry.
+/// A device, known by its serial number and by the port that it is plugged into.
 #[derive(Clone, Copy)]
-pub enum Change {
-    /// The device was plugged in.
-    Plug(Device),
-    /// The device with this serial number was unplugged.
-    Unplug(u64),
+pub struct Device {
+    pub serial: u64,
+    pub port: u16,
 }
 
-/// Why the change of a line was not made.
-#[derive(Clone, Copy)]
-pub enum Fault {
-    /// It is not the line of a change, or its change cannot be made: this program wrote no such line here.
-    Damaged,
-    /// There is no memory.
-    Memory,
-}
+impl BiHashItem for Device {
+    type K1 = u64;
 
-impl From<AllocError> for Fault {
-    fn from(_error: AllocError) -> Fault {
-        Fault::Memory
+    type K2 = u16;
+
+    ghost key1 = { λ d. d.serial };
+
+    ghost key2 = { λ d. d.port };
+
+    fn key1(&self) -> &u64 {
+        &self.serial
+    }
+
+    fn key2(&self) -> &u16 {
+        &self.port
     }
 }
 
-/// Which line did not load, counted from 1, and why.
+/// A change of the registry: the device is plugged in, or else unplugged.
 #[derive(Clone, Copy)]
-pub struct Unloaded {
-    pub line: usize,
-    pub fault: Fault,
-}
-
-/// Returns the line of a device that is plugged in.
-fn plug_line(alloc: Global, serial: u64, port: u16) -> Result<String, AllocError>
-    ensures line { IfOk result (λ line.
-        string_bytes line ≡ line_of (Plug (record { serial = serial; port = port }))) }
-    ensures in_range { (serial < 2 ^ 64) × (port < 2 ^ 16) }
-{
-    format!(in alloc; "plug {serial} {port}\n")
-}
-
-/// Returns the line of a device that is unplugged.
-fn unplug_line(alloc: Global, serial: u64) -> Result<String, AllocError>
-    ensures line { IfOk result (λ line. string_bytes line ≡ line_of (Unplug serial)) }
-    ensures in_range { serial < 2 ^ 64 }
-{
-    format!(in alloc; "unplug {serial}\n")
+pub struct Change {
+    pub plugs: bool,
+    pub device: Device,
 }
 
 /// Returns the line of a change, with its end.
@@ -65,106 +47,83 @@ pub fn write_line(alloc: Global, change: Change) -> Result<String, AllocError>
     ensures line { IfOk result (λ line. string_bytes line ≡ line_of change) }
     ensures in_range { InRange change }
 {
-    match change {
-        Change::Plug(device) => plug_line(alloc, device.serial, device.port),
-        Change::Unplug(serial) => unplug_line(alloc, serial),
+    let Device { serial, port } = change.device;
+    if change.plugs {
+        format!(in alloc; "plug {serial} {port}\n")
+    } else {
+        format!(in alloc; "unplug {serial} {port}\n")
     }
 }
 
-/// Wherever a crash cuts the lines of changes, the whole lines that are left are those of the first changes, of none in part,
-/// and the devices that they tell of are those that these changes leave. That a crash leaves the first bytes, and no zeros
-/// among them, is taken for granted: see `Log`.
-pub fn cut_anywhere()
-    ensures { (changes : List Change) (at : ℕ) (devices : List Device) → AllByRecursion InRange changes
-        → Tells (whole (take at (lines_of changes))) devices
-        → (n : ℕ) × (whole (take at (lines_of changes)) ≡ lines_of (take n changes))
-        × IsPermutation devices (replay (take n changes)) }
-{}
-
-/// Returns the change whose words these are, if they are those of one.
-pub fn parse(words: &[&str]) -> Option<Change> {
-    Some(match words {
-        ["plug", serial, port] => Change::Plug(Device {
-            serial: serial.parse().ok()?,
-            port: port.parse().ok()?,
-        }),
-        ["unplug", serial] => Change::Unplug(serial.parse().ok()?),
-        _ => return None,
+/// Returns the change that a line may be that of: which other text the line has is not looked at.
+fn parse(line: &[u8]) -> Option<Change> {
+    let mut words = str::from_utf8(line).ok()?.split_whitespace();
+    let plugs = words.next()? == "plug";
+    let serial = words.next()?.parse().ok()?;
+    let port = words.next()?.parse().ok()?;
+    Some(Change {
+        plugs,
+        device: Device { serial, port },
     })
-}
-
-/// Returns the change whose words are on a line, if they are those of one.
-fn change_of(alloc: Global, line: &[u8]) -> Result<Option<Change>, AllocError> {
-    let Ok(line) = str::from_utf8(line) else {
-        return Ok(None);
-    };
-    let words: Vec<&str> = line.split_whitespace().collect(alloc)?;
-    Ok(parse(words.as_slice()))
 }
 
 /// Returns the change that a line says, or `None` if it is not letter by letter the line of a change.
 fn read_line(alloc: Global, line: &[u8]) -> Result<Option<Change>, AllocError>
     ensures { IfOk result (λ read. IfSome read (λ change. (line.now ≡ line_of change) × InRange change)) }
 {
-    let Some(change) = change_of(alloc, line)? else {
+    let Some(change) = parse(line) else {
         return Ok(None);
     };
-    if write_line(alloc, change)?.as_bytes() == line {
-        Ok(Some(change))
-    } else {
-        Ok(None)
-    }
+    let is_same = write_line(alloc, change)?.as_bytes() == line;
+    Ok(if is_same { Some(change) } else { None })
 }
 
-/// Makes the change of a line, if it can be made.
-fn make(devices: &mut BiHashMap<Device>, change: Change) -> Result<(), Fault>
+/// Makes a change, if it can be made.
+fn make(devices: &mut BiHashMap<Device>, change: Change, at: usize) -> Result<(), Failure>
     ensures { OnOk result (IsPermutation (bag devices.new) (after (bag devices.old) change)) }
 {
-    match change {
-        Change::Plug(device) => match devices.try_insert(device) {
+    let device = change.device;
+    if change.plugs {
+        match devices.try_insert(device) {
             Ok(()) => Ok(()),
-            Err(refused) if refused.taken1 || refused.taken2 => Err(Fault::Damaged),
-            Err(_) => Err(Fault::Memory),
-        },
-        Change::Unplug(serial) => match devices.remove1(&serial) {
-            Some(_) => Ok(()),
-            None => Err(Fault::Damaged),
-        },
-    }
-}
-
-/// Makes the change that a line says.
-fn load_line(alloc: Global, devices: &mut BiHashMap<Device>, line: &[u8]) -> Result<(), Fault>
-    ensures { OnOk result ((change : Change) × (line.now ≡ line_of change) × InRange change
-        × IsPermutation (bag devices.new) (after (bag devices.old) change)) }
-{
-    match read_line(alloc, line)? {
-        Some(change) => make(devices, change),
-        None => Err(Fault::Damaged),
-    }
-}
-
-/// Whether a journal may begin with these bytes of a torn line: its first change plugs a device in.
-pub fn may_begin(torn: &[u8]) -> bool {
-    torn.starts_with(b"plug ") || b"plug ".starts_with(torn)
-}
-
-/// Loads the devices that these lines leave, in the place of those that there are. After an error there may be any.
-pub fn load(alloc: Global, devices: &mut BiHashMap<Device>, lines: &[u8]) -> Result<(), Unloaded>
-    ensures { OnOk result (Tells lines.now (bag devices.new)) }
-{
-    devices.clear();
-    let mut number: usize = 0;
-    for line in lines.split_inclusive(|byte| *byte == b'\n') {
-        number = number.saturating_add(1);
-        if let Err(fault) = load_line(alloc, devices, line) {
-            return Err(Unloaded {
-                line: number,
-                fault,
-            });
+            Err(refused) if refused.taken1 || refused.taken2 => Err(Failure::Damaged(at)),
+            Err(_) => Err(AllocError.into()),
+        }
+    } else {
+        match devices.remove1(&device.serial) {
+            Some(gone) if gone.port == device.port => Ok(()),
+            _ => Err(Failure::Damaged(at)),
         }
     }
-    Ok(())
+}
+
+/// Loads the devices that the lines of a journal leave, in the place of those that there are, and returns the torn line behind
+/// them, which has no end. After an error there may be any devices.
+pub fn load<'a>(
+    alloc: Global,
+    devices: &mut BiHashMap<Device>,
+    bytes: &'a [u8],
+) -> Result<&'a [u8], Failure>
+    ensures { IfOk result (λ torn. (lines : List ℕ) × (bytes.now ≡ lines ++ torn.now) × (has_end torn.now ≡ false)
+        × Tells lines (bag devices.new)) }
+{
+    devices.clear();
+    let mut rest = bytes;
+    while rest.contains(&b'\n') {
+        let at = bytes.len().saturating_sub(rest.len());
+        let end = rest.iter().position(|byte| *byte == b'\n').unwrap_or(0);
+        let (line, behind) = rest.split_at(end + 1);
+        let Some(change) = read_line(alloc, line)? else {
+            return Err(Failure::Damaged(at));
+        };
+        make(devices, change, at)?;
+        rest = behind;
+    }
+    // A text without a line is no journal, unless it may be a part of the first line, which plugs a device in.
+    if rest.len() == bytes.len() && !rest.starts_with(b"plug ") && !b"plug ".starts_with(rest) {
+        return Err(Failure::Damaged(0));
+    }
+    Ok(rest)
 }
 
 /// Returns the lines of changes that leave these devices: one for each.
@@ -173,7 +132,19 @@ pub fn write_all(alloc: Global, devices: &BiHashMap<Device>) -> Result<Vec<u8>, 
 {
     let mut lines = Vec::new(alloc);
     for device in devices {
-        lines.extend_from_slice(write_line(alloc, Change::Plug(*device))?.as_bytes())?;
+        let change = Change {
+            plugs: true,
+            device: *device,
+        };
+        lines.extend_from_slice(write_line(alloc, change)?.as_bytes())?;
     }
     Ok(lines)
 }
+
+/// Wherever a crash cuts the lines of changes, `open` loads what the first of these changes leave, and none in part. That a
+/// crash leaves the first bytes, and no zeros among them, is taken for granted: see `Log`.
+pub fn cut_anywhere()
+    ensures { (changes : List Change) (at : ℕ) (lines torn : List ℕ) (devices : List Device) → AllByRecursion InRange changes
+        → take at (flat_map line_of changes) ≡ lines ++ torn → Tells lines devices
+        → (n : ℕ) × (lines ≡ flat_map line_of (take n changes)) × IsPermutation devices (replay (take n changes)) }
+{}

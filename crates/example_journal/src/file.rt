@@ -12,7 +12,6 @@ use std::{fs, io};
 #[derive(Drop)]
 pub struct FileLog<'a> {
     rt: &'a HostRuntime,
-    alloc: Global,
     path: &'a str,
     file: File,
     // Whether a crash may bring back a file that was replaced, with none of the lines that came later.
@@ -37,13 +36,6 @@ fn sync_folder(rt: &HostRuntime, path: &str) -> io::Result<()> {
     File::open(rt, folder)?.sync_all()
 }
 
-/// Puts these bytes in the place of those of a file, and syncs it.
-fn fill(file: &mut File, bytes: &[u8]) -> io::Result<()> {
-    file.set_len(0)?;
-    file.write_all(bytes)?;
-    file.sync_all()
-}
-
 impl<'a> FileLog<'a> {
     /// Opens the log of this name, and makes it if there is none.
     pub fn open(rt: &'a HostRuntime, path: &'a str) -> io::Result<FileLog<'a>> {
@@ -52,7 +44,6 @@ impl<'a> FileLog<'a> {
         sync_folder(rt, path)?;
         Ok(FileLog {
             rt,
-            alloc: rt.alloc(),
             path,
             file,
             is_lost: false,
@@ -62,7 +53,9 @@ impl<'a> FileLog<'a> {
     /// Writes these bytes to a file of this name, and puts that in the place of the log's once they are on the disk.
     fn write_over(&self, path: &str, bytes: &[u8]) -> io::Result<File> {
         let mut file = open_file(self.rt, path)?;
-        fill(&mut file, bytes)?;
+        file.set_len(0)?;
+        file.write_all(bytes)?;
+        file.sync_all()?;
         fs::rename(self.rt, path, self.path)?;
         Ok(file)
     }
@@ -79,28 +72,21 @@ impl Log for FileLog<'_> {
         Ok(bytes)
     }
 
-    fn append(&mut self, bytes: &[u8]) -> io::Result<()> {
+    fn write(&mut self, at: usize, bytes: &[u8]) -> io::Result<()> {
         if self.is_lost {
             return Err(io::ErrorKind::Other.into());
+        }
+        // A shorter file would grow.
+        if self.file.metadata()?.len() > at as u64 {
+            self.file.set_len(at as u64)?;
         }
         self.file.write_all(bytes)?;
         self.file.sync_data()
     }
 
-    fn cut(&mut self, len: usize) -> io::Result<()> {
-        if self.is_lost {
-            return Err(io::ErrorKind::Other.into());
-        }
-        // A shorter file would grow.
-        if self.file.metadata()?.len() > len as u64 {
-            self.file.set_len(len as u64)?;
-        }
-        self.file.sync_data()
-    }
-
-    fn replace(&mut self, bytes: &[u8]) -> io::Result<()> {
-        let path = format!(in self.alloc; "{}.new", self.path)?;
-        match self.write_over(path.as_str(), bytes) {
+    fn replace(&mut self, bytes: Vec<u8>) -> io::Result<()> {
+        let path = format!(in self.rt.alloc(); "{}.new", self.path)?;
+        match self.write_over(path.as_str(), bytes.as_slice()) {
             Ok(file) => self.file = file,
             Err(error) => {
                 // A part of the new file would take room from the old one.

@@ -1,53 +1,55 @@
-//! A registry of devices whose changes are in a journal. While the journal is open, the registry has the devices that its
-//! lines leave.
-ghost use Rattle.std.specs.Prelude.{◌≡◌, ◌≢◌, ◌∷◌, ◌++◌, ◌==◌, [], true, false, Some, IsPermutation, IsErrOf, OnOk, OnErr, IfOk, IfSome, option_map};
+//! A registry of devices whose changes are in a journal: each is a line of a log, which is written and synced before it is made.
+ghost use Rattle.std.specs.Prelude.{◌≡◌, ◌≢◌, ◌∷◌, ◌++◌, ◌==◌, ◌+◌, ℕ, List, [], true, false, Some, length, IsPermutation, IsErrOf, OnOk, OnErr, IfOk, IfSome, option_map};
 ghost use Rattle.std.specs.List.{list_any};
 ghost use Rattle.std.specs.Option.{ForSome};
 ghost use Rattle.iddqd_bi.specs.Bag.{IsOnly, clash};
 ghost use Rattle.iddqd_bi.specs.Map.{bag};
-ghost use Rattle.example_journal.specs.Changes.{Tells, line_of};
-ghost use Rattle.example_journal.specs.Text.{whole};
-ghost use Rattle.example_journal.specs.declared.changes.Unloaded.{Unloaded};
-ghost use Rattle.example_journal.specs.declared.changes.Change.TheVariants.{Plug, Unplug};
+ghost use Rattle.example_journal.specs.Changes.{InRange, Tells, has_end, line_of};
+ghost use Rattle.example_journal.specs.declared.changes.Change.{Change};
 
-use crate::changes::{Change, Fault, Unloaded, load, may_begin, write_all};
-use crate::device::Device;
-use crate::journal::{Journal, Unwritten};
+use crate::changes::{Change, Device, load, write_all, write_line};
 use crate::log::Log;
-use crate::text::whole_lines;
 use iddqd_bi::{BiHashMap, Ranked};
-use std::alloc::Global;
+use std::alloc::{AllocError, Global};
 use std::io;
 
-/// Why a change was not made. The registry is as it was.
+/// Why a call failed.
 #[derive(Clone, Copy)]
-pub enum Refused {
+pub enum Failure {
     /// A device has the serial number or the port.
     Taken,
     /// No device has the serial number.
     NoDevice,
-    /// There is no memory for the device.
-    Memory,
-    /// Its line was not written.
-    Unwritten(Unwritten),
-}
-
-/// Why a journal was not opened. The registry has no devices then.
-#[derive(Clone, Copy)]
-pub enum Unopened {
-    /// The log could not be read, or its torn line not be cut off.
+    /// The journal is not open: nobody knows what the log has.
+    Closed,
+    /// The line that begins at this byte of the log is not one that the registry writes there.
+    Damaged(usize),
+    /// The log failed, or there is no memory. The log has the lines that it had.
     Log(io::Error),
-    /// One of its lines does not load. The log is as it was.
-    Line(Unloaded),
 }
 
-/// The devices and their journal.
+impl From<AllocError> for Failure {
+    fn from(error: AllocError) -> Failure {
+        Failure::Log(error.into())
+    }
+}
+
+impl From<io::Error> for Failure {
+    fn from(error: io::Error) -> Failure {
+        Failure::Log(error)
+    }
+}
+
+/// The devices and the log of their journal. While the journal is open, its lines leave these devices.
 #[derive(Drop)]
 pub struct Registry<L: Log + Drop> {
     devices: BiHashMap<Device>,
-    journal: Journal<L>,
+    log: L,
+    len: usize,
+    is_open: bool,
     alloc: Global,
-    ghost agrees: { journal.is_open ≡ true → ForSome (L.kept journal.log) (λ lines. ∥ Tells lines (bag devices) ∥₁) },
+    ghost measured: { is_open ≡ true → ForSome (L.kept log) (λ lines. length lines ≡ len) },
+    ghost agrees: { is_open ≡ true → ForSome (L.kept log) (λ lines. ∥ Tells lines (bag devices) ∥₁) },
 }
 
 impl<L: Log + Drop> Registry<L> {
@@ -55,113 +57,144 @@ impl<L: Log + Drop> Registry<L> {
     pub fn new(alloc: Global, log: L) -> Registry<L> {
         Registry {
             devices: BiHashMap::new(alloc),
-            journal: Journal::new(alloc, log),
+            log,
+            len: 0,
+            is_open: false,
             alloc,
         }
     }
 
-    /// Opens the journal, and loads the devices that its lines leave. A torn line behind them is cut off once they are loaded, so
-    /// a file that is no journal stays as it is. Returns how many bytes were cut off.
-    pub fn open(&mut self) -> Result<usize, Unopened>
-        ensures opened { OnOk result (self.new.journal.is_open ≡ true) }
-        ensures kept { OnOk result (L.kept self.new.journal.log ≡ option_map whole (L.kept self.old.journal.log)) }
-        ensures closed { OnErr result (self.new.journal.is_open ≡ false) }
+    /// Opens the journal, again if it is open: loads the devices that its lines leave, and cuts off a torn line behind them.
+    /// Returns how many bytes were cut off. After an error the journal is closed, and there are no devices.
+    pub fn open(&mut self) -> Result<usize, Failure>
+        ensures opened { OnOk result (self.new.is_open ≡ true) }
+        ensures kept { IfOk result (λ n. (torn : List ℕ) × (length torn ≡ n) × (has_end torn ≡ false)
+            × (L.kept self.old.log ≡ option_map (λ lines. lines ++ torn) (L.kept self.new.log))) }
+        ensures closed { OnErr result (self.new.is_open ≡ false) }
         ensures none { OnErr result (bag self.new.devices ≡ []) }
-        ensures untouched { (unloaded : Unloaded) → IsErrOf result (Unopened.Line unloaded)
-            → L.kept self.new.journal.log ≡ L.kept self.old.journal.log }
+        ensures untouched { (at : ℕ) → IsErrOf result (Failure.Damaged at) → L.kept self.new.log ≡ L.kept self.old.log }
     {
+        self.is_open = false;
         self.devices.clear();
-        self.journal.close();
-        let bytes = self.journal.read().map_err(Unopened::Log)?;
-        let (lines, torn) = bytes.as_slice().split_at(whole_lines(bytes.as_slice()));
-        if lines.is_empty() && !may_begin(torn) {
-            return Err(Unopened::Line(Unloaded {
-                line: 1,
-                fault: Fault::Damaged,
-            }));
+        let bytes = self.log.read(self.alloc)?;
+        let mut devices = BiHashMap::new(self.alloc);
+        let torn = load(self.alloc, &mut devices, bytes.as_slice())?.len();
+        let len = bytes.len() - torn;
+        if let Err(error) = self.log.write(len, b"") {
+            return Err(Failure::Log(error));
         }
-        if let Err(unloaded) = load(self.alloc, &mut self.devices, lines) {
-            self.devices.clear();
-            return Err(Unopened::Line(unloaded));
+        self.devices = devices;
+        self.len = len;
+        self.is_open = true;
+        Ok(torn)
+    }
+
+    /// Writes the line of a change, and closes the journal until the change is made. After an error the log has the lines that it
+    /// had, or the journal is closed.
+    fn write(&mut self, change: Change) -> Result<(), Failure>
+        ensures devices { self.new.devices ≡ self.old.devices }
+        ensures written { OnOk result (L.kept self.new.log ≡ option_map (λ lines. lines ++ line_of change) (L.kept self.old.log)) }
+        ensures measured { OnOk result (ForSome (L.kept self.new.log) (λ lines. length lines ≡ self.new.len)) }
+        ensures in_range { OnOk result (InRange change) }
+        ensures was_open { OnOk result (self.old.is_open ≡ true) }
+        ensures same_lines { OnErr result (self.new.is_open ≡ true → L.kept self.new.log ≡ L.kept self.old.log) }
+        ensures other { (IsErrOf result Failure.Taken → ⊥) × (IsErrOf result Failure.NoDevice → ⊥) }
+    {
+        if !self.is_open {
+            return Err(Failure::Closed);
         }
-        if let Err(error) = self.journal.open(lines, torn) {
-            self.devices.clear();
-            return Err(Unopened::Log(error));
+        let Ok(line) = write_line(self.alloc, change) else {
+            return Err(Failure::Log(AllocError.into()));
+        };
+        let Some(len) = self.len.checked_add(line.len()) else {
+            return Err(Failure::Log(AllocError.into()));
+        };
+        self.is_open = false;
+        if let Err(error) = self.log.write(self.len, line.as_bytes()) {
+            if self.log.write(self.len, b"").is_err() {
+                return Err(Failure::Closed);
+            }
+            self.is_open = true;
+            return Err(Failure::Log(error));
         }
-        Ok(torn.len())
+        self.len = len;
+        Ok(())
     }
 
     /// Plugs a device in, if its serial number and its port are free. What can fail comes before its line: whoever finds the
     /// line in the journal can plug the device in.
-    pub fn plug_in(&mut self, device: Device) -> Result<(), Refused>
+    pub fn plug_in(&mut self, device: Device) -> Result<(), Failure>
         ensures went_in { OnOk result (IsPermutation (bag self.new.devices) (device ∷ bag self.old.devices)) }
-        ensures written { OnOk result (L.kept self.new.journal.log
-            ≡ option_map (λ lines. lines ++ line_of (Plug device)) (L.kept self.old.journal.log)) }
+        ensures written { OnOk result (L.kept self.new.log
+            ≡ option_map (λ lines. lines ++ line_of (record { plugs = true; device = device })) (L.kept self.old.log)) }
         ensures unchanged { OnErr result (bag self.new.devices ≡ bag self.old.devices) }
-        ensures same_lines { OnErr result (self.new.journal.is_open ≡ true
-            → L.kept self.new.journal.log ≡ L.kept self.old.journal.log) }
-        ensures taken { IsErrOf result Refused.Taken
+        ensures same_lines { OnErr result (self.new.is_open ≡ true → L.kept self.new.log ≡ L.kept self.old.log) }
+        ensures taken { IsErrOf result Failure.Taken
             → clash ⟦<Device as Ranked>⟧.ranks (bag self.old.devices) device ≢ [] }
     {
         if !self.devices.conflicts_with(&device).is_empty() {
-            return Err(Refused::Taken);
+            return Err(Failure::Taken);
         }
         if self.devices.reserve(1).is_err() {
-            return Err(Refused::Memory);
+            return Err(Failure::Log(AllocError.into()));
         }
-        if let Err(unwritten) = self.journal.add(Change::Plug(device)) {
-            return Err(Refused::Unwritten(unwritten));
-        }
+        self.write(Change {
+            plugs: true,
+            device,
+        })?;
         match self.devices.try_insert(device) {
-            Ok(()) => Ok(()),
+            Ok(()) => {
+                self.is_open = true;
+                Ok(())
+            }
             Err(_) => unreachable!(),
         }
     }
 
     /// Unplugs the device with this serial number, and returns it.
-    pub fn unplug(&mut self, serial: u64) -> Result<Device, Refused>
+    pub fn unplug(&mut self, serial: u64) -> Result<Device, Failure>
         ensures it { IfOk result (λ d. IsOnly (λ d. serial == d.serial) (bag self.old.devices) (Some d)) }
         ensures gone { IfOk result (λ d. IsPermutation (bag self.old.devices) (d ∷ bag self.new.devices)) }
-        ensures written { OnOk result (L.kept self.new.journal.log
-            ≡ option_map (λ lines. lines ++ line_of (Unplug serial)) (L.kept self.old.journal.log)) }
+        ensures written { IfOk result (λ d. L.kept self.new.log
+            ≡ option_map (λ lines. lines ++ line_of (record { plugs = false; device = d })) (L.kept self.old.log)) }
         ensures unchanged { OnErr result (bag self.new.devices ≡ bag self.old.devices) }
-        ensures same_lines { OnErr result (self.new.journal.is_open ≡ true
-            → L.kept self.new.journal.log ≡ L.kept self.old.journal.log) }
-        ensures no_device { IsErrOf result Refused.NoDevice
+        ensures same_lines { OnErr result (self.new.is_open ≡ true → L.kept self.new.log ≡ L.kept self.old.log) }
+        ensures no_device { IsErrOf result Failure.NoDevice
             → list_any (λ d. serial == d.serial) (bag self.old.devices) ≡ false }
     {
-        if !self.devices.contains_key1(&serial) {
-            return Err(Refused::NoDevice);
-        }
-        if let Err(unwritten) = self.journal.add(Change::Unplug(serial)) {
-            return Err(Refused::Unwritten(unwritten));
-        }
-        match self.devices.remove1(&serial) {
-            Some(device) => Ok(device),
-            None => unreachable!(),
-        }
+        let Some(device) = self.devices.get1(&serial).copied() else {
+            return Err(Failure::NoDevice);
+        };
+        self.write(Change {
+            plugs: false,
+            device,
+        })?;
+        self.devices.remove1(&serial);
+        self.is_open = true;
+        Ok(device)
     }
 
     /// Puts one line for each device in the place of all lines.
-    pub fn compact(&mut self) -> Result<(), Refused>
+    pub fn compact(&mut self) -> Result<(), Failure>
         ensures same_devices { self.new.devices ≡ self.old.devices }
-        ensures same_lines { OnErr result (L.kept self.new.journal.log ≡ L.kept self.old.journal.log) }
+        ensures same_lines { OnErr result (L.kept self.new.log ≡ L.kept self.old.log) }
     {
-        match write_all(self.alloc, &self.devices) {
-            Ok(lines) => match self.journal.replace(lines.as_slice()) {
-                Ok(()) => Ok(()),
-                Err(unwritten) => Err(Refused::Unwritten(unwritten)),
-            },
-            Err(_) => Err(Refused::Memory),
+        if !self.is_open {
+            return Err(Failure::Closed);
         }
+        let lines = write_all(self.alloc, &self.devices)?;
+        let len = lines.len();
+        self.log.replace(lines)?;
+        self.len = len;
+        Ok(())
     }
 
-    /// Reads the bytes of the journal.
+    /// Reads the bytes of the log.
     pub fn read(&mut self) -> io::Result<Vec<u8>>
-        ensures bytes { IfOk result (λ bytes. IfSome (L.kept self.old.journal.log) (λ here. bytes.items ≡ here)) }
+        ensures bytes { IfOk result (λ bytes. IfSome (L.kept self.old.log) (λ here. bytes.items ≡ here)) }
         ensures same_devices { self.new.devices ≡ self.old.devices }
     {
-        self.journal.read()
+        self.log.read(self.alloc)
     }
 
     /// The devices.
@@ -171,8 +204,9 @@ impl<L: Log + Drop> Registry<L> {
         &self.devices
     }
 
-    /// Closes the journal, cuts it to its first `len` bytes, and adds these, as a crash or another program may.
-    pub fn crash(&mut self, len: usize, bytes: &[u8]) -> io::Result<()> {
-        self.journal.crash(len, bytes)
+    /// Closes the journal, and puts these bytes behind the first `at` of its log, as a crash or another program may.
+    pub fn crash(&mut self, at: usize, bytes: &[u8]) -> io::Result<()> {
+        self.is_open = false;
+        self.log.write(at, bytes)
     }
 }

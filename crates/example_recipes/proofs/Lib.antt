@@ -1,3 +1,5 @@
 mod OrderLemmas
+mod Paying
+mod Swapping
 mod Transfers
 mod Undone

@@ -42,7 +42,8 @@ module _ {T : Type 0} where
       only_member x y (subst (λ l. Contains l x) (sym before) (Contains-filter test old x member.1 there))
 
   -- `b` left, `moved` took the place of `a`, and `back` came
-  traded : (old mid between new : List T) (a b moved back : T) → IsPermutation old (b ∷ mid) → IsPermutation (a ∷ between) (moved ∷ mid) → IsPermutation new (back ∷ between) → IsPermutation (a ∷ b ∷ new) (moved ∷ back ∷ old)
+  traded : (old mid between new : List T) (a b moved back : T) → IsPermutation old (b ∷ mid) → IsPermutation (a ∷ between) (moved ∷ mid)
+      → IsPermutation new (back ∷ between) → IsPermutation (a ∷ b ∷ new) (moved ∷ back ∷ old)
   traded old mid between new a b moved back left put came =
       let one = IsPermutation-cons a _ _ (IsPermutation-cons b _ _ came) in
       let two = IsPermutation-sym _ _ (IsPermutation-middle (b ∷ back ∷ []) a between) in
@@ -53,7 +54,8 @@ module _ {T : Type 0} where
       IsPermutation-trans _ _ _ one (IsPermutation-trans _ _ _ two (IsPermutation-trans _ _ _ three (IsPermutation-trans _ _ _ four (IsPermutation-trans _ _ _ five six))))
 
   -- the same where `moved` took the place of the item that the test finds once `b` left, which it found before
-  pub traded_by : {S E : Type 0} (test : T → Bool) (old new : List T) (mid between : Map T S) (a b moved back : T) (r : Result T E) → is_err r ≡ false → IfOk r (λ x. x ∷ [] ≡ filter test (bag mid)) → IfOk r (λ x. PutsInPlace mid x moved between) →
+  pub traded_by : {S E : Type 0} (test : T → Bool) (old new : List T) (mid between : Map T S) (a b moved back : T) (r : Result T E) → is_err r ≡ false
+      → IfOk r (λ x. x ∷ [] ≡ filter test (bag mid)) → IfOk r (λ x. PutsInPlace mid x moved between) →
       a ∷ [] ≡ filter test old → IsPermutation old (b ∷ bag mid) → IsPermutation new (back ∷ bag between) → IsPermutation (a ∷ b ∷ new) (moved ∷ back ∷ old)
   traded_by test old new mid between a b moved back (Ok x) done found put before left came =
       let same : x ≡ a = found_before test old (bag mid) x a b left found before in
@@ -76,7 +78,9 @@ module _ {T : Type 0} where
   same_copy is_clone same bag other copy = rw (← all_same is_clone same bag copy.0 copy.2) copy.1
 
 -- what one order replaced, and then the others
-pub replaces_on : {S E : Type 0} (o : Order) (more : List Order) (old between : Map Order S) (new : List Order) (r : Result Order E) → is_err r ≡ false → IfOk r (λ x. x ∷ [] ≡ filter (λ (p : Order). o.number == p.number) (bag old)) → IfOk r (λ x. PutsInPlace old x o between) → ReplacesEach more (bag between) new → ReplacesEach (o ∷ more) (bag old) new
+pub replaces_on : {S E : Type 0} (o : Order) (more : List Order) (old between : Map Order S) (new : List Order) (r : Result Order E)
+    → is_err r ≡ false → IfOk r (λ x. x ∷ [] ≡ filter (λ (p : Order). o.number == p.number) (bag old)) → IfOk r (λ x. PutsInPlace old x o between)
+    → ReplacesEach more (bag between) new → ReplacesEach (o ∷ more) (bag old) new
 replaces_on o more old between new r done found put rest =
     let it = ok_both r done found put in
     let own = (passes-listed (λ (p : Order). o.number == p.number) (bag old) it.0 (subst (λ l. Contains l it.0) it.1 (Contains-here it.0 []))).1 in

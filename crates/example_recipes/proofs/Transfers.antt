@@ -21,7 +21,9 @@ some_there (y ∷ xs) x there = refl
 pub any_there : {T : Type 0} (test : T → Bool) (xs : List T) (x : T) → Contains xs x → test x ≡ true → list_any test xs ≡ true
 any_there test xs x there passes = any_listed test xs ∙ some_there (filter test xs) x (Contains-filter test xs x passes there)
 
-module _ {T : Type 0} (ranks : Ranks T) (laws : AreLawful ranks) (some : 0 < length ranks) (test : T → Bool) (old mid : List T) (a written b : T) (sound : IsSound ranks old) (there : Contains old a) (its : Contains old b) (fails : test a ≡ false) (fails_then : test written ≡ false) (passes : test b ≡ true) (first : IsPermutation mid (swap ranks old a written)) where
+module _ {T : Type 0} (ranks : Ranks T) (laws : AreLawful ranks) (some : 0 < length ranks) (test : T → Bool) (old mid : List T) (a written b : T)
+    (sound : IsSound ranks old) (there : Contains old a) (its : Contains old b) (fails : test a ≡ false) (fails_then : test written ≡ false)
+    (passes : test b ≡ true) (first : IsPermutation mid (swap ranks old a written)) where
   out : (rest : List T) × IsPermutation old (a ∷ rest)
   out = taken_out old a there
 
@@ -55,4 +57,5 @@ module _ {T : Type 0} (ranks : Ranks T) (laws : AreLawful ranks) (some : 0 < len
       let five = IsPermutation-cons last _ _ (IsPermutation-cons a _ _ after) in
       let six = IsPermutation-middle (last ∷ a ∷ []) written out.0 in
       let seven = IsPermutation-cons written _ _ (IsPermutation-cons last _ _ (IsPermutation-sym _ _ out.1)) in
-      IsPermutation-trans _ _ _ one (IsPermutation-trans _ _ _ two (IsPermutation-trans _ _ _ three (IsPermutation-trans _ _ _ four (IsPermutation-trans _ _ _ five (IsPermutation-trans _ _ _ six seven)))))
+      IsPermutation-trans _ _ _ one (IsPermutation-trans _ _ _ two
+      (IsPermutation-trans _ _ _ three (IsPermutation-trans _ _ _ four (IsPermutation-trans _ _ _ five (IsPermutation-trans _ _ _ six seven)))))

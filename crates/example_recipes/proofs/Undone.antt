@@ -31,7 +31,8 @@ module _ {T : Type 0} where
       nil_from_length _ (omega (arith, both, more, one))
 
   -- an item that came, and then the one that passes left: what there was is left
-  pub undone : (test : T → Bool) (old there new : List T) (x r : T) → AllByRecursion (λ y. test y ≡ false) old → test x ≡ true → IsPermutation there (x ∷ old) → r ∷ [] ≡ filter test there → IsPermutation there (r ∷ new) → IsPermutation new old
+  pub undone : (test : T → Bool) (old there new : List T) (x r : T) → AllByRecursion (λ y. test y ≡ false) old → test x ≡ true
+      → IsPermutation there (x ∷ old) → r ∷ [] ≡ filter test there → IsPermutation there (r ∷ new) → IsPermutation new old
   undone test old there new x r apart passes came only left =
       let others : T → Bool = λ y. not (test y) in
       let own : test r ≡ true = (passes-listed test there r (subst (λ l. Contains l r) only (Contains-here r []))).1 in
@@ -43,7 +44,9 @@ module _ {T : Type 0} where
       IsPermutation-trans _ _ _ (IsPermutation-sym _ _ two) one
 
   -- the same of what a removal returns
-  pub undone_by : {S : Type 0} (test : T → Bool) (old : List T) (there new : Map T S) (x : T) (r : Option T) → AllByRecursion (λ y. test y ≡ false) old → test x ≡ true → IsPermutation (bag there) (x ∷ old) → option_to_list r ≡ filter test (bag there) → Loses there (option_to_list r) new → IsPermutation (bag new) old
+  pub undone_by : {S : Type 0} (test : T → Bool) (old : List T) (there new : Map T S) (x : T) (r : Option T)
+      → AllByRecursion (λ y. test y ≡ false) old → test x ≡ true → IsPermutation (bag there) (x ∷ old) → option_to_list r ≡ filter test (bag there)
+      → Loses there (option_to_list r) new → IsPermutation (bag new) old
   undone_by test old there new x None apart passes came only left =
       let member = Contains-filter test (bag there) x passes (Contains-permutation (x ∷ old) (bag there) x (IsPermutation-sym _ _ came) (Contains-here x old)) in
       absurd (omega (arith, (subst (λ l. Contains l x) (sym only) member).1))
@@ -76,7 +79,8 @@ module _ {T : Type 0} (by1 by2 : T → T → Bool) (laws : AreLawful (by1 ∷ by
   by = by1 ∷ by2 ∷ []
 
   -- `moved` has the first key of `x` and the second of `b`, which left
-  pub free_for_moved : (old mid rest : List T) (b x moved : T) → IsSound by old → IsPermutation old (b ∷ mid) → IsPermutation mid (x ∷ rest) → by1 moved x ≡ true → by2 moved b ≡ true → clash by rest moved ≡ []
+  pub free_for_moved : (old mid rest : List T) (b x moved : T) → IsSound by old → IsPermutation old (b ∷ mid) → IsPermutation mid (x ∷ rest)
+      → by1 moved x ≡ true → by2 moved b ≡ true → clash by rest moved ≡ []
   free_for_moved old mid rest b x moved sound left put same1 same2 =
       let names = AreNames-like by moved laws in
       let sound_mid = IsDistinct-tail (conflicts by) b mid (IsSound-IsPermutation by laws old (b ∷ mid) left sound) in
@@ -87,7 +91,9 @@ module _ {T : Type 0} (by1 by2 : T → T → Bool) (laws : AreLawful (by1 ∷ by
       none_pass (conflicts by moved) rest (neither (by1 moved) (by2 moved) rest (none_passes (by1 moved) rest none1) (none_passes (by2 moved) rest none2))
 
   -- `back` has the first key of `b` and the second of `a`, in whose place `moved` is
-  pub free_for_back : (old mid between : List T) (a b moved back : T) → IsSound by old → IsPermutation old (b ∷ mid) → IsPermutation (a ∷ between) (moved ∷ mid) → Contains mid a → by1 back b ≡ true → by2 back a ≡ true → by1 back moved ≡ false → by2 moved b ≡ true → clash by between back ≡ []
+  pub free_for_back : (old mid between : List T) (a b moved back : T) → IsSound by old → IsPermutation old (b ∷ mid)
+      → IsPermutation (a ∷ between) (moved ∷ mid) → Contains mid a → by1 back b ≡ true → by2 back a ≡ true → by1 back moved ≡ false
+      → by2 moved b ≡ true → clash by between back ≡ []
   free_for_back old mid between a b moved back sound left put there same1 same2 apart same3 =
       let names = AreNames-like by back laws in
       let named = AreNames-like by b laws in
@@ -103,10 +109,13 @@ module _ {T : Type 0} (by1 by2 : T → T → Bool) (laws : AreLawful (by1 ∷ by
       let apart2 : by2 back moved ≡ false = not_both (by2 back moved) (λ yes. false≢true (sym apart_a ∙ is_near yes)) in
       let few : length (filter (by2 back) (moved ∷ mid)) ≤ 1 = rw apart2 (length-named by2 (by2 back) names.1.0 mid distinct_mid) in
       let none2 = only_one (by2 back) (moved ∷ mid) between a put' same2 few in
-      none_pass (conflicts by back) between (neither (by1 back) (by2 back) between (none_passes (by1 back) between (none_behind (by1 back) (moved ∷ mid) between a put' none1)) (none_passes (by2 back) between none2))
+      none_pass (conflicts by back) between (neither (by1 back) (by2 back) between
+      (none_passes (by1 back) between (none_behind (by1 back) (moved ∷ mid) between a put' none1)) (none_passes (by2 back) between none2))
 
   -- an item with the key of `moved` is replaced by it
-  pub moved_in : (test : T → Bool) (old mid : List T) (a b moved : T) (r : Result T (NotReplaced T)) → ((x : T) → test x ≡ true → by1 moved x ≡ true) → IsSound by old → IsPermutation old (b ∷ mid) → Contains mid a → test a ≡ true → by2 moved b ≡ true → IfErr r (λ e. TellsWhyNot by test mid moved e) → is_err r ≡ false
+  pub moved_in : (test : T → Bool) (old mid : List T) (a b moved : T) (r : Result T (NotReplaced T)) → ((x : T) → test x ≡ true → by1 moved x ≡ true)
+      → IsSound by old → IsPermutation old (b ∷ mid) → Contains mid a → test a ≡ true → by2 moved b ≡ true
+      → IfErr r (λ e. TellsWhyNot by test mid moved e) → is_err r ≡ false
   moved_in test old mid a b moved (Ok x) named sound left there passes same why = refl
   moved_in test old mid a b moved (Err (Absent e)) named sound left there passes same none =
       absurd (omega (arith, (subst (λ l. Contains l a) (sym none) (Contains-filter test mid a passes there)).1))

@@ -8,17 +8,18 @@ mod shared;
 
 use crate::accounts::{Account, transfer};
 use crate::books::{Book, enter};
-use crate::orders::{Order, add, cheapest, replace_all, swap_places};
-use crate::shared::{close, open};
+use crate::orders::{Order, cheapest, replace_all, swap_places};
+use crate::shared::open;
 use iddqd_bi::BiHashMap;
 use std::alloc::Global;
 use std::rc::Rc;
 
 /// Adds three orders.
 fn add_three(orders: &mut BiHashMap<Order>) -> anyhow::Result<()> {
-    add(orders, Order::new(1, 10, 300))?;
-    add(orders, Order::new(2, 20, 100))?;
-    add(orders, Order::new(3, 30, 200))
+    orders.try_insert(Order::new(1, 10, 300))?;
+    orders.try_insert(Order::new(2, 20, 100))?;
+    orders.try_insert(Order::new(3, 30, 200))?;
+    Ok(())
 }
 
 /// Returns the order with this number, or one with zeros.
@@ -27,13 +28,6 @@ fn order_of(orders: &BiHashMap<Order>, number: u64) -> Order {
         Some(order) => *order,
         None => Order::new(0, 0, 0),
     }
-}
-
-fn show_refused(rt: &impl Print, orders: &mut BiHashMap<Order>) -> anyhow::Result<()> {
-    if let Err(error) = add(orders, Order::new(4, 30, 50)) {
-        println!(rt; "not added: {error}")?;
-    }
-    Ok(())
 }
 
 fn show_cheapest(rt: &impl Print, alloc: Global, orders: &BiHashMap<Order>) -> anyhow::Result<()> {
@@ -88,7 +82,6 @@ fn show_changes(
     orders: &mut BiHashMap<Order>,
 ) -> anyhow::Result<()> {
     add_three(orders)?;
-    show_refused(rt, orders)?;
     show_cheapest(rt, alloc, orders)?;
     show_replaced(
         rt,
@@ -139,7 +132,7 @@ fn show_opened(
 ) -> anyhow::Result<()> {
     open(alloc, all, opened, Order::new(1, 10, 300))?;
     open(alloc, all, opened, Order::new(2, 20, 100))?;
-    let closed = close(opened, 2).is_some();
+    let closed = opened.remove1(&2).is_some();
     println!(rt;
         "closed: {closed}, {} of {} are open",
         opened.len(),

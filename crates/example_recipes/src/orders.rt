@@ -1,12 +1,12 @@
-//! Orders: an error of `anyhow`, the first few in an order, and a change of several items that is rolled back.
-ghost use Rattle.std.specs.Prelude.{◌≡◌, ◌<◌, ◌==◌, [], ◌∷◌, true, false, List, None, Some, length, take, map as mapped, IsOk, IsPermutation, OnOk, OnErr, IfOk};
+//! Orders: the first few in an order, a change of several items that is rolled back, and two that change places.
+ghost use Rattle.std.specs.Prelude.{◌≡◌, ◌==◌, ◌∷◌, true, false, List, None, Some, length, take, map as mapped, IsPermutation, OnErr, IfOk};
 ghost use Rattle.std.specs.Borrow.{Bor};
 ghost use Rattle.std.specs.List.Sorted.{IsNonDecreasingBy};
 ghost use Rattle.example_recipes.specs.Replaced.{ReplacesEach};
-ghost use Rattle.iddqd_bi.specs.Bag.{IsOnly, clash};
+ghost use Rattle.iddqd_bi.specs.Bag.{IsOnly};
 ghost use Rattle.iddqd_bi.specs.Map.{bag};
 
-use iddqd_bi::{BiHashItem, BiHashMap, Ranked, TryReserveError};
+use iddqd_bi::{BiHashItem, BiHashMap, TryReserveError};
 use std::alloc::{AllocError, Global};
 
 /// An order, known by its number and by its place in a queue.
@@ -46,17 +46,6 @@ impl Order {
             price,
         }
     }
-}
-
-/// Adds an order. The error is one of `anyhow`, made by `?`.
-pub fn add(orders: &mut BiHashMap<Order>, order: Order) -> anyhow::Result<()>
-    ensures went_in { OnOk result (IsPermutation (bag orders.new) (order ∷ bag orders.old)) }
-    ensures granted { clash ⟦<Order as Ranked>⟧.ranks (bag orders.old) order ≡ []
-        → length (bag orders.old) < orders.old.capacity → IsOk result }
-    ensures unchanged { OnErr result (orders.new ≡ orders.old) }
-{
-    orders.try_insert(order)?;
-    Ok(())
 }
 
 /// Returns at most `most` orders: the cheapest ones, the cheapest first.
@@ -129,7 +118,10 @@ pub fn swap_places(orders: &mut BiHashMap<Order>, one: u64, other: u64) -> bool
         ..second
     };
     if orders.rekey1(&one, moved).is_err() {
-        return false;
+        unreachable!()
     }
-    orders.try_insert(back).is_ok()
+    match orders.try_insert(back) {
+        Ok(()) => true,
+        Err(_) => unreachable!(),
+    }
 }

@@ -1,6 +1,5 @@
 //! Items with shared owners, in two maps: all orders, and those that are open.
-ghost use Rattle.std.specs.Prelude.{◌≡◌, ◌==◌, ◌∷◌, map as mapped, IsPermutation, OnOk, OnErr, IfSome, IfNone};
-ghost use Rattle.iddqd_bi.specs.Bag.{IsOnly};
+ghost use Rattle.std.specs.Prelude.{◌≡◌, ◌∷◌, map as mapped, IsPermutation, OnOk, OnErr};
 ghost use Rattle.iddqd_bi.specs.Map.{bag};
 
 use crate::orders::Order;
@@ -29,13 +28,4 @@ pub fn open(
         return Err(rejected.into());
     }
     Ok(())
-}
-
-/// Closes the order with this number: it stays among all orders. Returns it, if it was open.
-pub fn close(opened: &mut BiHashMap<Rc<Order>>, number: u64) -> Option<Rc<Order>>
-    ensures it { IsOnly (λ o. number == o.value.number) (bag opened.old) result }
-    ensures gone { IfSome result (λ o. IsPermutation (bag opened.old) (o ∷ bag opened.new)) }
-    ensures none { IfNone result (opened.new ≡ opened.old) }
-{
-    opened.remove1(&number)
 }

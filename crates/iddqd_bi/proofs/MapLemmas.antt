@@ -1,8 +1,12 @@
 -- The ranks of an item with two keys tell items apart lawfully, and its keys are tests for them.
-use Rattle.std.specs.Prelude.{◌≡◌, Bool, true, List, [], None}
+use Rattle.std.specs.Prelude.{◌≡◌, ◌<◌, ℕ, length, Bool, true, List, [], ◌∷◌, None}
 use Rattle.std.specs.Cmp.{IsEquivalence}
-use Rattle.std.proofs.Common.{refl, sym}
-use Rattle.iddqd_store.specs.Bag.{AreLawful, agrees, clash, differ, listing, order}
+use Rattle.std.specs.declared.hash.Hash as hash
+use Rattle.std.specs.declared.hash.Hasher as hasher
+use Rattle.std.specs.declared.hash.BuildHasher as builder
+use Rattle.std.proofs.Common.{arith, refl, sym}
+use Rattle.iddqd_store.specs.Bag.{AreLawful, Ranks, agrees, clash, differ, listing, order}
+use Rattle.iddqd_store.specs.Rank.{key_hash}
 use Rattle.iddqd_store.specs.Rank.Keys.{AreKeyTests, IsKeyTest}
 use Rattle.iddqd_store.proofs.BagLemmas.Differ.{differ-none}
 use Rattle.iddqd_store.proofs.BagLemmas.KeyTests.{clash-keys, order-keys}
@@ -12,6 +16,17 @@ use Rattle.iddqd_bi.specs.declared.item.BiHashItem as item
 
 pub AreLawful-ranks : {T K1 K2 : Type 0} (of : item.Ghosts T K1 K2) {eq1 : K1 → K1 → Bool} {eq2 : K2 → K2 → Bool} → IsEquivalence eq1 → IsEquivalence eq2 → AreLawful (ranks of eq1 eq2)
 AreLawful-ranks of laws1 laws2 = (IsEquivalence-key _ of.key1 laws1, (IsEquivalence-key _ of.key2 laws2, tt))
+
+-- the same for ranks that are these
+pub AreLawful-are : {T K1 K2 : Type 0} (of : item.Ghosts T K1 K2) {eq1 : K1 → K1 → Bool} {eq2 : K2 → K2 → Bool} {by : Ranks T} → by ≡ ranks of eq1 eq2 → IsEquivalence eq1 → IsEquivalence eq2 → AreLawful by
+AreLawful-are of are laws1 laws2 = rw are (AreLawful-ranks of laws1 laws2)
+
+pub some_are : {X : Type 0} {x : X} {all rest : List X} → all ≡ x ∷ rest → 0 < length all
+some_are are = rw are (omega arith)
+
+-- the hash of each key
+abbrev pub key_hashes : {T K1 K2 S H : Type 0} → item.Ghosts T K1 K2 → hash.Ghosts K1 → hash.Ghosts K2 → builder.Ghosts S H → hasher.Ghosts H → S → List (T → ℕ)
+key_hashes of hash1 hash2 build hashes s = key_hash of.key1 hash1.hash_input build hashes s ∷ key_hash of.key2 hash2.hash_input build hashes s ∷ []
 
 module _ {T K1 K2 : Type 0} (of : item.Ghosts T K1 K2) (eq1 : K1 → K1 → Bool) (eq2 : K2 → K2 → Bool) where
   -- items with equal keys agree

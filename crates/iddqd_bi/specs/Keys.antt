@@ -1,7 +1,9 @@
 -- The ranks of an item with two keys, and the slots found by them.
-use Rattle.std.specs.Prelude.{Bool, List, [], ◌∷◌, Result, Ok, Err}
+use Rattle.std.specs.Prelude.{Bool, List, [], ◌∷◌}
 use Rattle.iddqd_store.specs.Bag.{Ranks, every_of}
 use Rattle.iddqd_store.specs.Rank.{agree}
+use Rattle.iddqd_store.specs.declared.index_table.searched.Searched.{Searched}
+use Rattle.iddqd_store.specs.declared.index_table.searched.Searched.TheVariants.{Found, Vacant}
 use Rattle.iddqd_bi.specs.declared.item.BiHashItem as item
 
 module _ {T K1 K2 : Type 0} (of : item.Ghosts T K1 K2) where
@@ -31,7 +33,7 @@ module _ {T K1 K2 : Type 0} (of : item.Ghosts T K1 K2) where
   has_both stands1 stands2 q1 q2 = every_of (key_tests stands1 stands2 q1 q2)
 
 -- `by_rank` lists what the search of each rank returned. No public clause cites it.
--- Example: If no search found a slot, it is `Ok` of the cells at which they ended.
-abbrev pub by_rank : {A B : Type 0} → Result (A × A) (B × B) → Result (List A) (List B)
-by_rank (Ok at) = Ok (at.0 ∷ at.1 ∷ [])
-by_rank (Err found) = Err (found.0 ∷ found.1 ∷ [])
+-- Example: If no search found a slot, it is `Vacant` of the cells at which they ended.
+abbrev pub by_rank : {F V : Type 0} → Searched (F × F) (V × V) → Searched (List F) (List V)
+by_rank (Found by) = Found (by.0 ∷ by.1 ∷ [])
+by_rank (Vacant at) = Vacant (at.0 ∷ at.1 ∷ [])

@@ -1,7 +1,7 @@
 //! `BiHashMap`, a hash map of items with two keys, with its guards, entries, iterations, errors and commands.
 //!
 //! A script makes most of the three-key text from the two-key text: change the latter, and then run
-//! `tests/twins --write` with the changed files.
+//! `tests/widths --write` with the changed files.
 #![tactic(auto)]
 
 mod command;

@@ -1,7 +1,7 @@
 -- Written by hand; tests/one_key.patch says why.
 
 -- What one search found, and what an entry finds after a write.
-use Rattle.std.specs.Prelude.{◌≡◌, ◌≢◌, ℕ, Bool, true, false, List, [], ◌∷◌, Option, Some, None, IsSome, is_some, IsPermutation}
+use Rattle.std.specs.Prelude.{◌≡◌, ◌≢◌, ℕ, Bool, true, false, List, [], ◌∷◌, length, Option, Some, None, IsSome, is_some, IsPermutation}
 use Rattle.std.specs.Borrow.{Bor}
 use Rattle.std.specs.Cmp.{IsEquivalence}
 use Rattle.std.specs.List.{AllByRecursion}
@@ -24,9 +24,12 @@ use Rattle.iddqd_id.specs.declared.item.IdHashItem as item
 use Rattle.iddqd_id.specs.declared.entry.OccupiedEntry.{OccupiedEntry}
 use Rattle.iddqd_id.proofs.MapLemmas.{AreKeyTests-queries, AreLawful-ranks}
 
--- one search finds one slot
+-- one search finds one slot, or none
 pub one_slot : {s : Option ℕ} {slot : ℕ} → s ≡ Some slot → each_once (s ∷ []) ≡ slot ∷ []
 one_slot is = ap (λ (s : Option ℕ). each_once (s ∷ [])) is
+
+pub no_slot : {s : Option ℕ} → s ≡ None → length (each_once (s ∷ [])) ≡ 0
+no_slot is = ap (λ (s : Option ℕ). length (each_once (s ∷ []))) is
 
 module _ {T : Type 0} where
   -- the item of the slot that a search found is all that it lists

@@ -1,4 +1,4 @@
--- Made by tests/twins from crates/iddqd_bi/proofs/Iterating.antt: change that file.
+-- Made by tests/widths from crates/iddqd_bi/proofs/Iterating.antt: change that file.
 
 -- What an iteration ends as, if the next item was written.
 use Rattle.std.specs.Prelude.{◌≡◌, ℕ, ◌+◌, ◌^◌, ◌<◌, Some, length}

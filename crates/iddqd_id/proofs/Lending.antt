@@ -1,4 +1,4 @@
--- Made by tests/twins from crates/iddqd_bi/proofs/Lending.antt: change that file.
+-- Made by tests/widths from crates/iddqd_bi/proofs/Lending.antt: change that file.
 
 -- What a map ends as, if the data of the item that a search found was written.
 use Rattle.std.specs.Prelude.{◌≡◌, ℕ, Bool, [], ◌∷◌, Option, None, Some, IsSome, IsPermutation}

@@ -1,10 +1,14 @@
--- Made by tests/twins from crates/iddqd_bi/proofs/MapLemmas.antt: change that file.
+-- Made by tests/widths from crates/iddqd_bi/proofs/MapLemmas.antt: change that file.
 
 -- The ranks of an item with one key tell items apart lawfully, and its key is a test for them.
-use Rattle.std.specs.Prelude.{◌≡◌, Bool, true, List, [], None}
+use Rattle.std.specs.Prelude.{◌≡◌, ◌<◌, ℕ, length, Bool, true, List, [], ◌∷◌, None}
 use Rattle.std.specs.Cmp.{IsEquivalence}
-use Rattle.std.proofs.Common.{refl, sym}
-use Rattle.iddqd_store.specs.Bag.{AreLawful, agrees, clash, differ, listing, order}
+use Rattle.std.specs.declared.hash.Hash as hash
+use Rattle.std.specs.declared.hash.Hasher as hasher
+use Rattle.std.specs.declared.hash.BuildHasher as builder
+use Rattle.std.proofs.Common.{arith, refl, sym}
+use Rattle.iddqd_store.specs.Bag.{AreLawful, Ranks, agrees, clash, differ, listing, order}
+use Rattle.iddqd_store.specs.Rank.{key_hash}
 use Rattle.iddqd_store.specs.Rank.Keys.{AreKeyTests, IsKeyTest}
 use Rattle.iddqd_store.proofs.BagLemmas.Differ.{differ-none}
 use Rattle.iddqd_store.proofs.BagLemmas.KeyTests.{clash-keys, order-keys}
@@ -14,6 +18,17 @@ use Rattle.iddqd_id.specs.declared.item.IdHashItem as item
 
 pub AreLawful-ranks : {T Key : Type 0} (of : item.Ghosts T Key) {eq : Key → Key → Bool} → IsEquivalence eq → AreLawful (ranks of eq)
 AreLawful-ranks of laws = (IsEquivalence-key _ of.key laws, tt)
+
+-- the same for ranks that are these
+pub AreLawful-are : {T Key : Type 0} (of : item.Ghosts T Key) {eq : Key → Key → Bool} {by : Ranks T} → by ≡ ranks of eq → IsEquivalence eq → AreLawful by
+AreLawful-are of are laws = rw are (AreLawful-ranks of laws)
+
+pub some_are : {X : Type 0} {x : X} {all rest : List X} → all ≡ x ∷ rest → 0 < length all
+some_are are = rw are (omega arith)
+
+-- the hash of each key
+abbrev pub key_hashes : {T Key S H : Type 0} → item.Ghosts T Key → hash.Ghosts Key → builder.Ghosts S H → hasher.Ghosts H → S → List (T → ℕ)
+key_hashes of hash build hashes s = key_hash of.key hash.hash_input build hashes s ∷ []
 
 module _ {T Key : Type 0} (of : item.Ghosts T Key) (eq : Key → Key → Bool) where
   -- items with equal keys agree

@@ -1,4 +1,4 @@
--- Made by tests/twins from crates/iddqd_bi/proofs/RefLemmas.antt: change that file.
+-- Made by tests/widths from crates/iddqd_bi/proofs/RefLemmas.antt: change that file.
 
 -- A `RefMut` does not depend on how its item is known to be live.
 use Rattle.std.specs.Prelude.{◌≡◌, true, is_some}

@@ -1,9 +1,11 @@
--- Made by tests/twins from crates/iddqd_bi/specs/Keys.antt: change that file.
+-- Made by tests/widths from crates/iddqd_bi/specs/Keys.antt: change that file.
 
 -- The ranks of an item with one key, and the slots found by them.
-use Rattle.std.specs.Prelude.{Bool, List, [], ◌∷◌, Result, Ok, Err}
+use Rattle.std.specs.Prelude.{Bool, List, [], ◌∷◌}
 use Rattle.iddqd_store.specs.Bag.{Ranks}
 use Rattle.iddqd_store.specs.Rank.{agree}
+use Rattle.iddqd_store.specs.declared.index_table.searched.Searched.{Searched}
+use Rattle.iddqd_store.specs.declared.index_table.searched.Searched.TheVariants.{Found, Vacant}
 use Rattle.iddqd_id.specs.declared.item.IdHashItem as item
 
 module _ {T Key : Type 0} (of : item.Ghosts T Key) where
@@ -24,7 +26,7 @@ module _ {T Key : Type 0} (of : item.Ghosts T Key) where
   key_tests stands q = has stands q ∷ []
 
 -- `by_rank` lists what the search of each rank returned. No public clause cites it.
--- Example: If no search found a slot, it is `Ok` of the cells at which they ended.
-abbrev pub by_rank : {A B : Type 0} → Result A B → Result (List A) (List B)
-by_rank (Ok at) = Ok (at ∷ [])
-by_rank (Err found) = Err (found ∷ [])
+-- Example: If no search found a slot, it is `Vacant` of the cells at which they ended.
+abbrev pub by_rank : {F V : Type 0} → Searched F V → Searched (List F) (List V)
+by_rank (Found by) = Found (by ∷ [])
+by_rank (Vacant at) = Vacant (at ∷ [])

@@ -1,4 +1,4 @@
--- Made by tests/twins from crates/iddqd_bi/specs/Lent.antt: change that file.
+-- Made by tests/widths from crates/iddqd_bi/specs/Lent.antt: change that file.
 
 -- What a map ends as, if a `&mut` to the data of an item is returned.
 use Rattle.std.specs.Prelude.{◌≡◌, ℕ, Bool, Option, Some, IsPermutation, OnSome}

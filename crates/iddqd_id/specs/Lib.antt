@@ -1,4 +1,4 @@
--- Made by tests/twins from crates/iddqd_bi/specs/Lib.antt: change that file.
+-- Made by tests/widths from crates/iddqd_bi/specs/Lib.antt: change that file.
 pub mod Entries
 pub mod IterMuts
 pub mod Keys

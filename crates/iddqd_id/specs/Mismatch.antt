@@ -1,4 +1,4 @@
--- Made by tests/twins from crates/iddqd_bi/specs/Mismatch.antt: change that file.
+-- Made by tests/widths from crates/iddqd_bi/specs/Mismatch.antt: change that file.
 
 -- Why an entry inserts no item: the item, and whether its key is another one.
 use Rattle.std.specs.Prelude.{◌≡◌, ℕ, Bool, List, Option, Some, None}

@@ -1,4 +1,4 @@
--- Made by tests/twins from crates/iddqd_bi/specs/RefMuts.antt: change that file.
+-- Made by tests/widths from crates/iddqd_bi/specs/RefMuts.antt: change that file.
 
 -- What a contract says of a `RefMut`.
 use Rattle.std.specs.Prelude.{◌≡◌, [], Option, Some, None, IsPermutation}

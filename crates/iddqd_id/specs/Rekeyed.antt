@@ -1,4 +1,4 @@
--- Made by tests/twins from crates/iddqd_bi/specs/Rekeyed.antt: change that file.
+-- Made by tests/widths from crates/iddqd_bi/specs/Rekeyed.antt: change that file.
 
 -- An item that replaces another, whatever their keys are.
 use Rattle.std.specs.Prelude.{◌≡◌, ◌≢◌, ◌≤◌, ℕ, Bool, List, [], ◌∷◌, length, Some, None, Result, Err, IsPermutation}

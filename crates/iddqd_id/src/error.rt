@@ -1,6 +1,6 @@
 //! The errors of calls that insert or replace one item.
 //!
-//! Made by tests/twins from crates/iddqd_bi/src/error.rt: change that file.
+//! Made by tests/widths from crates/iddqd_bi/src/error.rt: change that file.
 ghost use Rattle.std.specs.Prelude.{◌≡◌, ◌≢◌, [], false, option_copied};
 ghost use Rattle.std.specs.Option.{option_and_then, option_to_list};
 ghost use Rattle.iddqd_store.specs.Map.{bag};

@@ -1,6 +1,6 @@
 //! The traits of items with one key.
 //!
-//! Made by tests/twins from crates/iddqd_bi/src/item.rt: change that file.
+//! Made by tests/widths from crates/iddqd_bi/src/item.rt: change that file.
 ghost use Rattle.std.specs.Prelude.{◌≡◌, ℕ, true, refl, Bool, List, [], ◌∷◌};
 ghost use Rattle.std.specs.Borrow.{Lends, sem};
 ghost use Rattle.iddqd_store.specs.Bag.{Ranks};

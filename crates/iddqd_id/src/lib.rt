@@ -9,9 +9,9 @@
 //! ```
 //!
 //! A script makes most of this text from that of the map with two keys: change the latter, and then run
-//! `tests/twins --write` with the changed files.
+//! `tests/widths --write` with the changed files.
 //!
-//! Made by tests/twins from crates/iddqd_bi/src/lib.rt: change that file.
+//! Made by tests/widths from crates/iddqd_bi/src/lib.rt: change that file.
 #![tactic(auto)]
 
 mod debug;

@@ -1,6 +1,6 @@
 //! The map, its fields and its invariant.
 //!
-//! Made by tests/twins from crates/iddqd_bi/src/map.rt: change that file.
+//! Made by tests/widths from crates/iddqd_bi/src/map.rt: change that file.
 use crate::item::IdHashItem;
 use iddqd_store::{IndexTable, ItemSet};
 use std::hash::{BuildHasher, BuildHasherDefault, FoldHasher, Hash};

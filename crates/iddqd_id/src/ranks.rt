@@ -1,7 +1,7 @@
 //! The rank of an item's key, as a type. The searches of `iddqd_store` are generic over the rank, and this type says
 //! which key.
 //!
-//! Made by tests/twins from crates/iddqd_bi/src/ranks.rt: change that file.
+//! Made by tests/widths from crates/iddqd_bi/src/ranks.rt: change that file.
 use crate::item::IdHashItem;
 use iddqd_store::KeyOf;
 use std::hash::Hash;

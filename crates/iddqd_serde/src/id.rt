@@ -1,6 +1,6 @@
 //! An `IdHashMap` as a sequence of its items. On a field write `#[serde(with = "iddqd_serde::id")]`.
 //!
-//! Made by tests/twins from crates/iddqd_serde/src/bi.rt: change that file.
+//! Made by tests/widths from crates/iddqd_serde/src/bi.rt: change that file.
 ghost use Rattle.std.specs.Prelude.{◌≡◌, ◌+◌, [], length, IfOk, OnOk};
 ghost use Rattle.iddqd_id.specs.Map.{Gains, bag};
 ghost use Rattle.iddqd_serde.specs.Reading.{ReadsSeq};

@@ -63,7 +63,9 @@ module _ {T : Type 0} (test : T → Bool) (bag : List T) (found : Option T) (is 
       (λ _. refl)
 
 -- a query names one key, by the law of `Equivalent`
-pub NamesOne-query : {T K Q : Type 0} (eq : K → K → Bool) (stands_for : Q → K → Bool) (key : T → K) → ((q : Q) (k l : K) → stands_for q k ≡ true → stands_for q l ≡ eq k l) → (q : Q) → NamesOne (λ x y. eq (key x) (key y)) (λ x. stands_for q (key x))
+pub NamesOne-query : {T K Q : Type 0} (eq : K → K → Bool) (stands_for : Q → K → Bool) (key : T → K)
+    → ((q : Q) (k l : K) → stands_for q k ≡ true → stands_for q l ≡ eq k l) → (q : Q)
+    → NamesOne (λ x y. eq (key x) (key y)) (λ x. stands_for q (key x))
 NamesOne-query eq stands_for key law q x y at_x at_y = sym (law q (key x) (key y) at_x) ∙ at_y
 
 one_of : {T : Type 0} (found : Option T) (x : T) → option_to_list found ≡ x ∷ [] → found ≡ Some x
@@ -90,10 +92,13 @@ module _ {T : Type 0} (first rest : Ranks T) (agree : T → T → Bool) (test : 
   -- the map says that it has that key
   pub contains-inserted : (old : List T) (x : T) → IsPermutation bag (x ∷ old) → test x ≡ true → list_any test bag ≡ true
   contains-inserted old x went_in passes =
-      any_listed test bag ∙ ap some_item (named_is agree test names bag x (distinct_at first rest agree bag sound) passes (Contains-permutation (x ∷ old) bag x (IsPermutation-sym bag (x ∷ old) went_in) (Contains-here x old)))
+      any_listed test bag ∙ ap some_item (named_is agree test names bag x (distinct_at first rest agree bag sound) passes
+      (Contains-permutation (x ∷ old) bag x (IsPermutation-sym bag (x ∷ old) went_in) (Contains-here x old)))
 
 -- an item that was removed is no longer found by its key
-pub none-removed : {T : Type 0} (first rest : Ranks T) (agree : T → T → Bool) → AreLawful (first ++ agree ∷ rest) → (test : T → Bool) → NamesOne agree test → (old bag : List T) (x : T) → IsSound (first ++ agree ∷ rest) old → IsPermutation old (x ∷ bag) → test x ≡ true → filter test bag ≡ []
+pub none-removed : {T : Type 0} (first rest : Ranks T) (agree : T → T → Bool) → AreLawful (first ++ agree ∷ rest) → (test : T → Bool)
+    → NamesOne agree test → (old bag : List T) (x : T) → IsSound (first ++ agree ∷ rest) old → IsPermutation old (x ∷ bag)
+    → test x ≡ true → filter test bag ≡ []
 none-removed first rest agree laws test names old bag x sound taken passes =
     let apart = distinct_at first rest agree (x ∷ bag) (IsSound-IsPermutation (first ++ agree ∷ rest) laws old (x ∷ bag) taken sound) in
     none_pass test bag (each_weaker _ _ (λ y other. NamesOne-apart agree test names x y passes other) bag (IsDistinct-head agree x bag apart))
@@ -103,7 +108,9 @@ no_more [] p = refl
 no_more (x ∷ xs) p = absurd (let more : suc (length xs) ≡ 0 = length_permutation [] (x ∷ xs) p in omega (arith, more))
 
 -- the map says that it no longer has the key, whether a removal by it found an item or not
-pub contains-removed : {T : Type 0} (first rest : Ranks T) (agree : T → T → Bool) → AreLawful (first ++ agree ∷ rest) → (test : T → Bool) → NamesOne agree test → (old bag : List T) (gone : Option T) → IsSound (first ++ agree ∷ rest) old → option_to_list gone ≡ filter test old → IsPermutation old (option_to_list gone ++ bag) → list_any test bag ≡ false
+pub contains-removed : {T : Type 0} (first rest : Ranks T) (agree : T → T → Bool) → AreLawful (first ++ agree ∷ rest) → (test : T → Bool)
+    → NamesOne agree test → (old bag : List T) (gone : Option T) → IsSound (first ++ agree ∷ rest) old → option_to_list gone ≡ filter test old
+    → IsPermutation old (option_to_list gone ++ bag) → list_any test bag ≡ false
 contains-removed first rest agree laws test names old bag None sound is left =
     let none : IsPermutation [] (filter test bag) = subst (λ l. IsPermutation l (filter test bag)) (sym is) (IsPermutation-filter test old bag left) in
     any_listed test bag ∙ ap some_item (no_more (filter test bag) none)
@@ -124,10 +131,12 @@ pub passed-to_come : {T S : Type 0} (m : Map T S) (at : ℕ) → bag m ≡ passe
 passed-to_come m at = sym (before_and_behind m.slots at)
 
 -- of two writes of a member, one after the other, the last one counts
-pub swap-twice : {T : Type 0} (ranks : Ranks T) → AreLawful ranks → 0 < length ranks → (old middle new : List T) (x y z : T) → agrees ranks x y ≡ true → IsPermutation middle (swap ranks old x y) → IsPermutation new (swap ranks middle y z) → IsPermutation new (swap ranks old x z)
+pub swap-twice : {T : Type 0} (ranks : Ranks T) → AreLawful ranks → 0 < length ranks → (old middle new : List T) (x y z : T) → agrees ranks x y ≡ true
+    → IsPermutation middle (swap ranks old x y) → IsPermutation new (swap ranks middle y z) → IsPermutation new (swap ranks old x z)
 swap-twice {T} ranks laws some old middle new x y z same first last =
     let rest : List T = without (like ranks x) old in
     let test : T → Bool = λ w. not (some_of (like ranks y) w) in
     let left : filter test (y ∷ rest) ≡ rest =
-    rw (conflicts-self ranks laws some y) (all_pass test rest (each_weaker _ _ (λ w e. ap not (sym (agrees-conflicts ranks laws x y w same)) ∙ e) rest (each_passes (λ w. not (some_of (like ranks x) w)) old))) in
+    rw (conflicts-self ranks laws some y) (all_pass test rest (each_weaker _ _ (λ w e. ap not (sym (agrees-conflicts ranks laws x y w same)) ∙ e) rest
+    (each_passes (λ w. not (some_of (like ranks x) w)) old))) in
     IsPermutation-trans _ _ _ last (subst (λ l. IsPermutation (swap ranks middle y z) (z ∷ l)) left (swap-IsPermutation ranks middle (y ∷ rest) y z first))

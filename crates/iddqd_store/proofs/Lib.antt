@@ -2,6 +2,7 @@ pub mod BagLemmas
 pub mod CallerLemmas
 pub mod CountRule
 pub mod MapLemmas
+pub mod Plain
 pub mod RankLemmas
 pub mod RunLemmas
 pub mod SlotLemmas

@@ -1,10 +1,13 @@
 -- Lemmas for the invariants of the maps, with any number of ranks.
-pub mod Entered
+pub mod Blocking
+pub mod Calls
 pub mod Extracting
+pub mod Fitting
 pub mod Growing
 pub mod Overwriting
 pub mod Places
 pub mod Rekeyed
+pub mod Removing
 pub mod Storing
 pub mod Updating
 pub mod Walking
@@ -36,13 +39,15 @@ IsKeyTest-key eq key laws k = λ x y has. laws.congr (key x) k (key y) (laws.sym
 
 module _ {T : Type 0} where
   -- a sound bag with an item that nothing conflicts with is sound
-  pub free_sound : (ranks : Ranks T) → AreLawful ranks → (old new : List (Option T)) (at : ℕ) (x : T) → IsSound ranks (contents old) → clash ranks (contents old) x ≡ [] → IsPermutation (members new) ((at, x) ∷ members old) → IsSound ranks (contents new)
+  pub free_sound : (ranks : Ranks T) → AreLawful ranks → (old new : List (Option T)) (at : ℕ) (x : T) → IsSound ranks (contents old)
+      → clash ranks (contents old) x ≡ [] → IsPermutation (members new) ((at, x) ∷ members old) → IsSound ranks (contents new)
   free_sound ranks laws old new at x sound free moved =
       IsSound-IsPermutation ranks laws _ _ (IsPermutation-sym _ _ (contents-moves new old at x moved))
       (IsDistinct-cons (conflicts ranks) x (contents old) (none_passes (conflicts ranks x) (contents old) free) sound)
 
   -- a sound bag without one of its items is sound
-  pub sound_without : (ranks : Ranks T) → AreLawful ranks → (old new : List (Option T)) (at : ℕ) (x : T) → IsSound ranks (contents old) → IsPermutation (members old) ((at, x) ∷ members new) → IsSound ranks (contents new)
+  pub sound_without : (ranks : Ranks T) → AreLawful ranks → (old new : List (Option T)) (at : ℕ) (x : T) → IsSound ranks (contents old)
+      → IsPermutation (members old) ((at, x) ∷ members new) → IsSound ranks (contents new)
   sound_without ranks laws old new at x sound moved =
       IsDistinct-tail (conflicts ranks) x (contents new) (IsSound-IsPermutation ranks laws _ _ (contents-moves old new at x moved) sound)
 

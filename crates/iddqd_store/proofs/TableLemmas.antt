@@ -1,5 +1,6 @@
 -- Lemmas on cells: sizes, full places, stretches, searches, writes, removals.
 pub mod Chunk
+pub mod Closing
 pub mod Full
 pub mod Grow
 pub mod Limits
@@ -10,9 +11,11 @@ pub mod Probes
 pub mod Regrow
 pub mod Remove
 pub mod Renumber
+pub mod Replaces
 pub mod Ring
 pub mod Rows
 pub mod Search
+pub mod Sought
 pub mod Spot
 pub mod Stretch
 pub mod StretchBound

@@ -96,6 +96,12 @@ pub record MakesRoom {T S A E : Type 0} (old : Map T S) (more : ℕ) (result : R
   pub same_room : length (bag old) + more ≤ old.capacity → new.capacity ≡ old.capacity
   pub same_builder : new.builder ≡ old.builder
 
+-- The map makes room for `more` items, and no slot changes. After an error it is as it was. No public clause cites it.
+pub record Reserves {T S A E : Type 0} (old : Map T S) (more : ℕ) (result : Result A E) (new : Map T S) : Type 0 where
+  pub slots : new.slots ≡ old.slots
+  pub room : MakesRoom old more result new
+  pub unchanged : OnErr result (new ≡ old)
+
 -- `shrunk_to` is the capacity after a shrink: `least`, but not below the number of items that are `held`, and not above
 -- the old capacity.
 -- Example: For 3 items, the least 5 and the capacity 14 it is 5, for the least 0 it is 3, and for 20 it is 14.

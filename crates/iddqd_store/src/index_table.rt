@@ -1,9 +1,9 @@
 //! A hash table of pairs of a hash and a slot's index: open addressing with linear probing, and backward-shift
 //! deletion, so there are no tombstones.
-ghost use Rattle.std.specs.Prelude.{ℕ, Contains, Some, ◌≡◌, ◌≢◌, ◌+◌, ◌*◌, ◌/◌, ◌%◌, ◌∷◌, ◌<◌, ◌≤◌, ◌&&◌, [], true, length, IsSome, IsOk, IsErr, ◌↔◌, ◌⊎◌, IfOk, IfErr};
+ghost use Rattle.std.specs.Prelude.{ℕ, Contains, Some, ◌≡◌, ◌≢◌, ◌+◌, ◌*◌, ◌/◌, ◌%◌, ◌∷◌, ◌<◌, ◌≤◌, ◌&&◌, [], true, length, IsSome, IsOk, IsErr, ◌↔◌, ◌⊎◌, IfOk};
 ghost use Rattle.std.specs.List.Sorted.{IsPermutation};
 ghost use Rattle.std.specs.Option.{option_map};
-ghost use Rattle.std.specs.Result.{result_ok};
+ghost use Rattle.iddqd_store.specs.Searched.{found_of, IfFound, IfVacant};
 ghost use Rattle.iddqd_store.specs.Slots.{contents};
 ghost use Rattle.iddqd_store.specs.Table.Ring.{cell, gap, stretch, IsFull};
 ghost use Rattle.iddqd_store.specs.Table.Limit.{IsLeast, IsSize, most_room};
@@ -23,10 +23,12 @@ mod matcher;
 mod meter;
 mod probe;
 mod removal;
+mod searched;
 mod vacancy;
 
 pub use matcher::{KeyMatcher, Matcher};
 pub use meter::Meter;
+pub use searched::Searched;
 pub use vacancy::Vacancy;
 
 /// A hash table of pairs of a hash and a slot's index.
@@ -172,8 +174,8 @@ impl IndexTable {
         ensures sized { IsSized self.now }
     {
         match self.find_cell(hash, matcher, meter) {
-            Ok((slot, _)) => Some(slot),
-            Err(_) => None,
+            Searched::Found((slot, _)) => Some(slot),
+            Searched::Vacant(_) => None,
         }
     }
 
@@ -186,32 +188,32 @@ impl IndexTable {
         hash: u64,
         matcher: &mut M,
         meter: &mut Meter,
-    ) -> Result<(ItemIndex, usize), Vacancy>
+    ) -> Searched<(ItemIndex, usize), Vacancy>
         requires own { HaveOwnSlots self.now.pairs ⊎ ((m : M) (slot : ℕ) → M.MayAsk m slot) }
         requires asks { (slot : ℕ) → Contains self.now.pairs (hash, slot) → M.MayAsk matcher.old slot }
-        ensures found { FindsUnder self.now hash (M.accepts matcher.old) (option_map (λ f. f.0) (result_ok result)) }
-        ensures cell { IfOk result (λ f. IsCellOf self.now.row (hash, f.0) f.1) }
-        ensures probes { IfOk result (λ f. meter.new
+        ensures found { FindsUnder self.now hash (M.accepts matcher.old) (option_map (λ f. f.0) (found_of result)) }
+        ensures cell { IfFound result (λ f. IsCellOf self.now.row (hash, f.0) f.1) }
+        ensures probes { IfFound result (λ f. meter.new
             ≡ meter.old + gap (length self.now.row) (hash % length self.now.row) f.1 + 1) }
-        ensures vacant { IfErr result (IsVacantUnder self.now hash) }
+        ensures vacant { IfVacant result (IsVacantUnder self.now hash) }
         ensures is_kept { M.IsKept matcher.old matcher.new }
-        ensures costs { CostsUnder self.now hash (result_ok result) (M.asked matcher.old) (M.asked matcher.new)
+        ensures costs { CostsUnder self.now hash (found_of result) (M.asked matcher.old) (M.asked matcher.new)
             meter.old meter.new }
         ensures sized { IsSized self.now }
     {
         let count = self.cells.len();
         if count == 0 {
-            return Err(Vacancy::unknown(hash));
+            return Searched::Vacant(Vacancy::unknown(hash));
         }
         let mut at = probe::home_of(hash, count);
         while let Some(pair) = self.cells.cell_at(at, meter) {
             let (stored, slot) = pair;
             if stored == hash && matcher.matches(slot) {
-                return Ok((slot, at));
+                return Searched::Found((slot, at));
             }
             at = probe::after(at, count);
         }
-        Err(Vacancy::new(hash, count, at))
+        Searched::Vacant(Vacancy::new(hash, count, at))
     }
 
     /// Inserts a pair. There has to be spare capacity, so it allocates nothing. It probes the cells from the home of

@@ -1,5 +1,5 @@
 //! Items in slots: a slab with a free list.
-ghost use Rattle.std.specs.Prelude.{◌≡◌, ◌+◌, ◌-◌, ◌<◌, ◌≤◌, ◌^◌, [], ◌∷◌, IsSome, IfNone, IfSome, is_some, IfOk, IsOk, OnOk, OnErr, Some, IsPermutation, option_copied, drop, length, None, slice_set};
+ghost use Rattle.std.specs.Prelude.{◌≡◌, ◌+◌, ◌-◌, ◌<◌, ◌≤◌, ◌^◌, [], ◌∷◌, IsSome, IfNone, IfSome, is_some, IfOk, IsOk, OnOk, OnErr, Some, IsPermutation, option_copied, drop, length, max, None, slice_set};
 ghost use Rattle.std.specs.Option.{option_copied_mut};
 ghost use Rattle.std.specs.Borrow.{Lends, sem};
 ghost use Rattle.iddqd_store.specs.Slots.{get, contents, IsLive, live_count, members, Updates, Exchanges, NextLive, TakesOut};
@@ -258,12 +258,12 @@ impl<T> ItemSet<T> {
         count
     }
 
-    /// Reserves spare capacity for `more` items. If they fit already it allocates nothing. It fails only if they do
-    /// not fit and memory for more slots cannot be allocated; the set is then unchanged.
+    /// Reserves spare capacity for `more` items, and for no others. If they fit already it allocates nothing. It fails
+    /// only if they do not fit and memory for more slots cannot be allocated; the set is then unchanged.
     pub fn try_reserve(&mut self, more: usize) -> Result<(), TryReserveError>
         ensures slots { self.new.slots ≡ self.old.slots }
         ensures no_less_room { self.old.capacity ≤ self.new.capacity }
-        ensures room { OnOk result (live_count self.old.slots + more ≤ self.new.capacity) }
+        ensures room { OnOk result (self.new.capacity ≡ max self.old.capacity (live_count self.old.slots + more)) }
         ensures same_room { live_count self.old.slots + more ≤ self.old.capacity
             → self.new.capacity ≡ self.old.capacity }
         ensures reason { OnErr result (self.old.capacity < live_count self.old.slots + more) }
@@ -273,7 +273,7 @@ impl<T> ItemSet<T> {
             return Ok(());
         }
         let missing = more - (self.slots.len() - self.live);
-        self.slots.reserve(missing)?;
+        self.slots.reserve_exact(missing)?;
         Ok(())
     }
 

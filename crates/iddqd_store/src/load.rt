@@ -1,20 +1,23 @@
 //! The load of the tables: how many pairs a map makes its tables for. A search ends sooner the more of the cells are
 //! empty, so the tables of a small map have room for more pairs than its slots have room for items. The capacity of the
 //! map is then that of its slots.
-ghost use Rattle.std.specs.Prelude.{◌≡◌, ℕ, ◌+◌, ◌*◌, ◌/◌, ◌^◌, ◌<◌, ◌≤◌, IfNone, IfSome, min, max};
+ghost use Rattle.std.specs.Prelude.{◌≡◌, ℕ, ◌+◌, ◌-◌, ◌*◌, ◌/◌, ◌^◌, ◌<◌, ◌≤◌, IfNone, IfSome, min, max};
 ghost use Rattle.iddqd_store.specs.Table.Limit.{IsSparse};
 
 /// In a map with room for more items a table has no more cells than its pairs need.
-const LARGE: usize = 16384;
+const LARGE: usize = 65536;
+
+/// For at most so many items an insert makes the tables ahead.
+pub const AHEAD: usize = LARGE;
 
 /// Returns how many pairs a table is made for in a map in which this many items fit. At most seven eighths of the cells
 /// have a pair in a full table. So in a full map at most a third of them have one up to 4,096 items, at most half of them
-/// up to 16,384 items, and above that at most seven eighths: larger tables would no longer stay in the processor's caches.
+/// up to 65,536 items, and above that at most seven eighths: larger tables would no longer stay in the processor's caches.
 pub fn table_room(items: usize) -> usize
     ensures enough { items ≤ result }
     ensures none { items ≡ 0 → result ≡ 0 }
     ensures most { result ≤ 3 * items }
-    ensures large { 16384 < items → result ≡ items }
+    ensures large { 65536 < items → result ≡ items }
     // A table with room for so many pairs has so many cells that at most a third, or a half, have one in a full map.
     ensures sparse { (cells : ℕ) → result ≤ cells / 8 * 7 → IsSparse items cells }
 {
@@ -27,35 +30,65 @@ pub fn table_room(items: usize) -> usize
     }
 }
 
+/// Returns how many items a map has room for whose slots grow as a vector does: twice as many, and at first four.
+fn doubled(room: usize) -> usize
+    ensures { result ≡ min (2 ^ 64 - 1) (max (2 * room) 4) }
+{
+    room.saturating_mul(2).max(4)
+}
+
 /// Returns for how many more pairs each table reserves capacity where a map of `len` items, whose slots have room for
-/// `room`, reserves it for `more` items. If the slots have to grow, to at most 16,384, the tables grow with them, for as
-/// many items as the slots have room for then. Else it is `more`. It is `None` if so many items are more than a `usize`
-/// counts.
-pub fn pairs_wanted(len: usize, room: usize, more: usize) -> Option<usize>
+/// `room`, reserves it for `more` items. If the slots have to grow, it is as many as tables that are made for all these
+/// items have room for; and ahead of the items, for twice the room of the slots, but for at most `ahead`. Else it is
+/// `more`. It is `None` if so many items are more than a `usize` counts.
+pub fn pairs_wanted(len: usize, room: usize, more: usize, ahead: usize) -> Option<usize>
     requires { len ≤ room }
     // The pairs of so many more items fit, and no others are asked for where the slots do not grow.
     ensures enough { IfSome result (λ wanted. more ≤ wanted) }
     ensures same { IfSome result (λ wanted. len + more ≤ room → wanted ≡ more) }
-    // More is asked for only where the slots grow to at most 16,384, and then at most three times what they have room for.
-    ensures most { IfSome result (λ wanted. more < wanted → (max (len + more) (2 * room) ≤ 16384)
-        × (len + wanted ≤ 3 * max (len + more) (max (2 * room) 4))) }
-    // Where the slots grow, a table in which the pairs fit is sparse even with all items that the slots then have room for.
+    // Tables have room for at most three times as many pairs as the items that they are made for, and if these are more
+    // than 65,536, for no others.
+    ensures most { IfSome result (λ wanted. len + wanted ≤ 3 * max (len + more) (min ahead (max (2 * room) 4))) }
+    ensures large { IfSome result (λ wanted. 65536 < len + more → ahead ≤ 65536 → wanted ≡ more) }
+    // Where the slots grow, a table in which the pairs fit is sparse with all the items that it is made for.
     ensures sparse { IfSome result (λ wanted. room < len + more → (cells : ℕ) → len + wanted ≤ cells / 8 * 7
-        → IsSparse (max (len + more) (2 * room)) cells) }
-    // Where a table is too small for the pairs, the items do not fit either.
-    ensures short { IfSome result (λ wanted. (limit : ℕ) → limit < len + wanted → min room limit < len + more) }
+        → IsSparse (max (len + more) (min ahead (max (2 * room) 4))) cells) }
     ensures past { IfNone result (2 ^ 64 ≤ len + more) }
 {
     if more <= room - len {
         return Some(more);
     }
     let items = len.checked_add(more)?;
-    // A vector that grows gets twice its capacity at least, and at first four places.
-    let slots = items.max(room.saturating_mul(2)).max(4);
-    if slots > LARGE {
-        return Some(more);
+    Some(table_room(items.max(doubled(room).min(ahead))) - len)
+}
+
+/// Returns for how many more items the slots of a map reserve capacity, once its tables, which have at least this many
+/// cells, have it for `more` items. If the slots have to grow, it is as many as a vector that grows would have room for,
+/// but not beyond what such tables are sparse for. Else it is `more`.
+pub fn slots_wanted(len: usize, room: usize, more: usize, cells: usize) -> usize
+    requires { len ≤ room }
+    // The items fit, and no others are asked for where the slots do not grow.
+    ensures enough { more ≤ result }
+    ensures same { len + more ≤ room → result ≡ more }
+    // Room for others is at most twice what there was, and the tables are sparse with as many items.
+    ensures most { more < result → len + result ≤ max (2 * room) 4 }
+    ensures sparse { more < result → IsSparse (len + result) cells }
+    // Where the slots grow, as many items fit as these two bounds allow.
+    ensures all { room < len + more → (items : ℕ) → items < 2 ^ 64 → items ≤ max (2 * room) 4 → IsSparse items cells
+        → items ≤ len + result }
+{
+    if more <= room - len {
+        return more;
     }
-    Some(table_room(slots) - len)
+    let most = doubled(room);
+    let sparse = if most > LARGE {
+        most
+    } else if most.min(cells / 2) > 4096 {
+        cells / 2
+    } else {
+        cells / 3
+    };
+    more.max(most.min(sparse).saturating_sub(len))
 }
 
 /// Returns how many more a part of a map is asked for before the parts with the least room: what is wanted if it has

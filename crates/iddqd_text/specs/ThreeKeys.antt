@@ -1,4 +1,4 @@
--- Made by tests/twins from crates/iddqd_text/specs/TwoKeys.antt: change that file.
+-- Made by tests/widths from crates/iddqd_text/specs/TwoKeys.antt: change that file.
 
 -- The kind `tri`: its items, what its words mean, and what a run prints.
 use Rattle.std.specs.Prelude.{ℕ, nat_eq, List, [], ◌∷◌, Option, Some, None}

@@ -2,8 +2,8 @@
 //! keys. The program itself is `iddqd_run`.
 //!
 //! The modules `three_keys` and `item::tri`, with specs/ThreeKeys.antt, are the text of `two_keys`, `item::bi` and
-//! specs/TwoKeys.antt at three keys, which a script writes: change that text, and then run `tests/twins --write` with the
-//! changed files.
+//! specs/TwoKeys.antt at three keys, which a script writes: change that text, and then run `tests/widths --write` with
+//! the changed files.
 #![tactic(auto)]
 
 pub mod command;

@@ -1,6 +1,6 @@
 //! The kind `tri`: which commands its words spell, and how they run.
 //!
-//! Made by tests/twins from crates/iddqd_text/src/two_keys.rt: change that file.
+//! Made by tests/widths from crates/iddqd_text/src/two_keys.rt: change that file.
 ghost use Rattle.std.specs.Prelude.{◌≡◌, IfOk, string_bytes};
 ghost use Rattle.std.specs.Option.{option_map};
 ghost use Rattle.iddqd_store.specs.Runs.Values.{value_of};

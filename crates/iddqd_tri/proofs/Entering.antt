@@ -1,4 +1,4 @@
--- Made by tests/twins from crates/iddqd_bi/proofs/Entering.antt: change that file.
+-- Made by tests/widths from crates/iddqd_bi/proofs/Entering.antt: change that file.
 
 -- What an entry's calls do to the map that it was asked of. The proofs of callers cite these lemmas.
 use Rattle.std.specs.Prelude.{◌≡◌, ◌≢◌, Bool, true, [], ◌∷◌, List, is_some, Option, Some, None, IfSome, Ok, IsPermutation}

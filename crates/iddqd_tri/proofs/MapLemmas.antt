@@ -1,10 +1,14 @@
--- Made by tests/twins from crates/iddqd_bi/proofs/MapLemmas.antt: change that file.
+-- Made by tests/widths from crates/iddqd_bi/proofs/MapLemmas.antt: change that file.
 
 -- The ranks of an item with three keys tell items apart lawfully, and its keys are tests for them.
-use Rattle.std.specs.Prelude.{◌≡◌, Bool, true, List, [], None}
+use Rattle.std.specs.Prelude.{◌≡◌, ◌<◌, ℕ, length, Bool, true, List, [], ◌∷◌, None}
 use Rattle.std.specs.Cmp.{IsEquivalence}
-use Rattle.std.proofs.Common.{refl, sym}
-use Rattle.iddqd_store.specs.Bag.{AreLawful, agrees, clash, differ, listing, order}
+use Rattle.std.specs.declared.hash.Hash as hash
+use Rattle.std.specs.declared.hash.Hasher as hasher
+use Rattle.std.specs.declared.hash.BuildHasher as builder
+use Rattle.std.proofs.Common.{arith, refl, sym}
+use Rattle.iddqd_store.specs.Bag.{AreLawful, Ranks, agrees, clash, differ, listing, order}
+use Rattle.iddqd_store.specs.Rank.{key_hash}
 use Rattle.iddqd_store.specs.Rank.Keys.{AreKeyTests, IsKeyTest}
 use Rattle.iddqd_store.proofs.BagLemmas.Differ.{differ-none}
 use Rattle.iddqd_store.proofs.BagLemmas.KeyTests.{clash-keys, order-keys}
@@ -14,6 +18,17 @@ use Rattle.iddqd_tri.specs.declared.item.TriHashItem as item
 
 pub AreLawful-ranks : {T K1 K2 K3 : Type 0} (of : item.Ghosts T K1 K2 K3) {eq1 : K1 → K1 → Bool} {eq2 : K2 → K2 → Bool} {eq3 : K3 → K3 → Bool} → IsEquivalence eq1 → IsEquivalence eq2 → IsEquivalence eq3 → AreLawful (ranks of eq1 eq2 eq3)
 AreLawful-ranks of laws1 laws2 laws3 = (IsEquivalence-key _ of.key1 laws1, (IsEquivalence-key _ of.key2 laws2, (IsEquivalence-key _ of.key3 laws3, tt)))
+
+-- the same for ranks that are these
+pub AreLawful-are : {T K1 K2 K3 : Type 0} (of : item.Ghosts T K1 K2 K3) {eq1 : K1 → K1 → Bool} {eq2 : K2 → K2 → Bool} {eq3 : K3 → K3 → Bool} {by : Ranks T} → by ≡ ranks of eq1 eq2 eq3 → IsEquivalence eq1 → IsEquivalence eq2 → IsEquivalence eq3 → AreLawful by
+AreLawful-are of are laws1 laws2 laws3 = rw are (AreLawful-ranks of laws1 laws2 laws3)
+
+pub some_are : {X : Type 0} {x : X} {all rest : List X} → all ≡ x ∷ rest → 0 < length all
+some_are are = rw are (omega arith)
+
+-- the hash of each key
+abbrev pub key_hashes : {T K1 K2 K3 S H : Type 0} → item.Ghosts T K1 K2 K3 → hash.Ghosts K1 → hash.Ghosts K2 → hash.Ghosts K3 → builder.Ghosts S H → hasher.Ghosts H → S → List (T → ℕ)
+key_hashes of hash1 hash2 hash3 build hashes s = key_hash of.key1 hash1.hash_input build hashes s ∷ key_hash of.key2 hash2.hash_input build hashes s ∷ key_hash of.key3 hash3.hash_input build hashes s ∷ []
 
 module _ {T K1 K2 K3 : Type 0} (of : item.Ghosts T K1 K2 K3) (eq1 : K1 → K1 → Bool) (eq2 : K2 → K2 → Bool) (eq3 : K3 → K3 → Bool) where
   -- items with equal keys agree

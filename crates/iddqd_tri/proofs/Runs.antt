@@ -1,4 +1,4 @@
--- Made by tests/twins from crates/iddqd_bi/proofs/Runs.antt: change that file.
+-- Made by tests/widths from crates/iddqd_bi/proofs/Runs.antt: change that file.
 
 -- Each run from a sound bag ends in a sound bag, if other data does not change an item's keys.
 use Rattle.std.proofs.Common.{◌≡◌, Bool, true, List, Result}

@@ -1,4 +1,4 @@
--- Made by tests/twins from crates/iddqd_bi/specs/Entries.antt: change that file.
+-- Made by tests/widths from crates/iddqd_bi/specs/Entries.antt: change that file.
 
 -- What contracts say of entries.
 use Rattle.std.specs.Prelude.{◌≡◌, ◌≢◌, ◌<◌, ℕ, length, Bool, [], ◌∷◌, List, Option, Some, None, ⊤}

@@ -1,4 +1,4 @@
--- Made by tests/twins from crates/iddqd_bi/specs/IterMuts.antt: change that file.
+-- Made by tests/widths from crates/iddqd_bi/specs/IterMuts.antt: change that file.
 
 -- What contracts say of an `IterMut`.
 use Rattle.std.specs.Prelude.{◌≡◌, ◌+◌, ℕ, List, [], length, Option}

@@ -1,9 +1,11 @@
--- Made by tests/twins from crates/iddqd_bi/specs/Keys.antt: change that file.
+-- Made by tests/widths from crates/iddqd_bi/specs/Keys.antt: change that file.
 
 -- The ranks of an item with three keys, and the slots found by them.
-use Rattle.std.specs.Prelude.{Bool, List, [], ◌∷◌, Result, Ok, Err}
+use Rattle.std.specs.Prelude.{Bool, List, [], ◌∷◌}
 use Rattle.iddqd_store.specs.Bag.{Ranks, every_of}
 use Rattle.iddqd_store.specs.Rank.{agree}
+use Rattle.iddqd_store.specs.declared.index_table.searched.Searched.{Searched}
+use Rattle.iddqd_store.specs.declared.index_table.searched.Searched.TheVariants.{Found, Vacant}
 use Rattle.iddqd_tri.specs.declared.item.TriHashItem as item
 
 module _ {T K1 K2 K3 : Type 0} (of : item.Ghosts T K1 K2 K3) where
@@ -36,7 +38,7 @@ module _ {T K1 K2 K3 : Type 0} (of : item.Ghosts T K1 K2 K3) where
   has_all stands1 stands2 stands3 q1 q2 q3 = every_of (key_tests stands1 stands2 stands3 q1 q2 q3)
 
 -- `by_rank` lists what the search of each rank returned. No public clause cites it.
--- Example: If no search found a slot, it is `Ok` of the cells at which they ended.
-abbrev pub by_rank : {A B : Type 0} → Result (A × A × A) (B × B × B) → Result (List A) (List B)
-by_rank (Ok at) = Ok (at.0 ∷ at.1 ∷ at.2 ∷ [])
-by_rank (Err found) = Err (found.0 ∷ found.1 ∷ found.2 ∷ [])
+-- Example: If no search found a slot, it is `Vacant` of the cells at which they ended.
+abbrev pub by_rank : {F V : Type 0} → Searched (F × F × F) (V × V × V) → Searched (List F) (List V)
+by_rank (Found by) = Found (by.0 ∷ by.1 ∷ by.2 ∷ [])
+by_rank (Vacant at) = Vacant (at.0 ∷ at.1 ∷ at.2 ∷ [])

@@ -1,4 +1,4 @@
--- Made by tests/twins from crates/iddqd_bi/specs/Mismatch.antt: change that file.
+-- Made by tests/widths from crates/iddqd_bi/specs/Mismatch.antt: change that file.
 
 -- Why an item may not replace others: the item, and the rank at which its key differs, counted from 0.
 use Rattle.std.specs.Prelude.{◌≡◌, ℕ, Bool, List, Option, Some, None}

@@ -1,4 +1,4 @@
--- Made by tests/twins from crates/iddqd_bi/specs/OccupiedRefs.antt: change that file.
+-- Made by tests/widths from crates/iddqd_bi/specs/OccupiedRefs.antt: change that file.
 
 -- What an `OccupiedEntryRef` shows.
 use Rattle.std.specs.Prelude.{Bool, true, false, Option, Some, None, option_copied}

@@ -1,4 +1,4 @@
--- Made by tests/twins from crates/iddqd_bi/specs/Refusals.antt: change that file.
+-- Made by tests/widths from crates/iddqd_bi/specs/Refusals.antt: change that file.
 
 -- The value of the reply to an item that a vacant entry rejected.
 use Rattle.iddqd_store.specs.Runs.Reply.{Reply, key, memory}

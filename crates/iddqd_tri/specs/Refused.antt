@@ -1,4 +1,4 @@
--- Made by tests/twins from crates/iddqd_bi/specs/Refused.antt: change that file.
+-- Made by tests/widths from crates/iddqd_bi/specs/Refused.antt: change that file.
 
 -- What the error of an insert says, and what the map ends as.
 use Rattle.std.specs.Prelude.{◌≡◌, ◌++◌, Bool, false, List, [], ◌∷◌, Result, Ok, Err, OnOk, OnErr}

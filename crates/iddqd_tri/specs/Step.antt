@@ -1,4 +1,4 @@
--- Made by tests/twins from crates/iddqd_bi/specs/Step.antt: change that file.
+-- Made by tests/widths from crates/iddqd_bi/specs/Step.antt: change that file.
 
 -- One step of a map with three keys: each command with what it may return.
 use Rattle.std.specs.Prelude.{Bool}

@@ -1,6 +1,6 @@
 //! The calls of a map as values (commands), their replies, and what receives the replies.
 //!
-//! Made by tests/twins from crates/iddqd_bi/src/command.rt: change that file.
+//! Made by tests/widths from crates/iddqd_bi/src/command.rt: change that file.
 ghost use Rattle.std.specs.Prelude.{Result};
 ghost use Rattle.iddqd_store.specs.Runs.Reply.{Reply};
 ghost use Rattle.iddqd_store.specs.Runs.Values.{value_of};

@@ -1,6 +1,6 @@
 //! What guards, entries and iterations for writing print by `Debug`. Nothing that they lend is written.
 //!
-//! Made by tests/twins from crates/iddqd_bi/src/debug.rt: change that file.
+//! Made by tests/widths from crates/iddqd_bi/src/debug.rt: change that file.
 use crate::entry::{Entry, OccupiedEntry, OccupiedEntryMut, VacantEntry};
 use crate::item::TriHashItem;
 use crate::iter_mut::IterMut;

@@ -1,6 +1,6 @@
 //! Entries: what a lookup of three keys at once found, with a borrow of the map.
 //!
-//! Made by tests/twins from crates/iddqd_bi/src/entry.rt: change that file.
+//! Made by tests/widths from crates/iddqd_bi/src/entry.rt: change that file.
 ghost use Rattle.std.specs.Prelude.{◌≡◌, [], ◌∷◌};
 ghost use Rattle.iddqd_store.specs.Bag.{listing};
 ghost use Rattle.iddqd_store.specs.Map.{bag, hash_of};

@@ -1,6 +1,6 @@
 //! Iterating over the items of a map for writing.
 //!
-//! Made by tests/twins from crates/iddqd_bi/src/iter_mut.rt: change that file.
+//! Made by tests/widths from crates/iddqd_bi/src/iter_mut.rt: change that file.
 ghost use Rattle.std.specs.Prelude.{◌≡◌, [], length, slice_get, IfSome, IfNone};
 ghost use Rattle.std.specs.Borrow.{sem};
 ghost use Rattle.std.specs.Option.{option_and_then, option_copied_mut, option_map};

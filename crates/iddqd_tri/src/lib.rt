@@ -1,9 +1,9 @@
 //! `TriHashMap`, a hash map of items with three keys, with its guards, entries, iterations, errors and commands.
 //!
 //! A script makes most of the three-key text from the two-key text: change the latter, and then run
-//! `tests/twins --write` with the changed files.
+//! `tests/widths --write` with the changed files.
 //!
-//! Made by tests/twins from crates/iddqd_bi/src/lib.rt: change that file.
+//! Made by tests/widths from crates/iddqd_bi/src/lib.rt: change that file.
 #![tactic(auto)]
 
 mod command;

@@ -1,7 +1,7 @@
 //! References, boxes and reference-counted pointers to items are items, with the keys of the item that they point to. A
 //! `&mut` and a `Box` also give that item's data for writing.
 //!
-//! Made by tests/twins from crates/iddqd_bi/src/pointers.rt: change that file.
+//! Made by tests/widths from crates/iddqd_bi/src/pointers.rt: change that file.
 ghost use denote.Ref.{at_last};
 ghost use Rattle.std.specs.Arc.{arc_value};
 ghost use Rattle.std.specs.Box.{with_value};

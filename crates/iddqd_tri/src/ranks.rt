@@ -1,7 +1,7 @@
 //! The three ranks of an item, as types. The searches of `iddqd_store` are generic over the rank, and these types say
 //! which key is meant.
 //!
-//! Made by tests/twins from crates/iddqd_bi/src/ranks.rt: change that file.
+//! Made by tests/widths from crates/iddqd_bi/src/ranks.rt: change that file.
 use crate::item::TriHashItem;
 use iddqd_store::KeyOf;
 use std::hash::Hash;

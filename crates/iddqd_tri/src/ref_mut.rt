@@ -1,6 +1,6 @@
 //! Guards: items of a map, borrowed for writing.
 //!
-//! Made by tests/twins from crates/iddqd_bi/src/ref_mut.rt: change that file.
+//! Made by tests/widths from crates/iddqd_bi/src/ref_mut.rt: change that file.
 ghost use Rattle.std.specs.Prelude.{◌≡◌, true, is_some};
 ghost use Rattle.iddqd_store.specs.Slots.{get};
 

@@ -234,6 +234,6 @@ fn searches_ask_under_their_hash_alone(rt: HostRuntime) -> Result<(), Fail> {
 #[test]
 fn tables_have_no_more_room_than_their_load_asks_for(rt: HostRuntime) {
     assert!(rt; table_room(1) == 3 && table_room(8) == 21 && table_room(4_096) == 10_752);
-    assert!(rt; table_room(4_097) == 7_170 && table_room(16_384) == 28_672);
-    assert!(rt; table_room(16_385) == 16_385);
+    assert!(rt; table_room(4_097) == 7_170 && table_room(65_536) == 114_688);
+    assert!(rt; table_room(65_537) == 65_537);
 }

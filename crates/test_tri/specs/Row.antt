@@ -1,4 +1,4 @@
--- Made by tests/twins from crates/test_bi/specs/Row.antt: change that file.
+-- Made by tests/widths from crates/test_bi/specs/Row.antt: change that file.
 
 -- Words on a row.
 use Rattle.std.specs.Prelude.{ℕ}

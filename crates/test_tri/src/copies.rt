@@ -1,6 +1,6 @@
 //! Cloning a map with three keys whose items may fail to clone.
 //!
-//! Made by tests/twins from crates/test_bi/src/copies.rt: change that file.
+//! Made by tests/widths from crates/test_bi/src/copies.rt: change that file.
 ghost use Rattle.std.specs.Prelude.{◌≡◌};
 
 use iddqd_tri::{TriHashItem, TriHashMap};

@@ -1,6 +1,6 @@
 //! Items with three keys, which are numbers.
 //!
-//! Made by tests/twins from crates/test_bi/src/row.rt: change that file.
+//! Made by tests/widths from crates/test_bi/src/row.rt: change that file.
 ghost use Rattle.std.proofs.Common.{rules};
 ghost use Rattle.test_tri.specs.Row.{with_value};
 

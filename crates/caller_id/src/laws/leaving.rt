@@ -1,6 +1,6 @@
 //! What holds after items have been removed.
 //!
-//! Made by tests/twins from crates/caller_bi/src/laws/leaving.rt: change that file.
+//! Made by tests/widths from crates/caller_bi/src/laws/leaving.rt: change that file.
 ghost use Rattle.std.specs.Prelude.{◌≡◌, true, false};
 
 use iddqd_id::{IdHashItem, IdHashMap};

@@ -1,6 +1,6 @@
 //! `==` of maps is an equivalence relation if `==` of the items is one, and depends on the items alone.
 //!
-//! Made by tests/twins from crates/caller_bi/src/laws/comparing.rt: change that file.
+//! Made by tests/widths from crates/caller_bi/src/laws/comparing.rt: change that file.
 ghost use Rattle.std.specs.Prelude.{◌≡◌, true, IsPermutation};
 ghost use Rattle.iddqd_tri.specs.Map.{bag};
 

@@ -1,6 +1,6 @@
 //! Laws by which lookups agree with each other.
 //!
-//! Made by tests/twins from crates/caller_bi/src/laws/finding.rt: change that file.
+//! Made by tests/widths from crates/caller_bi/src/laws/finding.rt: change that file.
 ghost use Rattle.std.specs.Prelude.{◌≡◌, true};
 
 use iddqd_tri::{Query, TriHashItem, TriHashMap};

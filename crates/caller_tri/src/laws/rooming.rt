@@ -1,6 +1,6 @@
 //! Tests that inserts succeed after capacity was reserved, and that reserving and shrinking keep the items.
 //!
-//! Made by tests/twins from crates/caller_bi/src/laws/rooming.rt: change that file.
+//! Made by tests/widths from crates/caller_bi/src/laws/rooming.rt: change that file.
 ghost use Rattle.std.specs.Prelude.{◌≡◌, ◌≢◌, ◌∷◌, ◌<◌, ◌≤◌, ◌+◌, ◌⊎◌, [], true, length, IsPermutation};
 ghost use Rattle.std.specs.Bool.{OnTrue, OnFalse};
 ghost use Rattle.iddqd_tri.specs.Bag.{clash};

@@ -1,6 +1,6 @@
 //! What iterations give.
 //!
-//! Made by tests/twins from crates/caller_bi/src/laws/walking.rt: change that file.
+//! Made by tests/widths from crates/caller_bi/src/laws/walking.rt: change that file.
 ghost use Rattle.std.specs.Prelude.{◌≡◌, true, IfOk};
 ghost use Rattle.iddqd_tri.specs.Map.{bag};
 

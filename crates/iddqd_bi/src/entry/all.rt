@@ -37,7 +37,7 @@ impl<'a, T: BiHashItem, S: BuildHasher, Q1: Query<T::K1>, Q2: Query<T::K2>> Entr
             (λ o. KeepsFound T.BiHashItem Q1.stands_for Q2.stands_for o result) }
     {
         match self {
-            Entry::Vacant(v) => v.put_in(item),
+            Entry::Vacant(v) => v.insert_mut_or_refuse(item),
             Entry::Occupied(o) => Ok(o.into_mut()),
         }
     }
@@ -58,7 +58,7 @@ impl<'a, T: BiHashItem, S: BuildHasher, Q1: Query<T::K1>, Q2: Query<T::K2>> Entr
             (λ o. KeepsFound T.BiHashItem Q1.stands_for Q2.stands_for o result) }
     {
         match self {
-            Entry::Vacant(v) => v.put_in(f()),
+            Entry::Vacant(v) => v.insert_mut_or_refuse(f()),
             Entry::Occupied(o) => Ok(o.into_mut()),
         }
     }
@@ -90,7 +90,7 @@ impl<'a, T: BiHashItem, S: BuildHasher, Q1: Query<T::K1>, Q2: Query<T::K2>> Entr
             (λ o. KeepsFound T.BiHashItem Q1.stands_for Q2.stands_for o result) }
     {
         match self {
-            Entry::Vacant(v) => v.put_made_in(f()),
+            Entry::Vacant(v) => v.insert_made(f()),
             Entry::Occupied(o) => Ok(o.into_mut()),
         }
     }

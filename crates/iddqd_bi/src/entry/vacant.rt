@@ -43,13 +43,8 @@ impl<'a, T: Ranked, S: BuildHasher, Q1: Query<T::K1>, Q2: Query<T::K2>> VacantEn
         ensures* unchanged_at_err { sem 𝓛 (rests_if_err T.row S.row T.K1.row T.K2.row S.Hasher.row
             T.BiHashItem T.K1.Hash T.K2.Hash S.BuildHasher S.Hasher.Hasher ref_lender self.entry.map result) }
     {
-        let VacantEntry {
-            map,
-            query1,
-            query2,
-            at,
-        } = self;
-        let slot = map.insert_free(item, query1, query2, at)?;
+        let map = self.map;
+        let slot = map.insert_free(item, self.query1, self.query2, self.at)?;
         Ok(RefMut { map, slot })
     }
 
@@ -70,13 +65,8 @@ impl<'a, T: Ranked, S: BuildHasher, Q1: Query<T::K1>, Q2: Query<T::K2>> VacantEn
             T.BiHashItem T.K1.Hash T.K2.Hash S.BuildHasher S.Hasher.Hasher
             (λ m. m.map.ghost_name) self.entry.map result) }
     {
-        let VacantEntry {
-            map,
-            query1,
-            query2,
-            at,
-        } = self;
-        let slot = map.insert_free(item, query1, query2, at)?;
+        let map = self.map;
+        let slot = map.insert_free(item, self.query1, self.query2, self.at)?;
         Ok(OccupiedEntryMut {
             map,
             slot1: Some(slot),
@@ -140,7 +130,7 @@ impl<'a, T: BiHashItem, S: BuildHasher, Q1: Query<T::K1>, Q2: Query<T::K2>> Vaca
     /// Inserts an item as `insert_mut` does. The error borrows the map, as those of `or_insert` and `or_insert_with`
     /// do.
     #[inline(always)]
-    pub(super) fn put_in(
+    pub(super) fn insert_mut_or_refuse(
         self,
         item: T,
     ) -> Result<OccupiedEntryMut<'a, T, S>, EntryRefusal<'a, T, S>>
@@ -148,13 +138,8 @@ impl<'a, T: BiHashItem, S: BuildHasher, Q1: Query<T::K1>, Q2: Query<T::K2>> Vaca
         ensures same_map_at_err { IfErr result (λ e. e.map.ghost_name ≡ self.entry.map.ghost_name) }
         ensures puts_in { PutsIn self.entry item result }
     {
-        let VacantEntry {
-            map,
-            query1,
-            query2,
-            at,
-        } = self;
-        match map.insert_free(item, query1, query2, at) {
+        let map = self.map;
+        match map.insert_free(item, self.query1, self.query2, self.at) {
             Ok(slot) => Ok(OccupiedEntryMut {
                 map,
                 slot1: Some(slot),
@@ -164,9 +149,9 @@ impl<'a, T: BiHashItem, S: BuildHasher, Q1: Query<T::K1>, Q2: Query<T::K2>> Vaca
         }
     }
 
-    /// Inserts the item that a closure made, as `put_in` does, or returns the error with which the closure failed.
+    /// Inserts the item that a closure made, as `insert_mut_or_refuse` does, or returns the error with which the closure failed.
     #[inline(always)]
-    pub(super) fn put_made_in<E>(
+    pub(super) fn insert_made<E>(
         self,
         made: Result<T, E>,
     ) -> Result<OccupiedEntryMut<'a, T, S>, TryEntryRefusal<'a, T, E, S>>
@@ -175,14 +160,9 @@ impl<'a, T: BiHashItem, S: BuildHasher, Q1: Query<T::K1>, Q2: Query<T::K2>> Vaca
         ensures unchanged { IfErr result (λ e. e.map.now ≡ self.entry.map.now) }
         ensures puts_in { PutsInMade self.entry made result }
     {
-        let VacantEntry {
-            map,
-            query1,
-            query2,
-            at,
-        } = self;
+        let map = self.map;
         match made {
-            Ok(item) => match map.insert_free(item, query1, query2, at) {
+            Ok(item) => match map.insert_free(item, self.query1, self.query2, self.at) {
                 Ok(slot) => Ok(OccupiedEntryMut {
                     map,
                     slot1: Some(slot),

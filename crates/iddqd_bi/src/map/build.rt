@@ -24,7 +24,7 @@ impl<T: BiHashItem> BiHashMap<T, DefaultHashBuilder> {
     ///
     /// The call allocates the slots and each table. It fails if an allocation fails, or if the number of items is too
     /// large for memory. For 0 items it allocates nothing, and succeeds. A table has 16 bytes for each of its cells,
-    /// whose number is a power of two: up to 4,096 items the least that is three times as many, up to 16,384 the least
+    /// whose number is a power of two: up to 4,096 items the least that is three times as many, up to 65,536 the least
     /// that is twice as many, and above that the least of which the items fill seven eighths.
     pub fn with_capacity(alloc: Global, items: usize) -> Result<Self, TryReserveError>
         ensures empty { IfOk result (λ map. bag map ≡ []) }
@@ -75,7 +75,7 @@ impl<T: BiHashItem, S: BuildHasher> BiHashMap<T, S> {
     ///
     /// The call allocates the slots and each table. It fails if an allocation fails, or if the number of items is too
     /// large for memory. For 0 items it allocates nothing, and succeeds. A table has 16 bytes for each of its cells,
-    /// whose number is a power of two: up to 4,096 items the least that is three times as many, up to 16,384 the least
+    /// whose number is a power of two: up to 4,096 items the least that is three times as many, up to 65,536 the least
     /// that is twice as many, and above that the least of which the items fill seven eighths.
     pub fn with_capacity_and_hasher(
         alloc: Global,

@@ -6,7 +6,7 @@ ghost use Rattle.iddqd_store.specs.Table.Limit.{most_room};
 
 use super::BiHashMap;
 use crate::item::Ranked;
-use iddqd_store::{Meter, TryReserveError};
+use iddqd_store::TryReserveError;
 use std::hash::{BuildHasher, Hash};
 
 impl<T: Ranked, S: BuildHasher> BiHashMap<T, S> {
@@ -38,6 +38,10 @@ impl<T: Ranked, S: BuildHasher> BiHashMap<T, S> {
     /// Reserves capacity for this many more items. If they fit already, the call allocates no memory. It compares no
     /// key.
     ///
+    /// The tables become as large as those of a map that `with_capacity` makes for so many items, or stay if they are
+    /// larger. So a map that is then filled has the lookups of such a map. Where the slots bound the capacity, they double if
+    /// the tables serve as many items. So all calls for one item before each insert take linear time together.
+    ///
     /// The call fails if an allocation for more slots or for a larger table fails, or if the number of items would be
     /// too large for memory. Then the items, the capacity and the builder are as before. Slots and tables may have more
     /// room then, which serves a later call; a call that shrinks the map frees it. While a table grows, it has its old
@@ -47,7 +51,7 @@ impl<T: Ranked, S: BuildHasher> BiHashMap<T, S> {
         ensures room { MakesRoom self.old more result self.new }
         ensures unchanged { OnErr result (self.new ≡ self.old) }
     {
-        self.grow(more)
+        self.grow(more, 0)
     }
 
     /// Reserves capacity as `reserve` does. If the call fails, the map is as before. Both calls are the same: the two names
@@ -97,7 +101,7 @@ impl<T: Ranked, S: BuildHasher> BiHashMap<T, S> {
         let mut from = 0;
         while let Some(slot) = self.slot_from(from) {
             from = slot.number() + 1;
-            drop(self.take(slot, None, None, &mut Meter::new()));
+            drop(self.take_at(slot));
         }
     }
 }

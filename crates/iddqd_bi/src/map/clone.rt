@@ -33,10 +33,12 @@ impl<T: BiHashItem + Clone, S: BuildHasher + Clone> BiHashMap<T, S> {
         ensures builder { IfOk result (λ copy. S.is_clone self.now.builder copy.builder) }
     {
         let hash_builder = self.hash_builder.clone()?;
+        let first = self.first.clone()?;
+        let second = self.second.clone()?;
         let copy = BiHashMap {
             items: self.items.clone()?,
-            first: self.first.clone()?,
-            second: self.second.clone()?,
+            first,
+            second,
             hash_builder,
             keys: PhantomData,
         };

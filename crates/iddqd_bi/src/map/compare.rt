@@ -59,7 +59,7 @@ impl<T: BiHashItem + PartialEq, S: BuildHasher> BiHashMap<T, S> {
             (hash_of S.BuildHasher S.Hasher.Hasher self.now.builder (T.K1.hash_input (T.key1 item.now)))
             1 asked.old asked.new probed.old probed.new }
     {
-        match self.get1_by(item.key1(), asked, probed) {
+        match self.item_of(self.slot1_by(item.key1(), asked, probed)) {
             Some(found) => has_others(found, item.key2(), asked) && item == found,
             None => false,
         }

@@ -8,7 +8,7 @@ ghost use Rattle.iddqd_bi.specs.Entries.{HasKeys, IsFound, entry_lender, entry_m
 use super::BiHashMap;
 use crate::entry::{Entry, OccupiedEntry, VacantEntry};
 use crate::item::BiHashItem;
-use iddqd_store::{Meter, Query};
+use iddqd_store::{Meter, Query, Searched};
 use std::hash::{BuildHasher, Hash};
 
 impl<T: BiHashItem, S: BuildHasher> BiHashMap<T, S> {
@@ -42,13 +42,13 @@ impl<T: BiHashItem, S: BuildHasher> BiHashMap<T, S> {
         ensures is_found { IsFound result }
     {
         match self.search_all(query1, query2, &mut Meter::new(), &mut Meter::new()) {
-            Ok(at) => Entry::Vacant(VacantEntry {
+            Searched::Vacant(at) => Entry::Vacant(VacantEntry {
                 map: self,
                 query1,
                 query2,
                 at,
             }),
-            Err((by1, by2)) => Entry::Occupied(OccupiedEntry {
+            Searched::Found((by1, by2)) => Entry::Occupied(OccupiedEntry {
                 map: self,
                 query1,
                 query2,

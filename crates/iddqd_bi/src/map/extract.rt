@@ -9,7 +9,7 @@ ghost use Rattle.iddqd_store.specs.Map.Walk.{to_come};
 
 use super::BiHashMap;
 use crate::item::BiHashItem;
-use iddqd_store::{Cursor, Meter};
+use iddqd_store::Cursor;
 use std::hash::{BuildHasher, Hash};
 
 impl<T: BiHashItem, S: BuildHasher> BiHashMap<T, S> {
@@ -43,7 +43,7 @@ impl<T: BiHashItem, S: BuildHasher> BiHashMap<T, S> {
         while let Some(slot) = self.slot_from(cursor.next()) {
             cursor.pass(slot);
             if f(self.item_at(slot)) {
-                return Some(self.take(slot, None, None, &mut Meter::new()));
+                return Some(self.take_at(slot));
             }
         }
         None

@@ -9,7 +9,7 @@ ghost use Rattle.iddqd_bi.specs.Keys.{has1, has2, has_both};
 
 use super::BiHashMap;
 use crate::item::{BiHashItem, Hashed};
-use iddqd_store::{ItemIndex, KeyMatcher, Meter, Query};
+use iddqd_store::{ByQuery, ItemIndex, KeyMatcher, Meter, Query};
 use std::hash::{BuildHasher, Hash};
 
 impl<T: BiHashItem, S: BuildHasher> BiHashMap<T, S> {
@@ -27,7 +27,12 @@ impl<T: BiHashItem, S: BuildHasher> BiHashMap<T, S> {
     pub fn get1<Q: Query<T::K1>>(&self, query: Q) -> Option<&T>
         ensures { IsOnly (has1 T.BiHashItem Q.stands_for query) (bag self.now) (option_copied result) }
     {
-        self.get1_by(query, &mut Meter::new(), &mut Meter::new())
+        let hash = self.hash_builder.hash_one(query);
+        self.find1_with(
+            hash,
+            &mut ByQuery::new(&query, &mut Meter::new()),
+            &mut Meter::new(),
+        )
     }
 
     /// Returns the item with the second key that the query stands for, or `None`. A query is a `&key`, or what stands
@@ -44,7 +49,12 @@ impl<T: BiHashItem, S: BuildHasher> BiHashMap<T, S> {
     pub fn get2<Q: Query<T::K2>>(&self, query: Q) -> Option<&T>
         ensures { IsOnly (has2 T.BiHashItem Q.stands_for query) (bag self.now) (option_copied result) }
     {
-        self.get2_by(query, &mut Meter::new(), &mut Meter::new())
+        let hash = self.hash_builder.hash_one(query);
+        self.find2_with(
+            hash,
+            &mut ByQuery::new(&query, &mut Meter::new()),
+            &mut Meter::new(),
+        )
     }
 
     /// Returns the item that has both keys that the queries stand for, or `None`.
@@ -66,16 +76,14 @@ impl<T: BiHashItem, S: BuildHasher> BiHashMap<T, S> {
     pub fn contains_key1<Q: Query<T::K1>>(&self, query: Q) -> bool
         ensures { result ≡ list_any (has1 T.BiHashItem Q.stands_for query) (bag self.now) }
     {
-        let found = self.get1_by(query, &mut Meter::new(), &mut Meter::new());
-        found.is_some()
+        self.get1(query).is_some()
     }
 
     /// Returns whether an item has the second key that the query stands for. It costs what `get2` costs.
     pub fn contains_key2<Q: Query<T::K2>>(&self, query: Q) -> bool
         ensures { result ≡ list_any (has2 T.BiHashItem Q.stands_for query) (bag self.now) }
     {
-        let found = self.get2_by(query, &mut Meter::new(), &mut Meter::new());
-        found.is_some()
+        self.get2(query).is_some()
     }
 
     /// Returns whether an item has both keys that the queries stand for. It costs what `get_unique` costs.
@@ -136,22 +144,6 @@ impl<T: BiHashItem, S: BuildHasher> BiHashMap<T, S> {
         self.by_key2().find_with(hash, matcher, meter)
     }
 
-    /// Returns what `get1` returns, which calls it. One meter counts the keys that the query is compared with, and the
-    /// other the probed cells.
-    pub(crate) fn get1_by<Q: Query<T::K1>>(
-        &self,
-        query: Q,
-        asked: &mut Meter,
-        probed: &mut Meter,
-    ) -> Option<&T>
-        ensures found { IsOnly (has1 T.BiHashItem Q.stands_for query) (bag self.now) (option_copied result) }
-        ensures costs { SearchCosts (⟦<T as Hashed<S>>⟧.hash1 self.now.builder) (bag self.now) self.now.capacity
-            (hash_of S.BuildHasher S.Hasher.Hasher self.now.builder (Q.hash_input query)) result
-            asked.old asked.new probed.old probed.new }
-    {
-        self.by_key1().get(query, asked, probed)
-    }
-
     /// Returns the slot of the item whose first key the query stands for, or `None`. One meter counts the keys that the
     /// query is compared with, and the other the probed cells.
     pub(crate) fn slot1_by<Q: Query<T::K1>>(
@@ -166,22 +158,6 @@ impl<T: BiHashItem, S: BuildHasher> BiHashMap<T, S> {
             asked.old asked.new probed.old probed.new }
     {
         self.by_key1().slot_of(query, asked, probed)
-    }
-
-    /// Returns what `get2` returns, which calls it. One meter counts the keys that the query is compared with, and the
-    /// other the probed cells.
-    pub(crate) fn get2_by<Q: Query<T::K2>>(
-        &self,
-        query: Q,
-        asked: &mut Meter,
-        probed: &mut Meter,
-    ) -> Option<&T>
-        ensures found { IsOnly (has2 T.BiHashItem Q.stands_for query) (bag self.now) (option_copied result) }
-        ensures costs { SearchCosts (⟦<T as Hashed<S>>⟧.hash2 self.now.builder) (bag self.now) self.now.capacity
-            (hash_of S.BuildHasher S.Hasher.Hasher self.now.builder (Q.hash_input query)) result
-            asked.old asked.new probed.old probed.new }
-    {
-        self.by_key2().get(query, asked, probed)
     }
 
     /// Returns the slot of the item whose second key the query stands for, or `None`. One meter counts the keys that the

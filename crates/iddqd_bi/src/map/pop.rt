@@ -6,7 +6,7 @@ ghost use Rattle.iddqd_store.specs.Map.Extracting.{PopsFrom};
 
 use super::BiHashMap;
 use crate::item::BiHashItem;
-use iddqd_store::{Cursor, Meter};
+use iddqd_store::Cursor;
 use std::hash::{BuildHasher, Hash};
 
 impl<T: BiHashItem, S: BuildHasher> BiHashMap<T, S> {
@@ -30,7 +30,7 @@ impl<T: BiHashItem, S: BuildHasher> BiHashMap<T, S> {
         ensures absent { IfNone result (self.new ≡ self.old) }
     {
         let slot = self.first_slot()?;
-        Some(self.take(slot, None, None, &mut Meter::new()))
+        Some(self.take_at(slot))
     }
 
     /// Removes the next item from the cursor on, and returns it, or `None` if there is none. The cursor moves on to where
@@ -61,6 +61,6 @@ impl<T: BiHashItem, S: BuildHasher> BiHashMap<T, S> {
     {
         let slot = self.slot_from(cursor.next())?;
         cursor.pass(slot);
-        Some(self.take(slot, None, None, &mut Meter::new()))
+        Some(self.take_at(slot))
     }
 }

@@ -7,7 +7,6 @@ ghost use Rattle.iddqd_store.specs.Map.{bag};
 
 use super::BiHashMap;
 use crate::item::BiHashItem;
-use iddqd_store::Meter;
 use std::hash::{BuildHasher, Hash};
 
 impl<T: BiHashItem, S: BuildHasher> BiHashMap<T, S> {
@@ -30,7 +29,7 @@ impl<T: BiHashItem, S: BuildHasher> BiHashMap<T, S> {
         while let Some(slot) = self.slot_from(from) {
             from = slot.number() + 1;
             if !f(self.item_at(slot)) {
-                drop(self.take(slot, None, None, &mut Meter::new()));
+                drop(self.take_at(slot));
             }
         }
     }

@@ -7,7 +7,6 @@ ghost use Rattle.iddqd_store.specs.Map.{bag};
 
 use super::BiHashMap;
 use crate::item::BiHashItemMut;
-use iddqd_store::Meter;
 use std::hash::{BuildHasher, Hash};
 
 impl<T: BiHashItemMut, S: BuildHasher> BiHashMap<T, S> {
@@ -31,7 +30,7 @@ impl<T: BiHashItemMut, S: BuildHasher> BiHashMap<T, S> {
         while let Some(slot) = self.slot_from(from) {
             from = slot.number() + 1;
             if !self.store_some_at(slot, &mut f) {
-                drop(self.take(slot, None, None, &mut Meter::new()));
+                drop(self.take_at(slot));
             }
         }
     }

@@ -195,8 +195,8 @@ where
         }
     }
 
-    // Hands a reply to the sink. `capacity` is called for the fact that the items fit, which the clauses of each of
-    // these functions state, because the clauses of each step state it. A reply that borrows nothing would leave its
+    // Hands a reply to the sink. The clauses of each of these functions state that the items fit, because the clauses of
+    // each step state it. A reply that borrows nothing would leave its
     // lifetime open, so each reply is handed over from a borrow of the map. The function is inlined, so that the sink's
     // code knows the reply.
     #[inline(always)]
@@ -204,7 +204,7 @@ where
         ensures took { K.took sink.old (value_of reply.entry) result sink.new }
         ensures fits { Fits (state_of self.now) }
     {
-        let _ = self.capacity();
+        self.note_that_items_fit();
         sink.take(reply)
     }
 

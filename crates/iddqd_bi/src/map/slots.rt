@@ -9,6 +9,7 @@ ghost use Rattle.iddqd_store.specs.Rank.Index.{HasHash};
 ghost use Rattle.iddqd_store.specs.Map.{bag, hash_of, Gains, Loses, PutsAt, IsFullFor, IsBlockedAt};
 ghost use Rattle.iddqd_store.specs.Rank.All.{ArePlacesOf, AreSearched, AreUnder, AreVacantFor, HaveHashes, HaveRoom, IsBlockedBy, PlacingCosts, hashes_of, slots_found};
 ghost use Rattle.iddqd_store.specs.Rank.{agree, walks_within};
+ghost use Rattle.iddqd_store.specs.Searched.{IfFound, IfVacant, OnFound, OnVacant};
 ghost use Rattle.iddqd_store.specs.Slots.Found.{AreFound, each_once, items_at};
 ghost use Rattle.iddqd_store.specs.Slots.{get, IsLive, Updates};
 ghost use Rattle.iddqd_bi.specs.Keys.{by_rank, key_tests};
@@ -26,7 +27,7 @@ use super::BiHashMap;
 use crate::error::EntryError;
 use crate::item::{BiHashItem, Hashed, Ranked};
 use crate::ranks::{First, Second};
-use iddqd_store::{ItemIndex, Lookup, Meter, Query, SlotUnder, UpToTwo, Vacancy};
+use iddqd_store::{ItemIndex, Lookup, Meter, Query, Searched, SlotUnder, UpToTwo, Vacancy};
 use std::hash::{BuildHasher, Hash};
 
 /// An item that was not inserted, and why. It does not borrow the map.
@@ -77,10 +78,9 @@ impl<T: BiHashItem, S: BuildHasher> BiHashMap<T, S> {
         self.hash_builder.hash_one(item.key2())
     }
 
-    /// Searches at each rank for its key. If no item has one of the keys, `Ok` has the empty cells at which the
-    /// searches ended. Otherwise `Err` has the slot that each search found, if it found one, with the hash. The call
-    /// hashes each key once, and searches for it once. One meter counts the keys that are compared, and the other the
-    /// probed cells.
+    /// Searches at each rank for its key. `Found` has the slot that each search found, if it found one, with the hash. If
+    /// no item has one of the keys, `Vacant` has the empty cells at which the searches ended. The call hashes each key
+    /// once, and searches for it once. One meter counts the keys that are compared, and the other the probed cells.
     #[inline(always)]
     pub(crate) fn search_all<Q1: Query<T::K1>, Q2: Query<T::K2>>(
         &self,
@@ -88,22 +88,22 @@ impl<T: BiHashItem, S: BuildHasher> BiHashMap<T, S> {
         query2: Q2,
         asked: &mut Meter,
         probed: &mut Meter,
-    ) -> Result<(Vacancy, Vacancy), (SlotUnder, SlotUnder)>
+    ) -> Searched<(SlotUnder, SlotUnder), (Vacancy, Vacancy)>
         // The slots that were found, and whether there are any.
         ensures found { AreFound (key_tests T.BiHashItem Q1.stands_for Q2.stands_for query1 query2) self.now.slots
             (slots_found (by_rank result)) }
-        ensures none { OnOk result (list_any is_some (slots_found (by_rank result)) ≡ false) }
-        ensures some { OnErr result (list_any is_some (slots_found (by_rank result)) ≡ true) }
+        ensures none { OnVacant result (list_any is_some (slots_found (by_rank result)) ≡ false) }
+        ensures some { OnFound result (list_any is_some (slots_found (by_rank result)) ≡ true) }
         ensures apart { IsDistinct (agree T.key1 T.K1.eq) (bag self.now) }
         // The empty cells, or the hashes by which the slots were found.
-        ensures vacant { IfOk (by_rank result) (AreVacantFor (⟦<T as Hashed<S>>⟧.hashes self.now.builder) (bag self.now)
+        ensures vacant { IfVacant (by_rank result) (AreVacantFor (⟦<T as Hashed<S>>⟧.hashes self.now.builder) (bag self.now)
             (map (hash_of S.BuildHasher S.Hasher.Hasher self.now.builder)
             (Q1.hash_input query1 ∷ Q2.hash_input query2 ∷ []))) }
-        ensures cells { IfOk (by_rank result) (HaveRoom self.now.capacity) }
-        ensures hashes { IfErr (by_rank result) (HaveHashes
+        ensures cells { IfVacant (by_rank result) (HaveRoom self.now.capacity) }
+        ensures hashes { IfFound (by_rank result) (HaveHashes
             (map (hash_of S.BuildHasher S.Hasher.Hasher self.now.builder)
             (Q1.hash_input query1 ∷ Q2.hash_input query2 ∷ []))) }
-        ensures under { IfErr (by_rank result) (AreUnder (⟦<T as Hashed<S>>⟧.hashes self.now.builder) self.now.slots) }
+        ensures under { IfFound (by_rank result) (AreUnder (⟦<T as Hashed<S>>⟧.hashes self.now.builder) self.now.slots) }
         ensures costs { AreSearched (⟦<T as Hashed<S>>⟧.hashes self.now.builder) (bag self.now) self.now.capacity
             (map (hash_of S.BuildHasher S.Hasher.Hasher self.now.builder)
             (Q1.hash_input query1 ∷ Q2.hash_input query2 ∷ [])) (slots_found (by_rank result))
@@ -114,16 +114,16 @@ impl<T: BiHashItem, S: BuildHasher> BiHashMap<T, S> {
         let by1 = self.by_key1().search(hash1, query1, asked, probed);
         let by2 = self.by_key2().search(hash2, query2, asked, probed);
         match (by1, by2) {
-            (Err(at1), Err(at2)) => Ok((at1, at2)),
-            (by1, by2) => Err((
-                SlotUnder::new(by1.ok(), hash1),
-                SlotUnder::new(by2.ok(), hash2),
+            (Searched::Vacant(at1), Searched::Vacant(at2)) => Searched::Vacant((at1, at2)),
+            (by1, by2) => Searched::Found((
+                SlotUnder::new(by1.found(), hash1),
+                SlotUnder::new(by2.found(), hash2),
             )),
         }
     }
 
-    /// Returns where an item is to be inserted at each rank, or, if items conflict with it, what the search at each
-    /// rank found. The call hashes each key once, and searches for it once. One meter counts the keys that are compared,
+    /// Returns what the search at each rank found, if items conflict with an item, and else where it is to be inserted at
+    /// each rank. The call hashes each key once, and searches for it once. One meter counts the keys that are compared,
     /// and the other the probed cells.
     #[inline(always)]
     pub(crate) fn places(
@@ -131,15 +131,15 @@ impl<T: BiHashItem, S: BuildHasher> BiHashMap<T, S> {
         item: &T,
         asked: &mut Meter,
         probed: &mut Meter,
-    ) -> Result<(Vacancy, Vacancy), (SlotUnder, SlotUnder)>
-        ensures free { OnOk result (clash ⟦<T as Ranked>⟧.ranks (bag self.now) item.now ≡ []) }
-        ensures places { IfOk (by_rank result) (ArePlacesOf
+    ) -> Searched<(SlotUnder, SlotUnder), (Vacancy, Vacancy)>
+        ensures free { OnVacant result (clash ⟦<T as Ranked>⟧.ranks (bag self.now) item.now ≡ []) }
+        ensures places { IfVacant (by_rank result) (ArePlacesOf
             (⟦<T as Hashed<S>>⟧.hashes self.now.builder) (bag self.now) item.now) }
-        ensures blocked { OnErr result (IsBlockedAt ⟦<T as Ranked>⟧.ranks self.now item.now
+        ensures blocked { OnFound result (IsBlockedAt ⟦<T as Ranked>⟧.ranks self.now item.now
             (each_once (slots_found (by_rank result)))) }
-        ensures hashes { IfErr (by_rank result) (HaveHashes
+        ensures hashes { IfFound (by_rank result) (HaveHashes
             (hashes_of (⟦<T as Hashed<S>>⟧.hashes self.now.builder) item.now)) }
-        ensures under { IfErr (by_rank result) (AreUnder (⟦<T as Hashed<S>>⟧.hashes self.now.builder) self.now.slots) }
+        ensures under { IfFound (by_rank result) (AreUnder (⟦<T as Hashed<S>>⟧.hashes self.now.builder) self.now.slots) }
         ensures found { AreFound (⟦<T as Ranked>⟧.key_tests (T.key1 item.now) (T.key2 item.now))
             self.now.slots (slots_found (by_rank result)) }
         ensures costs { AreSearched (⟦<T as Hashed<S>>⟧.hashes self.now.builder) (bag self.now) self.now.capacity
@@ -237,6 +237,18 @@ impl<T: BiHashItem, S: BuildHasher> BiHashMap<T, S> {
         }
     }
 
+    /// Removes the item of a slot, by one walk through each table. It hashes each key of it once.
+    #[inline(always)]
+    pub(crate) fn take_at(&mut self, slot: ItemIndex) -> T
+        requires { IsLive self.old.slots slot }
+        ensures value { get self.old.slots slot ≡ Some result }
+        ensures slots { self.new.slots ≡ slice_set self.old.slots slot None }
+        ensures loses { Loses self.old (result ∷ []) self.new }
+        ensures updates { Updates self.old.slots self.new.slots slot None }
+    {
+        self.take(slot, None, None, &mut Meter::new())
+    }
+
     /// Removes the items of these slots, in their order. The call hashes each key of them once.
     pub(crate) fn take_all(&mut self, found: &UpToTwo<ItemIndex>) -> UpToTwo<T>
         requires live { All (IsLive self.old.slots) found.now }
@@ -250,7 +262,7 @@ impl<T: BiHashItem, S: BuildHasher> BiHashMap<T, S> {
         let mut taken = UpToTwo::new();
         for index in 0..found.len() {
             if let Some(slot) = found.get(index) {
-                taken.push(self.take(*slot, None, None, &mut Meter::new()));
+                taken.push(self.take_at(*slot));
             }
         }
         taken
@@ -280,8 +292,8 @@ impl<T: BiHashItem, S: BuildHasher> BiHashMap<T, S> {
             asked.old asked.new probed.old probed.new }
     {
         let at = match self.places(&item, asked, probed) {
-            Ok(at) => at,
-            Err(by) => return Err(Refusal::Duplicate(item, by)),
+            Searched::Vacant(at) => at,
+            Searched::Found(by) => return Err(Refusal::Duplicate(item, by)),
         };
         if let Err(_) = self.make_room(1) {
             return Err(Refusal::Memory(item));

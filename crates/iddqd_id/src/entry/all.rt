@@ -1,6 +1,6 @@
 //! The calls of an entry that may be vacant or occupied.
 //!
-//! Made by tests/twins from crates/iddqd_bi/src/entry/all.rt: change that file.
+//! Made by tests/widths from crates/iddqd_bi/src/entry/all.rt: change that file.
 ghost use Rattle.std.specs.Prelude.{◌≡◌, Result, IfOk, IfErr, Some};
 ghost use Rattle.std.specs.Fn.{FnOnceReturnsAt, FnOnceTakesAt};
 ghost use Rattle.iddqd_store.specs.Bag.{IsOnly};
@@ -34,7 +34,7 @@ impl<'a, T: IdHashItem, S: BuildHasher, Q: Query<T::Key>> Entry<'a, T, S, Q> {
             (λ o. KeepsFound o result) }
     {
         match self {
-            Entry::Vacant(v) => v.put_in(item),
+            Entry::Vacant(v) => v.insert_mut_or_refuse(item),
             Entry::Occupied(o) => Ok(o.into_mut()),
         }
     }
@@ -56,7 +56,7 @@ impl<'a, T: IdHashItem, S: BuildHasher, Q: Query<T::Key>> Entry<'a, T, S, Q> {
             (λ o. KeepsFound o result) }
     {
         match self {
-            Entry::Vacant(v) => v.put_in(f()),
+            Entry::Vacant(v) => v.insert_mut_or_refuse(f()),
             Entry::Occupied(o) => Ok(o.into_mut()),
         }
     }
@@ -89,7 +89,7 @@ impl<'a, T: IdHashItem, S: BuildHasher, Q: Query<T::Key>> Entry<'a, T, S, Q> {
             (λ o. KeepsFound o result) }
     {
         match self {
-            Entry::Vacant(v) => v.put_made_in(f()),
+            Entry::Vacant(v) => v.insert_made(f()),
             Entry::Occupied(o) => Ok(o.into_mut()),
         }
     }

@@ -16,7 +16,7 @@ use crate::error::KeyMismatch;
 use crate::item::{IdHashItem, IdHashItemMut, Ranked};
 use crate::map::IdHashMap;
 use crate::ref_mut::RefMut;
-use iddqd_store::{Meter, Query};
+use iddqd_store::Query;
 use std::hash::{BuildHasher, Hash};
 
 impl<'a, T: IdHashItem, S: BuildHasher, Q: Query<T::Key>> OccupiedEntry<'a, T, S, Q> {
@@ -116,7 +116,7 @@ impl<'a, T: IdHashItem, S: BuildHasher, Q: Query<T::Key>> OccupiedEntry<'a, T, S
             query: _,
             slot,
         } = self;
-        map.take(slot, None, &mut Meter::new())
+        map.take_at(slot)
     }
 }
 

@@ -1,6 +1,6 @@
 //! Inserting an item through a vacant entry.
 //!
-//! Made by tests/twins from crates/iddqd_bi/src/entry/vacant.rt: change that file.
+//! Made by tests/widths from crates/iddqd_bi/src/entry/vacant.rt: change that file.
 ghost use Rattle.std.specs.Prelude.{◌≡◌, ◌<◌, length, None, IsOk, IfOk, IfErr, OnOk};
 ghost use Rattle.std.specs.Borrow.{sem};
 ghost use Rattle.iddqd_store.specs.Bag.{differ};
@@ -39,8 +39,8 @@ impl<'a, T: Ranked, S: BuildHasher, Q: Query<T::Key>> VacantEntry<'a, T, S, Q> {
         ensures* unchanged_at_err { sem 𝓛 (rests_if_err T.row S.row T.Key.row S.Hasher.row
             T.IdHashItem T.Key.Hash S.BuildHasher S.Hasher.Hasher ref_lender self.entry.map result) }
     {
-        let VacantEntry { map, query, at } = self;
-        let slot = map.insert_free(item, query, at)?;
+        let map = self.map;
+        let slot = map.insert_free(item, self.query, self.at)?;
         Ok(RefMut { map, slot })
     }
 }
@@ -74,21 +74,25 @@ impl<'a, T: IdHashItem, S: BuildHasher, Q: Query<T::Key>> VacantEntry<'a, T, S, 
     /// Inserts an item as `insert` does. The error borrows the map, as those of `or_insert` and `or_insert_with`
     /// do.
     #[inline(always)]
-    pub(super) fn put_in(self, item: T) -> Result<RefMut<'a, T, S>, EntryRefusal<'a, T, S>>
+    pub(super) fn insert_mut_or_refuse(
+        self,
+        item: T,
+    ) -> Result<RefMut<'a, T, S>, EntryRefusal<'a, T, S>>
         ensures same_map { IfOk result (λ m. m.map.ghost_name ≡ self.entry.map.ghost_name) }
         ensures same_map_at_err { IfErr result (λ e. e.map.ghost_name ≡ self.entry.map.ghost_name) }
         ensures puts_in { PutsIn self.entry item result }
     {
-        let VacantEntry { map, query, at } = self;
-        match map.insert_free(item, query, at) {
+        let map = self.map;
+        match map.insert_free(item, self.query, self.at) {
             Ok(slot) => Ok(RefMut { map, slot }),
             Err(error) => Err(EntryRefusal { map, error }),
         }
     }
 
-    /// Inserts the item that a closure made, as `put_in` does, or returns the error with which the closure failed.
+    /// Inserts the item that a closure made, as `insert_mut_or_refuse` does, or returns the error with which the
+    /// closure failed.
     #[inline(always)]
-    pub(super) fn put_made_in<E>(
+    pub(super) fn insert_made<E>(
         self,
         made: Result<T, E>,
     ) -> Result<RefMut<'a, T, S>, TryEntryRefusal<'a, T, E, S>>
@@ -97,9 +101,9 @@ impl<'a, T: IdHashItem, S: BuildHasher, Q: Query<T::Key>> VacantEntry<'a, T, S, 
         ensures unchanged { IfErr result (λ e. e.map.now ≡ self.entry.map.now) }
         ensures puts_in { PutsInMade self.entry made result }
     {
-        let VacantEntry { map, query, at } = self;
+        let map = self.map;
         match made {
-            Ok(item) => match map.insert_free(item, query, at) {
+            Ok(item) => match map.insert_free(item, self.query, self.at) {
                 Ok(slot) => Ok(RefMut { map, slot }),
                 Err(error) => Err(TryEntryRefusal {
                     map,

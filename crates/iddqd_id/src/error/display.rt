@@ -1,6 +1,6 @@
 //! What the errors print. No item is printed, so an item needs neither `Debug` nor `Display`; `Error` needs `Drop`.
 //!
-//! Made by tests/twins from crates/iddqd_bi/src/error/display.rt: change that file.
+//! Made by tests/widths from crates/iddqd_bi/src/error/display.rt: change that file.
 use super::{
     EntryError, EntryRefusal, ExtendUniqueError, InsertError, KeyMismatch, NotReplaced, Rejected,
     TryEntryError, TryEntryRefusal,

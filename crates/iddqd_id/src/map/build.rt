@@ -1,6 +1,6 @@
 //! Making empty maps.
 //!
-//! Made by tests/twins from crates/iddqd_bi/src/map/build.rt: change that file.
+//! Made by tests/widths from crates/iddqd_bi/src/map/build.rt: change that file.
 ghost use Rattle.std.specs.Prelude.{◌≡◌, ◌<◌, [], IfOk, IsOk, IsErr};
 ghost use Rattle.iddqd_store.specs.Map.{bag};
 ghost use Rattle.iddqd_store.specs.Table.Limit.{most_room};
@@ -26,7 +26,7 @@ impl<T: IdHashItem> IdHashMap<T, DefaultHashBuilder> {
     ///
     /// The call allocates the slots and the table. It fails if an allocation fails, or if the number of items is too
     /// large for memory. For 0 items it allocates nothing, and succeeds. A table has 16 bytes for each of its cells,
-    /// whose number is a power of two: up to 4,096 items the least that is three times as many, up to 16,384 the least
+    /// whose number is a power of two: up to 4,096 items the least that is three times as many, up to 65,536 the least
     /// that is twice as many, and above that the least of which the items fill seven eighths.
     pub fn with_capacity(alloc: Global, items: usize) -> Result<Self, TryReserveError>
         ensures empty { IfOk result (λ map. bag map ≡ []) }
@@ -76,7 +76,7 @@ impl<T: IdHashItem, S: BuildHasher> IdHashMap<T, S> {
     ///
     /// The call allocates the slots and the table. It fails if an allocation fails, or if the number of items is too
     /// large for memory. For 0 items it allocates nothing, and succeeds. A table has 16 bytes for each of its cells,
-    /// whose number is a power of two: up to 4,096 items the least that is three times as many, up to 16,384 the least
+    /// whose number is a power of two: up to 4,096 items the least that is three times as many, up to 65,536 the least
     /// that is twice as many, and above that the least of which the items fill seven eighths.
     pub fn with_capacity_and_hasher(
         alloc: Global,

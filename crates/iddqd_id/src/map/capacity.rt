@@ -1,6 +1,6 @@
 //! How many items there are and how many fit, and growing.
 //!
-//! Made by tests/twins from crates/iddqd_bi/src/map/capacity.rt: change that file.
+//! Made by tests/widths from crates/iddqd_bi/src/map/capacity.rt: change that file.
 ghost use Rattle.std.specs.Prelude.{◌≡◌, ◌≤◌, [], length, ◌==◌, OnErr};
 ghost use Rattle.iddqd_store.specs.Bag.{IsSound};
 ghost use Rattle.iddqd_store.specs.Map.{bag, MakesRoom};
@@ -8,7 +8,7 @@ ghost use Rattle.iddqd_store.specs.Table.Limit.{most_room};
 
 use super::IdHashMap;
 use crate::item::Ranked;
-use iddqd_store::{Meter, TryReserveError};
+use iddqd_store::TryReserveError;
 use std::hash::{BuildHasher, Hash};
 
 impl<T: Ranked, S: BuildHasher> IdHashMap<T, S> {
@@ -40,6 +40,11 @@ impl<T: Ranked, S: BuildHasher> IdHashMap<T, S> {
     /// Reserves capacity for this many more items. If they fit already, the call allocates no memory. It compares no
     /// key.
     ///
+    /// The tables become as large as those of a map that `with_capacity` makes for so many items, or stay if they are
+    /// larger. So a map that is then filled has the lookups of such a map. Where the slots bound the capacity, they
+    /// double if the tables serve as many items. So all calls for one item before each insert take linear time
+    /// together.
+    ///
     /// The call fails if an allocation for more slots or for a larger table fails, or if the number of items would be
     /// too large for memory. Then the items, the capacity and the builder are as before. Slots and table may have more
     /// room then, which serves a later call; a call that shrinks the map frees it. While a table grows, it has its old
@@ -49,7 +54,7 @@ impl<T: Ranked, S: BuildHasher> IdHashMap<T, S> {
         ensures room { MakesRoom self.old more result self.new }
         ensures unchanged { OnErr result (self.new ≡ self.old) }
     {
-        self.grow(more)
+        self.grow(more, 0)
     }
 
     /// Reserves capacity as `reserve` does. If the call fails, the map is as before. Both calls are the same: the two
@@ -98,7 +103,7 @@ impl<T: Ranked, S: BuildHasher> IdHashMap<T, S> {
         let mut from = 0;
         while let Some(slot) = self.slot_from(from) {
             from = slot.number() + 1;
-            drop(self.take(slot, None, &mut Meter::new()));
+            drop(self.take_at(slot));
         }
     }
 }

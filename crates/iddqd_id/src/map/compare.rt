@@ -1,6 +1,6 @@
 //! Equality of maps.
 //!
-//! Made by tests/twins from crates/iddqd_bi/src/map/compare.rt: change that file.
+//! Made by tests/widths from crates/iddqd_bi/src/map/compare.rt: change that file.
 ghost use Rattle.std.specs.Prelude.{◌≡◌, ◌↔◌};
 ghost use Rattle.std.specs.Bool.{IsTrue};
 ghost use Rattle.std.specs.List.{list_any};
@@ -60,7 +60,7 @@ impl<T: IdHashItem + PartialEq, S: BuildHasher> IdHashMap<T, S> {
             (hash_of S.BuildHasher S.Hasher.Hasher self.now.builder (T.Key.hash_input (T.key item.now)))
             0 asked.old asked.new probed.old probed.new }
     {
-        match self.get_by(item.key(), asked, probed) {
+        match self.item_of(self.slot_by(item.key(), asked, probed)) {
             Some(found) => item == found,
             None => false,
         }

@@ -1,6 +1,6 @@
 //! Borrowing the data of an item for writing, without a guard.
 //!
-//! Made by tests/twins from crates/iddqd_bi/src/map/data.rt: change that file.
+//! Made by tests/widths from crates/iddqd_bi/src/map/data.rt: change that file.
 ghost use Rattle.std.specs.Prelude.{◌≡◌, Some, None, IfSome, IfNone};
 ghost use Rattle.std.specs.Borrow.{sem};
 ghost use Rattle.iddqd_store.specs.Bag.{IsOnly};

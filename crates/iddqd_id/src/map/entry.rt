@@ -1,6 +1,6 @@
 //! Looking up a key for an entry.
 //!
-//! Made by tests/twins from crates/iddqd_bi/src/map/entry.rt: change that file.
+//! Made by tests/widths from crates/iddqd_bi/src/map/entry.rt: change that file.
 ghost use Rattle.std.specs.Prelude.{◌≡◌};
 ghost use Rattle.iddqd_store.specs.Bag.{IsOnly};
 ghost use Rattle.iddqd_store.specs.Map.{bag};
@@ -10,7 +10,7 @@ ghost use Rattle.iddqd_id.specs.Entries.{IsFound, entry_item, entry_key, entry_l
 use super::IdHashMap;
 use crate::entry::{Entry, OccupiedEntry, VacantEntry};
 use crate::item::IdHashItem;
-use iddqd_store::{Meter, Query};
+use iddqd_store::{Meter, Query, Searched};
 use std::hash::{BuildHasher, Hash};
 
 impl<T: IdHashItem, S: BuildHasher> IdHashMap<T, S> {
@@ -38,12 +38,12 @@ impl<T: IdHashItem, S: BuildHasher> IdHashMap<T, S> {
         ensures is_found { IsFound result }
     {
         match self.search_all(query, &mut Meter::new(), &mut Meter::new()) {
-            Ok(at) => Entry::Vacant(VacantEntry {
+            Searched::Vacant(at) => Entry::Vacant(VacantEntry {
                 map: self,
                 query,
                 at,
             }),
-            Err(by) => match by.slot() {
+            Searched::Found(by) => match by.slot() {
                 Some(slot) => Entry::Occupied(OccupiedEntry {
                     map: self,
                     query,

@@ -1,6 +1,6 @@
 //! Inserting many items at once.
 //!
-//! Made by tests/twins from crates/iddqd_bi/src/map/extend.rt: change that file.
+//! Made by tests/widths from crates/iddqd_bi/src/map/extend.rt: change that file.
 ghost use Rattle.std.specs.Prelude.{◌≡◌, ◌≤◌, [], ◌∷◌, length, IsPermutation, IfOk, IfErr, OnOk, OnErr, IsOk};
 ghost use Rattle.std.specs.Iterator.{IsFiniteIterable};
 ghost use Rattle.iddqd_store.specs.Bag.{IsSound, clash, overs};
@@ -13,7 +13,7 @@ use super::IdHashMap;
 use super::slots::Refusal;
 use crate::error::{ExtendUniqueError, FromIterError};
 use crate::item::Ranked;
-use iddqd_store::{DuplicateItem, MemoryRefused, Meter};
+use iddqd_store::{AHEAD, DuplicateItem, MemoryRefused, Meter};
 use std::alloc::Global;
 use std::hash::{BuildHasher, Hash};
 
@@ -49,9 +49,8 @@ impl<T: Ranked + Drop, S: BuildHasher> IdHashMap<T, S> {
             promised.div_ceil(2)
         };
         // This error is ignored: the call may succeed without the capacity, since the items may share keys.
-        let _ = self.grow(wanted);
-        // This call gives the prover the fact that the items fit.
-        let _ = self.capacity();
+        let _ = self.grow(wanted, AHEAD);
+        self.note_that_items_fit();
         for item in items {
             drop(self.insert_overwrite(item)?);
         }
@@ -162,7 +161,7 @@ impl<T: Ranked + Drop, S: BuildHasher + Default + Drop> IdHashMap<T, S> {
         let mut map = IdHashMap::default(alloc);
         let items = iter.into_iter();
         // This error is ignored: the call may succeed without the capacity, since the items may share keys.
-        let _ = map.grow(items.size_hint().0);
+        let _ = map.grow(items.size_hint().0, AHEAD);
         for item in items {
             match map.insert_or_refuse(item, &mut Meter::new(), &mut Meter::new()) {
                 Ok(()) => {}
@@ -170,14 +169,13 @@ impl<T: Ranked + Drop, S: BuildHasher + Default + Drop> IdHashMap<T, S> {
                     let Some(slot) = by.slot() else {
                         unreachable!()
                     };
-                    let duplicate = map.take(slot, None, &mut Meter::new());
+                    let duplicate = map.take_at(slot);
                     return Err(FromIterError::Duplicate(DuplicateItem::new(item, duplicate)));
                 }
                 Err(Refusal::Memory(item)) => return Err(FromIterError::Memory(item)),
             }
         }
-        // This call gives the prover the fact that the items fit.
-        let _ = map.capacity();
+        map.note_that_items_fit();
         Ok(map)
     }
 }

@@ -1,6 +1,6 @@
 //! Lookups. Each searches the table, which leads to the item's slot.
 //!
-//! Made by tests/twins from crates/iddqd_bi/src/map/find.rt: change that file.
+//! Made by tests/widths from crates/iddqd_bi/src/map/find.rt: change that file.
 ghost use Rattle.std.specs.Prelude.{Contains, ◌≡◌, option_copied};
 ghost use Rattle.std.specs.List.{list_any};
 ghost use Rattle.iddqd_store.specs.Bag.{IsOnly};
@@ -11,7 +11,7 @@ ghost use Rattle.iddqd_id.specs.Keys.{has};
 
 use super::IdHashMap;
 use crate::item::{Hashed, IdHashItem};
-use iddqd_store::{ItemIndex, KeyMatcher, Meter, Query};
+use iddqd_store::{ByQuery, ItemIndex, KeyMatcher, Meter, Query};
 use std::hash::{BuildHasher, Hash};
 
 impl<T: IdHashItem, S: BuildHasher> IdHashMap<T, S> {
@@ -29,15 +29,19 @@ impl<T: IdHashItem, S: BuildHasher> IdHashMap<T, S> {
     pub fn get<Q: Query<T::Key>>(&self, query: Q) -> Option<&T>
         ensures { IsOnly (has T.IdHashItem Q.stands_for query) (bag self.now) (option_copied result) }
     {
-        self.get_by(query, &mut Meter::new(), &mut Meter::new())
+        let hash = self.hash_builder.hash_one(query);
+        self.find_with(
+            hash,
+            &mut ByQuery::new(&query, &mut Meter::new()),
+            &mut Meter::new(),
+        )
     }
 
     /// Returns whether an item has the key that the query stands for. It costs what `get` costs.
     pub fn contains_key<Q: Query<T::Key>>(&self, query: Q) -> bool
         ensures { result ≡ list_any (has T.IdHashItem Q.stands_for query) (bag self.now) }
     {
-        let found = self.get_by(query, &mut Meter::new(), &mut Meter::new());
-        found.is_some()
+        self.get(query).is_some()
     }
 
     /// Returns the item whose key the matcher accepts, or `None`. Every lookup by keys is this search.
@@ -61,22 +65,6 @@ impl<T: IdHashItem, S: BuildHasher> IdHashMap<T, S> {
             self.now.capacity hash result (M.asked matcher.old) (M.asked matcher.new) meter.old meter.new }
     {
         self.by_key().find_with(hash, matcher, meter)
-    }
-
-    /// Returns what `get` returns, which calls it. One meter counts the keys that the query is compared with, and the
-    /// other the probed cells.
-    pub(crate) fn get_by<Q: Query<T::Key>>(
-        &self,
-        query: Q,
-        asked: &mut Meter,
-        probed: &mut Meter,
-    ) -> Option<&T>
-        ensures found { IsOnly (has T.IdHashItem Q.stands_for query) (bag self.now) (option_copied result) }
-        ensures costs { SearchCosts (⟦<T as Hashed<S>>⟧.hash self.now.builder) (bag self.now) self.now.capacity
-            (hash_of S.BuildHasher S.Hasher.Hasher self.now.builder (Q.hash_input query)) result
-            asked.old asked.new probed.old probed.new }
-    {
-        self.by_key().get(query, asked, probed)
     }
 
     /// Returns the slot of the item whose key the query stands for, or `None`. One meter counts the keys that the

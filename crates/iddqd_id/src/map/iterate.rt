@@ -1,6 +1,6 @@
 //! Iterating over the items.
 //!
-//! Made by tests/twins from crates/iddqd_bi/src/map/iterate.rt: change that file.
+//! Made by tests/widths from crates/iddqd_bi/src/map/iterate.rt: change that file.
 ghost use Rattle.std.specs.Prelude.{◌≡◌, ◌<◌, ◌^◌, length};
 ghost use Rattle.std.specs.Map.Iter.{ShowsInOrder, GivesInOrder, deref};
 ghost use Rattle.iddqd_store.specs.Map.{bag};

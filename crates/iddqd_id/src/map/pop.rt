@@ -1,6 +1,6 @@
 //! Removing some item, or all items one by one.
 //!
-//! Made by tests/twins from crates/iddqd_bi/src/map/pop.rt: change that file.
+//! Made by tests/widths from crates/iddqd_bi/src/map/pop.rt: change that file.
 ghost use Rattle.std.specs.Prelude.{◌≡◌, [], IfNone};
 ghost use Rattle.std.specs.Option.{option_to_list};
 ghost use Rattle.iddqd_store.specs.Map.{bag, Loses};
@@ -8,7 +8,7 @@ ghost use Rattle.iddqd_store.specs.Map.Extracting.{PopsFrom};
 
 use super::IdHashMap;
 use crate::item::IdHashItem;
-use iddqd_store::{Cursor, Meter};
+use iddqd_store::Cursor;
 use std::hash::{BuildHasher, Hash};
 
 impl<T: IdHashItem, S: BuildHasher> IdHashMap<T, S> {
@@ -32,7 +32,7 @@ impl<T: IdHashItem, S: BuildHasher> IdHashMap<T, S> {
         ensures absent { IfNone result (self.new ≡ self.old) }
     {
         let slot = self.first_slot()?;
-        Some(self.take(slot, None, &mut Meter::new()))
+        Some(self.take_at(slot))
     }
 
     /// Removes the next item from the cursor on, and returns it, or `None` if there is none. The cursor moves on to
@@ -63,6 +63,6 @@ impl<T: IdHashItem, S: BuildHasher> IdHashMap<T, S> {
     {
         let slot = self.slot_from(cursor.next())?;
         cursor.pass(slot);
-        Some(self.take(slot, None, &mut Meter::new()))
+        Some(self.take_at(slot))
     }
 }

@@ -1,6 +1,6 @@
 //! Removing items.
 //!
-//! Made by tests/twins from crates/iddqd_bi/src/map/remove.rt: change that file.
+//! Made by tests/widths from crates/iddqd_bi/src/map/remove.rt: change that file.
 ghost use Rattle.std.specs.Prelude.{Contains, [], ◌≡◌, IfNone};
 ghost use Rattle.std.specs.Option.{option_to_list};
 ghost use Rattle.iddqd_store.specs.Bag.{IsOnly};

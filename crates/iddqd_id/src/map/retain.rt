@@ -1,6 +1,6 @@
 //! Keeping only some of the items.
 //!
-//! Made by tests/twins from crates/iddqd_bi/src/map/retain.rt: change that file.
+//! Made by tests/widths from crates/iddqd_bi/src/map/retain.rt: change that file.
 ghost use Rattle.std.specs.Prelude.{◌≡◌, ◌≤◌, length};
 ghost use Rattle.std.specs.Fn.{CalledAt};
 ghost use Rattle.iddqd_store.specs.Bag.{Keeps};
@@ -9,7 +9,6 @@ ghost use Rattle.iddqd_store.specs.Map.{bag};
 
 use super::IdHashMap;
 use crate::item::IdHashItem;
-use iddqd_store::Meter;
 use std::hash::{BuildHasher, Hash};
 
 impl<T: IdHashItem, S: BuildHasher> IdHashMap<T, S> {
@@ -32,7 +31,7 @@ impl<T: IdHashItem, S: BuildHasher> IdHashMap<T, S> {
         while let Some(slot) = self.slot_from(from) {
             from = slot.number() + 1;
             if !f(self.item_at(slot)) {
-                drop(self.take(slot, None, &mut Meter::new()));
+                drop(self.take_at(slot));
             }
         }
     }

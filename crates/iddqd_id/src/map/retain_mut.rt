@@ -1,6 +1,6 @@
 //! Keeping only some of the items, each with the data that a closure returns for it.
 //!
-//! Made by tests/twins from crates/iddqd_bi/src/map/retain_mut.rt: change that file.
+//! Made by tests/widths from crates/iddqd_bi/src/map/retain_mut.rt: change that file.
 ghost use Rattle.std.specs.Prelude.{◌≡◌, ◌≤◌, length};
 ghost use Rattle.std.specs.Fn.{CalledAt};
 ghost use Rattle.iddqd_store.specs.Bag.Calling.{TakesInAnyOrder};
@@ -9,7 +9,6 @@ ghost use Rattle.iddqd_store.specs.Map.{bag};
 
 use super::IdHashMap;
 use crate::item::IdHashItemMut;
-use iddqd_store::Meter;
 use std::hash::{BuildHasher, Hash};
 
 impl<T: IdHashItemMut, S: BuildHasher> IdHashMap<T, S> {
@@ -33,7 +32,7 @@ impl<T: IdHashItemMut, S: BuildHasher> IdHashMap<T, S> {
         while let Some(slot) = self.slot_from(from) {
             from = slot.number() + 1;
             if !self.store_some_at(slot, &mut f) {
-                drop(self.take(slot, None, &mut Meter::new()));
+                drop(self.take_at(slot));
             }
         }
     }

@@ -3,7 +3,7 @@
 //! inserting in place of other items (`over`), and inserting a list that may have to be removed again (`enter`). Calls
 //! on all slots at once and removals by one key use the slots and the table themselves.
 //!
-//! Made by tests/twins from crates/iddqd_bi/src/map/slots.rt: change that file.
+//! Made by tests/widths from crates/iddqd_bi/src/map/slots.rt: change that file.
 ghost use Rattle.std.specs.Prelude.{◌≡◌, ◌<◌, ◌≤◌, ◌+◌, [], ◌∷◌, length, map, OnOk, OnErr, IfOk, IfErr, Some, None, IfSome, slice_set, is_some, is_ok, true, false, if◌then◌else◌};
 ghost use Rattle.std.specs.List.{IsDistinct, list_any};
 ghost use Rattle.iddqd_store.specs.Bag.{IsSound, clash, differ, listing};
@@ -11,6 +11,7 @@ ghost use Rattle.iddqd_store.specs.Rank.Index.{HasHash};
 ghost use Rattle.iddqd_store.specs.Map.{bag, hash_of, Gains, Loses, PutsAt, IsFullFor, IsBlockedAt};
 ghost use Rattle.iddqd_store.specs.Rank.All.{ArePlacesOf, AreSearched, AreUnder, AreVacantFor, HaveHashes, HaveRoom, IsBlockedBy, PlacingCosts, hashes_of, slots_found};
 ghost use Rattle.iddqd_store.specs.Rank.{agree, walks_within};
+ghost use Rattle.iddqd_store.specs.Searched.{IfFound, IfVacant, OnFound, OnVacant};
 ghost use Rattle.iddqd_store.specs.Slots.Found.{AreFound, each_once};
 ghost use Rattle.iddqd_store.specs.Slots.{get, IsLive, Updates};
 ghost use Rattle.iddqd_id.specs.Keys.{by_rank, key_tests};
@@ -27,7 +28,7 @@ use super::IdHashMap;
 use crate::error::EntryError;
 use crate::item::{Hashed, IdHashItem, Ranked};
 use crate::ranks::First;
-use iddqd_store::{ItemIndex, Lookup, Meter, Query, SlotUnder, Vacancy};
+use iddqd_store::{ItemIndex, Lookup, Meter, Query, Searched, SlotUnder, Vacancy};
 use std::hash::{BuildHasher, Hash};
 
 /// An item that was not inserted, and why. It does not borrow the map.
@@ -60,32 +61,33 @@ impl<T: IdHashItem, S: BuildHasher> IdHashMap<T, S> {
         self.hash_builder.hash_one(item.key())
     }
 
-    /// Searches at each rank for its key. If no item has one of the keys, `Ok` has the empty cells at which the
-    /// searches ended. Otherwise `Err` has the slot that each search found, if it found one, with the hash. The call
-    /// hashes each key once, and searches for it once. One meter counts the keys that are compared, and the other the
-    /// probed cells.
+    /// Searches at each rank for its key. `Found` has the slot that each search found, if it found one, with the hash.
+    /// If no item has one of the keys, `Vacant` has the empty cells at which the searches ended. The call hashes each
+    /// key once, and searches for it once. One meter counts the keys that are compared, and the other the probed cells.
     #[inline(always)]
     pub(crate) fn search_all<Q: Query<T::Key>>(
         &self,
         query: Q,
         asked: &mut Meter,
         probed: &mut Meter,
-    ) -> Result<Vacancy, SlotUnder>
+    ) -> Searched<SlotUnder, Vacancy>
         // The slots that were found, and whether there are any.
         ensures found { AreFound (key_tests T.IdHashItem Q.stands_for query) self.now.slots
             (slots_found (by_rank result)) }
-        ensures none { OnOk result (list_any is_some (slots_found (by_rank result)) ≡ false) }
-        ensures some { OnErr result (list_any is_some (slots_found (by_rank result)) ≡ true) }
+        ensures none { OnVacant result (list_any is_some (slots_found (by_rank result)) ≡ false) }
+        ensures some { OnFound result (list_any is_some (slots_found (by_rank result)) ≡ true) }
         ensures apart { IsDistinct (agree T.key T.Key.eq) (bag self.now) }
         // The empty cells, or the hashes by which the slots were found.
-        ensures vacant { IfOk (by_rank result) (AreVacantFor (⟦<T as Hashed<S>>⟧.hashes self.now.builder) (bag self.now)
+        ensures vacant { IfVacant (by_rank result) (AreVacantFor (⟦<T as Hashed<S>>⟧.hashes self.now.builder)
+            (bag self.now)
             (map (hash_of S.BuildHasher S.Hasher.Hasher self.now.builder)
             (Q.hash_input query ∷ []))) }
-        ensures cells { IfOk (by_rank result) (HaveRoom self.now.capacity) }
-        ensures hashes { IfErr (by_rank result) (HaveHashes
+        ensures cells { IfVacant (by_rank result) (HaveRoom self.now.capacity) }
+        ensures hashes { IfFound (by_rank result) (HaveHashes
             (map (hash_of S.BuildHasher S.Hasher.Hasher self.now.builder)
             (Q.hash_input query ∷ []))) }
-        ensures under { IfErr (by_rank result) (AreUnder (⟦<T as Hashed<S>>⟧.hashes self.now.builder) self.now.slots) }
+        ensures under { IfFound (by_rank result) (AreUnder
+            (⟦<T as Hashed<S>>⟧.hashes self.now.builder) self.now.slots) }
         ensures costs { AreSearched (⟦<T as Hashed<S>>⟧.hashes self.now.builder) (bag self.now) self.now.capacity
             (map (hash_of S.BuildHasher S.Hasher.Hasher self.now.builder)
             (Q.hash_input query ∷ [])) (slots_found (by_rank result))
@@ -93,13 +95,13 @@ impl<T: IdHashItem, S: BuildHasher> IdHashMap<T, S> {
     {
         let hash = self.hash_builder.hash_one(query);
         match self.by_key().search(hash, query, asked, probed) {
-            Ok(slot) => Err(SlotUnder::new(Some(slot), hash)),
-            Err(at) => Ok(at),
+            Searched::Found(slot) => Searched::Found(SlotUnder::new(Some(slot), hash)),
+            Searched::Vacant(at) => Searched::Vacant(at),
         }
     }
 
-    /// Returns where an item is to be inserted at each rank, or, if items conflict with it, what the search at each
-    /// rank found. The call hashes each key once, and searches for it once. One meter counts the keys that are
+    /// Returns what the search at each rank found, if items conflict with an item, and else where it is to be inserted
+    /// at each rank. The call hashes each key once, and searches for it once. One meter counts the keys that are
     /// compared, and the other the probed cells.
     #[inline(always)]
     pub(crate) fn places(
@@ -107,15 +109,16 @@ impl<T: IdHashItem, S: BuildHasher> IdHashMap<T, S> {
         item: &T,
         asked: &mut Meter,
         probed: &mut Meter,
-    ) -> Result<Vacancy, SlotUnder>
-        ensures free { OnOk result (clash ⟦<T as Ranked>⟧.ranks (bag self.now) item.now ≡ []) }
-        ensures places { IfOk (by_rank result) (ArePlacesOf
+    ) -> Searched<SlotUnder, Vacancy>
+        ensures free { OnVacant result (clash ⟦<T as Ranked>⟧.ranks (bag self.now) item.now ≡ []) }
+        ensures places { IfVacant (by_rank result) (ArePlacesOf
             (⟦<T as Hashed<S>>⟧.hashes self.now.builder) (bag self.now) item.now) }
-        ensures blocked { OnErr result (IsBlockedAt ⟦<T as Ranked>⟧.ranks self.now item.now
+        ensures blocked { OnFound result (IsBlockedAt ⟦<T as Ranked>⟧.ranks self.now item.now
             (each_once (slots_found (by_rank result)))) }
-        ensures hashes { IfErr (by_rank result) (HaveHashes
+        ensures hashes { IfFound (by_rank result) (HaveHashes
             (hashes_of (⟦<T as Hashed<S>>⟧.hashes self.now.builder) item.now)) }
-        ensures under { IfErr (by_rank result) (AreUnder (⟦<T as Hashed<S>>⟧.hashes self.now.builder) self.now.slots) }
+        ensures under { IfFound (by_rank result) (AreUnder
+            (⟦<T as Hashed<S>>⟧.hashes self.now.builder) self.now.slots) }
         ensures found { AreFound (⟦<T as Ranked>⟧.key_tests (T.key item.now))
             self.now.slots (slots_found (by_rank result)) }
         ensures costs { AreSearched (⟦<T as Hashed<S>>⟧.hashes self.now.builder) (bag self.now) self.now.capacity
@@ -199,6 +202,18 @@ impl<T: IdHashItem, S: BuildHasher> IdHashMap<T, S> {
         }
     }
 
+    /// Removes the item of a slot, by one walk through the table. It hashes its key once.
+    #[inline(always)]
+    pub(crate) fn take_at(&mut self, slot: ItemIndex) -> T
+        requires { IsLive self.old.slots slot }
+        ensures value { get self.old.slots slot ≡ Some result }
+        ensures slots { self.new.slots ≡ slice_set self.old.slots slot None }
+        ensures loses { Loses self.old (result ∷ []) self.new }
+        ensures updates { Updates self.old.slots self.new.slots slot None }
+    {
+        self.take(slot, None, &mut Meter::new())
+    }
+
     /// Inserts an item if none conflicts with it. The error has what the search by its key found; or, if the map is
     /// full and cannot grow, it is `Memory`. One meter counts the keys that are compared, and the other the probed
     /// cells, but for those that growing probes. What it calls is inlined, except for growing, so a caller's loop
@@ -223,8 +238,8 @@ impl<T: IdHashItem, S: BuildHasher> IdHashMap<T, S> {
             asked.old asked.new probed.old probed.new }
     {
         let at = match self.places(&item, asked, probed) {
-            Ok(at) => at,
-            Err(by) => return Err(Refusal::Duplicate(item, by)),
+            Searched::Vacant(at) => at,
+            Searched::Found(by) => return Err(Refusal::Duplicate(item, by)),
         };
         if let Err(_) = self.make_room(1) {
             return Err(Refusal::Memory(item));

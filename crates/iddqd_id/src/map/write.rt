@@ -1,6 +1,6 @@
 //! Borrowing items for writing.
 //!
-//! Made by tests/twins from crates/iddqd_bi/src/map/write.rt: change that file.
+//! Made by tests/widths from crates/iddqd_bi/src/map/write.rt: change that file.
 ghost use Rattle.std.specs.Prelude.{◌≡◌, [], Some, IfSome, IfNone};
 ghost use Rattle.std.specs.Borrow.{sem};
 ghost use Rattle.std.specs.Option.{option_and_then};

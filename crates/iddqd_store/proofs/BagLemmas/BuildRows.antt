@@ -5,6 +5,7 @@ use Rattle.std.specs.List.Retain.{ReturnsInTurn}
 use Rattle.std.proofs.Common.{refl, ap, subst, ◌∙◌, arith, get_or}
 use Rattle.std.proofs.lemmas.List.Elements.{length_all_zip}
 use Rattle.std.proofs.lemmas.List.Sorted.{IsPermutation-refl, length_permutation, sum_by-IsPermutation}
+use Rattle.std.proofs.lemmas.Bool.{false≢true, true≢false}
 use Rattle.iddqd_store.proofs.BagLemmas.Exchanges.{IsPermutation-flip}
 use Rattle.iddqd_store.proofs.BagLemmas.Rows.{Item, pairs}
 use Rattle.iddqd_store.specs.Bag.{IsCopy, Keeps, add}
@@ -72,15 +73,13 @@ none_left_out is_clone bag other copy = omega (arith, length_permutation _ _ cop
 
 -- a closure that returns `true` at each item keeps each, and one that returns `false` keeps none
 module _ {F : Type 0} (step : F → Item → Bool → F → Type 0) where
-  all_left : ((f g : F) (x : Item) (b : Bool) → step f x b g → b ≡ true) → (f g : F) (bs : List Bool) (xs : List Item) → length bs ≡ length xs → ReturnsInTurn step f bs xs g → items_where_true bs xs ≡ xs
+  all_left : ((f g : F) (x : Item) (b : Bool) → step f x b g → b ≡ true) → (f g : F) (bs : List Bool) (xs : List Item) → length bs ≡ length xs
+      → ReturnsInTurn step f bs xs g → items_where_true bs xs ≡ xs
   all_left says f g [] [] long run = refl
   all_left says f g [] (x ∷ xs) long run = absurd (omega (arith, long))
   all_left says f g (b ∷ bs) [] long run = absurd run
   all_left says f g (true ∷ bs) (x ∷ xs) long run = ap (λ l. x ∷ l) (all_left says run.0 g bs xs (omega (arith, long)) run.2)
-  all_left says f g (false ∷ bs) (x ∷ xs) long run = absurd (no (says f run.0 x false run.1))
-    where
-      no : false ≡ true → ⊥
-      no e = cc
+  all_left says f g (false ∷ bs) (x ∷ xs) long run = absurd (false≢true (says f run.0 x false run.1))
 
   none_dropped : ((f g : F) (x : Item) (b : Bool) → step f x b g → b ≡ true) → (f : F) (bag kept : List Item) → Keeps step f bag kept → length kept ≡ length bag
   none_dropped says f bag kept keeps =
@@ -92,10 +91,7 @@ module _ {F : Type 0} (step : F → Item → Bool → F → Type 0) where
   none_left says f g [] xs run = refl
   none_left says f g (b ∷ bs) [] run = absurd run
   none_left says f g (false ∷ bs) (x ∷ xs) run = none_left says run.0 g bs xs run.2
-  none_left says f g (true ∷ bs) (x ∷ xs) run = absurd (no (says f run.0 x true run.1))
-    where
-      no : true ≡ false → ⊥
-      no e = cc
+  none_left says f g (true ∷ bs) (x ∷ xs) run = absurd (true≢false (says f run.0 x true run.1))
 
   none_kept : ((f g : F) (x : Item) (b : Bool) → step f x b g → b ≡ false) → (f : F) (bag kept : List Item) → Keeps step f bag kept → length kept ≡ 0
   none_kept says f bag kept keeps =

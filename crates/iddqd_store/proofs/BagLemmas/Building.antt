@@ -3,50 +3,43 @@ use Rattle.std.specs.Prelude.{◌≡◌, ◌≢◌, ◌≤◌, suc, List, [], �
 use Rattle.std.proofs.Common.{refl, sym, ap, subst, ◌∙◌, arith}
 use Rattle.std.proofs.lemmas.List.Folds.{fold_stays}
 use Rattle.std.proofs.lemmas.List.Sorted.{IsPermutation-refl, IsPermutation-middle, IsPermutation-sym, IsPermutation-cons, IsPermutation-trans, length_permutation}
+use Rattle.std.proofs.lemmas.List.{nil_from_length}
 use Rattle.iddqd_store.specs.Bag.{Ranks, AreLawful, IsSound, clash, order, over, add, add_next, adds}
 use Rattle.iddqd_store.specs.Bag.Building.{GivesThen, AddsTo, RefusesFor, HasPlaceFor}
+use Rattle.iddqd_store.proofs.Plain.{same_ok, ok_or_err}
 use Rattle.iddqd_store.proofs.BagLemmas.Sound.{length-over, order-IsPermutation, IsSound-IsPermutation}
 use Rattle.iddqd_store.proofs.BagLemmas.Steps.{IsSound-nil, IsSound-add, clash-IsPermutation, clash-empty, order-empty, add-apart, add-refused, adds_push}
 
-pub GivesThen-weaker : {U S T : Type 0} (becomes : U → S → Type 0) (steps : S → Option T → S → Type 0) (iter : U) (x : T) (P Q : List T → Type 0) → ((xs : List T) → P xs → Q xs) → GivesThen becomes steps iter x P → GivesThen becomes steps iter x Q
+pub GivesThen-weaker : {U S T : Type 0} (becomes : U → S → Type 0) (steps : S → Option T → S → Type 0) (iter : U) (x : T) (P Q : List T → Type 0)
+    → ((xs : List T) → P xs → Q xs) → GivesThen becomes steps iter x P → GivesThen becomes steps iter x Q
 GivesThen-weaker becomes steps iter x P Q f h = (h.0, h.1, h.2, h.3, h.4, f h.1 h.5)
-
-same_made : {A E : Type 0} (r : Result A E) (a b : A) → r ≡ Ok a → r ≡ Ok b → a ≡ b
-same_made r a b h k = cc
-
-ok_or_err : {A E : Type 0} (r : Result A E) (a : A) (e : E) → r ≡ Ok a → r ≡ Err e → ⊥
-ok_or_err r a e h k = cc
 
 module _ {T : Type 0} where
   -- at most one item more
   pub length-overwritten : (ranks : Ranks T) (bag new : List T) (x : T) → IsPermutation new (over ranks bag x) → length new ≤ suc (length bag)
   length-overwritten ranks bag new x p = omega (arith, length_permutation new (over ranks bag x) p, length-over ranks bag x)
 
-  nothing : (xs : List T) → length xs ≡ 0 → xs ≡ []
-  nothing [] h = refl
-  nothing (x ∷ xs) h = absurd (omega arith)
-
   -- an item that conflicts with no member conflicts with none in another order
   pub clash-none : (ranks : Ranks T) (held made : List T) (x : T) → IsPermutation held made → clash ranks held x ≡ [] → clash ranks made x ≡ []
   clash-none ranks held made x p free =
-      nothing (clash ranks made x) (length_permutation _ _ (clash-IsPermutation ranks held made x p) ∙ ap length free)
+      nil_from_length (clash ranks made x) (length_permutation _ _ (clash-IsPermutation ranks held made x p) ∙ ap length free)
 
   add-free : (ranks : Ranks T) (made : List T) (x : T) → clash ranks made x ≡ [] → add ranks made x ≡ Ok (x ∷ made)
   add-free ranks made x free = add-apart ranks made x (order-empty ranks made x free)
 
-  same_ok : (ranks : Ranks T) (bag made : List T) → adds ranks bag [] ≡ Ok made → bag ≡ made
-  same_ok ranks bag made h = cc
+  adds_nothing : (ranks : Ranks T) (bag made : List T) → adds ranks bag [] ≡ Ok made → bag ≡ made
+  adds_nothing ranks bag made h = cc
 
   stays_refused : (ranks : Ranks T) (xs made : List T) (refusal : T × List T) → fold (add_next ranks) (Err refusal) xs ≡ Ok made → ⊥
-  stays_refused ranks xs made refusal h =
-      let still = fold_stays (add_next ranks) (Err refusal) (λ x. refl) xs in cc
+  stays_refused ranks xs made refusal h = let still = fold_stays (add_next ranks) (Err refusal) (λ x. refl) xs in cc
 
   -- the bag is sound after a list was added
   pub IsSound-adds : (ranks : Ranks T) (bag xs made : List T) → IsSound ranks bag → adds ranks bag xs ≡ Ok made → IsSound ranks made
-  IsSound-adds ranks bag [] made sound is = subst (IsSound ranks) (same_ok ranks bag made is) sound
+  IsSound-adds ranks bag [] made sound is = subst (IsSound ranks) (adds_nothing ranks bag made is) sound
   IsSound-adds ranks bag (x ∷ xs) made sound is = by_first (λ next. IsSound-adds ranks next xs made) (add ranks bag x) refl is
     where
-      by_first : ((next : List T) → IsSound ranks next → adds ranks next xs ≡ Ok made → IsSound ranks made) → (r : Result (List T) (T × List T)) → add ranks bag x ≡ r → fold (add_next ranks) r xs ≡ Ok made → IsSound ranks made
+      by_first : ((next : List T) → IsSound ranks next → adds ranks next xs ≡ Ok made → IsSound ranks made) → (r : Result (List T) (T × List T))
+          → add ranks bag x ≡ r → fold (add_next ranks) r xs ≡ Ok made → IsSound ranks made
       by_first on (Ok next) put rest = on next (IsSound-add ranks bag next x sound put) rest
       by_first on (Err refusal) put rest = absurd (stays_refused ranks xs made refusal rest)
 
@@ -54,16 +47,17 @@ module _ {T : Type 0} where
   added_is ranks bag next x put = by_order (order ranks bag x) refl
     where
       by_order : (l : List T) → order ranks bag x ≡ l → next ≡ x ∷ bag
-      by_order [] none = same_made (add ranks bag x) next (x ∷ bag) put (add-apart ranks bag x none)
+      by_order [] none = same_ok (add ranks bag x) next (x ∷ bag) put (add-apart ranks bag x none)
       by_order (y ∷ ys) some =
           absurd (ok_or_err (add ranks bag x) next (x, order ranks bag x) put (add-refused ranks bag x (λ none. absurd (cc (some, none)))))
 
   -- the bag has the list that was added and the items that it had
   pub adds-IsPermutation : (ranks : Ranks T) (bag xs made : List T) → adds ranks bag xs ≡ Ok made → IsPermutation made (xs ++ bag)
-  adds-IsPermutation ranks bag [] made is = subst (λ l. IsPermutation made l) (sym (same_ok ranks bag made is)) (IsPermutation-refl made)
+  adds-IsPermutation ranks bag [] made is = subst (λ l. IsPermutation made l) (sym (adds_nothing ranks bag made is)) (IsPermutation-refl made)
   adds-IsPermutation ranks bag (x ∷ xs) made is = by_first (λ next. adds-IsPermutation ranks next xs made) (add ranks bag x) refl is
     where
-      by_first : ((next : List T) → adds ranks next xs ≡ Ok made → IsPermutation made (xs ++ next)) → (r : Result (List T) (T × List T)) → add ranks bag x ≡ r → fold (add_next ranks) r xs ≡ Ok made → IsPermutation made (x ∷ xs ++ bag)
+      by_first : ((next : List T) → adds ranks next xs ≡ Ok made → IsPermutation made (xs ++ next)) → (r : Result (List T) (T × List T))
+          → add ranks bag x ≡ r → fold (add_next ranks) r xs ≡ Ok made → IsPermutation made (x ∷ xs ++ bag)
       by_first on (Ok next) put rest =
           IsPermutation-trans _ _ _ (subst (λ l. IsPermutation made (xs ++ l)) (added_is ranks bag next x put) (on next rest)) (IsPermutation-middle xs x bag)
       by_first on (Err refusal) put rest = absurd (stays_refused ranks xs made refusal rest)

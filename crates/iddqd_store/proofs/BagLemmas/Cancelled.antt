@@ -20,11 +20,11 @@ module _ {T : Type 0} (agree : T → T → Bool) (laws : IsEquivalence agree) wh
 
   cancelled : (xs a b : List T) → IsDistinct agree (xs ++ a) → IsPermutation (xs ++ a) (xs ++ b) → IsPermutation a b
   cancelled [] a b apart same = same
-  cancelled (x ∷ xs) a b apart same =
-      cancelled xs a b (IsDistinct-tail agree x (xs ++ a) apart) (one_cancelled x (xs ++ a) (xs ++ b) apart same)
+  cancelled (x ∷ xs) a b apart same = cancelled xs a b (IsDistinct-tail agree x (xs ++ a) apart) (one_cancelled x (xs ++ a) (xs ++ b) apart same)
 
 module _ {T : Type 0} where
-  pub IsPermutation-cancelled : (ranks : Ranks T) → 0 < length ranks → AreLawful ranks → (bag xs a b : List T) → IsSound ranks (xs ++ a) → IsPermutation bag (xs ++ a) → IsPermutation bag (xs ++ b) → IsPermutation b a
+  pub IsPermutation-cancelled : (ranks : Ranks T) → 0 < length ranks → AreLawful ranks → (bag xs a b : List T) → IsSound ranks (xs ++ a)
+      → IsPermutation bag (xs ++ a) → IsPermutation bag (xs ++ b) → IsPermutation b a
   IsPermutation-cancelled [] some laws bag xs a b sound first second = absurd (omega arith)
   IsPermutation-cancelled (agree ∷ ranks) some laws bag xs a b sound first second =
       IsPermutation-sym _ _

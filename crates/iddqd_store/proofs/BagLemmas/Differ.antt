@@ -2,7 +2,7 @@
 use Rattle.std.specs.Prelude.{◌≡◌, ◌+◌, suc, Bool, true, false, cond, not, List, [], ◌∷◌, length, Some, None}
 use Rattle.std.specs.List.{AllByRecursion, position, position_or_len}
 use Rattle.std.proofs.Common.{refl, sym, ◌∙◌, inl, inr, arith, nat_lt}
-use Rattle.std.proofs.lemmas.Bool.{cases_lt}
+use Rattle.std.proofs.lemmas.Bool.{cases_lt, not-false}
 use Rattle.std.proofs.lemmas.Bool.Decides.{nat_tests}
 use Rattle.std.proofs.lemmas.Option.{none-some}
 use Rattle.iddqd_store.specs.Bag.{Ranks, differ, every_of, like, agrees}
@@ -32,16 +32,12 @@ module _ {X : Type 0} where
                 (e, rest)
           ]
 
-passed : (b : Bool) → not b ≡ false → b ≡ true
-passed true h = refl
-passed false h = absurd (cc)
-
 module _ {T : Type 0} where
   pub differ-none : (tests : List (T → Bool)) (x : T) → differ tests x ≡ None → AllByRecursion (λ test. test x ≡ true) tests
   differ-none [] x none = tt
   differ-none (test ∷ tests) x none =
       let first = no_place (λ t. not (t x)) test tests none in
-      (passed (test x) first.0, differ-none tests x first.1)
+      (not-false (test x) first.0, differ-none tests x first.1)
 
   pub every_passed : (tests : List (T → Bool)) (x : T) → AllByRecursion (λ test. test x ≡ true) tests → every_of tests x ≡ true
   every_passed [] x passes = refl

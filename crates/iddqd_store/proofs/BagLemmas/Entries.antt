@@ -1,10 +1,10 @@
 -- What the keys of an entry find in a sound bag.
-use Rattle.std.specs.Prelude.{◌≡◌, ◌≤◌, ◌<◌, Bool, true, not, List, [], ◌∷◌, ◌++◌, length, filter, IsPermutation}
+use Rattle.std.specs.Prelude.{◌≡◌, ◌<◌, Bool, true, not, List, [], ◌∷◌, ◌++◌, length, filter, IsPermutation}
 use Rattle.std.specs.List.{AllByRecursion}
 use Rattle.std.proofs.Common.{refl, sym, ap, subst, ◌∙◌, arith}
-use Rattle.iddqd_store.proofs.BagLemmas.Sound.{each_passes, filter_twice, filter_swap, named-IsPermutation, listing-IsPermutation, length-named, IsSound-rank}
-use Rattle.iddqd_store.proofs.BagLemmas.Same.{and-true}
-use Rattle.iddqd_store.specs.Bag.{Ranks, every_of, listing, all_of, IsSound, vacant, unique, non_unique, entry, entry_of, NamesOne, AreNames}
+use Rattle.std.proofs.lemmas.Bool.{and_parts}
+use Rattle.iddqd_store.proofs.BagLemmas.Sound.{each_passes, filter_twice, filter_swap, named-IsPermutation, listing-IsPermutation, IsSound-rank}
+use Rattle.iddqd_store.specs.Bag.{Ranks, every_of, listing, all_of, IsSound, unique, entry, entry_of, NamesOne, AreNames}
 
 module _ {T : Type 0} where
   -- the members that pass every test, from those that pass the first
@@ -15,20 +15,16 @@ module _ {T : Type 0} where
   pub NamesOne-every : (agree : T → T → Bool) (ranks : Ranks T) (tests : List (T → Bool)) → AreNames (agree ∷ ranks) tests → NamesOne agree (every_of tests)
   NamesOne-every agree ranks [] names = absurd names
   NamesOne-every agree ranks (test ∷ tests) names =
-      λ x y p q. names.0 x y (and-true (test x) (every_of tests x) p).0 (and-true (test y) (every_of tests y) q).0
+      λ x y p q. names.0 x y (and_parts (test x) (every_of tests x) p).0 (and_parts (test y) (every_of tests y) q).0
 
-  -- there is at most one such member
-  pub length-all_of : (ranks : Ranks T) (tests : List (T → Bool)) → 0 < length ranks → AreNames ranks tests → (bag : List T) → IsSound ranks bag → length (all_of tests bag) ≤ 1
-  length-all_of [] tests some names bag sound = absurd (omega arith)
-  length-all_of (agree ∷ ranks) tests some names bag sound =
-      length-named agree (every_of tests) (NamesOne-every agree ranks tests names) bag (IsSound-rank agree ranks bag sound).0
-
-  pub all_of-IsPermutation : (ranks : Ranks T) (tests : List (T → Bool)) → 0 < length ranks → AreNames ranks tests → (xs ys : List T) → IsSound ranks xs → IsPermutation xs ys → all_of tests xs ≡ all_of tests ys
+  pub all_of-IsPermutation : (ranks : Ranks T) (tests : List (T → Bool)) → 0 < length ranks → AreNames ranks tests → (xs ys : List T)
+      → IsSound ranks xs → IsPermutation xs ys → all_of tests xs ≡ all_of tests ys
   all_of-IsPermutation [] tests some names xs ys sound p = absurd (omega arith)
   all_of-IsPermutation (agree ∷ ranks) tests some names xs ys sound p =
       named-IsPermutation agree (every_of tests) (NamesOne-every agree ranks tests names) xs ys (IsSound-rank agree ranks xs sound).0 p
 
-  pub entry-IsPermutation : (ranks : Ranks T) (tests : List (T → Bool)) → 0 < length ranks → AreNames ranks tests → (xs ys : List T) → IsSound ranks xs → IsPermutation xs ys → entry tests xs ≡ entry tests ys
+  pub entry-IsPermutation : (ranks : Ranks T) (tests : List (T → Bool)) → 0 < length ranks → AreNames ranks tests → (xs ys : List T)
+      → IsSound ranks xs → IsPermutation xs ys → entry tests xs ≡ entry tests ys
   entry-IsPermutation ranks tests some names xs ys sound p =
       ap (λ l. entry_of l (all_of tests xs)) (listing-IsPermutation ranks tests names xs ys sound p)
       ∙ ap (entry_of (listing tests ys)) (all_of-IsPermutation ranks tests some names xs ys sound p)
@@ -54,7 +50,8 @@ module _ {T : Type 0} where
       let others : List T = filter (λ x. not (test x)) bag in
       ap (λ l. l ++ listing tests others) h.0 ∙ ap (λ l. y ∷ l) (listing-none tests others (rest tests gone h.1))
     where
-      rest : (tests : List (T → Bool)) → filter (λ x. not (test x)) (y ∷ []) ≡ [] → AllByRecursion (λ t. filter t bag ≡ y ∷ []) tests → AllByRecursion (λ t. filter t (filter (λ x. not (test x)) bag) ≡ []) tests
+      rest : (tests : List (T → Bool)) → filter (λ x. not (test x)) (y ∷ []) ≡ [] → AllByRecursion (λ t. filter t bag ≡ y ∷ []) tests
+          → AllByRecursion (λ t. filter t (filter (λ x. not (test x)) bag) ≡ []) tests
       rest [] gone h = tt
       rest (t ∷ tests) gone h = (filter_swap t (λ x. not (test x)) bag ∙ ap (filter (λ x. not (test x))) h.0 ∙ gone, rest tests gone h.1)
 
@@ -70,12 +67,6 @@ module _ {T : Type 0} where
           let first : filter t (y ∷ []) ≡ y ∷ [] = rw passes refl in
           all_of-next t tests (y ∷ []) ∙ ap (all_of tests) first ∙ whole tests h.1
 
-  pub entry-vacant : (tests : List (T → Bool)) (bag : List T) → AllByRecursion (λ test. filter test bag ≡ []) tests → entry tests bag ≡ vacant
-  entry-vacant tests bag h = ap (λ l. entry_of l (all_of tests bag)) (listing-none tests bag h)
-
   pub entry-unique : (tests : List (T → Bool)) (bag : List T) (y : T) → 0 < length tests → AllByRecursion (λ test. filter test bag ≡ y ∷ []) tests → entry tests bag ≡ unique y
   entry-unique tests bag y some h =
       ap (λ l. entry_of l (all_of tests bag)) (listing-one tests bag y some h) ∙ ap (entry_of (y ∷ [])) (all_of-one tests bag y some h)
-
-  pub entry-non_unique : (tests : List (T → Bool)) (bag listed : List T) (y : T) → listing tests bag ≡ y ∷ listed → all_of tests bag ≡ [] → entry tests bag ≡ non_unique (y ∷ listed)
-  entry-non_unique tests bag listed y h none = ap (λ l. entry_of l (all_of tests bag)) h ∙ ap (entry_of (y ∷ listed)) none

@@ -61,8 +61,7 @@ module _ {T : Type 0} where
       (λ l i j a b k. IsPermutation-trans _ _ _ k (filter-Shuffled p (Shuffled-swap l i j a b))) ys h
 
   pub Shuffled-from : (xs ys : List T) → IsPermutation xs ys → Shuffled xs ys
-  Shuffled-from xs ys h =
-      IsPermutation-keeps xs (λ l. Shuffled xs l) (Shuffled-refl xs) (λ l i j a b k. then k (Shuffled-swap l i j a b)) ys h
+  Shuffled-from xs ys h = IsPermutation-keeps xs (λ l. Shuffled xs l) (Shuffled-refl xs) (λ l i j a b k. then k (Shuffled-swap l i j a b)) ys h
 
 -- partners change places with the elements that they belong to
 module _ {A B : Type 0} (R : A → B → Type 0) where

@@ -1,18 +1,14 @@
 -- An item that has the keys conflicts with exactly the items that the keys find.
-use Rattle.std.specs.Prelude.{◌≡◌, ◌≤◌, length, Contains, Bool, true, not, List, [], ◌∷◌, ◌++◌, filter}
+use Rattle.std.specs.Prelude.{◌≡◌, Contains, Bool, true, not, List, [], ◌∷◌, ◌++◌, filter}
 use Rattle.std.specs.List.{AllByRecursion}
-use Rattle.std.proofs.Common.{inl, inr, refl, ap, ◌∙◌, arith}
+use Rattle.std.proofs.Common.{refl, ap, ◌∙◌}
+use Rattle.std.proofs.lemmas.List.Elements.{filter_agree}
 use Rattle.iddqd_store.specs.Bag.{Ranks, IsSound, NamesOne, listing, like, order, clash}
 use Rattle.iddqd_store.specs.Rank.Keys.{AreKeyTests}
-use Rattle.iddqd_store.proofs.BagLemmas.Sound.{Contains-filter, IsSound-rank, length-named}
+use Rattle.iddqd_store.proofs.BagLemmas.Sound.{Contains-filter, IsSound-rank, length-named, only_one}
 use Rattle.iddqd_store.proofs.BagLemmas.Steps.{clash-empty}
-use Rattle.iddqd_store.proofs.RankLemmas.Index.{Contains-cons_cases}
 
 module _ {T : Type 0} where
-  filter_same : (p q : T → Bool) → ((x : T) → p x ≡ q x) → (xs : List T) → filter p xs ≡ filter q xs
-  filter_same p q same [] = refl
-  filter_same p q same (x ∷ xs) = rw (same x, filter_same p q same xs) refl
-
   -- an item that has the keys lists the same members as the keys
   pub order-keys : (ranks : Ranks T) (tests : List (T → Bool)) (x : T) → AreKeyTests ranks tests → AllByRecursion (λ test. test x ≡ true) tests → (bag : List T) → order ranks bag x ≡ listing tests bag
   order-keys [] [] x keys passes bag = refl
@@ -20,24 +16,18 @@ module _ {T : Type 0} where
   order-keys (agree ∷ ranks) [] x keys passes bag = absurd keys
   order-keys (agree ∷ ranks) (test ∷ tests) x keys passes bag =
       let same : (y : T) → agree x y ≡ test y = λ y. keys.0 x y passes.0 in
-      ap (λ l. l ++ listing (like ranks x) (filter (λ y. not (agree x y)) bag)) (filter_same (agree x) test same bag)
-      ∙ ap (λ l. filter test bag ++ listing (like ranks x) l) (filter_same _ _ (λ y. ap not (same y)) bag)
+      ap (λ l. l ++ listing (like ranks x) (filter (λ y. not (agree x y)) bag)) (filter_agree (agree x) test same bag)
+      ∙ ap (λ l. filter test bag ++ listing (like ranks x) l) (filter_agree _ _ (λ y. ap not (same y)) bag)
       ∙ ap (λ l. filter test bag ++ l) (order-keys ranks tests x keys.1 passes.1 (filter (λ y. not (test y)) bag))
 
   -- if the keys find nothing, nothing conflicts with it
-  pub clash-keys : (ranks : Ranks T) (tests : List (T → Bool)) (x : T) → AreKeyTests ranks tests → AllByRecursion (λ test. test x ≡ true) tests → (bag : List T) → listing tests bag ≡ [] → clash ranks bag x ≡ []
+  pub clash-keys : (ranks : Ranks T) (tests : List (T → Bool)) (x : T) → AreKeyTests ranks tests → AllByRecursion (λ test. test x ≡ true) tests
+      → (bag : List T) → listing tests bag ≡ [] → clash ranks bag x ≡ []
   clash-keys ranks tests x keys passes bag none = clash-empty ranks bag x (order-keys ranks tests x keys passes bag ∙ none)
 
-  pub only_one : (l : List T) (x : T) → length l ≤ 1 → Contains l x → l ≡ x ∷ []
-  only_one [] x short found = absurd (omega (arith, found.1))
-  only_one (y ∷ []) x short found = elim (Contains-cons_cases y x [] found) [
-    | inl same ↦ ap (λ z. z ∷ []) same
-    | inr further ↦ absurd (omega (arith, further.1))
-  ]
-  only_one (y ∷ z ∷ l) x short found = absurd (omega (arith, short))
-
   -- in a sound bag each key of a member finds it alone
-  pub each_only : (ranks : Ranks T) (tests : List (T → Bool)) (bag : List T) (x : T) → AreKeyTests ranks tests → AllByRecursion (λ test. test x ≡ true) tests → IsSound ranks bag → Contains bag x → AllByRecursion (λ test. filter test bag ≡ x ∷ []) tests
+  pub each_only : (ranks : Ranks T) (tests : List (T → Bool)) (bag : List T) (x : T) → AreKeyTests ranks tests
+      → AllByRecursion (λ test. test x ≡ true) tests → IsSound ranks bag → Contains bag x → AllByRecursion (λ test. filter test bag ≡ x ∷ []) tests
   each_only [] [] bag x keys passes sound there = tt
   each_only [] (test ∷ tests) bag x keys passes sound there = absurd keys
   each_only (agree ∷ ranks) [] bag x keys passes sound there = absurd keys

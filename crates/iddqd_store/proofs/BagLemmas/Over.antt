@@ -1,33 +1,29 @@
 -- How items leave their slots in turn, and what is left once the conflicting ones have left.
-use Rattle.std.specs.Prelude.{◌≡◌, ◌≢◌, ℕ, ◌+◌, slice_get, drop, Bool, false, not, List, [], ◌∷◌, ◌++◌, length, filter, IsPermutation, Option, Some, None, nat_eq, All, if◌then◌else◌}
+use Rattle.std.specs.Prelude.{◌≡◌, ℕ, ◌+◌, slice_get, drop, Bool, false, not, List, [], ◌∷◌, ◌++◌, length, filter, IsPermutation, Option, Some, None, nat_eq, All, if◌then◌else◌}
 use Rattle.std.specs.List.{IsDistinct, AllByRecursion}
 use Rattle.std.proofs.Common.{refl, sym, ap, subst, ◌∙◌, arith, add-one, append_assoc, length-append}
 use Rattle.std.proofs.Math.Seq.{drop-cons}
 use Rattle.std.proofs.lemmas.Option.{slice_get_within, get_or_from_slice_get}
-use Rattle.std.proofs.lemmas.Bool.Decides.{nat_tests}
 use Rattle.std.proofs.lemmas.List.Elements.{All-nil, All-cons, All-head, All-tail, filter-append}
 use Rattle.std.proofs.lemmas.List.Sorted.{IsPermutation-refl, IsPermutation-sym, IsPermutation-trans, IsPermutation-append, IsPermutation-cons, length_permutation}
 use Rattle.std.proofs.lemmas.Map.Keys.{IsDistinct-head, IsDistinct-tail, IsDistinct-cons}
+use Rattle.std.proofs.lemmas.List.{nil_from_length}
+use Rattle.std.proofs.lemmas.Bool.{or_parts}
 use Rattle.iddqd_store.specs.Slots.{get, IsLive, Updates}
 use Rattle.iddqd_store.specs.Slots.Found.{items_at, contains, with_found}
 use Rattle.iddqd_store.specs.Bag.{Ranks, some_of, like, conflicts, clash, order, over}
+use Rattle.iddqd_store.proofs.Plain.{number_turned, number_apart}
 use Rattle.iddqd_store.proofs.BagLemmas.Exchanges.{split, IsPermutation-filter}
 use Rattle.iddqd_store.proofs.BagLemmas.Steps.{none_passes}
-use Rattle.iddqd_store.proofs.BagLemmas.Sound.{or-false, IsDistinct-nil, each_weaker, each_passes, none_pass, all_pass, IsPermutation-order}
-
-other_number : (a b : ℕ) → nat_eq a b ≡ false → b ≢ a
-other_number a b h = grind (arith, nat_tests)
-
-flipped : (a b : ℕ) → nat_eq a b ≡ false → nat_eq b a ≡ false
-flipped a b h = grind (arith, nat_tests)
+use Rattle.iddqd_store.proofs.BagLemmas.Sound.{IsDistinct-nil, each_weaker, each_passes, none_pass, all_pass, IsPermutation-order}
 
 -- the slots found are distinct
 pub IsDistinct-push : (numbers : List ℕ) (slot : ℕ) → IsDistinct nat_eq numbers → contains numbers slot ≡ false → IsDistinct nat_eq (numbers ++ slot ∷ [])
 IsDistinct-push [] slot apart new = IsDistinct-cons nat_eq slot [] tt (IsDistinct-nil nat_eq)
 IsDistinct-push (a ∷ numbers) slot apart new =
-    let both = or-false (nat_eq slot a) (contains numbers slot) new in
+    let both = or_parts (nat_eq slot a) (contains numbers slot) new in
     IsDistinct-cons nat_eq a (numbers ++ slot ∷ [])
-    (further numbers (IsDistinct-head nat_eq a numbers apart) (flipped slot a both.0))
+    (further numbers (IsDistinct-head nat_eq a numbers apart) (number_turned slot a both.0))
     (IsDistinct-push numbers slot (IsDistinct-tail nat_eq a numbers apart) both.1)
   where
     further : (rest : List ℕ) → AllByRecursion (λ y. nat_eq a y ≡ false) rest → nat_eq a slot ≡ false → AllByRecursion (λ y. nat_eq a y ≡ false) (rest ++ slot ∷ [])
@@ -48,25 +44,29 @@ drop-found numbers at slot is =
 
 module _ {T : Type 0} where
   -- a change of one content leaves the items of the others
-  pub items_at-others : (old new : List (Option T)) (at : ℕ) (content : Option T) (numbers : List ℕ) → Updates old new at content → AllByRecursion (λ slot. nat_eq at slot ≡ false) numbers → items_at new numbers ≡ items_at old numbers
+  pub items_at-others : (old new : List (Option T)) (at : ℕ) (content : Option T) (numbers : List ℕ) → Updates old new at content
+      → AllByRecursion (λ slot. nat_eq at slot ≡ false) numbers → items_at new numbers ≡ items_at old numbers
   items_at-others old new at content [] updates apart = refl
   items_at-others old new at content (slot ∷ numbers) updates apart =
-      let here : get new slot ≡ get old slot = updates.others slot (other_number at slot apart.0) in
+      let here : get new slot ≡ get old slot = updates.others slot (number_apart at slot apart.0) in
       rw (here, items_at-others old new at content numbers updates apart.1) refl
 
   -- one more item left its content
-  pub items_at-taken : (old new : List (Option T)) (slot : ℕ) (rest : List ℕ) (x : T) (taken whole : List T) → Updates old new slot None → get old slot ≡ Some x → IsDistinct nat_eq (slot ∷ rest) → taken ++ items_at old (slot ∷ rest) ≡ whole → (taken ++ x ∷ []) ++ items_at new rest ≡ whole
+  pub items_at-taken : (old new : List (Option T)) (slot : ℕ) (rest : List ℕ) (x : T) (taken whole : List T) → Updates old new slot None
+      → get old slot ≡ Some x → IsDistinct nat_eq (slot ∷ rest) → taken ++ items_at old (slot ∷ rest) ≡ whole
+      → (taken ++ x ∷ []) ++ items_at new rest ≡ whole
   items_at-taken old new slot rest x taken whole updates found apart before =
       append_assoc taken (x ∷ []) (items_at new rest)
       ∙ ap (λ l. taken ++ x ∷ l) (items_at-others old new slot None rest updates (IsDistinct-head nat_eq slot rest apart))
       ∙ (rw found at before)
 
   -- the other slots stay live
-  pub live-unchanged : (old new : List (Option T)) (slot : ℕ) (content : Option T) (rest : List ℕ) → Updates old new slot content → AllByRecursion (λ y. nat_eq slot y ≡ false) rest → All (IsLive old) rest → All (IsLive new) rest
+  pub live-unchanged : (old new : List (Option T)) (slot : ℕ) (content : Option T) (rest : List ℕ) → Updates old new slot content
+      → AllByRecursion (λ y. nat_eq slot y ≡ false) rest → All (IsLive old) rest → All (IsLive new) rest
   live-unchanged old new slot content [] updates apart live = All-nil (IsLive new)
   live-unchanged old new slot content (a ∷ rest) updates apart live =
       All-cons (IsLive new) a rest
-      (rw (updates.others a (other_number slot a apart.0)) (All-head (IsLive old) a rest live))
+      (rw (updates.others a (number_apart slot a apart.0)) (All-head (IsLive old) a rest live))
       (live-unchanged old new slot content rest updates apart.1 (All-tail (IsLive old) a rest live))
 
   pub live-others : (old new : List (Option T)) (slot : ℕ) (rest : List ℕ) → Updates old new slot None → IsDistinct nat_eq (slot ∷ rest) → All (IsLive old) rest → All (IsLive new) rest
@@ -78,12 +78,9 @@ module _ {T : Type 0} where
       subst (IsPermutation bag) (sym (append_assoc taken (x ∷ []) new))
       (IsPermutation-trans _ _ _ before (IsPermutation-append taken taken _ _ (IsPermutation-refl taken) out))
 
-  nothing : (xs : List T) → length xs ≡ 0 → xs ≡ []
-  nothing [] h = refl
-  nothing (x ∷ xs) h = absurd (omega arith)
-
   -- a filter of the bag is that of the conflicting items and that of the rest
-  filter-taken : (p : T → Bool) (ranks : Ranks T) (bag rest : List T) (x : T) → IsPermutation bag (order ranks bag x ++ rest) → IsPermutation (filter p bag) (filter p (clash ranks bag x) ++ filter p rest)
+  filter-taken : (p : T → Bool) (ranks : Ranks T) (bag rest : List T) (x : T) → IsPermutation bag (order ranks bag x ++ rest)
+      → IsPermutation (filter p bag) (filter p (clash ranks bag x) ++ filter p rest)
   filter-taken p ranks bag rest x out =
       IsPermutation-trans _ _ _
       (subst (IsPermutation (filter p bag)) (filter-append p (order ranks bag x) rest) (IsPermutation-filter p bag (order ranks bag x ++ rest) out))
@@ -96,7 +93,7 @@ module _ {T : Type 0} where
       let again : filter p (clash ranks bag x) ≡ clash ranks bag x = all_pass p (clash ranks bag x) (each_passes p bag) in
       let long : length (clash ranks bag x ++ filter p rest) ≡ length (clash ranks bag x) =
       length_permutation _ _ (subst (λ l. IsPermutation (filter p bag) (l ++ filter p rest)) again (filter-taken p ranks bag rest x out)) in
-      nothing (clash ranks rest x) (omega (arith, long, length-append (clash ranks bag x) (filter p rest)))
+      nil_from_length (clash ranks rest x) (omega (arith, long, length-append (clash ranks bag x) (filter p rest)))
 
   -- what is left, with x, is the bag overwritten by x
   pub over-taken : (ranks : Ranks T) (bag rest new : List T) (x : T) → IsPermutation bag (order ranks bag x ++ rest) → IsPermutation new (x ∷ rest) → IsPermutation new (over ranks bag x)

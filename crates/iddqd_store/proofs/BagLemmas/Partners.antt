@@ -5,19 +5,11 @@ use Rattle.std.specs.Cmp.{IsPartialEquivalence}
 use Rattle.std.specs.List.{list_all, list_any}
 use Rattle.std.specs.Option.{option_to_list}
 use Rattle.std.proofs.Common.{refl, sym, ap, ◌∙◌, arith}
-use Rattle.std.proofs.lemmas.Bool.{false≢true}
+use Rattle.std.proofs.lemmas.Bool.{false≢true, or_right}
 use Rattle.iddqd_store.specs.Bag.{Ranks, same_item, agrees, IsSound, AreLawful, IsSameBag, is_same}
 use Rattle.iddqd_store.proofs.RankLemmas.Index.{Contains-cons, Contains-here, each_from_Contains}
-use Rattle.iddqd_store.proofs.BagLemmas.Same.{and-true, IsSameBag-length, IsSameBag-pair, IsSameBag-from_pairs}
-use Rattle.iddqd_store.proofs.BagLemmas.SameTest.{is_same-IsSameBag, IsSameBag-is_same}
-
-and-both : (a b : Bool) → a ≡ true → b ≡ true → (a && b) ≡ true
-and-both true b p q = q
-and-both false b p q = p
-
-or-second : (a b : Bool) → b ≡ true → (a || b) ≡ true
-or-second true b p = refl
-or-second false b p = p
+use Rattle.iddqd_store.proofs.BagLemmas.Same.{IsSameBag-length, IsSameBag-pair, IsSameBag-from_pairs}
+use Rattle.iddqd_store.proofs.BagLemmas.SameTest.{is_same-IsSameBag, IsSameBag-is_same, each_tested, test_each}
 
 or-none : (b : Bool) → (b || false) ≡ b
 or-none true = refl
@@ -29,7 +21,7 @@ module _ {T : Type 0} where
   any_in p (z ∷ zs) y (zero, lt, is) passes =
       let here : p z ≡ true = ap p is ∙ passes in
       rw here refl
-  any_in p (z ∷ zs) y (suc k, lt, is) passes = or-second (p z) _ (any_in p zs y (k, omega arith, is) passes)
+  any_in p (z ∷ zs) y (suc k, lt, is) passes = or_right (p z) _ (any_in p zs y (k, omega arith, is) passes)
 
   any_out : (p : T → Bool) (xs : List T) → list_any p xs ≡ true → (y : T) × Contains xs y × (p y ≡ true)
   any_out p [] h = absurd (false≢true h)
@@ -40,15 +32,6 @@ module _ {T : Type 0} where
       by_head false is h on =
           let rest = on h in
           (rest.0, Contains-cons z rest.0 zs rest.1, rest.2)
-
-  all_in : (p : T → Bool) (xs : List T) (x : T) → list_all p xs ≡ true → Contains xs x → p x ≡ true
-  all_in p [] x h found = absurd (omega (arith, found.1))
-  all_in p (z ∷ zs) x h (zero, lt, is) = ap p (sym is) ∙ (and-true (p z) (list_all p zs) h).0
-  all_in p (z ∷ zs) x h (suc k, lt, is) = all_in p zs x (and-true (p z) (list_all p zs) h).1 (k, omega arith, is)
-
-  all_out : (p : T → Bool) (xs : List T) → ((x : T) → Contains xs x → p x ≡ true) → list_all p xs ≡ true
-  all_out p [] h = refl
-  all_out p (z ∷ zs) h = and-both (p z) (list_all p zs) (h z (Contains-here z zs)) (all_out p zs (λ x found. h x (Contains-cons z x zs found)))
 
 module _ {T : Type 0} (ranks : Ranks T) (eq : T → T → Bool) (laws : AreLawful ranks) (same : IsPartialEquivalence eq) (bag other : List T) where
   -- any function that agrees with the test decides whether the bags are the same
@@ -69,7 +52,7 @@ module _ {T : Type 0} (ranks : Ranks T) (eq : T → T → Bool) (laws : AreLawfu
   -- bags are not the same if some member has no partner
   pub told_alone : list_all (λ x. list_any (same_item ranks eq x) other) bag ≡ false → is_same ranks eq bag other ≡ false
   told_alone none =
-      by_answer (λ h. false≢true (sym none ∙ all_out _ bag (λ x found.
+      by_answer (λ h. false≢true (sym none ∙ test_each _ bag (λ x found.
       let pair = IsSameBag-pair ranks eq bag other (is_same-IsSameBag ranks eq laws same bag other h) x found in
       any_in (same_item ranks eq x) other pair.0 pair.1 pair.2)))
 
@@ -78,14 +61,15 @@ module _ {T : Type 0} (ranks : Ranks T) (eq : T → T → Bool) (laws : AreLawfu
   told_same some sound long all =
       IsSameBag-is_same ranks eq laws same bag other
       (IsSameBag-from_pairs ranks eq laws some bag other sound long
-      (each_from_Contains _ bag (λ x found. any_out (same_item ranks eq x) other (all_in (λ x. list_any (same_item ranks eq x) other) bag x all found))))
+      (each_from_Contains _ bag (λ x found. any_out (same_item ranks eq x) other (each_tested (λ x. list_any (same_item ranks eq x) other) bag all x found))))
 
 -- the partner of an item is among those with its key of the first rank
 among_named : {T : Type 0} (a r e : T → Bool) (xs : List T) → list_any (λ y. (a y && r y) && e y) xs ≡ list_any (λ y. r y && e y) (filter a xs)
 among_named a r e [] = refl
 among_named a r e (x ∷ xs) = by_head (a x) refl (among_named a r e xs)
   where
-    by_head : (b : Bool) → a x ≡ b → list_any (λ y. (a y && r y) && e y) xs ≡ list_any (λ y. r y && e y) (filter a xs) → list_any (λ y. (a y && r y) && e y) (x ∷ xs) ≡ list_any (λ y. r y && e y) (filter a (x ∷ xs))
+    by_head : (b : Bool) → a x ≡ b → list_any (λ y. (a y && r y) && e y) xs ≡ list_any (λ y. r y && e y) (filter a xs)
+        → list_any (λ y. (a y && r y) && e y) (x ∷ xs) ≡ list_any (λ y. r y && e y) (filter a (x ∷ xs))
     by_head true is rest = rw is (ap (λ b. (r x && e x) || b) rest)
     by_head false is rest = rw is rest
 

@@ -85,9 +85,6 @@ overs_of_two = refl
 entry_of_two : entry (keyed 1 20) m2 ≡ non_unique ((1, 10, 100) ∷ (2, 20, 200) ∷ [])
 entry_of_two = refl
 
-entry_over_two : over pairs m2 (1, 20, 300) ≡ (1, 20, 300) ∷ []
-entry_over_two = refl
-
 then_unique : entry (keyed 1 20) ((1, 20, 300) ∷ []) ≡ unique (1, 20, 300)
 then_unique = refl
 

@@ -1,9 +1,9 @@
 -- When two bags are the same.
-use Rattle.std.specs.Prelude.{◌≡◌, zero, suc, ◌<◌, Bool, true, false, ◌&&◌, List, [], ◌∷◌, length, IsPermutation, Contains}
+use Rattle.std.specs.Prelude.{◌≡◌, zero, suc, ◌<◌, Bool, true, false, List, [], ◌∷◌, length, IsPermutation, Contains}
 use Rattle.std.specs.Cmp.{IsEquivalence, IsPartialEquivalence}
 use Rattle.std.specs.List.{AllByRecursion, AllZip}
 use Rattle.std.proofs.Common.{refl, sym, subst, ◌∙◌, arith}
-use Rattle.std.proofs.lemmas.Bool.{false≢true}
+use Rattle.std.proofs.lemmas.Bool.{false≢true, and_parts}
 use Rattle.std.proofs.lemmas.Map.Keys.{IsDistinct-head, IsDistinct-tail, IsDistinct-cons}
 use Rattle.std.proofs.lemmas.List.Sorted.{IsPermutation-refl, IsPermutation-sym, IsPermutation-cons, IsPermutation-trans, length_permutation, Contains-permutation}
 use Rattle.std.proofs.lemmas.List.Elements.{length_all_zip}
@@ -11,10 +11,7 @@ use Rattle.iddqd_store.proofs.BagLemmas.Exchanges.{AllZip-follow, AllZip-flip, I
 use Rattle.iddqd_store.proofs.BagLemmas.Sound.{IsSound-IsPermutation, conflicts-symm}
 use Rattle.iddqd_store.proofs.BagLemmas.Steps.{agrees-conflicts}
 use Rattle.iddqd_store.specs.Bag.{Ranks, conflicts, agrees, same_item, IsSound, AreLawful, IsSameBag, IsCopy}
-
-pub and-true : (a b : Bool) → (a && b) ≡ true → (a ≡ true) × (b ≡ true)
-and-true true b h = (refl, h)
-and-true false b h = absurd (false≢true h)
+use Rattle.iddqd_store.proofs.RankLemmas.Index.{Contains-cons}
 
 module _ {A : Type 0} where
   AllZip-refl : (R : A → A → Type 0) → ((x : A) → R x x) → (xs : List A) → AllZip R xs xs
@@ -46,8 +43,8 @@ module _ {T : Type 0} where
   pub agrees-trans : (ranks : Ranks T) → AreLawful ranks → (x y z : T) → agrees ranks x y ≡ true → agrees ranks y z ≡ true → agrees ranks x z ≡ true
   agrees-trans [] h x y z p q = refl
   agrees-trans (agree ∷ ranks) h x y z p q =
-      let first = and-true (agree x y) (agrees ranks x y) p in
-      let second = and-true (agree y z) (agrees ranks y z) q in
+      let first = and_parts (agree x y) (agrees ranks x y) p in
+      let second = and_parts (agree y z) (agrees ranks y z) q in
       rw (h.0.congr x y z first.0 ∙ second.0, agrees-trans ranks h.1 x y z first.1 second.1) refl
 
   same_item-refl : (ranks : Ranks T) (eq : T → T → Bool) → AreLawful ranks → IsEquivalence eq → (x : T) → same_item ranks eq x x ≡ true
@@ -58,8 +55,8 @@ module _ {T : Type 0} where
       record {
         symm = λ x y. rw (agrees-symm ranks laws x y, same.symm x y) refl;
         trans = λ x y z p q.
-            let first = and-true (agrees ranks x y) (eq x y) p in
-            let second = and-true (agrees ranks y z) (eq y z) q in
+            let first = and_parts (agrees ranks x y) (eq x y) p in
+            let second = and_parts (agrees ranks y z) (eq y z) q in
             rw (agrees-trans ranks laws x y z first.0 second.0, same.trans x y z first.1 second.1) refl;
       }
 
@@ -73,16 +70,15 @@ module _ {T : Type 0} where
       let moved = AllZip-follow (λ y x. same_item ranks eq x y ≡ true) h.0 bag held (AllZip-flip (λ x y. same_item ranks eq x y ≡ true) bag h.0 h.2) p in
       (moved.0, IsPermutation-trans _ _ _ h.1 moved.1, AllZip-flip (λ y x. same_item ranks eq x y ≡ true) moved.0 held moved.2)
 
-  pub IsSameBag-right : (ranks : Ranks T) (eq : T → T → Bool) (bag other held : List T) → IsPermutation other held → IsSameBag ranks eq bag other → IsSameBag ranks eq bag held
-  IsSameBag-right ranks eq bag other held p h = (h.0, IsPermutation-trans _ _ _ (IsPermutation-sym _ _ p) h.1, h.2)
-
   pub IsSameBag-symm : (ranks : Ranks T) (eq : T → T → Bool) → AreLawful ranks → IsPartialEquivalence eq → (bag other : List T) → IsSameBag ranks eq bag other → IsSameBag ranks eq other bag
   IsSameBag-symm ranks eq laws same bag other h =
       let back : AllZip (λ x y. same_item ranks eq x y ≡ true) h.0 bag =
-      AllZip-weaker (λ y x. same_item ranks eq x y ≡ true) (λ x y. same_item ranks eq x y ≡ true) (λ y x k. (same_item-equivalence ranks eq laws same).symm y x ∙ k) h.0 bag (AllZip-flip (λ x y. same_item ranks eq x y ≡ true) bag h.0 h.2) in
+      AllZip-weaker (λ y x. same_item ranks eq x y ≡ true) (λ x y. same_item ranks eq x y ≡ true)
+      (λ y x k. (same_item-equivalence ranks eq laws same).symm y x ∙ k) h.0 bag (AllZip-flip (λ x y. same_item ranks eq x y ≡ true) bag h.0 h.2) in
       IsSameBag-left ranks eq h.0 bag other (IsPermutation-sym _ _ h.1) (bag, IsPermutation-refl bag, back)
 
-  pub IsSameBag-trans : (ranks : Ranks T) (eq : T → T → Bool) → AreLawful ranks → IsPartialEquivalence eq → (bag other third : List T) → IsSameBag ranks eq bag other → IsSameBag ranks eq other third → IsSameBag ranks eq bag third
+  pub IsSameBag-trans : (ranks : Ranks T) (eq : T → T → Bool) → AreLawful ranks → IsPartialEquivalence eq → (bag other third : List T)
+      → IsSameBag ranks eq bag other → IsSameBag ranks eq other third → IsSameBag ranks eq bag third
   IsSameBag-trans ranks eq laws same bag other third h k =
       let moved = IsSameBag-left ranks eq other third h.0 h.1 k in
       (moved.0, moved.1, AllZip-trans (λ x y. same_item ranks eq x y ≡ true) (λ x y z p q. (same_item-equivalence ranks eq laws same).trans x y z p q) bag h.0 moved.0 h.2 moved.2)
@@ -120,41 +116,40 @@ module _ {T : Type 0} where
 
   agrees-conflict : (ranks : Ranks T) → 0 < length ranks → (x y : T) → agrees ranks x y ≡ true → conflicts ranks x y ≡ true
   agrees-conflict [] some x y h = absurd (omega arith)
-  agrees-conflict (agree ∷ ranks) some x y h = rw (and-true (agree x y) (agrees ranks x y) h).0 refl
+  agrees-conflict (agree ∷ ranks) some x y h = rw (and_parts (agree x y) (agrees ranks x y) h).0 refl
 
   -- the partners of x and of the rest of a sound bag differ
-  others_pair : (ranks : Ranks T) (eq : T → T → Bool) → AreLawful ranks → 0 < length ranks → (x y : T) (xs other rest : List T) → IsPermutation other (y ∷ rest) → agrees ranks x y ≡ true → AllByRecursion (λ z. conflicts ranks x z ≡ false) xs → AllByRecursion (HasPair ranks eq other) xs → AllByRecursion (HasPair ranks eq rest) xs
+  others_pair : (ranks : Ranks T) (eq : T → T → Bool) → AreLawful ranks → 0 < length ranks → (x y : T) (xs other rest : List T)
+      → IsPermutation other (y ∷ rest) → agrees ranks x y ≡ true → AllByRecursion (λ z. conflicts ranks x z ≡ false) xs
+      → AllByRecursion (HasPair ranks eq other) xs → AllByRecursion (HasPair ranks eq rest) xs
   others_pair ranks eq laws some x y [] other rest p same apart pairs = tt
   others_pair ranks eq laws some x y (z ∷ xs) other rest p same apart pairs =
       (by_place (Contains-permutation _ _ _ p pairs.0.1), others_pair ranks eq laws some x y xs other rest p same apart.1 pairs.1)
     where
       by_place : Contains (y ∷ rest) pairs.0.0 → HasPair ranks eq rest z
       by_place (zero, lt, is) =
-          let there : agrees ranks z y ≡ true = rw is (and-true (agrees ranks z pairs.0.0) (eq z pairs.0.0) pairs.0.2).0 in
+          let there : agrees ranks z y ≡ true = rw is (and_parts (agrees ranks z pairs.0.0) (eq z pairs.0.0) pairs.0.2).0 in
           let alike = agrees-trans ranks laws x y z same (agrees-symm ranks laws y z ∙ there) in
           absurd (false≢true (sym apart.0 ∙ agrees-conflict ranks some x z alike))
       by_place (suc k, lt, is) = (pairs.0.0, (k, omega arith, is), pairs.0.2)
 
   -- if there are as many members, and each member of a sound bag has a partner, the bags are the same
-  pub IsSameBag-from_pairs : (ranks : Ranks T) (eq : T → T → Bool) → AreLawful ranks → 0 < length ranks → (bag other : List T) → IsSound ranks bag → length bag ≡ length other → AllByRecursion (HasPair ranks eq other) bag → IsSameBag ranks eq bag other
+  pub IsSameBag-from_pairs : (ranks : Ranks T) (eq : T → T → Bool) → AreLawful ranks → 0 < length ranks → (bag other : List T) → IsSound ranks bag
+      → length bag ≡ length other → AllByRecursion (HasPair ranks eq other) bag → IsSameBag ranks eq bag other
   IsSameBag-from_pairs ranks eq laws some [] other sound long pairs = ([], subst (λ l. IsPermutation l []) (sym (nothing other long)) (IsPermutation-refl []), tt)
   IsSameBag-from_pairs ranks eq laws some (x ∷ xs) other sound long pairs =
       let y = pairs.0.0 in
       let out = taken_out other y pairs.0.1 in
-      let same = (and-true (agrees ranks x y) (eq x y) pairs.0.2).0 in
+      let same = (and_parts (agrees ranks x y) (eq x y) pairs.0.2).0 in
       let left = others_pair ranks eq laws some x y xs other out.0 out.1 same (IsDistinct-head (conflicts ranks) x xs sound) pairs.1 in
       let fewer : length xs ≡ length out.0 = omega (arith, length_permutation _ _ out.1) in
       let rest = IsSameBag-from_pairs ranks eq laws some xs out.0 (IsDistinct-tail (conflicts ranks) x xs sound) fewer left in
       (y ∷ rest.0, IsPermutation-trans _ _ _ out.1 (IsPermutation-cons y _ _ rest.1), (pairs.0.2, rest.2))
 
-  -- a copy in another order
-  pub IsCopy-IsPermutation : (is_clone : T → T → Type 0) (bag copy held other : List T) → IsPermutation bag held → IsPermutation copy other → IsCopy is_clone bag copy → IsCopy is_clone held other
-  IsCopy-IsPermutation is_clone bag copy held other p q h =
-      let moved = AllZip-follow (λ y x. is_clone x y) h.0 bag held (AllZip-flip is_clone bag h.0 h.2) p in
-      (moved.0, IsPermutation-trans _ _ _ (IsPermutation-sym _ _ q) (IsPermutation-trans _ _ _ h.1 moved.1), AllZip-flip (λ y x. is_clone x y) moved.0 held moved.2)
-
   -- if a clone has the keys of its source, a copy of a sound bag is sound
-  copies-apart : (is_clone : T → T → Type 0) (ranks : Ranks T) → AreLawful ranks → (x c : T) (xs cs : List T) → agrees ranks x c ≡ true → ((y d : T) → Contains (x ∷ xs) y → is_clone y d → agrees ranks y d ≡ true) → AllZip is_clone xs cs → AllByRecursion (λ y. conflicts ranks x y ≡ false) xs → AllByRecursion (λ d. conflicts ranks c d ≡ false) cs
+  copies-apart : (is_clone : T → T → Type 0) (ranks : Ranks T) → AreLawful ranks → (x c : T) (xs cs : List T) → agrees ranks x c ≡ true
+      → ((y d : T) → Contains (x ∷ xs) y → is_clone y d → agrees ranks y d ≡ true) → AllZip is_clone xs cs
+      → AllByRecursion (λ y. conflicts ranks x y ≡ false) xs → AllByRecursion (λ d. conflicts ranks c d ≡ false) cs
   copies-apart is_clone ranks laws x c [] [] same keys all apart = tt
   copies-apart is_clone ranks laws x c [] (d ∷ cs) same keys all apart = absurd all
   copies-apart is_clone ranks laws x c (y ∷ xs) [] same keys all apart = absurd all
@@ -168,18 +163,17 @@ module _ {T : Type 0} where
       skip y x z xs (zero, lt, is) = (0, omega arith, is)
       skip y x z xs (suc k, lt, is) = (suc (suc k), omega arith, is)
 
-  copies-sound : (is_clone : T → T → Type 0) (ranks : Ranks T) → AreLawful ranks → (xs cs : List T) → ((y d : T) → Contains xs y → is_clone y d → agrees ranks y d ≡ true) → AllZip is_clone xs cs → IsSound ranks xs → IsSound ranks cs
+  copies-sound : (is_clone : T → T → Type 0) (ranks : Ranks T) → AreLawful ranks → (xs cs : List T)
+      → ((y d : T) → Contains xs y → is_clone y d → agrees ranks y d ≡ true) → AllZip is_clone xs cs → IsSound ranks xs → IsSound ranks cs
   copies-sound is_clone ranks laws [] [] keys all sound = sound
   copies-sound is_clone ranks laws [] (c ∷ cs) keys all sound = absurd all
   copies-sound is_clone ranks laws (x ∷ xs) [] keys all sound = absurd all
   copies-sound is_clone ranks laws (x ∷ xs) (c ∷ cs) keys all sound =
       IsDistinct-cons (conflicts ranks) c cs
       (copies-apart is_clone ranks laws x c xs cs (keys x c (0, omega arith, refl) all.0) keys all.1 (IsDistinct-head (conflicts ranks) x xs sound))
-      (copies-sound is_clone ranks laws xs cs (λ y d found. keys y d (behind x y xs found)) all.1 (IsDistinct-tail (conflicts ranks) x xs sound))
-    where
-      behind : (x y : T) (xs : List T) → Contains xs y → Contains (x ∷ xs) y
-      behind x y xs found = (suc found.0, omega (arith, found.1), found.2)
+      (copies-sound is_clone ranks laws xs cs (λ y d found. keys y d (Contains-cons x y xs found)) all.1 (IsDistinct-tail (conflicts ranks) x xs sound))
 
-  pub IsSound-copy : (is_clone : T → T → Type 0) (ranks : Ranks T) → AreLawful ranks → (bag copy : List T) → ((x c : T) → Contains bag x → is_clone x c → agrees ranks x c ≡ true) → IsCopy is_clone bag copy → IsSound ranks bag → IsSound ranks copy
+  pub IsSound-copy : (is_clone : T → T → Type 0) (ranks : Ranks T) → AreLawful ranks → (bag copy : List T)
+      → ((x c : T) → Contains bag x → is_clone x c → agrees ranks x c ≡ true) → IsCopy is_clone bag copy → IsSound ranks bag → IsSound ranks copy
   IsSound-copy is_clone ranks laws bag copy keys h sound =
       IsSound-IsPermutation ranks laws h.0 copy (IsPermutation-sym _ _ h.1) (copies-sound is_clone ranks laws bag h.0 keys h.2 sound)

@@ -3,54 +3,28 @@ use Rattle.std.specs.Prelude.{◌≡◌, ℕ, zero, suc, ◌+◌, ◌<◌, ◌==
 use Rattle.std.specs.Cmp.{IsEquivalence, IsPartialEquivalence, per_alike, equiv, both_ways, partial_equiv_from_equiv}
 use Rattle.std.specs.List.{AllZip, list_all}
 use Rattle.std.proofs.Common.{refl, sym, ap, subst, ◌∙◌, arith, inl, inr}
-use Rattle.std.proofs.lemmas.Bool.Decides.{nat_tests}
 use Rattle.std.proofs.lemmas.List.Sums.{sum_by-cons}
 use Rattle.std.proofs.lemmas.List.Sorted.{IsPermutation-refl, IsPermutation-sym, IsPermutation-cons, IsPermutation-trans, Contains-permutation, sum_by-IsPermutation}
+use Rattle.std.proofs.lemmas.Bool.{and_parts, eqb-true, eq-eqb}
+use Rattle.std.proofs.lemmas.List.Elements.{Contains-append_left, Contains-append_right, Contains-append_cases}
 use Rattle.iddqd_store.proofs.BagLemmas.Exchanges.{split}
-use Rattle.iddqd_store.proofs.BagLemmas.Same.{and-true, agrees-refl, same_item-equivalence, taken_out}
+use Rattle.iddqd_store.proofs.BagLemmas.Same.{agrees-refl, same_item-equivalence, taken_out}
 use Rattle.iddqd_store.specs.Bag.{Ranks, same_item, AreLawful, IsSameBag, is_same}
-
-equal_from : (a b : ℕ) → (a == b) ≡ true → a ≡ b
-equal_from a b h = grind (arith, nat_tests)
-
-equal_test : (a b : ℕ) → a ≡ b → (a == b) ≡ true
-equal_test a b h = grind (arith, nat_tests)
+use Rattle.iddqd_store.proofs.RankLemmas.Index.{Contains-cons}
 
 module _ {T : Type 0} where
   -- in one list or the other
   abbrev Either : List T → List T → T → Type 0
   Either xs ys x = Contains xs x ⊎ Contains ys x
 
-  append-left : (xs ys : List T) (x : T) → Contains xs x → Contains (xs ++ ys) x
-  append-left [] ys x h = absurd (omega (arith, h.1))
-  append-left (y ∷ xs) ys x (zero, lt, is) = (0, omega arith, is)
-  append-left (y ∷ xs) ys x (suc k, lt, is) =
-      let rest = append-left xs ys x (k, omega arith, is) in
-      (suc rest.0, omega (arith, rest.1), rest.2)
-
-  append-right : (xs ys : List T) (x : T) → Contains ys x → Contains (xs ++ ys) x
-  append-right [] ys x h = h
-  append-right (y ∷ xs) ys x h =
-      let rest = append-right xs ys x h in
-      (suc rest.0, omega (arith, rest.1), rest.2)
-
-  behind : (xs : List T) (y x : T) → Contains xs x → Contains (y ∷ xs) x
-  behind xs y x h = (suc h.0, omega (arith, h.1), h.2)
-
-  from_append : (xs ys : List T) (x : T) → Contains (xs ++ ys) x → Either xs ys x
-  from_append [] ys x h = inr h
-  from_append (y ∷ xs) ys x (zero, lt, is) = inl (0, omega arith, is)
-  from_append (y ∷ xs) ys x (suc k, lt, is) =
-      elim (from_append xs ys x (k, omega arith, is)) [ inl h ↦ inl (behind xs y x h) | inr h ↦ inr h ]
-
-  each_tested : (test : T → Bool) (xs : List T) → list_all test xs ≡ true → (x : T) → Contains xs x → test x ≡ true
+  pub each_tested : (test : T → Bool) (xs : List T) → list_all test xs ≡ true → (x : T) → Contains xs x → test x ≡ true
   each_tested test [] h x found = absurd (omega (arith, found.1))
-  each_tested test (y ∷ xs) h x (zero, lt, is) = subst (λ z. test z ≡ true) is (and-true (test y) (list_all test xs) h).0
-  each_tested test (y ∷ xs) h x (suc k, lt, is) = each_tested test xs (and-true (test y) (list_all test xs) h).1 x (k, omega arith, is)
+  each_tested test (y ∷ xs) h x (zero, lt, is) = subst (λ z. test z ≡ true) is (and_parts (test y) (list_all test xs) h).0
+  each_tested test (y ∷ xs) h x (suc k, lt, is) = each_tested test xs (and_parts (test y) (list_all test xs) h).1 x (k, omega arith, is)
 
-  test_each : (test : T → Bool) (xs : List T) → ((x : T) → Contains xs x → test x ≡ true) → list_all test xs ≡ true
+  pub test_each : (test : T → Bool) (xs : List T) → ((x : T) → Contains xs x → test x ≡ true) → list_all test xs ≡ true
   test_each test [] h = refl
-  test_each test (y ∷ xs) h = rw (h y (0, omega arith, refl), test_each test xs (λ x found. h x (behind xs y x found))) refl
+  test_each test (y ∷ xs) h = rw (h y (0, omega arith, refl), test_each test xs (λ x found. h x (Contains-cons y x xs found))) refl
 
   count-cons : (p : T → Bool) (y : T) (xs : List T) → count_by p (y ∷ xs) ≡ cond (p y) 1 0 + count_by p xs
   count-cons p y xs = omega (arith, sum_by-cons (λ x. cond (p x) 1 0) y xs)
@@ -77,7 +51,7 @@ module _ {T : Type 0} where
   standing p (x ∷ xs) h =
       split (λ b. 0 < cond b 1 0 + count_by p xs → (y : T) × Contains (x ∷ xs) y × (p y ≡ true)) (p x)
       (λ yes _. (x, (0, omega arith, refl), yes))
-      (λ _ some. let rest = standing p xs (omega arith) in (rest.0, behind xs x rest.0 rest.1, rest.2))
+      (λ _ some. let rest = standing p xs (omega arith) in (rest.0, Contains-cons x rest.0 xs rest.1, rest.2))
       (subst (λ n. 0 < n) (count-cons p x xs) h)
 
   module _ (P : T → T → Bool) (per : IsPartialEquivalence P) where
@@ -90,14 +64,14 @@ module _ {T : Type 0} where
 
     balanced : (bag other : List T) → test_of bag other ≡ true → Balanced bag other
     balanced bag other h x found =
-        let there : Contains (bag ++ other) x = elim found [ inl f ↦ append-left bag other x f | inr f ↦ append-right bag other x f ] in
-        let both = and-true (P x x) (count_by (P x) bag == count_by (P x) other) (each_tested (λ x. P x x && (count_by (P x) bag == count_by (P x) other)) (bag ++ other) h x there) in
-        (both.0, equal_from _ _ both.1)
+        let there : Contains (bag ++ other) x = elim found [ inl f ↦ Contains-append_left bag other x f | inr f ↦ Contains-append_right bag other x f ] in
+        let both = and_parts (P x x) (count_by (P x) bag == count_by (P x) other) (each_tested (λ x. P x x && (count_by (P x) bag == count_by (P x) other)) (bag ++ other) h x there) in
+        (both.0, eqb-true _ _ both.1)
 
     tested : (bag other : List T) → Balanced bag other → test_of bag other ≡ true
     tested bag other h =
         test_each (λ x. P x x && (count_by (P x) bag == count_by (P x) other)) (bag ++ other)
-        (λ x found. let both = h x (from_append bag other x found) in rw (both.0, equal_test _ _ both.1) refl)
+        (λ x found. let both = h x (Contains-append_cases bag other x found) in rw (both.0, eq-eqb _ _ both.1) refl)
 
     alike : (x y : T) (xs : List T) → P x y ≡ true → count_by (P x) xs ≡ count_by (P y) xs
     alike x y xs h = count-alike (P x) (P y) (λ z. per_alike per x y z h) xs
@@ -189,8 +163,8 @@ module _ {T : Type 0} where
         let out = taken_out other y.0 y.1 in
         let left : Balanced bag out.0 = λ z found.
         let there : Either (x ∷ bag) other z = elim found [
-          | inl f ↦ inl (behind bag x z f)
-          | inr f ↦ inr (Contains-permutation (y.0 ∷ out.0) other z (IsPermutation-sym other (y.0 ∷ out.0) out.1) (behind out.0 y.0 z f))
+          | inl f ↦ inl (Contains-cons x z bag f)
+          | inr f ↦ inr (Contains-permutation (y.0 ∷ out.0) other z (IsPermutation-sym other (y.0 ∷ out.0) out.1) (Contains-cons y.0 z out.0 f))
         ] in
         let both = h z there in
         let same : P z x ≡ P z y.0 = per.symm z x ∙ per_alike per x y.0 z y.2 ∙ per.symm y.0 z in

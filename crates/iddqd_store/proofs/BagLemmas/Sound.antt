@@ -1,21 +1,13 @@
 -- What holds of sound bags, and of a bag and its permutation.
 use Rattle.std.specs.Prelude.{◌≡◌, zero, suc, ◌+◌, ◌≤◌, Bool, true, false, cond, not, ◌&&◌, ◌||◌, List, [], ◌∷◌, ◌++◌, length, filter, IsPermutation, Contains}
 use Rattle.std.specs.List.{IsDistinct, AllByRecursion}
-use Rattle.std.proofs.Common.{refl, sym, ap, subst, ◌∙◌, arith, get_or}
+use Rattle.std.proofs.Common.{refl, sym, ap, subst, ◌∙◌, arith, get_or, length-append}
 use Rattle.std.proofs.lemmas.Map.Keys.{IsDistinct-head, IsDistinct-tail, IsDistinct-cons, IsDistinct-IsPermutation}
-use Rattle.std.proofs.lemmas.Bool.{false≢true}
+use Rattle.std.proofs.lemmas.Bool.{false≢true, or_parts, not-true}
 use Rattle.std.proofs.lemmas.List.Sorted.{IsPermutation-refl, IsPermutation-cons, IsPermutation-trans, IsPermutation-middle, IsPermutation-append, length_permutation, Contains-permutation}
 use Rattle.std.proofs.lemmas.List.Filters.{length-filter_both}
 use Rattle.iddqd_store.proofs.BagLemmas.Exchanges.{split, IsPermutation-filter}
 use Rattle.iddqd_store.specs.Bag.{Ranks, some_of, listing, without, like, conflicts, IsSound, clash, order, over, NamesOne, AreLawful, AreNames}
-
-pub or-false : (a b : Bool) → (a || b) ≡ false → (a ≡ false) × (b ≡ false)
-or-false true b h = absurd (false≢true (sym h))
-or-false false b h = (refl, h)
-
-pub not-true : (b : Bool) → not b ≡ true → b ≡ false
-not-true true h = absurd (false≢true h)
-not-true false h = refl
 
 module _ {T : Type 0} where
   pub each_weaker : (P Q : T → Type 0) → ((x : T) → P x → Q x) → (xs : List T) → AllByRecursion P xs → AllByRecursion Q xs
@@ -73,13 +65,9 @@ module _ {T : Type 0} where
   IsSound-rank agree ranks (x ∷ xs) h =
       let head = IsDistinct-head (conflicts (agree ∷ ranks)) x xs h in
       let rest = IsSound-rank agree ranks xs (IsDistinct-tail (conflicts (agree ∷ ranks)) x xs h) in (
-        IsDistinct-cons agree x xs (each_weaker _ _ (λ y e. (or-false (agree x y) (conflicts ranks x y) e).0) xs head) rest.0,
-        IsDistinct-cons (conflicts ranks) x xs (each_weaker _ _ (λ y e. (or-false (agree x y) (conflicts ranks x y) e).1) xs head) rest.1,
+        IsDistinct-cons agree x xs (each_weaker _ _ (λ y e. (or_parts (agree x y) (conflicts ranks x y) e).0) xs head) rest.0,
+        IsDistinct-cons (conflicts ranks) x xs (each_weaker _ _ (λ y e. (or_parts (agree x y) (conflicts ranks x y) e).1) xs head) rest.1,
       )
-
-  pub length-append : (xs ys : List T) → length (xs ++ ys) ≡ length xs + length ys
-  length-append [] ys = omega arith
-  length-append (x ∷ xs) ys = omega (arith, length-append xs ys)
 
   -- a listing of named members has at most one for each rank
   pub length-listing : (ranks : Ranks T) (tests : List (T → Bool)) → AreNames ranks tests → (xs : List T) → IsSound ranks xs → length (listing tests xs) ≤ length ranks
@@ -179,7 +167,8 @@ module _ {T : Type 0} where
       let apart = IsSound-rank agree ranks xs h in
       let others : List T → List T = filter (λ x. not (test x)) in
       let first = named-IsPermutation agree test names.0 xs ys apart.0 p in
-      let rest = listing-IsPermutation ranks tests names.1 (others xs) (others ys) (IsDistinct-filter (conflicts ranks) (λ x. not (test x)) xs apart.1) (IsPermutation-filter (λ x. not (test x)) xs ys p) in
+      let rest = listing-IsPermutation ranks tests names.1 (others xs) (others ys)
+      (IsDistinct-filter (conflicts ranks) (λ x. not (test x)) xs apart.1) (IsPermutation-filter (λ x. not (test x)) xs ys p) in
       ap (λ l. l ++ listing tests (others xs)) first ∙ ap (λ l. filter test ys ++ l) rest
 
   pub order-IsPermutation : (ranks : Ranks T) → AreLawful ranks → (xs ys : List T) (x : T) → IsSound ranks xs → IsPermutation xs ys → order ranks xs x ≡ order ranks ys x
@@ -195,16 +184,16 @@ module _ {T : Type 0} where
       let rest = Contains-filter p ys x e (k, omega arith, is) in
       split (λ b. Contains (cond b (y ∷ filter p ys) (filter p ys)) x) (p y) (λ _. (suc rest.0, omega (arith, rest.1), rest.2)) (λ _. rest)
 
-  only : (xs : List T) (x : T) → length xs ≤ 1 → Contains xs x → xs ≡ x ∷ []
-  only [] x short found = absurd (omega (arith, found.1))
-  only (y ∷ z ∷ xs) x short found = absurd (omega arith)
-  only (y ∷ []) x short found =
+  pub only_one : (xs : List T) (x : T) → length xs ≤ 1 → Contains xs x → xs ≡ x ∷ []
+  only_one [] x short found = absurd (omega (arith, found.1))
+  only_one (y ∷ z ∷ xs) x short found = absurd (omega arith)
+  only_one (y ∷ []) x short found =
       let first : found.0 ≡ 0 = omega (arith, found.1) in
       ap (λ z. z ∷ []) (ap (λ k. get_or (y ∷ []) k x) (sym first) ∙ found.2)
 
   -- a member with the named key is the one that is named
   pub named_is : (agree : T → T → Bool) (test : T → Bool) → NamesOne agree test → (xs : List T) (x : T) → IsDistinct agree xs → test x ≡ true → Contains xs x → filter test xs ≡ x ∷ []
-  named_is agree test names xs x h e found = only (filter test xs) x (length-named agree test names xs h) (Contains-filter test xs x e found)
+  named_is agree test names xs x h e found = only_one (filter test xs) x (length-named agree test names xs h) (Contains-filter test xs x e found)
 
 module _ {T : Type 0} where
   pub all_pass : (p : T → Bool) (xs : List T) → AllByRecursion (λ y. p y ≡ true) xs → filter p xs ≡ xs
@@ -212,7 +201,8 @@ module _ {T : Type 0} where
   all_pass p (x ∷ xs) h = rw h.0 (ap (λ l. x ∷ l) (all_pass p xs h.1))
 
   -- the bag that is left after its named member is removed
-  pub without_named : (agree : T → T → Bool) (test : T → Bool) → NamesOne agree test → (xs ys : List T) (x : T) → IsDistinct agree (x ∷ ys) → test x ≡ true → IsPermutation xs (x ∷ ys) → IsPermutation (filter (λ y. not (test y)) xs) ys
+  pub without_named : (agree : T → T → Bool) (test : T → Bool) → NamesOne agree test → (xs ys : List T) (x : T) → IsDistinct agree (x ∷ ys)
+      → test x ≡ true → IsPermutation xs (x ∷ ys) → IsPermutation (filter (λ y. not (test y)) xs) ys
   without_named agree test names xs ys x h e p =
       let kept : AllByRecursion (λ y. not (test y) ≡ true) ys = each_weaker _ _ (λ y apart. ap not (NamesOne-apart agree test names x y e apart)) ys (IsDistinct-head agree x ys h) in
       let left : filter (λ y. not (test y)) (x ∷ ys) ≡ ys = rw e (all_pass (λ y. not (test y)) ys kept) in

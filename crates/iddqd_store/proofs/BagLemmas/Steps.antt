@@ -1,21 +1,17 @@
 -- How a bag changes: it gets one item more, one replaces others, one replaces another, or some are removed.
-use Rattle.std.specs.Prelude.{◌≡◌, ◌≢◌, ◌==◌, Bool, true, false, cond, ◌&&◌, List, [], ◌∷◌, ◌++◌, length, map, filter, Result, Ok, Err, IsPermutation}
+use Rattle.std.specs.Prelude.{◌≡◌, ◌≢◌, ◌==◌, Bool, true, false, cond, List, [], ◌∷◌, ◌++◌, length, map, filter, Ok, Err, IsPermutation}
 use Rattle.std.specs.List.{AllByRecursion}
 use Rattle.std.proofs.Common.{refl, sym, ap, subst, ◌∙◌, arith}
 use Rattle.std.proofs.lemmas.Map.Keys.{IsDistinct-cons}
-use Rattle.std.proofs.lemmas.Bool.{false≢true}
+use Rattle.std.proofs.lemmas.Bool.{and_parts}
 use Rattle.std.proofs.lemmas.Bool.Decides.{nat_tests}
 use Rattle.std.proofs.lemmas.List.Sorted.{IsPermutation-trans, length_permutation}
 use Rattle.std.proofs.lemmas.List.Sums.{fold_push}
+use Rattle.std.proofs.lemmas.List.{nil_from_length}
 use Rattle.iddqd_store.proofs.BagLemmas.Exchanges.{split, IsPermutation-filter}
 use Rattle.iddqd_store.proofs.BagLemmas.Sound.{IsDistinct-nil, IsPermutation-order, IsSound-over, over-IsPermutation}
 use Rattle.iddqd_store.specs.Bag.{Ranks, conflicts, agrees, IsSound, clash, order, over, overs, add, add_next, adds, AreLawful}
-
-same_ok : {A E : Type 0} (r : Result A E) (a b : A) → r ≡ Ok a → r ≡ Ok b → a ≡ b
-same_ok r a b h k = cc
-
-ok_or_err : {A E : Type 0} (r : Result A E) (a : A) (e : E) → r ≡ Ok a → r ≡ Err e → ⊥
-ok_or_err r a e h k = cc
+use Rattle.iddqd_store.proofs.Plain.{same_ok, ok_or_err}
 
 module _ {T : Type 0} where
   pub IsSound-nil : (ranks : Ranks T) → IsSound ranks []
@@ -28,10 +24,6 @@ module _ {T : Type 0} where
   pub length-clash : (ranks : Ranks T) (bag : List T) (x : T) → length (clash ranks bag x) ≡ length (order ranks bag x)
   length-clash ranks bag x = length_permutation _ _ (IsPermutation-order ranks bag x)
 
-  nothing : (xs : List T) → length xs ≡ 0 → xs ≡ []
-  nothing [] h = refl
-  nothing (x ∷ xs) h = absurd (omega arith)
-
   -- a filter that finds nothing
   pub none_passes : (p : T → Bool) (xs : List T) → filter p xs ≡ [] → AllByRecursion (λ y. p y ≡ false) xs
   none_passes p [] h = tt
@@ -43,10 +35,10 @@ module _ {T : Type 0} where
 
   -- if nothing is listed, nothing conflicts
   pub clash-empty : (ranks : Ranks T) (bag : List T) (x : T) → order ranks bag x ≡ [] → clash ranks bag x ≡ []
-  clash-empty ranks bag x h = nothing (clash ranks bag x) (length-clash ranks bag x ∙ ap length h)
+  clash-empty ranks bag x h = nil_from_length (clash ranks bag x) (length-clash ranks bag x ∙ ap length h)
 
   pub order-empty : (ranks : Ranks T) (bag : List T) (x : T) → clash ranks bag x ≡ [] → order ranks bag x ≡ []
-  order-empty ranks bag x h = nothing (order ranks bag x) (sym (length-clash ranks bag x) ∙ ap length h)
+  order-empty ranks bag x h = nil_from_length (order ranks bag x) (sym (length-clash ranks bag x) ∙ ap length h)
 
   -- no item conflicts if none is listed, and some item conflicts if some item is listed
   pub clash-unlisted : {X : Type 0} (f : X → T) (found : List X) (ranks : Ranks T) (bag : List T) (x : T) → map f found ≡ order ranks bag x → (length found == 0) ≡ true → clash ranks bag x ≡ []
@@ -87,16 +79,13 @@ module _ {T : Type 0} where
   pub overs_push : (ranks : Ranks T) (bag xs : List T) (x : T) → overs ranks bag (xs ++ x ∷ []) ≡ over ranks (overs ranks bag xs) x
   overs_push ranks bag xs x = fold_push (over ranks) bag xs x
 
-  pub overs-IsPermutation : (ranks : Ranks T) (xs ys zs : List T) → IsPermutation xs ys → IsPermutation (overs ranks xs zs) (overs ranks ys zs)
-  overs-IsPermutation ranks xs ys [] p = p
-  overs-IsPermutation ranks xs ys (z ∷ zs) p = overs-IsPermutation ranks (over ranks xs z) (over ranks ys z) zs (over-IsPermutation ranks xs ys z p)
-
   pub IsSound-overs : (ranks : Ranks T) (bag xs : List T) → IsSound ranks bag → IsSound ranks (overs ranks bag xs)
   IsSound-overs ranks bag [] h = h
   IsSound-overs ranks bag (x ∷ xs) h = IsSound-overs ranks (over ranks bag x) xs (IsSound-over ranks bag x h)
 
   -- one step of `overs` at a bag in another order
-  pub overs-step : (ranks : Ranks T) (bag xs held new : List T) (x : T) → IsPermutation held (overs ranks bag xs) → IsPermutation new (over ranks held x) → IsPermutation new (overs ranks bag (xs ++ x ∷ []))
+  pub overs-step : (ranks : Ranks T) (bag xs held new : List T) (x : T) → IsPermutation held (overs ranks bag xs)
+      → IsPermutation new (over ranks held x) → IsPermutation new (overs ranks bag (xs ++ x ∷ []))
   overs-step ranks bag xs held new x p q = rw (overs_push ranks bag xs x) (IsPermutation-trans _ _ _ q (over-IsPermutation ranks held (overs ranks bag xs) x p))
 
   pub adds_push : (ranks : Ranks T) (bag xs : List T) (x : T) → adds ranks bag (xs ++ x ∷ []) ≡ add_next ranks (adds ranks bag xs) x
@@ -106,9 +95,5 @@ module _ {T : Type 0} where
   pub agrees-conflicts : (ranks : Ranks T) → AreLawful ranks → (x y z : T) → agrees ranks x y ≡ true → conflicts ranks x z ≡ conflicts ranks y z
   agrees-conflicts [] laws x y z h = refl
   agrees-conflicts (agree ∷ ranks) laws x y z h =
-      let both = and-true (agree x y) (agrees ranks x y) h in
+      let both = and_parts (agree x y) (agrees ranks x y) h in
       rw (laws.0.congr x y z both.0, agrees-conflicts ranks laws.1 x y z both.1) refl
-    where
-      and-true : (a b : Bool) → (a && b) ≡ true → (a ≡ true) × (b ≡ true)
-      and-true true b h = (refl, h)
-      and-true false b h = absurd (false≢true h)

@@ -8,9 +8,10 @@ use Rattle.std.proofs.lemmas.Map.Keys.{IsDistinct-head, IsDistinct-tail, IsDisti
 use Rattle.std.proofs.lemmas.List.Sorted.{IsPermutation-sym, IsPermutation-cons, length_permutation, sum_by-IsPermutation}
 use Rattle.std.proofs.lemmas.List.Sums.{fold-append}
 use Rattle.std.proofs.lemmas.List.Folds.{fold_stays}
+use Rattle.std.proofs.lemmas.Bool.{not-true}
 use Rattle.iddqd_store.proofs.BagLemmas.Exchanges.{IsPermutation-filter}
 use Rattle.iddqd_store.proofs.BagLemmas.Steps.{none_passes, clash-empty, add-apart, add-refused, adds_push, agrees-conflicts}
-use Rattle.iddqd_store.proofs.BagLemmas.Sound.{length-listing, AreNames-like, each_weaker, each_passes, all_pass, not-true, IsDistinct-nil, IsDistinct-filter, IsSound-IsPermutation, order-IsPermutation}
+use Rattle.iddqd_store.proofs.BagLemmas.Sound.{length-listing, AreNames-like, each_weaker, each_passes, all_pass, IsDistinct-nil, IsDistinct-filter, IsSound-IsPermutation, order-IsPermutation}
 use Rattle.iddqd_store.specs.Bag.{Ranks, some_of, without, like, conflicts, agrees, IsSound, order, over, overs, add_next, adds, swap, Keeps, crowd, AreLawful}
 use Rattle.iddqd_store.specs.Bag.Storing.{Rewrites, RewritesAll}
 
@@ -33,13 +34,15 @@ module _ {T : Type 0} where
       fold-append (add_next ranks) (Ok bag) xs ys ∙ ap (λ r. fold (add_next ranks) r ys) h ∙ fold_stays (add_next ranks) (Err refusal) (λ x. refl) ys
 
   -- one step of `adds` at a bag in another order: x is added
-  pub adds-taken : (ranks : Ranks T) → AreLawful ranks → (bag xs made held : List T) (x : T) → adds ranks bag xs ≡ Ok made → IsSound ranks held → IsPermutation held made → order ranks held x ≡ [] → adds ranks bag (xs ++ x ∷ []) ≡ Ok (x ∷ made)
+  pub adds-taken : (ranks : Ranks T) → AreLawful ranks → (bag xs made held : List T) (x : T) → adds ranks bag xs ≡ Ok made → IsSound ranks held
+      → IsPermutation held made → order ranks held x ≡ [] → adds ranks bag (xs ++ x ∷ []) ≡ Ok (x ∷ made)
   adds-taken ranks laws bag xs made held x so_far sound p none =
       adds_push ranks bag xs x ∙ ap (λ r. add_next ranks r x) so_far
       ∙ add-apart ranks made x (sym (order-IsPermutation ranks laws held made x sound p) ∙ none)
 
   -- or x is rejected, and with it the rest of the list
-  pub adds-stopped : (ranks : Ranks T) → AreLawful ranks → (bag xs rest made held : List T) (x : T) → adds ranks bag xs ≡ Ok made → IsSound ranks held → IsPermutation held made → order ranks held x ≢ [] → adds ranks bag (xs ++ x ∷ rest) ≡ Err (x, order ranks held x)
+  pub adds-stopped : (ranks : Ranks T) → AreLawful ranks → (bag xs rest made held : List T) (x : T) → adds ranks bag xs ≡ Ok made → IsSound ranks held
+      → IsPermutation held made → order ranks held x ≢ [] → adds ranks bag (xs ++ x ∷ rest) ≡ Err (x, order ranks held x)
   adds-stopped ranks laws bag xs rest made held x so_far sound p some =
       let same = order-IsPermutation ranks laws held made x sound p in
       let refused : add_next ranks (adds ranks bag xs) x ≡ Err (x, order ranks held x) =
@@ -59,7 +62,8 @@ module _ {T : Type 0} where
   conflicts-self (agree ∷ ranks) laws h x = rw (laws.0.refl x) refl
 
   -- `swap` removes its member and inserts the other
-  pub swap-is : (ranks : Ranks T) → AreLawful ranks → 0 < length ranks → (bag rest : List T) (x y : T) → IsSound ranks bag → IsPermutation bag (x ∷ rest) → IsPermutation (swap ranks bag x y) (y ∷ rest)
+  pub swap-is : (ranks : Ranks T) → AreLawful ranks → 0 < length ranks → (bag rest : List T) (x y : T) → IsSound ranks bag
+      → IsPermutation bag (x ∷ rest) → IsPermutation (swap ranks bag x y) (y ∷ rest)
   swap-is ranks laws some bag rest x y sound p =
       let test : T → Bool = λ z. not (some_of (like ranks x) z) in
       let apart = IsDistinct-head (conflicts ranks) x rest (IsSound-IsPermutation ranks laws bag (x ∷ rest) p sound) in

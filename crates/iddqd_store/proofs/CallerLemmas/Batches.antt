@@ -30,12 +30,13 @@ module _ {T Z : Type 0} (ranks : Ranks T) (old batch : List T) (it : IntoIter T 
   -- some first items of it came, then an item, and the rest is left
   pub batch-split : (x : T) (taken xs : List T) (rest : IntoIter T Z) → YieldsThen into_iter_steps it xs (Some x) rest → xs ≡ taken → batch ≡ taken ++ x ∷ into_iter_items rest
   batch-split x taken xs rest came same =
-      subst (λ l. batch ≡ l ++ x ∷ into_iter_items rest) same (sym is ∙ yielded_then (into_iter_steps {X = T} {Z = Z}) (λ (s : IntoIter T Z). into_iter_items s) (λ s t y step. step.0) xs it rest x came)
+      subst (λ l. batch ≡ l ++ x ∷ into_iter_items rest) same
+      (sym is ∙ yielded_then (into_iter_steps {X = T} {Z = Z}) (λ (s : IntoIter T Z). into_iter_items s) (λ s t y step. step.0) xs it rest x came)
 
   -- that item was rejected
-  pub batch-refused : (x : T) (reason : InsertReason) (taken xs : List T) (rest : IntoIter T Z) → YieldsThen into_iter_steps it xs (Some x) rest → xs ≡ taken → IsSound ranks (taken ++ old) → IsReason reason (clash ranks (taken ++ old) x) → IsRejected ranks old batch x reason
-  batch-refused x reason taken xs rest came same apart why =
-      (taken, into_iter_items rest, batch-split x taken xs rest came same, apart, why)
+  pub batch-refused : (x : T) (reason : InsertReason) (taken xs : List T) (rest : IntoIter T Z) → YieldsThen into_iter_steps it xs (Some x) rest
+      → xs ≡ taken → IsSound ranks (taken ++ old) → IsReason reason (clash ranks (taken ++ old) x) → IsRejected ranks old batch x reason
+  batch-refused x reason taken xs rest came same apart why = (taken, into_iter_items rest, batch-split x taken xs rest came same, apart, why)
 
 module _ {T : Type 0} where
   item_behind : (before behind : List T) (x : T) → slice_get (before ++ x ∷ behind) (length before) ≡ Some x
@@ -57,7 +58,8 @@ module _ {T : Type 0} where
 
   -- each item of a batch that was inserted is the one that its key of a rank names; `first` and `rest` are the ranks
   -- before and after it
-  pub batch-found : {K : Type 0} (first rest : Ranks T) (key : T → K) (eq : K → K → Bool) → IsEquivalence eq → (old new batch : List T) → IsSound (first ++ agree key eq ∷ rest) new → IsPermutation new (batch ++ old) → All (λ x. IsOnly (λ y. eq (key x) (key y)) new (Some x)) batch
+  pub batch-found : {K : Type 0} (first rest : Ranks T) (key : T → K) (eq : K → K → Bool) → IsEquivalence eq → (old new batch : List T)
+      → IsSound (first ++ agree key eq ∷ rest) new → IsPermutation new (batch ++ old) → All (λ x. IsOnly (λ y. eq (key x) (key y)) new (Some x)) batch
   batch-found first rest key eq laws old new batch sound went_in =
       let one = distinct_at first rest (agree key eq) new sound in
       let in_it = λ (x : T) (there : Contains batch x). Contains-permutation (batch ++ old) new x (IsPermutation-sym new (batch ++ old) went_in) (Contains-append_left batch old x there) in

@@ -24,7 +24,9 @@ module _ {F T R : Type 0} (g : Mut F (Bor T × Unit {0}) R) where
 
   -- A closure that may be called at each item with a property, in each state with another that calls keep, may be
   -- called at each item of a list in turn, or of a bag in any order, if all have the first property.
-  pub takes_in_turn_by_state : (Is : F → Type 0) (P : T → Type 0) → ((q : F) (x : T) → Is q → P x → TakesAt g q x) → ((q : F) (x : T) (r : R) (h : F) → Is q → P x → CalledAt g q x r h → Is h) → (f : F) → Is f → (list : List T) → All P list → TakesInTurn g f list
+  pub takes_in_turn_by_state : (Is : F → Type 0) (P : T → Type 0) → ((q : F) (x : T) → Is q → P x → TakesAt g q x)
+      → ((q : F) (x : T) (r : R) (h : F) → Is q → P x → CalledAt g q x r h → Is h) → (f : F) → Is f → (list : List T)
+      → All P list → TakesInTurn g f list
   takes_in_turn_by_state Is P takes keeps f is list all before x after q at reached = reach f is before (subst (All P) at all) reached
     where
       reach : (f : F) → Is f → (before : List T) → All P (before ++ x ∷ after) → Reaches g f before q → TakesAt g q x
@@ -32,15 +34,16 @@ module _ {F T R : Type 0} (g : Mut F (Bor T × Unit {0}) R) where
       reach f is (y ∷ before) all (r, h, called, reached) =
           reach h (keeps f y r h is (All-head P y (before ++ x ∷ after) all) called) before (All-tail P y (before ++ x ∷ after) all) reached
 
-  pub takes_by_state : (Is : F → Type 0) (P : T → Type 0) → ((q : F) (x : T) → Is q → P x → TakesAt g q x) → ((q : F) (x : T) (r : R) (h : F) → Is q → P x → CalledAt g q x r h → Is h) → (f : F) → Is f → (bag : List T) → All P bag → TakesInAnyOrder g f bag
+  pub takes_by_state : (Is : F → Type 0) (P : T → Type 0) → ((q : F) (x : T) → Is q → P x → TakesAt g q x)
+      → ((q : F) (x : T) (r : R) (h : F) → Is q → P x → CalledAt g q x r h → Is h) → (f : F) → Is f → (bag : List T) → All P bag
+      → TakesInAnyOrder g f bag
   takes_by_state Is P takes keeps f is bag all listed same =
       takes_in_turn_by_state Is P takes keeps f is listed (All-permutation P bag listed same all)
 
   -- If no call depends on the closure's state, this is enough: the closure may be called at each item with a property,
   -- and all items have it.
   pub takes_in_turn_by_items : (P : T → Type 0) → ((q : F) (x : T) → P x → TakesAt g q x) → (f : F) (list : List T) → All P list → TakesInTurn g f list
-  takes_in_turn_by_items P takes f list all =
-      takes_in_turn_by_state (λ q. ⊤) P (λ q x is p. takes q x p) (λ q x r h is p called. tt) f tt list all
+  takes_in_turn_by_items P takes f list all = takes_in_turn_by_state (λ q. ⊤) P (λ q x is p. takes q x p) (λ q x r h is p called. tt) f tt list all
 
   pub takes_by_items : (P : T → Type 0) → ((q : F) (x : T) → P x → TakesAt g q x) → (f : F) (bag : List T) → All P bag → TakesInAnyOrder g f bag
   takes_by_items P takes f bag all listed same = takes_in_turn_by_items P takes f listed (All-permutation P bag listed same all)

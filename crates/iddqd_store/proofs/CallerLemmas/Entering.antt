@@ -33,7 +33,9 @@ module _ {T : Type 0} (old : List T) (x : T) where
   occupied_as (y ∷ listed) (z ∷ whole) there held some same is = (same, is)
 
   -- then the item with all keys is written
-  pub writes_entry : (by : Ranks T) (write : T → T) (E held : bags.Entry T) (there new : List T) (found one : Option T) → Entered E there held → ((y : T) → held ≡ unique y → one ≡ Some y) → ((ys : List T) → held ≡ non_unique ys → one ≡ None) → found ≡ one → is_some found ≡ true → IfSome found (λ y. IsPermutation new (swap by there y (write y))) → WritesEntry by write old x E new
+  pub writes_entry : (by : Ranks T) (write : T → T) (E held : bags.Entry T) (there new : List T) (found one : Option T) → Entered E there held
+      → ((y : T) → held ≡ unique y → one ≡ Some y) → ((ys : List T) → held ≡ non_unique ys → one ≡ None) → found ≡ one → is_some found ≡ true
+      → IfSome found (λ y. IsPermutation new (swap by there y (write y))) → WritesEntry by write old x E new
   writes_entry by write vacant held there new found one entered is_one is_none same some swaps =
       (there, entered.0, rw (same ∙ is_one x entered.1) at swaps)
   writes_entry by write (unique y) held there new found one entered is_one is_none same some swaps =
@@ -42,12 +44,16 @@ module _ {T : Type 0} (old : List T) (x : T) where
       absurd (cc (some, same, is_none ys entered.1))
 
   -- if no item has all keys, nothing is written
-  pub rests_entry : (by : Ranks T) (write : T → T) (E held : bags.Entry T) (there new : List T) (found one : Option T) → Entered E there held → ((y : T) → held ≡ unique y → one ≡ Some y) → found ≡ one → found ≡ None → new ≡ there → WritesEntry by write old x E new
+  pub rests_entry : (by : Ranks T) (write : T → T) (E held : bags.Entry T) (there new : List T) (found one : Option T) → Entered E there held
+      → ((y : T) → held ≡ unique y → one ≡ Some y) → found ≡ one → found ≡ None → new ≡ there → WritesEntry by write old x E new
   rests_entry by write vacant held there new found one entered is_one same none rests = absurd (cc (none, same, is_one x entered.1))
   rests_entry by write (unique y) held there new found one entered is_one same none rests = absurd (cc (none, same, is_one y entered.1))
   rests_entry by write (non_unique ys) held there new found one entered is_one same none rests = rw (rests ∙ entered.0) (IsPermutation-refl old)
 
-  pub writes_found : (by : Ranks T) (write : T → T) (listed whole there new : List T) (held : bags.Entry T) (found one : Option T) → listed ≢ [] → there ≡ old → held ≡ entry_of listed whole → ((y : T) → held ≡ unique y → one ≡ Some y) → ((ys : List T) → held ≡ non_unique ys → one ≡ None) → found ≡ one → is_some found ≡ true → IfSome found (λ y. IsPermutation new (swap by there y (write y))) → InsertsOrWrites by write old x (entry_of listed whole) new
+  pub writes_found : (by : Ranks T) (write : T → T) (listed whole there new : List T) (held : bags.Entry T) (found one : Option T) → listed ≢ []
+      → there ≡ old → held ≡ entry_of listed whole → ((y : T) → held ≡ unique y → one ≡ Some y) → ((ys : List T) → held ≡ non_unique ys → one ≡ None)
+      → found ≡ one → is_some found ≡ true → IfSome found (λ y. IsPermutation new (swap by there y (write y)))
+      → InsertsOrWrites by write old x (entry_of listed whole) new
   writes_found by write [] whole there new held found one not_none is entry is_one is_none same some swaps = absurd (not_none refl)
   writes_found by write (y ∷ listed) [] there new held found one not_none is entry is_one is_none same some swaps =
       absurd (cc (some, same, is_none (y ∷ listed) entry))

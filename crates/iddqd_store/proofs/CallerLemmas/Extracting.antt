@@ -1,12 +1,12 @@
 -- Loops over `extract_from` and `pop_from`: which items left, and which stay.
-use Rattle.std.specs.Prelude.{◌≡◌, ◌≤◌, ◌<◌, ℕ, suc, Bool, true, false, cond, not, List, [], ◌∷◌, ◌++◌, length, filter, Some, None, IsPermutation}
+use Rattle.std.specs.Prelude.{◌≡◌, ◌<◌, ℕ, Bool, true, false, not, List, [], ◌∷◌, ◌++◌, length, filter, Some, None, IsPermutation}
 use Rattle.std.proofs.Common.{arith, length-append, refl, sym, ap, ◌∙◌, subst, append_assoc, append-nil}
+use Rattle.std.proofs.lemmas.List.Sums.{count_by-le-length, length-filter}
 use Rattle.std.proofs.lemmas.List.Elements.{filter-append}
 use Rattle.std.proofs.lemmas.List.Sorted.{IsPermutation-refl}
 use Rattle.iddqd_store.specs.Map.{Map, bag}
 use Rattle.iddqd_store.specs.Map.Extracting.{Extracts, PopsFrom, Rejects}
 use Rattle.iddqd_store.specs.Map.Walk.{passed, to_come}
-use Rattle.iddqd_store.proofs.BagLemmas.Exchanges.{split}
 use Rattle.iddqd_store.proofs.CallerLemmas.{passed-to_come}
 
 -- `told`: a call of the closure returns `test`, and leaves the closure as it is.
@@ -21,13 +21,6 @@ module _ {F T : Type 0} (step : F → T → Bool → F → Type 0) (test : T →
   accepted-passes : (q : F) (x : T) → q ≡ f → (g : F) × step q x true g → test x ≡ true
   accepted-passes q x is (g, called) = sym (told x true g (subst (λ h. step h x true g) is called)).0
 
-module _ {T : Type 0} (test : T → Bool) where
-  length-filter : (xs : List T) → length (filter test xs) ≤ length xs
-  length-filter [] = omega arith
-  length-filter (x ∷ xs) =
-      let rest = length-filter xs in
-      split (λ s. length (cond s (x ∷ filter test xs) (filter test xs)) ≤ suc (length xs)) (test x) (λ _. omega (arith, rest)) (λ _. omega (arith, rest))
-
 module _ {T S : Type 0} (test : T → Bool) where
   -- What a loop over `extract_from` keeps, where `all` were there at first, and `gone` left: of the items that were
   -- passed, those that pass the test left, and the others stay.
@@ -40,7 +33,7 @@ module _ {T S : Type 0} (test : T → Bool) where
   -- after a step that gave `x`, fewer had left before it than there were
   pub extracted-fewer : (m : Map T S) (at : ℕ) (all gone : List T) (x : T) → HasExtracted all (gone ++ x ∷ []) m at → length gone < length all
   extracted-fewer m at all gone x was =
-      omega (arith, length-append gone (x ∷ []), ap length was.left, length-filter test was.done, ap length was.whole, length-append was.done (to_come m at))
+      omega (arith, length-append gone (x ∷ []), ap length was.left, length-filter test was.done, count_by-le-length test was.done, ap length was.whole, length-append was.done (to_come m at))
 
   -- before the first step
   pub extracted-start : (m : Map T S) → HasExtracted (bag m) [] m 0
@@ -54,20 +47,30 @@ module _ {T S : Type 0} (test : T → Bool) where
         let passes : test x ≡ true = accepted-passes step test f told step_is.state x apart.2 step_is.accepts in
         record {
           done = was.done ++ (step_is.rejected ++ x ∷ []);
-          whole = was.whole ∙ ap (λ l. was.done ++ l) (step_is.comes ∙ sym (append_assoc step_is.rejected (x ∷ []) (to_come n to))) ∙ sym (append_assoc was.done (step_is.rejected ++ x ∷ []) (to_come n to));
+          whole = was.whole ∙ ap (λ l. was.done ++ l) (step_is.comes ∙ sym (append_assoc step_is.rejected (x ∷ []) (to_come n to)))
+              ∙ sym (append_assoc was.done (step_is.rejected ++ x ∷ []) (to_come n to));
           left = rw (filter-append test was.done (step_is.rejected ++ x ∷ []), filter-append test step_is.rejected (x ∷ []), apart.0, passes) (ap (λ l. l ++ x ∷ []) was.left);
-          stays = rw (filter-append (λ y. not (test y)) was.done (step_is.rejected ++ x ∷ []), filter-append (λ y. not (test y)) step_is.rejected (x ∷ []), apart.1, passes, append-nil step_is.rejected) (step_is.before ∙ ap (λ l. l ++ step_is.rejected) was.stays);
+          stays = rw (
+            filter-append (λ y. not (test y)) was.done (step_is.rejected ++ x ∷ []),
+            filter-append (λ y. not (test y)) step_is.rejected (x ∷ []),
+            apart.1,
+            passes,
+            append-nil step_is.rejected,
+          ) (step_is.before ∙ ap (λ l. l ++ step_is.rejected) was.stays);
         }
 
     -- the last step, which gives none: those that pass the test left, and the others are in the map
-    pub extracted-end : (m n : Map T S) (from to : ℕ) (all gone : List T) → Extracts step f m from None n to → HasExtracted all gone m from → IsPermutation gone (filter test all) × IsPermutation (bag n) (filter (λ x. not (test x)) all)
+    pub extracted-end : (m n : Map T S) (from to : ℕ) (all gone : List T) → Extracts step f m from None n to → HasExtracted all gone m from
+        → IsPermutation gone (filter test all) × IsPermutation (bag n) (filter (λ x. not (test x)) all)
     extracted-end m n from to all gone step_is was =
         let apart = rejected-fail step test f told step_is.state step_is.rejected step_is.rejects in
         let rest : to_come m from ≡ step_is.rejected = step_is.comes ∙ ap (λ l. step_is.rejected ++ l) step_is.none_left ∙ append-nil step_is.rejected in
         let whole : all ≡ was.done ++ step_is.rejected = was.whole ∙ ap (λ l. was.done ++ l) rest in
         let all_passed : bag n ≡ passed n to = passed-to_come n to ∙ ap (λ l. passed n to ++ l) step_is.none_left ∙ append-nil (passed n to) in
         let out : gone ≡ filter test all = rw (whole, filter-append test was.done step_is.rejected, apart.0, append-nil (filter test was.done)) was.left in
-        let kept : bag n ≡ filter (λ x. not (test x)) all = all_passed ∙ rw (whole, filter-append (λ y. not (test y)) was.done step_is.rejected, apart.1) (step_is.before ∙ ap (λ l. l ++ step_is.rejected) was.stays) in
+        let kept : bag n ≡ filter (λ x. not (test x)) all = all_passed
+        ∙ rw (whole, filter-append (λ y. not (test y)) was.done step_is.rejected, apart.1)
+        (step_is.before ∙ ap (λ l. l ++ step_is.rejected) was.stays) in
         (subst (IsPermutation gone) out (IsPermutation-refl gone), subst (IsPermutation (bag n)) kept (IsPermutation-refl (bag n)))
 
 module _ {T S : Type 0} where
@@ -90,8 +93,7 @@ module _ {T S : Type 0} where
 
   -- after a step that gave `x`, fewer had left before it than there were
   pub popped-fewer : (m : Map T S) (at : ℕ) (all gone : List T) (x : T) → HasPopped all (gone ++ x ∷ []) m at → length gone < length all
-  popped-fewer m at all gone x was =
-      omega (arith, length-append gone (x ∷ []), ap length was.whole, length-append (gone ++ x ∷ []) (to_come m at))
+  popped-fewer m at all gone x was = omega (arith, length-append gone (x ∷ []), ap length was.whole, length-append (gone ++ x ∷ []) (to_come m at))
 
   -- the last step, which gives none: all items left
   pub popped-end : (m n : Map T S) (from to : ℕ) (all gone : List T) → PopsFrom m from None n to → HasPopped all gone m from → IsPermutation gone all × (bag n ≡ [])

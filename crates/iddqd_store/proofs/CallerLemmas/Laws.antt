@@ -7,12 +7,14 @@ use Rattle.std.specs.Option.{option_copied}
 use Rattle.std.proofs.Common.{refl, sym, ap, subst, ◌∙◌}
 use Rattle.std.proofs.lemmas.Map.Keys.{IsDistinct-head}
 use Rattle.std.proofs.lemmas.List.Sorted.{IsPermutation-sym}
+use Rattle.std.proofs.lemmas.Bool.{and_parts}
 use Rattle.iddqd_store.specs.Bag.{Ranks, AreLawful, IsOnly, IsSound, every_of, is_same, same_item}
 use Rattle.iddqd_store.specs.Rank.{agree}
-use Rattle.iddqd_store.proofs.BagLemmas.Same.{agrees-refl, and-true}
+use Rattle.iddqd_store.proofs.BagLemmas.Entries.{all_of-next}
+use Rattle.iddqd_store.proofs.BagLemmas.Same.{agrees-refl}
 use Rattle.iddqd_store.proofs.BagLemmas.SameTest.{IsSameBag-is_same, is_same-partial, is_same-equivalence}
 use Rattle.iddqd_store.proofs.BagLemmas.Sound.{IsSound-IsPermutation, none_pass}
-use Rattle.iddqd_store.proofs.BagLemmas.Unique.{all_of-first, any_listed, is_some-found, some_item}
+use Rattle.iddqd_store.proofs.BagLemmas.Unique.{any_listed, is_some-found, some_item}
 use Rattle.iddqd_store.proofs.CallerLemmas.{distinct_at, passes-listed}
 use Rattle.iddqd_store.proofs.RankLemmas.Index.{Contains-here}
 
@@ -24,7 +26,7 @@ module _ {T : Type 0} where
   each_of : (tests : List (T → Bool)) (x : T) → every_of tests x ≡ true → AllByRecursion (λ test. test x ≡ true) tests
   each_of [] x all = tt
   each_of (test ∷ tests) x all =
-      let both = and-true (test x) (every_of tests x) all in
+      let both = and_parts (test x) (every_of tests x) all in
       (both.0, each_of tests x both.1)
 
   -- a lookup by all keys gives an item that passes each test
@@ -46,19 +48,24 @@ module _ {T : Type 0} where
   some_if true x = refl
   some_if false x = refl
 
-  given-first : (first : T → Bool) (tests : List (T → Bool)) (bag listed : List T) (given : Option (Bor T)) → listed ≡ filter first bag → IsOnly (every_of (first ∷ tests)) bag (option_copied given) → is_some given ≡ some_item (filter (every_of tests) listed)
+  given-first : (first : T → Bool) (tests : List (T → Bool)) (bag listed : List T) (given : Option (Bor T)) → listed ≡ filter first bag
+      → IsOnly (every_of (first ∷ tests)) bag (option_copied given) → is_some given ≡ some_item (filter (every_of tests) listed)
   given-first first tests bag listed given is only =
-      is_some-found (every_of (first ∷ tests)) bag given only ∙ any_listed (every_of (first ∷ tests)) bag ∙ ap some_item (all_of-first first tests bag ∙ ap (filter (every_of tests)) (sym is))
+      is_some-found (every_of (first ∷ tests)) bag given only ∙ any_listed (every_of (first ∷ tests)) bag ∙ ap some_item (all_of-next first tests bag ∙ ap (filter (every_of tests)) (sym is))
 
   -- a lookup by all keys gives something exactly if the item of the first one has the others too
-  pub given-unique : (first : T → Bool) (tests : List (T → Bool)) (bag : List T) (x : T) (given : Option (Bor T)) → x ∷ [] ≡ filter first bag → IsOnly (every_of (first ∷ tests)) bag (option_copied given) → is_some given ≡ every_of tests x
+  pub given-unique : (first : T → Bool) (tests : List (T → Bool)) (bag : List T) (x : T) (given : Option (Bor T)) → x ∷ [] ≡ filter first bag
+      → IsOnly (every_of (first ∷ tests)) bag (option_copied given) → is_some given ≡ every_of tests x
   given-unique first tests bag x given is only = given-first first tests bag (x ∷ []) given is only ∙ some_if (every_of tests x) x
 
-  pub none-unique : (first : T → Bool) (tests : List (T → Bool)) (bag : List T) (given : Option (Bor T)) → [] ≡ filter first bag → IsOnly (every_of (first ∷ tests)) bag (option_copied given) → is_some given ≡ false
+  pub none-unique : (first : T → Bool) (tests : List (T → Bool)) (bag : List T) (given : Option (Bor T)) → [] ≡ filter first bag
+      → IsOnly (every_of (first ∷ tests)) bag (option_copied given) → is_some given ≡ false
   none-unique first tests bag given is only = given-first first tests bag [] given is only
 
   -- an item that left is no longer found by its key of a rank; `first` and `rest` are the ranks before and after it
-  pub gone-key : {K : Type 0} (first rest : Ranks T) (key : T → K) (eq : K → K → Bool) → AreLawful (first ++ agree key eq ∷ rest) → (old bag : List T) (x : T) (k : K) → IsSound (first ++ agree key eq ∷ rest) old → IsPermutation old (x ∷ bag) → k ≡ key x → list_any (λ y. eq k (key y)) bag ≡ false
+  pub gone-key : {K : Type 0} (first rest : Ranks T) (key : T → K) (eq : K → K → Bool) → AreLawful (first ++ agree key eq ∷ rest)
+      → (old bag : List T) (x : T) (k : K) → IsSound (first ++ agree key eq ∷ rest) old → IsPermutation old (x ∷ bag) → k ≡ key x
+      → list_any (λ y. eq k (key y)) bag ≡ false
   gone-key first rest key eq laws old bag x k sound taken is =
       let apart = distinct_at first rest (agree key eq) (x ∷ bag) (IsSound-IsPermutation (first ++ agree key eq ∷ rest) laws old (x ∷ bag) taken sound) in
       rw is (any_listed (λ y. eq (key x) (key y)) bag ∙ ap some_item (none_pass (λ y. eq (key x) (key y)) bag (IsDistinct-head (agree key eq) x bag apart)))

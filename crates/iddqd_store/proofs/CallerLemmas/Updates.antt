@@ -8,7 +8,8 @@ use Rattle.iddqd_store.specs.Bag.Storing.{StoresInAll, Writes, RewritesAll, Rewr
 use Rattle.iddqd_store.proofs.BagLemmas.Exchanges.{IsPermutation-flip, Shuffled, Shuffled-from, done, flip, keep, then}
 
 -- `told`: a call at x returns `answers f x`, and a later call returns what it would have returned before.
-module _ {F T D : Type 0} (step : F → T → D → F → Type 0) (put : T → D → T) (answers : F → T → D) (told : (f : F) (x : T) (d : D) (g : F) → step f x d g → (d ≡ answers f x) × ((y : T) → answers g y ≡ answers f y)) where
+module _ {F T D : Type 0} (step : F → T → D → F → Type 0) (put : T → D → T) (answers : F → T → D)
+    (told : (f : F) (x : T) (d : D) (g : F) → step f x d g → (d ≡ answers f x) × ((y : T) → answers g y ≡ answers f y)) where
   -- in order, each is written
   pub writes-map : (h : T → D) (f : F) (xs ys : List T) → ((y : T) → answers f y ≡ h y) → Writes step put f xs ys → ys ≡ map (λ x. put x (h x)) xs
   writes-map h f [] ys same writes = writes
@@ -44,7 +45,8 @@ listed_onto None l = refl
 listed_onto (Some y) l = refl
 
 -- `told`: a call at x returns `answers f x`, and a later call returns what it would have returned before.
-module _ {F T D : Type 0} (step : F → T → Option D → F → Type 0) (put : T → D → T) (answers : F → T → Option D) (told : (f : F) (x : T) (o : Option D) (g : F) → step f x o g → (o ≡ answers f x) × ((y : T) → answers g y ≡ answers f y)) where
+module _ {F T D : Type 0} (step : F → T → Option D → F → Type 0) (put : T → D → T) (answers : F → T → Option D)
+    (told : (f : F) (x : T) (o : Option D) (g : F) → step f x o g → (o ≡ answers f x) × ((y : T) → answers g y ≡ answers f y)) where
   -- in order, each is written or left out
   pub rewrites-filter_map : (h : T → Option D) (f : F) (xs ys : List T) → ((y : T) → answers f y ≡ h y) → Rewrites step put f xs ys → ys ≡ filter_map (λ x. option_map (put x) (h x)) xs
   rewrites-filter_map h f [] ys same is = is

@@ -1,29 +1,18 @@
 -- An iteration in which each item is written.
 use Rattle.std.specs.Prelude.{◌≡◌, ℕ, true, is_some, List, [], ◌∷◌, ◌++◌, map, IsPermutation, Option, Some, None, IfSome, IfNone}
-use Rattle.std.proofs.Common.{refl, sym, ap, ◌∙◌, subst}
+use Rattle.std.proofs.Common.{sym, ap, ◌∙◌, subst, append-nil, append_assoc}
 use Rattle.std.proofs.lemmas.List.Sorted.{IsPermutation-refl}
+use Rattle.std.proofs.lemmas.List.{map-append}
 use Rattle.iddqd_store.specs.Map.{Map, bag}
 use Rattle.iddqd_store.specs.Map.Walk.{passed, to_come, Passes}
 use Rattle.iddqd_store.proofs.CallerLemmas.{passed-to_come}
 
-module _ {T : Type 0} where
-  append-nil : (xs : List T) → xs ++ [] ≡ xs
-  append-nil [] = refl
-  append-nil (x ∷ xs) = ap (λ l. x ∷ l) (append-nil xs)
-
-  join : (xs : List T) (x : T) (ys : List T) → (xs ++ x ∷ []) ++ ys ≡ xs ++ x ∷ ys
-  join [] x ys = refl
-  join (z ∷ xs) x ys = ap (λ l. z ∷ l) (join xs x ys)
-
 module _ {T : Type 0} (put : T → T) where
-  map-append : (xs ys : List T) → map put (xs ++ ys) ≡ map put xs ++ map put ys
-  map-append [] ys = refl
-  map-append (x ∷ xs) ys = ap (λ l. put x ∷ l) (map-append xs ys)
-
   -- one more item is written
-  pub step_done : (done before behind after rest all later : List T) (x : T) → before ≡ map put done → done ++ behind ≡ all → behind ≡ x ∷ later → after ≡ before ++ put x ∷ [] → rest ≡ later → (after ≡ map put (done ++ x ∷ [])) × ((done ++ x ∷ []) ++ rest ≡ all)
+  pub step_done : (done before behind after rest all later : List T) (x : T) → before ≡ map put done → done ++ behind ≡ all → behind ≡ x ∷ later
+      → after ≡ before ++ put x ∷ [] → rest ≡ later → (after ≡ map put (done ++ x ∷ [])) × ((done ++ x ∷ []) ++ rest ≡ all)
   step_done done before behind after rest all later x was held comes goes stays =
-      (goes ∙ ap (λ l. l ++ put x ∷ []) was ∙ sym (map-append done (x ∷ [])), join done x rest ∙ ap (λ l. done ++ x ∷ l) stays ∙ ap (λ l. done ++ l) (sym comes) ∙ held)
+      (goes ∙ ap (λ l. l ++ put x ∷ []) was ∙ sym (map-append put done (x ∷ [])), append_assoc done (x ∷ []) rest ∙ ap (λ l. done ++ x ∷ l) stays ∙ ap (λ l. done ++ l) (sym comes) ∙ held)
 
   -- all items are written if none is to come
   pub all_done : {S : Type 0} (m : Map T S) (at : ℕ) (done all : List T) → passed m at ≡ map put done → done ++ to_come m at ≡ all → to_come m at ≡ [] → IsPermutation (bag m) (map put all)
@@ -43,6 +32,7 @@ some_holds P None some h = absurd (cc some)
 some_holds P (Some x) some h = (x, h)
 
 -- the first item is written if none was passed
-pub first_written : {T S : Type 0} (m : Map T S) (from : ℕ) (x : T) (w : (T → T) → Map T S) (to : ℕ) (all : List T) → passed m from ≡ [] → to_come m from ≡ all → Passes m from x w to → (f : T → T) → (all ≡ x ∷ to_come m to) × (bag (w f) ≡ f x ∷ to_come m to)
+pub first_written : {T S : Type 0} (m : Map T S) (from : ℕ) (x : T) (w : (T → T) → Map T S) (to : ℕ) (all : List T) → passed m from ≡ []
+    → to_come m from ≡ all → Passes m from x w to → (f : T → T) → (all ≡ x ∷ to_come m to) × (bag (w f) ≡ f x ∷ to_come m to)
 first_written m from x w to all none is pass f =
     (sym is ∙ pass.comes, passed-to_come (w f) to ∙ ap (λ l. l ++ to_come (w f) to) (pass.before f ∙ ap (λ l. l ++ f x ∷ []) none) ∙ ap (λ l. f x ∷ l) (pass.behind f))

@@ -34,7 +34,8 @@ module _ {F T S : Type 0} (step : F → T → Bool → F → Type 0) where
         onward = omega (arith, was.onward, next.ahead);
       }
 
-  pub extracts-some : (f q g : F) (m n : Map T S) (from at slot : ℕ) (x : T) → ComesNext m.slots at slot x → n.slots ≡ set m.slots slot None → step q x true g → HasRejected f m from q at → Extracts step f m from (Some x) n (slot + 1)
+  pub extracts-some : (f q g : F) (m n : Map T S) (from at slot : ℕ) (x : T) → ComesNext m.slots at slot x → n.slots ≡ set m.slots slot None
+      → step q x true g → HasRejected f m from q at → Extracts step f m from (Some x) n (slot + 1)
   extracts-some f q g m n from at slot x next emptied called was =
       record {
         rejected = was.rejected;
@@ -45,19 +46,6 @@ module _ {F T S : Type 0} (step : F → T → Bool → F → Type 0) where
         before = rw emptied (emptied_before m.slots at slot x next ∙ was.before);
         none_left = tt;
         onward = omega (arith, was.onward, next.ahead);
-      }
-
-  pub extracts-none : (f q : F) (m : Map T S) (from at : ℕ) → to_come m at ≡ [] → HasRejected f m from q at → Extracts step f m from None m at
-  extracts-none f q m from at none was =
-      record {
-        rejected = was.rejected;
-        state = q;
-        rejects = was.rejects;
-        accepts = tt;
-        comes = was.comes;
-        before = was.before;
-        none_left = none;
-        onward = tt;
       }
 
 module _ {T S : Type 0} where

@@ -1,90 +1,68 @@
 -- Lemmas for the growth of a map, whose capacity is the least of those of its slots and tables.
-use Rattle.std.specs.Prelude.{◌≡◌, ◌+◌, ◌^◌, ◌<◌, ◌≤◌, ℕ, suc, ◌∷◌, List, Option, Result, Ok, Err, IsErr, IsPermutation, length, min}
-use Rattle.std.proofs.Common.{arith, refl, sym, ap, subst, le_of_eq, le_refl, le_trans, ◌∙◌}
+use Rattle.std.specs.Prelude.{◌≡◌, ◌+◌, ◌<◌, ◌≤◌, ℕ, suc, [], ◌∷◌, List, Option, Result, Ok, Err, IsErr, IsPermutation, length, max, ⊤}
+use Rattle.std.proofs.Common.{arith, refl, ap, subst, ◌∙◌}
 use Rattle.iddqd_store.specs.Bag.{Ranks}
-use Rattle.iddqd_store.specs.Map.{Map, bag, Gains, GrowsUnless, MakesRoom, PutsAt}
-use Rattle.iddqd_store.specs.Slots.{Slots, contents}
-use Rattle.iddqd_store.specs.Table.{Table}
-use Rattle.iddqd_store.specs.Table.Room.{GrowsFor}
+use Rattle.iddqd_store.specs.Map.{Map, bag, Gains, GrowsUnless, PutsAt, Reserves}
+use Rattle.iddqd_store.specs.Rank.Index.{AreIndexes, IsIndexed}
+use Rattle.iddqd_store.specs.Slots.{contents, live_count}
+use Rattle.iddqd_store.specs.Table.Limit.{most_room}
 use Rattle.iddqd_store.proofs.MapLemmas.{MakesRoom-err}
+use Rattle.iddqd_store.proofs.RankLemmas.Index.{length-index}
+use Rattle.iddqd_store.proofs.SlotLemmas.Contents.{length-contents}
 
--- A part of the map lost no room, and got none if it had no more than the map.
-pub record Keeps (room part new : ℕ) : Type 0 where
-  pub no_less : part ≤ new
-  pub same : part ≤ room → new ≡ part
+-- each table has as many pairs as slots are live
+abbrev pub AreAsMany : ℕ → List (List (ℕ × ℕ)) → Type 0
+AreAsMany n [] = ⊤
+AreAsMany n (pairs ∷ tables) = (length pairs ≡ n) × AreAsMany n tables
 
-pub still : (room part : ℕ) → Keeps room part part
-still room part = record { no_less = le_refl part; same = λ _. refl }
-
-pub slots_keep : {T : Type 0} {old new : Slots T} (room : ℕ) → new ≡ old → Keeps room old.capacity new.capacity
-slots_keep room same = let part = ap (λ (s : Slots _). s.capacity) same in record { no_less = le_of_eq (sym part); same = λ _. part }
-
-pub table_keeps : {old new : Table} (room : ℕ) → new ≡ old → Keeps room old.limit new.limit
-table_keeps room same = let part = ap (λ (t : Table). t.limit) same in record { no_less = le_of_eq (sym part); same = λ _. part }
-
--- in the first turn a part is asked for more only if it has more room than the map
-pub slots_turn : {room told part new asked : ℕ} (held : ℕ) → told ≡ part → (0 < asked → room < told) → held ≤ told → (held + asked ≤ part → new ≡ part) → part ≤ new → Keeps room part new
-slots_turn held is above fits stays more = record { no_less = more; same = grind arith }
-
-pub table_turn : {A E : Type 0} {room told asked : ℕ} {old new : Table} {r : Result A E} → told ≡ old.limit → (0 < asked → room < told) → length old.pairs ≤ told → GrowsFor old asked r new → old.limit ≤ new.limit → Keeps room old.limit new.limit
-table_turn {old = old} is above fits grows more = slots_turn (length old.pairs) is above fits (λ room. ap (λ (t : Table). t.limit) (grows.stays room)) more
-
--- a part that refuses in the second turn has no more room than the map
-pub slots_bound : {room told part new last asked wanted : ℕ} (held : ℕ) → told ≡ part → (room < told → asked ≡ wanted) → held + asked ≤ new → new < held + wanted → last ≡ new → Keeps room part new → last ≤ room
-slots_bound held is all fits refused same keeps = grind arith
-
-pub table_bound : {room told asked wanted : ℕ} {new last : Table} (old : Table) → told ≡ old.limit → (room < told → asked ≡ wanted) → length old.pairs + asked ≤ new.limit → length new.pairs ≡ length old.pairs → new.limit < length new.pairs + wanted → last ≡ new → Keeps room old.limit new.limit → last.limit ≤ room
-table_bound old is all fits held refused same keeps = slots_bound (length old.pairs) is all fits (rw held at refused) (ap (λ (t : Table). t.limit) same) keeps
-
--- if the slots are too few, or the pairs do not fit in a table, the items do not fit in the map
-pub past_short : {len told items live held capacity : ℕ} (more : ℕ) → len ≡ live → told ≡ items → held ≡ live → told < 2 ^ 64 → 2 ^ 64 ≤ len + more → capacity ≤ items → capacity < held + more
-past_short more is told all fits past in_items = omega arith
-
-pub slots_short : {live held asked bound capacity : ℕ} (more : ℕ) → held ≡ live → asked ≤ more → bound < live + asked → capacity ≤ bound → capacity < held + more
-slots_short more all most refused within = omega arith
-
-pub table_short : {len told items live held pairs asked wanted limit capacity : ℕ} (more : ℕ) → len ≡ live → told ≡ items → held ≡ live → pairs ≡ held → asked ≤ wanted → ((l : ℕ) → l < len + wanted → min told l < len + more) → limit < pairs + asked → capacity ≤ items → capacity ≤ limit → capacity < held + more
-table_short {limit = limit} more is told all one most short refused in_items in_table =
-    let least = short limit (omega arith) in omega (arith, least)
-
--- a refusal changes nothing
 abbrev pub the_map : {T S : Type 0} → List (Option T) → ℕ → S → Map T S
 the_map slots capacity builder = record { slots = slots; capacity = capacity; builder = builder }
 
-pub same_map : {T S : Type 0} {slots to_slots : List (Option T)} {capacity to_capacity : ℕ} (builder : S) → to_slots ≡ slots → to_capacity ≡ capacity → the_map to_slots to_capacity builder ≡ the_map slots capacity builder
-same_map builder at_slots at_capacity = rw (at_slots, at_capacity) refl
+module _ {T : Type 0} where
+  as_many : (hashes : List (T → ℕ)) (slots : List (Option T)) (tables : List (List (ℕ × ℕ))) → AreIndexes hashes slots tables → AreAsMany (live_count slots) tables
+  as_many [] slots [] all = tt
+  as_many [] slots (pairs ∷ tables) all = absurd all
+  as_many (hash ∷ hashes) slots [] all = absurd all
+  as_many (hash ∷ hashes) slots (pairs ∷ tables) all = (length-index all.0 ∙ length-contents slots, as_many hashes slots tables all.1)
 
-pub same_slots : {T S : Type 0} {old new : Map T S} → new ≡ old → new.slots ≡ old.slots
-same_slots same = ap (λ (m : Map _ _). m.slots) same
+  module _ {S A E : Type 0} {ranks : Ranks T} {hashes : List (T → ℕ)} {slots to_slots : List (Option T)} {tables : List (List (ℕ × ℕ))}
+      {capacity to_capacity more : ℕ} {builder : S} {old : Map T S} where
+    -- a call that fails leaves the map as it was, if its capacity is as it was
+    pub refuses : (r : Result A E) → IsErr r → the_map slots capacity builder ≡ old → to_slots ≡ slots → IsIndexed ranks hashes slots tables
+        → (AreAsMany (live_count slots) tables → (to_capacity ≡ capacity) × (capacity < live_count slots + more))
+        → Reserves old more r (the_map to_slots to_capacity builder)
+    refuses (Err e) is seen at_slots indexed so =
+        let found = so (as_many hashes slots tables indexed.indexes) in
+        let same : the_map to_slots to_capacity builder ≡ the_map slots capacity builder = rw (at_slots, found.0) refl in
+        rw (← seen) record { slots = at_slots; room = MakesRoom-err (Err e) e refl (rw (length-contents slots) found.1) same; unchanged = same }
+    refuses (Ok _) is seen at_slots indexed so = cc
 
-pub room_seen : {T S : Type 0} {old seen : Map T S} {room : ℕ} → room ≡ old.capacity → seen ≡ old → room ≡ seen.capacity
-room_seen is seen = is ∙ sym (ap (λ (m : Map _ _). m.capacity) seen)
+    -- a call that succeeds has made room
+    pub reserves : (x : A) → the_map slots capacity builder ≡ old → to_slots ≡ slots → IsIndexed ranks hashes slots tables
+        → (AreAsMany (live_count slots) tables
+        → (live_count slots + more ≤ to_capacity) × (most_room < live_count slots + more → ⊥) × (capacity ≤ to_capacity)
+        × (live_count slots + more ≤ capacity → to_capacity ≡ capacity))
+        → Reserves {A = A} {E = E} old more (Ok x) (the_map to_slots to_capacity builder)
+    reserves x seen at_slots indexed so =
+        let found = so (as_many hashes slots tables indexed.indexes) in
+        let held = length-contents slots in
+        rw (← seen) record {
+          slots = at_slots;
+          room = record {
+            room = rw held found.0;
+            reason = tt;
+            past = λ past. absurd (found.1 (rw held at past));
+            no_less_room = found.2;
+            same_room = λ fits. found.3 (rw held at fits);
+            same_builder = refl;
+          };
+          unchanged = tt;
+        }
 
-pub refuses : {T S A E : Type 0} {old seen new : Map T S} {more : ℕ} (r : Result A E) → IsErr r → seen ≡ old → new ≡ old → seen.capacity < length (bag seen) + more → MakesRoom old more r new
-refuses (Err e) is seen same short = rw (← seen) (MakesRoom-err (Err e) e refl short (same ∙ sym seen))
-refuses (Ok _) is seen same short = cc
-
--- A part got room for `more`, and none if they fitted.
-pub record Grows (held more part new : ℕ) : Type 0 where
-  pub no_less : part ≤ new
-  pub same : held + more ≤ part → new ≡ part
-  pub room : held + more ≤ new
-
-pub slots_grow : {held more part middle new : ℕ} (asked : ℕ) → asked ≤ more → part ≤ middle → (held + asked ≤ part → middle ≡ part) → middle ≤ new → (held + more ≤ middle → new ≡ middle) → held + more ≤ new → Grows held more part new
-slots_grow asked most up same again stays room = record { no_less = le_trans up again; same = grind arith; room = room }
-
-pub table_grows : {A E : Type 0} {x : A} {wanted : ℕ} {old new : Table} → old.limit ≤ new.limit → GrowsFor {A = A} {E = E} old wanted (Ok x) new → Grows (length old.pairs) wanted old.limit new.limit
-table_grows more grows = record { no_less = more; same = λ fits. ap (λ (t : Table). t.limit) (grows.stays fits); room = grows.room }
-
-pub table_grows_twice : {A E : Type 0} {x y : A} {asked wanted : ℕ} {old middle new : Table} → asked ≤ wanted → length middle.pairs ≡ length old.pairs → old.limit ≤ middle.limit → GrowsFor {A = A} {E = E} old asked (Ok x) middle → middle.limit ≤ new.limit → GrowsFor {A = A} {E = E} middle wanted (Ok y) new → Grows (length old.pairs) wanted old.limit new.limit
-table_grows_twice {asked = asked} most held more first again second =
-    let at_first = table_grows more first in
-    let at_last = rw held at (table_grows again second) in
-    slots_grow asked most at_first.no_less at_first.same at_last.no_less at_last.same at_last.room
-
--- the room of a map whose parts grew
-pub wider : {held pairs wanted : ℕ} (more : ℕ) → pairs ≡ held → more ≤ wanted → held + more ≤ pairs + wanted
-wider more all enough = omega arith
+-- slots that fail in the second turn of a growth have no more room than the map
+pub slots_bound : {room told part new more asked wanted : ℕ} (held : ℕ) → (room < told → asked ≡ more) → (0 < asked → room < told) → told ≡ part → held ≤ told
+    → new ≡ max part (held + asked) → (held + more ≤ new → wanted ≡ more) → new < held + wanted → new ≤ room
+slots_bound held all none is fits first same refused = grind arith
 
 -- all that is left fits, and one of it came: it finds room, and the rest fits behind it
 module _ (held left next room : ℕ) (fit : held + left ≤ room) (nearer : next < left) where

@@ -1,33 +1,25 @@
 -- What is left if another item replaces the item of one slot, and which items conflict with that.
 use Rattle.std.specs.Prelude.{◌≡◌, ◌≢◌, ℕ, nat_eq, Bool, true, false, cond, List, [], ◌∷◌, filter, Option, Some, None, IsSome, IsPermutation, Contains, All, slice_set}
 use Rattle.std.proofs.Common.{refl, sym, subst, ◌∙◌, arith}
-use Rattle.std.proofs.lemmas.Bool.Decides.{nat_tests}
 use Rattle.std.proofs.lemmas.List.{get_or-set_other}
 use Rattle.std.proofs.lemmas.List.Elements.{All-head, All-tail}
 use Rattle.std.proofs.lemmas.List.Sorted.{IsPermutation-refl, IsPermutation-sym, IsPermutation-trans, IsPermutation-append, IsPermutation-middle}
 use Rattle.std.proofs.lemmas.Map.Keys.{IsDistinct-head}
+use Rattle.std.proofs.lemmas.Bool.{eqb-false, eq-eqb}
 use Rattle.iddqd_store.specs.Bag.{IsOnly, Ranks, clash, conflicts, like, order}
 use Rattle.iddqd_store.specs.Slots.{IsLive, contents, get}
 use Rattle.iddqd_store.specs.Slots.Found.{FoundAt, StandAt, contains}
+use Rattle.iddqd_store.proofs.Plain.{number_turned}
 use Rattle.iddqd_store.proofs.BagLemmas.Exchanges.{IsPermutation-filter}
 use Rattle.iddqd_store.proofs.BagLemmas.Sound.{Contains-filter, same_from_short}
 use Rattle.iddqd_store.proofs.SlotLemmas.Contents.{content_at, contents-take}
 use Rattle.iddqd_store.proofs.SlotLemmas.Found.{item_listed, some_passes}
 
-itself : (a : ℕ) → nat_eq a a ≡ true
-itself a = grind (arith, nat_tests)
-
 listed_first : (at : ℕ) (more : List ℕ) → contains (at ∷ more) at ≡ true
-listed_first at more = rw (itself at) refl
+listed_first at more = rw (eq-eqb at at refl) refl
 
 listed_second : (slot at : ℕ) (more : List ℕ) → nat_eq at slot ≡ false → contains (slot ∷ at ∷ more) at ≡ true
-listed_second slot at more apart = rw (apart, itself at) refl
-
-turned : (a b : ℕ) → nat_eq a b ≡ false → nat_eq b a ≡ false
-turned a b h = grind (arith, nat_tests)
-
-other_number : (a b : ℕ) → nat_eq a b ≡ false → a ≢ b
-other_number a b h = grind (arith, nat_tests)
+listed_second slot at more apart = rw (apart, eq-eqb at at refl) refl
 
 module _ {T : Type 0} (ranks : Ranks T) (slots : List (Option T)) (x : T) (slot : ℕ) (found : List ℕ) (stand : StandAt slots found (order ranks (contents slots) x)) where
   elsewhere : (at : ℕ) → contains found at ≡ true → IsLive slots at → at ≢ slot → clash ranks (contents (slice_set slots slot None)) x ≢ []
@@ -54,8 +46,9 @@ module _ {T : Type 0} (ranks : Ranks T) (slots : List (Option T)) (x : T) (slot 
   more_found at more is =
       let alive : All (IsLive slots) (slot ∷ at ∷ more) = subst (λ l. All (IsLive slots) l) is stand.live in
       let apart = IsDistinct-head nat_eq slot (at ∷ more) (rw is at stand.apart) in
-      let other : nat_eq at slot ≡ false = turned slot at apart.0 in
-      elsewhere at (subst (λ l. contains l at ≡ true) (sym is) (listed_second slot at more other)) (All-head (IsLive slots) at more (All-tail (IsLive slots) slot (at ∷ more) alive)) (other_number at slot other)
+      let other : nat_eq at slot ≡ false = number_turned slot at apart.0 in
+      elsewhere at (subst (λ l. contains l at ≡ true) (sym is) (listed_second slot at more other))
+      (All-head (IsLive slots) at more (All-tail (IsLive slots) slot (at ∷ more) alive)) (eqb-false at slot other)
 
 module _ {T : Type 0} where
   behind : (test : T → Bool) (x : T) (rest : List T) → filter test (x ∷ rest) ≡ [] → filter test rest ≡ []
@@ -68,7 +61,8 @@ module _ {T : Type 0} where
   -- an item that conflicts with nothing does not conflict with what is left
   pub free_left : (ranks : Ranks T) (old rest : List T) (x y : T) → IsPermutation old (x ∷ rest) → clash ranks old y ≡ [] → clash ranks rest y ≡ []
   free_left ranks old rest x y out free =
-      behind (conflicts ranks y) x rest (sym (same_from_short [] _ (subst (λ l. IsPermutation l (clash ranks (x ∷ rest) y)) free (IsPermutation-filter (conflicts ranks y) old (x ∷ rest) out)) (omega arith)))
+      behind (conflicts ranks y) x rest (sym (same_from_short [] _
+      (subst (λ l. IsPermutation l (clash ranks (x ∷ rest) y)) free (IsPermutation-filter (conflicts ranks y) old (x ∷ rest) out)) (omega arith)))
 
   -- the same for what is left if the item of a slot is removed
   pub free_slot : (ranks : Ranks T) (slots : List (Option T)) (slot : ℕ) (y : T) → IsLive slots slot → clash ranks (contents slots) y ≡ [] → clash ranks (contents (slice_set slots slot None)) y ≡ []
@@ -76,17 +70,18 @@ module _ {T : Type 0} where
     where
       by_slot : (o : Option T) → get slots slot ≡ o → IsSome o → clash ranks (contents (slice_set slots slot None)) y ≡ []
       by_slot None is some = absurd (cc)
-      by_slot (Some x) is some =
-          free_left ranks (contents slots) (contents (slice_set slots slot None)) x y (contents-take slots slot x is) free
+      by_slot (Some x) is some = free_left ranks (contents slots) (contents (slice_set slots slot None)) x y (contents-take slots slot x is) free
 
   -- what was searched for, what is left without it, and that something there conflicts
-  pub other_blocks : (ranks : Ranks T) (test : T → Bool) (slots : List (Option T)) (slot : ℕ) (y : T) → FoundAt test slots (Some slot) → clash ranks (contents (slice_set slots slot None)) y ≢ [] → (x : T) × (rest : List T) × IsOnly test (contents slots) (Some x) × IsPermutation (contents slots) (x ∷ rest) × (clash ranks rest y ≢ [])
+  pub other_blocks : (ranks : Ranks T) (test : T → Bool) (slots : List (Option T)) (slot : ℕ) (y : T) → FoundAt test slots (Some slot)
+      → clash ranks (contents (slice_set slots slot None)) y ≢ []
+      → (x : T) × (rest : List T) × IsOnly test (contents slots) (Some x) × IsPermutation (contents slots) (x ∷ rest) × (clash ranks rest y ≢ [])
   other_blocks ranks test slots slot y found blocked = by_slot (get slots slot) refl found.live found.only
     where
-      by_slot : (o : Option T) → get slots slot ≡ o → IsSome o → IsOnly test (contents slots) o → (x : T) × (rest : List T) × IsOnly test (contents slots) (Some x) × IsPermutation (contents slots) (x ∷ rest) × (clash ranks rest y ≢ [])
+      by_slot : (o : Option T) → get slots slot ≡ o → IsSome o → IsOnly test (contents slots) o
+          → (x : T) × (rest : List T) × IsOnly test (contents slots) (Some x) × IsPermutation (contents slots) (x ∷ rest) × (clash ranks rest y ≢ [])
       by_slot None is some only = absurd (cc)
-      by_slot (Some x) is some only =
-          (x, contents (slice_set slots slot None), only, contents-take slots slot x is, blocked)
+      by_slot (Some x) is some only = (x, contents (slice_set slots slot None), only, contents-take slots slot x is, blocked)
 
   -- one item has replaced the other
   pub exchanged : (x y : T) (old new rest : List T) → IsPermutation old (x ∷ rest) → IsPermutation new (y ∷ rest) → IsPermutation (x ∷ new) (y ∷ old)

@@ -1,11 +1,10 @@
 -- Data stored at the slots that searches found, one after the other.
-use Rattle.std.specs.Prelude.{◌≡◌, ◌≢◌, ℕ, zero, suc, slice_set, false, List, [], ◌∷◌, ◌++◌, All, IsPermutation, Option, Some, None, fold, if◌then◌else◌, nat_eq}
+use Rattle.std.specs.Prelude.{◌≡◌, ℕ, zero, suc, slice_set, false, List, [], ◌∷◌, ◌++◌, All, IsPermutation, Option, Some, None, fold, if◌then◌else◌, nat_eq}
 use Rattle.std.specs.List.{AllByRecursion, IsDistinct}
 use Rattle.std.specs.Borrow.{Bor}
-use Rattle.std.specs.Fn.{Mut, TakesAt, CalledAt}
+use Rattle.std.specs.Fn.{Mut, CalledAt}
 use Rattle.std.specs.Option.{IfSome}
-use Rattle.std.proofs.Common.{refl, subst, arith}
-use Rattle.std.proofs.lemmas.Bool.Decides.{nat_tests}
+use Rattle.std.proofs.Common.{refl, subst}
 use Rattle.std.proofs.lemmas.List.{get_or-set_other}
 use Rattle.std.proofs.lemmas.List.Elements.{All-nil, All-cons, All-head, All-tail, All-append}
 use Rattle.std.proofs.lemmas.List.Sorted.{IsPermutation-trans}
@@ -16,18 +15,17 @@ use Rattle.iddqd_store.specs.Map.{Map, bag}
 use Rattle.iddqd_store.specs.Map.Written.{map_with, of_item}
 use Rattle.iddqd_store.specs.Slots.{get, IsLive}
 use Rattle.iddqd_store.specs.Slots.Found.{each_once, items_at, contains, with_found}
+use Rattle.iddqd_store.proofs.Plain.{number_apart}
 use Rattle.iddqd_store.proofs.BagLemmas.Calling.{TakesEach}
 use Rattle.iddqd_store.proofs.BagLemmas.Exchanges.{split}
 use Rattle.iddqd_store.proofs.BagLemmas.Theory.{swap-IsPermutation}
-
-other_slot : (a b : ℕ) → nat_eq a b ≡ false → b ≢ a
-other_slot a b differs = grind (arith, nat_tests)
 
 module _ {T : Type 0} (slots : List (Option T)) where
   live_with : (numbers : List ℕ) (at : Option ℕ) → All (IsLive slots) numbers → IfSome at (IsLive slots) → All (IsLive slots) (with_found numbers at)
   live_with numbers None live there = live
   live_with numbers (Some slot) live there =
-      split (λ b. All (IsLive slots) (if b then numbers else numbers ++ slot ∷ [])) (contains numbers slot) (λ _. live) (λ _. All-append (IsLive slots) numbers (slot ∷ []) live (All-cons (IsLive slots) slot [] there (All-nil (IsLive slots))))
+      split (λ b. All (IsLive slots) (if b then numbers else numbers ++ slot ∷ [])) (contains numbers slot) (λ _. live)
+      (λ _. All-append (IsLive slots) numbers (slot ∷ []) live (All-cons (IsLive slots) slot [] there (All-nil (IsLive slots))))
 
   -- each slot that was found is live
   pub live_found : (found : List (Option ℕ)) → AllByRecursion (λ at. IfSome at (IsLive slots)) found → All (IsLive slots) (each_once found)
@@ -39,7 +37,7 @@ module _ {T : Type 0} (slots : List (Option T)) where
 
 module _ {T S : Type 0} (m : Map T S) (slot : ℕ) (f : T → T) where
   written_elsewhere : (other : ℕ) → nat_eq slot other ≡ false → get (map_with m slot f).slots other ≡ get m.slots other
-  written_elsewhere other differs = get_or-set_other m.slots slot other _ None (other_slot slot other differs)
+  written_elsewhere other differs = get_or-set_other m.slots slot other _ None (number_apart slot other differs)
 
   items_elsewhere : (rest : List ℕ) → AllByRecursion (λ other. nat_eq slot other ≡ false) rest → items_at (map_with m slot f).slots rest ≡ items_at m.slots rest
   items_elsewhere [] apart = refl
@@ -76,17 +74,19 @@ module _ {F T D : Type 0} (step : F → T → D → F → Type 0) (put : T → D
   from_bag f (x ∷ xs) held other new same stores = (stores.0, stores.1, stores.2, from_bag stores.1 xs _ _ new (swap-IsPermutation ranks held other x (put x stores.0) same) stores.3)
 
   -- data is stored at the first slot, and then at the others
-  pub one_store : {S : Type 0} (f g : F) (old mid : Map T S) (new : List T) (slot : ℕ) (rest : List ℕ) (x : T) (d : D) → IsDistinct nat_eq (slot ∷ rest) → get old.slots slot ≡ Some x → step f x d g → mid ≡ map_with old slot (λ z. put z d) → IsPermutation (bag mid) (swap ranks (bag old) x (put x d)) → Stores step put ranks g (items_at mid.slots rest) (bag mid) new → Stores step put ranks f (items_at old.slots (slot ∷ rest)) (bag old) new
+  pub one_store : {S : Type 0} (f g : F) (old mid : Map T S) (new : List T) (slot : ℕ) (rest : List ℕ) (x : T) (d : D)
+      → IsDistinct nat_eq (slot ∷ rest) → get old.slots slot ≡ Some x → step f x d g → mid ≡ map_with old slot (λ z. put z d)
+      → IsPermutation (bag mid) (swap ranks (bag old) x (put x d)) → Stores step put ranks g (items_at mid.slots rest) (bag mid) new
+      → Stores step put ranks f (items_at old.slots (slot ∷ rest)) (bag old) new
   one_store f g old mid new slot rest x d apart here called is swaps stores =
       let same : items_at mid.slots rest ≡ items_at old.slots rest = rw is (items_elsewhere old slot (λ z. put z d) rest (IsDistinct-head nat_eq slot rest apart)) in
       rw here (d, g, called, from_bag g _ _ _ new swaps (subst (λ l. Stores step put ranks g l (bag mid) new) same stores))
 
 -- a closure that may be called at the items of slots in turn may be called at that of the first
 module _ {F T D : Type 0} (g : Mut F (Bor T × Unit {0}) D) (f : F) where
-  pub takes_here : (slots : List (Option T)) (slot : ℕ) (rest : List ℕ) (x : T) → get slots slot ≡ Some x → TakesEach g f (items_at slots (slot ∷ rest)) → TakesAt g f x
-  takes_here slots slot rest x here takes = (rw here at takes).0
-
   -- once its result is stored there, it may be called at those of the others
-  pub takes_elsewhere : {S : Type 0} (h : F) (m : Map T S) (slot : ℕ) (rest : List ℕ) (x : T) (d : D) (put : T → T) → IsDistinct nat_eq (slot ∷ rest) → get m.slots slot ≡ Some x → CalledAt g f x d h → TakesEach g f (items_at m.slots (slot ∷ rest)) → TakesEach g h (items_at (map_with m slot put).slots rest)
+  pub takes_elsewhere : {S : Type 0} (h : F) (m : Map T S) (slot : ℕ) (rest : List ℕ) (x : T) (d : D) (put : T → T) → IsDistinct nat_eq (slot ∷ rest)
+      → get m.slots slot ≡ Some x → CalledAt g f x d h → TakesEach g f (items_at m.slots (slot ∷ rest))
+      → TakesEach g h (items_at (map_with m slot put).slots rest)
   takes_elsewhere h m slot rest x d put apart here called takes =
       rw (items_elsewhere m slot put rest (IsDistinct-head nat_eq slot rest apart)) ((rw here at takes).1 d h called)

@@ -24,7 +24,9 @@ module _ {F T S : Type 0} (Makes : F → List T → List T → Type 0) where
   Completes start all f m from = (rest : List T) → Makes f (to_come m from) rest → Makes start all (passed m from ++ rest)
 
   -- an item has been passed, and `made` is what was made of it
-  completes_on : (start f g : F) (all : List T) (m new : Map T S) (from to : ℕ) (x : T) (made behind : List T) → to_come m from ≡ x ∷ behind → to_come new to ≡ behind → passed new to ≡ passed m from ++ made → ((rest : List T) → Makes g behind rest → Makes f (x ∷ behind) (made ++ rest)) → Completes start all f m from → Completes start all g new to
+  completes_on : (start f g : F) (all : List T) (m new : Map T S) (from to : ℕ) (x : T) (made behind : List T) → to_come m from ≡ x ∷ behind
+      → to_come new to ≡ behind → passed new to ≡ passed m from ++ made
+      → ((rest : List T) → Makes g behind rest → Makes f (x ∷ behind) (made ++ rest)) → Completes start all f m from → Completes start all g new to
   completes_on start f g all m new from to x made behind comes stays before one completes rest h =
       let on = one rest (subst (λ l. Makes g l rest) stays h) in
       let whole = completes (made ++ rest) (subst (λ l. Makes f l (made ++ rest)) (sym comes) on) in
@@ -35,7 +37,9 @@ module _ {F T S : Type 0} (Makes : F → List T → List T → Type 0) where
       subst (λ l. Makes start all l) (ap (λ l. passed m from ++ l) (sym none) ∙ before_and_behind m.slots from) (completes [] (subst (λ l. Makes f l []) (sym none) nothing))
 
 module _ {F T D S : Type 0} (step : F → T → D → F → Type 0) (put : T → D → T) where
-  pub written_one : (start f g : F) (all : List T) (m : Map T S) (from to : ℕ) (x : T) (d : D) (written : (T → T) → Map T S) (new : Map T S) → new ≡ written (λ y. put y d) → Passes m from x written to → step f x d g → Completes (Writes step put) start all f m from → Completes (Writes step put) start all g new to
+  pub written_one : (start f g : F) (all : List T) (m : Map T S) (from to : ℕ) (x : T) (d : D) (written : (T → T) → Map T S) (new : Map T S)
+      → new ≡ written (λ y. put y d) → Passes m from x written to → step f x d g → Completes (Writes step put) start all f m from
+      → Completes (Writes step put) start all g new to
   written_one start f g all m from to x d written new is next called =
       let w = λ (y : T). put y d in
       completes_on (Writes step put) start f g all m new from to x (put x d ∷ []) (to_come m to) next.comes
@@ -56,20 +60,25 @@ append_none (x ∷ xs) = ap (λ l. x ∷ l) (append_none xs)
 
 module _ {F T D S : Type 0} (step : F → T → Option D → F → Type 0) (put : T → D → T) where
   -- the closure returned data for the next item, which was stored
-  pub rewritten_kept : (start f g : F) (all : List T) (m : Map T S) (from to : ℕ) (x : T) (d : D) (written : (T → T) → Map T S) (new : Map T S) → new ≡ written (λ y. put y d) → Passes m from x written to → step f x (Some d) g → Completes (Rewrites step put) start all f m from → Completes (Rewrites step put) start all g new to
+  pub rewritten_kept : (start f g : F) (all : List T) (m : Map T S) (from to : ℕ) (x : T) (d : D) (written : (T → T) → Map T S) (new : Map T S)
+      → new ≡ written (λ y. put y d) → Passes m from x written to → step f x (Some d) g → Completes (Rewrites step put) start all f m from
+      → Completes (Rewrites step put) start all g new to
   rewritten_kept start f g all m from to x d written new is next called =
       let w = λ (y : T). put y d in
       completes_on (Rewrites step put) start f g all m new from to x (put x d ∷ []) (to_come m to) next.comes
       (ap (λ n. to_come n to) is ∙ next.behind w) (ap (λ n. passed n to) is ∙ next.before w) (λ rest h. (Some d, g, rest, called, refl, h))
 
   -- the closure returned nothing for the next item, which was taken out
-  pub rewritten_taken : (start f g : F) (all : List T) (m new : Map T S) (from at : ℕ) (x : T) → ComesNext m.slots from at x → new.slots ≡ set m.slots at None → step f x None g → Completes (Rewrites step put) start all f m from → Completes (Rewrites step put) start all g new (at + 1)
+  pub rewritten_taken : (start f g : F) (all : List T) (m new : Map T S) (from at : ℕ) (x : T) → ComesNext m.slots from at x
+      → new.slots ≡ set m.slots at None → step f x None g → Completes (Rewrites step put) start all f m from
+      → Completes (Rewrites step put) start all g new (at + 1)
   rewritten_taken start f g all m new from at x next is called =
       let before : passed new (at + 1) ≡ passed m from ++ [] = rw is (emptied_before m.slots from at x next) ∙ append_none (passed m from) in
       completes_on (Rewrites step put) start f g all m new from (at + 1) x [] (to_come m (at + 1)) next.rest
       (rw is (same_behind m.slots at)) before (λ rest h. (None, g, rest, called, refl, h))
 
-  pub all_rewritten : (start f : F) (old m : Map T S) (from : ℕ) → to_come m from ≡ [] → Completes (Rewrites step put) start (contents old.slots) f m from → RewritesAll step put start (bag old) (bag m)
+  pub all_rewritten : (start f : F) (old m : Map T S) (from : ℕ) → to_come m from ≡ []
+      → Completes (Rewrites step put) start (contents old.slots) f m from → RewritesAll step put start (bag old) (bag m)
   all_rewritten start f old m from none completes = record {
     listed = bag old;
     same = IsPermutation-refl (bag old);

@@ -9,7 +9,8 @@ use Rattle.iddqd_store.specs.Slots.{contents, get}
 use Rattle.iddqd_store.specs.Slots.Next.{ComesNext}
 
 module _ {T : Type 0} where
-  filled : (slots : List (Option T)) (at : ℕ) (x y : T) → get slots at ≡ Some x → (contents (take (suc at) (slice_set slots at (Some y))) ≡ contents (take at slots) ++ y ∷ []) × (drop (suc at) (slice_set slots at (Some y)) ≡ drop (suc at) slots)
+  filled : (slots : List (Option T)) (at : ℕ) (x y : T) → get slots at ≡ Some x → (contents (take (suc at) (slice_set slots at (Some y)))
+      ≡ contents (take at slots) ++ y ∷ []) × (drop (suc at) (slice_set slots at (Some y)) ≡ drop (suc at) slots)
   filled [] zero x y is = absurd (cc is)
   filled [] (suc at) x y is = absurd (cc is)
   filled (o ∷ slots) zero x y is = (refl, refl)

@@ -13,7 +13,8 @@ module _ {T : Type 0} (is_clone : T → T → Type 0) where
   is_copy bag copy all = (copy, IsPermutation-refl copy, all)
 
   module _ (hash other : T → ℕ) where
-    same_pairs : (at : ℕ) (slots copy : List (Option T)) → ((x c : T) → Contains (contents slots) x → is_clone x c → other c ≡ hash x) → AllZip (IsSlotClone is_clone) slots copy → map (pair_of other) (members_from at copy) ≡ map (pair_of hash) (members_from at slots)
+    same_pairs : (at : ℕ) (slots copy : List (Option T)) → ((x c : T) → Contains (contents slots) x → is_clone x c → other c ≡ hash x)
+        → AllZip (IsSlotClone is_clone) slots copy → map (pair_of other) (members_from at copy) ≡ map (pair_of hash) (members_from at slots)
     same_pairs at [] [] alike all = refl
     same_pairs at [] (c ∷ copy) alike all = absurd all
     same_pairs at (s ∷ slots) [] alike all = absurd all
@@ -23,6 +24,8 @@ module _ {T : Type 0} (is_clone : T → T → Type 0) where
     same_pairs at (Some x ∷ slots) (Some c ∷ copy) alike all =
         rw (alike x c (Contains-here x (contents slots)) all.0, same_pairs (at + 1) slots copy (λ y d found is. alike y d (Contains-cons x y (contents slots) found) is) all.1) refl
 
-    pub IsIndex-copy : (slots copy : List (Option T)) (pairs : List (ℕ × ℕ)) → ((x c : T) → Contains (contents slots) x → is_clone x c → other c ≡ hash x) → AllZip (IsSlotClone is_clone) slots copy → IsIndex hash slots pairs → IsIndex other copy pairs
+    pub IsIndex-copy : (slots copy : List (Option T)) (pairs : List (ℕ × ℕ))
+        → ((x c : T) → Contains (contents slots) x → is_clone x c → other c ≡ hash x) → AllZip (IsSlotClone is_clone) slots copy
+        → IsIndex hash slots pairs → IsIndex other copy pairs
     IsIndex-copy slots copy pairs alike all indexed =
         record { paired = subst (λ l. IsPermutation pairs l) (sym (same_pairs 0 slots copy (λ x c found is. alike x c found is) all)) indexed.paired }

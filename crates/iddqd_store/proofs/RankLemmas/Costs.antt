@@ -1,27 +1,30 @@
 -- What a search by one rank finds, and what it costs.
 use Rattle.std.specs.Prelude.{◌≡◌, ℕ, ◌*◌, ◌/◌, ◌≤◌, Bool, List, None, Option, length}
 use Rattle.std.specs.Option.{option_and_then}
-use Rattle.std.specs.Prelude.{Result, Ok, Err, IfOk, IfErr}
-use Rattle.std.specs.Result.{result_ok}
+use Rattle.iddqd_store.specs.declared.index_table.searched.Searched.{Searched}
+use Rattle.iddqd_store.specs.declared.index_table.searched.Searched.TheVariants.{Found, Vacant}
+use Rattle.iddqd_store.specs.Searched.{IfVacant}
 use Rattle.std.proofs.Common.{arith, sym}
 use Rattle.iddqd_store.specs.Slots.{contents, get}
 use Rattle.std.proofs.lemmas.List.Sorted.{IsPermutation-sym}
-use Rattle.iddqd_store.specs.Rank.Index.{HasHash, IsIndex, passes_at}
+use Rattle.iddqd_store.specs.Rank.Index.{IsIndex, passes_at}
 use Rattle.iddqd_store.specs.Bag.{IsOnly}
 use Rattle.iddqd_store.specs.Rank.{IsSearchable, IsVacantFor, NamesOneUnder, SearchCosts}
 use Rattle.iddqd_store.specs.Table.Room.{IsSized}
 use Rattle.iddqd_store.specs.Table.Search.{CostsUnder, FindsUnder, IsVacantUnder, RemovalCosts}
 use Rattle.iddqd_store.specs.Table.{hashes, IsFree, Spot, Table}
 use Rattle.iddqd_store.proofs.RankLemmas.Search.{search_among}
-use Rattle.iddqd_store.proofs.RankLemmas.Index.{hash_at, crowd_is, length-index}
+use Rattle.iddqd_store.proofs.RankLemmas.Index.{crowd_is, length-index}
 use Rattle.iddqd_store.proofs.RankLemmas.Probes.{hashes-index, probes_within, probes_within_most}
 use Rattle.iddqd_store.proofs.TableLemmas.Spot.{free_permutation}
 
 module _ {T : Type 0} {agree : T → T → Bool} {hash : T → ℕ} {slots : List (Option T)} (table : Table) (rank : IsSearchable agree hash slots table.pairs) where
-  pub searches : (test : T → Bool) (h : ℕ) (r : Option ℕ) → NamesOneUnder agree hash h test (contents slots) → FindsUnder table h (passes_at test slots) r → IsOnly test (contents slots) (option_and_then (get slots) r)
+  pub searches : (test : T → Bool) (h : ℕ) (r : Option ℕ) → NamesOneUnder agree hash h test (contents slots)
+      → FindsUnder table h (passes_at test slots) r → IsOnly test (contents slots) (option_and_then (get slots) r)
   searches test h r names finds = search_among agree test hash h slots table.pairs r names.one rank.apart rank.index names.hashed finds.accepted finds.none
 
-  pub costs : (h : ℕ) (r : Option ℕ) (asks asks_then before after : ℕ) → IsSized table → CostsUnder table h r asks asks_then before after → SearchCosts hash (contents slots) table.limit h r asks asks_then before after
+  pub costs : (h : ℕ) (r : Option ℕ) (asks asks_then before after : ℕ) → IsSized table → CostsUnder table h r asks asks_then before after
+      → SearchCosts hash (contents slots) table.limit h r asks asks_then before after
   costs h r asks asks_then before after sized own = record {
     asked = omega (arith, own.asked, crowd_is hash h slots table.pairs rank.index);
     probes = probes_within hash slots table.pairs (length table.row) table.limit h r before after rank.index sized.size sized.counted (omega (arith, sized.limit)) own.probes;
@@ -29,7 +32,8 @@ module _ {T : Type 0} {agree : T → T → Bool} {hash : T → ℕ} {slots : Lis
   }
 
   -- a removal by a search costs as much as a search that finds nothing
-  pub removal_costs : (h asks asks_then before after : ℕ) → IsSized table → RemovalCosts table h asks asks_then before after → SearchCosts {A = ℕ} hash (contents slots) table.limit h None asks asks_then before after
+  pub removal_costs : (h asks asks_then before after : ℕ) → IsSized table → RemovalCosts table h asks asks_then before after
+      → SearchCosts {A = ℕ} hash (contents slots) table.limit h None asks asks_then before after
   removal_costs h asks asks_then before after sized own =
       costs h None asks asks_then before after sized record {
         asked = own.asked;
@@ -37,14 +41,10 @@ module _ {T : Type 0} {agree : T → T → Bool} {hash : T → ℕ} {slots : Lis
         within = own.within;
       }
 
-  pub hash_found : {E : Type 0} {accepts : ℕ → Bool} (h : ℕ) (r : Result ℕ E) → FindsUnder table h accepts (result_ok r) → IfOk r (λ at. HasHash hash slots at h)
-  hash_found h (Err e) finds = tt
-  hash_found h (Ok at) finds = λ x stands. hash_at at h x rank.index finds.found stands
-
   -- the cell at which the table's search ended is for the members' hashes, and one of as many cells as the table has
-  pub vacant_found : (h : ℕ) (r : Result ℕ Spot) → IsSized table → IfErr r (IsVacantUnder table h) → IfErr r (IsVacantFor hash (contents slots) h)
-  vacant_found h (Ok at) sized vacant = tt
-  vacant_found h (Err spot) sized vacant =
+  pub vacant_found : (h : ℕ) (r : Searched ℕ Spot) → IsSized table → IfVacant r (IsVacantUnder table h) → IfVacant r (IsVacantFor hash (contents slots) h)
+  vacant_found h (Found at) sized vacant = tt
+  vacant_found h (Vacant spot) sized vacant =
       let paired = hashes-index hash slots table.pairs rank.index in
       record {
         same = vacant.hash;
@@ -52,17 +52,19 @@ module _ {T : Type 0} {agree : T → T → Bool} {hash : T → ℕ} {slots : Lis
         fits = omega (arith, vacant.cells, sized.limit, sized.fits, length-index rank.index);
       }
 
-  pub cells_found : (h : ℕ) (r : Result ℕ Spot) → IsSized table → IfErr r (IsVacantUnder table h) → IfErr r (λ spot. spot.cells / 8 * 7 ≡ table.limit)
-  cells_found h (Ok at) sized vacant = tt
-  cells_found h (Err spot) sized vacant = rw vacant.cells (sym sized.limit)
+  pub cells_found : (h : ℕ) (r : Searched ℕ Spot) → IsSized table → IfVacant r (IsVacantUnder table h) → IfVacant r (λ spot. spot.cells / 8 * 7 ≡ table.limit)
+  cells_found h (Found at) sized vacant = tt
+  cells_found h (Vacant spot) sized vacant = rw vacant.cells (sym sized.limit)
 
 -- the place for a pair by the members' hashes is its place in a table that indexes them
-pub place_in : {T : Type 0} {hash : T → ℕ} {slots : List (Option T)} {pairs : List (ℕ × ℕ)} {h : ℕ} {spot : Spot} → IsIndex hash slots pairs → IsVacantFor hash (contents slots) h spot → IsFree (hashes pairs) spot
+pub place_in : {T : Type 0} {hash : T → ℕ} {slots : List (Option T)} {pairs : List (ℕ × ℕ)} {h : ℕ} {spot : Spot} → IsIndex hash slots pairs
+    → IsVacantFor hash (contents slots) h spot → IsFree (hashes pairs) spot
 place_in {hash = hash} {slots = slots} {pairs = pairs} {spot = spot} index vacant =
     free_permutation _ _ spot (IsPermutation-sym _ _ (hashes-index hash slots pairs index)) vacant.free
 
 -- a search costs no more if there is less room
-pub SearchCosts-room : {T A : Type 0} {hash : T → ℕ} {bag : List T} {room h : ℕ} {answer : Option A} {asks asks_then before after : ℕ} (less : ℕ) → less ≤ room → SearchCosts hash bag room h answer asks asks_then before after → SearchCosts hash bag less h answer asks asks_then before after
+pub SearchCosts-room : {T A : Type 0} {hash : T → ℕ} {bag : List T} {room h : ℕ} {answer : Option A} {asks asks_then before after : ℕ} (less : ℕ)
+    → less ≤ room → SearchCosts hash bag room h answer asks asks_then before after → SearchCosts hash bag less h answer asks asks_then before after
 SearchCosts-room less below costs =
     let probes = costs.probes in
     record { asked = costs.asked; probes = (probes.0, probes.1, probes.2, omega (arith, below, probes.3), probes.4); at_most = costs.at_most }

@@ -21,14 +21,16 @@ module _ {T : Type 0} where
         (IsPermutation-sym _ _ (IsPermutation-map (pair_of hash) _ _ ex.has))));
   }
 
-  AreIndexes-exchange : (hashes : List (T → ℕ)) (old new : List (Option T)) (tables : List (List (ℕ × ℕ))) (at : ℕ) (x y : T) → AllByRecursion (λ hash. hash y ≡ hash x) hashes → Exchanges old new at x y → AreIndexes hashes old tables → AreIndexes hashes new tables
+  AreIndexes-exchange : (hashes : List (T → ℕ)) (old new : List (Option T)) (tables : List (List (ℕ × ℕ))) (at : ℕ) (x y : T)
+      → AllByRecursion (λ hash. hash y ≡ hash x) hashes → Exchanges old new at x y → AreIndexes hashes old tables → AreIndexes hashes new tables
   AreIndexes-exchange [] old new [] at x y same ex all = tt
   AreIndexes-exchange [] old new (pairs ∷ tables) at x y same ex all = absurd all
   AreIndexes-exchange (hash ∷ hashes) old new [] at x y same ex all = absurd all
   AreIndexes-exchange (hash ∷ hashes) old new (pairs ∷ tables) at x y same ex all =
       (IsIndex-exchange hash old new pairs at x y same.0 ex all.0, AreIndexes-exchange hashes old new tables at x y same.1 ex all.1)
 
-  module _ {ranks : Ranks T} {hashes : List (T → ℕ)} {old : List (Option T)} {tables : List (List (ℕ × ℕ))} (laws : AreLawful ranks) (some : 0 < length ranks) (indexed : IsIndexed ranks hashes old tables) (at : ℕ) (x y : T) where
+  module _ {ranks : Ranks T} {hashes : List (T → ℕ)} {old : List (Option T)} {tables : List (List (ℕ × ℕ))} (laws : AreLawful ranks)
+      (some : 0 < length ranks) (indexed : IsIndexed ranks hashes old tables) (at : ℕ) (x y : T) where
     -- the bag is swapped
     pub exchange_swaps : (new : List (Option T)) → Exchanges old new at x y → IsPermutation (contents new) (swap ranks (contents old) x y)
     exchange_swaps new ex =

@@ -30,7 +30,8 @@ module _ {T : Type 0} (hash : T → ℕ) (slots : List (Option T)) where
   IsFilling-skip at pairs within free filling =
       subst (λ rest. IsPermutation (pairs ++ rest) (map (pair_of hash) (members slots))) (pairs_none at within free) filling
 
-  pub IsFilling-enter : (at : ℕ) (x : T) (h : ℕ) (before after : List (ℕ × ℕ)) → at < length slots → get slots at ≡ Some x → h ≡ hash x → IsPermutation ((h, at) ∷ before) after → IsFilling at before → IsFilling (at + 1) after
+  pub IsFilling-enter : (at : ℕ) (x : T) (h : ℕ) (before after : List (ℕ × ℕ)) → at < length slots → get slots at ≡ Some x → h ≡ hash x
+      → IsPermutation ((h, at) ∷ before) after → IsFilling at before → IsFilling (at + 1) after
   IsFilling-enter at x h before after within live is entered filling =
       let rest : List (ℕ × ℕ) = pairs_from (at + 1) in
       let first : IsPermutation (before ++ (hash x, at) ∷ rest) (map (pair_of hash) (members slots)) =

@@ -3,12 +3,13 @@ use Rattle.std.specs.Prelude.{◌≡◌, ℕ, zero, suc, ◌+◌, ◌≤◌, ◌
 use Rattle.std.specs.List.{IsDistinct, AllByRecursion, sum_by}
 use Rattle.std.specs.Option.{option_map_or, IfSome}
 use Rattle.std.proofs.Common.{refl, sym, ap, subst, ◌∙◌, arith, inl, inr, get_or, set, zero-add, add-zero}
-use Rattle.std.proofs.lemmas.Bool.{false≢true, cases_eq}
+use Rattle.std.proofs.lemmas.Bool.{false≢true, cases_eq, eq-eqb}
 use Rattle.std.proofs.lemmas.List.{get_or-set_other}
 use Rattle.std.proofs.lemmas.Bool.Decides.{nat_tests}
 use Rattle.std.proofs.lemmas.List.Sums.{sum_by-cons}
 use Rattle.std.proofs.lemmas.Map.Keys.{IsDistinct-head, IsDistinct-cons, IsDistinct-IsPermutation}
-use Rattle.std.proofs.lemmas.List.Sorted.{IsPermutation-refl, IsPermutation-sym, IsPermutation-cons, IsPermutation-trans, IsPermutation-map, length_permutation, Contains-permutation, sum_by-IsPermutation}
+use Rattle.std.proofs.lemmas.List.Sorted.{IsPermutation-refl, IsPermutation-sym, IsPermutation-cons, IsPermutation-trans, IsPermutation-map, length_permutation}
+use Rattle.std.proofs.lemmas.List.Sorted.{Contains-permutation, sum_by-IsPermutation}
 use Rattle.iddqd_store.specs.Slots.{get, members_from, members, contents}
 use Rattle.iddqd_store.specs.Rank.Index.{pair_of, IsIndex, HasHash, passes_at}
 use Rattle.iddqd_store.specs.Bag.{NamesOne}
@@ -26,6 +27,11 @@ Contains-cons_cases head x rest (suc k, within, found) = inr (k, omega arith, fo
 
 pub Contains-here : {X : Type 0} (x : X) (rest : List X) → Contains (x ∷ rest) x
 Contains-here x rest = (0, omega arith, refl)
+
+pub each_at : {X : Type 0} (P : X → Type 0) (xs : List X) (y : X) → AllByRecursion P xs → Contains xs y → P y
+each_at P [] y h found = absurd (omega (arith, found.1))
+each_at P (z ∷ zs) y h (zero, lt, is) = subst P is h.0
+each_at P (z ∷ zs) y h (suc k, lt, is) = each_at P zs y h.1 (k, omega arith, is)
 
 pub Contains-map : {X Y : Type 0} (f : X → Y) (xs : List X) (x : X) → Contains xs x → Contains (map f xs) (f x)
 Contains-map f [] x h = absurd (omega (arith, h.1))
@@ -55,9 +61,6 @@ same_slot_symm p q = grind (arith, nat_tests)
 
 names_slot : (at : ℕ) → NamesOne (λ p q. p.1 == q.1) (λ (p : ℕ × ℕ). at == p.1)
 names_slot at p q h k = grind (arith, nat_tests)
-
-itself : (at : ℕ) → (at == at) ≡ true
-itself at = grind (arith, nat_tests)
 
 module _ {T : Type 0} where
   pub length-members_from : (first : ℕ) (slots : List (Option T)) → length (members_from first slots) ≡ count_by is_some slots
@@ -101,7 +104,9 @@ module _ {T : Type 0} where
   none_of_map f test (x ∷ xs) h = rw h.0 (none_of_map f test xs h.1)
 
   -- if no index with the hash is accepted, no item is named
-  pub none_is : (hash : T → ℕ) (test : T → Bool) (h : ℕ) (slots : List (Option T)) (pairs : List (ℕ × ℕ)) → IsIndex hash slots pairs → ((x : T) → Contains (contents slots) x → test x ≡ true → hash x ≡ h) → ((at : ℕ) → Contains pairs (h, at) → passes_at test slots at ≡ false) → filter test (contents slots) ≡ []
+  pub none_is : (hash : T → ℕ) (test : T → Bool) (h : ℕ) (slots : List (Option T)) (pairs : List (ℕ × ℕ)) → IsIndex hash slots pairs
+      → ((x : T) → Contains (contents slots) x → test x ≡ true → hash x ≡ h) → ((at : ℕ) → Contains pairs (h, at) → passes_at test slots at ≡ false)
+      → filter test (contents slots) ≡ []
   none_is hash test h slots pairs index alike none =
       subst (λ l. filter test l ≡ []) (contents-members slots) (none_of_map (λ m. m.1) test (members slots) (each_from_Contains (λ m. test m.1 ≡ false) (members slots) (λ m listed.
       let stands = at_member slots m.0 m.1 listed in
@@ -122,7 +127,8 @@ module _ {T : Type 0} where
   IsIndex-reorder index same = record { paired = IsPermutation-trans _ _ _ (IsPermutation-sym _ _ same) index.paired }
 
   -- a pair and its slot come together
-  pub IsIndex-insert : {hash : T → ℕ} {old new : List (Option T)} {pairs more : List (ℕ × ℕ)} {at h : ℕ} (x : T) → IsIndex hash old pairs → h ≡ hash x → IsPermutation (members new) ((at, x) ∷ members old) → IsPermutation ((h, at) ∷ pairs) more → IsIndex hash new more
+  pub IsIndex-insert : {hash : T → ℕ} {old new : List (Option T)} {pairs more : List (ℕ × ℕ)} {at h : ℕ} (x : T) → IsIndex hash old pairs → h ≡ hash x
+      → IsPermutation (members new) ((at, x) ∷ members old) → IsPermutation ((h, at) ∷ pairs) more → IsIndex hash new more
   IsIndex-insert {hash = hash} {pairs = pairs} {more = more} {at = at} x index is added paired = record {
     paired =
         IsPermutation-trans _ _ _ (IsPermutation-sym _ _ (subst (λ k. IsPermutation ((k, at) ∷ pairs) more) is paired))
@@ -148,15 +154,16 @@ module _ {T : Type 0} where
   own_slots {hash = hash} {slots = slots} index = IsDistinct-IsPermutation (λ (p q : ℕ × ℕ). p.1 == q.1) same_slot_symm _ _ (IsPermutation-sym _ _ index.paired) (distinct_pairs hash 0 slots)
 
   -- a pair and its slot leave together
-  pub IsIndex-remove : {hash : T → ℕ} {old new : List (Option T)} {pairs fewer : List (ℕ × ℕ)} {at h : ℕ} (x : T) → IsIndex hash old pairs → h ≡ hash x → IsPermutation (members old) ((at, x) ∷ members new) → IsPermutation pairs ((h, at) ∷ fewer) → IsIndex hash new fewer
+  pub IsIndex-remove : {hash : T → ℕ} {old new : List (Option T)} {pairs fewer : List (ℕ × ℕ)} {at h : ℕ} (x : T) → IsIndex hash old pairs
+      → h ≡ hash x → IsPermutation (members old) ((at, x) ∷ members new) → IsPermutation pairs ((h, at) ∷ fewer) → IsIndex hash new fewer
   IsIndex-remove {hash = hash} {old = old} {new = new} {pairs = pairs} {fewer = fewer} {at = at} x index is taken leaves =
       let paired : IsPermutation pairs ((hash x, at) ∷ fewer) = subst (λ k. IsPermutation pairs ((k, at) ∷ fewer)) is leaves in
       let slot : ℕ × ℕ → ℕ × ℕ → Bool = λ p q. p.1 == q.1 in
       let left : List (ℕ × ℕ) = map (pair_of hash) (members new) in
       let other : IsPermutation pairs ((hash x, at) ∷ left) = IsPermutation-trans _ _ _ index.paired (IsPermutation-map (pair_of hash) _ _ taken) in
       let apart : IsDistinct slot pairs = own_slots index in
-      let first = without_named slot (λ p. at == p.1) (names_slot at) pairs fewer (hash x, at) (IsDistinct-IsPermutation slot same_slot_symm _ _ paired apart) (itself at) paired in
-      let second = without_named slot (λ p. at == p.1) (names_slot at) pairs left (hash x, at) (IsDistinct-IsPermutation slot same_slot_symm _ _ other apart) (itself at) other in
+      let first = without_named slot (λ p. at == p.1) (names_slot at) pairs fewer (hash x, at) (IsDistinct-IsPermutation slot same_slot_symm _ _ paired apart) (eq-eqb at at refl) paired in
+      let second = without_named slot (λ p. at == p.1) (names_slot at) pairs left (hash x, at) (IsDistinct-IsPermutation slot same_slot_symm _ _ other apart) (eq-eqb at at refl) other in
       record { paired = IsPermutation-trans _ _ _ (IsPermutation-sym _ _ first) second }
 
   -- the pair of a live slot is in its table
@@ -175,7 +182,8 @@ module _ {T : Type 0} where
       ap hash item ∙ ap (λ p. p.0) source.2
 
   -- a hash that is given is that of the item
-  pub hash_known : {hash : T → ℕ} {slots : List (Option T)} {pairs : List (ℕ × ℕ)} (at : ℕ) (x : T) (known : Option ℕ) → IsIndex hash slots pairs → IfSome known (HasHash hash slots at) → get slots at ≡ Some x → IfSome known (λ h. hash x ≡ h)
+  pub hash_known : {hash : T → ℕ} {slots : List (Option T)} {pairs : List (ℕ × ℕ)} (at : ℕ) (x : T) (known : Option ℕ) → IsIndex hash slots pairs
+      → IfSome known (HasHash hash slots at) → get slots at ≡ Some x → IfSome known (λ h. hash x ≡ h)
   hash_known at x None index has found = tt
   hash_known at x (Some h) index has found = has x found
 
@@ -185,7 +193,8 @@ module _ {T : Type 0} where
       sym (length_permutation _ _ index.paired) ∙ length-map (pair_of hash) (members slots) ∙ length-members_from 0 slots ∙ sym (length-contents slots)
 
   -- two slots whose items agree are the same slot
-  pub same_slot : (agree : T → T → Bool) (slots : List (Option T)) (a b : ℕ) (x y : T) → IsDistinct agree (contents slots) → ((x y : T) → agree x y ≡ agree y x) → get slots a ≡ Some x → get slots b ≡ Some y → agree x y ≡ true → a ≡ b
+  pub same_slot : (agree : T → T → Bool) (slots : List (Option T)) (a b : ℕ) (x y : T) → IsDistinct agree (contents slots)
+      → ((x y : T) → agree x y ≡ agree y x) → get slots a ≡ Some x → get slots b ≡ Some y → agree x y ≡ true → a ≡ b
   same_slot agree slots a b x y apart symm found other alike =
       elim (cases_eq a b) [
         | inl same ↦ same
@@ -196,18 +205,14 @@ module _ {T : Type 0} where
             let head = IsDistinct-head agree x (contents rest) (IsDistinct-IsPermutation agree symm _ _ moved apart) in
             absurd (false≢true (sym (each_at (λ z. agree x z ≡ false) (contents rest) y head (content_at rest b y kept)) ∙ alike))
       ]
-    where
-      each_at : (P : T → Type 0) (xs : List T) (y : T) → AllByRecursion P xs → Contains xs y → P y
-      each_at P [] y h found = absurd (omega (arith, found.1))
-      each_at P (z ∷ zs) y h (zero, lt, is) = subst P is h.0
-      each_at P (z ∷ zs) y h (suc k, lt, is) = each_at P zs y h.1 (k, omega arith, is)
 
 sum_by-map : {X Y : Type 0} (f : Y → ℕ) (h : X → Y) (xs : List X) → sum_by f (map h xs) ≡ sum_by (λ x. f (h x)) xs
 sum_by-map f h [] = refl
 sum_by-map f h (x ∷ xs) = omega (arith, sum_by-map f h xs, sum_by-cons f (h x) (map h xs), sum_by-cons (λ x. f (h x)) x xs)
 
 -- as many pairs have a hash as items
-pub crowd_is : {T : Type 0} (hash : T → ℕ) (h : ℕ) (slots : List (Option T)) (pairs : List (ℕ × ℕ)) → IsIndex hash slots pairs → count_by (λ p. p.0 == h) pairs ≡ count_by (λ x. hash x == h) (contents slots)
+pub crowd_is : {T : Type 0} (hash : T → ℕ) (h : ℕ) (slots : List (Option T)) (pairs : List (ℕ × ℕ)) → IsIndex hash slots pairs
+    → count_by (λ p. p.0 == h) pairs ≡ count_by (λ x. hash x == h) (contents slots)
 crowd_is hash h slots pairs index =
     let moved = sum_by-IsPermutation (λ p. cond (p.0 == h) 1 0) _ _ index.paired in
     let first = sum_by-map (λ (p : ℕ × ℕ). cond (p.0 == h) 1 0) (pair_of hash) (members slots) in

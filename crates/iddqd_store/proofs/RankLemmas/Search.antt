@@ -1,8 +1,8 @@
 -- What searches find among the members of a sound bag.
-use Rattle.std.specs.Prelude.{◌≡◌, ℕ, zero, suc, Bool, true, false, cond, List, [], ◌∷◌, filter, Contains, Option, Some, None}
-use Rattle.std.specs.List.{IsDistinct, AllByRecursion}
+use Rattle.std.specs.Prelude.{◌≡◌, ℕ, Bool, true, false, cond, List, [], ◌∷◌, filter, Contains, Option, Some, None}
+use Rattle.std.specs.List.{IsDistinct}
 use Rattle.std.specs.Option.{option_map_or, option_to_list, option_and_then, IfSome, IfNone}
-use Rattle.std.proofs.Common.{inl, inr, refl, sym, ap, subst, ◌∙◌, arith}
+use Rattle.std.proofs.Common.{inl, inr, refl, sym, ap, ◌∙◌, arith}
 use Rattle.std.proofs.lemmas.Bool.{false≢true}
 use Rattle.std.proofs.lemmas.Map.Keys.{IsDistinct-head, IsDistinct-tail}
 use Rattle.iddqd_store.specs.Slots.{contents, get}
@@ -10,15 +10,11 @@ use Rattle.iddqd_store.specs.Rank.Index.{IsIndex, passes_at}
 use Rattle.iddqd_store.specs.Slots.Found.{NamesOneOf}
 use Rattle.iddqd_store.proofs.BagLemmas.Exchanges.{split}
 use Rattle.iddqd_store.proofs.BagLemmas.Sound.{none_pass}
+pub use Rattle.iddqd_store.proofs.RankLemmas.Index.{each_at}
 use Rattle.iddqd_store.proofs.RankLemmas.Index.{Contains-cons, Contains-cons_cases, Contains-here, each_from_Contains, none_is}
 use Rattle.iddqd_store.proofs.SlotLemmas.Contents.{content_at}
 
 module _ {T : Type 0} where
-  pub each_at : (P : T → Type 0) (xs : List T) (y : T) → AllByRecursion P xs → Contains xs y → P y
-  each_at P [] y h found = absurd (omega (arith, found.1))
-  each_at P (z ∷ zs) y h (zero, lt, is) = subst P is h.0
-  each_at P (z ∷ zs) y h (suc k, lt, is) = each_at P zs y h.1 (k, omega arith, is)
-
   -- after a member that is named, no other member is named
   none_behind : (agree : T → T → Bool) (test : T → Bool) (x : T) (xs : List T) → NamesOneOf agree test (x ∷ xs) → IsDistinct agree (x ∷ xs) → test x ≡ true → filter test xs ≡ []
   none_behind agree test x xs names apart passes =
@@ -50,7 +46,8 @@ module _ {T : Type 0} where
             | inr there ↦ absurd (let e : [] ≡ x ∷ [] = sym none ∙ later there in cc)
           ]
 
-  found_among : (agree : T → T → Bool) (test : T → Bool) (slots : List (Option T)) (at : ℕ) → NamesOneOf agree test (contents slots) → IsDistinct agree (contents slots) → passes_at test slots at ≡ true → option_to_list (get slots at) ≡ filter test (contents slots)
+  found_among : (agree : T → T → Bool) (test : T → Bool) (slots : List (Option T)) (at : ℕ) → NamesOneOf agree test (contents slots)
+      → IsDistinct agree (contents slots) → passes_at test slots at ≡ true → option_to_list (get slots at) ≡ filter test (contents slots)
   found_among agree test slots at names apart accepted = by_slot (get slots at) refl accepted
     where
       by_slot : (o : Option T) → get slots at ≡ o → option_map_or test o false ≡ true → option_to_list o ≡ filter test (contents slots)
@@ -58,6 +55,10 @@ module _ {T : Type 0} where
       by_slot (Some x) is h = sym (named_among agree test (contents slots) x names apart h (content_at slots at x is))
 
   -- a search among the members gives the slot of the one that is named, if there is one
-  pub search_among : (agree : T → T → Bool) (test : T → Bool) (hash : T → ℕ) (h : ℕ) (slots : List (Option T)) (pairs : List (ℕ × ℕ)) (r : Option ℕ) → NamesOneOf agree test (contents slots) → IsDistinct agree (contents slots) → IsIndex hash slots pairs → ((x : T) → Contains (contents slots) x → test x ≡ true → hash x ≡ h) → IfSome r (λ at. passes_at test slots at ≡ true) → IfNone r ((at : ℕ) → Contains pairs (h, at) → passes_at test slots at ≡ false) → option_to_list (option_and_then (get slots) r) ≡ filter test (contents slots)
+  pub search_among : (agree : T → T → Bool) (test : T → Bool) (hash : T → ℕ) (h : ℕ) (slots : List (Option T)) (pairs : List (ℕ × ℕ)) (r : Option ℕ)
+      → NamesOneOf agree test (contents slots) → IsDistinct agree (contents slots) → IsIndex hash slots pairs
+      → ((x : T) → Contains (contents slots) x → test x ≡ true → hash x ≡ h) → IfSome r (λ at. passes_at test slots at ≡ true)
+      → IfNone r ((at : ℕ) → Contains pairs (h, at) → passes_at test slots at ≡ false)
+      → option_to_list (option_and_then (get slots) r) ≡ filter test (contents slots)
   search_among agree test hash h slots pairs None names apart index alike some none = sym (none_is hash test h slots pairs index alike none)
   search_among agree test hash h slots pairs (Some at) names apart index alike some none = found_among agree test slots at names apart some

@@ -3,30 +3,11 @@ use Rattle.std.specs.Prelude.{◌≡◌, ℕ, Bool, true, All, List, [], ◌∷�
 use Rattle.std.specs.List.{filter}
 use Rattle.std.proofs.Common.{sym, subst, ◌∙◌}
 use Rattle.std.proofs.lemmas.List.Elements.{All-head, filter_passes}
-use Rattle.iddqd_store.specs.Rank.{IsUnder, SlotUnder}
 use Rattle.iddqd_store.specs.Rank.Index.{HasHash}
 use Rattle.iddqd_store.specs.Slots.{get, contents, Updates}
 use Rattle.iddqd_store.specs.Slots.Found.{FoundAt}
 
 module _ {T : Type 0} (hash : T → ℕ) (slots : List (Option T)) where
-  -- what it knows of a slot is the hash of the item there
-  pub known_there : (s : SlotUnder) (slot : ℕ) (known : Option ℕ) → IsUnder hash slots s → IfSome known (λ h. (s.slot ≡ Some slot) × (h ≡ s.hash)) → IfSome known (HasHash hash slots slot)
-  known_there s slot None under at = tt
-  known_there s slot (Some h) under at = λ x stands.
-      subst (λ (o : Option ℕ). IfSome o (λ i. HasHash hash slots i s.hash)) at.0 under x stands ∙ sym at.1
-
-  pub known_of : (slot : ℕ) (x : T) (known : Option ℕ) → get slots slot ≡ Some x → IfSome known (HasHash hash slots slot) → IfSome known (λ h. hash x ≡ h)
-  known_of slot x None stands has = tt
-  known_of slot x (Some h) stands has = has x stands
-
-  -- this stays known if items only leave
-  under_fewer : (less : List (Option T)) (o : Option ℕ) (h : ℕ) → ((at : ℕ) (x : T) → get less at ≡ Some x → get slots at ≡ Some x) → IfSome o (λ at. HasHash hash slots at h) → IfSome o (λ at. HasHash hash less at h)
-  under_fewer less None h fewer under = tt
-  under_fewer less (Some at) h fewer under = λ x stands. under x (fewer at x stands)
-
-  pub IsUnder-fewer : (less : List (Option T)) (s : SlotUnder) → ((at : ℕ) (x : T) → get less at ≡ Some x → get slots at ≡ Some x) → IsUnder hash slots s → IsUnder hash less s
-  IsUnder-fewer less s fewer under = under_fewer less s.slot s.hash fewer under
-
   -- the slot that a search by a test found is known if all items that pass the test have one hash
   pub found_under : (test : T → Bool) (at : Option ℕ) (h : ℕ) → FoundAt test slots at → ((x : T) → test x ≡ true → hash x ≡ h) → IfSome at (λ i. HasHash hash slots i h)
   found_under test None h found same = tt

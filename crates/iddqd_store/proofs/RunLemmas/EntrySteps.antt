@@ -18,7 +18,8 @@ free ranks tests keys bag x same none = clash-keys ranks tests x keys (differ-no
 -- x has the keys of the entry
 module _ {T : Type 0} (D : Type 0) (ranks : Ranks T) (tests : List (T → Bool)) (keys : AreKeyTests ranks tests) (old new : State T) (x : T) (same : differ tests x ≡ None) where
   -- x was inserted through a vacant entry
-  module _ (vacant : listing tests old.items ≡ []) (put : IsPermutation new.items (x ∷ old.items)) (no_less : old.capacity ≤ new.capacity) (same_room : length old.items < old.capacity → new.capacity ≡ old.capacity) where
+  module _ (vacant : listing tests old.items ≡ []) (put : IsPermutation new.items (x ∷ old.items)) (no_less : old.capacity ≤ new.capacity)
+      (same_room : length old.items < old.capacity → new.capacity ≡ old.capacity) where
     pub or_inserts_vacant : OrInserts {D = D} ranks tests old x done new
     or_inserts_vacant = (vacant, same, (free ranks tests keys old.items x same vacant, put, no_less, same_room))
 
@@ -30,7 +31,8 @@ module _ {T : Type 0} (D : Type 0) (ranks : Ranks T) (tests : List (T → Bool))
         (same, (none ∙ sym apart, went_in, no_less, same_room, λ some. absurd (some clear)))
 
   -- x was inserted through an occupied entry
-  pub entry_inserts_occupied : (gone : List T) → gone ≡ listing tests old.items → IsPermutation new.items (over ranks old.items x) → new.capacity ≡ old.capacity → EntryInserts {D = D} ranks tests old x (displaced gone) new
+  pub entry_inserts_occupied : (gone : List T) → gone ≡ listing tests old.items → IsPermutation new.items (over ranks old.items x)
+      → new.capacity ≡ old.capacity → EntryInserts {D = D} ranks tests old x (displaced gone) new
   entry_inserts_occupied gone is put capacity =
       let listed = order-keys ranks tests x keys (differ-none tests x same) old.items in
       (same, (is ∙ sym listed, put, omega (arith, capacity), (λ room. capacity), λ some. capacity))

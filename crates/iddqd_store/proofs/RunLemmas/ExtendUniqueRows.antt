@@ -66,8 +66,7 @@ alike_come_back =
     ((5, 50, 0) ∷ [], refl, IsPermutation-refl m2, sound_with_third, (λ none. omega (arith, ap length none)), (omega arith, λ room. refl))
 
 first_conflicts : ExtendsUnique {D = ℕ} pairs (state m2 2) ((1, 60, 0) ∷ (5, 50, 0) ∷ []) (extend_refused Duplicate [] (1, 60, 0)) (state m2 2)
-first_conflicts =
-    ((5, 50, 0) ∷ [], refl, IsPermutation-refl m2, sound_m2, (λ none. omega (arith, ap length none)), (omega arith, λ room. refl))
+first_conflicts = ((5, 50, 0) ∷ [], refl, IsPermutation-refl m2, sound_m2, (λ none. omega (arith, ap length none)), (omega arith, λ room. refl))
 
 comes_back_for_memory : ExtendsUnique {D = ℕ} pairs (state m2 2) apart (extend_refused Memory [] (10, 1, 0)) (state m2 7)
 comes_back_for_memory = ((20, 2, 0) ∷ [], refl, IsPermutation-refl m2, sound_m2, refl, (omega arith, λ room. omega (arith, room)))

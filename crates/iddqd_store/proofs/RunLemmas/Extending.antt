@@ -1,12 +1,12 @@
 -- What an iterator over a `Vec` by value gives, and how a bag is extended by a list.
-use Rattle.std.proofs.Common.{◌≡◌, ◌≤◌, ◌<◌, sym, ap, subst, ◌∙◌, ⊎_elim, arith, List, [], ◌∷◌, ◌++◌, length, Option, Some, length-append}
+use Rattle.std.proofs.Common.{◌≡◌, ◌≤◌, ◌<◌, sym, ap, subst, ◌∙◌, arith, List, [], ◌∷◌, ◌++◌, length, Option, Some, length-append}
 use Rattle.std.specs.Prelude.{IsPermutation}
 use Rattle.std.specs.Iterator.{Yields, YieldsThen}
-use Rattle.std.proofs.lemmas.Bool.{cases_lt}
 use Rattle.std.proofs.lemmas.List.{take_all, take-append-le}
 use Rattle.std.proofs.lemmas.List.Sorted.{length_permutation}
 use Rattle.iddqd_store.specs.Bag.{Ranks, over, overs}
 use Rattle.iddqd_store.specs.Runs.Step.{State, FitsOnTheWay, ExtendsTo}
+use Rattle.iddqd_store.proofs.Plain.{by_order}
 use Rattle.iddqd_store.proofs.BagLemmas.Steps.{overs-step}
 
 module _ {S T : Type 0} (steps : S → Option T → S → Type 0) (left : S → List T) (first : (s t : S) (x : T) → steps s (Some x) t → left s ≡ x ∷ left t) where
@@ -31,8 +31,7 @@ module _ {T : Type 0} (ranks : Ranks T) where
       way : FitsOnTheWay ranks old.items (xs ++ x ∷ []) new.capacity
       way n =
           let at : List T → Type 0 = λ l. length (overs ranks old.items l) ≤ new.capacity in
-          ⊎_elim
+          by_order (length xs) n
           (λ (past : length xs < n).
           subst at (sym (take_all n (xs ++ x ∷ []) (omega (arith, length-append xs (x ∷ []))))) (omega (arith, length_permutation _ _ items)))
           (λ (within : n ≤ length xs). subst at (sym (take-append-le n xs (x ∷ []) within)) (omega (arith, so_far.1 n)))
-          (cases_lt (length xs) n)

@@ -5,7 +5,8 @@ use Rattle.std.proofs.lemmas.List.Sorted.{IsPermutation-refl, length_permutation
 use Rattle.iddqd_store.proofs.BagLemmas.Exchanges.{IsPermutation-flip}
 use Rattle.iddqd_store.proofs.BagLemmas.Rows.{Item, pairs, m2}
 use Rattle.iddqd_store.specs.Runs.Reply.{done, duplicate, displaced, found, present, taken, memory, refused, size, items, kept, key, absent, absent_data}
-use Rattle.iddqd_store.specs.Runs.Step.{State, Fits, FitsOnTheWay, empty_state, InsertsUnique, InsertsOverwrite, Gets, Tells, Removes, Reserves, ShrinksTo, Clears, Sizes, Lists, Extends, EntryInserts, EntryRemoves, OrInserts, Replaces, Sets}
+use Rattle.iddqd_store.specs.Runs.Step.{State, Fits, FitsOnTheWay, empty_state, InsertsUnique, InsertsOverwrite, Gets, Tells, Removes, Reserves, ShrinksTo, Clears, Sizes, Lists}
+use Rattle.iddqd_store.specs.Runs.Step.{Extends, EntryInserts, EntryRemoves, OrInserts, Replaces, Sets}
 
 -- these items, in a map in which this many fit
 abbrev pub state : List Item → ℕ → State Item

@@ -6,7 +6,8 @@ use Rattle.std.proofs.lemmas.Map.Keys.{IsDistinct-tail}
 use Rattle.iddqd_store.specs.Bag.{Ranks, AreLawful, IsSound, agrees, conflicts, over, overs, swap}
 use Rattle.iddqd_store.specs.Runs.Reply.{Reply, done, duplicate, displaced, found, present, taken, memory, refused, size, items, kept, key, absent, absent_data, extend_refused}
 use Rattle.iddqd_store.specs.Runs.Run.{Run}
-use Rattle.iddqd_store.specs.Runs.Step.{State, Fits, InsertsUnique, InsertsOverwrite, Gets, Tells, Removes, Reserves, ShrinksTo, Clears, Sizes, Lists, Extends, ExtendsUnique, EntryInserts, EntryRemoves, OrInserts, Replaces, Sets}
+use Rattle.iddqd_store.specs.Runs.Step.{State, Fits, InsertsUnique, InsertsOverwrite, Gets, Tells, Removes, Reserves, ShrinksTo, Clears, Sizes, Lists, Extends, ExtendsUnique}
+use Rattle.iddqd_store.specs.Runs.Step.{EntryInserts, EntryRemoves, OrInserts, Replaces, Sets}
 use Rattle.iddqd_store.proofs.BagLemmas.Differ.{agrees-differ}
 use Rattle.iddqd_store.proofs.BagLemmas.Sound.{IsSound-over, IsSound-IsPermutation}
 use Rattle.iddqd_store.proofs.BagLemmas.Steps.{IsSound-nil, IsSound-cons, IsSound-overs, order-empty}
@@ -112,7 +113,8 @@ module _ {T D : Type 0} (ranks : Ranks T) (laws : AreLawful ranks) (old new : St
   IsSound-Replaces test x reply step = absurd step
 
   -- if an item with other data has its keys
-  pub IsSound-Sets : (put : T → D → T) → ((z : T) (d : D) → agrees ranks z (put z d) ≡ true) → (test : T → Bool) (d : D) (reply : Reply T D) → Sets ranks put test old d reply new → IsSound ranks new.items
+  pub IsSound-Sets : (put : T → D → T) → ((z : T) (d : D) → agrees ranks z (put z d) ≡ true) → (test : T → Bool) (d : D) (reply : Reply T D)
+      → Sets ranks put test old d reply new → IsSound ranks new.items
   IsSound-Sets put keeps test d done step =
       moved ranks laws old new sound (swap ranks old.items step.0 (put step.0 d)) step.2
       (IsSound-swap ranks laws old.items step.0 (put step.0 d) (keeps step.0 d) sound)
@@ -133,7 +135,3 @@ module _ {C T D S F : Type 0} (Step : State T → C → Reply T D → State T �
   run_keeps (command ∷ commands) old new sink after answer here run =
       let next = kept old run.0 command run.3.0 here run.3.1 run.3.2 in
       on run.0 new run.1 after commands run.2 answer next (run_keeps commands run.0 new run.1 after answer next) run.4
-
--- the items fit after a run if they fit before it
-pub run_fits : {C T D S F : Type 0} (Step : State T → C → Reply T D → State T → Type 0) (took : S → Reply T D → Result (Unit {0}) F → S → Type 0) (commands : List C) (old new : State T) (sink after : S) (answer : Result (Unit {0}) F) → Fits old → Run Step took old sink commands answer new after → Fits new
-run_fits Step took commands old new sink after answer here run = run_keeps Step took Fits (λ old new command reply before step fits. fits) commands old new sink after answer here run

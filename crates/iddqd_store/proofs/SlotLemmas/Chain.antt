@@ -1,5 +1,6 @@
 -- How each change of the entries keeps the count and the list of vacant entries.
-use Rattle.std.proofs.Common.{◌≡◌, ◌≢◌, ◌⊎◌, ℕ, zero, suc, ◌+◌, ◌-◌, ◌<◌, List, [], ◌∷◌, ◌++◌, map, length, get_or, set, Some, None, is_some, IsSome, count_by, slice_get, refl, sym, ap, subst, ◌∙◌, inl, inr, arith, length-set, true≢false, Option, zero-add, add-zero, cond}
+use Rattle.std.proofs.Common.{◌≡◌, ◌≢◌, ◌⊎◌, ℕ, zero, suc, ◌+◌, ◌-◌, ◌<◌, List, [], ◌∷◌, ◌++◌, map, length, get_or, set, Some, None, is_some, IsSome, count_by, slice_get, refl}
+use Rattle.std.proofs.Common.{sym, ap, subst, ◌∙◌, inl, inr, arith, length-set, true≢false, Option, zero-add, add-zero, cond}
 use Rattle.std.specs.Prelude.{IsPermutation}
 use Rattle.std.proofs.lemmas.List.Sorted.{IsPermutation-refl, IsPermutation-cons, IsPermutation-trans, IsPermutation-middle, IsPermutation-to_front}
 use Rattle.std.proofs.lemmas.List.{set-set, map-set, map_push, length-map, length_push, get_or-map, get_or-set_same, get_or-set_other, get_or_past}
@@ -38,7 +39,8 @@ module _ {T : Type 0} where
   occupied_is_off_list es key value found m p = let listed = p.1 in cc
 
   -- the count of values after a write
-  pub count-set : (es : List (Slot T)) (key : ℕ) (old new : Slot T) → slice_get es key ≡ Some old → count_by is_some (map item_of (set es key new)) + cond (is_some (item_of old)) 1 0 ≡ count_by is_some (map item_of es) + cond (is_some (item_of new)) 1 0
+  pub count-set : (es : List (Slot T)) (key : ℕ) (old new : Slot T) → slice_get es key ≡ Some old → count_by is_some (map item_of
+      (set es key new)) + cond (is_some (item_of old)) 1 0 ≡ count_by is_some (map item_of es) + cond (is_some (item_of new)) 1 0
   count-set es key old new found =
       let within = slice_get_within es key old found in
       let read : get_or (map item_of es) key None ≡ item_of old =
@@ -83,18 +85,17 @@ module _ {T : Type 0} where
 
   -- before the end of the entries the next key is a vacant entry
   pub vacant_before_end : (es : List (Slot T)) (len next : ℕ) → IsChained es len next → next ≢ length es → (after : ℕ) × (slice_get es next ≡ Some (Free after))
-  vacant_before_end es len next sound before =
-      elim (next_cases es len next sound) [ inl full ↦ absurd (before full.0) | inr found ↦ found ]
+  vacant_before_end es len next sound before = elim (next_cases es len next sound) [ inl full ↦ absurd (before full.0) | inr found ↦ found ]
 
   pub next_within : (es : List (Slot T)) (len next : ℕ) → IsChained es len next → next ≢ length es → next < length es
   next_within es len next sound before = slice_get_within es next _ (vacant_before_end es len next sound before).1
 
   -- a read at the next key gives the entry there
-  pub read_at_next : (es : List (Slot T)) (len next : ℕ) (e : Slot T) → IsChained es len next → next ≢ length es → e ≡ get_or es next e → slice_get es next ≡ Some e
-  read_at_next es len next e sound before read = slice_get_read es (length es) next e refl (next_within es len next sound before) read
+  pub read_at_next : {es : List (Slot T)} {len next : ℕ} {e : Slot T} → IsChained es len next → next ≢ length es → e ≡ get_or es next e → slice_get es next ≡ Some e
+  read_at_next {es = es} {len = len} {next = next} {e = e} sound before read = slice_get_read es (length es) next e refl (next_within es len next sound before) read
 
-  pub next_is_not_occupied : (es : List (Slot T)) (len next : ℕ) (value : T) → IsChained es len next → slice_get es next ≡ Some (Live value) → ⊥
-  next_is_not_occupied es len next value sound found =
+  pub next_is_not_occupied : {es : List (Slot T)} {len next : ℕ} {value : T} → IsChained es len next → slice_get es next ≡ Some (Live value) → ⊥
+  next_is_not_occupied {es = es} {len = len} {next = next} {value = value} sound found =
       let vacant = (vacant_before_end es len next sound (λ e. omega (arith, slice_get_within es next _ found))).1 in
       cc
 
@@ -110,8 +111,8 @@ module _ {T : Type 0} where
       }
 
   -- the first vacant entry leaves the list: the rest of the list is shorter, so it does not come back to that key
-  pub IsChained-fill : (es : List (Slot T)) (len next after : ℕ) (value : T) → IsChained es len next → slice_get es next ≡ Some (Free after) → IsChained (set es next (Live value)) (len + 1) after
-  IsChained-fill es len next after value sound found = by_count sound.free sound.total sound.linked
+  pub IsChained-fill : {es : List (Slot T)} {len next after : ℕ} (value : T) → IsChained es len next → slice_get es next ≡ Some (Free after) → IsChained (set es next (Live value)) (len + 1) after
+  IsChained-fill {es = es} {len = len} {next = next} {after = after} value sound found = by_count sound.free sound.total sound.linked
     where
       by_count : (n : ℕ) → len + n ≡ length es → IsChain es n next → IsChained (set es next (Live value)) (len + 1) after
       by_count zero total linked = absurd (omega (arith, slice_get_within es next _ found))
@@ -162,9 +163,12 @@ module _ {T : Type 0} where
       ap (λ l. (at, y) ∷ l) (members_from-push (at + 1) rest x ∙ ap (λ n. members_from (at + 1) rest ++ (n, x) ∷ []) e)
 
   -- an item put into a free slot
-  members_from-put : (first : ℕ) (slots : List (Option T)) (at : ℕ) (x : T) → at < length slots → get_or slots at None ≡ None → IsPermutation (members_from first (set slots at (Some x))) ((first + at, x) ∷ members_from first slots)
+  members_from-put : (first : ℕ) (slots : List (Option T)) (at : ℕ) (x : T) → at < length slots → get_or slots at None ≡ None
+      → IsPermutation (members_from first (set slots at (Some x))) ((first + at, x) ∷ members_from first slots)
   members_from-put first [] at x h e = absurd (omega arith)
-  members_from-put first (None ∷ rest) zero x h e = subst (λ n. IsPermutation ((first, x) ∷ members_from (first + 1) rest) ((n, x) ∷ members_from (first + 1) rest)) (sym (add-zero first)) (IsPermutation-refl _)
+  members_from-put first (None ∷ rest) zero x h e =
+      subst (λ n. IsPermutation ((first, x) ∷ members_from (first + 1) rest) ((n, x) ∷ members_from (first + 1) rest))
+      (sym (add-zero first)) (IsPermutation-refl _)
   members_from-put first (Some y ∷ rest) zero x h e = absurd (cc)
   members_from-put first (None ∷ rest) (suc at) x h e =
       let shift : first + 1 + at ≡ first + suc at = omega arith in
@@ -172,11 +176,13 @@ module _ {T : Type 0} where
   members_from-put first (Some y ∷ rest) (suc at) x h e =
       let shift : first + 1 + at ≡ first + suc at = omega arith in
       let rest_of : List (ℕ × T) = members_from (first + 1) rest in
-      let later = subst (λ n. IsPermutation (members_from (first + 1) (set rest at (Some x))) ((n, x) ∷ members_from (first + 1) rest)) shift (members_from-put (first + 1) rest at x (omega arith) e) in
+      let later = subst (λ n. IsPermutation (members_from (first + 1) (set rest at (Some x))) ((n, x) ∷ members_from (first + 1) rest)) shift
+      (members_from-put (first + 1) rest at x (omega arith) e) in
       IsPermutation-trans _ _ _ (IsPermutation-cons (first, y) _ _ later) (IsPermutation-middle ((first, y) ∷ []) (first + suc at, x) rest_of)
 
   -- an item removed from its slot
-  members_from-take : (first : ℕ) (slots : List (Option T)) (at : ℕ) (x : T) → get_or slots at None ≡ Some x → IsPermutation (members_from first slots) ((first + at, x) ∷ members_from first (set slots at None))
+  members_from-take : (first : ℕ) (slots : List (Option T)) (at : ℕ) (x : T) → get_or slots at None ≡ Some x
+      → IsPermutation (members_from first slots) ((first + at, x) ∷ members_from first (set slots at None))
   members_from-take first [] at x e = absurd (cc)
   members_from-take first (None ∷ rest) zero x e = absurd (cc)
   members_from-take first (Some y ∷ rest) zero x e =
@@ -192,10 +198,10 @@ module _ {T : Type 0} where
       IsPermutation-trans _ _ _ (IsPermutation-cons (first, y) _ _ later) (IsPermutation-middle ((first, y) ∷ []) (first + suc at, x) rest_of)
 
   pub members-push : (slots : List (Option T)) (x : T) → IsPermutation (members_from 0 (slots ++ Some x ∷ [])) ((length slots, x) ∷ members_from 0 slots)
-  members-push slots x =
-      rw (members_from-push 0 slots x, zero-add) (IsPermutation-to_front (members_from 0 slots) (length slots, x))
+  members-push slots x = rw (members_from-push 0 slots x, zero-add) (IsPermutation-to_front (members_from 0 slots) (length slots, x))
 
-  pub members-put : (slots : List (Option T)) (at : ℕ) (x : T) → at < length slots → get_or slots at None ≡ None → IsPermutation (members_from 0 (set slots at (Some x))) ((at, x) ∷ members_from 0 slots)
+  pub members-put : (slots : List (Option T)) (at : ℕ) (x : T) → at < length slots → get_or slots at None ≡ None
+      → IsPermutation (members_from 0 (set slots at (Some x))) ((at, x) ∷ members_from 0 slots)
   members-put slots at x h e = rw zero-add at (members_from-put 0 slots at x h e)
 
   pub members-take : (slots : List (Option T)) (at : ℕ) (x : T) → get_or slots at None ≡ Some x → IsPermutation (members_from 0 slots) ((at, x) ∷ members_from 0 (set slots at None))
@@ -203,8 +209,8 @@ module _ {T : Type 0} where
 
 module _ {T : Type 0} where
   -- a write of one slot changes only what that number finds
-  pub Updates-set : (old new : List (Option T)) (key : ℕ) (slot : Option T) → key < length old → new ≡ set old key slot → Updates old new key slot
-  Updates-set old new key slot within written =
+  pub Updates-set : {old new : List (Option T)} {key : ℕ} {slot : Option T} → key < length old → new ≡ set old key slot → Updates old new key slot
+  Updates-set {old = old} {new = new} {key = key} {slot = slot} within written =
       record {
         changed = rw written (get_or-set_same old key slot None within);
         others = λ other differs. rw written (get_or-set_other old key other slot None differs);
@@ -256,5 +262,5 @@ module _ {T : Type 0} where
         linked = refl;
       }
 
-  pub IsChained-compact : (slots kept : List (Slot T)) (live head end : ℕ) → IsChained slots live head → kept ≡ live_slots slots → end ≡ length kept → IsChained kept live end
-  IsChained-compact slots kept live head end sound is at_end = rw (at_end, is) (IsChained-live_slots slots live head sound)
+  pub IsChained-compact : {slots kept : List (Slot T)} {live head end : ℕ} → IsChained slots live head → kept ≡ live_slots slots → end ≡ length kept → IsChained kept live end
+  IsChained-compact {slots = slots} {live = live} {head = head} sound is at_end = rw (at_end, is) (IsChained-live_slots slots live head sound)

@@ -36,8 +36,7 @@ module _ {T : Type 0} (is_clone : T → T → Type 0) where
 
   chain_in_clones : (slots copies : List (Slot T)) (n at : ℕ) → AllZip (IsCloneOf is_clone) slots copies → IsChain slots n at → IsChain copies n at
   chain_in_clones slots copies zero at all p = p ∙ length_all_zip _ slots copies all
-  chain_in_clones slots copies (suc n) at all p =
-      (p.0, free_in_clones slots copies at p.0 all p.1, chain_in_clones slots copies n p.0 all p.2)
+  chain_in_clones slots copies (suc n) at all p = (p.0, free_in_clones slots copies at p.0 all p.1, chain_in_clones slots copies n p.0 all p.2)
 
   pub IsChained-clone : (slots copies : List (Slot T)) (live head : ℕ) → AllZip (IsCloneOf is_clone) slots copies → IsChained slots live head → IsChained copies live head
   IsChained-clone slots copies live head all sound =

@@ -5,7 +5,7 @@ use Rattle.std.specs.List.{AllByRecursion, IsDistinct, list_all, list_any}
 use Rattle.std.specs.Borrow.{MutBor}
 use Rattle.std.specs.Option.{option_copied_mut, option_map, option_to_list, option_and_then, IfSome}
 use Rattle.std.proofs.Common.{IsSome, inl, inr, refl, sym, ap, subst, ◌∙◌, arith, append-nil, append_assoc}
-use Rattle.std.proofs.lemmas.Bool.{false≢true}
+use Rattle.std.proofs.lemmas.Bool.{false≢true, eq-eqb}
 use Rattle.std.proofs.lemmas.Bool.Decides.{nat_tests}
 use Rattle.iddqd_store.specs.Bag.{listing, all_of, every_of, entry, entry_of}
 use Rattle.iddqd_store.specs.Slots.{IsLive, contents, get}
@@ -17,9 +17,6 @@ use Rattle.iddqd_store.proofs.BagLemmas.Sound.{each_passes, Contains-filter, IsD
 use Rattle.iddqd_store.proofs.RankLemmas.Index.{Contains-cons_cases, same_slot}
 use Rattle.iddqd_store.proofs.SlotLemmas.Contents.{content_at}
 use Rattle.iddqd_store.proofs.SlotLemmas.Found.{listing_found}
-
-itself : (a : ℕ) → nat_eq a a ≡ true
-itself a = grind (arith, nat_tests)
 
 -- a search found the one member that passes
 pub found_only : {T : Type 0} (found : Option T) (x : T) (xs : List T) → option_to_list found ≡ xs → x ∷ [] ≡ xs → found ≡ Some x
@@ -44,7 +41,9 @@ module _ {T : Type 0} {agree : T → T → Bool} (laws : IsEquivalence agree) (s
   pub found_listing : (tests : List (T → Bool)) (found : List (Option ℕ)) → AreFound tests slots found → held_at slots found ≡ listing tests (contents slots)
   found_listing tests found are = on [] [] tests found refl are
     where
-      on : (done : List (T → Bool)) (numbers : List ℕ) (tests : List (T → Bool)) (found : List (Option ℕ)) → items_at slots numbers ≡ listing done (contents slots) → AreFound tests slots found → items_at slots (fold with_found numbers found) ≡ listing (done ++ tests) (contents slots)
+      on : (done : List (T → Bool)) (numbers : List ℕ) (tests : List (T → Bool)) (found : List (Option ℕ))
+          → items_at slots numbers ≡ listing done (contents slots) → AreFound tests slots found
+          → items_at slots (fold with_found numbers found) ≡ listing (done ++ tests) (contents slots)
       on done numbers [] [] so_far are = so_far ∙ ap (λ l. listing l (contents slots)) (sym (append-nil done))
       on done numbers [] (at ∷ found) so_far are = absurd are
       on done numbers (test ∷ tests) [] so_far are = absurd are
@@ -76,7 +75,7 @@ module _ {T : Type 0} {agree : T → T → Bool} (laws : IsEquivalence agree) (s
           elim (Contains-cons_cases y x [] found_x) [
             | inl same ↦
                 let one : slot ≡ j = same_slot agree slots slot j x y apart laws.symm here there (ap (agree x) same ∙ laws.refl x) in
-                absurd (false≢true (sym differs ∙ ap (nat_eq slot) (sym one) ∙ itself slot))
+                absurd (false≢true (sym differs ∙ ap (nat_eq slot) (sym one) ∙ eq-eqb slot slot refl))
             | inr further ↦ absurd (omega (arith, further.1))
           ])
           (λ _. refl))
@@ -89,13 +88,14 @@ module _ {T : Type 0} {agree : T → T → Bool} (laws : IsEquivalence agree) (s
       rw (passes_found test at slot x here are.0, every_found tests found slot x here are.1) refl
 
   -- the slot found by all has the member that passes every test
-  found_whole : (test : T → Bool) (tests : List (T → Bool)) (found : List (Option ℕ)) → AreFound (test ∷ tests) slots found → option_to_list (option_and_then (get slots) (found_by_all found)) ≡ all_of (test ∷ tests) (contents slots)
+  found_whole : (test : T → Bool) (tests : List (T → Bool)) (found : List (Option ℕ)) → AreFound (test ∷ tests) slots found
+      → option_to_list (option_and_then (get slots) (found_by_all found)) ≡ all_of (test ∷ tests) (contents slots)
   found_whole test tests [] are = absurd are
-  found_whole test tests (None ∷ found) are =
-      sym (all_of-next test tests (contents slots) ∙ ap (all_of tests) (sym are.0.only))
+  found_whole test tests (None ∷ found) are = sym (all_of-next test tests (contents slots) ∙ ap (all_of tests) (sym are.0.only))
   found_whole test tests (Some slot ∷ found) are = by_slot (get slots slot) refl are.0.only are.0.live
     where
-      by_slot : (o : Option T) → get slots slot ≡ o → option_to_list o ≡ filter test (contents slots) → IsSome o → option_to_list (option_and_then (get slots) (found_by_all (Some slot ∷ found))) ≡ all_of (test ∷ tests) (contents slots)
+      by_slot : (o : Option T) → get slots slot ≡ o → option_to_list o ≡ filter test (contents slots) → IsSome o
+          → option_to_list (option_and_then (get slots) (found_by_all (Some slot ∷ found))) ≡ all_of (test ∷ tests) (contents slots)
       by_slot None there only some = absurd (cc)
       by_slot (Some x) there only some =
           let whole : all_of (test ∷ tests) (contents slots) ≡ cond (list_all (is_at slot) found) (x ∷ []) [] =

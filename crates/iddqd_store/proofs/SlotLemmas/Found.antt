@@ -3,15 +3,12 @@ use Rattle.std.specs.Prelude.{◌≡◌, ℕ, Bool, true, false, cond, not, ◌|
 use Rattle.std.specs.List.{IsDistinct}
 use Rattle.std.specs.Option.{option_to_list, option_and_then, IfSome}
 use Rattle.std.proofs.Common.{IsSome, inl, inr, refl, sym, ap, subst, ◌∙◌, arith, append-nil, append_assoc}
-use Rattle.std.proofs.lemmas.Bool.{false≢true}
-use Rattle.std.proofs.lemmas.Bool.Decides.{nat_tests}
-use Rattle.std.proofs.lemmas.List.Sorted.{Contains-permutation, IsPermutation-sym}
-use Rattle.iddqd_store.specs.Bag.{some_of, listing, without}
+use Rattle.std.proofs.lemmas.Bool.{false≢true, or_right, eqb-true, eq-eqb}
+use Rattle.std.proofs.lemmas.List.Sorted.{Contains-permutation, IsPermutation-sym, length_permutation}
+use Rattle.iddqd_store.specs.Bag.{some_of, listing, without, Ranks, order, clash}
 use Rattle.iddqd_store.specs.Slots.{get, IsLive, contents}
 use Rattle.iddqd_store.specs.Slots.Found.{items_at, contains, with_found}
-use Rattle.iddqd_store.specs.Bag.{Ranks, order, clash}
-use Rattle.std.proofs.lemmas.List.Elements.{All-head}
-use Rattle.std.proofs.lemmas.List.Sorted.{length_permutation}
+use Rattle.std.proofs.lemmas.List.Elements.{All-head, filter_agree}
 use Rattle.iddqd_store.proofs.BagLemmas.Exchanges.{split}
 use Rattle.iddqd_store.proofs.BagLemmas.Sound.{each_passes, Contains-filter, filter_twice, filter_swap, IsPermutation-listing, IsPermutation-order, same_from_short}
 use Rattle.iddqd_store.proofs.RankLemmas.Index.{Contains-cons, Contains-cons_cases, Contains-here, same_slot}
@@ -22,21 +19,7 @@ not_either : (a b : Bool) → (not a && not b) ≡ not (a || b)
 not_either true b = refl
 not_either false b = refl
 
-same_number : (a b : ℕ) → nat_eq a b ≡ true → a ≡ b
-same_number a b h = grind (arith, nat_tests)
-
-itself : (a : ℕ) → nat_eq a a ≡ true
-itself a = grind (arith, nat_tests)
-
-or_right : (a b : Bool) → b ≡ true → (a || b) ≡ true
-or_right true b h = refl
-or_right false b h = h
-
 module _ {T : Type 0} where
-  filter_alike : (p q : T → Bool) → ((x : T) → p x ≡ q x) → (xs : List T) → filter p xs ≡ filter q xs
-  filter_alike p q same [] = refl
-  filter_alike p q same (x ∷ xs) = rw (same x, filter_alike p q same xs) refl
-
   filter_everything : (xs : List T) → filter (λ x. true) xs ≡ xs
   filter_everything [] = refl
   filter_everything (x ∷ xs) = ap (λ l. x ∷ l) (filter_everything xs)
@@ -44,7 +27,7 @@ module _ {T : Type 0} where
   without_more : (test : T → Bool) (tests : List (T → Bool)) (xs : List T) → without tests (filter (λ x. not (test x)) xs) ≡ without (test ∷ tests) xs
   without_more test tests xs =
       filter_twice (λ x. not (test x)) (λ x. not (some_of tests x)) xs
-      ∙ filter_alike (λ x. not (test x) && not (some_of tests x)) (λ x. not (test x || some_of tests x)) (λ x. not_either (test x) (some_of tests x)) xs
+      ∙ filter_agree (λ x. not (test x) && not (some_of tests x)) (λ x. not (test x || some_of tests x)) (λ x. not_either (test x) (some_of tests x)) xs
 
   -- one more test lists those of the rest that pass it
   pub listing-push : (tests : List (T → Bool)) (test : T → Bool) (xs : List T) → listing (tests ++ test ∷ []) xs ≡ listing tests xs ++ filter test (without tests xs)
@@ -70,7 +53,8 @@ module _ {T : Type 0} where
       by_slot (Some x) is = rw is refl
   items_at-push slots (a ∷ numbers) b = by_slot (get slots a) refl (items_at-push slots numbers b)
     where
-      by_slot : (o : Option T) → get slots a ≡ o → items_at slots (numbers ++ b ∷ []) ≡ items_at slots numbers ++ option_to_list (get slots b) → items_at slots (a ∷ (numbers ++ b ∷ [])) ≡ items_at slots (a ∷ numbers) ++ option_to_list (get slots b)
+      by_slot : (o : Option T) → get slots a ≡ o → items_at slots (numbers ++ b ∷ []) ≡ items_at slots numbers ++ option_to_list (get slots b)
+          → items_at slots (a ∷ (numbers ++ b ∷ [])) ≡ items_at slots (a ∷ numbers) ++ option_to_list (get slots b)
       by_slot None is e = rw is e
       by_slot (Some x) is e = rw is (ap (λ l. x ∷ l) e)
 
@@ -82,12 +66,14 @@ module _ {T : Type 0} where
       later : (b : ℕ) × (contains numbers b ≡ true) × (get slots b ≡ Some y) → (b : ℕ) × (contains (a ∷ numbers) b ≡ true) × (get slots b ≡ Some y)
       later r = (r.0, or_right (nat_eq r.0 a) (contains numbers r.0) r.1, r.2)
 
-      by_slot : (o : Option T) → get slots a ≡ o → Contains (items_at slots (a ∷ numbers)) y → (Contains (items_at slots numbers) y → (b : ℕ) × (contains numbers b ≡ true) × (get slots b ≡ Some y)) → (b : ℕ) × (contains (a ∷ numbers) b ≡ true) × (get slots b ≡ Some y)
+      by_slot : (o : Option T) → get slots a ≡ o → Contains (items_at slots (a ∷ numbers)) y
+          → (Contains (items_at slots numbers) y → (b : ℕ) × (contains numbers b ≡ true) × (get slots b ≡ Some y))
+          → (b : ℕ) × (contains (a ∷ numbers) b ≡ true) × (get slots b ≡ Some y)
       by_slot None is found rest = later (rest (rw is at found))
       by_slot (Some x) is found rest =
           let there : Contains (x ∷ items_at slots numbers) y = rw is at found in
           elim (Contains-cons_cases x y (items_at slots numbers) there) [
-            | inl same ↦ (a, rw (itself a) refl, is ∙ ap Some same)
+            | inl same ↦ (a, rw (eq-eqb a a refl) refl, is ∙ ap Some same)
             | inr further ↦ later (rest further)
           ]
 
@@ -102,22 +88,28 @@ module _ {T : Type 0} where
 
       by_test : (t : Bool) → nat_eq b a ≡ t → (t || contains numbers b) ≡ true → (contains numbers b ≡ true → Contains (items_at slots numbers) y) → Contains (items_at slots (a ∷ numbers)) y
       by_test true is h rest =
-          let here : get slots a ≡ Some y = ap (get slots) (sym (same_number b a is)) ∙ at in
+          let here : get slots a ≡ Some y = ap (get slots) (sym (eqb-true b a is)) ∙ at in
           rw here (Contains-here y (items_at slots numbers))
       by_test false is h rest = further (get slots a) refl (rest h)
 
   -- a search by one more test adds the slot that it found, unless it is among those found before
-  pub listing_found : (agree : T → T → Bool) (slots : List (Option T)) (tests : List (T → Bool)) (test : T → Bool) (numbers : List ℕ) (found : Option ℕ) → ((x : T) → agree x x ≡ true) → ((x y : T) → agree x y ≡ agree y x) → IsDistinct agree (contents slots) → items_at slots numbers ≡ listing tests (contents slots) → IfSome found (IsLive slots) → option_to_list (option_and_then (get slots) found) ≡ filter test (contents slots) → items_at slots (with_found numbers found) ≡ listing (tests ++ test ∷ []) (contents slots)
+  pub listing_found : (agree : T → T → Bool) (slots : List (Option T)) (tests : List (T → Bool)) (test : T → Bool) (numbers : List ℕ)
+      (found : Option ℕ) → ((x : T) → agree x x ≡ true) → ((x y : T) → agree x y ≡ agree y x) → IsDistinct agree (contents slots)
+      → items_at slots numbers ≡ listing tests (contents slots) → IfSome found (IsLive slots)
+      → option_to_list (option_and_then (get slots) found) ≡ filter test (contents slots)
+      → items_at slots (with_found numbers found) ≡ listing (tests ++ test ∷ []) (contents slots)
   listing_found agree slots tests test numbers None itself_alike symm apart before live is =
       let none : filter test (without tests (contents slots)) ≡ [] = filter_swap test (λ x. not (some_of tests x)) (contents slots) ∙ ap (filter (λ x. not (some_of tests x))) (sym is) in
       before ∙ sym (append-nil _) ∙ ap (λ l. listing tests (contents slots) ++ l) (sym none) ∙ sym (listing-push tests test (contents slots))
   listing_found agree slots tests test numbers (Some b) itself_alike symm apart before live is = by_slot (get slots b) refl live is
     where
-      by_slot : (o : Option T) → get slots b ≡ o → IsSome o → option_to_list o ≡ filter test (contents slots) → items_at slots (with_found numbers (Some b)) ≡ listing (tests ++ test ∷ []) (contents slots)
+      by_slot : (o : Option T) → get slots b ≡ o → IsSome o → option_to_list o ≡ filter test (contents slots)
+          → items_at slots (with_found numbers (Some b)) ≡ listing (tests ++ test ∷ []) (contents slots)
       by_slot None at some named = absurd (cc)
       by_slot (Some y) at some named =
           let bag : List T = contents slots in
-          let rest : filter test (without tests bag) ≡ filter (λ x. not (some_of tests x)) (y ∷ []) = filter_swap test (λ x. not (some_of tests x)) bag ∙ ap (filter (λ x. not (some_of tests x))) (sym named) in
+          let rest : filter test (without tests bag) ≡ filter (λ x. not (some_of tests x)) (y ∷ []) =
+          filter_swap test (λ x. not (some_of tests x)) bag ∙ ap (filter (λ x. not (some_of tests x))) (sym named) in
           let goal : listing (tests ++ test ∷ []) bag ≡ listing tests bag ++ filter (λ x. not (some_of tests x)) (y ∷ []) = listing-push tests test bag ∙ ap (λ l. listing tests bag ++ l) rest in
           split (λ t. items_at slots (cond t numbers (numbers ++ b ∷ [])) ≡ listing (tests ++ test ∷ []) bag) (contains numbers b)
           (λ yes.
@@ -135,12 +127,15 @@ module _ {T : Type 0} where
 
 module _ {T : Type 0} where
   -- if no conflicting slot is found, nothing conflicts
-  pub clash_none : (ranks : Ranks T) (slots : List (Option T)) (x : T) (numbers : List ℕ) → items_at slots numbers ≡ order ranks (contents slots) x → length numbers ≡ 0 → clash ranks (contents slots) x ≡ []
-  clash_none ranks slots x [] is short = sym (same_from_short [] _ (subst (λ l. IsPermutation l (clash ranks (contents slots) x)) (sym is) (IsPermutation-order ranks (contents slots) x)) (omega arith))
+  pub clash_none : (ranks : Ranks T) (slots : List (Option T)) (x : T) (numbers : List ℕ) → items_at slots numbers ≡ order ranks (contents slots) x
+      → length numbers ≡ 0 → clash ranks (contents slots) x ≡ []
+  clash_none ranks slots x [] is short = sym (same_from_short [] _
+      (subst (λ l. IsPermutation l (clash ranks (contents slots) x)) (sym is) (IsPermutation-order ranks (contents slots) x)) (omega arith))
   clash_none ranks slots x (a ∷ numbers) is short = absurd (omega arith)
 
   -- if a slot is found, something conflicts
-  pub clash_some : (ranks : Ranks T) (slots : List (Option T)) (x : T) (numbers : List ℕ) → items_at slots numbers ≡ order ranks (contents slots) x → All (IsLive slots) numbers → length numbers ≢ 0 → clash ranks (contents slots) x ≢ []
+  pub clash_some : (ranks : Ranks T) (slots : List (Option T)) (x : T) (numbers : List ℕ) → items_at slots numbers ≡ order ranks (contents slots) x
+      → All (IsLive slots) numbers → length numbers ≢ 0 → clash ranks (contents slots) x ≢ []
   clash_some ranks slots x [] is live some none = some refl
   clash_some ranks slots x (a ∷ numbers) is live some none = by_slot (get slots a) refl (All-head (IsLive slots) a numbers live)
     where

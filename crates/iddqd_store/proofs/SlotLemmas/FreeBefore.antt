@@ -24,8 +24,8 @@ module _ {T : Type 0} where
       grind (arith, before.free)
 
   -- a write from there on
-  pub IsFreeBefore-set : (es : List (Slot T)) (first at : ℕ) (e : Slot T) → first ≤ at → IsFreeBefore es first → IsFreeBefore (set es at e) first
-  IsFreeBefore-set es first at e behind before = record {
+  pub IsFreeBefore-set : {es : List (Slot T)} {first at : ℕ} (e : Slot T) → first ≤ at → IsFreeBefore es first → IsFreeBefore (set es at e) first
+  IsFreeBefore-set {es = es} {first = first} {at = at} e behind before = record {
     within = omega (arith, before.within, length-set es at e);
     free = λ n below. rw map-set (get_or-set_other (map item_of es) at n (item_of e) None (λ same. omega (arith, behind, below, same)) ∙ before.free n below);
   }

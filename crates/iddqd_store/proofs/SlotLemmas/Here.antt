@@ -1,9 +1,9 @@
 -- What searches by the keys of an item of a sound bag find: the slot of the item.
-use Rattle.std.specs.Prelude.{◌≡◌, ◌≢◌, ◌<◌, ℕ, Bool, true, List, [], ◌∷◌, Option, Some, filter, fold, length, map, nat_eq, false, ◌||◌, if◌then◌else◌}
+use Rattle.std.specs.Prelude.{◌≡◌, ◌≢◌, ◌<◌, ℕ, Bool, true, List, [], ◌∷◌, Option, Some, filter, fold, length, map, false, ◌||◌, if◌then◌else◌}
 use Rattle.std.specs.List.{AllByRecursion, list_all}
 use Rattle.std.specs.Option.{option_and_then, option_to_list}
 use Rattle.std.proofs.Common.{IsSome, refl, sym, ap, ◌∙◌, arith}
-use Rattle.std.proofs.lemmas.Bool.Decides.{nat_tests}
+use Rattle.std.proofs.lemmas.Bool.{eq-eqb}
 use Rattle.iddqd_store.specs.Bag.{Ranks, IsSound, entry, entry_of, listing, unique}
 use Rattle.iddqd_store.specs.Rank.Keys.{AreKeyTests}
 use Rattle.iddqd_store.specs.Slots.{contents, get}
@@ -11,9 +11,6 @@ use Rattle.iddqd_store.specs.Slots.Found.{AreFound, entry_at, found_by_all, held
 use Rattle.iddqd_store.proofs.BagLemmas.Entries.{entry-unique, listing-one}
 use Rattle.iddqd_store.proofs.BagLemmas.KeyTests.{each_only}
 use Rattle.iddqd_store.proofs.SlotLemmas.Contents.{content_at}
-
-itself : (a : ℕ) → nat_eq a a ≡ true
-itself a = grind (arith, nat_tests)
 
 some_is : {X : Type 0} (o : Option X) (x : X) → o ≡ Some x → IsSome o
 some_is o x is = rw is refl
@@ -37,11 +34,11 @@ module _ {T : Type 0} (slots : List (Option T)) (slot : ℕ) (x : T) (here : get
 
   one_slot : (tests : List (T → Bool)) → fold with_found (slot ∷ []) (all_at slot tests) ≡ slot ∷ []
   one_slot [] = refl
-  one_slot (test ∷ tests) = ap (λ b. fold with_found (if b || false then slot ∷ [] else slot ∷ slot ∷ []) (all_at slot tests)) (itself slot) ∙ one_slot tests
+  one_slot (test ∷ tests) = ap (λ b. fold with_found (if b || false then slot ∷ [] else slot ∷ slot ∷ []) (all_at slot tests)) (eq-eqb slot slot refl) ∙ one_slot tests
 
   all_there : (tests : List (T → Bool)) → list_all (is_at slot) (all_at slot tests) ≡ true
   all_there [] = refl
-  all_there (test ∷ tests) = rw (itself slot) (all_there tests)
+  all_there (test ∷ tests) = rw (eq-eqb slot slot refl) (all_there tests)
 
   holds_one : (tests : List (T → Bool)) → 0 < length tests → held_at slots (all_at slot tests) ≡ x ∷ []
   holds_one [] some = absurd (omega arith)
@@ -52,7 +49,9 @@ module _ {T : Type 0} (slots : List (Option T)) (slot : ℕ) (x : T) (here : get
   holds_whole (test ∷ tests) some = rw (all_there tests) (rw here refl)
 
 -- x is in the slot, and has the keys that the tests ask for
-module _ {T : Type 0} (ranks : Ranks T) (tests : List (T → Bool)) (some : 0 < length tests) (keys : AreKeyTests ranks tests) (slots : List (Option T)) (slot : ℕ) (x : T) (passes : AllByRecursion (λ test. test x ≡ true) tests) (sound : IsSound ranks (contents slots)) (here : get slots slot ≡ Some x) where
+module _ {T : Type 0} (ranks : Ranks T) (tests : List (T → Bool)) (some : 0 < length tests) (keys : AreKeyTests ranks tests) (slots : List (Option T))
+    (slot : ℕ) (x : T) (passes : AllByRecursion (λ test. test x ≡ true) tests) (sound : IsSound ranks (contents slots))
+    (here : get slots slot ≡ Some x) where
   only : AllByRecursion (λ test. filter test (contents slots) ≡ x ∷ []) tests
   only = each_only ranks tests (contents slots) x keys passes sound (content_at slots slot x here)
 
@@ -65,7 +64,8 @@ module _ {T : Type 0} (ranks : Ranks T) (tests : List (T → Bool)) (some : 0 < 
   pub finds_here : FindsHere tests slots slot x
   finds_here = record {
     found = are_found slots slot x here tests only;
-    value = ap (λ l. entry_of l (option_to_list (option_and_then (get slots) (found_by_all (all_at slot tests))))) (holds_one slots slot x here tests some) ∙ ap (entry_of (x ∷ [])) (holds_whole slots slot x here tests some) ∙ sym is_unique_here;
+    value = ap (λ l. entry_of l (option_to_list (option_and_then (get slots) (found_by_all (all_at slot tests)))))
+        (holds_one slots slot x here tests some) ∙ ap (entry_of (x ∷ [])) (holds_whole slots slot x here tests some) ∙ sym is_unique_here;
     listed = holds_one slots slot x here tests some ∙ sym one_listed;
     some = λ none. absurd (omega (arith, ap length (sym one_listed ∙ none)));
     unique_item = is_unique_here;

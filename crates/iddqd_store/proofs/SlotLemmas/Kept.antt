@@ -4,7 +4,7 @@ use Rattle.std.specs.Cmp.{IsEquivalence}
 use Rattle.std.specs.List.{AllByRecursion, IsDistinct, list_any}
 use Rattle.std.specs.Option.{option_to_list}
 use Rattle.std.proofs.Common.{IsSome, refl, sym, ap, subst, ◌∙◌, arith}
-use Rattle.std.proofs.lemmas.Bool.{false≢true}
+use Rattle.std.proofs.lemmas.Bool.{false≢true, and_parts}
 use Rattle.std.proofs.lemmas.List.{nil_from_length}
 use Rattle.iddqd_store.specs.Bag.{Ranks, AreLawful, IsSound, agrees, entry, listing}
 use Rattle.iddqd_store.specs.Rank.Keys.{IsKeyTest, AreKeyTests}
@@ -12,9 +12,8 @@ use Rattle.iddqd_store.specs.Slots.{contents, get}
 use Rattle.iddqd_store.specs.Slots.Found.{FoundAt, AreFound, entry_at, held_at}
 use Rattle.iddqd_store.specs.Slots.Kept.{KeepsKeys}
 use Rattle.iddqd_store.proofs.BagLemmas.Exchanges.{split}
-use Rattle.iddqd_store.proofs.BagLemmas.KeyTests.{only_one}
-use Rattle.iddqd_store.proofs.BagLemmas.Same.{agrees-refl, agrees-trans, and-true}
-use Rattle.iddqd_store.proofs.BagLemmas.Sound.{Contains-filter, IsSound-rank, each_passes}
+use Rattle.iddqd_store.proofs.BagLemmas.Same.{agrees-refl, agrees-trans}
+use Rattle.iddqd_store.proofs.BagLemmas.Sound.{Contains-filter, IsSound-rank, each_passes, only_one}
 use Rattle.iddqd_store.proofs.SlotLemmas.Contents.{content_at}
 use Rattle.iddqd_store.proofs.SlotLemmas.Entries.{found_entry, found_listing, held_none, held_some}
 
@@ -34,7 +33,8 @@ module _ {T : Type 0} (ranks : Ranks T) (laws : AreLawful ranks) where
   kept-same (Some x ∷ slots) = (agrees-refl ranks laws x, kept-same slots)
 
   -- one more item is written, which keeps its keys
-  pub kept-set : (old mid : List (Option T)) (at : ℕ) (x y : T) → KeepsKeys (agrees ranks) old mid → get mid at ≡ Some x → agrees ranks x y ≡ true → KeepsKeys (agrees ranks) old (slice_set mid at (Some y))
+  pub kept-set : (old mid : List (Option T)) (at : ℕ) (x y : T) → KeepsKeys (agrees ranks) old mid → get mid at ≡ Some x → agrees ranks x y ≡ true
+      → KeepsKeys (agrees ranks) old (slice_set mid at (Some y))
   kept-set [] [] at x y kept here same = kept
   kept-set [] (p ∷ mid) at x y kept here same = absurd kept
   kept-set (o ∷ old) [] at x y kept here same = absurd kept
@@ -98,15 +98,16 @@ module _ {T : Type 0} {agree : T → T → Bool} (laws : IsEquivalence agree) (t
             record { only = rw now.1 (sym listed); live = rw now.1 refl }
 
 -- the same for a search by each test
-pub found_kept : {T : Type 0} (ranks : Ranks T) (tests : List (T → Bool)) → AreLawful ranks → AreKeyTests ranks tests → (old new : List (Option T)) → KeepsKeys (agrees ranks) old new → (found : List (Option ℕ)) → AreFound tests old found → AreFound tests new found
+pub found_kept : {T : Type 0} (ranks : Ranks T) (tests : List (T → Bool)) → AreLawful ranks → AreKeyTests ranks tests → (old new : List (Option T))
+    → KeepsKeys (agrees ranks) old new → (found : List (Option ℕ)) → AreFound tests old found → AreFound tests new found
 found_kept [] [] laws keys old new kept [] are = tt
 found_kept [] [] laws keys old new kept (at ∷ found) are = absurd are
 found_kept [] (test ∷ tests) laws keys old new kept found are = absurd keys
 found_kept (agree ∷ ranks) [] laws keys old new kept found are = absurd keys
 found_kept (agree ∷ ranks) (test ∷ tests) laws keys old new kept [] are = absurd are
 found_kept (agree ∷ ranks) (test ∷ tests) laws keys old new kept (at ∷ found) are =
-    let first = weaker (agrees (agree ∷ ranks)) agree (λ x y same. (and-true (agree x y) (agrees ranks x y) same).0) old new kept in
-    let others = weaker (agrees (agree ∷ ranks)) (agrees ranks) (λ x y same. (and-true (agree x y) (agrees ranks x y) same).1) old new kept in
+    let first = weaker (agrees (agree ∷ ranks)) agree (λ x y same. (and_parts (agree x y) (agrees ranks x y) same).0) old new kept in
+    let others = weaker (agrees (agree ∷ ranks)) (agrees ranks) (λ x y same. (and_parts (agree x y) (agrees ranks x y) same).1) old new kept in
     (found_still laws.0 test keys.0 old new first at are.0, found_kept ranks tests laws.1 keys.1 old new others found are.1)
 
 -- what an entry is by the slots that its searches found
@@ -117,11 +118,14 @@ pub record FindsAt {T : Type 0} (tests : List (T → Bool)) (slots : List (Optio
   pub some : listing tests (contents slots) ≢ []
 
 -- it stays the same if the items keep their keys
-module _ {T : Type 0} (agree : T → T → Bool) (ranks : Ranks T) (laws : AreLawful (agree ∷ ranks)) (tests : List (T → Bool)) (keys : AreKeyTests (agree ∷ ranks) tests) (old new : List (Option T)) (kept : KeepsKeys (agrees (agree ∷ ranks)) old new) (sound : IsSound (agree ∷ ranks) (contents new)) where
+module _ {T : Type 0} (agree : T → T → Bool) (ranks : Ranks T) (laws : AreLawful (agree ∷ ranks)) (tests : List (T → Bool))
+    (keys : AreKeyTests (agree ∷ ranks) tests) (old new : List (Option T)) (kept : KeepsKeys (agrees (agree ∷ ranks)) old new)
+    (sound : IsSound (agree ∷ ranks) (contents new)) where
   apart : IsDistinct agree (contents new)
   apart = (IsSound-rank agree ranks (contents new) sound).0
 
-  pub finds_still : (at : Option ℕ) (found : List (Option ℕ)) → AreFound tests old (at ∷ found) → held_at old (at ∷ found) ≡ listing tests (contents old) → listing tests (contents old) ≢ [] → FindsAt tests new (at ∷ found)
+  pub finds_still : (at : Option ℕ) (found : List (Option ℕ)) → AreFound tests old (at ∷ found)
+      → held_at old (at ∷ found) ≡ listing tests (contents old) → listing tests (contents old) ≢ [] → FindsAt tests new (at ∷ found)
   finds_still at found are listed some =
       let still : AreFound tests new (at ∷ found) = found_kept (agree ∷ ranks) tests laws keys old new kept (at ∷ found) are in
       let one : list_any is_some (at ∷ found) ≡ true = split (λ b. b ≡ true) (list_any is_some (at ∷ found)) (λ _. refl) (λ none. absurd (some (sym listed ∙ held_none old (at ∷ found) none))) in

@@ -17,7 +17,8 @@ module _ {T : Type 0} where
   nothing_left (o ∷ slots) (suc from) free = nothing_left slots from (λ k le. free (suc k) (omega arith))
 
   -- the slot is below the number of slots, and the items before it and in it
-  got : (slots : List (Option T)) (at : ℕ) (x : T) → get slots at ≡ Some x → (contents (drop at slots) ≡ x ∷ contents (drop (suc at) slots)) × (contents (take (suc at) slots) ≡ contents (take at slots) ++ x ∷ [])
+  got : (slots : List (Option T)) (at : ℕ) (x : T) → get slots at ≡ Some x
+      → (contents (drop at slots) ≡ x ∷ contents (drop (suc at) slots)) × (contents (take (suc at) slots) ≡ contents (take at slots) ++ x ∷ [])
   got [] zero x is = absurd (cc is)
   got [] (suc at) x is = absurd (cc is)
   got (Some y ∷ slots) zero x is =
@@ -30,7 +31,8 @@ module _ {T : Type 0} where
       (below.0, ap (λ l. y ∷ l) below.1)
 
   -- free slots in between have no items
-  passed : (slots : List (Option T)) (from at : ℕ) → from ≤ at → ((k : ℕ) → from ≤ k → k < at → get slots k ≡ None) → (contents (drop from slots) ≡ contents (drop at slots)) × (contents (take at slots) ≡ contents (take from slots))
+  passed : (slots : List (Option T)) (from at : ℕ) → from ≤ at → ((k : ℕ) → from ≤ k → k < at → get slots k ≡ None)
+      → (contents (drop from slots) ≡ contents (drop at slots)) × (contents (take at slots) ≡ contents (take from slots))
   passed [] zero zero ahead free = (refl, refl)
   passed [] zero (suc at) ahead free = (refl, refl)
   passed [] (suc from) zero ahead free = absurd (omega (arith, ahead))
@@ -51,8 +53,7 @@ module _ {T : Type 0} where
 
   -- a free slot has no item
   pub over_free : (slots : List (Option T)) (at : ℕ) → get slots at ≡ None → (contents (drop at slots) ≡ contents (drop (at + 1) slots)) × (contents (take (at + 1) slots) ≡ contents (take at slots))
-  over_free slots at is =
-      passed slots at (at + 1) (omega arith) (λ k le lt. let here : k ≡ at = omega (arith, le, lt) in rw here is)
+  over_free slots at is = passed slots at (at + 1) (omega arith) (λ k le lt. let here : k ≡ at = omega (arith, le, lt) in rw here is)
 
   -- the items before a slot that is taken, those after a slot that is emptied, and all of them
   pub taken_before : (slots : List (Option T)) (from at : ℕ) (x : T) → ComesNext slots from at x → contents (take (at + 1) slots) ≡ contents (take from slots) ++ x ∷ []
@@ -98,19 +99,22 @@ module _ {F T : Type 0} (step : F → T → Bool → F → Type 0) where
   abbrev pub Completes : F → List T → F → List (Option T) → ℕ → Type 0
   Completes start all f slots from = (rest : List T) → IsFiltered step f (contents (drop from slots)) rest → IsFiltered step start all (contents (take from slots) ++ rest)
 
-  pub past_kept : (start f g : F) (all : List T) (slots : List (Option T)) (from at : ℕ) (x : T) → ComesNext slots from at x → step f x true g → Completes start all f slots from → Completes start all g slots (at + 1)
+  pub past_kept : (start f g : F) (all : List T) (slots : List (Option T)) (from at : ℕ) (x : T) → ComesNext slots from at x → step f x true g
+      → Completes start all f slots from → Completes start all g slots (at + 1)
   past_kept start f g all slots from at x next called completes rest h =
       let on = filtered_on f g x true (contents (drop (at + 1) slots)) rest called h in
       let whole = completes (x ∷ rest) (subst (λ l. IsFiltered step f l (x ∷ rest)) (sym next.rest) on) in
       subst (λ l. IsFiltered step start all l) (sym (ap (λ l. l ++ rest) (taken_before slots from at x next) ∙ append_assoc (contents (take from slots)) (x ∷ []) rest)) whole
 
-  pub past_taken : (start f g : F) (all : List T) (slots : List (Option T)) (from at : ℕ) (x : T) → ComesNext slots from at x → step f x false g → Completes start all f slots from → Completes start all g (set slots at None) (at + 1)
+  pub past_taken : (start f g : F) (all : List T) (slots : List (Option T)) (from at : ℕ) (x : T) → ComesNext slots from at x → step f x false g
+      → Completes start all f slots from → Completes start all g (set slots at None) (at + 1)
   past_taken start f g all slots from at x next called completes rest h =
       let on = filtered_on f g x false (contents (drop (at + 1) slots)) rest called (subst (λ l. IsFiltered step g l rest) (same_behind slots at) h) in
       let whole = completes rest (subst (λ l. IsFiltered step f l rest) (sym next.rest) on) in
       subst (λ l. IsFiltered step start all (l ++ rest)) (sym (emptied_before slots from at x next)) whole
 
-  pub none_behind : (start f : F) (old slots : List (Option T)) (from : ℕ) → contents (drop from slots) ≡ [] → Completes start (contents old) f slots from → Keeps step start (contents old) (contents slots)
+  pub none_behind : (start f : F) (old slots : List (Option T)) (from : ℕ) → contents (drop from slots) ≡ []
+      → Completes start (contents old) f slots from → Keeps step start (contents old) (contents slots)
   none_behind start f old slots from none completes =
       let whole = completes [] (subst (λ l. IsFiltered step f l []) (sym none) (filtered_none f)) in
       keeps_filtered start old slots

@@ -1,14 +1,14 @@
 -- The full cells of a chunk of a row, which a list of places names.
-use Rattle.std.proofs.Common.{arith, ℕ, ◌≡◌, ◌+◌, ◌-◌, ◌*◌, ◌/◌, ◌%◌, ◌<◌, ◌≤◌, ◌++◌, ◌∷◌, [], List, Option, None, Some, length, get_or, set, take, map, refl, sym, ap, ◌∙◌, subst, ⊎_elim}
+use Rattle.std.proofs.Common.{arith, ℕ, ◌≡◌, ◌+◌, ◌-◌, ◌*◌, ◌/◌, ◌%◌, ◌<◌, ◌≤◌, ◌++◌, ◌∷◌, [], List, Option, None, Some, length, get_or, set, take, map, refl, sym, ap, ◌∙◌, subst}
 use Rattle.std.specs.Prelude.{◌≢◌, is_some}
 use Rattle.std.specs.Int.{from_bool}
-use Rattle.std.specs.List.Sorted.{IsPermutation}
-use Rattle.std.proofs.lemmas.Bool.{cases_eq}
-use Rattle.std.proofs.lemmas.List.{append-nil, append_assoc, length-append, length-map, length-take-le, get_or-append_right, get_or-map, get_or-set_same, get_or-set_other, get_or-take, map_push, take-append-le, take_all, take_more, take_more_set, take-set}
+use Rattle.std.proofs.lemmas.List.{append_assoc, length-append, length-map, length-take-le, get_or-append_right, get_or-map, get_or-set_same, get_or-set_other}
+use Rattle.std.proofs.lemmas.List.{get_or-take, map_push, take_more, take_more_set, take-set}
 use Rattle.std.proofs.lemmas.List.Elements.{filter_map-append}
 use Rattle.iddqd_store.specs.Slots.{contents}
 use Rattle.iddqd_store.specs.Table.{IsFirstEmpty}
 use Rattle.iddqd_store.specs.Table.Ring.{cell}
+use Rattle.iddqd_store.proofs.Plain.{by_equal}
 use Rattle.iddqd_store.proofs.TableLemmas.Write.{held_front, held_no_more}
 use Rattle.iddqd_store.proofs.TableLemmas.Grow.{HasFront, front_full}
 
@@ -24,17 +24,9 @@ pub record IsChunk (old : List (Option (ℕ × ℕ))) (from i : ℕ) (places : L
   pub stored : (k : ℕ) → k < full → cell old (get_or places k 0) ≢ None
   pub same : contents (packed old from places full) ≡ contents (take i old)
 
-pub chunk_none : (old : List (Option (ℕ × ℕ))) (from : ℕ) (places : List ℕ) → from ≤ length old → IsChunk old from from places 0
-chunk_none old from places within = record {
-  some = omega arith;
-  within = within;
-  below = λ k l. absurd (omega (arith, l));
-  stored = λ k l. absurd (omega (arith, l));
-  same = ap contents (append-nil (take from old));
-}
-
 -- a full cell, whose place comes after the others
-chunk_more : (old : List (Option (ℕ × ℕ))) (from i : ℕ) (places : List ℕ) (full : ℕ) → i < length old → full < length places → cell old i ≢ None → IsChunk old from i places full → IsChunk old from (i + 1) (set places full i) (full + 1)
+chunk_more : (old : List (Option (ℕ × ℕ))) (from i : ℕ) (places : List ℕ) (full : ℕ) → i < length old → full < length places → cell old i ≢ None
+    → IsChunk old from i places full → IsChunk old from (i + 1) (set places full i) (full + 1)
 chunk_more old from i places full l room is c =
     let x : List (Option (ℕ × ℕ)) = cell old i ∷ [] in
     let here : get_or (set places full i) full 0 ≡ i = get_or-set_same places full i 0 room in
@@ -46,13 +38,11 @@ chunk_more old from i places full l room is c =
       some = let s = c.some in omega (arith, s);
       within = omega (arith, l);
       below = λ k lk.
-          ⊎_elim (λ (e : k ≡ full). rw (e, here) l)
-          (λ (e : k ≢ full). rw (get_or-set_other places full k i 0 e) (c.below k (omega (arith, lk, e))))
-          (cases_eq k full);
+          by_equal k full (λ (e : k ≡ full). rw (e, here) l)
+          (λ (e : k ≢ full). rw (get_or-set_other places full k i 0 e) (c.below k (omega (arith, lk, e))));
       stored = λ k lk.
-          ⊎_elim (λ (e : k ≡ full). rw (e, here) is)
-          (λ (e : k ≢ full). rw (get_or-set_other places full k i 0 e) (c.stored k (omega (arith, lk, e))))
-          (cases_eq k full);
+          by_equal k full (λ (e : k ≡ full). rw (e, here) is)
+          (λ (e : k ≢ full). rw (get_or-set_other places full k i 0 e) (c.stored k (omega (arith, lk, e))));
       same = ap contents listed ∙ filter_map-append (λ c. c) (packed old from places full) x
           ∙ ap (λ (r : List (ℕ × ℕ)). r ++ contents x) c.same
           ∙ sym (filter_map-append (λ c. c) (take i old) x)
@@ -60,7 +50,8 @@ chunk_more old from i places full l room is c =
     }
 
 -- an empty cell, whose place the next one replaces
-chunk_no_more : (old : List (Option (ℕ × ℕ))) (from i : ℕ) (places : List ℕ) (full : ℕ) → i < length old → cell old i ≡ None → IsChunk old from i places full → IsChunk old from (i + 1) (set places full i) full
+chunk_no_more : (old : List (Option (ℕ × ℕ))) (from i : ℕ) (places : List ℕ) (full : ℕ) → i < length old → cell old i ≡ None
+    → IsChunk old from i places full → IsChunk old from (i + 1) (set places full i) full
 chunk_no_more old from i places full l is c =
     let other : (k : ℕ) → k < full → get_or (set places full i) k 0 ≡ get_or places k 0 = λ k lk. get_or-set_other places full k i 0 (λ e. absurd (omega (arith, lk, e))) in
     record {
@@ -71,12 +62,14 @@ chunk_no_more old from i places full l is c =
       same = ap (λ (ps : List ℕ). contents (take from old ++ map (cell old) ps)) (take-set places full i) ∙ c.same ∙ sym (held_no_more old i l is);
     }
 
-chunk_by : (old : List (Option (ℕ × ℕ))) (from i : ℕ) (places : List ℕ) (full : ℕ) (has : Option (ℕ × ℕ)) → i < length old → full < length places → cell old i ≡ has → IsChunk old from i places full → IsChunk old from (i + 1) (set places full i) (full + from_bool (is_some has))
+chunk_by : (old : List (Option (ℕ × ℕ))) (from i : ℕ) (places : List ℕ) (full : ℕ) (has : Option (ℕ × ℕ)) → i < length old → full < length places
+    → cell old i ≡ has → IsChunk old from i places full → IsChunk old from (i + 1) (set places full i) (full + from_bool (is_some has))
 chunk_by old from i places full None l room is c = subst (λ (n : ℕ). IsChunk old from (i + 1) (set places full i) n) (omega arith) (chunk_no_more old from i places full l is c)
 chunk_by old from i places full (Some x) l room is c = chunk_more old from i places full l room (λ none. cc (none, is)) c
 
 -- a cell is read, and its place is written after the others
-pub chunk_next : (old : List (Option (ℕ × ℕ))) (from i : ℕ) (places : List ℕ) (full : ℕ) → i < length old → full < length places → IsChunk old from i places full → IsChunk old from (i + 1) (set places full i) (full + from_bool (is_some (cell old i)))
+pub chunk_next : (old : List (Option (ℕ × ℕ))) (from i : ℕ) (places : List ℕ) (full : ℕ) → i < length old → full < length places
+    → IsChunk old from i places full → IsChunk old from (i + 1) (set places full i) (full + from_bool (is_some (cell old i)))
 chunk_next old from i places full l room c = chunk_by old from i places full (cell old i) l room refl c
 
 module _ (old : List (Option (ℕ × ℕ))) (from to : ℕ) (places : List ℕ) (full : ℕ) (room : full ≤ length places) (c : IsChunk old from to places full) where
@@ -87,7 +80,8 @@ module _ (old : List (Option (ℕ × ℕ))) (from to : ℕ) (places : List ℕ) 
   places_len = length-take-le full places room
 
   packed_len : length (packed old from places full) ≡ from + full
-  packed_len = length-append (take from old) (map (cell old) (take full places)) ∙ (let a = front_len in let b = places_len in let m = length-map (take full places) (cell old) in omega (arith, a, b, m))
+  packed_len = length-append (take from old) (map (cell old) (take full places))
+      ∙ (let a = front_len in let b = places_len in let m = length-map (take full places) (cell old) in omega (arith, a, b, m))
 
   packed_cell : (k : ℕ) → k < full → cell (packed old from places full) (from + k) ≡ cell old (get_or places k 0)
   packed_cell k l =
@@ -97,26 +91,13 @@ module _ (old : List (Option (ℕ × ℕ))) (from to : ℕ) (places : List ℕ) 
       ∙ get_or-map (cell old) (take full places) k 0 None (let b = places_len in omega (arith, b, l))
       ∙ ap (cell old) (get_or-take full places k 0 l)
 
-  -- before the pairs of the chunk are entered
-  pub front_packed : (new : List (Option (ℕ × ℕ))) → HasFront old new from → HasFront (packed old from places full) new from
-  front_packed new h =
-      let same : take from (packed old from places full) ≡ take from old =
-      take-append-le from (take from old) (map (cell old) (take full places)) (let a = front_len in omega (arith, a))
-      ∙ take_all from (take from old) (let a = front_len in omega (arith, a)) in
-      record { table = h.table; pairs = rw same h.pairs }
-
-  -- after they are entered
-  pub front_unpacked : (new : List (Option (ℕ × ℕ))) (k : ℕ) → full ≤ k → HasFront (packed old from places full) new (from + k) → HasFront old new to
-  front_unpacked new k l h =
-      let all : take (from + k) (packed old from places full) ≡ packed old from places full = take_all (from + k) (packed old from places full) (let p = packed_len in omega (arith, p, l)) in
-      record { table = h.table; pairs = subst (λ (ps : List (ℕ × ℕ)). IsPermutation ps (contents new)) (ap contents all ∙ c.same) h.pairs }
-
   -- a chunk has no more pairs than the whole row
   pub packed_fits : length (contents (packed old from places full)) ≤ length (contents old)
   packed_fits = let s : length (contents (packed old from places full)) ≡ length (contents (take to old)) = ap length c.same in let f = held_front old to in omega (arith, s, f)
 
   -- a pair of the chunk is copied into the first empty cell from its home on
-  pub front_packed_more : (new : List (Option (ℕ × ℕ))) (k at hash index : ℕ) → k < full → cell old (get_or places k 0) ≡ Some (hash, index) → length (contents old) ≤ length new / 8 * 7 → IsFirstEmpty new (hash % length new) at
+  pub front_packed_more : (new : List (Option (ℕ × ℕ))) (k at hash index : ℕ) → k < full → cell old (get_or places k 0) ≡ Some (hash, index)
+      → length (contents old) ≤ length new / 8 * 7 → IsFirstEmpty new (hash % length new) at
       → HasFront (packed old from places full) new (from + k) → HasFront (packed old from places full) (set new at (cell old (get_or places k 0))) (from + (k + 1))
   front_packed_more new k at hash index l is fits f h =
       let here = packed_cell k l in

@@ -3,10 +3,10 @@ use Rattle.std.proofs.Common.{◌≡◌, ℕ, suc, zero, ◌+◌, ◌-◌, ◌<�
 use Rattle.std.specs.List.{count_by}
 use Rattle.std.specs.Prelude.{◌≢◌, ◌↔◌}
 use Rattle.std.proofs.lemmas.List.Sums.{sum_by-cons}
-use Rattle.std.proofs.lemmas.Bool.{cases_lt}
 use Rattle.std.proofs.lemmas.List.{get_or_past}
 use Rattle.iddqd_store.specs.Slots.{contents}
 use Rattle.iddqd_store.specs.Table.Ring.{gap, IsFull, cell, IsReached}
+use Rattle.iddqd_store.proofs.Plain.{by_order}
 use Rattle.iddqd_store.proofs.TableLemmas.Line.{cases_option, few, many}
 use Rattle.iddqd_store.proofs.TableLemmas.Ring.{turn, turn_below, turn_none, turn_gap, gap_below, far, near, back, length-back, back_at, count-back}
 
@@ -43,11 +43,10 @@ empty_not_full {X} home n cs len homes reached p lp none j lj =
     let at : (k : ℕ) → k < n → cell (back cs p) k ≡ cell cs (turn n p k) = λ k l. rw len at (back_at cs p k (omega arith) (omega arith)) in
     let zero_none : cell (back cs p) 0 ≡ None = at 0 (omega arith) ∙ (ap (cell cs) (turn_none n p) ∙ none) in
     let behind : (k : ℕ) (x : X) → cell (back cs p) k ≡ Some x → k ≤ gap n (home x) p = λ k x e.
-    ⊎_elim (λ (lk : k < n).
-    ⊎_elim (λ (h : gap n (home x) p < k). absurd (reached (turn n p k) x (turn_below n p k lp lk) (sym (at k lk) ∙ e) p lp (far n (home x) p k (homes x) lp lk h) none))
-    (λ (h : k ≤ gap n (home x) p). h) (cases_lt (gap n (home x) p) k))
-    (λ (lk : n ≤ k). let p0 : cell (back cs p) k ≡ None = get_or_past (back cs p) k None (omega arith) in absurd (cc (p0, e)))
-    (cases_lt k n) in
+    by_order k n (λ (lk : k < n).
+    by_order (gap n (home x) p) k (λ (h : gap n (home x) p < k). absurd (reached (turn n p k) x (turn_below n p k lp lk) (sym (at k lk) ∙ e) p lp (far n (home x) p k (homes x) lp lk h) none))
+    (λ (h : k ≤ gap n (home x) p). h))
+    (λ (lk : n ≤ k). let p0 : cell (back cs p) k ≡ None = get_or_past (back cs p) k None (omega arith) in absurd (cc (p0, e))) in
     rw (← (count-back (λ x. ltb (gap n (home x) p) j) cs p)) (few_at_empty (λ x. gap n (home x) p) j (back cs p) zero_none behind lj)
 
 abbrev NearFull : {X : Type 0} → (X → ℕ) → ℕ → List (Option X) → ℕ → Type 0
@@ -62,16 +61,18 @@ occupied_is_full {X} home n cs len homes reached e le none p lp some =
     let f : FirstEmpty (back cs p) (gap n e p) = first_empty (back cs p) (gap n e p) gone in
     let m : ℕ = f.0 in
     let lm : m < n = omega arith in
-    let one : 1 ≤ m = ⊎_elim (λ (h : m < 1). absurd (some (sym (ap (cell cs) (turn_none n p)) ∙ (sym (at 0 (omega arith)) ∙ subst (λ (i : ℕ). cell (back cs p) i ≡ None) (omega arith) f.2)))) (λ (h : 1 ≤ m). h) (cases_lt m 1) in
+    let one : 1 ≤ m = by_order m 1 (λ (h : m < 1).
+    absurd (some (sym (ap (cell cs) (turn_none n p)) ∙ (sym (at 0 (omega arith)) ∙ subst (λ (i : ℕ). cell (back cs p) i ≡ None) (omega arith) f.2))))
+    (λ (h : 1 ≤ m). h) in
     let each : (k : ℕ) → k < m → (x : X) × (cell (back cs p) k ≡ Some x) × (gap n (home x) p < m) = λ k lk.
     ⊎_elim (λ (z : cell (back cs p) k ≡ None). absurd (f.3 k lk z))
     (λ (s : (x : X) × (cell (back cs p) k ≡ Some x)). (
       s.0,
       s.1,
-      ⊎_elim (λ (h : gap n (home s.0) p < m). h)
+      by_order (gap n (home s.0) p) m (λ (h : gap n (home s.0) p < m). h)
           (λ (h : m ≤ gap n (home s.0) p).
-          absurd (reached (turn n p k) s.0 (turn_below n p k lp (omega arith)) (sym (at k (omega arith)) ∙ s.1) (turn n p m) (turn_below n p m lp lm) (near n (home s.0) p m k (homes s.0) lp lm lk h) (sym (at m lm) ∙ f.2)))
-          (cases_lt (gap n (home s.0) p) m),
+          absurd (reached (turn n p k) s.0 (turn_below n p k lp (omega arith)) (sym (at k (omega arith)) ∙ s.1) (turn n p m) (turn_below n p m lp lm)
+          (near n (home s.0) p m k (homes s.0) lp lm lk h) (sym (at m lm) ∙ f.2))),
     ))
     (cases_option (cell (back cs p) k)) in
     (m, one, omega arith, rw (← (count-back (λ x. ltb (gap n (home x) p) m) cs p)) (many (λ x. gap n (home x) p) m (back cs p) m each))

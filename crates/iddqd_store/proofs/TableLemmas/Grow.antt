@@ -20,7 +20,8 @@ pub front_none : (old : List (Option (ℕ × ℕ))) (count : ℕ) → IsSize cou
 front_none old count size = record { table = table_empty count size; pairs = rw held-empty (IsPermutation-refl _) }
 
 -- a pair is copied into the first empty cell from its home on
-pub front_full : (old new : List (Option (ℕ × ℕ))) (i at hash index : ℕ) → i < length old → cell old i ≡ Some (hash, index) → length (contents old) ≤ length new / 8 * 7 → IsFirstEmpty new (hash % length new) at
+pub front_full : (old new : List (Option (ℕ × ℕ))) (i at hash index : ℕ) → i < length old → cell old i ≡ Some (hash, index)
+    → length (contents old) ≤ length new / 8 * 7 → IsFirstEmpty new (hash % length new) at
     → HasFront old new i → HasFront old (set new at (cell old i)) (i + 1)
 front_full old new i at hash index l is fits f h =
     let x : ℕ × ℕ = (hash, index) in

@@ -1,8 +1,7 @@
 -- Limits, and a row of empty cells.
-use Rattle.std.proofs.Common.{◌≡◌, ℕ, suc, zero, ◌+◌, ◌-◌, ◌%◌, ◌*◌, ◌/◌, ◌^◌, ◌<◌, ◌≤◌, [], Option, None, Some, length, replicate, refl, sym, ap, ◌∙◌, subst, inl, inr, ⊎_elim, arith, rules}
+use Rattle.std.proofs.Common.{◌≡◌, ℕ, suc, zero, ◌+◌, ◌-◌, ◌%◌, ◌*◌, ◌/◌, ◌^◌, ◌<◌, ◌≤◌, [], Option, None, Some, length, replicate, refl, sym, ap, ◌∙◌, subst, inr, ⊎_elim, arith, rules}
 use Rattle.std.specs.Prelude.{◌≢◌, ◌↔◌, IsSome, nat_lt, if◌then◌else◌}
 use Rattle.std.specs.Int.Bits.{bit_and}
-use Rattle.std.proofs.lemmas.Bool.{cases_lt}
 use Rattle.std.proofs.lemmas.Bool.Decides.{nat_tests}
 use Rattle.std.proofs.Math.Nat.{add-mul-mod_self_left, mod-eq_of_lt, mod_self, mul-suc}
 use Rattle.std.proofs.Math.Pow.{pow_mono}
@@ -12,12 +11,10 @@ use Rattle.iddqd_store.specs.Slots.{contents}
 use Rattle.iddqd_store.specs.Table.Ring.{gap, cell}
 use Rattle.iddqd_store.specs.Table.Limit.{IsLeast, IsSize, most_room}
 use Rattle.iddqd_store.specs.Table.{IsTable}
+use Rattle.iddqd_store.proofs.Plain.{by_order}
 
 pub doubled : (k : ℕ) → 2 ^ (k + 1) ≡ 2 * 2 ^ k
 doubled k = let e : 2 ^ (k + 1) ≡ 2 ^ k * 2 = pow-add 2 k 1 in omega arith
-
-pub least_nothing : IsLeast 0 0
-least_nothing = record { limit = inl refl; enough = omega arith; least = λ j l h. omega arith }
 
 pub least_found : (m k n : ℕ) → 0 < m → n ≡ 8 * 2 ^ k → m ≤ 7 * 2 ^ k → ((j : ℕ) → j < k → 7 * 2 ^ j < m) → IsLeast m (n / 8 * 7)
 least_found m k n pos e enough before =
@@ -27,12 +24,10 @@ least_found m k n pos e enough before =
       enough = omega arith;
       least = λ j is h. ⊎_elim (λ (z : j ≡ 0). absurd (omega arith))
           (λ (p : (i : ℕ) × (j ≡ 7 * 2 ^ i)).
-          ⊎_elim (λ (l : p.0 < k). let b = before p.0 l in absurd (omega (arith, b, p.1)))
+          by_order p.0 k (λ (l : p.0 < k). let b = before p.0 l in absurd (omega (arith, b, p.1)))
           (λ (l : k ≤ p.0).
-          ⊎_elim (λ (s : k < p.0). let b = pow_below k p.0 s in omega (arith, b, p.1))
-          (λ (s : p.0 ≤ k). let same : p.0 ≡ k = omega arith in let b : 2 ^ p.0 ≡ 2 ^ k = ap (λ (i : ℕ). 2 ^ i) same in omega (arith, b, p.1))
-          (cases_lt k p.0))
-          (cases_lt p.0 k))
+          by_order k p.0 (λ (s : k < p.0). let b = pow_below k p.0 s in omega (arith, b, p.1))
+          (λ (s : p.0 ≤ k). let same : p.0 ≡ k = omega arith in let b : 2 ^ p.0 ≡ 2 ^ k = ap (λ (i : ℕ). 2 ^ i) same in omega (arith, b, p.1))))
           is;
     }
 
@@ -73,7 +68,7 @@ mask_home hash count size some =
 pub mask_after : (at n : ℕ) → IsSize n → at < n → bit_and (at + 1) (n - 1) ≡ (if nat_lt (at + 1) n then at + 1 else 0)
 mask_after at n size l =
     let m : bit_and (at + 1) (n - 1) ≡ (at + 1) % n = mask_home (at + 1) n size (omega arith) in
-    ⊎_elim (λ (h : at + 1 < n).
+    by_order (at + 1) n (λ (h : at + 1 < n).
     let e : (at + 1) % n ≡ at + 1 = mod-eq_of_lt h in
     let g : at + 1 ≡ (if nat_lt (at + 1) n then at + 1 else 0) = grind (arith, nat_tests) in
     m ∙ (e ∙ g))
@@ -82,7 +77,6 @@ mask_after at n size l =
     let e : (at + 1) % n ≡ 0 = ap (λ (k : ℕ). k % n) same ∙ mod_self n in
     let g : 0 ≡ (if nat_lt (at + 1) n then at + 1 else 0) = grind (arith, nat_tests) in
     m ∙ (e ∙ g))
-    (cases_lt (at + 1) n)
 
 one_less : (n r : ℕ) → 0 < r → n * r ≡ n + n * (r - 1)
 one_less n r some =
@@ -94,21 +88,20 @@ rounds : (n : ℕ) → IsSize n → n < 2 ^ 64 → 0 < n → (q : ℕ) × (2 ^ 6
 rounds n size fits some =
     ⊎_elim (λ (none : n ≡ 0). absurd (omega arith))
     (λ (p : (k : ℕ) × (n ≡ 8 * 2 ^ k)).
-    ⊎_elim (λ (few : p.0 < 61).
+    by_order p.0 61 (λ (few : p.0 < 61).
     let r : ℕ = 2 ^ (61 - p.0) in
     let s : p.0 + (61 - p.0) ≡ 61 = omega arith in
     let e : 2 ^ 61 ≡ 2 ^ p.0 * r = subst (λ (i : ℕ). 2 ^ i ≡ 2 ^ p.0 * r) s (pow-add 2 p.0 (61 - p.0)) in
     let t : 2 ^ 64 ≡ n * r = rw p.1 (grind (arith, e)) in
     (r - 1, t ∙ one_less n r (pow_pos (61 - p.0))))
-    (λ (many : 61 ≤ p.0). let b : 2 ^ 61 ≤ 2 ^ p.0 = pow_mono many in absurd (omega (arith, b, p.1)))
-    (cases_lt p.0 61))
+    (λ (many : 61 ≤ p.0). let b : 2 ^ 61 ≤ 2 ^ p.0 = pow_mono many in absurd (omega (arith, b, p.1))))
     size
 
 -- the same for a difference, which wraps around at 2 ^ 64 if it would be below 0
 pub mask_steps : (a b n : ℕ) → IsSize n → n < 2 ^ 64 → a < n → b < n → bit_and ((b + (2 ^ 64 - a)) % 2 ^ 64) (n - 1) ≡ gap n a b
 mask_steps a b n size fits la lb =
     let m : bit_and ((b + (2 ^ 64 - a)) % 2 ^ 64) (n - 1) ≡ (b + (2 ^ 64 - a)) % 2 ^ 64 % n = mask_home ((b + (2 ^ 64 - a)) % 2 ^ 64) n size (omega arith) in
-    ⊎_elim (λ (h : b < a).
+    by_order b a (λ (h : b < a).
     let f = rounds n size fits (omega arith) in
     let w : (b + (2 ^ 64 - a)) % 2 ^ 64 ≡ ((b + n) - a) + n * f.0 = omega (arith, f.1) in
     let r : (((b + n) - a) + n * f.0) % n ≡ ((b + n) - a) % n = add-mul-mod_self_left ((b + n) - a) n f.0 in
@@ -120,16 +113,14 @@ mask_steps a b n size fits la lb =
     let e : (b - a) % n ≡ b - a = mod-eq_of_lt (omega arith) in
     let g : b - a ≡ gap n a b = grind (arith, nat_tests) in
     m ∙ (ap (λ (k : ℕ). k % n) w ∙ (e ∙ g)))
-    (cases_lt b a)
 
 -- no more pairs than these fit into cells that a `usize` counts
 pub size_most : (n : ℕ) → IsSize n → n < 2 ^ 64 → n / 8 * 7 ≤ most_room
 size_most n size fits =
     ⊎_elim (λ (none : n ≡ 0). omega arith)
     (λ (p : (k : ℕ) × (n ≡ 8 * 2 ^ k)).
-    ⊎_elim (λ (few : p.0 < 61). let l : p.0 ≤ 60 = omega arith in let b : 2 ^ p.0 ≤ 2 ^ 60 = pow_mono l in omega (arith, b, p.1))
-    (λ (many : 61 ≤ p.0). let b : 2 ^ 61 ≤ 2 ^ p.0 = pow_mono many in absurd (omega (arith, b, p.1)))
-    (cases_lt p.0 61))
+    by_order p.0 61 (λ (few : p.0 < 61). let l : p.0 ≤ 60 = omega arith in let b : 2 ^ p.0 ≤ 2 ^ 60 = pow_mono l in omega (arith, b, p.1))
+    (λ (many : 61 ≤ p.0). let b : 2 ^ 61 ≤ 2 ^ p.0 = pow_mono many in absurd (omega (arith, b, p.1))))
     size
 
 pub size_eighths : (n : ℕ) → IsSize n → n ≡ n / 8 * 8

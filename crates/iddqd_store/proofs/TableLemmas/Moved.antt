@@ -4,7 +4,8 @@ use Rattle.std.specs.List.{remove}
 use Rattle.std.specs.List.Sorted.{IsPermutation}
 use Rattle.std.proofs.Common.{refl, sym, ap, subst, ◌∙◌, arith}
 use Rattle.std.proofs.lemmas.Bool.Decides.{nat_tests}
-use Rattle.std.proofs.lemmas.List.Sorted.{IsPermutation-append, IsPermutation-cons, IsPermutation-filter_both, IsPermutation-middle, IsPermutation-refl, IsPermutation-remove, IsPermutation-sym, IsPermutation-trans, length_permutation}
+use Rattle.std.proofs.lemmas.List.Sorted.{IsPermutation-append, IsPermutation-cons, IsPermutation-filter_both, IsPermutation-middle, IsPermutation-refl, IsPermutation-remove}
+use Rattle.std.proofs.lemmas.List.Sorted.{IsPermutation-sym, IsPermutation-trans, length_permutation}
 use Rattle.iddqd_store.specs.Table.{ReplacesPair}
 use Rattle.iddqd_store.proofs.BagLemmas.Exchanges.{IsPermutation-filter, split}
 
@@ -54,8 +55,8 @@ cancelled p a b all =
     (IsPermutation-trans _ _ _ parts (IsPermutation-sym _ _ (IsPermutation-filter_both (same p) other (λ q. refl) b)))
 
 -- a pair is put in, and then another one leaves
-pub put_and_taken : (old mid new : List (ℕ × ℕ)) (before after : ℕ × ℕ) → Contains old before → IsPermutation (after ∷ old) mid → IsPermutation mid (before ∷ new) → ReplacesPair old new before after
-put_and_taken old mid new before after there put taken =
+pub put_and_taken : {old mid new : List (ℕ × ℕ)} {before after : ℕ × ℕ} → Contains old before → IsPermutation (after ∷ old) mid → IsPermutation mid (before ∷ new) → ReplacesPair old new before after
+put_and_taken {old = old} {new = new} {before = before} {after = after} there put taken =
     let others = remove old there.0 in
     let out : IsPermutation old (before ∷ others) = IsPermutation-remove old there.0 before there.1 (sym there.2) in
     let turned : IsPermutation (after ∷ before ∷ others) (before ∷ after ∷ others) = IsPermutation-middle (after ∷ []) before others in

@@ -1,5 +1,5 @@
 -- The cells of a ring in the order of their distance before a place.
-use Rattle.std.proofs.Common.{◌≡◌, ℕ, ◌+◌, ◌-◌, ◌<◌, ◌≤◌, Bool, List, [], ◌∷◌, ◌++◌, Option, None, Some, length, take, drop, refl, sym, ap, ◌∙◌, subst, ⊎_elim, arith, cond}
+use Rattle.std.proofs.Common.{◌≡◌, ℕ, ◌+◌, ◌-◌, ◌<◌, ◌≤◌, Bool, List, [], ◌∷◌, ◌++◌, Option, None, Some, length, take, drop, refl, sym, ap, ◌∙◌, subst, arith, cond}
 use Rattle.std.specs.List.{count_by, sum_by}
 use Rattle.std.specs.Prelude.{nat_le, if◌then◌else◌, reverse}
 use Rattle.std.specs.List.Sorted.{IsPermutation}
@@ -7,9 +7,9 @@ use Rattle.std.proofs.lemmas.List.{length-take-le, length-drop, length-append, l
 use Rattle.std.proofs.lemmas.List.Sums.{sum_by-cons}
 use Rattle.std.proofs.lemmas.List.Sorted.{IsPermutation-reverse, IsPermutation-append, sum_by-IsPermutation}
 use Rattle.std.proofs.lemmas.Bool.Decides.{nat_tests}
-use Rattle.std.proofs.lemmas.Bool.{cases_lt}
 use Rattle.iddqd_store.specs.Slots.{contents}
 use Rattle.iddqd_store.specs.Table.Ring.{gap, cell}
+use Rattle.iddqd_store.proofs.Plain.{by_order}
 
 -- the place that lies k steps before p
 abbrev pub turn : ℕ → ℕ → ℕ → ℕ
@@ -47,7 +47,7 @@ back_at cs p k l m =
     let t : length (take (p + 1) cs) ≡ p + 1 = length-take-le (p + 1) cs (omega arith) in
     let r : length (reverse (take (p + 1) cs)) ≡ p + 1 = length-reverse (take (p + 1) cs) ∙ t in
     let d : length (drop (p + 1) cs) ≡ length cs - (p + 1) = length-drop (p + 1) cs in
-    ⊎_elim (λ (h : k < p + 1).
+    by_order k (p + 1) (λ (h : k < p + 1).
     let a : cell (back cs p) k ≡ cell (reverse (take (p + 1) cs)) k = get_or_append_left _ _ None k (omega arith) in
     let b : cell (reverse (take (p + 1) cs)) k ≡ cell (take (p + 1) cs) (length (take (p + 1) cs) - 1 - k) = get_or-reverse (take (p + 1) cs) k None (omega arith) in
     let e : length (take (p + 1) cs) - 1 - k ≡ turn (length cs) p k = grind (arith, nat_tests) in
@@ -55,11 +55,11 @@ back_at cs p k l m =
     a ∙ (b ∙ (ap (cell (take (p + 1) cs)) e ∙ c)))
     (λ (h : p + 1 ≤ k).
     let a : cell (back cs p) k ≡ cell (reverse (drop (p + 1) cs)) (k - (p + 1)) = get_or-append_right _ _ (p + 1) k None r h in
-    let b : cell (reverse (drop (p + 1) cs)) (k - (p + 1)) ≡ cell (drop (p + 1) cs) (length (drop (p + 1) cs) - 1 - (k - (p + 1))) = get_or-reverse (drop (p + 1) cs) (k - (p + 1)) None (omega arith) in
+    let b : cell (reverse (drop (p + 1) cs)) (k - (p + 1)) ≡ cell (drop (p + 1) cs) (length (drop (p + 1) cs) - 1 - (k - (p + 1))) =
+    get_or-reverse (drop (p + 1) cs) (k - (p + 1)) None (omega arith) in
     let c : cell (drop (p + 1) cs) (length (drop (p + 1) cs) - 1 - (k - (p + 1))) ≡ cell cs ((p + 1) + (length (drop (p + 1) cs) - 1 - (k - (p + 1)))) = get_or-drop (p + 1) cs _ None in
     let e : (p + 1) + (length (drop (p + 1) cs) - 1 - (k - (p + 1))) ≡ turn (length cs) p k = grind (arith, nat_tests) in
     a ∙ (b ∙ (c ∙ ap (cell cs) e)))
-    (cases_lt k (p + 1))
 
 abbrev pub weight : {X : Type 0} → (X → Bool) → Option X → ℕ
 weight q None = 0

@@ -1,12 +1,12 @@
 -- Worked rows of full places, stretches, probes and limits. A call that finds nothing probes one cell more than the
 -- stretch.
-use Rattle.std.proofs.Common.{◌≡◌, ℕ, ◌+◌, ◌*◌, ◌^◌, ◌<◌, ◌≤◌, List, [], ◌∷◌, Option, None, Some, true, false, refl, arith, inr}
+use Rattle.std.proofs.Common.{◌≡◌, ℕ, ◌+◌, ◌*◌, ◌^◌, ◌<◌, ◌≤◌, List, [], ◌∷◌, Option, None, Some, true, false, refl, arith, inl, inr}
 use Rattle.std.proofs.Math.Pow.{pow_mono}
 use Rattle.std.specs.Prelude.{map}
 use Rattle.std.specs.List.{range_with_len}
 use Rattle.iddqd_store.proofs.TableLemmas.Probes.{probes_most}
 use Rattle.iddqd_store.proofs.TableLemmas.StretchBound.{stretch_le_length}
-use Rattle.iddqd_store.proofs.TableLemmas.Limits.{least_nothing, least_found}
+use Rattle.iddqd_store.proofs.TableLemmas.Limits.{least_found}
 use Rattle.iddqd_store.specs.Table.Limit.{IsLeast}
 use Rattle.iddqd_store.specs.Table.Ring.{is_full, stretch}
 use Rattle.iddqd_store.specs.Table.{Probes, ProbesWithin}
@@ -79,7 +79,7 @@ no_answer_among_none_within hash before after found within = omega (arith, stret
 
 -- the least limit in which this many pairs fit
 least_of_none : IsLeast 0 0
-least_of_none = least_nothing
+least_of_none = record { limit = inl refl; enough = omega arith; least = λ j l h. omega arith }
 
 least_of_1 : IsLeast 1 7
 least_of_1 = least_found 1 0 8 (omega arith) refl (omega arith) (λ j below. absurd (omega (arith, below)))

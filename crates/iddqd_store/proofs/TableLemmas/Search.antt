@@ -1,16 +1,18 @@
 -- A search that goes from a home on, over cells that are occupied.
-use Rattle.std.proofs.Common.{◌≡◌, ℕ, suc, zero, ◌+◌, ◌-◌, ◌*◌, ◌/◌, ◌<◌, ◌≤◌, ◌%◌, Bool, true, false, List, [], ◌∷◌, ◌++◌, Option, None, Some, length, get_or, take, drop, refl, sym, ap, ◌∙◌, subst, ⊎_elim, arith, cond}
+use Rattle.std.proofs.Common.{◌≡◌, ℕ, suc, zero, ◌+◌, ◌-◌, ◌*◌, ◌/◌, ◌<◌, ◌≤◌, ◌%◌, Bool, true, false, List, [], ◌∷◌, ◌++◌, Option, None, Some, length, get_or, take, drop, refl, below_more}
+use Rattle.std.proofs.Common.{sym, ap, ◌∙◌, subst, arith, cond}
 use Rattle.std.specs.List.{count_by, sum_by, Contains}
 use Rattle.std.specs.Prelude.{◌≢◌, nat_lt, is_some, if◌then◌else◌}
 use Rattle.std.specs.List.Sorted.{IsPermutation}
 use Rattle.std.proofs.lemmas.List.{length-append, length-drop, length-take-le, get_or_append_left, get_or-append_right, get_or-take, get_or-drop, take-append-drop}
 use Rattle.std.proofs.lemmas.List.Sums.{sum_by_more, sum_by-take-le}
 use Rattle.std.proofs.lemmas.List.Sorted.{IsPermutation-append_comm, sum_by-IsPermutation}
-use Rattle.std.proofs.lemmas.Bool.{cases_lt, both_ways, eq-eqb}
+use Rattle.std.proofs.lemmas.Bool.{both_ways, eq-eqb}
 use Rattle.std.proofs.lemmas.Bool.Decides.{nat_tests}
 use Rattle.iddqd_store.specs.Slots.{contents}
 use Rattle.iddqd_store.specs.Table.Ring.{gap, stretch, cell}
 use Rattle.iddqd_store.specs.Table.{hashes, under, IsTable, IsFirstEmpty, IsWayTo}
+use Rattle.iddqd_store.proofs.Plain.{by_order}
 use Rattle.iddqd_store.proofs.TableLemmas.Ring.{weight, count-held, gap_below}
 use Rattle.iddqd_store.proofs.TableLemmas.Stretch.{place, place_below, gap_place, place_gap, place_more, stretch_is, stretch_at_least}
 use Rattle.iddqd_store.proofs.SlotLemmas.Contents.{content_at}
@@ -44,21 +46,26 @@ room row t l = has_empty row (let f : length (contents row) ≤ length row / 8 *
 pub walk_below : (row : List (Option (ℕ × ℕ))) (home at s : ℕ) → home < length row → Walk row home at s → at < length row
 walk_below row home at s l w = rw w.at_is (place_below (length row) home s l w.within)
 
+-- a cell that is empty lies beyond cells that are not
+pub past_walk : (row : List (Option (ℕ × ℕ))) (home e m : ℕ) → home < length row → e < length row → cell row e ≡ None
+    → ((k : ℕ) → k < m → cell row (place (length row) home k) ≢ None) → m ≤ gap (length row) home e
+past_walk row home e m l le none passed =
+    by_order (gap (length row) home e) m (λ h. absurd (passed _ h (ap (cell row) (place_gap (length row) home e l le) ∙ none))) (λ h. h)
+
+passed_on : (row : List (Option (ℕ × ℕ))) (home at s : ℕ) → Walk row home at s → cell row at ≢ None → (k : ℕ) → k < s + 1 → cell row (place (length row) home k) ≢ None
+passed_on row home at s w some = below_more (λ (k : ℕ). cell row (place (length row) home k) ≢ None) s w.passed (rw w.at_is at some)
+
 -- the next cell, if this one is occupied
-pub walk_more : (row : List (Option (ℕ × ℕ))) (home at s : ℕ) → IsTable row → home < length row → Walk row home at s → cell row at ≢ None → (at' s' : ℕ) → at' ≡ (if nat_lt (at + 1) (length row) then at + 1 else 0) → s' ≡ s + 1 → Walk row home at' s'
+pub walk_more : (row : List (Option (ℕ × ℕ))) (home at s : ℕ) → IsTable row → home < length row → Walk row home at s → cell row at ≢ None
+    → (at' s' : ℕ) → at' ≡ (if nat_lt (at + 1) (length row) then at + 1 else 0) → s' ≡ s + 1 → Walk row home at' s'
 walk_more row home at s t l w some at' s' ea es =
     let e : Empty row = room row t (omega arith) in
-    let more : (k : ℕ) → k < s + 1 → cell row (place (length row) home k) ≢ None = λ k lk.
-    ⊎_elim (λ (h : k < s). w.passed k h)
-    (λ (h : s ≤ k). let same : s ≡ k = omega arith in subst (λ (i : ℕ). cell row (place (length row) home i) ≢ None) same (rw w.at_is at some))
-    (cases_lt k s) in
-    let far : s + 1 < length row =
-    ⊎_elim (λ (h : gap (length row) home e.0 < s + 1). absurd (more (gap (length row) home e.0) h (ap (cell row) (place_gap (length row) home e.0 l e.1) ∙ e.2)))
-    (λ (h : s + 1 ≤ gap (length row) home e.0). let g : gap (length row) home e.0 < length row = gap_below (length row) home e.0 l e.1 in omega arith)
-    (cases_lt (gap (length row) home e.0) (s + 1)) in
+    let more : (k : ℕ) → k < s + 1 → cell row (place (length row) home k) ≢ None = passed_on row home at s w some in
+    let far = past_walk row home e.0 (s + 1) l e.1 e.2 more in
+    let most = gap_below (length row) home e.0 l e.1 in
     record {
-      within = omega arith;
-      at_is = rw es (ea ∙ rw w.at_is (sym (place_more (length row) home s l far)));
+      within = omega (arith, far, most, es);
+      at_is = rw es (ea ∙ rw w.at_is (sym (place_more (length row) home s l (omega (arith, far, most)))));
       passed = λ k lk. more k (omega arith);
     }
 
@@ -76,26 +83,24 @@ walk_meets row hash at s index t w none c =
     let within : s < n = w.within in
     let lh : home < n = omega arith in
     let pg : place n home (gap n home f.0) ≡ f.0 = place_gap n home f.0 lh f.1 in
-    ⊎_elim (λ (h : gap n home f.0 < s). (gap n home f.0, h, ap (cell row) pg ∙ f.2))
+    by_order (gap n home f.0) s (λ (h : gap n home f.0 < s). (gap n home f.0, h, ap (cell row) pg ∙ f.2))
     (λ (h : s ≤ gap n home f.0).
     let pb : at < n = walk_below row home at s lh w in
     let gp : gap n home at ≡ s = ap (gap n home) w.at_is ∙ gap_place n home s lh within in
     absurd (t.reached f.0 (hash, index) f.1 f.2 at pb (subst (λ (i : ℕ). i ≤ gap n home f.0) (sym gp) h) none))
-    (cases_lt (gap n home f.0) s)
 
 abbrev pub Refused : List (Option (ℕ × ℕ)) → ℕ → (ℕ → Bool) → ℕ → Type 0
 Refused row hash accepts s = (k : ℕ) → k < s → (index : ℕ) → cell row (place (length row) (hash % length row) k) ≡ Some (hash, index) → accepts index ≡ false
 
-pub refused_more : (row : List (Option (ℕ × ℕ))) (hash : ℕ) (accepts : ℕ → Bool) (s t at : ℕ) (x : ℕ × ℕ) → t ≡ s + 1 → Walk row (hash % length row) at s → cell row at ≡ Some x → Refused row hash accepts s → (x.0 ≡ hash → accepts x.1 ≡ false) → Refused row hash accepts t
-refused_more row hash accepts s t at x e w i r declines k l index j =
-    ⊎_elim (λ (h : k < s). r k h index j)
-    (λ (h : s ≤ k).
-    let same : k ≡ s = omega arith in
-    let a : cell row at ≡ Some (hash, index) = ap (cell row) (w.at_is ∙ ap (place (length row) (hash % length row)) (sym same)) ∙ j in
-    let b : x ≡ (hash, index) = cc (i, a) in
-    let c : accepts x.1 ≡ false = declines (ap (λ (p : ℕ × ℕ). p.0) b) in
-    ap accepts (sym (ap (λ (p : ℕ × ℕ). p.1) b)) ∙ c)
-    (cases_lt k s)
+pub refused_more : (row : List (Option (ℕ × ℕ))) (hash : ℕ) (accepts : ℕ → Bool) (s t at : ℕ) (x : ℕ × ℕ) → t ≡ s + 1
+    → Walk row (hash % length row) at s → cell row at ≡ Some x → Refused row hash accepts s → (x.0 ≡ hash → accepts x.1 ≡ false)
+    → Refused row hash accepts t
+refused_more row hash accepts s t at x e w i r declines k l =
+    below_more (λ (k : ℕ). (index : ℕ) → cell row (place (length row) (hash % length row) k) ≡ Some (hash, index) → accepts index ≡ false) s r
+    (λ index j.
+    let b : x ≡ (hash, index) = let a = ap (cell row) w.at_is ∙ j in cc (i, a) in
+    ap accepts (sym (ap (λ (p : ℕ × ℕ). p.1) b)) ∙ declines (ap (λ (p : ℕ × ℕ). p.0) b))
+    k (omega arith)
 
 -- the cells in order, from place a on and round
 abbrev pub ahead : {X : Type 0} → List (Option X) → ℕ → List (Option X)
@@ -107,19 +112,19 @@ length-ahead cs a l = simp (length-append, length-drop) (let t : length (take a 
 pub ahead_at : {X : Type 0} (cs : List (Option X)) (a k : ℕ) → a < length cs → k < length cs → cell (ahead cs a) k ≡ cell cs (place (length cs) a k)
 ahead_at cs a k l m =
     let d : length (drop a cs) ≡ length cs - a = length-drop a cs in
-    ⊎_elim (λ (h : k < length cs - a).
+    by_order k (length cs - a) (λ (h : k < length cs - a).
     let e : a + k ≡ place (length cs) a k = grind (arith, nat_tests) in
     get_or_append_left (drop a cs) (take a cs) None k (omega arith) ∙ (get_or-drop a cs k None ∙ ap (cell cs) e))
     (λ (h : length cs - a ≤ k).
     let e : k - (length cs - a) ≡ place (length cs) a k = grind (arith, nat_tests) in
     get_or-append_right (drop a cs) (take a cs) (length cs - a) k None d h ∙ (get_or-take a cs (k - (length cs - a)) None (omega arith) ∙ ap (cell cs) e))
-    (cases_lt k (length cs - a))
 
 -- how many of the pairs in the first s cells from a on pass a test
 abbrev pub met : {X : Type 0} → (X → Bool) → List (Option X) → ℕ → ℕ → ℕ
 met q cs a s = sum_by (weight q) (take s (ahead cs a))
 
-pub met_more : {X : Type 0} (q : X → Bool) (cs : List (Option X)) (a s : ℕ) (x : X) → a < length cs → s < length cs → cell cs (place (length cs) a s) ≡ Some x → (t : ℕ) → t ≡ s + 1 → met q cs a t ≡ met q cs a s + cond (q x) 1 0
+pub met_more : {X : Type 0} (q : X → Bool) (cs : List (Option X)) (a s : ℕ) (x : X) → a < length cs → s < length cs
+    → cell cs (place (length cs) a s) ≡ Some x → (t : ℕ) → t ≡ s + 1 → met q cs a t ≡ met q cs a s + cond (q x) 1 0
 met_more q cs a s x l m e t et =
     let i : cell (ahead cs a) s ≡ Some x = ahead_at cs a s l m ∙ e in
     let la : length (ahead cs a) ≡ length cs = length-ahead cs a l in
@@ -145,14 +150,13 @@ pub met_grows : (hash : ℕ) (row : List (Option (ℕ × ℕ))) (a s : ℕ) (x :
 met_grows hash row a s x l m e t et = let f = met_more (under hash) row a s x l m e t et in omega arith
 
 -- the probes of a search that finds a pair
-pub walk_found : (row : List (Option (ℕ × ℕ))) (hash at s t : ℕ) → IsTable row → Walk row (hash % length row) at s → cell row at ≢ None → t ≡ s + 1 → t ≤ stretch (hashes (contents row)) (length row) hash
+pub walk_found : (row : List (Option (ℕ × ℕ))) (hash at s t : ℕ) → IsTable row → Walk row (hash % length row) at s → cell row at ≢ None → t ≡ s + 1
+    → t ≤ stretch (hashes (contents row)) (length row) hash
 walk_found row hash at s t table w some e =
     let within : s < length row = w.within in
     let r : Empty row = room row table (omega arith) in
-    stretch_at_least (λ (p : ℕ × ℕ). p.0) (length row) row refl (omega arith) table.reached r.0 r.1 r.2 hash t (omega arith) (λ k lk.
-    ⊎_elim (λ (h : k < s). w.passed k h)
-    (λ (h : s ≤ k). let same : s ≡ k = omega arith in subst (λ (i : ℕ). cell row (place (length row) (hash % length row) i) ≢ None) same (rw w.at_is at some))
-    (cases_lt k s))
+    stretch_at_least (λ (p : ℕ × ℕ). p.0) (length row) row refl (omega arith) table.reached r.0 r.1 r.2 hash t (omega arith)
+    (λ k lk. passed_on row (hash % length row) at s w some k (omega arith))
 
 pub found_there : (row : List (Option (ℕ × ℕ))) (at hash : ℕ) (x : ℕ × ℕ) → cell row at ≡ Some x → x.0 ≡ hash → Contains (contents row) (hash, x.1)
 found_there row at hash x e h = content_at row at (hash, x.1) (e ∙ ap (λ (i : ℕ). Some (i, x.1)) h)
@@ -190,26 +194,16 @@ walk_gap row home at s l w = ap (gap (length row) home) w.at_is ∙ gap_place (l
 
 -- an empty cell lies beyond the walk
 pub beyond : (row : List (Option (ℕ × ℕ))) (home at s : ℕ) → IsTable row → home < length row → Walk row home at s → (e : ℕ) × (e < length row) × (cell row e ≡ None) × (s ≤ gap (length row) home e)
-beyond row home at s t l w =
-    let e : Empty row = room row t (omega arith) in (
-      e.0,
-      e.1,
-      e.2,
-      ⊎_elim (λ (h : gap (length row) home e.0 < s). absurd (w.passed (gap (length row) home e.0) h (ap (cell row) (place_gap (length row) home e.0 l e.1) ∙ e.2)))
-          (λ (h : s ≤ gap (length row) home e.0). h) (cases_lt (gap (length row) home e.0) s),
-    )
+beyond row home at s t l w = let e : Empty row = room row t (omega arith) in (e.0, e.1, e.2, past_walk row home e.0 s l e.1 e.2 w.passed)
 
 abbrev pub Unmet : List (Option (ℕ × ℕ)) → ℕ → ℕ × ℕ → ℕ → Type 0
 Unmet row home x s = (k : ℕ) → k < s → cell row (place (length row) home k) ≢ Some x
 
 pub unmet_more : (row : List (Option (ℕ × ℕ))) (home at s t : ℕ) (x : ℕ × ℕ) → t ≡ s + 1 → Walk row home at s → Unmet row home x s → cell row at ≢ Some x → Unmet row home x t
-unmet_more row home at s t x e w u f k l j =
-    ⊎_elim (λ (h : k < s). u k h j)
-    (λ (h : s ≤ k).
-    let same : k ≡ s = omega arith in
-    f (ap (cell row) (w.at_is ∙ ap (place (length row) home) (sym same)) ∙ j))
-    (cases_lt k s)
+unmet_more row home at s t x e w u f k l =
+    below_more (λ (k : ℕ). cell row (place (length row) home k) ≢ Some x) s u (λ j. f (ap (cell row) w.at_is ∙ j)) k (omega arith)
 
 -- a pair that is there and was not met yet lies further on
-pub seek_on : (row : List (Option (ℕ × ℕ))) (hash at s index : ℕ) → IsTable row → Walk row (hash % length row) at s → Contains (contents row) (hash, index) → Unmet row (hash % length row) (hash, index) s → cell row at ≢ None
+pub seek_on : (row : List (Option (ℕ × ℕ))) (hash at s index : ℕ) → IsTable row → Walk row (hash % length row) at s
+    → Contains (contents row) (hash, index) → Unmet row (hash % length row) (hash, index) s → cell row at ≢ None
 seek_on row hash at s index t w c u none = let f = walk_meets row hash at s index t w none c in u f.0 f.1 f.2

@@ -1,5 +1,5 @@
 -- The full places from a home on are the occupied cells from there on.
-use Rattle.std.proofs.Common.{◌≡◌, ℕ, ◌+◌, ◌-◌, ◌<◌, ◌≤◌, ◌%◌, Bool, true, false, leb, ltb, List, Option, None, length, get_or, map, sym, ap, cond, ◌∙◌, ⊎_elim, arith}
+use Rattle.std.proofs.Common.{◌≡◌, ℕ, ◌+◌, ◌-◌, ◌<◌, ◌≤◌, ◌%◌, Bool, true, false, leb, ltb, List, Option, None, length, get_or, map, sym, ap, cond, ◌∙◌, arith}
 use Rattle.std.specs.List.{list_any, prefix_len, range_with_len}
 use Rattle.std.specs.Prelude.{◌≢◌, nat_lt, if◌then◌else◌}
 use Rattle.std.specs.Bool.{Decides}
@@ -10,10 +10,11 @@ use Rattle.std.proofs.lemmas.List.{length-append, get_or_append_left, get_or-app
 use Rattle.std.proofs.lemmas.List.FromFn.{length-range_with_len, get_or-range_with_len}
 use Rattle.std.proofs.lemmas.List.Folds.{Any-from_list_any, list_any_at}
 use Rattle.std.proofs.lemmas.List.Sums.{prefix_len_is, prefix_len_stops}
-use Rattle.std.proofs.lemmas.Bool.{cases_lt, both_ways, leb-true, le-leb, false_from_ne_true}
+use Rattle.std.proofs.lemmas.Bool.{both_ways, leb-true, le-leb, false_from_ne_true}
 use Rattle.std.proofs.lemmas.Bool.Decides.{nat_tests}
 use Rattle.iddqd_store.specs.Slots.{contents}
 use Rattle.iddqd_store.specs.Table.Ring.{gap, ending, IsFull, is_full, round, stretch, cell, IsReached}
+use Rattle.iddqd_store.proofs.Plain.{by_order}
 use Rattle.iddqd_store.proofs.TableLemmas.Full.{occupied_exactly_full}
 
 pub is_full_decides : (hashes : List ℕ) (n p : ℕ) → Decides (is_full hashes n p) (IsFull hashes n p)
@@ -50,13 +51,12 @@ length-round n a l = simp (length-append, length-range_with_len) (omega arith)
 
 pub get_or-round : (n a k : ℕ) → a < n → k < n → get_or (round n a) k 0 ≡ place n a k
 get_or-round n a k l m =
-    ⊎_elim (λ (h : k < n - a).
+    by_order k (n - a) (λ (h : k < n - a).
     let e : a + k ≡ place n a k = grind (arith, nat_tests) in
     get_or_append_left (range_with_len a (n - a)) (range_with_len 0 a) 0 k (rw length-range_with_len h) ∙ (get_or-range_with_len a (n - a) k 0 h ∙ e))
     (λ (h : n - a ≤ k).
     let e : 0 + (k - (n - a)) ≡ place n a k = grind (arith, nat_tests) in
     get_or-append_right (range_with_len a (n - a)) (range_with_len 0 a) (n - a) k 0 (length-range_with_len a (n - a)) h ∙ (get_or-range_with_len 0 a (k - (n - a)) 0 (omega arith) ∙ e))
-    (cases_lt k (n - a))
 
 module _ {X : Type 0} (key : X → ℕ) (n : ℕ) (cs : List (Option X)) (len : length cs ≡ n) (pos : 0 < n) (reached : IsReached (λ x. key x % n) n cs) where
   pub full_at : (e : ℕ) → e < n → cell cs e ≡ None → (p : ℕ) → p < n → cell cs p ≢ None → is_full (map key (contents cs)) n p ≡ true
@@ -82,12 +82,12 @@ module _ {X : Type 0} (key : X → ℕ) (n : ℕ) (cs : List (Option X)) (len : 
       let a : h % n < n = omega arith in
       let lr : length (round n (h % n)) ≡ n = length-round n (h % n) a in
       let s : ℕ = stretch (map key (contents cs)) n h in
-      ⊎_elim (λ (l : s < m).
+      by_order s m (λ (l : s < m).
       let f : is_full (map key (contents cs)) n (get_or (round n (h % n)) s 0) ≡ false = prefix_len_stops (is_full (map key (contents cs)) n) (round n (h % n)) 0 (omega arith) in
       let t : is_full (map key (contents cs)) n (get_or (round n (h % n)) s 0) ≡ true =
       rw (get_or-round n (h % n) s a (omega arith)) (full_at e le none (place n (h % n) s) (place_below n (h % n) s a (omega arith)) (some s l)) in
       absurd (both_ways _ f t))
-      (λ (l : m ≤ s). l) (cases_lt s m)
+      (λ (l : m ≤ s). l)
 
 -- the order of the hashes plays no part
 ending_permutation : (xs ys : List ℕ) (n p j : ℕ) → IsPermutation xs ys → ending xs n p j ≡ ending ys n p j
@@ -98,5 +98,4 @@ full_permutation xs ys n p same =
     ap (λ (ends : ℕ → ℕ). list_any (λ j. leb j (ends j)) (range_with_len 1 n)) (fun_ext (λ j. ending_permutation xs ys n p j same))
 
 pub stretch_permutation : (xs ys : List ℕ) (n hash : ℕ) → IsPermutation xs ys → stretch xs n hash ≡ stretch ys n hash
-stretch_permutation xs ys n hash same =
-    ap (λ (f : ℕ → Bool). prefix_len f (round n (hash % n))) (fun_ext (λ p. full_permutation xs ys n p same))
+stretch_permutation xs ys n hash same = ap (λ (f : ℕ → Bool). prefix_len f (round n (hash % n))) (fun_ext (λ p. full_permutation xs ys n p same))

@@ -3,13 +3,13 @@ use Rattle.std.proofs.Common.{◌≡◌, ℕ, suc, zero, ◌+◌, ◌<◌, ◌�
 use Rattle.std.specs.List.{count_by, prefix_len}
 use Rattle.std.specs.List.Sorted.{IsPermutation}
 use Rattle.std.specs.Prelude.{◌≢◌}
-use Rattle.std.proofs.lemmas.Bool.{cases_lt}
 use Rattle.std.proofs.lemmas.List.{length-replicate, length-set, length-map, map-id}
 use Rattle.std.proofs.lemmas.List.Sums.{prefix_len_passes, prefix_len-le-length, count_by-le-length}
 use Rattle.std.proofs.lemmas.List.Sorted.{IsPermutation-refl, IsPermutation-cons, IsPermutation-trans, length_permutation}
 use Rattle.iddqd_store.specs.Slots.{contents}
 use Rattle.iddqd_store.specs.Table.Ring.{gap, stretch, round, is_full, cell, IsReached}
 use Rattle.iddqd_store.specs.Table.{hashes}
+use Rattle.iddqd_store.proofs.Plain.{by_order}
 use Rattle.iddqd_store.proofs.TableLemmas.Write.{reached_put}
 use Rattle.iddqd_store.proofs.SlotLemmas.Contents.{contents-put}
 use Rattle.iddqd_store.proofs.TableLemmas.Line.{cases_option}
@@ -30,7 +30,8 @@ all_met cs a (suc s) la ls f =
     (cases_option (cell cs (place (length cs) a s)))
 
 -- in a row of cells in which each key is found from its home on
-within_row : {X : Type 0} (key : X → ℕ) (cs : List (Option X)) (hash : ℕ) → 0 < length cs → IsReached (λ x. key x % length cs) (length cs) cs → length (contents cs) < length cs → stretch (map key (contents cs)) (length cs) hash ≤ length (contents cs)
+within_row : {X : Type 0} (key : X → ℕ) (cs : List (Option X)) (hash : ℕ) → 0 < length cs → IsReached (λ x. key x % length cs) (length cs) cs
+    → length (contents cs) < length cs → stretch (map key (contents cs)) (length cs) hash ≤ length (contents cs)
 within_row {X} key cs hash pos reached few =
     let n : ℕ = length cs in
     let a : ℕ = hash % n in
@@ -97,7 +98,8 @@ laid n (h ∷ hashes) l =
     record {
       row = set r.row f.at (Some h);
       len = length-set r.row f.at (Some h) ∙ rl;
-      reached = reached_put (λ x. x % n) n r.row f.at h rl (λ x. omega arith) (omega arith) f.empty (subst (λ (m : ℕ). (q : ℕ) → q < m → gap m (h % n) q < gap m (h % n) f.at → cell r.row q ≢ None) rl f.first) r.reached;
+      reached = reached_put (λ x. x % n) n r.row f.at h rl (λ x. omega arith) (omega arith) f.empty
+          (subst (λ (m : ℕ). (q : ℕ) → q < m → gap m (h % n) q < gap m (h % n) f.at → cell r.row q ≢ None) rl f.first) r.reached;
       pairs = IsPermutation-trans _ _ _ (IsPermutation-cons h hashes (contents r.row) r.pairs) (contents-put r.row f.at h below f.empty);
     }
 
@@ -108,7 +110,7 @@ no_places hashes (x ∷ xs) = refl
 -- no row of cells is in this
 pub stretch_le_length : (hashes : List ℕ) (n hash : ℕ) → stretch hashes n hash ≤ length hashes
 stretch_le_length hashes n hash =
-    ⊎_elim (λ (few : length hashes < n).
+    by_order (length hashes) n (λ (few : length hashes < n).
     let r : Laid n hashes = laid n hashes few in
     let rl : length r.row ≡ n = r.len in
     let c : length (contents r.row) ≡ length hashes = length_permutation _ _ r.pairs in
@@ -118,16 +120,14 @@ stretch_le_length hashes n hash =
     let p : stretch hashes n hash ≡ stretch (contents r.row) n hash = stretch_permutation hashes (contents r.row) n hash r.pairs in
     omega arith)
     (λ (many : n ≤ length hashes).
-    ⊎_elim (λ (pos : 0 < n).
+    by_order 0 n (λ (pos : 0 < n).
     let lr : length (round n (hash % n)) ≡ n = length-round n (hash % n) (omega arith) in
     let ls : stretch hashes n hash ≤ length (round n (hash % n)) = prefix_len-le-length (is_full hashes n) (round n (hash % n)) in
     omega arith)
     (λ (none : n ≤ 0).
     let z : n ≡ 0 = omega arith in
     let s : stretch hashes n hash ≡ 0 = subst (λ (m : ℕ). stretch hashes m hash ≡ 0) (sym z) (no_places hashes (round 0 (hash % 0))) in
-    omega arith)
-    (cases_lt 0 n))
-    (cases_lt (length hashes) n)
+    omega arith))
 
 pub stretch_le_pairs : (pairs : List (ℕ × ℕ)) (n hash : ℕ) → stretch (hashes pairs) n hash ≤ length pairs
 stretch_le_pairs pairs n hash = rw length-map at (stretch_le_length (hashes pairs) n hash)

@@ -1,14 +1,14 @@
 -- What a write to one cell does.
-use Rattle.std.proofs.Common.{◌≡◌, ℕ, ◌+◌, ◌*◌, ◌/◌, ◌<◌, ◌≤◌, ◌%◌, List, [], ◌∷◌, ◌++◌, Option, None, Some, length, set, take, drop, refl, sym, ap, ◌∙◌, subst, ⊎_elim, arith}
+use Rattle.std.proofs.Common.{◌≡◌, ℕ, ◌+◌, ◌*◌, ◌/◌, ◌<◌, ◌≤◌, ◌%◌, List, [], ◌∷◌, ◌++◌, Option, None, Some, length, set, take, drop, refl, sym, ap, ◌∙◌, subst, arith}
 use Rattle.std.specs.Prelude.{◌≢◌}
 use Rattle.std.specs.List.Sorted.{IsPermutation}
 use Rattle.std.proofs.lemmas.List.Elements.{filter_map-append}
 use Rattle.std.proofs.lemmas.List.{take_more, append-nil, take-append-drop, length-append, length-set, get_or-set_same, get_or-set_other}
 use Rattle.std.proofs.lemmas.List.Sorted.{IsPermutation-trans, length_permutation}
-use Rattle.std.proofs.lemmas.Bool.{cases_eq}
 use Rattle.iddqd_store.specs.Slots.{contents}
 use Rattle.iddqd_store.specs.Table.Ring.{gap, cell, IsReached}
 use Rattle.iddqd_store.specs.Table.{IsTable, IsFirstEmpty}
+use Rattle.iddqd_store.proofs.Plain.{by_equal}
 use Rattle.iddqd_store.proofs.TableLemmas.Stretch.{place, place_gap}
 use Rattle.iddqd_store.proofs.SlotLemmas.Contents.{contents-put, contents-take}
 
@@ -19,21 +19,20 @@ pub reached_put : {X : Type 0} (home : X → ℕ) (n : ℕ) (cs : List (Option X
     → ((q : ℕ) → q < n → gap n (home x) q < gap n (home x) at → cell cs q ≢ None) → IsReached home n cs → IsReached home n (set cs at (Some x))
 reached_put {X} home n cs at x len homes la none first reached q y lq e i li h z =
     let here : cell (set cs at (Some x)) at ≡ Some x = get_or-set_same cs at (Some x) None (omega arith) in
-    ⊎_elim (λ (ia : i ≡ at). let w : cell (set cs at (Some x)) at ≡ None = ap (cell (set cs at (Some x))) (sym ia) ∙ z in cc (w, here))
+    by_equal i at (λ (ia : i ≡ at). let w : cell (set cs at (Some x)) at ≡ None = ap (cell (set cs at (Some x))) (sym ia) ∙ z in cc (w, here))
     (λ (ia : i ≢ at).
     let old : cell (set cs at (Some x)) i ≡ cell cs i = get_or-set_other cs at i (Some x) None ia in
     let gone : cell cs i ≡ None = sym old ∙ z in
-    ⊎_elim (λ (qa : q ≡ at).
+    by_equal q at (λ (qa : q ≡ at).
     let s : Some y ≡ Some x = sym e ∙ (ap (cell (set cs at (Some x))) qa ∙ here) in
     let yx : y ≡ x = cc s in
     let l : gap n (home x) i ≤ gap n (home x) at = subst (λ (u : X). gap n (home u) i ≤ gap n (home u) at) yx (subst (λ (p : ℕ). gap n (home y) i ≤ gap n (home y) p) qa h) in
     let ne : gap n (home x) i ≢ gap n (home x) at = λ g. ia (same_gap n (home x) i at (homes x) li la g) in
     first i li (omega (arith, l, ne)) gone)
-    (λ (qa : q ≢ at). reached q y lq (sym (get_or-set_other cs at q (Some x) None qa) ∙ e) i li h gone)
-    (cases_eq q at))
-    (cases_eq i at)
+    (λ (qa : q ≢ at). reached q y lq (sym (get_or-set_other cs at q (Some x) None qa) ∙ e) i li h gone))
 
-pub table_put : (row : List (Option (ℕ × ℕ))) (at hash index : ℕ) → IsTable row → length (contents row) < length row / 8 * 7 → IsFirstEmpty row (hash % length row) at → IsTable (set row at (Some (hash, index)))
+pub table_put : (row : List (Option (ℕ × ℕ))) (at hash index : ℕ) → IsTable row → length (contents row) < length row / 8 * 7
+    → IsFirstEmpty row (hash % length row) at → IsTable (set row at (Some (hash, index)))
 table_put row at hash index t l f =
     let n : ℕ = length row in
     let some : 0 < n = let b = f.below in omega arith in
@@ -42,11 +41,13 @@ table_put row at hash index t l f =
     record {
       size = rw len t.size;
       fits = rw (p, len) (omega arith);
-      reached = subst (λ (m : ℕ). IsReached (λ (p : ℕ × ℕ). p.0 % m) m (set row at (Some (hash, index)))) (sym len) (reached_put (λ (p : ℕ × ℕ). p.0 % n) n row at (hash, index) refl (λ y. omega arith) f.below f.empty f.first t.reached);
+      reached = subst (λ (m : ℕ). IsReached (λ (p : ℕ × ℕ). p.0 % m) m (set row at (Some (hash, index)))) (sym len)
+          (reached_put (λ (p : ℕ × ℕ). p.0 % n) n row at (hash, index) refl (λ y. omega arith) f.below f.empty f.first t.reached);
     }
 
 -- a pair that is moved into an empty cell
-pub held_move : {X : Type 0} (cs : List (Option X)) (at hole : ℕ) (x : X) → at < length cs → hole < length cs → cell cs at ≡ Some x → cell cs hole ≡ None → IsPermutation (contents cs) (contents (set (set cs at None) hole (Some x)))
+pub held_move : {X : Type 0} (cs : List (Option X)) (at hole : ℕ) (x : X) → at < length cs → hole < length cs → cell cs at ≡ Some x
+    → cell cs hole ≡ None → IsPermutation (contents cs) (contents (set (set cs at None) hole (Some x)))
 held_move cs at hole x la lh e none =
     let apart : hole ≢ at = λ c. let d : cell cs hole ≡ cell cs at = ap (cell cs) c in cc (d, e, none) in
     IsPermutation-trans _ _ _ (contents-take cs at x e) (contents-put (set cs at None) hole x (rw length-set lh) (get_or-set_other cs at hole None None apart ∙ none))

@@ -1,10 +1,12 @@
 -- What holds at all ranks: lists that have one element for each rank.
-use Rattle.std.specs.Prelude.{◌≡◌, ◌≤◌, ◌+◌, ◌*◌, ◌/◌, ℕ, List, [], ◌∷◌, length, Option, None, Result, Ok, Err, map, ⊤}
+use Rattle.std.specs.Prelude.{◌≡◌, ◌≤◌, ◌+◌, ◌*◌, ◌/◌, ℕ, List, [], ◌∷◌, length, Option, None, map, ⊤}
 use Rattle.std.specs.List.{AllByRecursion, AllZip}
 use Rattle.iddqd_store.specs.Bag.{Ranks, crowd, like}
 use Rattle.iddqd_store.specs.Map.{Map, IsBlockedAt}
 use Rattle.iddqd_store.specs.Rank.{IsUnder, IsVacantFor, SearchCosts, SlotUnder, walks_within}
 use Rattle.iddqd_store.specs.Slots.Found.{AreFound, each_once}
+use Rattle.iddqd_store.specs.declared.index_table.searched.Searched.{Searched}
+use Rattle.iddqd_store.specs.declared.index_table.searched.Searched.TheVariants.{Found, Vacant}
 use Rattle.iddqd_store.specs.Table.{Spot}
 
 module _ {T : Type 0} where
@@ -80,9 +82,9 @@ abbrev pub HaveRoom : ℕ → List Spot → Type 0
 HaveRoom room spots = AllByRecursion (λ spot. room ≤ spot.cells / 8 * 7) spots
 
 -- `slots_found` has for each rank the slot that a search found, or `None`. No public clause cites it.
-abbrev pub slots_found : Result (List Spot) (List SlotUnder) → List (Option ℕ)
-slots_found (Ok spots) = map (λ _. None) spots
-slots_found (Err found) = map (λ at. at.slot) found
+abbrev pub slots_found : Searched (List SlotUnder) (List Spot) → List (Option ℕ)
+slots_found (Found found) = map (λ at. at.slot) found
+slots_found (Vacant spots) = map (λ _. None) spots
 
 -- Something conflicts with `x`, and searches by the hashes of its keys, one at each rank, found these slots, which are
 -- those of what does. No public clause cites it.

@@ -6,7 +6,7 @@ ghost use Rattle.iddqd_store.specs.Table.Search.{FindsUnder, RemovalCosts};
 ghost use Rattle.iddqd_store.specs.Table.Room.{IsSized};
 ghost use Rattle.iddqd_store.specs.Table.{hashes, HaveOwnSlots, IsCellOf};
 
-use super::{IndexTable, Matcher, Meter, probe};
+use super::{IndexTable, Matcher, Meter, Searched, probe};
 use crate::item_set::ItemIndex;
 
 impl IndexTable {
@@ -51,7 +51,9 @@ impl IndexTable {
         ensures costs { RemovalCosts self.old hash (M.asked matcher.old) (M.asked matcher.new) meter.old meter.new }
         ensures sized { IsSized self.old }
     {
-        let (slot, at) = self.find_cell(hash, matcher, meter).ok()?;
+        let Searched::Found((slot, at)) = self.find_cell(hash, matcher, meter) else {
+            return None;
+        };
         self.remove_cell(hash, (slot, at), meter);
         Some(slot)
     }

@@ -1,17 +1,17 @@
 //! Searches for an item by one rank.
-ghost use Rattle.std.specs.Prelude.{Contains, ◌≡◌, ◌*◌, ◌/◌, option_copied, IfErr, IfOk};
+ghost use Rattle.std.specs.Prelude.{Contains, ◌≡◌, ◌*◌, ◌/◌, option_copied};
 ghost use Rattle.std.specs.Option.{option_and_then};
-ghost use Rattle.std.specs.Result.{result_ok};
 ghost use Rattle.iddqd_store.specs.Bag.{IsOnly};
 ghost use Rattle.iddqd_store.specs.Map.{bag, hash_of};
 ghost use Rattle.iddqd_store.specs.Rank.Index.{HasHash};
+ghost use Rattle.iddqd_store.specs.Searched.{found_of, IfFound, IfVacant};
 ghost use Rattle.iddqd_store.specs.Slots.Found.{FoundAt};
 ghost use Rattle.iddqd_store.specs.Slots.{get, IsLive};
 ghost use Rattle.iddqd_store.specs.Rank.{agree, IsVacantFor, NamesOneUnder, SearchCosts, IsSearchable};
 
 use super::matchers::{ByKey, ByQuery};
 use super::{HashedKey, KeyOf};
-use crate::index_table::{IndexTable, KeyMatcher, Meter, Vacancy};
+use crate::index_table::{IndexTable, KeyMatcher, Meter, Searched, Vacancy};
 use crate::item_set::{ItemIndex, ItemSet};
 use crate::query::Query;
 use std::hash::{BuildHasher, Hash};
@@ -61,26 +61,6 @@ impl<'a, T, R: KeyOf<T>, S: BuildHasher> Lookup<'a, T, R, S> {
         }
     }
 
-    /// Returns the item whose key the query stands for, or `None`. It hashes the query once, and compares it only
-    /// with keys that have the same hash. The meters count what they count for `slot_of`.
-    pub fn get<Q: Query<R::Key>>(
-        &self,
-        query: Q,
-        asked: &mut Meter,
-        probed: &mut Meter,
-    ) -> Option<&'a T>
-        ensures found { IsOnly (λ x. Q.stands_for query (R.key x)) (bag self.now) (option_copied result) }
-        ensures costs { SearchCosts (⟦<R as HashedKey<T, S>>⟧.hash self.now.builder) (bag self.now) self.now.capacity
-            (hash_of S.BuildHasher S.Hasher.Hasher self.now.builder (Q.hash_input query)) result
-            asked.old asked.new probed.old probed.new }
-    {
-        let hash = self.hash_builder.hash_one(query);
-        match self.search(hash, query, asked, probed) {
-            Ok(slot) => self.items.get(slot),
-            Err(_) => None,
-        }
-    }
-
     /// Returns the slot of the item whose key the query stands for, or `None`. One meter counts the keys that the query
     /// is compared with, and the other the probed cells.
     pub fn slot_of<Q: Query<R::Key>>(
@@ -95,7 +75,7 @@ impl<'a, T, R: KeyOf<T>, S: BuildHasher> Lookup<'a, T, R, S> {
             asked.old asked.new probed.old probed.new }
     {
         let hash = self.hash_builder.hash_one(query);
-        self.search(hash, query, asked, probed).ok()
+        self.search(hash, query, asked, probed).found()
     }
 
     /// Returns the item whose key the matcher accepts, or `None`. All keys that it accepts have to be equal, and to
@@ -116,8 +96,8 @@ impl<'a, T, R: KeyOf<T>, S: BuildHasher> Lookup<'a, T, R, S> {
             self.now.capacity hash result (M.asked matcher.old) (M.asked matcher.new) meter.old meter.new }
     {
         match self.search_with(hash, matcher, meter) {
-            Ok(slot) => self.items.get(slot),
-            Err(_) => None,
+            Searched::Found(slot) => self.items.get(slot),
+            Searched::Vacant(_) => None,
         }
     }
 
@@ -132,16 +112,16 @@ impl<'a, T, R: KeyOf<T>, S: BuildHasher> Lookup<'a, T, R, S> {
         query: Q,
         asked: &mut Meter,
         probed: &mut Meter,
-    ) -> Result<ItemIndex, Vacancy>
+    ) -> Searched<ItemIndex, Vacancy>
         requires { hash ≡ hash_of S.BuildHasher S.Hasher.Hasher self.now.builder (Q.hash_input query) }
-        ensures found { FoundAt (λ x. Q.stands_for query (R.key x)) self.now.slots (result_ok result) }
-        ensures hashed { IfOk result (λ slot. HasHash
+        ensures found { FoundAt (λ x. Q.stands_for query (R.key x)) self.now.slots (found_of result) }
+        ensures hashed { IfFound result (λ slot. HasHash
             (⟦<R as HashedKey<T, S>>⟧.hash self.now.builder) self.now.slots slot hash) }
-        ensures vacant { IfErr result (IsVacantFor
+        ensures vacant { IfVacant result (IsVacantFor
             (⟦<R as HashedKey<T, S>>⟧.hash self.now.builder) (bag self.now) hash) }
-        ensures cells { IfErr result (λ at. at.cells / 8 * 7 ≡ self.now.capacity) }
+        ensures cells { IfVacant result (λ at. at.cells / 8 * 7 ≡ self.now.capacity) }
         ensures costs { SearchCosts (⟦<R as HashedKey<T, S>>⟧.hash self.now.builder) (bag self.now)
-            self.now.capacity hash (result_ok result) asked.old asked.new probed.old probed.new }
+            self.now.capacity hash (found_of result) asked.old asked.new probed.old probed.new }
     {
         self.search_with(hash, &mut ByQuery::new(&query, asked), probed)
     }
@@ -154,22 +134,22 @@ impl<'a, T, R: KeyOf<T>, S: BuildHasher> Lookup<'a, T, R, S> {
         hash: u64,
         matcher: &mut M,
         meter: &mut Meter,
-    ) -> Result<ItemIndex, Vacancy>
+    ) -> Searched<ItemIndex, Vacancy>
         requires names { NamesOneUnder (agree R.key R.Key.eq) (⟦<R as HashedKey<T, S>>⟧.hash self.now.builder) hash
             (λ x. M.accepts matcher.old (R.key x)) (bag self.now) }
         requires asks { (x : T) → Contains (bag self.now) x → ⟦<R as HashedKey<T, S>>⟧.hash self.now.builder x ≡ hash
             → M.MayAsk matcher.old (R.key x) }
         ensures found { IsOnly (λ x. M.accepts matcher.old (R.key x)) (bag self.now)
-            (option_and_then (get self.now.slots) (result_ok result)) }
-        ensures live { IfOk result (IsLive self.now.slots) }
-        ensures hashed { IfOk result (λ slot. HasHash
+            (option_and_then (get self.now.slots) (found_of result)) }
+        ensures live { IfFound result (IsLive self.now.slots) }
+        ensures hashed { IfFound result (λ slot. HasHash
             (⟦<R as HashedKey<T, S>>⟧.hash self.now.builder) self.now.slots slot hash) }
-        ensures vacant { IfErr result (IsVacantFor
+        ensures vacant { IfVacant result (IsVacantFor
             (⟦<R as HashedKey<T, S>>⟧.hash self.now.builder) (bag self.now) hash) }
-        ensures cells { IfErr result (λ at. at.cells / 8 * 7 ≡ self.now.capacity) }
+        ensures cells { IfVacant result (λ at. at.cells / 8 * 7 ≡ self.now.capacity) }
         ensures is_kept { M.IsKept matcher.old matcher.new }
         ensures costs { SearchCosts (⟦<R as HashedKey<T, S>>⟧.hash self.now.builder) (bag self.now)
-            self.now.capacity hash (result_ok result) (M.asked matcher.old) (M.asked matcher.new)
+            self.now.capacity hash (found_of result) (M.asked matcher.old) (M.asked matcher.new)
             meter.old meter.new }
     {
         let mut keys: ByKey<'_, T, R, M> = ByKey {
@@ -178,8 +158,8 @@ impl<'a, T, R: KeyOf<T>, S: BuildHasher> Lookup<'a, T, R, S> {
             rank: PhantomData,
         };
         match self.table.find_cell(hash, &mut keys, meter) {
-            Ok(found) => Ok(found.0),
-            Err(at) => Err(at),
+            Searched::Found(found) => Searched::Found(found.0),
+            Searched::Vacant(at) => Searched::Vacant(at),
         }
     }
 }

@@ -1,14 +1,10 @@
 //! Removal of an item's pair from the table of a rank, by the item's key.
 ghost use Rattle.std.specs.Prelude.{ℕ, Contains, None, Some, ◌≡◌, ◌∷◌, IfSome, IfNone};
 ghost use Rattle.std.specs.List.{IsDistinct};
-ghost use Rattle.std.specs.List.Sorted.{IsPermutation};
-ghost use Rattle.iddqd_store.specs.Rank.Index.{LosesPairAt, passes_at};
+ghost use Rattle.iddqd_store.specs.Rank.Index.{LosesPairAt};
 ghost use Rattle.iddqd_store.specs.Rank.{agree, IsSearchable, NamesOneUnder, SearchCosts};
 ghost use Rattle.iddqd_store.specs.Slots.Found.{FoundAt};
-ghost use Rattle.iddqd_store.specs.Slots.{contents, get};
-ghost use Rattle.iddqd_store.specs.Table.{HaveOwnSlots};
-ghost use Rattle.iddqd_store.specs.Table.Room.{IsSized};
-ghost use Rattle.iddqd_store.specs.Table.Search.{FindsUnder, RemovalCosts};
+ghost use Rattle.iddqd_store.specs.Slots.{contents};
 
 use super::matchers::ByKey;
 use super::{HashedKey, KeyOf};
@@ -45,31 +41,6 @@ impl IndexTable {
         ensures is_kept { M.IsKept matcher.old matcher.new }
         ensures costs { SearchCosts {A = ℕ} (⟦<R as HashedKey<T, S>>⟧.hash hash_builder.now) (contents items.now.slots)
             self.old.limit hash None (M.asked matcher.old) (M.asked matcher.new) meter.old meter.new }
-    {
-        self.remove_by::<T, R, M>(items, hash, matcher, meter)
-    }
-
-    // Removes the pair of the item whose key the matcher accepts, and returns the item's slot.
-    #[inline(always)]
-    fn remove_by<T, R: KeyOf<T>, M: KeyMatcher<R::Key>>(
-        &mut self,
-        items: &ItemSet<T>,
-        hash: u64,
-        matcher: &mut M,
-        meter: &mut Meter,
-    ) -> Option<ItemIndex>
-        requires apart { IsDistinct (agree R.key R.Key.eq) (contents items.now.slots) }
-        requires own { HaveOwnSlots self.old.pairs }
-        requires asks { (slot : ℕ) → Contains self.old.pairs (hash, slot) → (x : T) → get items.now.slots slot ≡ Some x
-            → M.MayAsk matcher.old (R.key x) }
-        ensures found { FindsUnder self.old hash
-            (passes_at (λ x. M.accepts matcher.old (R.key x)) items.now.slots) result }
-        ensures taken { IfSome result (λ slot. IsPermutation self.old.pairs ((hash, slot) ∷ self.new.pairs)) }
-        ensures absent { IfNone result (self.new ≡ self.old) }
-        ensures limit { self.new.limit ≡ self.old.limit }
-        ensures is_kept { M.IsKept matcher.old matcher.new }
-        ensures costs { RemovalCosts self.old hash (M.asked matcher.old) (M.asked matcher.new) meter.old meter.new }
-        ensures sized { IsSized self.old }
     {
         let mut keys: ByKey<'_, T, R, M> = ByKey {
             items,

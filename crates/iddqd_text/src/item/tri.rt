@@ -1,6 +1,6 @@
 //! The items of the kind `tri`.
 //!
-//! Made by tests/twins from crates/iddqd_text/src/item/bi.rt: change that file.
+//! Made by tests/widths from crates/iddqd_text/src/item/bi.rt: change that file.
 ghost use Rattle.std.specs.Prelude.{Some};
 ghost use Rattle.iddqd_text.specs.Printed.{printed};
 ghost use Rattle.iddqd_text.specs.ThreeKeys.{numbers};

@@ -1,6 +1,6 @@
 //! The calls of an entry that may be vacant or occupied.
 //!
-//! Made by tests/twins from crates/iddqd_bi/src/entry/all.rt: change that file.
+//! Made by tests/widths from crates/iddqd_bi/src/entry/all.rt: change that file.
 ghost use Rattle.std.specs.Prelude.{◌≡◌, Result, IfOk, IfErr};
 ghost use Rattle.std.specs.Fn.{CalledAt};
 ghost use Rattle.iddqd_store.specs.Bag.{listing};
@@ -40,7 +40,7 @@ impl<
             (λ o. KeepsFound T.TriHashItem Q1.stands_for Q2.stands_for Q3.stands_for o result) }
     {
         match self {
-            Entry::Vacant(v) => v.put_in(item),
+            Entry::Vacant(v) => v.insert_mut_or_refuse(item),
             Entry::Occupied(o) => Ok(o.into_mut()),
         }
     }
@@ -61,7 +61,7 @@ impl<
             (λ o. KeepsFound T.TriHashItem Q1.stands_for Q2.stands_for Q3.stands_for o result) }
     {
         match self {
-            Entry::Vacant(v) => v.put_in(f()),
+            Entry::Vacant(v) => v.insert_mut_or_refuse(f()),
             Entry::Occupied(o) => Ok(o.into_mut()),
         }
     }
@@ -93,7 +93,7 @@ impl<
             (λ o. KeepsFound T.TriHashItem Q1.stands_for Q2.stands_for Q3.stands_for o result) }
     {
         match self {
-            Entry::Vacant(v) => v.put_made_in(f()),
+            Entry::Vacant(v) => v.insert_made(f()),
             Entry::Occupied(o) => Ok(o.into_mut()),
         }
     }

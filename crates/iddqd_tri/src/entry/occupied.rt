@@ -1,6 +1,6 @@
 //! The calls of an occupied entry: reading, writing, replacing and removing the items that three keys found.
 //!
-//! Made by tests/twins from crates/iddqd_bi/src/entry/occupied.rt: change that file.
+//! Made by tests/widths from crates/iddqd_bi/src/entry/occupied.rt: change that file.
 ghost use Rattle.std.specs.Prelude.{◌≡◌, None, Some, not, filter, map, IfOk, IfErr, OnOk, OnErr, IsPermutation};
 ghost use Rattle.std.specs.Option.{option_copied_mut, option_to_list};
 ghost use Rattle.std.specs.Borrow.{sem};

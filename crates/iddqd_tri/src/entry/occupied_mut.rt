@@ -1,6 +1,6 @@
 //! The items that three keys found, held for writing.
 //!
-//! Made by tests/twins from crates/iddqd_bi/src/entry/occupied_mut.rt: change that file.
+//! Made by tests/widths from crates/iddqd_bi/src/entry/occupied_mut.rt: change that file.
 ghost use Rattle.std.specs.Prelude.{◌≡◌, not, map, Some, IfSome, IsPermutation};
 ghost use Rattle.std.specs.Borrow.{sem};
 ghost use Rattle.std.specs.Fn.{CalledAt};

@@ -1,6 +1,6 @@
 //! The items that three keys found, borrowed for reading.
 //!
-//! Made by tests/twins from crates/iddqd_bi/src/entry/occupied_ref.rt: change that file.
+//! Made by tests/widths from crates/iddqd_bi/src/entry/occupied_ref.rt: change that file.
 ghost use Rattle.std.specs.Prelude.{◌≡◌, true, is_some, not, option_copied};
 ghost use Rattle.iddqd_tri.specs.OccupiedRefs.{is_one, seen_unique, seen1, seen2, seen3};
 

@@ -1,6 +1,6 @@
 //! Inserting an item through a vacant entry.
 //!
-//! Made by tests/twins from crates/iddqd_bi/src/entry/vacant.rt: change that file.
+//! Made by tests/widths from crates/iddqd_bi/src/entry/vacant.rt: change that file.
 ghost use Rattle.std.specs.Prelude.{◌≡◌, ◌<◌, length, None, IsOk, IfOk, IfErr, OnOk};
 ghost use Rattle.std.specs.Borrow.{sem};
 ghost use Rattle.iddqd_store.specs.Bag.{differ};
@@ -46,14 +46,8 @@ impl<
         ensures* unchanged_at_err { sem 𝓛 (rests_if_err T.row S.row T.K1.row T.K2.row T.K3.row S.Hasher.row
             T.TriHashItem T.K1.Hash T.K2.Hash T.K3.Hash S.BuildHasher S.Hasher.Hasher ref_lender self.entry.map result) }
     {
-        let VacantEntry {
-            map,
-            query1,
-            query2,
-            query3,
-            at,
-        } = self;
-        let slot = map.insert_free(item, query1, query2, query3, at)?;
+        let map = self.map;
+        let slot = map.insert_free(item, self.query1, self.query2, self.query3, self.at)?;
         Ok(RefMut { map, slot })
     }
 
@@ -74,14 +68,8 @@ impl<
             T.TriHashItem T.K1.Hash T.K2.Hash T.K3.Hash S.BuildHasher S.Hasher.Hasher
             (λ m. m.map.ghost_name) self.entry.map result) }
     {
-        let VacantEntry {
-            map,
-            query1,
-            query2,
-            query3,
-            at,
-        } = self;
-        let slot = map.insert_free(item, query1, query2, query3, at)?;
+        let map = self.map;
+        let slot = map.insert_free(item, self.query1, self.query2, self.query3, self.at)?;
         Ok(OccupiedEntryMut {
             map,
             slot1: Some(slot),
@@ -151,7 +139,7 @@ impl<
     /// Inserts an item as `insert_mut` does. The error borrows the map, as those of `or_insert` and `or_insert_with`
     /// do.
     #[inline(always)]
-    pub(super) fn put_in(
+    pub(super) fn insert_mut_or_refuse(
         self,
         item: T,
     ) -> Result<OccupiedEntryMut<'a, T, S>, EntryRefusal<'a, T, S>>
@@ -159,14 +147,8 @@ impl<
         ensures same_map_at_err { IfErr result (λ e. e.map.ghost_name ≡ self.entry.map.ghost_name) }
         ensures puts_in { PutsIn self.entry item result }
     {
-        let VacantEntry {
-            map,
-            query1,
-            query2,
-            query3,
-            at,
-        } = self;
-        match map.insert_free(item, query1, query2, query3, at) {
+        let map = self.map;
+        match map.insert_free(item, self.query1, self.query2, self.query3, self.at) {
             Ok(slot) => Ok(OccupiedEntryMut {
                 map,
                 slot1: Some(slot),
@@ -177,9 +159,10 @@ impl<
         }
     }
 
-    /// Inserts the item that a closure made, as `put_in` does, or returns the error with which the closure failed.
+    /// Inserts the item that a closure made, as `insert_mut_or_refuse` does, or returns the error with which the
+    /// closure failed.
     #[inline(always)]
-    pub(super) fn put_made_in<E>(
+    pub(super) fn insert_made<E>(
         self,
         made: Result<T, E>,
     ) -> Result<OccupiedEntryMut<'a, T, S>, TryEntryRefusal<'a, T, E, S>>
@@ -188,15 +171,15 @@ impl<
         ensures unchanged { IfErr result (λ e. e.map.now ≡ self.entry.map.now) }
         ensures puts_in { PutsInMade self.entry made result }
     {
-        let VacantEntry {
-            map,
-            query1,
-            query2,
-            query3,
-            at,
-        } = self;
+        let map = self.map;
         match made {
-            Ok(item) => match map.insert_free(item, query1, query2, query3, at) {
+            Ok(item) => match map.insert_free(
+                item,
+                self.query1,
+                self.query2,
+                self.query3,
+                self.at,
+            ) {
                 Ok(slot) => Ok(OccupiedEntryMut {
                     map,
                     slot1: Some(slot),

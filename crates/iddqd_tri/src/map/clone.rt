@@ -1,6 +1,6 @@
 //! Cloning a map.
 //!
-//! Made by tests/twins from crates/iddqd_bi/src/map/clone.rt: change that file.
+//! Made by tests/widths from crates/iddqd_bi/src/map/clone.rt: change that file.
 ghost use Rattle.std.specs.Prelude.{◌≡◌, ◌≤◌, length, true, Contains, IfOk};
 ghost use Rattle.std.specs.Hash.{HashWrites};
 ghost use Rattle.iddqd_store.specs.Bag.{IsCopy};
@@ -36,11 +36,14 @@ impl<T: TriHashItem + Clone, S: BuildHasher + Clone> TriHashMap<T, S> {
         ensures builder { IfOk result (λ copy. S.is_clone self.now.builder copy.builder) }
     {
         let hash_builder = self.hash_builder.clone()?;
+        let first = self.first.clone()?;
+        let second = self.second.clone()?;
+        let third = self.third.clone()?;
         let copy = TriHashMap {
             items: self.items.clone()?,
-            first: self.first.clone()?,
-            second: self.second.clone()?,
-            third: self.third.clone()?,
+            first,
+            second,
+            third,
             hash_builder,
             keys: PhantomData,
         };

@@ -1,7 +1,7 @@
 //! The traits of std by which generic code makes a map of items, adds items to one, makes an empty one and clones one.
 //! Each does what the map's function of the same name does, if there is one; the errors of those functions tell more.
 //!
-//! Made by tests/twins from crates/iddqd_bi/src/map/collect.rt: change that file.
+//! Made by tests/widths from crates/iddqd_bi/src/map/collect.rt: change that file.
 ghost use Rattle.std.specs.Prelude.{◌≡◌, [], true};
 ghost use Rattle.std.proofs.Common.{rules};
 ghost use Rattle.std.specs.Hash.{HashWrites};

@@ -1,6 +1,6 @@
 //! Equality of maps.
 //!
-//! Made by tests/twins from crates/iddqd_bi/src/map/compare.rt: change that file.
+//! Made by tests/widths from crates/iddqd_bi/src/map/compare.rt: change that file.
 ghost use Rattle.std.specs.Prelude.{◌≡◌, ◌↔◌};
 ghost use Rattle.std.specs.Bool.{IsTrue};
 ghost use Rattle.std.specs.List.{list_any};
@@ -73,7 +73,7 @@ impl<T: TriHashItem + PartialEq, S: BuildHasher> TriHashMap<T, S> {
             (hash_of S.BuildHasher S.Hasher.Hasher self.now.builder (T.K1.hash_input (T.key1 item.now)))
             2 asked.old asked.new probed.old probed.new }
     {
-        match self.get1_by(item.key1(), asked, probed) {
+        match self.item_of(self.slot1_by(item.key1(), asked, probed)) {
             Some(found) => has_others(found, item.key2(), item.key3(), asked) && item == found,
             None => false,
         }

@@ -1,6 +1,6 @@
 //! Which items conflict with an item that is to be inserted.
 //!
-//! Made by tests/twins from crates/iddqd_bi/src/map/conflicts.rt: change that file.
+//! Made by tests/widths from crates/iddqd_bi/src/map/conflicts.rt: change that file.
 ghost use Rattle.std.specs.Prelude.{◌≡◌, map};
 ghost use Rattle.iddqd_store.specs.Bag.{order};
 ghost use Rattle.iddqd_store.specs.Map.{bag};
@@ -8,7 +8,7 @@ ghost use Rattle.iddqd_store.specs.Map.{bag};
 use super::TriHashMap;
 use super::slots::found::each_once;
 use crate::item::Ranked;
-use iddqd_store::{Meter, UpToThree};
+use iddqd_store::{Meter, Searched, UpToThree};
 use std::hash::{BuildHasher, Hash};
 
 impl<T: Ranked, S: BuildHasher> TriHashMap<T, S> {
@@ -27,8 +27,8 @@ impl<T: Ranked, S: BuildHasher> TriHashMap<T, S> {
     {
         // The slots are chosen first and borrowed after the match, so that its arms join before anything is borrowed.
         let found = match self.places(item, &mut Meter::new(), &mut Meter::new()) {
-            Ok(_) => UpToThree::new(),
-            Err(by) => each_once(by.0.slot(), by.1.slot(), by.2.slot()),
+            Searched::Vacant(_) => UpToThree::new(),
+            Searched::Found(by) => each_once(by.0.slot(), by.1.slot(), by.2.slot()),
         };
         self.items_of(&found)
     }

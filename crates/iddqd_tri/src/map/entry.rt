@@ -1,6 +1,6 @@
 //! Looking up three keys at once.
 //!
-//! Made by tests/twins from crates/iddqd_bi/src/map/entry.rt: change that file.
+//! Made by tests/widths from crates/iddqd_bi/src/map/entry.rt: change that file.
 ghost use Rattle.std.specs.Prelude.{◌≡◌};
 ghost use Rattle.iddqd_store.specs.Bag.{entry};
 ghost use Rattle.iddqd_store.specs.Map.{bag};
@@ -10,7 +10,7 @@ ghost use Rattle.iddqd_tri.specs.Entries.{HasKeys, IsFound, entry_lender, entry_
 use super::TriHashMap;
 use crate::entry::{Entry, OccupiedEntry, VacantEntry};
 use crate::item::TriHashItem;
-use iddqd_store::{Meter, Query};
+use iddqd_store::{Meter, Query, Searched};
 use std::hash::{BuildHasher, Hash};
 
 impl<T: TriHashItem, S: BuildHasher> TriHashMap<T, S> {
@@ -46,14 +46,14 @@ impl<T: TriHashItem, S: BuildHasher> TriHashMap<T, S> {
         ensures is_found { IsFound result }
     {
         match self.search_all(query1, query2, query3, &mut Meter::new(), &mut Meter::new()) {
-            Ok(at) => Entry::Vacant(VacantEntry {
+            Searched::Vacant(at) => Entry::Vacant(VacantEntry {
                 map: self,
                 query1,
                 query2,
                 query3,
                 at,
             }),
-            Err((by1, by2, by3)) => Entry::Occupied(OccupiedEntry {
+            Searched::Found((by1, by2, by3)) => Entry::Occupied(OccupiedEntry {
                 map: self,
                 query1,
                 query2,

@@ -1,6 +1,6 @@
 //! Taking out the items for which a closure returns `true`, one by one.
 //!
-//! Made by tests/twins from crates/iddqd_bi/src/map/extract.rt: change that file.
+//! Made by tests/widths from crates/iddqd_bi/src/map/extract.rt: change that file.
 ghost use Rattle.std.specs.Prelude.{◌≡◌, IfNone};
 ghost use Rattle.std.specs.Fn.{CalledAt};
 ghost use Rattle.std.specs.Option.{option_to_list};
@@ -11,7 +11,7 @@ ghost use Rattle.iddqd_store.specs.Map.Walk.{to_come};
 
 use super::TriHashMap;
 use crate::item::TriHashItem;
-use iddqd_store::{Cursor, Meter};
+use iddqd_store::Cursor;
 use std::hash::{BuildHasher, Hash};
 
 impl<T: TriHashItem, S: BuildHasher> TriHashMap<T, S> {
@@ -46,7 +46,7 @@ impl<T: TriHashItem, S: BuildHasher> TriHashMap<T, S> {
         while let Some(slot) = self.slot_from(cursor.next()) {
             cursor.pass(slot);
             if f(self.item_at(slot)) {
-                return Some(self.take(slot, None, None, None, &mut Meter::new()));
+                return Some(self.take_at(slot));
             }
         }
         None

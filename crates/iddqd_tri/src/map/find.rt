@@ -1,6 +1,6 @@
 //! Lookups. Each searches the table of one rank, which leads to the item's slot.
 //!
-//! Made by tests/twins from crates/iddqd_bi/src/map/find.rt: change that file.
+//! Made by tests/widths from crates/iddqd_bi/src/map/find.rt: change that file.
 ghost use Rattle.std.specs.Prelude.{Contains, ◌≡◌, option_copied};
 ghost use Rattle.std.specs.List.{list_any};
 ghost use Rattle.iddqd_store.specs.Bag.{IsOnly};
@@ -11,7 +11,7 @@ ghost use Rattle.iddqd_tri.specs.Keys.{has1, has2, has3, has_all};
 
 use super::TriHashMap;
 use crate::item::{Hashed, TriHashItem};
-use iddqd_store::{ItemIndex, KeyMatcher, Meter, Query};
+use iddqd_store::{ByQuery, ItemIndex, KeyMatcher, Meter, Query};
 use std::hash::{BuildHasher, Hash};
 
 impl<T: TriHashItem, S: BuildHasher> TriHashMap<T, S> {
@@ -29,7 +29,12 @@ impl<T: TriHashItem, S: BuildHasher> TriHashMap<T, S> {
     pub fn get1<Q: Query<T::K1>>(&self, query: Q) -> Option<&T>
         ensures { IsOnly (has1 T.TriHashItem Q.stands_for query) (bag self.now) (option_copied result) }
     {
-        self.get1_by(query, &mut Meter::new(), &mut Meter::new())
+        let hash = self.hash_builder.hash_one(query);
+        self.find1_with(
+            hash,
+            &mut ByQuery::new(&query, &mut Meter::new()),
+            &mut Meter::new(),
+        )
     }
 
     /// Returns the item with the second key that the query stands for, or `None`. A query is a `&key`, or what stands
@@ -46,7 +51,12 @@ impl<T: TriHashItem, S: BuildHasher> TriHashMap<T, S> {
     pub fn get2<Q: Query<T::K2>>(&self, query: Q) -> Option<&T>
         ensures { IsOnly (has2 T.TriHashItem Q.stands_for query) (bag self.now) (option_copied result) }
     {
-        self.get2_by(query, &mut Meter::new(), &mut Meter::new())
+        let hash = self.hash_builder.hash_one(query);
+        self.find2_with(
+            hash,
+            &mut ByQuery::new(&query, &mut Meter::new()),
+            &mut Meter::new(),
+        )
     }
 
     /// Returns the item with the third key that the query stands for, or `None`. A query is a `&key`, or what stands
@@ -63,7 +73,12 @@ impl<T: TriHashItem, S: BuildHasher> TriHashMap<T, S> {
     pub fn get3<Q: Query<T::K3>>(&self, query: Q) -> Option<&T>
         ensures { IsOnly (has3 T.TriHashItem Q.stands_for query) (bag self.now) (option_copied result) }
     {
-        self.get3_by(query, &mut Meter::new(), &mut Meter::new())
+        let hash = self.hash_builder.hash_one(query);
+        self.find3_with(
+            hash,
+            &mut ByQuery::new(&query, &mut Meter::new()),
+            &mut Meter::new(),
+        )
     }
 
     /// Returns the item that has all keys that the queries stand for, or `None`.
@@ -93,24 +108,21 @@ impl<T: TriHashItem, S: BuildHasher> TriHashMap<T, S> {
     pub fn contains_key1<Q: Query<T::K1>>(&self, query: Q) -> bool
         ensures { result ≡ list_any (has1 T.TriHashItem Q.stands_for query) (bag self.now) }
     {
-        let found = self.get1_by(query, &mut Meter::new(), &mut Meter::new());
-        found.is_some()
+        self.get1(query).is_some()
     }
 
     /// Returns whether an item has the second key that the query stands for. It costs what `get2` costs.
     pub fn contains_key2<Q: Query<T::K2>>(&self, query: Q) -> bool
         ensures { result ≡ list_any (has2 T.TriHashItem Q.stands_for query) (bag self.now) }
     {
-        let found = self.get2_by(query, &mut Meter::new(), &mut Meter::new());
-        found.is_some()
+        self.get2(query).is_some()
     }
 
     /// Returns whether an item has the third key that the query stands for. It costs what `get3` costs.
     pub fn contains_key3<Q: Query<T::K3>>(&self, query: Q) -> bool
         ensures { result ≡ list_any (has3 T.TriHashItem Q.stands_for query) (bag self.now) }
     {
-        let found = self.get3_by(query, &mut Meter::new(), &mut Meter::new());
-        found.is_some()
+        self.get3(query).is_some()
     }
 
     /// Returns whether an item has all keys that the queries stand for. It costs what `get_unique` costs.
@@ -196,22 +208,6 @@ impl<T: TriHashItem, S: BuildHasher> TriHashMap<T, S> {
         self.by_key3().find_with(hash, matcher, meter)
     }
 
-    /// Returns what `get1` returns, which calls it. One meter counts the keys that the query is compared with, and the
-    /// other the probed cells.
-    pub(crate) fn get1_by<Q: Query<T::K1>>(
-        &self,
-        query: Q,
-        asked: &mut Meter,
-        probed: &mut Meter,
-    ) -> Option<&T>
-        ensures found { IsOnly (has1 T.TriHashItem Q.stands_for query) (bag self.now) (option_copied result) }
-        ensures costs { SearchCosts (⟦<T as Hashed<S>>⟧.hash1 self.now.builder) (bag self.now) self.now.capacity
-            (hash_of S.BuildHasher S.Hasher.Hasher self.now.builder (Q.hash_input query)) result
-            asked.old asked.new probed.old probed.new }
-    {
-        self.by_key1().get(query, asked, probed)
-    }
-
     /// Returns the slot of the item whose first key the query stands for, or `None`. One meter counts the keys that the
     /// query is compared with, and the other the probed cells.
     pub(crate) fn slot1_by<Q: Query<T::K1>>(
@@ -228,22 +224,6 @@ impl<T: TriHashItem, S: BuildHasher> TriHashMap<T, S> {
         self.by_key1().slot_of(query, asked, probed)
     }
 
-    /// Returns what `get2` returns, which calls it. One meter counts the keys that the query is compared with, and the
-    /// other the probed cells.
-    pub(crate) fn get2_by<Q: Query<T::K2>>(
-        &self,
-        query: Q,
-        asked: &mut Meter,
-        probed: &mut Meter,
-    ) -> Option<&T>
-        ensures found { IsOnly (has2 T.TriHashItem Q.stands_for query) (bag self.now) (option_copied result) }
-        ensures costs { SearchCosts (⟦<T as Hashed<S>>⟧.hash2 self.now.builder) (bag self.now) self.now.capacity
-            (hash_of S.BuildHasher S.Hasher.Hasher self.now.builder (Q.hash_input query)) result
-            asked.old asked.new probed.old probed.new }
-    {
-        self.by_key2().get(query, asked, probed)
-    }
-
     /// Returns the slot of the item whose second key the query stands for, or `None`. One meter counts the keys that
     /// the query is compared with, and the other the probed cells.
     pub(crate) fn slot2_by<Q: Query<T::K2>>(
@@ -258,22 +238,6 @@ impl<T: TriHashItem, S: BuildHasher> TriHashMap<T, S> {
             asked.old asked.new probed.old probed.new }
     {
         self.by_key2().slot_of(query, asked, probed)
-    }
-
-    /// Returns what `get3` returns, which calls it. One meter counts the keys that the query is compared with, and the
-    /// other the probed cells.
-    pub(crate) fn get3_by<Q: Query<T::K3>>(
-        &self,
-        query: Q,
-        asked: &mut Meter,
-        probed: &mut Meter,
-    ) -> Option<&T>
-        ensures found { IsOnly (has3 T.TriHashItem Q.stands_for query) (bag self.now) (option_copied result) }
-        ensures costs { SearchCosts (⟦<T as Hashed<S>>⟧.hash3 self.now.builder) (bag self.now) self.now.capacity
-            (hash_of S.BuildHasher S.Hasher.Hasher self.now.builder (Q.hash_input query)) result
-            asked.old asked.new probed.old probed.new }
-    {
-        self.by_key3().get(query, asked, probed)
     }
 
     /// Returns the slot of the item whose third key the query stands for, or `None`. One meter counts the keys that the

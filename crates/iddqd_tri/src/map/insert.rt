@@ -1,6 +1,6 @@
 //! Inserting an item that conflicts with no other.
 //!
-//! Made by tests/twins from crates/iddqd_bi/src/map/insert.rt: change that file.
+//! Made by tests/widths from crates/iddqd_bi/src/map/insert.rt: change that file.
 ghost use Rattle.std.specs.Prelude.{◌≡◌, ◌≢◌, ◌<◌, ◌⊎◌, [], length, IsOk, OnOk, OnErr, IfErr};
 ghost use Rattle.std.specs.Borrow.{sem};
 ghost use Rattle.iddqd_store.specs.Bag.{clash};

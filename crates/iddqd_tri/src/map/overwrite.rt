@@ -1,6 +1,6 @@
 //! Inserting an item in place of those that conflict with it.
 //!
-//! Made by tests/twins from crates/iddqd_bi/src/map/overwrite.rt: change that file.
+//! Made by tests/widths from crates/iddqd_bi/src/map/overwrite.rt: change that file.
 ghost use Rattle.std.specs.Prelude.{◌≡◌, ◌<◌, ◌+◌, length, map, IsOk, IfOk, IfErr, OnOk, OnErr};
 ghost use Rattle.iddqd_store.specs.Bag.{order};
 ghost use Rattle.iddqd_store.specs.Map.{bag, IsFullFor, Overwrites};

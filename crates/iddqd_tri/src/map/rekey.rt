@@ -1,6 +1,6 @@
 //! Replacing an item by another, whatever their keys are.
 //!
-//! Made by tests/twins from crates/iddqd_bi/src/map/rekey.rt: change that file.
+//! Made by tests/widths from crates/iddqd_bi/src/map/rekey.rt: change that file.
 ghost use Rattle.std.specs.Prelude.{◌≡◌, map, Some, IfOk, IfErr, OnErr};
 ghost use Rattle.iddqd_store.specs.Bag.{IsOnly};
 ghost use Rattle.iddqd_store.specs.Map.{bag, hash_of};

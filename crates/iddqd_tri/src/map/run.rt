@@ -1,6 +1,6 @@
 //! Carrying out commands.
 //!
-//! Made by tests/twins from crates/iddqd_bi/src/map/run.rt: change that file.
+//! Made by tests/widths from crates/iddqd_bi/src/map/run.rt: change that file.
 ghost use Rattle.std.specs.Prelude.{◌≡◌, length};
 ghost use Rattle.iddqd_store.specs.Map.{bag};
 ghost use Rattle.iddqd_store.specs.Runs.Reply.{found, present, duplicate, items, size, done};
@@ -219,10 +219,9 @@ where
         }
     }
 
-    // Hands a reply to the sink. `capacity` is called for the fact that the items fit, which the clauses of each of
-    // these functions state, because the clauses of each step state it. A reply that borrows nothing would leave its
-    // lifetime open, so each reply is handed over from a borrow of the map. The function is inlined, so that the sink's
-    // code knows the reply.
+    // Hands a reply to the sink. The clauses of each of these functions state that the items fit, because the clauses
+    // of each step state it. A reply that borrows nothing would leave its lifetime open, so each reply is handed over
+    // from a borrow of the map. The function is inlined, so that the sink's code knows the reply.
     #[inline(always)]
     fn tell<'m, K: TriSink<T>>(
         &'m self,
@@ -232,7 +231,7 @@ where
         ensures took { K.took sink.old (value_of reply.entry) result sink.new }
         ensures fits { Fits (state_of self.now) }
     {
-        let _ = self.capacity();
+        self.note_that_items_fit();
         sink.take(reply)
     }
 

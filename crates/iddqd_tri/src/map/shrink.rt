@@ -1,6 +1,6 @@
 //! Shrinking the capacity.
 //!
-//! Made by tests/twins from crates/iddqd_bi/src/map/shrink.rt: change that file.
+//! Made by tests/widths from crates/iddqd_bi/src/map/shrink.rt: change that file.
 ghost use Rattle.std.specs.Prelude.{◌≡◌, ◌<◌, ◌≤◌, length, IsOk, OnOk, OnErr};
 ghost use Rattle.iddqd_store.specs.Map.{bag, shrunk_to};
 

@@ -3,7 +3,7 @@
 //! (`write`), inserting in place of other items (`over`), and inserting a list that may have to be removed again
 //! (`enter`). Calls on all slots at once and removals by one key use the slots and tables themselves.
 //!
-//! Made by tests/twins from crates/iddqd_bi/src/map/slots.rt: change that file.
+//! Made by tests/widths from crates/iddqd_bi/src/map/slots.rt: change that file.
 ghost use Rattle.std.specs.Prelude.{◌≡◌, ℕ, ◌<◌, ◌≤◌, ◌+◌, [], ◌∷◌, length, map, All, OnOk, OnErr, IfOk, IfErr, Some, None, IfSome, nat_eq, slice_set, is_some, is_ok, true, false, if◌then◌else◌};
 ghost use Rattle.std.specs.List.{IsDistinct, list_any};
 ghost use Rattle.iddqd_store.specs.Bag.{IsSound, clash, differ, listing};
@@ -11,6 +11,7 @@ ghost use Rattle.iddqd_store.specs.Rank.Index.{HasHash};
 ghost use Rattle.iddqd_store.specs.Map.{bag, hash_of, Gains, Loses, PutsAt, IsFullFor, IsBlockedAt};
 ghost use Rattle.iddqd_store.specs.Rank.All.{ArePlacesOf, AreSearched, AreUnder, AreVacantFor, HaveHashes, HaveRoom, IsBlockedBy, PlacingCosts, hashes_of, slots_found};
 ghost use Rattle.iddqd_store.specs.Rank.{agree, walks_within};
+ghost use Rattle.iddqd_store.specs.Searched.{IfFound, IfVacant, OnFound, OnVacant};
 ghost use Rattle.iddqd_store.specs.Slots.Found.{AreFound, each_once, items_at};
 ghost use Rattle.iddqd_store.specs.Slots.{get, IsLive, Updates};
 ghost use Rattle.iddqd_tri.specs.Keys.{by_rank, key_tests};
@@ -28,7 +29,7 @@ use super::TriHashMap;
 use crate::error::EntryError;
 use crate::item::{Hashed, Ranked, TriHashItem};
 use crate::ranks::{First, Second, Third};
-use iddqd_store::{ItemIndex, Lookup, Meter, Query, SlotUnder, UpToThree, Vacancy};
+use iddqd_store::{ItemIndex, Lookup, Meter, Query, Searched, SlotUnder, UpToThree, Vacancy};
 use std::hash::{BuildHasher, Hash};
 
 /// An item that was not inserted, and why. It does not borrow the map.
@@ -97,10 +98,9 @@ impl<T: TriHashItem, S: BuildHasher> TriHashMap<T, S> {
         self.hash_builder.hash_one(item.key3())
     }
 
-    /// Searches at each rank for its key. If no item has one of the keys, `Ok` has the empty cells at which the
-    /// searches ended. Otherwise `Err` has the slot that each search found, if it found one, with the hash. The call
-    /// hashes each key once, and searches for it once. One meter counts the keys that are compared, and the other the
-    /// probed cells.
+    /// Searches at each rank for its key. `Found` has the slot that each search found, if it found one, with the hash.
+    /// If no item has one of the keys, `Vacant` has the empty cells at which the searches ended. The call hashes each
+    /// key once, and searches for it once. One meter counts the keys that are compared, and the other the probed cells.
     #[inline(always)]
     pub(crate) fn search_all<Q1: Query<T::K1>, Q2: Query<T::K2>, Q3: Query<T::K3>>(
         &self,
@@ -109,23 +109,25 @@ impl<T: TriHashItem, S: BuildHasher> TriHashMap<T, S> {
         query3: Q3,
         asked: &mut Meter,
         probed: &mut Meter,
-    ) -> Result<(Vacancy, Vacancy, Vacancy), (SlotUnder, SlotUnder, SlotUnder)>
+    ) -> Searched<(SlotUnder, SlotUnder, SlotUnder), (Vacancy, Vacancy, Vacancy)>
         // The slots that were found, and whether there are any.
         ensures found { AreFound
             (key_tests T.TriHashItem Q1.stands_for Q2.stands_for Q3.stands_for query1 query2 query3) self.now.slots
             (slots_found (by_rank result)) }
-        ensures none { OnOk result (list_any is_some (slots_found (by_rank result)) ≡ false) }
-        ensures some { OnErr result (list_any is_some (slots_found (by_rank result)) ≡ true) }
+        ensures none { OnVacant result (list_any is_some (slots_found (by_rank result)) ≡ false) }
+        ensures some { OnFound result (list_any is_some (slots_found (by_rank result)) ≡ true) }
         ensures apart { IsDistinct (agree T.key1 T.K1.eq) (bag self.now) }
         // The empty cells, or the hashes by which the slots were found.
-        ensures vacant { IfOk (by_rank result) (AreVacantFor (⟦<T as Hashed<S>>⟧.hashes self.now.builder) (bag self.now)
+        ensures vacant { IfVacant (by_rank result) (AreVacantFor (⟦<T as Hashed<S>>⟧.hashes self.now.builder)
+            (bag self.now)
             (map (hash_of S.BuildHasher S.Hasher.Hasher self.now.builder)
             (Q1.hash_input query1 ∷ Q2.hash_input query2 ∷ Q3.hash_input query3 ∷ []))) }
-        ensures cells { IfOk (by_rank result) (HaveRoom self.now.capacity) }
-        ensures hashes { IfErr (by_rank result) (HaveHashes
+        ensures cells { IfVacant (by_rank result) (HaveRoom self.now.capacity) }
+        ensures hashes { IfFound (by_rank result) (HaveHashes
             (map (hash_of S.BuildHasher S.Hasher.Hasher self.now.builder)
             (Q1.hash_input query1 ∷ Q2.hash_input query2 ∷ Q3.hash_input query3 ∷ []))) }
-        ensures under { IfErr (by_rank result) (AreUnder (⟦<T as Hashed<S>>⟧.hashes self.now.builder) self.now.slots) }
+        ensures under { IfFound (by_rank result) (AreUnder
+            (⟦<T as Hashed<S>>⟧.hashes self.now.builder) self.now.slots) }
         ensures costs { AreSearched (⟦<T as Hashed<S>>⟧.hashes self.now.builder) (bag self.now) self.now.capacity
             (map (hash_of S.BuildHasher S.Hasher.Hasher self.now.builder)
             (Q1.hash_input query1 ∷ Q2.hash_input query2 ∷ Q3.hash_input query3 ∷ [])) (slots_found (by_rank result))
@@ -138,17 +140,18 @@ impl<T: TriHashItem, S: BuildHasher> TriHashMap<T, S> {
         let by2 = self.by_key2().search(hash2, query2, asked, probed);
         let by3 = self.by_key3().search(hash3, query3, asked, probed);
         match (by1, by2, by3) {
-            (Err(at1), Err(at2), Err(at3)) => Ok((at1, at2, at3)),
-            (by1, by2, by3) => Err((
-                SlotUnder::new(by1.ok(), hash1),
-                SlotUnder::new(by2.ok(), hash2),
-                SlotUnder::new(by3.ok(), hash3),
+            (Searched::Vacant(at1), Searched::Vacant(at2), Searched::Vacant(at3)) =>
+                Searched::Vacant((at1, at2, at3)),
+            (by1, by2, by3) => Searched::Found((
+                SlotUnder::new(by1.found(), hash1),
+                SlotUnder::new(by2.found(), hash2),
+                SlotUnder::new(by3.found(), hash3),
             )),
         }
     }
 
-    /// Returns where an item is to be inserted at each rank, or, if items conflict with it, what the search at each
-    /// rank found. The call hashes each key once, and searches for it once. One meter counts the keys that are
+    /// Returns what the search at each rank found, if items conflict with an item, and else where it is to be inserted
+    /// at each rank. The call hashes each key once, and searches for it once. One meter counts the keys that are
     /// compared, and the other the probed cells.
     #[inline(always)]
     pub(crate) fn places(
@@ -156,15 +159,16 @@ impl<T: TriHashItem, S: BuildHasher> TriHashMap<T, S> {
         item: &T,
         asked: &mut Meter,
         probed: &mut Meter,
-    ) -> Result<(Vacancy, Vacancy, Vacancy), (SlotUnder, SlotUnder, SlotUnder)>
-        ensures free { OnOk result (clash ⟦<T as Ranked>⟧.ranks (bag self.now) item.now ≡ []) }
-        ensures places { IfOk (by_rank result) (ArePlacesOf
+    ) -> Searched<(SlotUnder, SlotUnder, SlotUnder), (Vacancy, Vacancy, Vacancy)>
+        ensures free { OnVacant result (clash ⟦<T as Ranked>⟧.ranks (bag self.now) item.now ≡ []) }
+        ensures places { IfVacant (by_rank result) (ArePlacesOf
             (⟦<T as Hashed<S>>⟧.hashes self.now.builder) (bag self.now) item.now) }
-        ensures blocked { OnErr result (IsBlockedAt ⟦<T as Ranked>⟧.ranks self.now item.now
+        ensures blocked { OnFound result (IsBlockedAt ⟦<T as Ranked>⟧.ranks self.now item.now
             (each_once (slots_found (by_rank result)))) }
-        ensures hashes { IfErr (by_rank result) (HaveHashes
+        ensures hashes { IfFound (by_rank result) (HaveHashes
             (hashes_of (⟦<T as Hashed<S>>⟧.hashes self.now.builder) item.now)) }
-        ensures under { IfErr (by_rank result) (AreUnder (⟦<T as Hashed<S>>⟧.hashes self.now.builder) self.now.slots) }
+        ensures under { IfFound (by_rank result) (AreUnder
+            (⟦<T as Hashed<S>>⟧.hashes self.now.builder) self.now.slots) }
         ensures found { AreFound (⟦<T as Ranked>⟧.key_tests (T.key1 item.now) (T.key2 item.now) (T.key3 item.now))
             self.now.slots (slots_found (by_rank result)) }
         ensures costs { AreSearched (⟦<T as Hashed<S>>⟧.hashes self.now.builder) (bag self.now) self.now.capacity
@@ -274,6 +278,18 @@ impl<T: TriHashItem, S: BuildHasher> TriHashMap<T, S> {
         }
     }
 
+    /// Removes the item of a slot, by one walk through each table. It hashes each key of it once.
+    #[inline(always)]
+    pub(crate) fn take_at(&mut self, slot: ItemIndex) -> T
+        requires { IsLive self.old.slots slot }
+        ensures value { get self.old.slots slot ≡ Some result }
+        ensures slots { self.new.slots ≡ slice_set self.old.slots slot None }
+        ensures loses { Loses self.old (result ∷ []) self.new }
+        ensures updates { Updates self.old.slots self.new.slots slot None }
+    {
+        self.take(slot, None, None, None, &mut Meter::new())
+    }
+
     /// Removes the items of these slots, in their order. The call hashes each key of them once.
     pub(crate) fn take_all(&mut self, found: &UpToThree<ItemIndex>) -> UpToThree<T>
         requires live { All (IsLive self.old.slots) found.now }
@@ -287,7 +303,7 @@ impl<T: TriHashItem, S: BuildHasher> TriHashMap<T, S> {
         let mut taken = UpToThree::new();
         for index in 0..found.len() {
             if let Some(slot) = found.get(index) {
-                taken.push(self.take(*slot, None, None, None, &mut Meter::new()));
+                taken.push(self.take_at(*slot));
             }
         }
         taken
@@ -317,8 +333,8 @@ impl<T: TriHashItem, S: BuildHasher> TriHashMap<T, S> {
             asked.old asked.new probed.old probed.new }
     {
         let at = match self.places(&item, asked, probed) {
-            Ok(at) => at,
-            Err(by) => return Err(Refusal::Duplicate(item, by)),
+            Searched::Vacant(at) => at,
+            Searched::Found(by) => return Err(Refusal::Duplicate(item, by)),
         };
         if let Err(_) = self.make_room(1) {
             return Err(Refusal::Memory(item));

@@ -1,6 +1,6 @@
 //! Updating items by a closure, which is called with an item and returns its new data.
 //!
-//! Made by tests/twins from crates/iddqd_bi/src/map/update.rt: change that file.
+//! Made by tests/widths from crates/iddqd_bi/src/map/update.rt: change that file.
 ghost use Rattle.std.specs.Prelude.{◌≡◌, Some, true, false};
 ghost use Rattle.std.specs.Fn.{CalledAt, FnOnceReturnsAt, FnOnceTakesAt};
 ghost use Rattle.std.specs.List.{list_any};

@@ -1,6 +1,6 @@
 //! The calls of a guard.
 //!
-//! Made by tests/twins from crates/iddqd_bi/src/ref_mut/methods.rt: change that file.
+//! Made by tests/widths from crates/iddqd_bi/src/ref_mut/methods.rt: change that file.
 ghost use Rattle.std.specs.Prelude.{◌≡◌, Some, IfSome, IfOk, IfErr, OnErr, IsPermutation};
 ghost use Rattle.std.specs.Borrow.{sem};
 ghost use Rattle.iddqd_store.specs.Bag.{differ, like, swap};

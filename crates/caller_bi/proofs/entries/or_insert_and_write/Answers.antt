@@ -20,9 +20,13 @@ returns-in-Some-clause-writes g c =
     let tests = key_tests g.T.BiHashItem g.T.K1.PartialEq.eq g.T.K2.PartialEq.eq c.args.key1.now c.args.key2.now in
     let write : g.row.T.Denot → g.row.T.Denot = λ y. g.T.BiHashItemMut.put y c.args.d in
     let new = bag (ref_map (ref_with found write)) in
-    let went = entered c.entry.result held c.args.item c.args.key1 c.args.key2 c.args.map.now c.in-Ok.ensures.puts_in c.in-Ok.ensures.keeps_found asked.is_found asked.keys.key1 asked.keys.key2 asked.unchanged in
-    let swaps = subst (λ (m : Map g.row.T.Denot g.row.S.Denot). IfSome (ref_item found) (λ y. IsPermutation new (swap by (bag m) y (write y)))) c.in-Some.ensures.unchanged (c.data_mut.ensures.swaps c.args.d) in
-    rw (c.map-1.given.1 (sym (c.in-Some.ensures.same_map ∙ c.in-Ok.ensures.same_map ∙ asked.same_map)), c.drop-found.ensures) (writes_entry (bag c.args.map.now) c.args.item by write (entry tests (bag c.args.map.now)) (held_entry held) (bag held.map.now) new (ref_item found) (held_unique held) went (unique_held held) (none_held held) c.in-Some.ensures.item found.live swaps)
+    let went = entered c.entry.result held c.args.item c.args.key1 c.args.key2 c.args.map.now c.in-Ok.ensures.puts_in c.in-Ok.ensures.keeps_found
+    asked.is_found asked.keys.key1 asked.keys.key2 asked.unchanged in
+    let swaps = subst (λ (m : Map g.row.T.Denot g.row.S.Denot). IfSome (ref_item found) (λ y. IsPermutation new (swap by (bag m) y (write y))))
+    c.in-Some.ensures.unchanged (c.data_mut.ensures.swaps c.args.d) in
+    rw (c.map-1.given.1 (sym (c.in-Some.ensures.same_map ∙ c.in-Ok.ensures.same_map ∙ asked.same_map)), c.drop-found.ensures)
+    (writes_entry (bag c.args.map.now) c.args.item by write (entry tests (bag c.args.map.now)) (held_entry held) (bag held.map.now) new
+    (ref_item found) (held_unique held) went (unique_held held) (none_held held) c.in-Some.ensures.item found.live swaps)
 
 -- where it has none, the map is the one that was held
 pub returns-in-Ok-clause-writes : goal.returns-in-Ok-clause-writes
@@ -32,7 +36,9 @@ returns-in-Ok-clause-writes g c =
     let by = ranks g.T.BiHashItem g.T.K1.PartialEq.eq g.T.K2.PartialEq.eq in
     let tests = key_tests g.T.BiHashItem g.T.K1.PartialEq.eq g.T.K2.PartialEq.eq c.args.key1.now c.args.key2.now in
     let write : g.row.T.Denot → g.row.T.Denot = λ y. g.T.BiHashItemMut.put y c.args.d in
-    let went = entered c.entry.result held c.args.item c.args.key1 c.args.key2 c.args.map.now c.in-Ok.ensures.puts_in c.in-Ok.ensures.keeps_found asked.is_found asked.keys.key1 asked.keys.key2 asked.unchanged in
+    let went = entered c.entry.result held c.args.item c.args.key1 c.args.key2 c.args.map.now c.in-Ok.ensures.puts_in c.in-Ok.ensures.keeps_found
+    asked.is_found asked.keys.key1 asked.keys.key2 asked.unchanged in
     let rests = rw c.in_default.is at c.into_unique.follows.holds-at-none in
-    let kept = rests_entry (bag c.args.map.now) c.args.item by write (entry tests (bag c.args.map.now)) (held_entry held) (bag held.map.now) _ _ (held_unique held) went (unique_held held) c.in_default.ensures.item refl (ap (λ (m : Map g.row.T.Denot g.row.S.Denot). bag m) rests) in
+    let kept = rests_entry (bag c.args.map.now) c.args.item by write (entry tests (bag c.args.map.now)) (held_entry held) (bag held.map.now) _ _
+    (held_unique held) went (unique_held held) c.in_default.ensures.item refl (ap (λ (m : Map g.row.T.Denot g.row.S.Denot). bag m) rests) in
     rw (c.map-in_default-2-1.given.1 (sym (c.in-Ok.ensures.same_map ∙ asked.same_map))) kept

@@ -13,7 +13,8 @@ listed test bag (Some x) some is = sym (given-listed test bag x is)
 listed test bag None some is = absurd (cc some)
 
 -- the guard has an item
-lent : {T R : Type 0} (item : R → Option T) (live : (r : R) → is_some (item r) ≡ true) (test : T → Bool) (bag : List T) (r : Option R) → option_to_list (option_and_then item r) ≡ filter test bag → is_some r ≡ list_any test bag
+lent : {T R : Type 0} (item : R → Option T) (live : (r : R) → is_some (item r) ≡ true) (test : T → Bool) (bag : List T) (r : Option R)
+    → option_to_list (option_and_then item r) ≡ filter test bag → is_some r ≡ list_any test bag
 lent item live test bag (Some r) is = listed test bag (item r) (live r) is
 lent item live test bag None is = sym (none-listed test bag is)
 

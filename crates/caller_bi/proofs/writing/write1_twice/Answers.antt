@@ -19,4 +19,7 @@ returns-in-Some-clause-present g c = λ x is.
     let item = c.in-Some.item in
     let then = ref_with item first in
     let agree = agrees-keys g.T.BiHashItem eq1 eq2 x (first x) (laws1.symm _ _ ∙ g.met.T.BiHashItemMut.keeps_key1 x c.args.first) (laws2.symm _ _ ∙ g.met.T.BiHashItemMut.keeps_key2 x c.args.first) in
-    rw (c.map-1.given.1 (sym one.same_map), c.drop-item.ensures) (only_written_twice (ranks g.T.BiHashItem eq1 eq2) (AreLawful-ranks g.T.BiHashItem laws1 laws2) (omega arith) first last c.args.map.now (ref_map item) (ref_map then) (bag (ref_map (ref_with then last))) (ref_item item) (ref_item then) x _ agree one.unchanged one.found is (c.data_mut.ensures.swaps c.args.first) (c.data_mut.ensures.writes c.args.first) (c.data_mut-in-Some.ensures.swaps c.args.last)))
+    rw (c.map-1.given.1 (sym one.same_map), c.drop-item.ensures)
+    (only_written_twice (ranks g.T.BiHashItem eq1 eq2) (AreLawful-ranks g.T.BiHashItem laws1 laws2) (omega arith) first last c.args.map.now
+    (ref_map item) (ref_map then) (bag (ref_map (ref_with then last))) (ref_item item) (ref_item then) x _ agree one.unchanged one.found is
+    (c.data_mut.ensures.swaps c.args.first) (c.data_mut.ensures.writes c.args.first) (c.data_mut-in-Some.ensures.swaps c.args.last)))

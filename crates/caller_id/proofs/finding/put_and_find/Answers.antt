@@ -1,4 +1,4 @@
--- Made by tests/twins from crates/caller_bi/proofs/finding/put_and_find/Answers.antt: change that file.
+-- Made by tests/widths from crates/caller_bi/proofs/finding/put_and_find/Answers.antt: change that file.
 use Rattle.std.proofs.Common.{◌∙◌}
 use Rattle.std.specs.Prelude.{[]}
 use Rattle.iddqd_id.specs.Bag.{like, without}

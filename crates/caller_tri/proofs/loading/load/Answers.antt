@@ -1,4 +1,4 @@
--- Made by tests/twins from crates/caller_bi/proofs/loading/load/Answers.antt: change that file.
+-- Made by tests/widths from crates/caller_bi/proofs/loading/load/Answers.antt: change that file.
 use Rattle.std.proofs.Common.{sym, ◌∙◌}
 use Rattle.std.specs.Prelude.{◌++◌}
 use Rattle.iddqd_tri.specs.Map.{bag}
@@ -19,5 +19,6 @@ returns-in-Err-clause-rejected g c =
     let came = c.in-Err.ensures.refused in
     let why = c.in-Err.ensures.reason in
     let told = c.reason-reason.ensures in
-    let reason = taken-reason by (refused.before.items ++ bag c.args.map.now) refused.item c.reason-reason.result (λ is none. told.duplicate is (why.taken1 ∙ none.0) (why.taken2 ∙ none.1.0) (why.taken3 ∙ none.1.1.0)) (λ is. let free = told.memory is in (sym why.taken1 ∙ free.0, (sym why.taken2 ∙ free.1, (sym why.taken3 ∙ free.2, tt)))) in
+    let reason = taken-reason by (refused.before.items ++ bag c.args.map.now) refused.item c.reason-reason.result (λ is none. told.duplicate is
+    (why.taken1 ∙ none.0) (why.taken2 ∙ none.1.0) (why.taken3 ∙ none.1.1.0)) (λ is. let free = told.memory is in (sym why.taken1 ∙ free.0, (sym why.taken2 ∙ free.1, (sym why.taken3 ∙ free.2, tt)))) in
     batch-refused by (bag c.args.map.now) c.args.batch.items came.0 came.3.0 refused.item c.reason-reason.result refused.before.items came.1 came.2 came.4 came.5 why.apart reason

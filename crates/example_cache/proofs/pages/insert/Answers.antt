@@ -13,4 +13,5 @@ returns-clause-came c = came_in (bag c.args.pages.now) (bag c.insert_overwrite.n
 
 pub returns-clause-same_room : goal.returns-clause-same_room
 returns-clause-same_room c =
-    same_room (bag c.args.pages.now) c.args.page c.args.pages.now.capacity c.insert_overwrite.new.self.capacity c.requires.place c.in-Ok.ensures.overwrites.same_room c.in-Ok.ensures.overwrites.no_growth
+    same_room (bag c.args.pages.now) c.args.page c.args.pages.now.capacity c.insert_overwrite.new.self.capacity c.requires.place
+    c.in-Ok.ensures.overwrites.same_room c.in-Ok.ensures.overwrites.no_growth

@@ -15,14 +15,17 @@ pub push_reserved-requires : goal.push_reserved-requires
 push_reserved-requires c =
     let at = c.loop-task in
     let test = λ (t : Task). nat_le t.due c.args.now in
-    let on = extracted-on test _ _ (λ x b f' k. search rules) at.tasks c.extract_from.new.self at.at c.extract_from.new.cursor (bag c.args.tasks.now) at.due.items c.in-Some.task c.in-Some.ensures.extracts at.invariant.extracted in
+    let on = extracted-on test _ _ (λ x b f' k. search rules) at.tasks c.extract_from.new.self at.at c.extract_from.new.cursor
+    (bag c.args.tasks.now) at.due.items c.in-Some.task c.in-Some.ensures.extracts at.invariant.extracted in
     omega (arith, at.due.ok.0, at.invariant.room, extracted-fewer test c.extract_from.new.self c.extract_from.new.cursor (bag c.args.tasks.now) at.due.items c.in-Some.task on)
 
 pub loop-task-preserved : goal.loop-task-preserved
 loop-task-preserved c =
     let at = c.loop-task in
     record {
-      extracted = rw c.push_reserved.ensures.items (extracted-on (λ (t : Task). nat_le t.due c.args.now) _ _ (λ x b f' k. search rules) at.tasks c.extract_from.new.self at.at c.extract_from.new.cursor (bag c.args.tasks.now) at.due.items c.in-Some.task c.in-Some.ensures.extracts at.invariant.extracted);
+      extracted = rw c.push_reserved.ensures.items
+          (extracted-on (λ (t : Task). nat_le t.due c.args.now) _ _ (λ x b f' k. search rules) at.tasks c.extract_from.new.self at.at
+          c.extract_from.new.cursor (bag c.args.tasks.now) at.due.items c.in-Some.task c.in-Some.ensures.extracts at.invariant.extracted);
       room = c.push_reserved.ensures.capacity ∙ at.invariant.room;
     }
 
@@ -30,9 +33,11 @@ loop-task-preserved c =
 pub returns-clause-taken : goal.returns-clause-taken
 returns-clause-taken c =
     let at = c.loop-task in
-    (extracted-end (λ (t : Task). nat_le t.due c.args.now) _ _ (λ x b f' k. search rules) at.tasks c.extract_from.new.self at.at c.extract_from.new.cursor (bag c.args.tasks.now) at.due.items c.in_default.ensures.extracts at.invariant.extracted).0
+    (extracted-end (λ (t : Task). nat_le t.due c.args.now) _ _ (λ x b f' k. search rules) at.tasks c.extract_from.new.self at.at
+    c.extract_from.new.cursor (bag c.args.tasks.now) at.due.items c.in_default.ensures.extracts at.invariant.extracted).0
 
 pub returns-clause-items : goal.returns-clause-items
 returns-clause-items c =
     let at = c.loop-task in
-    (extracted-end (λ (t : Task). nat_le t.due c.args.now) _ _ (λ x b f' k. search rules) at.tasks c.extract_from.new.self at.at c.extract_from.new.cursor (bag c.args.tasks.now) at.due.items c.in_default.ensures.extracts at.invariant.extracted).1
+    (extracted-end (λ (t : Task). nat_le t.due c.args.now) _ _ (λ x b f' k. search rules) at.tasks c.extract_from.new.self at.at
+    c.extract_from.new.cursor (bag c.args.tasks.now) at.due.items c.in_default.ensures.extracts at.invariant.extracted).1

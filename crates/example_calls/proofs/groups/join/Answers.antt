@@ -30,5 +30,11 @@ returns-in-Some-clause-joined c = λ t is.
     let one = unique_held into.result t found in
     let value = rw one at c.in-Some.ensures.value in
     let same : c.in-Some.members.now ≡ t.members = search rules in
-    let there : bag into.result.map.now ≡ bag c.args.teams.now = rw (into.ensures.map ∙ asked.unchanged) refl in
-    (record t { members = c.push.new.self }, refl, refl, rw (c.is_ok.ensures.value, ← same) c.push.ensures.items, rw (c.teams-in-Some-1.given.1 (sym (into.ensures.same_map ∙ asked.same_map))) (written_as _ _ _ t _ there (c.in-Some.ensures.swaps t c.push.new.self one)))
+    let there : bag into.result.map.now ≡ bag c.args.teams.now = rw (into.ensures.map ∙ asked.unchanged) refl in (
+      record t { members = c.push.new.self },
+      refl,
+      refl,
+      rw (c.is_ok.ensures.value, ← same) c.push.ensures.items,
+      rw (c.teams-in-Some-1.given.1 (sym (into.ensures.same_map ∙ asked.same_map)))
+          (written_as _ _ _ t _ there (c.in-Some.ensures.swaps t c.push.new.self one)),
+    )

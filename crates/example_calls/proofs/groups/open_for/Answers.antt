@@ -23,7 +23,9 @@ module _ {T : Type 0} where
   unlisted (x ∷ listed) (y ∷ whole) is = absurd (cc is)
 
 -- if the keys find nothing, the item that the closure made is in the map
-module _ {T S Q1 Q2 K1 K2 H E : Type 0} {of : item.Ghosts T K1 K2} {eq1 : equal.Ghosts K1} {input1 : hash.Ghosts K1} {eq2 : equal.Ghosts K2} {input2 : hash.Ghosts K2} {build : builder.Ghosts S H} {hashes : hasher.Ghosts H} {q1 : query.Ghosts Q1 K1} {w1 : hash.Ghosts Q1} {e1 : equal.Ghosts Q1} {q2 : query.Ghosts Q2 K2} {w2 : hash.Ghosts Q2} {e2 : equal.Ghosts Q2} where
+module _ {T S Q1 Q2 K1 K2 H E : Type 0} {of : item.Ghosts T K1 K2} {eq1 : equal.Ghosts K1} {input1 : hash.Ghosts K1} {eq2 : equal.Ghosts K2}
+    {input2 : hash.Ghosts K2} {build : builder.Ghosts S H} {hashes : hasher.Ghosts H} {q1 : query.Ghosts Q1 K1} {w1 : hash.Ghosts Q1}
+    {e1 : equal.Ghosts Q1} {q2 : query.Ghosts Q2 K2} {w2 : hash.Ghosts Q2} {e2 : equal.Ghosts Q2} where
   made_in : (Made : Result T E → Type 0) (e : Entry T S Q1 Q2 K1 K2 H of eq1 input1 eq2 input2 build hashes q1 w1 e1 q2 w2 e2) (m : OccupiedEntryMut T S K1 K2 H) (k1 : Q1) (k2 : Q2) (old : Map T S) →
       OnVacant e (λ v. (made : Result T E) × Made made × PutsInMade v made (Ok m)) → IsFound e → entry_key1 e ≡ k1 → entry_key2 e ≡ k2 → entry_map e ≡ old →
       listing (key_tests of q1.stands_for q2.stands_for k1 k2) (bag old) ≡ [] → (x : T) × Made (Ok x) × IsPermutation (bag m.map.now) (x ∷ bag old)

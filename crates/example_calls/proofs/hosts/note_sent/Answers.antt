@@ -14,4 +14,6 @@ pub returns-in-Some-clause-present : goal.returns-in-Some-clause-present
 returns-in-Some-clause-present c = λ s is.
     (let one = c.in-Some.ensures in
     let write : Host → Host = λ h. record h { sent = c.args.sent } in
-    rw (c.hosts-1.given.1 (sym one.same_map), c.drop-host.ensures) (only_written (ranks item.ghosts (address.ghosts).eq (duty.ghosts).eq) write c.args.hosts.now (ref_map c.in-Some.host) (bag (ref_map (ref_with c.in-Some.host write))) (ref_item c.in-Some.host) s _ one.unchanged one.found is (c.data_mut.ensures.swaps c.args.sent)))
+    rw (c.hosts-1.given.1 (sym one.same_map), c.drop-host.ensures)
+    (only_written (ranks item.ghosts (address.ghosts).eq (duty.ghosts).eq) write c.args.hosts.now (ref_map c.in-Some.host)
+    (bag (ref_map (ref_with c.in-Some.host write))) (ref_item c.in-Some.host) s _ one.unchanged one.found is (c.data_mut.ensures.swaps c.args.sent)))

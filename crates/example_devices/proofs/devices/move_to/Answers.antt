@@ -26,7 +26,8 @@ alone test old rest x only taken =
     none-listed test rest (sym (nil_from_length (filter test rest) (omega (arith, one, whole, length_permutation _ _ (IsPermutation-filter test old (x ∷ rest) taken)))))
 
 -- so the conflicting item is the one at the port
-at_port : (rest : List Device) (y : Device) (b : Bool) → list_any (λ d. nat_eq y.port d.port) rest ≡ b → list_any (λ d. nat_eq y.serial d.serial) rest ≡ false → clash by rest y ≢ [] → list_any (λ d. nat_eq y.port d.port) rest ≡ true
+at_port : (rest : List Device) (y : Device) (b : Bool) → list_any (λ d. nat_eq y.port d.port) rest ≡ b
+    → list_any (λ d. nat_eq y.serial d.serial) rest ≡ false → clash by rest y ≢ [] → list_any (λ d. nat_eq y.port d.port) rest ≡ true
 at_port rest y true is none some = is
 at_port rest y false is none some = absurd (some (none-clash by rest y (none, (is, tt))))
 
@@ -37,13 +38,15 @@ pub returns-in-Ok-clause-was : goal.returns-in-Ok-clause-was
 returns-in-Ok-clause-was c =
     let old = bag c.args.devices.now in
     let device = c.in-Ok.device in
-    subst (λ n. IsOnly (λ (d : Device). nat_eq c.args.serial d.serial) old (Some (record { serial = n; port = device.port }))) (same c.args.serial old device c.in-Ok.ensures.found) c.in-Ok.ensures.found
+    subst (λ n. IsOnly (λ (d : Device). nat_eq c.args.serial d.serial) old (Some (record { serial = n; port = device.port })))
+    (same c.args.serial old device c.in-Ok.ensures.found) c.in-Ok.ensures.found
 
 pub returns-in-Ok-clause-moved : goal.returns-in-Ok-clause-moved
 returns-in-Ok-clause-moved c =
     let old = bag c.args.devices.now in
     let device = c.in-Ok.device in
-    subst (λ n. IsPermutation (record { serial = n; port = device.port } ∷ bag c.rekey1.new.self) (record { serial = c.args.serial; port = c.args.port } ∷ old)) (same c.args.serial old device c.in-Ok.ensures.found) c.in-Ok.ensures.puts.items
+    subst (λ n. IsPermutation (record { serial = n; port = device.port } ∷ bag c.rekey1.new.self)
+    (record { serial = c.args.serial; port = c.args.port } ∷ old)) (same c.args.serial old device c.in-Ok.ensures.found) c.in-Ok.ensures.puts.items
 
 pub returns-in-Err-Absent-clause-no_device : goal.returns-in-Err-Absent-clause-no_device
 returns-in-Err-Absent-clause-no_device c = λ _.

@@ -6,7 +6,9 @@ use Rattle.example_http.specs.Answer.{path_of}
 use Rattle.example_http.proofs.desk.token_of.Goals as goal
 
 -- the word behind the prefix of a token's path is the token's digits
-behind : (path word : List ℕ) (token : ℕ) → ((n : ℕ) × FindsTextPrefix (codes "/sessions/") path (Some n) × (word ≡ drop n path) × (length word + n ≡ length path)) → path ≡ path_of token → word ≡ decimal token
+behind : (path word : List ℕ) (token : ℕ)
+    → ((n : ℕ) × FindsTextPrefix (codes "/sessions/") path (Some n) × (word ≡ drop n path) × (length word + n ≡ length path))
+    → path ≡ path_of token → word ≡ decimal token
 behind path word token found is = (rw found.1.0 at found.2) ∙ ap (drop 10) is
 
 -- it is read as the token

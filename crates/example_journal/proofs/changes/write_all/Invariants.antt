@@ -1,7 +1,7 @@
 use Rattle.std.proofs.Common.{◌≡◌, ◌++◌, List}
 use Rattle.iddqd_bi.specs.Map.{bag}
 use Rattle.example_journal.specs.Changes.{Tells}
-use Rattle.example_journal.specs.declared.device.Device.{Device}
+use Rattle.example_journal.specs.declared.changes.Device.{Device}
 use Rattle.example_journal.proofs.changes.write_all.Given as goal
 
 -- the lines of the devices so far

@@ -3,7 +3,8 @@ use Rattle.std.proofs.lemmas.List.Sorted.{IsPermutation-map}
 use Rattle.std.proofs.Common.{◌==◌, nat_eq, [], ◌∷◌}
 use Rattle.std.proofs.lemmas.Cmp.{nat_eq_equiv}
 use Rattle.std.specs.declared.rc.Rc.{Rc}
-use Rattle.iddqd_store.proofs.BagLemmas.Sound.{each_weaker, or-false}
+use Rattle.std.proofs.lemmas.Bool.{or_parts}
+use Rattle.iddqd_store.proofs.BagLemmas.Sound.{each_weaker}
 use Rattle.iddqd_store.proofs.BagLemmas.Steps.{none_passes}
 use Rattle.iddqd_bi.specs.Bag.{Ranks, conflicts}
 use Rattle.iddqd_bi.specs.Map.{bag}
@@ -35,7 +36,7 @@ returns-in-Err-clause-not_among_all c =
     let own : x.value.number ≡ number = search rules in
     let free = none_passes (conflicts by x) (bag c.args.all.now) c.in_ok-try_insert.ensures.free in
     undone_by (λ (r : Rc Order Global). number == r.value.number) (bag c.args.all.now) c.try_insert.new.self c.remove1.new.self x c.remove1.result
-    (rw (← own) (each_weaker _ _ (λ y e. (or-false _ _ e).0) (bag c.args.all.now) free))
+    (rw (← own) (each_weaker _ _ (λ y e. (or_parts _ _ e).0) (bag c.args.all.now) free))
     (rw (← own) (nat_eq_equiv.refl x.value.number))
     c.in_ok-try_insert.ensures.gains.items
     c.remove1.ensures.taken

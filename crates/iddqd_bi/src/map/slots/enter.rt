@@ -11,7 +11,7 @@ use crate::error::Rejected;
 use crate::item::{BiHashItem, Ranked};
 use crate::map::BiHashMap;
 use crate::ranks::{First, Second};
-use iddqd_store::{Entered, Meter};
+use iddqd_store::{Entered, Meter, Searched};
 use std::hash::{BuildHasher, Hash};
 
 impl<T: BiHashItem, S: BuildHasher> BiHashMap<T, S> {
@@ -40,8 +40,8 @@ impl<T: BiHashItem, S: BuildHasher> BiHashMap<T, S> {
         ensures grows { GrowsUnless (length (bag self.old) < self.old.capacity) self.old self.new }
     {
         let at = match self.places(&item, &mut Meter::new(), &mut Meter::new()) {
-            Ok(at) => at,
-            Err((by1, by2)) => {
+            Searched::Vacant(at) => at,
+            Searched::Found((by1, by2)) => {
                 let taken1 = by1.slot().is_some();
                 let taken2 = by2.slot().is_some();
                 return Err(Rejected {
@@ -87,7 +87,7 @@ impl<T: BiHashItem, S: BuildHasher> BiHashMap<T, S> {
     {
         let (slots, mut items) = entered.into_parts();
         for index in 0..slots.len() {
-            items.push_reserved(self.take(slots[index], None, None, &mut Meter::new()));
+            items.push_reserved(self.take_at(slots[index]));
         }
         items
     }
@@ -100,8 +100,7 @@ impl<T: BiHashItem, S: BuildHasher> BiHashMap<T, S> {
         ensures values { result.items ≡ items_at self.old.slots entered.slots }
         ensures loses { Loses self.old result.items self.new }
     {
-        // This call gives the prover the fact that the pairs fit.
-        let _ = self.room();
+        self.note_that_items_fit();
         let items = self.items.take_entered(entered);
         self.first.clear();
         self.second.clear();

@@ -15,7 +15,7 @@ ghost use Rattle.iddqd_bi.specs.RefMuts.{ref_lender, ref_map, ref_item, rests_if
 use super::super::BiHashMap;
 use crate::item::{BiHashItem, Hashed, Ranked};
 use crate::ref_mut::RefMut;
-use iddqd_store::{ItemIndex, Meter, Query, UpToTwo};
+use iddqd_store::{ItemIndex, Meter, Query, Searched, UpToTwo};
 use std::hash::{BuildHasher, Hash};
 
 /// Returns whether the item has the keys asked for at all ranks after the first.
@@ -89,7 +89,7 @@ impl<T: BiHashItem, S: BuildHasher> BiHashMap<T, S> {
         ensures costs { UniqueCosts (⟦<T as Hashed<S>>⟧.hash1 self.now.builder) (bag self.now) self.now.capacity
             hash 1 asked.old asked.new probed.old probed.new }
     {
-        let Ok(slot) = self.by_key1().search(hash, query1, asked, probed) else {
+        let Searched::Found(slot) = self.by_key1().search(hash, query1, asked, probed) else {
             return None;
         };
         let item = self.items.get(slot)?;

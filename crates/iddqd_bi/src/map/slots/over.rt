@@ -11,7 +11,7 @@ use super::super::BiHashMap;
 use super::found::each_once;
 use crate::item::{BiHashItem, Hashed, Ranked};
 use crate::ranks::{First, Second};
-use iddqd_store::{ItemIndex, Meter, SlotUnder, UpToTwo, Vacancy};
+use iddqd_store::{ItemIndex, Meter, Searched, SlotUnder, UpToTwo, Vacancy};
 use std::hash::{BuildHasher, Hash};
 
 impl<T: BiHashItem, S: BuildHasher> BiHashMap<T, S> {
@@ -78,8 +78,8 @@ impl<T: BiHashItem, S: BuildHasher> BiHashMap<T, S> {
             asked.old asked.new probed.old probed.new }
     {
         let by = match self.places(&item, asked, probed) {
-            Ok(at) => return Ok(self.exchange_at(slot, item, at, probed)),
-            Err(by) => by,
+            Searched::Vacant(at) => return Ok(self.exchange_at(slot, item, at, probed)),
+            Searched::Found(by) => by,
         };
         let mut found = each_once(by.0.slot(), by.1.slot());
         let Some(other) = found.pop_front() else {
@@ -115,8 +115,7 @@ impl<T: BiHashItem, S: BuildHasher> BiHashMap<T, S> {
             (walks_one (⟦<T as Hashed<S>>⟧.hash1 self.old.builder) (record { slot = None; hash = at.0.hash }) result
             ∷ walks_one (⟦<T as Hashed<S>>⟧.hash2 self.old.builder) (record { slot = None; hash = at.1.hash }) result ∷ []) }
     {
-        // This call gives the prover the fact that the items fit, for the clause `fits`.
-        let _ = self.room();
+        self.note_that_items_fit();
         let (at1, at2) = at;
         let gone = self.items.replace(slot, item);
         self.first
@@ -148,8 +147,7 @@ impl<T: BiHashItem, S: BuildHasher> BiHashMap<T, S> {
             (walks_one (⟦<T as Hashed<S>>⟧.hash1 self.old.builder) by.now.0 result
             ∷ walks_one (⟦<T as Hashed<S>>⟧.hash2 self.old.builder) by.now.1 result ∷ []) }
     {
-        // This call gives the prover the fact that the items fit, for the clause `fits`.
-        let _ = self.room();
+        self.note_that_items_fit();
         let gone = self.items.replace(slot, item);
         self.first
             .rehash::<T, First, S>(&self.hash_builder, (slot, &gone), &by.0, meter);
@@ -185,8 +183,7 @@ impl<T: BiHashItem, S: BuildHasher> BiHashMap<T, S> {
             (walks_two (⟦<T as Hashed<S>>⟧.hash1 self.old.builder) by.now.0 other_slot result.0
             ∷ walks_two (⟦<T as Hashed<S>>⟧.hash2 self.old.builder) by.now.1 other_slot result.0 ∷ []) }
     {
-        // This call gives the prover the fact that the items fit, for the clause `fits`.
-        let _ = self.room();
+        self.note_that_items_fit();
         let Some(other) = self.items.remove(other_slot) else {
             unreachable!()
         };

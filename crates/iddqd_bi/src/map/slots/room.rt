@@ -1,11 +1,11 @@
 //! How many items fit, and room for more. The capacity of a map is the least of those of its slots and tables.
 ghost use Rattle.std.specs.Prelude.{◌≡◌, ◌==◌, ◌<◌, ◌≤◌, length, OnOk, OnErr};
-ghost use Rattle.iddqd_store.specs.Map.{bag, MakesRoom};
+ghost use Rattle.iddqd_store.specs.Map.{bag, Reserves};
 ghost use Rattle.iddqd_store.specs.Table.Limit.{most_room};
 
 use crate::item::BiHashItem;
 use crate::map::BiHashMap;
-use iddqd_store::{Meter, TryReserveError, pairs_wanted, wanted_above};
+use iddqd_store::{AHEAD, Meter, TryReserveError, pairs_wanted, slots_wanted, wanted_above};
 use std::hash::{BuildHasher, Hash};
 
 impl<T: BiHashItem, S: BuildHasher> BiHashMap<T, S> {
@@ -19,6 +19,15 @@ impl<T: BiHashItem, S: BuildHasher> BiHashMap<T, S> {
             .capacity()
             .min(self.first.capacity())
             .min(self.second.capacity())
+    }
+
+    /// Does nothing. A call of it gives the prover the fact that the items fit.
+    #[inline(always)]
+    pub(crate) fn note_that_items_fit(&self)
+        ensures fits { length (bag self.now) ≤ self.now.capacity }
+        ensures most { self.now.capacity ≤ most_room }
+    {
+        let _ = self.room();
     }
 
     /// Returns whether no further item fits.
@@ -45,26 +54,26 @@ impl<T: BiHashItem, S: BuildHasher> BiHashMap<T, S> {
     {
         if self.is_full() {
             // For one alone the same request would be made twice.
-            if wanted > 1 && self.grow(wanted).is_ok() {
+            if wanted > 1 && self.grow(wanted, AHEAD).is_ok() {
                 return Ok(());
             }
-            self.grow(1)?;
+            self.grow(1, AHEAD)?;
         }
         Ok(())
     }
 
-    /// Reserves capacity for this many more items. If that fails, the map is as before, but slots and tables may have more
-    /// room. The call is not inlined into an insert, which seldom grows. Each larger table replaces the old one at once. The
-    /// parts that have more room than the map grow first, and what bounds the capacity grows last: so if a step fails, that
-    /// part is as before, and the capacity with it.
+    /// Reserves capacity for this many more items. If the slots have to grow, the tables are made for these items, and for
+    /// twice the room of the slots, but ahead of the items for at most so many. If the call fails, the map is as before, but
+    /// slots and tables may have more room. It is not inlined into an insert, which seldom grows. Each larger table replaces
+    /// the old one at once. The parts that have more room than the map grow first, and what bounds the capacity grows last:
+    /// so if a step fails, that part is as before, and the capacity with it.
     #[cold]
     #[inline(never)]
-    pub(crate) fn grow(&mut self, more: usize) -> Result<(), TryReserveError>
-        ensures slots { self.new.slots ≡ self.old.slots }
-        ensures room { MakesRoom self.old more result self.new }
-        ensures unchanged { OnErr result (self.new ≡ self.old) }
+    pub(crate) fn grow(&mut self, more: usize, ahead: usize) -> Result<(), TryReserveError>
+        ensures { Reserves self.old more result self.new }
     {
-        let Some(wanted) = pairs_wanted(self.items.len(), self.items.capacity(), more) else {
+        let len = self.items.len();
+        let Some(wanted) = pairs_wanted(len, self.items.capacity(), more, ahead) else {
             return Err(TryReserveError);
         };
         let mut meter = Meter::new();
@@ -76,7 +85,9 @@ impl<T: BiHashItem, S: BuildHasher> BiHashMap<T, S> {
         self.second.try_reserve(pairs2, &mut meter)?;
         self.first.try_reserve(wanted, &mut meter)?;
         self.second.try_reserve(wanted, &mut meter)?;
-        self.items.try_reserve(more)?;
+        let cells = self.first.cells().min(self.second.cells());
+        self.items
+            .try_reserve(slots_wanted(len, self.items.capacity(), more, cells))?;
         Ok(())
     }
 }

@@ -1,6 +1,6 @@
 //! Inserting the items of a list so that they can be removed again if a later one is rejected.
 //!
-//! Made by tests/twins from crates/iddqd_bi/src/map/slots/enter.rt: change that file.
+//! Made by tests/widths from crates/iddqd_bi/src/map/slots/enter.rt: change that file.
 ghost use Rattle.std.specs.Prelude.{◌≡◌, ◌<◌, ◌++◌, [], ◌∷◌, length, List, All, IsOk, OnOk, OnErr, IfErr, nat_eq};
 ghost use Rattle.std.specs.List.{IsDistinct};
 ghost use Rattle.iddqd_store.specs.Bag.{clash};
@@ -13,7 +13,7 @@ use crate::error::Rejected;
 use crate::item::{IdHashItem, Ranked};
 use crate::map::IdHashMap;
 use crate::ranks::First;
-use iddqd_store::{Entered, Meter};
+use iddqd_store::{Entered, Meter, Searched};
 use std::hash::{BuildHasher, Hash};
 
 impl<T: IdHashItem, S: BuildHasher> IdHashMap<T, S> {
@@ -43,8 +43,8 @@ impl<T: IdHashItem, S: BuildHasher> IdHashMap<T, S> {
         ensures grows { GrowsUnless (length (bag self.old) < self.old.capacity) self.old self.new }
     {
         let at = match self.places(&item, &mut Meter::new(), &mut Meter::new()) {
-            Ok(at) => at,
-            Err(by) => {
+            Searched::Vacant(at) => at,
+            Searched::Found(by) => {
                 let taken = by.slot().is_some();
                 return Err(Rejected { item, taken });
             }
@@ -81,7 +81,7 @@ impl<T: IdHashItem, S: BuildHasher> IdHashMap<T, S> {
     {
         let (slots, mut items) = entered.into_parts();
         for index in 0..slots.len() {
-            items.push_reserved(self.take(slots[index], None, &mut Meter::new()));
+            items.push_reserved(self.take_at(slots[index]));
         }
         items
     }
@@ -94,8 +94,7 @@ impl<T: IdHashItem, S: BuildHasher> IdHashMap<T, S> {
         ensures values { result.items ≡ items_at self.old.slots entered.slots }
         ensures loses { Loses self.old result.items self.new }
     {
-        // This call gives the prover the fact that the pairs fit.
-        let _ = self.room();
+        self.note_that_items_fit();
         let items = self.items.take_entered(entered);
         self.first.clear();
         self.items

@@ -1,6 +1,6 @@
 //! The item of the slot that a search found.
 //!
-//! Made by tests/twins from crates/iddqd_bi/src/map/slots/found.rt: change that file.
+//! Made by tests/widths from crates/iddqd_bi/src/map/slots/found.rt: change that file.
 ghost use Rattle.std.specs.Prelude.{◌≡◌, option_copied};
 ghost use Rattle.std.specs.Option.{option_and_then};
 ghost use Rattle.iddqd_store.specs.Slots.{get};

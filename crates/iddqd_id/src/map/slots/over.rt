@@ -1,6 +1,6 @@
 //! Inserting an item in place of others.
 //!
-//! Made by tests/twins from crates/iddqd_bi/src/map/slots/over.rt: change that file.
+//! Made by tests/widths from crates/iddqd_bi/src/map/slots/over.rt: change that file.
 ghost use Rattle.std.specs.Prelude.{◌≡◌, ◌≢◌, ◌+◌, ◌≤◌, [], ◌∷◌, length, map, None, Some, IfOk, IfErr, OnOk, OnErr, slice_set};
 ghost use Rattle.iddqd_store.specs.Bag.{clash, order, over};
 ghost use Rattle.iddqd_store.specs.Map.{bag, ListsConflicts, PutsAt};
@@ -12,7 +12,7 @@ ghost use Rattle.iddqd_store.specs.Slots.Found.{each_once};
 use super::super::IdHashMap;
 use crate::item::{Hashed, IdHashItem, Ranked};
 use crate::ranks::First;
-use iddqd_store::{ItemIndex, Meter, SlotUnder, Vacancy};
+use iddqd_store::{ItemIndex, Meter, Searched, SlotUnder, Vacancy};
 use std::hash::{BuildHasher, Hash};
 
 impl<T: IdHashItem, S: BuildHasher> IdHashMap<T, S> {
@@ -62,8 +62,8 @@ impl<T: IdHashItem, S: BuildHasher> IdHashMap<T, S> {
             asked.old asked.new probed.old probed.new }
     {
         let by = match self.places(&item, asked, probed) {
-            Ok(at) => return Ok(self.exchange_at(slot, item, at, probed)),
-            Err(by) => by,
+            Searched::Vacant(at) => return Ok(self.exchange_at(slot, item, at, probed)),
+            Searched::Found(by) => by,
         };
         let Some(other) = by.slot() else {
             unreachable!()
@@ -90,8 +90,7 @@ impl<T: IdHashItem, S: BuildHasher> IdHashMap<T, S> {
             (walks_one (⟦<T as Hashed<S>>⟧.hash self.old.builder) (record { slot = None; hash = at.hash }) result
             ∷ []) }
     {
-        // This call gives the prover the fact that the items fit, for the clause `fits`.
-        let _ = self.room();
+        self.note_that_items_fit();
         let gone = self.items.replace(slot, item);
         self.first
             .rehash_at::<T, First, S>(&self.hash_builder, (slot, &gone), at, meter);
@@ -113,8 +112,7 @@ impl<T: IdHashItem, S: BuildHasher> IdHashMap<T, S> {
         ensures costs { meter.new ≤ meter.old + walks_within (length (bag self.old))
             (walks_one (⟦<T as Hashed<S>>⟧.hash self.old.builder) by.now result ∷ []) }
     {
-        // This call gives the prover the fact that the items fit, for the clause `fits`.
-        let _ = self.room();
+        self.note_that_items_fit();
         let gone = self.items.replace(slot, item);
         self.first
             .rehash::<T, First, S>(&self.hash_builder, (slot, &gone), by, meter);

@@ -1,4 +1,4 @@
--- Made by tests/twins from crates/iddqd_serde/proofs/bi/fill_owned/Answers.antt: change that file.
+-- Made by tests/widths from crates/iddqd_serde/proofs/bi/fill_owned/Answers.antt: change that file.
 use Rattle.std.proofs.Common.{rules, ◌≡◌, ◌+◌, arith}
 use Rattle.std.specs.Prelude.{length}
 use Rattle.serde.specs.Event.{seq_ends}

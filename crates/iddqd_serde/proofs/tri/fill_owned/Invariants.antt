@@ -1,4 +1,4 @@
--- Made by tests/twins from crates/iddqd_serde/proofs/bi/fill_owned/Invariants.antt: change that file.
+-- Made by tests/widths from crates/iddqd_serde/proofs/bi/fill_owned/Invariants.antt: change that file.
 use Rattle.std.specs.Prelude.{◌≡◌, ◌+◌, length}
 use Rattle.iddqd_tri.specs.Map.{bag}
 use Rattle.iddqd_serde.specs.Reading.{HasRead}

@@ -1,4 +1,4 @@
--- Made by tests/twins from crates/iddqd_serde/proofs/bi/serialize/Answers.antt: change that file.
+-- Made by tests/widths from crates/iddqd_serde/proofs/bi/serialize/Answers.antt: change that file.
 use Rattle.std.proofs.Common.{Some, subst, rules}
 use Rattle.std.proofs.lemmas.Result.{on_ok_weaker}
 use Rattle.serde.specs.Event.{Logs, seq_begins}

@@ -1,4 +1,4 @@
--- Made by tests/twins from crates/iddqd_serde/proofs/bi/serialize/Invariants.antt: change that file.
+-- Made by tests/widths from crates/iddqd_serde/proofs/bi/serialize/Invariants.antt: change that file.
 use Rattle.iddqd_tri.specs.Map.{bag}
 use Rattle.serde.proofs.Events.{WritesUpTo}
 use Rattle.iddqd_serde.proofs.tri.serialize.Given as goal

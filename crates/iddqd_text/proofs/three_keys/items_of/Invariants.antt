@@ -1,4 +1,4 @@
--- Made by tests/twins from crates/iddqd_text/proofs/two_keys/items_of/Invariants.antt: change that file.
+-- Made by tests/widths from crates/iddqd_text/proofs/two_keys/items_of/Invariants.antt: change that file.
 use Rattle.std.proofs.Common.{◌≡◌, length}
 use Rattle.iddqd_text.proofs.Counting.{after_all}
 use Rattle.iddqd_text.specs.ThreeKeys.{items_of}

@@ -1,7 +1,7 @@
 //! The replies to commands on entries and guards. Each function carries out a command and makes its reply, which
 //! borrows nothing. Each arm returns by itself, since the prover knows less of the map where arms join.
 //!
-//! Made by tests/twins from crates/iddqd_bi/src/map/run/replies.rt: change that file.
+//! Made by tests/widths from crates/iddqd_bi/src/map/run/replies.rt: change that file.
 ghost use Rattle.std.specs.Prelude.{◌≡◌, [], ◌∷◌, Bool};
 ghost use Rattle.iddqd_store.specs.Runs.Reply.{displaced, key};
 ghost use Rattle.iddqd_store.specs.Runs.Step.{state_of, EntryInserts, EntryRemoves, OrInserts, Replaces, Sets};

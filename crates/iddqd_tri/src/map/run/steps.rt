@@ -1,7 +1,7 @@
 //! Carrying out the commands that change the map by a key. Each command has a function of its own, which is not inlined
 //! into `apply`, since it needs stack space for a reply.
 //!
-//! Made by tests/twins from crates/iddqd_bi/src/map/run/steps.rt: change that file.
+//! Made by tests/widths from crates/iddqd_bi/src/map/run/steps.rt: change that file.
 ghost use Rattle.std.specs.Prelude.{◌≡◌, Bool};
 ghost use Rattle.iddqd_store.specs.Runs.Step.{state_of, Removes, Replaces, Sets};
 ghost use Rattle.iddqd_store.specs.Runs.Step.{EntryInserts, EntryRemoves, OrInserts};

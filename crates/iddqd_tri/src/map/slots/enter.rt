@@ -1,6 +1,6 @@
 //! Inserting the items of a list so that they can be removed again if a later one is rejected.
 //!
-//! Made by tests/twins from crates/iddqd_bi/src/map/slots/enter.rt: change that file.
+//! Made by tests/widths from crates/iddqd_bi/src/map/slots/enter.rt: change that file.
 ghost use Rattle.std.specs.Prelude.{◌≡◌, ◌<◌, ◌++◌, [], ◌∷◌, length, List, All, IsOk, OnOk, OnErr, IfErr, nat_eq};
 ghost use Rattle.std.specs.List.{IsDistinct};
 ghost use Rattle.iddqd_store.specs.Bag.{clash};
@@ -13,7 +13,7 @@ use crate::error::Rejected;
 use crate::item::{Ranked, TriHashItem};
 use crate::map::TriHashMap;
 use crate::ranks::{First, Second, Third};
-use iddqd_store::{Entered, Meter};
+use iddqd_store::{Entered, Meter, Searched};
 use std::hash::{BuildHasher, Hash};
 
 impl<T: TriHashItem, S: BuildHasher> TriHashMap<T, S> {
@@ -43,8 +43,8 @@ impl<T: TriHashItem, S: BuildHasher> TriHashMap<T, S> {
         ensures grows { GrowsUnless (length (bag self.old) < self.old.capacity) self.old self.new }
     {
         let at = match self.places(&item, &mut Meter::new(), &mut Meter::new()) {
-            Ok(at) => at,
-            Err((by1, by2, by3)) => {
+            Searched::Vacant(at) => at,
+            Searched::Found((by1, by2, by3)) => {
                 let taken1 = by1.slot().is_some();
                 let taken2 = by2.slot().is_some();
                 let taken3 = by3.slot().is_some();
@@ -93,7 +93,7 @@ impl<T: TriHashItem, S: BuildHasher> TriHashMap<T, S> {
     {
         let (slots, mut items) = entered.into_parts();
         for index in 0..slots.len() {
-            items.push_reserved(self.take(slots[index], None, None, None, &mut Meter::new()));
+            items.push_reserved(self.take_at(slots[index]));
         }
         items
     }
@@ -106,8 +106,7 @@ impl<T: TriHashItem, S: BuildHasher> TriHashMap<T, S> {
         ensures values { result.items ≡ items_at self.old.slots entered.slots }
         ensures loses { Loses self.old result.items self.new }
     {
-        // This call gives the prover the fact that the pairs fit.
-        let _ = self.room();
+        self.note_that_items_fit();
         let items = self.items.take_entered(entered);
         self.first.clear();
         self.second.clear();

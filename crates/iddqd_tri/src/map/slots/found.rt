@@ -1,7 +1,7 @@
 //! Comparing an item's keys with others, and the slots that searches by all keys found: which they are, and their
 //! items, borrowed for reading or writing.
 //!
-//! Made by tests/twins from crates/iddqd_bi/src/map/slots/found.rt: change that file.
+//! Made by tests/widths from crates/iddqd_bi/src/map/slots/found.rt: change that file.
 ghost use Rattle.std.specs.Prelude.{◌≡◌, ◌<◌, ◌≤◌, ◌+◌, [], ◌∷◌, map, IfSome, option_copied};
 ghost use Rattle.std.specs.Option.{option_and_then};
 ghost use Rattle.iddqd_store.specs.Bag.{IsOnly, differ, every_of};
@@ -17,7 +17,7 @@ ghost use Rattle.iddqd_tri.specs.RefMuts.{ref_lender, ref_map, ref_item, rests_i
 use super::super::TriHashMap;
 use crate::item::{Hashed, Ranked, TriHashItem};
 use crate::ref_mut::RefMut;
-use iddqd_store::{ItemIndex, Meter, Query, UpToThree};
+use iddqd_store::{ItemIndex, Meter, Query, Searched, UpToThree};
 use std::hash::{BuildHasher, Hash};
 
 /// Returns whether the item has the keys asked for at all ranks after the first.
@@ -112,7 +112,7 @@ impl<T: TriHashItem, S: BuildHasher> TriHashMap<T, S> {
         ensures costs { UniqueCosts (⟦<T as Hashed<S>>⟧.hash1 self.now.builder) (bag self.now) self.now.capacity
             hash 2 asked.old asked.new probed.old probed.new }
     {
-        let Ok(slot) = self.by_key1().search(hash, query1, asked, probed) else {
+        let Searched::Found(slot) = self.by_key1().search(hash, query1, asked, probed) else {
             return None;
         };
         let item = self.items.get(slot)?;

@@ -1,6 +1,6 @@
 //! Inserting an item in place of others.
 //!
-//! Made by tests/twins from crates/iddqd_bi/src/map/slots/over.rt: change that file.
+//! Made by tests/widths from crates/iddqd_bi/src/map/slots/over.rt: change that file.
 ghost use Rattle.std.specs.Prelude.{◌≡◌, ◌≢◌, ◌+◌, ◌≤◌, [], ◌∷◌, length, map, None, Some, IfOk, IfErr, OnOk, OnErr, slice_set};
 ghost use Rattle.iddqd_store.specs.Bag.{clash, order, over};
 ghost use Rattle.iddqd_store.specs.Map.{bag, ListsConflicts, PutsAt};
@@ -15,7 +15,7 @@ use super::super::TriHashMap;
 use super::found::each_once;
 use crate::item::{Hashed, Ranked, TriHashItem};
 use crate::ranks::{First, Second, Third};
-use iddqd_store::{ItemIndex, Meter, SlotUnder, UpToThree, Vacancy};
+use iddqd_store::{ItemIndex, Meter, Searched, SlotUnder, UpToThree, Vacancy};
 use std::hash::{BuildHasher, Hash};
 
 impl<T: TriHashItem, S: BuildHasher> TriHashMap<T, S> {
@@ -94,8 +94,8 @@ impl<T: TriHashItem, S: BuildHasher> TriHashMap<T, S> {
             asked.old asked.new probed.old probed.new }
     {
         let by = match self.places(&item, asked, probed) {
-            Ok(at) => return Ok(self.exchange_at(slot, item, at, probed)),
-            Err(by) => by,
+            Searched::Vacant(at) => return Ok(self.exchange_at(slot, item, at, probed)),
+            Searched::Found(by) => by,
         };
         let mut found = each_once(by.0.slot(), by.1.slot(), by.2.slot());
         let Some(other) = found.pop_front() else {
@@ -134,8 +134,7 @@ impl<T: TriHashItem, S: BuildHasher> TriHashMap<T, S> {
             ∷ walks_one (⟦<T as Hashed<S>>⟧.hash3 self.old.builder)
             (record { slot = None; hash = at.2.hash }) result ∷ []) }
     {
-        // This call gives the prover the fact that the items fit, for the clause `fits`.
-        let _ = self.room();
+        self.note_that_items_fit();
         let (at1, at2, at3) = at;
         let gone = self.items.replace(slot, item);
         self.first
@@ -170,8 +169,7 @@ impl<T: TriHashItem, S: BuildHasher> TriHashMap<T, S> {
             ∷ walks_one (⟦<T as Hashed<S>>⟧.hash2 self.old.builder) by.now.1 result ∷ walks_one
             (⟦<T as Hashed<S>>⟧.hash3 self.old.builder) by.now.2 result ∷ []) }
     {
-        // This call gives the prover the fact that the items fit, for the clause `fits`.
-        let _ = self.room();
+        self.note_that_items_fit();
         let gone = self.items.replace(slot, item);
         self.first
             .rehash::<T, First, S>(&self.hash_builder, (slot, &gone), &by.0, meter);
@@ -210,8 +208,7 @@ impl<T: TriHashItem, S: BuildHasher> TriHashMap<T, S> {
             ∷ walks_two (⟦<T as Hashed<S>>⟧.hash2 self.old.builder) by.now.1 other_slot result.0 ∷ walks_two
             (⟦<T as Hashed<S>>⟧.hash3 self.old.builder) by.now.2 other_slot result.0 ∷ []) }
     {
-        // This call gives the prover the fact that the items fit, for the clause `fits`.
-        let _ = self.room();
+        self.note_that_items_fit();
         let Some(other) = self.items.remove(other_slot) else {
             unreachable!()
         };

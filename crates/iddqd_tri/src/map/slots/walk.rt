@@ -1,6 +1,6 @@
 //! Iterating over the items by the numbers of their slots.
 //!
-//! Made by tests/twins from crates/iddqd_bi/src/map/slots/walk.rt: change that file.
+//! Made by tests/widths from crates/iddqd_bi/src/map/slots/walk.rt: change that file.
 ghost use Rattle.std.specs.Prelude.{◌≡◌, ◌+◌, ◌^◌, ◌<◌, [], length, Some, IfSome, IfNone};
 ghost use Rattle.iddqd_store.specs.Slots.{get, IsLive};
 ghost use Rattle.iddqd_store.specs.Slots.Next.{ComesNext};

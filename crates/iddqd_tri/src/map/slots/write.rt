@@ -1,6 +1,6 @@
 //! Reading and writing items by their slots.
 //!
-//! Made by tests/twins from crates/iddqd_bi/src/map/slots/write.rt: change that file.
+//! Made by tests/widths from crates/iddqd_bi/src/map/slots/write.rt: change that file.
 ghost use Rattle.std.specs.Prelude.{◌≡◌, [], ◌∷◌, true, false, ℕ, All, nat_eq, Some, None, IsPermutation, IfSome, is_some};
 ghost use Rattle.std.specs.Borrow.{sem};
 ghost use Rattle.std.specs.Fn.{CalledAt, FnOnceReturnsAt, FnOnceTakesAt, TakesAt};

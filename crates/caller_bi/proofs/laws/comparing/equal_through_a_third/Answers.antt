@@ -8,4 +8,6 @@ use Rattle.caller_bi.proofs.laws.comparing.equal_through_a_third.Goals as goal
 pub returns-then-eq-2 : goal.returns-then-eq-2
 returns-then-eq-2 g c =
     c.eq-then-eq-2.ensures.eq
-    ∙ equal-trans (ranks g.T.BiHashItem g.T.K1.PartialEq.eq g.T.K2.PartialEq.eq) (AreLawful-ranks g.T.BiHashItem g.met.T.K1.Eq.laws g.met.T.K2.Eq.laws) g.T.PartialEq.eq g.met.T.PartialEq.laws (bag c.args.first.now) (bag c.args.second.now) (bag c.args.third.now) (sym c.eq.ensures.eq ∙ c.if-eq.true) (sym c.eq-then-eq.ensures.eq ∙ c.if-eq-2.true)
+    ∙ equal-trans (ranks g.T.BiHashItem g.T.K1.PartialEq.eq g.T.K2.PartialEq.eq)
+    (AreLawful-ranks g.T.BiHashItem g.met.T.K1.Eq.laws g.met.T.K2.Eq.laws) g.T.PartialEq.eq g.met.T.PartialEq.laws (bag c.args.first.now)
+    (bag c.args.second.now) (bag c.args.third.now) (sym c.eq.ensures.eq ∙ c.if-eq.true) (sym c.eq-then-eq.ensures.eq ∙ c.if-eq-2.true)

@@ -6,4 +6,5 @@ use Rattle.iddqd_bi.proofs.MapLemmas.{AreLawful-ranks}
 use Rattle.caller_bi.proofs.laws.comparing.equal_to_itself.Goals as goal
 
 pub returns : goal.returns
-returns g c = c.eq.ensures.eq ∙ equal-refl (ranks g.T.BiHashItem g.T.K1.PartialEq.eq g.T.K2.PartialEq.eq) (AreLawful-ranks g.T.BiHashItem g.met.T.K1.Eq.laws g.met.T.K2.Eq.laws) g.T.PartialEq.eq g.met.T.Eq.laws (bag c.args.map.now)
+returns g c = c.eq.ensures.eq ∙ equal-refl (ranks g.T.BiHashItem g.T.K1.PartialEq.eq g.T.K2.PartialEq.eq)
+    (AreLawful-ranks g.T.BiHashItem g.met.T.K1.Eq.laws g.met.T.K2.Eq.laws) g.T.PartialEq.eq g.met.T.Eq.laws (bag c.args.map.now)

@@ -1,4 +1,4 @@
--- Made by tests/twins from crates/caller_bi/proofs/laws/comparing/equal_through_a_third/Answers.antt: change that file.
+-- Made by tests/widths from crates/caller_bi/proofs/laws/comparing/equal_through_a_third/Answers.antt: change that file.
 use Rattle.std.proofs.Common.{sym, ◌∙◌}
 use Rattle.iddqd_id.specs.Keys.{ranks}
 use Rattle.iddqd_id.specs.Map.{bag}
@@ -9,4 +9,6 @@ use Rattle.caller_id.proofs.laws.comparing.equal_through_a_third.Goals as goal
 pub returns-then-eq-2 : goal.returns-then-eq-2
 returns-then-eq-2 g c =
     c.eq-then-eq-2.ensures.eq
-    ∙ equal-trans (ranks g.T.IdHashItem g.T.Key.PartialEq.eq) (AreLawful-ranks g.T.IdHashItem g.met.T.Key.Eq.laws) g.T.PartialEq.eq g.met.T.PartialEq.laws (bag c.args.first.now) (bag c.args.second.now) (bag c.args.third.now) (sym c.eq.ensures.eq ∙ c.if-eq.true) (sym c.eq-then-eq.ensures.eq ∙ c.if-eq-2.true)
+    ∙ equal-trans (ranks g.T.IdHashItem g.T.Key.PartialEq.eq)
+    (AreLawful-ranks g.T.IdHashItem g.met.T.Key.Eq.laws) g.T.PartialEq.eq g.met.T.PartialEq.laws (bag c.args.first.now)
+    (bag c.args.second.now) (bag c.args.third.now) (sym c.eq.ensures.eq ∙ c.if-eq.true) (sym c.eq-then-eq.ensures.eq ∙ c.if-eq-2.true)

@@ -1,4 +1,4 @@
--- Made by tests/twins from crates/caller_bi/proofs/laws/comparing/equal_to_the_same_items/Answers.antt: change that file.
+-- Made by tests/widths from crates/caller_bi/proofs/laws/comparing/equal_to_the_same_items/Answers.antt: change that file.
 use Rattle.std.proofs.Common.{◌∙◌}
 use Rattle.iddqd_id.specs.Keys.{ranks}
 use Rattle.iddqd_id.specs.Map.{bag}
@@ -8,4 +8,5 @@ use Rattle.caller_id.proofs.laws.comparing.equal_to_the_same_items.Goals as goal
 
 pub returns : goal.returns
 returns g c = λ moved.
-    (c.eq.ensures.eq ∙ equal-permuted (ranks g.T.IdHashItem g.T.Key.PartialEq.eq) (AreLawful-ranks g.T.IdHashItem g.met.T.Key.Eq.laws) g.T.PartialEq.eq g.met.T.Eq.laws (bag c.args.left.now) (bag c.args.right.now) moved)
+    (c.eq.ensures.eq ∙ equal-permuted (ranks g.T.IdHashItem g.T.Key.PartialEq.eq) (AreLawful-ranks g.T.IdHashItem
+    g.met.T.Key.Eq.laws) g.T.PartialEq.eq g.met.T.Eq.laws (bag c.args.left.now) (bag c.args.right.now) moved)

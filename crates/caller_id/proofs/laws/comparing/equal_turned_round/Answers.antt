@@ -1,4 +1,4 @@
--- Made by tests/twins from crates/caller_bi/proofs/laws/comparing/equal_turned_round/Answers.antt: change that file.
+-- Made by tests/widths from crates/caller_bi/proofs/laws/comparing/equal_turned_round/Answers.antt: change that file.
 use Rattle.std.proofs.Common.{refl, sym, ◌∙◌}
 use Rattle.iddqd_id.specs.Keys.{ranks}
 use Rattle.iddqd_id.specs.Map.{bag}
@@ -8,8 +8,12 @@ use Rattle.caller_id.proofs.laws.comparing.equal_turned_round.Goals as goal
 
 pub returns-then-eq : goal.returns-then-eq
 returns-then-eq g c =
-    c.eq-then-eq.ensures.eq ∙ equal-symm (ranks g.T.IdHashItem g.T.Key.PartialEq.eq) (AreLawful-ranks g.T.IdHashItem g.met.T.Key.Eq.laws) g.T.PartialEq.eq g.met.T.PartialEq.laws (bag c.args.right.now) (bag c.args.left.now) ∙ sym c.eq.ensures.eq ∙ c.if-eq.true
+    c.eq-then-eq.ensures.eq ∙ equal-symm (ranks g.T.IdHashItem g.T.Key.PartialEq.eq)
+    (AreLawful-ranks g.T.IdHashItem g.met.T.Key.Eq.laws) g.T.PartialEq.eq g.met.T.PartialEq.laws (bag c.args.right.now)
+    (bag c.args.left.now) ∙ sym c.eq.ensures.eq ∙ c.if-eq.true
 
 pub returns-else-eq : goal.returns-else-eq
 returns-else-eq g c =
-    rw (c.eq-else-eq.ensures.eq ∙ equal-symm (ranks g.T.IdHashItem g.T.Key.PartialEq.eq) (AreLawful-ranks g.T.IdHashItem g.met.T.Key.Eq.laws) g.T.PartialEq.eq g.met.T.PartialEq.laws (bag c.args.right.now) (bag c.args.left.now) ∙ sym c.eq.ensures.eq ∙ c.if-eq.false) refl
+    rw (c.eq-else-eq.ensures.eq ∙ equal-symm (ranks g.T.IdHashItem g.T.Key.PartialEq.eq)
+    (AreLawful-ranks g.T.IdHashItem g.met.T.Key.Eq.laws) g.T.PartialEq.eq g.met.T.PartialEq.laws (bag c.args.right.now)
+    (bag c.args.left.now) ∙ sym c.eq.ensures.eq ∙ c.if-eq.false) refl

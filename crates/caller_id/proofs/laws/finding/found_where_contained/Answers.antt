@@ -1,4 +1,4 @@
--- Made by tests/twins from crates/caller_bi/proofs/laws/finding/found1_where_contained/Answers.antt: change that file.
+-- Made by tests/widths from crates/caller_bi/proofs/laws/finding/found1_where_contained/Answers.antt: change that file.
 use Rattle.std.proofs.Common.{refl, ◌∙◌}
 use Rattle.iddqd_id.specs.Keys.{has}
 use Rattle.iddqd_id.specs.Map.{bag}

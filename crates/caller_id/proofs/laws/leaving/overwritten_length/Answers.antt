@@ -1,4 +1,4 @@
--- Made by tests/twins from crates/caller_bi/proofs/laws/leaving/overwritten_length/Answers.antt: change that file.
+-- Made by tests/widths from crates/caller_bi/proofs/laws/leaving/overwritten_length/Answers.antt: change that file.
 use Rattle.std.proofs.Common.{◌≡◌, length, eq-eqb, ap, arith}
 use Rattle.iddqd_id.specs.Bag.{order}
 use Rattle.iddqd_id.specs.Keys.{ranks}

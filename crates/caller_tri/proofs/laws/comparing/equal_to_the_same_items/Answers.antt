@@ -1,4 +1,4 @@
--- Made by tests/twins from crates/caller_bi/proofs/laws/comparing/equal_to_the_same_items/Answers.antt: change that file.
+-- Made by tests/widths from crates/caller_bi/proofs/laws/comparing/equal_to_the_same_items/Answers.antt: change that file.
 use Rattle.std.proofs.Common.{◌∙◌}
 use Rattle.iddqd_tri.specs.Keys.{ranks}
 use Rattle.iddqd_tri.specs.Map.{bag}
@@ -8,4 +8,5 @@ use Rattle.caller_tri.proofs.laws.comparing.equal_to_the_same_items.Goals as goa
 
 pub returns : goal.returns
 returns g c = λ moved.
-    (c.eq.ensures.eq ∙ equal-permuted (ranks g.T.TriHashItem g.T.K1.PartialEq.eq g.T.K2.PartialEq.eq g.T.K3.PartialEq.eq) (AreLawful-ranks g.T.TriHashItem g.met.T.K1.Eq.laws g.met.T.K2.Eq.laws g.met.T.K3.Eq.laws) g.T.PartialEq.eq g.met.T.Eq.laws (bag c.args.left.now) (bag c.args.right.now) moved)
+    (c.eq.ensures.eq ∙ equal-permuted (ranks g.T.TriHashItem g.T.K1.PartialEq.eq g.T.K2.PartialEq.eq g.T.K3.PartialEq.eq) (AreLawful-ranks g.T.TriHashItem
+    g.met.T.K1.Eq.laws g.met.T.K2.Eq.laws g.met.T.K3.Eq.laws) g.T.PartialEq.eq g.met.T.Eq.laws (bag c.args.left.now) (bag c.args.right.now) moved)

@@ -1,4 +1,4 @@
--- Made by tests/twins from crates/caller_bi/proofs/laws/comparing/equal_turned_round/Answers.antt: change that file.
+-- Made by tests/widths from crates/caller_bi/proofs/laws/comparing/equal_turned_round/Answers.antt: change that file.
 use Rattle.std.proofs.Common.{refl, sym, ◌∙◌}
 use Rattle.iddqd_tri.specs.Keys.{ranks}
 use Rattle.iddqd_tri.specs.Map.{bag}
@@ -8,8 +8,12 @@ use Rattle.caller_tri.proofs.laws.comparing.equal_turned_round.Goals as goal
 
 pub returns-then-eq : goal.returns-then-eq
 returns-then-eq g c =
-    c.eq-then-eq.ensures.eq ∙ equal-symm (ranks g.T.TriHashItem g.T.K1.PartialEq.eq g.T.K2.PartialEq.eq g.T.K3.PartialEq.eq) (AreLawful-ranks g.T.TriHashItem g.met.T.K1.Eq.laws g.met.T.K2.Eq.laws g.met.T.K3.Eq.laws) g.T.PartialEq.eq g.met.T.PartialEq.laws (bag c.args.right.now) (bag c.args.left.now) ∙ sym c.eq.ensures.eq ∙ c.if-eq.true
+    c.eq-then-eq.ensures.eq ∙ equal-symm (ranks g.T.TriHashItem g.T.K1.PartialEq.eq g.T.K2.PartialEq.eq g.T.K3.PartialEq.eq)
+    (AreLawful-ranks g.T.TriHashItem g.met.T.K1.Eq.laws g.met.T.K2.Eq.laws g.met.T.K3.Eq.laws) g.T.PartialEq.eq g.met.T.PartialEq.laws (bag c.args.right.now)
+    (bag c.args.left.now) ∙ sym c.eq.ensures.eq ∙ c.if-eq.true
 
 pub returns-else-eq : goal.returns-else-eq
 returns-else-eq g c =
-    rw (c.eq-else-eq.ensures.eq ∙ equal-symm (ranks g.T.TriHashItem g.T.K1.PartialEq.eq g.T.K2.PartialEq.eq g.T.K3.PartialEq.eq) (AreLawful-ranks g.T.TriHashItem g.met.T.K1.Eq.laws g.met.T.K2.Eq.laws g.met.T.K3.Eq.laws) g.T.PartialEq.eq g.met.T.PartialEq.laws (bag c.args.right.now) (bag c.args.left.now) ∙ sym c.eq.ensures.eq ∙ c.if-eq.false) refl
+    rw (c.eq-else-eq.ensures.eq ∙ equal-symm (ranks g.T.TriHashItem g.T.K1.PartialEq.eq g.T.K2.PartialEq.eq g.T.K3.PartialEq.eq)
+    (AreLawful-ranks g.T.TriHashItem g.met.T.K1.Eq.laws g.met.T.K2.Eq.laws g.met.T.K3.Eq.laws) g.T.PartialEq.eq g.met.T.PartialEq.laws (bag c.args.right.now)
+    (bag c.args.left.now) ∙ sym c.eq.ensures.eq ∙ c.if-eq.false) refl

@@ -1,4 +1,4 @@
--- Made by tests/twins from crates/caller_bi/proofs/laws/finding/found1_where_contained/Answers.antt: change that file.
+-- Made by tests/widths from crates/caller_bi/proofs/laws/finding/found1_where_contained/Answers.antt: change that file.
 use Rattle.std.proofs.Common.{refl, ◌∙◌}
 use Rattle.iddqd_tri.specs.Keys.{has1}
 use Rattle.iddqd_tri.specs.Map.{bag}

@@ -1,4 +1,4 @@
--- Made by tests/twins from crates/caller_bi/proofs/laws/rooming/insert_all_after_reserve/Invariants.antt: change that file.
+-- Made by tests/widths from crates/caller_bi/proofs/laws/rooming/insert_all_after_reserve/Invariants.antt: change that file.
 use Rattle.std.proofs.Common.{◌≤◌, ◌+◌, length}
 use Rattle.iddqd_tri.specs.Map.{bag}
 use Rattle.caller_tri.proofs.laws.rooming.insert_all_after_reserve.Given as goal

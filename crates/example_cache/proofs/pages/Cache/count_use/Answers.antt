@@ -8,4 +8,5 @@ use Rattle.example_cache.proofs.pages.Cache.count_use.Goals as goal
 pub returns-clause-counted : goal.returns-clause-counted
 returns-clause-counted c = λ below.
     let free = if_some _ (λ (g : Page). is_taken (bag c.args.self.now.pages) c.args.page ≡ false) _ (λ g h. h.1) c.enter.ensures.evicted in
-    used_last c.enter.result (bag c.args.self.now.pages) (bag c.enter.new.self.pages) c.args.page (record c.args.page { used = c.args.self.now.clock }) c.len.ensures.sound c.requires free c.enter.ensures.entered
+    used_last c.enter.result (bag c.args.self.now.pages) (bag c.enter.new.self.pages) c.args.page
+    (record c.args.page { used = c.args.self.now.clock }) c.len.ensures.sound c.requires free c.enter.ensures.entered

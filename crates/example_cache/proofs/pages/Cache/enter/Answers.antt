@@ -23,7 +23,8 @@ pub returns-clause-entered : goal.returns-clause-entered
 returns-clause-entered c =
     let free = if_some _ (λ (g : Page). is_taken (bag c.args.self.now.pages) (stamped c.args.page c.args.self.now.clock) ≡ false) _ (λ g h. h.1) c.make_place-gone.ensures.evicted in
     let stayed = if_none c.make_place-gone.result (λ same. ap (λ (s : Cache). bag s.pages) same) c.make_place-gone.ensures.stays in
-    exchanged c.make_place-gone.result (bag c.args.self.now.pages) (bag c.make_place-gone.new.self.pages) (bag c.insert.new.pages) (stamped c.args.page c.args.self.now.clock) c.make_place-gone.ensures.gone free stayed c.insert.ensures.came
+    exchanged c.make_place-gone.result (bag c.args.self.now.pages) (bag c.make_place-gone.new.self.pages) (bag c.insert.new.pages)
+    (stamped c.args.page c.args.self.now.clock) c.make_place-gone.ensures.gone free stayed c.insert.ensures.came
 
 pub returns-clause-newest : goal.returns-clause-newest
 returns-clause-newest c =

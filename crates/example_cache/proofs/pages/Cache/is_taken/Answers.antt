@@ -20,4 +20,5 @@ pub returns-then-contains_key1 : goal.returns-then-contains_key1
 returns-then-contains_key1 c = by_first (bag c.args.self.now.pages) c.args.page.now c.contains_key1.result c.if-contains_key1.true c.contains_key1.ensures
 
 pub returns-else-contains_key1 : goal.returns-else-contains_key1
-returns-else-contains_key1 c = by_second (bag c.args.self.now.pages) c.args.page.now c.contains_key1.result c.contains_key2.result c.if-contains_key1.false c.contains_key1.ensures c.contains_key2.ensures
+returns-else-contains_key1 c = by_second (bag c.args.self.now.pages) c.args.page.now c.contains_key1.result c.contains_key2.result
+    c.if-contains_key1.false c.contains_key1.ensures c.contains_key2.ensures

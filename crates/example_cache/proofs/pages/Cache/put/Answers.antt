@@ -11,7 +11,8 @@ returns-clause-entered c = λ below. rw (c.keep_counting.ensures.stays below) at
 
 pub returns-clause-evicted : goal.returns-clause-evicted
 returns-clause-evicted c =
-    if_some _ (λ (g : Page). (length (bag c.args.self.now.pages) ≡ c.args.self.now.limit) × (is_taken (bag c.args.self.now.pages) c.args.page ≡ false) × All (λ (p : Page). g.used ≤ p.used) (bag c.args.self.now.pages)) c.enter.result
+    if_some _ (λ (g : Page). (length (bag c.args.self.now.pages) ≡ c.args.self.now.limit) × (is_taken (bag c.args.self.now.pages) c.args.page ≡ false)
+    × All (λ (p : Page). g.used ≤ p.used) (bag c.args.self.now.pages)) c.enter.result
     (λ g h. let same = c.keep_counting.ensures.kept (omega (arith, h.0, c.keep_counting.new.self.some)) in rw same at h)
     c.enter.ensures.evicted
 

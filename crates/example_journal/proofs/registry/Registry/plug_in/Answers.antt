@@ -1,54 +1,41 @@
-use Rattle.std.proofs.Common.{◌≡◌, ◌+◌, ◌≤◌, ◌<◌, ℕ, List, [], ◌∷◌, length, map, sym, ap, subst, refl, IsPermutation, ◌∙◌, arith, rules}
-use Rattle.std.specs.Prelude.{nat_eq}
-use Rattle.std.specs.Borrow.{Bor}
+use Rattle.std.proofs.Common.{◌≡◌, ◌+◌, ◌≤◌, ◌<◌, ◌∷◌, ◌∙◌, [], true, List, length, nat_eq, sym, ap, subst, Bor, IsPermutation, arith, rules}
 use Rattle.std.proofs.lemmas.Bool.{false≢true}
-use Rattle.std.proofs.lemmas.Bool.Decides.{nat_tests}
-use Rattle.iddqd_bi.specs.Bag.{clash, order}
+use Rattle.iddqd_store.proofs.BagLemmas.Steps.{clash-listed, clash-unlisted}
+use Rattle.iddqd_bi.specs.Bag.{Ranks, clash}
 use Rattle.iddqd_bi.specs.Keys.{ranks}
-use Rattle.iddqd_bi.specs.Map.{bag}
-use Rattle.iddqd_bi.proofs.Entering.{clash-empty, order-empty}
-use Rattle.example_journal.specs.contracts.device.DeviceBiHashItem.TheImpl as item
-use Rattle.example_journal.specs.declared.device.Device.{Device}
-use Rattle.example_journal.specs.declared.changes.Change.TheVariants.{Plug}
-use Rattle.example_journal.proofs.Replay.{tells-log, went}
+use Rattle.iddqd_bi.specs.Map.{Map, bag}
+use Rattle.example_journal.specs.contracts.changes.DeviceBiHashItem.TheImpl as item
+use Rattle.example_journal.specs.declared.changes.Device.{Device}
+use Rattle.example_journal.proofs.Replay.{tells-log}
 use Rattle.example_journal.proofs.registry.Registry.plug_in.Goals as goal
 
-no_longer : {A B : Type 0} (f : A → B) (xs : List A) → map f xs ≡ [] → length xs ≡ 0
-no_longer f [] is = refl
-no_longer f (x ∷ xs) is = absurd (cc is)
-
-nothing : {A B : Type 0} (f : A → B) (xs : List A) → length xs ≡ 0 → map f xs ≡ []
-nothing f [] is = refl
-nothing f (x ∷ xs) is = absurd (omega (arith, is))
+abbrev by : Ranks Device
+by = ranks item.ghosts nat_eq nat_eq
 
 pub returns-then-not-is_empty-clause-taken : goal.returns-then-not-is_empty-clause-taken
-returns-then-not-is_empty-clause-taken g c = λ _ free.
-    (let none = no_longer (λ (x : Bor Device). x.now) c.conflicts_with.result (c.conflicts_with.ensures ∙ order-empty (ranks item.ghosts nat_eq nat_eq) (bag c.args.self.now.devices) c.args.device free) in
-    let told = sym c.is_empty.ensures ∙ c.if-not-is_empty.true in
-    absurd (grind (arith, nat_tests)))
+returns-then-not-is_empty-clause-taken g c = λ _.
+    clash-listed (λ (r : Bor Device). r.now) c.conflicts_with.result by (bag c.args.self.now.devices) c.args.device c.conflicts_with.ensures
+    (sym c.is_empty.ensures ∙ c.if-not-is_empty.true)
 
--- there is room, and nothing conflicts
-fits : (there held : List Device) (x : Device) (found : List (Bor Device)) (capacity : ℕ) → map (λ r. r.now) found ≡ order (ranks item.ghosts nat_eq nat_eq) there x → length found ≡ 0 → held ≡ there → length there + 1 ≤ capacity → (clash (ranks item.ghosts nat_eq nat_eq) held x ≡ []) × (length held < capacity)
-fits there held x found capacity is zero same room =
-    (rw same (clash-empty (ranks item.ghosts nat_eq nat_eq) there x (sym is ∙ nothing (λ (r : Bor Device). r.now) found zero)), omega (arith, room, ap length same))
+-- nothing conflicts, and there is room
+fits : {S : Type 0} (there : List Device) (grown held : Map Device S) (x : Device) → clash by there x ≡ [] → bag grown ≡ there → held ≡ grown →
+    length there + 1 ≤ grown.capacity → (clash by (bag held) x ≡ []) × (length (bag held) < held.capacity)
+fits there grown held x free items same room = rw same (rw items free, omega (arith, room, ap length items))
 
 pub unreachable-requires : goal.unreachable-requires
 unreachable-requires g c =
-    let told = sym c.is_empty.ensures ∙ c.if-not-is_empty.false in
-    let zero : length c.conflicts_with.result ≡ 0 = grind (arith, nat_tests) in
-    let room : length (bag c.args.self.now.devices) + 1 ≤ c.reserve.new.self.capacity = search rules in
-    let both = fits (bag c.args.self.now.devices) (bag c.reserve.new.self) c.args.device c.conflicts_with.result c.reserve.new.self.capacity c.conflicts_with.ensures zero c.reserve.ensures.items room in
-    absurd (false≢true (c.in-Err-try_insert.ensures.granted both.0 both.1))
+    let there = bag c.args.self.now.devices in
+    let free = clash-unlisted (λ (r : Bor Device). r.now) c.conflicts_with.result by there c.args.device c.conflicts_with.ensures
+    (sym c.is_empty.ensures ∙ c.if-not-is_empty.false) in
+    let room : length there + 1 ≤ c.reserve.new.self.capacity = search rules in
+    let both = fits there c.reserve.new.self c.write.new.self.devices c.args.device free c.reserve.ensures.items c.in_ok-write.ensures.devices room in
+    absurd (false≢true (c.in-Err.ensures.granted both.0 both.1))
 
-pub invariant_of-self-2 : goal.invariant_of-self-2
-invariant_of-self-2 g c =
-    let told = sym c.is_empty.ensures ∙ c.if-not-is_empty.false in
-    let zero : length c.conflicts_with.result ≡ 0 = grind (arith, nat_tests) in
-    let room : length (bag c.args.self.now.devices) + 1 ≤ c.reserve.new.self.capacity = search rules in
-    let both = fits (bag c.args.self.now.devices) (bag c.reserve.new.self) c.args.device c.conflicts_with.result c.reserve.new.self.capacity c.conflicts_with.ensures zero c.reserve.ensures.items room in
-    let gains = went c.try_insert.result (c.try_insert.ensures.granted both.0 both.1) c.try_insert.ensures.gains in
-    record {
-      agrees = λ _. tells-log (g.L.Log.kept c.args.self.now.journal.log) (g.L.Log.kept c.add.new.self.log) (bag c.args.self.now.devices) (bag c.try_insert.new.self) (Plug c.args.device) c.in_default.ensures.in_range
-          (c.args.self.now.agrees c.in_default.ensures.was_open) c.in_default.ensures.added
-          (subst (λ l. IsPermutation (bag c.try_insert.new.self) (c.args.device ∷ l)) c.reserve.ensures.items gains.items);
-    }
+pub invariant_of-self-in-Ok-clause-agrees : goal.invariant_of-self-in-Ok-clause-agrees
+invariant_of-self-in-Ok-clause-agrees g c = λ _.
+    let there = bag c.args.self.now.devices in
+    let same : bag c.write.new.self.devices ≡ there = ap bag c.in_ok-write.ensures.devices ∙ c.reserve.ensures.items in
+    tells-log (g.L.Log.kept c.args.self.now.log) (g.L.Log.kept c.write.new.self.log) there (bag c.try_insert.new.self)
+    (record { plugs = true; device = c.args.device }) c.in_ok-write.ensures.in_range
+    (c.args.self.now.agrees c.in_ok-write.ensures.was_open) c.in_ok-write.ensures.written
+    (subst (λ l. IsPermutation (bag c.try_insert.new.self) (c.args.device ∷ l)) same c.in-Ok.ensures.gains.items)

@@ -5,4 +5,4 @@ use Rattle.iddqd_bi.specs.Keys.{has2}
 use Rattle.iddqd_bi.proofs.map.BiHashMap.contains_key2.Goals as goal
 
 pub returns : goal.returns
-returns g c = c.is_some.ensures ∙ is_some-found (has2 g.T.BiHashItem g.Q.Query.stands_for c.args.query) (bag c.args.self.now) c.get2_by-found.result c.get2_by-found.ensures.found
+returns g c = c.is_some.ensures ∙ is_some-found (has2 g.T.BiHashItem g.Q.Query.stands_for c.args.query) (bag c.args.self.now) c.get2.result c.get2.ensures

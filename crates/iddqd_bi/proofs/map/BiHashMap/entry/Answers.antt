@@ -12,27 +12,27 @@ invariant_of-result g c =
     let slots = c.args.self.now.slots in
     let none : List (Option ℕ) = None ∷ None ∷ [] in
     record {
-      absent = sym (found_listing laws slots c.search_all.ensures.apart tests none c.in-Ok.ensures.found) ∙ held_none slots none refl;
-      vacant = c.in-Ok.ensures.vacant;
+      absent = sym (found_listing laws slots c.search_all.ensures.apart tests none c.in-Vacant.ensures.found) ∙ held_none slots none refl;
+      vacant = c.in-Vacant.ensures.vacant;
     }
 
-pub returns-in-Err-clause-value : goal.returns-in-Err-clause-value
-returns-in-Err-clause-value g c =
+pub returns-in-Found-clause-value : goal.returns-in-Found-clause-value
+returns-in-Found-clause-value g c =
     let tests = key_tests g.T.BiHashItem g.Q1.Query.stands_for g.Q2.Query.stands_for c.args.query1 c.args.query2 in
     let laws = (AreLawful-ranks g.T.BiHashItem g.met.T.K1.Eq.laws g.met.T.K2.Eq.laws).0 in
-    rw (c.slot.ensures, c.slot-in-Err.ensures) (found_entry laws c.args.self.now.slots c.search_all.ensures.apart tests c.in-Err.by1.slot (c.in-Err.by2.slot ∷ []) c.in-Err.ensures.found)
+    rw (c.slot.ensures, c.slot-in-Found.ensures) (found_entry laws c.args.self.now.slots c.search_all.ensures.apart tests c.in-Found.by1.slot (c.in-Found.by2.slot ∷ []) c.in-Found.ensures.found)
 
-pub returns-in-Err-clause-is_found : goal.returns-in-Err-clause-is_found
-returns-in-Err-clause-is_found g c =
+pub returns-in-Found-clause-is_found : goal.returns-in-Found-clause-is_found
+returns-in-Found-clause-is_found g c =
     let tests = key_tests g.T.BiHashItem g.Q1.Query.stands_for g.Q2.Query.stands_for c.args.query1 c.args.query2 in
     let laws = (AreLawful-ranks g.T.BiHashItem g.met.T.K1.Eq.laws g.met.T.K2.Eq.laws).0 in
     let slots = c.args.self.now.slots in
-    let found : List (Option ℕ) = c.in-Err.by1.slot ∷ c.in-Err.by2.slot ∷ [] in
-    let are : AreFound tests slots found = c.in-Err.ensures.found in
+    let found : List (Option ℕ) = c.in-Found.by1.slot ∷ c.in-Found.by2.slot ∷ [] in
+    let are : AreFound tests slots found = c.in-Found.ensures.found in
     let listed = found_listing laws slots c.search_all.ensures.apart tests found are in
-    rw (c.slot.ensures, c.slot-in-Err.ensures) record {
+    rw (c.slot.ensures, c.slot-in-Found.ensures) record {
       found = are;
-      value = found_entry laws slots c.search_all.ensures.apart tests c.in-Err.by1.slot (c.in-Err.by2.slot ∷ []) are;
+      value = found_entry laws slots c.search_all.ensures.apart tests c.in-Found.by1.slot (c.in-Found.by2.slot ∷ []) are;
       listed = listed;
-      some = λ none. held_some slots tests found are c.in-Err.ensures.some (listed ∙ none);
+      some = λ none. held_some slots tests found are c.in-Found.ensures.some (listed ∙ none);
     }

@@ -1,74 +1,53 @@
-use Rattle.std.proofs.Common.{◌≡◌, ◌∙◌, [], ◌∷◌, refl, subst, rules}
+use Rattle.std.proofs.Common.{◌∙◌, [], refl, rules}
 use Rattle.std.proofs.lemmas.List.Sorted.{IsPermutation-refl}
-use Rattle.std.specs.Iterator.{Yields}
-use Rattle.iddqd_store.specs.Bag.{order}
-use Rattle.iddqd_store.specs.Map.{bag, IsBlockedAt, IsFullFor}
-use Rattle.iddqd_store.specs.Rank.All.{IsBlockedBy}
-use Rattle.iddqd_store.specs.Slots.Found.{each_once}
+use Rattle.iddqd_store.specs.Map.{bag}
 use Rattle.iddqd_store.proofs.BagLemmas.Building.{AddsTo-push, HasPlaceFor-free, RefusesFor-found}
 use Rattle.iddqd_store.proofs.MapLemmas.Places.{stand_in}
-use Rattle.iddqd_bi.specs.Keys.{ranks}
-use Rattle.iddqd_bi.proofs.MapLemmas.{AreLawful-ranks}
-use Rattle.iddqd_bi.proofs.Refusing.{duplicate_reason}
+use Rattle.iddqd_bi.proofs.MapLemmas.{AreLawful-are}
 use Rattle.iddqd_bi.proofs.map.BiHashMap.from_iter_unique.Goals as goal
 
 pub loop-item-init : goal.loop-item-init
-loop-item-init g c =
-    record {
-      callable = search rules;
-      ending = search rules;
-      added = ([], refl, rw (c.grow.ensures.slots, c.default-map.ensures.empty) (IsPermutation-refl []));
-      builder = rw c.grow.ensures.room.same_builder c.default-map.ensures.builder;
-    }
+loop-item-init g c = record {
+  callable = search rules;
+  ending = search rules;
+  added = ([], refl, rw (c.grow.ensures.slots, c.default-map.ensures.empty) (IsPermutation-refl []));
+  builder = rw c.grow.ensures.room.same_builder c.default-map.ensures.builder;
+}
 
 pub loop-item-preserved : goal.loop-item-preserved
 loop-item-preserved g c =
-    let by = g.T.Ranked.ranks in
-    let gains = c.in-Ok.ensures.gains in
+    let put = c.in-Ok.ensures in
     record {
       callable = search rules;
       ending = search rules;
-      added = AddsTo-push by [] (bag c.loop-item.map) (bag c.insert_or_refuse.new.self) c.loop-item.yielded c.in-Some.item c.loop-item.invariant.added (rw g.met.T.Ranked.ranks_are c.in-Ok.ensures.free) gains.items;
-      builder = rw gains.same_builder c.loop-item.invariant.builder;
+      added = AddsTo-push g.T.Ranked.ranks [] (bag c.loop-item.map) (bag c.insert_or_refuse.new.self) c.loop-item.yielded c.in-Some.item
+          c.loop-item.invariant.added (rw g.met.T.Ranked.ranks_are put.free) put.gains.items;
+      builder = rw put.gains.same_builder c.loop-item.invariant.builder;
     }
 
 pub returns-in-Err-Memory-clause-refused : goal.returns-in-Err-Memory-clause-refused
 returns-in-Err-Memory-clause-refused g c =
-    let by = g.T.Ranked.ranks in
-    let item : c.in-Err-Memory.item ≡ c.in-Some.item = rw c.in-Err-Memory.field-0-is at c.in-Err-Memory.ensures.handed_back in
-    let full : IsFullFor by c.loop-item.map c.in-Some.item = rw g.met.T.Ranked.ranks_are (rw c.in-Err-Memory.field-0-is at c.in-Err-Memory.ensures.reason) in
-    let gave = subst (λ s. Yields g.I.IntoIter.Iterator.next_gives s c.loop-item.yielded c.loop-item.item-iterator) c.into_iter-item-iterator.ensures.into_iter_gives c.loop-item.yielded_by in
-    let place = HasPlaceFor-free by (bag c.loop-item.map) c.loop-item.yielded c.in-Some.item c.loop-item.invariant.added full.free in
-    rw item (c.into_iter-items.result, c.loop-item.yielded, c.next.new.self, c.into_iter-items.ensures.into_iter_gives, (c.loop-item.item-iterator, gave, c.in-Some.ensures.steps), place)
+    let arm = c.in-Err-Memory in
+    let full = rw arm.field-0-is at arm.ensures.reason in
+    let item = rw arm.field-0-is at arm.ensures.handed_back in
+    let place = HasPlaceFor-free g.T.Ranked.ranks (bag c.loop-item.map) c.loop-item.yielded c.in-Some.item c.loop-item.invariant.added (rw g.met.T.Ranked.ranks_are full.free) in
+    rw item (c.into_iter-items.result, c.loop-item.yielded, c.next.new.self, search rules, search rules, place)
 
-pub take_all-duplicates-requires-clause-live : goal.take_all-duplicates-requires-clause-live
-take_all-duplicates-requires-clause-live g c =
-    let by = ranks g.T.BiHashItem g.T.K1.PartialEq.eq g.T.K2.PartialEq.eq in
+-- the slots that the searches found are those of the items that conflict
+pub take_all-duplicates-requires : goal.take_all-duplicates-requires
+take_all-duplicates-requires g c =
     let arm = c.in-Err-Duplicate in
-    let why = duplicate_reason arm.field-0 arm.item arm.by arm.field-0-is (IsBlockedBy by _ c.loop-item.map c.in-Some.item) (IsFullFor by c.loop-item.map c.in-Some.item) arm.ensures.reason in
+    let why = rw arm.field-0-is at arm.ensures.reason in
     let stand = stand_in (rw (c.slot.ensures, c.slot-in-Err-Duplicate.ensures) at c.each_once-found.ensures) why.blocked.found in
-    rw c.in-Err-Duplicate.ensures.unchanged stand.live
-
-pub take_all-duplicates-requires-clause-apart : goal.take_all-duplicates-requires-clause-apart
-take_all-duplicates-requires-clause-apart g c =
-    let by = ranks g.T.BiHashItem g.T.K1.PartialEq.eq g.T.K2.PartialEq.eq in
-    let arm = c.in-Err-Duplicate in
-    let why = duplicate_reason arm.field-0 arm.item arm.by arm.field-0-is (IsBlockedBy by _ c.loop-item.map c.in-Some.item) (IsFullFor by c.loop-item.map c.in-Some.item) arm.ensures.reason in
-    let stand = stand_in (rw (c.slot.ensures, c.slot-in-Err-Duplicate.ensures) at c.each_once-found.ensures) why.blocked.found in
-    stand.apart
+    record { live = rw arm.ensures.unchanged stand.live; apart = stand.apart }
 
 pub returns-in-Err-Duplicate-clause-refused : goal.returns-in-Err-Duplicate-clause-refused
 returns-in-Err-Duplicate-clause-refused g c =
-    let by = g.T.Ranked.ranks in
-    let held = c.loop-item.map in
-    let item = c.in-Some.item in
-    let same : c.in-Err-Duplicate.item ≡ item = rw c.in-Err-Duplicate.field-0-is at c.in-Err-Duplicate.ensures.handed_back in
-    let plain = ranks g.T.BiHashItem g.T.K1.PartialEq.eq g.T.K2.PartialEq.eq in
     let arm = c.in-Err-Duplicate in
-    let why = duplicate_reason arm.field-0 arm.item arm.by arm.field-0-is (IsBlockedBy plain _ held item) (IsFullFor plain held item) arm.ensures.reason in
-    let blocked : IsBlockedAt by held item (each_once (arm.by.0.slot ∷ arm.by.1.slot ∷ [])) = rw g.met.T.Ranked.ranks_are why.blocked in
-    let stand = stand_in (rw (c.slot.ensures, c.slot-in-Err-Duplicate.ensures) at c.each_once-found.ensures) blocked.found in
-    let listed : c.take_all-duplicates.result ≡ order by (bag held) item = c.take_all-duplicates.ensures.values ∙ (rw c.in-Err-Duplicate.ensures.unchanged stand.items) in
-    let gave = subst (λ s. Yields g.I.IntoIter.Iterator.next_gives s c.loop-item.yielded c.loop-item.item-iterator) c.into_iter-item-iterator.ensures.into_iter_gives c.loop-item.yielded_by in
-    let stopped = RefusesFor-found by (bag held) c.loop-item.yielded item c.loop-item.invariant.added (rw g.met.T.Ranked.ranks_are (AreLawful-ranks g.T.BiHashItem g.met.T.K1.Eq.laws g.met.T.K2.Eq.laws)) blocked.some in
-    rw (c.new-in-Err-Duplicate.ensures, listed, same) (c.into_iter-items.result, c.loop-item.yielded, c.next.new.self, c.into_iter-items.ensures.into_iter_gives, (c.loop-item.item-iterator, gave, c.in-Some.ensures.steps), stopped)
+    let item = rw arm.field-0-is at arm.ensures.handed_back in
+    let why = rw arm.field-0-is at (rw (← g.met.T.Ranked.ranks_are) at arm.ensures.reason) in
+    let stand = stand_in (rw (c.slot.ensures, c.slot-in-Err-Duplicate.ensures) at c.each_once-found.ensures) why.blocked.found in
+    let listed = (rw arm.ensures.unchanged at c.take_all-duplicates.ensures.values) ∙ stand.items in
+    let laws = AreLawful-are g.T.BiHashItem g.met.T.Ranked.ranks_are g.met.T.K1.Eq.laws g.met.T.K2.Eq.laws in
+    let stopped = RefusesFor-found g.T.Ranked.ranks (bag c.loop-item.map) c.loop-item.yielded c.in-Some.item c.loop-item.invariant.added laws why.blocked.some in
+    rw (c.new-in-Err-Duplicate.ensures, listed, item) (c.into_iter-items.result, c.loop-item.yielded, c.next.new.self, search rules, search rules, stopped)

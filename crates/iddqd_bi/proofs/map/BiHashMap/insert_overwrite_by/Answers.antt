@@ -1,48 +1,23 @@
-use Rattle.std.proofs.Common.{sym, ◌∙◌}
-use Rattle.std.proofs.Math.Nat.{le-add_right}
-use Rattle.iddqd_store.specs.Map.{IsFullFor, bag}
-use Rattle.iddqd_store.specs.Rank.All.{IsBlockedBy}
-use Rattle.iddqd_store.proofs.MapLemmas.Growing.{not_full}
+use Rattle.std.proofs.Common.{arith, rules, sym, ◌∙◌}
+use Rattle.iddqd_store.specs.Map.{bag}
+use Rattle.iddqd_store.proofs.MapLemmas.Blocking.{some_found}
 use Rattle.iddqd_store.proofs.MapLemmas.Overwriting.{Overwrites-gains, Overwrites-puts}
 use Rattle.iddqd_store.proofs.MapLemmas.Places.{order_none}
 use Rattle.iddqd_store.proofs.RankLemmas.Searched.{walked_after}
-use Rattle.iddqd_store.proofs.SlotLemmas.Found.{clash_none}
 use Rattle.iddqd_bi.specs.Keys.{ranks}
-use Rattle.iddqd_bi.proofs.Refusing.{duplicate_item, duplicate_reason, memory_item, memory_reason}
 use Rattle.iddqd_bi.proofs.map.BiHashMap.insert_overwrite_by.Goals as goal
 
-pub put_over-displaced-requires-clause-conflicts : goal.put_over-displaced-requires-clause-conflicts
-put_over-displaced-requires-clause-conflicts g c =
-    let by = ranks g.T.BiHashItem g.T.K1.PartialEq.eq g.T.K2.PartialEq.eq in
+pub put_over-displaced-requires : goal.put_over-displaced-requires
+put_over-displaced-requires g c =
     let arm = c.in-Err-Duplicate in
-    let why = duplicate_reason arm.field-0 arm.item arm.by arm.field-0-is (IsBlockedBy by _ c.args.self.now c.args.item) (IsFullFor by c.args.self.now c.args.item) arm.ensures.reason in
-    rw (duplicate_item arm.field-0 arm.item arm.by arm.field-0-is c.args.item arm.ensures.handed_back, arm.ensures.unchanged) why.blocked.found
-
-pub put_over-displaced-requires-clause-some : goal.put_over-displaced-requires-clause-some
-put_over-displaced-requires-clause-some g c =
-    let by = ranks g.T.BiHashItem g.T.K1.PartialEq.eq g.T.K2.PartialEq.eq in
-    let arm = c.in-Err-Duplicate in
-    let why = duplicate_reason arm.field-0 arm.item arm.by arm.field-0-is (IsBlockedBy by _ c.args.self.now c.args.item) (IsFullFor by c.args.self.now c.args.item) arm.ensures.reason in
-    λ short. absurd (why.blocked.some (clash_none by c.args.self.now.slots c.args.item _ why.blocked.found.items short))
-
-pub put_over-displaced-requires-clause-hashes : goal.put_over-displaced-requires-clause-hashes
-put_over-displaced-requires-clause-hashes g c =
-    let by = ranks g.T.BiHashItem g.T.K1.PartialEq.eq g.T.K2.PartialEq.eq in
-    let arm = c.in-Err-Duplicate in
-    let why = duplicate_reason arm.field-0 arm.item arm.by arm.field-0-is (IsBlockedBy by _ c.args.self.now c.args.item) (IsFullFor by c.args.self.now c.args.item) arm.ensures.reason in
-    rw (duplicate_item arm.field-0 arm.item arm.by arm.field-0-is c.args.item arm.ensures.handed_back, arm.ensures.unchanged) why.hashed
-
-pub put_over-displaced-requires-clause-under : goal.put_over-displaced-requires-clause-under
-put_over-displaced-requires-clause-under g c =
-    let by = ranks g.T.BiHashItem g.T.K1.PartialEq.eq g.T.K2.PartialEq.eq in
-    let arm = c.in-Err-Duplicate in
-    let why = duplicate_reason arm.field-0 arm.item arm.by arm.field-0-is (IsBlockedBy by _ c.args.self.now c.args.item) (IsFullFor by c.args.self.now c.args.item) arm.ensures.reason in
-    rw arm.ensures.unchanged why.under
+    let why = rw arm.field-0-is at arm.ensures.reason in
+    let item = rw arm.field-0-is at arm.ensures.handed_back in
+    rw (item, arm.ensures.unchanged) record { conflicts = why.blocked.found; some = some_found why.blocked; hashes = why.hashed; under = why.under }
 
 pub returns-in-Ok-clause-displaced : goal.returns-in-Ok-clause-displaced
 returns-in-Ok-clause-displaced g c =
-    let by = ranks g.T.BiHashItem g.T.K1.PartialEq.eq g.T.K2.PartialEq.eq in
-    rw g.met.T.Ranked.ranks_are (c.new.ensures ∙ sym (order_none by (bag c.args.self.now) c.args.item c.in-Ok.ensures.free))
+    let none = order_none (ranks g.T.BiHashItem g.T.K1.PartialEq.eq g.T.K2.PartialEq.eq) (bag c.args.self.now) c.args.item c.in-Ok.ensures.free in
+    rw g.met.T.Ranked.ranks_are (c.new.ensures ∙ sym none)
 
 pub returns-in-Ok-clause-overwrites : goal.returns-in-Ok-clause-overwrites
 returns-in-Ok-clause-overwrites g c =
@@ -51,53 +26,34 @@ returns-in-Ok-clause-overwrites g c =
 
 pub returns-in-Ok-clause-costs : goal.returns-in-Ok-clause-costs
 returns-in-Ok-clause-costs g c =
-    let by = ranks g.T.BiHashItem g.T.K1.PartialEq.eq g.T.K2.PartialEq.eq in
-    let none = order_none by (bag c.args.self.now) c.args.item c.in-Ok.ensures.free in
+    let none = order_none (ranks g.T.BiHashItem g.T.K1.PartialEq.eq g.T.K2.PartialEq.eq) (bag c.args.self.now) c.args.item c.in-Ok.ensures.free in
     rw g.met.T.Ranked.ranks_are (rw none c.in-Ok.ensures.costs)
 
-pub returns-in-Err-Duplicate-clause-displaced : goal.returns-in-Err-Duplicate-clause-displaced
-returns-in-Err-Duplicate-clause-displaced g c =
+pub returns-in-Err-Duplicate : goal.returns-in-Err-Duplicate
+returns-in-Err-Duplicate g c =
     let arm = c.in-Err-Duplicate in
-    let same = duplicate_item arm.field-0 arm.item arm.by arm.field-0-is c.args.item arm.ensures.handed_back in
-    rw g.met.T.Ranked.ranks_are (rw (same, arm.ensures.unchanged) at c.put_over-displaced.ensures.displaced)
+    let item = rw arm.field-0-is at arm.ensures.handed_back in
+    let put = rw (item, arm.ensures.unchanged) at c.put_over-displaced.ensures in
+    rw g.met.T.Ranked.ranks_are record {
+      displaced = put.displaced;
+      overwrites = Overwrites-puts _ _ _ _ _ put.puts_at;
+      granted = search rules;
+      handed_back = search rules;
+      unchanged = search rules;
+      reason = search rules;
+      costs = walked_after arm.ensures.costs (omega arith) (rw put.displaced at put.costs);
+    }
 
-pub returns-in-Err-Duplicate-clause-overwrites : goal.returns-in-Err-Duplicate-clause-overwrites
-returns-in-Err-Duplicate-clause-overwrites g c =
-    let arm = c.in-Err-Duplicate in
-    let same = duplicate_item arm.field-0 arm.item arm.by arm.field-0-is c.args.item arm.ensures.handed_back in
-    let puts = rw (same, arm.ensures.unchanged) at c.put_over-displaced.ensures.puts_at in
-    rw g.met.T.Ranked.ranks_are (Overwrites-puts _ _ _ _ _ puts)
-
-pub returns-in-Err-Duplicate-clause-costs : goal.returns-in-Err-Duplicate-clause-costs
-returns-in-Err-Duplicate-clause-costs g c =
-    let by = ranks g.T.BiHashItem g.T.K1.PartialEq.eq g.T.K2.PartialEq.eq in
-    let arm = c.in-Err-Duplicate in
-    let same = duplicate_item arm.field-0 arm.item arm.by arm.field-0-is c.args.item arm.ensures.handed_back in
-    let walked = rw (same, arm.ensures.unchanged) at (rw c.put_over-displaced.ensures.displaced at c.put_over-displaced.ensures.costs) in
-    rw g.met.T.Ranked.ranks_are (walked_after by _ _ _ _ _ _ _ _ _ _ arm.ensures.costs walked)
-
-pub returns-in-Err-Memory-clause-costs : goal.returns-in-Err-Memory-clause-costs
-returns-in-Err-Memory-clause-costs g c =
-    let by = ranks g.T.BiHashItem g.T.K1.PartialEq.eq g.T.K2.PartialEq.eq in
-    rw g.met.T.Ranked.ranks_are (walked_after by _ _ _ _ _ _ _ _ _ _ c.in-Err-Memory.ensures.costs (le-add_right _ _))
-
-pub returns-in-Err-Memory-clause-handed_back : goal.returns-in-Err-Memory-clause-handed_back
-returns-in-Err-Memory-clause-handed_back g c =
+pub returns-in-Err-Memory : goal.returns-in-Err-Memory
+returns-in-Err-Memory g c =
     let arm = c.in-Err-Memory in
-    memory_item arm.field-0 arm.value arm.field-0-is c.args.item arm.ensures.handed_back
-
-pub returns-in-Err-Memory-clause-unchanged : goal.returns-in-Err-Memory-clause-unchanged
-returns-in-Err-Memory-clause-unchanged g c = c.in-Err-Memory.ensures.unchanged
-
-pub returns-in-Err-Memory-clause-reason : goal.returns-in-Err-Memory-clause-reason
-returns-in-Err-Memory-clause-reason g c =
-    let by = ranks g.T.BiHashItem g.T.K1.PartialEq.eq g.T.K2.PartialEq.eq in
-    let arm = c.in-Err-Memory in
-    rw g.met.T.Ranked.ranks_are (memory_reason arm.field-0 arm.value arm.field-0-is (IsBlockedBy by _ c.args.self.now c.args.item) (IsFullFor by c.args.self.now c.args.item) arm.ensures.reason)
-
-pub returns-in-Err-Memory-clause-granted : goal.returns-in-Err-Memory-clause-granted
-returns-in-Err-Memory-clause-granted g c =
-    let by = ranks g.T.BiHashItem g.T.K1.PartialEq.eq g.T.K2.PartialEq.eq in
-    let arm = c.in-Err-Memory in
-    let full = memory_reason arm.field-0 arm.value arm.field-0-is (IsBlockedBy by _ c.args.self.now c.args.item) (IsFullFor by c.args.self.now c.args.item) arm.ensures.reason in
-    λ spare. absurd (not_full _ _ full.full spare)
+    let full = rw arm.field-0-is at arm.ensures.reason in
+    rw g.met.T.Ranked.ranks_are record {
+      displaced = search rules;
+      overwrites = search rules;
+      granted = λ spare. absurd (omega (arith, full.full, spare));
+      handed_back = rw arm.field-0-is at arm.ensures.handed_back;
+      unchanged = arm.ensures.unchanged;
+      reason = full;
+      costs = walked_after arm.ensures.costs (omega arith) (omega arith);
+    }

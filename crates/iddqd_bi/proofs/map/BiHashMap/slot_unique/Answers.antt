@@ -18,7 +18,7 @@ returns-then-has_others-clause-found g c =
     let test1 = λ (x : g.row.T.Denot). g.Q1.Query.stands_for c.args.query1 (g.T.BiHashItem.key1 x) in
     let test2 = λ (x : g.row.T.Denot). g.Q2.Query.stands_for c.args.query2 (g.T.BiHashItem.key2 x) in
     all_of-kept test1 (test2 ∷ []) (bag c.args.self.now) _ c.in_ok-item.item.now
-    (sym (c.in_ok-item.ensures ∙ ap (λ (m : Map g.row.T.Denot g.row.S.Denot). get m.slots c.in-Ok.slot) c.self.view_is)) (rw slots at c.in-Ok.ensures.found.only)
+    (sym (c.in_ok-item.ensures ∙ ap (λ (m : Map g.row.T.Denot g.row.S.Denot). get m.slots c.in-Found.slot) c.self.view_is)) (rw slots at c.in-Found.ensures.found.only)
     (sym c.has_others.ensures.value ∙ c.if-has_others.true)
 
 pub returns-else-has_others-clause-found : goal.returns-else-has_others-clause-found
@@ -27,7 +27,7 @@ returns-else-has_others-clause-found g c =
     let test1 = λ (x : g.row.T.Denot). g.Q1.Query.stands_for c.args.query1 (g.T.BiHashItem.key1 x) in
     let test2 = λ (x : g.row.T.Denot). g.Q2.Query.stands_for c.args.query2 (g.T.BiHashItem.key2 x) in
     all_of-lost test1 (test2 ∷ []) (bag c.args.self.now) _ c.in_ok-item.item.now
-    (sym (c.in_ok-item.ensures ∙ ap (λ (m : Map g.row.T.Denot g.row.S.Denot). get m.slots c.in-Ok.slot) c.self.view_is)) (rw slots at c.in-Ok.ensures.found.only)
+    (sym (c.in_ok-item.ensures ∙ ap (λ (m : Map g.row.T.Denot g.row.S.Denot). get m.slots c.in-Found.slot) c.self.view_is)) (rw slots at c.in-Found.ensures.found.only)
     (sym c.has_others.ensures.value ∙ c.if-has_others.false)
 
 pub returns-in_default-clause-costs : goal.returns-in_default-clause-costs

@@ -1,4 +1,4 @@
-use Rattle.std.proofs.Common.{refl, ap, subst, sym, ◌∙◌, ◌+◌, ◌≡◌, length, arith}
+use Rattle.std.proofs.Common.{refl, ap, subst, sym, ◌∙◌, ◌+◌, length, arith}
 use Rattle.std.proofs.lemmas.List.{length-set, drop_all}
 use Rattle.std.proofs.lemmas.List.Sorted.{IsPermutation-refl}
 use Rattle.std.specs.Fn.{CalledAt}

@@ -1,5 +1,5 @@
--- Made by tests/twins from crates/iddqd_bi/proofs/entry/Entry/or_try_insert_with/Answers.antt: change that file.
+-- Made by tests/widths from crates/iddqd_bi/proofs/entry/Entry/or_try_insert_with/Answers.antt: change that file.
 use Rattle.iddqd_id.proofs.entry.Entry.or_try_insert_with.Goals as goal
 
 pub returns-in-Vacant-clause-puts_in : goal.returns-in-Vacant-clause-puts_in
-returns-in-Vacant-clause-puts_in g c = rw c.in-Vacant.is (c.f.result, c.f.ensures, c.put_made_in.ensures.puts_in)
+returns-in-Vacant-clause-puts_in g c = rw c.in-Vacant.is (c.f.result, c.f.ensures, c.insert_made.ensures.puts_in)

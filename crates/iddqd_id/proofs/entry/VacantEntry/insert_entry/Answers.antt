@@ -1,4 +1,4 @@
--- Made by tests/twins from crates/iddqd_bi/proofs/entry/VacantEntry/insert_entry/Answers.antt: change that file.
+-- Made by tests/widths from crates/iddqd_bi/proofs/entry/VacantEntry/insert_entry/Answers.antt: change that file.
 use Rattle.std.proofs.Common.{rules, arith, refl, ◌≡◌, true}
 use Rattle.iddqd_store.proofs.SlotLemmas.Here.{finds_here}
 use Rattle.iddqd_id.specs.Keys.{key_tests, ranks}

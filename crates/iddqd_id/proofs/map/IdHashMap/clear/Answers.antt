@@ -1,4 +1,4 @@
--- Made by tests/twins from crates/iddqd_bi/proofs/map/BiHashMap/clear/Answers.antt: change that file.
+-- Made by tests/widths from crates/iddqd_bi/proofs/map/BiHashMap/clear/Answers.antt: change that file.
 use Rattle.iddqd_store.proofs.RankLemmas.Invariant.{IsIndexed-empty}
 use Rattle.iddqd_id.proofs.map.IdHashMap.clear.Goals as goal
 

@@ -1,4 +1,4 @@
--- Made by tests/twins from crates/iddqd_bi/proofs/map/BiHashMap/clone/Answers.antt: change that file.
+-- Made by tests/widths from crates/iddqd_bi/proofs/map/BiHashMap/clone/Answers.antt: change that file.
 use Rattle.std.proofs.Common.{refl, sym, ◌∙◌, ap}
 use Rattle.iddqd_store.specs.Map.{hash_of}
 use Rattle.iddqd_store.proofs.RankLemmas.Copied.{is_copy}
@@ -11,7 +11,7 @@ invariant_of-copy g c =
     let hash = hash_of g.S.BuildHasher g.S.Hasher.Hasher c.self.inside.hash_builder in
     let same = rw (← c.self.view_is) at c.requires.same_key in
     let hashes = rw (← c.self.view_is) at c.requires.same_hashes in
-    rw c.in_ok-clone-2.ensures
+    rw c.in_ok-first.ensures
     (IsIndexed-copy g.T.Clone.is_clone _ _ (AreLawful-ranks g.T.IdHashItem g.met.T.Key.Eq.laws) c.self.invariant
     (λ x k found is. rw (same x k found is) refl) (
       (λ x k found is. hashes c.in_ok-hash_builder.hash_builder (g.T.Key.Hash.hash_input (g.T.IdHashItem.key k)) c.in_ok-hash_builder.ensures.cases ∙ ap hash (sym (g.met.T.Key.Hash.respects_eq _ _ (same x k found is)))),

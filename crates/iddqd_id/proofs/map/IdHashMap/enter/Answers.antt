@@ -1,4 +1,4 @@
--- Made by tests/twins from crates/iddqd_bi/proofs/map/BiHashMap/enter/Answers.antt: change that file.
+-- Made by tests/widths from crates/iddqd_bi/proofs/map/BiHashMap/enter/Answers.antt: change that file.
 use Rattle.std.proofs.Common.{◌≡◌, ◌∙◌, None, ap, rules}
 use Rattle.std.specs.Prelude.{is_some}
 use Rattle.iddqd_store.proofs.MapLemmas.Growing.{Gains-put, GrowsUnless-put}
@@ -19,40 +19,35 @@ returns-clause-grows g c =
 
 pub returns-then-is_err-clause-grows : goal.returns-then-is_err-clause-grows
 returns-then-is_err-clause-grows g c =
-    let made = c.make_room.ensures in
-    record { no_less_room = made.no_less_room; same_room = λ spare. ap (λ m. m.capacity) (made.same_room spare); same_builder = made.builder }
+    record { no_less_room = c.make_room.ensures.no_less_room; same_room = λ spare. ap (λ m. m.capacity) (c.make_room.ensures.same_room spare); same_builder = c.make_room.ensures.builder }
 
-pub returns-in-Err-clause-granted : goal.returns-in-Err-clause-granted
-returns-in-Err-clause-granted g c = λ free spare noted. absurd (c.in-Err.ensures.blocked.some free)
+pub returns-in-Found-clause-granted : goal.returns-in-Found-clause-granted
+returns-in-Found-clause-granted g c = λ free spare noted. absurd (c.in-Found.ensures.blocked.some free)
 
 pub insert_at-slot-requires-clause-free : goal.insert_at-slot-requires-clause-free
-insert_at-slot-requires-clause-free g c = rw c.make_room.ensures.slots c.in-Ok.ensures.free
+insert_at-slot-requires-clause-free g c = rw c.make_room.ensures.slots c.in-Vacant.ensures.free
 
 pub insert_at-slot-requires-clause-places : goal.insert_at-slot-requires-clause-places
-insert_at-slot-requires-clause-places g c = rw (c.make_room.ensures.slots, c.make_room.ensures.builder) c.in-Ok.ensures.places
+insert_at-slot-requires-clause-places g c = rw (c.make_room.ensures.slots, c.make_room.ensures.builder) c.in-Vacant.ensures.places
 
 pub returns-clause-noted : goal.returns-clause-noted
 returns-clause-noted g c = λ xs stand.
     rw (c.push.ensures, c.reserve_for.ensures.slots)
-    (StandAt-push c.make_room.new.self.slots c.insert_at-slot.new.self.slots c.args.entered.now.slots xs c.insert_at-slot.result c.args.item c.insert_at-slot.ensures.was_free c.insert_at-slot.ensures.updates
+    (StandAt-push c.make_room.new.self.slots c.insert_at-slot.new.self.slots c.args.entered.now.slots xs c.insert_at-slot.result c.args.item
+    c.insert_at-slot.ensures.was_free c.insert_at-slot.ensures.updates
     (rw c.make_room.ensures.slots stand))
 
 -- a key is taken if the search for it found a slot
-pub returns-in-Err-clause-reason : goal.returns-in-Err-clause-reason
-returns-in-Err-clause-reason g c =
-    let slots = c.args.self.now.slots in
-    let found = c.in-Err.ensures.found in
-    let seen : c.is_some-taken.result ≡ is_some c.in-Err.by.slot = search rules in
+pub returns-in-Found-clause-reason : goal.returns-in-Found-clause-reason
+returns-in-Found-clause-reason g c =
+    let seen : c.is_some-taken.result ≡ is_some c.in-Found.by.slot = search rules in
     record {
       handed_back = search rules;
-      taken = seen ∙ is_some-at (has g.T.IdHashItem g.T.Key.PartialEq.eq (g.T.IdHashItem.key c.args.item)) slots c.in-Err.by.slot found.0;
+      taken = seen ∙ is_some-at (has g.T.IdHashItem g.T.Key.PartialEq.eq (g.T.IdHashItem.key c.args.item)) c.args.self.now.slots c.in-Found.by.slot c.in-Found.ensures.found.0;
     }
 
 pub returns-then-is_err-clause-reason : goal.returns-then-is_err-clause-reason
-returns-then-is_err-clause-reason g c =
-    let slots = c.args.self.now.slots in
-    let found = c.in-Ok.ensures.found in
-    record {
-      handed_back = search rules;
-      taken = is_some-at (has g.T.IdHashItem g.T.Key.PartialEq.eq (g.T.IdHashItem.key c.args.item)) slots None found.0;
-    }
+returns-then-is_err-clause-reason g c = record {
+  handed_back = search rules;
+  taken = is_some-at (has g.T.IdHashItem g.T.Key.PartialEq.eq (g.T.IdHashItem.key c.args.item)) c.args.self.now.slots None c.in-Vacant.ensures.found.0;
+}

@@ -12,6 +12,6 @@ invariant_of-result g c =
     let slots = c.args.self.now.slots in
     let none : List (Option ℕ) = None ∷ [] in
     record {
-      absent = sym (found_listing laws slots c.search_all.ensures.apart tests none c.in-Ok.ensures.found) ∙ held_none slots none refl;
-      vacant = c.in-Ok.ensures.vacant;
+      absent = sym (found_listing laws slots c.search_all.ensures.apart tests none c.in-Vacant.ensures.found) ∙ held_none slots none refl;
+      vacant = c.in-Vacant.ensures.vacant;
     }

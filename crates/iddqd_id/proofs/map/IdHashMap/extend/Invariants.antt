@@ -1,9 +1,10 @@
--- Made by tests/twins from crates/iddqd_bi/proofs/map/BiHashMap/extend/Invariants.antt: change that file.
-use Rattle.std.proofs.Common.{◌≡◌, ◌≤◌, ◌+◌, length}
+-- Made by tests/widths from crates/iddqd_bi/proofs/map/BiHashMap/extend/Invariants.antt: change that file.
+use Rattle.std.proofs.Common.{length}
 use Rattle.std.specs.Iterator.{size}
 use Rattle.iddqd_store.specs.Map.{bag}
 use Rattle.iddqd_store.specs.Runs.Step.{ExtendsTo, state_of}
 use Rattle.iddqd_store.specs.Bag.Building.{FitsOn}
+use Rattle.iddqd_store.proofs.MapLemmas.Fitting.{HasRoomOn}
 use Rattle.iddqd_id.proofs.map.IdHashMap.extend.Given as goal
 
 -- the items that came so far were inserted
@@ -12,7 +13,5 @@ invariant-loop-item g l = record {
   callable : (goal.iterator-loop-item g).can_next l.item-iterator;
   ending : (goal.iterator-loop-item g).is_finite l.item-iterator;
   extends : ExtendsTo g.T.Ranked.ranks (state_of l.fn.self) l.yielded (state_of l.self);
-  no_less_room : l.fn.self.capacity ≤ l.self.capacity;
-  fits : FitsOn g.I.IntoIterator.into_iter_gives g.I.IntoIter.Iterator.remaining l.fn.iter (length (bag l.fn.self)) l.fn.self.capacity → (length (bag l.self) + size (g.I.IntoIter.Iterator.remaining l.item-iterator) ≤ l.self.capacity) × (l.self.capacity ≡ l.fn.self.capacity);
-  builder : l.self.builder ≡ l.fn.self.builder;
+  room : HasRoomOn (FitsOn g.I.IntoIterator.into_iter_gives g.I.IntoIter.Iterator.remaining l.fn.iter (length (bag l.fn.self)) l.fn.self.capacity) (size (g.I.IntoIter.Iterator.remaining l.item-iterator)) l.fn.self l.self;
 }

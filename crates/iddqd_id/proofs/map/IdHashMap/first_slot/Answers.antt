@@ -1,4 +1,4 @@
--- Made by tests/twins from crates/iddqd_bi/proofs/map/BiHashMap/first_slot/Answers.antt: change that file.
+-- Made by tests/widths from crates/iddqd_bi/proofs/map/BiHashMap/first_slot/Answers.antt: change that file.
 use Rattle.std.proofs.Common.{rules, ◌≡◌, []}
 use Rattle.iddqd_store.specs.Map.Walk.{to_come}
 use Rattle.iddqd_store.proofs.SlotLemmas.Next.{nothing_left}

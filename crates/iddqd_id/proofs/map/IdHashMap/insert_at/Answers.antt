@@ -1,13 +1,11 @@
--- Made by tests/twins from crates/iddqd_bi/proofs/map/BiHashMap/insert_at/Answers.antt: change that file.
+-- Made by tests/widths from crates/iddqd_bi/proofs/map/BiHashMap/insert_at/Answers.antt: change that file.
 use Rattle.std.proofs.Common.{arith, rules, refl, [], ◌∷◌}
-use Rattle.std.proofs.lemmas.List.Sorted.{length_permutation}
 use Rattle.iddqd_store.proofs.RankLemmas.Costs.{place_in}
 use Rattle.iddqd_store.proofs.RankLemmas.Index.{length-index}
-use Rattle.iddqd_store.proofs.SlotLemmas.Contents.{contents-moves, length-contents}
 use Rattle.iddqd_store.proofs.RankLemmas.Invariant.{IsIndexed-insert}
 use Rattle.iddqd_store.proofs.RankLemmas.Walks.{insert_most, once, walks_all}
-use Rattle.iddqd_store.proofs.MapLemmas.{free_sound}
-use Rattle.iddqd_id.specs.Keys.{ranks}
+use Rattle.iddqd_store.proofs.SlotLemmas.Contents.{length-contents}
+use Rattle.iddqd_store.proofs.RankLemmas.Displaced.{PutsAt-entered}
 use Rattle.iddqd_id.proofs.MapLemmas.{AreLawful-ranks}
 use Rattle.iddqd_id.proofs.map.IdHashMap.insert_at.Goals as goal
 
@@ -16,36 +14,28 @@ insert_reserved-slot-requires g c =
     let room = rw (← c.self.view_is) at c.requires.room in
     omega (arith, length-contents c.self.inside.items.slots)
 
-pub insert_at-requires-clause-room : goal.insert_at-requires-clause-room
-insert_at-requires-clause-room g c =
-    let room = rw (← c.self.view_is) at c.requires.room in
-    omega (arith, length-index c.self.invariant.indexes.0)
-
-pub insert_at-requires-clause-vacant : goal.insert_at-requires-clause-vacant
-insert_at-requires-clause-vacant g c = place_in c.self.invariant.indexes.0 (rw (← c.self.view_is) at c.requires.places).0
+pub insert_at-requires : goal.insert_at-requires
+insert_at-requires g c = record {
+  room = omega (arith, length-index c.self.invariant.indexes.0, rw (← c.self.view_is) at c.requires.room);
+  vacant = place_in c.self.invariant.indexes.0 (rw (← c.self.view_is) at c.requires.places).0;
+}
 
 pub invariant_of-self : goal.invariant_of-self
 invariant_of-self g c =
     let places = rw (← c.self.view_is) at c.requires.places in
-    IsIndexed-insert c.args.item (AreLawful-ranks g.T.IdHashItem g.met.T.Key.Eq.laws) c.self.invariant (rw (← c.self.view_is) at c.requires.free) c.insert_reserved-slot.ensures.members
+    IsIndexed-insert c.args.item (AreLawful-ranks g.T.IdHashItem g.met.T.Key.Eq.laws) c.self.invariant
+    (rw (← c.self.view_is) at c.requires.free) c.insert_reserved-slot.ensures.members
     ((_, places.0.same, c.insert_at.ensures.added), tt)
 
 pub returns-clause-puts_at : goal.returns-clause-puts_at
 returns-clause-puts_at g c =
-    let room = rw (← c.self.view_is) at c.requires.room in
-    let free = rw (← c.self.view_is) at c.requires.free in
-    let items = contents-moves c.insert_reserved-slot.new.self.slots c.self.inside.items.slots _ _ c.insert_reserved-slot.ensures.members in
-    let more = length_permutation _ _ items in
-    record {
-      at = c.insert_reserved-slot.ensures.updates.changed;
-      items = rw (← c.self.view_is) items;
-      sound = free_sound (ranks g.T.IdHashItem g.T.Key.PartialEq.eq) (AreLawful-ranks g.T.IdHashItem g.met.T.Key.Eq.laws) c.self.inside.items.slots c.insert_reserved-slot.new.self.slots c.insert_reserved-slot.result c.args.item c.self.invariant.sound free c.insert_reserved-slot.ensures.members;
-      fits = omega (arith, room, more, c.insert_reserved-slot.ensures.capacity, c.insert_at.ensures.limit);
-      same_room = search rules;
-      same_builder = search rules;
-    }
+    let put = c.insert_reserved-slot.ensures in
+    rw (← c.self.view_is)
+    (PutsAt-entered c.insert_reserved-slot.result c.args.item (AreLawful-ranks g.T.IdHashItem g.met.T.Key.Eq.laws)
+    c.self.invariant.sound (rw (← c.self.view_is) at c.requires.free) put.members put.updates.changed (rw (← c.self.view_is) at c.requires.room) (search rules) (search rules))
 
 pub returns-clause-costs : goal.returns-clause-costs
 returns-clause-costs g c =
     let into = c.insert_at.ensures in
-    rw (← c.self.view_is) (walks_all (_ ∷ []) _ _ c.self.invariant (c.insert_at.new.meter, once _ _ _ (insert_most _ _ _ _ _ _ into.no_probe into.probes into.within), refl))
+    let walk = once _ _ _ (insert_most _ _ _ _ _ _ into.no_probe into.probes into.within) in
+    rw (← c.self.view_is) (walks_all (_ ∷ []) _ _ c.self.invariant (c.insert_at.new.meter, walk, refl))

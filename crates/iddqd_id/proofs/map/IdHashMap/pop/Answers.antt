@@ -1,4 +1,4 @@
--- Made by tests/twins from crates/iddqd_bi/proofs/map/BiHashMap/pop/Answers.antt: change that file.
+-- Made by tests/widths from crates/iddqd_bi/proofs/map/BiHashMap/pop/Answers.antt: change that file.
 use Rattle.std.proofs.Common.{rules, ◌≡◌, []}
 use Rattle.iddqd_store.specs.Map.{bag}
 use Rattle.iddqd_id.proofs.map.IdHashMap.pop.Goals as goal

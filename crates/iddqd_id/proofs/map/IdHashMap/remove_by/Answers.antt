@@ -1,4 +1,4 @@
--- Made by tests/twins from crates/iddqd_bi/proofs/map/BiHashMap/remove1_by/Answers.antt: change that file.
+-- Made by tests/widths from crates/iddqd_bi/proofs/map/BiHashMap/remove1_by/Answers.antt: change that file.
 use Rattle.std.proofs.Common.{arith, sym, refl, ◌∙◌}
 use Rattle.iddqd_store.proofs.RankLemmas.Costs.{SearchCosts-room}
 use Rattle.iddqd_store.proofs.RankLemmas.Invariant.{IsIndexed-remove, first_rank}

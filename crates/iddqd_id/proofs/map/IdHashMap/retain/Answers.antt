@@ -1,4 +1,4 @@
--- Made by tests/twins from crates/iddqd_bi/proofs/map/BiHashMap/retain/Answers.antt: change that file.
+-- Made by tests/widths from crates/iddqd_bi/proofs/map/BiHashMap/retain/Answers.antt: change that file.
 use Rattle.std.proofs.Common.{refl, sym, subst, ◌∙◌}
 use Rattle.std.proofs.lemmas.List.Sorted.{IsPermutation-refl}
 use Rattle.std.proofs.lemmas.Fn.{called_at}
@@ -14,10 +14,10 @@ pub loop-slot-preserved-then-not-f : goal.loop-slot-preserved-then-not-f
 loop-slot-preserved-then-not-f g c =
     let at = c.loop-slot in
     record {
-      completes = rw (c.number-from.ensures.value, c.take.ensures.slots) (past_taken (CalledAt g.F.FnMut) _ at.f c.f.new.self _ at.self.slots at.from c.in-Some.slot c.item_at.result.now (c.in-Some.ensures.comes _ c.item_at.ensures) (called_at g.F.FnMut c.f.ensures c.if-not-f.true) at.invariant.completes);
-      callable = rw (c.number-from.ensures.value, c.take.ensures.slots) (subst (λ l. TakesEach g.F.FnMut c.f.new.self l) (sym (same_behind at.self.slots c.in-Some.slot)) (takes_others g.F.FnMut at.f _ c.item_at.result.now _ _ c.f.new.self (c.in-Some.ensures.comes _ c.item_at.ensures).rest (called_at g.F.FnMut c.f.ensures c.if-not-f.true) at.invariant.callable));
-      capacity = c.take.ensures.loses.same_room ∙ at.invariant.capacity;
-      builder = c.take.ensures.loses.same_builder ∙ at.invariant.builder;
+      completes = rw (c.number-from.ensures.value, c.take_at.ensures.slots) (past_taken (CalledAt g.F.FnMut) _ at.f c.f.new.self _ at.self.slots at.from c.in-Some.slot c.item_at.result.now (c.in-Some.ensures.comes _ c.item_at.ensures) (called_at g.F.FnMut c.f.ensures c.if-not-f.true) at.invariant.completes);
+      callable = rw (c.number-from.ensures.value, c.take_at.ensures.slots) (subst (λ l. TakesEach g.F.FnMut c.f.new.self l) (sym (same_behind at.self.slots c.in-Some.slot)) (takes_others g.F.FnMut at.f _ c.item_at.result.now _ _ c.f.new.self (c.in-Some.ensures.comes _ c.item_at.ensures).rest (called_at g.F.FnMut c.f.ensures c.if-not-f.true) at.invariant.callable));
+      capacity = c.take_at.ensures.loses.same_room ∙ at.invariant.capacity;
+      builder = c.take_at.ensures.loses.same_builder ∙ at.invariant.builder;
     }
 
 pub loop-slot-preserved : goal.loop-slot-preserved

@@ -4,19 +4,19 @@ use Rattle.iddqd_store.specs.Map.{Map}
 use Rattle.iddqd_store.proofs.RankLemmas.Costs.{SearchCosts-room}
 use Rattle.iddqd_id.proofs.map.IdHashMap.search_all.Goals as goal
 
-pub returns-in-Ok-clause-found : goal.returns-in-Ok-clause-found
-returns-in-Ok-clause-found g c =
-    let first = rw (c.by_key.ensures.slots, c.in-Ok.is) at c.search.ensures.found in
+pub returns-in-Found-clause-found : goal.returns-in-Found-clause-found
+returns-in-Found-clause-found g c =
+    let first = rw (c.by_key.ensures.slots, c.in-Found.is) at c.search.ensures.found in
     rw c.new.ensures (first, tt)
 
-pub returns-in-Ok-clause-costs : goal.returns-in-Ok-clause-costs
-returns-in-Ok-clause-costs g c =
+pub returns-in-Found-clause-costs : goal.returns-in-Found-clause-costs
+returns-in-Found-clause-costs g c =
     let builder = ap (λ (m : Map g.row.T.Denot g.row.S.Denot). m.builder) c.self.view_is in
-    let first = rw (c.by_key.ensures.slots, c.by_key.ensures.builder, c.hash_one-hash.ensures, builder, c.in-Ok.is) at (SearchCosts-room c.args.self.now.capacity c.by_key.ensures.room c.search.ensures.costs) in
+    let first = rw (c.by_key.ensures.slots, c.by_key.ensures.builder, c.hash_one-hash.ensures, builder, c.in-Found.is) at (SearchCosts-room c.args.self.now.capacity c.by_key.ensures.room c.search.ensures.costs) in
     rw c.new.ensures (_, _, first, (refl, refl))
 
-pub returns-in-Err-clause-costs : goal.returns-in-Err-clause-costs
-returns-in-Err-clause-costs g c =
+pub returns-in-Vacant-clause-costs : goal.returns-in-Vacant-clause-costs
+returns-in-Vacant-clause-costs g c =
     let builder = ap (λ (m : Map g.row.T.Denot g.row.S.Denot). m.builder) c.self.view_is in
-    let first = rw (c.by_key.ensures.slots, c.by_key.ensures.builder, c.hash_one-hash.ensures, builder, c.in-Err.is) at (SearchCosts-room c.args.self.now.capacity c.by_key.ensures.room c.search.ensures.costs) in
+    let first = rw (c.by_key.ensures.slots, c.by_key.ensures.builder, c.hash_one-hash.ensures, builder, c.in-Vacant.is) at (SearchCosts-room c.args.self.now.capacity c.by_key.ensures.room c.search.ensures.costs) in
     (_, _, first, (refl, refl))

@@ -1,4 +1,4 @@
--- Made by tests/twins from crates/iddqd_bi/proofs/map/BiHashMap/store_some_at/Answers.antt: change that file.
+-- Made by tests/widths from crates/iddqd_bi/proofs/map/BiHashMap/store_some_at/Answers.antt: change that file.
 use Rattle.std.proofs.Common.{◌≡◌, Some, None, refl, sym, ap, slice_set, ◌∙◌, arith}
 use Rattle.std.proofs.lemmas.Fn.{called_at}
 use Rattle.std.proofs.lemmas.List.{set-get_or}

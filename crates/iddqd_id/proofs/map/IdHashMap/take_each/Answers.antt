@@ -1,4 +1,4 @@
--- Made by tests/twins from crates/iddqd_bi/proofs/map/BiHashMap/take_each/Answers.antt: change that file.
+-- Made by tests/widths from crates/iddqd_bi/proofs/map/BiHashMap/take_each/Answers.antt: change that file.
 use Rattle.std.proofs.Common.{◌++◌, sym, ap, ◌∙◌, drop}
 use Rattle.iddqd_store.specs.Slots.{contents}
 use Rattle.iddqd_store.proofs.SlotLemmas.Next.{before_and_behind, emptied_before}
@@ -8,9 +8,9 @@ pub loop-slot-preserved : goal.loop-slot-preserved
 loop-slot-preserved g c =
     let at = c.loop-slot in
     record {
-      empty = rw (c.number-from.ensures.value, c.take.ensures.slots) (emptied_before at.self.slots at.from c.in-Some.slot c.take.result (c.in-Some.ensures.comes _ c.take.ensures.value) ∙ at.invariant.empty);
-      capacity = c.take.ensures.loses.same_room ∙ at.invariant.capacity;
-      builder = c.take.ensures.loses.same_builder ∙ at.invariant.builder;
+      empty = rw (c.number-from.ensures.value, c.take_at.ensures.slots) (emptied_before at.self.slots at.from c.in-Some.slot c.take_at.result (c.in-Some.ensures.comes _ c.take_at.ensures.value) ∙ at.invariant.empty);
+      capacity = c.take_at.ensures.loses.same_room ∙ at.invariant.capacity;
+      builder = c.take_at.ensures.loses.same_builder ∙ at.invariant.builder;
     }
 
 pub returns-clause-empty : goal.returns-clause-empty

@@ -1,60 +1,42 @@
--- Made by tests/twins from crates/iddqd_bi/proofs/map/BiHashMap/try_insert/Answers.antt: change that file.
+-- Made by tests/widths from crates/iddqd_bi/proofs/map/BiHashMap/try_insert/Answers.antt: change that file.
 use Rattle.std.proofs.Common.{rules, ◌≡◌, sym, ◌∙◌}
 use Rattle.std.specs.Prelude.{is_some}
 use Rattle.iddqd_store.specs.Bag.{like}
-use Rattle.iddqd_store.specs.Map.{IsFullFor, bag}
-use Rattle.iddqd_store.specs.Rank.All.{IsBlockedBy}
+use Rattle.iddqd_store.specs.Map.{bag}
 use Rattle.iddqd_store.proofs.CallerLemmas.Asking.{none-clash}
 use Rattle.iddqd_store.proofs.MapLemmas.Growing.{not_full}
 use Rattle.iddqd_store.proofs.MapLemmas.Places.{is_some-at, none_taken}
 use Rattle.iddqd_id.specs.Keys.{has, ranks}
-use Rattle.iddqd_id.proofs.Refusing.{duplicate_item, duplicate_reason, memory_item, memory_reason}
 use Rattle.iddqd_id.proofs.map.IdHashMap.try_insert.Goals as goal
 
-pub returns-in-Err-Duplicate-clause-handed_back : goal.returns-in-Err-Duplicate-clause-handed_back
-returns-in-Err-Duplicate-clause-handed_back g c =
+pub returns-in-Err-Duplicate : goal.returns-in-Err-Duplicate
+returns-in-Err-Duplicate g c =
     let arm = c.in-Err-Duplicate in
-    duplicate_item arm.field-0 arm.item arm.by arm.field-0-is c.args.item arm.ensures.handed_back
-
-pub returns-in-Err-Duplicate-clause-granted : goal.returns-in-Err-Duplicate-clause-granted
-returns-in-Err-Duplicate-clause-granted g c =
-    let by = ranks g.T.IdHashItem g.T.Key.PartialEq.eq in
-    let old = c.args.self.now in
-    let arm = c.in-Err-Duplicate in
-    let why = duplicate_reason arm.field-0 arm.item arm.by arm.field-0-is (IsBlockedBy by _ old c.args.item) (IsFullFor by old c.args.item) arm.ensures.reason in
-    rw g.met.T.Ranked.ranks_are (λ free spare. absurd (why.blocked.some free))
-
-pub returns-in-Err-Duplicate-clause-reason : goal.returns-in-Err-Duplicate-clause-reason
-returns-in-Err-Duplicate-clause-reason g c =
-    let by = ranks g.T.IdHashItem g.T.Key.PartialEq.eq in
-    let old = c.args.self.now in
-    let arm = c.in-Err-Duplicate in
-    let why = duplicate_reason arm.field-0 arm.item arm.by arm.field-0-is (IsBlockedBy by _ old c.args.item) (IsFullFor by old c.args.item) arm.ensures.reason in
+    let why = rw arm.field-0-is at arm.ensures.reason in
+    let slots = c.args.self.now.slots in
     let seen : c.is_some-taken.result ≡ is_some arm.by.slot = search rules in
-    let taken = seen ∙ is_some-at (has g.T.IdHashItem g.T.Key.PartialEq.eq (g.T.IdHashItem.key c.args.item)) old.slots arm.by.slot why.found.0 in
+    let taken = seen ∙ is_some-at (has g.T.IdHashItem g.T.Key.PartialEq.eq (g.T.IdHashItem.key c.args.item)) slots arm.by.slot why.found.0 in
+    let none = none-clash (ranks g.T.IdHashItem g.T.Key.PartialEq.eq) (bag c.args.self.now) c.args.item in
     record {
-      taken = taken;
-      full = λ free. absurd (why.blocked.some (none-clash by (bag old) c.args.item (sym taken ∙ free, tt)));
+      gains = search rules;
+      free = search rules;
+      granted = rw g.met.T.Ranked.ranks_are (λ free spare. absurd (why.blocked.some free));
+      handed_back = rw arm.field-0-is at arm.ensures.handed_back;
+      unchanged = arm.ensures.unchanged;
+      reason = record { taken = taken; full = λ free. absurd (why.blocked.some (none (sym taken ∙ free, tt))) };
     }
 
-pub returns-in-Err-Memory-clause-reason : goal.returns-in-Err-Memory-clause-reason
-returns-in-Err-Memory-clause-reason g c =
+pub returns-in-Err-Memory : goal.returns-in-Err-Memory
+returns-in-Err-Memory g c =
+    let arm = c.in-Err-Memory in
+    let full = rw arm.field-0-is at arm.ensures.reason in
     let by = ranks g.T.IdHashItem g.T.Key.PartialEq.eq in
-    let old = c.args.self.now in
-    let arm = c.in-Err-Memory in
-    let full = memory_reason arm.field-0 arm.item arm.field-0-is (IsBlockedBy by _ old c.args.item) (IsFullFor by old c.args.item) arm.ensures.reason in
-    let free = none_taken (like by c.args.item) (bag old) full.free in
-    record { taken = sym free.0; full = λ free. full }
-
-pub returns-in-Err-Memory-clause-handed_back : goal.returns-in-Err-Memory-clause-handed_back
-returns-in-Err-Memory-clause-handed_back g c =
-    let arm = c.in-Err-Memory in
-    memory_item arm.field-0 arm.item arm.field-0-is c.args.item arm.ensures.handed_back
-
-pub returns-in-Err-Memory-clause-granted : goal.returns-in-Err-Memory-clause-granted
-returns-in-Err-Memory-clause-granted g c =
-    let by = ranks g.T.IdHashItem g.T.Key.PartialEq.eq in
-    let old = c.args.self.now in
-    let arm = c.in-Err-Memory in
-    let full = memory_reason arm.field-0 arm.item arm.field-0-is (IsBlockedBy by _ old c.args.item) (IsFullFor by old c.args.item) arm.ensures.reason in
-    λ free spare. absurd (not_full _ _ full.full spare)
+    let free = none_taken (like by c.args.item) (bag c.args.self.now) full.free in
+    record {
+      gains = search rules;
+      free = search rules;
+      granted = λ free spare. absurd (not_full _ _ full.full spare);
+      handed_back = rw arm.field-0-is at arm.ensures.handed_back;
+      unchanged = arm.ensures.unchanged;
+      reason = record { taken = sym free.0; full = λ free. full };
+    }

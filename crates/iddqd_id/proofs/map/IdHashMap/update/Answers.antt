@@ -1,4 +1,4 @@
--- Made by tests/twins from crates/iddqd_bi/proofs/map/BiHashMap/update1/Answers.antt: change that file.
+-- Made by tests/widths from crates/iddqd_bi/proofs/map/BiHashMap/update1/Answers.antt: change that file.
 use Rattle.iddqd_id.specs.Keys.{has}
 use Rattle.iddqd_store.proofs.MapLemmas.Updating.{any_absent, any_found, found_one}
 use Rattle.iddqd_id.proofs.map.IdHashMap.update.Goals as goal

@@ -1,4 +1,4 @@
--- Made by tests/twins from crates/iddqd_bi/proofs/map/BiHashMap/update_all/Invariants.antt: change that file.
+-- Made by tests/widths from crates/iddqd_bi/proofs/map/BiHashMap/update_all/Invariants.antt: change that file.
 use Rattle.std.proofs.Common.{◌≡◌, length}
 use Rattle.std.specs.Fn.{CalledAt}
 use Rattle.iddqd_store.specs.Bag.Storing.{Writes}

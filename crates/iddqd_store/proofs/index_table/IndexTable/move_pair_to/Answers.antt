@@ -11,7 +11,7 @@ remove-requires c =
     Contains-permutation _ _ _ c.insert_at.ensures.added (let there = c.requires.there in (suc there.0, omega (arith, there.1), there.2))
 
 pub returns-clause-moved : goal.returns-clause-moved
-returns-clause-moved c = put_and_taken _ _ _ _ _ c.requires.there c.insert_at.ensures.added c.remove.ensures.taken
+returns-clause-moved c = put_and_taken c.requires.there c.insert_at.ensures.added c.remove.ensures.taken
 
 pub returns-clause-costs : goal.returns-clause-costs
 returns-clause-costs c =

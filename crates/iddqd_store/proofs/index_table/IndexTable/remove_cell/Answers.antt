@@ -7,7 +7,9 @@ use Rattle.iddqd_store.specs.Table.{IsCellOf}
 use Rattle.iddqd_store.proofs.index_table.IndexTable.remove_cell.Goals as goal
 
 -- one pair less
-one_less : (row after : List (Option (ℕ × ℕ))) (x : ℕ × ℕ) (at : ℕ) → IsCellOf row x at → ((pair : ℕ × ℕ) → cell row at ≡ Some pair → IsPermutation (contents row) (pair ∷ contents after)) → length (contents row) ≡ length (contents after) + 1
+one_less : (row after : List (Option (ℕ × ℕ))) (x : ℕ × ℕ) (at : ℕ) → IsCellOf row x at
+    → ((pair : ℕ × ℕ) → cell row at ≡ Some pair → IsPermutation (contents row) (pair ∷ contents after))
+    → length (contents row) ≡ length (contents after) + 1
 one_less row after x at there taken =
     let same : length (x ∷ contents after) ≡ length (contents row) = length_permutation _ _ (taken x there.stands) in
     omega arith

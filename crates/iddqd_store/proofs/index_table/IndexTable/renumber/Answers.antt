@@ -27,7 +27,8 @@ returns-clause-probes c =
     let found = c.seek-at.ensures in
     let some : cell row c.seek-at.result ≢ None = λ none. cc (none, found.pair) in
     let lh : home < length row = let below = found.way.below in omega arith in
-    let most = walk_found row c.args.hash c.seek-at.result (gap (length row) home c.seek-at.result) (gap (length row) home c.seek-at.result + 1) c.self.invariant.0 (walk_to row home c.seek-at.result lh found.way) some (omega arith) in
+    let most = walk_found row c.args.hash c.seek-at.result (gap (length row) home c.seek-at.result)
+    (gap (length row) home c.seek-at.result + 1) c.self.invariant.0 (walk_to row home c.seek-at.result lh found.way) some (omega arith) in
     rw (← c.self.view_is) record {
       no_cells = λ none. absurd (omega (arith, found.way.below, none));
       miss = λ some. tt;

@@ -1,5 +1,5 @@
-use Rattle.std.proofs.Common.{rules, arith, ℕ, ◌≡◌, ◌+◌, ◌*◌, ◌/◌, ◌^◌, ◌<◌, ◌≤◌, subst, inr, ⊎_elim}
-use Rattle.std.proofs.lemmas.Bool.{cases_lt}
+use Rattle.std.proofs.Common.{rules, arith, ℕ, ◌≡◌, ◌+◌, ◌*◌, ◌/◌, ◌^◌, ◌<◌, ◌≤◌, subst, inr}
+use Rattle.iddqd_store.proofs.Plain.{by_order}
 use Rattle.iddqd_store.proofs.TableLemmas.Limits.{doubled, least_found, size_most}
 use Rattle.iddqd_store.proofs.index_table.probe.cells_for.Goals as goal
 
@@ -8,8 +8,8 @@ step k m count twice e t l before =
     let d : 2 ^ (k + 1) ≡ 2 * 2 ^ k = doubled k in (
       k + 1,
       omega arith,
-      λ j lj. ⊎_elim (λ (h : j < k). before j h)
-          (λ (h : k ≤ j). let same : k ≡ j = omega arith in subst (λ (i : ℕ). 7 * 2 ^ i < m) same (omega arith)) (cases_lt j k),
+      λ j lj. by_order j k (λ (h : j < k). before j h)
+          (λ (h : k ≤ j). let same : k ≡ j = omega arith in subst (λ (i : ℕ). 7 * 2 ^ i < m) same (omega arith)),
     )
 
 pub loop-count-preserved : goal.loop-count-preserved

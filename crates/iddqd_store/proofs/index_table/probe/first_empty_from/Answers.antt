@@ -12,12 +12,14 @@ loop-at-preserved c =
     let e : c.after-at.result ≡ (if nat_lt (c.loop-at.at + 1) (length row) then c.loop-at.at + 1 else 0) = rw c.len-count.ensures at c.after-at.ensures in
     record {
       probed = omega (arith, i.probed, c.cell_at.ensures.probe);
-      walk = walk_more row c.args.from c.loop-at.at (c.loop-at.meter - c.args.meter.now) c.requires.table c.requires.from i.walk some c.after-at.result (c.cell_at.new.meter - c.args.meter.now) e (omega (arith, i.probed, c.cell_at.ensures.probe));
+      walk = walk_more row c.args.from c.loop-at.at (c.loop-at.meter - c.args.meter.now) c.requires.table c.requires.from i.walk some
+          c.after-at.result (c.cell_at.new.meter - c.args.meter.now) e (omega (arith, i.probed, c.cell_at.ensures.probe));
     }
 
 pub returns-clause-first : goal.returns-clause-first
 returns-clause-first c =
-    walk_first c.args.cells.now c.args.from c.loop-at.at (c.loop-at.meter - c.args.meter.now) c.requires.from c.loop-at.invariant.walk (none_from_test c.cell_at.result _ c.is_some.result c.cell_at.ensures.value c.is_some.ensures c.loop-at-test.false)
+    walk_first c.args.cells.now c.args.from c.loop-at.at (c.loop-at.meter - c.args.meter.now) c.requires.from c.loop-at.invariant.walk
+    (none_from_test c.cell_at.result _ c.is_some.result c.cell_at.ensures.value c.is_some.ensures c.loop-at-test.false)
 
 pub returns-clause-probes : goal.returns-clause-probes
 returns-clause-probes c =

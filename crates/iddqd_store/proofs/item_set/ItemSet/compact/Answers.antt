@@ -8,7 +8,7 @@ use Rattle.iddqd_store.proofs.item_set.ItemSet.compact.Goals as goal
 pub invariant_of-self : goal.invariant_of-self
 invariant_of-self g c =
     let kept : c.retain.new.self.items ≡ live_slots c.self.inside.slots.items = filter_from_retain _ (λ slot. is_some (item_of slot)) (λ p x b q h. search rules) _ _ _ c.retain.ensures.filtered in
-    (IsChained-compact _ _ _ _ _ c.self.invariant.0 kept (omega arith), IsFreeBefore-start _)
+    (IsChained-compact c.self.invariant.0 kept (omega arith), IsFreeBefore-start _)
 
 pub returns-clause-slots : goal.returns-clause-slots
 returns-clause-slots g c =

@@ -12,7 +12,8 @@ insert_reserved-requires g c =
     let i = c.loop-index.invariant in
     let within : c.loop-index.index < length slots = omega arith in
     let found = rw c.new-slot.ensures at (sym c.get.ensures ∙ ap option_copied c.in-Some.is) in
-    let room = IsFilling-room (key_hash g.R.KeyOf.key g.R.Key.Hash.hash_input g.S.BuildHasher g.S.Hasher.Hasher c.args.hash_builder.now) slots c.loop-index.index c.in-Some.item.now c.loop-index.table.pairs within found i.filling in
+    let room = IsFilling-room (key_hash g.R.KeyOf.key g.R.Key.Hash.hash_input g.S.BuildHasher g.S.Hasher.Hasher c.args.hash_builder.now) slots
+    c.loop-index.index c.in-Some.item.now c.loop-index.table.pairs within found i.filling in
     rw i.limit (omega (arith, room, c.requires.room))
 
 pub loop-index-preserved : goal.loop-index-preserved
@@ -27,7 +28,9 @@ loop-index-preserved g c =
       | in-Some w ↦
           let found = rw c.new-slot.ensures at (sym c.get.ensures ∙ ap option_copied w.in-Some.is) in
           record {
-            filling = rw w.table-is (IsFilling-enter hash slots at w.in-Some.item.now w.hash_one-hash.result c.loop-index.table.pairs _ within found (w.hash_one-hash.ensures ∙ ap (λ k. writes (g.R.Key.Hash.hash_input k)) w.key.ensures) (rw c.new-slot.ensures at w.insert_reserved.ensures.added) i.filling);
+            filling = rw w.table-is (IsFilling-enter hash slots at w.in-Some.item.now w.hash_one-hash.result c.loop-index.table.pairs _ within found
+                (w.hash_one-hash.ensures ∙ ap (λ k. writes (g.R.Key.Hash.hash_input k)) w.key.ensures)
+                (rw c.new-slot.ensures at w.insert_reserved.ensures.added) i.filling);
             cells = rw w.table-is (w.insert_reserved.ensures.cells ∙ i.cells);
             limit = rw w.table-is (w.insert_reserved.ensures.limit ∙ i.limit);
           }

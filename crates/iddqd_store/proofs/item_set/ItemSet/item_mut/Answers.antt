@@ -11,7 +11,7 @@ invariant_of-self-lent g c w =
     let at = c.number.result in
     let found = occupied_at c.self.inside.slots.items at (rw (← c.self.view_is, ← c.number.ensures.value) at c.requires) in
     let behind = live_behind _ _ at found.0 c.self.invariant.1 found.1 in
-    (IsChained-rewrite _ _ _ at found.0 w c.self.invariant.0 found.1, IsFreeBefore-set _ _ at _ behind c.self.invariant.1)
+    (IsChained-rewrite _ _ _ at found.0 w c.self.invariant.0 found.1, IsFreeBefore-set _ behind c.self.invariant.1)
 
 pub returns : goal.returns
 returns g c =

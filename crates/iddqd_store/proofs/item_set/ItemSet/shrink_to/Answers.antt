@@ -11,7 +11,7 @@ gathered-requires-clause-room g c =
 pub invariant_of-self : goal.invariant_of-self
 invariant_of-self g c =
     let kept : c.gathered.result.items ≡ live_slots c.self.inside.slots.items = c.gathered.ensures.items ∙ ap (λ v. live_slots v.items) c.replace-slots.ensures.value in
-    (IsChained-compact _ _ _ _ _ c.self.invariant.0 kept (omega arith), IsFreeBefore-start _)
+    (IsChained-compact c.self.invariant.0 kept (omega arith), IsFreeBefore-start _)
 
 pub returns-clause-slots : goal.returns-clause-slots
 returns-clause-slots g c =

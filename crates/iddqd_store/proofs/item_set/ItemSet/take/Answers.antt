@@ -9,7 +9,7 @@ pub invariant_of-self : goal.invariant_of-self
 invariant_of-self g c =
     let found = occupied_at c.self.inside.slots.items c.args.slot (rw (← c.self.view_is) at c.requires) in
     let behind = live_behind _ _ c.args.slot found.0 c.self.invariant.1 found.1 in
-    rw c.replace.ensures.after (IsChained-vacate _ _ _ c.args.slot found.0 c.self.invariant.0 found.1, IsFreeBefore-set _ _ c.args.slot _ behind c.self.invariant.1)
+    rw c.replace.ensures.after (IsChained-vacate _ _ _ c.args.slot found.0 c.self.invariant.0 found.1, IsFreeBefore-set _ behind c.self.invariant.1)
 
 pub returns-clause-slots : goal.returns-clause-slots
 returns-clause-slots g c = rw (← c.self.view_is, c.replace.ensures.after, map-set)

@@ -1,4 +1,4 @@
--- Made by tests/twins from crates/iddqd_text/proofs/two_keys/BiCommandBiItemCommand/run_commands/Answers.antt: change that file.
+-- Made by tests/widths from crates/iddqd_text/proofs/two_keys/BiCommandBiItemCommand/run_commands/Answers.antt: change that file.
 use Rattle.std.proofs.Common.{rules}
 use Rattle.std.specs.Prelude.{string_bytes}
 use Rattle.iddqd_store.specs.Runs.Step.{state_of}

@@ -1,4 +1,4 @@
--- Made by tests/twins from crates/iddqd_bi/proofs/entry/OccupiedEntry/data1_mut/Answers.antt: change that file.
+-- Made by tests/widths from crates/iddqd_bi/proofs/entry/OccupiedEntry/data1_mut/Answers.antt: change that file.
 use Rattle.std.proofs.Common.{rules, [], ◌∷◌, ◌∙◌}
 use Rattle.iddqd_store.specs.Rank.{agree}
 use Rattle.iddqd_store.proofs.MapLemmas.Written.{finds_written}

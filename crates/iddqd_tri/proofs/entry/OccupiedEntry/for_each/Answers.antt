@@ -1,4 +1,4 @@
--- Made by tests/twins from crates/iddqd_bi/proofs/entry/OccupiedEntry/for_each/Answers.antt: change that file.
+-- Made by tests/widths from crates/iddqd_bi/proofs/entry/OccupiedEntry/for_each/Answers.antt: change that file.
 use Rattle.std.proofs.Common.{[], ◌∷◌, sym, subst}
 use Rattle.iddqd_store.specs.Bag.Calling.{TakesInTurn}
 use Rattle.iddqd_store.specs.Rank.{agree}

@@ -1,4 +1,4 @@
--- Made by tests/twins from crates/iddqd_bi/proofs/entry/OccupiedEntry/insert/Answers.antt: change that file.
+-- Made by tests/widths from crates/iddqd_bi/proofs/entry/OccupiedEntry/insert/Answers.antt: change that file.
 use Rattle.std.proofs.Common.{refl, [], ◌∷◌, sym, ap, ◌∙◌}
 use Rattle.std.proofs.Math.Nat.{zero-lt-suc}
 use Rattle.iddqd_store.specs.Map.{bag, hash_of}

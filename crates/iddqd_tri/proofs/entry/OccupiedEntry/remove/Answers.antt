@@ -1,4 +1,4 @@
--- Made by tests/twins from crates/iddqd_bi/proofs/entry/OccupiedEntry/remove/Answers.antt: change that file.
+-- Made by tests/widths from crates/iddqd_bi/proofs/entry/OccupiedEntry/remove/Answers.antt: change that file.
 use Rattle.std.proofs.Common.{[], ◌∷◌}
 use Rattle.iddqd_store.proofs.SlotLemmas.Entries.{IsDistinct-each_once}
 use Rattle.iddqd_tri.proofs.entry.OccupiedEntry.remove.Goals as goal

@@ -1,4 +1,4 @@
--- Made by tests/twins from crates/iddqd_bi/proofs/entry/OccupiedEntryMut/data1_mut/Answers.antt: change that file.
+-- Made by tests/widths from crates/iddqd_bi/proofs/entry/OccupiedEntryMut/data1_mut/Answers.antt: change that file.
 use Rattle.std.proofs.Common.{rules}
 use Rattle.iddqd_store.proofs.MapLemmas.Updating.{held_data, held_live}
 use Rattle.iddqd_tri.proofs.entry.OccupiedEntryMut.data1_mut.Goals as goal

@@ -1,4 +1,4 @@
--- Made by tests/twins from crates/iddqd_bi/proofs/entry/OccupiedEntryMut/data_unique_mut/Answers.antt: change that file.
+-- Made by tests/widths from crates/iddqd_bi/proofs/entry/OccupiedEntryMut/data_unique_mut/Answers.antt: change that file.
 use Rattle.std.proofs.Common.{refl, ◌≡◌, map, subst, sym, [], ◌∷◌}
 use Rattle.std.specs.Option.{IfSome, option_and_then, option_copied_mut, option_to_list}
 use Rattle.iddqd_store.specs.Slots.{IsLive, get}

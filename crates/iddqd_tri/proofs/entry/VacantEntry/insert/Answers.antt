@@ -1,4 +1,4 @@
--- Made by tests/twins from crates/iddqd_bi/proofs/entry/VacantEntry/insert/Answers.antt: change that file.
+-- Made by tests/widths from crates/iddqd_bi/proofs/entry/VacantEntry/insert/Answers.antt: change that file.
 use Rattle.iddqd_tri.proofs.entry.VacantEntry.insert.Goals as goal
 
 pub insert_free-requires-clause-absent : goal.insert_free-requires-clause-absent

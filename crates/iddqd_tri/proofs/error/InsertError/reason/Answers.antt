@@ -1,4 +1,4 @@
--- Made by tests/twins from crates/iddqd_bi/proofs/error/InsertError/reason/Answers.antt: change that file.
+-- Made by tests/widths from crates/iddqd_bi/proofs/error/InsertError/reason/Answers.antt: change that file.
 use Rattle.std.proofs.Common.{sym, ◌∙◌}
 use Rattle.iddqd_store.specs.Map.{bag}
 use Rattle.iddqd_store.proofs.BagLemmas.Steps.{clash-listed, clash-unlisted}

@@ -1,4 +1,4 @@
--- Made by tests/twins from crates/iddqd_bi/proofs/iter_mut/IterMut/next_data/Answers.antt: change that file.
+-- Made by tests/widths from crates/iddqd_bi/proofs/iter_mut/IterMut/next_data/Answers.antt: change that file.
 use Rattle.std.proofs.Common.{List, ap, sym, refl, ◌∙◌}
 use Rattle.std.specs.Prelude.{slice_get}
 use Rattle.std.specs.Option.{option_map}

@@ -1,4 +1,4 @@
--- Made by tests/twins from crates/iddqd_bi/proofs/map/BiHashMap/by_key1/Answers.antt: change that file.
+-- Made by tests/widths from crates/iddqd_bi/proofs/map/BiHashMap/by_key1/Answers.antt: change that file.
 use Rattle.iddqd_store.proofs.RankLemmas.Invariant.{first_rank}
 use Rattle.iddqd_tri.proofs.map.TriHashMap.by_key1.Goals as goal
 

@@ -1,4 +1,4 @@
--- Written by hand; tests/twins.patch says why.
+-- Written by hand; tests/three_keys.patch says why.
 use Rattle.iddqd_store.proofs.RankLemmas.Invariant.{first_rank, other_ranks}
 use Rattle.iddqd_tri.proofs.map.TriHashMap.by_key3.Goals as goal
 

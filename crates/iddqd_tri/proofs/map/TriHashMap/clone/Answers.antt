@@ -1,4 +1,4 @@
--- Made by tests/twins from crates/iddqd_bi/proofs/map/BiHashMap/clone/Answers.antt: change that file.
+-- Made by tests/widths from crates/iddqd_bi/proofs/map/BiHashMap/clone/Answers.antt: change that file.
 use Rattle.std.proofs.Common.{refl, sym, ◌∙◌, ap}
 use Rattle.iddqd_store.specs.Map.{hash_of}
 use Rattle.iddqd_store.proofs.RankLemmas.Copied.{is_copy}
@@ -13,7 +13,7 @@ invariant_of-copy g c =
     let same2 = rw (← c.self.view_is) at c.requires.same_key2 in
     let same3 = rw (← c.self.view_is) at c.requires.same_key3 in
     let hashes = rw (← c.self.view_is) at c.requires.same_hashes in
-    rw (c.in_ok-clone-2.ensures, c.in_ok-clone-3.ensures, c.in_ok-clone-4.ensures)
+    rw (c.in_ok-first.ensures, c.in_ok-second.ensures, c.in_ok-third.ensures)
     (IsIndexed-copy g.T.Clone.is_clone _ _ (AreLawful-ranks g.T.TriHashItem g.met.T.K1.Eq.laws g.met.T.K2.Eq.laws g.met.T.K3.Eq.laws) c.self.invariant
     (λ x k found is. rw (same1 x k found is, same2 x k found is, same3 x k found is) refl) (
       (λ x k found is. hashes c.in_ok-hash_builder.hash_builder (g.T.K1.Hash.hash_input (g.T.TriHashItem.key1 k)) c.in_ok-hash_builder.ensures.cases ∙ ap hash (sym (g.met.T.K1.Hash.respects_eq _ _ (same1 x k found is)))),

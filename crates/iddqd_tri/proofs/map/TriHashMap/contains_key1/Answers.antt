@@ -1,4 +1,4 @@
--- Made by tests/twins from crates/iddqd_bi/proofs/map/BiHashMap/contains_key1/Answers.antt: change that file.
+-- Made by tests/widths from crates/iddqd_bi/proofs/map/BiHashMap/contains_key1/Answers.antt: change that file.
 use Rattle.std.proofs.Common.{◌∙◌}
 use Rattle.iddqd_store.specs.Map.{bag}
 use Rattle.iddqd_store.proofs.BagLemmas.Unique.{is_some-found}
@@ -6,4 +6,4 @@ use Rattle.iddqd_tri.specs.Keys.{has1}
 use Rattle.iddqd_tri.proofs.map.TriHashMap.contains_key1.Goals as goal
 
 pub returns : goal.returns
-returns g c = c.is_some.ensures ∙ is_some-found (has1 g.T.TriHashItem g.Q.Query.stands_for c.args.query) (bag c.args.self.now) c.get1_by-found.result c.get1_by-found.ensures.found
+returns g c = c.is_some.ensures ∙ is_some-found (has1 g.T.TriHashItem g.Q.Query.stands_for c.args.query) (bag c.args.self.now) c.get1.result c.get1.ensures

@@ -1,4 +1,4 @@
--- Made by tests/twins from crates/iddqd_bi/proofs/map/BiHashMap/contains_key2/Answers.antt: change that file.
+-- Made by tests/widths from crates/iddqd_bi/proofs/map/BiHashMap/contains_key2/Answers.antt: change that file.
 use Rattle.std.proofs.Common.{◌∙◌}
 use Rattle.iddqd_store.specs.Map.{bag}
 use Rattle.iddqd_store.proofs.BagLemmas.Unique.{is_some-found}
@@ -6,4 +6,4 @@ use Rattle.iddqd_tri.specs.Keys.{has2}
 use Rattle.iddqd_tri.proofs.map.TriHashMap.contains_key2.Goals as goal
 
 pub returns : goal.returns
-returns g c = c.is_some.ensures ∙ is_some-found (has2 g.T.TriHashItem g.Q.Query.stands_for c.args.query) (bag c.args.self.now) c.get2_by-found.result c.get2_by-found.ensures.found
+returns g c = c.is_some.ensures ∙ is_some-found (has2 g.T.TriHashItem g.Q.Query.stands_for c.args.query) (bag c.args.self.now) c.get2.result c.get2.ensures

@@ -1,4 +1,4 @@
--- Made by tests/twins from crates/iddqd_bi/proofs/map/BiHashMap/contains_key_unique/Answers.antt: change that file.
+-- Made by tests/widths from crates/iddqd_bi/proofs/map/BiHashMap/contains_key_unique/Answers.antt: change that file.
 use Rattle.std.proofs.Common.{◌∙◌, [], ◌∷◌}
 use Rattle.iddqd_store.specs.Bag.{every_of}
 use Rattle.iddqd_store.specs.Map.{bag}

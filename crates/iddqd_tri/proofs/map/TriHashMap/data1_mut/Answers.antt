@@ -1,4 +1,4 @@
--- Made by tests/twins from crates/iddqd_bi/proofs/map/BiHashMap/data1_mut/Answers.antt: change that file.
+-- Made by tests/widths from crates/iddqd_bi/proofs/map/BiHashMap/data1_mut/Answers.antt: change that file.
 use Rattle.std.proofs.Common.{refl}
 use Rattle.iddqd_tri.specs.Keys.{has1}
 use Rattle.iddqd_tri.proofs.Lending.{data_found, writes_found}

@@ -1,4 +1,4 @@
--- Made by tests/twins from crates/iddqd_bi/proofs/map/BiHashMap/entry_insert/Answers.antt: change that file.
+-- Made by tests/widths from crates/iddqd_bi/proofs/map/BiHashMap/entry_insert/Answers.antt: change that file.
 use Rattle.std.proofs.Common.{rules}
 use Rattle.iddqd_store.specs.Runs.Step.{state_of}
 use Rattle.iddqd_store.proofs.RunLemmas.EntrySteps.{entry_inserts_vacant, entry_inserts_occupied}

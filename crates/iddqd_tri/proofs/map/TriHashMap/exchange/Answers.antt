@@ -1,9 +1,7 @@
--- Made by tests/twins from crates/iddqd_bi/proofs/map/BiHashMap/exchange/Answers.antt: change that file.
-use Rattle.std.proofs.Common.{arith, rules, refl, [], ◌∷◌}
-use Rattle.std.proofs.lemmas.List.Sorted.{length_permutation}
-use Rattle.iddqd_store.proofs.RankLemmas.Rehashed.{IsIndexed-moved, come, left, sound_moved, stands}
-use Rattle.iddqd_store.proofs.RankLemmas.Replaced.{paired_at}
+-- Made by tests/widths from crates/iddqd_bi/proofs/map/BiHashMap/exchange/Answers.antt: change that file.
+use Rattle.std.proofs.Common.{rules, refl, [], ◌∷◌}
 use Rattle.iddqd_store.proofs.RankLemmas.Walks.{walks_all}
+use Rattle.iddqd_store.proofs.RankLemmas.Displaced.{IsIndexed-displaced, PutsAt-displaced, paired_at}
 use Rattle.iddqd_tri.proofs.MapLemmas.{AreLawful-ranks}
 use Rattle.iddqd_tri.proofs.map.TriHashMap.exchange.Goals as goal
 
@@ -19,29 +17,20 @@ rehash-requires-3 g c = paired_at c.args.by.now.2 c.args.slot c.replace-gone.res
 pub invariant_of-self : goal.invariant_of-self
 invariant_of-self g c =
     let hashes = rw (← c.self.view_is) at c.requires.hashes in
+    let first = c.rehash.ensures.moved in
+    let second = c.rehash-2.ensures.moved in
+    let third = c.rehash-3.ensures.moved in
     rw c.replace-gone.ensures.slots
-    (IsIndexed-moved c.replace-gone.result c.args.item c.args.slot c.self.inside.items.slots c.replace-gone.ensures.value
+    (IsIndexed-displaced c.self.inside.items.slots c.args.slot [] _ [] c.args.item (c.replace-gone.ensures.value, tt)
     (AreLawful-ranks g.T.TriHashItem g.met.T.K1.Eq.laws g.met.T.K2.Eq.laws g.met.T.K3.Eq.laws) c.self.invariant (rw (← c.self.view_is) at c.requires.free)
-    ((_, hashes.0, c.rehash.ensures.moved), ((_, hashes.1.0, c.rehash-2.ensures.moved), ((_, hashes.1.1.0, c.rehash-3.ensures.moved), tt))))
+    ((_, first.others, hashes.0, first.had, first.has), ((_, second.others, hashes.1.0, second.had, second.has), ((_, third.others, hashes.1.1.0, third.had, third.has), tt))))
 
 pub returns-clause-puts_at : goal.returns-clause-puts_at
 returns-clause-puts_at g c =
-    let gone = c.replace-gone in
-    let slots = c.self.inside.items.slots in
-    let holds = rw (← c.self.view_is) at c.room.ensures.fits in
-    let value = rw (← c.self.view_is) at c.room.ensures.value in
-    let out = length_permutation _ _ (left gone.result c.args.item c.args.slot slots gone.ensures.value) in
-    let items = come gone.result c.args.item c.args.slot slots gone.ensures.value in
-    let into = length_permutation _ _ items in
-    let free = rw (← c.self.view_is) at c.requires.free in
-    record {
-      at = rw gone.ensures.slots (stands gone.result c.args.item c.args.slot slots gone.ensures.value);
-      items = rw (← c.self.view_is, gone.ensures.slots) items;
-      sound = rw gone.ensures.slots (sound_moved gone.result c.args.item c.args.slot slots gone.ensures.value (AreLawful-ranks g.T.TriHashItem g.met.T.K1.Eq.laws g.met.T.K2.Eq.laws g.met.T.K3.Eq.laws) c.self.invariant free);
-      fits = rw gone.ensures.slots (omega (arith, holds, value, out, into, gone.ensures.capacity, c.rehash.ensures.limit, c.rehash-2.ensures.limit, c.rehash-3.ensures.limit));
-      same_room = search rules;
-      same_builder = search rules;
-    }
+    rw (← c.self.view_is)
+    (PutsAt-displaced c.self.inside.items.slots c.args.slot [] _ [] c.args.item (c.replace-gone.ensures.value, tt)
+    (AreLawful-ranks g.T.TriHashItem g.met.T.K1.Eq.laws g.met.T.K2.Eq.laws g.met.T.K3.Eq.laws) refl c.self.invariant.sound (rw (← c.self.view_is) at c.requires.free)
+    (rw (← c.self.view_is) at c.note_that_items_fit.ensures.fits) c.replace-gone.ensures.slots (search rules) (search rules))
 
 pub returns-clause-costs : goal.returns-clause-costs
 returns-clause-costs g c =

@@ -1,57 +1,47 @@
--- Made by tests/twins from crates/iddqd_bi/proofs/map/BiHashMap/exchange_at/Answers.antt: change that file.
-use Rattle.std.proofs.Common.{arith, rules, refl, [], ◌∷◌}
-use Rattle.std.proofs.lemmas.List.Sorted.{length_permutation}
+-- Made by tests/widths from crates/iddqd_bi/proofs/map/BiHashMap/exchange_at/Answers.antt: change that file.
+use Rattle.std.proofs.Common.{rules, refl, [], ◌∷◌}
 use Rattle.iddqd_store.proofs.RankLemmas.Costs.{place_in}
 use Rattle.iddqd_store.proofs.RankLemmas.Index.{pair_in}
-use Rattle.iddqd_store.proofs.RankLemmas.Rehashed.{IsIndexed-moved, come, left, sound_moved, stands}
 use Rattle.iddqd_store.proofs.RankLemmas.Walks.{walks_all}
+use Rattle.iddqd_store.proofs.RankLemmas.Displaced.{IsIndexed-displaced, PutsAt-displaced}
 use Rattle.iddqd_tri.proofs.MapLemmas.{AreLawful-ranks}
 use Rattle.iddqd_tri.proofs.map.TriHashMap.exchange_at.Goals as goal
 
-pub rehash_at-requires-clause-paired : goal.rehash_at-requires-clause-paired
-rehash_at-requires-clause-paired g c = pair_in c.args.slot c.replace-gone.result _ c.self.invariant.indexes.0 refl c.replace-gone.ensures.value
+pub rehash_at-requires : goal.rehash_at-requires
+rehash_at-requires g c = record {
+  paired = pair_in c.args.slot c.replace-gone.result _ c.self.invariant.indexes.0 refl c.replace-gone.ensures.value;
+  vacant = place_in c.self.invariant.indexes.0 (rw (← c.self.view_is) at c.requires.places).0;
+}
 
-pub rehash_at-requires-clause-vacant : goal.rehash_at-requires-clause-vacant
-rehash_at-requires-clause-vacant g c = place_in c.self.invariant.indexes.0 (rw (← c.self.view_is) at c.requires.places).0
+pub rehash_at-requires-2 : goal.rehash_at-requires-2
+rehash_at-requires-2 g c = record {
+  paired = pair_in c.args.slot c.replace-gone.result _ c.self.invariant.indexes.1.0 refl c.replace-gone.ensures.value;
+  vacant = place_in c.self.invariant.indexes.1.0 (rw (← c.self.view_is) at c.requires.places).1.0;
+}
 
-pub rehash_at-requires-2-clause-paired : goal.rehash_at-requires-2-clause-paired
-rehash_at-requires-2-clause-paired g c = pair_in c.args.slot c.replace-gone.result _ c.self.invariant.indexes.1.0 refl c.replace-gone.ensures.value
-
-pub rehash_at-requires-2-clause-vacant : goal.rehash_at-requires-2-clause-vacant
-rehash_at-requires-2-clause-vacant g c = place_in c.self.invariant.indexes.1.0 (rw (← c.self.view_is) at c.requires.places).1.0
-
-pub rehash_at-requires-3-clause-paired : goal.rehash_at-requires-3-clause-paired
-rehash_at-requires-3-clause-paired g c = pair_in c.args.slot c.replace-gone.result _ c.self.invariant.indexes.1.1.0 refl c.replace-gone.ensures.value
-
-pub rehash_at-requires-3-clause-vacant : goal.rehash_at-requires-3-clause-vacant
-rehash_at-requires-3-clause-vacant g c = place_in c.self.invariant.indexes.1.1.0 (rw (← c.self.view_is) at c.requires.places).1.1.0
+pub rehash_at-requires-3 : goal.rehash_at-requires-3
+rehash_at-requires-3 g c = record {
+  paired = pair_in c.args.slot c.replace-gone.result _ c.self.invariant.indexes.1.1.0 refl c.replace-gone.ensures.value;
+  vacant = place_in c.self.invariant.indexes.1.1.0 (rw (← c.self.view_is) at c.requires.places).1.1.0;
+}
 
 pub invariant_of-self : goal.invariant_of-self
 invariant_of-self g c =
     let places = rw (← c.self.view_is) at c.requires.places in
+    let first = c.rehash_at.ensures.moved in
+    let second = c.rehash_at-2.ensures.moved in
+    let third = c.rehash_at-3.ensures.moved in
     rw c.replace-gone.ensures.slots
-    (IsIndexed-moved c.replace-gone.result c.args.item c.args.slot c.self.inside.items.slots c.replace-gone.ensures.value
+    (IsIndexed-displaced c.self.inside.items.slots c.args.slot [] _ [] c.args.item (c.replace-gone.ensures.value, tt)
     (AreLawful-ranks g.T.TriHashItem g.met.T.K1.Eq.laws g.met.T.K2.Eq.laws g.met.T.K3.Eq.laws) c.self.invariant (rw (← c.self.view_is) at c.requires.free)
-    ((_, places.0.same, c.rehash_at.ensures.moved), ((_, places.1.0.same, c.rehash_at-2.ensures.moved), ((_, places.1.1.0.same, c.rehash_at-3.ensures.moved), tt))))
+    ((_, first.others, places.0.same, first.had, first.has), ((_, second.others, places.1.0.same, second.had, second.has), ((_, third.others, places.1.1.0.same, third.had, third.has), tt))))
 
 pub returns-clause-puts_at : goal.returns-clause-puts_at
 returns-clause-puts_at g c =
-    let gone = c.replace-gone in
-    let slots = c.self.inside.items.slots in
-    let holds = rw (← c.self.view_is) at c.room.ensures.fits in
-    let value = rw (← c.self.view_is) at c.room.ensures.value in
-    let out = length_permutation _ _ (left gone.result c.args.item c.args.slot slots gone.ensures.value) in
-    let items = come gone.result c.args.item c.args.slot slots gone.ensures.value in
-    let into = length_permutation _ _ items in
-    let free = rw (← c.self.view_is) at c.requires.free in
-    record {
-      at = rw gone.ensures.slots (stands gone.result c.args.item c.args.slot slots gone.ensures.value);
-      items = rw (← c.self.view_is, gone.ensures.slots) items;
-      sound = rw gone.ensures.slots (sound_moved gone.result c.args.item c.args.slot slots gone.ensures.value (AreLawful-ranks g.T.TriHashItem g.met.T.K1.Eq.laws g.met.T.K2.Eq.laws g.met.T.K3.Eq.laws) c.self.invariant free);
-      fits = rw gone.ensures.slots (omega (arith, holds, value, out, into, gone.ensures.capacity, c.rehash_at.ensures.limit, c.rehash_at-2.ensures.limit, c.rehash_at-3.ensures.limit));
-      same_room = search rules;
-      same_builder = search rules;
-    }
+    rw (← c.self.view_is)
+    (PutsAt-displaced c.self.inside.items.slots c.args.slot [] _ [] c.args.item (c.replace-gone.ensures.value, tt)
+    (AreLawful-ranks g.T.TriHashItem g.met.T.K1.Eq.laws g.met.T.K2.Eq.laws g.met.T.K3.Eq.laws) refl c.self.invariant.sound (rw (← c.self.view_is) at c.requires.free)
+    (rw (← c.self.view_is) at c.note_that_items_fit.ensures.fits) c.replace-gone.ensures.slots (search rules) (search rules))
 
 pub returns-clause-costs : goal.returns-clause-costs
 returns-clause-costs g c =

@@ -1,133 +1,57 @@
--- Made by tests/twins from crates/iddqd_bi/proofs/map/BiHashMap/extend_unique/Answers.antt: change that file.
-use Rattle.std.proofs.Common.{◌≡◌, ◌∷◌, ◌++◌, ◌∙◌, List, arith, le_of_eq, le_trans, rules, subst, sym}
-use Rattle.std.specs.Prelude.{◌<◌, Bool, length, IsPermutation}
-use Rattle.std.specs.Iterator.{Yields}
-use Rattle.std.specs.List.{list_any}
-use Rattle.iddqd_store.specs.Bag.{Ranks, AreLawful, IsSound}
-use Rattle.iddqd_store.specs.Slots.{contents}
+-- Made by tests/widths from crates/iddqd_bi/proofs/map/BiHashMap/extend_unique/Answers.antt: change that file.
+use Rattle.std.proofs.Common.{rules, sym, ◌∙◌}
 use Rattle.std.proofs.iter.Next.{on}
-use Rattle.std.proofs.lemmas.List.Sorted.{length_permutation}
-use Rattle.iddqd_store.specs.Map.{bag}
-use Rattle.iddqd_store.proofs.BagLemmas.Building.{AddsTo-nil, AddsTo-push, AddsTo-sound}
-use Rattle.iddqd_store.proofs.MapLemmas.Entered.{taken_sound, left_same, left_sound, taken_key}
-use Rattle.iddqd_store.proofs.MapLemmas.Growing.{fits_on, spare}
-use Rattle.iddqd_store.proofs.SlotLemmas.Entered.{StandAt-nil}
 use Rattle.iddqd_tri.specs.Keys.{has1, has2, has3}
-use Rattle.iddqd_tri.proofs.MapLemmas.{AreLawful-ranks}
-use Rattle.iddqd_tri.proofs.map.TriHashMap.extend_unique.Given as given
+use Rattle.iddqd_store.proofs.MapLemmas.Fitting.{GrowsUnless-left, GrowsUnless-so_far, no_batch, one_more, sound_then, undone}
+use Rattle.iddqd_tri.proofs.MapLemmas.{AreLawful-are, some_are}
 use Rattle.iddqd_tri.proofs.map.TriHashMap.extend_unique.Goals as goal
-
-abbrev by : (g : given.Over) → Ranks g.row.T.Denot
-by g = g.T.Ranked.ranks
-
-some : (g : given.Over) → 0 < length (by g)
-some g = rw g.met.T.Ranked.ranks_are (omega arith)
-
-laws : (g : given.Over) → AreLawful (by g)
-laws g = rw g.met.T.Ranked.ranks_are (AreLawful-ranks g.T.TriHashItem g.met.T.K1.Eq.laws g.met.T.K2.Eq.laws g.met.T.K3.Eq.laws)
 
 pub loop-item-init : goal.loop-item-init
 loop-item-init g c = record {
   callable = search rules;
   ending = search rules;
-  added = AddsTo-nil (by g) (bag c.args.self.now);
-  noted = rw c.entered-entered.ensures (StandAt-nil c.args.self.now.slots);
-  no_less_room = search rules;
-  fits = search rules;
-  builder = search rules;
+  batch = rw c.entered-entered.ensures (no_batch g.T.Ranked.ranks c.args.self.now record { no_less_room = search rules; fits = search rules; same_builder = search rules });
 }
 
 pub loop-item-preserved : goal.loop-item-preserved
 loop-item-preserved g c =
-    let so_far = c.loop-item.invariant in
     let put = c.in_default.ensures in
-    let item = c.in-Some.item in
-    let next = on item c.in-Some.is c.next.ensures.goes so_far.ending in
-    record {
-      callable = next.0;
-      ending = next.1;
-      added = AddsTo-push (by g) (bag c.args.self.now) (bag c.loop-item.self) (bag c.enter.new.self) c.loop-item.yielded item so_far.added (rw g.met.T.Ranked.ranks_are put.free) put.gains.items;
-      noted = put.noted c.loop-item.yielded so_far.noted;
-      no_less_room = le_trans so_far.no_less_room put.grows.no_less_room;
-      fits = λ fit.
-          let before = so_far.fits fit in
-          let same = put.grows.same_room (spare _ _ _ _ before.0 next.2) in
-          (fits_on _ _ _ _ before.0 next.2 _ _ (le_of_eq (sym (length_permutation (bag c.enter.new.self) (item ∷ bag c.loop-item.self) put.gains.items))) same, same ∙ before.1);
-      builder = put.grows.same_builder ∙ so_far.builder;
-    }
+    let next = on c.in-Some.item c.in-Some.is c.next.ensures.goes c.loop-item.invariant.ending in
+    record { callable = next.0; ending = next.1; batch = one_more c.loop-item.invariant.batch _ next.2 (rw g.met.T.Ranked.ranks_are put.free) put.gains put.noted }
 
 -- the slots that were noted are those of the items that came
-pub take_entered-before-requires-clause-live : goal.take_entered-before-requires-clause-live
-take_entered-before-requires-clause-live g c = rw (c.in-Err.ensures.slots, c.in-Err.ensures.same_notes) c.loop-item.invariant.noted.live
+pub take_entered-before-requires : goal.take_entered-before-requires
+take_entered-before-requires g c =
+    let noted = c.loop-item.invariant.batch.noted in
+    record { live = rw (c.in-Err.ensures.slots, c.in-Err.ensures.same_notes) noted.live; apart = rw c.in-Err.ensures.same_notes noted.apart }
 
-pub take_entered-before-requires-clause-apart : goal.take_entered-before-requires-clause-apart
-take_entered-before-requires-clause-apart g c = rw c.in-Err.ensures.same_notes c.loop-item.invariant.noted.apart
-
--- the items that were removed again are those that came
-module _ (g : given.Over) (c : goal.After-drop-item-iterator g) where
-  abbrev old : List g.row.T.Denot
-  old = bag c.args.self.now
-
-  abbrev held : List g.row.T.Denot
-  held = bag c.loop-item.self
-
-  abbrev new : List g.row.T.Denot
-  new = bag c.take_entered-before.new.self
-
-  abbrev taken : List g.row.T.Denot
-  taken = c.take_entered-before.result.items
-
-  sound : IsSound (by g) old
-  sound = rw (g.met.T.Ranked.ranks_are, ← c.self.view_is) c.self.invariant.sound
-
-  all : taken ≡ c.loop-item.yielded
-  all = c.take_entered-before.ensures.values ∙ rw (c.in-Err.ensures.slots, c.in-Err.ensures.same_notes) c.loop-item.invariant.noted.items
-
-  out : IsPermutation held (taken ++ new)
-  out = subst (λ l. IsPermutation (contents l) (taken ++ new)) c.in-Err.ensures.slots c.take_entered-before.ensures.loses.items
-
-  -- an item that had a key when the call failed is among them
-  has_key : (test : g.row.T.Denot → Bool) → list_any test held ≡ list_any test (taken ++ old)
-  has_key = taken_key (by g) (some g) (laws g) old held new _ taken sound c.loop-item.invariant.added all out
-
-pub returns-in-Err-clause-same_items : goal.returns-in-Err-clause-same_items
-returns-in-Err-clause-same_items g c = left_same (by g) (some g) (laws g) (old g c) (held g c) (new g c) _ (taken g c) (sound g c) c.loop-item.invariant.added (all g c) (out g c)
-
-pub returns-in-Err-clause-reason : goal.returns-in-Err-clause-reason
-returns-in-Err-clause-reason g c =
-    let why = c.in-Err.ensures.reason in
+pub returns-in-Err : goal.returns-in-Err
+returns-in-Err g c =
+    let batch = c.loop-item.invariant.batch in
+    let failed = c.in-Err.ensures in
+    let why = failed.reason in
+    let left = c.take_entered-before.ensures in
+    let laws = AreLawful-are g.T.TriHashItem g.met.T.Ranked.ranks_are g.met.T.K1.Eq.laws g.met.T.K2.Eq.laws g.met.T.K3.Eq.laws in
+    let back = undone batch laws (rw (g.met.T.Ranked.ranks_are, ← c.self.view_is) c.self.invariant.sound) (some_are g.met.T.Ranked.ranks_are) failed.slots failed.same_notes left.values left.loses in
+    let nearer = (on c.in-Some.item c.in-Some.is c.next.ensures.goes c.loop-item.invariant.ending).2 in
     record {
-      apart = rw (← g.met.T.Ranked.ranks_are) (taken_sound (by g) (some g) (laws g) (old g c) (held g c) (new g c) _ (taken g c) (sound g c) c.loop-item.invariant.added (all g c) (out g c));
-      taken1 = rw why.handed_back (why.taken1 ∙ has_key g c (has1 g.T.TriHashItem g.T.K1.PartialEq.eq (g.T.TriHashItem.key1 c.in-Some.item)));
-      taken2 = rw why.handed_back (why.taken2 ∙ has_key g c (has2 g.T.TriHashItem g.T.K2.PartialEq.eq (g.T.TriHashItem.key2 c.in-Some.item)));
-      taken3 = rw why.handed_back (why.taken3 ∙ has_key g c (has3 g.T.TriHashItem g.T.K3.PartialEq.eq (g.T.TriHashItem.key3 c.in-Some.item)));
+      all = search rules;
+      refused = rw why.handed_back (c.into_iter-items.result, c.loop-item.yielded, c.next.new.self, search rules, search rules, sym back.all);
+      same_items = back.same;
+      reason = rw why.handed_back record {
+        apart = rw (← g.met.T.Ranked.ranks_are) back.apart;
+        taken1 = why.taken1 ∙ back.key (has1 g.T.TriHashItem g.T.K1.PartialEq.eq (g.T.TriHashItem.key1 c.in-Some.item));
+        taken2 = why.taken2 ∙ back.key (has2 g.T.TriHashItem g.T.K2.PartialEq.eq (g.T.TriHashItem.key2 c.in-Some.item));
+        taken3 = why.taken3 ∙ back.key (has3 g.T.TriHashItem g.T.K3.PartialEq.eq (g.T.TriHashItem.key3 c.in-Some.item));
+      };
+      sound = back.sound;
+      room = GrowsUnless-left batch.room _ nearer failed.grows left.loses.same_room left.loses.same_builder;
     }
-
-pub returns-in-Err-clause-sound : goal.returns-in-Err-clause-sound
-returns-in-Err-clause-sound g c = left_sound (by g) (some g) (laws g) (old g c) (held g c) (new g c) _ (taken g c) (sound g c) c.loop-item.invariant.added (all g c) (out g c)
 
 pub returns-clause-sound : goal.returns-clause-sound
 returns-clause-sound g c =
-    AddsTo-sound (by g) (bag c.args.self.now) (bag c.loop-item.self) c.loop-item.yielded c.loop-item.invariant.added (laws g) (rw (g.met.T.Ranked.ranks_are, ← c.self.view_is) c.self.invariant.sound)
-
-pub returns-in-Err-clause-refused : goal.returns-in-Err-clause-refused
-returns-in-Err-clause-refused g c =
-    let gave = subst (λ s. Yields g.I.IntoIter.Iterator.next_gives s c.loop-item.yielded c.loop-item.item-iterator) c.into_iter-item-iterator.ensures.into_iter_gives c.loop-item.yielded_by in
-    rw c.in-Err.ensures.reason.handed_back (c.into_iter-items.result, c.loop-item.yielded, c.next.new.self, c.into_iter-items.ensures.into_iter_gives, (c.loop-item.item-iterator, gave, c.in-Some.ensures.steps), sym (all g c))
-
-pub returns-in-Err-clause-room : goal.returns-in-Err-clause-room
-returns-in-Err-clause-room g c =
-    let so_far = c.loop-item.invariant in
-    let grows = c.in-Err.ensures.grows in
-    let loses = c.take_entered-before.ensures.loses in
-    let nearer = (on c.in-Some.item c.in-Some.is c.next.ensures.goes so_far.ending).2 in
-    record {
-      no_less_room = le_trans (le_trans so_far.no_less_room grows.no_less_room) (le_of_eq (sym loses.same_room));
-      same_room = λ fit. let before = so_far.fits fit in loses.same_room ∙ grows.same_room (spare _ _ _ _ before.0 nearer) ∙ before.1;
-      same_builder = loses.same_builder ∙ grows.same_builder ∙ so_far.builder;
-    }
+    let laws = AreLawful-are g.T.TriHashItem g.met.T.Ranked.ranks_are g.met.T.K1.Eq.laws g.met.T.K2.Eq.laws g.met.T.K3.Eq.laws in
+    sound_then c.loop-item.invariant.batch laws (rw (g.met.T.Ranked.ranks_are, ← c.self.view_is) c.self.invariant.sound)
 
 pub returns-clause-room : goal.returns-clause-room
-returns-clause-room g c =
-    let so_far = c.loop-item.invariant in
-    record { no_less_room = so_far.no_less_room; same_room = λ fit. (so_far.fits fit).1; same_builder = so_far.builder }
+returns-clause-room g c = GrowsUnless-so_far c.loop-item.invariant.batch.room

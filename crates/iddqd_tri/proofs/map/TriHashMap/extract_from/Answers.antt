@@ -1,4 +1,4 @@
--- Made by tests/twins from crates/iddqd_bi/proofs/map/BiHashMap/extract_from/Answers.antt: change that file.
+-- Made by tests/widths from crates/iddqd_bi/proofs/map/BiHashMap/extract_from/Answers.antt: change that file.
 use Rattle.std.proofs.Common.{◌≡◌, ◌+◌, false, Some, refl, subst}
 use Rattle.std.proofs.lemmas.Fn.{called_at}
 use Rattle.std.specs.Fn.{CalledAt}
@@ -20,11 +20,11 @@ pub returns-then-f-clause-extracts : goal.returns-then-f-clause-extracts
 returns-then-f-clause-extracts g c =
     let at = c.loop-slot in
     let next = subst (λ k. ComesNext at.self.slots k c.in-Some.slot c.item_at.result.now) c.next.ensures (c.in-Some.ensures.comes _ c.item_at.ensures) in
-    let same : c.item_at.result.now ≡ c.take.result = cc (c.item_at.ensures, c.take.ensures.value) in
-    let here = extracts-some (CalledAt g.F.FnMut) c.args.f at.f c.f.new.self at.self c.take.new.self c.args.cursor.now at.cursor c.in-Some.slot c.item_at.result.now next c.take.ensures.slots (called_at g.F.FnMut c.f.ensures c.if-f.true) at.invariant.rejected in
+    let same : c.item_at.result.now ≡ c.take_at.result = cc (c.item_at.ensures, c.take_at.ensures.value) in
+    let here = extracts-some (CalledAt g.F.FnMut) c.args.f at.f c.f.new.self at.self c.take_at.new.self c.args.cursor.now at.cursor c.in-Some.slot c.item_at.result.now next c.take_at.ensures.slots (called_at g.F.FnMut c.f.ensures c.if-f.true) at.invariant.rejected in
     rw c.pass.ensures
-    (subst (λ m. Extracts (CalledAt g.F.FnMut) c.args.f m c.args.cursor.now (Some c.take.result) c.take.new.self (c.in-Some.slot + 1)) at.invariant.same
-    (subst (λ x. Extracts (CalledAt g.F.FnMut) c.args.f at.self c.args.cursor.now (Some x) c.take.new.self (c.in-Some.slot + 1)) same here))
+    (subst (λ m. Extracts (CalledAt g.F.FnMut) c.args.f m c.args.cursor.now (Some c.take_at.result) c.take_at.new.self (c.in-Some.slot + 1)) at.invariant.same
+    (subst (λ x. Extracts (CalledAt g.F.FnMut) c.args.f at.self c.args.cursor.now (Some x) c.take_at.new.self (c.in-Some.slot + 1)) same here))
 
 pub loop-slot-preserved : goal.loop-slot-preserved
 loop-slot-preserved g c =

@@ -1,4 +1,4 @@
--- Made by tests/twins from crates/iddqd_bi/proofs/map/BiHashMap/from_iter_unique/Invariants.antt: change that file.
+-- Made by tests/widths from crates/iddqd_bi/proofs/map/BiHashMap/from_iter_unique/Invariants.antt: change that file.
 use Rattle.std.proofs.Common.{[]}
 use Rattle.iddqd_store.specs.Map.{bag}
 use Rattle.iddqd_store.specs.Bag.Building.{AddsTo}

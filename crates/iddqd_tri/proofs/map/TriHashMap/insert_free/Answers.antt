@@ -1,4 +1,4 @@
--- Made by tests/twins from crates/iddqd_bi/proofs/map/BiHashMap/insert_free/Answers.antt: change that file.
+-- Made by tests/widths from crates/iddqd_bi/proofs/map/BiHashMap/insert_free/Answers.antt: change that file.
 use Rattle.std.proofs.Common.{refl, sym, ap}
 use Rattle.iddqd_store.specs.Map.{hash_of}
 use Rattle.iddqd_store.proofs.BagLemmas.Differ.{differ-none}

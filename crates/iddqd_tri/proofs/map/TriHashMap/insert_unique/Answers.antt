@@ -1,33 +1,24 @@
--- Made by tests/twins from crates/iddqd_bi/proofs/map/BiHashMap/insert_unique/Answers.antt: change that file.
-use Rattle.std.proofs.Common.{◌≡◌, [], sym, ap, subst, ◌∙◌}
-use Rattle.iddqd_store.specs.Bag.{clash}
-use Rattle.iddqd_store.specs.Map.{Map, IsFullFor, bag}
-use Rattle.iddqd_store.specs.Rank.All.{IsBlockedBy}
+-- Made by tests/widths from crates/iddqd_bi/proofs/map/BiHashMap/insert_unique/Answers.antt: change that file.
+use Rattle.std.proofs.Common.{sym, ap, ◌∙◌}
+use Rattle.iddqd_store.specs.Map.{bag}
 use Rattle.iddqd_store.specs.Slots.Found.{items_at}
 use Rattle.iddqd_store.proofs.BagLemmas.Steps.{order-empty}
-use Rattle.iddqd_tri.specs.Keys.{ranks}
 use Rattle.iddqd_store.proofs.MapLemmas.Places.{stand_in}
-use Rattle.iddqd_tri.proofs.Refusing.{duplicate_item, duplicate_reason, memory_item, memory_reason}
+use Rattle.iddqd_tri.specs.Keys.{ranks}
 use Rattle.iddqd_tri.proofs.map.TriHashMap.insert_unique.Goals as goal
 
 pub invariant_of-self : goal.invariant_of-self
 invariant_of-self g c =
-    let by = ranks g.T.TriHashItem g.T.K1.PartialEq.eq g.T.K2.PartialEq.eq g.T.K3.PartialEq.eq in
     let arm = c.in-Err-Duplicate in
-    let old = c.args.self.now in
-    let why = duplicate_reason arm.field-0 arm.item arm.by arm.field-0-is (IsBlockedBy by _ old c.args.item) (IsFullFor by old c.args.item) arm.ensures.reason in
-    let same = duplicate_item arm.field-0 arm.item arm.by arm.field-0-is c.args.item arm.ensures.handed_back in
+    let why = rw arm.field-0-is at arm.ensures.reason in
+    let item = rw arm.field-0-is at arm.ensures.handed_back in
     let stand = stand_in (rw (c.slot.ensures, c.slot-in-Err-Duplicate.ensures, c.slot-in-Err-Duplicate-2.ensures) at c.each_once-found.ensures) why.blocked.found in
-    record { found_is = rw (same, arm.ensures.unchanged) stand.items }
+    record { found_is = rw (item, arm.ensures.unchanged) stand.items }
 
 pub invariant_of-self-in-Err-Memory : goal.invariant_of-self-in-Err-Memory
 invariant_of-self-in-Err-Memory g c =
     let by = ranks g.T.TriHashItem g.T.K1.PartialEq.eq g.T.K2.PartialEq.eq g.T.K3.PartialEq.eq in
     let arm = c.in-Err-Memory in
-    let old = c.args.self.now in
-    let new = c.insert_or_refuse.new.self in
-    let full = memory_reason arm.field-0 arm.item arm.field-0-is (IsBlockedBy by _ old c.args.item) (IsFullFor by old c.args.item) arm.ensures.reason in
-    let same = memory_item arm.field-0 arm.item arm.field-0-is c.args.item arm.ensures.handed_back in
-    let free : clash by (bag new) arm.item ≡ [] =
-    subst (λ x. clash by (bag new) x ≡ []) (sym same) (subst (λ (m : Map g.row.T.Denot g.row.S.Denot). clash by (bag m) c.args.item ≡ []) (sym arm.ensures.unchanged) full.free) in
-    record { found_is = ap (items_at new.slots) c.new-in-Err-Memory.ensures ∙ sym (order-empty by (bag new) arm.item free) }
+    let full = rw arm.field-0-is at arm.ensures.reason in
+    let item = rw arm.field-0-is at arm.ensures.handed_back in
+    rw (item, arm.ensures.unchanged) record { found_is = ap (items_at c.args.self.now.slots) c.new-in-Err-Memory.ensures ∙ sym (order-empty by (bag c.args.self.now) c.args.item full.free) }

@@ -1,4 +1,4 @@
--- Made by tests/twins from crates/iddqd_bi/proofs/map/BiHashMap/is_full/Answers.antt: change that file.
+-- Made by tests/widths from crates/iddqd_bi/proofs/map/BiHashMap/is_full/Answers.antt: change that file.
 use Rattle.std.proofs.Common.{◌≡◌, ◌∙◌, sym, refl, length}
 use Rattle.iddqd_store.specs.Map.{bag}
 use Rattle.iddqd_store.proofs.SlotLemmas.Contents.{length-contents}

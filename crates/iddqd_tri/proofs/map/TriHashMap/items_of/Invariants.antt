@@ -1,4 +1,4 @@
--- Made by tests/twins from crates/iddqd_bi/proofs/map/BiHashMap/items_of/Invariants.antt: change that file.
+-- Made by tests/widths from crates/iddqd_bi/proofs/map/BiHashMap/items_of/Invariants.antt: change that file.
 use Rattle.std.proofs.Common.{◌≡◌, ◌≤◌, ◌+◌, ◌++◌, length, map}
 use Rattle.iddqd_store.specs.Slots.Found.{items_at}
 use Rattle.iddqd_tri.proofs.map.TriHashMap.items_of.Given as goal

@@ -1,4 +1,4 @@
--- Made by tests/twins from crates/iddqd_bi/proofs/map/BiHashMap/iter_mut/Answers.antt: change that file.
+-- Made by tests/widths from crates/iddqd_bi/proofs/map/BiHashMap/iter_mut/Answers.antt: change that file.
 use Rattle.std.proofs.Common.{refl}
 use Rattle.iddqd_tri.proofs.map.TriHashMap.iter_mut.Goals as goal
 

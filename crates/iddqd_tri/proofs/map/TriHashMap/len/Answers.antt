@@ -1,4 +1,4 @@
--- Made by tests/twins from crates/iddqd_bi/proofs/map/BiHashMap/len/Answers.antt: change that file.
+-- Made by tests/widths from crates/iddqd_bi/proofs/map/BiHashMap/len/Answers.antt: change that file.
 use Rattle.std.proofs.Common.{◌∙◌, sym}
 use Rattle.iddqd_store.proofs.SlotLemmas.Contents.{length-contents}
 use Rattle.iddqd_tri.proofs.map.TriHashMap.len.Goals as goal

@@ -1,4 +1,4 @@
--- Made by tests/twins from crates/iddqd_bi/proofs/map/BiHashMap/pop_from/Answers.antt: change that file.
+-- Made by tests/widths from crates/iddqd_bi/proofs/map/BiHashMap/pop_from/Answers.antt: change that file.
 use Rattle.std.proofs.Common.{subst}
 use Rattle.iddqd_store.specs.Slots.Next.{ComesNext}
 use Rattle.iddqd_store.proofs.MapLemmas.Extracting.{pops-some}
@@ -6,5 +6,5 @@ use Rattle.iddqd_tri.proofs.map.TriHashMap.pop_from.Goals as goal
 
 pub returns-clause-pops_from : goal.returns-clause-pops_from
 returns-clause-pops_from g c =
-    let next = subst (λ k. ComesNext c.args.self.now.slots k c.in_ok-slot.slot c.take.result) c.next.ensures (c.in_ok-slot.ensures.comes _ c.take.ensures.value) in
-    rw c.pass.ensures (pops-some c.args.self.now c.take.new.self c.args.cursor.now c.in_ok-slot.slot c.take.result next c.take.ensures.slots)
+    let next = subst (λ k. ComesNext c.args.self.now.slots k c.in_ok-slot.slot c.take_at.result) c.next.ensures (c.in_ok-slot.ensures.comes _ c.take_at.ensures.value) in
+    rw c.pass.ensures (pops-some c.args.self.now c.take_at.new.self c.args.cursor.now c.in_ok-slot.slot c.take_at.result next c.take_at.ensures.slots)

@@ -1,4 +1,4 @@
--- Made by tests/twins from crates/iddqd_bi/proofs/map/BiHashMap/rebuild/Answers.antt: change that file.
+-- Made by tests/widths from crates/iddqd_bi/proofs/map/BiHashMap/rebuild/Answers.antt: change that file.
 use Rattle.std.proofs.Common.{arith, ◌≡◌, ◌≤◌, ◌<◌, length, ℕ}
 use Rattle.std.specs.Prelude.{min, max}
 use Rattle.iddqd_store.proofs.RankLemmas.Fill.{contents-compact}

@@ -1,4 +1,4 @@
--- Written by hand; tests/twins.patch says why.
+-- Written by hand; tests/three_keys.patch says why.
 use Rattle.std.proofs.Common.{arith, sym, refl, ◌∙◌, [], ◌∷◌}
 use Rattle.iddqd_store.proofs.RankLemmas.Costs.{SearchCosts-room}
 use Rattle.iddqd_store.proofs.RankLemmas.Index.{pair_in}

@@ -1,4 +1,4 @@
--- Made by tests/twins from crates/iddqd_bi/proofs/map/BiHashMap/replace_at/Answers.antt: change that file.
+-- Made by tests/widths from crates/iddqd_bi/proofs/map/BiHashMap/replace_at/Answers.antt: change that file.
 use Rattle.std.proofs.Common.{sym, ap, ◌∙◌, arith}
 use Rattle.iddqd_store.specs.Map.{Map, hash_of}
 use Rattle.iddqd_store.specs.Slots.{get}

@@ -1,4 +1,4 @@
--- Made by tests/twins from crates/iddqd_bi/proofs/map/BiHashMap/room/Answers.antt: change that file.
+-- Made by tests/widths from crates/iddqd_bi/proofs/map/BiHashMap/room/Answers.antt: change that file.
 use Rattle.std.proofs.Common.{arith}
 use Rattle.iddqd_store.proofs.RankLemmas.Index.{length-index}
 use Rattle.iddqd_store.proofs.SlotLemmas.Contents.{length-contents}

@@ -1,4 +1,4 @@
--- Made by tests/twins from crates/iddqd_bi/proofs/map/BiHashMap/set/Answers.antt: change that file.
+-- Made by tests/widths from crates/iddqd_bi/proofs/map/BiHashMap/set/Answers.antt: change that file.
 use Rattle.std.proofs.Common.{rules}
 use Rattle.iddqd_store.proofs.RunLemmas.EntrySteps.{sets_found}
 use Rattle.iddqd_tri.specs.Keys.{ranks}

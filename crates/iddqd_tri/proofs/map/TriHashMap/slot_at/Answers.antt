@@ -1,4 +1,4 @@
--- Made by tests/twins from crates/iddqd_bi/proofs/map/BiHashMap/slot_at/Answers.antt: change that file.
+-- Made by tests/widths from crates/iddqd_bi/proofs/map/BiHashMap/slot_at/Answers.antt: change that file.
 use Rattle.std.proofs.Common.{◌≡◌, sym, refl, ◌∙◌, None, Some, false, Option, Bor}
 use Rattle.std.specs.Prelude.{is_some, option_copied}
 use Rattle.iddqd_store.proofs.SlotLemmas.Next.{over_free}

@@ -1,4 +1,4 @@
--- Made by tests/twins from crates/iddqd_bi/proofs/map/BiHashMap/slot_from/Answers.antt: change that file.
+-- Made by tests/widths from crates/iddqd_bi/proofs/map/BiHashMap/slot_from/Answers.antt: change that file.
 use Rattle.iddqd_store.specs.Slots.{get}
 use Rattle.iddqd_store.proofs.SlotLemmas.Next.{comes_next, nothing_left}
 use Rattle.iddqd_store.proofs.MapLemmas.Walking.{passes, first_is, live_is}

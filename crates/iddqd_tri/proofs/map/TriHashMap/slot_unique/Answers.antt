@@ -1,4 +1,4 @@
--- Made by tests/twins from crates/iddqd_bi/proofs/map/BiHashMap/slot_unique/Answers.antt: change that file.
+-- Made by tests/widths from crates/iddqd_bi/proofs/map/BiHashMap/slot_unique/Answers.antt: change that file.
 use Rattle.std.proofs.Common.{arith, sym, ap, ◌∙◌, [], ◌∷◌}
 use Rattle.iddqd_store.specs.Slots.{get}
 use Rattle.iddqd_store.specs.Map.{Map, bag}
@@ -21,7 +21,7 @@ returns-then-has_others-clause-found g c =
     let test2 = λ (x : g.row.T.Denot). g.Q2.Query.stands_for c.args.query2 (g.T.TriHashItem.key2 x) in
     let test3 = λ (x : g.row.T.Denot). g.Q3.Query.stands_for c.args.query3 (g.T.TriHashItem.key3 x) in
     all_of-kept test1 (test2 ∷ test3 ∷ []) (bag c.args.self.now) _ c.in_ok-item.item.now
-    (sym (c.in_ok-item.ensures ∙ ap (λ (m : Map g.row.T.Denot g.row.S.Denot). get m.slots c.in-Ok.slot) c.self.view_is)) (rw slots at c.in-Ok.ensures.found.only)
+    (sym (c.in_ok-item.ensures ∙ ap (λ (m : Map g.row.T.Denot g.row.S.Denot). get m.slots c.in-Found.slot) c.self.view_is)) (rw slots at c.in-Found.ensures.found.only)
     (sym c.has_others.ensures.value ∙ c.if-has_others.true)
 
 pub returns-else-has_others-clause-found : goal.returns-else-has_others-clause-found
@@ -31,7 +31,7 @@ returns-else-has_others-clause-found g c =
     let test2 = λ (x : g.row.T.Denot). g.Q2.Query.stands_for c.args.query2 (g.T.TriHashItem.key2 x) in
     let test3 = λ (x : g.row.T.Denot). g.Q3.Query.stands_for c.args.query3 (g.T.TriHashItem.key3 x) in
     all_of-lost test1 (test2 ∷ test3 ∷ []) (bag c.args.self.now) _ c.in_ok-item.item.now
-    (sym (c.in_ok-item.ensures ∙ ap (λ (m : Map g.row.T.Denot g.row.S.Denot). get m.slots c.in-Ok.slot) c.self.view_is)) (rw slots at c.in-Ok.ensures.found.only)
+    (sym (c.in_ok-item.ensures ∙ ap (λ (m : Map g.row.T.Denot g.row.S.Denot). get m.slots c.in-Found.slot) c.self.view_is)) (rw slots at c.in-Found.ensures.found.only)
     (sym c.has_others.ensures.value ∙ c.if-has_others.false)
 
 pub returns-in_default-clause-costs : goal.returns-in_default-clause-costs

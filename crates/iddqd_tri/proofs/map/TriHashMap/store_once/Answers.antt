@@ -1,4 +1,4 @@
--- Made by tests/twins from crates/iddqd_bi/proofs/map/BiHashMap/store_once/Answers.antt: change that file.
+-- Made by tests/widths from crates/iddqd_bi/proofs/map/BiHashMap/store_once/Answers.antt: change that file.
 use Rattle.std.proofs.Common.{refl}
 use Rattle.iddqd_tri.proofs.map.TriHashMap.store_once.Goals as goal
 

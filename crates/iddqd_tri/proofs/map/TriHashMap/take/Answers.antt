@@ -1,4 +1,4 @@
--- Made by tests/twins from crates/iddqd_bi/proofs/map/BiHashMap/take/Answers.antt: change that file.
+-- Made by tests/widths from crates/iddqd_bi/proofs/map/BiHashMap/take/Answers.antt: change that file.
 use Rattle.std.proofs.Common.{sym, refl, ◌∙◌, [], ◌∷◌}
 use Rattle.iddqd_store.proofs.RankLemmas.Index.{pair_in, hash_known}
 use Rattle.iddqd_store.proofs.RankLemmas.Invariant.{IsIndexed-remove}

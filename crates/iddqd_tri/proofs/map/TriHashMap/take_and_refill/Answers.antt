@@ -1,28 +1,24 @@
--- Made by tests/twins from crates/iddqd_bi/proofs/map/BiHashMap/take_and_refill/Answers.antt: change that file.
+-- Made by tests/widths from crates/iddqd_bi/proofs/map/BiHashMap/take_and_refill/Answers.antt: change that file.
 use Rattle.std.proofs.Common.{◌≤◌, length, arith}
 use Rattle.iddqd_store.proofs.RankLemmas.Fill.{fewer}
 use Rattle.iddqd_store.proofs.RankLemmas.Invariant.{IsIndexed-left}
-use Rattle.iddqd_store.specs.Map.{bag}
 use Rattle.iddqd_store.specs.Slots.{contents}
 use Rattle.iddqd_tri.proofs.MapLemmas.{AreLawful-ranks}
 use Rattle.iddqd_tri.proofs.map.TriHashMap.take_and_refill.Goals as goal
 
 pub fill-requires-clause-room : goal.fill-requires-clause-room
 fill-requires-clause-room g c =
-    let all : length (bag c.args.self.now) ≤ c.args.self.now.capacity = omega (arith, c.room.ensures.fits, c.room.ensures.value) in
-    let fits : length (contents c.self.inside.items.slots) ≤ c.self.inside.first.limit = omega (arith, (rw (← c.self.view_is) at all)) in
+    let fits : length (contents c.self.inside.items.slots) ≤ c.self.inside.first.limit = omega (arith, (rw (← c.self.view_is) at c.note_that_items_fit.ensures.fits)) in
     rw c.clear.ensures.limit (fewer c.self.inside.items.slots c.take_entered-items.new.self.slots c.take_entered-items.result.items c.take_entered-items.ensures.left fits)
 
 pub fill-requires-2-clause-room : goal.fill-requires-2-clause-room
 fill-requires-2-clause-room g c =
-    let all : length (bag c.args.self.now) ≤ c.args.self.now.capacity = omega (arith, c.room.ensures.fits, c.room.ensures.value) in
-    let fits : length (contents c.self.inside.items.slots) ≤ c.self.inside.second.limit = omega (arith, (rw (← c.self.view_is) at all)) in
+    let fits : length (contents c.self.inside.items.slots) ≤ c.self.inside.second.limit = omega (arith, (rw (← c.self.view_is) at c.note_that_items_fit.ensures.fits)) in
     rw c.clear-2.ensures.limit (fewer c.self.inside.items.slots c.take_entered-items.new.self.slots c.take_entered-items.result.items c.take_entered-items.ensures.left fits)
 
 pub fill-requires-3-clause-room : goal.fill-requires-3-clause-room
 fill-requires-3-clause-room g c =
-    let all : length (bag c.args.self.now) ≤ c.args.self.now.capacity = omega (arith, c.room.ensures.fits, c.room.ensures.value) in
-    let fits : length (contents c.self.inside.items.slots) ≤ c.self.inside.third.limit = omega (arith, (rw (← c.self.view_is) at all)) in
+    let fits : length (contents c.self.inside.items.slots) ≤ c.self.inside.third.limit = omega (arith, (rw (← c.self.view_is) at c.note_that_items_fit.ensures.fits)) in
     rw c.clear-3.ensures.limit (fewer c.self.inside.items.slots c.take_entered-items.new.self.slots c.take_entered-items.result.items c.take_entered-items.ensures.left fits)
 
 pub invariant_of-self : goal.invariant_of-self

@@ -1,4 +1,4 @@
--- Made by tests/twins from crates/iddqd_bi/proofs/map/BiHashMap/update2/Answers.antt: change that file.
+-- Made by tests/widths from crates/iddqd_bi/proofs/map/BiHashMap/update2/Answers.antt: change that file.
 use Rattle.iddqd_tri.specs.Keys.{has3}
 use Rattle.iddqd_store.proofs.MapLemmas.Updating.{any_absent, any_found, found_one}
 use Rattle.iddqd_tri.proofs.map.TriHashMap.update3.Goals as goal

@@ -1,5 +1,5 @@
--- Made by tests/twins from crates/iddqd_bi/proofs/map/BiHashMap/update_all/Answers.antt: change that file.
-use Rattle.std.proofs.Common.{refl, ap, subst, sym, ◌∙◌, ◌+◌, ◌≡◌, length, arith}
+-- Made by tests/widths from crates/iddqd_bi/proofs/map/BiHashMap/update_all/Answers.antt: change that file.
+use Rattle.std.proofs.Common.{refl, ap, subst, sym, ◌∙◌, ◌+◌, length, arith}
 use Rattle.std.proofs.lemmas.List.{length-set, drop_all}
 use Rattle.std.proofs.lemmas.List.Sorted.{IsPermutation-refl}
 use Rattle.std.specs.Fn.{CalledAt}

@@ -1,4 +1,4 @@
--- Made by tests/twins from crates/iddqd_bi/proofs/map/BiHashMap/with_capacity_and_hasher/Answers.antt: change that file.
+-- Made by tests/widths from crates/iddqd_bi/proofs/map/BiHashMap/with_capacity_and_hasher/Answers.antt: change that file.
 use Rattle.iddqd_store.proofs.RankLemmas.Invariant.{IsIndexed-empty}
 use Rattle.iddqd_tri.proofs.map.TriHashMap.with_capacity_and_hasher.Goals as goal
 

@@ -1,4 +1,4 @@
--- Made by tests/twins from crates/iddqd_bi/proofs/ref_mut/RefMut/data_mut/Answers.antt: change that file.
+-- Made by tests/widths from crates/iddqd_bi/proofs/ref_mut/RefMut/data_mut/Answers.antt: change that file.
 use Rattle.std.proofs.Common.{refl}
 use Rattle.iddqd_store.specs.Slots.{get}
 use Rattle.iddqd_store.proofs.MapLemmas.Written.{item_written, if_some}

@@ -1,6 +1,6 @@
 //! Inserting an item in place of three others, each of which has one of its keys.
 //!
-//! Written by hand; tests/twins.patch says why.
+//! Written by hand; tests/three_keys.patch says why.
 ghost use Rattle.std.specs.Prelude.{◌≡◌, ◌≢◌, ◌+◌, ◌≤◌, [], ◌∷◌, length, None, Some, slice_set};
 ghost use Rattle.iddqd_store.specs.Bag.{clash};
 ghost use Rattle.iddqd_store.specs.Map.{bag, PutsAt};
@@ -42,8 +42,7 @@ impl<T: TriHashItem, S: BuildHasher> TriHashMap<T, S> {
             ∷ walks_three (⟦<T as Hashed<S>>⟧.hash2 self.old.builder) by.now.1 slots.1 slots.2 result.0
             ∷ walks_three (⟦<T as Hashed<S>>⟧.hash3 self.old.builder) by.now.2 slots.1 slots.2 result.0 ∷ []) }
     {
-        // This call gives the prover the fact that the items fit, for the clause `fits`.
-        let _ = self.room();
+        self.note_that_items_fit();
         let (slot, other_slot, last_slot) = slots;
         let Some(last) = self.items.remove(last_slot) else {
             unreachable!()

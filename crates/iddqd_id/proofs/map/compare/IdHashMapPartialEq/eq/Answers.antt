@@ -1,4 +1,4 @@
--- Made by tests/twins from crates/iddqd_bi/proofs/map/compare/BiHashMapPartialEq/eq/Answers.antt: change that file.
+-- Made by tests/widths from crates/iddqd_bi/proofs/map/compare/BiHashMapPartialEq/eq/Answers.antt: change that file.
 use Rattle.std.proofs.Common.{arith, sym, ◌∙◌, rules}
 use Rattle.iddqd_store.specs.Map.{bag}
 use Rattle.iddqd_store.proofs.BagLemmas.Partners.{same_decides, told_same, told_longer, told_alone}

@@ -1,4 +1,4 @@
--- Made by tests/twins from crates/iddqd_bi/proofs/map/compare/BiHashMapPartialEq/eq/Invariants.antt: change that file.
+-- Made by tests/widths from crates/iddqd_bi/proofs/map/compare/BiHashMapPartialEq/eq/Invariants.antt: change that file.
 use Rattle.std.proofs.Common.{◌≡◌}
 use Rattle.std.specs.List.{list_all, list_any}
 use Rattle.iddqd_store.specs.Map.{bag}
