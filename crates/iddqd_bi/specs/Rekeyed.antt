@@ -2,7 +2,7 @@
 use Rattle.std.specs.Prelude.{◌≡◌, ◌≢◌, ◌≤◌, ℕ, Bool, List, [], ◌∷◌, length, Some, None, Result, Err, IsPermutation}
 use Rattle.iddqd_store.specs.Bag.{IsOnly, Ranks, clash}
 use Rattle.iddqd_store.specs.Map.{Map, bag}
-use Rattle.iddqd_store.specs.Rank.{SearchCosts}
+use Rattle.iddqd_store.specs.Rank.{Costs, SearchCosts}
 use Rattle.iddqd_store.specs.Rank.All.{PlacingCosts}
 use Rattle.iddqd_bi.specs.declared.error.NotReplaced.{NotReplaced}
 use Rattle.iddqd_bi.specs.declared.error.NotReplaced.TheVariants as unreplaced
@@ -36,8 +36,8 @@ module _ {T : Type 0} where
   -- Example: With 3 items, two ranks, two walks at each and a hash of its own for each key it asks at most three times,
   -- and probes at most 28 cells.
   abbrev pub RekeyingCosts : (T → ℕ) → List (T → ℕ) → List T → ℕ → ℕ → List ℕ → List ℕ → Result T (NotReplaced T)
-      → ℕ → ℕ → ℕ → ℕ → Type 0
-  RekeyingCosts hash_of hashes bag room hash hs walks (Err (unreplaced.Absent e)) asks asks_then before after =
-      SearchCosts {A = ℕ} hash_of bag room hash None asks asks_then before after
-  RekeyingCosts hash_of hashes bag room hash hs walks answer asks asks_then before after =
-      PlacingCosts (hash_of ∷ hashes) bag room (hash ∷ hs) walks asks asks_then before after
+      → Costs → Costs → Type 0
+  RekeyingCosts hash_of hashes bag room hash hs walks (Err (unreplaced.Absent e)) before after =
+      SearchCosts {A = ℕ} hash_of bag room hash None before.asked after.asked before.probed after.probed
+  RekeyingCosts hash_of hashes bag room hash hs walks answer before after =
+      PlacingCosts (hash_of ∷ hashes) bag room (hash ∷ hs) walks before after

@@ -3,6 +3,7 @@ pub mod All
 pub mod Asking
 pub mod Index
 pub mod Keys
+pub mod Search
 use Rattle.std.specs.Prelude.{◌≡◌, ℕ, ◌+◌, ◌*◌, ◌/◌, ◌≤◌, ◌==◌, Bool, true, false, if◌then◌else◌, List}
 use Rattle.std.specs.Prelude.{[], ◌∷◌, Option, None, Some, Contains, IfNone, IfSome, length, map}
 use Rattle.std.specs.Hash.{HashWrites}
@@ -35,6 +36,12 @@ pub record NamesOneUnder {T : Type 0} (agree : T → T → Bool) (hash_of : T �
     (test : T → Bool) (bag : List T) : Type 0 where
   pub one : NamesOneOf agree test bag
   pub hashed : (x : T) → Contains bag x → test x ≡ true → hash_of x ≡ hash
+
+-- Contracts see the costs of searches as two numbers, those of the compared keys and of the probed cells.
+-- Example: Two keys and three cells.
+pub record Costs : Type 0 where
+  pub asked : ℕ
+  pub probed : ℕ
 
 -- The matcher was asked no more often than items have the hash, and the search probed the cells up to its answer, at
 -- most one more than there are items.

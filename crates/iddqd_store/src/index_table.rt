@@ -27,7 +27,7 @@ mod searched;
 mod vacancy;
 
 pub use matcher::{KeyMatcher, Matcher};
-pub use meter::Meter;
+pub use meter::{Costs, Meter};
 pub use searched::Searched;
 pub use vacancy::Vacancy;
 

@@ -14,7 +14,7 @@ mod short_list;
 
 pub use equivalent::Equivalent;
 pub use error::{DuplicateItem, FromIterError, InsertReason, MemoryRefused, TryReserveError};
-pub use index_table::{IndexTable, KeyMatcher, Matcher, Meter, Searched, Vacancy};
+pub use index_table::{Costs, IndexTable, KeyMatcher, Matcher, Meter, Searched, Vacancy};
 pub use item_set::{Cursor, Entered, IntoIter, ItemIndex, ItemSet, Iter};
 pub use load::{AHEAD, pairs_wanted, slots_wanted, table_room, wanted_above};
 pub use query::Query;

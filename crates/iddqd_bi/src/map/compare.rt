@@ -13,7 +13,7 @@ ghost use Rattle.iddqd_store.proofs.MapLemmas.{IsEquivalence-key};
 use super::BiHashMap;
 use super::slots::found::has_others;
 use crate::item::{BiHashItem, Hashed};
-use iddqd_store::Meter;
+use iddqd_store::Costs;
 use std::hash::{BuildHasher, Hash};
 
 /// Two maps are equal if and only if their items pair off, so that the items of each pair agree in both keys and are
@@ -36,7 +36,7 @@ impl<T: BiHashItem + PartialEq, S: BuildHasher> PartialEq for BiHashMap<T, S> {
             return false;
         }
         for item in self {
-            if !other.has_partner(item, &mut Meter::new(), &mut Meter::new()) {
+            if !other.has_partner(item, &mut Costs::new()) {
                 return false;
             }
         }
@@ -51,16 +51,16 @@ impl<T: BiHashItem + Eq, S: BuildHasher> Eq for BiHashMap<T, S> {
 }
 
 impl<T: BiHashItem + PartialEq, S: BuildHasher> BiHashMap<T, S> {
-    /// Returns whether an item of the map agrees with this one in both keys and is equal to it by `==`. One meter counts
-    /// the keys that are compared, beside those that `==` of two items compares, and the other the probed cells.
-    fn has_partner(&self, item: &T, asked: &mut Meter, probed: &mut Meter) -> bool
+    /// Returns whether an item of the map agrees with this one in both keys and is equal to it by `==`. The keys
+    /// that `==` of two items compares are not counted.
+    fn has_partner(&self, item: &T, costs: &mut Costs) -> bool
         ensures value { result ≡ list_any (same_item (ranks T.BiHashItem T.K1.eq T.K2.eq) T.eq item.now) (bag self.now) }
         ensures costs { UniqueCosts (⟦<T as Hashed<S>>⟧.hash1 self.now.builder) (bag self.now) self.now.capacity
             (hash_of S.BuildHasher S.Hasher.Hasher self.now.builder (T.K1.hash_input (T.key1 item.now)))
-            1 asked.old asked.new probed.old probed.new }
+            1 costs.old costs.new }
     {
-        match self.item_of(self.slot1_by(item.key1(), asked, probed)) {
-            Some(found) => has_others(found, item.key2(), asked) && item == found,
+        match self.item_of(self.slot1_by(item.key1(), costs)) {
+            Some(found) => has_others(found, item.key2(), costs) && item == found,
             None => false,
         }
     }

@@ -7,7 +7,7 @@ ghost use Rattle.iddqd_bi.specs.Keys.{has1, has2, has_both};
 
 use super::BiHashMap;
 use crate::item::{BiHashItemMut, Ranked};
-use iddqd_store::{Meter, Query};
+use iddqd_store::{Costs, Query};
 use std::hash::{BuildHasher, Hash};
 
 impl<T: BiHashItemMut, S: BuildHasher> BiHashMap<T, S> {
@@ -30,7 +30,7 @@ impl<T: BiHashItemMut, S: BuildHasher> BiHashMap<T, S> {
             T.BiHashItem T.K1.Hash T.K2.Hash S.BuildHasher S.Hasher.Hasher T.Data.row T.put
             ⟦<T as Ranked>⟧.ranks (has1 T.BiHashItem Q.stands_for query) self.entry result) }
     {
-        match self.slot1_by(query, &mut Meter::new(), &mut Meter::new()) {
+        match self.slot1_by(query, &mut Costs::new()) {
             Some(slot) => Some(self.data_mut_at(slot)),
             None => None,
         }
@@ -54,7 +54,7 @@ impl<T: BiHashItemMut, S: BuildHasher> BiHashMap<T, S> {
             T.BiHashItem T.K1.Hash T.K2.Hash S.BuildHasher S.Hasher.Hasher T.Data.row T.put
             ⟦<T as Ranked>⟧.ranks (has2 T.BiHashItem Q.stands_for query) self.entry result) }
     {
-        match self.slot2_by(query, &mut Meter::new(), &mut Meter::new()) {
+        match self.slot2_by(query, &mut Costs::new()) {
             Some(slot) => Some(self.data_mut_at(slot)),
             None => None,
         }

@@ -8,7 +8,7 @@ ghost use Rattle.iddqd_bi.specs.Entries.{HasKeys, IsFound, entry_lender, entry_m
 use super::BiHashMap;
 use crate::entry::{Entry, OccupiedEntry, VacantEntry};
 use crate::item::BiHashItem;
-use iddqd_store::{Meter, Query, Searched};
+use iddqd_store::{Costs, Query, Searched};
 use std::hash::{BuildHasher, Hash};
 
 impl<T: BiHashItem, S: BuildHasher> BiHashMap<T, S> {
@@ -41,7 +41,7 @@ impl<T: BiHashItem, S: BuildHasher> BiHashMap<T, S> {
             ≡ entry (key_tests T.BiHashItem Q1.stands_for Q2.stands_for query1 query2) (bag self.old) }
         ensures is_found { IsFound result }
     {
-        match self.search_all(query1, query2, &mut Meter::new(), &mut Meter::new()) {
+        match self.search_all(query1, query2, &mut Costs::new()) {
             Searched::Vacant(at) => Entry::Vacant(VacantEntry {
                 map: self,
                 query1,

@@ -9,7 +9,7 @@ use super::slots::Refusal;
 use super::slots::found::each_once;
 use crate::error::{InsertError, Rejected};
 use crate::item::Ranked;
-use iddqd_store::{Meter, UpToTwo};
+use iddqd_store::{Costs, UpToTwo};
 use std::hash::{BuildHasher, Hash};
 
 impl<T: Ranked, S: BuildHasher> BiHashMap<T, S> {
@@ -45,7 +45,7 @@ impl<T: Ranked, S: BuildHasher> BiHashMap<T, S> {
             T.BiHashItem T.K1.Hash T.K2.Hash S.BuildHasher S.Hasher.Hasher
             self.entry result (λ new. Gains self.old item new)) }
     {
-        match self.insert_or_refuse(item, &mut Meter::new(), &mut Meter::new()) {
+        match self.insert_or_refuse(item, &mut Costs::new()) {
             Ok(()) => Ok(()),
             Err(Refusal::Duplicate(item, by)) => {
                 let found = each_once(by.0.slot(), by.1.slot());
@@ -87,7 +87,7 @@ impl<T: Ranked, S: BuildHasher> BiHashMap<T, S> {
         ensures unchanged { OnErr result (self.new ≡ self.old) }
         ensures reason { IfErr result (λ e. TellsWhy T.BiHashItem T.K1.eq T.K2.eq self.old item e) }
     {
-        match self.insert_or_refuse(item, &mut Meter::new(), &mut Meter::new()) {
+        match self.insert_or_refuse(item, &mut Costs::new()) {
             Ok(()) => Ok(()),
             Err(Refusal::Duplicate(item, by)) => {
                 let taken1 = by.0.slot().is_some();

@@ -9,7 +9,7 @@ ghost use Rattle.iddqd_bi.specs.Keys.{has1, has2, has_both};
 use super::BiHashMap;
 use crate::item::{BiHashItem, Hashed};
 use crate::ranks::{First, Second};
-use iddqd_store::{ByQuery, KeyMatcher, Meter, Query};
+use iddqd_store::{ByQuery, Costs, KeyMatcher, Meter, Query};
 use std::hash::{BuildHasher, Hash};
 
 impl<T: BiHashItem, S: BuildHasher> BiHashMap<T, S> {
@@ -160,7 +160,7 @@ impl<T: BiHashItem, S: BuildHasher> BiHashMap<T, S> {
         ensures absent { IfNone result (self.new ≡ self.old) }
     {
         let hash = self.hash_builder.hash_one(query1);
-        let slot = self.slot_unique(hash, query1, query2, &mut Meter::new(), &mut Meter::new())?;
+        let slot = self.slot_unique(hash, query1, query2, &mut Costs::new())?;
         Some(self.take(slot, Some(hash), None, &mut Meter::new()))
     }
 }

@@ -14,7 +14,7 @@ use super::slots::Refusal;
 use super::slots::found::each_once;
 use crate::command::{BiCommand, BiReply, BiSink};
 use crate::item::{BiHashItemMut, Ranked};
-use iddqd_store::{DuplicateItem, ItemIndex, MemoryRefused, Meter, UpToTwo};
+use iddqd_store::{Costs, DuplicateItem, ItemIndex, MemoryRefused, UpToTwo};
 use std::hash::{BuildHasher, Hash};
 
 mod replies;
@@ -89,22 +89,22 @@ where
             BiCommand::EntryRemove(key1, key2) => self.apply_entry_remove(key1, key2, sink),
             BiCommand::OrInsert(key1, key2, item) => self.apply_or_insert(key1, key2, item, sink),
             BiCommand::Replace1(key, item) => self.apply_replace(
-                self.slot1_by(&key, &mut Meter::new(), &mut Meter::new()),
+                self.slot1_by(&key, &mut Costs::new()),
                 item,
                 sink,
             ),
             BiCommand::Replace2(key, item) => self.apply_replace(
-                self.slot2_by(&key, &mut Meter::new(), &mut Meter::new()),
+                self.slot2_by(&key, &mut Costs::new()),
                 item,
                 sink,
             ),
             BiCommand::Set1(key, data) => self.apply_set(
-                self.slot1_by(&key, &mut Meter::new(), &mut Meter::new()),
+                self.slot1_by(&key, &mut Costs::new()),
                 data,
                 sink,
             ),
             BiCommand::Set2(key, data) => self.apply_set(
-                self.slot2_by(&key, &mut Meter::new(), &mut Meter::new()),
+                self.slot2_by(&key, &mut Costs::new()),
                 data,
                 sink,
             ),
@@ -116,7 +116,7 @@ where
             (state_of self.old) sink.old item result (state_of self.new) sink.new }
         ensures builder { self.new.builder ≡ self.old.builder }
     {
-        match self.insert_or_refuse(item, &mut Meter::new(), &mut Meter::new()) {
+        match self.insert_or_refuse(item, &mut Costs::new()) {
             Ok(()) => self.tell(BiReply::Done, sink),
             Err(Refusal::Duplicate(item, by)) => {
                 let found = each_once(by.0.slot(), by.1.slot());

@@ -27,7 +27,7 @@ use super::BiHashMap;
 use crate::error::EntryError;
 use crate::item::{BiHashItem, Hashed, Ranked};
 use crate::ranks::{First, Second};
-use iddqd_store::{ItemIndex, Lookup, Meter, Query, Searched, SlotUnder, UpToTwo, Vacancy};
+use iddqd_store::{Costs, ItemIndex, Lookup, Meter, Query, Searched, SlotUnder, UpToTwo, Vacancy};
 use std::hash::{BuildHasher, Hash};
 
 /// An item that was not inserted, and why. It does not borrow the map.
@@ -80,14 +80,13 @@ impl<T: BiHashItem, S: BuildHasher> BiHashMap<T, S> {
 
     /// Searches at each rank for its key. `Found` has the slot that each search found, if it found one, with the hash. If
     /// no item has one of the keys, `Vacant` has the empty cells at which the searches ended. The call hashes each key
-    /// once, and searches for it once. One meter counts the keys that are compared, and the other the probed cells.
+    /// once, and searches for it once.
     #[inline(always)]
     pub(crate) fn search_all<Q1: Query<T::K1>, Q2: Query<T::K2>>(
         &self,
         query1: Q1,
         query2: Q2,
-        asked: &mut Meter,
-        probed: &mut Meter,
+        costs: &mut Costs,
     ) -> Searched<(SlotUnder, SlotUnder), (Vacancy, Vacancy)>
         // The slots that were found, and whether there are any.
         ensures found { AreFound (key_tests T.BiHashItem Q1.stands_for Q2.stands_for query1 query2) self.now.slots
@@ -107,12 +106,12 @@ impl<T: BiHashItem, S: BuildHasher> BiHashMap<T, S> {
         ensures costs { AreSearched (⟦<T as Hashed<S>>⟧.hashes self.now.builder) (bag self.now) self.now.capacity
             (map (hash_of S.BuildHasher S.Hasher.Hasher self.now.builder)
             (Q1.hash_input query1 ∷ Q2.hash_input query2 ∷ [])) (slots_found (by_rank result))
-            asked.old asked.new probed.old probed.new }
+            costs.old costs.new }
     {
         let hash1 = self.hash_builder.hash_one(query1);
         let hash2 = self.hash_builder.hash_one(query2);
-        let by1 = self.by_key1().search(hash1, query1, asked, probed);
-        let by2 = self.by_key2().search(hash2, query2, asked, probed);
+        let by1 = self.by_key1().search(hash1, query1, costs);
+        let by2 = self.by_key2().search(hash2, query2, costs);
         match (by1, by2) {
             (Searched::Vacant(at1), Searched::Vacant(at2)) => Searched::Vacant((at1, at2)),
             (by1, by2) => Searched::Found((
@@ -123,14 +122,12 @@ impl<T: BiHashItem, S: BuildHasher> BiHashMap<T, S> {
     }
 
     /// Returns what the search at each rank found, if items conflict with an item, and else where it is to be inserted at
-    /// each rank. The call hashes each key once, and searches for it once. One meter counts the keys that are compared,
-    /// and the other the probed cells.
+    /// each rank. The call hashes each key once, and searches for it once.
     #[inline(always)]
     pub(crate) fn places(
         &self,
         item: &T,
-        asked: &mut Meter,
-        probed: &mut Meter,
+        costs: &mut Costs,
     ) -> Searched<(SlotUnder, SlotUnder), (Vacancy, Vacancy)>
         ensures free { OnVacant result (clash ⟦<T as Ranked>⟧.ranks (bag self.now) item.now ≡ []) }
         ensures places { IfVacant (by_rank result) (ArePlacesOf
@@ -144,9 +141,9 @@ impl<T: BiHashItem, S: BuildHasher> BiHashMap<T, S> {
             self.now.slots (slots_found (by_rank result)) }
         ensures costs { AreSearched (⟦<T as Hashed<S>>⟧.hashes self.now.builder) (bag self.now) self.now.capacity
             (hashes_of (⟦<T as Hashed<S>>⟧.hashes self.now.builder) item.now) (slots_found (by_rank result))
-            asked.old asked.new probed.old probed.new }
+            costs.old costs.new }
     {
-        self.search_all(item.key1(), item.key2(), asked, probed)
+        self.search_all(item.key1(), item.key2(), costs)
     }
 
     /// Inserts an item with which nothing conflicts, at the place found for it at each rank. Only a table that grew is probed.
@@ -269,16 +266,10 @@ impl<T: BiHashItem, S: BuildHasher> BiHashMap<T, S> {
     }
 
     /// Inserts an item if none conflicts with it. The error has what the searches by its keys found; or, if the map is full
-    /// and cannot grow, it is `Memory`. One meter counts the keys that are compared, and the other the probed cells, but for
-    /// those that growing probes. What it calls is inlined, except for growing, so a caller's loop branches where the
-    /// outcome arises.
+    /// and cannot grow, it is `Memory`. The cells that growing probes are not counted. What it calls is inlined, except for
+    /// growing, so a caller's loop branches where the outcome arises.
     #[inline(always)]
-    pub(crate) fn insert_or_refuse(
-        &mut self,
-        item: T,
-        asked: &mut Meter,
-        probed: &mut Meter,
-    ) -> Result<(), Refusal<T>>
+    pub(crate) fn insert_or_refuse(&mut self, item: T, costs: &mut Costs) -> Result<(), Refusal<T>>
         ensures gains { OnOk result (Gains self.old item self.new) }
         ensures free { OnOk result (clash ⟦<T as Ranked>⟧.ranks (bag self.old) item ≡ []) }
         ensures handed_back { IfErr result (λ e. refusal_item e ≡ item) }
@@ -289,16 +280,16 @@ impl<T: BiHashItem, S: BuildHasher> BiHashMap<T, S> {
         ensures costs { PlacingCosts (⟦<T as Hashed<S>>⟧.hashes self.old.builder) (bag self.old) self.old.capacity
             (hashes_of (⟦<T as Hashed<S>>⟧.hashes self.old.builder) item)
             (map (λ _. if is_ok result then 1 else 0) ⟦<T as Ranked>⟧.ranks)
-            asked.old asked.new probed.old probed.new }
+            costs.old costs.new }
     {
-        let at = match self.places(&item, asked, probed) {
+        let at = match self.places(&item, costs) {
             Searched::Vacant(at) => at,
             Searched::Found(by) => return Err(Refusal::Duplicate(item, by)),
         };
         if let Err(_) = self.make_room(1) {
             return Err(Refusal::Memory(item));
         }
-        self.insert_at(item, at, probed);
+        self.insert_at(item, at, &mut costs.probed);
         Ok(())
     }
 }

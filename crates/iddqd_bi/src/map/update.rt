@@ -10,7 +10,7 @@ ghost use Rattle.iddqd_bi.specs.Keys.{has1, has2, has_both};
 
 use super::BiHashMap;
 use crate::item::{BiHashItemMut, Ranked};
-use iddqd_store::{Meter, Query};
+use iddqd_store::{Costs, Query};
 use std::hash::{BuildHasher, Hash};
 
 impl<T: BiHashItemMut, S: BuildHasher> BiHashMap<T, S> {
@@ -33,7 +33,7 @@ impl<T: BiHashItemMut, S: BuildHasher> BiHashMap<T, S> {
         ensures capacity { self.new.capacity ≡ self.old.capacity }
         ensures builder { self.new.builder ≡ self.old.builder }
     {
-        match self.slot1_by(query, &mut Meter::new(), &mut Meter::new()) {
+        match self.slot1_by(query, &mut Costs::new()) {
             Some(slot) => {
                 self.store_once(slot, f);
                 true
@@ -61,7 +61,7 @@ impl<T: BiHashItemMut, S: BuildHasher> BiHashMap<T, S> {
         ensures capacity { self.new.capacity ≡ self.old.capacity }
         ensures builder { self.new.builder ≡ self.old.builder }
     {
-        match self.slot2_by(query, &mut Meter::new(), &mut Meter::new()) {
+        match self.slot2_by(query, &mut Costs::new()) {
             Some(slot) => {
                 self.store_once(slot, f);
                 true

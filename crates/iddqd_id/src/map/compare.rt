@@ -14,7 +14,7 @@ ghost use Rattle.iddqd_store.proofs.MapLemmas.{IsEquivalence-key};
 
 use super::IdHashMap;
 use crate::item::{Hashed, IdHashItem};
-use iddqd_store::Meter;
+use iddqd_store::Costs;
 use std::hash::{BuildHasher, Hash};
 
 /// Two maps are equal if and only if their items pair off, so that the items of each pair agree in the key and are
@@ -37,7 +37,7 @@ impl<T: IdHashItem + PartialEq, S: BuildHasher> PartialEq for IdHashMap<T, S> {
             return false;
         }
         for item in self {
-            if !other.has_partner(item, &mut Meter::new(), &mut Meter::new()) {
+            if !other.has_partner(item, &mut Costs::new()) {
                 return false;
             }
         }
@@ -52,15 +52,15 @@ impl<T: IdHashItem + Eq, S: BuildHasher> Eq for IdHashMap<T, S> {
 }
 
 impl<T: IdHashItem + PartialEq, S: BuildHasher> IdHashMap<T, S> {
-    /// Returns whether an item of the map agrees with this one in the key and is equal to it by `==`. One meter counts
-    /// the keys that are compared, beside those that `==` of two items compares, and the other the probed cells.
-    fn has_partner(&self, item: &T, asked: &mut Meter, probed: &mut Meter) -> bool
+    /// Returns whether an item of the map agrees with this one in the key and is equal to it by `==`. The keys
+    /// that `==` of two items compares are not counted.
+    fn has_partner(&self, item: &T, costs: &mut Costs) -> bool
         ensures value { result ≡ list_any (same_item (ranks T.IdHashItem T.Key.eq) T.eq item.now) (bag self.now) }
         ensures costs { UniqueCosts (⟦<T as Hashed<S>>⟧.hash self.now.builder) (bag self.now) self.now.capacity
             (hash_of S.BuildHasher S.Hasher.Hasher self.now.builder (T.Key.hash_input (T.key item.now)))
-            0 asked.old asked.new probed.old probed.new }
+            0 costs.old costs.new }
     {
-        match self.item_of(self.slot_by(item.key(), asked, probed)) {
+        match self.item_of(self.slot_by(item.key(), costs)) {
             Some(found) => item == found,
             None => false,
         }

@@ -9,7 +9,7 @@ ghost use Rattle.iddqd_id.specs.Keys.{has};
 
 use super::IdHashMap;
 use crate::item::{IdHashItemMut, Ranked};
-use iddqd_store::{Meter, Query};
+use iddqd_store::{Costs, Query};
 use std::hash::{BuildHasher, Hash};
 
 impl<T: IdHashItemMut, S: BuildHasher> IdHashMap<T, S> {
@@ -32,7 +32,7 @@ impl<T: IdHashItemMut, S: BuildHasher> IdHashMap<T, S> {
             T.IdHashItem T.Key.Hash S.BuildHasher S.Hasher.Hasher T.Data.row T.put
             ⟦<T as Ranked>⟧.ranks (has T.IdHashItem Q.stands_for query) self.entry result) }
     {
-        match self.slot_by(query, &mut Meter::new(), &mut Meter::new()) {
+        match self.slot_by(query, &mut Costs::new()) {
             Some(slot) => Some(self.data_mut_at(slot)),
             None => None,
         }

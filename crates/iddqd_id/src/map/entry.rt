@@ -10,7 +10,7 @@ ghost use Rattle.iddqd_id.specs.Entries.{IsFound, entry_item, entry_key, entry_l
 use super::IdHashMap;
 use crate::entry::{Entry, OccupiedEntry, VacantEntry};
 use crate::item::IdHashItem;
-use iddqd_store::{Meter, Query, Searched};
+use iddqd_store::{Costs, Query, Searched};
 use std::hash::{BuildHasher, Hash};
 
 impl<T: IdHashItem, S: BuildHasher> IdHashMap<T, S> {
@@ -37,7 +37,7 @@ impl<T: IdHashItem, S: BuildHasher> IdHashMap<T, S> {
         ensures value { IsOnly (has T.IdHashItem Q.stands_for query) (bag self.old) (entry_item result) }
         ensures is_found { IsFound result }
     {
-        match self.search_all(query, &mut Meter::new(), &mut Meter::new()) {
+        match self.search_all(query, &mut Costs::new()) {
             Searched::Vacant(at) => Entry::Vacant(VacantEntry {
                 map: self,
                 query,

@@ -11,7 +11,7 @@ ghost use Rattle.iddqd_id.specs.Keys.{has};
 
 use super::IdHashMap;
 use crate::item::{Hashed, IdHashItem};
-use iddqd_store::{ByQuery, ItemIndex, KeyMatcher, Meter, Query};
+use iddqd_store::{ByQuery, Costs, ItemIndex, KeyMatcher, Meter, Query};
 use std::hash::{BuildHasher, Hash};
 
 impl<T: IdHashItem, S: BuildHasher> IdHashMap<T, S> {
@@ -67,19 +67,13 @@ impl<T: IdHashItem, S: BuildHasher> IdHashMap<T, S> {
         self.by_key().find_with(hash, matcher, meter)
     }
 
-    /// Returns the slot of the item whose key the query stands for, or `None`. One meter counts the keys that the
-    /// query is compared with, and the other the probed cells.
-    pub(crate) fn slot_by<Q: Query<T::Key>>(
-        &self,
-        query: Q,
-        asked: &mut Meter,
-        probed: &mut Meter,
-    ) -> Option<ItemIndex>
+    /// Returns the slot of the item whose key the query stands for, or `None`.
+    pub(crate) fn slot_by<Q: Query<T::Key>>(&self, query: Q, costs: &mut Costs) -> Option<ItemIndex>
         ensures found { FoundAt (has T.IdHashItem Q.stands_for query) self.now.slots result }
         ensures costs { SearchCosts (⟦<T as Hashed<S>>⟧.hash self.now.builder) (bag self.now) self.now.capacity
             (hash_of S.BuildHasher S.Hasher.Hasher self.now.builder (Q.hash_input query)) result
-            asked.old asked.new probed.old probed.new }
+            costs.old.asked costs.new.asked costs.old.probed costs.new.probed }
     {
-        self.by_key().slot_of(query, asked, probed)
+        self.by_key().slot_of(query, costs)
     }
 }

@@ -10,7 +10,7 @@ use super::IdHashMap;
 use super::slots::Refusal;
 use crate::error::{InsertError, Rejected};
 use crate::item::Ranked;
-use iddqd_store::Meter;
+use iddqd_store::Costs;
 use std::hash::{BuildHasher, Hash};
 
 impl<T: Ranked, S: BuildHasher> IdHashMap<T, S> {
@@ -45,7 +45,7 @@ impl<T: Ranked, S: BuildHasher> IdHashMap<T, S> {
             T.IdHashItem T.Key.Hash S.BuildHasher S.Hasher.Hasher
             self.entry result (λ new. Gains self.old item new)) }
     {
-        match self.insert_or_refuse(item, &mut Meter::new(), &mut Meter::new()) {
+        match self.insert_or_refuse(item, &mut Costs::new()) {
             Ok(()) => Ok(()),
             Err(Refusal::Duplicate(item, by)) => {
                 let found = by.slot();
@@ -86,7 +86,7 @@ impl<T: Ranked, S: BuildHasher> IdHashMap<T, S> {
         ensures unchanged { OnErr result (self.new ≡ self.old) }
         ensures reason { IfErr result (λ e. TellsWhy T.IdHashItem T.Key.eq self.old item e) }
     {
-        match self.insert_or_refuse(item, &mut Meter::new(), &mut Meter::new()) {
+        match self.insert_or_refuse(item, &mut Costs::new()) {
             Ok(()) => Ok(()),
             Err(Refusal::Duplicate(item, by)) => {
                 let taken = by.slot().is_some();

@@ -10,7 +10,7 @@ ghost use Rattle.iddqd_store.specs.Rank.All.{PlacingCosts, hashes_of};
 use super::IdHashMap;
 use super::slots::Refusal;
 use crate::item::{Hashed, Ranked};
-use iddqd_store::{MemoryRefused, Meter};
+use iddqd_store::{Costs, MemoryRefused};
 use std::hash::{BuildHasher, Hash};
 
 impl<T: Ranked, S: BuildHasher> IdHashMap<T, S> {
@@ -31,18 +31,16 @@ impl<T: Ranked, S: BuildHasher> IdHashMap<T, S> {
         ensures unchanged { OnErr result (self.new ≡ self.old) }
         ensures reason { OnErr result (IsFullFor T.ranks self.old item) }
     {
-        self.insert_overwrite_by(item, &mut Meter::new(), &mut Meter::new())
+        self.insert_overwrite_by(item, &mut Costs::new())
     }
 
-    /// Inserts as `insert_overwrite` does, which calls it. One meter counts the keys that are compared, and the other
-    /// the probed cells, but for those that growing probes. Beside the search, it walks through the table at most
-    /// twice.
+    /// Inserts as `insert_overwrite` does, which calls it, and counts its costs, but for the cells that growing probes.
+    /// Beside the search, it walks through the table at most twice.
     #[inline(always)]
     fn insert_overwrite_by(
         &mut self,
         item: T,
-        asked: &mut Meter,
-        probed: &mut Meter,
+        costs: &mut Costs,
     ) -> Result<Option<T>, MemoryRefused<T>>
         // The conflicting item is returned, and the item is in its place.
         ensures displaced { IfOk result (λ gone. option_to_list gone ≡ order T.ranks (bag self.old) item) }
@@ -56,14 +54,14 @@ impl<T: Ranked, S: BuildHasher> IdHashMap<T, S> {
         ensures costs { PlacingCosts (⟦<T as Hashed<S>>⟧.hashes self.old.builder) (bag self.old) self.old.capacity
             (hashes_of (⟦<T as Hashed<S>>⟧.hashes self.old.builder) item)
             (map (λ _. 2) T.ranks)
-            asked.old asked.new probed.old probed.new }
+            costs.old costs.new }
     {
         // What an insert needs, or an overwrite of one item, is inlined, so a caller's loop branches on the outcome where
         // it arises, and no item is copied from call to call. Growth is not inlined.
-        match self.insert_or_refuse(item, asked, probed) {
+        match self.insert_or_refuse(item, costs) {
             Ok(()) => Ok(None),
             Err(Refusal::Duplicate(item, by)) => {
-                let (displaced, _) = self.put_over(item, &by, probed);
+                let (displaced, _) = self.put_over(item, &by, &mut costs.probed);
                 Ok(Some(displaced))
             }
             Err(Refusal::Memory(value)) => Err(MemoryRefused { value }),

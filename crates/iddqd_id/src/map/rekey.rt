@@ -11,7 +11,7 @@ ghost use Rattle.iddqd_id.specs.Rekeyed.{PutsInPlace, RekeyingCosts, TellsWhyNot
 use super::IdHashMap;
 use crate::error::NotReplaced;
 use crate::item::{Hashed, Ranked};
-use iddqd_store::{Meter, Query};
+use iddqd_store::{Costs, Query};
 use std::hash::{BuildHasher, Hash};
 
 impl<T: Ranked, S: BuildHasher> IdHashMap<T, S> {
@@ -34,18 +34,17 @@ impl<T: Ranked, S: BuildHasher> IdHashMap<T, S> {
         ensures reason { IfErr result (λ e. TellsWhyNot T.ranks
             (has T.IdHashItem Q.stands_for query) (bag self.old) item e) }
     {
-        self.rekey_by(query, item, &mut Meter::new(), &mut Meter::new())
+        self.rekey_by(query, item, &mut Costs::new())
     }
 
-    /// Replaces as `rekey` does, which calls it. One meter counts the keys that are compared, and the other the probed
-    /// cells: those of a search by the query and, if it finds an item, those of `rekey_at`.
+    /// Replaces as `rekey` does, which calls it, and counts its costs: those of a search by the query and, if it finds
+    /// an item, those of `rekey_at`.
     #[inline(always)]
     fn rekey_by<Q: Query<T::Key>>(
         &mut self,
         query: Q,
         item: T,
-        asked: &mut Meter,
-        probed: &mut Meter,
+        costs: &mut Costs,
     ) -> Result<T, NotReplaced<T>>
         // The item with that key is returned, and the new one is in its place.
         ensures found { IfOk result (λ x. IsOnly (has T.IdHashItem Q.stands_for query) (bag self.old) (Some x)) }
@@ -59,12 +58,12 @@ impl<T: Ranked, S: BuildHasher> IdHashMap<T, S> {
             (⟦<T as Hashed<S>>⟧.hashes self.old.builder) (bag self.old) self.old.capacity
             (hash_of S.BuildHasher S.Hasher.Hasher self.old.builder (Q.hash_input query))
             (hashes_of (⟦<T as Hashed<S>>⟧.hashes self.old.builder) item) (map (λ _. 2) T.ranks) result
-            asked.old asked.new probed.old probed.new }
+            costs.old costs.new }
     {
-        let Some(slot) = self.slot_by(query, asked, probed) else {
+        let Some(slot) = self.slot_by(query, costs) else {
             return Err(NotReplaced::Absent(item));
         };
-        match self.rekey_at(slot, item, asked, probed) {
+        match self.rekey_at(slot, item, costs) {
             Ok(old) => Ok(old),
             Err(new_item) => Err(NotReplaced::Duplicate(new_item)),
         }

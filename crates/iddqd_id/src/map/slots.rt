@@ -28,7 +28,7 @@ use super::IdHashMap;
 use crate::error::EntryError;
 use crate::item::{Hashed, IdHashItem, Ranked};
 use crate::ranks::First;
-use iddqd_store::{ItemIndex, Lookup, Meter, Query, Searched, SlotUnder, Vacancy};
+use iddqd_store::{Costs, ItemIndex, Lookup, Meter, Query, Searched, SlotUnder, Vacancy};
 use std::hash::{BuildHasher, Hash};
 
 /// An item that was not inserted, and why. It does not borrow the map.
@@ -63,13 +63,12 @@ impl<T: IdHashItem, S: BuildHasher> IdHashMap<T, S> {
 
     /// Searches at each rank for its key. `Found` has the slot that each search found, if it found one, with the hash.
     /// If no item has one of the keys, `Vacant` has the empty cells at which the searches ended. The call hashes each
-    /// key once, and searches for it once. One meter counts the keys that are compared, and the other the probed cells.
+    /// key once, and searches for it once.
     #[inline(always)]
     pub(crate) fn search_all<Q: Query<T::Key>>(
         &self,
         query: Q,
-        asked: &mut Meter,
-        probed: &mut Meter,
+        costs: &mut Costs,
     ) -> Searched<SlotUnder, Vacancy>
         // The slots that were found, and whether there are any.
         ensures found { AreFound (key_tests T.IdHashItem Q.stands_for query) self.now.slots
@@ -91,25 +90,19 @@ impl<T: IdHashItem, S: BuildHasher> IdHashMap<T, S> {
         ensures costs { AreSearched (⟦<T as Hashed<S>>⟧.hashes self.now.builder) (bag self.now) self.now.capacity
             (map (hash_of S.BuildHasher S.Hasher.Hasher self.now.builder)
             (Q.hash_input query ∷ [])) (slots_found (by_rank result))
-            asked.old asked.new probed.old probed.new }
+            costs.old costs.new }
     {
         let hash = self.hash_builder.hash_one(query);
-        match self.by_key().search(hash, query, asked, probed) {
+        match self.by_key().search(hash, query, costs) {
             Searched::Found(slot) => Searched::Found(SlotUnder::new(Some(slot), hash)),
             Searched::Vacant(at) => Searched::Vacant(at),
         }
     }
 
     /// Returns what the search at each rank found, if items conflict with an item, and else where it is to be inserted
-    /// at each rank. The call hashes each key once, and searches for it once. One meter counts the keys that are
-    /// compared, and the other the probed cells.
+    /// at each rank. The call hashes each key once, and searches for it once.
     #[inline(always)]
-    pub(crate) fn places(
-        &self,
-        item: &T,
-        asked: &mut Meter,
-        probed: &mut Meter,
-    ) -> Searched<SlotUnder, Vacancy>
+    pub(crate) fn places(&self, item: &T, costs: &mut Costs) -> Searched<SlotUnder, Vacancy>
         ensures free { OnVacant result (clash ⟦<T as Ranked>⟧.ranks (bag self.now) item.now ≡ []) }
         ensures places { IfVacant (by_rank result) (ArePlacesOf
             (⟦<T as Hashed<S>>⟧.hashes self.now.builder) (bag self.now) item.now) }
@@ -123,9 +116,9 @@ impl<T: IdHashItem, S: BuildHasher> IdHashMap<T, S> {
             self.now.slots (slots_found (by_rank result)) }
         ensures costs { AreSearched (⟦<T as Hashed<S>>⟧.hashes self.now.builder) (bag self.now) self.now.capacity
             (hashes_of (⟦<T as Hashed<S>>⟧.hashes self.now.builder) item.now) (slots_found (by_rank result))
-            asked.old asked.new probed.old probed.new }
+            costs.old costs.new }
     {
-        self.search_all(item.key(), asked, probed)
+        self.search_all(item.key(), costs)
     }
 
     /// Inserts an item with which nothing conflicts, at the place found for it at each rank. Only a table that grew is
@@ -215,16 +208,10 @@ impl<T: IdHashItem, S: BuildHasher> IdHashMap<T, S> {
     }
 
     /// Inserts an item if none conflicts with it. The error has what the search by its key found; or, if the map is
-    /// full and cannot grow, it is `Memory`. One meter counts the keys that are compared, and the other the probed
-    /// cells, but for those that growing probes. What it calls is inlined, except for growing, so a caller's loop
-    /// branches where the outcome arises.
+    /// full and cannot grow, it is `Memory`. The cells that growing probes are not counted. What it calls is inlined,
+    /// except for growing, so a caller's loop branches where the outcome arises.
     #[inline(always)]
-    pub(crate) fn insert_or_refuse(
-        &mut self,
-        item: T,
-        asked: &mut Meter,
-        probed: &mut Meter,
-    ) -> Result<(), Refusal<T>>
+    pub(crate) fn insert_or_refuse(&mut self, item: T, costs: &mut Costs) -> Result<(), Refusal<T>>
         ensures gains { OnOk result (Gains self.old item self.new) }
         ensures free { OnOk result (clash ⟦<T as Ranked>⟧.ranks (bag self.old) item ≡ []) }
         ensures handed_back { IfErr result (λ e. refusal_item e ≡ item) }
@@ -235,16 +222,16 @@ impl<T: IdHashItem, S: BuildHasher> IdHashMap<T, S> {
         ensures costs { PlacingCosts (⟦<T as Hashed<S>>⟧.hashes self.old.builder) (bag self.old) self.old.capacity
             (hashes_of (⟦<T as Hashed<S>>⟧.hashes self.old.builder) item)
             (map (λ _. if is_ok result then 1 else 0) ⟦<T as Ranked>⟧.ranks)
-            asked.old asked.new probed.old probed.new }
+            costs.old costs.new }
     {
-        let at = match self.places(&item, asked, probed) {
+        let at = match self.places(&item, costs) {
             Searched::Vacant(at) => at,
             Searched::Found(by) => return Err(Refusal::Duplicate(item, by)),
         };
         if let Err(_) = self.make_room(1) {
             return Err(Refusal::Memory(item));
         }
-        self.insert_at(item, at, probed);
+        self.insert_at(item, at, &mut costs.probed);
         Ok(())
     }
 }

@@ -12,7 +12,7 @@ ghost use Rattle.iddqd_id.specs.Keys.{has};
 
 use super::IdHashMap;
 use crate::item::{IdHashItemMut, Ranked};
-use iddqd_store::{Meter, Query};
+use iddqd_store::{Costs, Query};
 use std::hash::{BuildHasher, Hash};
 
 impl<T: IdHashItemMut, S: BuildHasher> IdHashMap<T, S> {
@@ -35,7 +35,7 @@ impl<T: IdHashItemMut, S: BuildHasher> IdHashMap<T, S> {
         ensures capacity { self.new.capacity ≡ self.old.capacity }
         ensures builder { self.new.builder ≡ self.old.builder }
     {
-        match self.slot_by(query, &mut Meter::new(), &mut Meter::new()) {
+        match self.slot_by(query, &mut Costs::new()) {
             Some(slot) => {
                 self.store_once(slot, f);
                 true

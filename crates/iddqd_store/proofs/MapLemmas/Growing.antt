@@ -38,22 +38,23 @@ module _ {T : Type 0} where
     refuses (Ok _) is seen at_slots indexed so = cc
 
     -- a call that succeeds has made room
-    pub reserves : (x : A) → the_map slots capacity builder ≡ old → to_slots ≡ slots → IsIndexed ranks hashes slots tables
-        → (AreAsMany (live_count slots) tables
-        → (live_count slots + more ≤ to_capacity) × (most_room < live_count slots + more → ⊥) × (capacity ≤ to_capacity)
+    pub grows : {x : A} → the_map slots capacity builder ≡ old → to_slots ≡ slots → IsIndexed ranks hashes slots tables
+        → (AreAsMany (live_count slots) tables → (most_room < live_count slots + more → ⊥) × (capacity ≤ to_capacity)
         × (live_count slots + more ≤ capacity → to_capacity ≡ capacity))
+        → (AreAsMany (live_count slots) tables → live_count slots + more ≤ to_capacity)
         → Reserves {A = A} {E = E} old more (Ok x) (the_map to_slots to_capacity builder)
-    reserves x seen at_slots indexed so =
-        let found = so (as_many hashes slots tables indexed.indexes) in
+    grows seen at_slots indexed so fits =
+        let all = as_many hashes slots tables indexed.indexes in
+        let found = so all in
         let held = length-contents slots in
         rw (← seen) record {
           slots = at_slots;
           room = record {
-            room = rw held found.0;
+            room = rw held (fits all);
             reason = tt;
-            past = λ past. absurd (found.1 (rw held at past));
-            no_less_room = found.2;
-            same_room = λ fits. found.3 (rw held at fits);
+            past = λ past. absurd (found.0 (rw held at past));
+            no_less_room = found.1;
+            same_room = λ fits. found.2 (rw held at fits);
             same_builder = refl;
           };
           unchanged = tt;

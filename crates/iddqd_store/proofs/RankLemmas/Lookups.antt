@@ -1,32 +1,44 @@
--- What a search of one rank said holds in the map that it was made in.
-use Rattle.std.specs.Prelude.{◌≡◌, ◌≤◌, ℕ, Bool, List, Option, IfSome}
+-- What a search at one rank said holds in the map that it was made in.
+use Rattle.std.specs.Prelude.{◌≡◌, ◌≤◌, ◌*◌, ◌/◌, ℕ, Bool, List, Option, IfSome}
+use Rattle.std.proofs.Common.{refl}
 use Rattle.iddqd_store.specs.declared.index_table.searched.Searched.{Searched}
 use Rattle.iddqd_store.specs.declared.index_table.searched.Searched.TheVariants.{Found, Vacant}
-use Rattle.iddqd_store.specs.Rank.{IsUnder, IsVacantFor, SearchCosts, SlotUnder}
+use Rattle.iddqd_store.specs.Rank.{Costs, IsUnder, IsVacantFor, SearchCosts, SlotUnder}
 use Rattle.iddqd_store.specs.Rank.Index.{HasHash}
+use Rattle.iddqd_store.specs.Rank.Search.{IsSearch}
 use Rattle.iddqd_store.specs.Searched.{found_of, IfFound, IfVacant}
 use Rattle.iddqd_store.specs.Slots.{contents}
 use Rattle.iddqd_store.specs.Slots.Found.{FoundAt}
 use Rattle.iddqd_store.specs.Table.{Spot}
 use Rattle.iddqd_store.proofs.RankLemmas.Costs.{SearchCosts-room}
 
-pub found_in : {T : Type 0} {test : T → Bool} {searched slots : List (Option T)} {at slot : Option ℕ} → searched ≡ slots → slot ≡ at → FoundAt test searched at → FoundAt test slots slot
-found_in same is found = rw is (rw same at found)
+-- what a search says in a map of this capacity, which may be less than that of the table, and with its answer as `at` has it
+pub record IsSearchIn {T : Type 0} (hash_of : T → ℕ) (slots : List (Option T)) (capacity hash : ℕ) (test : T → Bool)
+    (answer : Searched ℕ Spot) (at : SlotUnder) (before after : Costs) : Type 0 where
+  pub found : FoundAt test slots at.slot
+  pub same : at.hash ≡ hash
+  pub under : IsUnder hash_of slots at
+  pub vacant : IfVacant answer (IsVacantFor hash_of (contents slots) hash)
+  pub cells : IfVacant answer (λ spot. capacity ≤ spot.cells / 8 * 7)
+  pub costs : SearchCosts hash_of (contents slots) capacity hash at.slot before.asked after.asked before.probed after.probed
 
-module _ {T B : Type 0} (hash : B → T → ℕ) {searched slots : List (Option T)} {b builder : B} {k h : ℕ} (same : searched ≡ slots) (also : b ≡ builder) (is : k ≡ h) where
-  pub costs_in : {at slot : Option ℕ} {room less asks asks_then before after : ℕ} → slot ≡ at → less ≤ room
-      → SearchCosts (hash b) (contents searched) room k at asks asks_then before after
-      → SearchCosts (hash builder) (contents slots) less h slot asks asks_then before after
-  costs_in at_is below costs = rw at_is (rw (same, also, is) at (SearchCosts-room _ below costs))
+module _ {T B : Type 0} (hash_of : B → T → ℕ) {searched slots : List (Option T)} {b builder : B} {room capacity k hash : ℕ} {test : T → Bool} {before after : Costs} where
+  pub search_in : {answer : Searched ℕ Spot} {at : SlotUnder} {slot : Option ℕ} → at ≡ record { slot = slot; hash = k } → slot ≡ found_of answer
+      → searched ≡ slots → b ≡ builder → capacity ≤ room → k ≡ hash → IsSearch (hash_of b) searched room k test answer before after
+      → IsSearchIn (hash_of builder) slots capacity hash test answer at before after
+  search_in {answer = r} is ends same also below hashes own = rw (← same, ← also, ← hashes, is, ends) record {
+    found = own.found;
+    same = refl;
+    under = of r own.hashed;
+    vacant = own.vacant;
+    cells = wide r own.cells;
+    costs = SearchCosts-room _ below own.costs;
+  }
+    where
+      of : (s : Searched ℕ Spot) → IfFound s (λ slot. HasHash (hash_of b) searched slot k) → IfSome (found_of s) (λ slot. HasHash (hash_of b) searched slot k)
+      of (Found x) holds = holds
+      of (Vacant at) holds = tt
 
-  pub vacant_in : {r : Searched ℕ Spot} {at : Spot} → r ≡ Vacant at → IfVacant r (IsVacantFor (hash b) (contents searched) k) → IsVacantFor (hash builder) (contents slots) h at
-  vacant_in ends vacant = rw (same, also, is, ends) at vacant
-
-pub under_in : {T B : Type 0} (hash : B → T → ℕ) {searched slots : List (Option T)} {b builder : B} {k : ℕ} {o : Option ℕ} {at : SlotUnder}
-    (r : Searched ℕ Spot) → searched ≡ slots → b ≡ builder → at ≡ record { slot = o; hash = k } → o ≡ found_of r
-    → IfFound r (λ slot. HasHash (hash b) searched slot k) → IsUnder (hash builder) slots at
-under_in hash {searched = searched} {b = b} {k = k} r same also at_is is hashed = rw at_is (rw is (rw (same, also) at (of r hashed)))
-  where
-    of : (s : Searched ℕ Spot) → IfFound s (λ slot. HasHash (hash b) searched slot k) → IfSome (found_of s) (λ slot. HasHash (hash b) searched slot k)
-    of (Found x) holds = holds
-    of (Vacant at) holds = tt
+      wide : (s : Searched ℕ Spot) → IfVacant s (λ at. at.cells / 8 * 7 ≡ room) → IfVacant s (λ at. capacity ≤ at.cells / 8 * 7)
+      wide (Found x) holds = tt
+      wide (Vacant at) holds = rw holds below

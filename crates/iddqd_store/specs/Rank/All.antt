@@ -3,7 +3,7 @@ use Rattle.std.specs.Prelude.{◌≡◌, ◌≤◌, ◌+◌, ◌*◌, ◌/◌, �
 use Rattle.std.specs.List.{AllByRecursion, AllZip}
 use Rattle.iddqd_store.specs.Bag.{Ranks, crowd, like}
 use Rattle.iddqd_store.specs.Map.{Map, IsBlockedAt}
-use Rattle.iddqd_store.specs.Rank.{IsUnder, IsVacantFor, SearchCosts, SlotUnder, walks_within}
+use Rattle.iddqd_store.specs.Rank.{Costs, IsUnder, IsVacantFor, SearchCosts, SlotUnder, walks_within}
 use Rattle.iddqd_store.specs.Slots.Found.{AreFound, each_once}
 use Rattle.iddqd_store.specs.declared.index_table.searched.Searched.{Searched}
 use Rattle.iddqd_store.specs.declared.index_table.searched.Searched.TheVariants.{Found, Vacant}
@@ -31,16 +31,16 @@ module _ {T : Type 0} where
   abbrev pub AreUnder : List (T → ℕ) → List (Option T) → List SlotUnder → Type 0
   AreUnder hashes slots found = AllZip (λ hash at. IsUnder hash slots at) hashes found
 
-  -- Searches by these hashes, one for each rank and one after another on the same two meters, cost what `SearchCosts`
-  -- says of each, for these answers. The first meter counts the compared keys, the second the probed cells.
+  -- Searches by these hashes, one for each rank and one after another, cost what `SearchCosts` says of each, for these
+  -- answers.
   -- Example: With 3 items and a hash of its own for each key, at two ranks, they ask at most twice, and probe at most 8
   -- cells.
-  abbrev pub AreSearched : List (T → ℕ) → List T → ℕ → List ℕ → List (Option ℕ) → ℕ → ℕ → ℕ → ℕ → Type 0
-  AreSearched [] bag room [] [] asks asks_then before after = (asks_then ≡ asks) × (after ≡ before)
-  AreSearched (hash ∷ hashes) bag room (h ∷ hs) (answer ∷ answers) asks asks_then before after =
-      (asked : ℕ) × (between : ℕ) × SearchCosts hash bag room h answer asks asked before between
-      × AreSearched hashes bag room hs answers asked asks_then between after
-  AreSearched hashes bag room hs answers asks asks_then before after = ⊥
+  abbrev pub AreSearched : List (T → ℕ) → List T → ℕ → List ℕ → List (Option ℕ) → Costs → Costs → Type 0
+  AreSearched [] bag room [] [] before after = after ≡ before
+  AreSearched (hash ∷ hashes) bag room (h ∷ hs) (answer ∷ answers) before after =
+      (between : Costs) × SearchCosts hash bag room h answer before.asked between.asked before.probed between.probed
+      × AreSearched hashes bag room hs answers between after
+  AreSearched hashes bag room hs answers before after = ⊥
 
   -- `crowds` counts for each rank how many items have this hash there, and adds up.
   -- Example: If every item has the hash 5 at both ranks, it is 6 for 5, 5 and 3 items.
@@ -55,23 +55,23 @@ module _ {T : Type 0} where
 -- Example: With 3 items, two ranks, one walk at each and a hash of its own for each key it asks at most twice, and probes
 -- at most 16 cells.
 pub record PlacingCosts {T : Type 0} (hashes : List (T → ℕ)) (bag : List T) (room : ℕ) (hs walks : List ℕ)
-    (asks asks_then before after : ℕ) : Type 0 where
+    (before after : Costs) : Type 0 where
   pub answers : List (Option ℕ)
   pub between : ℕ
-  pub search : AreSearched hashes bag room hs answers asks asks_then before between
-  pub rest : after ≤ between + walks_within (length bag) walks
-  pub asked : asks_then ≤ asks + crowds hashes bag hs
-  pub at_most : after ≤ before + walks_within (length bag) (map (λ _. 1) hashes) + walks_within (length bag) walks
+  pub search : AreSearched hashes bag room hs answers before (record { asked = after.asked; probed = between })
+  pub rest : after.probed ≤ between + walks_within (length bag) walks
+  pub asked : after.asked ≤ before.asked + crowds hashes bag hs
+  pub at_most : after.probed ≤ before.probed + walks_within (length bag) (map (λ _. 1) hashes) + walks_within (length bag) walks
 
 -- A search for the item with all keys costs as much as one by the first key and, if that finds an item, compares at most
 -- this many other keys.
 -- Example: With 3 items, two ranks and a hash of its own for each key it asks at most twice, and probes at most 4 cells.
 pub record UniqueCosts {T : Type 0} (hash_of : T → ℕ) (bag : List T) (room hash others : ℕ)
-    (asks asks_then before after : ℕ) : Type 0 where
+    (before after : Costs) : Type 0 where
   pub answer : Option ℕ
   pub between : ℕ
-  pub search : SearchCosts hash_of bag room hash answer asks between before after
-  pub rest : asks_then ≤ between + others
+  pub search : SearchCosts hash_of bag room hash answer before.asked between before.probed after.probed
+  pub rest : after.asked ≤ between + others
 
 -- The searches were made by these hashes. No public clause cites it.
 abbrev pub HaveHashes : List ℕ → List SlotUnder → Type 0

@@ -63,3 +63,35 @@ impl Meter {
         self.count = Count::more(&self.count);
     }
 }
+
+/// What searches cost, for contracts: the keys that queries are compared with, and the probed cells. At run time it takes no
+/// bytes.
+#[derive(Drop)]
+pub struct Costs {
+    /// Counts the compared keys.
+    pub asked: Meter,
+    /// Counts the probed cells.
+    pub probed: Meter,
+}
+
+const _: () = prove!(size_of::<Costs>() == 0);
+
+impl Model for Costs {
+    ghost use Rattle.iddqd_store.specs.Rank.{Costs};
+
+    ghost Value = { Costs };
+
+    ghost view = { λ c. record { asked = c.asked; probed = c.probed } };
+}
+
+impl Costs {
+    /// Makes two meters at 0. A function that takes costs makes none (`tests/metered_cells`).
+    pub fn new() -> Costs
+        ensures { result ≡ record { asked = 0; probed = 0 } }
+    {
+        Costs {
+            asked: Meter::new(),
+            probed: Meter::new(),
+        }
+    }
+}

@@ -4,6 +4,7 @@ ghost use Rattle.std.specs.Option.{option_and_then};
 ghost use Rattle.iddqd_store.specs.Bag.{IsOnly};
 ghost use Rattle.iddqd_store.specs.Map.{bag, hash_of};
 ghost use Rattle.iddqd_store.specs.Rank.Index.{HasHash};
+ghost use Rattle.iddqd_store.specs.Rank.Search.{IsSearch};
 ghost use Rattle.iddqd_store.specs.Searched.{found_of, IfFound, IfVacant};
 ghost use Rattle.iddqd_store.specs.Slots.Found.{FoundAt};
 ghost use Rattle.iddqd_store.specs.Slots.{get, IsLive};
@@ -11,7 +12,7 @@ ghost use Rattle.iddqd_store.specs.Rank.{agree, IsVacantFor, NamesOneUnder, Sear
 
 use super::matchers::{ByKey, ByQuery};
 use super::{HashedKey, KeyOf};
-use crate::index_table::{IndexTable, KeyMatcher, Meter, Searched, Vacancy};
+use crate::index_table::{Costs, IndexTable, KeyMatcher, Meter, Searched, Vacancy};
 use crate::item_set::{ItemIndex, ItemSet};
 use crate::query::Query;
 use std::hash::{BuildHasher, Hash};
@@ -61,21 +62,15 @@ impl<'a, T, R: KeyOf<T>, S: BuildHasher> Lookup<'a, T, R, S> {
         }
     }
 
-    /// Returns the slot of the item whose key the query stands for, or `None`. One meter counts the keys that the query
-    /// is compared with, and the other the probed cells.
-    pub fn slot_of<Q: Query<R::Key>>(
-        &self,
-        query: Q,
-        asked: &mut Meter,
-        probed: &mut Meter,
-    ) -> Option<ItemIndex>
+    /// Returns the slot of the item whose key the query stands for, or `None`.
+    pub fn slot_of<Q: Query<R::Key>>(&self, query: Q, costs: &mut Costs) -> Option<ItemIndex>
         ensures found { FoundAt (λ x. Q.stands_for query (R.key x)) self.now.slots result }
         ensures costs { SearchCosts (⟦<R as HashedKey<T, S>>⟧.hash self.now.builder) (bag self.now) self.now.capacity
             (hash_of S.BuildHasher S.Hasher.Hasher self.now.builder (Q.hash_input query)) result
-            asked.old asked.new probed.old probed.new }
+            costs.old.asked costs.new.asked costs.old.probed costs.new.probed }
     {
         let hash = self.hash_builder.hash_one(query);
-        self.search(hash, query, asked, probed).found()
+        self.search(hash, query, costs).found()
     }
 
     /// Returns the item whose key the matcher accepts, or `None`. All keys that it accepts have to be equal, and to
@@ -102,27 +97,20 @@ impl<'a, T, R: KeyOf<T>, S: BuildHasher> Lookup<'a, T, R, S> {
     }
 
     /// Returns the slot of the item whose key the query stands for. If there is none, it returns the empty cell for a
-    /// pair with this hash, or `Vacancy::unknown` if the table has no cells. The hash has to be that of the query. One
-    /// meter counts the keys that the query is compared with, and the other the probed cells. This call makes the matcher of
-    /// the query, so that clauses of its callers speak of queries alone.
+    /// pair with this hash, or `Vacancy::unknown` if the table has no cells. The hash has to be that of the query.
+    /// This call makes the matcher of the query, so that clauses of its callers speak of queries alone.
     #[inline(always)]
     pub fn search<Q: Query<R::Key>>(
         &self,
         hash: u64,
         query: Q,
-        asked: &mut Meter,
-        probed: &mut Meter,
+        costs: &mut Costs,
     ) -> Searched<ItemIndex, Vacancy>
         requires { hash ≡ hash_of S.BuildHasher S.Hasher.Hasher self.now.builder (Q.hash_input query) }
-        ensures found { FoundAt (λ x. Q.stands_for query (R.key x)) self.now.slots (found_of result) }
-        ensures hashed { IfFound result (λ slot. HasHash
-            (⟦<R as HashedKey<T, S>>⟧.hash self.now.builder) self.now.slots slot hash) }
-        ensures vacant { IfVacant result (IsVacantFor
-            (⟦<R as HashedKey<T, S>>⟧.hash self.now.builder) (bag self.now) hash) }
-        ensures cells { IfVacant result (λ at. at.cells / 8 * 7 ≡ self.now.capacity) }
-        ensures costs { SearchCosts (⟦<R as HashedKey<T, S>>⟧.hash self.now.builder) (bag self.now)
-            self.now.capacity hash (found_of result) asked.old asked.new probed.old probed.new }
+        ensures { IsSearch (⟦<R as HashedKey<T, S>>⟧.hash self.now.builder) self.now.slots self.now.capacity hash
+            (λ x. Q.stands_for query (R.key x)) result costs.old costs.new }
     {
+        let Costs { asked, probed } = costs;
         self.search_with(hash, &mut ByQuery::new(&query, asked), probed)
     }
 

@@ -15,7 +15,7 @@ ghost use Rattle.iddqd_store.proofs.MapLemmas.{IsEquivalence-key};
 use super::TriHashMap;
 use super::slots::found::has_others;
 use crate::item::{Hashed, TriHashItem};
-use iddqd_store::Meter;
+use iddqd_store::Costs;
 use std::hash::{BuildHasher, Hash};
 
 /// Two maps are equal if and only if their items pair off, so that the items of each pair agree in all keys and are
@@ -44,7 +44,7 @@ impl<T: TriHashItem + PartialEq, S: BuildHasher> PartialEq for TriHashMap<T, S> 
             return false;
         }
         for item in self {
-            if !other.has_partner(item, &mut Meter::new(), &mut Meter::new()) {
+            if !other.has_partner(item, &mut Costs::new()) {
                 return false;
             }
         }
@@ -64,17 +64,17 @@ impl<T: TriHashItem + Eq, S: BuildHasher> Eq for TriHashMap<T, S> {
 }
 
 impl<T: TriHashItem + PartialEq, S: BuildHasher> TriHashMap<T, S> {
-    /// Returns whether an item of the map agrees with this one in all keys and is equal to it by `==`. One meter counts
-    /// the keys that are compared, beside those that `==` of two items compares, and the other the probed cells.
-    fn has_partner(&self, item: &T, asked: &mut Meter, probed: &mut Meter) -> bool
+    /// Returns whether an item of the map agrees with this one in all keys and is equal to it by `==`. The keys
+    /// that `==` of two items compares are not counted.
+    fn has_partner(&self, item: &T, costs: &mut Costs) -> bool
         ensures value { result ≡ list_any (same_item (ranks T.TriHashItem T.K1.eq T.K2.eq T.K3.eq) T.eq item.now)
             (bag self.now) }
         ensures costs { UniqueCosts (⟦<T as Hashed<S>>⟧.hash1 self.now.builder) (bag self.now) self.now.capacity
             (hash_of S.BuildHasher S.Hasher.Hasher self.now.builder (T.K1.hash_input (T.key1 item.now)))
-            2 asked.old asked.new probed.old probed.new }
+            2 costs.old costs.new }
     {
-        match self.item_of(self.slot1_by(item.key1(), asked, probed)) {
-            Some(found) => has_others(found, item.key2(), item.key3(), asked) && item == found,
+        match self.item_of(self.slot1_by(item.key1(), costs)) {
+            Some(found) => has_others(found, item.key2(), item.key3(), costs) && item == found,
             None => false,
         }
     }

@@ -8,7 +8,7 @@ ghost use Rattle.iddqd_store.specs.Map.{bag};
 use super::TriHashMap;
 use super::slots::found::each_once;
 use crate::item::Ranked;
-use iddqd_store::{Meter, Searched, UpToThree};
+use iddqd_store::{Costs, Searched, UpToThree};
 use std::hash::{BuildHasher, Hash};
 
 impl<T: Ranked, S: BuildHasher> TriHashMap<T, S> {
@@ -26,7 +26,7 @@ impl<T: Ranked, S: BuildHasher> TriHashMap<T, S> {
         ensures { map (λ x. x.now) result ≡ order T.ranks (bag self.now) item.now }
     {
         // The slots are chosen first and borrowed after the match, so that its arms join before anything is borrowed.
-        let found = match self.places(item, &mut Meter::new(), &mut Meter::new()) {
+        let found = match self.places(item, &mut Costs::new()) {
             Searched::Vacant(_) => UpToThree::new(),
             Searched::Found(by) => each_once(by.0.slot(), by.1.slot(), by.2.slot()),
         };

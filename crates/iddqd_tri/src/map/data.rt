@@ -9,7 +9,7 @@ ghost use Rattle.iddqd_tri.specs.Keys.{has1, has2, has3, has_all};
 
 use super::TriHashMap;
 use crate::item::{Ranked, TriHashItemMut};
-use iddqd_store::{Meter, Query};
+use iddqd_store::{Costs, Query};
 use std::hash::{BuildHasher, Hash};
 
 impl<T: TriHashItemMut, S: BuildHasher> TriHashMap<T, S> {
@@ -32,7 +32,7 @@ impl<T: TriHashItemMut, S: BuildHasher> TriHashMap<T, S> {
             T.TriHashItem T.K1.Hash T.K2.Hash T.K3.Hash S.BuildHasher S.Hasher.Hasher T.Data.row T.put
             ⟦<T as Ranked>⟧.ranks (has1 T.TriHashItem Q.stands_for query) self.entry result) }
     {
-        match self.slot1_by(query, &mut Meter::new(), &mut Meter::new()) {
+        match self.slot1_by(query, &mut Costs::new()) {
             Some(slot) => Some(self.data_mut_at(slot)),
             None => None,
         }
@@ -56,7 +56,7 @@ impl<T: TriHashItemMut, S: BuildHasher> TriHashMap<T, S> {
             T.TriHashItem T.K1.Hash T.K2.Hash T.K3.Hash S.BuildHasher S.Hasher.Hasher T.Data.row T.put
             ⟦<T as Ranked>⟧.ranks (has2 T.TriHashItem Q.stands_for query) self.entry result) }
     {
-        match self.slot2_by(query, &mut Meter::new(), &mut Meter::new()) {
+        match self.slot2_by(query, &mut Costs::new()) {
             Some(slot) => Some(self.data_mut_at(slot)),
             None => None,
         }
@@ -80,7 +80,7 @@ impl<T: TriHashItemMut, S: BuildHasher> TriHashMap<T, S> {
             T.TriHashItem T.K1.Hash T.K2.Hash T.K3.Hash S.BuildHasher S.Hasher.Hasher T.Data.row T.put
             ⟦<T as Ranked>⟧.ranks (has3 T.TriHashItem Q.stands_for query) self.entry result) }
     {
-        match self.slot3_by(query, &mut Meter::new(), &mut Meter::new()) {
+        match self.slot3_by(query, &mut Costs::new()) {
             Some(slot) => Some(self.data_mut_at(slot)),
             None => None,
         }

@@ -10,7 +10,7 @@ ghost use Rattle.iddqd_tri.specs.Entries.{HasKeys, IsFound, entry_lender, entry_
 use super::TriHashMap;
 use crate::entry::{Entry, OccupiedEntry, VacantEntry};
 use crate::item::TriHashItem;
-use iddqd_store::{Meter, Query, Searched};
+use iddqd_store::{Costs, Query, Searched};
 use std::hash::{BuildHasher, Hash};
 
 impl<T: TriHashItem, S: BuildHasher> TriHashMap<T, S> {
@@ -45,7 +45,7 @@ impl<T: TriHashItem, S: BuildHasher> TriHashMap<T, S> {
             (bag self.old) }
         ensures is_found { IsFound result }
     {
-        match self.search_all(query1, query2, query3, &mut Meter::new(), &mut Meter::new()) {
+        match self.search_all(query1, query2, query3, &mut Costs::new()) {
             Searched::Vacant(at) => Entry::Vacant(VacantEntry {
                 map: self,
                 query1,

@@ -14,7 +14,7 @@ use super::slots::Refusal;
 use super::slots::found::each_once;
 use crate::error::{ExtendUniqueError, FromIterError};
 use crate::item::Ranked;
-use iddqd_store::{AHEAD, DuplicateItem, MemoryRefused, Meter};
+use iddqd_store::{AHEAD, Costs, DuplicateItem, MemoryRefused};
 use std::alloc::Global;
 use std::hash::{BuildHasher, Hash};
 
@@ -166,7 +166,7 @@ impl<T: Ranked + Drop, S: BuildHasher + Default + Drop> TriHashMap<T, S> {
         // This error is ignored: the call may succeed without the capacity, since the items may share keys.
         let _ = map.grow(items.size_hint().0, AHEAD);
         for item in items {
-            match map.insert_or_refuse(item, &mut Meter::new(), &mut Meter::new()) {
+            match map.insert_or_refuse(item, &mut Costs::new()) {
                 Ok(()) => {}
                 Err(Refusal::Duplicate(item, by)) => {
                     let found = each_once(by.0.slot(), by.1.slot(), by.2.slot());

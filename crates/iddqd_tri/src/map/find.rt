@@ -11,7 +11,7 @@ ghost use Rattle.iddqd_tri.specs.Keys.{has1, has2, has3, has_all};
 
 use super::TriHashMap;
 use crate::item::{Hashed, TriHashItem};
-use iddqd_store::{ByQuery, ItemIndex, KeyMatcher, Meter, Query};
+use iddqd_store::{ByQuery, Costs, ItemIndex, KeyMatcher, Meter, Query};
 use std::hash::{BuildHasher, Hash};
 
 impl<T: TriHashItem, S: BuildHasher> TriHashMap<T, S> {
@@ -94,14 +94,7 @@ impl<T: TriHashItem, S: BuildHasher> TriHashMap<T, S> {
             (bag self.now) (option_copied result) }
     {
         let hash = self.hash_builder.hash_one(query1);
-        self.item_of(self.slot_unique(
-            hash,
-            query1,
-            query2,
-            query3,
-            &mut Meter::new(),
-            &mut Meter::new(),
-        ))
+        self.item_of(self.slot_unique(hash, query1, query2, query3, &mut Costs::new()))
     }
 
     /// Returns whether an item has the first key that the query stands for. It costs what `get1` costs.
@@ -208,51 +201,33 @@ impl<T: TriHashItem, S: BuildHasher> TriHashMap<T, S> {
         self.by_key3().find_with(hash, matcher, meter)
     }
 
-    /// Returns the slot of the item whose first key the query stands for, or `None`. One meter counts the keys that the
-    /// query is compared with, and the other the probed cells.
-    pub(crate) fn slot1_by<Q: Query<T::K1>>(
-        &self,
-        query: Q,
-        asked: &mut Meter,
-        probed: &mut Meter,
-    ) -> Option<ItemIndex>
+    /// Returns the slot of the item whose first key the query stands for, or `None`.
+    pub(crate) fn slot1_by<Q: Query<T::K1>>(&self, query: Q, costs: &mut Costs) -> Option<ItemIndex>
         ensures found { FoundAt (has1 T.TriHashItem Q.stands_for query) self.now.slots result }
         ensures costs { SearchCosts (⟦<T as Hashed<S>>⟧.hash1 self.now.builder) (bag self.now) self.now.capacity
             (hash_of S.BuildHasher S.Hasher.Hasher self.now.builder (Q.hash_input query)) result
-            asked.old asked.new probed.old probed.new }
+            costs.old.asked costs.new.asked costs.old.probed costs.new.probed }
     {
-        self.by_key1().slot_of(query, asked, probed)
+        self.by_key1().slot_of(query, costs)
     }
 
-    /// Returns the slot of the item whose second key the query stands for, or `None`. One meter counts the keys that
-    /// the query is compared with, and the other the probed cells.
-    pub(crate) fn slot2_by<Q: Query<T::K2>>(
-        &self,
-        query: Q,
-        asked: &mut Meter,
-        probed: &mut Meter,
-    ) -> Option<ItemIndex>
+    /// Returns the slot of the item whose second key the query stands for, or `None`.
+    pub(crate) fn slot2_by<Q: Query<T::K2>>(&self, query: Q, costs: &mut Costs) -> Option<ItemIndex>
         ensures found { FoundAt (has2 T.TriHashItem Q.stands_for query) self.now.slots result }
         ensures costs { SearchCosts (⟦<T as Hashed<S>>⟧.hash2 self.now.builder) (bag self.now) self.now.capacity
             (hash_of S.BuildHasher S.Hasher.Hasher self.now.builder (Q.hash_input query)) result
-            asked.old asked.new probed.old probed.new }
+            costs.old.asked costs.new.asked costs.old.probed costs.new.probed }
     {
-        self.by_key2().slot_of(query, asked, probed)
+        self.by_key2().slot_of(query, costs)
     }
 
-    /// Returns the slot of the item whose third key the query stands for, or `None`. One meter counts the keys that the
-    /// query is compared with, and the other the probed cells.
-    pub(crate) fn slot3_by<Q: Query<T::K3>>(
-        &self,
-        query: Q,
-        asked: &mut Meter,
-        probed: &mut Meter,
-    ) -> Option<ItemIndex>
+    /// Returns the slot of the item whose third key the query stands for, or `None`.
+    pub(crate) fn slot3_by<Q: Query<T::K3>>(&self, query: Q, costs: &mut Costs) -> Option<ItemIndex>
         ensures found { FoundAt (has3 T.TriHashItem Q.stands_for query) self.now.slots result }
         ensures costs { SearchCosts (⟦<T as Hashed<S>>⟧.hash3 self.now.builder) (bag self.now) self.now.capacity
             (hash_of S.BuildHasher S.Hasher.Hasher self.now.builder (Q.hash_input query)) result
-            asked.old asked.new probed.old probed.new }
+            costs.old.asked costs.new.asked costs.old.probed costs.new.probed }
     {
-        self.by_key3().slot_of(query, asked, probed)
+        self.by_key3().slot_of(query, costs)
     }
 }

@@ -11,7 +11,7 @@ use super::slots::Refusal;
 use super::slots::found::each_once;
 use crate::error::{InsertError, Rejected};
 use crate::item::Ranked;
-use iddqd_store::{Meter, UpToThree};
+use iddqd_store::{Costs, UpToThree};
 use std::hash::{BuildHasher, Hash};
 
 impl<T: Ranked, S: BuildHasher> TriHashMap<T, S> {
@@ -47,7 +47,7 @@ impl<T: Ranked, S: BuildHasher> TriHashMap<T, S> {
             T.TriHashItem T.K1.Hash T.K2.Hash T.K3.Hash S.BuildHasher S.Hasher.Hasher
             self.entry result (λ new. Gains self.old item new)) }
     {
-        match self.insert_or_refuse(item, &mut Meter::new(), &mut Meter::new()) {
+        match self.insert_or_refuse(item, &mut Costs::new()) {
             Ok(()) => Ok(()),
             Err(Refusal::Duplicate(item, by)) => {
                 let found = each_once(by.0.slot(), by.1.slot(), by.2.slot());
@@ -89,7 +89,7 @@ impl<T: Ranked, S: BuildHasher> TriHashMap<T, S> {
         ensures unchanged { OnErr result (self.new ≡ self.old) }
         ensures reason { IfErr result (λ e. TellsWhy T.TriHashItem T.K1.eq T.K2.eq T.K3.eq self.old item e) }
     {
-        match self.insert_or_refuse(item, &mut Meter::new(), &mut Meter::new()) {
+        match self.insert_or_refuse(item, &mut Costs::new()) {
             Ok(()) => Ok(()),
             Err(Refusal::Duplicate(item, by)) => {
                 let taken1 = by.0.slot().is_some();

@@ -9,7 +9,7 @@ ghost use Rattle.iddqd_store.specs.Rank.All.{PlacingCosts, hashes_of};
 use super::TriHashMap;
 use super::slots::Refusal;
 use crate::item::{Hashed, Ranked};
-use iddqd_store::{MemoryRefused, Meter, UpToThree};
+use iddqd_store::{Costs, MemoryRefused, UpToThree};
 use std::hash::{BuildHasher, Hash};
 
 impl<T: Ranked, S: BuildHasher> TriHashMap<T, S> {
@@ -31,18 +31,17 @@ impl<T: Ranked, S: BuildHasher> TriHashMap<T, S> {
         ensures unchanged { OnErr result (self.new ≡ self.old) }
         ensures reason { OnErr result (IsFullFor T.ranks self.old item) }
     {
-        self.insert_overwrite_by(item, &mut Meter::new(), &mut Meter::new())
+        self.insert_overwrite_by(item, &mut Costs::new())
     }
 
-    /// Inserts as `insert_overwrite` does, which calls it. One meter counts the keys that are compared, and the other
-    /// the probed cells, but for those that growing probes. Beside the searches, the number of its walks through each
-    /// table is at most one more than the number of items that it displaces.
+    /// Inserts as `insert_overwrite` does, which calls it, and counts its costs, but for the cells that growing probes.
+    /// Beside the searches, the number of its walks through each table is at most one more than the number of items
+    /// that it displaces.
     #[inline(always)]
     fn insert_overwrite_by(
         &mut self,
         item: T,
-        asked: &mut Meter,
-        probed: &mut Meter,
+        costs: &mut Costs,
     ) -> Result<UpToThree<T>, MemoryRefused<T>>
         // The conflicting items are returned, in the order of the item's keys, and the item is in their place.
         ensures displaced { IfOk result (λ gone. gone ≡ order T.ranks (bag self.old) item) }
@@ -56,14 +55,14 @@ impl<T: Ranked, S: BuildHasher> TriHashMap<T, S> {
         ensures costs { PlacingCosts (⟦<T as Hashed<S>>⟧.hashes self.old.builder) (bag self.old) self.old.capacity
             (hashes_of (⟦<T as Hashed<S>>⟧.hashes self.old.builder) item)
             (map (λ _. length (order T.ranks (bag self.old) item) + 1) T.ranks)
-            asked.old asked.new probed.old probed.new }
+            costs.old costs.new }
     {
         // What an insert needs, or an overwrite of one item, is inlined, so a caller's loop branches on the outcome
         // where it arises, and no item is copied from call to call. Growth is not inlined.
-        match self.insert_or_refuse(item, asked, probed) {
+        match self.insert_or_refuse(item, costs) {
             Ok(()) => Ok(UpToThree::new()),
             Err(Refusal::Duplicate(item, by)) => {
-                let (displaced, _) = self.put_over(item, &by, probed);
+                let (displaced, _) = self.put_over(item, &by, &mut costs.probed);
                 Ok(displaced)
             }
             Err(Refusal::Memory(value)) => Err(MemoryRefused { value }),

@@ -11,7 +11,7 @@ ghost use Rattle.iddqd_tri.specs.Keys.{has1, has2, has3, has_all};
 use super::TriHashMap;
 use crate::item::{Hashed, TriHashItem};
 use crate::ranks::{First, Second, Third};
-use iddqd_store::{ByQuery, KeyMatcher, Meter, Query};
+use iddqd_store::{ByQuery, Costs, KeyMatcher, Meter, Query};
 use std::hash::{BuildHasher, Hash};
 
 impl<T: TriHashItem, S: BuildHasher> TriHashMap<T, S> {
@@ -236,14 +236,7 @@ impl<T: TriHashItem, S: BuildHasher> TriHashMap<T, S> {
         ensures absent { IfNone result (self.new ≡ self.old) }
     {
         let hash = self.hash_builder.hash_one(query1);
-        match self.slot_unique(
-            hash,
-            query1,
-            query2,
-            query3,
-            &mut Meter::new(),
-            &mut Meter::new(),
-        ) {
+        match self.slot_unique(hash, query1, query2, query3, &mut Costs::new()) {
             Some(slot) => Some(self.take(slot, Some(hash), None, None, &mut Meter::new())),
             None => None,
         }

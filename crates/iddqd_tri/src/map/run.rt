@@ -16,7 +16,7 @@ use super::slots::Refusal;
 use super::slots::found::each_once;
 use crate::command::{TriCommand, TriReply, TriSink};
 use crate::item::{Ranked, TriHashItemMut};
-use iddqd_store::{DuplicateItem, ItemIndex, MemoryRefused, Meter, UpToThree};
+use iddqd_store::{Costs, DuplicateItem, ItemIndex, MemoryRefused, UpToThree};
 use std::hash::{BuildHasher, Hash};
 
 mod replies;
@@ -103,32 +103,32 @@ where
                 key1, key2, key3, item, sink,
             ),
             TriCommand::Replace1(key, item) => self.apply_replace(
-                self.slot1_by(&key, &mut Meter::new(), &mut Meter::new()),
+                self.slot1_by(&key, &mut Costs::new()),
                 item,
                 sink,
             ),
             TriCommand::Replace2(key, item) => self.apply_replace(
-                self.slot2_by(&key, &mut Meter::new(), &mut Meter::new()),
+                self.slot2_by(&key, &mut Costs::new()),
                 item,
                 sink,
             ),
             TriCommand::Replace3(key, item) => self.apply_replace(
-                self.slot3_by(&key, &mut Meter::new(), &mut Meter::new()),
+                self.slot3_by(&key, &mut Costs::new()),
                 item,
                 sink,
             ),
             TriCommand::Set1(key, data) => self.apply_set(
-                self.slot1_by(&key, &mut Meter::new(), &mut Meter::new()),
+                self.slot1_by(&key, &mut Costs::new()),
                 data,
                 sink,
             ),
             TriCommand::Set2(key, data) => self.apply_set(
-                self.slot2_by(&key, &mut Meter::new(), &mut Meter::new()),
+                self.slot2_by(&key, &mut Costs::new()),
                 data,
                 sink,
             ),
             TriCommand::Set3(key, data) => self.apply_set(
-                self.slot3_by(&key, &mut Meter::new(), &mut Meter::new()),
+                self.slot3_by(&key, &mut Costs::new()),
                 data,
                 sink,
             ),
@@ -140,7 +140,7 @@ where
             (state_of self.old) sink.old item result (state_of self.new) sink.new }
         ensures builder { self.new.builder ≡ self.old.builder }
     {
-        match self.insert_or_refuse(item, &mut Meter::new(), &mut Meter::new()) {
+        match self.insert_or_refuse(item, &mut Costs::new()) {
             Ok(()) => self.tell(TriReply::Done, sink),
             Err(Refusal::Duplicate(item, by)) => {
                 let found = each_once(by.0.slot(), by.1.slot(), by.2.slot());

@@ -12,7 +12,7 @@ ghost use Rattle.iddqd_tri.specs.Keys.{has1, has2, has3, has_all};
 
 use super::TriHashMap;
 use crate::item::{Ranked, TriHashItemMut};
-use iddqd_store::{Meter, Query};
+use iddqd_store::{Costs, Query};
 use std::hash::{BuildHasher, Hash};
 
 impl<T: TriHashItemMut, S: BuildHasher> TriHashMap<T, S> {
@@ -35,7 +35,7 @@ impl<T: TriHashItemMut, S: BuildHasher> TriHashMap<T, S> {
         ensures capacity { self.new.capacity ≡ self.old.capacity }
         ensures builder { self.new.builder ≡ self.old.builder }
     {
-        match self.slot1_by(query, &mut Meter::new(), &mut Meter::new()) {
+        match self.slot1_by(query, &mut Costs::new()) {
             Some(slot) => {
                 self.store_once(slot, f);
                 true
@@ -63,7 +63,7 @@ impl<T: TriHashItemMut, S: BuildHasher> TriHashMap<T, S> {
         ensures capacity { self.new.capacity ≡ self.old.capacity }
         ensures builder { self.new.builder ≡ self.old.builder }
     {
-        match self.slot2_by(query, &mut Meter::new(), &mut Meter::new()) {
+        match self.slot2_by(query, &mut Costs::new()) {
             Some(slot) => {
                 self.store_once(slot, f);
                 true
@@ -91,7 +91,7 @@ impl<T: TriHashItemMut, S: BuildHasher> TriHashMap<T, S> {
         ensures capacity { self.new.capacity ≡ self.old.capacity }
         ensures builder { self.new.builder ≡ self.old.builder }
     {
-        match self.slot3_by(query, &mut Meter::new(), &mut Meter::new()) {
+        match self.slot3_by(query, &mut Costs::new()) {
             Some(slot) => {
                 self.store_once(slot, f);
                 true

@@ -37,16 +37,14 @@ same n old x only = sym (eqb-true n x.serial (given-has (λ d. nat_eq n d.serial
 pub returns-in-Ok-clause-was : goal.returns-in-Ok-clause-was
 returns-in-Ok-clause-was c =
     let old = bag c.args.devices.now in
-    let device = c.in-Ok.device in
-    subst (λ n. IsOnly (λ (d : Device). nat_eq c.args.serial d.serial) old (Some (record { serial = n; port = device.port })))
-    (same c.args.serial old device c.in-Ok.ensures.found) c.in-Ok.ensures.found
+    subst (λ n. IsOnly (λ (d : Device). nat_eq c.args.serial d.serial) old (Some (record { serial = n; port = c.in-Ok.device.port })))
+    (same c.args.serial old c.in-Ok.device c.in-Ok.ensures.found) c.in-Ok.ensures.found
 
 pub returns-in-Ok-clause-moved : goal.returns-in-Ok-clause-moved
 returns-in-Ok-clause-moved c =
     let old = bag c.args.devices.now in
-    let device = c.in-Ok.device in
-    subst (λ n. IsPermutation (record { serial = n; port = device.port } ∷ bag c.rekey1.new.self)
-    (record { serial = c.args.serial; port = c.args.port } ∷ old)) (same c.args.serial old device c.in-Ok.ensures.found) c.in-Ok.ensures.puts.items
+    subst (λ n. IsPermutation (record { serial = n; port = c.in-Ok.device.port } ∷ bag c.rekey1.new.self)
+    (record { serial = c.args.serial; port = c.args.port } ∷ old)) (same c.args.serial old c.in-Ok.device c.in-Ok.ensures.found) c.in-Ok.ensures.puts.items
 
 pub returns-in-Err-Absent-clause-no_device : goal.returns-in-Err-Absent-clause-no_device
 returns-in-Err-Absent-clause-no_device c = λ _.

@@ -11,7 +11,7 @@ use crate::error::Rejected;
 use crate::item::{BiHashItem, Ranked};
 use crate::map::BiHashMap;
 use crate::ranks::{First, Second};
-use iddqd_store::{Entered, Meter, Searched};
+use iddqd_store::{Costs, Entered, Meter, Searched};
 use std::hash::{BuildHasher, Hash};
 
 impl<T: BiHashItem, S: BuildHasher> BiHashMap<T, S> {
@@ -39,7 +39,7 @@ impl<T: BiHashItem, S: BuildHasher> BiHashMap<T, S> {
         ensures same_notes { OnErr result (entered.new.slots ≡ entered.old.slots) }
         ensures grows { GrowsUnless (length (bag self.old) < self.old.capacity) self.old self.new }
     {
-        let at = match self.places(&item, &mut Meter::new(), &mut Meter::new()) {
+        let at = match self.places(&item, &mut Costs::new()) {
             Searched::Vacant(at) => at,
             Searched::Found((by1, by2)) => {
                 let taken1 = by1.slot().is_some();

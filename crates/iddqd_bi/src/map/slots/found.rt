@@ -15,19 +15,20 @@ ghost use Rattle.iddqd_bi.specs.RefMuts.{ref_lender, ref_map, ref_item, rests_if
 use super::super::BiHashMap;
 use crate::item::{BiHashItem, Hashed, Ranked};
 use crate::ref_mut::RefMut;
-use iddqd_store::{ItemIndex, Meter, Query, Searched, UpToTwo};
+use iddqd_store::{Costs, ItemIndex, Query, Searched, UpToTwo};
 use std::hash::{BuildHasher, Hash};
 
 /// Returns whether the item has the keys asked for at all ranks after the first.
 pub(crate) fn has_others<T: BiHashItem, Q2: Query<T::K2>>(
     item: &T,
     query2: Q2,
-    asked: &mut Meter,
+    costs: &mut Costs,
 ) -> bool
     ensures value { result ≡ every_of (has2 T.BiHashItem Q2.stands_for query2 ∷ []) item.now }
-    ensures costs { asked.new ≡ asked.old + 1 }
+    ensures asked { costs.new.asked ≡ costs.old.asked + 1 }
+    ensures probed { costs.new.probed ≡ costs.old.probed }
 {
-    asked.tick();
+    costs.asked.tick();
     query2.stands_for(item.key2())
 }
 
@@ -77,8 +78,7 @@ impl<T: BiHashItem, S: BuildHasher> BiHashMap<T, S> {
         hash: u64,
         query1: Q1,
         query2: Q2,
-        asked: &mut Meter,
-        probed: &mut Meter,
+        costs: &mut Costs,
     ) -> Option<ItemIndex>
         requires { hash ≡ hash_of S.BuildHasher S.Hasher.Hasher self.now.builder (Q1.hash_input query1) }
         ensures found { IsOnly (has_both T.BiHashItem Q1.stands_for Q2.stands_for query1 query2)
@@ -87,13 +87,13 @@ impl<T: BiHashItem, S: BuildHasher> BiHashMap<T, S> {
         ensures hashed { IfSome result (λ slot. HasHash
             (⟦<T as Hashed<S>>⟧.hash1 self.now.builder) self.now.slots slot hash) }
         ensures costs { UniqueCosts (⟦<T as Hashed<S>>⟧.hash1 self.now.builder) (bag self.now) self.now.capacity
-            hash 1 asked.old asked.new probed.old probed.new }
+            hash 1 costs.old costs.new }
     {
-        let Searched::Found(slot) = self.by_key1().search(hash, query1, asked, probed) else {
+        let Searched::Found(slot) = self.by_key1().search(hash, query1, costs) else {
             return None;
         };
         let item = self.items.get(slot)?;
-        if has_others(item, query2, asked) {
+        if has_others(item, query2, costs) {
             Some(slot)
         } else {
             None
@@ -109,7 +109,7 @@ impl<T: BiHashItem, S: BuildHasher> BiHashMap<T, S> {
         ensures { FoundAt (has_both T.BiHashItem Q1.stands_for Q2.stands_for query1 query2) self.now.slots result }
     {
         let hash = self.hash_builder.hash_one(query1);
-        self.slot_unique(hash, query1, query2, &mut Meter::new(), &mut Meter::new())
+        self.slot_unique(hash, query1, query2, &mut Costs::new())
     }
 
     /// Returns the items of these slots, borrowed for reading.

@@ -13,7 +13,7 @@ use crate::error::Rejected;
 use crate::item::{IdHashItem, Ranked};
 use crate::map::IdHashMap;
 use crate::ranks::First;
-use iddqd_store::{Entered, Meter, Searched};
+use iddqd_store::{Costs, Entered, Meter, Searched};
 use std::hash::{BuildHasher, Hash};
 
 impl<T: IdHashItem, S: BuildHasher> IdHashMap<T, S> {
@@ -42,7 +42,7 @@ impl<T: IdHashItem, S: BuildHasher> IdHashMap<T, S> {
         ensures same_notes { OnErr result (entered.new.slots ≡ entered.old.slots) }
         ensures grows { GrowsUnless (length (bag self.old) < self.old.capacity) self.old self.new }
     {
-        let at = match self.places(&item, &mut Meter::new(), &mut Meter::new()) {
+        let at = match self.places(&item, &mut Costs::new()) {
             Searched::Vacant(at) => at,
             Searched::Found(by) => {
                 let taken = by.slot().is_some();

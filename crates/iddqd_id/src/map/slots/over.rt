@@ -12,7 +12,7 @@ ghost use Rattle.iddqd_store.specs.Slots.Found.{each_once};
 use super::super::IdHashMap;
 use crate::item::{Hashed, IdHashItem, Ranked};
 use crate::ranks::First;
-use iddqd_store::{ItemIndex, Meter, Searched, SlotUnder, Vacancy};
+use iddqd_store::{Costs, ItemIndex, Meter, Searched, SlotUnder, Vacancy};
 use std::hash::{BuildHasher, Hash};
 
 impl<T: IdHashItem, S: BuildHasher> IdHashMap<T, S> {
@@ -42,13 +42,7 @@ impl<T: IdHashItem, S: BuildHasher> IdHashMap<T, S> {
     /// Puts an item into the slot of another, whatever their keys are, and returns the latter. If an item in a third
     /// slot conflicts with the new one, the new one is returned, and nothing changes. The call hashes the key of the
     /// new item once, and searches for it once. Beside these searches it walks through the table at most twice.
-    pub(crate) fn rekey_at(
-        &mut self,
-        slot: ItemIndex,
-        item: T,
-        asked: &mut Meter,
-        probed: &mut Meter,
-    ) -> Result<T, T>
+    pub(crate) fn rekey_at(&mut self, slot: ItemIndex, item: T, costs: &mut Costs) -> Result<T, T>
         requires { IsLive self.old.slots slot }
         ensures value { IfOk result (λ x. get self.old.slots slot ≡ Some x) }
         ensures puts_at { OnOk result (PutsAt ⟦<T as Ranked>⟧.ranks self.old slot item
@@ -59,10 +53,10 @@ impl<T: IdHashItem, S: BuildHasher> IdHashMap<T, S> {
         ensures unchanged { OnErr result (self.new ≡ self.old) }
         ensures costs { PlacingCosts (⟦<T as Hashed<S>>⟧.hashes self.old.builder) (bag self.old) self.old.capacity
             (hashes_of (⟦<T as Hashed<S>>⟧.hashes self.old.builder) item) (map (λ _. 2) ⟦<T as Ranked>⟧.ranks)
-            asked.old asked.new probed.old probed.new }
+            costs.old costs.new }
     {
-        let by = match self.places(&item, asked, probed) {
-            Searched::Vacant(at) => return Ok(self.exchange_at(slot, item, at, probed)),
+        let by = match self.places(&item, costs) {
+            Searched::Vacant(at) => return Ok(self.exchange_at(slot, item, at, &mut costs.probed)),
             Searched::Found(by) => by,
         };
         let Some(other) = by.slot() else {
@@ -71,7 +65,7 @@ impl<T: IdHashItem, S: BuildHasher> IdHashMap<T, S> {
         if other != slot {
             return Err(item);
         }
-        Ok(self.exchange(slot, item, &by, probed))
+        Ok(self.exchange(slot, item, &by, &mut costs.probed))
     }
 
     /// Puts an item with which nothing conflicts into the slot of another, and returns the latter. If both have the

@@ -17,7 +17,7 @@ ghost use Rattle.iddqd_tri.specs.RefMuts.{ref_lender, ref_map, ref_item, rests_i
 use super::super::TriHashMap;
 use crate::item::{Hashed, Ranked, TriHashItem};
 use crate::ref_mut::RefMut;
-use iddqd_store::{ItemIndex, Meter, Query, Searched, UpToThree};
+use iddqd_store::{Costs, ItemIndex, Query, Searched, UpToThree};
 use std::hash::{BuildHasher, Hash};
 
 /// Returns whether the item has the keys asked for at all ranks after the first.
@@ -25,17 +25,18 @@ pub(crate) fn has_others<T: TriHashItem, Q2: Query<T::K2>, Q3: Query<T::K3>>(
     item: &T,
     query2: Q2,
     query3: Q3,
-    asked: &mut Meter,
+    costs: &mut Costs,
 ) -> bool
     ensures value { result ≡ every_of (has2 T.TriHashItem Q2.stands_for query2
         ∷ has3 T.TriHashItem Q3.stands_for query3 ∷ []) item.now }
-    ensures costs { asked.new ≤ asked.old + 2 }
+    ensures asked { costs.new.asked ≤ costs.old.asked + 2 }
+    ensures probed { costs.new.probed ≡ costs.old.probed }
 {
-    asked.tick();
+    costs.asked.tick();
     if !query2.stands_for(item.key2()) {
         return false;
     }
-    asked.tick();
+    costs.asked.tick();
     query3.stands_for(item.key3())
 }
 
@@ -100,8 +101,7 @@ impl<T: TriHashItem, S: BuildHasher> TriHashMap<T, S> {
         query1: Q1,
         query2: Q2,
         query3: Q3,
-        asked: &mut Meter,
-        probed: &mut Meter,
+        costs: &mut Costs,
     ) -> Option<ItemIndex>
         requires { hash ≡ hash_of S.BuildHasher S.Hasher.Hasher self.now.builder (Q1.hash_input query1) }
         ensures found { IsOnly (has_all T.TriHashItem Q1.stands_for Q2.stands_for Q3.stands_for query1 query2 query3)
@@ -110,13 +110,13 @@ impl<T: TriHashItem, S: BuildHasher> TriHashMap<T, S> {
         ensures hashed { IfSome result (λ slot. HasHash
             (⟦<T as Hashed<S>>⟧.hash1 self.now.builder) self.now.slots slot hash) }
         ensures costs { UniqueCosts (⟦<T as Hashed<S>>⟧.hash1 self.now.builder) (bag self.now) self.now.capacity
-            hash 2 asked.old asked.new probed.old probed.new }
+            hash 2 costs.old costs.new }
     {
-        let Searched::Found(slot) = self.by_key1().search(hash, query1, asked, probed) else {
+        let Searched::Found(slot) = self.by_key1().search(hash, query1, costs) else {
             return None;
         };
         let item = self.items.get(slot)?;
-        if has_others(item, query2, query3, asked) {
+        if has_others(item, query2, query3, costs) {
             Some(slot)
         } else {
             None
@@ -134,14 +134,7 @@ impl<T: TriHashItem, S: BuildHasher> TriHashMap<T, S> {
             (has_all T.TriHashItem Q1.stands_for Q2.stands_for Q3.stands_for query1 query2 query3) self.now.slots result }
     {
         let hash = self.hash_builder.hash_one(query1);
-        self.slot_unique(
-            hash,
-            query1,
-            query2,
-            query3,
-            &mut Meter::new(),
-            &mut Meter::new(),
-        )
+        self.slot_unique(hash, query1, query2, query3, &mut Costs::new())
     }
 
     /// Returns the items of these slots, borrowed for reading.

@@ -15,7 +15,7 @@ use super::super::TriHashMap;
 use super::found::each_once;
 use crate::item::{Hashed, Ranked, TriHashItem};
 use crate::ranks::{First, Second, Third};
-use iddqd_store::{ItemIndex, Meter, Searched, SlotUnder, UpToThree, Vacancy};
+use iddqd_store::{Costs, ItemIndex, Meter, Searched, SlotUnder, UpToThree, Vacancy};
 use std::hash::{BuildHasher, Hash};
 
 impl<T: TriHashItem, S: BuildHasher> TriHashMap<T, S> {
@@ -74,13 +74,7 @@ impl<T: TriHashItem, S: BuildHasher> TriHashMap<T, S> {
     /// Puts an item into the slot of another, whatever their keys are, and returns the latter. If an item in a third
     /// slot conflicts with the new one, the new one is returned, and nothing changes. The call hashes each key of the
     /// new item once, and searches for it once. Beside these searches it walks through each table at most twice.
-    pub(crate) fn rekey_at(
-        &mut self,
-        slot: ItemIndex,
-        item: T,
-        asked: &mut Meter,
-        probed: &mut Meter,
-    ) -> Result<T, T>
+    pub(crate) fn rekey_at(&mut self, slot: ItemIndex, item: T, costs: &mut Costs) -> Result<T, T>
         requires { IsLive self.old.slots slot }
         ensures value { IfOk result (λ x. get self.old.slots slot ≡ Some x) }
         ensures puts_at { OnOk result (PutsAt ⟦<T as Ranked>⟧.ranks self.old slot item
@@ -91,10 +85,10 @@ impl<T: TriHashItem, S: BuildHasher> TriHashMap<T, S> {
         ensures unchanged { OnErr result (self.new ≡ self.old) }
         ensures costs { PlacingCosts (⟦<T as Hashed<S>>⟧.hashes self.old.builder) (bag self.old) self.old.capacity
             (hashes_of (⟦<T as Hashed<S>>⟧.hashes self.old.builder) item) (map (λ _. 2) ⟦<T as Ranked>⟧.ranks)
-            asked.old asked.new probed.old probed.new }
+            costs.old costs.new }
     {
-        let by = match self.places(&item, asked, probed) {
-            Searched::Vacant(at) => return Ok(self.exchange_at(slot, item, at, probed)),
+        let by = match self.places(&item, costs) {
+            Searched::Vacant(at) => return Ok(self.exchange_at(slot, item, at, &mut costs.probed)),
             Searched::Found(by) => by,
         };
         let mut found = each_once(by.0.slot(), by.1.slot(), by.2.slot());
@@ -106,7 +100,7 @@ impl<T: TriHashItem, S: BuildHasher> TriHashMap<T, S> {
         }
         match found.pop_front() {
             Some(_) => Err(item),
-            None => Ok(self.exchange(slot, item, &by, probed)),
+            None => Ok(self.exchange(slot, item, &by, &mut costs.probed)),
         }
     }
 

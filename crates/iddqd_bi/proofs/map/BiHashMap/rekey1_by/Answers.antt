@@ -28,9 +28,9 @@ returns-in-Err-clause-reason g c =
 pub returns-in-Ok-clause-costs : goal.returns-in-Ok-clause-costs
 returns-in-Ok-clause-costs g c =
     let then = c.rekey_at.ensures.costs in
-    rw g.met.T.Ranked.ranks_are (placing (c.slot1_by.result ∷ then.answers) then.between (c.slot1_by.new.asked, c.slot1_by.new.probed, c.slot1_by.ensures.costs, then.search) then.rest)
+    rw g.met.T.Ranked.ranks_are (placing (c.slot1_by.result ∷ then.answers) then.between (c.slot1_by.new.costs, c.slot1_by.ensures.costs, then.search) then.rest)
 
 pub returns-in-Err-clause-costs : goal.returns-in-Err-clause-costs
 returns-in-Err-clause-costs g c =
     let then = c.rekey_at.ensures.costs in
-    rw g.met.T.Ranked.ranks_are (placing (c.slot1_by.result ∷ then.answers) then.between (c.slot1_by.new.asked, c.slot1_by.new.probed, c.slot1_by.ensures.costs, then.search) then.rest)
+    rw g.met.T.Ranked.ranks_are (placing (c.slot1_by.result ∷ then.answers) then.between (c.slot1_by.new.costs, c.slot1_by.ensures.costs, then.search) then.rest)

@@ -19,7 +19,7 @@ returns-in-None-clause-value g c =
     sym (partner_none agree [] g.T.PartialEq.eq (bag c.args.self.now) c.args.item.now _ named (ap option_copied c.in-None.is))
 
 pub returns-in-Some-clause-costs : goal.returns-in-Some-clause-costs
-returns-in-Some-clause-costs g c = record { answer = _; between = c.slot_by.new.asked; search = rw c.key.ensures at c.slot_by.ensures.costs; rest = omega arith }
+returns-in-Some-clause-costs g c = record { answer = _; between = c.slot_by.new.costs.asked; search = rw c.key.ensures at c.slot_by.ensures.costs; rest = omega arith }
 
 pub returns-in-None-clause-costs : goal.returns-in-None-clause-costs
-returns-in-None-clause-costs g c = record { answer = _; between = c.slot_by.new.asked; search = rw c.key.ensures at c.slot_by.ensures.costs; rest = omega arith }
+returns-in-None-clause-costs g c = record { answer = _; between = c.slot_by.new.costs.asked; search = rw c.key.ensures at c.slot_by.ensures.costs; rest = omega arith }

@@ -42,7 +42,7 @@ returns-in-Err-Duplicate g c =
       handed_back = search rules;
       unchanged = search rules;
       reason = search rules;
-      costs = walked_after arm.ensures.costs (omega arith) put.costs;
+      costs = walked_after (rw (← c.costs.view_is) at arm.ensures.costs) (omega arith) put.costs;
     }
 
 pub returns-in-Err-Memory : goal.returns-in-Err-Memory

@@ -30,13 +30,13 @@ exchange-requires-clause-free g c =
 
 pub returns-in-Vacant-clause-costs : goal.returns-in-Vacant-clause-costs
 returns-in-Vacant-clause-costs g c =
-    let rest : c.exchange_at.new.meter ≤ c.places.new.probed + walks_within (length (bag c.args.self.now)) (2 ∷ []) = grind (arith, common_steps) in
-    placing _ _ c.places.ensures.costs rest
+    let rest : c.exchange_at.new.meter ≤ c.costs.inside.probed + walks_within (length (bag c.args.self.now)) (2 ∷ []) = grind (arith, common_steps) in
+    placing _ _ (rw (← c.costs.view_is) at c.places.ensures.costs) rest
 
 pub returns-then-ne-clause-costs : goal.returns-then-ne-clause-costs
 returns-then-ne-clause-costs g c = placing _ _ c.places.ensures.costs (omega arith)
 
 pub returns-clause-costs : goal.returns-clause-costs
 returns-clause-costs g c =
-    let rest : c.exchange.new.meter ≤ c.places.new.probed + walks_within (length (bag c.args.self.now)) (2 ∷ []) = grind (arith, common_steps) in
-    placing _ _ c.places.ensures.costs rest
+    let rest : c.exchange.new.meter ≤ c.costs.inside.probed + walks_within (length (bag c.args.self.now)) (2 ∷ []) = grind (arith, common_steps) in
+    placing _ _ (rw (← c.costs.view_is) at c.places.ensures.costs) rest

@@ -1,7 +1,7 @@
 -- Written by hand; tests/three_keys.patch says why.
 use Rattle.std.proofs.Common.{arith, refl, rules, ◌∙◌}
 use Rattle.std.proofs.lemmas.List.Sorted.{length_permutation, IsPermutation-trans}
-use Rattle.iddqd_store.proofs.MapLemmas.Growing.{refuses, reserves, slots_bound}
+use Rattle.iddqd_store.proofs.MapLemmas.Growing.{refuses, grows, slots_bound}
 use Rattle.iddqd_store.proofs.RankLemmas.Invariant.{IsIndexed-reorder}
 use Rattle.iddqd_tri.proofs.map.TriHashMap.grow.Goals as goal
 
@@ -53,20 +53,8 @@ invariant_of-self-2 g c = rw (c.try_reserve-7.ensures.slots, c.try_reserve.ensur
 
 pub returns : goal.returns
 returns g c =
-    reserves _ c.self.view_is (c.try_reserve-7.ensures.slots ∙ c.try_reserve.ensures.slots) c.self.invariant
-    (λ all. (
-      omega (
-        arith,
-        all,
-        c.in-Some.ensures.enough,
-        length_permutation _ _ c.try_reserve-2.ensures.pairs,
-        length_permutation _ _ c.try_reserve-3.ensures.pairs,
-        rw c.try_reserve.ensures.slots at c.in_ok-try_reserve-7.ensures.room,
-        c.in_ok-try_reserve-4.ensures.room.room,
-        c.in_ok-try_reserve-5.ensures.room.room,
-        c.in_ok-try_reserve-6.ensures.room.room,
-      ),
-      λ past. grind (arith, length_permutation),
-      omega arith,
-      grind (arith, length_permutation),
-    ))
+    let second = length_permutation _ _ c.try_reserve-2.ensures.pairs in
+    let third = length_permutation _ _ c.try_reserve-3.ensures.pairs in
+    let room = rw c.try_reserve.ensures.slots at c.in_ok-try_reserve-7.ensures.room in
+    grows c.self.view_is (c.try_reserve-7.ensures.slots ∙ c.try_reserve.ensures.slots) c.self.invariant (λ is. (λ _. grind (arith, length_permutation), omega arith, grind (arith, length_permutation)))
+    (λ is. omega (arith, is, c.in-Some.ensures.enough, second, third, room, c.in_ok-try_reserve-4.ensures.room.room, c.in_ok-try_reserve-5.ensures.room.room, c.in_ok-try_reserve-6.ensures.room.room))

@@ -15,4 +15,4 @@ pub returns-in-Err-clause-costs : goal.returns-in-Err-clause-costs
 returns-in-Err-clause-costs g c = placing _ _ c.places.ensures.costs (omega arith)
 
 pub returns-clause-costs : goal.returns-clause-costs
-returns-clause-costs g c = placing _ _ c.places.ensures.costs (rw c.make_room.ensures.slots at c.insert_at.ensures.costs)
+returns-clause-costs g c = placing _ _ (rw (← c.costs.view_is) at c.places.ensures.costs) (rw c.make_room.ensures.slots at c.insert_at.ensures.costs)

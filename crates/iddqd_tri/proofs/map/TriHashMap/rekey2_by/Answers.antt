@@ -29,9 +29,9 @@ returns-in-Err-clause-reason g c =
 pub returns-in-Ok-clause-costs : goal.returns-in-Ok-clause-costs
 returns-in-Ok-clause-costs g c =
     let then = c.rekey_at.ensures.costs in
-    rw g.met.T.Ranked.ranks_are (placing (c.slot2_by.result ∷ then.answers) then.between (c.slot2_by.new.asked, c.slot2_by.new.probed, c.slot2_by.ensures.costs, then.search) then.rest)
+    rw g.met.T.Ranked.ranks_are (placing (c.slot2_by.result ∷ then.answers) then.between (c.slot2_by.new.costs, c.slot2_by.ensures.costs, then.search) then.rest)
 
 pub returns-in-Err-clause-costs : goal.returns-in-Err-clause-costs
 returns-in-Err-clause-costs g c =
     let then = c.rekey_at.ensures.costs in
-    rw g.met.T.Ranked.ranks_are (placing (c.slot2_by.result ∷ then.answers) then.between (c.slot2_by.new.asked, c.slot2_by.new.probed, c.slot2_by.ensures.costs, then.search) then.rest)
+    rw g.met.T.Ranked.ranks_are (placing (c.slot2_by.result ∷ then.answers) then.between (c.slot2_by.new.costs, c.slot2_by.ensures.costs, then.search) then.rest)

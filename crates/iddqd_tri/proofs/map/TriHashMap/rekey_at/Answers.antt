@@ -40,8 +40,8 @@ returns-in-Some-pop_front-clause-reason g c =
 
 pub returns-in-Vacant-clause-costs : goal.returns-in-Vacant-clause-costs
 returns-in-Vacant-clause-costs g c =
-    let rest : c.exchange_at.new.meter ≤ c.places.new.probed + walks_within (length (bag c.args.self.now)) (2 ∷ 2 ∷ 2 ∷ []) = grind (arith, common_steps) in
-    placing _ _ c.places.ensures.costs rest
+    let rest : c.exchange_at.new.meter ≤ c.costs.inside.probed + walks_within (length (bag c.args.self.now)) (2 ∷ 2 ∷ 2 ∷ []) = grind (arith, common_steps) in
+    placing _ _ (rw (← c.costs.view_is) at c.places.ensures.costs) rest
 
 pub returns-then-ne-clause-costs : goal.returns-then-ne-clause-costs
 returns-then-ne-clause-costs g c = placing _ _ c.places.ensures.costs (omega arith)
@@ -51,5 +51,5 @@ returns-in-Some-pop_front-clause-costs g c = placing _ _ c.places.ensures.costs 
 
 pub returns-in-None-clause-costs : goal.returns-in-None-clause-costs
 returns-in-None-clause-costs g c =
-    let rest : c.exchange.new.meter ≤ c.places.new.probed + walks_within (length (bag c.args.self.now)) (2 ∷ 2 ∷ 2 ∷ []) = grind (arith, common_steps) in
-    placing _ _ c.places.ensures.costs rest
+    let rest : c.exchange.new.meter ≤ c.costs.inside.probed + walks_within (length (bag c.args.self.now)) (2 ∷ 2 ∷ 2 ∷ []) = grind (arith, common_steps) in
+    placing _ _ (rw (← c.costs.view_is) at c.places.ensures.costs) rest

@@ -37,19 +37,19 @@ returns-else-has_others-clause-found g c =
 pub returns-in_default-clause-costs : goal.returns-in_default-clause-costs
 returns-in_default-clause-costs g c =
     let first = rw (c.by_key1.ensures.slots, c.by_key1.ensures.builder) at (SearchCosts-room c.args.self.now.capacity c.by_key1.ensures.room c.search.ensures.costs) in
-    record { answer = _; between = c.search.new.asked; search = first; rest = omega (arith) }
+    record { answer = _; between = c.search.new.costs.asked; search = first; rest = omega (arith) }
 
 pub returns-in_err-item-clause-costs : goal.returns-in_err-item-clause-costs
 returns-in_err-item-clause-costs g c =
     let first = rw (c.by_key1.ensures.slots, c.by_key1.ensures.builder) at (SearchCosts-room c.args.self.now.capacity c.by_key1.ensures.room c.search.ensures.costs) in
-    record { answer = _; between = c.search.new.asked; search = first; rest = omega (arith) }
+    record { answer = _; between = c.search.new.costs.asked; search = first; rest = omega (arith) }
 
 pub returns-then-has_others-clause-costs : goal.returns-then-has_others-clause-costs
 returns-then-has_others-clause-costs g c =
     let first = rw (c.by_key1.ensures.slots, c.by_key1.ensures.builder) at (SearchCosts-room c.args.self.now.capacity c.by_key1.ensures.room c.search.ensures.costs) in
-    record { answer = _; between = c.search.new.asked; search = first; rest = omega (arith, c.has_others.ensures.costs) }
+    record { answer = _; between = c.search.new.costs.asked; search = rw (← c.has_others.ensures.probed) at first; rest = omega (arith, c.has_others.ensures.asked) }
 
 pub returns-else-has_others-clause-costs : goal.returns-else-has_others-clause-costs
 returns-else-has_others-clause-costs g c =
     let first = rw (c.by_key1.ensures.slots, c.by_key1.ensures.builder) at (SearchCosts-room c.args.self.now.capacity c.by_key1.ensures.room c.search.ensures.costs) in
-    record { answer = _; between = c.search.new.asked; search = first; rest = omega (arith, c.has_others.ensures.costs) }
+    record { answer = _; between = c.search.new.costs.asked; search = rw (← c.has_others.ensures.probed) at first; rest = omega (arith, c.has_others.ensures.asked) }

@@ -13,9 +13,15 @@ found_at : {T V : Type 0} (test : T → Bool) (slots : List (Option T)) (r : Sea
 found_at test slots (Found at) only live = record { only = only; live = live }
 found_at test slots (Vacant at) only live = record { only = only; live = tt }
 
-pub returns-clause-found : goal.returns-clause-found
-returns-clause-found g c =
+pub returns : goal.returns
+returns g c =
     let slots = c.args.self.now.slots in
     let test = λ (x : g.row.T.Denot). g.Q.Query.stands_for c.args.query (g.R.KeyOf.key x) in
     let only : IsOnly test (contents slots) (option_and_then (get slots) (found_of c.search_with.result)) = search rules in
-    found_at test slots c.search_with.result only c.search_with.ensures.live
+    record {
+      found = found_at test slots c.search_with.result only c.search_with.ensures.live;
+      hashed = c.search_with.ensures.hashed;
+      vacant = c.search_with.ensures.vacant;
+      cells = c.search_with.ensures.cells;
+      costs = rw (← c.costs.view_is) (rw c.new.ensures.so_far at c.search_with.ensures.costs);
+    }
