@@ -38,14 +38,14 @@ RENAMED = [
 # The words that are nothing at one key.
 NOTHING = re.compile(r"""(?x)^(
     # Searches by all keys, with the guards and entries of the items that they found.
-    \w*(?<!insert)(?<!extend)(?<!extended)(?<!from_iter)(?<!made)_unique(_mut)? | (remove_)?unique_\w+ | \w+_both | one_of | has_others | exchange_two
+    \w*(?<!insert)(?<!extend)(?<!extended)(?<!from_iter)(?<!made)_unique(_mut)? | (remove_)?unique_\w+ | \w+_both | one_of | has_others | overwrite_two
     | occupied_mut | OccupiedEntryMut | occupied_ref | OccupiedEntryRef | OccupiedRefs | insert_mut | lend | data_mut_of | GainsAndHolds
     # The rank at which a key differs, and lists of what several searches found.
-    | differ | at | each_once | items_of | take_all | store_all | store_found | for_each | conflicts | conflicts_with
+    | differ | of_rank | each_once | items_of | remove_slots | store_all | store_found | for_each | conflicts | conflicts_with
     # Calls that take several keys.
     | answered_by_all
     # Commands as values, and what carries them out.
-    | commands? | run | Step | Refusals | Runs | apply_\w+
+    | commands? | run | Step | EntryReplies | Runs | apply_\w+
     )$""")
 # The functions that carry out commands, and have names that other functions have too.
 REPLIES = re.compile(r"/map/BiHashMap/(or_insert|entry_insert|set)/")

@@ -27,8 +27,8 @@ by_frame = agree (λ (p : Page). p.frame) nat_eq
 abbrev by_use : Page → Page → Bool
 by_use = agree (λ (p : Page). p.used) nat_eq
 
-abbrev pub by : Ranks Page
-by = by_number ∷ by_frame ∷ by_use ∷ []
+abbrev pub item_ranks : Ranks Page
+item_ranks = by_number ∷ by_frame ∷ by_use ∷ []
 
 -- if no page was last used at this use, none was until after it
 pub later : (t : ℕ) (xs : List Page) → NotBefore t xs ≡ true → filter (λ (p : Page). t == p.used) xs ≡ [] → NotBefore (t + 1) xs ≡ true
@@ -75,7 +75,7 @@ module _ {T : Type 0} (test : T → Bool) where
   list_all-filter p (x ∷ xs) all = grind (arith, common_steps, list_all-filter p xs)
 
 -- a page with a use that no page had replaces those with its number or its frame
-pub over-others : (xs : List Page) (x : Page) → Before x.used xs ≡ true → without (like by x) xs ≡ others xs x
+pub over-others : (xs : List Page) (x : Page) → Before x.used xs ≡ true → without (like item_ranks x) xs ≡ others xs x
 over-others [] x all = refl
 over-others (y ∷ ys) x all = grind (arith, nat_tests, common_steps, over-others ys x)
 
@@ -95,7 +95,7 @@ all-others [] x free = refl
 all-others (y ∷ ys) x free = grind (arith, nat_tests, common_steps, all-others ys x)
 
 -- no page has the number or the frame if none conflicts
-pub free-taken : (xs : List Page) (x : Page) → clash by xs x ≡ [] → is_taken xs x ≡ false
+pub free-taken : (xs : List Page) (x : Page) → clash item_ranks xs x ≡ [] → is_taken xs x ≡ false
 free-taken [] x free = refl
 free-taken (y ∷ ys) x free = grind (arith, nat_tests, common_steps, free-taken ys x)
 
@@ -114,7 +114,7 @@ module _ {T : Type 0} (p q : T → Bool) where
   both (y ∷ ys) x px qx one_p one_q = grind (arith, common_steps, both ys x, neither ys)
 
 -- a page of the cache has its number and its frame alone
-alone : (xs : List Page) (x : Page) → IsSound by xs → Contains xs x → filter (rivals x) xs ≡ x ∷ []
+alone : (xs : List Page) (x : Page) → IsSound item_ranks xs → Contains xs x → filter (rivals x) xs ≡ x ∷ []
 alone xs x sound there =
     let law = λ (k l m : ℕ) (same : nat_eq k l ≡ true). nat_eq_equiv.congr k l m same in
     let number = named_is by_number (λ (p : Page). x.number == p.number) (NamesOne-query nat_eq nat_eq (λ (p : Page). p.number) law x.number) xs x
@@ -137,7 +137,7 @@ exchanged (Some g) old mid new x left free same came =
     subst (λ l. IsPermutation (g ∷ new) (x ∷ l)) (sym (all-others old x free)) two
 
 -- a page that is put again replaces itself alone
-pub used_last : (gone : Option Page) (old new : List Page) (x y : Page) → IsSound by old → Contains old x → IfSome gone (λ g. is_taken old x ≡ false)
+pub used_last : (gone : Option Page) (old new : List Page) (x y : Page) → IsSound item_ranks old → Contains old x → IfSome gone (λ g. is_taken old x ≡ false)
     → IsPermutation (option_to_list gone ++ new) (y ∷ others old x) → IsPermutation (x ∷ new) (y ∷ old)
 used_last None old new x y sound there free came =
     let one = alone old x sound there in
@@ -160,7 +160,7 @@ within mid new x limit most place came =
     (λ free. omega (arith, length_permutation new (x ∷ others mid x) came, length-others mid x, place free))
 
 -- no memory was asked for then
-pub same_room : (mid : List Page) (x : Page) (old new : ℕ) → (is_taken mid x ≡ false → length mid < old) → (length mid < old → new ≡ old) → (clash by mid x ≢ [] → new ≡ old) → new ≡ old
+pub same_room : (mid : List Page) (x : Page) (old new : ℕ) → (is_taken mid x ≡ false → length mid < old) → (length mid < old → new ≡ old) → (clash item_ranks mid x ≢ [] → new ≡ old) → new ≡ old
 same_room mid x old new place below above =
     by_case (is_taken mid x)
     (λ taken. above (λ free. absurd (cc (taken, free-taken mid x free))))
@@ -186,7 +186,7 @@ left_pass test g old new gone all =
     grind (arith, common_steps, whole)
 
 -- what an overwrite by a page with a new use says, in the words of the cache
-pub came_in : (mid new : List Page) (x : Page) → Before x.used mid ≡ true → IsPermutation new (over by mid x) → IsPermutation new (x ∷ others mid x)
+pub came_in : (mid new : List Page) (x : Page) → Before x.used mid ≡ true → IsPermutation new (over item_ranks mid x) → IsPermutation new (x ∷ others mid x)
 came_in mid new x all came = subst (λ l. IsPermutation new (x ∷ l)) (over-others mid x all) came
 
 -- nothing left an empty cache, so the one page that came is all

@@ -18,10 +18,10 @@ use Rattle.example_recipes.specs.declared.orders.Order.{Order}
 use Rattle.example_recipes.proofs.OrderLemmas.{found_before, ok_both}
 use Rattle.example_recipes.proofs.Undone.{free_for_back, moved_in, still_there}
 
-abbrev by : Ranks Order
-by = ranks item.ghosts nat_eq nat_eq
+abbrev item_ranks : Ranks Order
+item_ranks = ranks item.ghosts nat_eq nat_eq
 
-laws : AreLawful by
+laws : AreLawful item_ranks
 laws = AreLawful-ranks item.ghosts nat_eq_equiv nat_eq_equiv
 
 abbrev pub numbered : ℕ → Order → Bool
@@ -39,7 +39,7 @@ same_place = agree (λ (o : Order). o.place) nat_eq
 -- both orders were found, and then `b` left
 module _ {S : Type 0} (one other : ℕ) (old mid : Map Order S) (a b : Order) (apart : one ≢ other)
     (first : a ∷ [] ≡ filter (numbered one) (bag old)) (second : b ∷ [] ≡ filter (numbered other) (bag old))
-    (sound : IsSound by (bag old)) (left : IsPermutation (bag old) (b ∷ bag mid)) where
+    (sound : IsSound item_ranks (bag old)) (left : IsPermutation (bag old) (b ∷ bag mid)) where
   is_a : Contains (bag old) a × (numbered one a ≡ true)
   is_a = passes-listed (numbered one) (bag old) a (subst (λ l. Contains l a) first (Contains-here a []))
 
@@ -53,7 +53,7 @@ module _ {S : Type 0} (one other : ℕ) (old mid : Map Order S) (a b : Order) (a
   there = still_there (numbered one) (bag old) (bag mid) a b left is_a.0 is_a.1 not_b
 
   -- the place of `b` is free then, so that `a` can be moved there
-  pub moves : (r : Result Order (NotReplaced Order)) → IfErr r (λ e. TellsWhyNot by (numbered one) (bag mid) (moved_of a b) e) → is_err r ≡ false
+  pub moves : (r : Result Order (NotReplaced Order)) → IfErr r (λ e. TellsWhyNot item_ranks (numbered one) (bag mid) (moved_of a b) e) → is_err r ≡ false
   moves r why =
       moved_in same_number same_place laws (numbered one) (bag old) (bag mid) a b (moved_of a b) r
       (λ x e. search (rules, is_a.1, e)) sound left there is_a.1 (nat_eq_equiv.refl b.place) why
@@ -62,7 +62,7 @@ module _ {S : Type 0} (one other : ℕ) (old mid : Map Order S) (a b : Order) (a
   pub comes_back : {E P : Type 0} (between : Map Order S) (r : Result Order E) → is_err r ≡ false →
       IfOk r (λ x. x ∷ [] ≡ filter (numbered one) (bag mid)) → IfOk r (λ x. PutsInPlace mid x (moved_of a b) between) →
       length (bag old) ≤ old.capacity → mid.capacity ≡ old.capacity →
-      (clash by (bag between) (moved_of b a) ≡ [] → length (bag between) < between.capacity → P) → P
+      (clash item_ranks (bag between) (moved_of b a) ≡ [] → length (bag between) < between.capacity → P) → P
   comes_back between r done found put fits same_room granted =
       let it = ok_both r done found put in
       let same : it.0 ≡ a = found_before (numbered one) (bag old) (bag mid) it.0 a b left it.1 first in

@@ -18,7 +18,7 @@ pub AreLawful-ranks : {T K1 K2 : Type 0} (of : item.Ghosts T K1 K2) {eq1 : K1 �
 AreLawful-ranks of laws1 laws2 = (IsEquivalence-key _ of.key1 laws1, (IsEquivalence-key _ of.key2 laws2, tt))
 
 -- the same for ranks that are these
-pub AreLawful-are : {T K1 K2 : Type 0} (of : item.Ghosts T K1 K2) {eq1 : K1 → K1 → Bool} {eq2 : K2 → K2 → Bool} {by : Ranks T} → by ≡ ranks of eq1 eq2 → IsEquivalence eq1 → IsEquivalence eq2 → AreLawful by
+pub AreLawful-are : {T K1 K2 : Type 0} (of : item.Ghosts T K1 K2) {eq1 : K1 → K1 → Bool} {eq2 : K2 → K2 → Bool} {given : Ranks T} → given ≡ ranks of eq1 eq2 → IsEquivalence eq1 → IsEquivalence eq2 → AreLawful given
 AreLawful-are of are laws1 laws2 = rw are (AreLawful-ranks of laws1 laws2)
 
 pub some_are : {X : Type 0} {x : X} {all rest : List X} → all ≡ x ∷ rest → 0 < length all

@@ -17,7 +17,7 @@ use Rattle.iddqd_store.specs.Slots.{get, IsLive}
 use Rattle.iddqd_store.specs.Slots.Found.{AreFound, entry_at, found_by_all, held_at}
 use Rattle.iddqd_bi.specs.Keys.{has1, has2, key_tests, ranks}
 use Rattle.iddqd_bi.specs.Mismatch.{HandsBack, IsInsert}
-use Rattle.iddqd_bi.specs.Refused.{map_row}
+use Rattle.iddqd_bi.specs.InsertErrors.{map_row}
 use Rattle.iddqd_bi.specs.RefMuts.{ref_item, ref_lender, ref_map}
 use Rattle.iddqd_bi.specs.declared.item.BiHashItem as item
 use Rattle.iddqd_store.specs.declared.query.Query as query

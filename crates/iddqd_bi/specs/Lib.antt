@@ -1,12 +1,12 @@
 pub mod Entries
+pub mod EntryReplies
+pub mod InsertErrors
 pub mod IterMuts
 pub mod Keys
 pub mod Lent
 pub mod Mismatch
 pub mod OccupiedRefs
 pub mod RefMuts
-pub mod Refusals
-pub mod Refused
 pub mod Rekeyed
 pub mod Step
 -- The clauses of the map cite these words of the store.

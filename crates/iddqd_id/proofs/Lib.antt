@@ -1,8 +1,8 @@
 -- Made by tests/widths from crates/iddqd_bi/proofs/Lib.antt: change that file.
-pub mod Entering
-pub mod Finding
+pub mod EntryLemmas
+pub mod FoundLemmas
 pub mod Iterating
-pub mod Lending
+pub mod LentLemmas
 pub mod MapLemmas
 pub mod RefLemmas
 -- what callers cite

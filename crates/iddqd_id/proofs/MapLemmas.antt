@@ -20,7 +20,7 @@ pub AreLawful-ranks : {T Key : Type 0} (of : item.Ghosts T Key) {eq : Key → Ke
 AreLawful-ranks of laws = (IsEquivalence-key _ of.key laws, tt)
 
 -- the same for ranks that are these
-pub AreLawful-are : {T Key : Type 0} (of : item.Ghosts T Key) {eq : Key → Key → Bool} {by : Ranks T} → by ≡ ranks of eq → IsEquivalence eq → AreLawful by
+pub AreLawful-are : {T Key : Type 0} (of : item.Ghosts T Key) {eq : Key → Key → Bool} {given : Ranks T} → given ≡ ranks of eq → IsEquivalence eq → AreLawful given
 AreLawful-are of are laws = rw are (AreLawful-ranks of laws)
 
 pub some_are : {X : Type 0} {x : X} {all rest : List X} → all ≡ x ∷ rest → 0 < length all

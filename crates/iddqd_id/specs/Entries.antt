@@ -16,7 +16,7 @@ use Rattle.iddqd_store.specs.Map.Written.{map_with}
 use Rattle.iddqd_store.specs.Slots.{get, IsLive}
 use Rattle.iddqd_id.specs.Keys.{has, key_tests, ranks}
 use Rattle.iddqd_id.specs.Mismatch.{HandsBack, IsInsert}
-use Rattle.iddqd_id.specs.Refused.{map_row}
+use Rattle.iddqd_id.specs.InsertErrors.{map_row}
 use Rattle.iddqd_id.specs.RefMuts.{ref_item, ref_lender, ref_map}
 use Rattle.iddqd_id.specs.declared.item.IdHashItem as item
 use Rattle.iddqd_store.specs.declared.query.Query as query

@@ -28,5 +28,5 @@ module _ {T Key : Type 0} (of : item.Ghosts T Key) where
 -- `by_rank` lists what the search of each rank returned. No public clause cites it.
 -- Example: If no search found a slot, it is `Vacant` of the cells at which they ended.
 abbrev pub by_rank : {F V : Type 0} → Searched F V → Searched (List F) (List V)
-by_rank (Found by) = Found (by ∷ [])
+by_rank (Found found) = Found (found ∷ [])
 by_rank (Vacant at) = Vacant (at ∷ [])

@@ -9,7 +9,7 @@ use Rattle.std.specs.declared.hash.BuildHasher as builder
 use Rattle.iddqd_store.specs.Bag.{IsOnly, Ranks, swap}
 use Rattle.iddqd_store.specs.Map.{Map, bag}
 use Rattle.iddqd_id.specs.declared.item.IdHashItem as item
-use Rattle.iddqd_id.specs.Refused.{map_row}
+use Rattle.iddqd_id.specs.InsertErrors.{map_row}
 use Rattle.iddqd_store.specs.Map.Written.{map_with, map_with_if}
 
 module _ {T S D : Type 0} (put : T → D → T) (ranks : Ranks T) (test : T → Bool) where

@@ -1,11 +1,11 @@
 -- Made by tests/widths from crates/iddqd_bi/specs/Lib.antt: change that file.
 pub mod Entries
+pub mod InsertErrors
 pub mod IterMuts
 pub mod Keys
 pub mod Lent
 pub mod Mismatch
 pub mod RefMuts
-pub mod Refused
 pub mod Rekeyed
 -- The clauses of the map cite these words of the store.
 pub use Rattle.iddqd_store.specs.Bag

@@ -125,7 +125,7 @@ impl<T> ExtendUniqueError<T> {
     /// Returns why the call failed: `Duplicate` if the key of the item is taken, otherwise `Memory`.
     pub fn reason(&self) -> InsertReason
         ensures duplicate { result ≡ InsertReason.Duplicate → self.now.taken ≡ false → ⊥ }
-        ensures memory { result ≡ InsertReason.Memory → self.now.taken ≡ false }
+        ensures none_taken { result ≡ InsertReason.Memory → self.now.taken ≡ false }
     {
         if self.taken {
             InsertReason::Duplicate
@@ -259,7 +259,7 @@ impl<T: Ranked, S: BuildHasher> InsertError<'_, T, S> {
     /// The call compares no key.
     pub fn reason(&self) -> InsertReason
         ensures duplicate { result ≡ InsertReason.Duplicate → clash T.ranks (bag self.now.map.now) self.now.item ≢ [] }
-        ensures memory { result ≡ InsertReason.Memory → clash T.ranks (bag self.now.map.now) self.now.item ≡ [] }
+        ensures none_taken { result ≡ InsertReason.Memory → clash T.ranks (bag self.now.map.now) self.now.item ≡ [] }
     {
         if self.duplicate().is_some() {
             InsertReason::Duplicate

@@ -2,7 +2,7 @@
 pub mod Asking
 pub mod Batches
 pub mod Calling
-pub mod Entering
+pub mod Entries
 pub mod Extracting
 pub mod Laws
 pub mod Named

@@ -1,8 +1,8 @@
 -- Lemmas on slots: what they have, the chain of the free ones, and what is found in them.
+pub mod Batch
 pub mod Chain
 pub mod Clone
 pub mod Contents
-pub mod Entered
 pub mod Entries
 pub mod Found
 pub mod FreeBefore

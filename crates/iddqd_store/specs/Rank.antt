@@ -4,7 +4,7 @@ pub mod Asking
 pub mod Index
 pub mod Keys
 pub mod Search
-use Rattle.std.specs.Prelude.{◌≡◌, ℕ, ◌+◌, ◌*◌, ◌/◌, ◌≤◌, ◌==◌, Bool, true, false, if◌then◌else◌, List}
+use Rattle.std.specs.Prelude.{◌≡◌, ℕ, ◌+◌, ◌*◌, ◌≤◌, ◌==◌, Bool, true, false, if◌then◌else◌, List}
 use Rattle.std.specs.Prelude.{[], ◌∷◌, Option, None, Some, Contains, IfNone, IfSome, length, map}
 use Rattle.std.specs.Hash.{HashWrites}
 use Rattle.std.specs.List.{IsDistinct}
@@ -17,6 +17,7 @@ use Rattle.iddqd_store.specs.Map.{hash_of}
 use Rattle.iddqd_store.specs.Slots.Found.{NamesOneOf}
 use Rattle.iddqd_store.specs.Slots.{contents}
 use Rattle.iddqd_store.specs.Table.{IsFree, ProbesWithin, Spot}
+use Rattle.iddqd_store.specs.Table.Limit.{capacity_of}
 
 module _ {T K : Type 0} where
   -- `agree` tells whether the two items have equal keys of this rank.
@@ -32,7 +33,7 @@ module _ {T K S H : Type 0} where
 
 -- The items of the bag that pass the test have equal keys by `agree`, and they have this hash.
 -- Example: It holds for the test whether the first key is 2, and the hash of 2.
-pub record NamesOneUnder {T : Type 0} (agree : T → T → Bool) (hash_of : T → ℕ) (hash : ℕ)
+pub record NamesOneByHash {T : Type 0} (agree : T → T → Bool) (hash_of : T → ℕ) (hash : ℕ)
     (test : T → Bool) (bag : List T) : Type 0 where
   pub one : NamesOneOf agree test bag
   pub hashed : (x : T) → Contains bag x → test x ≡ true → hash_of x ≡ hash
@@ -58,24 +59,24 @@ pub record SearchCosts {T A : Type 0} (hash_of : T → ℕ) (bag : List T) (room
 pub record IsVacantFor {T : Type 0} (hash_of : T → ℕ) (bag : List T) (hash : ℕ) (spot : Spot) : Type 0 where
   pub same : spot.hash ≡ hash
   pub free : IsFree (map hash_of bag) spot
-  pub fits : length bag ≤ spot.cells / 8 * 7
+  pub fits : length bag ≤ capacity_of spot.cells
 
 -- Contracts see the outcome of a search by a hash as the slot that it found, if any, and the hash.
 -- Example: `Some 2` and the hash 5.
-pub record SlotUnder : Type 0 where
+pub record FoundByHash : Type 0 where
   pub slot : Option ℕ
   pub hash : ℕ
 
 module _ {T : Type 0} where
   -- The item in the slot that was found has the hash of the search. No public clause cites it.
-  abbrev pub IsUnder : (T → ℕ) → List (Option T) → SlotUnder → Type 0
-  IsUnder hash slots found = IfSome found.slot (λ slot. HasHash hash slots slot found.hash)
+  abbrev pub IsHashed : (T → ℕ) → List (Option T) → FoundByHash → Type 0
+  IsHashed hash slots found = IfSome found.slot (λ slot. HasHash hash slots slot found.hash)
 
 -- The pair of the item in this slot is in the table, and the item has the hash of the search if the search found the
 -- slot. No public clause of a map cites it.
 -- Example: With the pairs (5, 0), (6, 2) it holds for an item with the hash 6 in the slot 2, and a search for 6 that
 -- found 2.
-pub record IsPaired {T : Type 0} (hash : T → ℕ) (pairs : List (ℕ × ℕ)) (found : SlotUnder)
+pub record IsPaired {T : Type 0} (hash : T → ℕ) (pairs : List (ℕ × ℕ)) (found : FoundByHash)
     (slot : ℕ) (x : T) : Type 0 where
   pub pair : Contains pairs (hash x, slot)
   pub known : found.slot ≡ Some slot → hash x ≡ found.hash
@@ -91,7 +92,7 @@ walks_within n (w ∷ ws) = w * (n + 1) + walks_within n ws
 -- A removal by a key costs as much as a search that finds nothing (`SearchCosts`) and, if it removes an item, `walks`
 -- through the tables of the other ranks (`walks_within`).
 -- Example: With 3 items, two ranks and a hash of its own for each key it asks at most once, and probes at most 8 cells.
-pub record TakingCosts {T A : Type 0} (hash_of : T → ℕ) (bag : List T) (room hash : ℕ) (walks : List ℕ)
+pub record KeyRemovalCosts {T A : Type 0} (hash_of : T → ℕ) (bag : List T) (room hash : ℕ) (walks : List ℕ)
     (answer : Option A) (asks asks_then before after : ℕ) : Type 0 where
   pub between : ℕ
   pub search : SearchCosts {A = ℕ} hash_of bag room hash None asks asks_then before between
@@ -100,29 +101,29 @@ pub record TakingCosts {T A : Type 0} (hash_of : T → ℕ) (bag : List T) (room
 
 -- `has_found` tells whether a search found this slot.
 -- Example: If the search found the slot 2, it is true for 2 and false for 3.
-abbrev pub has_found : SlotUnder → ℕ → Bool
+abbrev pub has_found : FoundByHash → ℕ → Bool
 has_found found slot = option_map_or (λ s. s == slot) found.slot false
 
 module _ {T : Type 0} where
-  -- `walks_one` counts the walks that put a pair under the hash of a search in the place of the pair of the item
+  -- `rehash_walks` counts the walks that put a pair with the hash of a search in the place of the pair of the item
   -- `gone`: none if both hashes are equal, otherwise one that removes a pair and one that inserts it.
   -- Example: For an item with the hash 5 and a search for 6 it is 2.
-  abbrev pub walks_one : (T → ℕ) → SlotUnder → T → ℕ
-  walks_one hash found gone = if hash gone == found.hash then 0 else 2
+  abbrev pub rehash_walks : (T → ℕ) → FoundByHash → T → ℕ
+  rehash_walks hash found gone = if hash gone == found.hash then 0 else 2
 
-  -- `walks_two` counts the walks that put one pair in the place of two, of which the second is that of this slot.
+  -- `merge_two_walks` counts the walks that put one pair in the place of two, of which the second is that of this slot.
   -- If the search found that slot, one walk removes the first pair, and one ends at the second, which gets another
-  -- number. Otherwise one walk removes the second pair, and then the first is replaced (`walks_one`).
+  -- number. Otherwise one walk removes the second pair, and then the first is replaced (`rehash_walks`).
   -- Example: If the search found the second item, it is 2.
-  abbrev pub walks_two : (T → ℕ) → SlotUnder → ℕ → T → ℕ
-  walks_two hash found slot gone = if has_found found slot then 2 else walks_one hash found gone + 1
+  abbrev pub merge_two_walks : (T → ℕ) → FoundByHash → ℕ → T → ℕ
+  merge_two_walks hash found slot gone = if has_found found slot then 2 else rehash_walks hash found gone + 1
 
-  -- `walks_three` counts the walks that put one pair in the place of three, of which the second and the third are those
-  -- of these slots. One walk removes one of these two pairs, which the search did not find, and then two pairs are
-  -- replaced (`walks_two`).
+  -- `merge_three_walks` counts the walks that put one pair in the place of three, of which the second and the third are
+  -- those of these slots. One walk removes one of these two pairs, which the search did not find, and then two pairs
+  -- are replaced (`merge_two_walks`).
   -- Example: If the search found the third item, it is 3.
-  abbrev pub walks_three : (T → ℕ) → SlotUnder → ℕ → ℕ → T → ℕ
-  walks_three hash found second third gone = if has_found found third then 3 else walks_two hash found second gone + 1
+  abbrev pub merge_three_walks : (T → ℕ) → FoundByHash → ℕ → ℕ → T → ℕ
+  merge_three_walks hash found second third gone = if has_found found third then 3 else merge_two_walks hash found second gone + 1
 
 -- A search by one rank requires that no two items have equal keys, and that the table has the pairs of their hashes. No
 -- clause of a map cites it.

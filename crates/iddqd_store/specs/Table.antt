@@ -4,11 +4,11 @@ pub mod Limit
 pub mod Ring
 pub mod Room
 pub mod Search
-use Rattle.std.specs.Prelude.{ℕ, ◌+◌, ◌*◌, ◌/◌, ◌%◌, ◌^◌, ◌≡◌, ◌<◌, ◌≤◌, ◌==◌, Bool, List}
+use Rattle.std.specs.Prelude.{ℕ, ◌+◌, ◌%◌, ◌^◌, ◌≡◌, ◌<◌, ◌≤◌, ◌==◌, Bool, List}
 use Rattle.std.specs.Prelude.{◌∷◌, Option, None, Some, ◌≢◌, length, map, IfNone, OnSome}
 use Rattle.std.specs.List.{IsDistinct}
 use Rattle.std.specs.List.Sorted.{IsPermutation}
-use Rattle.iddqd_store.specs.Table.Limit.{IsSize}
+use Rattle.iddqd_store.specs.Table.Limit.{capacity_of, IsSize}
 use Rattle.iddqd_store.specs.Slots.{contents}
 use Rattle.iddqd_store.specs.Table.Ring.{cell, gap, stretch, IsReached}
 
@@ -17,10 +17,10 @@ use Rattle.iddqd_store.specs.Table.Ring.{cell, gap, stretch, IsReached}
 abbrev pub hashes : List (ℕ × ℕ) → List ℕ
 hashes pairs = map (λ p. p.0) pairs
 
--- `under` tells whether the pair has this hash.
+-- `has_hash` tells whether the pair has this hash.
 -- Example: (5, 0) has the hash 5.
-abbrev pub under : ℕ → ℕ × ℕ → Bool
-under hash p = p.0 == hash
+abbrev pub has_hash : ℕ → ℕ × ℕ → Bool
+has_hash hash p = p.0 == hash
 
 -- No two pairs have the same slot.
 -- Example: It holds for (5, 0), (6, 2), and not for (5, 0), (6, 0).
@@ -41,7 +41,7 @@ pub record Probes {A : Type 0} (hashes : List ℕ) (cells hash : ℕ) (answer : 
 -- has 8.
 abbrev pub ProbesWithin : {A : Type 0} → List ℕ → ℕ → ℕ → Option A → ℕ → ℕ → Type 0
 ProbesWithin hashes room hash answer before after =
-    (cells : ℕ) × IsSize cells × (cells < 2 ^ 64) × (room ≤ cells / 8 * 7)
+    (cells : ℕ) × IsSize cells × (cells < 2 ^ 64) × (room ≤ capacity_of cells)
     × Probes hashes cells hash answer before after
 
 -- The pair `after` has replaced `before`, and every other pair stays.
@@ -69,7 +69,7 @@ pub record ReplacesThree (old new : List (ℕ × ℕ)) (one two three after : �
 -- Example: It holds for 8 empty cells.
 pub record IsTable (row : List (Option (ℕ × ℕ))) : Type 0 where
   pub size : IsSize (length row)
-  pub fits : length (contents row) ≤ length row / 8 * 7
+  pub fits : length (contents row) ≤ capacity_of (length row)
   pub reached : IsReached (λ p. p.0 % length row) (length row) row
 
 -- The cell `at` is the first empty one, from the cell `home` on.
@@ -111,4 +111,4 @@ pub record Table : Type 0 where
   pub row : List (Option (ℕ × ℕ))
 
 abbrev pub table_of : List (Option (ℕ × ℕ)) → Table
-table_of row = record { pairs = contents row; limit = length row / 8 * 7; row = row }
+table_of row = record { pairs = contents row; limit = capacity_of (length row); row = row }

@@ -1,14 +1,14 @@
 //! A hash table of pairs of a hash and a slot's index: open addressing with linear probing, and backward-shift
 //! deletion, so there are no tombstones.
-ghost use Rattle.std.specs.Prelude.{ℕ, Contains, Some, ◌≡◌, ◌≢◌, ◌+◌, ◌*◌, ◌/◌, ◌%◌, ◌∷◌, ◌<◌, ◌≤◌, ◌&&◌, [], true, length, IsSome, IsOk, IsErr, ◌↔◌, ◌⊎◌, IfOk};
+ghost use Rattle.std.specs.Prelude.{ℕ, Contains, Some, ◌≡◌, ◌≢◌, ◌+◌, ◌%◌, ◌∷◌, ◌<◌, ◌≤◌, ◌&&◌, [], true, length, IsSome, IsOk, IsErr, ◌↔◌, ◌⊎◌, IfOk};
 ghost use Rattle.std.specs.List.Sorted.{IsPermutation};
 ghost use Rattle.std.specs.Option.{option_map};
 ghost use Rattle.iddqd_store.specs.Searched.{found_of, IfFound, IfVacant};
 ghost use Rattle.iddqd_store.specs.Slots.{contents};
 ghost use Rattle.iddqd_store.specs.Table.Ring.{cell, gap, stretch, IsFull};
-ghost use Rattle.iddqd_store.specs.Table.Limit.{IsLeast, IsSize, most_room};
+ghost use Rattle.iddqd_store.specs.Table.Limit.{capacity_of, IsLeast, IsSize, most_room};
 ghost use Rattle.iddqd_store.specs.Table.Room.{IsSized};
-ghost use Rattle.iddqd_store.specs.Table.Search.{CostsUnder, FindsUnder, IsVacantUnder};
+ghost use Rattle.iddqd_store.specs.Table.Search.{CostsByHash, FindsByHash, IsVacantForHash};
 ghost use Rattle.iddqd_store.specs.Table.{hashes, HaveOwnSlots, IsCellOf, IsFree, IsTable, Probes, ReplacesPair, Table, table_of};
 
 use crate::TryReserveError;
@@ -65,7 +65,7 @@ fn with_cells(alloc: Global, count: usize) -> Result<IndexTable, TryReserveError
     requires { IsSize count }
     ensures empty { IfOk result (λ t. t.pairs ≡ []) }
     ensures cells { IfOk result (λ t. length t.row ≡ count) }
-    ensures limit { IfOk result (λ t. t.limit ≡ count / 8 * 7) }
+    ensures limit { IfOk result (λ t. t.limit ≡ capacity_of count) }
 {
     let mut table = IndexTable::new(alloc);
     table.cells = Cells::with_len(alloc, count)?;
@@ -167,9 +167,9 @@ impl IndexTable {
     ) -> Option<ItemIndex>
         requires own { HaveOwnSlots self.now.pairs ⊎ ((m : M) (slot : ℕ) → M.MayAsk m slot) }
         requires asks { (slot : ℕ) → Contains self.now.pairs (hash, slot) → M.MayAsk matcher.old slot }
-        ensures found { FindsUnder self.now hash (M.accepts matcher.old) result }
+        ensures found { FindsByHash self.now hash (M.accepts matcher.old) result }
         ensures is_kept { M.IsKept matcher.old matcher.new }
-        ensures costs { CostsUnder self.now hash result (M.asked matcher.old) (M.asked matcher.new)
+        ensures costs { CostsByHash self.now hash result (M.asked matcher.old) (M.asked matcher.new)
             meter.old meter.new }
         ensures sized { IsSized self.now }
     {
@@ -191,13 +191,13 @@ impl IndexTable {
     ) -> Searched<(ItemIndex, usize), Vacancy>
         requires own { HaveOwnSlots self.now.pairs ⊎ ((m : M) (slot : ℕ) → M.MayAsk m slot) }
         requires asks { (slot : ℕ) → Contains self.now.pairs (hash, slot) → M.MayAsk matcher.old slot }
-        ensures found { FindsUnder self.now hash (M.accepts matcher.old) (option_map (λ f. f.0) (found_of result)) }
+        ensures found { FindsByHash self.now hash (M.accepts matcher.old) (option_map (λ f. f.0) (found_of result)) }
         ensures cell { IfFound result (λ f. IsCellOf self.now.row (hash, f.0) f.1) }
         ensures probes { IfFound result (λ f. meter.new
             ≡ meter.old + gap (length self.now.row) (hash % length self.now.row) f.1 + 1) }
-        ensures vacant { IfVacant result (IsVacantUnder self.now hash) }
+        ensures vacant { IfVacant result (IsVacantForHash self.now hash) }
         ensures is_kept { M.IsKept matcher.old matcher.new }
-        ensures costs { CostsUnder self.now hash (found_of result) (M.asked matcher.old) (M.asked matcher.new)
+        ensures costs { CostsByHash self.now hash (found_of result) (M.asked matcher.old) (M.asked matcher.new)
             meter.old meter.new }
         ensures sized { IsSized self.now }
     {
@@ -237,7 +237,7 @@ impl IndexTable {
     /// probes no cell, unless the number of cells has changed since that search: then it probes for the cell as
     /// `insert_reserved` does.
     #[inline(always)]
-    pub fn insert_at(&mut self, spot: Vacancy, slot: ItemIndex, meter: &mut Meter)
+    pub fn insert_into(&mut self, spot: Vacancy, slot: ItemIndex, meter: &mut Meter)
         requires room { length self.old.pairs < self.old.limit }
         requires vacant { IsFree (hashes self.old.pairs) spot }
         ensures added { IsPermutation ((spot.hash, slot) ∷ self.old.pairs) self.new.pairs }
@@ -291,7 +291,7 @@ impl IndexTable {
         requires { i < length self.now.row }
         ensures value { result ≡ cell self.now.row i }
         ensures probe { meter.new ≡ meter.old + 1 }
-        ensures full { IsSome result ↔ IsFull (hashes self.now.pairs) (length self.now.row) i }
+        ensures occupied { IsSome result ↔ IsFull (hashes self.now.pairs) (length self.now.row) i }
     {
         self.cells.cell_at(i, meter)
     }

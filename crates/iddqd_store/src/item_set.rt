@@ -2,7 +2,7 @@
 ghost use Rattle.std.specs.Prelude.{◌≡◌, ◌+◌, ◌-◌, ◌<◌, ◌≤◌, ◌^◌, [], ◌∷◌, IsSome, IfNone, IfSome, is_some, IfOk, IsOk, OnOk, OnErr, Some, IsPermutation, option_copied, drop, length, max, None, slice_set};
 ghost use Rattle.std.specs.Option.{option_copied_mut};
 ghost use Rattle.std.specs.Borrow.{Lends, sem};
-ghost use Rattle.iddqd_store.specs.Slots.{get, contents, IsLive, live_count, members, Updates, Exchanges, NextLive, TakesOut};
+ghost use Rattle.iddqd_store.specs.Slots.{get, contents, IsLive, live_count, members, Updates, Exchanges, NextLive, Vacates};
 ghost use Rattle.iddqd_store.specs.Slots.Chain.{item_of};
 
 use crate::TryReserveError;
@@ -10,15 +10,15 @@ use std::alloc::Global;
 use std::marker::Model;
 use std::mem;
 
+mod batch;
 mod clone;
 mod compact;
 mod cursor;
-mod entered;
 mod item_index;
 mod values;
 
+pub use batch::Batch;
 pub use cursor::Cursor;
-pub use entered::Entered;
 pub use item_index::ItemIndex;
 pub use values::{IntoIter, Iter};
 
@@ -41,9 +41,9 @@ pub struct ItemSet<T> {
     // The number of live slots.
     live: usize,
     // The first free slot, or `slots.len()` if there is none.
-    head: usize,
+    next_free: usize,
     // No slot before this one is live. Only `first_live` raises it.
-    first: usize,
+    lowest: usize,
 }
 
 // The free ones come first, so that they have the number 0. The compiler expects that a number which is compared with 0 is
@@ -67,7 +67,7 @@ impl<T> Model for ItemSet<T> {
 
     ghost view = { λ s. record { slots = map item_of s.slots.items; capacity = vec_capacity s.slots } };
 
-    ghost invariant = { λ s. IsChained s.slots.items s.live s.head × IsFreeBefore s.slots.items s.first };
+    ghost invariant = { λ s. IsChained s.slots.items s.live s.next_free × IsFreeBefore s.slots.items s.lowest };
 }
 
 impl<T> Slot<T> {
@@ -112,8 +112,8 @@ impl<T> ItemSet<T> {
         ItemSet {
             slots: Vec::new(alloc),
             live: 0,
-            head: 0,
-            first: 0,
+            next_free: 0,
+            lowest: 0,
         }
     }
 
@@ -127,8 +127,8 @@ impl<T> ItemSet<T> {
         Ok(ItemSet {
             slots: Vec::with_capacity(alloc, items)?,
             live: 0,
-            head: 0,
-            first: 0,
+            next_free: 0,
+            lowest: 0,
         })
     }
 
@@ -156,10 +156,10 @@ impl<T> ItemSet<T> {
     }
 
     /// Makes an empty record of the items that a batch inserts. It allocates nothing.
-    pub fn entered(&self) -> Entered<T>
+    pub fn empty_batch(&self) -> Batch<T>
         ensures { result.slots ≡ [] }
     {
-        Entered::new(*self.slots.allocator())
+        Batch::new(*self.slots.allocator())
     }
 
     /// Returns the item of a live slot, or `None` for any other number.
@@ -237,8 +237,8 @@ impl<T> ItemSet<T> {
         ensures next { NextLive self.old.slots 0 result }
         ensures unchanged { self.new ≡ self.old }
     {
-        let found = self.next_live(self.first);
-        self.first = match found {
+        let found = self.next_live(self.lowest);
+        self.lowest = match found {
             Some(slot) => slot.number(),
             None => self.slots.len(),
         };
@@ -289,18 +289,18 @@ impl<T> ItemSet<T> {
             → length self.new.slots ≡ length self.old.slots }
         ensures capacity { self.new.capacity ≡ self.old.capacity }
     {
-        let slot = self.head;
+        let slot = self.next_free;
         self.live += 1;
         if slot == self.slots.len() {
             self.slots.push_reserved(Slot::Live(item));
-            self.head = slot + 1;
+            self.next_free = slot + 1;
             return ItemIndex::new(slot);
         }
         match mem::replace(&mut self.slots[slot], Slot::Live(item)) {
-            Slot::Free(next) => self.head = next,
+            Slot::Free(next) => self.next_free = next,
             Slot::Live(_) => unreachable!(),
         }
-        self.first = self.first.min(slot);
+        self.lowest = self.lowest.min(slot);
         ItemIndex::new(slot)
     }
 
@@ -309,31 +309,31 @@ impl<T> ItemSet<T> {
     pub fn remove(&mut self, slot: ItemIndex) -> Option<T>
         // The item leaves its slot, or nothing changes.
         ensures value { result ≡ get self.old.slots slot }
-        ensures taken { IfSome result (λ item. TakesOut self.old slot item self.new) }
+        ensures taken { IfSome result (λ item. Vacates self.old slot item self.new) }
         ensures absent { IfNone result (self.new ≡ self.old) }
         // No other slot changes, and neither does the capacity.
         ensures updates { Updates self.old.slots self.new.slots slot None }
         ensures capacity { self.new.capacity ≡ self.old.capacity }
     {
         if self.is_live(slot) {
-            Some(self.take(slot.number()))
+            Some(self.vacate(slot.number()))
         } else {
             None
         }
     }
 
-    fn take(&mut self, slot: usize) -> T
+    fn vacate(&mut self, slot: usize) -> T
         requires { IsLive self.old.slots slot }
         ensures value { get self.old.slots slot ≡ Some result }
         ensures slots { self.new.slots ≡ slice_set self.old.slots slot None }
         ensures capacity { self.new.capacity ≡ self.old.capacity }
         ensures room { live_count self.new.slots < self.new.capacity }
     {
-        let free = Slot::Free(self.head);
+        let free = Slot::Free(self.next_free);
         match mem::replace(&mut self.slots[slot], free) {
             Slot::Live(item) => {
                 self.live -= 1;
-                self.head = slot;
+                self.next_free = slot;
                 item
             }
             Slot::Free(_) => unreachable!(),
@@ -360,7 +360,7 @@ impl<T> ItemSet<T> {
     {
         self.slots.clear();
         self.live = 0;
-        self.head = 0;
-        self.first = 0;
+        self.next_free = 0;
+        self.lowest = 0;
     }
 }

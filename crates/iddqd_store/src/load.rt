@@ -1,8 +1,8 @@
 //! The load of the tables: how many pairs a map makes its tables for. A search ends sooner the more of the cells are
 //! empty, so the tables of a small map have room for more pairs than its slots have room for items. The capacity of the
 //! map is then that of its slots.
-ghost use Rattle.std.specs.Prelude.{◌≡◌, ℕ, ◌+◌, ◌-◌, ◌*◌, ◌/◌, ◌^◌, ◌<◌, ◌≤◌, IfNone, IfSome, min, max};
-ghost use Rattle.iddqd_store.specs.Table.Limit.{IsSparse};
+ghost use Rattle.std.specs.Prelude.{◌≡◌, ℕ, ◌+◌, ◌-◌, ◌*◌, ◌^◌, ◌<◌, ◌≤◌, IfNone, IfSome, min, max};
+ghost use Rattle.iddqd_store.specs.Table.Limit.{capacity_of, IsSparse};
 
 /// In a map with room for more items a table has no more cells than its pairs need.
 const LARGE: usize = 65536;
@@ -13,13 +13,13 @@ pub const AHEAD: usize = LARGE;
 /// Returns how many pairs a table is made for in a map in which this many items fit. At most seven eighths of the cells
 /// have a pair in a full table. So in a full map at most a third of them have one up to 4,096 items, at most half of them
 /// up to 65,536 items, and above that at most seven eighths: larger tables would no longer stay in the processor's caches.
-pub fn table_room(items: usize) -> usize
+pub fn pairs_for(items: usize) -> usize
     ensures enough { items ≤ result }
     ensures none { items ≡ 0 → result ≡ 0 }
     ensures most { result ≤ 3 * items }
     ensures large { 65536 < items → result ≡ items }
     // A table with room for so many pairs has so many cells that at most a third, or a half, have one in a full map.
-    ensures sparse { (cells : ℕ) → result ≤ cells / 8 * 7 → IsSparse items cells }
+    ensures sparse { (cells : ℕ) → result ≤ capacity_of cells → IsSparse items cells }
 {
     if items <= 4096 {
         (items * 21).div_ceil(8)
@@ -45,13 +45,13 @@ pub fn pairs_wanted(len: usize, room: usize, more: usize, ahead: usize) -> Optio
     requires { len ≤ room }
     // The pairs of so many more items fit, and no others are asked for where the slots do not grow.
     ensures enough { IfSome result (λ wanted. more ≤ wanted) }
-    ensures same { IfSome result (λ wanted. len + more ≤ room → wanted ≡ more) }
+    ensures as_asked { IfSome result (λ wanted. len + more ≤ room → wanted ≡ more) }
     // Tables have room for at most three times as many pairs as the items that they are made for, and if these are more
     // than 65,536, for no others.
     ensures most { IfSome result (λ wanted. len + wanted ≤ 3 * max (len + more) (min ahead (max (2 * room) 4))) }
     ensures large { IfSome result (λ wanted. 65536 < len + more → ahead ≤ 65536 → wanted ≡ more) }
     // Where the slots grow, a table in which the pairs fit is sparse with all the items that it is made for.
-    ensures sparse { IfSome result (λ wanted. room < len + more → (cells : ℕ) → len + wanted ≤ cells / 8 * 7
+    ensures sparse { IfSome result (λ wanted. room < len + more → (cells : ℕ) → len + wanted ≤ capacity_of cells
         → IsSparse (max (len + more) (min ahead (max (2 * room) 4))) cells) }
     ensures past { IfNone result (2 ^ 64 ≤ len + more) }
 {
@@ -59,7 +59,7 @@ pub fn pairs_wanted(len: usize, room: usize, more: usize, ahead: usize) -> Optio
         return Some(more);
     }
     let items = len.checked_add(more)?;
-    Some(table_room(items.max(doubled(room).min(ahead))) - len)
+    Some(pairs_for(items.max(doubled(room).min(ahead))) - len)
 }
 
 /// Returns for how many more items the slots of a map reserve capacity, once its tables, which have at least this many
@@ -69,12 +69,12 @@ pub fn slots_wanted(len: usize, room: usize, more: usize, cells: usize) -> usize
     requires { len ≤ room }
     // The items fit, and no others are asked for where the slots do not grow.
     ensures enough { more ≤ result }
-    ensures same { len + more ≤ room → result ≡ more }
+    ensures as_asked { len + more ≤ room → result ≡ more }
     // Room for others is at most twice what there was, and the tables are sparse with as many items.
     ensures most { more < result → len + result ≤ max (2 * room) 4 }
     ensures sparse { more < result → IsSparse (len + result) cells }
     // Where the slots grow, as many items fit as these two bounds allow.
-    ensures all { room < len + more → (items : ℕ) → items < 2 ^ 64 → items ≤ max (2 * room) 4 → IsSparse items cells
+    ensures as_many { room < len + more → (items : ℕ) → items < 2 ^ 64 → items ≤ max (2 * room) 4 → IsSparse items cells
         → items ≤ len + result }
 {
     if more <= room - len {
@@ -94,8 +94,8 @@ pub fn slots_wanted(len: usize, room: usize, more: usize, cells: usize) -> usize
 /// Returns how many more a part of a map is asked for before the parts with the least room: what is wanted if it has
 /// more room than the map, and otherwise 0.
 pub fn wanted_above(room: usize, part: usize, wanted: usize) -> usize
-    ensures all { room < part → result ≡ wanted }
-    ensures none { 0 < result → room < part }
+    ensures in_full { room < part → result ≡ wanted }
+    ensures above { 0 < result → room < part }
     ensures most { result ≤ wanted }
 {
     if room < part { wanted } else { 0 }

@@ -5,15 +5,15 @@ ghost use Rattle.iddqd_store.specs.Rank.{key_hash};
 
 use std::hash::{BuildHasher, Hash};
 
+mod found_by_hash;
 mod lookup;
 mod matchers;
 mod pairs;
 mod removal;
-mod slot_under;
 
+pub use found_by_hash::FoundByHash;
 pub use lookup::Lookup;
 pub use matchers::ByQuery;
-pub use slot_under::SlotUnder;
 
 /// Says which key of an item a rank is. A type without values stands for each rank.
 pub trait KeyOf<T> {

@@ -27,7 +27,7 @@ pub trait ShortList {
 
     /// Removes and returns the first item, or `None` if there is none.
     fn pop_front(&mut self) -> Option<Self::Item>
-        ensures first { result ≡ slice_get (list self.old) 0 }
+        ensures front { result ≡ slice_get (list self.old) 0 }
         ensures rest { list self.old ≡ option_to_list result ++ list self.new }
         ensures end { IfNone result (list self.new ≡ []) };
 }

@@ -73,7 +73,7 @@ no_memory_after_displacing_two run =
     let two = one.3 in
     let three = two.3 in
     let four = three.3 in
-    let by = ranks keys nat_eq nat_eq in
+    let ranks = ranks keys nat_eq nat_eq in
     omega (
       arith,
       length_permutation _ _ one.1.1,
@@ -83,8 +83,8 @@ no_memory_after_displacing_two run =
       three.1.2,
       four.1.2,
       ap length three.1.0,
-      length-clash by two.0.items over_both,
-      length-over by two.0.items over_both,
+      length-clash ranks two.0.items over_both,
+      length-over ranks two.0.items over_both,
     )
 
 -- The same for what is printed. The first bytes of lines distinguish them.

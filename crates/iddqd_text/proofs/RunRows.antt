@@ -169,11 +169,11 @@ prints_not_so_many = (too_many, refl, (too_many_replies, not_so_many, refl))
 abbrev stored : Global → (xs : List BiItem) → length xs < 2 ^ 63 → Vec BiItem Global
 stored alloc xs small = record { ptr = null_ptr; len = length xs; cap = length xs; alloc = alloc; items = xs; ok = (refl, omega arith); small = small }
 
-abbrev by : Ranks BiItem
-by = ranks keys nat_eq nat_eq
+abbrev item_ranks : Ranks BiItem
+item_ranks = ranks keys nat_eq nat_eq
 
-sound : (xs made : List BiItem) → adds by [] xs ≡ Ok made → IsSound by made
-sound xs made is = IsSound-adds by [] xs made (IsSound-nil by) is
+sound : (xs made : List BiItem) → adds item_ranks [] xs ≡ Ok made → IsSound item_ranks made
+sound xs made is = IsSound-adds item_ranks [] xs made (IsSound-nil item_ranks) is
 
 abbrev adding : Global → List Command
 adding alloc =

@@ -1,7 +1,7 @@
 -- Made by tests/widths from crates/iddqd_bi/proofs/Lib.antt: change that file.
-pub mod Entering
+pub mod EntryLemmas
 pub mod Iterating
-pub mod Lending
+pub mod LentLemmas
 pub mod MapLemmas
 pub mod RefLemmas
 pub mod Runs

@@ -19,7 +19,7 @@ use Rattle.iddqd_store.specs.Slots.{get, IsLive}
 use Rattle.iddqd_store.specs.Slots.Found.{AreFound, entry_at, found_by_all, held_at}
 use Rattle.iddqd_tri.specs.Keys.{has1, has2, has3, key_tests, ranks}
 use Rattle.iddqd_tri.specs.Mismatch.{HandsBack, IsInsert}
-use Rattle.iddqd_tri.specs.Refused.{map_row}
+use Rattle.iddqd_tri.specs.InsertErrors.{map_row}
 use Rattle.iddqd_tri.specs.RefMuts.{ref_item, ref_lender, ref_map}
 use Rattle.iddqd_tri.specs.declared.item.TriHashItem as item
 use Rattle.iddqd_store.specs.declared.query.Query as query

@@ -40,5 +40,5 @@ module _ {T K1 K2 K3 : Type 0} (of : item.Ghosts T K1 K2 K3) where
 -- `by_rank` lists what the search of each rank returned. No public clause cites it.
 -- Example: If no search found a slot, it is `Vacant` of the cells at which they ended.
 abbrev pub by_rank : {F V : Type 0} → Searched (F × F × F) (V × V × V) → Searched (List F) (List V)
-by_rank (Found by) = Found (by.0 ∷ by.1 ∷ by.2 ∷ [])
+by_rank (Found found) = Found (found.0 ∷ found.1 ∷ found.2 ∷ [])
 by_rank (Vacant at) = Vacant (at.0 ∷ at.1 ∷ at.2 ∷ [])

@@ -147,7 +147,7 @@ impl<T> ExtendUniqueError<T> {
     pub fn reason(&self) -> InsertReason
         ensures duplicate { result ≡ InsertReason.Duplicate → self.now.taken1 ≡ false → self.now.taken2 ≡ false
             → self.now.taken3 ≡ false → ⊥ }
-        ensures memory { result ≡ InsertReason.Memory → (self.now.taken1 ≡ false) × (self.now.taken2 ≡ false) ×
+        ensures none_taken { result ≡ InsertReason.Memory → (self.now.taken1 ≡ false) × (self.now.taken2 ≡ false) ×
             (self.now.taken3 ≡ false) }
     {
         if !self.taken1 && !self.taken2 && !self.taken3 {
@@ -178,7 +178,7 @@ impl<T> KeyMismatch<T> {
     }
 
     /// Makes the error for an item whose key differs at this rank, counted from 0.
-    pub(crate) fn at(rank: usize, item: T) -> Self
+    pub(crate) fn of_rank(rank: usize, item: T) -> Self
         ensures item { mismatch_item result ≡ item }
         ensures rank { rank < 3 → mismatch_rank result ≡ rank }
     {
@@ -212,7 +212,7 @@ impl<T> NotReplaced<T> {
 
 impl<T> EntryError<T> {
     /// Makes the error for an item whose key is not the entry's at this rank, counted from 0.
-    pub(crate) fn at(rank: usize, item: T) -> Self
+    pub(crate) fn of_rank(rank: usize, item: T) -> Self
         ensures item { error_item result ≡ item }
         ensures rank { rank < 3 → error_rank result ≡ Some rank }
     {
@@ -316,7 +316,7 @@ impl<T: Ranked, S: BuildHasher> InsertError<'_, T, S> {
     /// The call compares no key.
     pub fn reason(&self) -> InsertReason
         ensures duplicate { result ≡ InsertReason.Duplicate → clash T.ranks (bag self.now.map.now) self.now.item ≢ [] }
-        ensures memory { result ≡ InsertReason.Memory → clash T.ranks (bag self.now.map.now) self.now.item ≡ [] }
+        ensures none_taken { result ≡ InsertReason.Memory → clash T.ranks (bag self.now.map.now) self.now.item ≡ [] }
     {
         if self.duplicates().is_empty() {
             InsertReason::Memory

@@ -3,7 +3,7 @@
 ghost use Rattle.std.specs.Prelude.{◌≡◌, ◌&&◌, ◌==◌, refl, ⊤};
 ghost use Rattle.std.proofs.Common.{◌∙◌, true, sym, ap₂};
 
-use iddqd_store::{IndexTable, ItemIndex, Matcher, Meter, TryReserveError, table_room};
+use iddqd_store::{IndexTable, ItemIndex, Matcher, Meter, TryReserveError, pairs_for};
 use std::alloc::{AllocError, Global};
 use std::test::Fail;
 
@@ -233,7 +233,7 @@ fn searches_ask_under_their_hash_alone(rt: HostRuntime) -> Result<(), Fail> {
 // of the items, and half of them if it has room for seven quarters, both rounded up.
 #[test]
 fn tables_have_no_more_room_than_their_load_asks_for(rt: HostRuntime) {
-    assert!(rt; table_room(1) == 3 && table_room(8) == 21 && table_room(4_096) == 10_752);
-    assert!(rt; table_room(4_097) == 7_170 && table_room(65_536) == 114_688);
-    assert!(rt; table_room(65_537) == 65_537);
+    assert!(rt; pairs_for(1) == 3 && pairs_for(8) == 21 && pairs_for(4_096) == 10_752);
+    assert!(rt; pairs_for(4_097) == 7_170 && pairs_for(65_536) == 114_688);
+    assert!(rt; pairs_for(65_537) == 65_537);
 }

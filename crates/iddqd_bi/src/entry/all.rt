@@ -117,7 +117,7 @@ impl<'a, T: BiHashItemMut, S: BuildHasher, Q1: Query<T::K1>, Q2: Query<T::K2>> E
             (listing (entry_tests (key_tests T.BiHashItem Q1.stands_for Q2.stands_for) o) (bag o.map.now))) }
         requires is_found { IsFound self }
         // A vacant entry stays as it was. Each item that was found gets the data that the closure returns for it.
-        ensures vacant { OnVacant self.entry (λ v. result ≡ self.entry) }
+        ensures stays_vacant { OnVacant self.entry (λ v. result ≡ self.entry) }
         ensures stores { OnOccupied self.entry (λ o. Stores (CalledAt F.FnMut) T.put ⟦<T as Ranked>⟧.ranks f
             (listing (entry_tests (key_tests T.BiHashItem Q1.stands_for Q2.stands_for) o) (bag o.map.now))
             (bag o.map.now)

@@ -17,7 +17,7 @@ use crate::error::KeyMismatch;
 use crate::item::{BiHashItem, BiHashItemMut, Ranked};
 use crate::map::BiHashMap;
 use crate::map::slots::found::{differ, each_once, one_of};
-use iddqd_store::{Meter, Query, SlotUnder, UpToTwo};
+use iddqd_store::{FoundByHash, Meter, Query, UpToTwo};
 use std::hash::{BuildHasher, Hash};
 
 impl<'a, T: BiHashItem, S: BuildHasher, Q1: Query<T::K1>, Q2: Query<T::K2>> OccupiedEntry<
@@ -151,11 +151,13 @@ impl<'a, T: BiHashItem, S: BuildHasher, Q1: Query<T::K1>, Q2: Query<T::K2>> Occu
         ensures unchanged { OnErr result (self.new ≡ self.old) }
     {
         if let Some(rank) = differ(&item, self.query1, self.query2) {
-            return Err(KeyMismatch::at(rank, item));
+            return Err(KeyMismatch::of_rank(rank, item));
         }
-        let by1 = SlotUnder::new(self.slot1, self.map.hash_of1(&item));
-        let by2 = SlotUnder::new(self.slot2, self.map.hash_of2(&item));
-        let (displaced, slot) = self.map.put_over(item, &(by1, by2), &mut Meter::new());
+        let found1 = FoundByHash::new(self.slot1, self.map.hash_of1(&item));
+        let found2 = FoundByHash::new(self.slot2, self.map.hash_of2(&item));
+        let (displaced, slot) = self
+            .map
+            .overwrite(item, &(found1, found2), &mut Meter::new());
         self.slot1 = Some(slot);
         self.slot2 = Some(slot);
         Ok(displaced)
@@ -177,7 +179,7 @@ impl<'a, T: BiHashItem, S: BuildHasher, Q1: Query<T::K1>, Q2: Query<T::K2>> Occu
             slot1,
             slot2,
         } = self;
-        map.take_all(&each_once(slot1, slot2))
+        map.remove_slots(&each_once(slot1, slot2))
     }
 }
 

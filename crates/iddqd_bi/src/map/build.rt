@@ -5,7 +5,7 @@ ghost use Rattle.iddqd_store.specs.Table.Limit.{most_room};
 
 use super::{BiHashMap, DefaultHashBuilder};
 use crate::item::BiHashItem;
-use iddqd_store::{IndexTable, ItemSet, TryReserveError, table_room};
+use iddqd_store::{IndexTable, ItemSet, TryReserveError, pairs_for};
 use std::alloc::Global;
 use std::hash::{BuildHasher, Hash};
 use std::marker::PhantomData;
@@ -92,8 +92,8 @@ impl<T: BiHashItem, S: BuildHasher> BiHashMap<T, S> {
         ensures never_refused { items ≡ 0 → IsOk result }
         ensures past { most_room < items → IsErr result }
     {
-        let first = IndexTable::with_capacity(alloc, table_room(items))?;
-        let second = IndexTable::with_capacity(alloc, table_room(items))?;
+        let first = IndexTable::with_capacity(alloc, pairs_for(items))?;
+        let second = IndexTable::with_capacity(alloc, pairs_for(items))?;
         Ok(BiHashMap {
             items: ItemSet::with_capacity(alloc, items)?,
             first,

@@ -59,7 +59,7 @@ impl<T: BiHashItem + PartialEq, S: BuildHasher> BiHashMap<T, S> {
             (hash_of S.BuildHasher S.Hasher.Hasher self.now.builder (T.K1.hash_input (T.key1 item.now)))
             1 costs.old costs.new }
     {
-        match self.item_of(self.slot1_by(item.key1(), costs)) {
+        match self.item_of(self.slot1_of(item.key1(), costs)) {
             Some(found) => has_others(found, item.key2(), costs) && item == found,
             None => false,
         }

@@ -26,7 +26,7 @@ impl<T: Ranked, S: BuildHasher> BiHashMap<T, S> {
         // The slots are chosen first and borrowed after the match, so that its arms join before anything is borrowed.
         let found = match self.places(item, &mut Costs::new()) {
             Searched::Vacant(_) => UpToTwo::new(),
-            Searched::Found(by) => each_once(by.0.slot(), by.1.slot()),
+            Searched::Found(found) => each_once(found.0.slot(), found.1.slot()),
         };
         self.items_of(&found)
     }

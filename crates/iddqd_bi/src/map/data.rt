@@ -23,14 +23,14 @@ impl<T: BiHashItemMut, S: BuildHasher> BiHashMap<T, S> {
         // The result borrows the data of the item, or is `None` if there is no such item.
         ensures value { IfSome result (λ d. (x : T) × IsOnly (has1 T.BiHashItem Q.stands_for query)
             (bag self.old) (Some x) × (d.now ≡ T.data_of x)) }
-        ensures absent { IfNone result (IsOnly (has1 T.BiHashItem Q.stands_for query)
+        ensures none_found { IfNone result (IsOnly (has1 T.BiHashItem Q.stands_for query)
             (bag self.old) None) }
         // What is written through it is the item's data, and nothing else changes. At `None` the map is as it was.
         ensures* writes_back { sem 𝓛 (lends_data_to T.row S.row T.K1.row T.K2.row S.Hasher.row
             T.BiHashItem T.K1.Hash T.K2.Hash S.BuildHasher S.Hasher.Hasher T.Data.row T.put
             ⟦<T as Ranked>⟧.ranks (has1 T.BiHashItem Q.stands_for query) self.entry result) }
     {
-        match self.slot1_by(query, &mut Costs::new()) {
+        match self.slot1_of(query, &mut Costs::new()) {
             Some(slot) => Some(self.data_mut_at(slot)),
             None => None,
         }
@@ -47,14 +47,14 @@ impl<T: BiHashItemMut, S: BuildHasher> BiHashMap<T, S> {
         // The result borrows the data of the item, or is `None` if there is no such item.
         ensures value { IfSome result (λ d. (x : T) × IsOnly (has2 T.BiHashItem Q.stands_for query)
             (bag self.old) (Some x) × (d.now ≡ T.data_of x)) }
-        ensures absent { IfNone result (IsOnly (has2 T.BiHashItem Q.stands_for query)
+        ensures none_found { IfNone result (IsOnly (has2 T.BiHashItem Q.stands_for query)
             (bag self.old) None) }
         // What is written through it is the item's data, and nothing else changes. At `None` the map is as it was.
         ensures* writes_back { sem 𝓛 (lends_data_to T.row S.row T.K1.row T.K2.row S.Hasher.row
             T.BiHashItem T.K1.Hash T.K2.Hash S.BuildHasher S.Hasher.Hasher T.Data.row T.put
             ⟦<T as Ranked>⟧.ranks (has2 T.BiHashItem Q.stands_for query) self.entry result) }
     {
-        match self.slot2_by(query, &mut Costs::new()) {
+        match self.slot2_of(query, &mut Costs::new()) {
             Some(slot) => Some(self.data_mut_at(slot)),
             None => None,
         }
@@ -72,7 +72,7 @@ impl<T: BiHashItemMut, S: BuildHasher> BiHashMap<T, S> {
         // The result borrows the data of the item, or is `None` if there is no such item.
         ensures value { IfSome result (λ d. (x : T) × IsOnly (has_both T.BiHashItem Q1.stands_for Q2.stands_for query1 query2)
             (bag self.old) (Some x) × (d.now ≡ T.data_of x)) }
-        ensures absent { IfNone result (IsOnly (has_both T.BiHashItem Q1.stands_for Q2.stands_for query1 query2)
+        ensures none_found { IfNone result (IsOnly (has_both T.BiHashItem Q1.stands_for Q2.stands_for query1 query2)
             (bag self.old) None) }
         // What is written through it is the item's data, and nothing else changes. At `None` the map is as it was.
         ensures* writes_back { sem 𝓛 (lends_data_to T.row S.row T.K1.row T.K2.row S.Hasher.row

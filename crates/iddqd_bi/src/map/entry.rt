@@ -48,12 +48,12 @@ impl<T: BiHashItem, S: BuildHasher> BiHashMap<T, S> {
                 query2,
                 at,
             }),
-            Searched::Found((by1, by2)) => Entry::Occupied(OccupiedEntry {
+            Searched::Found((found1, found2)) => Entry::Occupied(OccupiedEntry {
                 map: self,
                 query1,
                 query2,
-                slot1: by1.slot(),
-                slot2: by2.slot(),
+                slot1: found1.slot(),
+                slot2: found2.slot(),
             }),
         }
     }

@@ -43,7 +43,7 @@ impl<T: BiHashItem, S: BuildHasher> BiHashMap<T, S> {
         while let Some(slot) = self.slot_from(cursor.next()) {
             cursor.pass(slot);
             if f(self.item_at(slot)) {
-                return Some(self.take_at(slot));
+                return Some(self.remove_at(slot));
             }
         }
         None

@@ -3,7 +3,7 @@ ghost use Rattle.std.specs.Prelude.{Contains, ◌≡◌, option_copied};
 ghost use Rattle.std.specs.List.{list_any};
 ghost use Rattle.iddqd_store.specs.Bag.{IsOnly};
 ghost use Rattle.iddqd_store.specs.Map.{bag, hash_of};
-ghost use Rattle.iddqd_store.specs.Rank.{agree, NamesOneUnder, SearchCosts};
+ghost use Rattle.iddqd_store.specs.Rank.{agree, NamesOneByHash, SearchCosts};
 ghost use Rattle.iddqd_store.specs.Slots.Found.{FoundAt};
 ghost use Rattle.iddqd_bi.specs.Keys.{has1, has2, has_both};
 
@@ -109,7 +109,7 @@ impl<T: BiHashItem, S: BuildHasher> BiHashMap<T, S> {
         matcher: &mut M,
         meter: &mut Meter,
     ) -> Option<&T>
-        requires names { NamesOneUnder (agree T.key1 T.K1.eq) (⟦<T as Hashed<S>>⟧.hash1 self.now.builder) hash
+        requires names { NamesOneByHash (agree T.key1 T.K1.eq) (⟦<T as Hashed<S>>⟧.hash1 self.now.builder) hash
             (λ x. M.accepts matcher.old (T.key1 x)) (bag self.now) }
         requires asks { (x : T) → Contains (bag self.now) x → ⟦<T as Hashed<S>>⟧.hash1 self.now.builder x ≡ hash
             → M.MayAsk matcher.old (T.key1 x) }
@@ -132,7 +132,7 @@ impl<T: BiHashItem, S: BuildHasher> BiHashMap<T, S> {
         matcher: &mut M,
         meter: &mut Meter,
     ) -> Option<&T>
-        requires names { NamesOneUnder (agree T.key2 T.K2.eq) (⟦<T as Hashed<S>>⟧.hash2 self.now.builder) hash
+        requires names { NamesOneByHash (agree T.key2 T.K2.eq) (⟦<T as Hashed<S>>⟧.hash2 self.now.builder) hash
             (λ x. M.accepts matcher.old (T.key2 x)) (bag self.now) }
         requires asks { (x : T) → Contains (bag self.now) x → ⟦<T as Hashed<S>>⟧.hash2 self.now.builder x ≡ hash
             → M.MayAsk matcher.old (T.key2 x) }
@@ -145,7 +145,7 @@ impl<T: BiHashItem, S: BuildHasher> BiHashMap<T, S> {
     }
 
     /// Returns the slot of the item whose first key the query stands for, or `None`.
-    pub(crate) fn slot1_by<Q: Query<T::K1>>(&self, query: Q, costs: &mut Costs) -> Option<ItemIndex>
+    pub(crate) fn slot1_of<Q: Query<T::K1>>(&self, query: Q, costs: &mut Costs) -> Option<ItemIndex>
         ensures found { FoundAt (has1 T.BiHashItem Q.stands_for query) self.now.slots result }
         ensures costs { SearchCosts (⟦<T as Hashed<S>>⟧.hash1 self.now.builder) (bag self.now) self.now.capacity
             (hash_of S.BuildHasher S.Hasher.Hasher self.now.builder (Q.hash_input query)) result
@@ -155,7 +155,7 @@ impl<T: BiHashItem, S: BuildHasher> BiHashMap<T, S> {
     }
 
     /// Returns the slot of the item whose second key the query stands for, or `None`.
-    pub(crate) fn slot2_by<Q: Query<T::K2>>(&self, query: Q, costs: &mut Costs) -> Option<ItemIndex>
+    pub(crate) fn slot2_of<Q: Query<T::K2>>(&self, query: Q, costs: &mut Costs) -> Option<ItemIndex>
         ensures found { FoundAt (has2 T.BiHashItem Q.stands_for query) self.now.slots result }
         ensures costs { SearchCosts (⟦<T as Hashed<S>>⟧.hash2 self.now.builder) (bag self.now) self.now.capacity
             (hash_of S.BuildHasher S.Hasher.Hasher self.now.builder (Q.hash_input query)) result

@@ -3,7 +3,7 @@ ghost use Rattle.std.specs.Prelude.{Contains, [], ◌≡◌, ◌∷◌, IfNone};
 ghost use Rattle.std.specs.Option.{option_to_list};
 ghost use Rattle.iddqd_store.specs.Bag.{IsOnly};
 ghost use Rattle.iddqd_store.specs.Map.{bag, Loses};
-ghost use Rattle.iddqd_store.specs.Rank.{agree, NamesOneUnder, TakingCosts};
+ghost use Rattle.iddqd_store.specs.Rank.{agree, NamesOneByHash, KeyRemovalCosts};
 ghost use Rattle.iddqd_bi.specs.Keys.{has1, has2, has_both};
 
 use super::BiHashMap;
@@ -31,7 +31,7 @@ impl<T: BiHashItem, S: BuildHasher> BiHashMap<T, S> {
         ensures absent { IfNone result (self.new ≡ self.old) }
     {
         let hash = self.hash_builder.hash_one(query);
-        self.remove1_by(
+        self.remove1_with(
             hash,
             &mut ByQuery::new(&query, &mut Meter::new()),
             &mut Meter::new(),
@@ -44,13 +44,13 @@ impl<T: BiHashItem, S: BuildHasher> BiHashMap<T, S> {
     /// In the table of the first rank the call costs as much as a call of `find1_with` that finds nothing. If it
     /// removes an item, it then walks once through each other table.
     #[inline(always)]
-    fn remove1_by<M: KeyMatcher<T::K1>>(
+    fn remove1_with<M: KeyMatcher<T::K1>>(
         &mut self,
         hash: u64,
         matcher: &mut M,
         meter: &mut Meter,
     ) -> Option<T>
-        requires names { NamesOneUnder (agree T.key1 T.K1.eq) (⟦<T as Hashed<S>>⟧.hash1 self.old.builder) hash
+        requires names { NamesOneByHash (agree T.key1 T.K1.eq) (⟦<T as Hashed<S>>⟧.hash1 self.old.builder) hash
             (λ x. M.accepts matcher.old (T.key1 x)) (bag self.old) }
         requires asks { (x : T) → Contains (bag self.old) x → ⟦<T as Hashed<S>>⟧.hash1 self.old.builder x ≡ hash
             → M.MayAsk matcher.old (T.key1 x) }
@@ -58,7 +58,7 @@ impl<T: BiHashItem, S: BuildHasher> BiHashMap<T, S> {
         ensures loses { Loses self.old (option_to_list result) self.new }
         ensures absent { IfNone result (self.new ≡ self.old) }
         ensures is_kept { M.IsKept matcher.old matcher.new }
-        ensures costs { TakingCosts (⟦<T as Hashed<S>>⟧.hash1 self.old.builder) (bag self.old) self.old.capacity
+        ensures costs { KeyRemovalCosts (⟦<T as Hashed<S>>⟧.hash1 self.old.builder) (bag self.old) self.old.capacity
             hash (1 ∷ []) result (M.asked matcher.old) (M.asked matcher.new) meter.old meter.new }
     {
         let slot = self
@@ -97,7 +97,7 @@ impl<T: BiHashItem, S: BuildHasher> BiHashMap<T, S> {
         ensures absent { IfNone result (self.new ≡ self.old) }
     {
         let hash = self.hash_builder.hash_one(query);
-        self.remove2_by(
+        self.remove2_with(
             hash,
             &mut ByQuery::new(&query, &mut Meter::new()),
             &mut Meter::new(),
@@ -110,13 +110,13 @@ impl<T: BiHashItem, S: BuildHasher> BiHashMap<T, S> {
     /// In the table of the second rank the call costs as much as a call of `find2_with` that finds nothing. If it
     /// removes an item, it then walks once through each other table.
     #[inline(always)]
-    fn remove2_by<M: KeyMatcher<T::K2>>(
+    fn remove2_with<M: KeyMatcher<T::K2>>(
         &mut self,
         hash: u64,
         matcher: &mut M,
         meter: &mut Meter,
     ) -> Option<T>
-        requires names { NamesOneUnder (agree T.key2 T.K2.eq) (⟦<T as Hashed<S>>⟧.hash2 self.old.builder) hash
+        requires names { NamesOneByHash (agree T.key2 T.K2.eq) (⟦<T as Hashed<S>>⟧.hash2 self.old.builder) hash
             (λ x. M.accepts matcher.old (T.key2 x)) (bag self.old) }
         requires asks { (x : T) → Contains (bag self.old) x → ⟦<T as Hashed<S>>⟧.hash2 self.old.builder x ≡ hash
             → M.MayAsk matcher.old (T.key2 x) }
@@ -124,7 +124,7 @@ impl<T: BiHashItem, S: BuildHasher> BiHashMap<T, S> {
         ensures loses { Loses self.old (option_to_list result) self.new }
         ensures absent { IfNone result (self.new ≡ self.old) }
         ensures is_kept { M.IsKept matcher.old matcher.new }
-        ensures costs { TakingCosts (⟦<T as Hashed<S>>⟧.hash2 self.old.builder) (bag self.old) self.old.capacity
+        ensures costs { KeyRemovalCosts (⟦<T as Hashed<S>>⟧.hash2 self.old.builder) (bag self.old) self.old.capacity
             hash (1 ∷ []) result (M.asked matcher.old) (M.asked matcher.new) meter.old meter.new }
     {
         let slot = self
@@ -161,6 +161,6 @@ impl<T: BiHashItem, S: BuildHasher> BiHashMap<T, S> {
     {
         let hash = self.hash_builder.hash_one(query1);
         let slot = self.slot_unique(hash, query1, query2, &mut Costs::new())?;
-        Some(self.take(slot, Some(hash), None, &mut Meter::new()))
+        Some(self.remove_slot(slot, Some(hash), None, &mut Meter::new()))
     }
 }

@@ -29,7 +29,7 @@ impl<T: BiHashItem, S: BuildHasher> BiHashMap<T, S> {
         while let Some(slot) = self.slot_from(from) {
             from = slot.number() + 1;
             if !f(self.item_at(slot)) {
-                drop(self.take_at(slot));
+                drop(self.remove_at(slot));
             }
         }
     }

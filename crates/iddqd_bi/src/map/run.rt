@@ -89,22 +89,22 @@ where
             BiCommand::EntryRemove(key1, key2) => self.apply_entry_remove(key1, key2, sink),
             BiCommand::OrInsert(key1, key2, item) => self.apply_or_insert(key1, key2, item, sink),
             BiCommand::Replace1(key, item) => self.apply_replace(
-                self.slot1_by(&key, &mut Costs::new()),
+                self.slot1_of(&key, &mut Costs::new()),
                 item,
                 sink,
             ),
             BiCommand::Replace2(key, item) => self.apply_replace(
-                self.slot2_by(&key, &mut Costs::new()),
+                self.slot2_of(&key, &mut Costs::new()),
                 item,
                 sink,
             ),
             BiCommand::Set1(key, data) => self.apply_set(
-                self.slot1_by(&key, &mut Costs::new()),
+                self.slot1_of(&key, &mut Costs::new()),
                 data,
                 sink,
             ),
             BiCommand::Set2(key, data) => self.apply_set(
-                self.slot2_by(&key, &mut Costs::new()),
+                self.slot2_of(&key, &mut Costs::new()),
                 data,
                 sink,
             ),
@@ -118,9 +118,9 @@ where
     {
         match self.insert_or_refuse(item, &mut Costs::new()) {
             Ok(()) => self.tell(BiReply::Done, sink),
-            Err(Refusal::Duplicate(item, by)) => {
-                let found = each_once(by.0.slot(), by.1.slot());
-                self.tell_duplicate(item, &found, sink)
+            Err(Refusal::Duplicate(item, found)) => {
+                let slots = each_once(found.0.slot(), found.1.slot());
+                self.tell_duplicate(item, &slots, sink)
             }
             Err(Refusal::Memory(item)) => self.tell(BiReply::Memory(item), sink),
         }

@@ -1,13 +1,13 @@
 //! Single items and their slots: where an item is to be inserted, inserting it and removing it. The files below have the
 //! capacity (`room`), the slots that searches by all keys found (`found`), iterating (`walk`), reading and writing
 //! (`write`), inserting in place of other items (`over`), and inserting a list that may have to be removed again
-//! (`enter`). Calls on all slots at once and removals by one key use the slots and tables themselves.
+//! (`batch`). Calls on all slots at once and removals by one key use the slots and tables themselves.
 ghost use Rattle.std.specs.Prelude.{◌≡◌, ℕ, ◌<◌, ◌≤◌, ◌+◌, [], ◌∷◌, length, map, All, OnOk, OnErr, IfOk, IfErr, Some, None, IfSome, nat_eq, slice_set, is_some, is_ok, true, false, if◌then◌else◌};
 ghost use Rattle.std.specs.List.{IsDistinct, list_any};
 ghost use Rattle.iddqd_store.specs.Bag.{IsSound, clash, differ, listing};
 ghost use Rattle.iddqd_store.specs.Rank.Index.{HasHash};
 ghost use Rattle.iddqd_store.specs.Map.{bag, hash_of, Gains, Loses, PutsAt, IsFullFor, IsBlockedAt};
-ghost use Rattle.iddqd_store.specs.Rank.All.{ArePlacesOf, AreSearched, AreUnder, AreVacantFor, HaveHashes, HaveRoom, IsBlockedBy, PlacingCosts, hashes_of, slots_found};
+ghost use Rattle.iddqd_store.specs.Rank.All.{ArePlacesOf, AreSearched, AreHashed, AreVacantFor, HaveHashes, HaveRoom, IsBlockedBy, PlacingCosts, hashes_of, slots_found};
 ghost use Rattle.iddqd_store.specs.Rank.{agree, walks_within};
 ghost use Rattle.iddqd_store.specs.Searched.{IfFound, IfVacant, OnFound, OnVacant};
 ghost use Rattle.iddqd_store.specs.Slots.Found.{AreFound, each_once, items_at};
@@ -15,7 +15,7 @@ ghost use Rattle.iddqd_store.specs.Slots.{get, IsLive, Updates};
 ghost use Rattle.iddqd_bi.specs.Keys.{by_rank, key_tests};
 ghost use Rattle.iddqd_bi.specs.Mismatch.{HandsBack};
 
-mod enter;
+mod batch;
 pub(crate) mod found;
 mod over;
 mod room;
@@ -27,20 +27,22 @@ use super::BiHashMap;
 use crate::error::EntryError;
 use crate::item::{BiHashItem, Hashed, Ranked};
 use crate::ranks::{First, Second};
-use iddqd_store::{Costs, ItemIndex, Lookup, Meter, Query, Searched, SlotUnder, UpToTwo, Vacancy};
+use iddqd_store::{
+    Costs, FoundByHash, ItemIndex, Lookup, Meter, Query, Searched, UpToTwo, Vacancy,
+};
 use std::hash::{BuildHasher, Hash};
 
 /// An item that was not inserted, and why. It does not borrow the map.
 #[derive(Drop)]
 pub(crate) enum Refusal<T> {
     /// Items conflict with it. This is what the search by each of its keys found.
-    Duplicate(T, (SlotUnder, SlotUnder)),
+    Duplicate(T, (FoundByHash, FoundByHash)),
     /// There was no memory for it.
     Memory(T),
 }
 
 impl<T: BiHashItem, S: BuildHasher> BiHashMap<T, S> {
-    ghost use Rattle.iddqd_bi.specs.Refused.{MatchRefusal, refusal_item};
+    ghost use Rattle.iddqd_bi.specs.InsertErrors.{MatchRefusal, refusal_item};
 
     /// Returns what a search by the first key reads.
     pub(crate) fn by_key1(&self) -> Lookup<'_, T, First, S>
@@ -87,11 +89,11 @@ impl<T: BiHashItem, S: BuildHasher> BiHashMap<T, S> {
         query1: Q1,
         query2: Q2,
         costs: &mut Costs,
-    ) -> Searched<(SlotUnder, SlotUnder), (Vacancy, Vacancy)>
+    ) -> Searched<(FoundByHash, FoundByHash), (Vacancy, Vacancy)>
         // The slots that were found, and whether there are any.
         ensures found { AreFound (key_tests T.BiHashItem Q1.stands_for Q2.stands_for query1 query2) self.now.slots
             (slots_found (by_rank result)) }
-        ensures none { OnVacant result (list_any is_some (slots_found (by_rank result)) ≡ false) }
+        ensures none_found { OnVacant result (list_any is_some (slots_found (by_rank result)) ≡ false) }
         ensures some { OnFound result (list_any is_some (slots_found (by_rank result)) ≡ true) }
         ensures apart { IsDistinct (agree T.key1 T.K1.eq) (bag self.now) }
         // The empty cells, or the hashes by which the slots were found.
@@ -102,7 +104,7 @@ impl<T: BiHashItem, S: BuildHasher> BiHashMap<T, S> {
         ensures hashes { IfFound (by_rank result) (HaveHashes
             (map (hash_of S.BuildHasher S.Hasher.Hasher self.now.builder)
             (Q1.hash_input query1 ∷ Q2.hash_input query2 ∷ []))) }
-        ensures under { IfFound (by_rank result) (AreUnder (⟦<T as Hashed<S>>⟧.hashes self.now.builder) self.now.slots) }
+        ensures hashed { IfFound (by_rank result) (AreHashed (⟦<T as Hashed<S>>⟧.hashes self.now.builder) self.now.slots) }
         ensures costs { AreSearched (⟦<T as Hashed<S>>⟧.hashes self.now.builder) (bag self.now) self.now.capacity
             (map (hash_of S.BuildHasher S.Hasher.Hasher self.now.builder)
             (Q1.hash_input query1 ∷ Q2.hash_input query2 ∷ [])) (slots_found (by_rank result))
@@ -110,13 +112,13 @@ impl<T: BiHashItem, S: BuildHasher> BiHashMap<T, S> {
     {
         let hash1 = self.hash_builder.hash_one(query1);
         let hash2 = self.hash_builder.hash_one(query2);
-        let by1 = self.by_key1().search(hash1, query1, costs);
-        let by2 = self.by_key2().search(hash2, query2, costs);
-        match (by1, by2) {
+        let found1 = self.by_key1().search(hash1, query1, costs);
+        let found2 = self.by_key2().search(hash2, query2, costs);
+        match (found1, found2) {
             (Searched::Vacant(at1), Searched::Vacant(at2)) => Searched::Vacant((at1, at2)),
-            (by1, by2) => Searched::Found((
-                SlotUnder::new(by1.found(), hash1),
-                SlotUnder::new(by2.found(), hash2),
+            (found1, found2) => Searched::Found((
+                FoundByHash::new(found1.found(), hash1),
+                FoundByHash::new(found2.found(), hash2),
             )),
         }
     }
@@ -128,15 +130,15 @@ impl<T: BiHashItem, S: BuildHasher> BiHashMap<T, S> {
         &self,
         item: &T,
         costs: &mut Costs,
-    ) -> Searched<(SlotUnder, SlotUnder), (Vacancy, Vacancy)>
+    ) -> Searched<(FoundByHash, FoundByHash), (Vacancy, Vacancy)>
         ensures free { OnVacant result (clash ⟦<T as Ranked>⟧.ranks (bag self.now) item.now ≡ []) }
-        ensures places { IfVacant (by_rank result) (ArePlacesOf
+        ensures spots { IfVacant (by_rank result) (ArePlacesOf
             (⟦<T as Hashed<S>>⟧.hashes self.now.builder) (bag self.now) item.now) }
         ensures blocked { OnFound result (IsBlockedAt ⟦<T as Ranked>⟧.ranks self.now item.now
             (each_once (slots_found (by_rank result)))) }
         ensures hashes { IfFound (by_rank result) (HaveHashes
             (hashes_of (⟦<T as Hashed<S>>⟧.hashes self.now.builder) item.now)) }
-        ensures under { IfFound (by_rank result) (AreUnder (⟦<T as Hashed<S>>⟧.hashes self.now.builder) self.now.slots) }
+        ensures hashed { IfFound (by_rank result) (AreHashed (⟦<T as Hashed<S>>⟧.hashes self.now.builder) self.now.slots) }
         ensures found { AreFound (⟦<T as Ranked>⟧.key_tests (T.key1 item.now) (T.key2 item.now))
             self.now.slots (slots_found (by_rank result)) }
         ensures costs { AreSearched (⟦<T as Hashed<S>>⟧.hashes self.now.builder) (bag self.now) self.now.capacity
@@ -148,7 +150,7 @@ impl<T: BiHashItem, S: BuildHasher> BiHashMap<T, S> {
 
     /// Inserts an item with which nothing conflicts, at the place found for it at each rank. Only a table that grew is probed.
     #[inline(always)]
-    pub(crate) fn insert_at(
+    pub(crate) fn insert_into(
         &mut self,
         item: T,
         at: (Vacancy, Vacancy),
@@ -156,7 +158,7 @@ impl<T: BiHashItem, S: BuildHasher> BiHashMap<T, S> {
     ) -> ItemIndex
         requires room { length (bag self.old) < self.old.capacity }
         requires free { clash ⟦<T as Ranked>⟧.ranks (bag self.old) item ≡ [] }
-        requires places { ArePlacesOf
+        requires spots { ArePlacesOf
             (⟦<T as Hashed<S>>⟧.hashes self.old.builder) (bag self.old) item (at.0 ∷ at.1 ∷ []) }
         ensures was_free { get self.old.slots result ≡ None }
         ensures updates { Updates self.old.slots self.new.slots result (Some item) }
@@ -165,8 +167,8 @@ impl<T: BiHashItem, S: BuildHasher> BiHashMap<T, S> {
     {
         let (at1, at2) = at;
         let slot = self.items.insert_reserved(item);
-        self.first.insert_at(at1, slot, meter);
-        self.second.insert_at(at2, slot, meter);
+        self.first.insert_into(at1, slot, meter);
+        self.second.insert_into(at2, slot, meter);
         slot
     }
 
@@ -181,13 +183,13 @@ impl<T: BiHashItem, S: BuildHasher> BiHashMap<T, S> {
         query2: Q2,
         at: (Vacancy, Vacancy),
     ) -> Result<ItemIndex, EntryError<T>>
-        requires absent { listing (key_tests T.BiHashItem Q1.stands_for Q2.stands_for query1 query2) (bag self.old) ≡ [] }
+        requires none_found { listing (key_tests T.BiHashItem Q1.stands_for Q2.stands_for query1 query2) (bag self.old) ≡ [] }
         requires vacant { AreVacantFor (⟦<T as Hashed<S>>⟧.hashes self.old.builder) (bag self.old)
             (map (hash_of S.BuildHasher S.Hasher.Hasher self.old.builder)
             (Q1.hash_input query1 ∷ Q2.hash_input query2 ∷ []))
             (at.0 ∷ at.1 ∷ []) }
         ensures gains { OnOk result (Gains self.old item self.new) }
-        ensures at { IfOk result (λ slot. get self.new.slots slot ≡ Some item) }
+        ensures value { IfOk result (λ slot. get self.new.slots slot ≡ Some item) }
         ensures sound { OnOk result (IsSound ⟦<T as Ranked>⟧.ranks (bag self.new)) }
         ensures same_keys { OnOk result
             (differ (key_tests T.BiHashItem Q1.stands_for Q2.stands_for query1 query2) item ≡ None) }
@@ -196,17 +198,17 @@ impl<T: BiHashItem, S: BuildHasher> BiHashMap<T, S> {
         ensures unchanged { OnErr result (self.new ≡ self.old) }
     {
         if let Some(rank) = differ(&item, query1, query2) {
-            return Err(EntryError::at(rank, item));
+            return Err(EntryError::of_rank(rank, item));
         }
         if let Err(_) = self.make_room(1) {
             return Err(EntryError::Memory(item));
         }
-        Ok(self.insert_at(item, at, &mut Meter::new()))
+        Ok(self.insert_into(item, at, &mut Meter::new()))
     }
 
     /// Removes the item of a slot, by one walk through each table. It hashes a key of it only if its hash is not given.
     #[inline(always)]
-    pub(crate) fn take(
+    pub(crate) fn remove_slot(
         &mut self,
         slot: ItemIndex,
         hash1: Option<u64>,
@@ -236,18 +238,18 @@ impl<T: BiHashItem, S: BuildHasher> BiHashMap<T, S> {
 
     /// Removes the item of a slot, by one walk through each table. It hashes each key of it once.
     #[inline(always)]
-    pub(crate) fn take_at(&mut self, slot: ItemIndex) -> T
+    pub(crate) fn remove_at(&mut self, slot: ItemIndex) -> T
         requires { IsLive self.old.slots slot }
         ensures value { get self.old.slots slot ≡ Some result }
         ensures slots { self.new.slots ≡ slice_set self.old.slots slot None }
         ensures loses { Loses self.old (result ∷ []) self.new }
         ensures updates { Updates self.old.slots self.new.slots slot None }
     {
-        self.take(slot, None, None, &mut Meter::new())
+        self.remove_slot(slot, None, None, &mut Meter::new())
     }
 
     /// Removes the items of these slots, in their order. The call hashes each key of them once.
-    pub(crate) fn take_all(&mut self, found: &UpToTwo<ItemIndex>) -> UpToTwo<T>
+    pub(crate) fn remove_slots(&mut self, found: &UpToTwo<ItemIndex>) -> UpToTwo<T>
         requires live { All (IsLive self.old.slots) found.now }
         requires apart { IsDistinct nat_eq found.now }
         ensures values { result ≡ items_at self.old.slots found.now }
@@ -259,7 +261,7 @@ impl<T: BiHashItem, S: BuildHasher> BiHashMap<T, S> {
         let mut taken = UpToTwo::new();
         for index in 0..found.len() {
             if let Some(slot) = found.get(index) {
-                taken.push(self.take_at(*slot));
+                taken.push(self.remove_at(*slot));
             }
         }
         taken
@@ -284,12 +286,12 @@ impl<T: BiHashItem, S: BuildHasher> BiHashMap<T, S> {
     {
         let at = match self.places(&item, costs) {
             Searched::Vacant(at) => at,
-            Searched::Found(by) => return Err(Refusal::Duplicate(item, by)),
+            Searched::Found(found) => return Err(Refusal::Duplicate(item, found)),
         };
         if let Err(_) = self.make_room(1) {
             return Err(Refusal::Memory(item));
         }
-        self.insert_at(item, at, &mut costs.probed);
+        self.insert_into(item, at, &mut costs.probed);
         Ok(())
     }
 }

@@ -26,14 +26,14 @@ impl<T: BiHashItemMut, S: BuildHasher> BiHashMap<T, S> {
         F: Drop,
         requires { (x : T) → IsOnly (has1 T.BiHashItem Q.stands_for query) (bag self.old) (Some x)
             → FnOnceTakesAt F.FnOnce f x }
-        ensures found { result ≡ list_any (has1 T.BiHashItem Q.stands_for query) (bag self.old) }
+        ensures any_found { result ≡ list_any (has1 T.BiHashItem Q.stands_for query) (bag self.old) }
         ensures stores { result ≡ true → StoresOne (FnOnceReturnsAt F.FnOnce f) T.put ⟦<T as Ranked>⟧.ranks
             (has1 T.BiHashItem Q.stands_for query) (bag self.old) (bag self.new) }
         ensures absent { result ≡ false → self.new ≡ self.old }
         ensures capacity { self.new.capacity ≡ self.old.capacity }
         ensures builder { self.new.builder ≡ self.old.builder }
     {
-        match self.slot1_by(query, &mut Costs::new()) {
+        match self.slot1_of(query, &mut Costs::new()) {
             Some(slot) => {
                 self.store_once(slot, f);
                 true
@@ -54,14 +54,14 @@ impl<T: BiHashItemMut, S: BuildHasher> BiHashMap<T, S> {
         F: Drop,
         requires { (x : T) → IsOnly (has2 T.BiHashItem Q.stands_for query) (bag self.old) (Some x)
             → FnOnceTakesAt F.FnOnce f x }
-        ensures found { result ≡ list_any (has2 T.BiHashItem Q.stands_for query) (bag self.old) }
+        ensures any_found { result ≡ list_any (has2 T.BiHashItem Q.stands_for query) (bag self.old) }
         ensures stores { result ≡ true → StoresOne (FnOnceReturnsAt F.FnOnce f) T.put ⟦<T as Ranked>⟧.ranks
             (has2 T.BiHashItem Q.stands_for query) (bag self.old) (bag self.new) }
         ensures absent { result ≡ false → self.new ≡ self.old }
         ensures capacity { self.new.capacity ≡ self.old.capacity }
         ensures builder { self.new.builder ≡ self.old.builder }
     {
-        match self.slot2_by(query, &mut Costs::new()) {
+        match self.slot2_of(query, &mut Costs::new()) {
             Some(slot) => {
                 self.store_once(slot, f);
                 true
@@ -85,7 +85,7 @@ impl<T: BiHashItemMut, S: BuildHasher> BiHashMap<T, S> {
         F: Drop,
         requires { (x : T) → IsOnly (has_both T.BiHashItem Q1.stands_for Q2.stands_for query1 query2)
             (bag self.old) (Some x) → FnOnceTakesAt F.FnOnce f x }
-        ensures found { result
+        ensures any_found { result
             ≡ list_any (has_both T.BiHashItem Q1.stands_for Q2.stands_for query1 query2) (bag self.old) }
         ensures stores { result ≡ true → StoresOne (FnOnceReturnsAt F.FnOnce f) T.put ⟦<T as Ranked>⟧.ranks
             (has_both T.BiHashItem Q1.stands_for Q2.stands_for query1 query2) (bag self.old) (bag self.new) }

@@ -34,7 +34,7 @@ impl<T: BiHashItem, S: BuildHasher> BiHashMap<T, S> {
         ensures same_map { IfSome result (λ r. ref_lender r ≡ self.entry.ghost_name) }
         ensures* rests_at_none { sem 𝓛 (rests_if_none T.row S.row T.K1.row T.K2.row S.Hasher.row self.entry result) }
     {
-        let slot = self.slot1_by(query, &mut Costs::new())?;
+        let slot = self.slot1_of(query, &mut Costs::new())?;
         Some(RefMut { map: self, slot })
     }
 
@@ -56,7 +56,7 @@ impl<T: BiHashItem, S: BuildHasher> BiHashMap<T, S> {
         ensures same_map { IfSome result (λ r. ref_lender r ≡ self.entry.ghost_name) }
         ensures* rests_at_none { sem 𝓛 (rests_if_none T.row S.row T.K1.row T.K2.row S.Hasher.row self.entry result) }
     {
-        let slot = self.slot2_by(query, &mut Costs::new())?;
+        let slot = self.slot2_of(query, &mut Costs::new())?;
         Some(RefMut { map: self, slot })
     }
 

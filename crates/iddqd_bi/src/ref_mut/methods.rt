@@ -76,7 +76,7 @@ impl<T: Ranked, S: BuildHasher> RefMut<'_, T, S> {
         ensures unchanged { OnErr result (self.new ≡ self.old) }
     {
         if let Some(rank) = differ(&item, self.key1(), self.key2()) {
-            return Err(KeyMismatch::at(rank, item));
+            return Err(KeyMismatch::of_rank(rank, item));
         }
         let slot = self.slot;
         Ok(self.map.replace_at(slot, item))

@@ -109,7 +109,7 @@ impl<'a, T: IdHashItemMut, S: BuildHasher, Q: Query<T::Key>> Entry<'a, T, S, Q> 
             → IsOnly (has T.IdHashItem Q.stands_for o.query) (bag o.map.now) (Some x) → FnOnceTakesAt F.FnOnce f x) }
         requires is_found { IsFound self }
         // A vacant entry stays as it was. The item that was found gets the data that the closure returns for it.
-        ensures vacant { OnVacant self.entry (λ v. result ≡ self.entry) }
+        ensures stays_vacant { OnVacant self.entry (λ v. result ≡ self.entry) }
         ensures stores { OnOccupied self.entry (λ o. StoresOne (FnOnceReturnsAt F.FnOnce f) T.put ⟦<T as Ranked>⟧.ranks
             (has T.IdHashItem Q.stands_for o.query) (bag o.map.now) (bag (entry_map result))) }
         // The entry borrows the same map, and has the same key, which finds the item. Nothing else changes.

@@ -116,7 +116,7 @@ impl<'a, T: IdHashItem, S: BuildHasher, Q: Query<T::Key>> OccupiedEntry<'a, T, S
             query: _,
             slot,
         } = self;
-        map.take_at(slot)
+        map.remove_at(slot)
     }
 }
 

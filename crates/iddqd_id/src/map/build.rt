@@ -7,7 +7,7 @@ ghost use Rattle.iddqd_store.specs.Table.Limit.{most_room};
 
 use super::{DefaultHashBuilder, IdHashMap};
 use crate::item::IdHashItem;
-use iddqd_store::{IndexTable, ItemSet, TryReserveError, table_room};
+use iddqd_store::{IndexTable, ItemSet, TryReserveError, pairs_for};
 use std::alloc::Global;
 use std::hash::{BuildHasher, Hash};
 use std::marker::PhantomData;
@@ -93,7 +93,7 @@ impl<T: IdHashItem, S: BuildHasher> IdHashMap<T, S> {
         ensures never_refused { items ≡ 0 → IsOk result }
         ensures past { most_room < items → IsErr result }
     {
-        let first = IndexTable::with_capacity(alloc, table_room(items))?;
+        let first = IndexTable::with_capacity(alloc, pairs_for(items))?;
         Ok(IdHashMap {
             items: ItemSet::with_capacity(alloc, items)?,
             first,

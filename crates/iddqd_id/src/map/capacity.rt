@@ -34,7 +34,7 @@ impl<T: Ranked, S: BuildHasher> IdHashMap<T, S> {
         ensures fits { length (bag self.now) ≤ result }
         ensures most { result ≤ most_room }
     {
-        self.room()
+        self.least_capacity()
     }
 
     /// Reserves capacity for this many more items. If they fit already, the call allocates no memory. It compares no
@@ -79,7 +79,7 @@ impl<T: Ranked, S: BuildHasher> IdHashMap<T, S> {
         ensures builder { self.new.builder ≡ self.old.builder }
     {
         if self.is_sparse() {
-            self.take_each();
+            self.remove_each();
         }
         self.items.clear();
         self.first.clear();
@@ -93,7 +93,7 @@ impl<T: Ranked, S: BuildHasher> IdHashMap<T, S> {
     }
 
     /// Removes the items one by one, and drops them. It hashes the key of each of them once.
-    fn take_each(&mut self)
+    fn remove_each(&mut self)
     where
         T: Drop,
         ensures empty { bag self.new ≡ [] }
@@ -103,7 +103,7 @@ impl<T: Ranked, S: BuildHasher> IdHashMap<T, S> {
         let mut from = 0;
         while let Some(slot) = self.slot_from(from) {
             from = slot.number() + 1;
-            drop(self.take_at(slot));
+            drop(self.remove_at(slot));
         }
     }
 }

@@ -60,7 +60,7 @@ impl<T: IdHashItem + PartialEq, S: BuildHasher> IdHashMap<T, S> {
             (hash_of S.BuildHasher S.Hasher.Hasher self.now.builder (T.Key.hash_input (T.key item.now)))
             0 costs.old costs.new }
     {
-        match self.item_of(self.slot_by(item.key(), costs)) {
+        match self.item_of(self.slot_of(item.key(), costs)) {
             Some(found) => item == found,
             None => false,
         }

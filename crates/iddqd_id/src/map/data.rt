@@ -25,14 +25,14 @@ impl<T: IdHashItemMut, S: BuildHasher> IdHashMap<T, S> {
         // The result borrows the data of the item, or is `None` if there is no such item.
         ensures value { IfSome result (λ d. (x : T) × IsOnly (has T.IdHashItem Q.stands_for query)
             (bag self.old) (Some x) × (d.now ≡ T.data_of x)) }
-        ensures absent { IfNone result (IsOnly (has T.IdHashItem Q.stands_for query)
+        ensures none_found { IfNone result (IsOnly (has T.IdHashItem Q.stands_for query)
             (bag self.old) None) }
         // What is written through it is the item's data, and nothing else changes. At `None` the map is as it was.
         ensures* writes_back { sem 𝓛 (lends_data_to T.row S.row T.Key.row S.Hasher.row
             T.IdHashItem T.Key.Hash S.BuildHasher S.Hasher.Hasher T.Data.row T.put
             ⟦<T as Ranked>⟧.ranks (has T.IdHashItem Q.stands_for query) self.entry result) }
     {
-        match self.slot_by(query, &mut Costs::new()) {
+        match self.slot_of(query, &mut Costs::new()) {
             Some(slot) => Some(self.data_mut_at(slot)),
             None => None,
         }

@@ -43,7 +43,7 @@ impl<T: IdHashItem, S: BuildHasher> IdHashMap<T, S> {
                 query,
                 at,
             }),
-            Searched::Found(by) => match by.slot() {
+            Searched::Found(found) => match found.slot() {
                 Some(slot) => Entry::Occupied(OccupiedEntry {
                     map: self,
                     query,

@@ -7,7 +7,7 @@ ghost use Rattle.iddqd_store.specs.Bag.{IsSound, clash, overs};
 ghost use Rattle.iddqd_store.specs.Bag.Building.{GivesAll, GivesThen, FitsOn, AddsTo, RefusesFor, HasPlaceFor, MatchFromIterError};
 ghost use Rattle.iddqd_store.specs.Map.{bag, GrowsUnless, IsFullFor};
 ghost use Rattle.iddqd_store.specs.Runs.Step.{ExtendsTo, state_of, empty_state};
-ghost use Rattle.iddqd_id.specs.Refused.{TellsWhyBehind};
+ghost use Rattle.iddqd_id.specs.InsertErrors.{TellsWhyBehind};
 
 use super::IdHashMap;
 use super::slots::Refusal;
@@ -37,7 +37,7 @@ impl<T: Ranked + Drop, S: BuildHasher> IdHashMap<T, S> {
         // If as many items fit as the iterator may give, the call succeeds, and the capacity stays.
         ensures granted { FitsOn I.into_iter_gives I.IntoIter.remaining iter (length (bag self.old)) self.old.capacity
             → IsOk result }
-        ensures room { GrowsUnless
+        ensures grows_unless { GrowsUnless
             (FitsOn I.into_iter_gives I.IntoIter.remaining iter (length (bag self.old)) self.old.capacity)
             self.old self.new }
     {
@@ -91,18 +91,18 @@ impl<T: Ranked + Drop, S: BuildHasher> IdHashMap<T, S> {
         ensures reason { IfErr result (TellsWhyBehind T.IdHashItem T.Key.eq (bag self.old)) }
         // The map stays sound, and grows only if the items might not fit.
         ensures sound { IsSound T.ranks (bag self.new) }
-        ensures room { GrowsUnless
+        ensures grows_unless { GrowsUnless
             (FitsOn I.into_iter_gives I.IntoIter.remaining iter (length (bag self.old)) self.old.capacity)
             self.old self.new }
     {
-        let mut entered = self.items.entered();
+        let mut batch = self.items.empty_batch();
         let items = iter.into_iter();
         let mut left = items.size_hint().0;
         for item in items {
             let wanted = left.max(1);
             left = wanted - 1;
-            if let Err(rejected) = self.enter(item, &mut entered, wanted) {
-                let before = self.take_entered(entered);
+            if let Err(rejected) = self.insert_noted(item, &mut batch, wanted) {
+                let before = self.remove_batch(batch);
                 return Err(ExtendUniqueError {
                     before,
                     item: rejected.item,
@@ -165,11 +165,11 @@ impl<T: Ranked + Drop, S: BuildHasher + Default + Drop> IdHashMap<T, S> {
         for item in items {
             match map.insert_or_refuse(item, &mut Costs::new()) {
                 Ok(()) => {}
-                Err(Refusal::Duplicate(item, by)) => {
-                    let Some(slot) = by.slot() else {
+                Err(Refusal::Duplicate(item, found)) => {
+                    let Some(slot) = found.slot() else {
                         unreachable!()
                     };
-                    let duplicate = map.take_at(slot);
+                    let duplicate = map.remove_at(slot);
                     return Err(FromIterError::Duplicate(DuplicateItem::new(item, duplicate)));
                 }
                 Err(Refusal::Memory(item)) => return Err(FromIterError::Memory(item)),

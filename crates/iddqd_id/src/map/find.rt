@@ -5,7 +5,7 @@ ghost use Rattle.std.specs.Prelude.{Contains, ◌≡◌, option_copied};
 ghost use Rattle.std.specs.List.{list_any};
 ghost use Rattle.iddqd_store.specs.Bag.{IsOnly};
 ghost use Rattle.iddqd_store.specs.Map.{bag, hash_of};
-ghost use Rattle.iddqd_store.specs.Rank.{agree, NamesOneUnder, SearchCosts};
+ghost use Rattle.iddqd_store.specs.Rank.{agree, NamesOneByHash, SearchCosts};
 ghost use Rattle.iddqd_store.specs.Slots.Found.{FoundAt};
 ghost use Rattle.iddqd_id.specs.Keys.{has};
 
@@ -55,7 +55,7 @@ impl<T: IdHashItem, S: BuildHasher> IdHashMap<T, S> {
         matcher: &mut M,
         meter: &mut Meter,
     ) -> Option<&T>
-        requires names { NamesOneUnder (agree T.key T.Key.eq) (⟦<T as Hashed<S>>⟧.hash self.now.builder) hash
+        requires names { NamesOneByHash (agree T.key T.Key.eq) (⟦<T as Hashed<S>>⟧.hash self.now.builder) hash
             (λ x. M.accepts matcher.old (T.key x)) (bag self.now) }
         requires asks { (x : T) → Contains (bag self.now) x → ⟦<T as Hashed<S>>⟧.hash self.now.builder x ≡ hash
             → M.MayAsk matcher.old (T.key x) }
@@ -68,7 +68,7 @@ impl<T: IdHashItem, S: BuildHasher> IdHashMap<T, S> {
     }
 
     /// Returns the slot of the item whose key the query stands for, or `None`.
-    pub(crate) fn slot_by<Q: Query<T::Key>>(&self, query: Q, costs: &mut Costs) -> Option<ItemIndex>
+    pub(crate) fn slot_of<Q: Query<T::Key>>(&self, query: Q, costs: &mut Costs) -> Option<ItemIndex>
         ensures found { FoundAt (has T.IdHashItem Q.stands_for query) self.now.slots result }
         ensures costs { SearchCosts (⟦<T as Hashed<S>>⟧.hash self.now.builder) (bag self.now) self.now.capacity
             (hash_of S.BuildHasher S.Hasher.Hasher self.now.builder (Q.hash_input query)) result

@@ -14,7 +14,7 @@ use iddqd_store::Costs;
 use std::hash::{BuildHasher, Hash};
 
 impl<T: Ranked, S: BuildHasher> IdHashMap<T, S> {
-    ghost use Rattle.iddqd_id.specs.Refused.{HandsBackAndHolds, TellsWhy, ends_as};
+    ghost use Rattle.iddqd_id.specs.InsertErrors.{HandsBackAndHolds, TellsWhy, ends_as};
 
     /// Inserts an item if no item of the map conflicts with it. Two items conflict if they have an equal key.
     ///
@@ -47,12 +47,12 @@ impl<T: Ranked, S: BuildHasher> IdHashMap<T, S> {
     {
         match self.insert_or_refuse(item, &mut Costs::new()) {
             Ok(()) => Ok(()),
-            Err(Refusal::Duplicate(item, by)) => {
-                let found = by.slot();
+            Err(Refusal::Duplicate(item, found)) => {
+                let slot = found.slot();
                 Err(InsertError {
                     map: self,
                     item,
-                    found,
+                    found: slot,
                 })
             }
             Err(Refusal::Memory(item)) => Err(InsertError {
@@ -88,8 +88,8 @@ impl<T: Ranked, S: BuildHasher> IdHashMap<T, S> {
     {
         match self.insert_or_refuse(item, &mut Costs::new()) {
             Ok(()) => Ok(()),
-            Err(Refusal::Duplicate(item, by)) => {
-                let taken = by.slot().is_some();
+            Err(Refusal::Duplicate(item, found)) => {
+                let taken = found.slot().is_some();
                 Err(Rejected { item, taken })
             }
             Err(Refusal::Memory(item)) => Err(Rejected { item, taken: false }),

@@ -31,13 +31,13 @@ impl<T: Ranked, S: BuildHasher> IdHashMap<T, S> {
         ensures unchanged { OnErr result (self.new ≡ self.old) }
         ensures reason { OnErr result (IsFullFor T.ranks self.old item) }
     {
-        self.insert_overwrite_by(item, &mut Costs::new())
+        self.insert_overwrite_counted(item, &mut Costs::new())
     }
 
     /// Inserts as `insert_overwrite` does, which calls it, and counts its costs, but for the cells that growing probes.
     /// Beside the search, it walks through the table at most twice.
     #[inline(always)]
-    fn insert_overwrite_by(
+    fn insert_overwrite_counted(
         &mut self,
         item: T,
         costs: &mut Costs,
@@ -60,8 +60,8 @@ impl<T: Ranked, S: BuildHasher> IdHashMap<T, S> {
         // it arises, and no item is copied from call to call. Growth is not inlined.
         match self.insert_or_refuse(item, costs) {
             Ok(()) => Ok(None),
-            Err(Refusal::Duplicate(item, by)) => {
-                let (displaced, _) = self.put_over(item, &by, &mut costs.probed);
+            Err(Refusal::Duplicate(item, found)) => {
+                let (displaced, _) = self.overwrite(item, &found, &mut costs.probed);
                 Ok(Some(displaced))
             }
             Err(Refusal::Memory(value)) => Err(MemoryRefused { value }),

@@ -32,7 +32,7 @@ impl<T: IdHashItem, S: BuildHasher> IdHashMap<T, S> {
         ensures absent { IfNone result (self.new ≡ self.old) }
     {
         let slot = self.first_slot()?;
-        Some(self.take_at(slot))
+        Some(self.remove_at(slot))
     }
 
     /// Removes the next item from the cursor on, and returns it, or `None` if there is none. The cursor moves on to
@@ -63,6 +63,6 @@ impl<T: IdHashItem, S: BuildHasher> IdHashMap<T, S> {
     {
         let slot = self.slot_from(cursor.next())?;
         cursor.pass(slot);
-        Some(self.take_at(slot))
+        Some(self.remove_at(slot))
     }
 }

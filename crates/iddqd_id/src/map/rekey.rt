@@ -34,13 +34,13 @@ impl<T: Ranked, S: BuildHasher> IdHashMap<T, S> {
         ensures reason { IfErr result (λ e. TellsWhyNot T.ranks
             (has T.IdHashItem Q.stands_for query) (bag self.old) item e) }
     {
-        self.rekey_by(query, item, &mut Costs::new())
+        self.rekey_counted(query, item, &mut Costs::new())
     }
 
     /// Replaces as `rekey` does, which calls it, and counts its costs: those of a search by the query and, if it finds
     /// an item, those of `rekey_at`.
     #[inline(always)]
-    fn rekey_by<Q: Query<T::Key>>(
+    fn rekey_counted<Q: Query<T::Key>>(
         &mut self,
         query: Q,
         item: T,
@@ -60,7 +60,7 @@ impl<T: Ranked, S: BuildHasher> IdHashMap<T, S> {
             (hashes_of (⟦<T as Hashed<S>>⟧.hashes self.old.builder) item) (map (λ _. 2) T.ranks) result
             costs.old costs.new }
     {
-        let Some(slot) = self.slot_by(query, costs) else {
+        let Some(slot) = self.slot_of(query, costs) else {
             return Err(NotReplaced::Absent(item));
         };
         match self.rekey_at(slot, item, costs) {

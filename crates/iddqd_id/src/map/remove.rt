@@ -5,7 +5,7 @@ ghost use Rattle.std.specs.Prelude.{Contains, [], ◌≡◌, IfNone};
 ghost use Rattle.std.specs.Option.{option_to_list};
 ghost use Rattle.iddqd_store.specs.Bag.{IsOnly};
 ghost use Rattle.iddqd_store.specs.Map.{bag, Loses};
-ghost use Rattle.iddqd_store.specs.Rank.{agree, NamesOneUnder, TakingCosts};
+ghost use Rattle.iddqd_store.specs.Rank.{agree, NamesOneByHash, KeyRemovalCosts};
 ghost use Rattle.iddqd_id.specs.Keys.{has};
 
 use super::IdHashMap;
@@ -33,7 +33,7 @@ impl<T: IdHashItem, S: BuildHasher> IdHashMap<T, S> {
         ensures absent { IfNone result (self.new ≡ self.old) }
     {
         let hash = self.hash_builder.hash_one(query);
-        self.remove_by(
+        self.remove_with(
             hash,
             &mut ByQuery::new(&query, &mut Meter::new()),
             &mut Meter::new(),
@@ -46,13 +46,13 @@ impl<T: IdHashItem, S: BuildHasher> IdHashMap<T, S> {
     /// In the table the call costs as much as a call of `find_with` that finds nothing. If it
     /// removes an item, it then walks once through each other table.
     #[inline(always)]
-    fn remove_by<M: KeyMatcher<T::Key>>(
+    fn remove_with<M: KeyMatcher<T::Key>>(
         &mut self,
         hash: u64,
         matcher: &mut M,
         meter: &mut Meter,
     ) -> Option<T>
-        requires names { NamesOneUnder (agree T.key T.Key.eq) (⟦<T as Hashed<S>>⟧.hash self.old.builder) hash
+        requires names { NamesOneByHash (agree T.key T.Key.eq) (⟦<T as Hashed<S>>⟧.hash self.old.builder) hash
             (λ x. M.accepts matcher.old (T.key x)) (bag self.old) }
         requires asks { (x : T) → Contains (bag self.old) x → ⟦<T as Hashed<S>>⟧.hash self.old.builder x ≡ hash
             → M.MayAsk matcher.old (T.key x) }
@@ -60,7 +60,7 @@ impl<T: IdHashItem, S: BuildHasher> IdHashMap<T, S> {
         ensures loses { Loses self.old (option_to_list result) self.new }
         ensures absent { IfNone result (self.new ≡ self.old) }
         ensures is_kept { M.IsKept matcher.old matcher.new }
-        ensures costs { TakingCosts (⟦<T as Hashed<S>>⟧.hash self.old.builder) (bag self.old) self.old.capacity
+        ensures costs { KeyRemovalCosts (⟦<T as Hashed<S>>⟧.hash self.old.builder) (bag self.old) self.old.capacity
             hash [] result (M.asked matcher.old) (M.asked matcher.new) meter.old meter.new }
     {
         let slot = self

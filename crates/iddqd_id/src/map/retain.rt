@@ -31,7 +31,7 @@ impl<T: IdHashItem, S: BuildHasher> IdHashMap<T, S> {
         while let Some(slot) = self.slot_from(from) {
             from = slot.number() + 1;
             if !f(self.item_at(slot)) {
-                drop(self.take_at(slot));
+                drop(self.remove_at(slot));
             }
         }
     }

@@ -32,7 +32,7 @@ impl<T: IdHashItemMut, S: BuildHasher> IdHashMap<T, S> {
         while let Some(slot) = self.slot_from(from) {
             from = slot.number() + 1;
             if !self.store_some_at(slot, &mut f) {
-                drop(self.take_at(slot));
+                drop(self.remove_at(slot));
             }
         }
     }

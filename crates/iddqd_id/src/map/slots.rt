@@ -1,6 +1,6 @@
 //! Single items and their slots: where an item is to be inserted, inserting it and removing it. The files below have
 //! the capacity (`room`), the slots that a search found (`found`), iterating (`walk`), reading and writing (`write`),
-//! inserting in place of other items (`over`), and inserting a list that may have to be removed again (`enter`). Calls
+//! inserting in place of other items (`over`), and inserting a list that may have to be removed again (`batch`). Calls
 //! on all slots at once and removals by one key use the slots and the table themselves.
 //!
 //! Made by tests/widths from crates/iddqd_bi/src/map/slots.rt: change that file.
@@ -9,7 +9,7 @@ ghost use Rattle.std.specs.List.{IsDistinct, list_any};
 ghost use Rattle.iddqd_store.specs.Bag.{IsSound, clash, differ, listing};
 ghost use Rattle.iddqd_store.specs.Rank.Index.{HasHash};
 ghost use Rattle.iddqd_store.specs.Map.{bag, hash_of, Gains, Loses, PutsAt, IsFullFor, IsBlockedAt};
-ghost use Rattle.iddqd_store.specs.Rank.All.{ArePlacesOf, AreSearched, AreUnder, AreVacantFor, HaveHashes, HaveRoom, IsBlockedBy, PlacingCosts, hashes_of, slots_found};
+ghost use Rattle.iddqd_store.specs.Rank.All.{ArePlacesOf, AreSearched, AreHashed, AreVacantFor, HaveHashes, HaveRoom, IsBlockedBy, PlacingCosts, hashes_of, slots_found};
 ghost use Rattle.iddqd_store.specs.Rank.{agree, walks_within};
 ghost use Rattle.iddqd_store.specs.Searched.{IfFound, IfVacant, OnFound, OnVacant};
 ghost use Rattle.iddqd_store.specs.Slots.Found.{AreFound, each_once};
@@ -17,7 +17,7 @@ ghost use Rattle.iddqd_store.specs.Slots.{get, IsLive, Updates};
 ghost use Rattle.iddqd_id.specs.Keys.{by_rank, key_tests};
 ghost use Rattle.iddqd_id.specs.Mismatch.{HandsBack};
 
-mod enter;
+mod batch;
 pub(crate) mod found;
 mod over;
 mod room;
@@ -28,20 +28,20 @@ use super::IdHashMap;
 use crate::error::EntryError;
 use crate::item::{Hashed, IdHashItem, Ranked};
 use crate::ranks::First;
-use iddqd_store::{Costs, ItemIndex, Lookup, Meter, Query, Searched, SlotUnder, Vacancy};
+use iddqd_store::{Costs, FoundByHash, ItemIndex, Lookup, Meter, Query, Searched, Vacancy};
 use std::hash::{BuildHasher, Hash};
 
 /// An item that was not inserted, and why. It does not borrow the map.
 #[derive(Drop)]
 pub(crate) enum Refusal<T> {
     /// Items conflict with it. This is what the search by its key found.
-    Duplicate(T, SlotUnder),
+    Duplicate(T, FoundByHash),
     /// There was no memory for it.
     Memory(T),
 }
 
 impl<T: IdHashItem, S: BuildHasher> IdHashMap<T, S> {
-    ghost use Rattle.iddqd_id.specs.Refused.{MatchRefusal, refusal_item};
+    ghost use Rattle.iddqd_id.specs.InsertErrors.{MatchRefusal, refusal_item};
 
     /// Returns what a search by the key reads.
     pub(crate) fn by_key(&self) -> Lookup<'_, T, First, S>
@@ -69,11 +69,11 @@ impl<T: IdHashItem, S: BuildHasher> IdHashMap<T, S> {
         &self,
         query: Q,
         costs: &mut Costs,
-    ) -> Searched<SlotUnder, Vacancy>
+    ) -> Searched<FoundByHash, Vacancy>
         // The slots that were found, and whether there are any.
         ensures found { AreFound (key_tests T.IdHashItem Q.stands_for query) self.now.slots
             (slots_found (by_rank result)) }
-        ensures none { OnVacant result (list_any is_some (slots_found (by_rank result)) ≡ false) }
+        ensures none_found { OnVacant result (list_any is_some (slots_found (by_rank result)) ≡ false) }
         ensures some { OnFound result (list_any is_some (slots_found (by_rank result)) ≡ true) }
         ensures apart { IsDistinct (agree T.key T.Key.eq) (bag self.now) }
         // The empty cells, or the hashes by which the slots were found.
@@ -85,7 +85,7 @@ impl<T: IdHashItem, S: BuildHasher> IdHashMap<T, S> {
         ensures hashes { IfFound (by_rank result) (HaveHashes
             (map (hash_of S.BuildHasher S.Hasher.Hasher self.now.builder)
             (Q.hash_input query ∷ []))) }
-        ensures under { IfFound (by_rank result) (AreUnder
+        ensures hashed { IfFound (by_rank result) (AreHashed
             (⟦<T as Hashed<S>>⟧.hashes self.now.builder) self.now.slots) }
         ensures costs { AreSearched (⟦<T as Hashed<S>>⟧.hashes self.now.builder) (bag self.now) self.now.capacity
             (map (hash_of S.BuildHasher S.Hasher.Hasher self.now.builder)
@@ -94,7 +94,7 @@ impl<T: IdHashItem, S: BuildHasher> IdHashMap<T, S> {
     {
         let hash = self.hash_builder.hash_one(query);
         match self.by_key().search(hash, query, costs) {
-            Searched::Found(slot) => Searched::Found(SlotUnder::new(Some(slot), hash)),
+            Searched::Found(slot) => Searched::Found(FoundByHash::new(Some(slot), hash)),
             Searched::Vacant(at) => Searched::Vacant(at),
         }
     }
@@ -102,15 +102,15 @@ impl<T: IdHashItem, S: BuildHasher> IdHashMap<T, S> {
     /// Returns what the search at each rank found, if items conflict with an item, and else where it is to be inserted
     /// at each rank. The call hashes each key once, and searches for it once.
     #[inline(always)]
-    pub(crate) fn places(&self, item: &T, costs: &mut Costs) -> Searched<SlotUnder, Vacancy>
+    pub(crate) fn places(&self, item: &T, costs: &mut Costs) -> Searched<FoundByHash, Vacancy>
         ensures free { OnVacant result (clash ⟦<T as Ranked>⟧.ranks (bag self.now) item.now ≡ []) }
-        ensures places { IfVacant (by_rank result) (ArePlacesOf
+        ensures spots { IfVacant (by_rank result) (ArePlacesOf
             (⟦<T as Hashed<S>>⟧.hashes self.now.builder) (bag self.now) item.now) }
         ensures blocked { OnFound result (IsBlockedAt ⟦<T as Ranked>⟧.ranks self.now item.now
             (each_once (slots_found (by_rank result)))) }
         ensures hashes { IfFound (by_rank result) (HaveHashes
             (hashes_of (⟦<T as Hashed<S>>⟧.hashes self.now.builder) item.now)) }
-        ensures under { IfFound (by_rank result) (AreUnder
+        ensures hashed { IfFound (by_rank result) (AreHashed
             (⟦<T as Hashed<S>>⟧.hashes self.now.builder) self.now.slots) }
         ensures found { AreFound (⟦<T as Ranked>⟧.key_tests (T.key item.now))
             self.now.slots (slots_found (by_rank result)) }
@@ -124,10 +124,10 @@ impl<T: IdHashItem, S: BuildHasher> IdHashMap<T, S> {
     /// Inserts an item with which nothing conflicts, at the place found for it at each rank. Only a table that grew is
     /// probed.
     #[inline(always)]
-    pub(crate) fn insert_at(&mut self, item: T, at: Vacancy, meter: &mut Meter) -> ItemIndex
+    pub(crate) fn insert_into(&mut self, item: T, at: Vacancy, meter: &mut Meter) -> ItemIndex
         requires room { length (bag self.old) < self.old.capacity }
         requires free { clash ⟦<T as Ranked>⟧.ranks (bag self.old) item ≡ [] }
-        requires places { ArePlacesOf
+        requires spots { ArePlacesOf
             (⟦<T as Hashed<S>>⟧.hashes self.old.builder) (bag self.old) item (at ∷ []) }
         ensures was_free { get self.old.slots result ≡ None }
         ensures updates { Updates self.old.slots self.new.slots result (Some item) }
@@ -136,7 +136,7 @@ impl<T: IdHashItem, S: BuildHasher> IdHashMap<T, S> {
             (λ _. 1) ⟦<T as Ranked>⟧.ranks) }
     {
         let slot = self.items.insert_reserved(item);
-        self.first.insert_at(at, slot, meter);
+        self.first.insert_into(at, slot, meter);
         slot
     }
 
@@ -150,13 +150,13 @@ impl<T: IdHashItem, S: BuildHasher> IdHashMap<T, S> {
         query: Q,
         at: Vacancy,
     ) -> Result<ItemIndex, EntryError<T>>
-        requires absent { listing (key_tests T.IdHashItem Q.stands_for query) (bag self.old) ≡ [] }
+        requires none_found { listing (key_tests T.IdHashItem Q.stands_for query) (bag self.old) ≡ [] }
         requires vacant { AreVacantFor (⟦<T as Hashed<S>>⟧.hashes self.old.builder) (bag self.old)
             (map (hash_of S.BuildHasher S.Hasher.Hasher self.old.builder)
             (Q.hash_input query ∷ []))
             (at ∷ []) }
         ensures gains { OnOk result (Gains self.old item self.new) }
-        ensures at { IfOk result (λ slot. get self.new.slots slot ≡ Some item) }
+        ensures value { IfOk result (λ slot. get self.new.slots slot ≡ Some item) }
         ensures sound { OnOk result (IsSound ⟦<T as Ranked>⟧.ranks (bag self.new)) }
         ensures same_keys { OnOk result
             (differ (key_tests T.IdHashItem Q.stands_for query) item ≡ None) }
@@ -170,12 +170,12 @@ impl<T: IdHashItem, S: BuildHasher> IdHashMap<T, S> {
         if let Err(_) = self.make_room(1) {
             return Err(EntryError::Memory(item));
         }
-        Ok(self.insert_at(item, at, &mut Meter::new()))
+        Ok(self.insert_into(item, at, &mut Meter::new()))
     }
 
     /// Removes the item of a slot, by one walk through the table. It hashes a key of it only if its hash is not given.
     #[inline(always)]
-    pub(crate) fn take(&mut self, slot: ItemIndex, hash: Option<u64>, meter: &mut Meter) -> T
+    pub(crate) fn remove_slot(&mut self, slot: ItemIndex, hash: Option<u64>, meter: &mut Meter) -> T
         requires live { IsLive self.old.slots slot }
         requires hash { IfSome hash (HasHash (⟦<T as Hashed<S>>⟧.hash self.old.builder) self.old.slots slot) }
         ensures value { get self.old.slots slot ≡ Some result }
@@ -197,14 +197,14 @@ impl<T: IdHashItem, S: BuildHasher> IdHashMap<T, S> {
 
     /// Removes the item of a slot, by one walk through the table. It hashes its key once.
     #[inline(always)]
-    pub(crate) fn take_at(&mut self, slot: ItemIndex) -> T
+    pub(crate) fn remove_at(&mut self, slot: ItemIndex) -> T
         requires { IsLive self.old.slots slot }
         ensures value { get self.old.slots slot ≡ Some result }
         ensures slots { self.new.slots ≡ slice_set self.old.slots slot None }
         ensures loses { Loses self.old (result ∷ []) self.new }
         ensures updates { Updates self.old.slots self.new.slots slot None }
     {
-        self.take(slot, None, &mut Meter::new())
+        self.remove_slot(slot, None, &mut Meter::new())
     }
 
     /// Inserts an item if none conflicts with it. The error has what the search by its key found; or, if the map is
@@ -226,12 +226,12 @@ impl<T: IdHashItem, S: BuildHasher> IdHashMap<T, S> {
     {
         let at = match self.places(&item, costs) {
             Searched::Vacant(at) => at,
-            Searched::Found(by) => return Err(Refusal::Duplicate(item, by)),
+            Searched::Found(found) => return Err(Refusal::Duplicate(item, found)),
         };
         if let Err(_) = self.make_room(1) {
             return Err(Refusal::Memory(item));
         }
-        self.insert_at(item, at, &mut costs.probed);
+        self.insert_into(item, at, &mut costs.probed);
         Ok(())
     }
 }

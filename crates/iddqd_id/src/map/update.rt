@@ -28,14 +28,14 @@ impl<T: IdHashItemMut, S: BuildHasher> IdHashMap<T, S> {
         F: Drop,
         requires { (x : T) → IsOnly (has T.IdHashItem Q.stands_for query) (bag self.old) (Some x)
             → FnOnceTakesAt F.FnOnce f x }
-        ensures found { result ≡ list_any (has T.IdHashItem Q.stands_for query) (bag self.old) }
+        ensures any_found { result ≡ list_any (has T.IdHashItem Q.stands_for query) (bag self.old) }
         ensures stores { result ≡ true → StoresOne (FnOnceReturnsAt F.FnOnce f) T.put ⟦<T as Ranked>⟧.ranks
             (has T.IdHashItem Q.stands_for query) (bag self.old) (bag self.new) }
         ensures absent { result ≡ false → self.new ≡ self.old }
         ensures capacity { self.new.capacity ≡ self.old.capacity }
         ensures builder { self.new.builder ≡ self.old.builder }
     {
-        match self.slot_by(query, &mut Costs::new()) {
+        match self.slot_of(query, &mut Costs::new()) {
             Some(slot) => {
                 self.store_once(slot, f);
                 true

@@ -36,7 +36,7 @@ impl<T: IdHashItem, S: BuildHasher> IdHashMap<T, S> {
         ensures same_map { IfSome result (λ r. ref_lender r ≡ self.entry.ghost_name) }
         ensures* rests_at_none { sem 𝓛 (rests_if_none T.row S.row T.Key.row S.Hasher.row self.entry result) }
     {
-        let slot = self.slot_by(query, &mut Costs::new())?;
+        let slot = self.slot_of(query, &mut Costs::new())?;
         Some(RefMut { map: self, slot })
     }
 

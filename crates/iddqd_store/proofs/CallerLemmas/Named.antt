@@ -12,17 +12,17 @@ only_holds P None x xs is only h = absurd (cc (is, only))
 only_holds P (Some y) x xs is only h = let same : y ≡ x = cc (is, only) in subst P same h
 
 -- the same if the item that is found was written
-pub only_written : {T S : Type 0} (by : Ranks T) (write : T → T) (old there : Map T S) (new : List T) (found : Option T) (x : T) (xs : List T)
-    → there ≡ old → option_to_list found ≡ xs → x ∷ [] ≡ xs → IfSome found (λ y. IsPermutation new (swap by (bag there) y (write y)))
-    → IsPermutation new (swap by (bag old) x (write x))
-only_written {T} {S} by write old there new found x xs same is only h =
-    subst (λ (m : Map T S). IsPermutation new (swap by (bag m) x (write x))) same (only_holds (λ y. IsPermutation new (swap by (bag there) y (write y))) found x xs is only h)
+pub only_written : {T S : Type 0} (ranks : Ranks T) (write : T → T) (old there : Map T S) (new : List T) (found : Option T) (x : T) (xs : List T)
+    → there ≡ old → option_to_list found ≡ xs → x ∷ [] ≡ xs → IfSome found (λ y. IsPermutation new (swap ranks (bag there) y (write y)))
+    → IsPermutation new (swap ranks (bag old) x (write x))
+only_written {T} {S} ranks write old there new found x xs same is only h =
+    subst (λ (m : Map T S). IsPermutation new (swap ranks (bag m) x (write x))) same (only_holds (λ y. IsPermutation new (swap ranks (bag there) y (write y))) found x xs is only h)
 
 -- the same if it was written twice
-pub only_written_twice : {T S : Type 0} (by : Ranks T) → AreLawful by → 0 < length by → (first last : T → T) (old there middle : Map T S)
-    (new : List T) (found wrote : Option T) (x : T) (xs : List T) → agrees by x (first x) ≡ true → there ≡ old → option_to_list found ≡ xs
-    → x ∷ [] ≡ xs → IfSome found (λ y. IsPermutation (bag middle) (swap by (bag there) y (first y))) → IfSome found (λ y. wrote ≡ Some (first y))
-    → IfSome wrote (λ y. IsPermutation new (swap by (bag middle) y (last y))) → IsPermutation new (swap by (bag old) x (last (first x)))
-only_written_twice by laws some first last old there middle new found wrote x xs agree same is only swaps item again =
+pub only_written_twice : {T S : Type 0} (ranks : Ranks T) → AreLawful ranks → 0 < length ranks → (first last : T → T) (old there middle : Map T S)
+    (new : List T) (found wrote : Option T) (x : T) (xs : List T) → agrees ranks x (first x) ≡ true → there ≡ old → option_to_list found ≡ xs
+    → x ∷ [] ≡ xs → IfSome found (λ y. IsPermutation (bag middle) (swap ranks (bag there) y (first y))) → IfSome found (λ y. wrote ≡ Some (first y))
+    → IfSome wrote (λ y. IsPermutation new (swap ranks (bag middle) y (last y))) → IsPermutation new (swap ranks (bag old) x (last (first x)))
+only_written_twice ranks laws some first last old there middle new found wrote x xs agree same is only swaps item again =
     let here : wrote ≡ Some (first x) = only_holds (λ y. wrote ≡ Some (first y)) found x xs is only item in
-    swap-twice by laws some (bag old) (bag middle) new x (first x) (last (first x)) agree (only_written by first old there (bag middle) found x xs same is only swaps) (rw here at again)
+    swap-twice ranks laws some (bag old) (bag middle) new x (first x) (last (first x)) agree (only_written ranks first old there (bag middle) found x xs same is only swaps) (rw here at again)

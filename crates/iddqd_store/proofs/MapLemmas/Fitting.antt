@@ -12,7 +12,7 @@ use Rattle.iddqd_store.proofs.BagLemmas.Building.{AddsTo-IsPermutation, AddsTo-n
 use Rattle.iddqd_store.proofs.BagLemmas.Cancelled.{IsPermutation-cancelled}
 use Rattle.iddqd_store.proofs.BagLemmas.Sound.{IsSound-IsPermutation}
 use Rattle.iddqd_store.proofs.MapLemmas.Growing.{fits_on, not_full, spare}
-use Rattle.iddqd_store.proofs.SlotLemmas.Entered.{StandAt-nil}
+use Rattle.iddqd_store.proofs.SlotLemmas.Batch.{StandAt-nil}
 
 -- A map became another one. Its capacity is no lower, and if `certain` holds, it is the same, and so many more items fit.
 pub record HasRoomOn {T S : Type 0} (certain : Type 0) (left : ℕ) (old now : Map T S) : Type 0 where
@@ -42,8 +42,8 @@ module _ {T S : Type 0} {certain : Type 0} {left : ℕ} {old now : Map T S} (so_
     pub HasRoomOn-gains : {x : T} {new : Map T S} → Gains now x new → HasRoomOn certain next old new
     HasRoomOn-gains {new = new} gains = more new (le_of_eq (sym (length_permutation _ _ gains.items))) gains.no_less_room gains.same_room gains.same_builder
 
-    pub HasRoomOn-overwrites : {by : Ranks T} {x : T} {new : Map T S} → Overwrites by now x new → HasRoomOn certain next old new
-    HasRoomOn-overwrites {by} {x} {new} put = more new (length-overwritten by (bag now) (bag new) x put.items) put.no_less_room put.same_room put.same_builder
+    pub HasRoomOn-overwrites : {ranks : Ranks T} {x : T} {new : Map T S} → Overwrites ranks now x new → HasRoomOn certain next old new
+    HasRoomOn-overwrites {ranks} {x} {new} put = more new (length-overwritten ranks (bag now) (bag new) x put.items) put.no_less_room put.same_room put.same_builder
 
     -- it did not come in, and others left
     pub GrowsUnless-left : {mid new : Map T S} → GrowsUnless (length (bag now) < now.capacity) now mid → new.capacity ≡ mid.capacity → new.builder ≡ mid.builder → GrowsUnless certain old new
@@ -54,45 +54,45 @@ module _ {T S : Type 0} {certain : Type 0} {left : ℕ} {old now : Map T S} (so_
     }
 
 -- The items of a list were added to a map, and their slots noted.
-pub record Batch {T S : Type 0} (by : Ranks T) (certain : Type 0) (left : ℕ) (old now : Map T S) (notes : List ℕ) (xs : List T) : Type 0 where
-  pub added : AddsTo by (bag old) (bag now) xs
+pub record InsertsBatch {T S : Type 0} (ranks : Ranks T) (certain : Type 0) (left : ℕ) (old now : Map T S) (notes : List ℕ) (xs : List T) : Type 0 where
+  pub added : AddsTo ranks (bag old) (bag now) xs
   pub noted : StandAt now.slots notes xs
   pub room : HasRoomOn certain left old now
 
 -- They were removed again. A key that an item had in between, one of the bag and of the list has.
-pub record Undone {T : Type 0} (by : Ranks T) (old held new taken xs : List T) : Type 0 where
+pub record Undone {T : Type 0} (ranks : Ranks T) (old held new taken xs : List T) : Type 0 where
   pub all : taken ≡ xs
-  pub apart : IsSound by (taken ++ old)
+  pub apart : IsSound ranks (taken ++ old)
   pub same : IsPermutation new old
-  pub sound : IsSound by new
+  pub sound : IsSound ranks new
   pub key : (test : T → Bool) → list_any test held ≡ list_any test (taken ++ old)
 
-pub no_batch : {T S : Type 0} (by : Ranks T) {certain : Type 0} {left : ℕ} (m : Map T S) → HasRoomOn certain left m m → Batch by certain left m m [] []
-no_batch by m room = record { added = AddsTo-nil by (bag m); noted = StandAt-nil m.slots; room = room }
+pub no_batch : {T S : Type 0} (ranks : Ranks T) {certain : Type 0} {left : ℕ} (m : Map T S) → HasRoomOn certain left m m → InsertsBatch ranks certain left m m [] []
+no_batch ranks m room = record { added = AddsTo-nil ranks (bag m); noted = StandAt-nil m.slots; room = room }
 
-module _ {T S : Type 0} {by : Ranks T} {certain : Type 0} {left : ℕ} {old now : Map T S} {notes : List ℕ} {xs : List T} (batch : Batch by certain left old now notes xs) where
-  pub one_more : {new : Map T S} {more : List ℕ} {x : T} (next : ℕ) → next < left → clash by (bag now) x ≡ [] → Gains now x new → ((ys : List T) → StandAt now.slots notes ys → StandAt new.slots more (ys ++ x ∷ [])) → Batch by certain next old new more (xs ++ x ∷ [])
+module _ {T S : Type 0} {ranks : Ranks T} {certain : Type 0} {left : ℕ} {old now : Map T S} {notes : List ℕ} {xs : List T} (batch : InsertsBatch ranks certain left old now notes xs) where
+  pub one_more : {new : Map T S} {more : List ℕ} {x : T} (next : ℕ) → next < left → clash ranks (bag now) x ≡ [] → Gains now x new → ((ys : List T) → StandAt now.slots notes ys → StandAt new.slots more (ys ++ x ∷ [])) → InsertsBatch ranks certain next old new more (xs ++ x ∷ [])
   one_more {new} {more} {x} next nearer free gains note = record {
-    added = AddsTo-push by (bag old) (bag now) (bag new) xs x batch.added free gains.items;
+    added = AddsTo-push ranks (bag old) (bag now) (bag new) xs x batch.added free gains.items;
     noted = note xs batch.noted;
     room = HasRoomOn-gains batch.room next nearer gains;
   }
 
-  module _ (laws : AreLawful by) (sound : IsSound by (bag old)) where
-    pub sound_then : IsSound by (bag now)
-    sound_then = AddsTo-sound by (bag old) (bag now) xs batch.added laws sound
+  module _ (laws : AreLawful ranks) (sound : IsSound ranks (bag old)) where
+    pub sound_then : IsSound ranks (bag now)
+    sound_then = AddsTo-sound ranks (bag old) (bag now) xs batch.added laws sound
 
-    pub undone : {seen : List ℕ} {taken : List T} {mid new : Map T S} → 0 < length by → mid.slots ≡ now.slots → seen ≡ notes → taken ≡ items_at mid.slots seen → Loses mid taken new → Undone by (bag old) (bag now) (bag new) taken xs
+    pub undone : {seen : List ℕ} {taken : List T} {mid new : Map T S} → 0 < length ranks → mid.slots ≡ now.slots → seen ≡ notes → taken ≡ items_at mid.slots seen → Loses mid taken new → Undone ranks (bag old) (bag now) (bag new) taken xs
     undone {taken = taken} {new = new} some seen_at noted values loses =
         let all : taken ≡ xs = values ∙ rw (seen_at, noted) batch.noted.items in
         let out : IsPermutation (bag now) (taken ++ bag new) = subst (λ l. IsPermutation (contents l) (taken ++ bag new)) seen_at loses.items in
-        let listed : IsPermutation (bag now) (taken ++ bag old) = subst (λ l. IsPermutation (bag now) (l ++ bag old)) (sym all) (AddsTo-IsPermutation by (bag old) (bag now) xs batch.added) in
-        let apart = IsSound-IsPermutation by laws (bag now) (taken ++ bag old) listed sound_then in
-        let same = IsPermutation-cancelled by some laws (bag now) taken (bag old) (bag new) apart listed out in
+        let listed : IsPermutation (bag now) (taken ++ bag old) = subst (λ l. IsPermutation (bag now) (l ++ bag old)) (sym all) (AddsTo-IsPermutation ranks (bag old) (bag now) xs batch.added) in
+        let apart = IsSound-IsPermutation ranks laws (bag now) (taken ++ bag old) listed sound_then in
+        let same = IsPermutation-cancelled ranks some laws (bag now) taken (bag old) (bag new) apart listed out in
         record {
           all = all;
           apart = apart;
           same = same;
-          sound = IsSound-IsPermutation by laws (bag old) (bag new) (IsPermutation-sym _ _ same) sound;
+          sound = IsSound-IsPermutation ranks laws (bag old) (bag new) (IsPermutation-sym _ _ same) sound;
           key = λ test. list_any-IsPermutation test (bag now) (taken ++ bag old) listed;
         }

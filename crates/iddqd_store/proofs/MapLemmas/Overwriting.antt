@@ -6,12 +6,12 @@ use Rattle.iddqd_store.specs.Map.{Map, Gains, Overwrites, PutsAt, bag}
 use Rattle.iddqd_store.proofs.BagLemmas.Over.{over-taken}
 use Rattle.iddqd_store.proofs.MapLemmas.Places.{over_none}
 
-module _ {T S : Type 0} (by : Ranks T) (old new : Map T S) (x : T) where
+module _ {T S : Type 0} (ranks : Ranks T) (old new : Map T S) (x : T) where
   -- an item that is put in the place of those that conflict with it is put over the bag
-  pub PutsAt-over : (slot : ℕ) (rest : List T) → IsPermutation (bag old) (order by (bag old) x ++ rest) → PutsAt by old slot x (x ∷ rest) new → PutsAt by old slot x (over by (bag old) x) new
+  pub PutsAt-over : (slot : ℕ) (rest : List T) → IsPermutation (bag old) (order ranks (bag old) x ++ rest) → PutsAt ranks old slot x (x ∷ rest) new → PutsAt ranks old slot x (over ranks (bag old) x) new
   PutsAt-over slot rest out put = record {
     at = put.at;
-    items = over-taken by (bag old) rest (bag new) x out put.items;
+    items = over-taken ranks (bag old) rest (bag new) x out put.items;
     sound = put.sound;
     fits = put.fits;
     same_room = put.same_room;
@@ -19,9 +19,9 @@ module _ {T S : Type 0} (by : Ranks T) (old new : Map T S) (x : T) where
   }
 
   -- an item that conflicts with none overwrites nothing
-  pub Overwrites-gains : clash by (bag old) x ≡ [] → Gains old x new → Overwrites by old x new
+  pub Overwrites-gains : clash ranks (bag old) x ≡ [] → Gains old x new → Overwrites ranks old x new
   Overwrites-gains free gains = record {
-    items = over_none by (bag old) x free (bag new) gains.items;
+    items = over_none ranks (bag old) x free (bag new) gains.items;
     fits = gains.fits;
     no_less_room = gains.no_less_room;
     same_room = gains.same_room;
@@ -30,7 +30,7 @@ module _ {T S : Type 0} (by : Ranks T) (old new : Map T S) (x : T) where
   }
 
   -- an item in the place of those that conflict with it overwrites them
-  pub Overwrites-puts : (slot : ℕ) → PutsAt by old slot x (over by (bag old) x) new → Overwrites by old x new
+  pub Overwrites-puts : (slot : ℕ) → PutsAt ranks old slot x (over ranks (bag old) x) new → Overwrites ranks old x new
   Overwrites-puts slot puts = record {
     items = puts.items;
     fits = puts.fits;

@@ -54,11 +54,11 @@ module _ {T S : Type 0} {agree : T → T → Bool} (laws : IsEquivalence agree) 
 
   -- if the search says which of both it was, so do these
   pub free_on : {F V : Type 0} (r : Searched F V) → OnVacant r (list_any is_some found ≡ false) → OnVacant r (clash ranks (bag m) x ≡ [])
-  free_on (Found by) none = tt
+  free_on (Found found) none = tt
   free_on (Vacant at) none = free_by none
 
   pub blocked_on : {F V : Type 0} (r : Searched F V) → OnFound r (list_any is_some found ≡ true) → OnFound r (IsBlockedAt ranks m x (each_once found))
-  blocked_on (Found by) some = blocked_by some
+  blocked_on (Found found) some = blocked_by some
   blocked_on (Vacant at) some = tt
 
 -- a search finds a slot exactly if some item passes its test

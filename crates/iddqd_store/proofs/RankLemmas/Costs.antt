@@ -9,9 +9,9 @@ use Rattle.iddqd_store.specs.Slots.{contents, get}
 use Rattle.std.proofs.lemmas.List.Sorted.{IsPermutation-sym}
 use Rattle.iddqd_store.specs.Rank.Index.{IsIndex, passes_at}
 use Rattle.iddqd_store.specs.Bag.{IsOnly}
-use Rattle.iddqd_store.specs.Rank.{IsSearchable, IsVacantFor, NamesOneUnder, SearchCosts}
+use Rattle.iddqd_store.specs.Rank.{IsSearchable, IsVacantFor, NamesOneByHash, SearchCosts}
 use Rattle.iddqd_store.specs.Table.Room.{IsSized}
-use Rattle.iddqd_store.specs.Table.Search.{CostsUnder, FindsUnder, IsVacantUnder, RemovalCosts}
+use Rattle.iddqd_store.specs.Table.Search.{CostsByHash, FindsByHash, IsVacantForHash, RemovalCosts}
 use Rattle.iddqd_store.specs.Table.{hashes, IsFree, Spot, Table}
 use Rattle.iddqd_store.proofs.RankLemmas.Search.{search_among}
 use Rattle.iddqd_store.proofs.RankLemmas.Index.{crowd_is, length-index}
@@ -19,11 +19,11 @@ use Rattle.iddqd_store.proofs.RankLemmas.Probes.{hashes-index, probes_within, pr
 use Rattle.iddqd_store.proofs.TableLemmas.Spot.{free_permutation}
 
 module _ {T : Type 0} {agree : T → T → Bool} {hash : T → ℕ} {slots : List (Option T)} (table : Table) (rank : IsSearchable agree hash slots table.pairs) where
-  pub searches : (test : T → Bool) (h : ℕ) (r : Option ℕ) → NamesOneUnder agree hash h test (contents slots)
-      → FindsUnder table h (passes_at test slots) r → IsOnly test (contents slots) (option_and_then (get slots) r)
+  pub searches : (test : T → Bool) (h : ℕ) (r : Option ℕ) → NamesOneByHash agree hash h test (contents slots)
+      → FindsByHash table h (passes_at test slots) r → IsOnly test (contents slots) (option_and_then (get slots) r)
   searches test h r names finds = search_among agree test hash h slots table.pairs r names.one rank.apart rank.index names.hashed finds.accepted finds.none
 
-  pub costs : (h : ℕ) (r : Option ℕ) (asks asks_then before after : ℕ) → IsSized table → CostsUnder table h r asks asks_then before after
+  pub costs : (h : ℕ) (r : Option ℕ) (asks asks_then before after : ℕ) → IsSized table → CostsByHash table h r asks asks_then before after
       → SearchCosts hash (contents slots) table.limit h r asks asks_then before after
   costs h r asks asks_then before after sized own = record {
     asked = omega (arith, own.asked, crowd_is hash h slots table.pairs rank.index);
@@ -42,7 +42,7 @@ module _ {T : Type 0} {agree : T → T → Bool} {hash : T → ℕ} {slots : Lis
       }
 
   -- the cell at which the table's search ended is for the members' hashes, and one of as many cells as the table has
-  pub vacant_found : (h : ℕ) (r : Searched ℕ Spot) → IsSized table → IfVacant r (IsVacantUnder table h) → IfVacant r (IsVacantFor hash (contents slots) h)
+  pub vacant_found : (h : ℕ) (r : Searched ℕ Spot) → IsSized table → IfVacant r (IsVacantForHash table h) → IfVacant r (IsVacantFor hash (contents slots) h)
   vacant_found h (Found at) sized vacant = tt
   vacant_found h (Vacant spot) sized vacant =
       let paired = hashes-index hash slots table.pairs rank.index in
@@ -52,7 +52,7 @@ module _ {T : Type 0} {agree : T → T → Bool} {hash : T → ℕ} {slots : Lis
         fits = omega (arith, vacant.cells, sized.limit, sized.fits, length-index rank.index);
       }
 
-  pub cells_found : (h : ℕ) (r : Searched ℕ Spot) → IsSized table → IfVacant r (IsVacantUnder table h) → IfVacant r (λ spot. spot.cells / 8 * 7 ≡ table.limit)
+  pub cells_found : (h : ℕ) (r : Searched ℕ Spot) → IsSized table → IfVacant r (IsVacantForHash table h) → IfVacant r (λ spot. spot.cells / 8 * 7 ≡ table.limit)
   cells_found h (Found at) sized vacant = tt
   cells_found h (Vacant spot) sized vacant = rw vacant.cells (sym sized.limit)
 

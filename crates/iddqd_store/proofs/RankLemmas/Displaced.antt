@@ -10,7 +10,7 @@ use Rattle.std.proofs.lemmas.List.Sorted.{IsPermutation-refl, IsPermutation-sym,
 use Rattle.iddqd_store.specs.Bag.{Ranks, AreLawful, IsSound, clash, order, over}
 use Rattle.iddqd_store.specs.Map.{Map, PutsAt, bag}
 use Rattle.iddqd_store.specs.Rank.Index.{HasHash, IsIndex, AreIndexes, IsIndexed, pair_of}
-use Rattle.iddqd_store.specs.Rank.{IsPaired, IsUnder, SlotUnder}
+use Rattle.iddqd_store.specs.Rank.{IsPaired, IsHashed, FoundByHash}
 use Rattle.iddqd_store.specs.Slots.{IsLive, contents, get, members}
 use Rattle.iddqd_store.specs.Slots.Found.{StandAt, items_at}
 use Rattle.iddqd_store.proofs.BagLemmas.Over.{clash-taken}
@@ -25,10 +25,10 @@ other_number a b h = grind (arith, nat_tests)
 
 module _ {T : Type 0} where
   -- the pair of an item in a slot is there, and a search that found the slot was made by its hash
-  pub paired_at : {hash : T → ℕ} {slots : List (Option T)} {pairs : List (ℕ × ℕ)} (found : SlotUnder) (at : ℕ) (x : T) → IsIndex hash slots pairs → IsUnder hash slots found → get slots at ≡ Some x → IsPaired hash pairs found at x
-  paired_at {hash = hash} {slots = slots} found at x index under stands = record {
+  pub paired_at : {hash : T → ℕ} {slots : List (Option T)} {pairs : List (ℕ × ℕ)} (found : FoundByHash) (at : ℕ) (x : T) → IsIndex hash slots pairs → IsHashed hash slots found → get slots at ≡ Some x → IsPaired hash pairs found at x
+  paired_at {hash = hash} {slots = slots} found at x index hashed stands = record {
     pair = pair_in at x (hash x) index refl stands;
-    known = λ is. subst (λ (o : Option ℕ). IfSome o (λ i. HasHash hash slots i found.hash)) is under x stands;
+    known = λ is. subst (λ (o : Option ℕ). IfSome o (λ i. HasHash hash slots i found.hash)) is hashed x stands;
   }
 
   -- the slots without the items of these
@@ -79,12 +79,12 @@ module _ {T : Type 0} where
       IsIndex-remove x (IsIndex-without hash slots numbers xs pairs ((hash x, at) ∷ rest) index leave.1 before) refl (members-take (without slots numbers) at x leave.0) (IsPermutation-refl _)
 
   -- the pairs of those that leave are there
-  pub paired_each : {hash : T → ℕ} {slots : List (Option T)} {pairs : List (ℕ × ℕ)} (found : SlotUnder) (numbers : List ℕ) (xs : List T) → IsIndex hash slots pairs → IsUnder hash slots found → Leave slots numbers xs → AllByRecursion (λ m. IsPaired hash pairs found m.0 m.1) (leaving numbers xs)
-  paired_each found [] [] index under leave = tt
-  paired_each found [] (x ∷ xs) index under leave = absurd leave
-  paired_each found (at ∷ numbers) [] index under leave = absurd leave
-  paired_each {slots = slots} found (at ∷ numbers) (x ∷ xs) index under leave =
-      (paired_at found at x index under (was_there slots numbers at x leave.0), paired_each found numbers xs index under leave.1)
+  pub paired_each : {hash : T → ℕ} {slots : List (Option T)} {pairs : List (ℕ × ℕ)} (found : FoundByHash) (numbers : List ℕ) (xs : List T) → IsIndex hash slots pairs → IsHashed hash slots found → Leave slots numbers xs → AllByRecursion (λ m. IsPaired hash pairs found m.0 m.1) (leaving numbers xs)
+  paired_each found [] [] index hashed leave = tt
+  paired_each found [] (x ∷ xs) index hashed leave = absurd leave
+  paired_each found (at ∷ numbers) [] index hashed leave = absurd leave
+  paired_each {slots = slots} found (at ∷ numbers) (x ∷ xs) index hashed leave =
+      (paired_at found at x index hashed (was_there slots numbers at x leave.0), paired_each found numbers xs index hashed leave.1)
 
   -- in each table the pair of another item has replaced the pairs of those that leave
   abbrev pub AreDisplaced : List (ℕ × T) → T → ℕ → List (T → ℕ) → List (List (ℕ × ℕ)) → List (List (ℕ × ℕ)) → Type 0
@@ -136,8 +136,8 @@ module _ {T : Type 0} where
         }
 
   -- an item that nothing conflicts with is put into a free slot
-  pub PutsAt-entered : {S : Type 0} {ranks : Ranks T} {old new : Map T S} (at : ℕ) (x : T) → AreLawful ranks → IsSound ranks (bag old) → clash ranks (bag old) x ≡ [] → IsPermutation (members new.slots) ((at, x) ∷ members old.slots) → get new.slots at ≡ Some x → length (bag old) < old.capacity → new.capacity ≡ old.capacity → new.builder ≡ old.builder → PutsAt ranks old at x (x ∷ bag old) new
-  PutsAt-entered {ranks = ranks} {old = old} {new = new} at x laws sound free added here fits room builder =
+  pub PutsAt-inserted : {S : Type 0} {ranks : Ranks T} {old new : Map T S} (at : ℕ) (x : T) → AreLawful ranks → IsSound ranks (bag old) → clash ranks (bag old) x ≡ [] → IsPermutation (members new.slots) ((at, x) ∷ members old.slots) → get new.slots at ≡ Some x → length (bag old) < old.capacity → new.capacity ≡ old.capacity → new.builder ≡ old.builder → PutsAt ranks old at x (x ∷ bag old) new
+  PutsAt-inserted {ranks = ranks} {old = old} {new = new} at x laws sound free added here fits room builder =
       let items = contents-moves new.slots old.slots at x added in
       let more = length_permutation _ _ items in
       record {

@@ -30,15 +30,15 @@ module _ {T : Type 0} (hash : T → ℕ) (slots : List (Option T)) where
   IsFilling-skip at pairs within free filling =
       subst (λ rest. IsPermutation (pairs ++ rest) (map (pair_of hash) (members slots))) (pairs_none at within free) filling
 
-  pub IsFilling-enter : (at : ℕ) (x : T) (h : ℕ) (before after : List (ℕ × ℕ)) → at < length slots → get slots at ≡ Some x → h ≡ hash x
+  pub IsFilling-insert : (at : ℕ) (x : T) (h : ℕ) (before after : List (ℕ × ℕ)) → at < length slots → get slots at ≡ Some x → h ≡ hash x
       → IsPermutation ((h, at) ∷ before) after → IsFilling at before → IsFilling (at + 1) after
-  IsFilling-enter at x h before after within live is entered filling =
+  IsFilling-insert at x h before after within live is inserted filling =
       let rest : List (ℕ × ℕ) = pairs_from (at + 1) in
       let first : IsPermutation (before ++ (hash x, at) ∷ rest) (map (pair_of hash) (members slots)) =
       subst (λ rest. IsPermutation (before ++ rest) (map (pair_of hash) (members slots))) (pairs_some at x within live) filling in
       let moved : IsPermutation ((hash x, at) ∷ (before ++ rest)) (map (pair_of hash) (members slots)) =
       IsPermutation-trans _ _ _ (IsPermutation-sym _ _ (IsPermutation-middle before (hash x, at) rest)) first in
-      let named : IsPermutation ((hash x, at) ∷ before) after = subst (λ k. IsPermutation ((k, at) ∷ before) after) is entered in
+      let named : IsPermutation ((hash x, at) ∷ before) after = subst (λ k. IsPermutation ((k, at) ∷ before) after) is inserted in
       IsPermutation-trans _ _ _ (IsPermutation-append_left rest after ((hash x, at) ∷ before) (IsPermutation-sym _ _ named)) moved
 
   -- there is room for the pair of a live slot if there is room for all

@@ -46,21 +46,21 @@ module _ {T : Type 0} where
 
   AreIndexes-insert : (x : T) (at : ℕ) (old new : List (Option T)) → IsPermutation (members new) ((at, x) ∷ members old) → (hashes : List (T → ℕ))
       (tables others : List (List (ℕ × ℕ))) → AreIndexes hashes old tables → AreEntered x at hashes tables others → AreIndexes hashes new others
-  AreIndexes-insert x at old new added [] [] [] all entered = tt
-  AreIndexes-insert x at old new added [] [] (more ∷ others) all entered = absurd entered
-  AreIndexes-insert x at old new added [] (pairs ∷ tables) others all entered = absurd all
-  AreIndexes-insert x at old new added (hash ∷ hashes) [] others all entered = absurd all
-  AreIndexes-insert x at old new added (hash ∷ hashes) (pairs ∷ tables) [] all entered = absurd entered
-  AreIndexes-insert x at old new added (hash ∷ hashes) (pairs ∷ tables) (more ∷ others) all entered =
-      (IsIndex-insert x all.0 entered.0.1 added entered.0.2, AreIndexes-insert x at old new added hashes tables others all.1 entered.1)
+  AreIndexes-insert x at old new added [] [] [] all inserted = tt
+  AreIndexes-insert x at old new added [] [] (more ∷ others) all inserted = absurd inserted
+  AreIndexes-insert x at old new added [] (pairs ∷ tables) others all inserted = absurd all
+  AreIndexes-insert x at old new added (hash ∷ hashes) [] others all inserted = absurd all
+  AreIndexes-insert x at old new added (hash ∷ hashes) (pairs ∷ tables) [] all inserted = absurd inserted
+  AreIndexes-insert x at old new added (hash ∷ hashes) (pairs ∷ tables) (more ∷ others) all inserted =
+      (IsIndex-insert x all.0 inserted.0.1 added inserted.0.2, AreIndexes-insert x at old new added hashes tables others all.1 inserted.1)
 
   -- an item that nothing conflicts with is put into a slot and into each table
   pub IsIndexed-insert : {ranks : Ranks T} {hashes : List (T → ℕ)} {old new : List (Option T)} {tables others : List (List (ℕ × ℕ))} {at : ℕ} (x : T)
       → AreLawful ranks → IsIndexed ranks hashes old tables → clash ranks (contents old) x ≡ [] → IsPermutation (members new) ((at, x) ∷ members old)
       → AreEntered x at hashes tables others → IsIndexed ranks hashes new others
-  IsIndexed-insert {ranks = ranks} {hashes = hashes} {old = old} {new = new} {tables = tables} {others = others} {at = at} x laws indexed free added entered = record {
+  IsIndexed-insert {ranks = ranks} {hashes = hashes} {old = old} {new = new} {tables = tables} {others = others} {at = at} x laws indexed free added inserted = record {
     sound = free_sound ranks laws old new at x indexed.sound free added;
-    indexes = AreIndexes-insert x at old new added hashes tables others indexed.indexes entered;
+    indexes = AreIndexes-insert x at old new added hashes tables others indexed.indexes inserted;
   }
 
   -- each table loses the pair of an item in a slot

@@ -4,7 +4,7 @@ use Rattle.std.specs.Option.{option_map_or}
 use Rattle.std.proofs.Common.{refl, ap, arith, subst}
 use Rattle.std.proofs.lemmas.Bool.{eqb-true, eq-eqb, ne_eqb}
 use Rattle.iddqd_store.specs.Bag.{Ranks}
-use Rattle.iddqd_store.specs.Rank.{has_found, walks_one, walks_three, walks_two, walks_within, SlotUnder}
+use Rattle.iddqd_store.specs.Rank.{has_found, rehash_walks, merge_three_walks, merge_two_walks, walks_within, FoundByHash}
 use Rattle.iddqd_store.specs.Rank.Index.{AreIndexes, IsIndex, IsIndexed}
 use Rattle.iddqd_store.specs.Slots.{contents}
 use Rattle.iddqd_store.proofs.RankLemmas.Index.{length-index}
@@ -17,23 +17,23 @@ not_found_at : (o : Option ℕ) (at : ℕ) → o ≢ Some at → option_map_or (
 not_found_at None at h = refl
 not_found_at (Some s) at h = ne_eqb s at (λ e. h (ap (λ (i : ℕ). Some i) e))
 
-module _ {T : Type 0} (hash : T → ℕ) (found : SlotUnder) (gone : T) where
-  pub one_stays : hash gone ≡ found.hash → walks_one hash found gone ≡ 0
+module _ {T : Type 0} (hash : T → ℕ) (found : FoundByHash) (gone : T) where
+  pub one_stays : hash gone ≡ found.hash → rehash_walks hash found gone ≡ 0
   one_stays same = rw (eq-eqb _ _ same) refl
 
-  pub one_moves : hash gone ≢ found.hash → walks_one hash found gone ≡ 2
+  pub one_moves : hash gone ≢ found.hash → rehash_walks hash found gone ≡ 2
   one_moves other = rw (ne_eqb _ _ other) refl
 
-  pub two_found : (at : ℕ) → found.slot ≡ Some at → walks_two hash found at gone ≡ 2
+  pub two_found : (at : ℕ) → found.slot ≡ Some at → merge_two_walks hash found at gone ≡ 2
   two_found at here = rw (found_at found.slot at here) refl
 
-  pub two_not_found : (at : ℕ) → found.slot ≢ Some at → walks_two hash found at gone ≡ walks_one hash found gone + 1
+  pub two_not_found : (at : ℕ) → found.slot ≢ Some at → merge_two_walks hash found at gone ≡ rehash_walks hash found gone + 1
   two_not_found at away = rw (not_found_at found.slot at away) refl
 
-  pub three_found : (second third : ℕ) → found.slot ≡ Some third → walks_three hash found second third gone ≡ 3
+  pub three_found : (second third : ℕ) → found.slot ≡ Some third → merge_three_walks hash found second third gone ≡ 3
   three_found second third here = rw (found_at found.slot third here) refl
 
-  pub three_not_found : (second third : ℕ) → found.slot ≢ Some third → walks_three hash found second third gone ≡ walks_two hash found second gone + 1
+  pub three_not_found : (second third : ℕ) → found.slot ≢ Some third → merge_three_walks hash found second third gone ≡ merge_two_walks hash found second gone + 1
   three_not_found second third away = rw (not_found_at found.slot third away) refl
 
   -- at most
@@ -49,14 +49,14 @@ module _ {T : Type 0} (hash : T → ℕ) (found : SlotUnder) (gone : T) where
   at_most_three true k less = omega arith
   at_most_three false k less = less
 
-  one_most : walks_one hash found gone ≤ 2
+  one_most : rehash_walks hash found gone ≤ 2
   one_most = at_most_none (hash gone == found.hash)
 
-  two_most : (at : ℕ) → walks_two hash found at gone ≤ 3
-  two_most at = at_most_two (has_found found at) (walks_one hash found gone + 1) (let one = one_most in omega (arith, one))
+  two_most : (at : ℕ) → merge_two_walks hash found at gone ≤ 3
+  two_most at = at_most_two (has_found found at) (rehash_walks hash found gone + 1) (let one = one_most in omega (arith, one))
 
-  three_most : (second third : ℕ) → walks_three hash found second third gone ≤ 4
-  three_most second third = at_most_three (has_found found third) (walks_two hash found second gone + 1) (let two = two_most second in omega (arith, two))
+  three_most : (second third : ℕ) → merge_three_walks hash found second third gone ≤ 4
+  three_most second third = at_most_three (has_found found third) (merge_two_walks hash found second gone + 1) (let two = two_most second in omega (arith, two))
 
 -- walks through fewer pairs probe no more cells
 pub walks_less : (w k n : ℕ) → k ≤ n → w * (k + 1) ≤ w * (n + 1)
@@ -132,26 +132,26 @@ within_most n before after walks most few cost = let more = walks_most n walks m
 
 module _ {T : Type 0} where
   -- how many walks there are at each rank
-  abbrev pub walks_each : ((T → ℕ) → SlotUnder → ℕ) → List (T → ℕ) → List SlotUnder → List ℕ
+  abbrev pub walks_each : ((T → ℕ) → FoundByHash → ℕ) → List (T → ℕ) → List FoundByHash → List ℕ
   walks_each walks [] found = []
   walks_each walks (hash ∷ hashes) [] = 0 ∷ walks_each walks hashes []
   walks_each walks (hash ∷ hashes) (at ∷ found) = walks hash at ∷ walks_each walks hashes found
 
-  module _ (walks : (T → ℕ) → SlotUnder → ℕ) (most : ℕ) (few : (hash : T → ℕ) (found : SlotUnder) → walks hash found ≤ most) where
-    are_few : (hashes : List (T → ℕ)) (found : List SlotUnder) → AreAtMost (walks_each walks hashes found) (map (λ _. most) hashes)
+  module _ (walks : (T → ℕ) → FoundByHash → ℕ) (most : ℕ) (few : (hash : T → ℕ) (found : FoundByHash) → walks hash found ≤ most) where
+    are_few : (hashes : List (T → ℕ)) (found : List FoundByHash) → AreAtMost (walks_each walks hashes found) (map (λ _. most) hashes)
     are_few [] found = tt
     are_few (hash ∷ hashes) [] = (omega arith, are_few hashes [])
     are_few (hash ∷ hashes) (at ∷ found) = (few hash at, are_few hashes found)
 
-    each_most : (hashes : List (T → ℕ)) (found : List SlotUnder) (n before after : ℕ) → after ≤ before + walks_within n (walks_each walks hashes found) → after ≤ before + walks_within n (map (λ _. most) hashes)
+    each_most : (hashes : List (T → ℕ)) (found : List FoundByHash) (n before after : ℕ) → after ≤ before + walks_within n (walks_each walks hashes found) → after ≤ before + walks_within n (map (λ _. most) hashes)
     each_most hashes found n before after cost = within_most n before after (walks_each walks hashes found) (map (λ _. most) hashes) (are_few hashes found) cost
 
   -- at most one more than items leave
-  pub ones_most : (gone : T) (hashes : List (T → ℕ)) (found : List SlotUnder) (n before after : ℕ) → after ≤ before + walks_within n (walks_each (λ hash at. walks_one hash at gone) hashes found) → after ≤ before + walks_within n (map (λ _. 2) hashes)
-  ones_most gone = each_most (λ hash at. walks_one hash at gone) 2 (λ hash at. one_most hash at gone)
+  pub ones_most : (gone : T) (hashes : List (T → ℕ)) (found : List FoundByHash) (n before after : ℕ) → after ≤ before + walks_within n (walks_each (λ hash at. rehash_walks hash at gone) hashes found) → after ≤ before + walks_within n (map (λ _. 2) hashes)
+  ones_most gone = each_most (λ hash at. rehash_walks hash at gone) 2 (λ hash at. one_most hash at gone)
 
-  pub twos_most : (second : ℕ) (gone : T) (hashes : List (T → ℕ)) (found : List SlotUnder) (n before after : ℕ) → after ≤ before + walks_within n (walks_each (λ hash at. walks_two hash at second gone) hashes found) → after ≤ before + walks_within n (map (λ _. 3) hashes)
-  twos_most second gone = each_most (λ hash at. walks_two hash at second gone) 3 (λ hash at. two_most hash at gone second)
+  pub twos_most : (second : ℕ) (gone : T) (hashes : List (T → ℕ)) (found : List FoundByHash) (n before after : ℕ) → after ≤ before + walks_within n (walks_each (λ hash at. merge_two_walks hash at second gone) hashes found) → after ≤ before + walks_within n (map (λ _. 3) hashes)
+  twos_most second gone = each_most (λ hash at. merge_two_walks hash at second gone) 3 (λ hash at. two_most hash at gone second)
 
-  pub threes_most : (second third : ℕ) (gone : T) (hashes : List (T → ℕ)) (found : List SlotUnder) (n before after : ℕ) → after ≤ before + walks_within n (walks_each (λ hash at. walks_three hash at second third gone) hashes found) → after ≤ before + walks_within n (map (λ _. 4) hashes)
-  threes_most second third gone = each_most (λ hash at. walks_three hash at second third gone) 4 (λ hash at. three_most hash at gone second third)
+  pub threes_most : (second third : ℕ) (gone : T) (hashes : List (T → ℕ)) (found : List FoundByHash) (n before after : ℕ) → after ≤ before + walks_within n (walks_each (λ hash at. merge_three_walks hash at second third gone) hashes found) → after ≤ before + walks_within n (map (λ _. 4) hashes)
+  threes_most second third gone = each_most (λ hash at. merge_three_walks hash at second third gone) 4 (λ hash at. three_most hash at gone second third)

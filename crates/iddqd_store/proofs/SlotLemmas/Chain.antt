@@ -251,8 +251,8 @@ module _ {T : Type 0} where
   live_slots-twice (Free next ∷ slots) = live_slots-twice slots
   live_slots-twice (Live x ∷ slots) = ap (λ l. Live x ∷ l) (live_slots-twice slots)
 
-  IsChained-live_slots : (slots : List (Slot T)) (live head : ℕ) → IsChained slots live head → IsChained (live_slots slots) live (length (live_slots slots))
-  IsChained-live_slots slots live head sound =
+  IsChained-live_slots : (slots : List (Slot T)) (live next_free : ℕ) → IsChained slots live next_free → IsChained (live_slots slots) live (length (live_slots slots))
+  IsChained-live_slots slots live next_free sound =
       let all : count_by is_some (map item_of (live_slots slots)) ≡ length (live_slots slots) =
       sym (length-live_slots (live_slots slots)) ∙ ap length (live_slots-twice slots) in
       record {
@@ -262,5 +262,5 @@ module _ {T : Type 0} where
         linked = refl;
       }
 
-  pub IsChained-compact : {slots kept : List (Slot T)} {live head end : ℕ} → IsChained slots live head → kept ≡ live_slots slots → end ≡ length kept → IsChained kept live end
-  IsChained-compact {slots = slots} {live = live} {head = head} sound is at_end = rw (at_end, is) (IsChained-live_slots slots live head sound)
+  pub IsChained-compact : {slots kept : List (Slot T)} {live next_free end : ℕ} → IsChained slots live next_free → kept ≡ live_slots slots → end ≡ length kept → IsChained kept live end
+  IsChained-compact {slots = slots} {live = live} {next_free = next_free} sound is at_end = rw (at_end, is) (IsChained-live_slots slots live next_free sound)

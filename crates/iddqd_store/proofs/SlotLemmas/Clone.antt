@@ -38,11 +38,11 @@ module _ {T : Type 0} (is_clone : T → T → Type 0) where
   chain_in_clones slots copies zero at all p = p ∙ length_all_zip _ slots copies all
   chain_in_clones slots copies (suc n) at all p = (p.0, free_in_clones slots copies at p.0 all p.1, chain_in_clones slots copies n p.0 all p.2)
 
-  pub IsChained-clone : (slots copies : List (Slot T)) (live head : ℕ) → AllZip (IsCloneOf is_clone) slots copies → IsChained slots live head → IsChained copies live head
-  IsChained-clone slots copies live head all sound =
+  pub IsChained-clone : (slots copies : List (Slot T)) (live next_free : ℕ) → AllZip (IsCloneOf is_clone) slots copies → IsChained slots live next_free → IsChained copies live next_free
+  IsChained-clone slots copies live next_free all sound =
       record {
         counted = sound.counted ∙ sym (count_of_clones slots copies all);
         free = sound.free;
         total = sound.total ∙ length_all_zip _ slots copies all;
-        linked = chain_in_clones slots copies sound.free head all sound.linked;
+        linked = chain_in_clones slots copies sound.free next_free all sound.linked;
       }

@@ -11,7 +11,7 @@ use Rattle.std.proofs.lemmas.Bool.{both_ways, eq-eqb}
 use Rattle.std.proofs.lemmas.Bool.Decides.{nat_tests}
 use Rattle.iddqd_store.specs.Slots.{contents}
 use Rattle.iddqd_store.specs.Table.Ring.{gap, stretch, cell}
-use Rattle.iddqd_store.specs.Table.{hashes, under, IsTable, IsFirstEmpty, IsWayTo}
+use Rattle.iddqd_store.specs.Table.{hashes, has_hash, IsTable, IsFirstEmpty, IsWayTo}
 use Rattle.iddqd_store.proofs.Plain.{by_order}
 use Rattle.iddqd_store.proofs.TableLemmas.Ring.{weight, count-held, gap_below}
 use Rattle.iddqd_store.proofs.TableLemmas.Stretch.{place, place_below, gap_place, place_gap, place_more, stretch_is, stretch_at_least}
@@ -140,14 +140,14 @@ met_within q cs a s =
     omega arith
 
 -- one more pair with the hash
-pub met_under : (hash : ℕ) (row : List (Option (ℕ × ℕ))) (a s : ℕ) (x : ℕ × ℕ) → a < length row → s < length row → cell row (place (length row) a s) ≡ Some x → x.0 ≡ hash → (t : ℕ) → t ≡ s + 1
-    → met (under hash) row a t ≡ met (under hash) row a s + 1
-met_under hash row a s x l m e h t et =
-    met_more (under hash) row a s x l m e t et ∙ ap (λ (b : Bool). met (under hash) row a s + cond b 1 0) (eq-eqb x.0 hash h)
+pub met_by_hash : (hash : ℕ) (row : List (Option (ℕ × ℕ))) (a s : ℕ) (x : ℕ × ℕ) → a < length row → s < length row → cell row (place (length row) a s) ≡ Some x → x.0 ≡ hash → (t : ℕ) → t ≡ s + 1
+    → met (has_hash hash) row a t ≡ met (has_hash hash) row a s + 1
+met_by_hash hash row a s x l m e h t et =
+    met_more (has_hash hash) row a s x l m e t et ∙ ap (λ (b : Bool). met (has_hash hash) row a s + cond b 1 0) (eq-eqb x.0 hash h)
 
 pub met_grows : (hash : ℕ) (row : List (Option (ℕ × ℕ))) (a s : ℕ) (x : ℕ × ℕ) → a < length row → s < length row → cell row (place (length row) a s) ≡ Some x → (t : ℕ) → t ≡ s + 1
-    → met (under hash) row a s ≤ met (under hash) row a t
-met_grows hash row a s x l m e t et = let f = met_more (under hash) row a s x l m e t et in omega arith
+    → met (has_hash hash) row a s ≤ met (has_hash hash) row a t
+met_grows hash row a s x l m e t et = let f = met_more (has_hash hash) row a s x l m e t et in omega arith
 
 -- the probes of a search that finds a pair
 pub walk_found : (row : List (Option (ℕ × ℕ))) (hash at s t : ℕ) → IsTable row → Walk row (hash % length row) at s → cell row at ≢ None → t ≡ s + 1

@@ -1,13 +1,14 @@
 -- What holds at all ranks: lists that have one element for each rank.
-use Rattle.std.specs.Prelude.{◌≡◌, ◌≤◌, ◌+◌, ◌*◌, ◌/◌, ℕ, List, [], ◌∷◌, length, Option, None, map, ⊤}
+use Rattle.std.specs.Prelude.{◌≡◌, ◌≤◌, ◌+◌, ℕ, List, [], ◌∷◌, length, Option, None, map, ⊤}
 use Rattle.std.specs.List.{AllByRecursion, AllZip}
 use Rattle.iddqd_store.specs.Bag.{Ranks, crowd, like}
 use Rattle.iddqd_store.specs.Map.{Map, IsBlockedAt}
-use Rattle.iddqd_store.specs.Rank.{Costs, IsUnder, IsVacantFor, SearchCosts, SlotUnder, walks_within}
+use Rattle.iddqd_store.specs.Rank.{Costs, IsHashed, IsVacantFor, SearchCosts, FoundByHash, walks_within}
 use Rattle.iddqd_store.specs.Slots.Found.{AreFound, each_once}
 use Rattle.iddqd_store.specs.declared.index_table.searched.Searched.{Searched}
 use Rattle.iddqd_store.specs.declared.index_table.searched.Searched.TheVariants.{Found, Vacant}
 use Rattle.iddqd_store.specs.Table.{Spot}
+use Rattle.iddqd_store.specs.Table.Limit.{capacity_of}
 
 module _ {T : Type 0} where
   -- For each rank, a pair with its hash goes into this cell of its table. Among public items, only the ghost field
@@ -28,8 +29,8 @@ module _ {T : Type 0} where
   ArePlacesOf hashes bag x spots = AreVacantFor hashes bag (hashes_of hashes x) spots
 
   -- For each rank, the item in the slot that was found has the hash of the search. No public clause cites it.
-  abbrev pub AreUnder : List (T → ℕ) → List (Option T) → List SlotUnder → Type 0
-  AreUnder hashes slots found = AllZip (λ hash at. IsUnder hash slots at) hashes found
+  abbrev pub AreHashed : List (T → ℕ) → List (Option T) → List FoundByHash → Type 0
+  AreHashed hashes slots found = AllZip (λ hash at. IsHashed hash slots at) hashes found
 
   -- Searches by these hashes, one for each rank and one after another, cost what `SearchCosts` says of each, for these
   -- answers.
@@ -74,24 +75,24 @@ pub record UniqueCosts {T : Type 0} (hash_of : T → ℕ) (bag : List T) (room h
   pub rest : after.asked ≤ between + others
 
 -- The searches were made by these hashes. No public clause cites it.
-abbrev pub HaveHashes : List ℕ → List SlotUnder → Type 0
+abbrev pub HaveHashes : List ℕ → List FoundByHash → Type 0
 HaveHashes hs found = AllZip (λ h at. at.hash ≡ h) hs found
 
 -- At each rank the table that has this cell holds this many pairs. No public clause cites it.
 abbrev pub HaveRoom : ℕ → List Spot → Type 0
-HaveRoom room spots = AllByRecursion (λ spot. room ≤ spot.cells / 8 * 7) spots
+HaveRoom room spots = AllByRecursion (λ spot. room ≤ capacity_of spot.cells) spots
 
 -- `slots_found` has for each rank the slot that a search found, or `None`. No public clause cites it.
-abbrev pub slots_found : Searched (List SlotUnder) (List Spot) → List (Option ℕ)
+abbrev pub slots_found : Searched (List FoundByHash) (List Spot) → List (Option ℕ)
 slots_found (Found found) = map (λ at. at.slot) found
 slots_found (Vacant spots) = map (λ _. None) spots
 
 -- Something conflicts with `x`, and searches by the hashes of its keys, one at each rank, found these slots, which are
 -- those of what does. No public clause cites it.
 -- Example: If `x` has the first key of the item in the slot 2, and no item has its second key, they found `Some 2`, `None`.
-pub record IsBlockedBy {T S : Type 0} (ranks : Ranks T) (hashes : List (T → ℕ)) (m : Map T S) (x : T)
-    (by : List SlotUnder) : Type 0 where
-  pub blocked : IsBlockedAt ranks m x (each_once (map (λ at. at.slot) by))
-  pub found : AreFound (like ranks x) m.slots (map (λ at. at.slot) by)
-  pub hashed : HaveHashes (hashes_of hashes x) by
-  pub under : AreUnder hashes m.slots by
+pub record IsBlockedBy {T S : Type 0} (ranks : Ranks T) (rank_hashes : List (T → ℕ)) (m : Map T S) (x : T)
+    (searched : List FoundByHash) : Type 0 where
+  pub blocked : IsBlockedAt ranks m x (each_once (map (λ at. at.slot) searched))
+  pub found : AreFound (like ranks x) m.slots (map (λ at. at.slot) searched)
+  pub hashes : HaveHashes (hashes_of rank_hashes x) searched
+  pub hashed : AreHashed rank_hashes m.slots searched

@@ -1,5 +1,5 @@
 -- What a search at one rank says of the slots that it reads.
-use Rattle.std.specs.Prelude.{◌≡◌, ◌*◌, ◌/◌, ℕ, Bool, List, Option}
+use Rattle.std.specs.Prelude.{◌≡◌, ℕ, Bool, List, Option}
 use Rattle.iddqd_store.specs.declared.index_table.searched.Searched.{Searched}
 use Rattle.iddqd_store.specs.Rank.{Costs, IsVacantFor, SearchCosts}
 use Rattle.iddqd_store.specs.Rank.Index.{HasHash}
@@ -7,6 +7,7 @@ use Rattle.iddqd_store.specs.Searched.{found_of, IfFound, IfVacant}
 use Rattle.iddqd_store.specs.Slots.{contents}
 use Rattle.iddqd_store.specs.Slots.Found.{FoundAt}
 use Rattle.iddqd_store.specs.Table.{Spot}
+use Rattle.iddqd_store.specs.Table.Limit.{capacity_of}
 
 -- A search by this hash found the slot of the item that passes the test, and the item has the hash. Or no item passes
 -- it, and a pair with the hash goes into the cell at which the search ended, in a table for `capacity` pairs. No public
@@ -17,5 +18,5 @@ pub record IsSearch {T : Type 0} (hash_of : T → ℕ) (slots : List (Option T))
   pub found : FoundAt test slots (found_of answer)
   pub hashed : IfFound answer (λ slot. HasHash hash_of slots slot hash)
   pub vacant : IfVacant answer (IsVacantFor hash_of (contents slots) hash)
-  pub cells : IfVacant answer (λ at. at.cells / 8 * 7 ≡ capacity)
+  pub cells : IfVacant answer (λ at. capacity_of at.cells ≡ capacity)
   pub costs : SearchCosts hash_of (contents slots) capacity hash (found_of answer) before.asked after.asked before.probed after.probed

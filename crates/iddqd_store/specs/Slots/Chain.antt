@@ -21,17 +21,17 @@ module _ {T : Type 0} where
   IsChain slots zero slot = slot ≡ length slots
   IsChain slots (suc count) slot = (next : ℕ) × (slice_get slots slot ≡ Some (Free next)) × IsChain slots count next
 
-  -- The number of items is `live`, and the chain from `head` goes through every free slot.
-  pub record IsChained (slots : List (Slot T)) (live head : ℕ) : Type 0 where
+  -- The number of items is `live`, and the chain from `next_free` goes through every free slot.
+  pub record IsChained (slots : List (Slot T)) (live next_free : ℕ) : Type 0 where
     pub counted : live ≡ count_by is_some (map item_of slots)
     pub free : ℕ
     pub total : live + free ≡ length slots
-    pub linked : IsChain slots free head
+    pub linked : IsChain slots free next_free
 
   -- No slot before this one has an item, and there are as many slots.
-  pub record IsFreeBefore (slots : List (Slot T)) (first : ℕ) : Type 0 where
-    pub within : first ≤ length slots
-    pub free : (at : ℕ) → at < first → get (map item_of slots) at ≡ None
+  pub record IsFreeBefore (slots : List (Slot T)) (lowest : ℕ) : Type 0 where
+    pub within : lowest ≤ length slots
+    pub free : (at : ℕ) → at < lowest → get (map item_of slots) at ≡ None
 
   -- Both slots are free and name the same next one, or the second has a clone of the item of the first.
   abbrev pub IsCloneOf : (T → T → Type 0) → Slot T → Slot T → Type 0

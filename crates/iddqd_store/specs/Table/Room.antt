@@ -1,6 +1,6 @@
 -- How many pairs fit into a table.
-use Rattle.std.specs.Prelude.{ℕ, ◌+◌, ◌*◌, ◌/◌, ◌^◌, ◌≡◌, ◌<◌, ◌≤◌, Result, IsErr, OnOk, OnErr, length}
-use Rattle.iddqd_store.specs.Table.Limit.{IsLeast, IsSize, most_room}
+use Rattle.std.specs.Prelude.{ℕ, ◌+◌, ◌*◌, ◌^◌, ◌≡◌, ◌<◌, ◌≤◌, Result, IsErr, OnOk, OnErr, length}
+use Rattle.iddqd_store.specs.Table.Limit.{capacity_of, IsLeast, IsSize, most_room}
 use Rattle.iddqd_store.specs.Table.{Table}
 
 -- A `usize` counts the cells. There are 0 of them, or a power of two from 8 on, and an eighth of them stays empty.
@@ -8,7 +8,7 @@ use Rattle.iddqd_store.specs.Table.{Table}
 pub record IsSized (table : Table) : Type 0 where
   pub size : IsSize (length table.row)
   pub counted : length table.row < 2 ^ 64
-  pub limit : table.limit ≡ length table.row / 8 * 7
+  pub limit : table.limit ≡ capacity_of (length table.row)
   pub fits : length table.pairs ≤ table.limit
 
 -- This many more pairs fit in the table after `Ok`. A table grows only if they did not fit, and then it has the fewest

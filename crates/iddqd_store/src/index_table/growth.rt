@@ -1,8 +1,8 @@
 //! Growth: a larger table with the pairs of another one, which it replaces.
-ghost use Rattle.std.specs.Prelude.{◌≡◌, ◌+◌, ◌*◌, ◌/◌, ◌<◌, ◌≤◌, length, IfOk};
+ghost use Rattle.std.specs.Prelude.{◌≡◌, ◌+◌, ◌*◌, ◌<◌, ◌≤◌, length, IfOk};
 ghost use Rattle.std.specs.List.Sorted.{IsPermutation};
 ghost use Rattle.iddqd_store.specs.Slots.{contents};
-ghost use Rattle.iddqd_store.specs.Table.Limit.{IsSize};
+ghost use Rattle.iddqd_store.specs.Table.Limit.{capacity_of, IsSize};
 ghost use Rattle.iddqd_store.specs.Table.Room.{GrowsFor, ProbesAtMost, growth_within};
 
 use super::cells::Cells;
@@ -25,11 +25,11 @@ fn regrown(
 ) -> Result<IndexTable, TryReserveError>
     requires size { IsSize count }
     requires some { 0 < count }
-    requires fits { length (contents cells.now) ≤ count / 8 * 7 }
+    requires fits { length (contents cells.now) ≤ capacity_of count }
     requires counted { pairs ≡ length (contents cells.now) }
     ensures pairs { IfOk result (λ t. IsPermutation (contents cells.now) t.pairs) }
     ensures cells { IfOk result (λ t. length t.row ≡ count) }
-    ensures limit { IfOk result (λ t. t.limit ≡ count / 8 * 7) }
+    ensures limit { IfOk result (λ t. t.limit ≡ capacity_of count) }
     ensures probes { ProbesAtMost (length cells.now + 2 * pairs + pairs * pairs) result meter.old meter.new }
 {
     let mut grown = Cells::with_len(alloc, count)?;

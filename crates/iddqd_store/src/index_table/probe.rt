@@ -1,9 +1,9 @@
 //! Probing: the way from the home of a hash on, from cell to cell, and from the last cell to cell 0.
-ghost use Rattle.std.specs.Prelude.{◌≡◌, ◌≢◌, ℕ, ◌+◌, ◌-◌, ◌*◌, ◌/◌, ◌%◌, ◌^◌, ◌∷◌, ◌<◌, if◌then◌else◌, nat_lt, None, Some, length, IfSome, IsNone, ◌↔◌, Contains};
+ghost use Rattle.std.specs.Prelude.{◌≡◌, ◌≢◌, ℕ, ◌+◌, ◌-◌, ◌%◌, ◌^◌, ◌∷◌, ◌<◌, if◌then◌else◌, nat_lt, None, Some, length, IfSome, IsNone, ◌↔◌, Contains};
 ghost use Rattle.std.specs.List.Sorted.{IsPermutation};
 ghost use Rattle.iddqd_store.specs.Slots.{contents};
 ghost use Rattle.iddqd_store.specs.Table.Ring.{cell, gap, stretch};
-ghost use Rattle.iddqd_store.specs.Table.Limit.{IsLeast, IsSize, most_room};
+ghost use Rattle.iddqd_store.specs.Table.Limit.{capacity_of, IsLeast, IsSize, most_room};
 ghost use Rattle.iddqd_store.specs.Table.{hashes, IsTable, IsFirstEmpty, IsWayTo};
 
 use super::Meter;
@@ -22,7 +22,7 @@ pub(super) fn after(at: usize, count: usize) -> usize
 // Returns the least number of cells in which this many pairs fit, or `None` if that does not fit in a `usize`.
 pub(super) fn cells_for(pairs: usize) -> Option<usize>
     ensures past { IsNone result ↔ (most_room < pairs) }
-    ensures least { IfSome result (λ count. IsLeast pairs (count / 8 * 7)) }
+    ensures least { IfSome result (λ count. IsLeast pairs (capacity_of count)) }
     ensures size { IfSome result IsSize }
 {
     if pairs == 0 {
@@ -50,7 +50,7 @@ pub(super) fn home_of(hash: u64, count: usize) -> usize
 pub(super) fn first_empty_from(cells: &Cells, from: usize, meter: &mut Meter) -> usize
     requires table { IsTable cells.now }
     requires from { from < length cells.now }
-    ensures first { IsFirstEmpty cells.now from result }
+    ensures first_empty { IsFirstEmpty cells.now from result }
     ensures probes { meter.new ≡ meter.old + gap (length cells.now) from result + 1 }
 {
     let count = cells.len();
@@ -65,7 +65,7 @@ pub(super) fn first_empty_from(cells: &Cells, from: usize, meter: &mut Meter) ->
 pub(super) fn first_empty(cells: &Cells, hash: u64, meter: &mut Meter) -> usize
     requires table { IsTable cells.now }
     requires some { 0 < length cells.now }
-    ensures first { IsFirstEmpty cells.now (hash % length cells.now) result }
+    ensures first_empty { IsFirstEmpty cells.now (hash % length cells.now) result }
     ensures small { length cells.now < 2 ^ 64 }
     ensures probes { meter.new
         ≡ meter.old + stretch (hashes (contents cells.now)) (length cells.now) hash + 1 }
@@ -114,7 +114,7 @@ pub(super) fn close_up(cells: &mut Cells, hash: u64, emptied: usize, meter: &mut
     requires way { IsWayTo cells.old (hash % length cells.old) emptied }
     ensures table { IsTable cells.new }
     ensures len { length cells.new ≡ length cells.old }
-    ensures taken { (pair : ℕ × ℕ) → cell cells.old emptied ≡ Some pair
+    ensures removed { (pair : ℕ × ℕ) → cell cells.old emptied ≡ Some pair
         → IsPermutation (contents cells.old) (pair ∷ contents cells.new) }
     ensures probes { meter.new + gap (length cells.old) (hash % length cells.old) emptied
         ≡ meter.old + stretch (hashes (contents cells.old)) (length cells.old) hash }

@@ -2,7 +2,7 @@
 ghost use Rattle.std.specs.Prelude.{ℕ, ◌≡◌, ◌+◌, ◌%◌, ◌∷◌, ◌<◌, ◌≤◌, ◌⊎◌, length, IfSome, IfNone, Contains};
 ghost use Rattle.std.specs.List.Sorted.{IsPermutation};
 ghost use Rattle.iddqd_store.specs.Table.Ring.{gap, stretch};
-ghost use Rattle.iddqd_store.specs.Table.Search.{FindsUnder, RemovalCosts};
+ghost use Rattle.iddqd_store.specs.Table.Search.{FindsByHash, RemovalCosts};
 ghost use Rattle.iddqd_store.specs.Table.Room.{IsSized};
 ghost use Rattle.iddqd_store.specs.Table.{hashes, HaveOwnSlots, IsCellOf};
 
@@ -17,7 +17,7 @@ impl IndexTable {
     /// home to the pair (backward-shift deletion).
     pub fn remove(&mut self, hash: u64, slot: ItemIndex, meter: &mut Meter)
         requires { Contains self.old.pairs (hash, slot) }
-        ensures taken { IsPermutation self.old.pairs ((hash, slot) ∷ self.new.pairs) }
+        ensures removed { IsPermutation self.old.pairs ((hash, slot) ∷ self.new.pairs) }
         ensures cells { length self.new.row ≡ length self.old.row }
         ensures limit { self.new.limit ≡ self.old.limit }
         ensures room { length self.new.pairs < self.new.limit }
@@ -42,8 +42,8 @@ impl IndexTable {
         requires own { HaveOwnSlots self.old.pairs ⊎ ((m : M) (slot : ℕ) → M.MayAsk m slot) }
         requires asks { (slot : ℕ) → Contains self.old.pairs (hash, slot) → M.MayAsk matcher.old slot }
         // What it returns, and which pairs are left.
-        ensures found { FindsUnder self.old hash (M.accepts matcher.old) result }
-        ensures taken { IfSome result (λ slot. IsPermutation self.old.pairs ((hash, slot) ∷ self.new.pairs)) }
+        ensures found { FindsByHash self.old hash (M.accepts matcher.old) result }
+        ensures removed { IfSome result (λ slot. IsPermutation self.old.pairs ((hash, slot) ∷ self.new.pairs)) }
         ensures absent { IfNone result (self.new ≡ self.old) }
         ensures limit { self.new.limit ≡ self.old.limit }
         // What it costs.
@@ -61,7 +61,7 @@ impl IndexTable {
     // Removes the pair that a search found in a cell. It probes the cells after that one, up to the first empty one.
     fn remove_cell(&mut self, hash: u64, found: (ItemIndex, usize), meter: &mut Meter)
         requires { IsCellOf self.old.row (hash, found.0) found.1 }
-        ensures taken { IsPermutation self.old.pairs ((hash, found.0) ∷ self.new.pairs) }
+        ensures removed { IsPermutation self.old.pairs ((hash, found.0) ∷ self.new.pairs) }
         ensures cells { length self.new.row ≡ length self.old.row }
         ensures limit { self.new.limit ≡ self.old.limit }
         ensures room { length self.new.pairs < self.new.limit }

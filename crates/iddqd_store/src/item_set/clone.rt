@@ -30,8 +30,8 @@ impl<T: Clone> ItemSet<T> {
         Ok(ItemSet {
             slots: self.slots.clone()?,
             live: self.live,
-            head: self.head,
-            first: 0,
+            next_free: self.next_free,
+            lowest: 0,
         })
     }
 }

@@ -32,8 +32,8 @@ impl<T: Drop> ItemSet<T> {
         ensures capacity { self.new.capacity ≡ self.old.capacity }
     {
         self.slots.retain(|slot| slot.is_live());
-        self.head = self.slots.len();
-        self.first = 0;
+        self.next_free = self.slots.len();
+        self.lowest = 0;
     }
 
     /// Compacts the set, and lowers its capacity to `least`, or to the number of items if that is more. The capacity
@@ -59,8 +59,8 @@ impl<T: Drop> ItemSet<T> {
         let fresh = Vec::with_capacity(alloc, wanted)?;
         let slots = mem::replace(&mut self.slots, Vec::new(alloc));
         self.slots = gathered(slots, fresh);
-        self.head = self.slots.len();
-        self.first = 0;
+        self.next_free = self.slots.len();
+        self.lowest = 0;
         Ok(())
     }
 }

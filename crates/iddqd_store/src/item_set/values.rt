@@ -197,8 +197,8 @@ impl<T> ItemSet<T> {
         let ItemSet {
             slots,
             live,
-            head: _,
-            first: _,
+            next_free: _,
+            lowest: _,
         } = self;
         IntoIter {
             slots: slots.into_iter(),

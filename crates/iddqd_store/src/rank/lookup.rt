@@ -1,5 +1,5 @@
 //! Searches for an item by one rank.
-ghost use Rattle.std.specs.Prelude.{Contains, ◌≡◌, ◌*◌, ◌/◌, option_copied};
+ghost use Rattle.std.specs.Prelude.{Contains, ◌≡◌, option_copied};
 ghost use Rattle.std.specs.Option.{option_and_then};
 ghost use Rattle.iddqd_store.specs.Bag.{IsOnly};
 ghost use Rattle.iddqd_store.specs.Map.{bag, hash_of};
@@ -8,7 +8,8 @@ ghost use Rattle.iddqd_store.specs.Rank.Search.{IsSearch};
 ghost use Rattle.iddqd_store.specs.Searched.{found_of, IfFound, IfVacant};
 ghost use Rattle.iddqd_store.specs.Slots.Found.{FoundAt};
 ghost use Rattle.iddqd_store.specs.Slots.{get, IsLive};
-ghost use Rattle.iddqd_store.specs.Rank.{agree, IsVacantFor, NamesOneUnder, SearchCosts, IsSearchable};
+ghost use Rattle.iddqd_store.specs.Rank.{agree, IsVacantFor, NamesOneByHash, SearchCosts, IsSearchable};
+ghost use Rattle.iddqd_store.specs.Table.Limit.{capacity_of};
 
 use super::matchers::{ByKey, ByQuery};
 use super::{HashedKey, KeyOf};
@@ -81,7 +82,7 @@ impl<'a, T, R: KeyOf<T>, S: BuildHasher> Lookup<'a, T, R, S> {
         matcher: &mut M,
         meter: &mut Meter,
     ) -> Option<&'a T>
-        requires names { NamesOneUnder (agree R.key R.Key.eq) (⟦<R as HashedKey<T, S>>⟧.hash self.now.builder) hash
+        requires names { NamesOneByHash (agree R.key R.Key.eq) (⟦<R as HashedKey<T, S>>⟧.hash self.now.builder) hash
             (λ x. M.accepts matcher.old (R.key x)) (bag self.now) }
         requires asks { (x : T) → Contains (bag self.now) x → ⟦<R as HashedKey<T, S>>⟧.hash self.now.builder x ≡ hash
             → M.MayAsk matcher.old (R.key x) }
@@ -123,7 +124,7 @@ impl<'a, T, R: KeyOf<T>, S: BuildHasher> Lookup<'a, T, R, S> {
         matcher: &mut M,
         meter: &mut Meter,
     ) -> Searched<ItemIndex, Vacancy>
-        requires names { NamesOneUnder (agree R.key R.Key.eq) (⟦<R as HashedKey<T, S>>⟧.hash self.now.builder) hash
+        requires names { NamesOneByHash (agree R.key R.Key.eq) (⟦<R as HashedKey<T, S>>⟧.hash self.now.builder) hash
             (λ x. M.accepts matcher.old (R.key x)) (bag self.now) }
         requires asks { (x : T) → Contains (bag self.now) x → ⟦<R as HashedKey<T, S>>⟧.hash self.now.builder x ≡ hash
             → M.MayAsk matcher.old (R.key x) }
@@ -134,7 +135,7 @@ impl<'a, T, R: KeyOf<T>, S: BuildHasher> Lookup<'a, T, R, S> {
             (⟦<R as HashedKey<T, S>>⟧.hash self.now.builder) self.now.slots slot hash) }
         ensures vacant { IfVacant result (IsVacantFor
             (⟦<R as HashedKey<T, S>>⟧.hash self.now.builder) (bag self.now) hash) }
-        ensures cells { IfVacant result (λ at. at.cells / 8 * 7 ≡ self.now.capacity) }
+        ensures cells { IfVacant result (λ at. capacity_of at.cells ≡ self.now.capacity) }
         ensures is_kept { M.IsKept matcher.old matcher.new }
         ensures costs { SearchCosts (⟦<R as HashedKey<T, S>>⟧.hash self.now.builder) (bag self.now)
             self.now.capacity hash (found_of result) (M.asked matcher.old) (M.asked matcher.new)

@@ -2,7 +2,7 @@
 ghost use Rattle.std.specs.Prelude.{ℕ, Contains, None, Some, ◌≡◌, ◌∷◌, IfSome, IfNone};
 ghost use Rattle.std.specs.List.{IsDistinct};
 ghost use Rattle.iddqd_store.specs.Rank.Index.{LosesPairAt};
-ghost use Rattle.iddqd_store.specs.Rank.{agree, IsSearchable, NamesOneUnder, SearchCosts};
+ghost use Rattle.iddqd_store.specs.Rank.{agree, IsSearchable, NamesOneByHash, SearchCosts};
 ghost use Rattle.iddqd_store.specs.Slots.Found.{FoundAt};
 ghost use Rattle.iddqd_store.specs.Slots.{contents};
 
@@ -29,12 +29,12 @@ impl IndexTable {
     ) -> Option<ItemIndex>
         requires searchable { IsSearchable (agree R.key R.Key.eq) (⟦<R as HashedKey<T, S>>⟧.hash hash_builder.now)
             items.now.slots self.old.pairs }
-        requires names { NamesOneUnder (agree R.key R.Key.eq) (⟦<R as HashedKey<T, S>>⟧.hash hash_builder.now) hash
+        requires names { NamesOneByHash (agree R.key R.Key.eq) (⟦<R as HashedKey<T, S>>⟧.hash hash_builder.now) hash
             (λ x. M.accepts matcher.old (R.key x)) (contents items.now.slots) }
         requires asks { (x : T) → Contains (contents items.now.slots) x → ⟦<R as HashedKey<T, S>>⟧.hash hash_builder.now x ≡ hash
             → M.MayAsk matcher.old (R.key x) }
         ensures found { FoundAt (λ x. M.accepts matcher.old (R.key x)) items.now.slots result }
-        ensures taken { IfSome result (LosesPairAt (⟦<R as HashedKey<T, S>>⟧.hash hash_builder.now)
+        ensures removed { IfSome result (LosesPairAt (⟦<R as HashedKey<T, S>>⟧.hash hash_builder.now)
             items.now.slots self.old.pairs self.new.pairs) }
         ensures absent { IfNone result (self.new ≡ self.old) }
         ensures limit { self.new.limit ≡ self.old.limit }

@@ -124,7 +124,7 @@ impl<T> UpToThree<T> {
 
     /// Removes and returns the first item, or `None` if the list is empty.
     pub fn pop_front(&mut self) -> Option<T>
-        ensures first { result ≡ slice_get self.old 0 }
+        ensures front { result ≡ slice_get self.old 0 }
         ensures rest { self.old ≡ option_to_list result ++ self.new }
         ensures fewer { length self.new < 3 }
         ensures end { IfNone result (self.new ≡ []) }

@@ -122,7 +122,7 @@ impl<
             (bag o.map.now))) }
         requires is_found { IsFound self }
         // A vacant entry stays as it was. Each item that was found gets the data that the closure returns for it.
-        ensures vacant { OnVacant self.entry (λ v. result ≡ self.entry) }
+        ensures stays_vacant { OnVacant self.entry (λ v. result ≡ self.entry) }
         ensures stores { OnOccupied self.entry (λ o. Stores (CalledAt F.FnMut) T.put ⟦<T as Ranked>⟧.ranks f
             (listing (entry_tests (key_tests T.TriHashItem Q1.stands_for Q2.stands_for Q3.stands_for) o)
             (bag o.map.now))

@@ -19,7 +19,7 @@ use crate::error::KeyMismatch;
 use crate::item::{Ranked, TriHashItem, TriHashItemMut};
 use crate::map::TriHashMap;
 use crate::map::slots::found::{differ, each_once, one_of};
-use iddqd_store::{Meter, Query, SlotUnder, UpToThree};
+use iddqd_store::{FoundByHash, Meter, Query, UpToThree};
 use std::hash::{BuildHasher, Hash};
 
 impl<
@@ -180,12 +180,14 @@ impl<
         ensures unchanged { OnErr result (self.new ≡ self.old) }
     {
         if let Some(rank) = differ(&item, self.query1, self.query2, self.query3) {
-            return Err(KeyMismatch::at(rank, item));
+            return Err(KeyMismatch::of_rank(rank, item));
         }
-        let by1 = SlotUnder::new(self.slot1, self.map.hash_of1(&item));
-        let by2 = SlotUnder::new(self.slot2, self.map.hash_of2(&item));
-        let by3 = SlotUnder::new(self.slot3, self.map.hash_of3(&item));
-        let (displaced, slot) = self.map.put_over(item, &(by1, by2, by3), &mut Meter::new());
+        let found1 = FoundByHash::new(self.slot1, self.map.hash_of1(&item));
+        let found2 = FoundByHash::new(self.slot2, self.map.hash_of2(&item));
+        let found3 = FoundByHash::new(self.slot3, self.map.hash_of3(&item));
+        let (displaced, slot) = self
+            .map
+            .overwrite(item, &(found1, found2, found3), &mut Meter::new());
         self.slot1 = Some(slot);
         self.slot2 = Some(slot);
         self.slot3 = Some(slot);
@@ -211,7 +213,7 @@ impl<
             slot2,
             slot3,
         } = self;
-        map.take_all(&each_once(slot1, slot2, slot3))
+        map.remove_slots(&each_once(slot1, slot2, slot3))
     }
 }
 

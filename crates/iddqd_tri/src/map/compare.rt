@@ -73,7 +73,7 @@ impl<T: TriHashItem + PartialEq, S: BuildHasher> TriHashMap<T, S> {
             (hash_of S.BuildHasher S.Hasher.Hasher self.now.builder (T.K1.hash_input (T.key1 item.now)))
             2 costs.old costs.new }
     {
-        match self.item_of(self.slot1_by(item.key1(), costs)) {
+        match self.item_of(self.slot1_of(item.key1(), costs)) {
             Some(found) => has_others(found, item.key2(), item.key3(), costs) && item == found,
             None => false,
         }

@@ -28,7 +28,7 @@ impl<T: Ranked, S: BuildHasher> TriHashMap<T, S> {
         // The slots are chosen first and borrowed after the match, so that its arms join before anything is borrowed.
         let found = match self.places(item, &mut Costs::new()) {
             Searched::Vacant(_) => UpToThree::new(),
-            Searched::Found(by) => each_once(by.0.slot(), by.1.slot(), by.2.slot()),
+            Searched::Found(found) => each_once(found.0.slot(), found.1.slot(), found.2.slot()),
         };
         self.items_of(&found)
     }

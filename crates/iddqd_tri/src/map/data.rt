@@ -25,14 +25,14 @@ impl<T: TriHashItemMut, S: BuildHasher> TriHashMap<T, S> {
         // The result borrows the data of the item, or is `None` if there is no such item.
         ensures value { IfSome result (λ d. (x : T) × IsOnly (has1 T.TriHashItem Q.stands_for query)
             (bag self.old) (Some x) × (d.now ≡ T.data_of x)) }
-        ensures absent { IfNone result (IsOnly (has1 T.TriHashItem Q.stands_for query)
+        ensures none_found { IfNone result (IsOnly (has1 T.TriHashItem Q.stands_for query)
             (bag self.old) None) }
         // What is written through it is the item's data, and nothing else changes. At `None` the map is as it was.
         ensures* writes_back { sem 𝓛 (lends_data_to T.row S.row T.K1.row T.K2.row T.K3.row S.Hasher.row
             T.TriHashItem T.K1.Hash T.K2.Hash T.K3.Hash S.BuildHasher S.Hasher.Hasher T.Data.row T.put
             ⟦<T as Ranked>⟧.ranks (has1 T.TriHashItem Q.stands_for query) self.entry result) }
     {
-        match self.slot1_by(query, &mut Costs::new()) {
+        match self.slot1_of(query, &mut Costs::new()) {
             Some(slot) => Some(self.data_mut_at(slot)),
             None => None,
         }
@@ -49,14 +49,14 @@ impl<T: TriHashItemMut, S: BuildHasher> TriHashMap<T, S> {
         // The result borrows the data of the item, or is `None` if there is no such item.
         ensures value { IfSome result (λ d. (x : T) × IsOnly (has2 T.TriHashItem Q.stands_for query)
             (bag self.old) (Some x) × (d.now ≡ T.data_of x)) }
-        ensures absent { IfNone result (IsOnly (has2 T.TriHashItem Q.stands_for query)
+        ensures none_found { IfNone result (IsOnly (has2 T.TriHashItem Q.stands_for query)
             (bag self.old) None) }
         // What is written through it is the item's data, and nothing else changes. At `None` the map is as it was.
         ensures* writes_back { sem 𝓛 (lends_data_to T.row S.row T.K1.row T.K2.row T.K3.row S.Hasher.row
             T.TriHashItem T.K1.Hash T.K2.Hash T.K3.Hash S.BuildHasher S.Hasher.Hasher T.Data.row T.put
             ⟦<T as Ranked>⟧.ranks (has2 T.TriHashItem Q.stands_for query) self.entry result) }
     {
-        match self.slot2_by(query, &mut Costs::new()) {
+        match self.slot2_of(query, &mut Costs::new()) {
             Some(slot) => Some(self.data_mut_at(slot)),
             None => None,
         }
@@ -73,14 +73,14 @@ impl<T: TriHashItemMut, S: BuildHasher> TriHashMap<T, S> {
         // The result borrows the data of the item, or is `None` if there is no such item.
         ensures value { IfSome result (λ d. (x : T) × IsOnly (has3 T.TriHashItem Q.stands_for query)
             (bag self.old) (Some x) × (d.now ≡ T.data_of x)) }
-        ensures absent { IfNone result (IsOnly (has3 T.TriHashItem Q.stands_for query)
+        ensures none_found { IfNone result (IsOnly (has3 T.TriHashItem Q.stands_for query)
             (bag self.old) None) }
         // What is written through it is the item's data, and nothing else changes. At `None` the map is as it was.
         ensures* writes_back { sem 𝓛 (lends_data_to T.row S.row T.K1.row T.K2.row T.K3.row S.Hasher.row
             T.TriHashItem T.K1.Hash T.K2.Hash T.K3.Hash S.BuildHasher S.Hasher.Hasher T.Data.row T.put
             ⟦<T as Ranked>⟧.ranks (has3 T.TriHashItem Q.stands_for query) self.entry result) }
     {
-        match self.slot3_by(query, &mut Costs::new()) {
+        match self.slot3_of(query, &mut Costs::new()) {
             Some(slot) => Some(self.data_mut_at(slot)),
             None => None,
         }
@@ -100,7 +100,7 @@ impl<T: TriHashItemMut, S: BuildHasher> TriHashMap<T, S> {
         ensures value { IfSome result (λ d. (x : T) × IsOnly
             (has_all T.TriHashItem Q1.stands_for Q2.stands_for Q3.stands_for query1 query2 query3)
             (bag self.old) (Some x) × (d.now ≡ T.data_of x)) }
-        ensures absent { IfNone result (IsOnly
+        ensures none_found { IfNone result (IsOnly
             (has_all T.TriHashItem Q1.stands_for Q2.stands_for Q3.stands_for query1 query2 query3)
             (bag self.old) None) }
         // What is written through it is the item's data, and nothing else changes. At `None` the map is as it was.

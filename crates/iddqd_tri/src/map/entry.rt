@@ -53,14 +53,14 @@ impl<T: TriHashItem, S: BuildHasher> TriHashMap<T, S> {
                 query3,
                 at,
             }),
-            Searched::Found((by1, by2, by3)) => Entry::Occupied(OccupiedEntry {
+            Searched::Found((found1, found2, found3)) => Entry::Occupied(OccupiedEntry {
                 map: self,
                 query1,
                 query2,
                 query3,
-                slot1: by1.slot(),
-                slot2: by2.slot(),
-                slot3: by3.slot(),
+                slot1: found1.slot(),
+                slot2: found2.slot(),
+                slot3: found3.slot(),
             }),
         }
     }

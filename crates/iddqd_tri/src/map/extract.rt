@@ -46,7 +46,7 @@ impl<T: TriHashItem, S: BuildHasher> TriHashMap<T, S> {
         while let Some(slot) = self.slot_from(cursor.next()) {
             cursor.pass(slot);
             if f(self.item_at(slot)) {
-                return Some(self.take_at(slot));
+                return Some(self.remove_at(slot));
             }
         }
         None

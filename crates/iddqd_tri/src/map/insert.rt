@@ -15,7 +15,7 @@ use iddqd_store::{Costs, UpToThree};
 use std::hash::{BuildHasher, Hash};
 
 impl<T: Ranked, S: BuildHasher> TriHashMap<T, S> {
-    ghost use Rattle.iddqd_tri.specs.Refused.{HandsBackAndHolds, TellsWhy, ends_as};
+    ghost use Rattle.iddqd_tri.specs.InsertErrors.{HandsBackAndHolds, TellsWhy, ends_as};
 
     /// Inserts an item if no item of the map conflicts with it. Two items conflict if they have an equal key of the
     /// same rank.
@@ -49,12 +49,12 @@ impl<T: Ranked, S: BuildHasher> TriHashMap<T, S> {
     {
         match self.insert_or_refuse(item, &mut Costs::new()) {
             Ok(()) => Ok(()),
-            Err(Refusal::Duplicate(item, by)) => {
-                let found = each_once(by.0.slot(), by.1.slot(), by.2.slot());
+            Err(Refusal::Duplicate(item, found)) => {
+                let slots = each_once(found.0.slot(), found.1.slot(), found.2.slot());
                 Err(InsertError {
                     map: self,
                     item,
-                    found,
+                    found: slots,
                 })
             }
             Err(Refusal::Memory(item)) => Err(InsertError {
@@ -91,10 +91,10 @@ impl<T: Ranked, S: BuildHasher> TriHashMap<T, S> {
     {
         match self.insert_or_refuse(item, &mut Costs::new()) {
             Ok(()) => Ok(()),
-            Err(Refusal::Duplicate(item, by)) => {
-                let taken1 = by.0.slot().is_some();
-                let taken2 = by.1.slot().is_some();
-                let taken3 = by.2.slot().is_some();
+            Err(Refusal::Duplicate(item, found)) => {
+                let taken1 = found.0.slot().is_some();
+                let taken2 = found.1.slot().is_some();
+                let taken3 = found.2.slot().is_some();
                 Err(Rejected {
                     item,
                     taken1,

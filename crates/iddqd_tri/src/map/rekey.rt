@@ -34,13 +34,13 @@ impl<T: Ranked, S: BuildHasher> TriHashMap<T, S> {
         ensures reason { IfErr result (λ e. TellsWhyNot T.ranks
             (has1 T.TriHashItem Q.stands_for query) (bag self.old) item e) }
     {
-        self.rekey1_by(query, item, &mut Costs::new())
+        self.rekey1_counted(query, item, &mut Costs::new())
     }
 
     /// Replaces as `rekey1` does, which calls it, and counts its costs: those of a search by the query and, if it finds
     /// an item, those of `rekey_at`.
     #[inline(always)]
-    fn rekey1_by<Q: Query<T::K1>>(
+    fn rekey1_counted<Q: Query<T::K1>>(
         &mut self,
         query: Q,
         item: T,
@@ -60,7 +60,7 @@ impl<T: Ranked, S: BuildHasher> TriHashMap<T, S> {
             (hashes_of (⟦<T as Hashed<S>>⟧.hashes self.old.builder) item) (map (λ _. 2) T.ranks) result
             costs.old costs.new }
     {
-        let Some(slot) = self.slot1_by(query, costs) else {
+        let Some(slot) = self.slot1_of(query, costs) else {
             return Err(NotReplaced::Absent(item));
         };
         match self.rekey_at(slot, item, costs) {
@@ -88,13 +88,13 @@ impl<T: Ranked, S: BuildHasher> TriHashMap<T, S> {
         ensures reason { IfErr result (λ e. TellsWhyNot T.ranks
             (has2 T.TriHashItem Q.stands_for query) (bag self.old) item e) }
     {
-        self.rekey2_by(query, item, &mut Costs::new())
+        self.rekey2_counted(query, item, &mut Costs::new())
     }
 
     /// Replaces as `rekey2` does, which calls it, and counts its costs: those of a search by the query and, if it finds
     /// an item, those of `rekey_at`.
     #[inline(always)]
-    fn rekey2_by<Q: Query<T::K2>>(
+    fn rekey2_counted<Q: Query<T::K2>>(
         &mut self,
         query: Q,
         item: T,
@@ -114,7 +114,7 @@ impl<T: Ranked, S: BuildHasher> TriHashMap<T, S> {
             (hashes_of (⟦<T as Hashed<S>>⟧.hashes self.old.builder) item) (map (λ _. 2) T.ranks) result
             costs.old costs.new }
     {
-        let Some(slot) = self.slot2_by(query, costs) else {
+        let Some(slot) = self.slot2_of(query, costs) else {
             return Err(NotReplaced::Absent(item));
         };
         match self.rekey_at(slot, item, costs) {
@@ -142,13 +142,13 @@ impl<T: Ranked, S: BuildHasher> TriHashMap<T, S> {
         ensures reason { IfErr result (λ e. TellsWhyNot T.ranks
             (has3 T.TriHashItem Q.stands_for query) (bag self.old) item e) }
     {
-        self.rekey3_by(query, item, &mut Costs::new())
+        self.rekey3_counted(query, item, &mut Costs::new())
     }
 
     /// Replaces as `rekey3` does, which calls it, and counts its costs: those of a search by the query and, if it finds
     /// an item, those of `rekey_at`.
     #[inline(always)]
-    fn rekey3_by<Q: Query<T::K3>>(
+    fn rekey3_counted<Q: Query<T::K3>>(
         &mut self,
         query: Q,
         item: T,
@@ -168,7 +168,7 @@ impl<T: Ranked, S: BuildHasher> TriHashMap<T, S> {
             (hashes_of (⟦<T as Hashed<S>>⟧.hashes self.old.builder) item) (map (λ _. 2) T.ranks) result
             costs.old costs.new }
     {
-        let Some(slot) = self.slot3_by(query, costs) else {
+        let Some(slot) = self.slot3_of(query, costs) else {
             return Err(NotReplaced::Absent(item));
         };
         match self.rekey_at(slot, item, costs) {

@@ -5,7 +5,7 @@ ghost use Rattle.std.specs.Prelude.{Contains, [], ◌≡◌, ◌∷◌, IfNone};
 ghost use Rattle.std.specs.Option.{option_to_list};
 ghost use Rattle.iddqd_store.specs.Bag.{IsOnly};
 ghost use Rattle.iddqd_store.specs.Map.{bag, Loses};
-ghost use Rattle.iddqd_store.specs.Rank.{agree, NamesOneUnder, TakingCosts};
+ghost use Rattle.iddqd_store.specs.Rank.{agree, NamesOneByHash, KeyRemovalCosts};
 ghost use Rattle.iddqd_tri.specs.Keys.{has1, has2, has3, has_all};
 
 use super::TriHashMap;
@@ -33,7 +33,7 @@ impl<T: TriHashItem, S: BuildHasher> TriHashMap<T, S> {
         ensures absent { IfNone result (self.new ≡ self.old) }
     {
         let hash = self.hash_builder.hash_one(query);
-        self.remove1_by(
+        self.remove1_with(
             hash,
             &mut ByQuery::new(&query, &mut Meter::new()),
             &mut Meter::new(),
@@ -46,13 +46,13 @@ impl<T: TriHashItem, S: BuildHasher> TriHashMap<T, S> {
     /// In the table of the first rank the call costs as much as a call of `find1_with` that finds nothing. If it
     /// removes an item, it then walks once through each other table.
     #[inline(always)]
-    fn remove1_by<M: KeyMatcher<T::K1>>(
+    fn remove1_with<M: KeyMatcher<T::K1>>(
         &mut self,
         hash: u64,
         matcher: &mut M,
         meter: &mut Meter,
     ) -> Option<T>
-        requires names { NamesOneUnder (agree T.key1 T.K1.eq) (⟦<T as Hashed<S>>⟧.hash1 self.old.builder) hash
+        requires names { NamesOneByHash (agree T.key1 T.K1.eq) (⟦<T as Hashed<S>>⟧.hash1 self.old.builder) hash
             (λ x. M.accepts matcher.old (T.key1 x)) (bag self.old) }
         requires asks { (x : T) → Contains (bag self.old) x → ⟦<T as Hashed<S>>⟧.hash1 self.old.builder x ≡ hash
             → M.MayAsk matcher.old (T.key1 x) }
@@ -60,7 +60,7 @@ impl<T: TriHashItem, S: BuildHasher> TriHashMap<T, S> {
         ensures loses { Loses self.old (option_to_list result) self.new }
         ensures absent { IfNone result (self.new ≡ self.old) }
         ensures is_kept { M.IsKept matcher.old matcher.new }
-        ensures costs { TakingCosts (⟦<T as Hashed<S>>⟧.hash1 self.old.builder) (bag self.old) self.old.capacity
+        ensures costs { KeyRemovalCosts (⟦<T as Hashed<S>>⟧.hash1 self.old.builder) (bag self.old) self.old.capacity
             hash (1 ∷ 1 ∷ []) result (M.asked matcher.old) (M.asked matcher.new) meter.old meter.new }
     {
         let slot = self
@@ -101,7 +101,7 @@ impl<T: TriHashItem, S: BuildHasher> TriHashMap<T, S> {
         ensures absent { IfNone result (self.new ≡ self.old) }
     {
         let hash = self.hash_builder.hash_one(query);
-        self.remove2_by(
+        self.remove2_with(
             hash,
             &mut ByQuery::new(&query, &mut Meter::new()),
             &mut Meter::new(),
@@ -114,13 +114,13 @@ impl<T: TriHashItem, S: BuildHasher> TriHashMap<T, S> {
     /// In the table of the second rank the call costs as much as a call of `find2_with` that finds nothing. If it
     /// removes an item, it then walks once through each other table.
     #[inline(always)]
-    fn remove2_by<M: KeyMatcher<T::K2>>(
+    fn remove2_with<M: KeyMatcher<T::K2>>(
         &mut self,
         hash: u64,
         matcher: &mut M,
         meter: &mut Meter,
     ) -> Option<T>
-        requires names { NamesOneUnder (agree T.key2 T.K2.eq) (⟦<T as Hashed<S>>⟧.hash2 self.old.builder) hash
+        requires names { NamesOneByHash (agree T.key2 T.K2.eq) (⟦<T as Hashed<S>>⟧.hash2 self.old.builder) hash
             (λ x. M.accepts matcher.old (T.key2 x)) (bag self.old) }
         requires asks { (x : T) → Contains (bag self.old) x → ⟦<T as Hashed<S>>⟧.hash2 self.old.builder x ≡ hash
             → M.MayAsk matcher.old (T.key2 x) }
@@ -128,7 +128,7 @@ impl<T: TriHashItem, S: BuildHasher> TriHashMap<T, S> {
         ensures loses { Loses self.old (option_to_list result) self.new }
         ensures absent { IfNone result (self.new ≡ self.old) }
         ensures is_kept { M.IsKept matcher.old matcher.new }
-        ensures costs { TakingCosts (⟦<T as Hashed<S>>⟧.hash2 self.old.builder) (bag self.old) self.old.capacity
+        ensures costs { KeyRemovalCosts (⟦<T as Hashed<S>>⟧.hash2 self.old.builder) (bag self.old) self.old.capacity
             hash (1 ∷ 1 ∷ []) result (M.asked matcher.old) (M.asked matcher.new) meter.old meter.new }
     {
         let slot = self
@@ -169,7 +169,7 @@ impl<T: TriHashItem, S: BuildHasher> TriHashMap<T, S> {
         ensures absent { IfNone result (self.new ≡ self.old) }
     {
         let hash = self.hash_builder.hash_one(query);
-        self.remove3_by(
+        self.remove3_with(
             hash,
             &mut ByQuery::new(&query, &mut Meter::new()),
             &mut Meter::new(),
@@ -182,13 +182,13 @@ impl<T: TriHashItem, S: BuildHasher> TriHashMap<T, S> {
     /// In the table of the third rank the call costs as much as a call of `find3_with` that finds nothing. If it
     /// removes an item, it then walks once through each other table.
     #[inline(always)]
-    fn remove3_by<M: KeyMatcher<T::K3>>(
+    fn remove3_with<M: KeyMatcher<T::K3>>(
         &mut self,
         hash: u64,
         matcher: &mut M,
         meter: &mut Meter,
     ) -> Option<T>
-        requires names { NamesOneUnder (agree T.key3 T.K3.eq) (⟦<T as Hashed<S>>⟧.hash3 self.old.builder) hash
+        requires names { NamesOneByHash (agree T.key3 T.K3.eq) (⟦<T as Hashed<S>>⟧.hash3 self.old.builder) hash
             (λ x. M.accepts matcher.old (T.key3 x)) (bag self.old) }
         requires asks { (x : T) → Contains (bag self.old) x → ⟦<T as Hashed<S>>⟧.hash3 self.old.builder x ≡ hash
             → M.MayAsk matcher.old (T.key3 x) }
@@ -196,7 +196,7 @@ impl<T: TriHashItem, S: BuildHasher> TriHashMap<T, S> {
         ensures loses { Loses self.old (option_to_list result) self.new }
         ensures absent { IfNone result (self.new ≡ self.old) }
         ensures is_kept { M.IsKept matcher.old matcher.new }
-        ensures costs { TakingCosts (⟦<T as Hashed<S>>⟧.hash3 self.old.builder) (bag self.old) self.old.capacity
+        ensures costs { KeyRemovalCosts (⟦<T as Hashed<S>>⟧.hash3 self.old.builder) (bag self.old) self.old.capacity
             hash (1 ∷ 1 ∷ []) result (M.asked matcher.old) (M.asked matcher.new) meter.old meter.new }
     {
         let slot = self
@@ -237,7 +237,7 @@ impl<T: TriHashItem, S: BuildHasher> TriHashMap<T, S> {
     {
         let hash = self.hash_builder.hash_one(query1);
         match self.slot_unique(hash, query1, query2, query3, &mut Costs::new()) {
-            Some(slot) => Some(self.take(slot, Some(hash), None, None, &mut Meter::new())),
+            Some(slot) => Some(self.remove_slot(slot, Some(hash), None, None, &mut Meter::new())),
             None => None,
         }
     }

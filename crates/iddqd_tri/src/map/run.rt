@@ -103,32 +103,32 @@ where
                 key1, key2, key3, item, sink,
             ),
             TriCommand::Replace1(key, item) => self.apply_replace(
-                self.slot1_by(&key, &mut Costs::new()),
+                self.slot1_of(&key, &mut Costs::new()),
                 item,
                 sink,
             ),
             TriCommand::Replace2(key, item) => self.apply_replace(
-                self.slot2_by(&key, &mut Costs::new()),
+                self.slot2_of(&key, &mut Costs::new()),
                 item,
                 sink,
             ),
             TriCommand::Replace3(key, item) => self.apply_replace(
-                self.slot3_by(&key, &mut Costs::new()),
+                self.slot3_of(&key, &mut Costs::new()),
                 item,
                 sink,
             ),
             TriCommand::Set1(key, data) => self.apply_set(
-                self.slot1_by(&key, &mut Costs::new()),
+                self.slot1_of(&key, &mut Costs::new()),
                 data,
                 sink,
             ),
             TriCommand::Set2(key, data) => self.apply_set(
-                self.slot2_by(&key, &mut Costs::new()),
+                self.slot2_of(&key, &mut Costs::new()),
                 data,
                 sink,
             ),
             TriCommand::Set3(key, data) => self.apply_set(
-                self.slot3_by(&key, &mut Costs::new()),
+                self.slot3_of(&key, &mut Costs::new()),
                 data,
                 sink,
             ),
@@ -142,9 +142,9 @@ where
     {
         match self.insert_or_refuse(item, &mut Costs::new()) {
             Ok(()) => self.tell(TriReply::Done, sink),
-            Err(Refusal::Duplicate(item, by)) => {
-                let found = each_once(by.0.slot(), by.1.slot(), by.2.slot());
-                self.tell_duplicate(item, &found, sink)
+            Err(Refusal::Duplicate(item, found)) => {
+                let slots = each_once(found.0.slot(), found.1.slot(), found.2.slot());
+                self.tell_duplicate(item, &slots, sink)
             }
             Err(Refusal::Memory(item)) => self.tell(TriReply::Memory(item), sink),
         }

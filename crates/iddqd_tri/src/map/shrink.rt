@@ -7,7 +7,7 @@ ghost use Rattle.iddqd_store.specs.Map.{bag, shrunk_to};
 use super::TriHashMap;
 use crate::item::TriHashItem;
 use crate::ranks::{First, Second, Third};
-use iddqd_store::{TryReserveError, table_room};
+use iddqd_store::{TryReserveError, pairs_for};
 use std::hash::{BuildHasher, Hash};
 
 impl<T: TriHashItem + Drop, S: BuildHasher> TriHashMap<T, S> {
@@ -33,7 +33,7 @@ impl<T: TriHashItem + Drop, S: BuildHasher> TriHashMap<T, S> {
     {
         let room = self.capacity();
         let wanted = self.len().max(least.min(room));
-        let pairs = table_room(wanted);
+        let pairs = pairs_for(wanted);
         // A map that is made for this many items stays as it is.
         if self.items.capacity() == wanted
             && self.first.is_made_for(pairs)
@@ -66,7 +66,7 @@ impl<T: TriHashItem + Drop, S: BuildHasher> TriHashMap<T, S> {
     /// Makes slots and tables anew, for this many items. After an error the map is as before.
     fn rebuild(&mut self, wanted: usize) -> Result<(), TryReserveError>
         requires enough { length (bag self.old) ≤ wanted }
-        requires within { wanted ≤ self.old.capacity }
+        requires shrinks { wanted ≤ self.old.capacity }
         ensures items { bag self.new ≡ bag self.old }
         ensures builder { self.new.builder ≡ self.old.builder }
         ensures capacity { OnOk result (self.new.capacity ≡ wanted) }
@@ -74,9 +74,9 @@ impl<T: TriHashItem + Drop, S: BuildHasher> TriHashMap<T, S> {
         ensures unchanged { OnErr result (self.new ≡ self.old) }
     {
         // All that can fail comes first: the new tables, then the slots.
-        let mut first = self.first.fresh(table_room(wanted))?;
-        let mut second = self.second.fresh(table_room(wanted))?;
-        let mut third = self.third.fresh(table_room(wanted))?;
+        let mut first = self.first.fresh(pairs_for(wanted))?;
+        let mut second = self.second.fresh(pairs_for(wanted))?;
+        let mut third = self.third.fresh(pairs_for(wanted))?;
         self.items.shrink_to(wanted)?;
         self.items.fill::<First, S>(&mut first, &self.hash_builder);
         self.items

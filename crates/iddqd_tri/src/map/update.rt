@@ -28,14 +28,14 @@ impl<T: TriHashItemMut, S: BuildHasher> TriHashMap<T, S> {
         F: Drop,
         requires { (x : T) → IsOnly (has1 T.TriHashItem Q.stands_for query) (bag self.old) (Some x)
             → FnOnceTakesAt F.FnOnce f x }
-        ensures found { result ≡ list_any (has1 T.TriHashItem Q.stands_for query) (bag self.old) }
+        ensures any_found { result ≡ list_any (has1 T.TriHashItem Q.stands_for query) (bag self.old) }
         ensures stores { result ≡ true → StoresOne (FnOnceReturnsAt F.FnOnce f) T.put ⟦<T as Ranked>⟧.ranks
             (has1 T.TriHashItem Q.stands_for query) (bag self.old) (bag self.new) }
         ensures absent { result ≡ false → self.new ≡ self.old }
         ensures capacity { self.new.capacity ≡ self.old.capacity }
         ensures builder { self.new.builder ≡ self.old.builder }
     {
-        match self.slot1_by(query, &mut Costs::new()) {
+        match self.slot1_of(query, &mut Costs::new()) {
             Some(slot) => {
                 self.store_once(slot, f);
                 true
@@ -56,14 +56,14 @@ impl<T: TriHashItemMut, S: BuildHasher> TriHashMap<T, S> {
         F: Drop,
         requires { (x : T) → IsOnly (has2 T.TriHashItem Q.stands_for query) (bag self.old) (Some x)
             → FnOnceTakesAt F.FnOnce f x }
-        ensures found { result ≡ list_any (has2 T.TriHashItem Q.stands_for query) (bag self.old) }
+        ensures any_found { result ≡ list_any (has2 T.TriHashItem Q.stands_for query) (bag self.old) }
         ensures stores { result ≡ true → StoresOne (FnOnceReturnsAt F.FnOnce f) T.put ⟦<T as Ranked>⟧.ranks
             (has2 T.TriHashItem Q.stands_for query) (bag self.old) (bag self.new) }
         ensures absent { result ≡ false → self.new ≡ self.old }
         ensures capacity { self.new.capacity ≡ self.old.capacity }
         ensures builder { self.new.builder ≡ self.old.builder }
     {
-        match self.slot2_by(query, &mut Costs::new()) {
+        match self.slot2_of(query, &mut Costs::new()) {
             Some(slot) => {
                 self.store_once(slot, f);
                 true
@@ -84,14 +84,14 @@ impl<T: TriHashItemMut, S: BuildHasher> TriHashMap<T, S> {
         F: Drop,
         requires { (x : T) → IsOnly (has3 T.TriHashItem Q.stands_for query) (bag self.old) (Some x)
             → FnOnceTakesAt F.FnOnce f x }
-        ensures found { result ≡ list_any (has3 T.TriHashItem Q.stands_for query) (bag self.old) }
+        ensures any_found { result ≡ list_any (has3 T.TriHashItem Q.stands_for query) (bag self.old) }
         ensures stores { result ≡ true → StoresOne (FnOnceReturnsAt F.FnOnce f) T.put ⟦<T as Ranked>⟧.ranks
             (has3 T.TriHashItem Q.stands_for query) (bag self.old) (bag self.new) }
         ensures absent { result ≡ false → self.new ≡ self.old }
         ensures capacity { self.new.capacity ≡ self.old.capacity }
         ensures builder { self.new.builder ≡ self.old.builder }
     {
-        match self.slot3_by(query, &mut Costs::new()) {
+        match self.slot3_of(query, &mut Costs::new()) {
             Some(slot) => {
                 self.store_once(slot, f);
                 true
@@ -116,7 +116,7 @@ impl<T: TriHashItemMut, S: BuildHasher> TriHashMap<T, S> {
         requires { (x : T) → IsOnly
             (has_all T.TriHashItem Q1.stands_for Q2.stands_for Q3.stands_for query1 query2 query3)
             (bag self.old) (Some x) → FnOnceTakesAt F.FnOnce f x }
-        ensures found { result
+        ensures any_found { result
             ≡ list_any (has_all T.TriHashItem Q1.stands_for Q2.stands_for Q3.stands_for query1 query2 query3)
             (bag self.old) }
         ensures stores { result ≡ true → StoresOne (FnOnceReturnsAt F.FnOnce f) T.put ⟦<T as Ranked>⟧.ranks

@@ -38,7 +38,7 @@ impl<T: TriHashItem, S: BuildHasher> TriHashMap<T, S> {
         ensures* rests_at_none { sem 𝓛
             (rests_if_none T.row S.row T.K1.row T.K2.row T.K3.row S.Hasher.row self.entry result) }
     {
-        let slot = self.slot1_by(query, &mut Costs::new())?;
+        let slot = self.slot1_of(query, &mut Costs::new())?;
         Some(RefMut { map: self, slot })
     }
 
@@ -62,7 +62,7 @@ impl<T: TriHashItem, S: BuildHasher> TriHashMap<T, S> {
         ensures* rests_at_none { sem 𝓛
             (rests_if_none T.row S.row T.K1.row T.K2.row T.K3.row S.Hasher.row self.entry result) }
     {
-        let slot = self.slot2_by(query, &mut Costs::new())?;
+        let slot = self.slot2_of(query, &mut Costs::new())?;
         Some(RefMut { map: self, slot })
     }
 
@@ -86,7 +86,7 @@ impl<T: TriHashItem, S: BuildHasher> TriHashMap<T, S> {
         ensures* rests_at_none { sem 𝓛
             (rests_if_none T.row S.row T.K1.row T.K2.row T.K3.row S.Hasher.row self.entry result) }
     {
-        let slot = self.slot3_by(query, &mut Costs::new())?;
+        let slot = self.slot3_of(query, &mut Costs::new())?;
         Some(RefMut { map: self, slot })
     }
 

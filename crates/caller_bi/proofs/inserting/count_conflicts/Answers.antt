@@ -12,8 +12,8 @@ returns-in-Ok-clause-count g c =
 
 pub returns-in-Err-clause-went_in : goal.returns-in-Err-clause-went_in
 returns-in-Err-clause-went_in g c none room =
-    let by = g.T.Ranked.ranks in
+    let ranks = g.T.Ranked.ranks in
     let there = bag c.args.map.now in
-    let count : c.len-count.result ≡ length (order by there c.args.item) = search rules in
-    let empty : clash by there c.args.item ≡ [] = nil_from_length _ (length-clash by there c.args.item ∙ sym count ∙ none) in
+    let count : c.len-count.result ≡ length (order ranks there c.args.item) = search rules in
+    let empty : clash ranks there c.args.item ≡ [] = nil_from_length _ (length-clash ranks there c.args.item ∙ sym count ∙ none) in
     elim c.in-Err.ensures.reason [ inl some ↦ absurd (some empty) | inr full ↦ absurd (let e = full.full in omega (arith, e, room)) ]

@@ -13,7 +13,7 @@ returns-in-Some-clause-present g c = λ x is.
     let again = c.reborrow.result.now in
     let same = c.reborrow.ensures.unchanged in
     let write : g.row.T.Denot → g.row.T.Denot = λ y. g.T.BiHashItemMut.put y c.args.d in
-    let by = ranks g.T.BiHashItem g.T.K1.PartialEq.eq g.T.K2.PartialEq.eq in
+    let ranks = ranks g.T.BiHashItem g.T.K1.PartialEq.eq g.T.K2.PartialEq.eq in
     rw (c.map-1.given.1 (sym (ap (λ r. r.map.ghost_name) same ∙ one.same_map)), c.drop-item.ensures)
-    (only_written by write c.args.map.now (ref_map again) (bag (ref_map (ref_with again write))) (ref_item again) x _
+    (only_written ranks write c.args.map.now (ref_map again) (bag (ref_map (ref_with again write))) (ref_item again) x _
     (ap (λ r. r.map.now) same ∙ one.unchanged) (ap (λ r. option_to_list (ref_item r)) same ∙ one.found) is (c.data_mut.ensures.swaps c.args.d)))

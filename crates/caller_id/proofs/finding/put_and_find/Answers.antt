@@ -12,9 +12,9 @@ use Rattle.caller_id.proofs.finding.put_and_find.Goals as goal
 pub returns-in-Ok : goal.returns-in-Ok
 returns-in-Ok g c =
     let eq = g.T.Key.PartialEq.eq in
-    let by = ranks g.T.IdHashItem g.T.Key.PartialEq.eq in
+    let ranks = ranks g.T.IdHashItem g.T.Key.PartialEq.eq in
     c.contains_key.ensures
     ∙ contains-inserted [] [] (agree g.T.IdHashItem.key eq)
     (has g.T.IdHashItem eq c.args.key.now) (NamesOne-query eq eq g.T.IdHashItem.key g.met.T.Key.Eq.laws.congr c.args.key.now)
     (bag c.insert_overwrite.new.self) c.len-len.ensures.sound
-    (without (like by c.args.item) (bag c.args.map.now)) c.args.item c.in-Ok.ensures.overwrites.items c.requires.has
+    (without (like ranks c.args.item) (bag c.args.map.now)) c.args.item c.in-Ok.ensures.overwrites.items c.requires.has

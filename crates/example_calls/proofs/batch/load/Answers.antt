@@ -6,11 +6,11 @@ use Rattle.iddqd_bi.proofs.CallerLemmas.Batches.{loaded, rejected-at, rejected-b
 use Rattle.example_calls.specs.declared.batch.Record.{Record}
 use Rattle.example_calls.proofs.batch.load.Goals as goal
 
-abbrev by : Ranks Record
-by = agree (λ (r : Record). r.number) nat_eq ∷ agree (λ (r : Record). r.code) nat_eq ∷ []
+abbrev item_ranks : Ranks Record
+item_ranks = agree (λ (r : Record). r.number) nat_eq ∷ agree (λ (r : Record). r.code) nat_eq ∷ []
 
 pub returns-in-Ok-clause-all : goal.returns-in-Ok-clause-all
-returns-in-Ok-clause-all c = loaded _ (λ it is. is.0) by _ _ c.in-Ok.ensures.all
+returns-in-Ok-clause-all c = loaded _ (λ it is. is.0) item_ranks _ _ c.in-Ok.ensures.all
 
 pub returns-in-Err-clause-which : goal.returns-in-Err-clause-which
 returns-in-Err-clause-which c = rejected-at _ (λ it is. is.0) _ _ c.in-Err.ensures.refused _ (search rules)

@@ -10,12 +10,12 @@ use Rattle.iddqd_bi.proofs.CallerLemmas.{length-clash}
 use Rattle.example_calls.specs.declared.entry.Visit.{Visit}
 use Rattle.example_calls.proofs.entry.note_visit.Goals as goal
 
-abbrev by : Ranks Visit
-by = agree (λ (v : Visit). v.number) nat_eq ∷ agree (λ (v : Visit). v.page) nat_eq ∷ []
+abbrev item_ranks : Ranks Visit
+item_ranks = agree (λ (v : Visit). v.number) nat_eq ∷ agree (λ (v : Visit). v.page) nat_eq ∷ []
 
 -- if nothing conflicts with the visit, its keys find nothing
-none_found : (there : List Visit) (v : Visit) → clash by there v ≡ [] → order by there v ≡ []
-none_found there v free = nil_from_length _ (sym (length-clash by there v) ∙ ap length free)
+none_found : (there : List Visit) (v : Visit) → clash item_ranks there v ≡ [] → order item_ranks there v ≡ []
+none_found there v free = nil_from_length _ (sym (length-clash item_ranks there v) ∙ ap length free)
 
 pub returns-in-Occupied-clause-granted : goal.returns-in-Occupied-clause-granted
 returns-in-Occupied-clause-granted c free room =

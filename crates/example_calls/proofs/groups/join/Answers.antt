@@ -4,15 +4,15 @@ use Rattle.iddqd_bi.specs.Bag.{Ranks, swap, unique}
 use Rattle.iddqd_bi.specs.Entries.{held_entry}
 use Rattle.iddqd_bi.specs.Keys.{ranks}
 use Rattle.iddqd_bi.specs.Map.{bag}
-use Rattle.iddqd_bi.proofs.Entering.{unique_held}
+use Rattle.iddqd_bi.proofs.EntryLemmas.{unique_held}
 use Rattle.example_calls.specs.contracts.groups.TeamBiHashItem.TheImpl as item
 use Rattle.example_calls.specs.declared.groups.Team.{Team}
 use Rattle.example_calls.proofs.groups.join.Goals as goal
 
-abbrev by : Ranks Team
-by = ranks item.ghosts nat_eq nat_eq
+abbrev item_ranks : Ranks Team
+item_ranks = ranks item.ghosts nat_eq nat_eq
 
-written_as : (new there old : List Team) (t u : Team) → there ≡ old → IsPermutation new (swap by there t u) → IsPermutation new (swap by old t u)
+written_as : (new there old : List Team) (t u : Team) → there ≡ old → IsPermutation new (swap item_ranks there t u) → IsPermutation new (swap item_ranks old t u)
 written_as new there old t u same p = rw (← same) p
 
 -- the team that was made is inserted

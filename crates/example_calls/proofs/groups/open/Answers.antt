@@ -13,7 +13,7 @@ use Rattle.iddqd_bi.specs.declared.entry.Entry.{Entry}
 use Rattle.iddqd_bi.specs.declared.entry.Entry.TheVariants.{Vacant, Occupied}
 use Rattle.iddqd_bi.specs.declared.error.EntryRefusal.{EntryRefusal}
 use Rattle.iddqd_bi.specs.declared.item.BiHashItem as team
-use Rattle.iddqd_bi.proofs.Entering.{clash-empty, order-empty, stayed, went_in}
+use Rattle.iddqd_bi.proofs.EntryLemmas.{clash-empty, order-empty, stayed, went_in}
 use Rattle.example_calls.specs.contracts.groups.TeamBiHashItem.TheImpl as item
 use Rattle.example_calls.proofs.groups.open.Goals as goal
 

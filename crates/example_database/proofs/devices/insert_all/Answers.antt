@@ -7,11 +7,11 @@ use Rattle.iddqd_bi.proofs.CallerLemmas.Batches.{loaded, rejected-at, rejected-b
 use Rattle.example_database.specs.declared.devices.Device.{Device}
 use Rattle.example_database.proofs.devices.insert_all.Goals as goal
 
-abbrev by : Ranks Device
-by = agree (λ (d : Device). d.serial) int_eq ∷ agree (λ (d : Device). d.port) int_eq ∷ []
+abbrev item_ranks : Ranks Device
+item_ranks = agree (λ (d : Device). d.serial) int_eq ∷ agree (λ (d : Device). d.port) int_eq ∷ []
 
 pub returns-in-Ok-clause-all : goal.returns-in-Ok-clause-all
-returns-in-Ok-clause-all c = loaded _ (λ it is. is.0) by _ _ c.in-Ok.ensures.all
+returns-in-Ok-clause-all c = loaded _ (λ it is. is.0) item_ranks _ _ c.in-Ok.ensures.all
 
 pub returns-in-Err-clause-which : goal.returns-in-Err-clause-which
 returns-in-Err-clause-which c = rejected-at _ (λ it is. is.0) _ _ c.in-Err.ensures.refused _ (search rules)

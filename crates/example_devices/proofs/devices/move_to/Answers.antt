@@ -14,8 +14,8 @@ use Rattle.iddqd_store.proofs.BagLemmas.Exchanges.{IsPermutation-filter}
 use Rattle.example_devices.specs.declared.devices.Device.{Device}
 use Rattle.example_devices.proofs.devices.move_to.Goals as goal
 
-abbrev by : Ranks Device
-by = agree (λ (d : Device). d.serial) nat_eq ∷ agree (λ (d : Device). d.port) nat_eq ∷ []
+abbrev item_ranks : Ranks Device
+item_ranks = agree (λ (d : Device). d.serial) nat_eq ∷ agree (λ (d : Device). d.port) nat_eq ∷ []
 
 -- if only one item passes, no other item passes
 alone : (test : Device → Bool) (old rest : List Device) (x : Device) → x ∷ [] ≡ filter test old → IsPermutation old (x ∷ rest) → list_any test rest ≡ false
@@ -27,9 +27,9 @@ alone test old rest x only taken =
 
 -- so the conflicting item is the one at the port
 at_port : (rest : List Device) (y : Device) (b : Bool) → list_any (λ d. nat_eq y.port d.port) rest ≡ b
-    → list_any (λ d. nat_eq y.serial d.serial) rest ≡ false → clash by rest y ≢ [] → list_any (λ d. nat_eq y.port d.port) rest ≡ true
+    → list_any (λ d. nat_eq y.serial d.serial) rest ≡ false → clash item_ranks rest y ≢ [] → list_any (λ d. nat_eq y.port d.port) rest ≡ true
 at_port rest y true is none some = is
-at_port rest y false is none some = absurd (some (none-clash by rest y (none, (is, tt))))
+at_port rest y false is none some = absurd (some (none-clash item_ranks rest y (none, (is, tt))))
 
 same : (n : ℕ) (old : List Device) (x : Device) → IsOnly (λ d. nat_eq n d.serial) old (Some x) → x.serial ≡ n
 same n old x only = sym (eqb-true n x.serial (given-has (λ d. nat_eq n d.serial) old x only))
@@ -50,11 +50,11 @@ pub returns-in-Err-Absent-clause-no_device : goal.returns-in-Err-Absent-clause-n
 returns-in-Err-Absent-clause-no_device c = λ _.
     let old = bag c.args.devices.now in
     let test = λ (d : Device). nat_eq c.args.serial d.serial in
-    none-listed test old (subst (λ e. TellsWhyNot by test old (record { serial = c.args.serial; port = c.args.port }) e) c.in-Err-Absent.field-0-is c.in-Err-Absent.ensures.reason)
+    none-listed test old (subst (λ e. TellsWhyNot item_ranks test old (record { serial = c.args.serial; port = c.args.port }) e) c.in-Err-Absent.field-0-is c.in-Err-Absent.ensures.reason)
 
 pub returns-in-Err-Duplicate-clause-port_taken : goal.returns-in-Err-Duplicate-clause-port_taken
 returns-in-Err-Duplicate-clause-port_taken c = λ _.
     let old = bag c.args.devices.now in
     let test = λ (d : Device). nat_eq c.args.serial d.serial in
-    let why = subst (λ e. TellsWhyNot by test old (record { serial = c.args.serial; port = c.args.port }) e) c.in-Err-Duplicate.field-0-is c.in-Err-Duplicate.ensures.reason in
+    let why = subst (λ e. TellsWhyNot item_ranks test old (record { serial = c.args.serial; port = c.args.port }) e) c.in-Err-Duplicate.field-0-is c.in-Err-Duplicate.ensures.reason in
     (why.0, why.1, same c.args.serial old why.0 why.2, why.3, at_port why.1 (record { serial = c.args.serial; port = c.args.port }) _ refl (alone test old why.1 why.0 why.2 why.3) why.4)

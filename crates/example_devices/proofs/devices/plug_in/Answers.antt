@@ -9,12 +9,12 @@ use Rattle.example_devices.specs.declared.devices.Device.{Device}
 use Rattle.example_devices.proofs.devices.plug_in.Goals as goal
 use Rattle.example_devices.proofs.devices.plug_in.Goals.{else-len-capacity-via-then-len-capacity+else-is_empty, else-len-capacity-via-else-len-capacity}
 
-abbrev by : Ranks Device
-by = agree (λ (d : Device). d.serial) nat_eq ∷ agree (λ (d : Device). d.port) nat_eq ∷ []
+abbrev item_ranks : Ranks Device
+item_ranks = agree (λ (d : Device). d.serial) nat_eq ∷ agree (λ (d : Device). d.port) nat_eq ∷ []
 
 -- as many items conflict as are listed
-as_many : (there : List Device) (x : Device) (found : List (Bor Device)) → map (λ r. r.now) found ≡ order by there x → length (clash by there x) ≡ length found
-as_many there x found is = length-clash by there x ∙ ap length (sym is) ∙ length-map found (λ r. r.now)
+as_many : (there : List Device) (x : Device) (found : List (Bor Device)) → map (λ r. r.now) found ≡ order item_ranks there x → length (clash item_ranks there x) ≡ length found
+as_many there x found is = length-clash item_ranks there x ∙ ap length (sym is) ∙ length-map found (λ r. r.now)
 
 -- if the limit is reached and nothing conflicts, the map is full for the device
 pub returns-then-is_empty-clause-full : goal.returns-then-is_empty-clause-full

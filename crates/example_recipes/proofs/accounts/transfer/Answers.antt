@@ -22,11 +22,11 @@ returns-clause-moved c = λ _.
     let apart : from ≢ to = c.if-from-to.false in
     let first : a ∷ [] ≡ filter (numbered from) old = search rules in
     let second : b ∷ [] ≡ filter (numbered to) old = search rules in
-    let one = c.update1.ensures.stores (c.update1.ensures.found ∙ is_there from old a first) in
+    let one = c.update1.ensures.stores (c.update1.ensures.any_found ∙ is_there from old a first) in
     let less_is : one.1 ≡ less = search rules in
     let write = wrote old mid one.0 a one.1 less (the_same one.0 a (one.2 ∙ sym first)) less_is one.4 in
     let sound = c.len.ensures.sound in
-    let two = c.update1-2.ensures.stores (c.update1-2.ensures.found ∙ there from to less old mid a b apart first second sound write) in
+    let two = c.update1-2.ensures.stores (c.update1-2.ensures.any_found ∙ there from to less old mid a b apart first second sound write) in
     let more_is : two.1 ≡ more = search rules in
     let last = wrote mid new two.0 b two.1 more (again from to less old mid a b apart first second sound write two.0 two.2) more_is two.4 in
     (a, b, first, second, omega (arith, c.if-payer-amount.false), both from to less old mid a b apart first second sound write new more last)

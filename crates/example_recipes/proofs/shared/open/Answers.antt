@@ -13,8 +13,8 @@ use Rattle.example_recipes.proofs.Undone.{undone_by}
 use Rattle.example_recipes.specs.declared.orders.Order.{Order}
 use Rattle.example_recipes.proofs.shared.open.Goals as goal
 
-abbrev by : Ranks (Rc Order Global)
-by = agree (λ (r : Rc Order Global). r.value.number) nat_eq ∷ agree (λ (r : Rc Order Global). r.value.place) nat_eq ∷ []
+abbrev item_ranks : Ranks (Rc Order Global)
+item_ranks = agree (λ (r : Rc Order Global). r.value.number) nat_eq ∷ agree (λ (r : Rc Order Global). r.value.place) nat_eq ∷ []
 
 -- the first pointer is to the order, ..
 pub returns-clause-among_all : goal.returns-clause-among_all
@@ -34,7 +34,7 @@ returns-in-Err-clause-not_among_all c =
     let x = c.in_ok-clone.field-0 in
     let number = c.deref.result.now.number in
     let own : x.value.number ≡ number = search rules in
-    let free = none_passes (conflicts by x) (bag c.args.all.now) c.in_ok-try_insert.ensures.free in
+    let free = none_passes (conflicts item_ranks x) (bag c.args.all.now) c.in_ok-try_insert.ensures.free in
     undone_by (λ (r : Rc Order Global). number == r.value.number) (bag c.args.all.now) c.try_insert.new.self c.remove1.new.self x c.remove1.result
     (rw (← own) (each_weaker _ _ (λ y e. (or_parts _ _ e).0) (bag c.args.all.now) free))
     (rw (← own) (nat_eq_equiv.refl x.value.number))

@@ -6,7 +6,7 @@ ghost use Rattle.iddqd_store.specs.Runs.Step.{state_of, EntryInserts, EntryRemov
 ghost use Rattle.iddqd_store.specs.Runs.Values.{value_of};
 ghost use Rattle.iddqd_store.specs.Slots.Found.{FoundAt};
 ghost use Rattle.iddqd_bi.specs.Mismatch.{mismatch_item, mismatch_rank};
-ghost use Rattle.iddqd_bi.specs.Refusals.{refusal_value};
+ghost use Rattle.iddqd_bi.specs.EntryReplies.{refusal_value};
 
 use crate::command::BiReply;
 use crate::entry::Entry;

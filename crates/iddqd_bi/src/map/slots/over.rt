@@ -2,8 +2,8 @@
 ghost use Rattle.std.specs.Prelude.{◌≡◌, ◌≢◌, ◌+◌, ◌≤◌, [], ◌∷◌, length, map, None, Some, IfOk, IfErr, OnOk, OnErr, slice_set};
 ghost use Rattle.iddqd_store.specs.Bag.{clash, order, over};
 ghost use Rattle.iddqd_store.specs.Map.{bag, ListsConflicts, PutsAt};
-ghost use Rattle.iddqd_store.specs.Rank.All.{ArePlacesOf, AreUnder, HaveHashes, PlacingCosts, hashes_of};
-ghost use Rattle.iddqd_store.specs.Rank.{walks_one, walks_within, walks_two};
+ghost use Rattle.iddqd_store.specs.Rank.All.{ArePlacesOf, AreHashed, HaveHashes, PlacingCosts, hashes_of};
+ghost use Rattle.iddqd_store.specs.Rank.{rehash_walks, walks_within, merge_two_walks};
 ghost use Rattle.iddqd_store.specs.Slots.{get, contents, IsLive};
 ghost use Rattle.iddqd_store.specs.Slots.Found.{each_once};
 
@@ -11,7 +11,7 @@ use super::super::BiHashMap;
 use super::found::each_once;
 use crate::item::{BiHashItem, Hashed, Ranked};
 use crate::ranks::{First, Second};
-use iddqd_store::{Costs, ItemIndex, Meter, Searched, SlotUnder, UpToTwo, Vacancy};
+use iddqd_store::{Costs, FoundByHash, ItemIndex, Meter, Searched, UpToTwo, Vacancy};
 use std::hash::{BuildHasher, Hash};
 
 impl<T: BiHashItem, S: BuildHasher> BiHashMap<T, S> {
@@ -20,36 +20,36 @@ impl<T: BiHashItem, S: BuildHasher> BiHashMap<T, S> {
     /// hash a key by which a search found its item. The number of its walks through each table is at most one more than
     /// the number of items that it displaces.
     #[inline(always)]
-    pub(crate) fn put_over(
+    pub(crate) fn overwrite(
         &mut self,
         item: T,
-        by: &(SlotUnder, SlotUnder),
+        found: &(FoundByHash, FoundByHash),
         meter: &mut Meter,
     ) -> (UpToTwo<T>, ItemIndex)
         requires conflicts { ListsConflicts ⟦<T as Ranked>⟧.ranks self.old item
-            (each_once (by.now.0.slot ∷ by.now.1.slot ∷ [])) }
-        requires some { length (each_once (by.now.0.slot ∷ by.now.1.slot ∷ [])) ≢ 0 }
+            (each_once (found.now.0.slot ∷ found.now.1.slot ∷ [])) }
+        requires some { length (each_once (found.now.0.slot ∷ found.now.1.slot ∷ [])) ≢ 0 }
         requires hashes { HaveHashes
-            (hashes_of (⟦<T as Hashed<S>>⟧.hashes self.old.builder) item) (by.now.0 ∷ by.now.1 ∷ []) }
-        requires under { AreUnder
-            (⟦<T as Hashed<S>>⟧.hashes self.old.builder) self.old.slots (by.now.0 ∷ by.now.1 ∷ []) }
+            (hashes_of (⟦<T as Hashed<S>>⟧.hashes self.old.builder) item) (found.now.0 ∷ found.now.1 ∷ []) }
+        requires hashed { AreHashed
+            (⟦<T as Hashed<S>>⟧.hashes self.old.builder) self.old.slots (found.now.0 ∷ found.now.1 ∷ []) }
         ensures displaced { result.0 ≡ order ⟦<T as Ranked>⟧.ranks (bag self.old) item }
         ensures puts_at { PutsAt ⟦<T as Ranked>⟧.ranks self.old result.1 item
             (over ⟦<T as Ranked>⟧.ranks (bag self.old) item) self.new }
         ensures costs { meter.new ≤ meter.old + walks_within (length (bag self.old))
             (map (λ _. length result.0 + 1) ⟦<T as Ranked>⟧.ranks) }
     {
-        let mut found = each_once(by.0.slot(), by.1.slot());
-        let Some(slot) = found.pop_front() else {
+        let mut slots = each_once(found.0.slot(), found.1.slot());
+        let Some(slot) = slots.pop_front() else {
             unreachable!()
         };
-        let Some(other_slot) = found.pop_front() else {
+        let Some(other_slot) = slots.pop_front() else {
             let mut displaced = UpToTwo::new();
-            displaced.push(self.exchange(slot, item, by, meter));
+            displaced.push(self.overwrite_one(slot, item, found, meter));
             return (displaced, slot);
         };
         let mut displaced = UpToTwo::new();
-        let (gone, other) = self.exchange_two(slot, other_slot, item, by, meter);
+        let (gone, other) = self.overwrite_two(slot, other_slot, item, found, meter);
         displaced.push(gone);
         displaced.push(other);
         (displaced, slot)
@@ -71,27 +71,27 @@ impl<T: BiHashItem, S: BuildHasher> BiHashMap<T, S> {
             (hashes_of (⟦<T as Hashed<S>>⟧.hashes self.old.builder) item) (map (λ _. 2) ⟦<T as Ranked>⟧.ranks)
             costs.old costs.new }
     {
-        let by = match self.places(&item, costs) {
-            Searched::Vacant(at) => return Ok(self.exchange_at(slot, item, at, &mut costs.probed)),
-            Searched::Found(by) => by,
+        let found = match self.places(&item, costs) {
+            Searched::Vacant(at) => return Ok(self.rekey_into(slot, item, at, &mut costs.probed)),
+            Searched::Found(found) => found,
         };
-        let mut found = each_once(by.0.slot(), by.1.slot());
-        let Some(other) = found.pop_front() else {
+        let mut slots = each_once(found.0.slot(), found.1.slot());
+        let Some(other) = slots.pop_front() else {
             unreachable!()
         };
         if other != slot {
             return Err(item);
         }
-        match found.pop_front() {
+        match slots.pop_front() {
             Some(_) => Err(item),
-            None => Ok(self.exchange(slot, item, &by, &mut costs.probed)),
+            None => Ok(self.overwrite_one(slot, item, &found, &mut costs.probed)),
         }
     }
 
     /// Puts an item with which nothing conflicts into the slot of another, and returns the latter. If both have the same
     /// hash at a rank, the pair in its table stays, and no cell of it is probed. Otherwise the new pair goes to the place that
     /// was found for it, and the call walks through the table once, or twice if no further pair fits into it.
-    fn exchange_at(
+    fn rekey_into(
         &mut self,
         slot: ItemIndex,
         item: T,
@@ -100,66 +100,66 @@ impl<T: BiHashItem, S: BuildHasher> BiHashMap<T, S> {
     ) -> T
         requires live { IsLive self.old.slots slot }
         requires free { clash ⟦<T as Ranked>⟧.ranks (contents (slice_set self.old.slots slot None)) item ≡ [] }
-        requires places { ArePlacesOf
+        requires spots { ArePlacesOf
             (⟦<T as Hashed<S>>⟧.hashes self.old.builder) (bag self.old) item (at.0 ∷ at.1 ∷ []) }
         ensures value { get self.old.slots slot ≡ Some result }
         ensures puts_at { PutsAt ⟦<T as Ranked>⟧.ranks self.old slot item
             (item ∷ contents (slice_set self.old.slots slot None)) self.new }
         ensures costs { meter.new ≤ meter.old + walks_within (length (bag self.old))
-            (walks_one (⟦<T as Hashed<S>>⟧.hash1 self.old.builder) (record { slot = None; hash = at.0.hash }) result
-            ∷ walks_one (⟦<T as Hashed<S>>⟧.hash2 self.old.builder) (record { slot = None; hash = at.1.hash }) result ∷ []) }
+            (rehash_walks (⟦<T as Hashed<S>>⟧.hash1 self.old.builder) (record { slot = None; hash = at.0.hash }) result
+            ∷ rehash_walks (⟦<T as Hashed<S>>⟧.hash2 self.old.builder) (record { slot = None; hash = at.1.hash }) result ∷ []) }
     {
         self.note_that_items_fit();
         let (at1, at2) = at;
         let gone = self.items.replace(slot, item);
         self.first
-            .rehash_at::<T, First, S>(&self.hash_builder, (slot, &gone), at1, meter);
+            .rehash_into::<T, First, S>(&self.hash_builder, (slot, &gone), at1, meter);
         self.second
-            .rehash_at::<T, Second, S>(&self.hash_builder, (slot, &gone), at2, meter);
+            .rehash_into::<T, Second, S>(&self.hash_builder, (slot, &gone), at2, meter);
         gone
     }
 
     /// Puts an item into the slot of another, and returns the latter. If both have the same hash at a rank, the pair in its
     /// table stays, and no cell of it is probed. Otherwise the call walks through the table twice.
-    fn exchange(
+    fn overwrite_one(
         &mut self,
         slot: ItemIndex,
         item: T,
-        by: &(SlotUnder, SlotUnder),
+        found: &(FoundByHash, FoundByHash),
         meter: &mut Meter,
     ) -> T
         requires live { IsLive self.old.slots slot }
         requires free { clash ⟦<T as Ranked>⟧.ranks (contents (slice_set self.old.slots slot None)) item ≡ [] }
         requires hashes { HaveHashes
-            (hashes_of (⟦<T as Hashed<S>>⟧.hashes self.old.builder) item) (by.now.0 ∷ by.now.1 ∷ []) }
-        requires under { AreUnder
-            (⟦<T as Hashed<S>>⟧.hashes self.old.builder) self.old.slots (by.now.0 ∷ by.now.1 ∷ []) }
+            (hashes_of (⟦<T as Hashed<S>>⟧.hashes self.old.builder) item) (found.now.0 ∷ found.now.1 ∷ []) }
+        requires hashed { AreHashed
+            (⟦<T as Hashed<S>>⟧.hashes self.old.builder) self.old.slots (found.now.0 ∷ found.now.1 ∷ []) }
         ensures value { get self.old.slots slot ≡ Some result }
         ensures puts_at { PutsAt ⟦<T as Ranked>⟧.ranks self.old slot item
             (item ∷ contents (slice_set self.old.slots slot None)) self.new }
         ensures costs { meter.new ≤ meter.old + walks_within (length (bag self.old))
-            (walks_one (⟦<T as Hashed<S>>⟧.hash1 self.old.builder) by.now.0 result
-            ∷ walks_one (⟦<T as Hashed<S>>⟧.hash2 self.old.builder) by.now.1 result ∷ []) }
+            (rehash_walks (⟦<T as Hashed<S>>⟧.hash1 self.old.builder) found.now.0 result
+            ∷ rehash_walks (⟦<T as Hashed<S>>⟧.hash2 self.old.builder) found.now.1 result ∷ []) }
     {
         self.note_that_items_fit();
         let gone = self.items.replace(slot, item);
         self.first
-            .rehash::<T, First, S>(&self.hash_builder, (slot, &gone), &by.0, meter);
+            .rehash::<T, First, S>(&self.hash_builder, (slot, &gone), &found.0, meter);
         self.second
-            .rehash::<T, Second, S>(&self.hash_builder, (slot, &gone), &by.1, meter);
+            .rehash::<T, Second, S>(&self.hash_builder, (slot, &gone), &found.1, meter);
         gone
     }
 
     /// Puts an item into the slot `slot` of one that conflicts with it, and returns that one and another, which leaves
     /// the slot `other_slot`. At a rank at which the search found the other item, its pair gets the number `slot`.
-    /// `walks_two` says how often the call walks through each table.
+    /// `merge_two_walks` says how often the call walks through each table.
     #[inline(never)]
-    fn exchange_two(
+    fn overwrite_two(
         &mut self,
         slot: ItemIndex,
         other_slot: ItemIndex,
         item: T,
-        by: &(SlotUnder, SlotUnder),
+        found: &(FoundByHash, FoundByHash),
         meter: &mut Meter,
     ) -> (T, T)
         requires live { IsLive self.old.slots slot × IsLive self.old.slots other_slot }
@@ -167,33 +167,33 @@ impl<T: BiHashItem, S: BuildHasher> BiHashMap<T, S> {
         requires free { clash ⟦<T as Ranked>⟧.ranks
             (contents (slice_set (slice_set self.old.slots other_slot None) slot None)) item ≡ [] }
         requires hashes { HaveHashes
-            (hashes_of (⟦<T as Hashed<S>>⟧.hashes self.old.builder) item) (by.now.0 ∷ by.now.1 ∷ []) }
-        requires under { AreUnder
-            (⟦<T as Hashed<S>>⟧.hashes self.old.builder) self.old.slots (by.now.0 ∷ by.now.1 ∷ []) }
+            (hashes_of (⟦<T as Hashed<S>>⟧.hashes self.old.builder) item) (found.now.0 ∷ found.now.1 ∷ []) }
+        requires hashed { AreHashed
+            (⟦<T as Hashed<S>>⟧.hashes self.old.builder) self.old.slots (found.now.0 ∷ found.now.1 ∷ []) }
         ensures values { (get self.old.slots slot ≡ Some result.0) × (get self.old.slots other_slot ≡ Some result.1) }
         ensures puts_at { PutsAt ⟦<T as Ranked>⟧.ranks self.old slot item
             (item ∷ contents (slice_set (slice_set self.old.slots other_slot None) slot None)) self.new }
         ensures costs { meter.new ≤ meter.old + walks_within (length (bag self.old))
-            (walks_two (⟦<T as Hashed<S>>⟧.hash1 self.old.builder) by.now.0 other_slot result.0
-            ∷ walks_two (⟦<T as Hashed<S>>⟧.hash2 self.old.builder) by.now.1 other_slot result.0 ∷ []) }
+            (merge_two_walks (⟦<T as Hashed<S>>⟧.hash1 self.old.builder) found.now.0 other_slot result.0
+            ∷ merge_two_walks (⟦<T as Hashed<S>>⟧.hash2 self.old.builder) found.now.1 other_slot result.0 ∷ []) }
     {
         self.note_that_items_fit();
         let Some(other) = self.items.remove(other_slot) else {
             unreachable!()
         };
         let gone = self.items.replace(slot, item);
-        self.first.replace_two::<T, First, S>(
+        self.first.merge_two::<T, First, S>(
             &self.hash_builder,
             (slot, &gone),
             (other_slot, &other),
-            &by.0,
+            &found.0,
             meter,
         );
-        self.second.replace_two::<T, Second, S>(
+        self.second.merge_two::<T, Second, S>(
             &self.hash_builder,
             (slot, &gone),
             (other_slot, &other),
-            &by.1,
+            &found.1,
             meter,
         );
         (gone, other)

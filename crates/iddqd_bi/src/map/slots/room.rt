@@ -10,7 +10,7 @@ use std::hash::{BuildHasher, Hash};
 
 impl<T: BiHashItem, S: BuildHasher> BiHashMap<T, S> {
     /// Returns how many items fit: the least of what the slots and each table hold.
-    pub(crate) fn room(&self) -> usize
+    pub(crate) fn least_capacity(&self) -> usize
         ensures value { result ≡ self.now.capacity }
         ensures fits { length (bag self.now) ≤ result }
         ensures most { result ≤ most_room }
@@ -27,7 +27,7 @@ impl<T: BiHashItem, S: BuildHasher> BiHashMap<T, S> {
         ensures fits { length (bag self.now) ≤ self.now.capacity }
         ensures most { self.now.capacity ≤ most_room }
     {
-        let _ = self.room();
+        let _ = self.least_capacity();
     }
 
     /// Returns whether no further item fits.
@@ -36,7 +36,7 @@ impl<T: BiHashItem, S: BuildHasher> BiHashMap<T, S> {
         ensures value { result ≡ (length (bag self.now) == self.now.capacity) }
         ensures fits { length (bag self.now) ≤ self.now.capacity }
     {
-        self.items.len() == self.room()
+        self.items.len() == self.least_capacity()
     }
 
     /// Reserves capacity for this many more items if the map is full, and for one if there is no memory for so many. If
@@ -78,7 +78,7 @@ impl<T: BiHashItem, S: BuildHasher> BiHashMap<T, S> {
         };
         let mut meter = Meter::new();
         // First the parts that have more room than the map. In the second turn these have nothing to do.
-        let room = self.room();
+        let room = self.least_capacity();
         let slots = wanted_above(room, self.items.capacity(), more);
         self.items.try_reserve(slots)?;
         let pairs2 = wanted_above(room, self.second.capacity(), wanted);

@@ -17,10 +17,10 @@ impl<T: BiHashItem, S: BuildHasher> BiHashMap<T, S> {
             → ComesNext self.now.slots from slot x) }
         ensures next { IfSome result (λ slot. (x : T) × (get self.now.slots slot ≡ Some x)
             × Passes self.now from x (map_with self.now slot) (slot + 1)) }
-        ensures step { IfSome result (λ slot. first_from self.now.slots from ≡ Some slot) }
+        ensures first_from { IfSome result (λ slot. first_from self.now.slots from ≡ Some slot) }
         ensures live { IfSome result (IsLive self.now.slots) }
         ensures countable { IfSome result (λ slot. slot + 1 < 2 ^ 64) }
-        ensures none { IfNone result (to_come self.now from ≡ []) }
+        ensures end { IfNone result (to_come self.now from ≡ []) }
     {
         // The match lets the proof treat each outcome by itself.
         match self.items.next_live(from) {
@@ -42,7 +42,7 @@ impl<T: BiHashItem, S: BuildHasher> BiHashMap<T, S> {
         ensures here { IfSome result (λ slot. slot ≡ number) }
         ensures live { IfSome result (IsLive self.now.slots) }
         ensures comes { (x : T) → get self.now.slots number ≡ Some x → ComesNext self.now.slots number number x }
-        ensures none { IfNone result (to_come self.now number ≡ to_come self.now (number + 1)) }
+        ensures skips { IfNone result (to_come self.now number ≡ to_come self.now (number + 1)) }
         ensures passed { IfNone result (passed self.now (number + 1) ≡ passed self.now number) }
     {
         let slot = ItemIndex::new(number);
@@ -56,7 +56,7 @@ impl<T: BiHashItem, S: BuildHasher> BiHashMap<T, S> {
     /// Returns the first slot with an item. The slots before it are not visited again, unless an insert uses one of them.
     pub(crate) fn first_slot(&mut self) -> Option<ItemIndex>
         ensures live { IfSome result (IsLive self.old.slots) }
-        ensures none { IfNone result (to_come self.old 0 ≡ []) }
+        ensures end { IfNone result (to_come self.old 0 ≡ []) }
         ensures unchanged { self.new ≡ self.old }
     {
         // The `?` lets the proof treat each outcome by itself.

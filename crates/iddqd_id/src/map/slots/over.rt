@@ -4,39 +4,44 @@
 ghost use Rattle.std.specs.Prelude.{◌≡◌, ◌≢◌, ◌+◌, ◌≤◌, [], ◌∷◌, length, map, None, Some, IfOk, IfErr, OnOk, OnErr, slice_set};
 ghost use Rattle.iddqd_store.specs.Bag.{clash, order, over};
 ghost use Rattle.iddqd_store.specs.Map.{bag, ListsConflicts, PutsAt};
-ghost use Rattle.iddqd_store.specs.Rank.All.{ArePlacesOf, AreUnder, HaveHashes, PlacingCosts, hashes_of};
-ghost use Rattle.iddqd_store.specs.Rank.{walks_one, walks_within};
+ghost use Rattle.iddqd_store.specs.Rank.All.{ArePlacesOf, AreHashed, HaveHashes, PlacingCosts, hashes_of};
+ghost use Rattle.iddqd_store.specs.Rank.{rehash_walks, walks_within};
 ghost use Rattle.iddqd_store.specs.Slots.{get, contents, IsLive};
 ghost use Rattle.iddqd_store.specs.Slots.Found.{each_once};
 
 use super::super::IdHashMap;
 use crate::item::{Hashed, IdHashItem, Ranked};
 use crate::ranks::First;
-use iddqd_store::{Costs, ItemIndex, Meter, Searched, SlotUnder, Vacancy};
+use iddqd_store::{Costs, FoundByHash, ItemIndex, Meter, Searched, Vacancy};
 use std::hash::{BuildHasher, Hash};
 
 impl<T: IdHashItem, S: BuildHasher> IdHashMap<T, S> {
     /// Inserts an item in place of the one that conflicts with it, whose slot the search by its key found, and returns that
     /// one, with its slot, which the new item takes. The call hashes no key.
     #[inline(always)]
-    pub(crate) fn put_over(&mut self, item: T, by: &SlotUnder, meter: &mut Meter) -> (T, ItemIndex)
+    pub(crate) fn overwrite(
+        &mut self,
+        item: T,
+        found: &FoundByHash,
+        meter: &mut Meter,
+    ) -> (T, ItemIndex)
         requires conflicts { ListsConflicts ⟦<T as Ranked>⟧.ranks self.old item
-            (each_once (by.now.slot ∷ [])) }
-        requires some { length (each_once (by.now.slot ∷ [])) ≢ 0 }
+            (each_once (found.now.slot ∷ [])) }
+        requires some { length (each_once (found.now.slot ∷ [])) ≢ 0 }
         requires hashes { HaveHashes
-            (hashes_of (⟦<T as Hashed<S>>⟧.hashes self.old.builder) item) (by.now ∷ []) }
-        requires under { AreUnder
-            (⟦<T as Hashed<S>>⟧.hashes self.old.builder) self.old.slots (by.now ∷ []) }
+            (hashes_of (⟦<T as Hashed<S>>⟧.hashes self.old.builder) item) (found.now ∷ []) }
+        requires hashed { AreHashed
+            (⟦<T as Hashed<S>>⟧.hashes self.old.builder) self.old.slots (found.now ∷ []) }
         ensures displaced { result.0 ∷ [] ≡ order ⟦<T as Ranked>⟧.ranks (bag self.old) item }
         ensures puts_at { PutsAt ⟦<T as Ranked>⟧.ranks self.old result.1 item
             (over ⟦<T as Ranked>⟧.ranks (bag self.old) item) self.new }
         ensures costs { meter.new ≤ meter.old + walks_within (length (bag self.old))
             (map (λ _. 2) ⟦<T as Ranked>⟧.ranks) }
     {
-        let Some(slot) = by.slot() else {
+        let Some(slot) = found.slot() else {
             unreachable!()
         };
-        (self.exchange(slot, item, by, meter), slot)
+        (self.overwrite_one(slot, item, found, meter), slot)
     }
 
     /// Puts an item into the slot of another, whatever their keys are, and returns the latter. If an item in a third
@@ -55,61 +60,67 @@ impl<T: IdHashItem, S: BuildHasher> IdHashMap<T, S> {
             (hashes_of (⟦<T as Hashed<S>>⟧.hashes self.old.builder) item) (map (λ _. 2) ⟦<T as Ranked>⟧.ranks)
             costs.old costs.new }
     {
-        let by = match self.places(&item, costs) {
-            Searched::Vacant(at) => return Ok(self.exchange_at(slot, item, at, &mut costs.probed)),
-            Searched::Found(by) => by,
+        let found = match self.places(&item, costs) {
+            Searched::Vacant(at) => return Ok(self.rekey_into(slot, item, at, &mut costs.probed)),
+            Searched::Found(found) => found,
         };
-        let Some(other) = by.slot() else {
+        let Some(other) = found.slot() else {
             unreachable!()
         };
         if other != slot {
             return Err(item);
         }
-        Ok(self.exchange(slot, item, &by, &mut costs.probed))
+        Ok(self.overwrite_one(slot, item, &found, &mut costs.probed))
     }
 
     /// Puts an item with which nothing conflicts into the slot of another, and returns the latter. If both have the
     /// same hash at a rank, the pair in its table stays, and no cell of it is probed. Otherwise the new pair goes to
     /// the place that was found for it, and the call walks through the table once, or twice if no further pair fits
     /// into it.
-    fn exchange_at(&mut self, slot: ItemIndex, item: T, at: Vacancy, meter: &mut Meter) -> T
+    fn rekey_into(&mut self, slot: ItemIndex, item: T, at: Vacancy, meter: &mut Meter) -> T
         requires live { IsLive self.old.slots slot }
         requires free { clash ⟦<T as Ranked>⟧.ranks (contents (slice_set self.old.slots slot None)) item ≡ [] }
-        requires places { ArePlacesOf
+        requires spots { ArePlacesOf
             (⟦<T as Hashed<S>>⟧.hashes self.old.builder) (bag self.old) item (at ∷ []) }
         ensures value { get self.old.slots slot ≡ Some result }
         ensures puts_at { PutsAt ⟦<T as Ranked>⟧.ranks self.old slot item
             (item ∷ contents (slice_set self.old.slots slot None)) self.new }
         ensures costs { meter.new ≤ meter.old + walks_within (length (bag self.old))
-            (walks_one (⟦<T as Hashed<S>>⟧.hash self.old.builder) (record { slot = None; hash = at.hash }) result
+            (rehash_walks (⟦<T as Hashed<S>>⟧.hash self.old.builder) (record { slot = None; hash = at.hash }) result
             ∷ []) }
     {
         self.note_that_items_fit();
         let gone = self.items.replace(slot, item);
         self.first
-            .rehash_at::<T, First, S>(&self.hash_builder, (slot, &gone), at, meter);
+            .rehash_into::<T, First, S>(&self.hash_builder, (slot, &gone), at, meter);
         gone
     }
 
     /// Puts an item into the slot of another, and returns the latter. If both have the same hash at a rank, the pair in
     /// its table stays, and no cell of it is probed. Otherwise the call walks through the table twice.
-    fn exchange(&mut self, slot: ItemIndex, item: T, by: &SlotUnder, meter: &mut Meter) -> T
+    fn overwrite_one(
+        &mut self,
+        slot: ItemIndex,
+        item: T,
+        found: &FoundByHash,
+        meter: &mut Meter,
+    ) -> T
         requires live { IsLive self.old.slots slot }
         requires free { clash ⟦<T as Ranked>⟧.ranks (contents (slice_set self.old.slots slot None)) item ≡ [] }
         requires hashes { HaveHashes
-            (hashes_of (⟦<T as Hashed<S>>⟧.hashes self.old.builder) item) (by.now ∷ []) }
-        requires under { AreUnder
-            (⟦<T as Hashed<S>>⟧.hashes self.old.builder) self.old.slots (by.now ∷ []) }
+            (hashes_of (⟦<T as Hashed<S>>⟧.hashes self.old.builder) item) (found.now ∷ []) }
+        requires hashed { AreHashed
+            (⟦<T as Hashed<S>>⟧.hashes self.old.builder) self.old.slots (found.now ∷ []) }
         ensures value { get self.old.slots slot ≡ Some result }
         ensures puts_at { PutsAt ⟦<T as Ranked>⟧.ranks self.old slot item
             (item ∷ contents (slice_set self.old.slots slot None)) self.new }
         ensures costs { meter.new ≤ meter.old + walks_within (length (bag self.old))
-            (walks_one (⟦<T as Hashed<S>>⟧.hash self.old.builder) by.now result ∷ []) }
+            (rehash_walks (⟦<T as Hashed<S>>⟧.hash self.old.builder) found.now result ∷ []) }
     {
         self.note_that_items_fit();
         let gone = self.items.replace(slot, item);
         self.first
-            .rehash::<T, First, S>(&self.hash_builder, (slot, &gone), by, meter);
+            .rehash::<T, First, S>(&self.hash_builder, (slot, &gone), found, meter);
         gone
     }
 }

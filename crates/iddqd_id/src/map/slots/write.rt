@@ -26,7 +26,7 @@ impl<T: IdHashItem, S: BuildHasher> IdHashMap<T, S> {
     /// Replaces the item of a live slot by one with equal keys, and returns it.
     pub(crate) fn replace_at(&mut self, slot: ItemIndex, item: T) -> T
         requires live { IsLive self.old.slots slot }
-        requires keys { (x : T) → get self.old.slots slot ≡ Some x
+        requires same_keys { (x : T) → get self.old.slots slot ≡ Some x
             → (T.Key.eq (T.key x) (T.key item) ≡ true) }
         ensures old { get self.old.slots slot ≡ Some result }
         ensures new { self.new ≡ map_with self.old slot (λ x. item) }

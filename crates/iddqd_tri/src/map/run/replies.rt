@@ -8,7 +8,7 @@ ghost use Rattle.iddqd_store.specs.Runs.Step.{state_of, EntryInserts, EntryRemov
 ghost use Rattle.iddqd_store.specs.Runs.Values.{value_of};
 ghost use Rattle.iddqd_store.specs.Slots.Found.{FoundAt};
 ghost use Rattle.iddqd_tri.specs.Mismatch.{mismatch_item, mismatch_rank};
-ghost use Rattle.iddqd_tri.specs.Refusals.{refusal_value};
+ghost use Rattle.iddqd_tri.specs.EntryReplies.{refusal_value};
 
 use crate::command::TriReply;
 use crate::entry::Entry;

@@ -33,7 +33,7 @@ impl<T: TriHashItem, S: BuildHasher> TriHashMap<T, S> {
     /// Replaces the item of a live slot by one with equal keys, and returns it.
     pub(crate) fn replace_at(&mut self, slot: ItemIndex, item: T) -> T
         requires live { IsLive self.old.slots slot }
-        requires keys { (x : T) → get self.old.slots slot ≡ Some x
+        requires same_keys { (x : T) → get self.old.slots slot ≡ Some x
             → (T.K1.eq (T.key1 x) (T.key1 item) ≡ true) × (T.K2.eq (T.key2 x) (T.key2 item) ≡ true) × (T.K3.eq
             (T.key3 x) (T.key3 item) ≡ true) }
         ensures old { get self.old.slots slot ≡ Some result }

@@ -9,23 +9,23 @@ use Rattle.example_journal.specs.declared.changes.Device.{Device}
 use Rattle.example_journal.proofs.Replay.{tells-log}
 use Rattle.example_journal.proofs.registry.Registry.plug_in.Goals as goal
 
-abbrev by : Ranks Device
-by = ranks item.ghosts nat_eq nat_eq
+abbrev item_ranks : Ranks Device
+item_ranks = ranks item.ghosts nat_eq nat_eq
 
 pub returns-then-not-is_empty-clause-taken : goal.returns-then-not-is_empty-clause-taken
 returns-then-not-is_empty-clause-taken g c = λ _.
-    clash-listed (λ (r : Bor Device). r.now) c.conflicts_with.result by (bag c.args.self.now.devices) c.args.device c.conflicts_with.ensures
+    clash-listed (λ (r : Bor Device). r.now) c.conflicts_with.result item_ranks (bag c.args.self.now.devices) c.args.device c.conflicts_with.ensures
     (sym c.is_empty.ensures ∙ c.if-not-is_empty.true)
 
 -- nothing conflicts, and there is room
-fits : {S : Type 0} (there : List Device) (grown held : Map Device S) (x : Device) → clash by there x ≡ [] → bag grown ≡ there → held ≡ grown →
-    length there + 1 ≤ grown.capacity → (clash by (bag held) x ≡ []) × (length (bag held) < held.capacity)
+fits : {S : Type 0} (there : List Device) (grown held : Map Device S) (x : Device) → clash item_ranks there x ≡ [] → bag grown ≡ there → held ≡ grown →
+    length there + 1 ≤ grown.capacity → (clash item_ranks (bag held) x ≡ []) × (length (bag held) < held.capacity)
 fits there grown held x free items same room = rw same (rw items free, omega (arith, room, ap length items))
 
 pub unreachable-requires : goal.unreachable-requires
 unreachable-requires g c =
     let there = bag c.args.self.now.devices in
-    let free = clash-unlisted (λ (r : Bor Device). r.now) c.conflicts_with.result by there c.args.device c.conflicts_with.ensures
+    let free = clash-unlisted (λ (r : Bor Device). r.now) c.conflicts_with.result item_ranks there c.args.device c.conflicts_with.ensures
     (sym c.is_empty.ensures ∙ c.if-not-is_empty.false) in
     let room : length there + 1 ≤ c.reserve.new.self.capacity = search rules in
     let both = fits there c.reserve.new.self c.write.new.self.devices c.args.device free c.reserve.ensures.items c.in_ok-write.ensures.devices room in

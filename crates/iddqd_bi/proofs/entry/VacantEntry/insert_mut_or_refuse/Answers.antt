@@ -1,4 +1,4 @@
 use Rattle.iddqd_bi.proofs.entry.VacantEntry.insert_mut_or_refuse.Goals as goal
 
-pub insert_free-requires-clause-absent : goal.insert_free-requires-clause-absent
-insert_free-requires-clause-absent g c = c.args.self.absent
+pub insert_free-requires-clause-none_found : goal.insert_free-requires-clause-none_found
+insert_free-requires-clause-none_found g c = c.args.self.absent

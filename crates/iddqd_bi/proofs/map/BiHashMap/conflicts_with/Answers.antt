@@ -9,15 +9,15 @@ use Rattle.iddqd_bi.proofs.map.BiHashMap.conflicts_with.Goals.{in-Vacant, in-Fou
 
 pub returns : goal.returns
 returns g c =
-    let by = ranks g.T.BiHashItem g.T.K1.PartialEq.eq g.T.K2.PartialEq.eq in
+    let ranks = ranks g.T.BiHashItem g.T.K1.PartialEq.eq g.T.K2.PartialEq.eq in
     let slots = c.args.self.now.slots in
-    let listed : items_at slots c.match-places.found ≡ order by (bag c.args.self.now) c.args.item.now = elim c.match-places.branch [
+    let listed : items_at slots c.match-places.found ≡ order ranks (bag c.args.self.now) c.args.item.now = elim c.match-places.branch [
       | in-Vacant w ↦
-          let free : clash by (bag c.args.self.now) c.args.item.now ≡ [] = w.in-Vacant.ensures.free in
+          let free : clash ranks (bag c.args.self.now) c.args.item.now ≡ [] = w.in-Vacant.ensures.free in
           let empty : c.match-places.found ≡ [] = search rules in
-          ap (items_at slots) empty ∙ sym (order-empty by (bag c.args.self.now) c.args.item.now free)
+          ap (items_at slots) empty ∙ sym (order-empty ranks (bag c.args.self.now) c.args.item.now free)
       | in-Found w ↦
-          let found : c.match-places.found ≡ each_once (w.in-Found.by.0.slot ∷ w.in-Found.by.1.slot ∷ []) = search rules in
+          let found : c.match-places.found ≡ each_once (w.in-Found.found.0.slot ∷ w.in-Found.found.1.slot ∷ []) = search rules in
           ap (items_at slots) found ∙ w.in-Found.ensures.blocked.found.items
     ] in
     rw g.met.T.Ranked.ranks_are (c.items_of.ensures ∙ listed)

@@ -1,6 +1,6 @@
 use Rattle.std.proofs.Common.{refl}
 use Rattle.iddqd_bi.specs.Keys.{has2}
-use Rattle.iddqd_bi.proofs.Lending.{data_found, writes_found}
+use Rattle.iddqd_bi.proofs.LentLemmas.{data_found, writes_found}
 use Rattle.iddqd_bi.proofs.map.BiHashMap.data2_mut.Goals as goal
 
 pub returns-in-Some : goal.returns-in-Some
@@ -10,7 +10,7 @@ returns-in-Some g c =
       (refl, (λ w. writes_found test c.args.self.now c.in-Some.slot found g.T.BiHashItemMut.put _ w (λ x is. c.data_mut_at.ensures.swaps x w is)), refl),
       record {
         writes_back = tt;
-        absent = tt;
+        none_found = tt;
         value = data_found test c.args.self.now c.in-Some.slot found g.T.BiHashItemMut.data_of _ c.data_mut_at.ensures.value;
       },
     )

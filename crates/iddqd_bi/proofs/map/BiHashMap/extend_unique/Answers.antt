@@ -9,7 +9,7 @@ pub loop-item-init : goal.loop-item-init
 loop-item-init g c = record {
   callable = search rules;
   ending = search rules;
-  batch = rw c.entered-entered.ensures (no_batch g.T.Ranked.ranks c.args.self.now record { no_less_room = search rules; fits = search rules; same_builder = search rules });
+  batch = rw c.empty_batch-batch.ensures (no_batch g.T.Ranked.ranks c.args.self.now record { no_less_room = search rules; fits = search rules; same_builder = search rules });
 }
 
 pub loop-item-preserved : goal.loop-item-preserved
@@ -19,8 +19,8 @@ loop-item-preserved g c =
     record { callable = next.0; ending = next.1; batch = one_more c.loop-item.invariant.batch _ next.2 (rw g.met.T.Ranked.ranks_are put.free) put.gains put.noted }
 
 -- the slots that were noted are those of the items that came
-pub take_entered-before-requires : goal.take_entered-before-requires
-take_entered-before-requires g c =
+pub remove_batch-before-requires : goal.remove_batch-before-requires
+remove_batch-before-requires g c =
     let noted = c.loop-item.invariant.batch.noted in
     record { live = rw (c.in-Err.ensures.slots, c.in-Err.ensures.same_notes) noted.live; apart = rw c.in-Err.ensures.same_notes noted.apart }
 
@@ -29,7 +29,7 @@ returns-in-Err g c =
     let batch = c.loop-item.invariant.batch in
     let failed = c.in-Err.ensures in
     let why = failed.reason in
-    let left = c.take_entered-before.ensures in
+    let left = c.remove_batch-before.ensures in
     let laws = AreLawful-are g.T.BiHashItem g.met.T.Ranked.ranks_are g.met.T.K1.Eq.laws g.met.T.K2.Eq.laws in
     let back = undone batch laws (rw (g.met.T.Ranked.ranks_are, ← c.self.view_is) c.self.invariant.sound) (some_are g.met.T.Ranked.ranks_are) failed.slots failed.same_notes left.values left.loses in
     let nearer = (on c.in-Some.item c.in-Some.is c.next.ensures.goes c.loop-item.invariant.ending).2 in
@@ -43,7 +43,7 @@ returns-in-Err g c =
         taken2 = why.taken2 ∙ back.key (has2 g.T.BiHashItem g.T.K2.PartialEq.eq (g.T.BiHashItem.key2 c.in-Some.item));
       };
       sound = back.sound;
-      room = GrowsUnless-left batch.room _ nearer failed.grows left.loses.same_room left.loses.same_builder;
+      grows_unless = GrowsUnless-left batch.room _ nearer failed.grows_unless left.loses.same_room left.loses.same_builder;
     }
 
 pub returns-clause-sound : goal.returns-clause-sound
@@ -51,5 +51,5 @@ returns-clause-sound g c =
     let laws = AreLawful-are g.T.BiHashItem g.met.T.Ranked.ranks_are g.met.T.K1.Eq.laws g.met.T.K2.Eq.laws in
     sound_then c.loop-item.invariant.batch laws (rw (g.met.T.Ranked.ranks_are, ← c.self.view_is) c.self.invariant.sound)
 
-pub returns-clause-room : goal.returns-clause-room
-returns-clause-room g c = GrowsUnless-so_far c.loop-item.invariant.batch.room
+pub returns-clause-grows_unless : goal.returns-clause-grows_unless
+returns-clause-grows_unless g c = GrowsUnless-so_far c.loop-item.invariant.batch.room

@@ -2,7 +2,7 @@ use Rattle.std.proofs.Common.{length}
 use Rattle.std.specs.Iterator.{size}
 use Rattle.iddqd_store.specs.Bag.Building.{FitsOn}
 use Rattle.iddqd_store.specs.Map.{bag}
-use Rattle.iddqd_store.proofs.MapLemmas.Fitting.{Batch}
+use Rattle.iddqd_store.proofs.MapLemmas.Fitting.{InsertsBatch}
 use Rattle.iddqd_bi.proofs.map.BiHashMap.extend_unique.Given as goal
 
 -- the items that came so far were added, and their slots are noted
@@ -10,5 +10,5 @@ abbrev pub invariant-loop-item : goal.invariant-loop-item
 invariant-loop-item g l = record {
   callable : (goal.iterator-loop-item g).can_next l.item-iterator;
   ending : (goal.iterator-loop-item g).is_finite l.item-iterator;
-  batch : Batch g.T.Ranked.ranks (FitsOn g.I.IntoIterator.into_iter_gives g.I.IntoIter.Iterator.remaining l.fn.iter (length (bag l.fn.self)) l.fn.self.capacity) (size (g.I.IntoIter.Iterator.remaining l.item-iterator)) l.fn.self l.self l.entered.slots l.yielded;
+  batch : InsertsBatch g.T.Ranked.ranks (FitsOn g.I.IntoIterator.into_iter_gives g.I.IntoIter.Iterator.remaining l.fn.iter (length (bag l.fn.self)) l.fn.self.capacity) (size (g.I.IntoIter.Iterator.remaining l.item-iterator)) l.fn.self l.self l.batch.slots l.yielded;
 }

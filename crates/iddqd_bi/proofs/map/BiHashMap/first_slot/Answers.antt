@@ -3,7 +3,7 @@ use Rattle.iddqd_store.specs.Map.Walk.{to_come}
 use Rattle.iddqd_store.proofs.SlotLemmas.Next.{nothing_left}
 use Rattle.iddqd_bi.proofs.map.BiHashMap.first_slot.Goals as goal
 
-pub returns-in_err-slot-clause-none : goal.returns-in_err-slot-clause-none
-returns-in_err-slot-clause-none g c =
+pub returns-in_err-slot-clause-end : goal.returns-in_err-slot-clause-end
+returns-in_err-slot-clause-end g c =
     let none : to_come c.args.self.now 0 ≡ [] = rw (← c.self.view_is) (nothing_left c.self.inside.items.slots 0 c.in_err-slot.ensures.next) in
     search rules

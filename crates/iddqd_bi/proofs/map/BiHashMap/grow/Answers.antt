@@ -30,10 +30,10 @@ invariant_of-self-in_err-try_reserve-5 g c = rw (c.try_reserve-5.ensures.slots, 
 
 pub returns-in_err-try_reserve-5 : goal.returns-in_err-try_reserve-5
 returns-in_err-try_reserve-5 g c =
-    let slots = slots_bound _ c.wanted_above-slots.ensures.all c.wanted_above-slots.ensures.none c.capacity-2.ensures.value c.capacity-2.ensures.fits c.in_ok-try_reserve.ensures.room
-    (rw (c.len-len.ensures.value, c.capacity-4.ensures.value) at c.slots_wanted.ensures.same) (rw c.try_reserve.ensures.slots at c.in_err-try_reserve-5.ensures.reason) in
+    let slots = slots_bound _ c.wanted_above-slots.ensures.in_full c.wanted_above-slots.ensures.above c.capacity-2.ensures.value c.capacity-2.ensures.fits c.in_ok-try_reserve.ensures.room
+    (rw (c.len-len.ensures.value, c.capacity-4.ensures.value) at c.slots_wanted.ensures.as_asked) (rw c.try_reserve.ensures.slots at c.in_err-try_reserve-5.ensures.reason) in
     refuses _ c.from_residual-in_err-try_reserve-5.ensures.0 c.self.view_is (c.try_reserve-5.ensures.slots ∙ c.try_reserve.ensures.slots) c.self.invariant
-    (λ all. rw c.in_err-try_reserve-5.ensures.unchanged (omega (arith, slots, rw (← c.self.view_is) at c.room-room.ensures.value), grind arith))
+    (λ all. rw c.in_err-try_reserve-5.ensures.unchanged (omega (arith, slots, rw (← c.self.view_is) at c.least_capacity-room.ensures.value), grind arith))
 
 pub invariant_of-self-2 : goal.invariant_of-self-2
 invariant_of-self-2 g c = rw (c.try_reserve-5.ensures.slots, c.try_reserve.ensures.slots) (IsIndexed-reorder c.self.invariant (search (rules, IsPermutation-trans)))

@@ -31,6 +31,6 @@ pub returns-clause-capacity : goal.returns-clause-capacity
 returns-clause-capacity g c =
     let all : length (bag c.args.self.now) ≡ live_count c.self.inside.items.slots = rw (← c.self.view_is) (length-contents c.self.inside.items.slots) in
     let within : c.args.self.now.capacity ≤ c.self.inside.items.capacity = rw (← c.self.view_is) (omega arith) in
-    exact all c.requires.enough c.requires.within within c.in_ok-shrink_to.ensures.capacity
-    (rw c.fill.ensures.limit (omega (arith, c.table_room.ensures.enough, c.in_ok-first.ensures.limit.enough)))
-    (rw c.fill-2.ensures.limit (omega (arith, c.table_room-2.ensures.enough, c.in_ok-second.ensures.limit.enough)))
+    exact all c.requires.enough c.requires.shrinks within c.in_ok-shrink_to.ensures.capacity
+    (rw c.fill.ensures.limit (omega (arith, c.pairs_for.ensures.enough, c.in_ok-first.ensures.limit.enough)))
+    (rw c.fill-2.ensures.limit (omega (arith, c.pairs_for-2.ensures.enough, c.in_ok-second.ensures.limit.enough)))

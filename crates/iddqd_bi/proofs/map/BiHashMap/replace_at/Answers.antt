@@ -11,7 +11,7 @@ invariant_of-self g c =
     let laws2 = g.met.T.K2.Eq.laws in
     let hash = hash_of g.S.BuildHasher g.S.Hasher.Hasher c.self.inside.hash_builder in
     let at = ap (λ (m : Map g.row.T.Denot g.row.S.Denot). get m.slots c.args.slot) (sym c.self.view_is) ∙ c.replace.ensures.value in
-    let same = c.requires.keys c.replace.result at in
+    let same = c.requires.same_keys c.replace.result at in
     let same1 = same.0 in
     let same2 = same.1 in
     IsIndexed-exchange (AreLawful-ranks g.T.BiHashItem laws1 laws2) (omega arith) c.self.invariant c.args.slot c.replace.result c.args.item _ c.replace.ensures.members

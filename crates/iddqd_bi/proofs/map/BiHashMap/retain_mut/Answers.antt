@@ -32,11 +32,11 @@ loop-slot-preserved-then-not-store_some_at g c =
     let next = c.in-Some.ensures.comes none.0 none.1 in
     record {
       completes = rw c.number-from.ensures.value
-          (rewritten_taken (CalledAt g.F.FnMut) g.T.BiHashItemMut.put c.args.f at.f c.store_some_at.new.f (contents c.args.self.now.slots) at.self c.take_at.new.self at.from c.in-Some.slot
-          none.0 next (rw (← none.3) c.take_at.ensures.slots) none.2 at.invariant.completes);
-      callable = rw (c.number-from.ensures.value, c.take_at.ensures.slots, none.3) (takes_behind g.F.FnMut at.self.slots next none.2 at.invariant.callable);
-      capacity = c.take_at.ensures.loses.same_room ∙ ap (λ m. m.capacity) none.3 ∙ at.invariant.capacity;
-      builder = c.take_at.ensures.loses.same_builder ∙ ap (λ m. m.builder) none.3 ∙ at.invariant.builder;
+          (rewritten_taken (CalledAt g.F.FnMut) g.T.BiHashItemMut.put c.args.f at.f c.store_some_at.new.f (contents c.args.self.now.slots) at.self c.remove_at.new.self at.from c.in-Some.slot
+          none.0 next (rw (← none.3) c.remove_at.ensures.slots) none.2 at.invariant.completes);
+      callable = rw (c.number-from.ensures.value, c.remove_at.ensures.slots, none.3) (takes_behind g.F.FnMut at.self.slots next none.2 at.invariant.callable);
+      capacity = c.remove_at.ensures.loses.same_room ∙ ap (λ m. m.capacity) none.3 ∙ at.invariant.capacity;
+      builder = c.remove_at.ensures.loses.same_builder ∙ ap (λ m. m.builder) none.3 ∙ at.invariant.builder;
     }
 
 pub store_some_at-requires-clause-callable : goal.store_some_at-requires-clause-callable
@@ -50,7 +50,7 @@ loop-slot-init g c =
 pub returns : goal.returns
 returns g c =
     let at = c.loop-slot in
-    let all = all_rewritten (CalledAt g.F.FnMut) g.T.BiHashItemMut.put c.args.f at.f c.args.self.now at.self at.from c.in_default.ensures.none at.invariant.completes in
+    let all = all_rewritten (CalledAt g.F.FnMut) g.T.BiHashItemMut.put c.args.f at.f c.args.self.now at.self at.from c.in_default.ensures.end at.invariant.completes in
     record {
       rewrites = all;
       no_more = length-rewrites_all (CalledAt g.F.FnMut) g.T.BiHashItemMut.put c.args.f (bag c.args.self.now) (bag at.self) all;

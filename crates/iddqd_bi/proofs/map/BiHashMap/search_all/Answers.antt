@@ -11,18 +11,18 @@ returns-in-Vacant-Vacant g c =
     let hash1 = key_hash g.T.BiHashItem.key1 g.T.K1.Hash.hash_input g.S.BuildHasher g.S.Hasher.Hasher in
     let hash2 = key_hash g.T.BiHashItem.key2 g.T.K2.Hash.hash_input g.S.BuildHasher g.S.Hasher.Hasher in
     let first = rw c.in-Vacant-Vacant.is-0 at (search_in hash1 refl refl c.by_key1.ensures.slots c.by_key1.ensures.builder c.by_key1.ensures.room
-    (rw builder at c.hash_one-hash1.ensures) c.search-by1.ensures) in
+    (rw builder at c.hash_one-hash1.ensures) c.search-found1.ensures) in
     let second = rw c.in-Vacant-Vacant.is-1 at (search_in hash2 refl refl c.by_key2.ensures.slots c.by_key2.ensures.builder c.by_key2.ensures.room
-    (rw builder at c.hash_one-hash2.ensures) c.search-by2.ensures) in
+    (rw builder at c.hash_one-hash2.ensures) c.search-found2.ensures) in
     record {
       found = (first.found, (second.found, tt));
-      none = refl;
+      none_found = refl;
       some = tt;
       apart = c.by_key1.ensures.apart;
       vacant = (first.vacant, (second.vacant, tt));
       cells = (first.cells, (second.cells, tt));
       hashes = tt;
-      under = tt;
+      hashed = tt;
       costs = (_, first.costs, (_, second.costs, refl));
     }
 
@@ -32,17 +32,17 @@ returns-in_default g c =
     let hash1 = key_hash g.T.BiHashItem.key1 g.T.K1.Hash.hash_input g.S.BuildHasher g.S.Hasher.Hasher in
     let hash2 = key_hash g.T.BiHashItem.key2 g.T.K2.Hash.hash_input g.S.BuildHasher g.S.Hasher.Hasher in
     let first = search_in hash1 c.new.ensures (grind (arith, common_steps)) c.by_key1.ensures.slots c.by_key1.ensures.builder c.by_key1.ensures.room
-    (rw builder at c.hash_one-hash1.ensures) c.search-by1.ensures in
+    (rw builder at c.hash_one-hash1.ensures) c.search-found1.ensures in
     let second = search_in hash2 c.new-in_default.ensures c.found-in_default.ensures c.by_key2.ensures.slots c.by_key2.ensures.builder c.by_key2.ensures.room
-    (rw builder at c.hash_one-hash2.ensures) c.search-by2.ensures in
+    (rw builder at c.hash_one-hash2.ensures) c.search-found2.ensures in
     record {
       found = (first.found, (second.found, tt));
-      none = tt;
+      none_found = tt;
       some = grind (arith, common_steps);
       apart = c.by_key1.ensures.apart;
       vacant = tt;
       cells = tt;
       hashes = (first.same, (second.same, tt));
-      under = (first.under, (second.under, tt));
+      hashed = (first.under, (second.under, tt));
       costs = (_, first.costs, (_, second.costs, refl));
     }

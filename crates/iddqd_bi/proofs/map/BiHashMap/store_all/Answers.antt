@@ -15,7 +15,7 @@ use Rattle.iddqd_bi.proofs.map.BiHashMap.store_all.Goals as goal
 
 pub loop-slot-preserved : goal.loop-slot-preserved
 loop-slot-preserved g c =
-    let by = ranks g.T.BiHashItem g.T.K1.PartialEq.eq g.T.K2.PartialEq.eq in
+    let ranks = ranks g.T.BiHashItem g.T.K1.PartialEq.eq g.T.K2.PartialEq.eq in
     let slot = c.in-Some.slot.now in
     let rest = c.next.new.self in
     let held = c.loop-slot.self in
@@ -32,8 +32,8 @@ loop-slot-preserved g c =
       apart = IsDistinct-tail nat_eq slot rest apart;
       callable = takes_elsewhere g.F.FnMut c.loop-slot.f c.store_at.new.f held slot rest stored.0 stored.1 written apart stored.2 stored.3 callable;
       completes = λ new stores.
-          completes new (one_store (CalledAt g.F.FnMut) g.T.BiHashItemMut.put by c.loop-slot.f c.store_at.new.f held (map_with held slot written) new slot rest stored.0 stored.1 apart stored.2 stored.3 refl (rw stored.4 at stored.5) stores);
-      kept = rw stored.2 (kept-set by (AreLawful-ranks g.T.BiHashItem g.met.T.K1.Eq.laws g.met.T.K2.Eq.laws) c.args.self.now.slots held.slots slot stored.0 (written stored.0) so_far.kept stored.2
+          completes new (one_store (CalledAt g.F.FnMut) g.T.BiHashItemMut.put ranks c.loop-slot.f c.store_at.new.f held (map_with held slot written) new slot rest stored.0 stored.1 apart stored.2 stored.3 refl (rw stored.4 at stored.5) stores);
+      kept = rw stored.2 (kept-set ranks (AreLawful-ranks g.T.BiHashItem g.met.T.K1.Eq.laws g.met.T.K2.Eq.laws) c.args.self.now.slots held.slots slot stored.0 (written stored.0) so_far.kept stored.2
           (agrees-keys g.T.BiHashItem g.T.K1.PartialEq.eq g.T.K2.PartialEq.eq stored.0 (written stored.0) (g.met.T.K1.Eq.laws.symm _ _ ∙ g.met.T.BiHashItemMut.keeps_key1 stored.0 stored.1) (g.met.T.K2.Eq.laws.symm _ _ ∙ g.met.T.BiHashItemMut.keeps_key2 stored.0 stored.1)));
       live_still = λ k there. stays_live written held slot k (so_far.live_still k there);
       capacity = so_far.capacity;

@@ -1,7 +1,7 @@
 -- Written by hand; tests/one_key.patch says why.
 use Rattle.std.proofs.Common.{rules, ◌∙◌}
 use Rattle.iddqd_store.proofs.SlotLemmas.Entries.{found_only}
-use Rattle.iddqd_id.proofs.Finding.{finds_written}
+use Rattle.iddqd_id.proofs.FoundLemmas.{finds_written}
 use Rattle.iddqd_id.proofs.entry.OccupiedEntry.data_mut.Goals as goal
 
 pub returns : goal.returns

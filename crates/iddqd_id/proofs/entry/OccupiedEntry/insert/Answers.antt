@@ -6,12 +6,12 @@ use Rattle.iddqd_store.proofs.MapLemmas.Updating.{found_one}
 use Rattle.iddqd_store.proofs.MapLemmas.Written.{item_written}
 use Rattle.iddqd_store.proofs.SlotLemmas.Here.{finds_here}
 use Rattle.iddqd_id.specs.Keys.{has, key_tests, ranks}
-use Rattle.iddqd_id.proofs.Finding.{only_passes}
+use Rattle.iddqd_id.proofs.FoundLemmas.{only_passes}
 use Rattle.iddqd_id.proofs.MapLemmas.{AreKeyTests-queries}
 use Rattle.iddqd_id.proofs.entry.OccupiedEntry.insert.Goals as goal
 
-pub replace_at-gone-requires-clause-keys : goal.replace_at-gone-requires-clause-keys
-replace_at-gone-requires-clause-keys g c = λ x here.
+pub replace_at-gone-requires-clause-same_keys : goal.replace_at-gone-requires-clause-same_keys
+replace_at-gone-requires-clause-same_keys g c = λ x here.
     (let o = c.args.self.now in
     let test = has g.T.IdHashItem g.Q.Query.stands_for o.query in
     let same : test c.args.item ≡ true = search rules in

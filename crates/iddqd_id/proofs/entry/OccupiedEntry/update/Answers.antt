@@ -5,7 +5,7 @@ use Rattle.iddqd_store.specs.Bag.{swap}
 use Rattle.iddqd_store.specs.Map.{Map, bag}
 use Rattle.iddqd_store.proofs.MapLemmas.Updating.{found_one}
 use Rattle.iddqd_id.specs.Keys.{has, ranks}
-use Rattle.iddqd_id.proofs.Finding.{written_at}
+use Rattle.iddqd_id.proofs.FoundLemmas.{written_at}
 use Rattle.iddqd_id.proofs.entry.OccupiedEntry.update.Goals as goal
 
 pub store_once-requires-clause-callable : goal.store_once-requires-clause-callable
@@ -25,8 +25,8 @@ pub returns-clause-has_found : goal.returns-clause-has_found
 returns-clause-has_found g c =
     let o = c.args.self.now in
     let stored = c.store_once.ensures.stored in
-    let by = ranks g.T.IdHashItem g.T.Key.PartialEq.eq in
-    let swapped = subst (λ (m : Map g.row.T.Denot g.row.S.Denot). IsPermutation (bag m) (swap by (bag o.map.now) stored.0 (g.T.IdHashItemMut.put stored.0 stored.1))) stored.4 stored.5 in
+    let ranks = ranks g.T.IdHashItem g.T.Key.PartialEq.eq in
+    let swapped = subst (λ (m : Map g.row.T.Denot g.row.S.Denot). IsPermutation (bag m) (swap ranks (bag o.map.now) stored.0 (g.T.IdHashItemMut.put stored.0 stored.1))) stored.4 stored.5 in
     let still = written_at g.T.IdHashItem g.T.Key.PartialEq.eq g.met.T.Key.Eq.laws g.Q.Query.stands_for g.met.Q.Query.respects_eq o (λ (x : g.row.T.Denot). g.T.IdHashItemMut.put x stored.1) stored.0 stored.2
     (g.met.T.Key.Eq.laws.symm _ _ ∙ g.met.T.IdHashItemMut.keeps_key stored.0 stored.1) c.requires.has_found c.len.ensures.sound swapped in
     record { only = rw stored.4 still.only; live = rw stored.4 still.live }

@@ -42,8 +42,8 @@ returns-in_err-insert_overwrite g c =
           (rw failed.unchanged (c.into_iter-item-iterator.result, c.loop-item.yielded, c.next.new.self, search rules, rw failed.handed_back (search rules), so_far.extends));
       full = at_err c.from_residual.result error _ (search rules) (rw (failed.unchanged, failed.handed_back) failed.reason);
       granted = λ fit. absurd (full_not so_far.room _ nearer fit failed.reason.full);
-      room = rw failed.unchanged (GrowsUnless-so_far so_far.room);
+      grows_unless = rw failed.unchanged (GrowsUnless-so_far so_far.room);
     }
 
-pub returns-clause-room : goal.returns-clause-room
-returns-clause-room g c = GrowsUnless-so_far c.loop-item.invariant.room
+pub returns-clause-grows_unless : goal.returns-clause-grows_unless
+returns-clause-grows_unless g c = GrowsUnless-so_far c.loop-item.invariant.room

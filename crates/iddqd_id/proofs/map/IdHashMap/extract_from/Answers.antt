@@ -20,11 +20,11 @@ pub returns-then-f-clause-extracts : goal.returns-then-f-clause-extracts
 returns-then-f-clause-extracts g c =
     let at = c.loop-slot in
     let next = subst (λ k. ComesNext at.self.slots k c.in-Some.slot c.item_at.result.now) c.next.ensures (c.in-Some.ensures.comes _ c.item_at.ensures) in
-    let same : c.item_at.result.now ≡ c.take_at.result = cc (c.item_at.ensures, c.take_at.ensures.value) in
-    let here = extracts-some (CalledAt g.F.FnMut) c.args.f at.f c.f.new.self at.self c.take_at.new.self c.args.cursor.now at.cursor c.in-Some.slot c.item_at.result.now next c.take_at.ensures.slots (called_at g.F.FnMut c.f.ensures c.if-f.true) at.invariant.rejected in
+    let same : c.item_at.result.now ≡ c.remove_at.result = cc (c.item_at.ensures, c.remove_at.ensures.value) in
+    let here = extracts-some (CalledAt g.F.FnMut) c.args.f at.f c.f.new.self at.self c.remove_at.new.self c.args.cursor.now at.cursor c.in-Some.slot c.item_at.result.now next c.remove_at.ensures.slots (called_at g.F.FnMut c.f.ensures c.if-f.true) at.invariant.rejected in
     rw c.pass.ensures
-    (subst (λ m. Extracts (CalledAt g.F.FnMut) c.args.f m c.args.cursor.now (Some c.take_at.result) c.take_at.new.self (c.in-Some.slot + 1)) at.invariant.same
-    (subst (λ x. Extracts (CalledAt g.F.FnMut) c.args.f at.self c.args.cursor.now (Some x) c.take_at.new.self (c.in-Some.slot + 1)) same here))
+    (subst (λ m. Extracts (CalledAt g.F.FnMut) c.args.f m c.args.cursor.now (Some c.remove_at.result) c.remove_at.new.self (c.in-Some.slot + 1)) at.invariant.same
+    (subst (λ x. Extracts (CalledAt g.F.FnMut) c.args.f at.self c.args.cursor.now (Some x) c.remove_at.new.self (c.in-Some.slot + 1)) same here))
 
 pub loop-slot-preserved : goal.loop-slot-preserved
 loop-slot-preserved g c =

@@ -7,7 +7,7 @@ use Rattle.iddqd_store.specs.Slots.{IsLive}
 use Rattle.iddqd_store.proofs.BagLemmas.Building.{AddsTo-push, HasPlaceFor-free, RefusesFor-found}
 use Rattle.iddqd_store.proofs.MapLemmas.Blocking.{some_found}
 use Rattle.iddqd_store.proofs.MapLemmas.Places.{stand_in}
-use Rattle.iddqd_id.proofs.Finding.{no_slot, one_slot}
+use Rattle.iddqd_id.proofs.FoundLemmas.{no_slot, one_slot}
 use Rattle.iddqd_id.proofs.MapLemmas.{AreLawful-are}
 use Rattle.iddqd_id.proofs.map.IdHashMap.from_iter_unique.Goals as goal
 
@@ -43,8 +43,8 @@ unreachable-requires g c =
     let why = rw c.in-Err-Duplicate.field-0-is at c.in-Err-Duplicate.ensures.reason in
     some_found why.blocked (no_slot (sym c.in_default.ensures))
 
-pub take_at-duplicate-requires : goal.take_at-duplicate-requires
-take_at-duplicate-requires g c =
+pub remove_at-duplicate-requires : goal.remove_at-duplicate-requires
+remove_at-duplicate-requires g c =
     let arm = c.in-Err-Duplicate in
     let why = rw arm.field-0-is at arm.ensures.reason in
     rw arm.ensures.unchanged (All-head (IsLive c.loop-item.map.slots) c.in-Some-slot.slot [] (stand_in (sym (one_slot (sym c.in-Some-slot.ensures))) why.blocked.found).live)
@@ -54,7 +54,7 @@ returns-in-Err-Duplicate-clause-refused g c =
     let arm = c.in-Err-Duplicate in
     let item = rw arm.field-0-is at arm.ensures.handed_back in
     let why = rw arm.field-0-is at (rw (← g.met.T.Ranked.ranks_are) at arm.ensures.reason) in
-    let listed = rw (rw arm.ensures.unchanged at c.take_at-duplicate.ensures.value) at (stand_in (sym (one_slot (sym c.in-Some-slot.ensures))) why.blocked.found).items in
+    let listed = rw (rw arm.ensures.unchanged at c.remove_at-duplicate.ensures.value) at (stand_in (sym (one_slot (sym c.in-Some-slot.ensures))) why.blocked.found).items in
     let laws = AreLawful-are g.T.IdHashItem g.met.T.Ranked.ranks_are g.met.T.Key.Eq.laws in
     let stopped = RefusesFor-found g.T.Ranked.ranks (bag c.loop-item.map) c.loop-item.yielded c.in-Some.item c.loop-item.invariant.added laws why.blocked.some in
     rw (c.new-in-Err-Duplicate.ensures, listed, item) (c.into_iter-items.result, c.loop-item.yielded, c.next.new.self, search rules, search rules, stopped)

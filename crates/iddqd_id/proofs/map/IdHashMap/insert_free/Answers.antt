@@ -4,13 +4,13 @@ use Rattle.iddqd_store.specs.Map.{hash_of}
 use Rattle.iddqd_id.proofs.MapLemmas.{clash-key}
 use Rattle.iddqd_id.proofs.map.IdHashMap.insert_free.Goals as goal
 
-pub insert_at-requires-clause-free : goal.insert_at-requires-clause-free
-insert_at-requires-clause-free g c =
+pub insert_into-requires-clause-free : goal.insert_into-requires-clause-free
+insert_into-requires-clause-free g c =
     let has : g.Q.Query.stands_for c.args.query (g.T.IdHashItem.key c.args.item) ≡ true = search rules in
-    rw c.make_room.ensures.slots (clash-key g.T.IdHashItem g.T.Key.PartialEq.eq g.Q.Query.stands_for g.met.Q.Query.respects_eq c.args.item c.args.query (rw has refl) _ c.requires.absent)
+    rw c.make_room.ensures.slots (clash-key g.T.IdHashItem g.T.Key.PartialEq.eq g.Q.Query.stands_for g.met.Q.Query.respects_eq c.args.item c.args.query (rw has refl) _ c.requires.none_found)
 
-pub insert_at-requires-clause-places : goal.insert_at-requires-clause-places
-insert_at-requires-clause-places g c =
+pub insert_into-requires-clause-spots : goal.insert_into-requires-clause-spots
+insert_into-requires-clause-spots g c =
     let has : g.Q.Query.stands_for c.args.query (g.T.IdHashItem.key c.args.item) ≡ true = search rules in
     let hash = hash_of g.S.BuildHasher g.S.Hasher.Hasher c.args.self.now.builder in
     let hash = ap hash (g.met.Q.Query.respects_hash _ _ has) in
@@ -22,5 +22,5 @@ returns-in-Err-clause-hands_back g c =
     record {
       handed_back = refl;
       rank = rw has refl;
-      memory = λ _. record { free = clash-key g.T.IdHashItem g.T.Key.PartialEq.eq g.Q.Query.stands_for g.met.Q.Query.respects_eq c.args.item c.args.query (rw has refl) _ c.requires.absent; full = c.in-Err.ensures.reason };
+      memory = λ _. record { free = clash-key g.T.IdHashItem g.T.Key.PartialEq.eq g.Q.Query.stands_for g.met.Q.Query.respects_eq c.args.item c.args.query (rw has refl) _ c.requires.none_found; full = c.in-Err.ensures.reason };
     }

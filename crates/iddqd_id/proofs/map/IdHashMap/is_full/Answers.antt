@@ -8,4 +8,4 @@ pub returns-clause-value : goal.returns-clause-value
 returns-clause-value g c =
     let items : c.len.result ≡ length (bag c.args.self.now) =
     rw (← c.self.view_is) (c.len.ensures.value ∙ sym (length-contents c.self.inside.items.slots)) in
-    rw items (rw c.room.ensures.value refl)
+    rw items (rw c.least_capacity.ensures.value refl)

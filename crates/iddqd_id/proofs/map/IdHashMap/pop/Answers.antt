@@ -5,5 +5,5 @@ use Rattle.iddqd_id.proofs.map.IdHashMap.pop.Goals as goal
 
 pub returns-in_err-slot-clause-empty : goal.returns-in_err-slot-clause-empty
 returns-in_err-slot-clause-empty g c =
-    let none : bag c.args.self.now ≡ [] = c.in_err-slot.ensures.none in
+    let none : bag c.args.self.now ≡ [] = c.in_err-slot.ensures.end in
     search rules

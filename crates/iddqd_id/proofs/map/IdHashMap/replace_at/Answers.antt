@@ -11,7 +11,7 @@ invariant_of-self g c =
     let laws = g.met.T.Key.Eq.laws in
     let hash = hash_of g.S.BuildHasher g.S.Hasher.Hasher c.self.inside.hash_builder in
     let at = ap (λ (m : Map g.row.T.Denot g.row.S.Denot). get m.slots c.args.slot) (sym c.self.view_is) ∙ c.replace.ensures.value in
-    let same = c.requires.keys c.replace.result at in
+    let same = c.requires.same_keys c.replace.result at in
     let same = same in
     IsIndexed-exchange (AreLawful-ranks g.T.IdHashItem laws) (omega arith) c.self.invariant c.args.slot c.replace.result c.args.item _ c.replace.ensures.members
     (agrees-keys g.T.IdHashItem g.T.Key.PartialEq.eq c.replace.result c.args.item same)

@@ -14,8 +14,8 @@ returns-in-Err-Duplicate g c =
     let arm = c.in-Err-Duplicate in
     let why = rw arm.field-0-is at arm.ensures.reason in
     let slots = c.args.self.now.slots in
-    let seen : c.is_some-taken.result ≡ is_some arm.by.slot = search rules in
-    let taken = seen ∙ is_some-at (has g.T.IdHashItem g.T.Key.PartialEq.eq (g.T.IdHashItem.key c.args.item)) slots arm.by.slot why.found.0 in
+    let seen : c.is_some-taken.result ≡ is_some arm.found.slot = search rules in
+    let taken = seen ∙ is_some-at (has g.T.IdHashItem g.T.Key.PartialEq.eq (g.T.IdHashItem.key c.args.item)) slots arm.found.slot why.found.0 in
     let none = none-clash (ranks g.T.IdHashItem g.T.Key.PartialEq.eq) (bag c.args.self.now) c.args.item in
     record {
       gains = search rules;
@@ -30,8 +30,8 @@ pub returns-in-Err-Memory : goal.returns-in-Err-Memory
 returns-in-Err-Memory g c =
     let arm = c.in-Err-Memory in
     let full = rw arm.field-0-is at arm.ensures.reason in
-    let by = ranks g.T.IdHashItem g.T.Key.PartialEq.eq in
-    let free = none_taken (like by c.args.item) (bag c.args.self.now) full.free in
+    let ranks = ranks g.T.IdHashItem g.T.Key.PartialEq.eq in
+    let free = none_taken (like ranks c.args.item) (bag c.args.self.now) full.free in
     record {
       gains = search rules;
       free = search rules;

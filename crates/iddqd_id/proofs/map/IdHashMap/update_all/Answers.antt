@@ -33,8 +33,8 @@ loop-number-preserved g c =
           }
       | in_default w ↦
           record {
-            completes = rw (w.self-is, w.f-is, w.in_default.ensures.passed, ← w.in_default.ensures.none) at.invariant.completes;
-            callable = rw (w.self-is, w.f-is, ← w.in_default.ensures.none) at.invariant.callable;
+            completes = rw (w.self-is, w.f-is, w.in_default.ensures.passed, ← w.in_default.ensures.skips) at.invariant.completes;
+            callable = rw (w.self-is, w.f-is, ← w.in_default.ensures.skips) at.invariant.callable;
             slots = rw w.self-is at.invariant.slots;
             capacity = rw w.self-is at.invariant.capacity;
             builder = rw w.self-is at.invariant.builder;

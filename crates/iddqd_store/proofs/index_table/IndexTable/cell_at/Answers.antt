@@ -8,8 +8,8 @@ use Rattle.iddqd_store.proofs.TableLemmas.Search.{room}
 use Rattle.iddqd_store.proofs.TableLemmas.Limits.{some_not_none}
 use Rattle.iddqd_store.proofs.index_table.IndexTable.cell_at.Goals as goal
 
-pub returns-clause-full : goal.returns-clause-full
-returns-clause-full c =
+pub returns-clause-occupied : goal.returns-clause-occupied
+returns-clause-occupied c =
     let row = c.self.inside.cells in
     let l : c.args.i < length row = subst (λ (r : Table). c.args.i < length r.row) (sym c.self.view_is) c.requires in
     let e = room row c.self.invariant.0 (omega arith) in

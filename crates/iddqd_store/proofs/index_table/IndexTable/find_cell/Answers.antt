@@ -1,6 +1,6 @@
 use Rattle.std.proofs.Common.{rules, sym, ◌∙◌}
 use Rattle.iddqd_store.proofs.SlotLemmas.Contents.{content_at}
-use Rattle.iddqd_store.proofs.TableLemmas.Sought.{found_costs, found_under, may_ask, missed_costs, missed_under, missed_vacant, sought_asked, sought_past}
+use Rattle.iddqd_store.proofs.TableLemmas.Sought.{found_costs, found_by_hash, may_ask, missed_costs, missed_by_hash, missed_vacant, sought_asked, sought_past}
 use Rattle.iddqd_store.proofs.index_table.IndexTable.find_cell.Goals as goal
 use Rattle.iddqd_store.proofs.index_table.IndexTable.find_cell.Goals.{else-stored-hash-via-then-stored-hash+else-matches, else-stored-hash-via-else-stored-hash}
 
@@ -35,7 +35,7 @@ pub returns-then-matches-clause-found : goal.returns-then-matches-clause-found
 returns-then-matches-clause-found g c =
     let i = c.loop-pair.invariant in
     let accepted = sym (g.met.M.Matcher.accepts_kept _ _ c.in-Some.pair.1 i.kept) ∙ (sym c.matches.ensures.value ∙ c.if-matches.true) in
-    rw (← c.self.view_is) (found_under c.self.invariant.0 i.sought (sym c.cell_at.ensures.value ∙ c.in-Some.is) c.if-stored-hash.true accepted)
+    rw (← c.self.view_is) (found_by_hash c.self.invariant.0 i.sought (sym c.cell_at.ensures.value ∙ c.in-Some.is) c.if-stored-hash.true accepted)
 
 pub returns-then-matches-clause-is_kept : goal.returns-then-matches-clause-is_kept
 returns-then-matches-clause-is_kept g c = g.met.M.Matcher.kept_trans _ _ _ c.loop-pair.invariant.kept c.matches.ensures.is_kept
@@ -46,7 +46,7 @@ returns-then-matches-clause-costs g c =
     rw (← c.self.view_is) (found_costs c.self.invariant.0 c.loop-pair.invariant.sought is c.cell_at.ensures.probe c.if-stored-hash.true c.matches.ensures.asked)
 
 pub returns-clause-found : goal.returns-clause-found
-returns-clause-found g c = rw (← c.self.view_is) (missed_under c.self.invariant.0 c.loop-pair.invariant.sought (sym c.cell_at.ensures.value ∙ c.in_default.is))
+returns-clause-found g c = rw (← c.self.view_is) (missed_by_hash c.self.invariant.0 c.loop-pair.invariant.sought (sym c.cell_at.ensures.value ∙ c.in_default.is))
 
 pub returns-clause-vacant : goal.returns-clause-vacant
 returns-clause-vacant g c =

@@ -36,5 +36,5 @@ returns-clause-costs g c =
     removal_costs c.args.self.now c.requires.searchable c.args.hash _ _ _ _ c.remove_found.ensures.sized
     (record { asked = search (rules, lives, table.asked); no_cells = table.no_cells; probes = table.probes; within = table.within })
 
-pub returns-clause-taken : goal.returns-clause-taken
-returns-clause-taken g c = loses c.remove_found.new.self.pairs c.args.hash c.remove_found.result c.requires.searchable.index c.remove_found.ensures.found.found c.remove_found.ensures.taken
+pub returns-clause-removed : goal.returns-clause-removed
+returns-clause-removed g c = loses c.remove_found.new.self.pairs c.args.hash c.remove_found.result c.requires.searchable.index c.remove_found.ensures.found.found c.remove_found.ensures.removed

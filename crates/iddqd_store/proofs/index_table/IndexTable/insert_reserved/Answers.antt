@@ -16,7 +16,7 @@ overflow_add-self c =
 pub invariant_of-self : goal.invariant_of-self
 invariant_of-self c =
     let row = c.self.inside.cells in
-    let f = c.first_empty-at.ensures.first in
+    let f = c.first_empty-at.ensures.first_empty in
     let l : length (contents row) < length row / 8 * 7 = subst (λ (r : Table). length r.pairs < r.limit) (sym c.self.view_is) c.requires in
     let p = length_permutation _ _ (contents-put row c.first_empty-at.result (c.args.hash, c.args.slot) f.below f.empty) in
     rw c.write.ensures (table_put row c.first_empty-at.result c.args.hash c.args.slot c.self.invariant.0 l f, omega (arith, p, c.self.invariant.1))
@@ -24,7 +24,7 @@ invariant_of-self c =
 pub returns-clause-added : goal.returns-clause-added
 returns-clause-added c =
     let row = c.self.inside.cells in
-    let f = c.first_empty-at.ensures.first in
+    let f = c.first_empty-at.ensures.first_empty in
     let x : ℕ × ℕ = (c.args.hash, c.args.slot) in
     let p : IsPermutation (x ∷ contents row) (contents c.write.new.self) = rw c.write.ensures (contents-put row c.first_empty-at.result x f.below f.empty) in
     subst (λ (r : Table). IsPermutation (x ∷ r.pairs) (contents c.write.new.self)) c.self.view_is p

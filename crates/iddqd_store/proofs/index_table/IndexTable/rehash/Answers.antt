@@ -7,8 +7,8 @@ returns-then-before-hash-clause-moved g c =
     stays c.args.self.now.pairs _ _ c.args.gone.0 c.requires.pair (rw (c.hash_of_key-before.ensures, c.hash-hash.ensures) at c.if-before-hash.true)
 
 pub returns-clause-moved : goal.returns-clause-moved
-returns-clause-moved g c = rw (c.hash_of_key-before.ensures, c.hash-hash.ensures) at c.move_pair.ensures.moved
+returns-clause-moved g c = rw (c.hash_of_key-before.ensures, c.hash-hash.ensures) at c.rehash_pair.ensures.moved
 
 pub returns-clause-costs : goal.returns-clause-costs
 returns-clause-costs g c =
-    rw (one_moves _ c.args.by.now _ (rw (c.hash_of_key-before.ensures, c.hash-hash.ensures) at c.if-before-hash.false)) c.move_pair.ensures.costs
+    rw (one_moves _ c.args.found.now _ (rw (c.hash_of_key-before.ensures, c.hash-hash.ensures) at c.if-before-hash.false)) c.rehash_pair.ensures.costs

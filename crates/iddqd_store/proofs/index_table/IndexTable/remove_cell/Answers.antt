@@ -16,15 +16,15 @@ one_less row after x at there taken =
 
 pub overflow_sub-self : goal.overflow_sub-self
 overflow_sub-self c =
-    let less = one_less c.self.inside.cells c.close_up.new.cells (c.args.hash, c.args.found.0) c.args.found.1 (rw (← c.self.view_is) at c.requires) c.close_up.ensures.taken in
+    let less = one_less c.self.inside.cells c.close_up.new.cells (c.args.hash, c.args.found.0) c.args.found.1 (rw (← c.self.view_is) at c.requires) c.close_up.ensures.removed in
     omega (arith, c.self.invariant.1, less)
 
 pub invariant_of-self : goal.invariant_of-self
 invariant_of-self c =
-    let less = one_less c.self.inside.cells c.close_up.new.cells (c.args.hash, c.args.found.0) c.args.found.1 (rw (← c.self.view_is) at c.requires) c.close_up.ensures.taken in
+    let less = one_less c.self.inside.cells c.close_up.new.cells (c.args.hash, c.args.found.0) c.args.found.1 (rw (← c.self.view_is) at c.requires) c.close_up.ensures.removed in
     (c.close_up.ensures.table, omega (arith, c.self.invariant.1, less))
 
 pub returns-clause-room : goal.returns-clause-room
 returns-clause-room c =
-    let less = one_less c.self.inside.cells c.close_up.new.cells (c.args.hash, c.args.found.0) c.args.found.1 (rw (← c.self.view_is) at c.requires) c.close_up.ensures.taken in
+    let less = one_less c.self.inside.cells c.close_up.new.cells (c.args.hash, c.args.found.0) c.args.found.1 (rw (← c.self.view_is) at c.requires) c.close_up.ensures.removed in
     omega (arith, c.self.invariant.0.fits, c.close_up.ensures.len, less)

@@ -43,7 +43,7 @@ loop-k-preserved c =
     let chunk = c.loop-i.invariant in
     let is = sym c.cell_at-in-loop-k.ensures.value ∙ c.in-Some.is in
     let copied = chunk_copied _ _ (omega (arith, chunk.room, chunk.chunk.some)) chunk.chunk c.loop-k-test.true is c.requires.fits c.requires.counted
-    i.size (rw i.size c.home_of.ensures) c.first_empty_from-at.ensures.first i.front i.probed c.cell_at-in-loop-k.ensures.probe
+    i.size (rw i.size c.home_of.ensures) c.first_empty_from-at.ensures.first_empty i.front i.probed c.cell_at-in-loop-k.ensures.probe
     c.first_empty_from-at.ensures.probes in
     rw c.copy_cell.ensures (record { front = copied.0; size = copied.1; probed = copied.2 })
 

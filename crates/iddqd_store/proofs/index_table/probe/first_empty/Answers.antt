@@ -11,7 +11,7 @@ returns-clause-probes c =
     let home : ℕ = c.args.hash % length row in
     let at = c.first_empty_from.result in
     let e : c.home_of.result ≡ home = rw c.len.ensures at c.home_of.ensures in
-    let f : IsFirstEmpty row home at = subst (λ (h : ℕ). IsFirstEmpty row h at) e c.first_empty_from.ensures.first in
+    let f : IsFirstEmpty row home at = subst (λ (h : ℕ). IsFirstEmpty row h at) e c.first_empty_from.ensures.first_empty in
     let s : stretch (hashes (contents row)) (length row) c.args.hash ≡ gap (length row) home at =
     walk_end row c.args.hash at (gap (length row) home at) c.requires.table (walk_to row home at (omega arith) (record { below = f.below; first = f.first })) f.empty in
     let g : gap (length row) c.home_of.result at ≡ gap (length row) home at = ap (λ (h : ℕ). gap (length row) h at) e in

@@ -16,8 +16,8 @@ loop-at-preserved c =
           c.after-at.result (c.cell_at.new.meter - c.args.meter.now) e (omega (arith, i.probed, c.cell_at.ensures.probe));
     }
 
-pub returns-clause-first : goal.returns-clause-first
-returns-clause-first c =
+pub returns-clause-first_empty : goal.returns-clause-first_empty
+returns-clause-first_empty c =
     walk_first c.args.cells.now c.args.from c.loop-at.at (c.loop-at.meter - c.args.meter.now) c.requires.from c.loop-at.invariant.walk
     (none_from_test c.cell_at.result _ c.is_some.result c.cell_at.ensures.value c.is_some.ensures c.loop-at-test.false)
 

@@ -2,7 +2,7 @@ use Rattle.std.proofs.Common.{arith, ◌<◌, ◌∙◌, length, refl, sym, ap}
 use Rattle.std.specs.Option.{option_copied}
 use Rattle.iddqd_store.specs.Rank.{key_hash}
 use Rattle.iddqd_store.specs.Map.{hash_of}
-use Rattle.iddqd_store.proofs.RankLemmas.Fill.{IsFilling-start, IsFilling-skip, IsFilling-enter, IsFilling-room}
+use Rattle.iddqd_store.proofs.RankLemmas.Fill.{IsFilling-start, IsFilling-skip, IsFilling-insert, IsFilling-room}
 use Rattle.iddqd_store.proofs.item_set.ItemSet.fill.Goals as goal
 use Rattle.iddqd_store.proofs.item_set.ItemSet.fill.Goals.{in-Some, in_default}
 
@@ -28,7 +28,7 @@ loop-index-preserved g c =
       | in-Some w ↦
           let found = rw c.new-slot.ensures at (sym c.get.ensures ∙ ap option_copied w.in-Some.is) in
           record {
-            filling = rw w.table-is (IsFilling-enter hash slots at w.in-Some.item.now w.hash_one-hash.result c.loop-index.table.pairs _ within found
+            filling = rw w.table-is (IsFilling-insert hash slots at w.in-Some.item.now w.hash_one-hash.result c.loop-index.table.pairs _ within found
                 (w.hash_one-hash.ensures ∙ ap (λ k. writes (g.R.Key.Hash.hash_input k)) w.key.ensures)
                 (rw c.new-slot.ensures at w.insert_reserved.ensures.added) i.filling);
             cells = rw w.table-is (w.insert_reserved.ensures.cells ∙ i.cells);

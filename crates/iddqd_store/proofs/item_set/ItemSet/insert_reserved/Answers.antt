@@ -18,7 +18,7 @@ invariant_of-self g c = rw c.push_reserved.ensures.items (IsChained-push _ _ _ c
 pub returns-then-slot-len-clause-members : goal.returns-then-slot-len-clause-members
 returns-then-slot-len-clause-members g c =
     let slots = map item_of c.self.inside.slots.items in
-    let at_end : c.self.inside.head ≡ length slots = omega (arith, length-map c.self.inside.slots.items item_of) in
+    let at_end : c.self.inside.next_free ≡ length slots = omega (arith, length-map c.self.inside.slots.items item_of) in
     rw (← c.self.view_is, c.push_reserved.ensures.items, map_push, c.new.ensures, at_end) (members-push slots c.args.item)
 
 pub index_mut-requires : goal.index_mut-requires
@@ -50,5 +50,5 @@ pub returns-clause-count : goal.returns-clause-count
 returns-clause-count g c =
     let found = read_at_next c.self.invariant.0 (λ e. omega arith) c.index_mut.ensures.value in
     let vacant = found ∙ ap Some (sym c.replace.ensures.value ∙ c.in-Free.is) in
-    let counted = count-set c.self.inside.slots.items c.self.inside.head (Free c.in-Free.next) (Live c.args.item) vacant in
+    let counted = count-set c.self.inside.slots.items c.self.inside.next_free (Free c.in-Free.next) (Live c.args.item) vacant in
     rw (← c.self.view_is, c.replace.ensures.after) (omega arith)

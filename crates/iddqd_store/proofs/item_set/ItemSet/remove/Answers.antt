@@ -4,9 +4,9 @@ use Rattle.iddqd_store.proofs.item_set.ItemSet.remove.Goals as goal
 
 pub returns-then-is_live-clause-taken : goal.returns-then-is_live-clause-taken
 returns-then-is_live-clause-taken g c =
-    let found = rw c.number.ensures.value at c.take.ensures.value in
+    let found = rw c.number.ensures.value at c.vacate.ensures.value in
     record {
-      slots = rw (c.take.ensures.slots, c.number.ensures.value) refl;
-      members = rw (c.take.ensures.slots, c.number.ensures.value) (members-take _ _ _ found);
-      room = c.take.ensures.room;
+      slots = rw (c.vacate.ensures.slots, c.number.ensures.value) refl;
+      members = rw (c.vacate.ensures.slots, c.number.ensures.value) (members-take _ _ _ found);
+      room = c.vacate.ensures.room;
     }

@@ -4,8 +4,8 @@ use Rattle.iddqd_store.specs.Map.{bag}
 use Rattle.iddqd_store.proofs.BagLemmas.Steps.{clash-listed, clash-unlisted}
 use Rattle.iddqd_tri.proofs.error.InsertError.reason.Goals as goal
 
-pub returns-then-is_empty-clause-memory : goal.returns-then-is_empty-clause-memory
-returns-then-is_empty-clause-memory g c = λ memory.
+pub returns-then-is_empty-clause-none_taken : goal.returns-then-is_empty-clause-none_taken
+returns-then-is_empty-clause-none_taken g c = λ memory.
     (let e = c.args.self.now in
     clash-unlisted (λ item. item.now) c.duplicates.result g.T.Ranked.ranks (bag e.map.now) e.item c.duplicates.ensures (sym c.is_empty.ensures ∙ c.if-is_empty.true))
 

@@ -10,7 +10,7 @@ use Rattle.iddqd_tri.proofs.iter_mut.IterMut.next_data.Goals as goal
 
 pub returns : goal.returns
 returns g c =
-    let step = c.in_ok-live.ensures.step in
+    let step = c.in_ok-live.ensures.first_from in
     let pass = c.in_ok-live.ensures.next.2 in
     let next : IsNextOf c.args.self.now = (
       c.in_ok-live.ensures.next.0,

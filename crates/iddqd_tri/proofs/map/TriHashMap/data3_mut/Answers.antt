@@ -1,7 +1,7 @@
 -- Made by tests/widths from crates/iddqd_bi/proofs/map/BiHashMap/data2_mut/Answers.antt: change that file.
 use Rattle.std.proofs.Common.{refl}
 use Rattle.iddqd_tri.specs.Keys.{has3}
-use Rattle.iddqd_tri.proofs.Lending.{data_found, writes_found}
+use Rattle.iddqd_tri.proofs.LentLemmas.{data_found, writes_found}
 use Rattle.iddqd_tri.proofs.map.TriHashMap.data3_mut.Goals as goal
 
 pub returns-in-Some : goal.returns-in-Some
@@ -11,7 +11,7 @@ returns-in-Some g c =
       (refl, (λ w. writes_found test c.args.self.now c.in-Some.slot found g.T.TriHashItemMut.put _ w (λ x is. c.data_mut_at.ensures.swaps x w is)), refl),
       record {
         writes_back = tt;
-        absent = tt;
+        none_found = tt;
         value = data_found test c.args.self.now c.in-Some.slot found g.T.TriHashItemMut.data_of _ c.data_mut_at.ensures.value;
       },
     )

@@ -1,7 +1,7 @@
 -- Made by tests/widths from crates/iddqd_bi/proofs/map/BiHashMap/data_unique_mut/Answers.antt: change that file.
 use Rattle.std.proofs.Common.{refl}
 use Rattle.iddqd_tri.specs.Keys.{has_all}
-use Rattle.iddqd_tri.proofs.Lending.{data_found, writes_found}
+use Rattle.iddqd_tri.proofs.LentLemmas.{data_found, writes_found}
 use Rattle.iddqd_tri.proofs.map.TriHashMap.data_unique_mut.Goals as goal
 
 pub returns-in-Some : goal.returns-in-Some
@@ -10,7 +10,7 @@ returns-in-Some g c =
       (refl, (λ w. writes_found test c.args.self.now c.in-Some.slot c.in-Some.ensures g.T.TriHashItemMut.put _ w (λ x is. c.data_mut_at.ensures.swaps x w is)), refl),
       record {
         writes_back = tt;
-        absent = tt;
+        none_found = tt;
         value = data_found test c.args.self.now c.in-Some.slot c.in-Some.ensures g.T.TriHashItemMut.data_of _ c.data_mut_at.ensures.value;
       },
     )

@@ -12,10 +12,10 @@ returns-in-Some-clause-next g c =
     let at = live_is (get c.self.inside.items.slots c.in-Some.slot) c.in-Some.ensures.next.1 in
     rw (← c.self.view_is) (at.0, at.1, passes _ c.args.from c.in-Some.slot at.0 (comes_next c.self.inside.items.slots c.args.from c.in-Some.slot at.0 c.in-Some.ensures.next.0 at.1 c.in-Some.ensures.next.2))
 
-pub returns-in-Some-clause-step : goal.returns-in-Some-clause-step
-returns-in-Some-clause-step g c =
+pub returns-in-Some-clause-first_from : goal.returns-in-Some-clause-first_from
+returns-in-Some-clause-first_from g c =
     let at = live_is (get c.self.inside.items.slots c.in-Some.slot) c.in-Some.ensures.next.1 in
     rw (← c.self.view_is) (first_is c.self.inside.items.slots c.args.from c.in-Some.slot at.0 c.in-Some.ensures.next.0 at.1 c.in-Some.ensures.next.2)
 
-pub returns-in-None-clause-none : goal.returns-in-None-clause-none
-returns-in-None-clause-none g c = rw (← c.self.view_is) (nothing_left c.self.inside.items.slots c.args.from c.in-None.ensures.next)
+pub returns-in-None-clause-end : goal.returns-in-None-clause-end
+returns-in-None-clause-end g c = rw (← c.self.view_is) (nothing_left c.self.inside.items.slots c.args.from c.in-None.ensures.next)

@@ -14,12 +14,12 @@ returns-in-Err-Duplicate g c =
     let arm = c.in-Err-Duplicate in
     let why = rw arm.field-0-is at arm.ensures.reason in
     let slots = c.args.self.now.slots in
-    let seen1 : c.is_some-taken1.result ≡ is_some arm.by.0.slot = search rules in
-    let seen2 : c.is_some-taken2.result ≡ is_some arm.by.1.slot = search rules in
-    let seen3 : c.is_some-taken3.result ≡ is_some arm.by.2.slot = search rules in
-    let taken1 = seen1 ∙ is_some-at (has1 g.T.TriHashItem g.T.K1.PartialEq.eq (g.T.TriHashItem.key1 c.args.item)) slots arm.by.0.slot why.found.0 in
-    let taken2 = seen2 ∙ is_some-at (has2 g.T.TriHashItem g.T.K2.PartialEq.eq (g.T.TriHashItem.key2 c.args.item)) slots arm.by.1.slot why.found.1.0 in
-    let taken3 = seen3 ∙ is_some-at (has3 g.T.TriHashItem g.T.K3.PartialEq.eq (g.T.TriHashItem.key3 c.args.item)) slots arm.by.2.slot why.found.1.1.0 in
+    let seen1 : c.is_some-taken1.result ≡ is_some arm.found.0.slot = search rules in
+    let seen2 : c.is_some-taken2.result ≡ is_some arm.found.1.slot = search rules in
+    let seen3 : c.is_some-taken3.result ≡ is_some arm.found.2.slot = search rules in
+    let taken1 = seen1 ∙ is_some-at (has1 g.T.TriHashItem g.T.K1.PartialEq.eq (g.T.TriHashItem.key1 c.args.item)) slots arm.found.0.slot why.found.0 in
+    let taken2 = seen2 ∙ is_some-at (has2 g.T.TriHashItem g.T.K2.PartialEq.eq (g.T.TriHashItem.key2 c.args.item)) slots arm.found.1.slot why.found.1.0 in
+    let taken3 = seen3 ∙ is_some-at (has3 g.T.TriHashItem g.T.K3.PartialEq.eq (g.T.TriHashItem.key3 c.args.item)) slots arm.found.2.slot why.found.1.1.0 in
     let none = none-clash (ranks g.T.TriHashItem g.T.K1.PartialEq.eq g.T.K2.PartialEq.eq g.T.K3.PartialEq.eq) (bag c.args.self.now) c.args.item in
     record {
       gains = search rules;
@@ -34,8 +34,8 @@ pub returns-in-Err-Memory : goal.returns-in-Err-Memory
 returns-in-Err-Memory g c =
     let arm = c.in-Err-Memory in
     let full = rw arm.field-0-is at arm.ensures.reason in
-    let by = ranks g.T.TriHashItem g.T.K1.PartialEq.eq g.T.K2.PartialEq.eq g.T.K3.PartialEq.eq in
-    let free = none_taken (like by c.args.item) (bag c.args.self.now) full.free in
+    let ranks = ranks g.T.TriHashItem g.T.K1.PartialEq.eq g.T.K2.PartialEq.eq g.T.K3.PartialEq.eq in
+    let free = none_taken (like ranks c.args.item) (bag c.args.self.now) full.free in
     record {
       gains = search rules;
       free = search rules;

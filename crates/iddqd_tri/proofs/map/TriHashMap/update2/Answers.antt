@@ -8,8 +8,8 @@ store_once-requires-clause-callable g c = λ x here.
     (let test = has2 g.T.TriHashItem g.Q.Query.stands_for c.args.query in
     c.requires x (found_one test c.args.self.now.slots c.in-Some.slot x c.in-Some.ensures.found here))
 
-pub returns-in-Some-clause-found : goal.returns-in-Some-clause-found
-returns-in-Some-clause-found g c =
+pub returns-in-Some-clause-any_found : goal.returns-in-Some-clause-any_found
+returns-in-Some-clause-any_found g c =
     let test = has2 g.T.TriHashItem g.Q.Query.stands_for c.args.query in
     any_found test c.args.self.now.slots c.in-Some.slot c.in-Some.ensures.found
 
@@ -19,7 +19,7 @@ returns-in-Some-clause-stores g c = λ _.
     let stored = c.store_once.ensures.stored in
     (stored.0, stored.1, found_one test c.args.self.now.slots c.in-Some.slot stored.0 c.in-Some.ensures.found stored.2, stored.3, stored.5))
 
-pub returns-in-None-clause-found : goal.returns-in-None-clause-found
-returns-in-None-clause-found g c =
+pub returns-in-None-clause-any_found : goal.returns-in-None-clause-any_found
+returns-in-None-clause-any_found g c =
     let test = has2 g.T.TriHashItem g.Q.Query.stands_for c.args.query in
     any_absent test c.args.self.now.slots c.in-None.ensures.found

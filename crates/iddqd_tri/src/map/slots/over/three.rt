@@ -4,25 +4,25 @@
 ghost use Rattle.std.specs.Prelude.{◌≡◌, ◌≢◌, ◌+◌, ◌≤◌, [], ◌∷◌, length, None, Some, slice_set};
 ghost use Rattle.iddqd_store.specs.Bag.{clash};
 ghost use Rattle.iddqd_store.specs.Map.{bag, PutsAt};
-ghost use Rattle.iddqd_store.specs.Rank.All.{AreUnder, HaveHashes, hashes_of};
-ghost use Rattle.iddqd_store.specs.Rank.{walks_three, walks_within};
+ghost use Rattle.iddqd_store.specs.Rank.All.{AreHashed, HaveHashes, hashes_of};
+ghost use Rattle.iddqd_store.specs.Rank.{merge_three_walks, walks_within};
 ghost use Rattle.iddqd_store.specs.Slots.{get, contents, IsLive};
 
 use crate::item::{Hashed, Ranked, TriHashItem};
 use crate::map::TriHashMap;
 use crate::ranks::{First, Second, Third};
-use iddqd_store::{ItemIndex, Meter, SlotUnder};
+use iddqd_store::{FoundByHash, ItemIndex, Meter};
 use std::hash::{BuildHasher, Hash};
 
 impl<T: TriHashItem, S: BuildHasher> TriHashMap<T, S> {
     /// Puts an item into the slot `slots.0` of one that conflicts with it, and returns that one and two others, which leave the
-    /// other slots. At a rank at which the search found one of these, its pair gets the number `slots.0`. `walks_three`
-    /// says how often the call walks through each table.
-    pub(crate) fn exchange_three(
+    /// other slots. At a rank at which the search found one of these, its pair gets the number `slots.0`.
+    /// `merge_three_walks` says how often the call walks through each table.
+    pub(crate) fn overwrite_three(
         &mut self,
         slots: (ItemIndex, ItemIndex, ItemIndex),
         item: T,
-        by: &(SlotUnder, SlotUnder, SlotUnder),
+        found: &(FoundByHash, FoundByHash, FoundByHash),
         meter: &mut Meter,
     ) -> (T, T, T)
         requires live { IsLive self.old.slots slots.0 × IsLive self.old.slots slots.1 × IsLive self.old.slots slots.2 }
@@ -30,17 +30,17 @@ impl<T: TriHashItem, S: BuildHasher> TriHashMap<T, S> {
         requires free { clash ⟦<T as Ranked>⟧.ranks (contents
             (slice_set (slice_set (slice_set self.old.slots slots.2 None) slots.1 None) slots.0 None)) item ≡ [] }
         requires hashes { HaveHashes
-            (hashes_of (⟦<T as Hashed<S>>⟧.hashes self.old.builder) item) (by.now.0 ∷ by.now.1 ∷ by.now.2 ∷ []) }
-        requires under { AreUnder
-            (⟦<T as Hashed<S>>⟧.hashes self.old.builder) self.old.slots (by.now.0 ∷ by.now.1 ∷ by.now.2 ∷ []) }
+            (hashes_of (⟦<T as Hashed<S>>⟧.hashes self.old.builder) item) (found.now.0 ∷ found.now.1 ∷ found.now.2 ∷ []) }
+        requires hashed { AreHashed
+            (⟦<T as Hashed<S>>⟧.hashes self.old.builder) self.old.slots (found.now.0 ∷ found.now.1 ∷ found.now.2 ∷ []) }
         ensures values { (get self.old.slots slots.0 ≡ Some result.0) × (get self.old.slots slots.1 ≡ Some result.1)
             × (get self.old.slots slots.2 ≡ Some result.2) }
         ensures puts_at { PutsAt ⟦<T as Ranked>⟧.ranks self.old slots.0 item (item ∷ contents
             (slice_set (slice_set (slice_set self.old.slots slots.2 None) slots.1 None) slots.0 None)) self.new }
         ensures costs { meter.new ≤ meter.old + walks_within (length (bag self.old))
-            (walks_three (⟦<T as Hashed<S>>⟧.hash1 self.old.builder) by.now.0 slots.1 slots.2 result.0
-            ∷ walks_three (⟦<T as Hashed<S>>⟧.hash2 self.old.builder) by.now.1 slots.1 slots.2 result.0
-            ∷ walks_three (⟦<T as Hashed<S>>⟧.hash3 self.old.builder) by.now.2 slots.1 slots.2 result.0 ∷ []) }
+            (merge_three_walks (⟦<T as Hashed<S>>⟧.hash1 self.old.builder) found.now.0 slots.1 slots.2 result.0
+            ∷ merge_three_walks (⟦<T as Hashed<S>>⟧.hash2 self.old.builder) found.now.1 slots.1 slots.2 result.0
+            ∷ merge_three_walks (⟦<T as Hashed<S>>⟧.hash3 self.old.builder) found.now.2 slots.1 slots.2 result.0 ∷ []) }
     {
         self.note_that_items_fit();
         let (slot, other_slot, last_slot) = slots;
@@ -51,28 +51,28 @@ impl<T: TriHashItem, S: BuildHasher> TriHashMap<T, S> {
             unreachable!()
         };
         let gone = self.items.replace(slot, item);
-        self.first.replace_three::<T, First, S>(
+        self.first.merge_three::<T, First, S>(
             &self.hash_builder,
             (slot, &gone),
             (other_slot, &other),
             (last_slot, &last),
-            &by.0,
+            &found.0,
             meter,
         );
-        self.second.replace_three::<T, Second, S>(
+        self.second.merge_three::<T, Second, S>(
             &self.hash_builder,
             (slot, &gone),
             (other_slot, &other),
             (last_slot, &last),
-            &by.1,
+            &found.1,
             meter,
         );
-        self.third.replace_three::<T, Third, S>(
+        self.third.merge_three::<T, Third, S>(
             &self.hash_builder,
             (slot, &gone),
             (other_slot, &other),
             (last_slot, &last),
-            &by.2,
+            &found.2,
             meter,
         );
         (gone, other, last)

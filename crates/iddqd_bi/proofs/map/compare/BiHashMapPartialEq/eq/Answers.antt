@@ -7,36 +7,36 @@ use Rattle.iddqd_bi.proofs.map.compare.BiHashMapPartialEq.eq.Goals as goal
 
 pub returns-then-len-clause-eq : goal.returns-then-len-clause-eq
 returns-then-len-clause-eq g c =
-    let by = ranks g.T.BiHashItem g.T.K1.PartialEq.eq g.T.K2.PartialEq.eq in
+    let ranks = ranks g.T.BiHashItem g.T.K1.PartialEq.eq g.T.K2.PartialEq.eq in
     let laws = AreLawful-ranks g.T.BiHashItem g.met.T.K1.Eq.laws g.met.T.K2.Eq.laws in
-    sym (told_longer by g.T.PartialEq.eq laws g.met.T.PartialEq.laws (bag c.args.self.now) (bag c.args.other.now) (λ same. c.if-len.true (c.len.ensures.value ∙ same ∙ sym c.len-2.ensures.value)))
+    sym (told_longer ranks g.T.PartialEq.eq laws g.met.T.PartialEq.laws (bag c.args.self.now) (bag c.args.other.now) (λ same. c.if-len.true (c.len.ensures.value ∙ same ∙ sym c.len-2.ensures.value)))
 
 pub returns-then-len-clause-same : goal.returns-then-len-clause-same
 returns-then-len-clause-same g c =
-    let by = ranks g.T.BiHashItem g.T.K1.PartialEq.eq g.T.K2.PartialEq.eq in
+    let ranks = ranks g.T.BiHashItem g.T.K1.PartialEq.eq g.T.K2.PartialEq.eq in
     let laws = AreLawful-ranks g.T.BiHashItem g.met.T.K1.Eq.laws g.met.T.K2.Eq.laws in
-    same_decides by g.T.PartialEq.eq laws g.met.T.PartialEq.laws (bag c.args.self.now) (bag c.args.other.now) _ (returns-then-len-clause-eq g c)
+    same_decides ranks g.T.PartialEq.eq laws g.met.T.PartialEq.laws (bag c.args.self.now) (bag c.args.other.now) _ (returns-then-len-clause-eq g c)
 
 pub returns-then-not-has_partner-clause-eq : goal.returns-then-not-has_partner-clause-eq
 returns-then-not-has_partner-clause-eq g c =
-    let by = ranks g.T.BiHashItem g.T.K1.PartialEq.eq g.T.K2.PartialEq.eq in
+    let ranks = ranks g.T.BiHashItem g.T.K1.PartialEq.eq g.T.K2.PartialEq.eq in
     let laws = AreLawful-ranks g.T.BiHashItem g.met.T.K1.Eq.laws g.met.T.K2.Eq.laws in
-    sym (told_alone by g.T.PartialEq.eq laws g.met.T.PartialEq.laws (bag c.args.self.now) (bag c.args.other.now) (search rules))
+    sym (told_alone ranks g.T.PartialEq.eq laws g.met.T.PartialEq.laws (bag c.args.self.now) (bag c.args.other.now) (search rules))
 
 pub returns-then-not-has_partner-clause-same : goal.returns-then-not-has_partner-clause-same
 returns-then-not-has_partner-clause-same g c =
-    let by = ranks g.T.BiHashItem g.T.K1.PartialEq.eq g.T.K2.PartialEq.eq in
+    let ranks = ranks g.T.BiHashItem g.T.K1.PartialEq.eq g.T.K2.PartialEq.eq in
     let laws = AreLawful-ranks g.T.BiHashItem g.met.T.K1.Eq.laws g.met.T.K2.Eq.laws in
-    same_decides by g.T.PartialEq.eq laws g.met.T.PartialEq.laws (bag c.args.self.now) (bag c.args.other.now) _ (returns-then-not-has_partner-clause-eq g c)
+    same_decides ranks g.T.PartialEq.eq laws g.met.T.PartialEq.laws (bag c.args.self.now) (bag c.args.other.now) _ (returns-then-not-has_partner-clause-eq g c)
 
 pub returns-clause-eq : goal.returns-clause-eq
 returns-clause-eq g c =
-    let by = ranks g.T.BiHashItem g.T.K1.PartialEq.eq g.T.K2.PartialEq.eq in
+    let ranks = ranks g.T.BiHashItem g.T.K1.PartialEq.eq g.T.K2.PartialEq.eq in
     let laws = AreLawful-ranks g.T.BiHashItem g.met.T.K1.Eq.laws g.met.T.K2.Eq.laws in
-    sym (told_same by g.T.PartialEq.eq laws g.met.T.PartialEq.laws (bag c.args.self.now) (bag c.args.other.now) (omega arith) c.len.ensures.sound (sym c.len.ensures.value ∙ c.if-len.false ∙ c.len-2.ensures.value) (search rules))
+    sym (told_same ranks g.T.PartialEq.eq laws g.met.T.PartialEq.laws (bag c.args.self.now) (bag c.args.other.now) (omega arith) c.len.ensures.sound (sym c.len.ensures.value ∙ c.if-len.false ∙ c.len-2.ensures.value) (search rules))
 
 pub returns-clause-same : goal.returns-clause-same
 returns-clause-same g c =
-    let by = ranks g.T.BiHashItem g.T.K1.PartialEq.eq g.T.K2.PartialEq.eq in
+    let ranks = ranks g.T.BiHashItem g.T.K1.PartialEq.eq g.T.K2.PartialEq.eq in
     let laws = AreLawful-ranks g.T.BiHashItem g.met.T.K1.Eq.laws g.met.T.K2.Eq.laws in
-    same_decides by g.T.PartialEq.eq laws g.met.T.PartialEq.laws (bag c.args.self.now) (bag c.args.other.now) _ (returns-clause-eq g c)
+    same_decides ranks g.T.PartialEq.eq laws g.met.T.PartialEq.laws (bag c.args.self.now) (bag c.args.other.now) _ (returns-clause-eq g c)

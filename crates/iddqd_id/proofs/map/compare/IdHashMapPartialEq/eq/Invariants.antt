@@ -9,6 +9,6 @@ use Rattle.iddqd_id.proofs.map.compare.IdHashMapPartialEq.eq.Given as goal
 -- the items so far have partners
 abbrev pub invariant-loop-item : goal.invariant-loop-item
 invariant-loop-item g l =
-    let by = ranks g.T.IdHashItem g.T.Key.PartialEq.eq in
-    let has = λ (x : g.row.T.Denot). list_any (same_item by g.T.PartialEq.eq x) (bag l.other) in
+    let ranks = ranks g.T.IdHashItem g.T.Key.PartialEq.eq in
+    let has = λ (x : g.row.T.Denot). list_any (same_item ranks g.T.PartialEq.eq x) (bag l.other) in
     list_all has (bag l.self) ≡ list_all has l.item-iterator

@@ -1,6 +1,0 @@
-use Rattle.iddqd_store.proofs.RankLemmas.Costs.{SearchCosts-room}
-use Rattle.iddqd_bi.proofs.map.BiHashMap.slot1_by.Goals as goal
-
-pub returns-clause-costs : goal.returns-clause-costs
-returns-clause-costs g c =
-    rw (← c.by_key1.ensures.slots, ← c.by_key1.ensures.builder) (SearchCosts-room c.args.self.now.capacity c.by_key1.ensures.room c.slot_of.ensures.costs)

@@ -1,7 +1,0 @@
--- Made by tests/widths from crates/iddqd_bi/proofs/map/BiHashMap/slot2_by/Answers.antt: change that file.
-use Rattle.iddqd_store.proofs.RankLemmas.Costs.{SearchCosts-room}
-use Rattle.iddqd_tri.proofs.map.TriHashMap.slot2_by.Goals as goal
-
-pub returns-clause-costs : goal.returns-clause-costs
-returns-clause-costs g c =
-    rw (← c.by_key2.ensures.slots, ← c.by_key2.ensures.builder) (SearchCosts-room c.args.self.now.capacity c.by_key2.ensures.room c.slot_of.ensures.costs)
