@@ -17,6 +17,8 @@ LONG_TYPES = re.compile(
     r"(?<![.\w])(Entry|VacantEntry|OccupiedEntry|OccupiedEntryMut|RefMut|IterMut|InsertError|EntryRefusal)( (\w+|\([^()]*\))){3,}")
 # What a comment says of a word that the contracts of public functions do not cite; and of one that those of the maps do not.
 UNCITED, UNCITED_BY_MAPS = "No public clause cites it.", "No clause of a map cites it."
+# A clause behind its label: one line, and those that go on with it.
+CLAUSE = re.compile(r"^(?:requires|ensures)\*? (\w+) \{(.*(?:\n(?!requires|ensures).*)*)", re.M)
 # A definition: its comment without and with what is behind `Example:`, and its name with its arguments and the type of its value.
 Word = collections.namedtuple("Word", "file name meaning example shown")
 
@@ -104,13 +106,19 @@ def others(names, told):
     return [it for it in sorted(names) if not {it, re.sub(r"\d", "1", it)} & told and it not in plain]
 
 
+def as_label(word):
+    """A word as a label has it: `GivesAll` is `gives_all`."""
+    return re.sub(r"(?<=[a-z])(?=[A-Z])", "_", word).lower()
+
+
 def clauses(crate):
-    """The labels of the clauses of a crate's public functions, and the words that they cite."""
-    labels, cited = set(), set()
+    """The labels of the clauses of a crate's public functions, each with the words of each of its clauses, and the words that they cite."""
+    labels, cited = {}, set()
     for text in map(read, files(crate)):
         lines = "\n".join(it.strip() for one in functions(text) if one.is_public for it in one.contract if not it.strip().startswith("//"))
         used = ",".join(re.findall(r"ghost use Rattle\.iddqd_\w+\.specs\.(?![\w.]*declared)[\w.]*\.\{([^}]*)\}", text))
-        labels.update(re.findall(r"^(?:requires|ensures)\*? (\w+) \{", lines, re.M))
+        for label, clause in CLAUSE.findall(lines):
+            labels.setdefault(label, []).append({as_label(it) for it in re.findall(r"[^\W\d]\w*", clause)})
         cited.update({*map(str.strip, used.split(","))} & {*re.findall(r"[^\W\d]\w*", lines)})
     return labels, cited
 
@@ -131,13 +139,20 @@ def faults(words):
     defined = {it["name"] for path in files("iddqd_*", SPECS) for it, _ in definitions(path) if it["kind"] != "pub"}
     for crate, name in ((crate, name) for crate in CRATES for name in others(cited[crate] & defined, told)):
         yield f"{name}, which a contract of {crate} cites, has no comment in specs/, or it says that none cites it"
-    # The page explains the labels of the maps but for those that are words in small letters, and no label that no clause and no field has.
-    page, of_maps = read("docs/DEFINITIONS.md"), set().union(*(labels[it] for it in CRATES[1:]))
-    told |= {name for code in re.findall(r"`([^`\n]+)`", page) for name in re.findall(r"[^\W\d]\w*", code)}
-    for it in others(of_maps, {re.sub(r"(?<=[a-z])(?=[A-Z])", "_", it).lower() for it in told}):
-        yield f"docs/DEFINITIONS.md does not say what the label {it} means"
+    # A label means the same everywhere: the page has a row for it, or each of its clauses states a word that begins with it. At one key, and
+    # at ranks after the first, a label stands for that of the first rank. The page explains no label twice, none with an exception, and none
+    # that no clause and no field has.
+    page = read("docs/DEFINITIONS.md")
     section = re.search(r"^## Labels of clauses\n(.*?)^## ", page, re.M | re.S)[1]
-    explained = {it for row in re.findall(r"^\| (.*?) \|", section, re.M) for it in re.findall(r"`(\w+)`", row)}
+    rows = [it for row in re.findall(r"^\| (.*?) \|", section, re.M) for it in re.findall(r"`(\w+)`", row)]
+    explained = {*rows}
+    stated = {it: [words for crate in CRATES[1:] for words in labels[crate].get(it, ())] for it in set().union(*(labels[it] for it in CRATES[1:]))}
+    for it in others(stated, explained):
+        if not all(any(word.startswith(it) for word in words) for words in stated[it]):
+            yield f"docs/DEFINITIONS.md has no row for the label {it}, and a clause states no word that begins with it"
+    yield from (f"docs/DEFINITIONS.md explains the label {it} twice" for it in sorted(explained) if rows.count(it) > 1)
+    if re.search(r"\bexceptions?\b|\bbut for\b", section.partition("\n|")[0]):
+        yield "docs/DEFINITIONS.md says that a label has two meanings: give one of them another label"
     fields = {it for path in files("iddqd_*", SPECS) for it in re.findall(r"^ +pub (\w+) :", read(path), re.M)}
     for it in sorted(explained - fields.union(*labels.values())):
         yield f"docs/DEFINITIONS.md says what the label {it} means, and no clause has it"

@@ -12,6 +12,8 @@ use Rattle.iddqd_store.specs.Map.Written.{map_with}
 use Rattle.iddqd_bi.specs.declared.ref_mut.RefMut.{RefMut}
 use Rattle.iddqd_bi.specs.RefMuts.{ref_with}
 
-module _ {T S K1 K2 H : Type 0} {of : item.Ghosts T K1 K2} {eq1 : equal.Ghosts K1} {input1 : hash.Ghosts K1} {eq2 : equal.Ghosts K2} {input2 : hash.Ghosts K2} {build : builder.Ghosts S H} {hashes : hasher.Ghosts H} (r : RefMut T S K1 K2 H of eq1 input1 eq2 input2 build hashes) where
-  pub ref_written : (f : T → T) (p : is_some (get (map_with r.map.now r.slot f).slots r.slot) ≡ true) → record { map = record r.map { now = map_with r.map.now r.slot f }; slot = r.slot; live = p } ≡ ref_with r f
+module _ {T S K1 K2 H : Type 0} {of : item.Ghosts T K1 K2} {eq1 : equal.Ghosts K1} {input1 : hash.Ghosts K1} {eq2 : equal.Ghosts K2}
+    {input2 : hash.Ghosts K2} {build : builder.Ghosts S H} {hashes : hasher.Ghosts H} (r : RefMut T S K1 K2 H of eq1 input1 eq2 input2 build hashes) where
+  pub ref_written : (f : T → T) (p : is_some (get (map_with r.map.now r.slot f).slots r.slot) ≡ true)
+      → record { map = record r.map { now = map_with r.map.now r.slot f }; slot = r.slot; live = p } ≡ ref_with r f
   ref_written f p = ap (λ q. record (ref_with r f) { live = q }) (Bool-set _ _ p (ref_with r f).live)

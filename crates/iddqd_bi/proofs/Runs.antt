@@ -4,17 +4,22 @@ use Rattle.iddqd_store.specs.Bag.{AreLawful, IsSound, agrees}
 use Rattle.iddqd_store.specs.Runs.Reply.{Reply}
 use Rattle.iddqd_store.specs.Runs.Run.{Run}
 use Rattle.iddqd_store.specs.Runs.Step.{State}
-use Rattle.iddqd_store.proofs.RunLemmas.Steps.{IsSound-InsertsUnique, IsSound-InsertsOverwrite, IsSound-Gets, IsSound-Tells, IsSound-Removes, IsSound-Reserves, IsSound-ShrinksTo, IsSound-Clears, IsSound-Sizes, IsSound-Lists, IsSound-Extends, IsSound-ExtendsUnique, IsSound-EntryInserts, IsSound-EntryRemoves, IsSound-OrInserts, IsSound-Replaces, IsSound-Sets, run_keeps}
+use Rattle.iddqd_store.proofs.RunLemmas.Steps.{IsSound-InsertsUnique, IsSound-InsertsOverwrite, IsSound-Gets, IsSound-Tells, IsSound-Removes, IsSound-Reserves}
+use Rattle.iddqd_store.proofs.RunLemmas.Steps.{IsSound-ShrinksTo, IsSound-Clears, IsSound-Sizes, IsSound-Lists, IsSound-Extends, IsSound-ExtendsUnique}
+use Rattle.iddqd_store.proofs.RunLemmas.Steps.{IsSound-EntryInserts, IsSound-EntryRemoves, IsSound-OrInserts, IsSound-Replaces, IsSound-Sets, run_keeps}
 use Rattle.iddqd_bi.specs.Keys.{ranks, has1, has2, has_both, key_tests}
 use Rattle.iddqd_bi.specs.Step.{Step}
 use Rattle.iddqd_bi.specs.declared.item.BiHashItem as item
 use Rattle.iddqd_bi.specs.declared.command.BiCommand.{BiCommand}
-use Rattle.iddqd_bi.specs.declared.command.BiCommand.TheVariants.{InsertUnique, InsertOverwrite, Get1, Get2, GetUnique, Contains1, Contains2, ContainsUnique, Remove1, Remove2, RemoveUnique, Reserve, ShrinkTo, ShrinkToFit, Clear, Len, Items, Extend, ExtendUnique, EntryInsert, EntryRemove, OrInsert, Replace1, Replace2, Set1, Set2}
+use Rattle.iddqd_bi.specs.declared.command.BiCommand.TheVariants.{InsertUnique, InsertOverwrite, Get1, Get2, GetUnique, Contains1, Contains2, ContainsUnique}
+use Rattle.iddqd_bi.specs.declared.command.BiCommand.TheVariants.{Remove1, Remove2, RemoveUnique, Reserve, ShrinkTo, ShrinkToFit, Clear, Len, Items, Extend}
+use Rattle.iddqd_bi.specs.declared.command.BiCommand.TheVariants.{ExtendUnique, EntryInsert, EntryRemove, OrInsert, Replace1, Replace2, Set1, Set2}
 
 module _ {T D K1 K2 : Type 0} (of : item.Ghosts T K1 K2) (eq1 : K1 → K1 → Bool) (eq2 : K2 → K2 → Bool) (put : T → D → T) (laws : AreLawful (ranks of eq1 eq2))
     (keeps : (x : T) (d : D) → agrees (ranks of eq1 eq2) x (put x d) ≡ true) where
   -- the same holds for one step
-  pub IsSound-Step : (old new : State T) (command : BiCommand T D K1 K2) (reply : Reply T D) → IsSound (ranks of eq1 eq2) old.items → Step of eq1 eq2 put old command reply new → IsSound (ranks of eq1 eq2) new.items
+  pub IsSound-Step : (old new : State T) (command : BiCommand T D K1 K2) (reply : Reply T D)
+      → IsSound (ranks of eq1 eq2) old.items → Step of eq1 eq2 put old command reply new → IsSound (ranks of eq1 eq2) new.items
   IsSound-Step old new (InsertUnique x) reply sound step = IsSound-InsertsUnique (ranks of eq1 eq2) laws old new sound x reply step
   IsSound-Step old new (InsertOverwrite x) reply sound step = IsSound-InsertsOverwrite (ranks of eq1 eq2) laws old new sound x reply step
   IsSound-Step old new (Get1 k) reply sound step = IsSound-Gets (ranks of eq1 eq2) laws old new sound (has1 of eq1 k) reply step
@@ -42,7 +47,9 @@ module _ {T D K1 K2 : Type 0} (of : item.Ghosts T K1 K2) (eq1 : K1 → K1 → Bo
   IsSound-Step old new (Set1 k d) reply sound step = IsSound-Sets (ranks of eq1 eq2) laws old new sound put keeps (has1 of eq1 k) d reply step
   IsSound-Step old new (Set2 k d) reply sound step = IsSound-Sets (ranks of eq1 eq2) laws old new sound put keeps (has2 of eq2 k) d reply step
 
-  pub IsSound-Run : {S F : Type 0} (took : S → Reply T D → Result (Unit {0}) F → S → Type 0) (commands : List (BiCommand T D K1 K2)) (old new : State T) (sink after : S) (answer : Result (Unit {0}) F) → IsSound (ranks of eq1 eq2) old.items → Run (Step of eq1 eq2 put) took old sink commands answer new after → IsSound (ranks of eq1 eq2) new.items
+  pub IsSound-Run : {S F : Type 0} (took : S → Reply T D → Result (Unit {0}) F → S → Type 0) (commands : List (BiCommand T D K1 K2))
+      (old new : State T) (sink after : S) (answer : Result (Unit {0}) F) → IsSound (ranks of eq1 eq2) old.items
+      → Run (Step of eq1 eq2 put) took old sink commands answer new after → IsSound (ranks of eq1 eq2) new.items
   IsSound-Run took commands old new sink after answer sound run =
       run_keeps (Step of eq1 eq2 put) took (λ (s : State T). IsSound (ranks of eq1 eq2) s.items) (λ old new command reply before step fits. IsSound-Step old new command reply before step)
       commands old new sink after answer sound run

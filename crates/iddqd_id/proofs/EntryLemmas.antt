@@ -31,7 +31,8 @@ found_some of stands o found none = by_item (found_item o) refl found.live
     by_item None is some = absurd (cc)
     by_item (Some y) is some = let both = ap option_to_list is in let only = found.only in absurd (cc (both, only, none))
 
-module _ {T S Q Key H : Type 0} {of : item.Ghosts T Key} {eq : equal.Ghosts Key} {input : hash.Ghosts Key} {build : builder.Ghosts S H} {hashes : hasher.Ghosts H} {q : query.Ghosts Q Key} {w : hash.Ghosts Q} {e : equal.Ghosts Q} where
+module _ {T S Q Key H : Type 0} {of : item.Ghosts T Key} {eq : equal.Ghosts Key} {input : hash.Ghosts Key}
+    {build : builder.Ghosts S H} {hashes : hasher.Ghosts H} {q : query.Ghosts Q Key} {w : hash.Ghosts Q} {e : equal.Ghosts Q} where
   -- an item that `or_insert` inserted is in the map if its key found nothing
   pub went_in : (n : Entry T S Q Key H of eq input build hashes q w e) (r : RefMut T S Key H of eq input build hashes) (x : T) (k : Q) (old : Map T S) →
       OnVacant n (λ v. PutsIn v x (Ok r)) → IsFound n → entry_key n ≡ k → entry_map n ≡ old →

@@ -50,20 +50,26 @@ module _ {T : Type 0} where
   pub only_passes : (test : T → Bool) (bag : List T) (x : T) → IsOnly test bag (Some x) → test x ≡ true
   only_passes test bag x only = (subst (λ l. AllByRecursion (λ y. test y ≡ true) l) (sym only) (each_passes test bag)).0
 
-module _ {T S Q Key H : Type 0} (of : item.Ghosts T Key) (eq : Key → Key → Bool) (laws : IsEquivalence eq) (stands : Q → Key → Bool) (respects : (q : Q) (x y : Key) → stands q x ≡ true → stands q y ≡ eq x y) (o : OccupiedEntry T S Q Key H) where
+module _ {T S Q Key H : Type 0} (of : item.Ghosts T Key) (eq : Key → Key → Bool) (laws : IsEquivalence eq)
+    (stands : Q → Key → Bool) (respects : (q : Q) (x y : Key) → stands q x ≡ true → stands q y ≡ eq x y) (o : OccupiedEntry T S Q Key H) where
   -- an entry still finds its item after a write that keeps the item's key
-  pub written_at : (f : T → T) (x : T) → found_item o ≡ Some x → eq (of.key x) (of.key (f x)) ≡ true → HasFound of stands o → IsSound (ranks of eq) (bag o.map.now) → IsPermutation (bag (entry_with o f).map.now) (swap (ranks of eq) (bag o.map.now) x (f x)) → HasFound of stands (entry_with o f)
+  pub written_at : (f : T → T) (x : T) → found_item o ≡ Some x → eq (of.key x) (of.key (f x)) ≡ true → HasFound of stands o → IsSound (ranks of eq) (bag o.map.now)
+      → IsPermutation (bag (entry_with o f).map.now) (swap (ranks of eq) (bag o.map.now) x (f x)) → HasFound of stands (entry_with o f)
   written_at f x there same found sound swaps =
       let lawful = AreLawful-ranks of laws in
       let agree : agrees (ranks of eq) x (f x) ≡ true = rw same refl in
-      let after : IsSound (ranks of eq) (bag (entry_with o f).map.now) = IsSound-IsPermutation (ranks of eq) lawful _ _ (IsPermutation-sym _ _ swaps) (IsSound-swap (ranks of eq) lawful (bag o.map.now) x (f x) agree sound) in
+      let after : IsSound (ranks of eq) (bag (entry_with o f).map.now) =
+      IsSound-IsPermutation (ranks of eq) lawful _ _ (IsPermutation-sym _ _ swaps) (IsSound-swap (ranks of eq) lawful (bag o.map.now) x (f x) agree sound) in
       let only : IsOnly (has of stands o.query) (bag o.map.now) (Some x) = ap option_to_list (sym there) ∙ found.only in
       let passed : stands o.query (of.key x) ≡ true = only_passes (has of stands o.query) (bag o.map.now) x only in
       let passes : stands o.query (of.key (f x)) ≡ true = respects o.query (of.key x) (of.key (f x)) passed ∙ same in
-      let here = finds_here (ranks of eq) (key_tests of stands o.query) (omega arith) (AreKeyTests-queries of eq stands respects o.query) (entry_with o f).map.now.slots o.slot (f x) (passes, tt) after (item_written o.map.now o.slot f x there) in
+      let here = finds_here (ranks of eq) (key_tests of stands o.query) (omega arith) (AreKeyTests-queries of eq stands respects o.query)
+      (entry_with o f).map.now.slots o.slot (f x) (passes, tt) after (item_written o.map.now o.slot f x there) in
       record { only = here.found.0.only; live = here.found.0.live }
 
-  pub finds_written : (f : T → T) → ((x : T) → eq (of.key x) (of.key (f x)) ≡ true) → HasFound of stands o → IsSound (ranks of eq) (bag o.map.now) → ((x : T) → found_item o ≡ Some x → IsPermutation (bag (entry_with o f).map.now) (swap (ranks of eq) (bag o.map.now) x (f x))) → HasFound of stands (entry_with o f)
+  pub finds_written : (f : T → T) → ((x : T) → eq (of.key x) (of.key (f x)) ≡ true) → HasFound of stands o
+      → IsSound (ranks of eq) (bag o.map.now)
+      → ((x : T) → found_item o ≡ Some x → IsPermutation (bag (entry_with o f).map.now) (swap (ranks of eq) (bag o.map.now) x (f x))) → HasFound of stands (entry_with o f)
   finds_written f same found sound swaps = by_slot (found_item o) refl found.live
     where
       by_slot : (i : Option T) → found_item o ≡ i → IsSome i → HasFound of stands (entry_with o f)

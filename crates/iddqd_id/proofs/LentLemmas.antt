@@ -27,7 +27,8 @@ module _ {T S : Type 0} (test : T → Bool) (m : Map T S) (slot : ℕ) (found : 
       it.1 ∙ ap Some (same_head {x = it.0} {y = x} (found_one test m.slots slot it.0 found it.1 ∙ sym only))
 
   -- what is written to it is the data of the only item that passes the test
-  pub writes_found : {D : Type 0} (put : T → D → T) (ranks : Ranks T) (d : D) → ((x : T) → get m.slots slot ≡ Some x → IsPermutation (bag (map_with m slot (λ y. put y d))) (swap ranks (bag m) x (put x d))) → WritesTo put ranks test m d (map_with m slot (λ y. put y d))
+  pub writes_found : {D : Type 0} (put : T → D → T) (ranks : Ranks T) (d : D)
+      → ((x : T) → get m.slots slot ≡ Some x → IsPermutation (bag (map_with m slot (λ y. put y d))) (swap ranks (bag m) x (put x d))) → WritesTo put ranks test m d (map_with m slot (λ y. put y d))
   writes_found put ranks d swaps = record {
     items = λ x only. swaps x (found_there x only);
     same_room = refl;

@@ -46,13 +46,15 @@ numbers_first text rest xs at e r x =
     rw (x, r, whole at text, e) (after_none (numbers_of (fields_behind (drop (field_len text) text))) ∙ ap (λ fields. numbers_of (drop 1 fields)) (sym (cut_line text)))
 
 -- the field after a space, and the others
-behind : (rest fields : List ℕ) → 1 ≤ length rest → fields ≡ take (length rest - 1) (drop 1 rest) → fields_behind rest ≡ before_first (λ b. b == 32) fields ∷ fields_behind (drop (position_or_len (λ b. b == 32) fields) fields)
+behind : (rest fields : List ℕ) → 1 ≤ length rest → fields ≡ take (length rest - 1) (drop 1 rest)
+    → fields_behind rest ≡ before_first (λ b. b == 32) fields ∷ fields_behind (drop (position_or_len (λ b. b == 32) fields) fields)
 behind [] fields h e = absurd (omega arith)
 behind (space ∷ bytes) fields h e = let f : fields ≡ bytes = e ∙ whole 1 (space ∷ bytes) in rw f (cut_line bytes)
 
 -- a field that spells a number
 pub numbers_more : (rest fields after xs ys : List ℕ) (n : ℕ) (all : Option (List ℕ))
-    → 1 ≤ length rest → fields ≡ take (length rest - 1) (drop 1 rest) → number_of (before_first (λ b. b == 32) fields) ≡ Some n → after ≡ drop (position_or_len (λ b. b == 32) fields) fields → ys ≡ xs ++ n ∷ []
+    → 1 ≤ length rest → fields ≡ take (length rest - 1) (drop 1 rest) → number_of (before_first (λ b. b == 32) fields) ≡ Some n
+    → after ≡ drop (position_or_len (λ b. b == 32) fields) fields → ys ≡ xs ++ n ∷ []
     → after_all xs (numbers_of (fields_behind rest)) ≡ all → after_all ys (numbers_of (fields_behind after)) ≡ all
 numbers_more rest fields after xs ys n all h e m r w v =
     rw (w, r) (sym (after_one xs n (numbers_of (fields_behind (drop (position_or_len (λ b. b == 32) fields) fields))))
@@ -82,7 +84,8 @@ module _ {S : Type 0} (command_of : Word → List ℕ → Option S) where
   pub without_word : (line : List ℕ) (at : ℕ) → at ≡ field_len line → word_of (take at line) ≡ None → command_of_line command_of line ≡ None
   without_word line at e h =
       let named : word_of (take (field_len line) line) ≡ None = rw (← e) h in
-      ap (command_of_fields command_of) (cut_line line) ∙ ap (λ (o : Option Word). option_and_then (λ word. option_and_then (command_of word) (numbers_of (fields_behind (drop (field_len line) line)))) o) named
+      ap (command_of_fields command_of) (cut_line line)
+      ∙ ap (λ (o : Option Word). option_and_then (λ word. option_and_then (command_of word) (numbers_of (fields_behind (drop (field_len line) line)))) o) named
 
   -- a line with a word, and with these numbers, if there are any
   pub with_word : (line rest : List ℕ) (at : ℕ) (word : Word) (found : Option (List ℕ)) → at ≡ field_len line → word_of (take at line) ≡ Some word → rest ≡ take (length line - at) (drop at line)

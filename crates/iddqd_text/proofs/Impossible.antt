@@ -135,7 +135,8 @@ not_printed_after_a_removal prints = by_replies prints.0 (from_empty Steps remov
     by_second (taken None) three chain e = omega (arith, ap (at 3) e)
     by_second (taken (Some y)) three chain e =
         let is : y ≡ first = the_member chain.1.0.items chain.1.3.0.items first y chain.1.1.1 chain.1.3.1.1 in
-        subst (λ (x : BiItem). FromEmpty Steps removing (done ∷ taken (Some x) ∷ three ∷ []) → removing_text ≡ flat_map (line_of numbers) (done ∷ taken (Some x) ∷ three ∷ []) → ⊥) (sym is) (by_third three) chain e
+        subst (λ (x : BiItem). FromEmpty Steps removing (done ∷ taken (Some x) ∷ three ∷ []) → removing_text
+        ≡ flat_map (line_of numbers) (done ∷ taken (Some x) ∷ three ∷ []) → ⊥) (sym is) (by_third three) chain e
     by_second two three chain e = absurd (chain.1.3.1)
 
     by_first : (one two three : Reply BiItem ℕ) → FromEmpty Steps removing (one ∷ two ∷ three ∷ []) → removing_text ≡ flat_map (line_of numbers) (one ∷ two ∷ three ∷ []) → ⊥

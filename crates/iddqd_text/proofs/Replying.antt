@@ -23,7 +23,13 @@ module _ {C T D S : Type 0} (Steps : State T → C → Reply T D → State T →
       → Replied mid then (kept ++ reply ∷ []) commands new after → Replied old sink kept (command ∷ commands) new after
   one_more old mid new sink then after kept command commands reply s fits e r = (
     reply ∷ r.0,
-    (mid, kept ++ reply ∷ [], Ok tt, (reply, s, fits, refl), subst (λ (ys : List (Reply T D)). Run Steps KeepsReply mid (kept ++ reply ∷ []) commands (Ok tt) new ys) (append_assoc kept (reply ∷ []) r.0) r.1),
+    (
+      mid,
+      kept ++ reply ∷ [],
+      Ok tt,
+      (reply, s, fits, refl),
+      subst (λ (ys : List (Reply T D)). Run Steps KeepsReply mid (kept ++ reply ∷ []) commands (Ok tt) new ys) (append_assoc kept (reply ∷ []) r.0) r.1,
+    ),
     r.2 ∙ (ap (λ (ys : List ℕ). ys ++ flat_map line r.0) e ∙ append_assoc (text sink) (line reply) (flat_map line r.0)),
   )
 
@@ -46,7 +52,8 @@ module _ {C T D S F : Type 0} (Steps : State T → C → Reply T D → State T �
       after_first old h.0 new sink h.1 after kept command commands h.2 answer h.3 h.4 (λ more r. replied commands h.0 new h.1 after more answer r u e) u e
 
 -- from a new map and an empty text
-pub prints : {C T D S F : Type 0} (Steps : State T → C → Reply T D → State T → Type 0) (line : Reply T D → List ℕ) (text : S → List ℕ) (commands : List C) (old new : State T) (sink after : S) (answer : Result (Unit {0}) F) (u : Unit {0})
+pub prints : {C T D S F : Type 0} (Steps : State T → C → Reply T D → State T → Type 0) (line : Reply T D → List ℕ)
+    (text : S → List ℕ) (commands : List C) (old new : State T) (sink after : S) (answer : Result (Unit {0}) F) (u : Unit {0})
     → old ≡ empty_state → text sink ≡ [] → answer ≡ Ok u → Run Steps (into_lines {F = F} text line) old sink commands answer new after
     → Prints Steps line commands (text after)
 prints Steps line text commands old new sink after answer u e f k h =

@@ -218,7 +218,8 @@ too_few_for_three_keys = refl
 addition_of_none_of_three_keys : command_of_line three_keys.command_of (codes "addall") ≡ Some (add_all [])
 addition_of_none_of_three_keys = refl
 
-addition_of_two_of_three_keys : command_of_line three_keys.command_of (codes "addall 2 20 200 0 3 30 300 9") ≡ Some (add_all (record { key1 = 2; key2 = 20; key3 = 200; value = 0 } ∷ record { key1 = 3; key2 = 30; key3 = 300; value = 9 } ∷ []))
+addition_of_two_of_three_keys : command_of_line three_keys.command_of (codes "addall 2 20 200 0 3 30 300 9")
+    ≡ Some (add_all (record { key1 = 2; key2 = 20; key3 = 200; value = 0 } ∷ record { key1 = 3; key2 = 30; key3 = 300; value = 9 } ∷ []))
 addition_of_two_of_three_keys = refl
 
 two_numbers_left_over : command_of_line three_keys.command_of (codes "addall 1 2 3 4 5 6") ≡ None

@@ -273,6 +273,7 @@ displaced_three = replies_from three_keys.Steps displacing_three displacing_thre
   ),
 )
 
-prints_displaced_three : IsOutcome Tri (codes "new 1 10 100 7\nnew 2 20 200 8\nnew 3 30 300 9\nput 1 20 300 5\nlist\n") Done (codes "ok\nok\nok\nout (1 10 100 7) (2 20 200 8) (3 30 300 9)\nlist (1 20 300 5)\n")
+prints_displaced_three : IsOutcome Tri (codes "new 1 10 100 7\nnew 2 20 200 8\nnew 3 30 300 9\nput 1 20 300 5\nlist\n") Done
+    (codes "ok\nok\nok\nout (1 10 100 7) (2 20 200 8) (3 30 300 9)\nlist (1 20 300 5)\n")
 unfolding printed digits
 prints_displaced_three = (displacing_three, refl, (displacing_three_replies, displaced_three, refl))

@@ -36,17 +36,25 @@ module _ {T S K1 K2 K3 H : Type 0} (m : OccupiedEntryMut T S K1 K2 K3 H) where
 
 module _ {T S Q1 Q2 Q3 K1 K2 K3 H : Type 0} (of : item.Ghosts T K1 K2 K3) (stands1 : Q1 → K1 → Bool) (stands2 : Q2 → K2 → Bool) (stands3 : Q3 → K3 → Bool) where
   -- the same where `into_mut` holds what an occupied entry found
-  pub writes_occupied : (ranks : Ranks T) (write : T → T) (o : OccupiedEntry T S Q1 Q2 Q3 K1 K2 K3 H) (m : OccupiedEntryMut T S K1 K2 K3 H) (x : T) (k1 : Q1) (k2 : Q2) (k3 : Q3) (old : Map T S) (new : List T) (found : Option T) →
+  pub writes_occupied : (ranks : Ranks T) (write : T → T) (o : OccupiedEntry T S Q1 Q2 Q3 K1 K2 K3 H)
+      (m : OccupiedEntryMut T S K1 K2 K3 H) (x : T) (k1 : Q1) (k2 : Q2) (k3 : Q3) (old : Map T S) (new : List T) (found : Option T) →
       HasFound (key_tests of stands1 stands2 stands3) o → HoldsFound of stands1 stands2 stands3 o m → m.map.now ≡ o.map.now → o.query1 ≡ k1 → o.query2 ≡ k2 → o.query3 ≡ k3 → o.map.now ≡ old →
       found ≡ held_unique m → is_some found ≡ true → IfSome found (λ y. IsPermutation new (swap ranks (bag m.map.now) y (write y))) →
       InsertsOrWrites ranks write (bag old) x (bags.entry (key_tests of stands1 stands2 stands3 k1 k2 k3) (bag old)) new
   writes_occupied ranks write o m x k1 k2 k3 old new found has holds same is1 is2 is3 is item some swaps =
-      rw (← is1, ← is2, ← is3, ← is) (writes_found (bag o.map.now) x ranks write (listing (entry_tests (key_tests of stands1 stands2 stands3) o) (bag o.map.now)) _ (bag m.map.now) new (held_entry m) found (held_unique m) has.some (ap (λ (n : Map T S). bag n) same) holds.value (unique_held m) (none_held m) item some swaps)
+      rw (← is1, ← is2, ← is3, ← is) (writes_found (bag o.map.now) x ranks write
+      (listing (entry_tests (key_tests of stands1 stands2 stands3) o) (bag o.map.now)) _ (bag m.map.now) new (held_entry m) found
+      (held_unique m) has.some (ap (λ (n : Map T S). bag n) same) holds.value (unique_held m) (none_held m) item some swaps)
 
-module _ {T S Q1 Q2 Q3 K1 K2 K3 H : Type 0} {of : item.Ghosts T K1 K2 K3} {eq1 : equal.Ghosts K1} {input1 : hash.Ghosts K1} {eq2 : equal.Ghosts K2} {input2 : hash.Ghosts K2} {eq3 : equal.Ghosts K3} {input3 : hash.Ghosts K3} {build : builder.Ghosts S H} {hashes : hasher.Ghosts H} {q1 : query.Ghosts Q1 K1} {w1 : hash.Ghosts Q1} {e1 : equal.Ghosts Q1} {q2 : query.Ghosts Q2 K2} {w2 : hash.Ghosts Q2} {e2 : equal.Ghosts Q2} {q3 : query.Ghosts Q3 K3} {w3 : hash.Ghosts Q3} {e3 : equal.Ghosts Q3} where
+module _ {T S Q1 Q2 Q3 K1 K2 K3 H : Type 0} {of : item.Ghosts T K1 K2 K3} {eq1 : equal.Ghosts K1} {input1 : hash.Ghosts K1}
+    {eq2 : equal.Ghosts K2} {input2 : hash.Ghosts K2}
+    {eq3 : equal.Ghosts K3} {input3 : hash.Ghosts K3} {build : builder.Ghosts S H} {hashes : hasher.Ghosts H} {q1 : query.Ghosts Q1 K1}
+    {w1 : hash.Ghosts Q1} {e1 : equal.Ghosts Q1} {q2 : query.Ghosts Q2 K2} {w2 : hash.Ghosts Q2} {e2 : equal.Ghosts Q2} {q3 : query.Ghosts Q3 K3} {w3 : hash.Ghosts Q3} {e3 : equal.Ghosts Q3} where
   -- what is stored in an entry's items is stored in those that its keys name
-  pub stores_named : {F D : Type 0} (step : F → T → D → F → Type 0) (put : T → D → T) (ranks : Ranks T) (f : F) (e r : Entry T S Q1 Q2 Q3 K1 K2 K3 H of eq1 input1 eq2 input2 eq3 input3 build hashes q1 w1 e1 q2 w2 e2 q3 w3 e3) (k1 : Q1) (k2 : Q2) (k3 : Q3) (m : Map T S) →
-      OnVacant e (λ v. r ≡ e) → OnOccupied e (λ o. Stores step put ranks f (listing (entry_tests (key_tests of q1.stands_for q2.stands_for q3.stands_for) o) (bag o.map.now)) (bag o.map.now) (bag (entry_map r))) →
+  pub stores_named : {F D : Type 0} (step : F → T → D → F → Type 0) (put : T → D → T) (ranks : Ranks T) (f : F)
+      (e r : Entry T S Q1 Q2 Q3 K1 K2 K3 H of eq1 input1 eq2 input2 eq3 input3 build hashes q1 w1 e1 q2 w2 e2 q3 w3 e3) (k1 : Q1) (k2 : Q2) (k3 : Q3) (m : Map T S) →
+      OnVacant e (λ v. r ≡ e) → OnOccupied e
+      (λ o. Stores step put ranks f (listing (entry_tests (key_tests of q1.stands_for q2.stands_for q3.stands_for) o) (bag o.map.now)) (bag o.map.now) (bag (entry_map r))) →
       entry_key1 e ≡ k1 → entry_key2 e ≡ k2 → entry_key3 e ≡ k3 → entry_map e ≡ m →
       Stores step put ranks f (listing (key_tests of q1.stands_for q2.stands_for q3.stands_for k1 k2 k3) (bag m)) (bag m) (bag (entry_map r))
   stores_named step put ranks f (Vacant v) r k1 k2 k3 m stays stored is1 is2 is3 is =
@@ -54,25 +62,30 @@ module _ {T S Q1 Q2 Q3 K1 K2 K3 H : Type 0} {of : item.Ghosts T K1 K2 K3} {eq1 :
   stores_named step put ranks f (Occupied o) r k1 k2 k3 m stays stored is1 is2 is3 is = rw (← is1, ← is2, ← is3, ← is) stored
 
   -- what `or_insert` leaves if it succeeds
-  pub inserted_or_held : (e : Entry T S Q1 Q2 Q3 K1 K2 K3 H of eq1 input1 eq2 input2 eq3 input3 build hashes q1 w1 e1 q2 w2 e2 q3 w3 e3) (m : OccupiedEntryMut T S K1 K2 K3 H) (x : T) (k1 : Q1) (k2 : Q2) (k3 : Q3) (old : Map T S) →
+  pub inserted_or_held : (e : Entry T S Q1 Q2 Q3 K1 K2 K3 H of eq1 input1 eq2 input2 eq3 input3 build hashes q1 w1 e1 q2 w2 e2 q3 w3 e3)
+      (m : OccupiedEntryMut T S K1 K2 K3 H) (x : T) (k1 : Q1) (k2 : Q2) (k3 : Q3) (old : Map T S) →
       OnVacant e (λ v. PutsIn v x (Ok m)) → OnOccupied e (λ o. KeepsFound of q1.stands_for q2.stands_for q3.stands_for o {E = EntryRefusal T S K1 K2 K3 H} (Ok m)) → IsFound e →
       entry_key1 e ≡ k1 → entry_key2 e ≡ k2 → entry_key3 e ≡ k3 → entry_map e ≡ old →
       IsInsertedOrHeld (bag old) x (bags.entry (key_tests of q1.stands_for q2.stands_for q3.stands_for k1 k2 k3) (bag old)) (bag m.map.now) (held_entry m)
   inserted_or_held (Vacant v) m x k1 k2 k3 old put kept found is1 is2 is3 is =
       rw (← is1, ← is2, ← is3, ← is, v.absent) (put.gains_and_holds.gains.items, put.gains_and_holds.unique)
   inserted_or_held (Occupied o) m x k1 k2 k3 old put kept found is1 is2 is3 is =
-      rw (← is1, ← is2, ← is3, ← is) (occupied_as (bag o.map.now) x (listing (entry_tests (key_tests of q1.stands_for q2.stands_for q3.stands_for) o) (bag o.map.now)) _ (bag m.map.now) (held_entry m) found.some (ap (λ (n : Map T S). bag n) kept.unchanged) (kept.holds found).value)
+      rw (← is1, ← is2, ← is3, ← is) (occupied_as (bag o.map.now) x (listing (entry_tests (key_tests of q1.stands_for q2.stands_for q3.stands_for) o) (bag o.map.now)) _ (bag m.map.now)
+      (held_entry m) found.some (ap (λ (n : Map T S). bag n) kept.unchanged) (kept.holds found).value)
 
   -- an item that `or_insert` inserted is in the map if its keys found nothing
-  pub went_in : (e : Entry T S Q1 Q2 Q3 K1 K2 K3 H of eq1 input1 eq2 input2 eq3 input3 build hashes q1 w1 e1 q2 w2 e2 q3 w3 e3) (m : OccupiedEntryMut T S K1 K2 K3 H) (x : T) (k1 : Q1) (k2 : Q2) (k3 : Q3) (old : Map T S) →
+  pub went_in : (e : Entry T S Q1 Q2 Q3 K1 K2 K3 H of eq1 input1 eq2 input2 eq3 input3 build hashes q1 w1 e1 q2 w2 e2 q3 w3 e3)
+      (m : OccupiedEntryMut T S K1 K2 K3 H) (x : T) (k1 : Q1) (k2 : Q2) (k3 : Q3) (old : Map T S) →
       OnVacant e (λ v. PutsIn v x (Ok m)) → IsFound e → entry_key1 e ≡ k1 → entry_key2 e ≡ k2 → entry_key3 e ≡ k3 → entry_map e ≡ old →
       listing (key_tests of q1.stands_for q2.stands_for q3.stands_for k1 k2 k3) (bag old) ≡ [] → IsPermutation (bag m.map.now) (x ∷ bag old)
   went_in (Vacant v) m x k1 k2 k3 old put found is1 is2 is3 is none = rw (← is) put.gains_and_holds.gains.items
   went_in (Occupied o) m x k1 k2 k3 old put found is1 is2 is3 is none = absurd (found.some (rw (is1, is2, is3, is) none))
 
   -- if its keys found something, the map is as it was
-  pub stayed : (e : Entry T S Q1 Q2 Q3 K1 K2 K3 H of eq1 input1 eq2 input2 eq3 input3 build hashes q1 w1 e1 q2 w2 e2 q3 w3 e3) (m : OccupiedEntryMut T S K1 K2 K3 H) (k1 : Q1) (k2 : Q2) (k3 : Q3) (old : Map T S) →
-      OnOccupied e (λ o. KeepsFound of q1.stands_for q2.stands_for q3.stands_for o {E = EntryRefusal T S K1 K2 K3 H} (Ok m)) → entry_key1 e ≡ k1 → entry_key2 e ≡ k2 → entry_key3 e ≡ k3 → entry_map e ≡ old →
+  pub stayed : (e : Entry T S Q1 Q2 Q3 K1 K2 K3 H of eq1 input1 eq2 input2 eq3 input3 build hashes q1 w1 e1 q2 w2 e2 q3 w3 e3)
+      (m : OccupiedEntryMut T S K1 K2 K3 H) (k1 : Q1) (k2 : Q2) (k3 : Q3) (old : Map T S) →
+      OnOccupied e (λ o. KeepsFound of q1.stands_for q2.stands_for q3.stands_for o {E = EntryRefusal T S K1 K2 K3 H} (Ok m))
+      → entry_key1 e ≡ k1 → entry_key2 e ≡ k2 → entry_key3 e ≡ k3 → entry_map e ≡ old →
       listing (key_tests of q1.stands_for q2.stands_for q3.stands_for k1 k2 k3) (bag old) ≢ [] → m.map.now ≡ old
   stayed (Vacant v) m k1 k2 k3 old kept is1 is2 is3 is some = absurd (some (rw (← is1, ← is2, ← is3, ← is) v.absent))
   stayed (Occupied o) m k1 k2 k3 old kept is1 is2 is3 is some = kept.unchanged ∙ is

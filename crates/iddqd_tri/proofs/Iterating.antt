@@ -12,7 +12,9 @@ use Rattle.iddqd_tri.specs.IterMuts.{stepped, rest_of, IsCounted, IsNextOf}
 use Rattle.iddqd_tri.specs.declared.iter_mut.IterMut.{IterMut}
 
 module _ {T S K1 K2 K3 H : Type 0} (it : IterMut T S K1 K2 K3 H) where
-  pub steps_to : {D : Type 0} (put : D → T → T) (name : GName) (slot n left : ℕ) → n ≡ slot → left ≡ one_fewer it.left → first_from it.map.now.slots it.next ≡ Some slot → ◌≡◌ {A = (GName × (D → IterMut T S K1 K2 K3 H)) ⊎ IterMut T S K1 K2 K3 H} (inl (name, λ w. record { map = record it.map { now = map_with it.map.now slot (put w) }; next = n + 1; left = left })) (inl (name, λ w. stepped it (put w)))
+  pub steps_to : {D : Type 0} (put : D → T → T) (name : GName) (slot n left : ℕ) → n ≡ slot → left ≡ one_fewer it.left
+      → first_from it.map.now.slots it.next ≡ Some slot → ◌≡◌ {A = (GName × (D → IterMut T S K1 K2 K3 H)) ⊎ IterMut T S K1 K2 K3 H}
+      (inl (name, λ w. record { map = record it.map { now = map_with it.map.now slot (put w) }; next = n + 1; left = left })) (inl (name, λ w. stepped it (put w)))
   steps_to {D} put name slot n left is fewer step =
       let ends : D → IterMut T S K1 K2 K3 H = λ w. record { map = record it.map { now = map_with it.map.now slot (put w) }; next = n + 1; left = left } in
       let steps : D → IterMut T S K1 K2 K3 H = λ w. stepped it (put w) in

@@ -16,11 +16,13 @@ use Rattle.iddqd_store.proofs.MapLemmas.{IsEquivalence-key, IsKeyTest-key}
 use Rattle.iddqd_tri.specs.Keys.{ranks, key_tests}
 use Rattle.iddqd_tri.specs.declared.item.TriHashItem as item
 
-pub AreLawful-ranks : {T K1 K2 K3 : Type 0} (of : item.Ghosts T K1 K2 K3) {eq1 : K1 → K1 → Bool} {eq2 : K2 → K2 → Bool} {eq3 : K3 → K3 → Bool} → IsEquivalence eq1 → IsEquivalence eq2 → IsEquivalence eq3 → AreLawful (ranks of eq1 eq2 eq3)
+pub AreLawful-ranks : {T K1 K2 K3 : Type 0} (of : item.Ghosts T K1 K2 K3) {eq1 : K1 → K1 → Bool} {eq2 : K2 → K2 → Bool} {eq3 : K3 → K3 → Bool}
+    → IsEquivalence eq1 → IsEquivalence eq2 → IsEquivalence eq3 → AreLawful (ranks of eq1 eq2 eq3)
 AreLawful-ranks of laws1 laws2 laws3 = (IsEquivalence-key _ of.key1 laws1, (IsEquivalence-key _ of.key2 laws2, (IsEquivalence-key _ of.key3 laws3, tt)))
 
 -- the same for ranks that are these
-pub AreLawful-are : {T K1 K2 K3 : Type 0} (of : item.Ghosts T K1 K2 K3) {eq1 : K1 → K1 → Bool} {eq2 : K2 → K2 → Bool} {eq3 : K3 → K3 → Bool} {given : Ranks T} → given ≡ ranks of eq1 eq2 eq3 → IsEquivalence eq1 → IsEquivalence eq2 → IsEquivalence eq3 → AreLawful given
+pub AreLawful-are : {T K1 K2 K3 : Type 0} (of : item.Ghosts T K1 K2 K3) {eq1 : K1 → K1 → Bool} {eq2 : K2 → K2 → Bool} {eq3 : K3 → K3 → Bool} {given : Ranks T}
+    → given ≡ ranks of eq1 eq2 eq3 → IsEquivalence eq1 → IsEquivalence eq2 → IsEquivalence eq3 → AreLawful given
 AreLawful-are of are laws1 laws2 laws3 = rw are (AreLawful-ranks of laws1 laws2 laws3)
 
 pub some_are : {X : Type 0} {x : X} {all rest : List X} → all ≡ x ∷ rest → 0 < length all
@@ -28,7 +30,8 @@ some_are are = rw are (omega arith)
 
 -- the hash of each key
 abbrev pub key_hashes : {T K1 K2 K3 S H : Type 0} → item.Ghosts T K1 K2 K3 → hash.Ghosts K1 → hash.Ghosts K2 → hash.Ghosts K3 → builder.Ghosts S H → hasher.Ghosts H → S → List (T → ℕ)
-key_hashes of hash1 hash2 hash3 build hashes s = key_hash of.key1 hash1.hash_input build hashes s ∷ key_hash of.key2 hash2.hash_input build hashes s ∷ key_hash of.key3 hash3.hash_input build hashes s ∷ []
+key_hashes of hash1 hash2 hash3 build hashes s =
+    key_hash of.key1 hash1.hash_input build hashes s ∷ key_hash of.key2 hash2.hash_input build hashes s ∷ key_hash of.key3 hash3.hash_input build hashes s ∷ []
 
 module _ {T K1 K2 K3 : Type 0} (of : item.Ghosts T K1 K2 K3) (eq1 : K1 → K1 → Bool) (eq2 : K2 → K2 → Bool) (eq3 : K3 → K3 → Bool) where
   -- items with equal keys agree
@@ -40,10 +43,14 @@ module _ {T K1 K2 K3 : Type 0} (of : item.Ghosts T K1 K2 K3) (eq1 : K1 → K1 �
   AreKeyTests-keys laws1 laws2 laws3 k1 k2 k3 = (IsKeyTest-key eq1 of.key1 laws1 k1, (IsKeyTest-key eq2 of.key2 laws2 k2, (IsKeyTest-key eq3 of.key3 laws3 k3, tt)))
 
 -- a query is a test for one key
-IsKeyTest-query : {T K Q : Type 0} (eq : K → K → Bool) (key : T → K) (stands : Q → K → Bool) → ((q : Q) (x y : K) → stands q x ≡ true → stands q y ≡ eq x y) → (q : Q) → IsKeyTest (λ x y. eq (key x) (key y)) (λ x. stands q (key x))
+IsKeyTest-query : {T K Q : Type 0} (eq : K → K → Bool) (key : T → K) (stands : Q → K → Bool)
+    → ((q : Q) (x y : K) → stands q x ≡ true → stands q y ≡ eq x y) → (q : Q) → IsKeyTest (λ x y. eq (key x) (key y)) (λ x. stands q (key x))
 IsKeyTest-query eq key stands respects q = λ x y has. sym (respects q (key x) (key y) has)
 
-module _ {T K1 K2 K3 Q1 Q2 Q3 : Type 0} (of : item.Ghosts T K1 K2 K3) (eq1 : K1 → K1 → Bool) (eq2 : K2 → K2 → Bool) (eq3 : K3 → K3 → Bool) (stands1 : Q1 → K1 → Bool) (stands2 : Q2 → K2 → Bool) (stands3 : Q3 → K3 → Bool) (respects1 : (q : Q1) (x y : K1) → stands1 q x ≡ true → stands1 q y ≡ eq1 x y) (respects2 : (q : Q2) (x y : K2) → stands2 q x ≡ true → stands2 q y ≡ eq2 x y) (respects3 : (q : Q3) (x y : K3) → stands3 q x ≡ true → stands3 q y ≡ eq3 x y) where
+module _ {T K1 K2 K3 Q1 Q2 Q3 : Type 0} (of : item.Ghosts T K1 K2 K3) (eq1 : K1 → K1 → Bool) (eq2 : K2 → K2
+    → Bool) (eq3 : K3 → K3
+    → Bool) (stands1 : Q1 → K1 → Bool) (stands2 : Q2 → K2 → Bool) (stands3 : Q3 → K3 → Bool) (respects1 : (q : Q1) (x y : K1) → stands1 q x ≡ true
+    → stands1 q y ≡ eq1 x y) (respects2 : (q : Q2) (x y : K2) → stands2 q x ≡ true → stands2 q y ≡ eq2 x y) (respects3 : (q : Q3) (x y : K3) → stands3 q x ≡ true → stands3 q y ≡ eq3 x y) where
   -- queries are tests
   pub AreKeyTests-queries : (k1 : Q1) (k2 : Q2) (k3 : Q3) → AreKeyTests (ranks of eq1 eq2 eq3) (key_tests of stands1 stands2 stands3 k1 k2 k3)
   AreKeyTests-queries k1 k2 k3 = (IsKeyTest-query eq1 of.key1 stands1 respects1 k1, (IsKeyTest-query eq2 of.key2 stands2 respects2 k2, (IsKeyTest-query eq3 of.key3 stands3 respects3 k3, tt)))
@@ -51,7 +58,9 @@ module _ {T K1 K2 K3 Q1 Q2 Q3 : Type 0} (of : item.Ghosts T K1 K2 K3) (eq1 : K1 
   -- an item with all keys conflicts with what they find
   module _ (x : T) (k1 : Q1) (k2 : Q2) (k3 : Q3) (same : differ (key_tests of stands1 stands2 stands3 k1 k2 k3) x ≡ None) (bag : List T) where
     pub order-all : order (ranks of eq1 eq2 eq3) bag x ≡ listing (key_tests of stands1 stands2 stands3 k1 k2 k3) bag
-    order-all = order-keys (ranks of eq1 eq2 eq3) (key_tests of stands1 stands2 stands3 k1 k2 k3) x (AreKeyTests-queries k1 k2 k3) (differ-none (key_tests of stands1 stands2 stands3 k1 k2 k3) x same) bag
+    order-all = order-keys (ranks of eq1 eq2 eq3) (key_tests of stands1 stands2 stands3 k1 k2 k3) x
+        (AreKeyTests-queries k1 k2 k3) (differ-none (key_tests of stands1 stands2 stands3 k1 k2 k3) x same) bag
 
     pub clash-all : listing (key_tests of stands1 stands2 stands3 k1 k2 k3) bag ≡ [] → clash (ranks of eq1 eq2 eq3) bag x ≡ []
-    clash-all none = clash-keys (ranks of eq1 eq2 eq3) (key_tests of stands1 stands2 stands3 k1 k2 k3) x (AreKeyTests-queries k1 k2 k3) (differ-none (key_tests of stands1 stands2 stands3 k1 k2 k3) x same) bag none
+    clash-all none = clash-keys (ranks of eq1 eq2 eq3) (key_tests of stands1 stands2 stands3 k1 k2 k3) x
+        (AreKeyTests-queries k1 k2 k3) (differ-none (key_tests of stands1 stands2 stands3 k1 k2 k3) x same) bag none

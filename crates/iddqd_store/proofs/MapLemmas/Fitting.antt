@@ -29,7 +29,8 @@ module _ {T S : Type 0} {certain : Type 0} {left : ℕ} {old now : Map T S} (so_
     pub full_not : certain → length (bag now) ≡ now.capacity → ⊥
     full_not fit full = not_full _ _ full (spare _ _ _ _ (so_far.fits fit).0 nearer)
 
-    more : (new : Map T S) → length (bag new) ≤ suc (length (bag now)) → now.capacity ≤ new.capacity → (length (bag now) < now.capacity → new.capacity ≡ now.capacity) → new.builder ≡ now.builder → HasRoomOn certain next old new
+    more : (new : Map T S) → length (bag new) ≤ suc (length (bag now)) → now.capacity ≤ new.capacity
+        → (length (bag now) < now.capacity → new.capacity ≡ now.capacity) → new.builder ≡ now.builder → HasRoomOn certain next old new
     more new few no_less same builder = record {
       no_less_room = le_trans so_far.no_less_room no_less;
       fits = λ fit.
@@ -71,7 +72,8 @@ pub no_batch : {T S : Type 0} (ranks : Ranks T) {certain : Type 0} {left : ℕ} 
 no_batch ranks m room = record { added = AddsTo-nil ranks (bag m); noted = StandAt-nil m.slots; room = room }
 
 module _ {T S : Type 0} {ranks : Ranks T} {certain : Type 0} {left : ℕ} {old now : Map T S} {notes : List ℕ} {xs : List T} (batch : InsertsBatch ranks certain left old now notes xs) where
-  pub one_more : {new : Map T S} {more : List ℕ} {x : T} (next : ℕ) → next < left → clash ranks (bag now) x ≡ [] → Gains now x new → ((ys : List T) → StandAt now.slots notes ys → StandAt new.slots more (ys ++ x ∷ [])) → InsertsBatch ranks certain next old new more (xs ++ x ∷ [])
+  pub one_more : {new : Map T S} {more : List ℕ} {x : T} (next : ℕ) → next < left → clash ranks (bag now) x ≡ [] → Gains now x new
+      → ((ys : List T) → StandAt now.slots notes ys → StandAt new.slots more (ys ++ x ∷ [])) → InsertsBatch ranks certain next old new more (xs ++ x ∷ [])
   one_more {new} {more} {x} next nearer free gains note = record {
     added = AddsTo-push ranks (bag old) (bag now) (bag new) xs x batch.added free gains.items;
     noted = note xs batch.noted;
@@ -82,7 +84,8 @@ module _ {T S : Type 0} {ranks : Ranks T} {certain : Type 0} {left : ℕ} {old n
     pub sound_then : IsSound ranks (bag now)
     sound_then = AddsTo-sound ranks (bag old) (bag now) xs batch.added laws sound
 
-    pub undone : {seen : List ℕ} {taken : List T} {mid new : Map T S} → 0 < length ranks → mid.slots ≡ now.slots → seen ≡ notes → taken ≡ items_at mid.slots seen → Loses mid taken new → Undone ranks (bag old) (bag now) (bag new) taken xs
+    pub undone : {seen : List ℕ} {taken : List T} {mid new : Map T S} → 0 < length ranks → mid.slots ≡ now.slots
+        → seen ≡ notes → taken ≡ items_at mid.slots seen → Loses mid taken new → Undone ranks (bag old) (bag now) (bag new) taken xs
     undone {taken = taken} {new = new} some seen_at noted values loses =
         let all : taken ≡ xs = values ∙ rw (seen_at, noted) batch.noted.items in
         let out : IsPermutation (bag now) (taken ++ bag new) = subst (λ l. IsPermutation (contents l) (taken ++ bag new)) seen_at loses.items in

@@ -77,7 +77,8 @@ pub not_full : (held room : ℕ) → held ≡ room → held < room → ⊥
 not_full held room full spare = omega (arith, full, spare)
 
 -- a map got room for an item, and then the item
-module _ {T S : Type 0} (ranks : Ranks T) (old roomy : Map T S) (slots : roomy.slots ≡ old.slots) (no_less_room : old.capacity ≤ roomy.capacity) (same : length (bag old) < old.capacity → roomy ≡ old) (builder : roomy.builder ≡ old.builder) where
+module _ {T S : Type 0} (ranks : Ranks T) (old roomy : Map T S)
+    (slots : roomy.slots ≡ old.slots) (no_less_room : old.capacity ≤ roomy.capacity) (same : length (bag old) < old.capacity → roomy ≡ old) (builder : roomy.builder ≡ old.builder) where
   pub GrowsUnless-room : GrowsUnless (length (bag old) < old.capacity) old roomy
   GrowsUnless-room = record { no_less_room = no_less_room; same_room = λ spare. ap (λ (m : Map T S). m.capacity) (same spare); same_builder = builder }
 

@@ -8,7 +8,8 @@ use Rattle.iddqd_store.proofs.MapLemmas.Places.{over_none}
 
 module _ {T S : Type 0} (ranks : Ranks T) (old new : Map T S) (x : T) where
   -- an item that is put in the place of those that conflict with it is put over the bag
-  pub PutsAt-over : (slot : ℕ) (rest : List T) → IsPermutation (bag old) (order ranks (bag old) x ++ rest) → PutsAt ranks old slot x (x ∷ rest) new → PutsAt ranks old slot x (over ranks (bag old) x) new
+  pub PutsAt-over : (slot : ℕ) (rest : List T) → IsPermutation (bag old) (order ranks (bag old) x ++ rest)
+      → PutsAt ranks old slot x (x ∷ rest) new → PutsAt ranks old slot x (over ranks (bag old) x) new
   PutsAt-over slot rest out put = record {
     at = put.at;
     items = over-taken ranks (bag old) rest (bag new) x out put.items;

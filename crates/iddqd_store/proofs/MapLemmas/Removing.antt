@@ -28,7 +28,8 @@ none_left m live apart = record {
   loses = record { items = IsPermutation-refl (bag m); same_room = refl; same_builder = refl };
 }
 
-module _ {T S : Type 0} {old now : Map T S} {numbers rest : List ℕ} {taken : List T} (so_far : LeavesInTurn old now numbers rest taken) {slot : ℕ} {behind : List ℕ} (front : rest ≡ slot ∷ behind) where
+module _ {T S : Type 0} {old now : Map T S} {numbers rest : List ℕ} {taken : List T}
+    (so_far : LeavesInTurn old now numbers rest taken) {slot : ℕ} {behind : List ℕ} (front : rest ≡ slot ∷ behind) where
   pub next_live : IsLive now.slots slot
   next_live = All-head (IsLive now.slots) slot behind (subst (All (IsLive now.slots)) front so_far.live)
 

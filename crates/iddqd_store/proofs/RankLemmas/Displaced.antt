@@ -25,7 +25,8 @@ other_number a b h = grind (arith, nat_tests)
 
 module _ {T : Type 0} where
   -- the pair of an item in a slot is there, and a search that found the slot was made by its hash
-  pub paired_at : {hash : T → ℕ} {slots : List (Option T)} {pairs : List (ℕ × ℕ)} (found : FoundByHash) (at : ℕ) (x : T) → IsIndex hash slots pairs → IsHashed hash slots found → get slots at ≡ Some x → IsPaired hash pairs found at x
+  pub paired_at : {hash : T → ℕ} {slots : List (Option T)} {pairs : List (ℕ × ℕ)} (found : FoundByHash) (at : ℕ) (x : T)
+      → IsIndex hash slots pairs → IsHashed hash slots found → get slots at ≡ Some x → IsPaired hash pairs found at x
   paired_at {hash = hash} {slots = slots} found at x index hashed stands = record {
     pair = pair_in at x (hash x) index refl stands;
     known = λ is. subst (λ (o : Option ℕ). IfSome o (λ i. HasHash hash slots i found.hash)) is hashed x stands;
@@ -69,7 +70,8 @@ module _ {T : Type 0} where
   leaving (at ∷ numbers) [] = []
   leaving (at ∷ numbers) (x ∷ xs) = (at, x) ∷ leaving numbers xs
 
-  IsIndex-without : (hash : T → ℕ) (slots : List (Option T)) (numbers : List ℕ) (xs : List T) (pairs rest : List (ℕ × ℕ)) → IsIndex hash slots pairs → Leave slots numbers xs → IsPermutation pairs (map (pair_of hash) (leaving numbers xs) ++ rest) → IsIndex hash (without slots numbers) rest
+  IsIndex-without : (hash : T → ℕ) (slots : List (Option T)) (numbers : List ℕ) (xs : List T) (pairs rest : List (ℕ × ℕ)) → IsIndex hash slots pairs
+      → Leave slots numbers xs → IsPermutation pairs (map (pair_of hash) (leaving numbers xs) ++ rest) → IsIndex hash (without slots numbers) rest
   IsIndex-without hash slots [] [] pairs rest index leave out = IsIndex-reorder index out
   IsIndex-without hash slots [] (x ∷ xs) pairs rest index leave out = absurd leave
   IsIndex-without hash slots (at ∷ numbers) [] pairs rest index leave out = absurd leave
@@ -79,7 +81,8 @@ module _ {T : Type 0} where
       IsIndex-remove x (IsIndex-without hash slots numbers xs pairs ((hash x, at) ∷ rest) index leave.1 before) refl (members-take (without slots numbers) at x leave.0) (IsPermutation-refl _)
 
   -- the pairs of those that leave are there
-  pub paired_each : {hash : T → ℕ} {slots : List (Option T)} {pairs : List (ℕ × ℕ)} (found : FoundByHash) (numbers : List ℕ) (xs : List T) → IsIndex hash slots pairs → IsHashed hash slots found → Leave slots numbers xs → AllByRecursion (λ m. IsPaired hash pairs found m.0 m.1) (leaving numbers xs)
+  pub paired_each : {hash : T → ℕ} {slots : List (Option T)} {pairs : List (ℕ × ℕ)} (found : FoundByHash) (numbers : List ℕ) (xs : List T)
+      → IsIndex hash slots pairs → IsHashed hash slots found → Leave slots numbers xs → AllByRecursion (λ m. IsPaired hash pairs found m.0 m.1) (leaving numbers xs)
   paired_each found [] [] index hashed leave = tt
   paired_each found [] (x ∷ xs) index hashed leave = absurd leave
   paired_each found (at ∷ numbers) [] index hashed leave = absurd leave
@@ -94,7 +97,8 @@ module _ {T : Type 0} where
   AreDisplaced gone y at hashes tables others = ⊥
 
   module _ (slots : List (Option T)) (at : ℕ) (numbers : List ℕ) (one : T) (xs : List T) (y : T) (leave : Leave slots (at ∷ numbers) (one ∷ xs)) where
-    AreIndexes-displaced : (hashes : List (T → ℕ)) (tables others : List (List (ℕ × ℕ))) → AreIndexes hashes slots tables → AreDisplaced (leaving (at ∷ numbers) (one ∷ xs)) y at hashes tables others → AreIndexes hashes (slice_set (without slots numbers) at (Some y)) others
+    AreIndexes-displaced : (hashes : List (T → ℕ)) (tables others : List (List (ℕ × ℕ))) → AreIndexes hashes slots tables
+        → AreDisplaced (leaving (at ∷ numbers) (one ∷ xs)) y at hashes tables others → AreIndexes hashes (slice_set (without slots numbers) at (Some y)) others
     AreIndexes-displaced [] [] [] all displaced = tt
     AreIndexes-displaced [] [] (more ∷ others) all displaced = absurd displaced
     AreIndexes-displaced [] (pairs ∷ tables) others all displaced = absurd all
@@ -102,14 +106,20 @@ module _ {T : Type 0} where
     AreIndexes-displaced (hash ∷ hashes) (pairs ∷ tables) [] all displaced = absurd displaced
     AreIndexes-displaced (hash ∷ hashes) (pairs ∷ tables) (more ∷ others) all displaced =
         let here = displaced.0 in
-        let rest = IsIndex-without hash slots (at ∷ numbers) (one ∷ xs) pairs here.1 all.0 leave here.3 in
-        (IsIndex-insert {old = without slots (at ∷ numbers)} y rest here.2 (members-set (without slots numbers) at one y leave.0) (IsPermutation-sym _ _ here.4), AreIndexes-displaced hashes tables others all.1 displaced.1)
+        let rest = IsIndex-without hash slots (at ∷ numbers) (one ∷ xs) pairs here.1 all.0 leave here.3 in (
+          IsIndex-insert {old = without slots (at ∷ numbers)} y rest here.2 (members-set (without slots numbers) at one y leave.0) (IsPermutation-sym _ _ here.4),
+          AreIndexes-displaced hashes tables others all.1 displaced.1,
+        )
 
-    sound_displaced : (ranks : Ranks T) → AreLawful ranks → IsSound ranks (contents slots) → clash ranks (contents (without slots (at ∷ numbers))) y ≡ [] → IsSound ranks (contents (slice_set (without slots numbers) at (Some y)))
+    sound_displaced : (ranks : Ranks T) → AreLawful ranks → IsSound ranks (contents slots)
+        → clash ranks (contents (without slots (at ∷ numbers))) y ≡ [] → IsSound ranks (contents (slice_set (without slots numbers) at (Some y)))
     sound_displaced ranks laws sound free =
-        free_sound ranks laws (without slots (at ∷ numbers)) (slice_set (without slots numbers) at (Some y)) at y (sound_left ranks laws (contents slots) (one ∷ xs) _ sound (contents-without slots (at ∷ numbers) (one ∷ xs) leave)) free (members-set (without slots numbers) at one y leave.0)
+        free_sound ranks laws (without slots (at ∷ numbers)) (slice_set (without slots numbers) at (Some y))
+        at y (sound_left ranks laws (contents slots) (one ∷ xs) _ sound (contents-without slots (at ∷ numbers) (one ∷ xs) leave)) free (members-set (without slots numbers) at one y leave.0)
 
-    pub IsIndexed-displaced : {ranks : Ranks T} {hashes : List (T → ℕ)} {tables others : List (List (ℕ × ℕ))} → AreLawful ranks → IsIndexed ranks hashes slots tables → clash ranks (contents (without slots (at ∷ numbers))) y ≡ [] → AreDisplaced (leaving (at ∷ numbers) (one ∷ xs)) y at hashes tables others → IsIndexed ranks hashes (slice_set (without slots numbers) at (Some y)) others
+    pub IsIndexed-displaced : {ranks : Ranks T} {hashes : List (T → ℕ)} {tables others : List (List (ℕ × ℕ))} → AreLawful ranks
+        → IsIndexed ranks hashes slots tables → clash ranks (contents (without slots (at ∷ numbers))) y
+        ≡ [] → AreDisplaced (leaving (at ∷ numbers) (one ∷ xs)) y at hashes tables others → IsIndexed ranks hashes (slice_set (without slots numbers) at (Some y)) others
     IsIndexed-displaced {ranks} {hashes} {tables} {others} laws indexed free displaced = record {
       sound = sound_displaced ranks laws indexed.sound free;
       indexes = AreIndexes-displaced hashes tables others indexed.indexes displaced;
@@ -121,7 +131,10 @@ module _ {T : Type 0} where
         let within : at < length (without slots numbers) = grind (arith, get_or_past) in
         get_or-set_same (without slots numbers) at (Some y) None within
 
-    pub PutsAt-displaced : {S : Type 0} {ranks : Ranks T} {old new : Map T S} → AreLawful ranks → old.slots ≡ slots → IsSound ranks (contents slots) → clash ranks (contents (without slots (at ∷ numbers))) y ≡ [] → length (contents slots) ≤ old.capacity → new.slots ≡ slice_set (without slots numbers) at (Some y) → new.capacity ≡ old.capacity → new.builder ≡ old.builder → PutsAt ranks old at y (y ∷ contents (without slots (at ∷ numbers))) new
+    pub PutsAt-displaced : {S : Type 0} {ranks : Ranks T} {old new : Map T S} → AreLawful ranks → old.slots ≡ slots → IsSound ranks (contents slots)
+        → clash ranks (contents (without slots (at ∷ numbers))) y ≡ [] → length (contents slots) ≤ old.capacity
+        → new.slots ≡ slice_set (without slots numbers) at (Some y) → new.capacity ≡ old.capacity
+        → new.builder ≡ old.builder → PutsAt ranks old at y (y ∷ contents (without slots (at ∷ numbers))) new
     PutsAt-displaced {ranks = ranks} {old = old} {new = new} laws were sound free fits are room builder =
         let comes = contents-moves (slice_set (without slots numbers) at (Some y)) (without slots (at ∷ numbers)) at y (members-set (without slots numbers) at one y leave.0) in
         let more = length_permutation _ _ comes in
@@ -136,7 +149,9 @@ module _ {T : Type 0} where
         }
 
   -- an item that nothing conflicts with is put into a free slot
-  pub PutsAt-inserted : {S : Type 0} {ranks : Ranks T} {old new : Map T S} (at : ℕ) (x : T) → AreLawful ranks → IsSound ranks (bag old) → clash ranks (bag old) x ≡ [] → IsPermutation (members new.slots) ((at, x) ∷ members old.slots) → get new.slots at ≡ Some x → length (bag old) < old.capacity → new.capacity ≡ old.capacity → new.builder ≡ old.builder → PutsAt ranks old at x (x ∷ bag old) new
+  pub PutsAt-inserted : {S : Type 0} {ranks : Ranks T} {old new : Map T S} (at : ℕ) (x : T) → AreLawful ranks → IsSound ranks (bag old)
+      → clash ranks (bag old) x ≡ [] → IsPermutation (members new.slots) ((at, x) ∷ members old.slots) → get new.slots at ≡ Some x
+      → length (bag old) < old.capacity → new.capacity ≡ old.capacity → new.builder ≡ old.builder → PutsAt ranks old at x (x ∷ bag old) new
   PutsAt-inserted {ranks = ranks} {old = old} {new = new} at x laws sound free added here fits room builder =
       let items = contents-moves new.slots old.slots at x added in
       let more = length_permutation _ _ items in
@@ -157,7 +172,8 @@ module _ {T : Type 0} where
 
   standing : (slots : List (Option T)) (numbers : List ℕ) → All (IsLive slots) numbers → IsDistinct nat_eq numbers → Leave slots numbers (items_at slots numbers)
   standing slots [] live apart = tt
-  standing slots (at ∷ numbers) live apart = by_slot (get slots at) refl (All-head (IsLive slots) at numbers live) (standing slots numbers (All-tail (IsLive slots) at numbers live) (IsDistinct-tail nat_eq at numbers apart))
+  standing slots (at ∷ numbers) live apart = by_slot (get slots at) refl (All-head (IsLive slots) at numbers live)
+      (standing slots numbers (All-tail (IsLive slots) at numbers live) (IsDistinct-tail nat_eq at numbers apart))
     where
       by_slot : (o : Option T) → get slots at ≡ o → IsSome o → Leave slots numbers (items_at slots numbers) → Leave slots (at ∷ numbers) (items_at slots (at ∷ numbers))
       by_slot None is some rest = absurd (cc)
@@ -165,7 +181,8 @@ module _ {T : Type 0} where
 
   module _ {S : Type 0} (ranks : Ranks T) (old : Map T S) (x : T) (numbers : List ℕ) (stand : StandAt old.slots numbers (order ranks (bag old) x)) where
     out : IsPermutation (bag old) (order ranks (bag old) x ++ contents (without old.slots numbers))
-    out = subst (λ l. IsPermutation (bag old) (l ++ contents (without old.slots numbers))) stand.items (contents-without old.slots numbers (items_at old.slots numbers) (standing old.slots numbers stand.live stand.apart))
+    out = subst (λ l. IsPermutation (bag old) (l ++ contents (without old.slots numbers))) stand.items
+        (contents-without old.slots numbers (items_at old.slots numbers) (standing old.slots numbers stand.live stand.apart))
 
     -- without the items that conflict with it, nothing conflicts with an item
     pub gives_way : clash ranks (contents (without old.slots numbers)) x ≡ []

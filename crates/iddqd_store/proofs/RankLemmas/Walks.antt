@@ -143,15 +143,19 @@ module _ {T : Type 0} where
     are_few (hash ∷ hashes) [] = (omega arith, are_few hashes [])
     are_few (hash ∷ hashes) (at ∷ found) = (few hash at, are_few hashes found)
 
-    each_most : (hashes : List (T → ℕ)) (found : List FoundByHash) (n before after : ℕ) → after ≤ before + walks_within n (walks_each walks hashes found) → after ≤ before + walks_within n (map (λ _. most) hashes)
+    each_most : (hashes : List (T → ℕ)) (found : List FoundByHash) (n before after : ℕ)
+        → after ≤ before + walks_within n (walks_each walks hashes found) → after ≤ before + walks_within n (map (λ _. most) hashes)
     each_most hashes found n before after cost = within_most n before after (walks_each walks hashes found) (map (λ _. most) hashes) (are_few hashes found) cost
 
   -- at most one more than items leave
-  pub ones_most : (gone : T) (hashes : List (T → ℕ)) (found : List FoundByHash) (n before after : ℕ) → after ≤ before + walks_within n (walks_each (λ hash at. rehash_walks hash at gone) hashes found) → after ≤ before + walks_within n (map (λ _. 2) hashes)
+  pub ones_most : (gone : T) (hashes : List (T → ℕ)) (found : List FoundByHash) (n before after : ℕ)
+      → after ≤ before + walks_within n (walks_each (λ hash at. rehash_walks hash at gone) hashes found) → after ≤ before + walks_within n (map (λ _. 2) hashes)
   ones_most gone = each_most (λ hash at. rehash_walks hash at gone) 2 (λ hash at. one_most hash at gone)
 
-  pub twos_most : (second : ℕ) (gone : T) (hashes : List (T → ℕ)) (found : List FoundByHash) (n before after : ℕ) → after ≤ before + walks_within n (walks_each (λ hash at. merge_two_walks hash at second gone) hashes found) → after ≤ before + walks_within n (map (λ _. 3) hashes)
+  pub twos_most : (second : ℕ) (gone : T) (hashes : List (T → ℕ)) (found : List FoundByHash) (n before after : ℕ)
+      → after ≤ before + walks_within n (walks_each (λ hash at. merge_two_walks hash at second gone) hashes found) → after ≤ before + walks_within n (map (λ _. 3) hashes)
   twos_most second gone = each_most (λ hash at. merge_two_walks hash at second gone) 3 (λ hash at. two_most hash at gone second)
 
-  pub threes_most : (second third : ℕ) (gone : T) (hashes : List (T → ℕ)) (found : List FoundByHash) (n before after : ℕ) → after ≤ before + walks_within n (walks_each (λ hash at. merge_three_walks hash at second third gone) hashes found) → after ≤ before + walks_within n (map (λ _. 4) hashes)
+  pub threes_most : (second third : ℕ) (gone : T) (hashes : List (T → ℕ)) (found : List FoundByHash) (n before after : ℕ)
+      → after ≤ before + walks_within n (walks_each (λ hash at. merge_three_walks hash at second third gone) hashes found) → after ≤ before + walks_within n (map (λ _. 4) hashes)
   threes_most second third gone = each_most (λ hash at. merge_three_walks hash at second third gone) 4 (λ hash at. three_most hash at gone second third)

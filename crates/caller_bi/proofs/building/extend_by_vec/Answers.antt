@@ -20,4 +20,5 @@ returns-clause-all g c =
 pub returns-clause-refused : goal.returns-clause-refused
 returns-clause-refused g c =
     let ranks = ranks g.T.BiHashItem g.T.K1.PartialEq.eq g.T.K2.PartialEq.eq in
-    IfErr-weaker c.extend.result _ _ (λ e h. (h.1, into_iter_items h.2, batch-split ranks (bag c.args.map.now) c.args.items.items h.0 h.3.0 e.value h.1 h.1 h.2 h.4 refl, h.5.0)) c.extend.ensures.refused
+    IfErr-weaker c.extend.result _ _ (λ e h.
+    (h.1, into_iter_items h.2, batch-split ranks (bag c.args.map.now) c.args.items.items h.0 h.3.0 e.value h.1 h.1 h.2 h.4 refl, h.5.0)) c.extend.ensures.refused

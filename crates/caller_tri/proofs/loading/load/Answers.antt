@@ -20,5 +20,6 @@ returns-in-Err-clause-rejected g c =
     let why = c.in-Err.ensures.reason in
     let told = c.reason-reason.ensures in
     let reason = taken-reason ranks (refused.before.items ++ bag c.args.map.now) refused.item c.reason-reason.result (λ is none. told.duplicate is
-    (why.taken1 ∙ none.0) (why.taken2 ∙ none.1.0) (why.taken3 ∙ none.1.1.0)) (λ is. let free = told.none_taken is in (sym why.taken1 ∙ free.0, (sym why.taken2 ∙ free.1, (sym why.taken3 ∙ free.2, tt)))) in
+    (why.taken1 ∙ none.0) (why.taken2 ∙ none.1.0) (why.taken3 ∙ none.1.1.0)) (λ is. let free = told.none_taken is in
+    (sym why.taken1 ∙ free.0, (sym why.taken2 ∙ free.1, (sym why.taken3 ∙ free.2, tt)))) in
     batch-refused ranks (bag c.args.map.now) c.args.batch.items came.0 came.3.0 refused.item c.reason-reason.result refused.before.items came.1 came.2 came.4 came.5 why.apart reason

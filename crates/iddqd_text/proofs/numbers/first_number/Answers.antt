@@ -8,7 +8,8 @@ pub loop-rest-preserved : goal.loop-rest-preserved
 loop-rest-preserved c =
     let on = field_goes_on c.loop-rest.rest.now (take (length c.loop-rest.rest.now - 1) (drop 1 c.loop-rest.rest.now)) c.in-len1-up.len_at_least refl c.if-b-eq32.false in
     record {
-      told = field_told c.loop-rest.rest.now (take (length c.loop-rest.rest.now - 1) (drop 1 c.loop-rest.rest.now)) c.loop-rest.value c.in_ok-value.value (number_from 0 (before_first is_space c.args.fields.now))
+      told = field_told c.loop-rest.rest.now (take (length c.loop-rest.rest.now - 1) (drop 1 c.loop-rest.rest.now)) c.loop-rest.value c.in_ok-value.value
+          (number_from 0 (before_first is_space c.args.fields.now))
           c.in-len1-up.len_at_least refl c.if-b-eq32.false (sym c.push_digit.ensures ∙ c.in_ok-value.was) c.loop-rest.invariant.told;
       fits = pushed_fits c.loop-rest.value (get_or c.loop-rest.rest.now 0 0) c.in_ok-value.value (sym c.push_digit.ensures ∙ c.in_ok-value.was);
       left = sym on.3 ∙ c.loop-rest.invariant.left;

@@ -15,5 +15,6 @@ loop-item-preserved g c =
 
 pub returns : goal.returns
 returns g c =
-    items_past g.T.Numbers.numbers c.deref-item-items.result.now c.loop-item.item-index (string_bytes c.loop-item.line) (codes "list") (items_text g.T.Numbers.numbers (by_first_key g.T.Numbers.numbers c.args.items)) (codes "\n")
+    items_past g.T.Numbers.numbers c.deref-item-items.result.now c.loop-item.item-index (string_bytes c.loop-item.line)
+    (codes "list") (items_text g.T.Numbers.numbers (by_first_key g.T.Numbers.numbers c.args.items)) (codes "\n")
     (string_bytes c.push_str-2.new.self) c.loop-item-test.false (search rules) c.loop-item.invariant

@@ -14,8 +14,13 @@ invariant_of-copy g c =
     rw (c.in_ok-first.ensures, c.in_ok-second.ensures)
     (IsIndexed-copy g.T.Clone.is_clone _ _ (AreLawful-ranks g.T.BiHashItem g.met.T.K1.Eq.laws g.met.T.K2.Eq.laws) c.self.invariant
     (λ x k found is. rw (same1 x k found is, same2 x k found is) refl) (
-      (λ x k found is. hashes c.in_ok-hash_builder.hash_builder (g.T.K1.Hash.hash_input (g.T.BiHashItem.key1 k)) c.in_ok-hash_builder.ensures.cases ∙ ap hash (sym (g.met.T.K1.Hash.respects_eq _ _ (same1 x k found is)))),
-      ((λ x k found is. hashes c.in_ok-hash_builder.hash_builder (g.T.K2.Hash.hash_input (g.T.BiHashItem.key2 k)) c.in_ok-hash_builder.ensures.cases ∙ ap hash (sym (g.met.T.K2.Hash.respects_eq _ _ (same2 x k found is)))), tt),
+      (λ x k found is. hashes c.in_ok-hash_builder.hash_builder (g.T.K1.Hash.hash_input (g.T.BiHashItem.key1 k)) c.in_ok-hash_builder.ensures.cases
+          ∙ ap hash (sym (g.met.T.K1.Hash.respects_eq _ _ (same1 x k found is)))),
+      (
+        (λ x k found is. hashes c.in_ok-hash_builder.hash_builder (g.T.K2.Hash.hash_input (g.T.BiHashItem.key2 k)) c.in_ok-hash_builder.ensures.cases
+            ∙ ap hash (sym (g.met.T.K2.Hash.respects_eq _ _ (same2 x k found is)))),
+        tt,
+      ),
     )
     c.in_ok-clone.ensures.slots c.in_ok-clone.ensures.items)
 

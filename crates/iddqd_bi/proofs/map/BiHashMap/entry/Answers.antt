@@ -20,7 +20,8 @@ pub returns-in-Found-clause-value : goal.returns-in-Found-clause-value
 returns-in-Found-clause-value g c =
     let tests = key_tests g.T.BiHashItem g.Q1.Query.stands_for g.Q2.Query.stands_for c.args.query1 c.args.query2 in
     let laws = (AreLawful-ranks g.T.BiHashItem g.met.T.K1.Eq.laws g.met.T.K2.Eq.laws).0 in
-    rw (c.slot.ensures, c.slot-in-Found.ensures) (found_entry laws c.args.self.now.slots c.search_all.ensures.apart tests c.in-Found.found1.slot (c.in-Found.found2.slot ∷ []) c.in-Found.ensures.found)
+    rw (c.slot.ensures, c.slot-in-Found.ensures)
+    (found_entry laws c.args.self.now.slots c.search_all.ensures.apart tests c.in-Found.found1.slot (c.in-Found.found2.slot ∷ []) c.in-Found.ensures.found)
 
 pub returns-in-Found-clause-is_found : goal.returns-in-Found-clause-is_found
 returns-in-Found-clause-is_found g c =

@@ -10,5 +10,6 @@ abbrev pub invariant-loop-item : goal.invariant-loop-item
 invariant-loop-item g l = record {
   callable : (goal.iterator-loop-item g).can_next l.item-iterator;
   ending : (goal.iterator-loop-item g).is_finite l.item-iterator;
-  batch : InsertsBatch g.T.Ranked.ranks (FitsOn g.I.IntoIterator.into_iter_gives g.I.IntoIter.Iterator.remaining l.fn.iter (length (bag l.fn.self)) l.fn.self.capacity) (size (g.I.IntoIter.Iterator.remaining l.item-iterator)) l.fn.self l.self l.batch.slots l.yielded;
+  batch : InsertsBatch g.T.Ranked.ranks (FitsOn g.I.IntoIterator.into_iter_gives g.I.IntoIter.Iterator.remaining l.fn.iter
+      (length (bag l.fn.self)) l.fn.self.capacity) (size (g.I.IntoIter.Iterator.remaining l.item-iterator)) l.fn.self l.self l.batch.slots l.yielded;
 }

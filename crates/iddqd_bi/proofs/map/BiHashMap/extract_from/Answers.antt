@@ -20,7 +20,8 @@ returns-then-f-clause-extracts g c =
     let at = c.loop-slot in
     let next = subst (λ k. ComesNext at.self.slots k c.in-Some.slot c.item_at.result.now) c.next.ensures (c.in-Some.ensures.comes _ c.item_at.ensures) in
     let same : c.item_at.result.now ≡ c.remove_at.result = cc (c.item_at.ensures, c.remove_at.ensures.value) in
-    let here = extracts-some (CalledAt g.F.FnMut) c.args.f at.f c.f.new.self at.self c.remove_at.new.self c.args.cursor.now at.cursor c.in-Some.slot c.item_at.result.now next c.remove_at.ensures.slots (called_at g.F.FnMut c.f.ensures c.if-f.true) at.invariant.rejected in
+    let here = extracts-some (CalledAt g.F.FnMut) c.args.f at.f c.f.new.self at.self c.remove_at.new.self c.args.cursor.now at.cursor
+    c.in-Some.slot c.item_at.result.now next c.remove_at.ensures.slots (called_at g.F.FnMut c.f.ensures c.if-f.true) at.invariant.rejected in
     rw c.pass.ensures
     (subst (λ m. Extracts (CalledAt g.F.FnMut) c.args.f m c.args.cursor.now (Some c.remove_at.result) c.remove_at.new.self (c.in-Some.slot + 1)) at.invariant.same
     (subst (λ x. Extracts (CalledAt g.F.FnMut) c.args.f at.self c.args.cursor.now (Some x) c.remove_at.new.self (c.in-Some.slot + 1)) same here))
@@ -31,7 +32,9 @@ loop-slot-preserved g c =
     let next = subst (λ k. ComesNext at.self.slots k c.in-Some.slot c.item_at.result.now) c.next.ensures (c.in-Some.ensures.comes _ c.item_at.ensures) in
     let called = called_at g.F.FnMut c.f.ensures c.if-f.false in
     record {
-      rejected = rw c.pass.ensures (rejected-on (CalledAt g.F.FnMut) c.args.f at.f c.f.new.self at.self c.args.cursor.now at.cursor c.in-Some.slot c.item_at.result.now next called at.invariant.rejected);
-      callable = rw c.pass.ensures (takes_others g.F.FnMut at.f (to_come at.self at.cursor) c.item_at.result.now (to_come at.self (c.in-Some.slot + 1)) false c.f.new.self next.rest called at.invariant.callable);
+      rejected = rw c.pass.ensures (rejected-on (CalledAt g.F.FnMut) c.args.f at.f c.f.new.self at.self
+          c.args.cursor.now at.cursor c.in-Some.slot c.item_at.result.now next called at.invariant.rejected);
+      callable = rw c.pass.ensures (takes_others g.F.FnMut at.f (to_come at.self at.cursor) c.item_at.result.now
+          (to_come at.self (c.in-Some.slot + 1)) false c.f.new.self next.rest called at.invariant.callable);
       same = at.invariant.same;
     }

@@ -12,7 +12,8 @@ returns-in_err-extend-clause-refused g c =
     let x = c.in_err-extend.field-0.0.value in
     at_err c.from_residual.result c.in_err-extend.field-0.0 _ (search rules)
     (GivesThen-weaker g.I.IntoIterator.into_iter_gives g.I.IntoIter.Iterator.next_gives c.args.iter x _ _
-    (λ xs made. clash-none ranks (bag c.extend.new.self) (overs ranks [] xs) x (subst (λ (l : List g.row.T.Denot). IsPermutation (bag c.extend.new.self) (overs ranks l xs)) c.default-map.ensures.empty made.0) c.in_err-extend.ensures.full.free)
+    (λ xs made. clash-none ranks (bag c.extend.new.self) (overs ranks [] xs) x
+    (subst (λ (l : List g.row.T.Denot). IsPermutation (bag c.extend.new.self) (overs ranks l xs)) c.default-map.ensures.empty made.0) c.in_err-extend.ensures.full.free)
     c.in_err-extend.ensures.refused)
 
 pub returns-clause-all : goal.returns-clause-all

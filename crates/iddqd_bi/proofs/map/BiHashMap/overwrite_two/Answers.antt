@@ -39,4 +39,5 @@ returns-clause-puts_at g c =
 
 pub returns-clause-costs : goal.returns-clause-costs
 returns-clause-costs g c =
-    rw (← c.self.view_is) (walks_all (_ ∷ _ ∷ []) _ _ c.self.invariant (c.merge_two.new.meter, c.merge_two.ensures.costs, (c.merge_two-2.new.meter, c.merge_two-2.ensures.costs, refl)))
+    rw (← c.self.view_is) (walks_all (_ ∷ _ ∷ []) _ _ c.self.invariant
+    (c.merge_two.new.meter, c.merge_two.ensures.costs, (c.merge_two-2.new.meter, c.merge_two-2.ensures.costs, refl)))

@@ -11,7 +11,8 @@ use Rattle.iddqd_bi.proofs.map.BiHashMap.rebuild.Goals as goal
 something : (slots : ℕ) {count len wanted : ℕ} → len ≡ count → len ≤ wanted → 0 < max count (min wanted slots) → 0 < wanted
 something slots all enough is = omega arith
 
-exact : {count len slots room wanted new first second : ℕ} → len ≡ count → len ≤ wanted → wanted ≤ room → room ≤ slots → new ≡ max count (min wanted slots) → wanted ≤ first → wanted ≤ second → min new (min first second) ≡ wanted
+exact : {count len slots room wanted new first second : ℕ} → len ≡ count → len ≤ wanted → wanted ≤ room → room ≤ slots
+    → new ≡ max count (min wanted slots) → wanted ≤ first → wanted ≤ second → min new (min first second) ≡ wanted
 exact all enough below within made enough1 enough2 = omega arith
 
 pub returns-in_err-shrink_to-clause-reason : goal.returns-in_err-shrink_to-clause-reason

@@ -37,4 +37,5 @@ returns-clause-puts_at g c =
 
 pub returns-clause-costs : goal.returns-clause-costs
 returns-clause-costs g c =
-    rw (← c.self.view_is) (walks_all (_ ∷ _ ∷ []) _ _ c.self.invariant (c.rehash_into.new.meter, c.rehash_into.ensures.costs, (c.rehash_into-2.new.meter, c.rehash_into-2.ensures.costs, refl)))
+    rw (← c.self.view_is) (walks_all (_ ∷ _ ∷ []) _ _ c.self.invariant
+    (c.rehash_into.new.meter, c.rehash_into.ensures.costs, (c.rehash_into-2.new.meter, c.rehash_into-2.ensures.costs, refl)))

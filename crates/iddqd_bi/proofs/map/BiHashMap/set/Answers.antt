@@ -7,4 +7,5 @@ use Rattle.iddqd_bi.proofs.map.BiHashMap.set.Goals as goal
 pub returns-in-Some-clause-step : goal.returns-in-Some-clause-step
 returns-in-Some-clause-step g c =
     λ test at. sets_found (ranks g.T.BiHashItem g.T.K1.PartialEq.eq g.T.K2.PartialEq.eq) g.T.BiHashItemMut.put test
-    c.args.self.now _ _ c.args.new_data (ref_item c.in-Some.r) c.in-Some.ensures.unchanged c.in-Some.r.live (search (rules, at.only)) (search (rules, c.data_mut.ensures.swaps c.args.new_data)) (search rules)
+    c.args.self.now _ _ c.args.new_data (ref_item c.in-Some.r) c.in-Some.ensures.unchanged c.in-Some.r.live
+    (search (rules, at.only)) (search (rules, c.data_mut.ensures.swaps c.args.new_data)) (search rules)

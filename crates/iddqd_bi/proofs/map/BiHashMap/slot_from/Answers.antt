@@ -9,7 +9,11 @@ returns-in-Some-clause-comes g c = rw (← c.self.view_is) (λ x is. comes_next 
 pub returns-in-Some-clause-next : goal.returns-in-Some-clause-next
 returns-in-Some-clause-next g c =
     let at = live_is (get c.self.inside.items.slots c.in-Some.slot) c.in-Some.ensures.next.1 in
-    rw (← c.self.view_is) (at.0, at.1, passes _ c.args.from c.in-Some.slot at.0 (comes_next c.self.inside.items.slots c.args.from c.in-Some.slot at.0 c.in-Some.ensures.next.0 at.1 c.in-Some.ensures.next.2))
+    rw (← c.self.view_is) (
+      at.0,
+      at.1,
+      passes _ c.args.from c.in-Some.slot at.0 (comes_next c.self.inside.items.slots c.args.from c.in-Some.slot at.0 c.in-Some.ensures.next.0 at.1 c.in-Some.ensures.next.2),
+    )
 
 pub returns-in-Some-clause-first_from : goal.returns-in-Some-clause-first_from
 returns-in-Some-clause-first_from g c =

@@ -14,7 +14,8 @@ invariant_of-self g c =
     let d = c.f-d.result in
     let same1 = g.met.T.BiHashItemMut.keeps_key1 x d in
     let same2 = g.met.T.BiHashItemMut.keeps_key2 x d in
-    let agree = agrees-keys g.T.BiHashItem g.T.K1.PartialEq.eq g.T.K2.PartialEq.eq x (g.T.BiHashItemMut.put x d) (laws1.symm _ _ ∙ same1) (laws2.symm _ _ ∙ same2) in
+    let agree = agrees-keys g.T.BiHashItem g.T.K1.PartialEq.eq g.T.K2.PartialEq.eq x
+    (g.T.BiHashItemMut.put x d) (laws1.symm _ _ ∙ same1) (laws2.symm _ _ ∙ same2) in
     rw c.write_data.ensures
     (IsIndexed-set (AreLawful-ranks g.T.BiHashItem laws1 laws2) (omega arith) c.self.invariant c.args.slot x _ c.item_mut-item.ensures.value agree
     (ap hash (g.met.T.K1.Hash.respects_eq _ _ same1), (ap hash (g.met.T.K2.Hash.respects_eq _ _ same2), tt)))
@@ -27,6 +28,7 @@ returns g c = record {
     rw (← c.self.view_is) c.item_mut-item.ensures.value,
     called_at g.F.FnMut c.f-d.ensures refl,
     rw (← c.self.view_is, c.item_mut-item.ensures.value, c.write_data.ensures) refl,
-    rw (← c.self.view_is, c.write_data.ensures) (set_swaps (AreLawful-ranks g.T.BiHashItem g.met.T.K1.Eq.laws g.met.T.K2.Eq.laws) (omega arith) c.self.invariant c.args.slot _ _ c.item_mut-item.ensures.value),
+    rw (← c.self.view_is, c.write_data.ensures)
+        (set_swaps (AreLawful-ranks g.T.BiHashItem g.met.T.K1.Eq.laws g.met.T.K2.Eq.laws) (omega arith) c.self.invariant c.args.slot _ _ c.item_mut-item.ensures.value),
   );
 }

@@ -15,7 +15,8 @@ invariant_of-self-2 g c =
     let d = c.in-Some.d in
     let same1 = g.met.T.BiHashItemMut.keeps_key1 x d in
     let same2 = g.met.T.BiHashItemMut.keeps_key2 x d in
-    let agree = agrees-keys g.T.BiHashItem g.T.K1.PartialEq.eq g.T.K2.PartialEq.eq x (g.T.BiHashItemMut.put x d) (laws1.symm _ _ ∙ same1) (laws2.symm _ _ ∙ same2) in
+    let agree = agrees-keys g.T.BiHashItem g.T.K1.PartialEq.eq g.T.K2.PartialEq.eq x
+    (g.T.BiHashItemMut.put x d) (laws1.symm _ _ ∙ same1) (laws2.symm _ _ ∙ same2) in
     rw c.write_data.ensures
     (IsIndexed-set (AreLawful-ranks g.T.BiHashItem laws1 laws2) (omega arith) c.self.invariant c.args.slot x _ c.item_mut-item.ensures.value agree
     (ap hash (g.met.T.K1.Hash.respects_eq _ _ same1), (ap hash (g.met.T.K2.Hash.respects_eq _ _ same2), tt)))

@@ -24,7 +24,11 @@ returns-in-Err-Duplicate g c =
       granted = rw g.met.T.Ranked.ranks_are (λ free spare. absurd (why.blocked.some free));
       handed_back = rw arm.field-0-is at arm.ensures.handed_back;
       unchanged = arm.ensures.unchanged;
-      reason = record { taken1 = taken1; taken2 = taken2; full = λ free1 free2. absurd (why.blocked.some (none (sym taken1 ∙ free1, (sym taken2 ∙ free2, tt)))) };
+      reason = record {
+        taken1 = taken1;
+        taken2 = taken2;
+        full = λ free1 free2. absurd (why.blocked.some (none (sym taken1 ∙ free1, (sym taken2 ∙ free2, tt))));
+      };
     }
 
 pub returns-in-Err-Memory : goal.returns-in-Err-Memory

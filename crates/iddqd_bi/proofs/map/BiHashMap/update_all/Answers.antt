@@ -22,9 +22,12 @@ loop-number-preserved g c =
           let new = rw w.in-Some.ensures.here at stored.4 in
           let next = passes at.self at.number at.number stored.0 (c.slot_at.ensures.comes stored.0 here) in
           record {
-            completes = rw (w.self-is, w.f-is) (written_one (CalledAt g.F.FnMut) g.T.BiHashItemMut.put c.args.f at.f w.store_at.new.f (contents c.args.self.now.slots) at.self at.number (at.number + 1) stored.0 stored.1 (λ f. map_with at.self at.number f) w.store_at.new.self new next stored.3 at.invariant.completes);
+            completes = rw (w.self-is, w.f-is)
+                (written_one (CalledAt g.F.FnMut) g.T.BiHashItemMut.put c.args.f at.f w.store_at.new.f (contents c.args.self.now.slots) at.self at.number
+                (at.number + 1) stored.0 stored.1 (λ f. map_with at.self at.number f) w.store_at.new.self new next stored.3 at.invariant.completes);
             callable = rw (w.self-is, w.f-is)
-                (subst (λ l. TakesEach g.F.FnMut w.store_at.new.f l) (sym (ap (λ (m : Map g.row.T.Denot g.row.S.Denot). to_come m (at.number + 1)) new ∙ next.behind (λ y. g.T.BiHashItemMut.put y stored.1)))
+                (subst (λ l. TakesEach g.F.FnMut w.store_at.new.f l)
+                (sym (ap (λ (m : Map g.row.T.Denot g.row.S.Denot). to_come m (at.number + 1)) new ∙ next.behind (λ y. g.T.BiHashItemMut.put y stored.1)))
                 (takes_others g.F.FnMut at.f _ stored.0 _ stored.1 w.store_at.new.f next.comes stored.3 at.invariant.callable));
             slots = rw w.self-is (ap (λ (m : Map g.row.T.Denot g.row.S.Denot). length m.slots) new ∙ length-set at.self.slots at.number _ ∙ at.invariant.slots);
             capacity = rw w.self-is (ap (λ m. m.capacity) new ∙ at.invariant.capacity);
@@ -42,10 +45,9 @@ loop-number-preserved g c =
 
 pub loop-number-init : goal.loop-number-init
 loop-number-init g c =
-    let slots = c.args.self.now.slots in
     record {
       completes = λ rest h. h;
-      callable = TakesEach-in_turn g.F.FnMut c.args.f (contents slots) (c.requires (contents slots) (IsPermutation-refl (contents slots)));
+      callable = TakesEach-in_turn g.F.FnMut c.args.f (contents c.args.self.now.slots) (c.requires (contents c.args.self.now.slots) (IsPermutation-refl (contents c.args.self.now.slots)));
       slots = refl;
       capacity = refl;
       builder = refl;
@@ -53,6 +55,5 @@ loop-number-init g c =
 
 pub returns-clause-stores : goal.returns-clause-stores
 returns-clause-stores g c =
-    let at = c.loop-number in
-    let none = ap contents (drop_all at.number at.self.slots (omega (arith, c.loop-number-test.false, c.slot_count-number-end.ensures, at.invariant.slots))) in
-    all_written (CalledAt g.F.FnMut) g.T.BiHashItemMut.put c.args.f at.f c.args.self.now at.self at.number none at.invariant.completes
+    let none = ap contents (drop_all c.loop-number.number c.loop-number.self.slots (omega (arith, c.loop-number-test.false, c.slot_count-number-end.ensures, c.loop-number.invariant.slots))) in
+    all_written (CalledAt g.F.FnMut) g.T.BiHashItemMut.put c.args.f c.loop-number.f c.args.self.now c.loop-number.self c.loop-number.number none c.loop-number.invariant.completes

@@ -29,7 +29,8 @@ returns-clause-puts_over g c =
     let tests = key_tests g.T.IdHashItem g.Q.Query.stands_for o.query in
     let same : g.Q.Query.stands_for o.query (g.T.IdHashItem.key c.args.item) ≡ true = search rules in
     let keys = AreKeyTests-queries g.T.IdHashItem g.T.Key.PartialEq.eq g.Q.Query.stands_for g.met.Q.Query.respects_eq o.query in
-    let at : get new.slots o.slot ≡ Some c.args.item = subst (λ (m : Map g.row.T.Denot g.row.S.Denot). get m.slots o.slot ≡ Some c.args.item) (sym put.ensures.new) (item_written o.map.now o.slot (λ (x : g.row.T.Denot). c.args.item) put.result put.ensures.old) in
+    let at : get new.slots o.slot ≡ Some c.args.item = subst (λ (m : Map g.row.T.Denot g.row.S.Denot). get m.slots o.slot ≡ Some c.args.item)
+    (sym put.ensures.new) (item_written o.map.now o.slot (λ (x : g.row.T.Denot). c.args.item) put.result put.ensures.old) in
     let here = finds_here (ranks g.T.IdHashItem g.T.Key.PartialEq.eq) tests (omega arith) keys new.slots o.slot c.args.item (same, tt) c.len.ensures.sound at in
     record {
       same_map = refl;

@@ -27,6 +27,7 @@ returns-clause-has_found g c =
     let stored = c.store_once.ensures.stored in
     let ranks = ranks g.T.IdHashItem g.T.Key.PartialEq.eq in
     let swapped = subst (λ (m : Map g.row.T.Denot g.row.S.Denot). IsPermutation (bag m) (swap ranks (bag o.map.now) stored.0 (g.T.IdHashItemMut.put stored.0 stored.1))) stored.4 stored.5 in
-    let still = written_at g.T.IdHashItem g.T.Key.PartialEq.eq g.met.T.Key.Eq.laws g.Q.Query.stands_for g.met.Q.Query.respects_eq o (λ (x : g.row.T.Denot). g.T.IdHashItemMut.put x stored.1) stored.0 stored.2
+    let still = written_at g.T.IdHashItem g.T.Key.PartialEq.eq g.met.T.Key.Eq.laws g.Q.Query.stands_for g.met.Q.Query.respects_eq o
+    (λ (x : g.row.T.Denot). g.T.IdHashItemMut.put x stored.1) stored.0 stored.2
     (g.met.T.Key.Eq.laws.symm _ _ ∙ g.met.T.IdHashItemMut.keeps_key stored.0 stored.1) c.requires.has_found c.len.ensures.sound swapped in
     record { only = rw stored.4 still.only; live = rw stored.4 still.live }

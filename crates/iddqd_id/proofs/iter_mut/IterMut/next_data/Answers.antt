@@ -24,7 +24,8 @@ returns g c =
       record {
         lends = tt;
         next = next;
-        value = part_there g.T.IdHashItemMut.data_of _ _ c.in_ok-live.ensures.live c.data_mut_at.ensures.value ∙ ap (option_map g.T.IdHashItemMut.data_of) (c.in_ok-live.ensures.next.1 ∙ sym (ap (λ (l : List g.row.T.Denot). slice_get l 0) pass.comes));
+        value = part_there g.T.IdHashItemMut.data_of _ _ c.in_ok-live.ensures.live c.data_mut_at.ensures.value
+            ∙ ap (option_map g.T.IdHashItemMut.data_of) (c.in_ok-live.ensures.next.1 ∙ sym (ap (λ (l : List g.row.T.Denot). slice_get l 0) pass.comes));
         end = tt;
         counted = λ f is. counted_on c.args.self.now c.fits-self.1.1.0.1 f is next;
       },

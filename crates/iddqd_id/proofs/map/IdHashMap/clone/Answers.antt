@@ -14,7 +14,8 @@ invariant_of-copy g c =
     rw c.in_ok-first.ensures
     (IsIndexed-copy g.T.Clone.is_clone _ _ (AreLawful-ranks g.T.IdHashItem g.met.T.Key.Eq.laws) c.self.invariant
     (λ x k found is. rw (same x k found is) refl) (
-      (λ x k found is. hashes c.in_ok-hash_builder.hash_builder (g.T.Key.Hash.hash_input (g.T.IdHashItem.key k)) c.in_ok-hash_builder.ensures.cases ∙ ap hash (sym (g.met.T.Key.Hash.respects_eq _ _ (same x k found is)))),
+      (λ x k found is. hashes c.in_ok-hash_builder.hash_builder (g.T.Key.Hash.hash_input (g.T.IdHashItem.key k)) c.in_ok-hash_builder.ensures.cases
+          ∙ ap hash (sym (g.met.T.Key.Hash.respects_eq _ _ (same x k found is)))),
       tt,
     )
     c.in_ok-clone.ensures.slots c.in_ok-clone.ensures.items)

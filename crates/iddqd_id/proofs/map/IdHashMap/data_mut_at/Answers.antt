@@ -15,7 +15,8 @@ invariant_of-self-lent g c = λ w.
     let hash = hash_of g.S.BuildHasher g.S.Hasher.Hasher c.self.inside.hash_builder in
     let x = c.item_mut.result.now in
     let same = g.met.T.IdHashItemMut.keeps_key x w in
-    let agree = agrees-keys g.T.IdHashItem g.T.Key.PartialEq.eq x (g.T.IdHashItemMut.put x w) (laws.symm _ _ ∙ same) in
+    let agree = agrees-keys g.T.IdHashItem g.T.Key.PartialEq.eq x
+    (g.T.IdHashItemMut.put x w) (laws.symm _ _ ∙ same) in
     IsIndexed-set (AreLawful-ranks g.T.IdHashItem laws) (omega arith) c.self.invariant c.args.slot x _ c.item_mut.ensures.value agree
     (ap hash (g.met.T.Key.Hash.respects_eq _ _ same), tt)
 

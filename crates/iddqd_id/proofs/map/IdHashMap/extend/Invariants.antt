@@ -13,5 +13,6 @@ invariant-loop-item g l = record {
   callable : (goal.iterator-loop-item g).can_next l.item-iterator;
   ending : (goal.iterator-loop-item g).is_finite l.item-iterator;
   extends : ExtendsTo g.T.Ranked.ranks (state_of l.fn.self) l.yielded (state_of l.self);
-  room : HasRoomOn (FitsOn g.I.IntoIterator.into_iter_gives g.I.IntoIter.Iterator.remaining l.fn.iter (length (bag l.fn.self)) l.fn.self.capacity) (size (g.I.IntoIter.Iterator.remaining l.item-iterator)) l.fn.self l.self;
+  room : HasRoomOn (FitsOn g.I.IntoIterator.into_iter_gives g.I.IntoIter.Iterator.remaining l.fn.iter (length (bag l.fn.self)) l.fn.self.capacity)
+      (size (g.I.IntoIter.Iterator.remaining l.item-iterator)) l.fn.self l.self;
 }

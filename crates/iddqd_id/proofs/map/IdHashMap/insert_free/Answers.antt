@@ -22,5 +22,8 @@ returns-in-Err-clause-hands_back g c =
     record {
       handed_back = refl;
       rank = rw has refl;
-      memory = λ _. record { free = clash-key g.T.IdHashItem g.T.Key.PartialEq.eq g.Q.Query.stands_for g.met.Q.Query.respects_eq c.args.item c.args.query (rw has refl) _ c.requires.none_found; full = c.in-Err.ensures.reason };
+      memory = λ _. record {
+        free = clash-key g.T.IdHashItem g.T.Key.PartialEq.eq g.Q.Query.stands_for g.met.Q.Query.respects_eq c.args.item c.args.query (rw has refl) _ c.requires.none_found;
+        full = c.in-Err.ensures.reason;
+      };
     }

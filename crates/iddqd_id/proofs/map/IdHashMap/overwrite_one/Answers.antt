@@ -26,4 +26,5 @@ returns-clause-puts_at g c =
 
 pub returns-clause-costs : goal.returns-clause-costs
 returns-clause-costs g c =
-    rw (← c.self.view_is) (walks_all (_ ∷ []) _ _ c.self.invariant (c.rehash.new.meter, c.rehash.ensures.costs, refl))
+    rw (← c.self.view_is) (walks_all (_ ∷ []) _ _ c.self.invariant
+    (c.rehash.new.meter, c.rehash.ensures.costs, refl))

@@ -6,12 +6,14 @@ use Rattle.iddqd_id.proofs.map.IdHashMap.places.Goals as goal
 
 pub returns-clause-free : goal.returns-clause-free
 returns-clause-free g c =
-    free_on (AreLawful-ranks g.T.IdHashItem g.met.T.Key.Eq.laws).0 c.args.self.now c.search_all.ensures.apart (ranks g.T.IdHashItem g.T.Key.PartialEq.eq) c.args.item.now _
+    free_on (AreLawful-ranks g.T.IdHashItem g.met.T.Key.Eq.laws).0 c.args.self.now c.search_all.ensures.apart
+    (ranks g.T.IdHashItem g.T.Key.PartialEq.eq) c.args.item.now _
     (rw c.key.ensures at c.search_all.ensures.found) c.search_all.result c.search_all.ensures.none_found
 
 pub returns-clause-blocked : goal.returns-clause-blocked
 returns-clause-blocked g c =
-    blocked_on (AreLawful-ranks g.T.IdHashItem g.met.T.Key.Eq.laws).0 c.args.self.now c.search_all.ensures.apart (ranks g.T.IdHashItem g.T.Key.PartialEq.eq) c.args.item.now _
+    blocked_on (AreLawful-ranks g.T.IdHashItem g.met.T.Key.Eq.laws).0 c.args.self.now c.search_all.ensures.apart
+    (ranks g.T.IdHashItem g.T.Key.PartialEq.eq) c.args.item.now _
     (rw c.key.ensures at c.search_all.ensures.found) c.search_all.result c.search_all.ensures.some
 
 pub returns-clause-found : goal.returns-clause-found

@@ -12,7 +12,8 @@ use Rattle.iddqd_id.proofs.map.IdHashMap.rebuild.Goals as goal
 something : (slots : ℕ) {count len wanted : ℕ} → len ≡ count → len ≤ wanted → 0 < max count (min wanted slots) → 0 < wanted
 something slots all enough is = omega arith
 
-exact : {count len slots room wanted new first : ℕ} → len ≡ count → len ≤ wanted → wanted ≤ room → room ≤ slots → new ≡ max count (min wanted slots) → wanted ≤ first → min new first ≡ wanted
+exact : {count len slots room wanted new first : ℕ} → len ≡ count → len ≤ wanted → wanted ≤ room → room ≤ slots
+    → new ≡ max count (min wanted slots) → wanted ≤ first → min new first ≡ wanted
 exact all least below within made enough = omega arith
 
 pub returns-in_err-shrink_to-clause-reason : goal.returns-in_err-shrink_to-clause-reason

@@ -31,4 +31,5 @@ returns-clause-puts_at g c =
 
 pub returns-clause-costs : goal.returns-clause-costs
 returns-clause-costs g c =
-    rw (← c.self.view_is) (walks_all (_ ∷ []) _ _ c.self.invariant (c.rehash_into.new.meter, c.rehash_into.ensures.costs, refl))
+    rw (← c.self.view_is) (walks_all (_ ∷ []) _ _ c.self.invariant
+    (c.rehash_into.new.meter, c.rehash_into.ensures.costs, refl))

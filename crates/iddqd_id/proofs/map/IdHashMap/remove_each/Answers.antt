@@ -8,7 +8,8 @@ pub loop-slot-preserved : goal.loop-slot-preserved
 loop-slot-preserved g c =
     let at = c.loop-slot in
     record {
-      empty = rw (c.number-from.ensures.value, c.remove_at.ensures.slots) (emptied_before at.self.slots at.from c.in-Some.slot c.remove_at.result (c.in-Some.ensures.comes _ c.remove_at.ensures.value) ∙ at.invariant.empty);
+      empty = rw (c.number-from.ensures.value, c.remove_at.ensures.slots)
+          (emptied_before at.self.slots at.from c.in-Some.slot c.remove_at.result (c.in-Some.ensures.comes _ c.remove_at.ensures.value) ∙ at.invariant.empty);
       capacity = c.remove_at.ensures.loses.same_room ∙ at.invariant.capacity;
       builder = c.remove_at.ensures.loses.same_builder ∙ at.invariant.builder;
     }

@@ -29,4 +29,8 @@ returns-clause-loses g c = record {
 
 pub returns-clause-costs : goal.returns-clause-costs
 returns-clause-costs g c =
-    rw (← c.self.view_is) (walks_all (_ ∷ []) _ _ c.self.invariant (c.forget.new.meter, once _ _ _ c.forget.ensures.at_most, refl))
+    rw (← c.self.view_is) (walks_all (_ ∷ []) _ _ c.self.invariant (
+      c.forget.new.meter,
+      once _ _ _ c.forget.ensures.at_most,
+      refl,
+    ))

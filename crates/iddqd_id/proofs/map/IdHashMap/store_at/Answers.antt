@@ -13,7 +13,8 @@ invariant_of-self g c =
     let x = c.item_mut-item.result.now in
     let d = c.f-d.result in
     let same = g.met.T.IdHashItemMut.keeps_key x d in
-    let agree = agrees-keys g.T.IdHashItem g.T.Key.PartialEq.eq x (g.T.IdHashItemMut.put x d) (laws.symm _ _ ∙ same) in
+    let agree = agrees-keys g.T.IdHashItem g.T.Key.PartialEq.eq x
+    (g.T.IdHashItemMut.put x d) (laws.symm _ _ ∙ same) in
     rw c.write_data.ensures
     (IsIndexed-set (AreLawful-ranks g.T.IdHashItem laws) (omega arith) c.self.invariant c.args.slot x _ c.item_mut-item.ensures.value agree
     (ap hash (g.met.T.Key.Hash.respects_eq _ _ same), tt))
@@ -26,6 +27,7 @@ returns g c = record {
     rw (← c.self.view_is) c.item_mut-item.ensures.value,
     called_at g.F.FnMut c.f-d.ensures refl,
     rw (← c.self.view_is, c.item_mut-item.ensures.value, c.write_data.ensures) refl,
-    rw (← c.self.view_is, c.write_data.ensures) (set_swaps (AreLawful-ranks g.T.IdHashItem g.met.T.Key.Eq.laws) (omega arith) c.self.invariant c.args.slot _ _ c.item_mut-item.ensures.value),
+    rw (← c.self.view_is, c.write_data.ensures)
+        (set_swaps (AreLawful-ranks g.T.IdHashItem g.met.T.Key.Eq.laws) (omega arith) c.self.invariant c.args.slot _ _ c.item_mut-item.ensures.value),
   );
 }

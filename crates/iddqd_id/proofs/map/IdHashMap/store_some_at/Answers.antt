@@ -14,7 +14,8 @@ invariant_of-self-2 g c =
     let x = c.item_mut-item.result.now in
     let d = c.in-Some.d in
     let same = g.met.T.IdHashItemMut.keeps_key x d in
-    let agree = agrees-keys g.T.IdHashItem g.T.Key.PartialEq.eq x (g.T.IdHashItemMut.put x d) (laws.symm _ _ ∙ same) in
+    let agree = agrees-keys g.T.IdHashItem g.T.Key.PartialEq.eq x
+    (g.T.IdHashItemMut.put x d) (laws.symm _ _ ∙ same) in
     rw c.write_data.ensures
     (IsIndexed-set (AreLawful-ranks g.T.IdHashItem laws) (omega arith) c.self.invariant c.args.slot x _ c.item_mut-item.ensures.value agree
     (ap hash (g.met.T.Key.Hash.respects_eq _ _ same), tt))

@@ -23,7 +23,10 @@ returns-in-Err-Duplicate g c =
       granted = rw g.met.T.Ranked.ranks_are (λ free spare. absurd (why.blocked.some free));
       handed_back = rw arm.field-0-is at arm.ensures.handed_back;
       unchanged = arm.ensures.unchanged;
-      reason = record { taken = taken; full = λ free. absurd (why.blocked.some (none (sym taken ∙ free, tt))) };
+      reason = record {
+        taken = taken;
+        full = λ free. absurd (why.blocked.some (none (sym taken ∙ free, tt)));
+      };
     }
 
 pub returns-in-Err-Memory : goal.returns-in-Err-Memory

@@ -8,7 +8,8 @@ use Rattle.iddqd_store.proofs.SlotLemmas.Contents.{content_at}
 use Rattle.iddqd_store.proofs.index_table.IndexTable.forget_by_key.Goals as goal
 
 -- the pair that left is that of the item in its slot
-loses : {T : Type 0} {hash : T → ℕ} {slots : List (Option T)} {pairs : List (ℕ × ℕ)} (new : List (ℕ × ℕ)) (h : ℕ) (r : Option ℕ) → IsIndex hash slots pairs → IfSome r (λ slot. Contains pairs (h, slot)) → IfSome r (λ slot. IsPermutation pairs ((h, slot) ∷ new)) → IfSome r (LosesPairAt hash slots pairs new)
+loses : {T : Type 0} {hash : T → ℕ} {slots : List (Option T)} {pairs : List (ℕ × ℕ)} (new : List (ℕ × ℕ)) (h : ℕ) (r : Option ℕ)
+    → IsIndex hash slots pairs → IfSome r (λ slot. Contains pairs (h, slot)) → IfSome r (λ slot. IsPermutation pairs ((h, slot) ∷ new)) → IfSome r (LosesPairAt hash slots pairs new)
 loses new h None index there taken = tt
 loses {pairs = pairs} new h (Some slot) index there taken = λ x here.
     subst (λ (k : ℕ). IsPermutation pairs ((k, slot) ∷ new)) (sym (hash_at slot h x index there here)) taken

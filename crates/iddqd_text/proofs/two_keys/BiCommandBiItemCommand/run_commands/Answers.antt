@@ -8,5 +8,6 @@ use Rattle.iddqd_text.proofs.two_keys.BiCommandBiItemCommand.run_commands.Goals 
 
 pub returns : goal.returns
 returns c = rw c.into_text.ensures
-    (prints Steps (line_of numbers) (λ sink. string_bytes sink.text) c.args.commands.items (state_of c.new-map.result) (state_of c.run.new.self) c.new-sink.result c.run.new.sink c.run.result c.in_ok-run.field-0
+    (prints Steps (line_of numbers) (λ sink. string_bytes sink.text) c.args.commands.items (state_of c.new-map.result)
+    (state_of c.run.new.self) c.new-sink.result c.run.new.sink c.run.result c.in_ok-run.field-0
     (search rules) c.new-sink.ensures c.in_ok-run.was c.run.ensures.run)

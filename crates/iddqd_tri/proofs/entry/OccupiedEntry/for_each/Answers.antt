@@ -14,7 +14,12 @@ pub returns-clause-has_found : goal.returns-clause-has_found
 returns-clause-has_found g c =
     let o = c.args.self.now in
     let tests = key_tests g.T.TriHashItem g.Q1.Query.stands_for g.Q2.Query.stands_for g.Q3.Query.stands_for o.query1 o.query2 o.query3 in
-    let keys = AreKeyTests-queries g.T.TriHashItem g.T.K1.PartialEq.eq g.T.K2.PartialEq.eq g.T.K3.PartialEq.eq g.Q1.Query.stands_for g.Q2.Query.stands_for g.Q3.Query.stands_for g.met.Q1.Query.respects_eq g.met.Q2.Query.respects_eq g.met.Q3.Query.respects_eq o.query1 o.query2 o.query3 in
+    let keys = AreKeyTests-queries g.T.TriHashItem g.T.K1.PartialEq.eq g.T.K2.PartialEq.eq g.T.K3.PartialEq.eq g.Q1.Query.stands_for
+    g.Q2.Query.stands_for
+    g.Q3.Query.stands_for g.met.Q1.Query.respects_eq g.met.Q2.Query.respects_eq g.met.Q3.Query.respects_eq o.query1 o.query2 o.query3 in
     let stored = c.store_found in
-    let still = finds_still (agree g.T.TriHashItem.key1 g.T.K1.PartialEq.eq) (agree g.T.TriHashItem.key2 g.T.K2.PartialEq.eq ∷ agree g.T.TriHashItem.key3 g.T.K3.PartialEq.eq ∷ []) (AreLawful-ranks g.T.TriHashItem g.met.T.K1.Eq.laws g.met.T.K2.Eq.laws g.met.T.K3.Eq.laws) tests keys o.map.now.slots stored.new.self.slots stored.ensures.keeps_keys stored.ensures.sound o.slot1 (o.slot2 ∷ o.slot3 ∷ []) c.requires.has_found.found c.requires.has_found.listed c.requires.has_found.some in
+    let still = finds_still (agree g.T.TriHashItem.key1 g.T.K1.PartialEq.eq)
+    (agree g.T.TriHashItem.key2 g.T.K2.PartialEq.eq ∷ agree g.T.TriHashItem.key3 g.T.K3.PartialEq.eq ∷ []) (AreLawful-ranks g.T.TriHashItem g.met.T.K1.Eq.laws g.met.T.K2.Eq.laws g.met.T.K3.Eq.laws)
+    tests keys o.map.now.slots stored.new.self.slots stored.ensures.keeps_keys stored.ensures.sound o.slot1
+    (o.slot2 ∷ o.slot3 ∷ []) c.requires.has_found.found c.requires.has_found.listed c.requires.has_found.some in
     record { found = still.found_each; value = still.value; listed = still.listed; some = still.some }

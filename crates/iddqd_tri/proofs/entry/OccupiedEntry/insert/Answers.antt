@@ -1,6 +1,5 @@
 -- Made by tests/widths from crates/iddqd_bi/proofs/entry/OccupiedEntry/insert/Answers.antt: change that file.
-use Rattle.std.proofs.Common.{refl, [], ◌∷◌, sym, ap, ◌∙◌}
-use Rattle.std.proofs.Math.Nat.{zero-lt-suc}
+use Rattle.std.proofs.Common.{arith, refl, [], ◌∷◌, sym, ap, ◌∙◌}
 use Rattle.iddqd_store.specs.Map.{bag, hash_of}
 use Rattle.iddqd_store.proofs.BagLemmas.Differ.{differ-none}
 use Rattle.iddqd_store.proofs.MapLemmas.Storing.{live_found}
@@ -15,7 +14,8 @@ pub overwrite-displaced-requires-clause-conflicts : goal.overwrite-displaced-req
 overwrite-displaced-requires-clause-conflicts g c =
     let o = c.args.self.now in
     rw (c.new-found1.ensures, c.new-found2.ensures, c.new-found3.ensures) record {
-      items = c.requires.listed ∙ sym (order-all g.T.TriHashItem g.T.K1.PartialEq.eq g.T.K2.PartialEq.eq g.T.K3.PartialEq.eq g.Q1.Query.stands_for g.Q2.Query.stands_for g.Q3.Query.stands_for g.met.Q1.Query.respects_eq g.met.Q2.Query.respects_eq g.met.Q3.Query.respects_eq c.args.item o.query1 o.query2 o.query3 (sym c.in_default.ensures.rank) (bag o.map.now));
+      items = c.requires.listed ∙ sym (order-all g.T.TriHashItem g.T.K1.PartialEq.eq g.T.K2.PartialEq.eq g.T.K3.PartialEq.eq g.Q1.Query.stands_for g.Q2.Query.stands_for g.Q3.Query.stands_for
+          g.met.Q1.Query.respects_eq g.met.Q2.Query.respects_eq g.met.Q3.Query.respects_eq c.args.item o.query1 o.query2 o.query3 (sym c.in_default.ensures.rank) (bag o.map.now));
       live = live_found o.map.now.slots (o.slot1 ∷ o.slot2 ∷ o.slot3 ∷ []) (c.requires.found.0.live, (c.requires.found.1.0.live, (c.requires.found.1.1.0.live, tt)));
       apart = IsDistinct-each_once (o.slot1 ∷ o.slot2 ∷ o.slot3 ∷ []);
     }
@@ -36,21 +36,25 @@ overwrite-displaced-requires-clause-hashed g c =
 pub returns-clause-displaced : goal.returns-clause-displaced
 returns-clause-displaced g c =
     let o = c.args.self.now in
-    c.overwrite-displaced.ensures.displaced ∙ order-all g.T.TriHashItem g.T.K1.PartialEq.eq g.T.K2.PartialEq.eq g.T.K3.PartialEq.eq g.Q1.Query.stands_for g.Q2.Query.stands_for g.Q3.Query.stands_for g.met.Q1.Query.respects_eq g.met.Q2.Query.respects_eq g.met.Q3.Query.respects_eq c.args.item o.query1 o.query2 o.query3 (sym c.in_default.ensures.rank) (bag o.map.now)
+    c.overwrite-displaced.ensures.displaced
+    ∙ order-all g.T.TriHashItem g.T.K1.PartialEq.eq g.T.K2.PartialEq.eq g.T.K3.PartialEq.eq g.Q1.Query.stands_for g.Q2.Query.stands_for g.Q3.Query.stands_for
+    g.met.Q1.Query.respects_eq g.met.Q2.Query.respects_eq g.met.Q3.Query.respects_eq c.args.item o.query1 o.query2 o.query3 (sym c.in_default.ensures.rank) (bag o.map.now)
 
 pub returns-clause-puts_over : goal.returns-clause-puts_over
 returns-clause-puts_over g c =
     let o = c.args.self.now in
-    let put = c.overwrite-displaced in
     let tests = key_tests g.T.TriHashItem g.Q1.Query.stands_for g.Q2.Query.stands_for g.Q3.Query.stands_for o.query1 o.query2 o.query3 in
-    let keys = AreKeyTests-queries g.T.TriHashItem g.T.K1.PartialEq.eq g.T.K2.PartialEq.eq g.T.K3.PartialEq.eq g.Q1.Query.stands_for g.Q2.Query.stands_for g.Q3.Query.stands_for g.met.Q1.Query.respects_eq g.met.Q2.Query.respects_eq g.met.Q3.Query.respects_eq o.query1 o.query2 o.query3 in
-    let here = finds_here (ranks g.T.TriHashItem g.T.K1.PartialEq.eq g.T.K2.PartialEq.eq g.T.K3.PartialEq.eq) tests (zero-lt-suc _) keys put.new.self.slots put.result.1 c.args.item (differ-none tests c.args.item (sym c.in_default.ensures.rank)) put.ensures.puts_at.sound put.ensures.puts_at.at in
+    let keys = AreKeyTests-queries g.T.TriHashItem g.T.K1.PartialEq.eq g.T.K2.PartialEq.eq g.T.K3.PartialEq.eq g.Q1.Query.stands_for g.Q2.Query.stands_for g.Q3.Query.stands_for
+    g.met.Q1.Query.respects_eq g.met.Q2.Query.respects_eq g.met.Q3.Query.respects_eq o.query1 o.query2 o.query3 in
+    let put = c.overwrite-displaced.ensures.puts_at in
+    let here = finds_here (ranks g.T.TriHashItem g.T.K1.PartialEq.eq g.T.K2.PartialEq.eq g.T.K3.PartialEq.eq) tests (omega arith) keys c.overwrite-displaced.new.self.slots
+    c.overwrite-displaced.result.1 c.args.item (differ-none tests c.args.item (sym c.in_default.ensures.rank)) put.sound put.at in
     record {
       same_map = refl;
-      items = put.ensures.puts_at.items;
+      items = put.items;
       has_found = record { found = here.found; value = here.value; listed = here.listed; some = here.some };
       unique = here.unique_item;
       keys = (refl, refl, refl);
-      capacity = put.ensures.puts_at.same_room;
-      builder = put.ensures.puts_at.same_builder;
+      capacity = put.same_room;
+      builder = put.same_builder;
     }

@@ -12,6 +12,10 @@ returns g c =
         lends = tt;
         value = held_data g.T.TriHashItemMut.data_of m.slots slot c.data_mut_of.result c.requires.live2 c.data_mut_of.ensures.some c.data_mut_of.ensures.value;
         swaps = c.data_mut_of.ensures.swaps;
-        holds = λ f. record { live1 = held_live f m slot c.args.self.now.slot1 c.requires.live1; live2 = held_live f m slot c.args.self.now.slot2 c.requires.live2; live3 = held_live f m slot c.args.self.now.slot3 c.requires.live3 };
+        holds = λ f. record {
+          live1 = held_live f m slot c.args.self.now.slot1 c.requires.live1;
+          live2 = held_live f m slot c.args.self.now.slot2 c.requires.live2;
+          live3 = held_live f m slot c.args.self.now.slot3 c.requires.live3;
+        };
       },
     )

@@ -17,8 +17,13 @@ returns g c =
       rw same refl,
       record {
         lends = tt;
-        value = subst (λ s. option_to_list (option_copied_mut c.data_mut_of.result) ≡ map part (option_to_list (option_and_then (get m.slots) s))) same (held_data part m.slots c.one_of-slot.result c.data_mut_of.result (subst (λ s. IfSome s (IsLive m.slots)) (sym same) live) c.data_mut_of.ensures.some c.data_mut_of.ensures.value);
+        value = subst (λ s. option_to_list (option_copied_mut c.data_mut_of.result) ≡ map part (option_to_list (option_and_then (get m.slots) s))) same
+            (held_data part m.slots c.one_of-slot.result c.data_mut_of.result (subst (λ s. IfSome s (IsLive m.slots)) (sym same) live) c.data_mut_of.ensures.some c.data_mut_of.ensures.value);
         swaps = rw same at c.data_mut_of.ensures.swaps;
-        holds = λ f. record { live1 = held_live f m slot c.args.self.now.slot1 c.requires.live1; live2 = held_live f m slot c.args.self.now.slot2 c.requires.live2; live3 = held_live f m slot c.args.self.now.slot3 c.requires.live3 };
+        holds = λ f. record {
+          live1 = held_live f m slot c.args.self.now.slot1 c.requires.live1;
+          live2 = held_live f m slot c.args.self.now.slot2 c.requires.live2;
+          live3 = held_live f m slot c.args.self.now.slot3 c.requires.live3;
+        };
       },
     )

@@ -13,8 +13,11 @@ returns-in-Ok-clause-gains_and_finds g c =
     let same2 : g.Q2.Query.stands_for v.query2 (g.T.TriHashItem.key2 c.args.item) ≡ true = search rules in
     let same3 : g.Q3.Query.stands_for v.query3 (g.T.TriHashItem.key3 c.args.item) ≡ true = search rules in
     let tests = key_tests g.T.TriHashItem g.Q1.Query.stands_for g.Q2.Query.stands_for g.Q3.Query.stands_for v.query1 v.query2 v.query3 in
-    let keys = AreKeyTests-queries g.T.TriHashItem g.T.K1.PartialEq.eq g.T.K2.PartialEq.eq g.T.K3.PartialEq.eq g.Q1.Query.stands_for g.Q2.Query.stands_for g.Q3.Query.stands_for g.met.Q1.Query.respects_eq g.met.Q2.Query.respects_eq g.met.Q3.Query.respects_eq v.query1 v.query2 v.query3 in
-    let here = finds_here (ranks g.T.TriHashItem g.T.K1.PartialEq.eq g.T.K2.PartialEq.eq g.T.K3.PartialEq.eq) tests (omega arith) keys c.insert_free.new.self.slots c.in-Ok.slot c.args.item (same1, (same2, (same3, tt))) put.sound put.at in
+    let keys = AreKeyTests-queries g.T.TriHashItem g.T.K1.PartialEq.eq g.T.K2.PartialEq.eq g.T.K3.PartialEq.eq g.Q1.Query.stands_for
+    g.Q2.Query.stands_for
+    g.Q3.Query.stands_for g.met.Q1.Query.respects_eq g.met.Q2.Query.respects_eq g.met.Q3.Query.respects_eq v.query1 v.query2 v.query3 in
+    let here = finds_here (ranks g.T.TriHashItem g.T.K1.PartialEq.eq g.T.K2.PartialEq.eq g.T.K3.PartialEq.eq) tests
+    (omega arith) keys c.insert_free.new.self.slots c.in-Ok.slot c.args.item (same1, (same2, (same3, tt))) put.sound put.at in
     record {
       same_map = refl;
       gains = put.gains;

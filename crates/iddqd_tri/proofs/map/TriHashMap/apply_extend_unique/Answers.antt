@@ -17,7 +17,8 @@ returns-in-Ok-clause-step g c =
     let all = c.in-Ok.ensures.all in
     let same = All-taken all.0 all.1 all.3 ∙ all.2.0 in
     let added = subst (λ (xs : List g.row.T.Denot). AddsTo ranks (bag c.args.self.now) (bag c.extend_unique.new.self) xs) same all.4 in
-    let same_room = λ (room : length (bag c.args.self.now) + length c.args.items.items ≤ c.args.self.now.capacity). c.in-Ok.ensures.grows_unless.same_room (λ it gives. omega (arith, room, ap length gives.0)) in
+    let same_room = λ (room : length (bag c.args.self.now) + length c.args.items.items ≤ c.args.self.now.capacity). c.in-Ok.ensures.grows_unless.same_room
+    (λ it gives. omega (arith, room, ap length gives.0)) in
     (done, (added, c.in-Ok.ensures.sound, (c.in-Ok.ensures.grows_unless.no_less_room, same_room)), c.tell.ensures.fits, c.tell.ensures.took)
 
 pub returns-in-Err-clause-step : goal.returns-in-Err-clause-step
@@ -27,12 +28,16 @@ returns-in-Err-clause-step g c =
     let refused = c.in-Err.ensures.refused in
     let came : refused.1 ≡ refusal.before.items = refused.5 in
     let split : c.args.items.items ≡ refused.1 ++ refusal.item ∷ into_iter_items refused.2 =
-    sym refused.3.0 ∙ yielded_then (into_iter_steps {X = g.row.T.Denot} {Z = Global}) (λ (it : IntoIter g.row.T.Denot Global). into_iter_items it) (λ s t x step. step.0) refused.1 refused.0 refused.2 refusal.item refused.4 in
+    sym refused.3.0 ∙ yielded_then (into_iter_steps {X = g.row.T.Denot} {Z = Global}) (λ (it : IntoIter g.row.T.Denot Global). into_iter_items it)
+    (λ s t x step. step.0) refused.1 refused.0 refused.2 refusal.item refused.4 in
     let whole = subst (λ (xs : List g.row.T.Denot). c.args.items.items ≡ xs ++ refusal.item ∷ into_iter_items refused.2) came split in
     let why = c.in-Err.ensures.reason in
     let told = c.reason-reason.ensures in
-    let reason = taken-reason ranks (refusal.before.items ++ bag c.args.self.now) refusal.item c.reason-reason.result (λ is none. told.duplicate is (why.taken1 ∙ none.0) (why.taken2 ∙ none.1.0) (why.taken3 ∙ none.1.1.0)) (λ is. let free = told.none_taken is in (sym why.taken1 ∙ free.0, (sym why.taken2 ∙ free.1, (sym why.taken3 ∙ free.2, tt)))) in
-    let same_room = λ (room : length (bag c.args.self.now) + length c.args.items.items ≤ c.args.self.now.capacity). c.in-Err.ensures.grows_unless.same_room (λ it gives. omega (arith, room, ap length gives.0)) in (
+    let reason = taken-reason ranks (refusal.before.items ++ bag c.args.self.now) refusal.item c.reason-reason.result
+    (λ is none. told.duplicate is (why.taken1 ∙ none.0) (why.taken2 ∙ none.1.0) (why.taken3 ∙ none.1.1.0)) (λ is. let free = told.none_taken is in
+    (sym why.taken1 ∙ free.0, (sym why.taken2 ∙ free.1, (sym why.taken3 ∙ free.2, tt)))) in
+    let same_room = λ (room : length (bag c.args.self.now) + length c.args.items.items ≤ c.args.self.now.capacity). c.in-Err.ensures.grows_unless.same_room
+    (λ it gives. omega (arith, room, ap length gives.0)) in (
       extend_refused c.reason-reason.result refusal.before.items refusal.item,
       (
         into_iter_items refused.2,

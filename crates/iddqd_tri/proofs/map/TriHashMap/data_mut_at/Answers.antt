@@ -19,7 +19,8 @@ invariant_of-self-lent g c = λ w.
     let same1 = g.met.T.TriHashItemMut.keeps_key1 x w in
     let same2 = g.met.T.TriHashItemMut.keeps_key2 x w in
     let same3 = g.met.T.TriHashItemMut.keeps_key3 x w in
-    let agree = agrees-keys g.T.TriHashItem g.T.K1.PartialEq.eq g.T.K2.PartialEq.eq g.T.K3.PartialEq.eq x (g.T.TriHashItemMut.put x w) (laws1.symm _ _ ∙ same1) (laws2.symm _ _ ∙ same2) (laws3.symm _ _ ∙ same3) in
+    let agree = agrees-keys g.T.TriHashItem g.T.K1.PartialEq.eq g.T.K2.PartialEq.eq g.T.K3.PartialEq.eq x
+    (g.T.TriHashItemMut.put x w) (laws1.symm _ _ ∙ same1) (laws2.symm _ _ ∙ same2) (laws3.symm _ _ ∙ same3) in
     IsIndexed-set (AreLawful-ranks g.T.TriHashItem laws1 laws2 laws3) (omega arith) c.self.invariant c.args.slot x _ c.item_mut.ensures.value agree
     (ap hash (g.met.T.K1.Hash.respects_eq _ _ same1), (ap hash (g.met.T.K2.Hash.respects_eq _ _ same2), (ap hash (g.met.T.K3.Hash.respects_eq _ _ same3), tt)))
 

@@ -21,7 +21,8 @@ pub returns-in-Found-clause-value : goal.returns-in-Found-clause-value
 returns-in-Found-clause-value g c =
     let tests = key_tests g.T.TriHashItem g.Q1.Query.stands_for g.Q2.Query.stands_for g.Q3.Query.stands_for c.args.query1 c.args.query2 c.args.query3 in
     let laws = (AreLawful-ranks g.T.TriHashItem g.met.T.K1.Eq.laws g.met.T.K2.Eq.laws g.met.T.K3.Eq.laws).0 in
-    rw (c.slot.ensures, c.slot-in-Found.ensures, c.slot-in-Found-2.ensures) (found_entry laws c.args.self.now.slots c.search_all.ensures.apart tests c.in-Found.found1.slot (c.in-Found.found2.slot ∷ c.in-Found.found3.slot ∷ []) c.in-Found.ensures.found)
+    rw (c.slot.ensures, c.slot-in-Found.ensures, c.slot-in-Found-2.ensures)
+    (found_entry laws c.args.self.now.slots c.search_all.ensures.apart tests c.in-Found.found1.slot (c.in-Found.found2.slot ∷ c.in-Found.found3.slot ∷ []) c.in-Found.ensures.found)
 
 pub returns-in-Found-clause-is_found : goal.returns-in-Found-clause-is_found
 returns-in-Found-clause-is_found g c =

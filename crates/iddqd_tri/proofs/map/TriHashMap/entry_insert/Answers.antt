@@ -15,7 +15,8 @@ returns-in-Ok-clause-step g c =
     let eq2 = g.T.K2.PartialEq.eq in
     let eq3 = g.T.K3.PartialEq.eq in
     let keys = AreKeyTests-keys g.T.TriHashItem eq1 eq2 eq3 g.met.T.K1.Eq.laws g.met.T.K2.Eq.laws g.met.T.K3.Eq.laws c.args.key1.now c.args.key2.now c.args.key3.now in
-    entry_inserts_vacant g.row.T-Data.Denot (ranks g.T.TriHashItem eq1 eq2 eq3) (key_tests g.T.TriHashItem eq1 eq2 eq3 c.args.key1.now c.args.key2.now c.args.key3.now) keys (state_of c.args.self.now) _ c.args.item
+    entry_inserts_vacant g.row.T-Data.Denot (ranks g.T.TriHashItem eq1 eq2 eq3)
+    (key_tests g.T.TriHashItem eq1 eq2 eq3 c.args.key1.now c.args.key2.now c.args.key3.now) keys (state_of c.args.self.now) _ c.args.item
     (search rules) (rw (← known.key1, ← known.key2, ← known.key3, ← same) v.absent) (search rules) (search rules) (search rules) c.new.result c.new.ensures
 
 pub returns-in-Ok-insert-clause-step : goal.returns-in-Ok-insert-clause-step
@@ -24,5 +25,6 @@ returns-in-Ok-insert-clause-step g c =
     let eq2 = g.T.K2.PartialEq.eq in
     let eq3 = g.T.K3.PartialEq.eq in
     let keys = AreKeyTests-keys g.T.TriHashItem eq1 eq2 eq3 g.met.T.K1.Eq.laws g.met.T.K2.Eq.laws g.met.T.K3.Eq.laws c.args.key1.now c.args.key2.now c.args.key3.now in
-    entry_inserts_occupied g.row.T-Data.Denot (ranks g.T.TriHashItem eq1 eq2 eq3) (key_tests g.T.TriHashItem eq1 eq2 eq3 c.args.key1.now c.args.key2.now c.args.key3.now) keys (state_of c.args.self.now) _ c.args.item
+    entry_inserts_occupied g.row.T-Data.Denot (ranks g.T.TriHashItem eq1 eq2 eq3)
+    (key_tests g.T.TriHashItem eq1 eq2 eq3 c.args.key1.now c.args.key2.now c.args.key3.now) keys (state_of c.args.self.now) _ c.args.item
     (search rules) _ (search rules) (search (rules, c.in-Ok-insert.ensures.puts_over.items)) (search rules)

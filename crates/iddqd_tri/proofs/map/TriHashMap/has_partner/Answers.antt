@@ -34,10 +34,22 @@ returns-in-None-clause-value g c =
     sym (partner_none agree1 (agree2 ∷ agree3 ∷ []) g.T.PartialEq.eq (bag c.args.self.now) c.args.item.now _ named (ap option_copied c.in-None.is))
 
 pub returns-then-has_others-clause-costs : goal.returns-then-has_others-clause-costs
-returns-then-has_others-clause-costs g c = record { answer = _; between = c.slot1_of.new.costs.asked; search = rw (c.key1.ensures, ← c.has_others.ensures.probed) at c.slot1_of.ensures.costs; rest = omega (arith, c.has_others.ensures.asked) }
+returns-then-has_others-clause-costs g c =
+    record {
+      answer = _;
+      between = c.slot1_of.new.costs.asked;
+      search = rw (c.key1.ensures, ← c.has_others.ensures.probed) at c.slot1_of.ensures.costs;
+      rest = omega (arith, c.has_others.ensures.asked);
+    }
 
 pub returns-else-has_others-clause-costs : goal.returns-else-has_others-clause-costs
-returns-else-has_others-clause-costs g c = record { answer = _; between = c.slot1_of.new.costs.asked; search = rw (c.key1.ensures, ← c.has_others.ensures.probed) at c.slot1_of.ensures.costs; rest = omega (arith, c.has_others.ensures.asked) }
+returns-else-has_others-clause-costs g c =
+    record {
+      answer = _;
+      between = c.slot1_of.new.costs.asked;
+      search = rw (c.key1.ensures, ← c.has_others.ensures.probed) at c.slot1_of.ensures.costs;
+      rest = omega (arith, c.has_others.ensures.asked);
+    }
 
 pub returns-in-None-clause-costs : goal.returns-in-None-clause-costs
 returns-in-None-clause-costs g c = record { answer = _; between = c.slot1_of.new.costs.asked; search = rw c.key1.ensures at c.slot1_of.ensures.costs; rest = omega arith }

@@ -17,12 +17,14 @@ returns-in-Ok-clause-step g c =
     let eq2 = g.T.K2.PartialEq.eq in
     let eq3 = g.T.K3.PartialEq.eq in
     let keys = AreKeyTests-keys g.T.TriHashItem eq1 eq2 eq3 g.met.T.K1.Eq.laws g.met.T.K2.Eq.laws g.met.T.K3.Eq.laws c.args.key1.now c.args.key2.now c.args.key3.now in
-    or_inserts_vacant g.row.T-Data.Denot (ranks g.T.TriHashItem eq1 eq2 eq3) (key_tests g.T.TriHashItem eq1 eq2 eq3 c.args.key1.now c.args.key2.now c.args.key3.now) keys (state_of c.args.self.now) _ c.args.item
+    or_inserts_vacant g.row.T-Data.Denot (ranks g.T.TriHashItem eq1 eq2 eq3)
+    (key_tests g.T.TriHashItem eq1 eq2 eq3 c.args.key1.now c.args.key2.now c.args.key3.now) keys (state_of c.args.self.now) _ c.args.item
     (search rules) (rw (← known.key1, ← known.key2, ← known.key3, ← same) v.absent) (search rules) (search rules) (search rules)
 
 -- a vacant entry that rejects an item found nothing
 pub returns-in-Err-clause-step : goal.returns-in-Err-clause-step
 returns-in-Err-clause-step g c =
     let asked = c.in-Vacant.ensures in
-    let none : listing (key_tests g.T.TriHashItem g.T.K1.PartialEq.eq g.T.K2.PartialEq.eq g.T.K3.PartialEq.eq c.args.key1.now c.args.key2.now c.args.key3.now) (bag c.args.self.now) ≡ [] = rw (← asked.keys.key1, ← asked.keys.key2, ← asked.keys.key3, ← asked.unchanged) c.in-Vacant.v.absent in
+    let none : listing (key_tests g.T.TriHashItem g.T.K1.PartialEq.eq g.T.K2.PartialEq.eq g.T.K3.PartialEq.eq c.args.key1.now c.args.key2.now c.args.key3.now) (bag c.args.self.now) ≡ [] =
+    rw (← asked.keys.key1, ← asked.keys.key2, ← asked.keys.key3, ← asked.unchanged) c.in-Vacant.v.absent in
     search (rules, none)

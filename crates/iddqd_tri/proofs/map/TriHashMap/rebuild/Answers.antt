@@ -12,7 +12,8 @@ use Rattle.iddqd_tri.proofs.map.TriHashMap.rebuild.Goals as goal
 something : (slots : ℕ) {count len wanted : ℕ} → len ≡ count → len ≤ wanted → 0 < max count (min wanted slots) → 0 < wanted
 something slots all enough is = omega arith
 
-exact : {count len slots room wanted new first second third : ℕ} → len ≡ count → len ≤ wanted → wanted ≤ room → room ≤ slots → new ≡ max count (min wanted slots) → wanted ≤ first → wanted ≤ second → wanted ≤ third → min new (min first (min second third)) ≡ wanted
+exact : {count len slots room wanted new first second third : ℕ} → len ≡ count → len ≤ wanted → wanted ≤ room → room ≤ slots
+    → new ≡ max count (min wanted slots) → wanted ≤ first → wanted ≤ second → wanted ≤ third → min new (min first (min second third)) ≡ wanted
 exact all enough below within made enough1 enough2 enough3 = omega arith
 
 pub returns-in_err-shrink_to-clause-reason : goal.returns-in_err-shrink_to-clause-reason

@@ -22,7 +22,8 @@ forget-requires-2-clause-paired g c =
 pub invariant_of-self-2 : goal.invariant_of-self-2
 invariant_of-self-2 g c =
     let found = sym c.remove.ensures.value ∙ c.in-Some.is in
-    IsIndexed-remove {others = c.forget_by_key.new.self.pairs ∷ c.forget.new.self.pairs ∷ c.forget-2.new.self.pairs ∷ []} c.in-Some.item (AreLawful-ranks g.T.TriHashItem g.met.T.K1.Eq.laws g.met.T.K2.Eq.laws g.met.T.K3.Eq.laws) c.self.invariant c.in-Some.ensures.taken.members
+    IsIndexed-remove {others = c.forget_by_key.new.self.pairs ∷ c.forget.new.self.pairs ∷ c.forget-2.new.self.pairs ∷ []} c.in-Some.item
+    (AreLawful-ranks g.T.TriHashItem g.met.T.K1.Eq.laws g.met.T.K2.Eq.laws g.met.T.K3.Eq.laws) c.self.invariant c.in-Some.ensures.taken.members
     (c.in_ok-slot.ensures.removed c.in-Some.item found, (c.forget.ensures.removed, (c.forget-2.ensures.removed, tt)))
 
 pub returns-clause-loses : goal.returns-clause-loses

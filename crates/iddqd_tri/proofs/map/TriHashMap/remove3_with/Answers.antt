@@ -9,7 +9,11 @@ use Rattle.iddqd_tri.proofs.MapLemmas.{AreLawful-ranks}
 use Rattle.iddqd_tri.proofs.map.TriHashMap.remove3_with.Goals as goal
 
 pub forget_by_key-requires : goal.forget_by_key-requires
-forget_by_key-requires g c = record { searchable = first_rank (other_ranks (other_ranks c.self.invariant)); names = rw (← c.self.view_is) at c.requires.names; asks = rw (← c.self.view_is) at c.requires.asks }
+forget_by_key-requires g c = record {
+  searchable = first_rank (other_ranks (other_ranks c.self.invariant));
+  names = rw (← c.self.view_is) at c.requires.names;
+  asks = rw (← c.self.view_is) at c.requires.asks;
+}
 
 pub forget-requires-clause-paired : goal.forget-requires-clause-paired
 forget-requires-clause-paired g c =
@@ -22,7 +26,8 @@ forget-requires-2-clause-paired g c =
 pub invariant_of-self-2 : goal.invariant_of-self-2
 invariant_of-self-2 g c =
     let found = sym c.remove.ensures.value ∙ c.in-Some.is in
-    IsIndexed-remove {others = c.forget.new.self.pairs ∷ c.forget-2.new.self.pairs ∷ c.forget_by_key.new.self.pairs ∷ []} c.in-Some.item (AreLawful-ranks g.T.TriHashItem g.met.T.K1.Eq.laws g.met.T.K2.Eq.laws g.met.T.K3.Eq.laws) c.self.invariant c.in-Some.ensures.taken.members
+    IsIndexed-remove {others = c.forget.new.self.pairs ∷ c.forget-2.new.self.pairs ∷ c.forget_by_key.new.self.pairs ∷ []} c.in-Some.item
+    (AreLawful-ranks g.T.TriHashItem g.met.T.K1.Eq.laws g.met.T.K2.Eq.laws g.met.T.K3.Eq.laws) c.self.invariant c.in-Some.ensures.taken.members
     (c.forget.ensures.removed, (c.forget-2.ensures.removed, (c.in_ok-slot.ensures.removed c.in-Some.item found, tt)))
 
 pub returns-clause-loses : goal.returns-clause-loses

@@ -45,4 +45,12 @@ returns-clause-loses g c = record {
 
 pub returns-clause-costs : goal.returns-clause-costs
 returns-clause-costs g c =
-    rw (← c.self.view_is) (walks_all (_ ∷ _ ∷ _ ∷ []) _ _ c.self.invariant (c.forget.new.meter, once _ _ _ c.forget.ensures.at_most, (c.forget-in-Some.new.meter, once _ _ _ c.forget-in-Some.ensures.at_most, (c.forget-in-Some-2.new.meter, once _ _ _ c.forget-in-Some-2.ensures.at_most, refl))))
+    rw (← c.self.view_is) (walks_all (_ ∷ _ ∷ _ ∷ []) _ _ c.self.invariant (
+      c.forget.new.meter,
+      once _ _ _ c.forget.ensures.at_most,
+      (
+        c.forget-in-Some.new.meter,
+        once _ _ _ c.forget-in-Some.ensures.at_most,
+        (c.forget-in-Some-2.new.meter, once _ _ _ c.forget-in-Some-2.ensures.at_most, refl),
+      ),
+    ))

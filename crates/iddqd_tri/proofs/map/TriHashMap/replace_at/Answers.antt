@@ -23,4 +23,5 @@ invariant_of-self g c =
 
 pub returns-clause-swaps : goal.returns-clause-swaps
 returns-clause-swaps g c =
-    rw (← c.self.view_is) (exchange_swaps (AreLawful-ranks g.T.TriHashItem g.met.T.K1.Eq.laws g.met.T.K2.Eq.laws g.met.T.K3.Eq.laws) (omega arith) c.self.invariant c.args.slot c.replace.result c.args.item _ c.replace.ensures.members)
+    rw (← c.self.view_is) (exchange_swaps (AreLawful-ranks g.T.TriHashItem g.met.T.K1.Eq.laws g.met.T.K2.Eq.laws g.met.T.K3.Eq.laws)
+    (omega arith) c.self.invariant c.args.slot c.replace.result c.args.item _ c.replace.ensures.members)

@@ -14,8 +14,13 @@ pub loop-slot-preserved-then-not-f : goal.loop-slot-preserved-then-not-f
 loop-slot-preserved-then-not-f g c =
     let at = c.loop-slot in
     record {
-      completes = rw (c.number-from.ensures.value, c.remove_at.ensures.slots) (past_taken (CalledAt g.F.FnMut) _ at.f c.f.new.self _ at.self.slots at.from c.in-Some.slot c.item_at.result.now (c.in-Some.ensures.comes _ c.item_at.ensures) (called_at g.F.FnMut c.f.ensures c.if-not-f.true) at.invariant.completes);
-      callable = rw (c.number-from.ensures.value, c.remove_at.ensures.slots) (subst (λ l. TakesEach g.F.FnMut c.f.new.self l) (sym (same_behind at.self.slots c.in-Some.slot)) (takes_others g.F.FnMut at.f _ c.item_at.result.now _ _ c.f.new.self (c.in-Some.ensures.comes _ c.item_at.ensures).rest (called_at g.F.FnMut c.f.ensures c.if-not-f.true) at.invariant.callable));
+      completes = rw (c.number-from.ensures.value, c.remove_at.ensures.slots)
+          (past_taken (CalledAt g.F.FnMut) _ at.f c.f.new.self _ at.self.slots at.from c.in-Some.slot c.item_at.result.now
+          (c.in-Some.ensures.comes _ c.item_at.ensures) (called_at g.F.FnMut c.f.ensures c.if-not-f.true) at.invariant.completes);
+      callable = rw (c.number-from.ensures.value, c.remove_at.ensures.slots)
+          (subst (λ l. TakesEach g.F.FnMut c.f.new.self l) (sym (same_behind at.self.slots c.in-Some.slot))
+          (takes_others g.F.FnMut at.f _ c.item_at.result.now _ _ c.f.new.self
+          (c.in-Some.ensures.comes _ c.item_at.ensures).rest (called_at g.F.FnMut c.f.ensures c.if-not-f.true) at.invariant.callable));
       capacity = c.remove_at.ensures.loses.same_room ∙ at.invariant.capacity;
       builder = c.remove_at.ensures.loses.same_builder ∙ at.invariant.builder;
     }
@@ -24,8 +29,12 @@ pub loop-slot-preserved : goal.loop-slot-preserved
 loop-slot-preserved g c =
     let at = c.loop-slot in
     record {
-      completes = rw c.number-from.ensures.value (past_kept (CalledAt g.F.FnMut) _ at.f c.f.new.self _ at.self.slots at.from c.in-Some.slot c.item_at.result.now (c.in-Some.ensures.comes _ c.item_at.ensures) (called_at g.F.FnMut c.f.ensures c.if-not-f.false) at.invariant.completes);
-      callable = rw c.number-from.ensures.value (takes_others g.F.FnMut at.f _ c.item_at.result.now _ _ c.f.new.self (c.in-Some.ensures.comes _ c.item_at.ensures).rest (called_at g.F.FnMut c.f.ensures c.if-not-f.false) at.invariant.callable);
+      completes = rw c.number-from.ensures.value
+          (past_kept (CalledAt g.F.FnMut) _ at.f c.f.new.self _ at.self.slots at.from c.in-Some.slot c.item_at.result.now
+          (c.in-Some.ensures.comes _ c.item_at.ensures) (called_at g.F.FnMut c.f.ensures c.if-not-f.false) at.invariant.completes);
+      callable = rw c.number-from.ensures.value
+          (takes_others g.F.FnMut at.f _ c.item_at.result.now _ _ c.f.new.self
+          (c.in-Some.ensures.comes _ c.item_at.ensures).rest (called_at g.F.FnMut c.f.ensures c.if-not-f.false) at.invariant.callable);
       capacity = at.invariant.capacity;
       builder = at.invariant.builder;
     }
@@ -42,10 +51,10 @@ loop-slot-init g c =
 
 pub returns-clause-kept : goal.returns-clause-kept
 returns-clause-kept g c =
-    let at = c.loop-slot in
-    none_behind (CalledAt g.F.FnMut) c.args.f at.f c.args.self.now.slots at.self.slots at.from c.in_default.ensures.end at.invariant.completes
+    none_behind (CalledAt g.F.FnMut) c.args.f c.loop-slot.f c.args.self.now.slots c.loop-slot.self.slots c.loop-slot.from c.in_default.ensures.end c.loop-slot.invariant.completes
 
 pub returns-clause-no_more : goal.returns-clause-no_more
 returns-clause-no_more g c =
     let at = c.loop-slot in
-    length-keeps (CalledAt g.F.FnMut) c.args.f (bag c.args.self.now) (bag at.self) (none_behind (CalledAt g.F.FnMut) c.args.f at.f c.args.self.now.slots at.self.slots at.from c.in_default.ensures.end at.invariant.completes)
+    length-keeps (CalledAt g.F.FnMut) c.args.f (bag c.args.self.now) (bag at.self)
+    (none_behind (CalledAt g.F.FnMut) c.args.f at.f c.args.self.now.slots at.self.slots at.from c.in_default.ensures.end at.invariant.completes)

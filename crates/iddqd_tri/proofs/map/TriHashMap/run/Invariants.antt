@@ -11,6 +11,7 @@ abbrev pub invariant-loop-command : goal.invariant-loop-command
 invariant-loop-command g l =
     let Runs = Run (Step g.T.TriHashItem g.T.K1.PartialEq.eq g.T.K2.PartialEq.eq g.T.K3.PartialEq.eq g.T.TriHashItemMut.put) g.K.TriSink.took in
     record {
-      completes : (answer : _) (new : _) (after : _) → Runs (state_of l.self) l.sink (into_iter_items l.command-iterator) answer new after → Runs (state_of l.fn.self) l.fn.sink l.fn.commands.items answer new after;
+      completes : (answer : _) (new : _) (after : _) → Runs (state_of l.self) l.sink (into_iter_items l.command-iterator) answer new after
+          → Runs (state_of l.fn.self) l.fn.sink l.fn.commands.items answer new after;
       builder : l.self.builder ≡ l.fn.self.builder;
     }

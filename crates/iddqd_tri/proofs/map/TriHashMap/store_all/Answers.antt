@@ -33,9 +33,14 @@ loop-slot-preserved g c =
       apart = IsDistinct-tail nat_eq slot rest apart;
       callable = takes_elsewhere g.F.FnMut c.loop-slot.f c.store_at.new.f held slot rest stored.0 stored.1 written apart stored.2 stored.3 callable;
       completes = λ new stores.
-          completes new (one_store (CalledAt g.F.FnMut) g.T.TriHashItemMut.put ranks c.loop-slot.f c.store_at.new.f held (map_with held slot written) new slot rest stored.0 stored.1 apart stored.2 stored.3 refl (rw stored.4 at stored.5) stores);
-      kept = rw stored.2 (kept-set ranks (AreLawful-ranks g.T.TriHashItem g.met.T.K1.Eq.laws g.met.T.K2.Eq.laws g.met.T.K3.Eq.laws) c.args.self.now.slots held.slots slot stored.0 (written stored.0) so_far.kept stored.2
-          (agrees-keys g.T.TriHashItem g.T.K1.PartialEq.eq g.T.K2.PartialEq.eq g.T.K3.PartialEq.eq stored.0 (written stored.0) (g.met.T.K1.Eq.laws.symm _ _ ∙ g.met.T.TriHashItemMut.keeps_key1 stored.0 stored.1) (g.met.T.K2.Eq.laws.symm _ _ ∙ g.met.T.TriHashItemMut.keeps_key2 stored.0 stored.1) (g.met.T.K3.Eq.laws.symm _ _ ∙ g.met.T.TriHashItemMut.keeps_key3 stored.0 stored.1)));
+          completes new (one_store (CalledAt g.F.FnMut) g.T.TriHashItemMut.put ranks c.loop-slot.f c.store_at.new.f held
+          (map_with held slot written) new slot rest stored.0 stored.1 apart stored.2 stored.3 refl (rw stored.4 at stored.5) stores);
+      kept = rw stored.2 (kept-set ranks (AreLawful-ranks g.T.TriHashItem g.met.T.K1.Eq.laws g.met.T.K2.Eq.laws g.met.T.K3.Eq.laws)
+          c.args.self.now.slots held.slots slot stored.0 (written stored.0) so_far.kept stored.2
+          (agrees-keys g.T.TriHashItem g.T.K1.PartialEq.eq g.T.K2.PartialEq.eq g.T.K3.PartialEq.eq stored.0 (written stored.0)
+          (g.met.T.K1.Eq.laws.symm _ _ ∙ g.met.T.TriHashItemMut.keeps_key1 stored.0 stored.1)
+          (g.met.T.K2.Eq.laws.symm _ _ ∙ g.met.T.TriHashItemMut.keeps_key2 stored.0 stored.1)
+          (g.met.T.K3.Eq.laws.symm _ _ ∙ g.met.T.TriHashItemMut.keeps_key3 stored.0 stored.1)));
       live_still = λ k there. stays_live written held slot k (so_far.live_still k there);
       capacity = so_far.capacity;
       builder = so_far.builder;
@@ -47,7 +52,8 @@ loop-slot-init g c = rw (c.into_iter-slot-iterator.ensures.into_iter_gives, c.it
   apart = c.requires.apart;
   callable = TakesEach-in_turn g.F.FnMut c.args.f (items_at c.args.self.now.slots c.args.found.now) c.requires.callable;
   completes = λ new stores. stores;
-  kept = kept-same (ranks g.T.TriHashItem g.T.K1.PartialEq.eq g.T.K2.PartialEq.eq g.T.K3.PartialEq.eq) (AreLawful-ranks g.T.TriHashItem g.met.T.K1.Eq.laws g.met.T.K2.Eq.laws g.met.T.K3.Eq.laws) c.args.self.now.slots;
+  kept = kept-same (ranks g.T.TriHashItem g.T.K1.PartialEq.eq g.T.K2.PartialEq.eq g.T.K3.PartialEq.eq)
+      (AreLawful-ranks g.T.TriHashItem g.met.T.K1.Eq.laws g.met.T.K2.Eq.laws g.met.T.K3.Eq.laws) c.args.self.now.slots;
   live_still = λ at there. there;
   capacity = refl;
   builder = refl;

@@ -18,7 +18,8 @@ invariant_of-self-2 g c =
     let same1 = g.met.T.TriHashItemMut.keeps_key1 x d in
     let same2 = g.met.T.TriHashItemMut.keeps_key2 x d in
     let same3 = g.met.T.TriHashItemMut.keeps_key3 x d in
-    let agree = agrees-keys g.T.TriHashItem g.T.K1.PartialEq.eq g.T.K2.PartialEq.eq g.T.K3.PartialEq.eq x (g.T.TriHashItemMut.put x d) (laws1.symm _ _ ∙ same1) (laws2.symm _ _ ∙ same2) (laws3.symm _ _ ∙ same3) in
+    let agree = agrees-keys g.T.TriHashItem g.T.K1.PartialEq.eq g.T.K2.PartialEq.eq g.T.K3.PartialEq.eq x
+    (g.T.TriHashItemMut.put x d) (laws1.symm _ _ ∙ same1) (laws2.symm _ _ ∙ same2) (laws3.symm _ _ ∙ same3) in
     rw c.write_data.ensures
     (IsIndexed-set (AreLawful-ranks g.T.TriHashItem laws1 laws2 laws3) (omega arith) c.self.invariant c.args.slot x _ c.item_mut-item.ensures.value agree
     (ap hash (g.met.T.K1.Hash.respects_eq _ _ same1), (ap hash (g.met.T.K2.Hash.respects_eq _ _ same2), (ap hash (g.met.T.K3.Hash.respects_eq _ _ same3), tt))))

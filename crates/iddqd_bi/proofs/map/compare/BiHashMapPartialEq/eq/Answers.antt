@@ -33,7 +33,8 @@ pub returns-clause-eq : goal.returns-clause-eq
 returns-clause-eq g c =
     let ranks = ranks g.T.BiHashItem g.T.K1.PartialEq.eq g.T.K2.PartialEq.eq in
     let laws = AreLawful-ranks g.T.BiHashItem g.met.T.K1.Eq.laws g.met.T.K2.Eq.laws in
-    sym (told_same ranks g.T.PartialEq.eq laws g.met.T.PartialEq.laws (bag c.args.self.now) (bag c.args.other.now) (omega arith) c.len.ensures.sound (sym c.len.ensures.value ∙ c.if-len.false ∙ c.len-2.ensures.value) (search rules))
+    sym (told_same ranks g.T.PartialEq.eq laws g.met.T.PartialEq.laws (bag c.args.self.now) (bag c.args.other.now)
+    (omega arith) c.len.ensures.sound (sym c.len.ensures.value ∙ c.if-len.false ∙ c.len-2.ensures.value) (search rules))
 
 pub returns-clause-same : goal.returns-clause-same
 returns-clause-same g c =

@@ -34,7 +34,8 @@ pub returns-clause-eq : goal.returns-clause-eq
 returns-clause-eq g c =
     let ranks = ranks g.T.IdHashItem g.T.Key.PartialEq.eq in
     let laws = AreLawful-ranks g.T.IdHashItem g.met.T.Key.Eq.laws in
-    sym (told_same ranks g.T.PartialEq.eq laws g.met.T.PartialEq.laws (bag c.args.self.now) (bag c.args.other.now) (omega arith) c.len.ensures.sound (sym c.len.ensures.value ∙ c.if-len.false ∙ c.len-2.ensures.value) (search rules))
+    sym (told_same ranks g.T.PartialEq.eq laws g.met.T.PartialEq.laws (bag c.args.self.now) (bag c.args.other.now)
+    (omega arith) c.len.ensures.sound (sym c.len.ensures.value ∙ c.if-len.false ∙ c.len-2.ensures.value) (search rules))
 
 pub returns-clause-same : goal.returns-clause-same
 returns-clause-same g c =

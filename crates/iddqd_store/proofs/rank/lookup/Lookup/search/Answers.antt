@@ -9,7 +9,8 @@ use Rattle.iddqd_store.specs.Slots.Found.{FoundAt}
 use Rattle.iddqd_store.specs.Slots.{IsLive, contents, get}
 use Rattle.iddqd_store.proofs.rank.lookup.Lookup.search.Goals as goal
 
-found_at : {T V : Type 0} (test : T → Bool) (slots : List (Option T)) (r : Searched ℕ V) → IsOnly test (contents slots) (option_and_then (get slots) (found_of r)) → IfFound r (IsLive slots) → FoundAt test slots (found_of r)
+found_at : {T V : Type 0} (test : T → Bool) (slots : List (Option T)) (r : Searched ℕ V)
+    → IsOnly test (contents slots) (option_and_then (get slots) (found_of r)) → IfFound r (IsLive slots) → FoundAt test slots (found_of r)
 found_at test slots (Found at) only live = record { only = only; live = live }
 found_at test slots (Vacant at) only live = record { only = only; live = tt }
 

@@ -18,13 +18,23 @@ pub returns-in-Found-clause-costs : goal.returns-in-Found-clause-costs
 returns-in-Found-clause-costs g c =
     let table = c.in-Found.ensures in
     let own = table.costs.probes in
-    rw (← c.self.view_is) (costs _ c.self.invariant c.args.hash _ _ _ _ _ table.sized (record { asked = search (rules, lives, table.costs.asked); probes = record { no_cells = own.no_cells; miss = own.miss; hit_least = own.hit_least; hit_most = own.hit_most }; within = table.costs.within }))
+    rw (← c.self.view_is) (costs _ c.self.invariant c.args.hash _ _ _ _ _ table.sized
+    (record {
+      asked = search (rules, lives, table.costs.asked);
+      probes = record { no_cells = own.no_cells; miss = own.miss; hit_least = own.hit_least; hit_most = own.hit_most };
+      within = table.costs.within;
+    }))
 
 pub returns-in-Vacant-clause-costs : goal.returns-in-Vacant-clause-costs
 returns-in-Vacant-clause-costs g c =
     let table = c.in-Vacant.ensures in
     let own = table.costs.probes in
-    rw (← c.self.view_is) (costs _ c.self.invariant c.args.hash _ _ _ _ _ table.sized (record { asked = search (rules, lives, table.costs.asked); probes = record { no_cells = own.no_cells; miss = own.miss; hit_least = own.hit_least; hit_most = own.hit_most }; within = table.costs.within }))
+    rw (← c.self.view_is) (costs _ c.self.invariant c.args.hash _ _ _ _ _ table.sized
+    (record {
+      asked = search (rules, lives, table.costs.asked);
+      probes = record { no_cells = own.no_cells; miss = own.miss; hit_least = own.hit_least; hit_most = own.hit_most };
+      within = table.costs.within;
+    }))
 
 pub returns-in-Found-clause-hashed : goal.returns-in-Found-clause-hashed
 returns-in-Found-clause-hashed g c = rw (← c.self.view_is) (λ x stands. hash_at c.in-Found.found.0 c.args.hash x c.self.invariant.index c.in-Found.ensures.found.found stands)
