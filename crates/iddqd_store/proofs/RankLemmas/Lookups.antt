@@ -1,5 +1,5 @@
 -- What a search at one rank said holds in the map that it was made in.
-use Rattle.std.specs.Prelude.{◌≡◌, ◌≤◌, ◌*◌, ◌/◌, ℕ, Bool, List, Option, IfSome}
+use Rattle.std.specs.Prelude.{◌≡◌, ◌≤◌, ℕ, Bool, List, Option, IfSome}
 use Rattle.std.proofs.Common.{refl}
 use Rattle.iddqd_store.specs.declared.index_table.searched.Searched.{Searched}
 use Rattle.iddqd_store.specs.declared.index_table.searched.Searched.TheVariants.{Found, Vacant}
@@ -10,6 +10,7 @@ use Rattle.iddqd_store.specs.Searched.{found_of, IfFound, IfVacant}
 use Rattle.iddqd_store.specs.Slots.{contents}
 use Rattle.iddqd_store.specs.Slots.Found.{FoundAt}
 use Rattle.iddqd_store.specs.Table.{Spot}
+use Rattle.iddqd_store.specs.Table.Limit.{capacity_of}
 use Rattle.iddqd_store.proofs.RankLemmas.Costs.{SearchCosts-room}
 
 -- what a search says in a map of this capacity, which may be less than that of the table, and with its answer as `at` has it
@@ -17,9 +18,9 @@ pub record IsSearchIn {T : Type 0} (hash_of : T → ℕ) (slots : List (Option T
     (answer : Searched ℕ Spot) (at : FoundByHash) (before after : Costs) : Type 0 where
   pub found : FoundAt test slots at.slot
   pub same : at.hash ≡ hash
-  pub under : IsHashed hash_of slots at
+  pub hashed : IsHashed hash_of slots at
   pub vacant : IfVacant answer (IsVacantFor hash_of (contents slots) hash)
-  pub cells : IfVacant answer (λ spot. capacity ≤ spot.cells / 8 * 7)
+  pub cells : IfVacant answer (λ spot. capacity ≤ capacity_of spot.cells)
   pub costs : SearchCosts hash_of (contents slots) capacity hash at.slot before.asked after.asked before.probed after.probed
 
 module _ {T B : Type 0} (hash_of : B → T → ℕ) {searched slots : List (Option T)} {b builder : B} {room capacity k hash : ℕ} {test : T → Bool} {before after : Costs} where
@@ -39,6 +40,6 @@ module _ {T B : Type 0} (hash_of : B → T → ℕ) {searched slots : List (Opti
       of (Found x) holds = holds
       of (Vacant at) holds = tt
 
-      wide : (s : Searched ℕ Spot) → IfVacant s (λ at. at.cells / 8 * 7 ≡ room) → IfVacant s (λ at. capacity ≤ at.cells / 8 * 7)
+      wide : (s : Searched ℕ Spot) → IfVacant s (λ at. capacity_of at.cells ≡ room) → IfVacant s (λ at. capacity ≤ capacity_of at.cells)
       wide (Found x) holds = tt
       wide (Vacant at) holds = rw holds below

@@ -43,6 +43,6 @@ returns-in_default g c =
       vacant = tt;
       cells = tt;
       hashes = (first.same, (second.same, tt));
-      hashed = (first.under, (second.under, tt));
+      hashed = (first.hashed, (second.hashed, tt));
       costs = (_, first.costs, (_, second.costs, refl));
     }

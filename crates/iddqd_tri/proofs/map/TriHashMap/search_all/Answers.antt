@@ -50,6 +50,6 @@ returns-in_default g c =
       vacant = tt;
       cells = tt;
       hashes = (first.same, (second.same, (third.same, tt)));
-      hashed = (first.under, (second.under, (third.under, tt)));
+      hashed = (first.hashed, (second.hashed, (third.hashed, tt)));
       costs = (_, first.costs, (_, second.costs, (_, third.costs, refl)));
     }
