@@ -2,6 +2,7 @@ pub mod Bag
 pub mod Callers
 pub mod Errors
 pub mod Map
+pub mod Queries
 pub mod Rank
 pub mod Runs
 pub mod Searched

@@ -4,13 +4,15 @@ ghost use Rattle.std.specs.Prelude.{◌≡◌, Bool, true};
 use crate::equivalent::Equivalent;
 use std::hash::Hash;
 
+mod option;
 mod pair;
 mod slices;
 mod texts;
+mod triple;
 
-/// What a lookup takes by value: a reference to a key or to any `Equivalent` of it, a borrowed text or slice, or a
-/// pair of queries for a pair of keys. So `get1(&7)`, `get1(&name)`, `get1("main")` and `get2((section, &offset))`
-/// all work.
+/// What a lookup takes by value: a reference to a key or to any `Equivalent` of it, a borrowed text or slice, a tuple of
+/// two or three queries for one of keys, an `Option` of a query for one of a key, or a made key. So `get1(&7)`,
+/// `get1(&name)`, `get1("main")`, `get2((section, &offset))`, `get1(Some("main"))` and `get2(Made { key })` all work.
 ///
 /// For a query type of your own implement `Equivalent`, and pass a reference to its value.
 pub trait Query<K: Eq + Hash>: Copy + Hash {

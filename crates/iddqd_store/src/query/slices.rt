@@ -1,7 +1,12 @@
 //! A borrowed slice is a query for a `Vec` or a boxed slice with equal elements.
+ghost use Rattle.std.specs.Prelude.{nat_eq, string_bytes};
 ghost use Rattle.std.specs.Box.{boxed_slice_items};
 ghost use Rattle.std.specs.Cmp.Lexicographic.{pointwise, lists_equiv};
+ghost use Rattle.std.specs.Cmp.Rules.{comparing, hashing};
+ghost use Rattle.std.specs.Hash as fed;
 ghost use Rattle.std.specs.Hash.{items_Alike};
+ghost use Rattle.std.proofs.Common.{rules};
+ghost use Rattle.iddqd_store.specs.Queries.{list_fed, list_agrees};
 
 use super::Query;
 use std::alloc::Allocator;
@@ -29,5 +34,28 @@ impl<T: Eq + Hash, A: Allocator> Query<BoxedSlice<T, A>> for &[T] {
 
     fn stands_for(&self, key: &BoxedSlice<T, A>) -> bool {
         *self == key.as_slice()
+    }
+}
+
+/// `get(tags)`, where the key is a `Vec<String>`, and `tags` is a `&[&str]`.
+impl<A: Allocator, B: Allocator> Query<Vec<String<A>, B>> for &[&str] {
+    ghost stands_for = { λ q k. pointwise (λ t s. pointwise nat_eq t.now (string_bytes s)) q.now k.items };
+
+    ghost respects_hash = { λ q k. list_fed {F = λ t. fed.str t.now} {G = λ s. fed.str (string_bytes s)}
+        (Prim.search (hashing, rules)) q.now k.items };
+
+    ghost respects_eq = { λ q x y. list_agrees (Prim.search (comparing, rules)) q.now x.items y.items };
+
+    fn stands_for(&self, key: &Vec<String<A>, B>) -> bool {
+        let (mut texts, mut parts) = (self.iter(), key.iter());
+        while let Some(text) = texts.next() {
+            let Some(part) = parts.next() else {
+                return false;
+            };
+            if *text != part.as_str() {
+                return false;
+            }
+        }
+        parts.next().is_none()
     }
 }
