@@ -12,6 +12,9 @@ by_equal a b same other = ⊎_elim same other (cases_eq a b)
 pub number_apart : (a b : ℕ) → nat_eq a b ≡ false → b ≢ a
 number_apart a b h e = eqb-false a b h (sym e)
 
+pub other_number : (a b : ℕ) → nat_eq a b ≡ false → a ≢ b
+other_number a b h same = number_apart a b h (sym same)
+
 pub number_turned : (a b : ℕ) → nat_eq a b ≡ false → nat_eq b a ≡ false
 number_turned a b h = ne_eqb b a (number_apart a b h)
 

@@ -2,9 +2,10 @@
 use Rattle.std.proofs.Common.{◌≡◌, refl, ap, ◌∙◌, ℕ, suc, ◌+◌, ◌≤◌, ◌<◌, List, [], ◌∷◌, length, take, drop, Bool, true, false, cond, arith, add-one, one-add, ◌-◌}
 use Rattle.std.specs.Prelude.{◌==◌, not}
 use Rattle.std.specs.List.{prefix_len}
-use Rattle.std.proofs.lemmas.List.{take_all, length-drop}
+use Rattle.std.proofs.lemmas.List.{take_all}
 use Rattle.std.proofs.Math.ListN.{drop_of_length-le}
 use Rattle.iddqd_text.specs.Lines.{lines_of, onto_first}
+use Rattle.iddqd_text.proofs.Fields.{whole}
 
 -- how many bytes are before the first line end
 abbrev pub line_len : List ℕ → ℕ
@@ -27,10 +28,6 @@ cut_byte b bs false e h = rw one-add (onto_line b bs e h)
 pub cut_text : (bytes : List ℕ) → 0 < length bytes → lines_of bytes ≡ take (line_len bytes) bytes ∷ lines_of (drop (suc (line_len bytes)) bytes)
 cut_text [] h = absurd (omega arith)
 cut_text (b ∷ bs) h = cut_byte b bs (b == 10) refl (cut_text bs)
-
--- a slice to the end
-whole : (k : ℕ) (xs : List ℕ) → take (length xs - k) (drop k xs) ≡ drop k xs
-whole k xs = take_all (length xs - k) (drop k xs) (omega (arith, length-drop k xs))
 
 -- the first line, if it has an end
 pub first_line : (bytes : List ℕ) (at : ℕ) → at ≡ line_len bytes → 0 < length bytes

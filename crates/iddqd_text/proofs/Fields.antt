@@ -31,7 +31,7 @@ cut_line [] = refl
 cut_line (b ∷ bs) = cut_byte b bs (b == 32) (cut_line bs)
 
 -- a slice to the end
-whole : (k : ℕ) (xs : List ℕ) → take (length xs - k) (drop k xs) ≡ drop k xs
+pub whole : (k : ℕ) (xs : List ℕ) → take (length xs - k) (drop k xs) ≡ drop k xs
 whole k xs = take_all (length xs - k) (drop k xs) (omega (arith, length-drop k xs))
 
 -- no number before others

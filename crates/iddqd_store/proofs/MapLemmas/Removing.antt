@@ -1,8 +1,7 @@
 -- Items that leave their slots one after another.
 use Rattle.std.specs.Prelude.{◌≡◌, ◌≢◌, ◌++◌, ℕ, nat_eq, slice_get, false, List, [], ◌∷◌, Some, None, All}
 use Rattle.std.specs.List.{IsDistinct}
-use Rattle.std.proofs.Common.{refl, subst, ◌∙◌, arith}
-use Rattle.std.proofs.lemmas.Bool.Decides.{nat_tests}
+use Rattle.std.proofs.Common.{refl, subst, ◌∙◌}
 use Rattle.std.proofs.lemmas.List.Elements.{All-head, All-tail}
 use Rattle.std.proofs.lemmas.List.Sorted.{IsPermutation-refl}
 use Rattle.std.proofs.lemmas.Map.Keys.{IsDistinct-head, IsDistinct-tail}
@@ -11,6 +10,7 @@ use Rattle.iddqd_store.specs.Map.{Map, Loses, bag}
 use Rattle.iddqd_store.specs.Slots.{IsLive, Updates, get}
 use Rattle.iddqd_store.specs.Slots.Found.{items_at}
 use Rattle.iddqd_store.proofs.BagLemmas.Over.{IsPermutation-taken, items_at-taken, live-others}
+use Rattle.iddqd_store.proofs.Plain.{other_number}
 use Rattle.iddqd_store.proofs.RankLemmas.Search.{each_at}
 
 -- The items of the slots `rest` are still to leave. Those that left are `taken`.
@@ -49,9 +49,6 @@ module _ {T S : Type 0} {old now : Map T S} {numbers rest : List ℕ} {taken : L
       }
 
 -- a slot that is not among these is none of them
-other_number : (a b : ℕ) → nat_eq a b ≡ false → a ≢ b
-other_number a b h = grind (arith, nat_tests)
-
 pub apart_from : (numbers : List ℕ) (at slot other : ℕ) → slice_get numbers at ≡ Some slot → IsDistinct nat_eq (other ∷ numbers) → other ≢ slot
 apart_from numbers at slot other is apart =
     let here = get_or_from_slice_get numbers at slot slot is in

@@ -1,8 +1,7 @@
 -- How a map stays indexed if items leave their slots, and another item takes the slot of the first of them.
-use Rattle.std.specs.Prelude.{◌≡◌, ◌≢◌, ◌<◌, ◌≤◌, ℕ, zero, suc, nat_eq, false, List, [], ◌∷◌, ◌++◌, length, map, Option, Some, None, IfSome, IsSome, slice_set, ⊤, All, IsPermutation}
+use Rattle.std.specs.Prelude.{◌≡◌, ◌<◌, ◌≤◌, ℕ, zero, suc, nat_eq, false, List, [], ◌∷◌, ◌++◌, length, map, Option, Some, None, IfSome, IsSome, slice_set, ⊤, All, IsPermutation}
 use Rattle.std.specs.List.{AllByRecursion, IsDistinct}
 use Rattle.std.proofs.Common.{get_or, refl, arith, subst, ◌∙◌, length-append}
-use Rattle.std.proofs.lemmas.Bool.Decides.{nat_tests}
 use Rattle.std.proofs.lemmas.List.{get_or_past, get_or-set_other, get_or-set_same}
 use Rattle.std.proofs.lemmas.List.Elements.{All-head, All-tail}
 use Rattle.std.proofs.lemmas.Map.Keys.{IsDistinct-head, IsDistinct-tail}
@@ -16,12 +15,10 @@ use Rattle.iddqd_store.specs.Slots.Found.{StandAt, items_at}
 use Rattle.iddqd_store.proofs.BagLemmas.Over.{clash-taken}
 use Rattle.iddqd_store.proofs.MapLemmas.{free_sound, sound_left}
 use Rattle.iddqd_store.proofs.MapLemmas.Overwriting.{PutsAt-over}
+use Rattle.iddqd_store.proofs.Plain.{other_number}
 use Rattle.iddqd_store.proofs.RankLemmas.Index.{IsIndex-insert, IsIndex-remove, IsIndex-reorder, pair_in}
 use Rattle.iddqd_store.proofs.SlotLemmas.Chain.{members-take, members-set}
 use Rattle.iddqd_store.proofs.SlotLemmas.Contents.{contents-moves, contents-take}
-
-other_number : (a b : ℕ) → nat_eq a b ≡ false → a ≢ b
-other_number a b h = grind (arith, nat_tests)
 
 module _ {T : Type 0} where
   -- the pair of an item in a slot is there, and a search that found the slot was made by its hash
