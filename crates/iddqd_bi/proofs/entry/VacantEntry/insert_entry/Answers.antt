@@ -14,7 +14,7 @@ returns-in-Ok-clause-gains_and_finds g c =
     let keys = AreKeyTests-queries g.T.BiHashItem g.T.K1.PartialEq.eq g.T.K2.PartialEq.eq g.Q1.Query.stands_for
     g.Q2.Query.stands_for g.met.Q1.Query.respects_eq g.met.Q2.Query.respects_eq v.query1 v.query2 in
     let here = finds_here (ranks g.T.BiHashItem g.T.K1.PartialEq.eq g.T.K2.PartialEq.eq) tests
-    (omega arith) keys c.insert_free.new.self.slots c.in-Ok.slot c.args.item (same1, (same2, tt)) put.sound put.at in
+    (omega arith) keys c.insert_free.new.self.slots c.in-Ok.slot c.args.item (same1, (same2, tt)) put.sound put.value in
     record {
       same_map = refl;
       gains = put.gains;

@@ -42,5 +42,5 @@ pub returns : goal.returns
 returns g c =
     let second = length_permutation _ _ c.try_reserve-2.ensures.pairs in
     let room = rw c.try_reserve.ensures.slots at c.in_ok-try_reserve-5.ensures.room in
-    grows c.self.view_is (c.try_reserve-5.ensures.slots ∙ c.try_reserve.ensures.slots) c.self.invariant (λ is. (λ _. grind (arith, length_permutation), omega arith, grind (arith, length_permutation)))
+    grows c.self.view_is (c.try_reserve-5.ensures.slots ∙ c.try_reserve.ensures.slots) c.self.invariant (λ is. (λ h. grind (arith, length_permutation), omega arith, grind (arith, length_permutation)))
     (λ all. omega (arith, all, c.in-Some.ensures.enough, second, room, c.in_ok-try_reserve-3.ensures.room.room, c.in_ok-try_reserve-4.ensures.room.room))

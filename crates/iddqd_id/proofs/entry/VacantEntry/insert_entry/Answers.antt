@@ -13,11 +13,11 @@ returns-in-Ok-clause-gains_and_finds g c =
     let tests = key_tests g.T.IdHashItem g.Q.Query.stands_for v.query in
     let keys = AreKeyTests-queries g.T.IdHashItem g.T.Key.PartialEq.eq g.Q.Query.stands_for g.met.Q.Query.respects_eq v.query in
     let here = finds_here (ranks g.T.IdHashItem g.T.Key.PartialEq.eq) tests
-    (omega arith) keys c.insert_free.new.self.slots c.in-Ok.slot c.args.item (same, tt) put.sound put.at in
+    (omega arith) keys c.insert_free.new.self.slots c.in-Ok.slot c.args.item (same, tt) put.sound put.value in
     record {
       same_map = refl;
       gains = put.gains;
       key = refl;
-      item = put.at;
+      item = put.value;
       has_found = record { only = here.found.0.only; live = here.found.0.live };
     }

@@ -33,5 +33,5 @@ invariant_of-self-2 g c = rw (c.try_reserve-3.ensures.slots, c.try_reserve.ensur
 pub returns : goal.returns
 returns g c =
     let room = rw c.try_reserve.ensures.slots at c.in_ok-try_reserve-3.ensures.room in
-    grows c.self.view_is (c.try_reserve-3.ensures.slots ∙ c.try_reserve.ensures.slots) c.self.invariant (λ is. (λ _. grind (arith, length_permutation), omega arith, grind (arith, length_permutation)))
+    grows c.self.view_is (c.try_reserve-3.ensures.slots ∙ c.try_reserve.ensures.slots) c.self.invariant (λ is. (λ h. grind (arith, length_permutation), omega arith, grind (arith, length_permutation)))
     (λ all. omega (arith, all, c.in-Some.ensures.enough, room, c.in_ok-try_reserve-2.ensures.room.room))

@@ -17,7 +17,7 @@ returns-in-Ok-clause-gains_and_finds g c =
     g.Q2.Query.stands_for
     g.Q3.Query.stands_for g.met.Q1.Query.respects_eq g.met.Q2.Query.respects_eq g.met.Q3.Query.respects_eq v.query1 v.query2 v.query3 in
     let here = finds_here (ranks g.T.TriHashItem g.T.K1.PartialEq.eq g.T.K2.PartialEq.eq g.T.K3.PartialEq.eq) tests
-    (omega arith) keys c.insert_free.new.self.slots c.in-Ok.slot c.args.item (same1, (same2, (same3, tt))) put.sound put.at in
+    (omega arith) keys c.insert_free.new.self.slots c.in-Ok.slot c.args.item (same1, (same2, (same3, tt))) put.sound put.value in
     record {
       same_map = refl;
       gains = put.gains;

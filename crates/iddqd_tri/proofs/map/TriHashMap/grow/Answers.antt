@@ -56,5 +56,5 @@ returns g c =
     let second = length_permutation _ _ c.try_reserve-2.ensures.pairs in
     let third = length_permutation _ _ c.try_reserve-3.ensures.pairs in
     let room = rw c.try_reserve.ensures.slots at c.in_ok-try_reserve-7.ensures.room in
-    grows c.self.view_is (c.try_reserve-7.ensures.slots ∙ c.try_reserve.ensures.slots) c.self.invariant (λ is. (λ _. grind (arith, length_permutation), omega arith, grind (arith, length_permutation)))
+    grows c.self.view_is (c.try_reserve-7.ensures.slots ∙ c.try_reserve.ensures.slots) c.self.invariant (λ is. (λ h. grind (arith, length_permutation), omega arith, grind (arith, length_permutation)))
     (λ is. omega (arith, is, c.in-Some.ensures.enough, second, third, room, c.in_ok-try_reserve-4.ensures.room.room, c.in_ok-try_reserve-5.ensures.room.room, c.in_ok-try_reserve-6.ensures.room.room))
