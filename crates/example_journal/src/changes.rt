@@ -1,14 +1,15 @@
 //! Devices, the changes of a registry of them, and the lines of these changes in a journal.
-ghost use Rattle.std.specs.Prelude.{◌≡◌, ◌<◌, ◌^◌, ◌++◌, ℕ, false, List, take, flat_map, IfOk, IfSome, OnOk, IsPermutation, string_bytes};
+ghost use Rattle.std.specs.Prelude.{◌≡◌, ◌≤◌, ◌++◌, true, false, List, [], ℕ, length, take, drop, flat_map, IfOk, IfSome, string_bytes};
 ghost use Rattle.std.specs.List.{AllByRecursion};
 ghost use Rattle.iddqd_bi.specs.Map.{bag};
-ghost use Rattle.example_journal.specs.Changes.{InRange, Tells, after, has_end, line_of, replay};
+ghost use Rattle.example_journal.specs.Changes.{InRange, Leads, Makes, Tells, has_end, line_of};
 ghost use Rattle.example_journal.specs.declared.changes.Device.{Device};
 ghost use Rattle.example_journal.specs.declared.changes.Change.{Change};
 
 use crate::registry::Failure;
 use iddqd_bi::{BiHashItem, BiHashMap};
-use std::alloc::{AllocError, Global};
+use std::alloc::Global;
+use std::io;
 
 /// A device, known by its serial number and by the port that it is plugged into.
 #[derive(Clone, Copy)]
@@ -35,108 +36,90 @@ impl BiHashItem for Device {
     }
 }
 
-/// A change of the registry: the device is plugged in, or else unplugged.
+/// A change of the registry.
 #[derive(Clone, Copy)]
-pub struct Change {
-    pub plugs: bool,
-    pub device: Device,
+pub enum Change {
+    Plug(Device),
+    Unplug(Device),
 }
 
 /// Returns the line of a change, with its end.
-pub fn write_line(alloc: Global, change: Change) -> Result<String, AllocError>
+pub fn write_line(alloc: Global, change: Change) -> io::Result<String>
     ensures line { IfOk result (λ line. string_bytes line ≡ line_of change) }
     ensures in_range { InRange change }
 {
-    let Device { serial, port } = change.device;
-    if change.plugs {
-        format!(in alloc; "plug {serial} {port}\n")
-    } else {
-        format!(in alloc; "unplug {serial} {port}\n")
-    }
+    Ok(match change {
+        Change::Plug(Device { serial, port }) => format!(in alloc; "plug {serial} {port}\n")?,
+        Change::Unplug(Device { serial, port }) => format!(in alloc; "unplug {serial} {port}\n")?,
+    })
 }
 
 /// Returns the change that a line may be that of: which other text the line has is not looked at.
 fn parse(line: &[u8]) -> Option<Change> {
     let mut words = str::from_utf8(line).ok()?.split_whitespace();
-    let plugs = words.next()? == "plug";
+    let word = words.next()?;
     let serial = words.next()?.parse().ok()?;
     let port = words.next()?.parse().ok()?;
-    Some(Change {
-        plugs,
-        device: Device { serial, port },
+    Some(match word {
+        "plug" => Change::Plug(Device { serial, port }),
+        _ => Change::Unplug(Device { serial, port }),
     })
 }
 
-/// Returns the change that a line says, or `None` if it is not letter by letter the line of a change.
-fn read_line(alloc: Global, line: &[u8]) -> Result<Option<Change>, AllocError>
-    ensures { IfOk result (λ read. IfSome read (λ change. (line.now ≡ line_of change) × InRange change)) }
+/// Makes the change whose line this is, letter by letter, and returns whether there is one that can be made.
+fn make(alloc: Global, devices: &mut BiHashMap<Device>, line: &[u8]) -> io::Result<bool>
+    ensures { IfOk result (λ made. made ≡ true → (change : Change) × (line.now ≡ line_of change) × InRange change
+        × Makes (bag devices.old) change (bag devices.new)) }
 {
     let Some(change) = parse(line) else {
-        return Ok(None);
+        return Ok(false);
     };
-    let is_same = write_line(alloc, change)?.as_bytes() == line;
-    Ok(if is_same { Some(change) } else { None })
-}
-
-/// Makes a change, if it can be made.
-fn make(devices: &mut BiHashMap<Device>, change: Change, at: usize) -> Result<(), Failure>
-    ensures { OnOk result (IsPermutation (bag devices.new) (after (bag devices.old) change)) }
-{
-    let device = change.device;
-    if change.plugs {
-        match devices.try_insert(device) {
-            Ok(()) => Ok(()),
-            Err(refused) if refused.taken1 || refused.taken2 => Err(Failure::Damaged(at)),
-            Err(_) => Err(AllocError.into()),
+    if write_line(alloc, change)?.as_bytes() != line {
+        return Ok(false);
+    }
+    match change {
+        Change::Plug(device) => {
+            devices.reserve(1)?;
+            Ok(devices.try_insert(device).is_ok())
         }
-    } else {
-        match devices.remove1(&device.serial) {
-            Some(gone) if gone.port == device.port => Ok(()),
-            _ => Err(Failure::Damaged(at)),
-        }
+        Change::Unplug(device) => match devices.remove1(&device.serial) {
+            Some(gone) => Ok(gone.port == device.port),
+            None => Ok(false),
+        },
     }
 }
 
-/// Loads the devices that the lines of a journal leave, in the place of those that there are, and returns the torn line behind
-/// them, which has no end. After an error there may be any devices.
-pub fn load<'a>(
-    alloc: Global,
-    devices: &mut BiHashMap<Device>,
-    bytes: &'a [u8],
-) -> Result<&'a [u8], Failure>
-    ensures { IfOk result (λ torn. (lines : List ℕ) × (bytes.now ≡ lines ++ torn.now) × (has_end torn.now ≡ false)
-        × Tells lines (bag devices.new)) }
+/// Loads the devices that the lines of a journal leave, and returns how long these lines are. Behind them is a torn
+/// line, which has no end.
+pub fn load(alloc: Global, bytes: &[u8]) -> Result<(BiHashMap<Device>, usize), Failure>
+    ensures { IfOk result (λ r. (r.1 ≤ length bytes.now) × (has_end (drop r.1 bytes.now) ≡ false)
+        × Tells (take r.1 bytes.now) (bag r.0)) }
 {
-    devices.clear();
-    let mut rest = bytes;
-    while rest.contains(&b'\n') {
-        let at = bytes.len().saturating_sub(rest.len());
-        let end = rest.iter().position(|byte| *byte == b'\n').unwrap_or(0);
-        let (line, behind) = rest.split_at(end + 1);
-        let Some(change) = read_line(alloc, line)? else {
-            return Err(Failure::Damaged(at));
-        };
-        make(devices, change, at)?;
-        rest = behind;
-    }
-    // A text without a line is no journal, unless it may be a part of the first line, which plugs a device in.
-    if rest.len() == bytes.len() && !rest.starts_with(b"plug ") && !b"plug ".starts_with(rest) {
+    // The first line plugs a device in. A text that does not begin so, nor is a part of such a line, is no journal.
+    if !bytes.starts_with(b"plug ") && !b"plug ".starts_with(bytes) {
         return Err(Failure::Damaged(0));
     }
-    Ok(rest)
+    let mut devices = BiHashMap::new(alloc);
+    let mut at = 0;
+    while bytes[at..].contains(&b'\n') {
+        let rest = &bytes[at..];
+        let end = rest.iter().position(|byte| *byte == b'\n').unwrap_or(0);
+        let (line, _) = rest.split_at(end + 1);
+        if !make(alloc, &mut devices, line)? {
+            return Err(Failure::Damaged(at));
+        }
+        at += line.len();
+    }
+    Ok((devices, at))
 }
 
 /// Returns the lines of changes that leave these devices: one for each.
-pub fn write_all(alloc: Global, devices: &BiHashMap<Device>) -> Result<Vec<u8>, AllocError>
+pub fn write_all(alloc: Global, devices: &BiHashMap<Device>) -> io::Result<Vec<u8>>
     ensures { IfOk result (λ lines. Tells lines.items (bag devices.now)) }
 {
     let mut lines = Vec::new(alloc);
     for device in devices {
-        let change = Change {
-            plugs: true,
-            device: *device,
-        };
-        lines.extend_from_slice(write_line(alloc, change)?.as_bytes())?;
+        lines.extend_from_slice(write_line(alloc, Change::Plug(*device))?.as_bytes())?;
     }
     Ok(lines)
 }
@@ -146,5 +129,5 @@ pub fn write_all(alloc: Global, devices: &BiHashMap<Device>) -> Result<Vec<u8>, 
 pub fn cut_anywhere()
     ensures { (changes : List Change) (at : ℕ) (lines torn : List ℕ) (devices : List Device) → AllByRecursion InRange changes
         → take at (flat_map line_of changes) ≡ lines ++ torn → Tells lines devices
-        → (n : ℕ) × (lines ≡ flat_map line_of (take n changes)) × IsPermutation devices (replay (take n changes)) }
+        → (n : ℕ) × (lines ≡ flat_map line_of (take n changes)) × Leads [] (take n changes) devices }
 {}

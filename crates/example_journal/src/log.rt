@@ -1,9 +1,12 @@
-//! Where the bytes of a journal are kept: what the registry asks of it, and one in memory.
-ghost use Rattle.std.specs.Prelude.{◌≡◌, ◌++◌, ℕ, List, take, Option, Some, IfOk, IfSome, OnOk, OnErr, option_map};
+//! Where the bytes of a journal are kept: what the registry asks of it, and three logs, one of which is a file.
+ghost use Rattle.std.specs.Prelude.{◌≡◌, ◌++◌, ℕ, List, take, Option, Some, None, IfOk, IfSome, OnOk, OnErr, option_map};
 
 use std::alloc::Global;
 use std::cell::Cell;
-use std::io;
+use std::fs::{File, OpenOptions};
+use std::io::{Read, Write};
+use std::path::Path;
+use std::{fs, io};
 
 /// Bytes that outlive the process. What a call has kept when it returns `Ok`, it keeps through a crash too. Of the bytes that
 /// `write` was adding, a crash is taken to leave the first ones, as many as it may be: a file system that writes the blocks of
@@ -13,9 +16,8 @@ pub trait Log {
     ghost kept: { Self → Option (List ℕ) };
 
     /// Reads all bytes.
-    fn read(&mut self, alloc: Global) -> io::Result<Vec<u8>>
-        ensures bytes { IfOk result (λ bytes. IfSome (kept self.old) (λ here. bytes.items ≡ here)) }
-        ensures unchanged { kept self.new ≡ kept self.old };
+    fn read(&self, alloc: Global) -> io::Result<Vec<u8>>
+        ensures { IfOk result (λ bytes. IfSome (kept self.now) (λ here. bytes.items ≡ here)) };
 
     /// Puts these bytes behind the first `at`, in the place of those that are there. After an error there may be any there.
     fn write(&mut self, at: usize, bytes: &[u8]) -> io::Result<()>
@@ -33,7 +35,7 @@ pub trait Log {
 impl Log for Vec<u8> {
     ghost kept = { λ v. Some v.items };
 
-    fn read(&mut self, alloc: Global) -> io::Result<Vec<u8>> {
+    fn read(&self, alloc: Global) -> io::Result<Vec<u8>> {
         Ok(self.as_slice().to_vec(alloc)?)
     }
 
@@ -58,7 +60,7 @@ pub struct Limited<'a, L: Log + Drop> {
 impl<L: Log + Drop> Log for Limited<'_, L> {
     ghost kept = { λ l. L.kept l.log };
 
-    fn read(&mut self, alloc: Global) -> io::Result<Vec<u8>> {
+    fn read(&self, alloc: Global) -> io::Result<Vec<u8>> {
         self.log.read(alloc)
     }
 
@@ -79,5 +81,59 @@ impl<L: Log + Drop> Log for Limited<'_, L> {
         }
         self.room.set(room - bytes.len());
         self.log.replace(bytes)
+    }
+}
+
+/// The file of this name, which one process uses at a time.
+#[derive(Drop)]
+pub struct FileLog<'a> {
+    pub rt: &'a HostRuntime,
+    pub path: String,
+}
+
+/// Opens the file of this name, and makes it if there is none.
+fn open(rt: &HostRuntime, path: &str) -> io::Result<File> {
+    OpenOptions::new()
+        .read(true)
+        .append(true)
+        .create(true)
+        .open(rt, path)
+}
+
+/// Puts these bytes behind the first `at` of the file of this name, and waits until they are on the disk.
+fn write_file(rt: &HostRuntime, path: &str, at: usize, bytes: &[u8]) -> io::Result<()> {
+    let mut file = open(rt, path)?;
+    // A shorter file would grow.
+    file.set_len(file.metadata()?.len().min(at as u64))?;
+    file.write_all(bytes)?;
+    file.sync_all()
+}
+
+impl Log for FileLog<'_> {
+    // No contract says what a file has.
+    ghost kept = { λ f. None };
+
+    fn read(&self, alloc: Global) -> io::Result<Vec<u8>> {
+        let mut bytes = Vec::new(alloc);
+        open(self.rt, self.path.as_str())?.read_to_end(&mut bytes)?;
+        Ok(bytes)
+    }
+
+    fn write(&mut self, at: usize, bytes: &[u8]) -> io::Result<()> {
+        write_file(self.rt, self.path.as_str(), at, bytes)?;
+        // After a crash the name leads to the file only if the folder is on the disk too.
+        match Path::new(self.path.as_str()).parent() {
+            Some(folder) if !folder.as_str().is_empty() => File::open(self.rt, folder)?.sync_all(),
+            _ => File::open(self.rt, ".")?.sync_all(),
+        }
+    }
+
+    // After a crash the name may still lead to the old file, which says the same. A later line waits for the folder.
+    fn replace(&mut self, bytes: Vec<u8>) -> io::Result<()> {
+        let new = format!(in self.rt.alloc(); "{}.new", self.path)?;
+        let written = write_file(self.rt, new.as_str(), 0, bytes.as_slice());
+        let replaced = written.and_then(|()| fs::rename(self.rt, new.as_str(), self.path.as_str()));
+        // A part of the new file would take room from the old one.
+        replaced.inspect_err(|_| drop(fs::remove_file(self.rt, new.as_str())))
     }
 }

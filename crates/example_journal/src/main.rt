@@ -15,23 +15,22 @@
 #![tactic(auto)]
 
 mod changes;
-mod file;
 mod log;
 mod registry;
 
 use crate::changes::Device;
-use crate::file::FileLog;
-use crate::log::{Limited, Log};
+use crate::log::{FileLog, Limited, Log};
 use crate::registry::{Failure, Registry};
 use iddqd_bi::BiHashMap;
-use std::alloc::{AllocError, Global};
+use std::alloc::Global;
 use std::cell::Cell;
-use std::io::{BufRead, Write};
+use std::io::{BufRead, Read, Write};
+use std::num::ParseIntError;
 use std::str::FromStr;
 use std::{env, io};
 
 /// Returns the bytes that a TEXT stands for, or the TEXT that stands for these bytes.
-fn swapped(alloc: Global, bytes: &[u8]) -> Result<Vec<u8>, AllocError> {
+fn swapped(alloc: Global, bytes: &[u8]) -> io::Result<Vec<u8>> {
     let swap = |byte: &u8| match *byte {
         b'_' => b' ',
         b' ' => b'_',
@@ -41,14 +40,11 @@ fn swapped(alloc: Global, bytes: &[u8]) -> Result<Vec<u8>, AllocError> {
         0 => b'?',
         byte => byte,
     };
-    bytes.iter().map(swap).collect(alloc)
+    Ok(bytes.iter().map(swap).collect(alloc)?)
 }
 
 /// Returns the number that a word is.
-fn number<N: FromStr>(word: &str) -> io::Result<N>
-where
-    N::Err: Drop,
-{
+fn number<N: FromStr<Err = ParseIntError>>(word: &str) -> io::Result<N> {
     word.parse().map_err(|_| io::ErrorKind::InvalidInput.into())
 }
 
@@ -62,12 +58,6 @@ fn list(rt: &HostRuntime, devices: &BiHashMap<Device>) -> io::Result<()> {
     rt.println("end")
 }
 
-/// Opens the journal, and prints how much of it was cut off.
-fn open<L: Log + Drop>(rt: &HostRuntime, registry: &mut Registry<L>) -> Result<(), Failure> {
-    let torn = registry.open()?;
-    Ok(println!(rt; "opened, {torn} torn bytes cut off")?)
-}
-
 /// Carries out the command of these words, and prints the answer unless it fails.
 fn answer<L: Log + Drop>(
     rt: &HostRuntime,
@@ -75,78 +65,63 @@ fn answer<L: Log + Drop>(
     room: &Cell<usize>,
     words: &[&str],
 ) -> Result<(), Failure> {
-    match words {
+    Ok(match words {
         ["plug", serial, port] => {
             let (serial, port) = (number(serial)?, number(port)?);
             registry.plug_in(Device { serial, port })?;
-            rt.println("plugged in")?;
+            rt.println("plugged in")?
         }
         ["unplug", serial] => {
             let device = registry.unplug(number(serial)?)?;
-            println!(rt; "unplugged from {}", device.port)?;
+            println!(rt; "unplugged from {}", device.port)?
         }
         ["list"] => list(rt, registry.devices())?,
         ["journal"] => {
-            let text = swapped(rt.alloc(), registry.read()?.as_slice())?;
-            io::writer(rt).write_all(text.as_slice())?;
-            rt.println("")?;
+            io::writer(rt).write_all(swapped(rt.alloc(), registry.read()?.as_slice())?.as_slice())?;
+            rt.println("")?
         }
         ["compact"] => {
             registry.compact()?;
-            rt.println("compacted")?;
+            rt.println("compacted")?
         }
         ["crash", len, text @ ..] => {
-            let text = text.first().copied().unwrap_or("").as_bytes();
-            registry.crash(number(len)?, swapped(rt.alloc(), text)?.as_slice())?;
-            open(rt, registry)?;
+            let text = swapped(rt.alloc(), text.first().copied().unwrap_or("").as_bytes())?;
+            let torn = registry.crash(number(len)?, text.as_slice())?;
+            println!(rt; "opened, {torn} torn bytes cut off")?
         }
-        ["open"] => open(rt, registry)?,
+        ["open"] => println!(rt; "opened, {} torn bytes cut off", registry.open()?)?,
         ["room", len] => {
             room.set(number(len)?);
-            rt.println("set")?;
+            rt.println("set")?
         }
         _ => rt.println("bad line")?,
-    }
-    Ok(())
-}
-
-/// Carries out a command, and prints the answer.
-fn answer_any<L: Log + Drop>(
-    rt: &HostRuntime,
-    registry: &mut Registry<L>,
-    room: &Cell<usize>,
-    line: &[u8],
-) -> io::Result<()> {
-    let words: Vec<&str> = match str::from_utf8(line) {
-        Ok(line) => line.split_whitespace().collect(rt.alloc())?,
-        Err(_) => Vec::new(rt.alloc()),
-    };
-    match answer(rt, registry, room, words.as_slice()) {
-        Ok(()) => Ok(()),
-        Err(Failure::Taken) => rt.println("taken"),
-        Err(Failure::NoDevice) => rt.println("none"),
-        Err(Failure::Closed) => rt.println("closed"),
-        Err(Failure::Damaged(at)) => println!(rt; "damaged at byte {at}"),
-        Err(Failure::Log(error)) => println!(rt; "failed: {error}"),
-    }
+    })
 }
 
 /// Opens the journal in this log, and answers each line of the input.
 fn serve<L: Log + Drop>(rt: &HostRuntime, log: L) -> io::Result<()> {
+    let alloc = rt.alloc();
     let room = Cell::new(usize::MAX);
-    let mut registry = Registry::new(rt.alloc(), Limited { log, room: &room });
-    answer_any(rt, &mut registry, &room, b"open")?;
-    for line in rt.reader().split(rt.alloc(), b'\n') {
-        answer_any(rt, &mut registry, &room, line?.as_slice())?;
+    let mut registry = Registry::new(alloc, Limited { log, room: &room });
+    for line in b"open\n".as_slice().chain(rt.reader()).split(alloc, b'\n') {
+        let line = line?;
+        let text = str::from_utf8(line.as_slice()).unwrap_or("");
+        let words: Vec<&str> = text.split_whitespace().collect(alloc)?;
+        match answer(rt, &mut registry, &room, words.as_slice()) {
+            Ok(()) => {}
+            Err(Failure::Taken) => rt.println("taken")?,
+            Err(Failure::NoDevice) => rt.println("none")?,
+            Err(Failure::Closed) => rt.println("closed")?,
+            Err(Failure::Damaged(at)) => println!(rt; "damaged at byte {at}")?,
+            Err(Failure::Log(error)) => println!(rt; "failed: {error}")?,
+        }
     }
     Ok(())
 }
 
 fn main(rt: HostRuntime) -> io::Result<()> {
-    let alloc = rt.alloc();
-    let arguments: Vec<String> = env::args(&rt)?.collect(alloc)?;
-    match arguments.as_slice() {
-        [_, path] => serve(&rt, FileLog::open(&rt, path.as_str())?),
-        _ => serve(&rt, Vec::new(alloc)),
+    match env::args(&rt)?.nth(1) {
+        Some(path) => serve(&rt, FileLog { rt: &rt, path }),
+        None => serve(&rt, Vec::new(rt.alloc())),
     }
 }

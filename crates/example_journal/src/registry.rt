@@ -6,6 +6,7 @@ ghost use Rattle.iddqd_bi.specs.Bag.{IsOnly, clash};
 ghost use Rattle.iddqd_bi.specs.Map.{bag};
 ghost use Rattle.example_journal.specs.Changes.{InRange, Tells, has_end, line_of};
 ghost use Rattle.example_journal.specs.declared.changes.Change.{Change};
+ghost use Rattle.example_journal.specs.declared.registry.Failure.{Failure};
 
 use crate::changes::{Change, Device, load, write_all, write_line};
 use crate::log::Log;
@@ -28,13 +29,9 @@ pub enum Failure {
     Log(io::Error),
 }
 
-impl From<AllocError> for Failure {
-    fn from(error: AllocError) -> Failure {
-        Failure::Log(error.into())
-    }
-}
-
 impl From<io::Error> for Failure {
+    ghost from_gives = { λ error failure. failure ≡ Failure.Log error };
+
     fn from(error: io::Error) -> Failure {
         Failure::Log(error)
     }
@@ -77,16 +74,12 @@ impl<L: Log + Drop> Registry<L> {
         self.is_open = false;
         self.devices.clear();
         let bytes = self.log.read(self.alloc)?;
-        let mut devices = BiHashMap::new(self.alloc);
-        let torn = load(self.alloc, &mut devices, bytes.as_slice())?.len();
-        let len = bytes.len() - torn;
-        if let Err(error) = self.log.write(len, b"") {
-            return Err(Failure::Log(error));
-        }
+        let (devices, len) = load(self.alloc, bytes.as_slice())?;
+        self.log.write(len, b"")?;
         self.devices = devices;
         self.len = len;
         self.is_open = true;
-        Ok(torn)
+        Ok(bytes.len() - len)
     }
 
     /// Writes the line of a change, and closes the journal until the change is made. After an error the log has the lines that it
@@ -103,17 +96,13 @@ impl<L: Log + Drop> Registry<L> {
         if !self.is_open {
             return Err(Failure::Closed);
         }
-        let Ok(line) = write_line(self.alloc, change) else {
-            return Err(Failure::Log(AllocError.into()));
-        };
+        let line = write_line(self.alloc, change)?;
         let Some(len) = self.len.checked_add(line.len()) else {
             return Err(Failure::Log(AllocError.into()));
         };
         self.is_open = false;
         if let Err(error) = self.log.write(self.len, line.as_bytes()) {
-            if self.log.write(self.len, b"").is_err() {
-                return Err(Failure::Closed);
-            }
+            self.log.write(self.len, b"").map_err(|_| Failure::Closed)?;
             self.is_open = true;
             return Err(Failure::Log(error));
         }
@@ -126,7 +115,7 @@ impl<L: Log + Drop> Registry<L> {
     pub fn plug_in(&mut self, device: Device) -> Result<(), Failure>
         ensures went_in { OnOk result (IsPermutation (bag self.new.devices) (device ∷ bag self.old.devices)) }
         ensures written { OnOk result (L.kept self.new.log
-            ≡ option_map (λ lines. lines ++ line_of (record { plugs = true; device = device })) (L.kept self.old.log)) }
+            ≡ option_map (λ lines. lines ++ line_of (Change.Plug device)) (L.kept self.old.log)) }
         ensures unchanged { OnErr result (bag self.new.devices ≡ bag self.old.devices) }
         ensures same_lines { OnErr result (self.new.is_open ≡ true → L.kept self.new.log ≡ L.kept self.old.log) }
         ensures taken { IsErrOf result Failure.Taken
@@ -135,20 +124,13 @@ impl<L: Log + Drop> Registry<L> {
         if !self.devices.conflicts_with(&device).is_empty() {
             return Err(Failure::Taken);
         }
-        if self.devices.reserve(1).is_err() {
-            return Err(Failure::Log(AllocError.into()));
+        self.devices.reserve(1).map_err(io::Error::from)?;
+        self.write(Change::Plug(device))?;
+        if self.devices.try_insert(device).is_err() {
+            unreachable!()
         }
-        self.write(Change {
-            plugs: true,
-            device,
-        })?;
-        match self.devices.try_insert(device) {
-            Ok(()) => {
-                self.is_open = true;
-                Ok(())
-            }
-            Err(_) => unreachable!(),
-        }
+        self.is_open = true;
+        Ok(())
     }
 
     /// Unplugs the device with this serial number, and returns it.
@@ -156,7 +138,7 @@ impl<L: Log + Drop> Registry<L> {
         ensures it { IfOk result (λ d. IsOnly (λ d. serial == d.serial) (bag self.old.devices) (Some d)) }
         ensures gone { IfOk result (λ d. IsPermutation (bag self.old.devices) (d ∷ bag self.new.devices)) }
         ensures written { IfOk result (λ d. L.kept self.new.log
-            ≡ option_map (λ lines. lines ++ line_of (record { plugs = false; device = d })) (L.kept self.old.log)) }
+            ≡ option_map (λ lines. lines ++ line_of (Change.Unplug d)) (L.kept self.old.log)) }
         ensures unchanged { OnErr result (bag self.new.devices ≡ bag self.old.devices) }
         ensures same_lines { OnErr result (self.new.is_open ≡ true → L.kept self.new.log ≡ L.kept self.old.log) }
         ensures no_device { IsErrOf result Failure.NoDevice
@@ -165,10 +147,7 @@ impl<L: Log + Drop> Registry<L> {
         let Some(device) = self.devices.get1(&serial).copied() else {
             return Err(Failure::NoDevice);
         };
-        self.write(Change {
-            plugs: false,
-            device,
-        })?;
+        self.write(Change::Unplug(device))?;
         self.devices.remove1(&serial);
         self.is_open = true;
         Ok(device)
@@ -190,9 +169,8 @@ impl<L: Log + Drop> Registry<L> {
     }
 
     /// Reads the bytes of the log.
-    pub fn read(&mut self) -> io::Result<Vec<u8>>
-        ensures bytes { IfOk result (λ bytes. IfSome (L.kept self.old.log) (λ here. bytes.items ≡ here)) }
-        ensures same_devices { self.new.devices ≡ self.old.devices }
+    pub fn read(&self) -> io::Result<Vec<u8>>
+        ensures { IfOk result (λ bytes. IfSome (L.kept self.now.log) (λ here. bytes.items ≡ here)) }
     {
         self.log.read(self.alloc)
     }
@@ -204,9 +182,10 @@ impl<L: Log + Drop> Registry<L> {
         &self.devices
     }
 
-    /// Closes the journal, and puts these bytes behind the first `at` of its log, as a crash or another program may.
-    pub fn crash(&mut self, at: usize, bytes: &[u8]) -> io::Result<()> {
+    /// Puts these bytes behind the first `at` of the log, as a crash or another program may, and opens it again.
+    pub fn crash(&mut self, at: usize, bytes: &[u8]) -> Result<usize, Failure> {
         self.is_open = false;
-        self.log.write(at, bytes)
+        self.log.write(at, bytes)?;
+        self.open()
     }
 }

@@ -1,19 +1,18 @@
-use Rattle.std.proofs.Common.{◌≡◌, ◌++◌, ◌∙◌, sym, ap, rules}
-use Rattle.example_journal.specs.Changes.{InRange, line_of}
-use Rattle.std.proofs.lemmas.List.{append_assoc}
+use Rattle.std.proofs.Common.{◌≡◌, ℕ, length, take, drop, ap, arith, rules, length-take, length-drop}
+use Rattle.std.proofs.Math.Seq.{take-add}
+use Rattle.std.proofs.lemmas.List.{take_all}
 use Rattle.iddqd_bi.specs.Map.{bag}
-use Rattle.example_journal.proofs.Replay.{tells-more}
+use Rattle.example_journal.proofs.Lines.{tells-more}
 use Rattle.example_journal.proofs.changes.load.Goals as goal
 
 -- one line more
 pub loop-alloc-preserved : goal.loop-alloc-preserved
 loop-alloc-preserved c =
-    let done = c.loop-alloc.invariant.0 in
+    let at = c.loop-alloc.at in
+    let bytes = c.args.bytes.now in
     let line = c.split_at.result.0.now in
-    let behind = c.split_at.result.1.now in
-    let rest : c.loop-alloc.rest.now ≡ line ++ behind = search rules in
-    let read : (line ≡ line_of c.in-Some.change) × InRange c.in-Some.change = search rules in (
-      done ++ line,
-      c.loop-alloc.invariant.1 ∙ ap (λ l. done ++ l) rest ∙ sym (append_assoc done line behind),
-      tells-more done line (bag c.loop-alloc.devices) (bag c.make.new.devices) c.in-Some.change c.loop-alloc.invariant.2 read.1 read.0 c.in_ok-make.ensures,
+    let made = c.in_ok-make.ensures c.if-not-branch.false in
+    let read : line ≡ take (length line) (drop at bytes) = search (rules, take_all {A = ℕ}, length-drop at bytes) in (
+      omega (arith, length-drop at bytes, ap length read, length-take (length line) (drop at bytes)),
+      rw (take-add, ← read, made.1) (tells-more (take at bytes) (bag c.loop-alloc.devices) (bag c.make.new.devices) made.0 c.loop-alloc.invariant.1 made.2 made.3),
     )

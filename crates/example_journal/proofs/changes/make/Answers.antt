@@ -1,8 +1,15 @@
-use Rattle.std.proofs.Common.{Some}
+use Rattle.std.proofs.Common.{◌≡◌, ◌==◌, [], ◌∷◌, ◌∙◌, filter, ap, rules}
 use Rattle.iddqd_bi.specs.Map.{bag}
-use Rattle.example_journal.proofs.Replay.{unplugged}
+use Rattle.iddqd_bi.proofs.CallerLemmas.Laws.{given-has}
+use Rattle.example_journal.specs.declared.changes.Device.{Device}
 use Rattle.example_journal.proofs.changes.make.Goals as goal
 
-pub returns-in-Some : goal.returns-in-Some
-returns-in-Some c = rw c.if-change.false (unplugged c.args.change.device.serial (bag c.args.devices.now) (bag c.remove1.new.self)
-    (Some c.in-Some.gone) c.in-Some.ensures.taken c.in-Some.ensures.loses.items)
+-- what was removed is the device of the change
+pub returns-in-Some-remove1 : goal.returns-in-Some-remove1
+returns-in-Some-remove1 c = λ same.
+    let device = c.in-Unplug.device in
+    let gone = c.in-Some-remove1.gone in
+    let first : gone ∷ [] ≡ filter (λ (d : Device). device.serial == d.serial) (bag c.args.devices.now) = c.in-Some-remove1.ensures.taken in
+    let serial : gone.serial ≡ device.serial = search (rules, given-has (λ (d : Device). device.serial == d.serial) (bag c.args.devices.now) gone first) in
+    let it : gone ≡ device = ap (λ n. record { serial = n; port = gone.port }) serial ∙ ap (λ n. record { serial = device.serial; port = n }) (search (rules, same)) in
+    (c.in-Some.change, search rules, c.write_line.ensures.in_range, rw c.in-Unplug.is (rw it at first, rw it at c.in-Some-remove1.ensures.loses.items))

@@ -1,22 +1,18 @@
-use Rattle.std.proofs.Common.{◌≡◌, ◌==◌, ◌∷◌, [], false, filter, rules}
+use Rattle.std.proofs.Common.{◌≡◌, ◌==◌, ◌∷◌, [], filter, rules}
 use Rattle.iddqd_bi.specs.Map.{bag}
-use Rattle.iddqd_bi.proofs.CallerLemmas.Laws.{none-listed}
-use Rattle.example_journal.specs.declared.changes.Change.{Change}
+use Rattle.iddqd_bi.proofs.CallerLemmas.Laws.{given-has, none-listed}
+use Rattle.example_journal.specs.declared.changes.Change.TheVariants.{Unplug}
 use Rattle.example_journal.specs.declared.changes.Device.{Device}
-use Rattle.example_journal.proofs.Replay.{tells-log, unplugged_it}
+use Rattle.example_journal.proofs.Lines.{tells-log}
 use Rattle.example_journal.proofs.registry.Registry.unplug.Goals as goal
 
 pub returns-in_default-clause-no_device : goal.returns-in_default-clause-no_device
-returns-in_default-clause-no_device g c = λ _.
-    let none : [] ≡ filter (λ (d : Device). c.args.serial == d.serial) (bag c.args.self.now.devices) = search rules in
-    none-listed (λ (d : Device). c.args.serial == d.serial) (bag c.args.self.now.devices) none
+returns-in_default-clause-no_device g c = λ _. search (rules, none-listed (λ (d : Device). c.args.serial == d.serial) (bag c.args.self.now.devices))
 
 pub invariant_of-self-clause-agrees : goal.invariant_of-self-clause-agrees
 invariant_of-self-clause-agrees g c = λ _.
     let there = bag c.args.self.now.devices in
-    let change : Change = record { plugs = false; device = c.in-Some.device } in
     let first : c.in-Some.device ∷ [] ≡ filter (λ (d : Device). c.args.serial == d.serial) there = search rules in
-    let gone = unplugged_it c.args.serial there (bag c.remove1.new.self) c.in-Some.device c.remove1.result first
-    (rw c.in_ok-write.ensures.devices at c.remove1.ensures.taken) (rw c.in_ok-write.ensures.devices at c.remove1.ensures.loses.items) in
-    tells-log (g.L.Log.kept c.args.self.now.log) (g.L.Log.kept c.write.new.self.log) there (bag c.remove1.new.self) change
-    c.in_ok-write.ensures.in_range (c.args.self.now.agrees c.in_ok-write.ensures.was_open) c.in_ok-write.ensures.written gone
+    let own : c.args.serial ≡ c.in-Some.device.serial = search (rules, given-has (λ (d : Device). c.args.serial == d.serial) there c.in-Some.device first) in
+    let more = tells-log (g.L.Log.kept c.args.self.now.log) (g.L.Log.kept c.write.new.self.log) there (bag c.remove1.new.self) (Unplug c.in-Some.device) in
+    search (rules, c.args.self.now.agrees c.in_ok-write.ensures.was_open, rw own at first, more)
