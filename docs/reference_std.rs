@@ -30,6 +30,14 @@ pub struct BoxedStr<A: Allocator = Global>(PhantomData<A>);
 #[derive(PartialEq, Eq, Hash)]
 pub struct RcStr<A: Allocator = Global>(PhantomData<A>);
 
+/// A text with shared owners, which threads count.
+#[derive(PartialEq, Eq, Hash)]
+pub struct ArcStr<A: Allocator = Global>(PhantomData<A>);
+
+/// A text that is borrowed or owned.
+#[derive(PartialEq, Eq, Hash)]
+pub struct CowStr<'a, A: Allocator = Global>(PhantomData<(&'a str, A)>);
+
 /// A slice in a box.
 #[derive(PartialEq, Eq, Hash)]
 pub struct BoxedSlice<T, A: Allocator = Global>(PhantomData<(T, A)>);

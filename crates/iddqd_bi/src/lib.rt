@@ -10,6 +10,7 @@ mod entry;
 mod error;
 mod item;
 mod iter_mut;
+mod made;
 mod map;
 mod pointers;
 mod ranks;
@@ -23,11 +24,13 @@ pub use error::{
 };
 pub use item::{BiHashItem, BiHashItemMut, Hashed, Ranked};
 pub use iter_mut::IterMut;
+pub use made::{WithKeys, WithMadeKeys};
 pub use map::{BiHashMap, ClonesHashes, ClonesKeys, DefaultHashBuilder};
 pub use ref_mut::RefMut;
 
 // Types of `iddqd_store` that the signatures of this crate name.
 pub use iddqd_store::{
-    Cursor, DuplicateItem, Equivalent, InsertReason, IntoIter, Iter, KeyMatcher, MemoryRefused,
-    Meter, Query, ShortIntoIter, ShortIter, TryReserveError, UpToTwo,
+    ByMade, ByPair, Cursor, DuplicateItem, Equivalent, Holds, InsertReason, IntoIter, Iter,
+    KeyMatcher, LendsPair, Made, MakesKey, MemoryRefused, Meter, Query, ShortIntoIter, ShortIter,
+    TryReserveError, UpToTwo,
 };

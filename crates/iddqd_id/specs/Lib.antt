@@ -17,6 +17,7 @@ pub use Rattle.iddqd_store.specs.Map
 pub use Rattle.iddqd_store.specs.Map.Extracting
 pub use Rattle.iddqd_store.specs.Map.Walk
 pub use Rattle.iddqd_store.specs.Map.Written
+pub use Rattle.iddqd_store.specs.Queries
 pub use Rattle.iddqd_store.specs.Rank
 pub use Rattle.iddqd_store.specs.Rank.All
 pub use Rattle.iddqd_store.specs.Runs.Reply

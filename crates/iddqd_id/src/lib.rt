@@ -19,6 +19,7 @@ mod entry;
 mod error;
 mod item;
 mod iter_mut;
+mod made;
 mod map;
 mod pointers;
 mod ranks;
@@ -31,11 +32,12 @@ pub use error::{
 };
 pub use item::{Hashed, IdHashItem, IdHashItemMut, Ranked};
 pub use iter_mut::IterMut;
+pub use made::{WithKeys, WithMadeKeys};
 pub use map::{ClonesHashes, ClonesKeys, DefaultHashBuilder, IdHashMap};
 pub use ref_mut::RefMut;
 
 // Types of `iddqd_store` that the signatures of this crate name.
 pub use iddqd_store::{
-    Cursor, DuplicateItem, Equivalent, InsertReason, IntoIter, Iter, KeyMatcher, MemoryRefused,
-    Meter, Query, TryReserveError,
+    ByMade, ByPair, Cursor, DuplicateItem, Equivalent, Holds, InsertReason, IntoIter, Iter,
+    KeyMatcher, LendsPair, Made, MakesKey, MemoryRefused, Meter, Query, TryReserveError,
 };

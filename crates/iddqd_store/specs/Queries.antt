@@ -8,14 +8,20 @@ use Rattle.std.specs.Option.{option_eq}
 use mathlib.Core.Bool.{true≢false}
 use mathlib.Core.Path.{ap, refl, sym}
 
+-- `some_passes` tells whether an option has a value that passes the test.
+-- Example: For the test whether a number is 2, `Some 2` has one, and `Some 3` and `None` have none.
+abbrev pub some_passes : {K : Type 0} → (K → Bool) → Option K → Bool
+some_passes test None = false
+some_passes test (Some k) = test k
+
 module _ {Q K : Type 0} where
   -- `option_stands` tells whether an option of a query stands for an option of a key: both are `None`, or the query stands
   -- for the key.
+  -- Example: A query for 2 in a `Some` stands for `Some 2`, and not for `Some 3` or `None`. `None` stands for `None` alone.
   abbrev pub option_stands : (Q → K → Bool) → Option Q → Option K → Bool
   option_stands E None None = true
   option_stands E None (Some k) = false
-  option_stands E (Some q) None = false
-  option_stands E (Some q) (Some k) = E q k
+  option_stands E (Some q) k = some_passes (E q) k
 
   module _ {E : Q → K → Bool} {F : Q → HashWrites} {G : K → HashWrites} (fed : (q : Q) (k : K) → E q k ≡ true → F q ≡ G k) where
     pub option_fed : (q : Option Q) (k : Option K) → option_stands E q k ≡ true → option F q ≡ option G k

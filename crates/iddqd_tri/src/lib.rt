@@ -12,6 +12,7 @@ mod entry;
 mod error;
 mod item;
 mod iter_mut;
+mod made;
 mod map;
 mod pointers;
 mod ranks;
@@ -25,11 +26,13 @@ pub use error::{
 };
 pub use item::{Hashed, Ranked, TriHashItem, TriHashItemMut};
 pub use iter_mut::IterMut;
+pub use made::{WithKeys, WithMadeKeys};
 pub use map::{ClonesHashes, ClonesKeys, DefaultHashBuilder, TriHashMap};
 pub use ref_mut::RefMut;
 
 // Types of `iddqd_store` that the signatures of this crate name.
 pub use iddqd_store::{
-    Cursor, DuplicateItem, Equivalent, InsertReason, IntoIter, Iter, KeyMatcher, MemoryRefused,
-    Meter, Query, ShortIntoIter, ShortIter, TryReserveError, UpToThree,
+    ByMade, ByPair, Cursor, DuplicateItem, Equivalent, Holds, InsertReason, IntoIter, Iter,
+    KeyMatcher, LendsPair, Made, MakesKey, MemoryRefused, Meter, Query, ShortIntoIter, ShortIter,
+    TryReserveError, UpToThree,
 };
