@@ -1,11 +1,11 @@
 //! Updating an item that is known by a text.
-ghost use Rattle.std.specs.Prelude.{◌≡◌, ◌/◌, nat_eq, string_bytes, true, false, Some, IsPermutation};
+ghost use Rattle.std.specs.Prelude.{◌≡◌, ◌/◌, false, if◌then◌else◌, map, nat_eq, string_bytes, IsPermutation};
 ghost use Rattle.std.specs.Cmp.Lexicographic.{pointwise};
+ghost use Rattle.std.specs.List.{list_any};
 ghost use Rattle.std.proofs.Common.{rules};
-ghost use Rattle.iddqd_bi.specs.Bag.{IsOnly, swap};
 ghost use Rattle.iddqd_bi.specs.Map.{bag};
 
-use iddqd_bi::{BiHashItem, BiHashItemMut, BiHashMap, Ranked};
+use iddqd_bi::{BiHashItem, BiHashItemMut, BiHashMap};
 
 /// A gauge, known by its name and by its place, and what it shows.
 #[derive(Drop)]
@@ -53,10 +53,9 @@ impl BiHashItemMut for Gauge {
 
 /// Halves what the gauge of this name shows, and returns whether there is such a gauge.
 pub fn halve(gauges: &mut BiHashMap<Gauge>, name: &str) -> bool
-    ensures halved { result ≡ true → (g : Gauge)
-        × IsOnly (λ g. pointwise nat_eq name.now (string_bytes g.name)) (bag gauges.old) (Some g)
-        × IsPermutation (bag gauges.new)
-        (swap ⟦<Gauge as Ranked>⟧.ranks (bag gauges.old) g (record g { value = g.value / 2 })) }
+    ensures halved { IsPermutation (bag gauges.new) (map (λ (g : Gauge).
+        if pointwise nat_eq name.now (string_bytes g.name) then record g { value = g.value / 2 } else g) (bag gauges.old)) }
+    ensures found { result ≡ list_any (λ g. pointwise nat_eq name.now (string_bytes g.name)) (bag gauges.old) }
     ensures absent { result ≡ false → gauges.new ≡ gauges.old }
 {
     gauges.update1(name, |gauge| gauge.value / 2)

@@ -1,14 +1,17 @@
 //! Callers of the maps, one module for each need. docs/CALLING.md and the pages that it names show each module whole.
 #![tactic(auto)]
 
+mod artifacts;
 mod badges;
 mod batch;
+mod bookings;
 mod builder;
 mod clone;
 mod desks;
 mod entry;
 mod extract;
 mod gauges;
+mod grants;
 mod groups;
 mod health;
 mod hosts;
@@ -26,14 +29,17 @@ mod updates;
 mod volumes;
 mod walk;
 
+pub use artifacts::{Artifact, Release, ReleaseRef, publish, released, withdraw};
 pub use badges::{Badge, NotHandedOut, hand_out, hand_out_or_back};
 pub use batch::{Record, Rejected, load};
+pub use bookings::{Booking, booked, clear_past, prolong};
 pub use builder::{Order, OwnHash, OwnHasher, no_orders};
 pub use clone::{Rate, backup};
 pub use desks::{Desk, move_to};
 pub use entry::{NotNoted, Visit, note_visit, take_visits};
 pub use extract::{Task, take_all, take_due, take_latest};
 pub use gauges::{Gauge, halve};
+pub use grants::{Grant, Grants};
 pub use groups::{Team, join, open, open_for};
 pub use health::{Hall, Health, Machine, change_health, note_fault};
 pub use hosts::{Duty, Host, add, note_sent, with_duty};

@@ -1,10 +1,10 @@
 //! Users, each known by a name.
-ghost use Rattle.std.specs.Prelude.{◌≡◌, ◌<◌, ◌∷◌, [], Some, true, false, nat_eq, string_bytes, length, IsOk, IsPermutation, OnOk, OnErr, IfOk, IfErr, IfSome, IfNone, option_copied};
+ghost use Rattle.std.specs.Prelude.{◌≡◌, ◌<◌, ◌∷◌, [], Some, false, if◌then◌else◌, map, nat_eq, string_bytes, length, IsOk, IsPermutation, OnOk, OnErr, IfOk, IfErr, IfSome, IfNone, option_copied};
 ghost use Rattle.std.specs.Cmp.Lexicographic.{pointwise};
 ghost use Rattle.std.specs.List.{list_any};
 ghost use Rattle.std.specs.String.{string_eq};
 ghost use Rattle.std.proofs.Common.{rules};
-ghost use Rattle.iddqd_id.specs.Bag.{IsOnly, clash, swap};
+ghost use Rattle.iddqd_id.specs.Bag.{IsOnly, clash};
 ghost use Rattle.iddqd_id.specs.Map.{IsFullFor, bag};
 ghost use Rattle.iddqd_id.specs.Rekeyed.{TellsWhyNot, left_out};
 
@@ -65,10 +65,9 @@ pub fn find<'u>(users: &'u IdHashMap<User>, name: &str) -> Option<&'u User>
 
 /// Notes when the user of this name was seen, and returns whether there is such a user.
 pub fn note(users: &mut IdHashMap<User>, name: &str, time: u64) -> bool
-    ensures noted { result ≡ true → (u : User)
-        × IsOnly (λ u. pointwise nat_eq name.now (string_bytes u.name)) (bag users.old) (Some u)
-        × IsPermutation (bag users.new)
-        (swap ⟦<User as Ranked>⟧.ranks (bag users.old) u (record u { seen = time })) }
+    ensures noted { IsPermutation (bag users.new) (map (λ (u : User).
+        if pointwise nat_eq name.now (string_bytes u.name) then record u { seen = time } else u) (bag users.old)) }
+    ensures found { result ≡ list_any (λ u. pointwise nat_eq name.now (string_bytes u.name)) (bag users.old) }
     ensures absent { result ≡ false → users.new ≡ users.old }
 {
     users.update(name, |_user| time)

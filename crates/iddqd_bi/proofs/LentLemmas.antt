@@ -6,6 +6,7 @@ use Rattle.iddqd_store.specs.Map.{Map, bag}
 use Rattle.iddqd_store.specs.Map.Written.{map_with}
 use Rattle.iddqd_store.specs.Slots.{get}
 use Rattle.iddqd_store.specs.Slots.Found.{FoundAt}
+use Rattle.iddqd_store.proofs.MapLemmas.Mapped.{maps_found, same_with}
 use Rattle.iddqd_store.proofs.MapLemmas.Updating.{found_one}
 use Rattle.iddqd_bi.specs.Lent.{WritesTo}
 
@@ -27,8 +28,10 @@ module _ {T S : Type 0} (test : T → Bool) (m : Map T S) (slot : ℕ) (found : 
   -- what is written to it is the data of the only item that passes the test
   pub writes_found : {D : Type 0} (put : T → D → T) (ranks : Ranks T) (d : D)
       → ((x : T) → get m.slots slot ≡ Some x → IsPermutation (bag (map_with m slot (λ y. put y d))) (swap ranks (bag m) x (put x d))) → WritesTo put ranks test m d (map_with m slot (λ y. put y d))
-  writes_found put ranks d swaps = record {
+  writes_found put ranks d swaps = let it = item_of (get m.slots slot) refl found.live in record {
     items = λ x only. swaps x (found_there x only);
+    maps = maps_found (λ x e. e ≡ d) put test m slot found it.0 d it.1 refl;
+    unchanged = λ same. same_with m slot (λ y. put y d) it.0 it.1 (same it.0 (found_one test m.slots slot it.0 found it.1));
     same_room = refl;
     same_builder = refl;
   }

@@ -4,6 +4,7 @@ pub mod Calls
 pub mod Extracting
 pub mod Fitting
 pub mod Growing
+pub mod Mapped
 pub mod Overwriting
 pub mod Places
 pub mod Rekeyed

@@ -7,17 +7,21 @@ use Rattle.std.specs.HashMap.Lent.{HashMembers}
 use Rattle.std.specs.declared.hash.Hasher as hasher
 use Rattle.std.specs.declared.hash.BuildHasher as builder
 use Rattle.iddqd_store.specs.Bag.{IsOnly, Ranks, swap}
+use Rattle.iddqd_store.specs.Bag.Storing.{MapsOne}
 use Rattle.iddqd_store.specs.Map.{Map, bag}
 use Rattle.iddqd_tri.specs.declared.item.TriHashItem as item
 use Rattle.iddqd_tri.specs.InsertErrors.{map_row}
 use Rattle.iddqd_store.specs.Map.Written.{map_with, map_with_if}
 
 module _ {T S D : Type 0} (put : T → D → T) (ranks : Ranks T) (test : T → Bool) where
-  -- The data `d` was written to the only item that passes the test, and nothing else changes.
+  -- The data `d` was written to the only item that passes the test, and nothing else changes. If the item had these
+  -- data, nothing changes.
   -- Example: For the test whether the first key is 2, a map of the bag becomes one of (2, 20) with the data `d`,
   -- (1, 10) and (3, 30).
   pub record WritesTo (old : Map T S) (d : D) (new : Map T S) : Type 0 where
     pub items : (x : T) → IsOnly test (bag old) (Some x) → IsPermutation (bag new) (swap ranks (bag old) x (put x d))
+    pub maps : MapsOne (λ x e. e ≡ d) put test (bag old) (bag new)
+    pub unchanged : ((x : T) → IsOnly test (bag old) (Some x) → put x d ≡ x) → new ≡ old
     pub same_room : new.capacity ≡ old.capacity
     pub same_builder : new.builder ≡ old.builder
 

@@ -2,7 +2,7 @@
 ghost use Rattle.std.specs.Prelude.{◌≡◌, ◌≤◌, length};
 ghost use Rattle.std.specs.Fn.{CalledAt};
 ghost use Rattle.iddqd_store.specs.Bag.Calling.{TakesInAnyOrder};
-ghost use Rattle.iddqd_store.specs.Bag.Storing.{RewritesAll};
+ghost use Rattle.iddqd_store.specs.Bag.Storing.{FilterMapsAll, RewritesAll};
 ghost use Rattle.iddqd_store.specs.Map.{bag};
 
 use super::BiHashMap;
@@ -22,6 +22,7 @@ impl<T: BiHashItemMut, S: BuildHasher> BiHashMap<T, S> {
         T::Data: Drop,
         requires { TakesInAnyOrder F.FnMut f (bag self.old) }
         ensures rewrites { RewritesAll (CalledAt F.FnMut) T.put f (bag self.old) (bag self.new) }
+        ensures filter_maps { FilterMapsAll (CalledAt F.FnMut) T.put f (bag self.old) (bag self.new) }
         ensures no_more { length (bag self.new) ≤ length (bag self.old) }
         ensures capacity { self.new.capacity ≡ self.old.capacity }
         ensures builder { self.new.builder ≡ self.old.builder }

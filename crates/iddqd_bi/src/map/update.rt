@@ -4,7 +4,7 @@ ghost use Rattle.std.specs.Fn.{CalledAt, FnOnceReturnsAt, FnOnceTakesAt};
 ghost use Rattle.std.specs.List.{list_any};
 ghost use Rattle.iddqd_store.specs.Bag.{IsOnly};
 ghost use Rattle.iddqd_store.specs.Bag.Calling.{TakesInAnyOrder};
-ghost use Rattle.iddqd_store.specs.Bag.Storing.{StoresInAll, StoresOne};
+ghost use Rattle.iddqd_store.specs.Bag.Storing.{MapsAll, MapsOne, StoresInAll, StoresOne};
 ghost use Rattle.iddqd_store.specs.Map.{bag};
 ghost use Rattle.iddqd_bi.specs.Keys.{has1, has2, has_both};
 
@@ -28,6 +28,8 @@ impl<T: BiHashItemMut, S: BuildHasher> BiHashMap<T, S> {
             → FnOnceTakesAt F.FnOnce f x }
         ensures any_found { result ≡ list_any (has1 T.BiHashItem Q.stands_for query) (bag self.old) }
         ensures stores { result ≡ true → StoresOne (FnOnceReturnsAt F.FnOnce f) T.put ⟦<T as Ranked>⟧.ranks
+            (has1 T.BiHashItem Q.stands_for query) (bag self.old) (bag self.new) }
+        ensures maps { MapsOne (FnOnceReturnsAt F.FnOnce f) T.put
             (has1 T.BiHashItem Q.stands_for query) (bag self.old) (bag self.new) }
         ensures absent { result ≡ false → self.new ≡ self.old }
         ensures capacity { self.new.capacity ≡ self.old.capacity }
@@ -56,6 +58,8 @@ impl<T: BiHashItemMut, S: BuildHasher> BiHashMap<T, S> {
             → FnOnceTakesAt F.FnOnce f x }
         ensures any_found { result ≡ list_any (has2 T.BiHashItem Q.stands_for query) (bag self.old) }
         ensures stores { result ≡ true → StoresOne (FnOnceReturnsAt F.FnOnce f) T.put ⟦<T as Ranked>⟧.ranks
+            (has2 T.BiHashItem Q.stands_for query) (bag self.old) (bag self.new) }
+        ensures maps { MapsOne (FnOnceReturnsAt F.FnOnce f) T.put
             (has2 T.BiHashItem Q.stands_for query) (bag self.old) (bag self.new) }
         ensures absent { result ≡ false → self.new ≡ self.old }
         ensures capacity { self.new.capacity ≡ self.old.capacity }
@@ -89,6 +93,8 @@ impl<T: BiHashItemMut, S: BuildHasher> BiHashMap<T, S> {
             ≡ list_any (has_both T.BiHashItem Q1.stands_for Q2.stands_for query1 query2) (bag self.old) }
         ensures stores { result ≡ true → StoresOne (FnOnceReturnsAt F.FnOnce f) T.put ⟦<T as Ranked>⟧.ranks
             (has_both T.BiHashItem Q1.stands_for Q2.stands_for query1 query2) (bag self.old) (bag self.new) }
+        ensures maps { MapsOne (FnOnceReturnsAt F.FnOnce f) T.put
+            (has_both T.BiHashItem Q1.stands_for Q2.stands_for query1 query2) (bag self.old) (bag self.new) }
         ensures absent { result ≡ false → self.new ≡ self.old }
         ensures capacity { self.new.capacity ≡ self.old.capacity }
         ensures builder { self.new.builder ≡ self.old.builder }
@@ -112,6 +118,7 @@ impl<T: BiHashItemMut, S: BuildHasher> BiHashMap<T, S> {
         T::Data: Drop,
         requires { TakesInAnyOrder F.FnMut f (bag self.old) }
         ensures stores { StoresInAll (CalledAt F.FnMut) T.put f (bag self.old) (bag self.new) }
+        ensures maps { MapsAll (CalledAt F.FnMut) T.put f (bag self.old) (bag self.new) }
         ensures capacity { self.new.capacity ≡ self.old.capacity }
         ensures builder { self.new.builder ≡ self.old.builder }
     {

@@ -6,7 +6,7 @@ ghost use Rattle.std.specs.Fn.{CalledAt, FnOnceReturnsAt, FnOnceTakesAt};
 ghost use Rattle.std.specs.List.{list_any};
 ghost use Rattle.iddqd_store.specs.Bag.{IsOnly};
 ghost use Rattle.iddqd_store.specs.Bag.Calling.{TakesInAnyOrder};
-ghost use Rattle.iddqd_store.specs.Bag.Storing.{StoresInAll, StoresOne};
+ghost use Rattle.iddqd_store.specs.Bag.Storing.{MapsAll, MapsOne, StoresInAll, StoresOne};
 ghost use Rattle.iddqd_store.specs.Map.{bag};
 ghost use Rattle.iddqd_id.specs.Keys.{has};
 
@@ -31,6 +31,8 @@ impl<T: IdHashItemMut, S: BuildHasher> IdHashMap<T, S> {
         ensures any_found { result ≡ list_any (has T.IdHashItem Q.stands_for query) (bag self.old) }
         ensures stores { result ≡ true → StoresOne (FnOnceReturnsAt F.FnOnce f) T.put ⟦<T as Ranked>⟧.ranks
             (has T.IdHashItem Q.stands_for query) (bag self.old) (bag self.new) }
+        ensures maps { MapsOne (FnOnceReturnsAt F.FnOnce f) T.put
+            (has T.IdHashItem Q.stands_for query) (bag self.old) (bag self.new) }
         ensures absent { result ≡ false → self.new ≡ self.old }
         ensures capacity { self.new.capacity ≡ self.old.capacity }
         ensures builder { self.new.builder ≡ self.old.builder }
@@ -54,6 +56,7 @@ impl<T: IdHashItemMut, S: BuildHasher> IdHashMap<T, S> {
         T::Data: Drop,
         requires { TakesInAnyOrder F.FnMut f (bag self.old) }
         ensures stores { StoresInAll (CalledAt F.FnMut) T.put f (bag self.old) (bag self.new) }
+        ensures maps { MapsAll (CalledAt F.FnMut) T.put f (bag self.old) (bag self.new) }
         ensures capacity { self.new.capacity ≡ self.old.capacity }
         ensures builder { self.new.builder ≡ self.old.builder }
     {

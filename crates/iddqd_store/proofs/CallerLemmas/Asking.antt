@@ -7,7 +7,7 @@ use Rattle.std.proofs.lemmas.Fn.{filter_same}
 use Rattle.std.proofs.lemmas.Map.Keys.{IsDistinct-head}
 use Rattle.std.proofs.lemmas.List.Sorted.{IsPermutation-sym, IsPermutation-trans, list_any-IsPermutation}
 use Rattle.std.proofs.lemmas.Bool.{or_parts, and_parts}
-use Rattle.iddqd_store.specs.Bag.{Keeps, Ranks, AreLawful, IsSound, agrees, clash, like, some_of}
+use Rattle.iddqd_store.specs.Bag.{Filters, Keeps, Ranks, AreLawful, IsSound, agrees, clash, like, some_of}
 use Rattle.iddqd_store.specs.Bag.Building.{IsReason}
 use Rattle.iddqd_store.specs.Map.{Map, Overwrites, bag}
 use Rattle.iddqd_store.specs.declared.error.InsertReason.{InsertReason}
@@ -111,6 +111,10 @@ module _ {T : Type 0} where
   kept-filter step test f answers old new kept =
       let left : kept.left ≡ filter test kept.listed = filter_same step test f answers kept.listed kept.left kept.filtered in
       IsPermutation-trans _ _ _ (subst (IsPermutation new) left kept.are) (IsPermutation-sym _ _ (IsPermutation-filter test old kept.listed kept.same))
+
+  -- so it does for any such test
+  pub kept-filters : {F : Type 0} (step : F → T → Bool → F → Type 0) (f : F) (old new : List T) → Keeps step f old new → Filters step f old new
+  kept-filters step f old new kept = λ test told. kept-filter step test f (λ x b g k. let t = told x b g k in (t.1, t.0)) old new kept
 
   -- there is at most one item more after an overwrite, whether it succeeds or fails
   pub length-overwritten : {S A E : Type 0} (ranks : Ranks T) (old new : Map T S) (x : T) (r : Result A E) → OnOk r (Overwrites ranks old x new)

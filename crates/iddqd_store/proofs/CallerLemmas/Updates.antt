@@ -2,9 +2,9 @@
 use Rattle.std.specs.Prelude.{◌≡◌, List, [], ◌∷◌, ◌++◌, map, Option, Some, None, IsPermutation}
 use Rattle.std.specs.List.{filter_map, cons_option}
 use Rattle.std.specs.Option.{option_map, option_to_list}
-use Rattle.std.proofs.Common.{refl, ap, subst, ◌∙◌}
+use Rattle.std.proofs.Common.{refl, sym, ap, subst, ◌∙◌}
 use Rattle.std.proofs.lemmas.List.Sorted.{IsPermutation-cons, IsPermutation-map, IsPermutation-refl, IsPermutation-sym, IsPermutation-trans}
-use Rattle.iddqd_store.specs.Bag.Storing.{StoresInAll, Writes, RewritesAll, Rewrites}
+use Rattle.iddqd_store.specs.Bag.Storing.{FilterMapsAll, MapsAll, StoresInAll, Writes, RewritesAll, Rewrites}
 use Rattle.iddqd_store.proofs.BagLemmas.Exchanges.{IsPermutation-flip, Shuffled, Shuffled-from, done, flip, keep, then}
 
 -- `told`: a call at x returns `answers f x`, and a later call returns what it would have returned before.
@@ -23,6 +23,19 @@ module _ {F T D : Type 0} (step : F → T → D → F → Type 0) (put : T → D
       let w = λ (x : T). put x (answers f x) in
       let written : stores.written ≡ map w stores.listed = writes-map (answers f) f stores.listed stores.written (λ y. refl) stores.writes in
       IsPermutation-trans _ _ _ (subst (λ l. IsPermutation new l) written stores.are) (IsPermutation-sym _ _ (IsPermutation-map w _ _ stores.same))
+
+-- the same, where `write` is what the result makes of an item, and no call changes the closure
+module _ {F T D : Type 0} (step : F → T → D → F → Type 0) (put : T → D → T) (f : F) where
+  written-map : (write : T → T) → ((x : T) (d : D) (g : F) → step f x d g → (g ≡ f) × (write x ≡ put x d)) → (xs ys : List T) → Writes step put f xs ys → ys ≡ map write xs
+  written-map write told [] ys writes = writes
+  written-map write told (x ∷ xs) ys (d, g, rest, called, are, on) =
+      let t = told x d g called in
+      are ∙ ap (λ y. y ∷ rest) (sym t.1) ∙ ap (λ l. write x ∷ l) (written-map write told xs rest (subst (λ h. Writes step put h xs rest) t.0 on))
+
+  pub stored-maps : (bag new : List T) → StoresInAll step put f bag new → MapsAll step put f bag new
+  stored-maps bag new stores = λ write told.
+      (let written : stores.written ≡ map write stores.listed = written-map write told stores.listed stores.written stores.writes in
+      IsPermutation-trans _ _ _ (subst (λ l. IsPermutation new l) written stores.are) (IsPermutation-sym _ _ (IsPermutation-map write _ _ stores.same)))
 
 module _ {X Y : Type 0} (h : X → Option Y) where
   onto : (o : Option Y) (xs ys : List Y) → IsPermutation xs ys → IsPermutation (cons_option o xs) (cons_option o ys)
@@ -61,3 +74,18 @@ module _ {F T D : Type 0} (step : F → T → Option D → F → Type 0) (put : 
       let w = λ (x : T). option_map (put x) (answers f x) in
       let left : r.left ≡ filter_map w r.listed = rewrites-filter_map (answers f) f r.listed r.left (λ y. refl) r.rewrites in
       IsPermutation-trans _ _ _ (subst (λ l. IsPermutation new l) left r.are) (IsPermutation-sym _ _ (filter_map-Shuffled w (Shuffled-from bag r.listed r.same)))
+
+-- the same, where `write` is what the result makes of an item, and no call changes the closure
+module _ {F T D : Type 0} (step : F → T → Option D → F → Type 0) (put : T → D → T) (f : F) where
+  left-filter_map : (write : T → Option T) → ((x : T) (o : Option D) (g : F) → step f x o g → (g ≡ f) × (write x ≡ option_map (put x) o))
+      → (xs ys : List T) → Rewrites step put f xs ys → ys ≡ filter_map write xs
+  left-filter_map write told [] ys is = is
+  left-filter_map write told (x ∷ xs) ys (o, g, rest, called, are, on) =
+      let t = told x o g called in
+      are ∙ listed_onto (option_map (put x) o) rest ∙ ap (λ p. cons_option p rest) (sym t.1)
+      ∙ ap (λ l. cons_option (write x) l) (left-filter_map write told xs rest (subst (λ h. Rewrites step put h xs rest) t.0 on))
+
+  pub rewritten-filter_maps : (bag new : List T) → RewritesAll step put f bag new → FilterMapsAll step put f bag new
+  rewritten-filter_maps bag new r = λ write told.
+      (let left : r.left ≡ filter_map write r.listed = left-filter_map write told r.listed r.left r.rewrites in
+      IsPermutation-trans _ _ _ (subst (λ l. IsPermutation new l) left r.are) (IsPermutation-sym _ _ (filter_map-Shuffled write (Shuffled-from bag r.listed r.same))))

@@ -1,5 +1,6 @@
 -- Data that a closure returns, stored in the items of a bag.
-use Rattle.std.specs.Prelude.{◌≡◌, Bool, List, [], ◌∷◌, ◌++◌, Option, Some, IsPermutation}
+use Rattle.std.specs.Prelude.{◌≡◌, Bool, true, false, List, [], ◌∷◌, ◌++◌, map, Option, Some, IsPermutation}
+use Rattle.std.specs.List.{filter_map}
 use Rattle.std.specs.Option.{option_map, option_to_list}
 use Rattle.iddqd_store.specs.Bag.{IsOnly, Ranks, swap}
 
@@ -30,6 +31,14 @@ module _ {F T D : Type 0} (step : F → T → D → F → Type 0) (put : T → D
     pub writes : Writes f listed written
     pub are : IsPermutation new written
 
+  -- For each function `write` that makes of an item what the closure's data make of it, where no call changes the
+  -- closure `f`, `new` has `write` of each item of the bag.
+  -- Example: Where the closure returns 7 at every item, `new` has each item with the data 7.
+  abbrev pub MapsAll : F → List T → List T → Type 0
+  MapsAll f bag new =
+      (write : T → T) → ((x : T) (d : D) (g : F) → step f x d g → (g ≡ f) × (write x ≡ put x d))
+      → IsPermutation new (map write bag)
+
 module _ {F T D : Type 0} (step : F → T → Option D → F → Type 0) (put : T → D → T) where
   -- The closure `f` was called at each item of the list in turn, and `new` lists those items for which it returned
   -- data, each with this data.
@@ -51,6 +60,15 @@ module _ {F T D : Type 0} (step : F → T → Option D → F → Type 0) (put : 
     pub rewrites : Rewrites f listed left
     pub are : IsPermutation new left
 
+  -- For each function `write` that makes of an item what the closure's data make of it, or `None` if it returns none,
+  -- where no call changes the closure `f`, `new` has what `write` makes of the items of the bag.
+  -- Example: Where the closure returns `Some 7` if the first key is odd, and else `None`, `new` has (1, 10), (3, 30),
+  -- each with the data 7.
+  abbrev pub FilterMapsAll : F → List T → List T → Type 0
+  FilterMapsAll f bag new =
+      (write : T → Option T) → ((x : T) (o : Option D) (g : F) → step f x o g → (g ≡ f) × (write x ≡ option_map (put x) o))
+      → IsPermutation new (filter_map write bag)
+
 module _ {T D : Type 0} (answers : T → D → Type 0) (put : T → D → T) (ranks : Ranks T) where
   -- One item passes the test, and `new` is the bag with what `answers` gives at this item as its data.
   -- Example: For the test whether the first key is 2, and the answer 7, `new` has (2, 20) with the data 7, (1, 10)
@@ -58,3 +76,13 @@ module _ {T D : Type 0} (answers : T → D → Type 0) (put : T → D → T) (ra
   abbrev pub StoresOne : (T → Bool) → List T → List T → Type 0
   StoresOne test bag new =
       (x : T) × (d : D) × IsOnly test bag (Some x) × answers x d × IsPermutation new (swap ranks bag x (put x d))
+
+module _ {T D : Type 0} (answers : T → D → Type 0) (put : T → D → T) where
+  -- For each function `write` that leaves an item as it is if the item fails the test, and otherwise makes of it what
+  -- the data that `answers` gives make of it, `new` has `write` of each item of the bag.
+  -- Example: For the test whether the first key is 2, and the answer 7, `new` has (1, 10), (2, 20) with the data 7, and
+  -- (3, 30).
+  abbrev pub MapsOne : (T → Bool) → List T → List T → Type 0
+  MapsOne test bag new =
+      (write : T → T) → ((x : T) (d : D) → test x ≡ true → answers x d → write x ≡ put x d)
+      → ((x : T) → test x ≡ false → write x ≡ x) → IsPermutation new (map write bag)

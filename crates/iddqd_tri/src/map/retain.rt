@@ -3,7 +3,7 @@
 //! Made by tests/widths from crates/iddqd_bi/src/map/retain.rt: change that file.
 ghost use Rattle.std.specs.Prelude.{◌≡◌, ◌≤◌, length};
 ghost use Rattle.std.specs.Fn.{CalledAt};
-ghost use Rattle.iddqd_store.specs.Bag.{Keeps};
+ghost use Rattle.iddqd_store.specs.Bag.{Filters, Keeps};
 ghost use Rattle.iddqd_store.specs.Bag.Calling.{TakesInAnyOrder};
 ghost use Rattle.iddqd_store.specs.Map.{bag};
 
@@ -23,6 +23,7 @@ impl<T: TriHashItem, S: BuildHasher> TriHashMap<T, S> {
         T: Drop,
         requires { TakesInAnyOrder F.FnMut f (bag self.old) }
         ensures kept { Keeps (CalledAt F.FnMut) f (bag self.old) (bag self.new) }
+        ensures filters { Filters (CalledAt F.FnMut) f (bag self.old) (bag self.new) }
         ensures no_more { length (bag self.new) ≤ length (bag self.old) }
         ensures capacity { self.new.capacity ≡ self.old.capacity }
         ensures builder { self.new.builder ≡ self.old.builder }

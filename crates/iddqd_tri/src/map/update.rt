@@ -6,7 +6,7 @@ ghost use Rattle.std.specs.Fn.{CalledAt, FnOnceReturnsAt, FnOnceTakesAt};
 ghost use Rattle.std.specs.List.{list_any};
 ghost use Rattle.iddqd_store.specs.Bag.{IsOnly};
 ghost use Rattle.iddqd_store.specs.Bag.Calling.{TakesInAnyOrder};
-ghost use Rattle.iddqd_store.specs.Bag.Storing.{StoresInAll, StoresOne};
+ghost use Rattle.iddqd_store.specs.Bag.Storing.{MapsAll, MapsOne, StoresInAll, StoresOne};
 ghost use Rattle.iddqd_store.specs.Map.{bag};
 ghost use Rattle.iddqd_tri.specs.Keys.{has1, has2, has3, has_all};
 
@@ -30,6 +30,8 @@ impl<T: TriHashItemMut, S: BuildHasher> TriHashMap<T, S> {
             → FnOnceTakesAt F.FnOnce f x }
         ensures any_found { result ≡ list_any (has1 T.TriHashItem Q.stands_for query) (bag self.old) }
         ensures stores { result ≡ true → StoresOne (FnOnceReturnsAt F.FnOnce f) T.put ⟦<T as Ranked>⟧.ranks
+            (has1 T.TriHashItem Q.stands_for query) (bag self.old) (bag self.new) }
+        ensures maps { MapsOne (FnOnceReturnsAt F.FnOnce f) T.put
             (has1 T.TriHashItem Q.stands_for query) (bag self.old) (bag self.new) }
         ensures absent { result ≡ false → self.new ≡ self.old }
         ensures capacity { self.new.capacity ≡ self.old.capacity }
@@ -59,6 +61,8 @@ impl<T: TriHashItemMut, S: BuildHasher> TriHashMap<T, S> {
         ensures any_found { result ≡ list_any (has2 T.TriHashItem Q.stands_for query) (bag self.old) }
         ensures stores { result ≡ true → StoresOne (FnOnceReturnsAt F.FnOnce f) T.put ⟦<T as Ranked>⟧.ranks
             (has2 T.TriHashItem Q.stands_for query) (bag self.old) (bag self.new) }
+        ensures maps { MapsOne (FnOnceReturnsAt F.FnOnce f) T.put
+            (has2 T.TriHashItem Q.stands_for query) (bag self.old) (bag self.new) }
         ensures absent { result ≡ false → self.new ≡ self.old }
         ensures capacity { self.new.capacity ≡ self.old.capacity }
         ensures builder { self.new.builder ≡ self.old.builder }
@@ -86,6 +90,8 @@ impl<T: TriHashItemMut, S: BuildHasher> TriHashMap<T, S> {
             → FnOnceTakesAt F.FnOnce f x }
         ensures any_found { result ≡ list_any (has3 T.TriHashItem Q.stands_for query) (bag self.old) }
         ensures stores { result ≡ true → StoresOne (FnOnceReturnsAt F.FnOnce f) T.put ⟦<T as Ranked>⟧.ranks
+            (has3 T.TriHashItem Q.stands_for query) (bag self.old) (bag self.new) }
+        ensures maps { MapsOne (FnOnceReturnsAt F.FnOnce f) T.put
             (has3 T.TriHashItem Q.stands_for query) (bag self.old) (bag self.new) }
         ensures absent { result ≡ false → self.new ≡ self.old }
         ensures capacity { self.new.capacity ≡ self.old.capacity }
@@ -122,6 +128,9 @@ impl<T: TriHashItemMut, S: BuildHasher> TriHashMap<T, S> {
         ensures stores { result ≡ true → StoresOne (FnOnceReturnsAt F.FnOnce f) T.put ⟦<T as Ranked>⟧.ranks
             (has_all T.TriHashItem Q1.stands_for Q2.stands_for Q3.stands_for query1 query2 query3) (bag self.old)
             (bag self.new) }
+        ensures maps { MapsOne (FnOnceReturnsAt F.FnOnce f) T.put
+            (has_all T.TriHashItem Q1.stands_for Q2.stands_for Q3.stands_for query1 query2 query3) (bag self.old)
+            (bag self.new) }
         ensures absent { result ≡ false → self.new ≡ self.old }
         ensures capacity { self.new.capacity ≡ self.old.capacity }
         ensures builder { self.new.builder ≡ self.old.builder }
@@ -145,6 +154,7 @@ impl<T: TriHashItemMut, S: BuildHasher> TriHashMap<T, S> {
         T::Data: Drop,
         requires { TakesInAnyOrder F.FnMut f (bag self.old) }
         ensures stores { StoresInAll (CalledAt F.FnMut) T.put f (bag self.old) (bag self.new) }
+        ensures maps { MapsAll (CalledAt F.FnMut) T.put f (bag self.old) (bag self.new) }
         ensures capacity { self.new.capacity ≡ self.old.capacity }
         ensures builder { self.new.builder ≡ self.old.builder }
     {

@@ -1,13 +1,8 @@
 use Rattle.std.proofs.Common.{◌<◌, ◌+◌, ◌^◌, rules}
 use Rattle.iddqd_bi.proofs.CallerLemmas.Calling.{takes_by_items}
-use Rattle.iddqd_bi.proofs.CallerLemmas.Updates.{stores-map}
 use Rattle.example_calls.specs.declared.updates.Card.{Card}
 use Rattle.example_calls.proofs.updates.correct_times.Goals as goal
 
 -- no call takes a time past the largest number
 pub update_all-requires : goal.update_all-requires
 update_all-requires c = takes_by_items _ (λ (card : Card). card.last.time + 1 < 2 ^ 64) (λ f card below. search rules) _ _ c.requires
-
-pub returns : goal.returns
-returns c = stores-map _ (λ (card : Card) d. record card { last = d }) (λ f card. record { time = card.last.time + 1; door = card.last.door })
-    (λ f card d h called. search rules) _ _ _ c.update_all.ensures.stores

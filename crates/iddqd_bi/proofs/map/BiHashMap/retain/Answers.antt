@@ -3,9 +3,9 @@ use Rattle.std.proofs.lemmas.List.Sorted.{IsPermutation-refl}
 use Rattle.std.proofs.lemmas.Fn.{called_at}
 use Rattle.std.specs.Fn.{CalledAt}
 use Rattle.iddqd_store.specs.Map.{bag}
-use Rattle.iddqd_store.specs.Slots.{contents}
 use Rattle.iddqd_store.proofs.BagLemmas.Calling.{TakesEach, TakesEach-in_turn, takes_others}
 use Rattle.iddqd_store.proofs.BagLemmas.Theory.{length-keeps}
+use Rattle.iddqd_store.proofs.CallerLemmas.Asking.{kept-filters}
 use Rattle.iddqd_store.proofs.SlotLemmas.Next.{past_kept, past_taken, none_behind, same_behind}
 use Rattle.iddqd_bi.proofs.map.BiHashMap.retain.Goals as goal
 
@@ -40,20 +40,17 @@ loop-slot-preserved g c =
 
 pub loop-slot-init : goal.loop-slot-init
 loop-slot-init g c =
-    let slots = c.args.self.now.slots in
-    record {
-      completes = λ rest h. h;
-      callable = TakesEach-in_turn g.F.FnMut c.args.f (contents slots) (c.requires (contents slots) (IsPermutation-refl (contents slots)));
-      capacity = refl;
-      builder = refl;
-    }
+    let callable = TakesEach-in_turn g.F.FnMut c.args.f (bag c.args.self.now) (c.requires (bag c.args.self.now) (IsPermutation-refl (bag c.args.self.now))) in
+    record { completes = λ rest h. h; callable = callable; capacity = refl; builder = refl }
 
-pub returns-clause-kept : goal.returns-clause-kept
-returns-clause-kept g c =
-    none_behind (CalledAt g.F.FnMut) c.args.f c.loop-slot.f c.args.self.now.slots c.loop-slot.self.slots c.loop-slot.from c.in_default.ensures.end c.loop-slot.invariant.completes
-
-pub returns-clause-no_more : goal.returns-clause-no_more
-returns-clause-no_more g c =
+pub returns : goal.returns
+returns g c =
     let at = c.loop-slot in
-    length-keeps (CalledAt g.F.FnMut) c.args.f (bag c.args.self.now) (bag at.self)
-    (none_behind (CalledAt g.F.FnMut) c.args.f at.f c.args.self.now.slots at.self.slots at.from c.in_default.ensures.end at.invariant.completes)
+    let all = none_behind (CalledAt g.F.FnMut) c.args.f at.f c.args.self.now.slots at.self.slots at.from c.in_default.ensures.end at.invariant.completes in
+    record {
+      kept = all;
+      filters = kept-filters (CalledAt g.F.FnMut) c.args.f (bag c.args.self.now) (bag at.self) all;
+      no_more = length-keeps (CalledAt g.F.FnMut) c.args.f (bag c.args.self.now) (bag at.self) all;
+      capacity = at.invariant.capacity;
+      builder = at.invariant.builder;
+    }

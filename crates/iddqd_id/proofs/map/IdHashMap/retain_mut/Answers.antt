@@ -7,6 +7,7 @@ use Rattle.iddqd_store.specs.Map.Written.{map_with}
 use Rattle.iddqd_store.specs.Slots.{contents}
 use Rattle.iddqd_store.proofs.BagLemmas.Calling.{TakesEach-in_turn, takes_first}
 use Rattle.iddqd_store.proofs.BagLemmas.Theory.{length-rewrites_all}
+use Rattle.iddqd_store.proofs.CallerLemmas.Updates.{rewritten-filter_maps}
 use Rattle.iddqd_store.proofs.MapLemmas.Updating.{all_rewritten, rewritten_kept, rewritten_taken}
 use Rattle.iddqd_store.proofs.MapLemmas.Walking.{passes}
 use Rattle.iddqd_store.proofs.MapLemmas.Calls.{takes_behind, takes_passed}
@@ -52,9 +53,6 @@ pub returns : goal.returns
 returns g c =
     let at = c.loop-slot in
     let all = all_rewritten (CalledAt g.F.FnMut) g.T.IdHashItemMut.put c.args.f at.f c.args.self.now at.self at.from c.in_default.ensures.end at.invariant.completes in
-    record {
-      rewrites = all;
-      no_more = length-rewrites_all (CalledAt g.F.FnMut) g.T.IdHashItemMut.put c.args.f (bag c.args.self.now) (bag at.self) all;
-      capacity = at.invariant.capacity;
-      builder = at.invariant.builder;
-    }
+    let maps = rewritten-filter_maps (CalledAt g.F.FnMut) g.T.IdHashItemMut.put c.args.f (bag c.args.self.now) (bag at.self) all in
+    let fewer = length-rewrites_all (CalledAt g.F.FnMut) g.T.IdHashItemMut.put c.args.f (bag c.args.self.now) (bag at.self) all in
+    record { rewrites = all; filter_maps = maps; no_more = fewer; capacity = at.invariant.capacity; builder = at.invariant.builder }

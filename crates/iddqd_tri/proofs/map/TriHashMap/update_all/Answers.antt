@@ -5,9 +5,10 @@ use Rattle.std.proofs.lemmas.List.Sorted.{IsPermutation-refl}
 use Rattle.std.specs.Fn.{CalledAt}
 use Rattle.iddqd_store.specs.Map.Written.{map_with}
 use Rattle.iddqd_store.specs.Slots.{contents}
-use Rattle.iddqd_store.specs.Map.{Map}
+use Rattle.iddqd_store.specs.Map.{Map, bag}
 use Rattle.iddqd_store.specs.Map.Walk.{to_come}
 use Rattle.iddqd_store.proofs.BagLemmas.Calling.{TakesEach, TakesEach-in_turn, takes_others}
+use Rattle.iddqd_store.proofs.CallerLemmas.Updates.{stored-maps}
 use Rattle.iddqd_store.proofs.MapLemmas.Walking.{passes}
 use Rattle.iddqd_store.proofs.MapLemmas.Updating.{all_written, written_one}
 use Rattle.iddqd_tri.proofs.map.TriHashMap.update_all.Goals as goal
@@ -46,15 +47,13 @@ loop-number-preserved g c =
 
 pub loop-number-init : goal.loop-number-init
 loop-number-init g c =
-    record {
-      completes = λ rest h. h;
-      callable = TakesEach-in_turn g.F.FnMut c.args.f (contents c.args.self.now.slots) (c.requires (contents c.args.self.now.slots) (IsPermutation-refl (contents c.args.self.now.slots)));
-      slots = refl;
-      capacity = refl;
-      builder = refl;
-    }
+    let callable = TakesEach-in_turn g.F.FnMut c.args.f (bag c.args.self.now) (c.requires (bag c.args.self.now) (IsPermutation-refl (bag c.args.self.now))) in
+    record { completes = λ rest h. h; callable = callable; slots = refl; capacity = refl; builder = refl }
 
-pub returns-clause-stores : goal.returns-clause-stores
-returns-clause-stores g c =
-    let none = ap contents (drop_all c.loop-number.number c.loop-number.self.slots (omega (arith, c.loop-number-test.false, c.slot_count-number-end.ensures, c.loop-number.invariant.slots))) in
-    all_written (CalledAt g.F.FnMut) g.T.TriHashItemMut.put c.args.f c.loop-number.f c.args.self.now c.loop-number.self c.loop-number.number none c.loop-number.invariant.completes
+pub returns : goal.returns
+returns g c =
+    let at = c.loop-number in
+    let none = ap contents (drop_all at.number at.self.slots (omega (arith, c.loop-number-test.false, c.slot_count-number-end.ensures, at.invariant.slots))) in
+    let all = all_written (CalledAt g.F.FnMut) g.T.TriHashItemMut.put c.args.f at.f c.args.self.now at.self at.number none at.invariant.completes in
+    let maps = stored-maps (CalledAt g.F.FnMut) g.T.TriHashItemMut.put c.args.f (bag c.args.self.now) (bag at.self) all in
+    record { stores = all; maps = maps; capacity = at.invariant.capacity; builder = at.invariant.builder }

@@ -1,5 +1,7 @@
 -- Made by tests/widths from crates/iddqd_bi/proofs/map/BiHashMap/update_unique/Answers.antt: change that file.
 use Rattle.iddqd_tri.specs.Keys.{has_all}
+use Rattle.std.specs.Fn.{FnOnceReturnsAt}
+use Rattle.iddqd_store.proofs.MapLemmas.Mapped.{maps_absent, maps_found}
 use Rattle.iddqd_store.proofs.MapLemmas.Updating.{any_absent, any_found, found_one}
 use Rattle.iddqd_tri.proofs.map.TriHashMap.update_unique.Goals as goal
 
@@ -19,7 +21,18 @@ returns-in-Some-clause-stores g c = λ _.
     let stored = c.store_once.ensures.stored in
     (stored.0, stored.1, found_one test c.args.self.now.slots c.in-Some.slot stored.0 c.in-Some.ensures stored.2, stored.3, stored.5))
 
+pub returns-in-Some-clause-maps : goal.returns-in-Some-clause-maps
+returns-in-Some-clause-maps g c =
+    let test = has_all g.T.TriHashItem g.Q1.Query.stands_for g.Q2.Query.stands_for g.Q3.Query.stands_for c.args.query1 c.args.query2 c.args.query3 in
+    let stored = c.store_once.ensures.stored in
+    rw stored.4 (maps_found (FnOnceReturnsAt g.F.FnOnce c.args.f) g.T.TriHashItemMut.put test c.args.self.now c.in-Some.slot c.in-Some.ensures stored.0 stored.1 stored.2 stored.3)
+
 pub returns-in-None-clause-any_found : goal.returns-in-None-clause-any_found
 returns-in-None-clause-any_found g c =
     let test = has_all g.T.TriHashItem g.Q1.Query.stands_for g.Q2.Query.stands_for g.Q3.Query.stands_for c.args.query1 c.args.query2 c.args.query3 in
     any_absent test c.args.self.now.slots c.in-None.ensures
+
+pub returns-in-None-clause-maps : goal.returns-in-None-clause-maps
+returns-in-None-clause-maps g c =
+    let test = has_all g.T.TriHashItem g.Q1.Query.stands_for g.Q2.Query.stands_for g.Q3.Query.stands_for c.args.query1 c.args.query2 c.args.query3 in
+    maps_absent (FnOnceReturnsAt g.F.FnOnce c.args.f) g.T.TriHashItemMut.put test c.args.self.now c.in-None.ensures
