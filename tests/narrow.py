@@ -18,8 +18,8 @@ import widen  # noqa: E402
 from widen import NAME, is_balanced, matches, numbers, text_of, words_of  # noqa: E402
 
 RENAMED = [
-    (r"\b(iddqd|caller|test|test_calls)_bi\b", r"\1_id"), (r"\b(iddqd_serde(?:::|/src/|/proofs/|\.proofs\.))bi\b", r"\1id"),
-    (r"\bbi_(?=\w)", "id_"), (r"Bi(?=Hash|Item)", "Id"), (r"\btwo(?=[ _]keys?\b)", "one"), (r"\bTwo(?=[ _]keys?\b)", "One"), (r"\b([Oo]ne[ _]key)s\b", r"\1"),
+    (r"\b(iddqd|iddqd_serde|caller|test|test_calls)_bi\b", r"\1_id"), (r"\bbi_(?=\w)", "id_"), (r"Bi(?=Hash|Item)", "Id"),
+    (r"\btwo(?=[ _]keys?\b)", "one"), (r"\bTwo(?=[ _]keys?\b)", "One"), (r"\b([Oo]ne[ _]key)s\b", r"\1"),
     (r"\bA (?=`Id)", "An "), (r"(?<=rank < )2\b|(?<=KEYS: usize = )2\b", "1"), (r"\b(order|clash)-both\b", r"\1-key"), (r"\bwith both keys\b", "with the key"),
     # The items that several keys found, held for writing, are one item, held by its guard.
     (r"\bOccupiedEntryMut T S K1 K2 H\b", "RefMut T S K1 K2 H of eq1 input1 eq2 input2 build hashes"), (r"\bOccupiedEntryMut\b", "RefMut"),
@@ -234,7 +234,7 @@ def path_of(path):
     first = path.replace("2", "1")
     if first != path and os.path.isfile(first) or any(map(NOTHING.match, re.split(r"[/.]", path))) or REPLIES.search(path):
         return None
-    return renamed(renamed(path, RENAMED[:7]), NAMED[:3])
+    return renamed(renamed(path, RENAMED[:6]), NAMED[:3])
 
 
 if __name__ == "__main__":

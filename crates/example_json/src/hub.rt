@@ -5,7 +5,7 @@ ghost use Rattle.serde.specs.Event.{Log, WritesSeq};
 ghost use Rattle.serde_json.specs.Sent.{IsTextOf};
 
 use iddqd_bi::{BiHashItem, BiHashMap};
-use iddqd_serde::bi::Seq;
+use iddqd_serde_bi::Seq;
 use serde::{Described, Deserialize, Serialize};
 use serde_json::Error;
 use std::alloc::Global;
@@ -40,7 +40,7 @@ impl BiHashItem for Device {
 #[derive(Drop, Serialize, Deserialize)]
 pub struct Hub {
     pub name: String,
-    #[serde(with = "iddqd_serde::bi")]
+    #[serde(with = "iddqd_serde_bi")]
     pub devices: BiHashMap<Device>,
 }
 

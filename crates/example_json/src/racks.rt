@@ -43,9 +43,9 @@ impl TriHashItem for Cable {
 /// A rack. In JSON its cables and its devices are lists.
 #[derive(Drop, Serialize, Deserialize)]
 pub struct Rack {
-    #[serde(with = "iddqd_serde::tri")]
+    #[serde(with = "iddqd_serde_tri")]
     pub cables: TriHashMap<Cable>,
-    #[serde(with = "iddqd_serde::bi")]
+    #[serde(with = "iddqd_serde_bi")]
     pub devices: BiHashMap<Device>,
 }
 

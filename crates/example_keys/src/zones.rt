@@ -1,4 +1,4 @@
-//! An identifier with a kind that is a type, `TypedUuid`: a struct of a `Uuid` and a `PhantomData`, with derived traits.
+//! An identifier whose kind is a type, `TypedUuid`: a struct of a `Uuid` and a `PhantomData`, with derived traits.
 ghost use Rattle.std.specs.Prelude.{◌≡◌, ◌∷◌, OnOk, OnErr, IsPermutation, option_copied};
 ghost use Rattle.iddqd_bi.specs.Bag.{IsOnly};
 ghost use Rattle.iddqd_bi.specs.Map.{bag};

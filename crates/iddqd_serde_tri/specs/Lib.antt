@@ -1,0 +1,2 @@
+-- Made by tests/widths from crates/iddqd_serde_bi/specs/Lib.antt: change that file.
+pub mod Reading
