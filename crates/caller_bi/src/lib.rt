@@ -18,6 +18,7 @@ mod lent;
 mod loading;
 mod matching;
 mod refusing;
+mod sleds;
 mod updating;
 mod users;
 mod walking;
@@ -51,6 +52,7 @@ pub use matching::{Same, find_same};
 pub use refusing::{
     NotAdded, add, add_and_count, add_by_from, add_by_map_err, add_or_count, is_added,
 };
+pub use sleds::{Sled, Zone, halt, stop};
 pub use updating::{note_all_opened, note_opened, set_all, set1};
 pub use users::{User, by_login, register, register_all, register_as, unregister};
 pub use walking::{count_by_walk, write_all, write_first, write_first_and_count};

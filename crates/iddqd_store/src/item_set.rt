@@ -46,8 +46,8 @@ pub struct ItemSet<T> {
     lowest: usize,
 }
 
-// The free ones come first, so that they have the number 0. The compiler expects that a number which is compared with 0 is
-// another one, so the way on from a live slot is the straight one.
+// `Free` is variant 0: the compiler lays out the way of a number that is not 0 as the likely one, and most slots are live,
+// so the way on from a live slot is the straight one.
 #[derive(Drop)]
 enum Slot<T> {
     // The next free slot, or the number of slots if there is none.

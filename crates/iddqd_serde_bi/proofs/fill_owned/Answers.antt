@@ -1,5 +1,4 @@
 use Rattle.std.proofs.Common.{rules, ◌≡◌, ◌+◌, arith}
-use Rattle.std.specs.Prelude.{length}
 use Rattle.serde.specs.Event.{seq_ends}
 use Rattle.serde.specs.Steps.{Gives, Stays}
 use Rattle.iddqd_store.proofs.CallerLemmas.{length-inserted}

@@ -1,6 +1,5 @@
 -- Made by tests/widths from crates/iddqd_serde_bi/proofs/fill_owned/Answers.antt: change that file.
 use Rattle.std.proofs.Common.{rules, ◌≡◌, ◌+◌, arith}
-use Rattle.std.specs.Prelude.{length}
 use Rattle.serde.specs.Event.{seq_ends}
 use Rattle.serde.specs.Steps.{Gives, Stays}
 use Rattle.iddqd_store.proofs.CallerLemmas.{length-inserted}

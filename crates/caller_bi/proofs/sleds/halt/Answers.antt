@@ -1,5 +1,5 @@
 use Rattle.std.proofs.Common.{arith}
-use Rattle.example_calls.proofs.sleds.halt.Goals as goal
+use Rattle.caller_bi.proofs.sleds.halt.Goals as goal
 
 pub returns-in-Some : goal.returns-in-Some
 returns-in-Some c =

@@ -1,5 +1,5 @@
 use Rattle.std.proofs.Common.{arith}
-use Rattle.example_calls.proofs.sleds.stop.Goals as goal
+use Rattle.caller_bi.proofs.sleds.stop.Goals as goal
 
 -- the sled gets back the zones that it had
 pub returns-in_default-data1_mut : goal.returns-in_default-data1_mut
