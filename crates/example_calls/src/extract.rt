@@ -1,11 +1,11 @@
 //! Taking items out one by one: those that a closure accepts, or all.
 ghost use Rattle.std.specs.Prelude.{◌≡◌, [], IfOk, OnOk, OnErr, filter, nat_le, not, IsPermutation};
-ghost use Rattle.iddqd_bi.specs.Map.{bag};
+ghost use Rattle.iddqd_id.specs.Map.{bag};
 
-use iddqd_bi::{BiHashItem, BiHashMap, Cursor};
+use iddqd_id::{Cursor, IdHashItem, IdHashMap};
 use std::alloc::{AllocError, Global};
 
-/// A task, known by its number and by the worker that does it, with the time at which it is due.
+/// A task, known by its number, with the worker that does it and the time at which it is due.
 #[derive(Drop)]
 pub struct Task {
     pub number: u64,
@@ -13,28 +13,20 @@ pub struct Task {
     pub due: u64,
 }
 
-impl BiHashItem for Task {
-    type K1 = u64;
+impl IdHashItem for Task {
+    type Key = u64;
 
-    type K2 = u32;
+    ghost key = { λ t. t.number };
 
-    ghost key1 = { λ t. t.number };
-
-    ghost key2 = { λ t. t.worker };
-
-    fn key1(&self) -> &u64 {
+    fn key(&self) -> &u64 {
         &self.number
-    }
-
-    fn key2(&self) -> &u32 {
-        &self.worker
     }
 }
 
 /// Removes the tasks that are due, and returns them. If there is no memory for the vector, all tasks stay.
 pub fn take_due(
     alloc: Global,
-    tasks: &mut BiHashMap<Task>,
+    tasks: &mut IdHashMap<Task>,
     now: u64,
 ) -> Result<Vec<Task>, AllocError>
     ensures taken { IfOk result (λ due. IsPermutation due.items (filter (λ t. nat_le t.due now) (bag tasks.old))) }
@@ -52,7 +44,7 @@ pub fn take_due(
 
 /// Removes all tasks, and returns them. The map keeps its capacity. If there is no memory for the vector, all tasks
 /// stay.
-pub fn take_all(alloc: Global, tasks: &mut BiHashMap<Task>) -> Result<Vec<Task>, AllocError>
+pub fn take_all(alloc: Global, tasks: &mut IdHashMap<Task>) -> Result<Vec<Task>, AllocError>
     ensures taken { IfOk result (λ all. IsPermutation all.items (bag tasks.old)) }
     ensures items { OnOk result (bag tasks.new ≡ []) }
     ensures unchanged { OnErr result (tasks.new ≡ tasks.old) }
@@ -67,7 +59,7 @@ pub fn take_all(alloc: Global, tasks: &mut BiHashMap<Task>) -> Result<Vec<Task>,
 }
 
 /// Removes all tasks, and returns the latest time at which one of them was due, or 0 if there was none.
-pub fn take_latest(tasks: &mut BiHashMap<Task>) -> u64 {
+pub fn take_latest(tasks: &mut IdHashMap<Task>) -> u64 {
     let mut latest = 0;
     let mut at = Cursor::new();
     // The head of the loop names a bound, so it is plain that the loop ends.

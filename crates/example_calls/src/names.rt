@@ -1,38 +1,30 @@
 //! A text as a key: items hold it as a `String`, and lookups take a `&str`.
 ghost use Rattle.std.specs.Prelude.{◌≡◌, ◌<◌, ◌∷◌, [], nat_eq, string_bytes, length, IsOk, IsPermutation, OnOk, OnErr, IfErr, IfSome, IfNone, option_copied};
 ghost use Rattle.std.specs.Cmp.Lexicographic.{pointwise};
-ghost use Rattle.iddqd_bi.specs.Bag.{IsOnly, clash};
-ghost use Rattle.iddqd_bi.specs.Map.{bag};
+ghost use Rattle.iddqd_id.specs.Bag.{IsOnly, clash};
+ghost use Rattle.iddqd_id.specs.Map.{bag};
 
-use iddqd_bi::{BiHashItem, BiHashMap, Ranked};
+use iddqd_id::{IdHashItem, IdHashMap, Ranked};
 
-/// A symbol, known by its name and by its address.
+/// A symbol, known by its name.
 #[derive(Drop)]
 pub struct Symbol {
     pub name: String,
     pub address: u64,
 }
 
-impl BiHashItem for Symbol {
-    type K1 = String;
+impl IdHashItem for Symbol {
+    type Key = String;
 
-    type K2 = u64;
+    ghost key = { λ s. s.name };
 
-    ghost key1 = { λ s. s.name };
-
-    ghost key2 = { λ s. s.address };
-
-    fn key1(&self) -> &String {
+    fn key(&self) -> &String {
         &self.name
-    }
-
-    fn key2(&self) -> &u64 {
-        &self.address
     }
 }
 
 /// Defines a symbol, or returns it.
-pub fn define(symbols: &mut BiHashMap<Symbol>, symbol: Symbol) -> Result<(), Symbol>
+pub fn define(symbols: &mut IdHashMap<Symbol>, symbol: Symbol) -> Result<(), Symbol>
     ensures went_in { OnOk result (IsPermutation (bag symbols.new) (symbol ∷ bag symbols.old)) }
     ensures granted { clash ⟦<Symbol as Ranked>⟧.ranks (bag symbols.old) symbol ≡ []
         → length (bag symbols.old) < symbols.old.capacity → IsOk result }
@@ -43,17 +35,17 @@ pub fn define(symbols: &mut BiHashMap<Symbol>, symbol: Symbol) -> Result<(), Sym
 }
 
 /// Returns the symbol with this name, if there is one.
-pub fn resolve<'s>(symbols: &'s BiHashMap<Symbol>, name: &str) -> Option<&'s Symbol>
+pub fn resolve<'s>(symbols: &'s IdHashMap<Symbol>, name: &str) -> Option<&'s Symbol>
     ensures { IsOnly (λ s. pointwise nat_eq name.now (string_bytes s.name)) (bag symbols.now) (option_copied result) }
 {
-    symbols.get1(name)
+    symbols.get(name)
 }
 
 /// Removes the symbol with this name, and returns it, if there is one.
-pub fn undefine(symbols: &mut BiHashMap<Symbol>, name: &str) -> Option<Symbol>
+pub fn undefine(symbols: &mut IdHashMap<Symbol>, name: &str) -> Option<Symbol>
     ensures it { IsOnly (λ s. pointwise nat_eq name.now (string_bytes s.name)) (bag symbols.old) result }
     ensures gone { IfSome result (λ s. IsPermutation (bag symbols.old) (s ∷ bag symbols.new)) }
     ensures absent { IfNone result (symbols.new ≡ symbols.old) }
 {
-    symbols.remove1(name)
+    symbols.remove(name)
 }

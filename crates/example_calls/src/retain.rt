@@ -1,10 +1,10 @@
 //! Keeping only some of the items.
 ghost use Rattle.std.specs.Prelude.{filter, nat_le, IsPermutation};
-ghost use Rattle.iddqd_bi.specs.Map.{bag};
+ghost use Rattle.iddqd_id.specs.Map.{bag};
 
-use iddqd_bi::{BiHashItem, BiHashMap};
+use iddqd_id::{IdHashItem, IdHashMap};
 
-/// A lease of an address by a machine, with the time at which it runs out.
+/// A lease of an address by a machine, known by the address, with the time at which it runs out.
 #[derive(Drop)]
 pub struct Lease {
     pub address: u32,
@@ -12,26 +12,18 @@ pub struct Lease {
     pub until: u64,
 }
 
-impl BiHashItem for Lease {
-    type K1 = u32;
+impl IdHashItem for Lease {
+    type Key = u32;
 
-    type K2 = u64;
+    ghost key = { λ l. l.address };
 
-    ghost key1 = { λ l. l.address };
-
-    ghost key2 = { λ l. l.machine };
-
-    fn key1(&self) -> &u32 {
+    fn key(&self) -> &u32 {
         &self.address
-    }
-
-    fn key2(&self) -> &u64 {
-        &self.machine
     }
 }
 
 /// Ends the leases that have run out.
-pub fn expire(leases: &mut BiHashMap<Lease>, now: u64)
+pub fn expire(leases: &mut IdHashMap<Lease>, now: u64)
     ensures { IsPermutation (bag leases.new) (filter (λ l. nat_le now l.until) (bag leases.old)) }
 {
     leases.retain(|l| l.until >= now);

@@ -1,6 +1,6 @@
 use Rattle.std.proofs.Common.{refl, ◌∙◌}
-use Rattle.iddqd_bi.specs.Map.{bag}
-use Rattle.iddqd_bi.proofs.CallerLemmas.Extracting.{popped-end, popped-start}
+use Rattle.iddqd_id.specs.Map.{bag}
+use Rattle.iddqd_id.proofs.CallerLemmas.Extracting.{popped-end, popped-start}
 use Rattle.example_calls.proofs.extract.take_all.Goals as goal
 
 pub loop-task-init : goal.loop-task-init

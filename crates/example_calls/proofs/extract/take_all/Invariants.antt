@@ -1,8 +1,8 @@
 use Rattle.std.proofs.Common.{◌≡◌, length}
 use Rattle.std.specs.Prelude.{vec_capacity}
-use Rattle.iddqd_bi.specs.Map.{bag}
-use Rattle.iddqd_bi.specs.Walk.{to_come}
-use Rattle.iddqd_bi.proofs.CallerLemmas.Extracting.{HasPopped}
+use Rattle.iddqd_id.specs.Map.{bag}
+use Rattle.iddqd_id.specs.Walk.{to_come}
+use Rattle.iddqd_id.proofs.CallerLemmas.Extracting.{HasPopped}
 use Rattle.example_calls.proofs.extract.take_all.Given as goal
 
 abbrev pub invariant-loop-task : goal.invariant-loop-task

@@ -1,6 +1,6 @@
 use Rattle.std.proofs.Common.{arith, nat_le, rules, ◌∙◌}
-use Rattle.iddqd_bi.specs.Map.{bag}
-use Rattle.iddqd_bi.proofs.CallerLemmas.Extracting.{extracted-end, extracted-fewer, extracted-on, extracted-start}
+use Rattle.iddqd_id.specs.Map.{bag}
+use Rattle.iddqd_id.proofs.CallerLemmas.Extracting.{extracted-end, extracted-fewer, extracted-on, extracted-start}
 use Rattle.example_calls.specs.declared.extract.Task.{Task}
 use Rattle.example_calls.proofs.extract.take_due.Goals as goal
 

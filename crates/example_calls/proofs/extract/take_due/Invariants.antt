@@ -1,8 +1,8 @@
 use Rattle.std.proofs.Common.{◌≡◌, length, nat_le}
 use Rattle.std.specs.Prelude.{vec_capacity}
-use Rattle.iddqd_bi.specs.Map.{bag}
-use Rattle.iddqd_bi.specs.Walk.{to_come}
-use Rattle.iddqd_bi.proofs.CallerLemmas.Extracting.{HasExtracted}
+use Rattle.iddqd_id.specs.Map.{bag}
+use Rattle.iddqd_id.specs.Walk.{to_come}
+use Rattle.iddqd_id.proofs.CallerLemmas.Extracting.{HasExtracted}
 use Rattle.example_calls.specs.declared.extract.Task.{Task}
 use Rattle.example_calls.proofs.extract.take_due.Given as goal
 

@@ -1,5 +1,5 @@
 use Rattle.std.proofs.Common.{rules, arith, subst, ◌≡◌, ◌+◌, ◌-◌, ◌^◌, [], min}
-use Rattle.iddqd_bi.specs.Map.{bag}
+use Rattle.iddqd_id.specs.Map.{bag}
 use Rattle.example_calls.proofs.walk.sum_of_heat.Invariants.{total}
 use Rattle.example_calls.proofs.walk.sum_of_heat.Goals as goal
 

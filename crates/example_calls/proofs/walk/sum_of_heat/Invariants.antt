@@ -1,5 +1,5 @@
 use Rattle.std.proofs.Common.{◌≡◌, ◌≤◌, ◌+◌, ◌-◌, ◌^◌, ℕ, List, min, sum, map}
-use Rattle.iddqd_bi.specs.Map.{bag}
+use Rattle.iddqd_id.specs.Map.{bag}
 use Rattle.example_calls.specs.declared.walk.Sensor.{Sensor}
 use Rattle.example_calls.proofs.walk.sum_of_heat.Given as goal
 
