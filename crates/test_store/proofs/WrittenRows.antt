@@ -1,14 +1,11 @@
 -- Worked rows of what a closure that computes a function makes of a bag, with outcomes that these words do not allow.
 use Rattle.std.specs.Prelude.{◌≡◌, ℕ, Bool, true, false, List, [], ◌∷◌, ◌==◌, cond, Option, Some, None, option_map, IsPermutation}
-use Rattle.std.proofs.Common.{refl, sym, arith}
+use Rattle.std.proofs.Common.{refl, arith}
 use Rattle.std.proofs.lemmas.Bool.{false≢true, true≢false}
 use Rattle.std.proofs.lemmas.List.Sorted.{IsPermutation-refl, length_permutation, sum_by-IsPermutation}
 use Rattle.iddqd_store.specs.Bag.{Filters}
 use Rattle.iddqd_store.specs.Bag.Storing.{FilterMapsAll, MapsAll, MapsOne}
-
--- an item has two keys and a number
-abbrev Item : Type 0
-Item = ℕ × ℕ × ℕ
+use Rattle.iddqd_store.proofs.BagLemmas.Rows.{Item}
 
 abbrev two : List Item
 two = (1, 10, 0) ∷ (2, 20, 0) ∷ []
