@@ -18,7 +18,6 @@ mod lent;
 mod loading;
 mod matching;
 mod refusing;
-mod sleds;
 mod updating;
 mod users;
 mod walking;
@@ -52,7 +51,6 @@ pub use matching::{Same, find_same};
 pub use refusing::{
     NotAdded, add, add_and_count, add_by_from, add_by_map_err, add_or_count, is_added,
 };
-pub use sleds::{Sled, Zone, halt, stop};
 pub use updating::{note_all_opened, note_opened, set_all, set1};
 pub use users::{User, by_login, register, register_all, register_as, unregister};
 pub use walking::{count_by_walk, write_all, write_first, write_first_and_count};

@@ -1,8 +1,8 @@
 -- What a hall ends as, if the health of a machine is borrowed for writing.
 use Rattle.std.specs.Prelude.{◌≡◌, Bool, Option, OnSome}
 use Rattle.std.specs.Borrow.{Fml, LendsSo, MutBor}
-use Rattle.iddqd_bi.specs.Bag.{Ranks}
-use Rattle.iddqd_bi.specs.Lent.{WritesTo}
+use Rattle.iddqd_id.specs.Bag.{Ranks}
+use Rattle.iddqd_id.specs.Lent.{WritesTo}
 use Rattle.example_calls.specs.contracts.health.Hall as hall
 use Rattle.example_calls.specs.contracts.health.Health as health
 use Rattle.example_calls.specs.declared.health.Hall.{Hall}

@@ -2,9 +2,9 @@
 ghost use Rattle.std.specs.Prelude.{◌≡◌, [], slice_index_or};
 ghost use Rattle.std.specs.Int.{from_le_bytes};
 ghost use mir.Syntax.{w64};
-ghost use Rattle.iddqd_bi.specs.Map.{bag};
+ghost use Rattle.iddqd_id.specs.Map.{bag};
 
-use iddqd_bi::{BiHashItem, BiHashMap};
+use iddqd_id::{IdHashItem, IdHashMap};
 use std::alloc::Global;
 use std::hash::{BuildHasher, Hasher};
 
@@ -57,34 +57,26 @@ impl BuildHasher for OwnHash {
     }
 }
 
-/// An order, known by its number and by that of its payment.
+/// An order, known by its number, with the number of its payment.
 #[derive(Drop)]
 pub struct Order {
     pub number: u64,
     pub payment: u64,
 }
 
-impl BiHashItem for Order {
-    type K1 = u64;
+impl IdHashItem for Order {
+    type Key = u64;
 
-    type K2 = u64;
+    ghost key = { λ o. o.number };
 
-    ghost key1 = { λ o. o.number };
-
-    ghost key2 = { λ o. o.payment };
-
-    fn key1(&self) -> &u64 {
+    fn key(&self) -> &u64 {
         &self.number
-    }
-
-    fn key2(&self) -> &u64 {
-        &self.payment
     }
 }
 
 /// Makes a map without orders.
-pub fn no_orders(alloc: Global) -> BiHashMap<Order, OwnHash>
+pub fn no_orders(alloc: Global) -> IdHashMap<Order, OwnHash>
     ensures { bag result ≡ [] }
 {
-    BiHashMap::with_hasher(alloc, OwnHash)
+    IdHashMap::with_hasher(alloc, OwnHash)
 }

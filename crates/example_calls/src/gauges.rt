@@ -3,11 +3,11 @@ ghost use Rattle.std.specs.Prelude.{◌≡◌, ◌/◌, false, if◌then◌else�
 ghost use Rattle.std.specs.Cmp.Lexicographic.{pointwise};
 ghost use Rattle.std.specs.List.{list_any};
 ghost use Rattle.std.proofs.Common.{rules};
-ghost use Rattle.iddqd_bi.specs.Map.{bag};
+ghost use Rattle.iddqd_id.specs.Map.{bag};
 
-use iddqd_bi::{BiHashItem, BiHashItemMut, BiHashMap};
+use iddqd_id::{IdHashItem, IdHashItemMut, IdHashMap};
 
-/// A gauge, known by its name and by its place, and what it shows.
+/// A gauge, known by its name, with its place and what it shows.
 #[derive(Drop)]
 pub struct Gauge {
     pub name: String,
@@ -15,34 +15,24 @@ pub struct Gauge {
     pub value: u64,
 }
 
-impl BiHashItem for Gauge {
-    type K1 = String;
+impl IdHashItem for Gauge {
+    type Key = String;
 
-    type K2 = u32;
+    ghost key = { λ g. g.name };
 
-    ghost key1 = { λ g. g.name };
-
-    ghost key2 = { λ g. g.place };
-
-    fn key1(&self) -> &String {
+    fn key(&self) -> &String {
         &self.name
-    }
-
-    fn key2(&self) -> &u32 {
-        &self.place
     }
 }
 
-impl BiHashItemMut for Gauge {
+impl IdHashItemMut for Gauge {
     type Data = u64;
 
     ghost data_of = { λ g. g.value };
 
     ghost put = { λ g v. record g { value = v } };
 
-    ghost keeps_key1 = { Prim.search rules };
-
-    ghost keeps_key2 = { Prim.search rules };
+    ghost keeps_key = { Prim.search rules };
 
     ghost put_shows = { Prim.search rules };
 
@@ -52,11 +42,11 @@ impl BiHashItemMut for Gauge {
 }
 
 /// Halves what the gauge of this name shows, and returns whether there is such a gauge.
-pub fn halve(gauges: &mut BiHashMap<Gauge>, name: &str) -> bool
+pub fn halve(gauges: &mut IdHashMap<Gauge>, name: &str) -> bool
     ensures halved { IsPermutation (bag gauges.new) (map (λ (g : Gauge).
         if pointwise nat_eq name.now (string_bytes g.name) then record g { value = g.value / 2 } else g) (bag gauges.old)) }
     ensures found { result ≡ list_any (λ g. pointwise nat_eq name.now (string_bytes g.name)) (bag gauges.old) }
     ensures absent { result ≡ false → gauges.new ≡ gauges.old }
 {
-    gauges.update1(name, |gauge| gauge.value / 2)
+    gauges.update(name, |gauge| gauge.value / 2)
 }

@@ -3,10 +3,10 @@ ghost use Rattle.std.specs.Prelude.{◌≡◌, ◌==◌, ◌∷◌, ◌++◌, []
 ghost use Rattle.std.specs.Borrow.{sem};
 ghost use Rattle.std.specs.Fn.{FnOnceReturnsAtMut};
 ghost use Rattle.std.proofs.Common.{rules};
-ghost use Rattle.iddqd_bi.specs.Bag.{IsOnly, swap};
-ghost use Rattle.iddqd_bi.specs.Map.{bag};
+ghost use Rattle.iddqd_id.specs.Bag.{IsOnly, swap};
+ghost use Rattle.iddqd_id.specs.Map.{bag};
 
-use iddqd_bi::{BiHashItem, BiHashItemMut, BiHashMap, Ranked};
+use iddqd_id::{IdHashItem, IdHashItemMut, IdHashMap, Ranked};
 use std::alloc::AllocError;
 
 /// How a machine is: its temperature, and the numbers of its faults.
@@ -16,7 +16,7 @@ pub struct Health {
     pub faults: Vec<u32>,
 }
 
-/// A machine, known by its number and by its rack.
+/// A machine, known by its number, with its rack and its health.
 #[derive(Drop)]
 pub struct Machine {
     pub number: u64,
@@ -24,34 +24,24 @@ pub struct Machine {
     pub health: Health,
 }
 
-impl BiHashItem for Machine {
-    type K1 = u64;
+impl IdHashItem for Machine {
+    type Key = u64;
 
-    type K2 = u32;
+    ghost key = { λ m. m.number };
 
-    ghost key1 = { λ m. m.number };
-
-    ghost key2 = { λ m. m.rack };
-
-    fn key1(&self) -> &u64 {
+    fn key(&self) -> &u64 {
         &self.number
-    }
-
-    fn key2(&self) -> &u32 {
-        &self.rack
     }
 }
 
-impl BiHashItemMut for Machine {
+impl IdHashItemMut for Machine {
     type Data = Health;
 
     ghost data_of = { λ m. m.health };
 
     ghost put = { λ m h. record m { health = h } };
 
-    ghost keeps_key1 = { Prim.search rules };
-
-    ghost keeps_key2 = { Prim.search rules };
+    ghost keeps_key = { Prim.search rules };
 
     ghost put_shows = { Prim.search rules };
 
@@ -63,7 +53,7 @@ impl BiHashItemMut for Machine {
 /// The machines of a hall.
 #[derive(Drop)]
 pub struct Hall {
-    pub machines: BiHashMap<Machine>,
+    pub machines: IdHashMap<Machine>,
 }
 
 impl Hall {
@@ -78,7 +68,7 @@ impl Hall {
         ensures* writes_back { sem 𝓛 (lends_health ⟦<Machine as Ranked>⟧.ranks self.entry
             (λ m. number == m.number) result) }
     {
-        self.machines.data1_mut(&number)
+        self.machines.data_mut(&number)
     }
 
     /// Notes the temperature of the machine with this number, and returns whether there is such a machine.
@@ -102,7 +92,7 @@ impl Hall {
 /// Notes a fault of the machine with this number, and returns whether there is such a machine. If memory runs out, the
 /// machine has the faults that it had.
 pub fn note_fault(
-    machines: &mut BiHashMap<Machine>,
+    machines: &mut IdHashMap<Machine>,
     number: u64,
     fault: u32,
 ) -> Result<bool, AllocError>
@@ -118,7 +108,7 @@ pub fn note_fault(
         × IsPermutation (bag machines.new)
         (swap ⟦<Machine as Ranked>⟧.ranks (bag machines.old) m (record m { health = h }))) }
 {
-    match machines.data1_mut(&number) {
+    match machines.data_mut(&number) {
         Some(health) => {
             health.faults.push(fault)?;
             Ok(true)
@@ -130,7 +120,7 @@ pub fn note_fault(
 /// Calls `f` with the health of the machine with this number, which `f` may change, and returns whether there is such a
 /// machine.
 pub fn change_health<F: FnOnce(&mut Health)>(
-    machines: &mut BiHashMap<Machine>,
+    machines: &mut IdHashMap<Machine>,
     number: u64,
     f: F,
 ) -> bool
@@ -144,7 +134,7 @@ where
         (swap ⟦<Machine as Ranked>⟧.ranks (bag machines.old) m (record m { health = h })) }
     ensures absent { result ≡ false → machines.new ≡ machines.old }
 {
-    match machines.data1_mut(&number) {
+    match machines.data_mut(&number) {
         Some(health) => {
             f(health);
             true

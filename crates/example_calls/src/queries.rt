@@ -3,10 +3,10 @@ ghost use Rattle.std.specs.Prelude.{nat_eq, string_bytes, option_copied};
 ghost use Rattle.std.specs.Cmp.Lexicographic.{pointwise};
 ghost use Rattle.std.specs.Cmp.Rules.{comparing, hashing};
 ghost use Rattle.std.proofs.Common.{rules};
-ghost use Rattle.iddqd_bi.specs.Bag.{IsOnly};
-ghost use Rattle.iddqd_bi.specs.Map.{bag};
+ghost use Rattle.iddqd_id.specs.Bag.{IsOnly};
+ghost use Rattle.iddqd_id.specs.Map.{bag};
 
-use iddqd_bi::{BiHashItem, BiHashMap, Equivalent};
+use iddqd_id::{Equivalent, IdHashItem, IdHashMap};
 use std::hash::{Hash, Hasher};
 
 /// The name of a module, as its items own it.
@@ -33,34 +33,26 @@ impl<'a> Equivalent<Name> for Lent<'a> {
     }
 }
 
-/// A module, known by its name and by its number.
+/// A module, known by its name, with its number.
 #[derive(Drop)]
 pub struct Module {
     pub name: Name,
     pub number: u32,
 }
 
-impl BiHashItem for Module {
-    type K1 = Name;
+impl IdHashItem for Module {
+    type Key = Name;
 
-    type K2 = u32;
+    ghost key = { λ m. m.name };
 
-    ghost key1 = { λ m. m.name };
-
-    ghost key2 = { λ m. m.number };
-
-    fn key1(&self) -> &Name {
+    fn key(&self) -> &Name {
         &self.name
-    }
-
-    fn key2(&self) -> &u32 {
-        &self.number
     }
 }
 
 /// Returns the module with this name, if there is one. No `Name` is made for the search.
-pub fn named<'m>(modules: &'m BiHashMap<Module>, name: &str) -> Option<&'m Module>
+pub fn named<'m>(modules: &'m IdHashMap<Module>, name: &str) -> Option<&'m Module>
     ensures { IsOnly (λ m. pointwise nat_eq name.now (string_bytes m.name.text)) (bag modules.now) (option_copied result) }
 {
-    modules.get1(&Lent { text: name })
+    modules.get(&Lent { text: name })
 }

@@ -1,10 +1,10 @@
 //! Updating items by closures, where two fields can be written.
 ghost use Rattle.std.specs.Prelude.{◌≡◌, ◌==◌, ◌<◌, ◌+◌, ◌^◌, true, false, map, Some, All, IsPermutation};
 ghost use Rattle.std.proofs.Common.{rules};
-ghost use Rattle.iddqd_bi.specs.Bag.{IsOnly, swap};
-ghost use Rattle.iddqd_bi.specs.Map.{bag};
+ghost use Rattle.iddqd_id.specs.Bag.{IsOnly, swap};
+ghost use Rattle.iddqd_id.specs.Map.{bag};
 
-use iddqd_bi::{BiHashItem, BiHashItemMut, BiHashMap, Ranked};
+use iddqd_id::{IdHashItem, IdHashItemMut, IdHashMap, Ranked};
 
 /// When and at which door a card was last used.
 #[derive(Clone, Copy)]
@@ -13,7 +13,7 @@ pub struct LastUse {
     pub door: u32,
 }
 
-/// A card, known by its number and by its holder.
+/// A card, known by its number, with its holder and its last use.
 #[derive(Drop)]
 pub struct Card {
     pub number: u64,
@@ -21,34 +21,24 @@ pub struct Card {
     pub last: LastUse,
 }
 
-impl BiHashItem for Card {
-    type K1 = u64;
+impl IdHashItem for Card {
+    type Key = u64;
 
-    type K2 = u32;
+    ghost key = { λ c. c.number };
 
-    ghost key1 = { λ c. c.number };
-
-    ghost key2 = { λ c. c.holder };
-
-    fn key1(&self) -> &u64 {
+    fn key(&self) -> &u64 {
         &self.number
-    }
-
-    fn key2(&self) -> &u32 {
-        &self.holder
     }
 }
 
-impl BiHashItemMut for Card {
+impl IdHashItemMut for Card {
     type Data = LastUse;
 
     ghost data_of = { λ c. c.last };
 
     ghost put = { λ c u. record c { last = u } };
 
-    ghost keeps_key1 = { Prim.search rules };
-
-    ghost keeps_key2 = { Prim.search rules };
+    ghost keeps_key = { Prim.search rules };
 
     ghost put_shows = { Prim.search rules };
 
@@ -58,17 +48,17 @@ impl BiHashItemMut for Card {
 }
 
 /// Notes that a card was used, and returns whether there is such a card.
-pub fn note_use(cards: &mut BiHashMap<Card>, number: u64, time: u64, door: u32) -> bool
+pub fn note_use(cards: &mut IdHashMap<Card>, number: u64, time: u64, door: u32) -> bool
     ensures noted { result ≡ true → (c : Card) × IsOnly (λ c. number == c.number) (bag cards.old) (Some c)
         × IsPermutation (bag cards.new) (swap ⟦<Card as Ranked>⟧.ranks (bag cards.old) c
         (record c { last = record { time = time; door = door } })) }
     ensures absent { result ≡ false → cards.new ≡ cards.old }
 {
-    cards.update1(&number, |_card| LastUse { time, door })
+    cards.update(&number, |_card| LastUse { time, door })
 }
 
 /// Forgets at which doors the cards were used, but not when.
-pub fn forget_doors(cards: &mut BiHashMap<Card>)
+pub fn forget_doors(cards: &mut IdHashMap<Card>)
     ensures { IsPermutation (bag cards.new)
         (map (λ (c : Card). record c { last = record { time = c.last.time; door = 0 } }) (bag cards.old)) }
 {
@@ -80,7 +70,7 @@ pub fn forget_doors(cards: &mut BiHashMap<Card>)
 
 /// Adds one to the time of each last use, for example because a clock was slow. No time may be the largest number of
 /// its type.
-pub fn correct_times(cards: &mut BiHashMap<Card>)
+pub fn correct_times(cards: &mut IdHashMap<Card>)
     requires { All (λ c. c.last.time + 1 < 2 ^ 64) (bag cards.old) }
     ensures { IsPermutation (bag cards.new)
         (map (λ (c : Card). record c { last = record { time = c.last.time + 1; door = c.last.door } }) (bag cards.old)) }

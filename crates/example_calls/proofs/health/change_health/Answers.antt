@@ -4,7 +4,7 @@ use Rattle.example_calls.proofs.health.change_health.Goals as goal
 pub returns-in-Some-clause-changed : goal.returns-in-Some-clause-changed
 returns-in-Some-clause-changed g c = λ yes.
     let it = c.in-Some.ensures.value in
-    let written = rw c.in-Some.is at c.data1_mut.follows.holds c.f.new.arg2 in (
+    let written = rw c.in-Some.is at c.data_mut.follows.holds c.f.new.arg2 in (
       it.0,
       c.f.new.arg2,
       it.1,

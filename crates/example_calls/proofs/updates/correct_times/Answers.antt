@@ -1,5 +1,5 @@
 use Rattle.std.proofs.Common.{◌<◌, ◌+◌, ◌^◌, rules}
-use Rattle.iddqd_bi.proofs.CallerLemmas.Calling.{takes_by_items}
+use Rattle.iddqd_id.proofs.CallerLemmas.Calling.{takes_by_items}
 use Rattle.example_calls.specs.declared.updates.Card.{Card}
 use Rattle.example_calls.proofs.updates.correct_times.Goals as goal
 
