@@ -7,6 +7,7 @@ pub mod batch;
 pub mod bookings;
 pub mod builder;
 pub mod clone;
+pub mod counts;
 pub mod desks;
 pub mod entry;
 pub mod extract;
