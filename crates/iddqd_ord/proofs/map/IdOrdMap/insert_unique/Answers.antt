@@ -1,0 +1,45 @@
+use Rattle.std.proofs.Common.{◌≡◌, Some, refl, sym, subst, inl, ◌∙◌}
+use Rattle.iddqd_ord.specs.Items.{items, against}
+use Rattle.iddqd_ord.specs.Row.{position, HasSlot}
+use Rattle.iddqd_ord.specs.declared.slot_order.place.Place.{Place}
+use Rattle.iddqd_ord.proofs.Lent.{item_there, found_only}
+use Rattle.iddqd_ord.proofs.Parts.{absent-split, any-found}
+use Rattle.iddqd_ord.proofs.map.IdOrdMap.insert_unique.Goals as goal
+
+some_same : {X : Type 0} {x y : X} → Some x ≡ Some y → x ≡ y
+some_same e = cc
+
+pub invariant_of-self : goal.invariant_of-self
+invariant_of-self g c =
+    let m = c.args.self.now in
+    let i = position m.blocks c.in-Ok.place in
+    let split = rw c.key.ensures at c.in-Ok.ensures.found in
+    let there = item_there (items m) i c.item_in.ensures.within in
+    record {
+      there = λ x e. subst (λ (p : Place). HasSlot m.blocks p) (some_same e) c.in-Ok.ensures.slot;
+      found_is = rw there.1 (found_only (against g.T.IdOrdItem g.T.Key.Ord.cmp c.args.item) (items m) i split there.0 there.1);
+    }
+
+pub invariant_of-self-in-Err-insert_at : goal.invariant_of-self-in-Err-insert_at
+invariant_of-self-in-Err-insert_at g c =
+    let arm = c.in-Err-insert_at in
+    let gap = rw c.key.ensures at c.in-Err.ensures.gap in
+    rw (arm.ensures.handed_back, arm.ensures.unchanged) record {
+      there = λ x e. absurd (cc e);
+      found_is = sym (absent-split _ _ _ gap);
+    }
+
+pub returns-in-Ok : goal.returns-in-Ok
+returns-in-Ok g c =
+    let m = c.args.self.now in
+    let split = rw c.key.ensures at c.in-Ok.ensures.found in
+    let taken = any-found (against g.T.IdOrdItem g.T.Key.Ord.cmp c.args.item) (items m) (position m.blocks c.in-Ok.place) split in (
+      (refl, (λ w. refl), tt),
+      record {
+        ends = tt;
+        free = tt;
+        granted = λ free room. sym free ∙ taken;
+        handed_back = record { handed_back = refl; same_map = refl; unchanged = refl };
+        reason = inl taken;
+      },
+    )

@@ -1,0 +1,10 @@
+use Rattle.std.proofs.Common.{arith}
+use Rattle.std.specs.List.{concat}
+use Rattle.iddqd_store.specs.Slots.{get}
+use Rattle.iddqd_ord.proofs.Items.{length-items}
+use Rattle.iddqd_ord.proofs.map.IdOrdMap.least_capacity.Goals as goal
+
+pub returns-clause-fits : goal.returns-clause-fits
+returns-clause-fits g c =
+    let long = length-items (get c.self.inside.items.slots) (concat c.self.inside.order.blocks) c.self.invariant.live in
+    rw (← c.self.view_is) (omega (arith, long, c.self.invariant.counted, c.capacity.ensures.value, c.capacity.ensures.fits, c.room.ensures.value, c.room.ensures.fits, c.min.ensures))

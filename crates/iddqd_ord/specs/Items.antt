@@ -1,0 +1,98 @@
+-- What a contract sees of a map in the order of its keys. In the examples an item is a number, which is its key.
+use Rattle.std.specs.Prelude.{◌≡◌, ℕ, ◌+◌, ◌<◌, ◌≤◌, Bool, true, false, ◌&&◌, List, ◌∷◌, ◌++◌, Option, filter, length, refl, Result, OnOk, OnErr}
+use Rattle.std.specs.List.{concat, list_any}
+use Rattle.std.specs.Coded.{Coded, code_by, coded×, coded_ℕ, coded_list, coded_option}
+use Rattle.std.specs.Ordering.{is_lt, is_eq, is_gt, is_le, is_ge}
+use Rattle.std.specs.declared.cmp.Ordering.{Ordering}
+use Rattle.std.specs.declared.ops.Bound.{Bound}
+use Rattle.std.specs.declared.ops.Bound.TheVariants.{Included, Excluded, Unbounded}
+use Rattle.iddqd_store.specs.Slots.Found.{items_at}
+use Rattle.iddqd_ord.specs.declared.item.IdOrdItem as item
+
+-- Contracts see a map as the slots of its items, the blocks that list the slots in the order of the keys, and how many
+-- items fit. Public clauses cite the slots and the blocks only as `items`.
+-- Example: The slots `Some 5`, `None`, `Some 3`, the one block 2, 0, and the capacity 4.
+pub record OrdMap (T : Type 0) : Type 0 where
+  pub slots : List (Option T)
+  pub blocks : List (List ℕ)
+  pub capacity : ℕ
+
+abbrev pub map_code : {T : Type 0} → Coded T → Coded (OrdMap T)
+map_code {T} code =
+    code_by (List (Option T) × (List (List ℕ) × ℕ)) (coded× (coded_list (coded_option code)) (coded× (coded_list (coded_list coded_ℕ)) coded_ℕ))
+    (λ m. (m.slots, (m.blocks, m.capacity))) (λ p. record { slots = p.0; blocks = p.1.0; capacity = p.1.1 }) (λ _. refl)
+
+-- `items` lists the items of the map in ascending order of their keys.
+-- Example: For the slots `Some 5`, `None`, `Some 3` and the block 2, 0 it is 3, 5.
+abbrev pub items : {T : Type 0} → OrdMap T → List T
+items m = items_at m.slots (concat m.blocks)
+
+module _ {T Key : Type 0} (of : item.Ghosts T Key) where
+  -- `sought` compares the key of an item with what a query seeks.
+  -- Example: For the query 5 and the item 3 it is `Less`.
+  abbrev pub sought : {Q : Type 0} → (Q → Key → Ordering) → Q → T → Ordering
+  sought compare q x = compare q (of.key x)
+
+  -- `has` tells whether an item has the key that a query seeks.
+  -- Example: For the query 5 it is true of the item 5 alone.
+  abbrev pub has : {Q : Type 0} → (Q → Key → Ordering) → Q → T → Bool
+  has compare q x = is_eq (compare q (of.key x))
+
+  module _ (cmp : Key → Key → Ordering) where
+    -- `against` compares the key of an item with that of `x`.
+    -- Example: For `x` 5 and the item 3 it is `Less`.
+    abbrev pub against : T → T → Ordering
+    against x y = cmp (of.key y) (of.key x)
+
+    -- `like` tells whether an item has a key equal to that of `x`.
+    -- Example: For `x` 5 it is true of the item 5 alone.
+    abbrev pub like : T → T → Bool
+    like x y = is_eq (cmp (of.key y) (of.key x))
+
+    -- `put` lists the items with lower keys than `x`, then `x`, and then those with higher keys.
+    -- Example: For 3, 5, 7 and 4 it is 3, 4, 5, 7. An item 5 takes the place of the one that has its key.
+    abbrev pub put : List T → T → List T
+    put xs x = filter (λ y. is_lt (cmp (of.key y) (of.key x))) xs ++ x ∷ filter (λ y. is_gt (cmp (of.key y) (of.key x))) xs
+
+    -- The map has the item besides those that it had, and they fit. The capacity grows only if the map was full.
+    -- Example: A map of 3, 5 with the capacity 4 gains 4, and has 3, 4, 5 and the capacity 4 then.
+    pub record Gains (old : OrdMap T) (x : T) (new : OrdMap T) : Type 0 where
+      pub lists : items new ≡ put (items old) x
+      pub no_less_room : old.capacity ≤ new.capacity
+      pub same_room : length (items old) < old.capacity → new.capacity ≡ old.capacity
+      pub fits : length (items new) ≤ new.capacity
+
+    -- No item has the key of `x`, and the map is full.
+    -- Example: A map of 3, 5 with the capacity 2 is full for 4, and not for 3.
+    pub record IsFullFor (m : OrdMap T) (x : T) : Type 0 where
+      pub free : list_any (like x) (items m) ≡ false
+      pub full : length (items m) ≡ m.capacity
+
+  -- `is_from` tells whether an item is not before a bound.
+  -- Example: From `Included 5` on there are 5, 6 .., and from `Excluded 5` on 6, 7 ...
+  abbrev pub is_from : {Q : Type 0} → (Q → Key → Ordering) → Bound Q → T → Bool
+  is_from compare (Included q) x = is_ge (compare q (of.key x))
+  is_from compare (Excluded q) x = is_gt (compare q (of.key x))
+  is_from compare Unbounded x = true
+
+  -- `is_to` tells whether an item is not behind a bound.
+  -- Example: Up to `Included 5` there are .. 4, 5, and up to `Excluded 5` .. 3, 4.
+  abbrev pub is_to : {Q : Type 0} → (Q → Key → Ordering) → Bound Q → T → Bool
+  is_to compare (Included q) x = is_le (compare q (of.key x))
+  is_to compare (Excluded q) x = is_lt (compare q (of.key x))
+  is_to compare Unbounded x = true
+
+  -- `within` tells whether an item is between two bounds.
+  -- Example: Between `Included 3` and `Excluded 5` are 3 and 4.
+  abbrev pub within : {Q : Type 0} → (Q → Key → Ordering) → Bound Q → Bound Q → T → Bool
+  within compare low high x = is_from compare low x && is_to compare high x
+
+-- After `Ok`, `more` items fit beside those that are there. The call fails only if they did not fit before it. The
+-- capacity grows only if they did not fit.
+-- Example: With 3 items and the capacity 7, 4 more fit and nothing changes, and for 5 more the capacity has to be 8 at
+-- least.
+pub record MakesRoom {T A E : Type 0} (old : OrdMap T) (more : ℕ) (result : Result A E) (new : OrdMap T) : Type 0 where
+  pub room : OnOk result (length (items old) + more ≤ new.capacity)
+  pub reason : OnErr result (old.capacity < length (items old) + more)
+  pub no_less_room : old.capacity ≤ new.capacity
+  pub same_room : length (items old) + more ≤ old.capacity → new.capacity ≡ old.capacity

@@ -1,0 +1,19 @@
+pub mod Calls
+pub mod Entries
+pub mod InsertErrors
+pub mod Inserts
+pub mod Items
+pub mod IterMuts
+pub mod Lent
+pub mod Mismatch
+pub mod Ordered
+pub mod Puts
+pub mod RefMuts
+pub mod Rekeyed
+pub mod Row
+pub mod Updates
+-- The clauses of the map cite these words of the store.
+pub use Rattle.iddqd_store.specs.Bag
+pub use Rattle.iddqd_store.specs.Bag.Building
+pub use Rattle.iddqd_store.specs.Bag.Calling
+pub use Rattle.iddqd_store.specs.Bag.Storing

@@ -1,0 +1,72 @@
+//! Inserting many items at once.
+ghost use Rattle.std.specs.Prelude.{◌≡◌, ◌≤◌, [], length, false, IfOk, IfErr, OnOk, OnErr, IsOk};
+ghost use Rattle.std.specs.Iterator.{IsFiniteIterable};
+ghost use Rattle.std.specs.List.{list_any};
+ghost use Rattle.iddqd_store.specs.Bag.Building.{GivesAll, GivesThen, FitsOn};
+ghost use Rattle.iddqd_ord.specs.Puts.{ExtendsTo, puts};
+ghost use Rattle.iddqd_ord.specs.Items.{items, like, IsFullFor};
+
+use super::IdOrdMap;
+use crate::item::IdOrdItem;
+use iddqd_store::MemoryRefused;
+use std::alloc::Global;
+
+impl<T: IdOrdItem + Drop> IdOrdMap<T> {
+    /// Inserts the items one by one, as `insert_overwrite` does, and drops the items that this removes.
+    ///
+    /// First the call reserves capacity for as many items as the iterator promises, or for half as many if the map has
+    /// items, since these may have the same key. If that fails, the call goes on, and the map grows as it fills. If there is
+    /// no memory for an item, the error has that item. Those before it stay in the map, and the rest are dropped with the
+    /// iterator.
+    pub fn extend<I: IntoIterator<Item = T>>(&mut self, iter: I) -> Result<(), MemoryRefused<T>>
+        requires finite { IsFiniteIterable I.into_iter_gives I.IntoIter.can_next I.IntoIter.remaining iter }
+        // After `Ok`, each item was put into the map; after an error, each item before the returned one.
+        ensures all { OnOk result (GivesAll I.into_iter_gives I.IntoIter.next_gives iter (λ xs.
+            ExtendsTo T.IdOrdItem T.Key.cmp self.old xs self.new)) }
+        ensures refused { IfErr result (λ e. GivesThen I.into_iter_gives I.IntoIter.next_gives iter e.value (λ xs.
+            ExtendsTo T.IdOrdItem T.Key.cmp self.old xs self.new)) }
+        // The call fails only if the map is full and no item has the key.
+        ensures full { IfErr result (λ e. IsFullFor T.IdOrdItem T.Key.cmp self.new e.value) }
+        // If as many items fit as the iterator may give, the call succeeds, and the capacity stays.
+        ensures granted { FitsOn I.into_iter_gives I.IntoIter.remaining iter (length (items self.old)) self.old.capacity
+            → IsOk result }
+        ensures same_room { FitsOn I.into_iter_gives I.IntoIter.remaining iter (length (items self.old)) self.old.capacity
+            → self.new.capacity ≡ self.old.capacity }
+    {
+        let items = iter.into_iter();
+        let promised = items.size_hint().0;
+        let wanted = if self.is_empty() {
+            promised
+        } else {
+            promised.div_ceil(2)
+        };
+        // This error is ignored: the call may succeed without the capacity, since the items may share keys.
+        let _ = self.grow(wanted);
+        self.note_order();
+        for item in items {
+            drop(self.insert_overwrite(item)?);
+        }
+        Ok(())
+    }
+
+    /// Makes a map of the items. It inserts each as `insert_overwrite` does, and drops the items that this removes.
+    ///
+    /// The call reserves capacity as `extend` does. If there is no memory for an item, the error has that item, and there is
+    /// no map.
+    pub fn from_iter<I: IntoIterator<Item = T>>(
+        alloc: Global,
+        iter: I,
+    ) -> Result<Self, MemoryRefused<T>>
+        requires finite { IsFiniteIterable I.into_iter_gives I.IntoIter.can_next I.IntoIter.remaining iter }
+        ensures all { IfOk result (λ map. GivesAll I.into_iter_gives I.IntoIter.next_gives iter (λ xs.
+            items map ≡ puts T.IdOrdItem T.Key.cmp [] xs)) }
+        ensures fits { IfOk result (λ map. length (items map) ≤ map.capacity) }
+        ensures refused { IfErr result (λ e. GivesThen I.into_iter_gives I.IntoIter.next_gives iter e.value (λ xs.
+            list_any (like T.IdOrdItem T.Key.cmp e.value) (puts T.IdOrdItem T.Key.cmp [] xs) ≡ false)) }
+    {
+        let mut map = IdOrdMap::new(alloc);
+        map.extend(iter)?;
+        map.note_order();
+        Ok(map)
+    }
+}
