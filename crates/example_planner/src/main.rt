@@ -1,0 +1,168 @@
+//! Reads lines about the steps of a plan, and answers each.
+//!
+//!     book TIME NAME        ok | time taken
+//!     at TIME               TIME NAME | none
+//!     at HOURS MINUTES      TIME NAME | none
+//!     next TIME             TIME NAME of the first step that is due at this time or later | none
+//!     between FROM BEFORE   TIME NAME of each step that is due from a time on and before another one | none
+//!     cancel TIME           TIME NAME | none
+//!     start TIME            TIME NAME of each step that is due by then, which is removed | none
+//!     last                  TIME NAME | none
+//!     count                 how many steps there are
+//!
+//! A time is a number, of minutes where the hours matter. Any other line is answered by `bad line`, also one that is not UTF-8.
+#![tactic(auto)]
+
+mod clock;
+mod planner;
+mod terms;
+
+use crate::clock::{Clock, at_clock};
+use crate::planner::{Step, at, between, book, cancel, next_due, start_next};
+use iddqd_ord::{IdOrdMap, Rejected};
+use std::alloc::AllocError;
+use std::io;
+use std::io::BufRead;
+
+/// What a line asks for, with the name that is in the line.
+enum Command<'l> {
+    Book(u64, &'l str),
+    At(u64),
+    AtClock(Clock),
+    Next(u64),
+    Between(u64, u64),
+    Cancel(u64),
+    Start(u64),
+    Last,
+    Count,
+}
+
+/// Returns what the words of a line ask for, if they ask for anything.
+fn parse<'l>(words: &[&'l str]) -> Option<Command<'l>> {
+    Some(match words {
+        ["book", time, name] => Command::Book(time.parse().ok()?, name),
+        ["at", time] => Command::At(time.parse().ok()?),
+        ["at", hours, minutes] => Command::AtClock(Clock {
+            hours: hours.parse().ok()?,
+            minutes: minutes.parse().ok()?,
+        }),
+        ["next", time] => Command::Next(time.parse().ok()?),
+        ["between", from, before] => Command::Between(from.parse().ok()?, before.parse().ok()?),
+        ["cancel", time] => Command::Cancel(time.parse().ok()?),
+        ["start", time] => Command::Start(time.parse().ok()?),
+        ["last"] => Command::Last,
+        ["count"] => Command::Count,
+        _ => return None,
+    })
+}
+
+/// Prints the step that was found, if there is one.
+fn show(rt: &impl Print, found: Option<&Step>) -> io::Result<()> {
+    match found {
+        Some(step) => println!(rt; "{} {}", step.due, step.name),
+        None => rt.println("none"),
+    }
+}
+
+/// Books a step. If there is no memory for it, the error says so, and the program ends.
+fn answer_book(
+    rt: &(impl Print + AllocGlobal),
+    steps: &mut IdOrdMap<Step>,
+    due: u64,
+    name: &str,
+) -> io::Result<()> {
+    let step = Step {
+        due,
+        name: name.to_string(rt.alloc())?,
+    };
+    match book(steps, step) {
+        Ok(()) => rt.println("ok"),
+        Err(Rejected { taken: true, .. }) => rt.println("time taken"),
+        Err(_) => Err(AllocError.into()),
+    }
+}
+
+/// Prints the steps that are due from a time on and before another one.
+fn answer_between(
+    rt: &impl Print,
+    steps: &IdOrdMap<Step>,
+    from: u64,
+    before: u64,
+) -> io::Result<()> {
+    let mut shown = false;
+    for step in between(steps, from, before) {
+        show(rt, Some(step))?;
+        shown = true;
+    }
+    if shown { Ok(()) } else { rt.println("none") }
+}
+
+/// Starts the steps that are due by now, the earliest first.
+fn answer_start(rt: &impl Print, steps: &mut IdOrdMap<Step>, now: u64) -> io::Result<()> {
+    let mut started = false;
+    for _ in 0..steps.len() {
+        let Some(step) = start_next(steps, now) else {
+            break;
+        };
+        started = true;
+        show(rt, Some(&step))?;
+    }
+    if !started {
+        rt.println("none")?;
+    }
+    Ok(())
+}
+
+/// Carries out a command, and prints the answer.
+fn answer(
+    rt: &(impl Print + AllocGlobal),
+    steps: &mut IdOrdMap<Step>,
+    command: Command,
+) -> io::Result<()> {
+    match command {
+        Command::Book(time, name) => answer_book(rt, steps, time, name),
+        Command::At(time) => show(rt, at(steps, time)),
+        Command::AtClock(clock) => show(rt, at_clock(steps, clock)),
+        Command::Next(time) => show(rt, next_due(steps, time)),
+        Command::Between(from, before) => answer_between(rt, steps, from, before),
+        Command::Cancel(time) => {
+            let gone = cancel(steps, time);
+            show(rt, gone.as_ref())
+        }
+        Command::Start(now) => answer_start(rt, steps, now),
+        Command::Last => show(rt, steps.last()),
+        Command::Count => println!(rt; "{}", steps.iter().count()),
+    }
+}
+
+/// Carries out the command of a line, and prints the answer.
+fn answer_line(
+    rt: &(impl Print + AllocGlobal),
+    steps: &mut IdOrdMap<Step>,
+    line: &[u8],
+) -> io::Result<()> {
+    let Ok(line) = str::from_utf8(line) else {
+        return rt.println("bad line");
+    };
+    let words: Vec<&str> = line.split_whitespace().collect(rt.alloc())?;
+    match parse(words.as_slice()) {
+        Some(command) => answer(rt, steps, command),
+        None => rt.println("bad line"),
+    }
+}
+
+/// Answers each line of the input.
+fn answer_lines(
+    rt: &(impl Print + Input + AllocGlobal),
+    steps: &mut IdOrdMap<Step>,
+) -> io::Result<()> {
+    for line in rt.reader().split(rt.alloc(), b'\n') {
+        answer_line(rt, steps, line?.as_slice())?;
+    }
+    Ok(())
+}
+
+fn main(rt: HostRuntime) -> io::Result<()> {
+    let mut steps = IdOrdMap::new(rt.alloc());
+    answer_lines(&rt, &mut steps)
+}
