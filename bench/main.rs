@@ -17,6 +17,7 @@
 //!     --svg FILE      writes a picture of five operations at eight sizes
 //!     --memory        prints the bytes an item that the maps hold after they grew, and at most while they grow
 //!     --others        times text keys, items of 128 bytes and a random seed, with two keys, and nothing else
+//!     --ordered       times the ordered map beside a `BTreeMap`, and nothing else; with --memory, counts its bytes
 //!     --chosen        prints what keys with one home bucket cost under the default builder and a random seed
 mod by_hand;
 mod calls;
@@ -30,6 +31,7 @@ mod measure;
 mod memory;
 mod one_by_hand;
 mod operations;
+mod ordered;
 mod others;
 mod picture;
 mod processors;
@@ -38,7 +40,7 @@ mod workload;
 
 use measure::{Plan, print_once};
 use operations::{Kind, Operation};
-use report::Map;
+use report::{Map, map_name};
 
 /// The numbers of items. The load of a table of std is then 0.59, 0.87, 0.49, 0.85, 0.61, 0.61, 0.85, 0.87 and 0.76.
 const SIZES: [usize; 9] = [
@@ -86,6 +88,9 @@ const OF_TWO: [&str; 22] = [
     "extend_unique",
 ];
 
+/// The name of the ordered map.
+const ORDERED: &str = "IdOrdMap";
+
 /// What the arguments ask for.
 struct Wanted {
     plan: Plan,
@@ -100,6 +105,7 @@ struct Wanted {
     chosen: bool,
     memory: bool,
     others: bool,
+    ordered: bool,
     picture: Option<String>,
 }
 
@@ -140,6 +146,7 @@ fn wanted(mut words: impl Iterator<Item = String>) -> Wanted {
         chosen: false,
         memory: false,
         others: false,
+        ordered: false,
         picture: None,
     };
     while let Some(word) = words.next() {
@@ -161,6 +168,7 @@ fn wanted(mut words: impl Iterator<Item = String>) -> Wanted {
             "--chosen" => wanted.chosen = true,
             "--memory" => wanted.memory = true,
             "--others" => wanted.others = true,
+            "--ordered" => wanted.ordered = true,
             "--svg" => wanted.picture = Some(behind(&mut words, &word)),
             _ if word.starts_with(|c: char| c.is_ascii_digit()) => {
                 wanted.sizes = Some(word.split(',').map(size).collect());
@@ -208,7 +216,7 @@ impl Wanted {
             is_kind
                 && self.has_map(N)
                 && self.has(it.name)
-                && (self.others || self.shows(it.name, N))
+                && (self.others || self.ordered || self.shows(it.name, N))
         });
         for operation in &mut picked {
             operation.others.retain(|(name, _)| {
@@ -223,9 +231,30 @@ impl Wanted {
     }
 
     /// Measures a map, if there is something to measure.
-    fn measured<const N: usize>(&self, all: Vec<Operation<N>>, sizes: &[usize]) -> Option<Map> {
+    fn measured<const N: usize>(
+        &self,
+        name: &'static str,
+        all: Vec<Operation<N>>,
+        sizes: &[usize],
+    ) -> Option<Map> {
         let picked = self.picked(all);
-        (!picked.is_empty()).then(|| report::measured(&picked, sizes, self.plan))
+        (!picked.is_empty()).then(|| report::measured(name, &picked, sizes, self.plan))
+    }
+
+    /// Measures the maps.
+    fn maps(&self, sizes: &[usize]) -> Vec<Map> {
+        let all = if self.ordered {
+            vec![self.measured(ORDERED, ordered::operations(), sizes)]
+        } else if self.others {
+            vec![self.measured(map_name(2), others::operations(), sizes)]
+        } else {
+            vec![
+                self.measured(map_name(1), operations::one(), sizes),
+                self.measured(map_name(2), operations::two(), sizes),
+                self.measured(map_name(3), operations::three(), sizes),
+            ]
+        };
+        all.into_iter().flatten().collect()
     }
 
     /// Measures the maps, and prints their figures.
@@ -233,18 +262,10 @@ impl Wanted {
         let sizes = self.sizes(match () {
             () if self.growth => &[1_000, 10_000, 100_000, 1_000_000],
             () if self.page => &ON_PAGE,
+            () if self.ordered => &ordered::SIZES,
             () => &SIZES,
         });
-        let maps: Vec<Map> = if self.others {
-            self.measured(others::operations(), &sizes)
-                .into_iter()
-                .collect()
-        } else {
-            let one = self.measured(operations::one(), &sizes);
-            let two = self.measured(operations::two(), &sizes);
-            let three = self.measured(operations::three(), &sizes);
-            [one, two, three].into_iter().flatten().collect()
-        };
+        let maps = self.maps(&sizes);
         if self.growth {
             maps.iter().for_each(|map| map.print_times(&sizes));
         } else if self.table || self.page {
@@ -287,15 +308,20 @@ fn run_once(words: &mut impl Iterator<Item = String>) {
 #[cfg(feature = "counts")]
 fn print_memory(wanted: &Wanted) {
     let sizes = wanted.sizes(&memory::SIZES);
+    if wanted.ordered {
+        let columns = memory::columns(ORDERED, &ordered::operations(), &sizes);
+        memory::print(&columns, &sizes);
+        return;
+    }
     let mut columns = Vec::new();
     if wanted.has_map(1) {
-        columns.extend(memory::columns(&operations::one(), &sizes));
+        columns.extend(memory::columns(map_name(1), &operations::one(), &sizes));
     }
     if wanted.has_map(2) {
-        columns.extend(memory::columns(&operations::two(), &sizes));
+        columns.extend(memory::columns(map_name(2), &operations::two(), &sizes));
     }
     if wanted.has_map(3) {
-        columns.extend(memory::columns(&operations::three(), &sizes));
+        columns.extend(memory::columns(map_name(3), &operations::three(), &sizes));
     }
     memory::print(&columns, &sizes);
 }

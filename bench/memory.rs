@@ -5,7 +5,7 @@
 //! counts with the bytes that glibc says it can use. A block that grows counts with its old and its new bytes for that
 //! moment, as if it moved, whether it does or not.
 use crate::operations::{Kind, Operation};
-use crate::report::{grouped, map_name, print_head, print_row};
+use crate::report::{grouped, print_head, print_row};
 use crate::workload::MARK;
 use std::ffi::c_void;
 use std::ptr::null_mut;
@@ -85,12 +85,24 @@ fn divided(bytes: [f64; 2], by: [f64; 2], digits: usize) -> String {
 /// A column of a table: its head, and its cells.
 pub type Column = (String, Vec<String>);
 
-/// Returns the columns of a map: its bytes an item, and their ratio to those of each other side.
-pub fn columns<const N: usize>(operations: &[Operation<N>], sizes: &[usize]) -> Vec<Column> {
-    let mut found = operations.iter().filter(|it| it.kind == Kind::Held);
-    let grow = found.next().expect("an operation that grows a map");
+/// Returns the columns of the map with this name, for each operation that grows it: its bytes an item, and their ratio to
+/// those of each other side.
+pub fn columns<const N: usize>(
+    name: &str,
+    operations: &[Operation<N>],
+    sizes: &[usize],
+) -> Vec<Column> {
+    let held = operations.iter().filter(|it| it.kind == Kind::Held);
+    held.flat_map(|grow| {
+        let order = grow.name.strip_prefix("bytes").unwrap_or_default();
+        columns_of(format!("`{name}`{order}"), grow, sizes)
+    })
+    .collect()
+}
+
+fn columns_of<const N: usize>(head: String, grow: &Operation<N>, sizes: &[usize]) -> Vec<Column> {
     let others = grow.others.iter().map(|(name, _)| format!("to {name}"));
-    let heads = [format!("`{}`", map_name(N))].into_iter().chain(others);
+    let heads = [head].into_iter().chain(others);
     let mut columns: Vec<Column> = heads.map(|head| (head, Vec::new())).collect();
     for items in sizes {
         let load = (grow.load)(*items);

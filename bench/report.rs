@@ -43,17 +43,24 @@ fn keys(number: usize) -> String {
 
 /// The figures of one map, for each operation at each size.
 pub struct Map {
+    name: &'static str,
     keys: usize,
     /// The names of the other sides, from the side 1 on.
     others: Vec<&'static str>,
     rows: Vec<(&'static str, Vec<Figures>)>,
 }
 
-/// Measures a map. There is at least one operation, and all have the same other sides.
-pub fn measured<const N: usize>(operations: &[Operation<N>], sizes: &[usize], plan: Plan) -> Map {
+/// Measures the map with this name. There is at least one operation, and all have the same other sides.
+pub fn measured<const N: usize>(
+    name: &'static str,
+    operations: &[Operation<N>],
+    sizes: &[usize],
+    plan: Plan,
+) -> Map {
     let names = operations.iter().map(|operation| operation.name);
     let others = operations[0].others.iter();
     Map {
+        name,
         keys: N,
         others: others.map(|(name, _)| *name).collect(),
         rows: names.zip(measure(operations, sizes, plan)).collect(),
@@ -81,7 +88,7 @@ impl Map {
     /// Prints the times of all sides and their ratios at each size, for a terminal.
     pub fn print_text(&self, sizes: &[usize]) {
         for (at, items) in sizes.iter().enumerate() {
-            let title = format!("{}, {} items", map_name(self.keys), grouped(*items));
+            let title = format!("{}, {} items", self.name, grouped(*items));
             print!("{title:<36}{:>9}", "here ns");
             for name in &self.others {
                 print!(
@@ -138,7 +145,7 @@ impl Map {
     /// Prints the times here at each size, as a table for a page.
     pub fn print_times(&self, sizes: &[usize]) {
         let heads = sizes.iter().map(|items| grouped(*items)).collect();
-        print_head(format!("`{}`, ns an item", map_name(self.keys)), heads);
+        print_head(format!("`{}`, ns an item", self.name), heads);
         for (name, figures) in &self.rows {
             let cells = figures.iter().map(|figures| nanoseconds(figures.time(0)));
             print_row([name.to_string()].into_iter().chain(cells));

@@ -60,7 +60,7 @@ pub fn rows<const N: usize>(from: usize, to: usize) -> Vec<Row<N>> {
         .collect()
 }
 
-fn shuffled<T: Clone>(list: &[T], seed: usize) -> Vec<T> {
+pub fn shuffled<T: Clone>(list: &[T], seed: usize) -> Vec<T> {
     let mut list = list.to_vec();
     for i in (1..list.len()).rev() {
         let other = mix(((seed as u64) << 32) + i as u64) % (i as u64 + 1);
