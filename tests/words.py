@@ -6,7 +6,7 @@ import re
 from sources import files, functions, read
 import widen
 
-SPECS, CRATES = "specs/**/*.antt", ("iddqd_store", "iddqd_bi", "iddqd_tri", "iddqd_id")
+SPECS, CRATES = "specs/**/*.antt", ("iddqd_store", "iddqd_bi", "iddqd_tri", "iddqd_id", "iddqd_ord")
 # A public definition below its comment, up to an empty line or the next comment; and what a module around definitions gives them.
 DEFINITION = re.compile(r"(?P<comment>(?:^ *--.*\n)*)^(?P<indent> *)(?P<kind>abbrev pub|pub record|pub data|pub) "
                         r"(?!use|mod)(?P<name>[^\W\d_][\w-]*)(?P<rest>.*(?:\n(?! *--) *\S.*)*)", re.M)
@@ -89,8 +89,8 @@ def words_of(path):
 
 
 def all_words():
-    """The words of the store, of the two-key map and of the one-key map, by their files as lists name them."""
-    paths = sorted(it for crate in ("iddqd_store", "iddqd_bi", "iddqd_id") for it in files(crate, SPECS))
+    """The words of the store, of the two-key map, of the one-key map and of the ordered one, by their files as lists name them."""
+    paths = sorted(it for crate in ("iddqd_store", "iddqd_bi", "iddqd_id", "iddqd_ord") for it in files(crate, SPECS))
     return {it[len("crates/"):-len(".antt")].replace("/specs/", "/"): words_of(it) for it in paths}
 
 
