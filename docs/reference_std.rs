@@ -3,10 +3,10 @@
 use std::marker::PhantomData;
 
 /// A value that allocates memory from the allocator `A`.
-pub trait Allocator: Eq + std::hash::Hash {}
+pub trait Allocator: Ord + std::hash::Hash {}
 
 /// The allocator of the program: `rt.alloc()`.
-#[derive(PartialEq, Eq, Hash)]
+#[derive(PartialEq, Eq, PartialOrd, Ord, Hash)]
 pub struct Global;
 
 impl Allocator for Global {}
@@ -15,7 +15,7 @@ impl Allocator for Global {}
 pub struct AllocError;
 
 /// A text. Calls that allocate return a `Result`.
-#[derive(PartialEq, Eq, Hash)]
+#[derive(PartialEq, Eq, PartialOrd, Ord, Hash)]
 pub struct String<A: Allocator = Global>(PhantomData<A>);
 
 /// A list. Calls that allocate return a `Result`.
