@@ -42,5 +42,8 @@ halves o (y ∷ ys) none = one o y ys (o y) refl none (halves o ys)
 pub length-put : {T Key : Type 0} (of : item.Ghosts T Key) (cmp : Key → Key → Ordering) (xs : List T) (x : T)
     → list_any (like of cmp x) xs ≡ false → length (put of cmp xs x) ≡ length xs + 1
 length-put of cmp xs x free =
-    omega (arith, length-append (filter (λ y. is_lt (cmp (of.key y) (of.key x))) xs) (x ∷ filter (λ y. is_gt (cmp (of.key y) (of.key x))) xs),
-    halves (λ y. cmp (of.key y) (of.key x)) xs free)
+    omega (
+      arith,
+      length-append (filter (λ y. is_lt (cmp (of.key y) (of.key x))) xs) (x ∷ filter (λ y. is_gt (cmp (of.key y) (of.key x))) xs),
+      halves (λ y. cmp (of.key y) (of.key x)) xs free,
+    )

@@ -26,9 +26,9 @@ first_late now (x ∷ xs) s first up late =
     let here : now < x.due = omega (arith, due, late) in
     let fails : nat_le x.due now ≡ false = lt-leb x.due now here in
     rw fails (all_late now xs (λ j d within.
-        let less = up 0 (suc j) d (omega arith) (omega (arith, within)) in
-        let above : x.due ≤ (slice_index_or xs j d).due = le_from_not_gt x.due (slice_index_or xs j d).due (ap is_gt less) in
-        omega (arith, here, above)))
+    let less = up 0 (suc j) d (omega arith) (omega (arith, within)) in
+    let above : x.due ≤ (slice_index_or xs j d).due = le_from_not_gt x.due (slice_index_or xs j d).due (ap is_gt less) in
+    omega (arith, here, above)))
 
 no_first : (xs : List Step) → slice_get xs 0 ≡ None → xs ≡ []
 no_first [] none = refl
