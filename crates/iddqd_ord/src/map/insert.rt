@@ -17,8 +17,8 @@ impl<T: IdOrdItem> IdOrdMap<T> {
     /// If the key is taken, the call fails, whatever memory there is. Otherwise it fails only if the map is full and there
     /// is no memory to grow.
     ///
-    /// Among fewer than `2 ^ i` items the call compares at most `i + 3` keys. It moves the numbers of at most 256 slots,
-    /// and of one block in 128. It allocates memory only if the map is full.
+    /// Among fewer than `2 ^ i` items the call compares at most `i + 3` keys. In the index it moves at most 256 numbers of
+    /// slots, and if it splits a block, the entries of the blocks behind it. It allocates memory only if the map is full.
     ///
     /// `match map.try_insert(item) { Ok(()) => {}, Err(e) => report(e.taken, e.item) }`
     pub fn try_insert(&mut self, item: T) -> Result<(), Rejected<T>>

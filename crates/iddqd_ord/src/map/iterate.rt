@@ -25,8 +25,8 @@ impl<T: IdOrdItem> IdOrdMap<T> {
         Iter::new(&self.items, &self.order, self.order.first(), None)
     }
 
-    /// Iterates over the items between two bounds, in ascending order of their keys. The bounds are queries:
-    /// `map.range(&3..&7)`, `map.range("a"..="m")`. A range that ends before it begins has no items.
+    /// Iterates over the items between two bounds, in ascending order of their keys. The bounds are queries, and their
+    /// type has to be written: `map.range::<&u64, _>(&3..&7)`. A range that ends before it begins has no items.
     ///
     /// Among fewer than `2 ^ i` items each bound compares at most `i + 3` keys. The call allocates no memory.
     pub fn range<Q: OrdQuery<T::Key>, R: RangeBounds<Q> + Drop>(&self, range: R) -> Iter<'_, T>
