@@ -81,6 +81,7 @@ impl<T: IdOrdItem + Drop> IdOrdMap<T> {
         // It says whether one of the map or of those before it has its key. If none has, memory ran out.
         ensures reason { IfErr result (λ e. e.taken
             ≡ list_any (like T.IdOrdItem T.Key.cmp e.item) (items self.old ++ items e.before)) }
+        ensures no_less_room { self.old.capacity ≤ self.new.capacity }
     {
         self.note_order();
         let mut batch = IdOrdMap::new(self.allocator());
@@ -102,7 +103,7 @@ impl<T: IdOrdItem + Drop> IdOrdMap<T> {
     /// Inserts an item into a batch if neither the map nor the batch has its key, and reserves room in the map for all
     /// items of the batch.
     fn gather(&mut self, item: T, batch: &mut Self) -> Result<(), Rejected<T>>
-        ensures items { items self.new ≡ items self.old }
+        ensures keeps { (items self.new ≡ items self.old) × (self.old.capacity ≤ self.new.capacity) }
         ensures gathered { OnOk result (items batch.new ≡ put T.IdOrdItem T.Key.cmp (items batch.old) item) }
         ensures free { OnOk result (list_any (like T.IdOrdItem T.Key.cmp item) (items batch.old) ≡ false) }
         ensures apart { OnOk result (list_any (like T.IdOrdItem T.Key.cmp item) (items self.old) ≡ false) }
@@ -130,6 +131,7 @@ impl<T: IdOrdItem + Drop> IdOrdMap<T> {
     /// Reserves room for the items of a batch and one more. Returns whether there was memory for that.
     fn has_room_beside(&mut self, batch: &Self) -> bool
         ensures items { items self.new ≡ items self.old }
+        ensures no_less_room { self.old.capacity ≤ self.new.capacity }
         ensures room { IsTrue result
             → length (items self.new) + (length (items batch.now) + 1) ≤ self.new.capacity }
     {
@@ -147,6 +149,7 @@ impl<T: IdOrdItem + Drop> IdOrdMap<T> {
         requires apart { All (λ y. list_any (like T.IdOrdItem T.Key.cmp y) (items self.old) ≡ false) (items batch) }
         requires room { length (items self.old) + length (items batch) ≤ self.old.capacity }
         ensures items { IsPermutation (items self.new) (items self.old ++ items batch) }
+        ensures no_less_room { self.old.capacity ≤ self.new.capacity }
     {
         let mut rest = batch;
         rest.note_order();
