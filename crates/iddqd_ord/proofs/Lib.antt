@@ -13,8 +13,8 @@ pub mod Places
 pub mod Ranges
 pub mod RefMuts
 pub mod Rekeying
+pub mod Retaining
 pub mod Rows
 pub mod Runs
 pub mod Searching
-pub mod Walking
-pub mod Walks
+pub mod Visiting

@@ -62,6 +62,11 @@ impl SlotOrder {
         }
     }
 
+    /// Returns the allocator.
+    pub(crate) fn allocator(&self) -> Global {
+        self.alloc
+    }
+
     /// Searches for a slot by its item's key. `Ok` has its place, and `Err` the place at which it would go.
     ///
     /// Among fewer than `2 ^ i` slots the probe is asked at most `i + 3` times.

@@ -5,7 +5,6 @@ ghost use Rattle.iddqd_ord.specs.Items.{items};
 
 use super::IdOrdMap;
 use crate::item::IdOrdItem;
-use std::alloc::Global;
 
 impl<T: IdOrdItem> IdOrdMap<T> {
     /// Inserts an item behind the last one. There has to be room, and each item has to have a lower key.
@@ -18,14 +17,5 @@ impl<T: IdOrdItem> IdOrdMap<T> {
     {
         let place = self.end_place();
         self.insert_into(item, place);
-    }
-
-    /// Returns the allocator.
-    pub(crate) fn allocator(&self) -> Global
-    where
-        T: Drop,
-    {
-        let (_, list) = self.items.empty_batch().into_parts();
-        *list.allocator()
     }
 }

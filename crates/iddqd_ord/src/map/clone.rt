@@ -19,7 +19,7 @@ impl<T: IdOrdItem + Clone> IdOrdMap<T> {
         ensures items { IfOk result (λ copy. AllZip T.is_clone (items self.now) (items copy)) }
         ensures capacity { IfOk result (λ copy. copy.capacity ≡ length (items self.now)) }
     {
-        let mut copy = IdOrdMap::with_capacity(self.allocator(), self.len())?;
+        let mut copy = IdOrdMap::with_capacity(self.order.allocator(), self.len())?;
         let mut rest = self.iter();
         while let Some(item) = rest.next() {
             let cloned = item.clone()?;

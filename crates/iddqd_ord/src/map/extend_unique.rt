@@ -84,7 +84,7 @@ impl<T: IdOrdItem + Drop> IdOrdMap<T> {
         ensures no_less_room { self.old.capacity ≤ self.new.capacity }
     {
         self.note_order();
-        let mut batch = IdOrdMap::new(self.allocator());
+        let mut batch = IdOrdMap::new(self.order.allocator());
         for item in iter {
             if let Err(rejected) = self.gather(item, &mut batch) {
                 self.note_order();

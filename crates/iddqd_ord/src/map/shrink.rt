@@ -29,7 +29,7 @@ impl<T: IdOrdItem + Drop> IdOrdMap<T> {
         if wanted == room {
             return Ok(());
         }
-        let mut smaller = IdOrdMap::with_capacity(self.allocator(), wanted)?;
+        let mut smaller = IdOrdMap::with_capacity(self.order.allocator(), wanted)?;
         while let Some(item) = self.pop_first() {
             smaller.append(item);
         }

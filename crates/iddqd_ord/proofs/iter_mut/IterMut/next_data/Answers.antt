@@ -5,7 +5,7 @@ use Rattle.iddqd_ord.specs.Items.{items}
 use Rattle.iddqd_ord.specs.Lent.{map_with}
 use Rattle.iddqd_ord.specs.Row.{position, index_of}
 use Rattle.iddqd_ord.proofs.Lent.{item_there}
-use Rattle.iddqd_ord.proofs.Walks.{drop_left, done_next, rest_first, rest_none}
+use Rattle.iddqd_ord.proofs.Visiting.{drop_left, done_next, rest_first, rest_none}
 use Rattle.iddqd_ord.proofs.iter_mut.IterMut.next_data.Goals as goal
 
 pub next_place-self-requires : goal.next_place-self-requires

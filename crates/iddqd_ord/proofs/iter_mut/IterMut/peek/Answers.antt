@@ -3,7 +3,7 @@ use Rattle.std.proofs.lemmas.Option.{slice_get-get_or}
 use Rattle.std.specs.Prelude.{List, slice_get}
 use Rattle.iddqd_ord.specs.Items.{items}
 use Rattle.iddqd_ord.specs.Row.{position}
-use Rattle.iddqd_ord.proofs.Walks.{rest_first, rest_none}
+use Rattle.iddqd_ord.proofs.Visiting.{rest_first, rest_none}
 use Rattle.iddqd_ord.proofs.iter_mut.IterMut.peek.Goals as goal
 
 pub item_in-requires : goal.item_in-requires

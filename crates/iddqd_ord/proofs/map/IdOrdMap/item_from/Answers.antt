@@ -1,6 +1,6 @@
 use Rattle.iddqd_ord.specs.Items.{items}
 use Rattle.iddqd_ord.specs.Row.{position}
-use Rattle.iddqd_ord.proofs.Walking.{drop_here}
+use Rattle.iddqd_ord.proofs.Retaining.{drop_here}
 use Rattle.iddqd_ord.proofs.map.IdOrdMap.item_from.Goals as goal
 
 pub returns-clause-first : goal.returns-clause-first

@@ -3,7 +3,7 @@ use Rattle.std.specs.List.{concat}
 use Rattle.iddqd_store.specs.Slots.{get}
 use Rattle.iddqd_ord.specs.Items.{items}
 use Rattle.iddqd_ord.proofs.Items.{length-items}
-use Rattle.iddqd_ord.proofs.Walks.{last_item}
+use Rattle.iddqd_ord.proofs.Visiting.{last_item}
 use Rattle.iddqd_ord.proofs.map.IdOrdMap.last_place.Goals as goal
 
 pub returns-clause-item : goal.returns-clause-item

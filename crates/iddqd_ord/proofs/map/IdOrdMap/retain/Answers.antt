@@ -7,7 +7,7 @@ use Rattle.iddqd_ord.specs.Items.{items}
 use Rattle.std.specs.List.{concat}
 use Rattle.iddqd_store.specs.Slots.{get}
 use Rattle.iddqd_ord.specs.Row.{position, index_of}
-use Rattle.iddqd_ord.proofs.Walking.{past_kept, past_taken, none_behind, drop-removed, length-filter_map}
+use Rattle.iddqd_ord.proofs.Retaining.{past_kept, past_taken, none_behind, drop-removed, length-filter_map}
 use Rattle.iddqd_ord.proofs.map.IdOrdMap.retain.Goals as goal
 
 pub loop-next-init : goal.loop-next-init

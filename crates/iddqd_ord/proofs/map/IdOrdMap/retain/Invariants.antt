@@ -4,7 +4,7 @@ use Rattle.std.specs.Fn.{CalledAt}
 use Rattle.iddqd_store.proofs.BagLemmas.Calling.{TakesEach}
 use Rattle.iddqd_ord.specs.Items.{items}
 use Rattle.iddqd_ord.specs.Row.{index_of, HasSlot}
-use Rattle.iddqd_ord.proofs.Walking.{Completes}
+use Rattle.iddqd_ord.proofs.Retaining.{Completes}
 use Rattle.iddqd_ord.proofs.map.IdOrdMap.retain.Given as goal
 
 abbrev pub invariant-loop-next : goal.invariant-loop-next

@@ -4,7 +4,7 @@ use Rattle.iddqd_store.proofs.BagLemmas.Calling.{TakesEach, TakesEach-in_turn, t
 use Rattle.iddqd_ord.specs.Items.{OrdMap, items}
 use Rattle.iddqd_ord.specs.Row.{position, index_of, HasSlot}
 use Rattle.iddqd_ord.proofs.Places.{position-below}
-use Rattle.iddqd_ord.proofs.Walks.{all_passed, drop-next, drop_left, completes_next, completes_all, maps_written}
+use Rattle.iddqd_ord.proofs.Visiting.{all_passed, drop-next, drop_left, completes_next, completes_all, maps_written}
 use Rattle.iddqd_ord.proofs.map.IdOrdMap.update_all.Goals as goal
 
 pub loop-next-init : goal.loop-next-init

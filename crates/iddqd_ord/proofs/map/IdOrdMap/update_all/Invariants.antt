@@ -5,7 +5,7 @@ use Rattle.std.specs.Option.{ForSome}
 use Rattle.iddqd_store.proofs.BagLemmas.Calling.{TakesEach}
 use Rattle.iddqd_ord.specs.Items.{items}
 use Rattle.iddqd_ord.specs.Row.{index_of, HasSlot}
-use Rattle.iddqd_ord.proofs.Walks.{Completes}
+use Rattle.iddqd_ord.proofs.Visiting.{Completes}
 use Rattle.iddqd_ord.proofs.map.IdOrdMap.update_all.Given as goal
 
 abbrev pub invariant-loop-next : goal.invariant-loop-next
