@@ -5,6 +5,7 @@ ghost use Rattle.std.specs.Fn.{FnOnceReturnsAtMut};
 ghost use Rattle.std.proofs.Common.{rules};
 ghost use Rattle.iddqd_id.specs.Bag.{IsOnly, swap};
 ghost use Rattle.iddqd_id.specs.Map.{bag};
+ghost use Rattle.iddqd_id.specs.Map.Written.{SwapsWhere};
 
 use iddqd_id::{IdHashItem, IdHashItemMut, IdHashMap, Ranked};
 use std::alloc::AllocError;
@@ -57,7 +58,7 @@ pub struct Hall {
 }
 
 impl Hall {
-    ghost use Rattle.example_calls.specs.Health.{lends_health};
+    ghost use Rattle.example_calls.specs.Health.{lends_health, put_health};
 
     /// Returns the health of the machine with this number, borrowed for writing, if there is one. What is written
     /// through it is the machine's health afterwards.
@@ -65,8 +66,8 @@ impl Hall {
         ensures value { IfSome result (λ h. (m : Machine)
             × IsOnly (λ m. number == m.number) (bag self.old.machines) (Some m) × (h.now ≡ m.health)) }
         ensures absent { IfNone result (IsOnly (λ m. number == m.number) (bag self.old.machines) None) }
-        ensures* writes_back { sem 𝓛 (lends_health ⟦<Machine as Ranked>⟧.ranks self.entry
-            (λ m. number == m.number) result) }
+        ensures swaps { SwapsWhere put_health (λ m. number == m.number) self.old.machines ⟦<Machine as Ranked>⟧.ranks }
+        ensures* writes_back { sem 𝓛 (lends_health self.entry (λ m. number == m.number) result) }
     {
         self.machines.data_mut(&number)
     }

@@ -93,20 +93,3 @@ pub fn halt(sleds: &mut IdHashMap<Sled>, sled: u64, zone: u64) -> bool
         None => false,
     }
 }
-
-/// The same, but it looks first. So it needs no proof file, and searches twice in each map.
-pub fn find_and_stop(sleds: &mut IdHashMap<Sled>, sled: u64, zone: u64) -> bool
-    ensures unchanged { result ≡ false → sleds.new ≡ sleds.old }
-{
-    let is_there = match sleds.get(&sled) {
-        Some(found) => found.zones.contains_key(&zone),
-        None => false,
-    };
-    if !is_there {
-        return false;
-    }
-    if let Some(zones) = sleds.data_mut(&sled) {
-        zones.update(&zone, |_zone| false);
-    }
-    true
-}

@@ -2,7 +2,6 @@
 pub mod EntryLemmas
 pub mod FoundLemmas
 pub mod Iterating
-pub mod LentLemmas
 pub mod MapLemmas
 pub mod RefLemmas
 -- what callers cite

@@ -12,6 +12,7 @@ pub mod Removing
 pub mod Storing
 pub mod Updating
 pub mod Walking
+pub mod Where
 pub mod Written
 use Rattle.std.specs.Prelude.{◌≡◌, ◌+◌, ◌<◌, ℕ, Bool, List, [], ◌∷◌, ◌++◌, length, IsPermutation, Option, Result, Ok, Err, IfErr, OnErr}
 use Rattle.std.specs.Cmp.{IsEquivalence}

@@ -1,7 +1,6 @@
 -- Made by tests/widths from crates/iddqd_bi/proofs/Lib.antt: change that file.
 pub mod EntryLemmas
 pub mod Iterating
-pub mod LentLemmas
 pub mod MapLemmas
 pub mod RefLemmas
 pub mod Runs

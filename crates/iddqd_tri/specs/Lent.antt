@@ -1,29 +1,15 @@
 -- Made by tests/widths from crates/iddqd_bi/specs/Lent.antt: change that file.
 
 -- What a map ends as, if a `&mut` to the data of an item is returned.
-use Rattle.std.specs.Prelude.{◌≡◌, ℕ, Bool, Option, Some, IsPermutation, OnSome}
-use Rattle.std.specs.Borrow.{Lends, LendsIf, LendsSo, Fml, RattleType, MutBor}
+use Rattle.std.specs.Prelude.{ℕ, Bool, Option}
+use Rattle.std.specs.Borrow.{Lends, LendsIf, Fml, RattleType, MutBor}
 use Rattle.std.specs.HashMap.Lent.{HashMembers}
 use Rattle.std.specs.declared.hash.Hasher as hasher
 use Rattle.std.specs.declared.hash.BuildHasher as builder
-use Rattle.iddqd_store.specs.Bag.{IsOnly, Ranks, swap}
-use Rattle.iddqd_store.specs.Bag.Storing.{MapsOne}
-use Rattle.iddqd_store.specs.Map.{Map, bag}
+use Rattle.iddqd_store.specs.Map.{Map}
 use Rattle.iddqd_tri.specs.declared.item.TriHashItem as item
 use Rattle.iddqd_tri.specs.InsertErrors.{map_row}
-use Rattle.iddqd_store.specs.Map.Written.{map_with, map_with_if}
-
-module _ {T S D : Type 0} (put : T → D → T) (ranks : Ranks T) (test : T → Bool) where
-  -- The data `d` was written to the only item that passes the test, and nothing else changes. If the item had these
-  -- data, nothing changes.
-  -- Example: For the test whether the first key is 2, a map of the bag becomes one of (2, 20) with the data `d`,
-  -- (1, 10) and (3, 30).
-  pub record WritesTo (old : Map T S) (d : D) (new : Map T S) : Type 0 where
-    pub items : (x : T) → IsOnly test (bag old) (Some x) → IsPermutation (bag new) (swap ranks (bag old) x (put x d))
-    pub maps : MapsOne (λ x e. e ≡ d) put test (bag old) (bag new)
-    pub unchanged : ((x : T) → IsOnly test (bag old) (Some x) → put x d ≡ x) → new ≡ old
-    pub same_room : new.capacity ≡ old.capacity
-    pub same_builder : new.builder ≡ old.builder
+use Rattle.iddqd_store.specs.Map.Written.{map_with, map_with_if, put_where}
 
 module _ (T S K1 K2 K3 H : RattleType) (of : item.Ghosts T.Denot K1.Denot K2.Denot K3.Denot)
     (keys1 : HashMembers K1.Denot) (keys2 : HashMembers K2.Denot) (keys3 : HashMembers K3.Denot)
@@ -38,10 +24,8 @@ module _ (T S K1 K2 K3 H : RattleType) (of : item.Ghosts T.Denot K1.Denot K2.Den
     abbrev pub lends_data_if : MutBor (Map T.Denot S.Denot) → Option ℕ → Option (MutBor D.Denot) → Fml
     lends_data_if m slot r = LendsIf whole_row D m r (λ d. map_with_if m.now slot (λ x. put x d)) m.now
 
-    -- What is written through `r` is the data of the only item that passes the test, and nothing else changes. If
-    -- there is no `r`, the map ends as it was.
-    -- Example: If d is written, and that item is a, the map has `put a d` in its place.
-    abbrev pub lends_data_to : Ranks T.Denot → (T.Denot → Bool) → MutBor (Map T.Denot S.Denot)
-        → Option (MutBor D.Denot) → Fml
-    lends_data_to ranks test m r =
-        LendsSo whole_row D m r (λ n d. OnSome r (WritesTo put ranks test m.now d n)) (λ n. n ≡ m.now)
+    -- What is written through `r` is the data of each item that passes the test, and nothing else changes. If there is
+    -- no `r`, the map ends as it was.
+    -- Example: If d is written, and the item a passes the test, the map has `put a d` in its place.
+    abbrev pub lends_data_where : (T.Denot → Bool) → MutBor (Map T.Denot S.Denot) → Option (MutBor D.Denot) → Fml
+    lends_data_where test m r = LendsIf whole_row D m r (put_where put test m.now) m.now

@@ -1,8 +1,10 @@
 //! Borrowing the data of an item for writing, without a guard.
-ghost use Rattle.std.specs.Prelude.{◌≡◌, Some, None, IfSome, IfNone};
+ghost use Rattle.std.specs.Prelude.{◌≡◌, Some, None, is_some, MatchOption};
+ghost use Rattle.std.specs.List.{list_any};
 ghost use Rattle.std.specs.Borrow.{sem};
 ghost use Rattle.iddqd_store.specs.Bag.{IsOnly};
 ghost use Rattle.iddqd_store.specs.Map.{bag};
+ghost use Rattle.iddqd_store.specs.Map.Written.{MapsWhere, StaysWhere, SwapsWhere};
 ghost use Rattle.iddqd_bi.specs.Keys.{has1, has2, has_both};
 
 use super::BiHashMap;
@@ -11,7 +13,7 @@ use iddqd_store::{Costs, Query};
 use std::hash::{BuildHasher, Hash};
 
 impl<T: BiHashItemMut, S: BuildHasher> BiHashMap<T, S> {
-    ghost use Rattle.iddqd_bi.specs.Lent.{lends_data_to};
+    ghost use Rattle.iddqd_bi.specs.Lent.{lends_data_where};
 
     /// Returns the data of the item with the first key that the query stands for, borrowed for writing, or `None` if
     /// no item has that key. What is written through the reference is the item's data, and nothing else changes.
@@ -21,14 +23,16 @@ impl<T: BiHashItemMut, S: BuildHasher> BiHashMap<T, S> {
     /// `*map.data1_mut(&key)? = data;`
     pub fn data1_mut<Q: Query<T::K1>>(&mut self, query: Q) -> Option<&mut T::Data>
         // The result borrows the data of the item, or is `None` if there is no such item.
-        ensures value { IfSome result (λ d. (x : T) × IsOnly (has1 T.BiHashItem Q.stands_for query)
-            (bag self.old) (Some x) × (d.now ≡ T.data_of x)) }
-        ensures none_found { IfNone result (IsOnly (has1 T.BiHashItem Q.stands_for query)
-            (bag self.old) None) }
+        ensures value { MatchOption result (IsOnly (has1 T.BiHashItem Q.stands_for query) (bag self.old) None)
+            (λ d. (x : T) × IsOnly (has1 T.BiHashItem Q.stands_for query) (bag self.old) (Some x) × (d.now ≡ T.data_of x)) }
+        ensures any_found { is_some result ≡ list_any (has1 T.BiHashItem Q.stands_for query) (bag self.old) }
         // What is written through it is the item's data, and nothing else changes. At `None` the map is as it was.
-        ensures* writes_back { sem 𝓛 (lends_data_to T.row S.row T.K1.row T.K2.row S.Hasher.row
+        ensures swaps { SwapsWhere T.put (has1 T.BiHashItem Q.stands_for query) self.old ⟦<T as Ranked>⟧.ranks }
+        ensures maps { MapsWhere T.put (has1 T.BiHashItem Q.stands_for query) self.old T.data_of result }
+        ensures unchanged { StaysWhere T.put (has1 T.BiHashItem Q.stands_for query) self.old }
+        ensures* writes_back { sem 𝓛 (lends_data_where T.row S.row T.K1.row T.K2.row S.Hasher.row
             T.BiHashItem T.K1.Hash T.K2.Hash S.BuildHasher S.Hasher.Hasher T.Data.row T.put
-            ⟦<T as Ranked>⟧.ranks (has1 T.BiHashItem Q.stands_for query) self.entry result) }
+            (has1 T.BiHashItem Q.stands_for query) self.entry result) }
     {
         match self.slot1_of(query, &mut Costs::new()) {
             Some(slot) => Some(self.data_mut_at(slot)),
@@ -45,14 +49,16 @@ impl<T: BiHashItemMut, S: BuildHasher> BiHashMap<T, S> {
     /// `*map.data2_mut(&key)? = data;`
     pub fn data2_mut<Q: Query<T::K2>>(&mut self, query: Q) -> Option<&mut T::Data>
         // The result borrows the data of the item, or is `None` if there is no such item.
-        ensures value { IfSome result (λ d. (x : T) × IsOnly (has2 T.BiHashItem Q.stands_for query)
-            (bag self.old) (Some x) × (d.now ≡ T.data_of x)) }
-        ensures none_found { IfNone result (IsOnly (has2 T.BiHashItem Q.stands_for query)
-            (bag self.old) None) }
+        ensures value { MatchOption result (IsOnly (has2 T.BiHashItem Q.stands_for query) (bag self.old) None)
+            (λ d. (x : T) × IsOnly (has2 T.BiHashItem Q.stands_for query) (bag self.old) (Some x) × (d.now ≡ T.data_of x)) }
+        ensures any_found { is_some result ≡ list_any (has2 T.BiHashItem Q.stands_for query) (bag self.old) }
         // What is written through it is the item's data, and nothing else changes. At `None` the map is as it was.
-        ensures* writes_back { sem 𝓛 (lends_data_to T.row S.row T.K1.row T.K2.row S.Hasher.row
+        ensures swaps { SwapsWhere T.put (has2 T.BiHashItem Q.stands_for query) self.old ⟦<T as Ranked>⟧.ranks }
+        ensures maps { MapsWhere T.put (has2 T.BiHashItem Q.stands_for query) self.old T.data_of result }
+        ensures unchanged { StaysWhere T.put (has2 T.BiHashItem Q.stands_for query) self.old }
+        ensures* writes_back { sem 𝓛 (lends_data_where T.row S.row T.K1.row T.K2.row S.Hasher.row
             T.BiHashItem T.K1.Hash T.K2.Hash S.BuildHasher S.Hasher.Hasher T.Data.row T.put
-            ⟦<T as Ranked>⟧.ranks (has2 T.BiHashItem Q.stands_for query) self.entry result) }
+            (has2 T.BiHashItem Q.stands_for query) self.entry result) }
     {
         match self.slot2_of(query, &mut Costs::new()) {
             Some(slot) => Some(self.data_mut_at(slot)),
@@ -70,15 +76,21 @@ impl<T: BiHashItemMut, S: BuildHasher> BiHashMap<T, S> {
         query2: Q2,
     ) -> Option<&mut T::Data>
         // The result borrows the data of the item, or is `None` if there is no such item.
-        ensures value { IfSome result (λ d. (x : T) × IsOnly (has_both T.BiHashItem Q1.stands_for Q2.stands_for query1 query2)
+        ensures value { MatchOption result
+            (IsOnly (has_both T.BiHashItem Q1.stands_for Q2.stands_for query1 query2) (bag self.old) None)
+            (λ d. (x : T) × IsOnly (has_both T.BiHashItem Q1.stands_for Q2.stands_for query1 query2)
             (bag self.old) (Some x) × (d.now ≡ T.data_of x)) }
-        ensures none_found { IfNone result (IsOnly (has_both T.BiHashItem Q1.stands_for Q2.stands_for query1 query2)
-            (bag self.old) None) }
+        ensures any_found { is_some result
+            ≡ list_any (has_both T.BiHashItem Q1.stands_for Q2.stands_for query1 query2) (bag self.old) }
         // What is written through it is the item's data, and nothing else changes. At `None` the map is as it was.
-        ensures* writes_back { sem 𝓛 (lends_data_to T.row S.row T.K1.row T.K2.row S.Hasher.row
+        ensures swaps { SwapsWhere T.put
+            (has_both T.BiHashItem Q1.stands_for Q2.stands_for query1 query2) self.old ⟦<T as Ranked>⟧.ranks }
+        ensures maps { MapsWhere T.put
+            (has_both T.BiHashItem Q1.stands_for Q2.stands_for query1 query2) self.old T.data_of result }
+        ensures unchanged { StaysWhere T.put (has_both T.BiHashItem Q1.stands_for Q2.stands_for query1 query2) self.old }
+        ensures* writes_back { sem 𝓛 (lends_data_where T.row S.row T.K1.row T.K2.row S.Hasher.row
             T.BiHashItem T.K1.Hash T.K2.Hash S.BuildHasher S.Hasher.Hasher T.Data.row T.put
-            ⟦<T as Ranked>⟧.ranks (has_both T.BiHashItem Q1.stands_for Q2.stands_for query1 query2)
-            self.entry result) }
+            (has_both T.BiHashItem Q1.stands_for Q2.stands_for query1 query2) self.entry result) }
     {
         match self.slot_of_both(query1, query2) {
             Some(slot) => Some(self.data_mut_at(slot)),

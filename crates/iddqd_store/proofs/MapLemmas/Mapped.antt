@@ -16,7 +16,7 @@ use Rattle.iddqd_store.proofs.MapLemmas.Updating.{found_one}
 
 module _ {T : Type 0} (test : T → Bool) where
   -- an item of a slot fails, if no item passes
-  fails_at : (slots : List (Option T)) (at : ℕ) (x : T) → get slots at ≡ Some x → filter test (contents slots) ≡ [] → test x ≡ false
+  pub fails_at : (slots : List (Option T)) (at : ℕ) (x : T) → get slots at ≡ Some x → filter test (contents slots) ≡ [] → test x ≡ false
   fails_at [] zero x is none = absurd (cc is)
   fails_at [] (suc at) x is none = absurd (cc is)
   fails_at (None ∷ slots) zero x is none = absurd (cc is)

@@ -12,14 +12,12 @@ pub returns-in_err-push-in-Some-clause-out_of_memory :
 returns-in_err-push-in-Some-clause-out_of_memory c =
     let it = c.in-Some.ensures.value in
     let h : Health = record { degrees = c.in-Some.health.now.degrees; faults = c.push.new.self } in
-    let written = rw c.in-Some.is at c.data_mut.follows.holds h in
     let same = c.in_err-push-in-Some.ensures.items ∙ ap (λ (h : Health). h.faults.items) it.2 in
-    on_err c.from_residual.result (it.0, h, it.1, ap (λ (h : Health). h.degrees) it.2, same, written.items it.0 it.1)
+    on_err c.from_residual.result (it.0, h, it.1, ap (λ (h : Health). h.degrees) it.2, same, c.in-Some.ensures.swaps it.0 h it.1)
 
 pub returns-in_ok-push-in-Some-clause-noted : goal.returns-in_ok-push-in-Some-clause-noted
 returns-in_ok-push-in-Some-clause-noted c = λ yes.
     let it = c.in-Some.ensures.value in
     let h : Health = record { degrees = c.in-Some.health.now.degrees; faults = c.push.new.self } in
-    let written = rw c.in-Some.is at c.data_mut.follows.holds h in
     let more = c.in_ok-push-in-Some.ensures.items ∙ ap (λ (h : Health). h.faults.items ++ c.args.fault ∷ []) it.2 in
-    (it.0, h, it.1, ap (λ (h : Health). h.degrees) it.2, more, written.items it.0 it.1)
+    (it.0, h, it.1, ap (λ (h : Health). h.degrees) it.2, more, c.in-Some.ensures.swaps it.0 h it.1)

@@ -10,9 +10,8 @@ pub returns-in-Some-clause-entered : goal.returns-in-Some-clause-entered
 returns-in-Some-clause-entered c = λ done.
     let it = c.in-Some.ensures.value in
     let orders = c.try_insert.new.self in
-    let written = rw c.in-Some.is at c.data1_mut.follows.holds orders in
     let gained = on_ok {P = Gains c.in-Some.orders.now c.args.order orders} c.try_insert.result (sym c.is_ok.ensures.value ∙ done) c.try_insert.ensures.gains in
-    (it.0, record it.0 { orders = orders }, it.1, refl, refl, rw it.2 at gained.items, written.items it.0 it.1)
+    (it.0, record it.0 { orders = orders }, it.1, refl, refl, rw it.2 at gained.items, c.in-Some.ensures.swaps it.0 orders it.1)
 
 -- the only book with the name is the one of which they are
 pub returns-in-Some-clause-granted : goal.returns-in-Some-clause-granted
@@ -30,6 +29,5 @@ returns-in-Some-clause-refused c = λ b is refused.
     let orders = c.try_insert.new.self in
     let same : it.0 ≡ b = cc (it.1, is) in
     let theirs : c.in-Some.orders.now ≡ b.orders = subst (λ (a : Book). c.in-Some.orders.now ≡ a.orders) same it.2 in
-    let written = rw c.in-Some.is at c.data1_mut.follows.holds orders in
     let stayed = on_err {P = orders ≡ c.in-Some.orders.now} c.try_insert.result (sym c.is_ok.ensures.value ∙ refused) c.try_insert.ensures.unchanged in
-    (record b { orders = orders }, refl, refl, stayed ∙ theirs, written.items b is)
+    (record b { orders = orders }, refl, refl, stayed ∙ theirs, c.in-Some.ensures.swaps b orders is)

@@ -1,15 +1,35 @@
-use Rattle.std.proofs.Common.{refl}
-use Rattle.iddqd_bi.specs.Keys.{has_both}
-use Rattle.iddqd_bi.proofs.LentLemmas.{data_found, writes_found}
+use Rattle.std.proofs.Common.{inl, refl}
+use Rattle.iddqd_bi.specs.Keys.{has_both, ranks}
+use Rattle.iddqd_store.proofs.MapLemmas.Updating.{any_absent, any_found}
+use Rattle.iddqd_store.proofs.MapLemmas.Where.{data_found, found_where, maps_nowhere, maps_where, stays_nowhere, stays_where, swaps_where}
 use Rattle.iddqd_bi.proofs.map.BiHashMap.data_unique_mut.Goals as goal
 
 pub returns-in-Some : goal.returns-in-Some
 returns-in-Some g c =
-    let test = has_both g.T.BiHashItem g.Q1.Query.stands_for g.Q2.Query.stands_for c.args.query1 c.args.query2 in (
-      (refl, (λ w. writes_found test c.args.self.now c.in-Some.slot c.in-Some.ensures g.T.BiHashItemMut.put _ w (λ x is. c.data_mut_at.ensures.swaps x w is)), refl),
+    let test = has_both g.T.BiHashItem g.Q1.Query.stands_for g.Q2.Query.stands_for c.args.query1 c.args.query2 in
+    let found = c.in-Some.ensures in (
+      λ i. inl (c.data_mut_at.result.ghost_name, λ d. found_where test c.args.self.now c.in-Some.slot found (λ x. g.T.BiHashItemMut.put x d) i),
       record {
         writes_back = tt;
-        none_found = tt;
-        value = data_found test c.args.self.now c.in-Some.slot c.in-Some.ensures g.T.BiHashItemMut.data_of _ c.data_mut_at.ensures.value;
+        value = data_found test c.args.self.now c.in-Some.slot found g.T.BiHashItemMut.data_of _ c.data_mut_at.ensures.value;
+        any_found = any_found test c.args.self.now.slots c.in-Some.slot found;
+        swaps = swaps_where g.T.BiHashItemMut.put test c.args.self.now (ranks g.T.BiHashItem g.T.K1.PartialEq.eq g.T.K2.PartialEq.eq) c.in-Some.slot found c.data_mut_at.ensures.swaps;
+        maps = maps_where g.T.BiHashItemMut.put test c.args.self.now g.T.BiHashItemMut.data_of c.data_mut_at.result c.in-Some.slot found c.data_mut_at.ensures.value;
+        unchanged = stays_where g.T.BiHashItemMut.put test c.args.self.now c.in-Some.slot found;
+      },
+    )
+
+pub returns-in-None : goal.returns-in-None
+returns-in-None g c =
+    let test = has_both g.T.BiHashItem g.Q1.Query.stands_for g.Q2.Query.stands_for c.args.query1 c.args.query2 in
+    let found = c.in-None.ensures in (
+      refl,
+      record {
+        writes_back = tt;
+        value = found.only;
+        any_found = any_absent test c.args.self.now.slots found;
+        swaps = λ x d only. absurd (cc (only, found.only));
+        maps = maps_nowhere g.T.BiHashItemMut.put test c.args.self.now g.T.BiHashItemMut.data_of found;
+        unchanged = stays_nowhere g.T.BiHashItemMut.put test c.args.self.now found;
       },
     )

@@ -1,17 +1,36 @@
 -- Made by tests/widths from crates/iddqd_bi/proofs/map/BiHashMap/data1_mut/Answers.antt: change that file.
-use Rattle.std.proofs.Common.{refl}
-use Rattle.iddqd_id.specs.Keys.{has}
-use Rattle.iddqd_id.proofs.LentLemmas.{data_found, writes_found}
+use Rattle.std.proofs.Common.{inl, refl}
+use Rattle.iddqd_id.specs.Keys.{has, ranks}
+use Rattle.iddqd_store.proofs.MapLemmas.Updating.{any_absent, any_found}
+use Rattle.iddqd_store.proofs.MapLemmas.Where.{data_found, found_where, maps_nowhere, maps_where, stays_nowhere, stays_where, swaps_where}
 use Rattle.iddqd_id.proofs.map.IdHashMap.data_mut.Goals as goal
 
 pub returns-in-Some : goal.returns-in-Some
 returns-in-Some g c =
     let test = has g.T.IdHashItem g.Q.Query.stands_for c.args.query in
     let found = c.in-Some.ensures.found in (
-      (refl, (λ w. writes_found test c.args.self.now c.in-Some.slot found g.T.IdHashItemMut.put _ w (λ x is. c.data_mut_at.ensures.swaps x w is)), refl),
+      λ i. inl (c.data_mut_at.result.ghost_name, λ d. found_where test c.args.self.now c.in-Some.slot found (λ x. g.T.IdHashItemMut.put x d) i),
       record {
         writes_back = tt;
-        none_found = tt;
         value = data_found test c.args.self.now c.in-Some.slot found g.T.IdHashItemMut.data_of _ c.data_mut_at.ensures.value;
+        any_found = any_found test c.args.self.now.slots c.in-Some.slot found;
+        swaps = swaps_where g.T.IdHashItemMut.put test c.args.self.now (ranks g.T.IdHashItem g.T.Key.PartialEq.eq) c.in-Some.slot found c.data_mut_at.ensures.swaps;
+        maps = maps_where g.T.IdHashItemMut.put test c.args.self.now g.T.IdHashItemMut.data_of c.data_mut_at.result c.in-Some.slot found c.data_mut_at.ensures.value;
+        unchanged = stays_where g.T.IdHashItemMut.put test c.args.self.now c.in-Some.slot found;
+      },
+    )
+
+pub returns-in-None : goal.returns-in-None
+returns-in-None g c =
+    let test = has g.T.IdHashItem g.Q.Query.stands_for c.args.query in
+    let found = c.in-None.ensures.found in (
+      refl,
+      record {
+        writes_back = tt;
+        value = found.only;
+        any_found = any_absent test c.args.self.now.slots found;
+        swaps = λ x d only. absurd (cc (only, found.only));
+        maps = maps_nowhere g.T.IdHashItemMut.put test c.args.self.now g.T.IdHashItemMut.data_of found;
+        unchanged = stays_nowhere g.T.IdHashItemMut.put test c.args.self.now found;
       },
     )
