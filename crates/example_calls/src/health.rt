@@ -1,11 +1,12 @@
 //! Returning an item's data, borrowed for writing, and data that owns memory.
-ghost use Rattle.std.specs.Prelude.{◌≡◌, ◌==◌, ◌∷◌, ◌++◌, [], true, false, Some, None, IfSome, IfNone, IfOk, OnErr, IsPermutation};
+ghost use Rattle.std.specs.Prelude.{◌≡◌, ◌==◌, ◌∷◌, ◌++◌, [], true, false, if◌then◌else◌, is_some, map, Some, IfSome, IfOk, OnErr, IsPermutation};
+ghost use Rattle.std.specs.List.{list_any};
 ghost use Rattle.std.specs.Borrow.{sem};
 ghost use Rattle.std.specs.Fn.{FnOnceReturnsAtMut};
 ghost use Rattle.std.proofs.Common.{rules};
 ghost use Rattle.iddqd_id.specs.Bag.{IsOnly, swap};
 ghost use Rattle.iddqd_id.specs.Map.{bag};
-ghost use Rattle.iddqd_id.specs.Map.Written.{SwapsWhere};
+ghost use Rattle.iddqd_id.specs.Map.Written.{MapsWhere};
 
 use iddqd_id::{IdHashItem, IdHashItemMut, IdHashMap, Ranked};
 use std::alloc::AllocError;
@@ -65,8 +66,8 @@ impl Hall {
     pub fn health_mut(&mut self, number: u64) -> Option<&mut Health>
         ensures value { IfSome result (λ h. (m : Machine)
             × IsOnly (λ m. number == m.number) (bag self.old.machines) (Some m) × (h.now ≡ m.health)) }
-        ensures absent { IfNone result (IsOnly (λ m. number == m.number) (bag self.old.machines) None) }
-        ensures swaps { SwapsWhere put_health (λ m. number == m.number) self.old.machines ⟦<Machine as Ranked>⟧.ranks }
+        ensures any_found { is_some result ≡ list_any (λ m. number == m.number) (bag self.old.machines) }
+        ensures maps { MapsWhere put_health (λ m. number == m.number) self.old.machines (λ m. m.health) result }
         ensures* writes_back { sem 𝓛 (lends_health self.entry (λ m. number == m.number) result) }
     {
         self.machines.data_mut(&number)
@@ -74,10 +75,9 @@ impl Hall {
 
     /// Notes the temperature of the machine with this number, and returns whether there is such a machine.
     pub fn note_degrees(&mut self, number: u64, degrees: u32) -> bool
-        ensures noted { result ≡ true → (m : Machine)
-            × IsOnly (λ m. number == m.number) (bag self.old.machines) (Some m)
-            × IsPermutation (bag self.new.machines) (swap ⟦<Machine as Ranked>⟧.ranks (bag self.old.machines) m
-            (record m { health = record m.health { degrees = degrees } })) }
+        ensures noted { IsPermutation (bag self.new.machines) (map (λ (m : Machine). if number == m.number
+            then record m { health = record m.health { degrees = degrees } } else m) (bag self.old.machines)) }
+        ensures found { result ≡ list_any (λ m. number == m.number) (bag self.old.machines) }
         ensures absent { result ≡ false → self.new.machines ≡ self.old.machines }
     {
         match self.health_mut(number) {

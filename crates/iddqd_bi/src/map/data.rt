@@ -24,7 +24,8 @@ impl<T: BiHashItemMut, S: BuildHasher> BiHashMap<T, S> {
     pub fn data1_mut<Q: Query<T::K1>>(&mut self, query: Q) -> Option<&mut T::Data>
         // The result borrows the data of the item, or is `None` if there is no such item.
         ensures value { MatchOption result (IsOnly (has1 T.BiHashItem Q.stands_for query) (bag self.old) None)
-            (λ d. (x : T) × IsOnly (has1 T.BiHashItem Q.stands_for query) (bag self.old) (Some x) × (d.now ≡ T.data_of x)) }
+            (λ d. (x : T) × IsOnly (has1 T.BiHashItem Q.stands_for query) (bag self.old) (Some x)
+            × (d.now ≡ T.data_of x)) }
         ensures any_found { is_some result ≡ list_any (has1 T.BiHashItem Q.stands_for query) (bag self.old) }
         // What is written through it is the item's data, and nothing else changes. At `None` the map is as it was.
         ensures swaps { SwapsWhere T.put (has1 T.BiHashItem Q.stands_for query) self.old ⟦<T as Ranked>⟧.ranks }
@@ -50,7 +51,8 @@ impl<T: BiHashItemMut, S: BuildHasher> BiHashMap<T, S> {
     pub fn data2_mut<Q: Query<T::K2>>(&mut self, query: Q) -> Option<&mut T::Data>
         // The result borrows the data of the item, or is `None` if there is no such item.
         ensures value { MatchOption result (IsOnly (has2 T.BiHashItem Q.stands_for query) (bag self.old) None)
-            (λ d. (x : T) × IsOnly (has2 T.BiHashItem Q.stands_for query) (bag self.old) (Some x) × (d.now ≡ T.data_of x)) }
+            (λ d. (x : T) × IsOnly (has2 T.BiHashItem Q.stands_for query) (bag self.old) (Some x)
+            × (d.now ≡ T.data_of x)) }
         ensures any_found { is_some result ≡ list_any (has2 T.BiHashItem Q.stands_for query) (bag self.old) }
         // What is written through it is the item's data, and nothing else changes. At `None` the map is as it was.
         ensures swaps { SwapsWhere T.put (has2 T.BiHashItem Q.stands_for query) self.old ⟦<T as Ranked>⟧.ranks }
@@ -87,7 +89,8 @@ impl<T: BiHashItemMut, S: BuildHasher> BiHashMap<T, S> {
             (has_both T.BiHashItem Q1.stands_for Q2.stands_for query1 query2) self.old ⟦<T as Ranked>⟧.ranks }
         ensures maps { MapsWhere T.put
             (has_both T.BiHashItem Q1.stands_for Q2.stands_for query1 query2) self.old T.data_of result }
-        ensures unchanged { StaysWhere T.put (has_both T.BiHashItem Q1.stands_for Q2.stands_for query1 query2) self.old }
+        ensures unchanged { StaysWhere T.put
+            (has_both T.BiHashItem Q1.stands_for Q2.stands_for query1 query2) self.old }
         ensures* writes_back { sem 𝓛 (lends_data_where T.row S.row T.K1.row T.K2.row S.Hasher.row
             T.BiHashItem T.K1.Hash T.K2.Hash S.BuildHasher S.Hasher.Hasher T.Data.row T.put
             (has_both T.BiHashItem Q1.stands_for Q2.stands_for query1 query2) self.entry result) }

@@ -26,8 +26,8 @@ impl<T: IdHashItemMut, S: BuildHasher> IdHashMap<T, S> {
     pub fn data_mut<Q: Query<T::Key>>(&mut self, query: Q) -> Option<&mut T::Data>
         // The result borrows the data of the item, or is `None` if there is no such item.
         ensures value { MatchOption result (IsOnly (has T.IdHashItem Q.stands_for query) (bag self.old) None)
-            (λ d. (x : T) × IsOnly (has T.IdHashItem Q.stands_for query) (bag self.old) (Some x) × (d.now
-            ≡ T.data_of x)) }
+            (λ d. (x : T) × IsOnly (has T.IdHashItem Q.stands_for query) (bag self.old) (Some x)
+            × (d.now ≡ T.data_of x)) }
         ensures any_found { is_some result ≡ list_any (has T.IdHashItem Q.stands_for query) (bag self.old) }
         // What is written through it is the item's data, and nothing else changes. At `None` the map is as it was.
         ensures swaps { SwapsWhere T.put (has T.IdHashItem Q.stands_for query) self.old ⟦<T as Ranked>⟧.ranks }

@@ -26,8 +26,8 @@ impl<T: TriHashItemMut, S: BuildHasher> TriHashMap<T, S> {
     pub fn data1_mut<Q: Query<T::K1>>(&mut self, query: Q) -> Option<&mut T::Data>
         // The result borrows the data of the item, or is `None` if there is no such item.
         ensures value { MatchOption result (IsOnly (has1 T.TriHashItem Q.stands_for query) (bag self.old) None)
-            (λ d. (x : T) × IsOnly (has1 T.TriHashItem Q.stands_for query) (bag self.old) (Some x) × (d.now
-            ≡ T.data_of x)) }
+            (λ d. (x : T) × IsOnly (has1 T.TriHashItem Q.stands_for query) (bag self.old) (Some x)
+            × (d.now ≡ T.data_of x)) }
         ensures any_found { is_some result ≡ list_any (has1 T.TriHashItem Q.stands_for query) (bag self.old) }
         // What is written through it is the item's data, and nothing else changes. At `None` the map is as it was.
         ensures swaps { SwapsWhere T.put (has1 T.TriHashItem Q.stands_for query) self.old ⟦<T as Ranked>⟧.ranks }
@@ -53,8 +53,8 @@ impl<T: TriHashItemMut, S: BuildHasher> TriHashMap<T, S> {
     pub fn data2_mut<Q: Query<T::K2>>(&mut self, query: Q) -> Option<&mut T::Data>
         // The result borrows the data of the item, or is `None` if there is no such item.
         ensures value { MatchOption result (IsOnly (has2 T.TriHashItem Q.stands_for query) (bag self.old) None)
-            (λ d. (x : T) × IsOnly (has2 T.TriHashItem Q.stands_for query) (bag self.old) (Some x) × (d.now
-            ≡ T.data_of x)) }
+            (λ d. (x : T) × IsOnly (has2 T.TriHashItem Q.stands_for query) (bag self.old) (Some x)
+            × (d.now ≡ T.data_of x)) }
         ensures any_found { is_some result ≡ list_any (has2 T.TriHashItem Q.stands_for query) (bag self.old) }
         // What is written through it is the item's data, and nothing else changes. At `None` the map is as it was.
         ensures swaps { SwapsWhere T.put (has2 T.TriHashItem Q.stands_for query) self.old ⟦<T as Ranked>⟧.ranks }
@@ -80,8 +80,8 @@ impl<T: TriHashItemMut, S: BuildHasher> TriHashMap<T, S> {
     pub fn data3_mut<Q: Query<T::K3>>(&mut self, query: Q) -> Option<&mut T::Data>
         // The result borrows the data of the item, or is `None` if there is no such item.
         ensures value { MatchOption result (IsOnly (has3 T.TriHashItem Q.stands_for query) (bag self.old) None)
-            (λ d. (x : T) × IsOnly (has3 T.TriHashItem Q.stands_for query) (bag self.old) (Some x) × (d.now
-            ≡ T.data_of x)) }
+            (λ d. (x : T) × IsOnly (has3 T.TriHashItem Q.stands_for query) (bag self.old) (Some x)
+            × (d.now ≡ T.data_of x)) }
         ensures any_found { is_some result ≡ list_any (has3 T.TriHashItem Q.stands_for query) (bag self.old) }
         // What is written through it is the item's data, and nothing else changes. At `None` the map is as it was.
         ensures swaps { SwapsWhere T.put (has3 T.TriHashItem Q.stands_for query) self.old ⟦<T as Ranked>⟧.ranks }
