@@ -6,7 +6,7 @@ It is the inverse of tests/widen.py, and finds the same pieces: of a piece and i
 tuple of one part that is left of it is that part, and a list keeps its first part. Then no name needs the number of a rank.
 
 Some words are nothing at one key (NOTHING): a search by all keys, lists of the items that several searches found, and commands, which
-no program carries out. Functions, definitions and modules with such a name are left out, and so is the name where it is imported.
+no program carries out at one key. Functions, definitions and modules with such a name are left out, and so is the name where it is imported.
 """
 import os
 import re
@@ -44,11 +44,9 @@ NOTHING = re.compile(r"""(?x)^(
     | differ | of_rank | each_once | items_of | remove_slots | store_all | store_found | for_each | conflicts | conflicts_with
     # Calls that take several keys.
     | answered_by_all
-    # Commands as values, and what carries them out.
-    | commands? | run | Step | EntryReplies | Runs | apply_\w+
+    # Commands as values, in the programs that test the calls.
+    | commands? | run
     )$""")
-# The functions that carry out commands, and have names that other functions have too.
-REPLIES = re.compile(r"/map/BiHashMap/(or_insert|entry_insert|set)/")
 # Names without the number of a rank, if the rule is not that the number goes, and phrases of comments.
 NAMED = [
     (r"\bK1\b", "Key"), (r"\bhash_of1\b", "hash_of_key"), (r"(?<=[A-Za-z])1(?=\b|_)", ""), (r"\n *let (\w+) = \1;", ""),
@@ -232,7 +230,7 @@ def one_key(text, is_code):
 def path_of(path):
     """Returns the path of the one-key file of a two-key file, or None if there is none: it is of the second rank, or nothing."""
     first = path.replace("2", "1")
-    if first != path and os.path.isfile(first) or any(map(NOTHING.match, re.split(r"[/.]", path))) or REPLIES.search(path):
+    if first != path and os.path.isfile(first) or any(map(NOTHING.match, re.split(r"[/.]", path))):
         return None
     return renamed(renamed(path, RENAMED[:6]), NAMED[:3])
 

@@ -16,7 +16,7 @@ import re
 import sys
 
 RENAMED = [
-    (r"\b(iddqd|iddqd_serde|caller|test|test_calls)_bi\b", r"\1_tri"), (r"\bbi_(?=\w)", "tri_"),
+    (r"\b(iddqd|iddqd_commands|iddqd_serde|caller|test|test_calls)_bi\b", r"\1_tri"), (r"\bbi_(?=\w)", "tri_"),
     (r"\b(item[./]|kind `)bi\b", r"\1tri"),
     (r"Bi(?=Command|Hash|Item|Reply|Sink)", "Tri"), (r"\bUpToTwo\b", "UpToThree"), (r"\bup_to_two\b", "up_to_three"),
     (r"\b([Tt])wo(?=[ _]keys?\b|Keys\b|[ _]ranks\b| at most\b)", r"\1hree"),

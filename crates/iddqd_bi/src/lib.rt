@@ -1,10 +1,9 @@
-//! `BiHashMap`, a hash map of items with two keys, with its guards, entries, iterations, errors and commands.
+//! `BiHashMap`, a hash map of items with two keys, with its guards, entries, iterations and errors.
 //!
 //! A script makes most of the three-key text from the two-key text: change the latter, and then run
 //! `tests/widths --write` with the changed files.
 #![tactic(auto)]
 
-mod command;
 mod debug;
 mod entry;
 mod error;
@@ -16,7 +15,6 @@ mod pointers;
 mod ranks;
 mod ref_mut;
 
-pub use command::{BiCommand, BiReply, BiSink};
 pub use entry::{Entry, OccupiedEntry, OccupiedEntryMut, OccupiedEntryRef, VacantEntry};
 pub use error::{
     EntryError, EntryRefusal, ExtendUniqueError, FromIterError, InsertError, KeyMismatch,

@@ -12,6 +12,9 @@ use std::ops::Deref;
 
 /// An item with two keys that it makes or lends: `WithKeys<ByMade<ByMade<T, 2>, 1>>`, or `ByPair` in place of one or
 /// both. It dereferences to the item, and contracts see the item. Its `==` is that of items, and not of keys.
+///
+/// It takes no memory beside the item, and its own calls allocate none. A key is made or lent anew for each comparison and
+/// each hash.
 #[derive(Clone, Drop)]
 pub struct WithKeys<K> {
     key: K,

@@ -23,7 +23,6 @@ mod rekey;
 mod remove;
 mod retain;
 mod retain_mut;
-mod run;
 mod shrink;
 pub(crate) mod slots;
 mod update;

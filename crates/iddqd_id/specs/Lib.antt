@@ -15,14 +15,11 @@ pub use Rattle.iddqd_store.specs.Bag.Storing
 pub use Rattle.iddqd_store.specs.Callers
 pub use Rattle.iddqd_store.specs.Map
 pub use Rattle.iddqd_store.specs.Map.Extracting
+pub use Rattle.iddqd_store.specs.Map.State
 pub use Rattle.iddqd_store.specs.Map.Walk
 pub use Rattle.iddqd_store.specs.Map.Written
 pub use Rattle.iddqd_store.specs.Queries
 pub use Rattle.iddqd_store.specs.Rank
 pub use Rattle.iddqd_store.specs.Rank.All
-pub use Rattle.iddqd_store.specs.Runs.Reply
-pub use Rattle.iddqd_store.specs.Runs.Run
 pub use Rattle.iddqd_store.specs.Slots.Found
-pub use Rattle.iddqd_store.specs.Runs.Step as Steps
 pub use Rattle.iddqd_store.specs.Table
-pub use Rattle.iddqd_store.specs.Runs.Values

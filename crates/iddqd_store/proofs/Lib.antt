@@ -4,6 +4,5 @@ pub mod CountRule
 pub mod MapLemmas
 pub mod Plain
 pub mod RankLemmas
-pub mod RunLemmas
 pub mod SlotLemmas
 pub mod TableLemmas

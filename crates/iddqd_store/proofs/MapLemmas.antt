@@ -1,6 +1,7 @@
 -- Lemmas for the invariants of the maps, with any number of ranks.
 pub mod Blocking
 pub mod Calls
+pub mod Extending
 pub mod Extracting
 pub mod Fitting
 pub mod Growing

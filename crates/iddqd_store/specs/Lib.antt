@@ -4,7 +4,6 @@ pub mod Errors
 pub mod Map
 pub mod Queries
 pub mod Rank
-pub mod Runs
 pub mod Searched
 pub mod Slots
 pub mod Table

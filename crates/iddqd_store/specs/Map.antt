@@ -1,5 +1,6 @@
 -- What a contract sees of a map, with any number of ranks.
 pub mod Extracting
+pub mod State
 pub mod Walk
 pub mod Written
 use Rattle.std.specs.Prelude.{◌≡◌, ◌≢◌, ◌+◌, ◌≤◌, ◌<◌, ℕ, List, [], ◌∷◌, ◌++◌, Option, Some}

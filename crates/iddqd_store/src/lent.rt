@@ -28,6 +28,8 @@ pub trait LendsPair<A, B, const RANK: usize> {
 
 /// A value that is a key, equal to those that lend equal parts. Contracts see the value.
 ///
+/// Each comparison calls `lend_pair` of both values, and each hash that of the value. It takes no memory beside the value.
+///
 /// A lookup takes a pair of queries, one for each part: `get1((name, &number))`.
 #[derive(Clone, Drop)]
 pub struct ByPair<T, A, B, const RANK: usize> {

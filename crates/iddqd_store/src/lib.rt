@@ -11,7 +11,6 @@ mod load;
 mod made;
 mod query;
 mod rank;
-mod reply;
 mod short_list;
 
 pub use equivalent::Equivalent;
@@ -23,5 +22,4 @@ pub use load::{AHEAD, pairs_for, pairs_wanted, slots_wanted, wanted_above};
 pub use made::{ByMade, Holds, Made, MakesKey};
 pub use query::Query;
 pub use rank::{ByQuery, FoundByHash, HashedKey, KeyOf, Lookup};
-pub use reply::MapReply;
 pub use short_list::{ShortIntoIter, ShortIter, ShortList, UpToThree, UpToTwo};

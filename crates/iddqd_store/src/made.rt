@@ -8,7 +8,8 @@ use crate::query::Query;
 use std::hash::{Hash, Hasher};
 use std::marker::Model;
 
-/// What holds a value, and is a key by what this value makes or lends.
+/// What holds a value, and is a key by what this value makes or lends. It takes no memory beside the value, and its calls
+/// allocate none.
 pub trait Holds {
     /// What is held.
     type Held;
@@ -52,6 +53,9 @@ pub trait MakesKey<const RANK: usize> {
 }
 
 /// A value that is a key, equal to those that make an equal key. Contracts see the value.
+///
+/// Each comparison calls `make_key` of both values, and each hash that of the value, so let it be cheap. The key is kept
+/// nowhere, so it takes no memory beside the value.
 ///
 /// A lookup takes the key, as `Made`.
 #[derive(Clone, Drop)]

@@ -1,9 +1,10 @@
 -- A run that keeps its replies, command by command.
 use Rattle.std.proofs.Common.{◌≡◌, refl, ap, sym, ◌∙◌, List, [], ◌∷◌, ◌++◌, Result, Ok, Err, append_assoc, append-nil, subst}
 use Rattle.std.specs.Prelude.{MatchResult}
-use Rattle.iddqd_store.specs.Runs.Reply.{Reply}
-use Rattle.iddqd_store.specs.Runs.Run.{Run, Applies}
-use Rattle.iddqd_store.specs.Runs.Step.{State, Fits, empty_state}
+use Rattle.iddqd_commands.specs.Reply.{Reply}
+use Rattle.iddqd_commands.specs.Run.{Run, Applies}
+use Rattle.iddqd_store.specs.Map.State.{State, empty_state}
+use Rattle.iddqd_commands.specs.Step.{Fits}
 use Rattle.iddqd_text.specs.Outputs.{KeepsReply, Replies}
 
 module _ {C T D : Type 0} (Steps : State T → C → Reply T D → State T → Type 0) where

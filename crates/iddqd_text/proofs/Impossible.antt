@@ -8,8 +8,8 @@ use Rattle.std.proofs.lemmas.List.Sorted.{IsPermutation-sym, IsPermutation-trans
 use Rattle.iddqd_store.proofs.BagLemmas.Sound.{same_from_short, length-over}
 use Rattle.iddqd_store.proofs.BagLemmas.Steps.{length-clash}
 use Rattle.iddqd_bi.specs.Keys.{ranks}
-use Rattle.iddqd_store.specs.Runs.Reply.{Reply, done, duplicate, displaced, taken, memory, refused}
-use Rattle.iddqd_bi.specs.declared.command.BiCommand.TheVariants.{InsertUnique, InsertOverwrite, Remove1, Reserve}
+use Rattle.iddqd_commands.specs.Reply.{Reply, done, duplicate, displaced, taken, memory, refused}
+use Rattle.iddqd_commands_bi.specs.declared.command.BiCommand.TheVariants.{InsertUnique, InsertOverwrite, Remove1, Reserve}
 use Rattle.iddqd_text.specs.Commands.{Spelled, Spells, first_bad_line}
 use Rattle.iddqd_text.specs.Outputs.{Replies}
 use Rattle.iddqd_text.specs.Printed.{line_of, printed}

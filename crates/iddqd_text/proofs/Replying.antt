@@ -2,9 +2,10 @@
 use Rattle.std.proofs.Common.{◌≡◌, refl, ap, sym, ◌∙◌, ℕ, List, [], ◌∷◌, ◌++◌, Result, Ok, Err, append_assoc, append-nil, subst}
 use Rattle.std.specs.Prelude.{MatchResult}
 use Rattle.std.specs.List.{flat_map}
-use Rattle.iddqd_store.specs.Runs.Reply.{Reply}
-use Rattle.iddqd_store.specs.Runs.Run.{Run, Applies}
-use Rattle.iddqd_store.specs.Runs.Step.{State, Fits, empty_state}
+use Rattle.iddqd_commands.specs.Reply.{Reply}
+use Rattle.iddqd_commands.specs.Run.{Run, Applies}
+use Rattle.iddqd_store.specs.Map.State.{State, empty_state}
+use Rattle.iddqd_commands.specs.Step.{Fits}
 use Rattle.iddqd_text.specs.Outputs.{GrowsByLine, KeepsReply, Prints}
 
 -- a sink whose text grows by lines

@@ -2,7 +2,7 @@
 use Rattle.std.proofs.Common.{◌≡◌, refl, ℕ, [], ◌∷◌, Some, None}
 use Rattle.std.specs.Fmt.{digits}
 use Rattle.std.specs.Prelude.{codes}
-use Rattle.iddqd_store.specs.Runs.Reply.{done, duplicate, displaced, found, taken, memory, refused, size, items, kept, key, absent, absent_data, extend_refused}
+use Rattle.iddqd_commands.specs.Reply.{done, duplicate, displaced, found, taken, memory, refused, size, items, kept, key, absent, absent_data, extend_refused}
 use Rattle.iddqd_store.specs.declared.error.InsertReason.TheVariants.{Duplicate, Memory}
 use Rattle.iddqd_text.specs.Commands.{single, add_all, command_of_line, first_bad_line}
 use Rattle.iddqd_text.specs.Lines.{lines_of}
@@ -12,8 +12,8 @@ use Rattle.iddqd_text.specs.Sorted.{by_first_key}
 use Rattle.iddqd_text.specs.ThreeKeys as three_keys
 use Rattle.iddqd_text.specs.TwoKeys.{command_of, numbers}
 use Rattle.iddqd_text.specs.declared.item.bi.BiItem.{BiItem}
-use Rattle.iddqd_tri.specs.declared.command.TriCommand.TheVariants as three_keys_command
-use Rattle.iddqd_bi.specs.declared.command.BiCommand.TheVariants.{InsertUnique, Remove1, Items, Replace1, Set1, EntryInsert, EntryRemove, OrInsert}
+use Rattle.iddqd_commands_tri.specs.declared.command.TriCommand.TheVariants as three_keys_command
+use Rattle.iddqd_commands_bi.specs.declared.command.BiCommand.TheVariants.{InsertUnique, Remove1, Items, Replace1, Set1, EntryInsert, EntryRemove, OrInsert}
 
 -- lines: what follows the last line end is a line if it isn't empty
 no_line : lines_of [] ≡ []

@@ -10,10 +10,10 @@ use Rattle.iddqd_store.proofs.BagLemmas.Steps.{IsSound-nil}
 use Rattle.iddqd_store.specs.Bag.{Ranks, IsSound, adds}
 use Rattle.iddqd_store.specs.declared.error.InsertReason.TheVariants.{Duplicate}
 use Rattle.iddqd_bi.specs.Keys.{ranks}
-use Rattle.iddqd_store.specs.Runs.Reply.{Reply, done, duplicate, displaced, found, taken, refused, size, items, extend_refused}
-use Rattle.iddqd_store.specs.Runs.Step.{State}
-use Rattle.iddqd_tri.specs.declared.command.TriCommand.TheVariants as tri
-use Rattle.iddqd_bi.specs.declared.command.BiCommand.TheVariants.{InsertUnique, InsertOverwrite, ExtendUnique, Get2, GetUnique, Remove1, Reserve, Len, Items}
+use Rattle.iddqd_commands.specs.Reply.{Reply, done, duplicate, displaced, found, taken, refused, size, items, extend_refused}
+use Rattle.iddqd_store.specs.Map.State.{State}
+use Rattle.iddqd_commands_tri.specs.declared.command.TriCommand.TheVariants as tri
+use Rattle.iddqd_commands_bi.specs.declared.command.BiCommand.TheVariants.{InsertUnique, InsertOverwrite, ExtendUnique, Get2, GetUnique, Remove1, Reserve, Len, Items}
 use Rattle.iddqd_text.specs.Outputs.{Replies}
 use Rattle.iddqd_text.specs.ThreeKeys as three_keys
 use Rattle.iddqd_text.specs.Printed.{printed}

@@ -1,9 +1,9 @@
 -- What a run of commands prints.
 use Rattle.std.specs.Prelude.{◌≡◌, ◌++◌, [], ◌∷◌, ℕ, List, Result, Ok, Err}
 use Rattle.std.specs.List.{flat_map}
-use Rattle.iddqd_store.specs.Runs.Reply.{Reply}
-use Rattle.iddqd_store.specs.Runs.Run.{Run}
-use Rattle.iddqd_store.specs.Runs.Step.{State, empty_state}
+use Rattle.iddqd_commands.specs.Reply.{Reply}
+use Rattle.iddqd_commands.specs.Run.{Run}
+use Rattle.iddqd_store.specs.Map.State.{State, empty_state}
 
 -- a sink whose text grows by the line of each reply that it takes
 abbrev pub GrowsByLine : {R F : Type 0} → (R → List ℕ) → List ℕ → R → Result (Unit {0}) F → List ℕ → Type 0

@@ -2,8 +2,8 @@
 use Rattle.std.specs.Prelude.{ℕ, ◌+◌, List, [], ◌∷◌, ◌++◌, codes, Option, Some, None, true, false}
 use Rattle.std.specs.Fmt.{decimal}
 use Rattle.std.specs.List.{flat_map}
-use Rattle.iddqd_store.specs.Runs.Reply.{Reply, done, duplicate, found, taken, memory, displaced, present}
-use Rattle.iddqd_store.specs.Runs.Reply.{refused, size, items, kept, key, absent, absent_data, extend_refused}
+use Rattle.iddqd_commands.specs.Reply.{Reply, done, duplicate, found, taken, memory, displaced, present}
+use Rattle.iddqd_commands.specs.Reply.{refused, size, items, kept, key, absent, absent_data, extend_refused}
 use Rattle.iddqd_store.specs.declared.error.InsertReason.TheVariants.{Duplicate, Memory}
 use Rattle.iddqd_text.specs.Sorted.{by_first_key}
 

@@ -3,12 +3,12 @@
 -- The kind `tri`: its items, what its words mean, and what a run prints.
 use Rattle.std.specs.Prelude.{ℕ, nat_eq, List, [], ◌∷◌, Option, Some, None}
 use Rattle.std.specs.Option.{option_map}
-use Rattle.iddqd_store.specs.Runs.Reply.{Reply}
-use Rattle.iddqd_store.specs.Runs.Step.{State}
-use Rattle.iddqd_tri.specs.Step.{Step}
+use Rattle.iddqd_commands.specs.Reply.{Reply}
+use Rattle.iddqd_store.specs.Map.State.{State}
+use Rattle.iddqd_commands_tri.specs.Step.{Step}
 use Rattle.iddqd_tri.specs.declared.item.TriHashItem as of
-use Rattle.iddqd_tri.specs.declared.command.TriCommand.{TriCommand}
-use Rattle.iddqd_tri.specs.declared.command.TriCommand.TheVariants as command
+use Rattle.iddqd_commands_tri.specs.declared.command.TriCommand.{TriCommand}
+use Rattle.iddqd_commands_tri.specs.declared.command.TriCommand.TheVariants as command
 use Rattle.iddqd_text.specs.Commands.{Spelled, single, add_all}
 use Rattle.iddqd_text.specs.Outputs as outputs
 use Rattle.iddqd_text.specs.Printed.{line_of}

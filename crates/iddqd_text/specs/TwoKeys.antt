@@ -1,12 +1,12 @@
 -- The kind `bi`: its items, what its words mean, and what a run prints.
 use Rattle.std.specs.Prelude.{ℕ, nat_eq, List, [], ◌∷◌, Option, Some, None}
 use Rattle.std.specs.Option.{option_map}
-use Rattle.iddqd_store.specs.Runs.Reply.{Reply}
-use Rattle.iddqd_store.specs.Runs.Step.{State}
-use Rattle.iddqd_bi.specs.Step.{Step}
+use Rattle.iddqd_commands.specs.Reply.{Reply}
+use Rattle.iddqd_store.specs.Map.State.{State}
+use Rattle.iddqd_commands_bi.specs.Step.{Step}
 use Rattle.iddqd_bi.specs.declared.item.BiHashItem as of
-use Rattle.iddqd_bi.specs.declared.command.BiCommand.{BiCommand}
-use Rattle.iddqd_bi.specs.declared.command.BiCommand.TheVariants as command
+use Rattle.iddqd_commands_bi.specs.declared.command.BiCommand.{BiCommand}
+use Rattle.iddqd_commands_bi.specs.declared.command.BiCommand.TheVariants as command
 use Rattle.iddqd_text.specs.Commands.{Spelled, single, add_all}
 use Rattle.iddqd_text.specs.Outputs as outputs
 use Rattle.iddqd_text.specs.Printed.{line_of}

@@ -1,12 +1,13 @@
 //! The lines that the program prints.
 ghost use Rattle.std.specs.Prelude.{◌≡◌, ◌++◌, List, [], IfOk, OnOk, codes, map, string_bytes};
-ghost use Rattle.iddqd_store.specs.Runs.Reply.{extend_refused};
-ghost use Rattle.iddqd_store.specs.Runs.Values.{value_by};
+ghost use Rattle.iddqd_commands.specs.Reply.{extend_refused};
+ghost use Rattle.iddqd_commands.specs.Values.{value_by};
 ghost use Rattle.iddqd_text.specs.Printed.{printed, items_text, found_line, line_of, bad_line_message};
 ghost use Rattle.iddqd_text.specs.Sorted.{by_first_key};
 
 use crate::item::Numbers;
-use iddqd_store::{InsertReason, Iter, MapReply, ShortList};
+use iddqd_commands::MapReply;
+use iddqd_store::{InsertReason, Iter, ShortList};
 use std::alloc::{AllocError, Global};
 
 // A reply whose line is more than a word has a function of its own, which is never inlined. A function clears the

@@ -12,8 +12,8 @@ use crate::parse::{Parsed, parse};
 use crate::print::bad_line_message;
 use crate::read::read_all;
 use crate::write::write_all;
-use iddqd_bi::BiCommand;
-use iddqd_tri::TriCommand;
+use iddqd_commands_bi::BiCommand;
+use iddqd_commands_tri::TriCommand;
 use std::alloc::{AllocError, Global};
 
 /// Reads the source to its end, parses all lines, runs them on a new map of this kind, and writes the line of each

@@ -1,7 +1,8 @@
 //! Collects the replies of a run as lines.
 use crate::item::Numbers;
 use crate::print::line_of;
-use iddqd_store::{MapReply, ShortList};
+use iddqd_commands::MapReply;
+use iddqd_store::ShortList;
 use std::alloc::{AllocError, Global};
 
 /// Keeps the line of each reply, one after the other.
@@ -15,7 +16,7 @@ pub struct LineSink {
 
 impl LineSink {
     ghost use Rattle.std.specs.Prelude.{◌≡◌, [], string_bytes};
-    ghost use Rattle.iddqd_store.specs.Runs.Values.{value_by};
+    ghost use Rattle.iddqd_commands.specs.Values.{value_by};
     ghost use Rattle.iddqd_text.specs.Outputs.{GrowsByLine};
     ghost use Rattle.iddqd_text.specs.Printed.{line_of};
 

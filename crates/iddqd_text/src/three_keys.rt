@@ -3,7 +3,7 @@
 //! Made by tests/widths from crates/iddqd_text/src/two_keys.rt: change that file.
 ghost use Rattle.std.specs.Prelude.{◌≡◌, IfOk, string_bytes};
 ghost use Rattle.std.specs.Option.{option_map};
-ghost use Rattle.iddqd_store.specs.Runs.Values.{value_of};
+ghost use Rattle.iddqd_commands.specs.Values.{value_of};
 ghost use Rattle.iddqd_text.specs.Commands.{single};
 ghost use Rattle.iddqd_text.specs.Outputs.{GrowsByLine};
 ghost use Rattle.iddqd_text.specs.Printed.{line_of};
@@ -13,7 +13,8 @@ use crate::command::Command;
 use crate::item::TriItem;
 use crate::sink::LineSink;
 use crate::words::Word;
-use iddqd_tri::{TriCommand, TriHashMap, TriReply, TriSink};
+use iddqd_commands_tri::{TriCommand, TriCommands, TriReply, TriSink};
+use iddqd_tri::TriHashMap;
 use std::alloc::{AllocError, Global};
 
 impl Command for TriCommand<TriItem> {

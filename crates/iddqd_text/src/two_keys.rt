@@ -1,7 +1,7 @@
 //! The kind `bi`: which commands its words spell, and how they run.
 ghost use Rattle.std.specs.Prelude.{◌≡◌, IfOk, string_bytes};
 ghost use Rattle.std.specs.Option.{option_map};
-ghost use Rattle.iddqd_store.specs.Runs.Values.{value_of};
+ghost use Rattle.iddqd_commands.specs.Values.{value_of};
 ghost use Rattle.iddqd_text.specs.Commands.{single};
 ghost use Rattle.iddqd_text.specs.Outputs.{GrowsByLine};
 ghost use Rattle.iddqd_text.specs.Printed.{line_of};
@@ -11,7 +11,8 @@ use crate::command::Command;
 use crate::item::BiItem;
 use crate::sink::LineSink;
 use crate::words::Word;
-use iddqd_bi::{BiCommand, BiHashMap, BiReply, BiSink};
+use iddqd_bi::BiHashMap;
+use iddqd_commands_bi::{BiCommand, BiCommands, BiReply, BiSink};
 use std::alloc::{AllocError, Global};
 
 impl Command for BiCommand<BiItem> {

@@ -3,6 +3,5 @@ pub mod EntryLemmas
 pub mod Iterating
 pub mod MapLemmas
 pub mod RefLemmas
-pub mod Runs
 -- what callers cite
 pub use Rattle.iddqd_store.proofs.CallerLemmas

@@ -1,6 +1,5 @@
 -- Made by tests/widths from crates/iddqd_bi/specs/Lib.antt: change that file.
 pub mod Entries
-pub mod EntryReplies
 pub mod InsertErrors
 pub mod IterMuts
 pub mod Keys
@@ -9,7 +8,6 @@ pub mod Mismatch
 pub mod OccupiedRefs
 pub mod RefMuts
 pub mod Rekeyed
-pub mod Step
 -- The clauses of the map cite these words of the store.
 pub use Rattle.iddqd_store.specs.Bag
 pub use Rattle.iddqd_store.specs.Bag.Building
@@ -18,14 +16,11 @@ pub use Rattle.iddqd_store.specs.Bag.Storing
 pub use Rattle.iddqd_store.specs.Callers
 pub use Rattle.iddqd_store.specs.Map
 pub use Rattle.iddqd_store.specs.Map.Extracting
+pub use Rattle.iddqd_store.specs.Map.State
 pub use Rattle.iddqd_store.specs.Map.Walk
 pub use Rattle.iddqd_store.specs.Map.Written
 pub use Rattle.iddqd_store.specs.Queries
 pub use Rattle.iddqd_store.specs.Rank
 pub use Rattle.iddqd_store.specs.Rank.All
-pub use Rattle.iddqd_store.specs.Runs.Reply
-pub use Rattle.iddqd_store.specs.Runs.Run
 pub use Rattle.iddqd_store.specs.Slots.Found
-pub use Rattle.iddqd_store.specs.Runs.Step as Steps
 pub use Rattle.iddqd_store.specs.Table
-pub use Rattle.iddqd_store.specs.Runs.Values

@@ -1,4 +1,4 @@
-//! `TriHashMap`, a hash map of items with three keys, with its guards, entries, iterations, errors and commands.
+//! `TriHashMap`, a hash map of items with three keys, with its guards, entries, iterations and errors.
 //!
 //! A script makes most of the three-key text from the two-key text: change the latter, and then run
 //! `tests/widths --write` with the changed files.
@@ -6,7 +6,6 @@
 //! Made by tests/widths from crates/iddqd_bi/src/lib.rt: change that file.
 #![tactic(auto)]
 
-mod command;
 mod debug;
 mod entry;
 mod error;
@@ -18,7 +17,6 @@ mod pointers;
 mod ranks;
 mod ref_mut;
 
-pub use command::{TriCommand, TriReply, TriSink};
 pub use entry::{Entry, OccupiedEntry, OccupiedEntryMut, OccupiedEntryRef, VacantEntry};
 pub use error::{
     EntryError, EntryRefusal, ExtendUniqueError, FromIterError, InsertError, KeyMismatch,

@@ -14,6 +14,9 @@ use std::ops::Deref;
 
 /// An item with three keys that it makes or lends: `WithKeys<ByMade<ByMade<ByMade<T, 3>, 2>, 1>>`, or `ByPair` in place
 /// of some or all. It dereferences to the item, and contracts see the item. Its `==` is that of items, and not of keys.
+///
+/// It takes no memory beside the item, and its own calls allocate none. A key is made or lent anew for each comparison and
+/// each hash.
 #[derive(Clone, Drop)]
 pub struct WithKeys<K> {
     key: K,

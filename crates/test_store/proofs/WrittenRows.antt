@@ -1,10 +1,13 @@
--- Worked rows of what a closure that computes a function makes of a bag, with outcomes that these words do not allow.
-use Rattle.std.specs.Prelude.{◌≡◌, ℕ, Bool, true, false, List, [], ◌∷◌, ◌==◌, cond, Option, Some, None, option_map, IsPermutation}
-use Rattle.std.proofs.Common.{refl, arith}
+-- Worked rows of what a closure that computes a function, or a write through a reference, makes of a bag, with outcomes that
+-- these words do not allow.
+use Rattle.std.specs.Prelude.{◌≡◌, ℕ, Bool, true, false, List, [], ◌∷◌, ◌==◌, cond, Option, Some, None, option_map, sum_by, IsPermutation}
+use Rattle.std.proofs.Common.{refl, sym, subst, ap, ◌∙◌, arith}
 use Rattle.std.proofs.lemmas.Bool.{false≢true, true≢false}
 use Rattle.std.proofs.lemmas.List.Sorted.{IsPermutation-refl, length_permutation, sum_by-IsPermutation}
 use Rattle.iddqd_store.specs.Bag.{Filters}
 use Rattle.iddqd_store.specs.Bag.Storing.{FilterMapsAll, MapsAll, MapsOne}
+use Rattle.iddqd_store.specs.Map.{Map, bag}
+use Rattle.iddqd_store.specs.Map.Written.{put_where, slots_where}
 use Rattle.iddqd_store.proofs.BagLemmas.Rows.{Item}
 
 abbrev two : List Item
@@ -96,3 +99,22 @@ not_another_written h = omega (arith, sum_by-IsPermutation third _ _ (one_only _
 
 not_nothing_written : MapsOne (λ x d. d ≡ 7) put only two two → ⊥
 not_nothing_written h = omega (arith, sum_by-IsPermutation third _ _ (one_only _ h))
+
+-- data that are written through a reference
+abbrev held : Map Item ℕ
+held = record { slots = Some (1, 10, 0) ∷ None ∷ Some (2, 20, 0) ∷ []; capacity = 7; builder = 5 }
+
+put_in_one : put_where put only held 7 ≡ record held { slots = Some (1, 10, 0) ∷ None ∷ Some (2, 20, 7) ∷ [] }
+unfolding slots_where
+put_in_one = refl
+
+put_in_none : put_where put (λ x. x.0 == 9) held 7 ≡ held
+unfolding slots_where
+put_in_none = refl
+
+not_put_in_another : IsPermutation (bag (put_where put only held 7)) ((1, 10, 7) ∷ (2, 20, 7) ∷ []) → ⊥
+not_put_in_another h =
+    omega (arith, sum_by-IsPermutation third _ _ (subst (λ (m : Map Item ℕ). IsPermutation (bag m) ((1, 10, 7) ∷ (2, 20, 7) ∷ [])) put_in_one h))
+
+not_put_nowhere : put_where put only held 7 ≡ held → ⊥
+not_put_nowhere h = omega (arith, ap (λ (m : Map Item ℕ). sum_by third (bag m)) (sym put_in_one ∙ h))

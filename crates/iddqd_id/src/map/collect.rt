@@ -7,7 +7,7 @@ ghost use Rattle.std.proofs.Common.{rules};
 ghost use Rattle.std.specs.Hash.{HashWrites};
 ghost use Rattle.iddqd_store.specs.Bag.{IsCopy};
 ghost use Rattle.iddqd_store.specs.Map.{bag, hash_of};
-ghost use Rattle.iddqd_store.specs.Runs.Step.{ExtendsTo, state_of, empty_state};
+ghost use Rattle.iddqd_store.specs.Map.State.{ExtendsTo, state_of, empty_state};
 ghost use Rattle.iddqd_store.specs.Rank.{agree};
 
 use super::{DefaultHashBuilder, IdHashMap};

@@ -6,7 +6,7 @@ ghost use Rattle.std.specs.Iterator.{IsFiniteIterable};
 ghost use Rattle.iddqd_store.specs.Bag.{IsSound, clash, overs};
 ghost use Rattle.iddqd_store.specs.Bag.Building.{GivesAll, GivesThen, FitsOn, AddsTo, RefusesFor, HasPlaceFor, MatchFromIterError};
 ghost use Rattle.iddqd_store.specs.Map.{bag, GrowsUnless, IsFullFor};
-ghost use Rattle.iddqd_store.specs.Runs.Step.{ExtendsTo, state_of, empty_state};
+ghost use Rattle.iddqd_store.specs.Map.State.{ExtendsTo, state_of, empty_state};
 ghost use Rattle.iddqd_id.specs.InsertErrors.{TellsWhyBehind};
 
 use super::IdHashMap;

@@ -18,7 +18,7 @@ use Rattle.iddqd_store.proofs.BagLemmas.Building.{AddsTo-IsPermutation}
 use Rattle.iddqd_store.proofs.BagLemmas.Sound.{named_is}
 use Rattle.iddqd_store.proofs.CallerLemmas.{NamesOne-query, distinct_at}
 use Rattle.iddqd_store.proofs.RankLemmas.Index.{Contains-here}
-use Rattle.iddqd_store.proofs.RunLemmas.Extending.{yielded_then}
+use Rattle.iddqd_store.proofs.MapLemmas.Extending.{yielded_then}
 
 -- In what follows `it` is what the vector became, and `is` that it had the batch to give.
 module _ {T Z : Type 0} (ranks : Ranks T) (old batch : List T) (it : IntoIter T Z) (is : into_iter_items it ≡ batch) where

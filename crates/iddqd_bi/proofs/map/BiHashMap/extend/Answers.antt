@@ -1,7 +1,7 @@
 use Rattle.std.proofs.Common.{rules}
 use Rattle.std.proofs.iter.Next.{on}
-use Rattle.iddqd_store.specs.Runs.Step.{state_of}
-use Rattle.iddqd_store.proofs.RunLemmas.Extending.{ExtendsTo-push}
+use Rattle.iddqd_store.specs.Map.State.{state_of}
+use Rattle.iddqd_store.proofs.MapLemmas.Extending.{ExtendsTo-push}
 use Rattle.iddqd_store.proofs.MapLemmas.{at_err}
 use Rattle.iddqd_store.proofs.MapLemmas.Fitting.{GrowsUnless-so_far, HasRoomOn-overwrites, full_not}
 use Rattle.iddqd_bi.proofs.map.BiHashMap.extend.Goals as goal

@@ -1,8 +1,8 @@
 -- Made by tests/widths from crates/iddqd_bi/proofs/map/BiHashMap/extend/Answers.antt: change that file.
 use Rattle.std.proofs.Common.{rules}
 use Rattle.std.proofs.iter.Next.{on}
-use Rattle.iddqd_store.specs.Runs.Step.{state_of}
-use Rattle.iddqd_store.proofs.RunLemmas.Extending.{ExtendsTo-push}
+use Rattle.iddqd_store.specs.Map.State.{state_of}
+use Rattle.iddqd_store.proofs.MapLemmas.Extending.{ExtendsTo-push}
 use Rattle.iddqd_store.proofs.MapLemmas.{at_err}
 use Rattle.iddqd_store.proofs.MapLemmas.Fitting.{GrowsUnless-so_far, HasRoomOn-overwrites, full_not}
 use Rattle.iddqd_id.proofs.map.IdHashMap.extend.Goals as goal

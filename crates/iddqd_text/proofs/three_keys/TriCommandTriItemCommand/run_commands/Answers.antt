@@ -1,7 +1,7 @@
 -- Made by tests/widths from crates/iddqd_text/proofs/two_keys/BiCommandBiItemCommand/run_commands/Answers.antt: change that file.
 use Rattle.std.proofs.Common.{rules}
 use Rattle.std.specs.Prelude.{string_bytes}
-use Rattle.iddqd_store.specs.Runs.Step.{state_of}
+use Rattle.iddqd_store.specs.Map.State.{state_of}
 use Rattle.iddqd_text.specs.Printed.{line_of}
 use Rattle.iddqd_text.specs.ThreeKeys.{numbers, Steps}
 use Rattle.iddqd_text.proofs.Replying.{prints}

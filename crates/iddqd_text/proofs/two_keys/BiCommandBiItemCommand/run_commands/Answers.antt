@@ -1,6 +1,6 @@
 use Rattle.std.proofs.Common.{rules}
 use Rattle.std.specs.Prelude.{string_bytes}
-use Rattle.iddqd_store.specs.Runs.Step.{state_of}
+use Rattle.iddqd_store.specs.Map.State.{state_of}
 use Rattle.iddqd_text.specs.Printed.{line_of}
 use Rattle.iddqd_text.specs.TwoKeys.{numbers, Steps}
 use Rattle.iddqd_text.proofs.Replying.{prints}

@@ -2,7 +2,7 @@
 use Rattle.std.proofs.Common.{length}
 use Rattle.std.specs.Iterator.{size}
 use Rattle.iddqd_store.specs.Map.{bag}
-use Rattle.iddqd_store.specs.Runs.Step.{ExtendsTo, state_of}
+use Rattle.iddqd_store.specs.Map.State.{ExtendsTo, state_of}
 use Rattle.iddqd_store.specs.Bag.Building.{FitsOn}
 use Rattle.iddqd_store.proofs.MapLemmas.Fitting.{HasRoomOn}
 use Rattle.iddqd_tri.proofs.map.TriHashMap.extend.Given as goal

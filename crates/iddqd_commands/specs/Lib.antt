@@ -1,0 +1,4 @@
+pub mod Reply
+pub mod Run
+pub mod Step
+pub mod Values

@@ -1,0 +1,2 @@
+pub mod EntryReplies
+pub mod Step

@@ -1,0 +1,37 @@
+-- What an iterator over a `Vec` by value gives, and how a bag is extended by a list.
+use Rattle.std.proofs.Common.{◌≡◌, ◌≤◌, ◌<◌, sym, ap, subst, ◌∙◌, arith, List, [], ◌∷◌, ◌++◌, length, Option, Some, length-append}
+use Rattle.std.specs.Prelude.{IsPermutation}
+use Rattle.std.specs.Iterator.{Yields, YieldsThen}
+use Rattle.std.proofs.lemmas.List.{take_all, take-append-le}
+use Rattle.std.proofs.lemmas.List.Sorted.{length_permutation}
+use Rattle.iddqd_store.specs.Bag.{Ranks, over, overs}
+use Rattle.iddqd_store.specs.Map.State.{State, FitsOnTheWay, ExtendsTo}
+use Rattle.iddqd_store.proofs.Plain.{by_order}
+use Rattle.iddqd_store.proofs.BagLemmas.Steps.{overs-step}
+
+module _ {S T : Type 0} (steps : S → Option T → S → Type 0) (left : S → List T) (first : (s t : S) (x : T) → steps s (Some x) t → left s ≡ x ∷ left t) where
+  -- the items that came and those that are left are those that were left before
+  pub yielded : (xs : List T) (s t : S) → Yields steps s xs t → left s ≡ xs ++ left t
+  yielded [] s t same = ap left same
+  yielded (x ∷ xs) s t run = first s run.0 x run.1 ∙ ap (λ ys. x ∷ ys) (yielded xs run.0 t run.2)
+
+  -- all came, and then the next
+  pub yielded_then : (xs : List T) (s u : S) (x : T) → YieldsThen steps s xs (Some x) u → left s ≡ xs ++ x ∷ left u
+  yielded_then xs s u x run = yielded xs s run.0 run.1 ∙ ap (λ ys. xs ++ ys) (first run.0 u x run.2)
+
+module _ {T : Type 0} (ranks : Ranks T) where
+  -- one more item came
+  pub ExtendsTo-push : (old held new : State T) (xs : List T) (x : T) → ExtendsTo ranks old xs held → IsPermutation new.items (over ranks held.items x)
+      → length new.items ≤ new.capacity → held.capacity ≤ new.capacity → ExtendsTo ranks old (xs ++ x ∷ []) new
+  ExtendsTo-push old held new xs x so_far put fits no_less = (items, way, omega (arith, so_far.2))
+    where
+      items : IsPermutation new.items (overs ranks old.items (xs ++ x ∷ []))
+      items = overs-step ranks old.items xs held.items new.items x so_far.0 put
+
+      way : FitsOnTheWay ranks old.items (xs ++ x ∷ []) new.capacity
+      way n =
+          let at : List T → Type 0 = λ l. length (overs ranks old.items l) ≤ new.capacity in
+          by_order (length xs) n
+          (λ (past : length xs < n).
+          subst at (sym (take_all n (xs ++ x ∷ []) (omega (arith, length-append xs (x ∷ []))))) (omega (arith, length_permutation _ _ items)))
+          (λ (within : n ≤ length xs). subst at (sym (take-append-le n xs (x ∷ []) within)) (omega (arith, so_far.1 n)))

@@ -1,0 +1,34 @@
+-- A map as a state, and how a state is extended by a list of items.
+use Rattle.std.specs.Prelude.{◌≤◌, ℕ, List, [], length, take, IsPermutation}
+use Rattle.iddqd_store.specs.Bag.{Ranks, overs}
+use Rattle.iddqd_store.specs.Map.{Map, bag}
+
+-- `State` is the state of a map: its bag, and its capacity.
+-- Example: (1, 10), (2, 20), (3, 30), and 7.
+pub record State (T : Type 0) : Type 0 where
+  pub items : List T
+  pub capacity : ℕ
+
+-- `state_of` is the state of the map.
+-- Example: For a map of the bag with the capacity 7 it is the bag and 7.
+abbrev pub state_of : {T S : Type 0} → Map T S → State T
+state_of m = record { items = bag m; capacity = m.capacity }
+
+-- `empty_state` is the state of a new map: it has no items, and the capacity 0.
+-- Example: Extended by the list (4, 40), it has the bag (4, 40).
+abbrev pub empty_state : {T : Type 0} → State T
+empty_state = record { items = []; capacity = 0 }
+
+module _ {T : Type 0} where
+  -- The items of the list are inserted one by one with `over`, and after each of them the items fit the capacity.
+  -- Example: With the list (4, 40), (4, 50) the bag needs the capacity 4.
+  abbrev pub FitsOnTheWay : Ranks T → List T → List T → ℕ → Type 0
+  FitsOnTheWay ranks bag xs capacity = (n : ℕ) → length (overs ranks bag (take n xs)) ≤ capacity
+
+  -- The items of the list were inserted one by one, each with `over`. The capacity is no lower, and was enough at each
+  -- step.
+  -- Example: With the list (1, 20), (3, 40) the bag becomes (3, 40), (1, 20).
+  abbrev pub ExtendsTo : Ranks T → State T → List T → State T → Type 0
+  ExtendsTo ranks old xs new =
+      IsPermutation new.items (overs ranks old.items xs) × FitsOnTheWay ranks old.items xs new.capacity
+      × (old.capacity ≤ new.capacity)
