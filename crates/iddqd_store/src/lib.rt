@@ -1,4 +1,4 @@
-//! The parts that both maps are made of: slots for items, hash tables, searches by one key, queries, short lists and
+//! The parts that the hash maps are made of: slots for items, hash tables, searches by one key, queries, short lists and
 //! errors. Here are also the definitions that their contracts use.
 #![tactic(auto)]
 

@@ -18,6 +18,8 @@ pub fn pairs_for(items: usize) -> usize
     ensures none { items ≡ 0 → result ≡ 0 }
     ensures most { result ≤ 3 * items }
     ensures large { 65536 < items → result ≡ items }
+    // It asks for no more than the shares above need.
+    ensures tight { (items ≤ 4096 → 8 * result < 21 * items + 8) × (4096 < items → 4 * result < 7 * items + 4) }
     // A table with room for so many pairs has so many cells that at most a third, or a half, have one in a full map.
     ensures sparse { (cells : ℕ) → result ≤ capacity_of cells → IsSparse items cells }
 {

@@ -163,7 +163,7 @@ impl<T: Ranked + Drop, S: BuildHasher + Default + Drop> TriHashMap<T, S> {
     {
         let mut map = TriHashMap::default(alloc);
         let items = iter.into_iter();
-        // This error is ignored: the call may succeed without the capacity, since the items may share keys.
+        // This error is ignored: an insert below asks again, where the map is full.
         let _ = map.grow(items.size_hint().0, AHEAD);
         for item in items {
             match map.insert_or_refuse(item, &mut Costs::new()) {
